@@ -5,3 +5,5 @@ pub mod Views
 pub mod Grammar
 pub mod Faults
 pub mod Layout
+pub mod Keywords
+pub mod Machine

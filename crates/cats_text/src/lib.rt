@@ -4,7 +4,8 @@
 mod bid;
 mod fault;
 mod limits;
-mod worked;
+mod word;
+pub mod worked;
 
 pub use bid::{Bid, BidFile};
 pub use fault::{Kind, ReadFault, SendFault};
