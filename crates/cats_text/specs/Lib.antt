@@ -6,4 +6,5 @@ pub mod Grammar
 pub mod Faults
 pub mod Layout
 pub mod Keywords
+pub mod Marks
 pub mod Machine

@@ -3,6 +3,7 @@
 
 mod bid;
 mod fault;
+mod goods;
 mod limits;
 mod word;
 pub mod worked;
