@@ -1,2 +1,5 @@
 pub mod Distinct
 pub mod Marks
+pub mod Slots
+pub mod Rising
+pub mod Steps

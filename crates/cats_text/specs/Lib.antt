@@ -8,3 +8,5 @@ pub mod Layout
 pub mod Keywords
 pub mod Marks
 pub mod Machine
+pub mod Progress
+pub mod Parsing

@@ -5,6 +5,7 @@ mod bid;
 mod fault;
 mod goods;
 mod limits;
+mod parser;
 mod word;
 pub mod worked;
 
