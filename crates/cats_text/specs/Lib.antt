@@ -10,3 +10,5 @@ pub mod Marks
 pub mod Machine
 pub mod Progress
 pub mod Parsing
+pub mod Returns
+pub mod Scanning

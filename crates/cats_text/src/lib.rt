@@ -6,6 +6,7 @@ mod fault;
 mod goods;
 mod limits;
 mod parser;
+mod scanner;
 mod word;
 pub mod worked;
 

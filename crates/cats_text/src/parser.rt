@@ -150,6 +150,7 @@ impl Parser {
     fn keyword(&mut self, keyword: Keyword, word: Word) -> Result<(), Stop>
         ensures reads { Gives (progress self.new) result (keyword_read (progress self.old) keyword word) }
         ensures memory { AsksOnBidLines (progress self.old) result }
+        ensures stage { self.new.stage ≡ self.old.stage }
     {
         if word == Word::Keyword(keyword, keyword.text().len()) {
             self.place = Place::Second;
@@ -162,6 +163,7 @@ impl Parser {
     fn header_number(&mut self, word: Word) -> Result<(), Stop>
         ensures reads { Gives (progress self.new) result (header_number_read (progress self.old) word) }
         ensures memory { AsksOnBidLines (progress self.old) result }
+        ensures stage { self.new.stage ≡ self.old.stage }
     {
         let Word::Number(value) = word else {
             return Err(Stop::Fault(Kind::NotANumber));
@@ -183,6 +185,7 @@ impl Parser {
     fn number(&mut self, word: Word) -> Result<(), Stop>
         ensures reads { Gives (progress self.new) result (number_read (progress self.old) word) }
         ensures memory { AsksOnBidLines (progress self.old) result }
+        ensures stage { self.new.stage ≡ self.old.stage }
     {
         let Word::Number(value) = word else {
             return Err(Stop::Fault(Kind::NotANumber));
@@ -208,6 +211,7 @@ impl Parser {
     fn price(&mut self, word: Word) -> Result<(), Stop>
         ensures reads { Gives (progress self.new) result (price_read (progress self.old) word) }
         ensures memory { AsksOnBidLines (progress self.old) result }
+        ensures stage { self.new.stage ≡ self.old.stage }
     {
         self.draft.price = match word {
             Word::Number(value) => price_of(value, 0, false)?,
@@ -223,6 +227,7 @@ impl Parser {
     fn good(&mut self, value: u64) -> Result<(), Stop>
         ensures reads { Gives (progress self.new) result (good_read (progress self.old) value) }
         ensures memory { (progress self.old).stage ≡ Stage.Bid → AsksOnBidLines (progress self.old) result }
+        ensures stage { self.new.stage ≡ self.old.stage }
     {
         let goods = u64::from(self.header.goods);
         if value >= goods + u64::from(self.header.dummy) {
@@ -250,6 +255,7 @@ impl Parser {
     fn good_or_end(&mut self, word: Word) -> Result<(), Stop>
         ensures reads { Gives (progress self.new) result (good_or_end_read (progress self.old) word) }
         ensures memory { (progress self.old).stage ≡ Stage.Bid → AsksOnBidLines (progress self.old) result }
+        ensures stage { self.new.stage ≡ self.old.stage }
     {
         match word {
             Word::Number(value) => self.good(value),
@@ -266,6 +272,7 @@ impl Parser {
     pub fn word(&mut self, word: Word) -> Result<(), Stop>
         ensures reads { Gives (progress self.new) result (word_read (progress self.old) word) }
         ensures memory { AsksOnBidLines (progress self.old) result }
+        ensures stage { self.new.stage ≡ self.old.stage }
     {
         match (self.place, self.stage) {
             (Place::First, Stage::Goods) => self.keyword(Keyword::Goods, word),
