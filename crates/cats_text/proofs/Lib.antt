@@ -3,3 +3,4 @@ pub mod Marks
 pub mod Slots
 pub mod Rising
 pub mod Steps
+pub mod Scanned

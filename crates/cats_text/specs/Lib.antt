@@ -12,3 +12,4 @@ pub mod Progress
 pub mod Parsing
 pub mod Returns
 pub mod Scanning
+pub mod FileLines
