@@ -4,3 +4,5 @@ pub mod Slots
 pub mod Rising
 pub mod Steps
 pub mod Scanned
+pub mod Places
+pub mod Summary
