@@ -6,3 +6,6 @@ pub mod Steps
 pub mod Scanned
 pub mod Places
 pub mod Summary
+pub mod Told
+pub mod Standing
+pub mod HeaderSteps

@@ -79,7 +79,7 @@ other_first a w digit hash g b d = record {
 }
 
 -- the first byte is a digit, so that it is neither `#` nor a keyword
-digit_not : (a c : ℕ) (w t : List ℕ) → is_digit a ≡ true → is_digit c ≡ false → bytes_eq (a ∷ w) (c ∷ t) ≡ false
+pub digit_not : (a c : ℕ) (w t : List ℕ) → is_digit a ≡ true → is_digit c ≡ false → bytes_eq (a ∷ w) (c ∷ t) ≡ false
 digit_not a c w t h k = elim (eqb a c) as (λ q. eqb a c ≡ q → (q && bytes_eq w t) ≡ false) [
     true ↦ λ (e : eqb a c ≡ true). absurd (both_ways (is_digit c) k (subst (λ n. is_digit n ≡ true) (eqb-true a c e) h))
   | false ↦ λ (e : eqb a c ≡ false). refl ] refl
@@ -124,7 +124,7 @@ whole-other : (w t : List ℕ) (b : ℕ) → digits_alone w ≡ true → b ≢ 4
 whole-other [] t b h ne = rw (ne_eqb b 46 ne) refl
 whole-other (a ∷ w) t b h ne = let p = digits_head a w h in rw (digit_no_point a p.0) (ap (λ ds. a ∷ ds) (whole-other w t b p.1 ne))
 
-digits-not : (w t : List ℕ) (b : ℕ) → is_digit b ≡ false → digits_alone (w ++ b ∷ t) ≡ false
+pub digits-not : (w t : List ℕ) (b : ℕ) → is_digit b ≡ false → digits_alone (w ++ b ∷ t) ≡ false
 digits-not [] t b h = rw h refl
 digits-not (a ∷ w) t b h = rw (digits-not w t b h) (and_false (is_digit a))
   where
@@ -285,7 +285,7 @@ bytes_mismatch (suc n) (x ∷ xs) b t l h = rw (eq-eqb x x refl) (bytes_mismatch
       | false ↦ λ (e : ltb n (length xs) ≡ false). let l : length xs ≤ n = ltb-false n (length xs) e in rw (le-ltb (suc n) (suc (length xs)) (omega arith)) refl ] refl
 
 -- the first byte of a keyword's front
-first_of_take : (a : ℕ) (w : List ℕ) (x : ℕ) (xs : List ℕ) (n : ℕ) → a ∷ w ≡ take n (x ∷ xs) → a ≡ x
+pub first_of_take : (a : ℕ) (w : List ℕ) (x : ℕ) (xs : List ℕ) (n : ℕ) → a ∷ w ≡ take n (x ∷ xs) → a ≡ x
 first_of_take a w x xs zero e = absurd (no e)
   where
     no : a ∷ w ≡ [] → ⊥
