@@ -9,3 +9,4 @@ pub mod Summary
 pub mod Told
 pub mod Standing
 pub mod HeaderSteps
+pub mod GoodWords
