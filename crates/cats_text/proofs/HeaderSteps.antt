@@ -108,7 +108,7 @@ second_word lines k limit p Other w small told t q number other fault next = sub
 -- ---- a header line, whichever it is
 
 -- reading at a known place of a known line
-read_there : (place : Place) (stage : Stage) (p : Progress) (s : Word) → p.place ≡ place → p.stage ≡ stage → word_read p s ≡ read_at place stage p s
+pub read_there : (place : Place) (stage : Stage) (p : Progress) (s : Word) → p.place ≡ place → p.stage ≡ stage → word_read p s ≡ read_at place stage p s
 read_there place stage p s e f = ap₂ (λ (x : Place) (y : Stage). read_at x y p s) e f
 
 not_number_read : (p : Progress) (x : Word) → tells_number x ≡ false → header_number_read p x ≡ Err kinds.NotANumber

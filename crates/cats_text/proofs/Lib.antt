@@ -10,3 +10,5 @@ pub mod Told
 pub mod Standing
 pub mod HeaderSteps
 pub mod GoodWords
+pub mod Taken
+pub mod BidSteps
