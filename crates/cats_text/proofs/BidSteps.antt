@@ -37,11 +37,11 @@ follow_test lines before w b c kind r rest fault same next = elim b as (λ x. b 
   | false ↦ λ (e : b ≡ false). next e (fault ∙ ap (λ x. when x kind rest) (sym same ∙ e)) ] refl
 
 -- a fault that the definitions name too
-fault_named : (lines : List (List (List ℕ))) (before : List (List ℕ)) (w : List ℕ) (c : Bool) (kind : Kind) (rest : Option Kind) → word_fault lines before w ≡ when c kind rest → c ≡ true → WordFollows lines before w (Err kind)
+pub fault_named : (lines : List (List (List ℕ))) (before : List (List ℕ)) (w : List ℕ) (c : Bool) (kind : Kind) (rest : Option Kind) → word_fault lines before w ≡ when c kind rest → c ≡ true → WordFollows lines before w (Err kind)
 fault_named lines before w c kind rest fault e = fault ∙ ap (λ x. when x kind rest) e
 
 -- a test that a word passes
-passes : (lines : List (List (List ℕ))) (before : List (List ℕ)) (w : List ℕ) (c : Bool) (kind : Kind) (rest : Option Kind) → word_fault lines before w ≡ when c kind rest → c ≡ false → word_fault lines before w ≡ rest
+pub passes : (lines : List (List (List ℕ))) (before : List (List ℕ)) (w : List ℕ) (c : Bool) (kind : Kind) (rest : Option Kind) → word_fault lines before w ≡ when c kind rest → c ≡ false → word_fault lines before w ≡ rest
 passes lines before w c kind rest fault e = fault ∙ ap (λ x. when x kind rest) e
 
 -- ---- the number

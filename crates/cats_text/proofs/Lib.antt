@@ -12,3 +12,4 @@ pub mod HeaderSteps
 pub mod GoodWords
 pub mod Taken
 pub mod BidSteps
+pub mod GoodSteps
