@@ -13,3 +13,5 @@ pub mod GoodWords
 pub mod Taken
 pub mod BidSteps
 pub mod GoodSteps
+pub mod LineSteps
+pub mod WholeLines
