@@ -4,3 +4,4 @@ pub mod Slots
 pub mod Rising
 pub mod Steps
 pub mod Scanned
+pub mod SpellsLemmasSlots
