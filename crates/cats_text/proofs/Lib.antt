@@ -5,3 +5,4 @@ pub mod Rising
 pub mod Steps
 pub mod Scanned
 pub mod SpellsLemmasSlots
+pub mod SpellsLemmasMembers
