@@ -6,3 +6,4 @@ pub mod Steps
 pub mod Scanned
 pub mod SpellsLemmasSlots
 pub mod SpellsLemmasMembers
+pub mod SpellsLemmasPrices
