@@ -7,3 +7,5 @@ pub mod Scanned
 pub mod SpellsLemmasSlots
 pub mod SpellsLemmasMembers
 pub mod SpellsLemmasPrices
+pub mod SpellsLemmasTests
+pub mod SpellsLemmasGoods
