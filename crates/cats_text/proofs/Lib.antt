@@ -9,3 +9,6 @@ pub mod SpellsLemmasMembers
 pub mod SpellsLemmasPrices
 pub mod SpellsLemmasTests
 pub mod SpellsLemmasGoods
+pub mod SpellsLemmasLines
+pub mod SpellsLemmasBids
+pub mod SpellsLemmas

@@ -49,7 +49,7 @@ length_from_has (x ∷ xs) g h = omega arith
 
 -- ---- those below G
 
-abbrev real : ℕ → List ℕ → List ℕ
+abbrev pub real : ℕ → List ℕ → List ℕ
 real G ns = filter (λ v. ltb v G) ns
 
 has_real : (G : ℕ) (ns : List ℕ) (g : ℕ) → Has ns g → g < G → Has (real G ns) g
