@@ -1,5 +1,5 @@
 -- A text without a fault spells the file that it says, and a text that spells a file has no fault and says that file.
-use Rattle.std.proofs.Common.{◌≡◌, ℕ, ◌≤◌, true, cond, List, [], ◌∷◌, length, map, Some, None, refl, sym, ap, ◌∙◌, subst, arith}
+use Rattle.std.proofs.Common.{◌≡◌, ℕ, ◌≤◌, true, cond, ◌⊎◌, inl, inr, List, [], ◌∷◌, length, map, Option, Some, None, refl, sym, ap, ◌∙◌, subst, arith}
 use Rattle.std.specs.List.{AllByRecursion, slice_get}
 use Rattle.std.specs.Prelude.{codes}
 use Rattle.cats_text.specs.Lines.{Word, significant_lines, line_count}
@@ -9,6 +9,7 @@ use Rattle.cats_text.specs.Grammar.{Spells, SpellsBid, SpellsNumber, line_number
 use Rattle.cats_text.specs.Faults.{Bounds, bounds_of, header_value, first_fault}
 use Rattle.cats_text.specs.Parsing.{filled}
 use Rattle.cats_text.specs.FileLines.{bid_of, slots_of, file_of_lines, file_said}
+use Rattle.cats_text.specs.declared.fault.ReadFault.{ReadFault}
 use Rattle.cats_text.specs.declared.limits.TheConstants.{MAX_GOODS, MAX_BIDS, MAX_DUMMY}
 use Rattle.cats_text.proofs.SpellsLemmasSlots.{FillPlaces, length_bids, bids_stand, bids_all, bids_are}
 use Rattle.cats_text.proofs.SpellsLemmasTests.{IsHeader, header_number}
@@ -59,3 +60,68 @@ spells_from_no_fault text none =
         (all_same (IsBidLine (bounds_of p.g p.b p.d)) (λ l. IsBid (header_value p.g) (header_value p.d) (bid_of (header_value p.g) l)) (λ l q. line_is_bid (bounds_of p.g p.b p.d) l q) p.bid_lines p.are.each)
     }
   })
+
+-- ---- a text that spells a file
+
+each_line : (f : PlainFile) (lines : List (List Word)) → IsPlainFile f → AllByRecursion (SpellsBid f) lines → AllByRecursion (IsBidLine (file_bounds f)) lines
+each_line f lines p a = all_same (SpellsBid f) (IsBidLine (file_bounds f)) (λ l s. spelled_line f l p s) lines a
+
+each_bid : (f : PlainFile) (lines : List (List Word)) → IsPlainFile f → AllByRecursion (SpellsBid f) lines → AllByRecursion (λ l. slice_get f.bids (line_number l) ≡ Some (bid_of f.goods l)) lines
+each_bid f lines p a = all_same (SpellsBid f) (λ l. slice_get f.bids (line_number l) ≡ Some (bid_of f.goods l)) (λ l s. spelled_bid f l p s) lines a
+
+spelled_header : (keyword : Word) (limit : ℕ) (w : Word) (n : ℕ) → SpellsNumber w n → n ≤ limit → IsHeader keyword limit (keyword ∷ w ∷ [])
+spelled_header keyword limit w n s l = record { number = w; words_are = refl; spelled = s.number; within = subst (λ m. m ≤ limit) (sym s.value) l }
+
+spelled_value : (keyword w : Word) (n : ℕ) → SpellsNumber w n → header_value (keyword ∷ w ∷ []) ≡ n
+spelled_value keyword w n s = ap (λ b. cond b (number_of w) 0) s.number ∙ s.value
+
+file_bid_lines : (text : List ℕ) (f : PlainFile) → (s : Spells text f) → AreBidLines (file_bounds f) s.bid_lines
+file_bid_lines text f s = record { each = each_line f s.bid_lines s.facts s.each; distinct = s.distinct; count = s.count }
+
+same_bounds : (goods bids dummy : ℕ) (f : PlainFile) → goods ≡ f.goods → bids ≡ length f.bids → dummy ≡ f.dummy
+    → file_bounds f ≡ record { goods = goods; bids = bids; dummy = dummy }
+same_bounds goods bids dummy f p q r =
+    ap (λ n. record { goods = n; bids = length f.bids; dummy = f.dummy }) (sym p)
+    ∙ ap (λ n. record { goods = goods; bids = n; dummy = f.dummy }) (sym q)
+    ∙ ap (λ n. record { goods = goods; bids = bids; dummy = n }) (sym r)
+
+file_lines : (text : List ℕ) (f : PlainFile) → Spells text f → AreFileLines (significant_words text)
+file_lines text f s = record {
+  g = codes "goods" ∷ s.goods ∷ []; b = codes "bids" ∷ s.bids ∷ []; d = codes "dummy" ∷ s.dummy ∷ []; bid_lines = s.bid_lines;
+  lines_are = s.lines_are;
+  goods = spelled_header (codes "goods") MAX_GOODS s.goods f.goods s.goods_spelled s.facts.goods;
+  bids = spelled_header (codes "bids") MAX_BIDS s.bids (length f.bids) s.bids_spelled s.facts.count;
+  dummy = spelled_header (codes "dummy") MAX_DUMMY s.dummy f.dummy s.dummy_spelled s.facts.dummy;
+  are = subst (λ h. AreBidLines h s.bid_lines)
+    (same_bounds (header_value (codes "goods" ∷ s.goods ∷ [])) (header_value (codes "bids" ∷ s.bids ∷ [])) (header_value (codes "dummy" ∷ s.dummy ∷ [])) f
+      (spelled_value (codes "goods") s.goods f.goods s.goods_spelled) (spelled_value (codes "bids") s.bids (length f.bids) s.bids_spelled) (spelled_value (codes "dummy") s.dummy f.dummy s.dummy_spelled))
+    (file_bid_lines text f s)
+}
+
+pub no_fault_from_spells : (text : List ℕ) (f : PlainFile) → Spells text f → first_fault text ≡ None
+no_fault_from_spells text f s = words_none (line_count text) [] (significant_lines text) (lines_none (significant_words text) (file_lines text f s))
+
+-- it is the file that the text says
+pub spells_file_said : (text : List ℕ) (f : PlainFile) → Spells text f → f ≡ file_said text
+spells_file_said text f s =
+    let fill : FillPlaces (length f.bids) s.bid_lines = fill_places (file_bounds f) s.bid_lines (file_bid_lines text f s) in
+    let bids : f.bids ≡ filled (slots_of f.goods s.bid_lines) = bids_are f.goods f.bids s.bid_lines fill (each_bid f s.bid_lines s.facts s.each) in
+    ap (λ bs. record { goods = f.goods; dummy = f.dummy; bids = bs }) bids
+    ∙ ap (λ n. record { goods = n; dummy = f.dummy; bids = filled (slots_of n s.bid_lines) }) (sym (spelled_value (codes "goods") s.goods f.goods s.goods_spelled))
+    ∙ ap (λ n. record { goods = header_value (codes "goods" ∷ s.goods ∷ []); dummy = n; bids = filled (slots_of (header_value (codes "goods" ∷ s.goods ∷ [])) s.bid_lines) })
+        (sym (spelled_value (codes "dummy") s.dummy f.dummy s.dummy_spelled))
+    ∙ sym (ap file_of_lines s.lines_are)
+
+pub spells_one : (text : List ℕ) (f g : PlainFile) → Spells text f → Spells text g → f ≡ g
+spells_one text f g s t = spells_file_said text f s ∙ sym (spells_file_said text g t)
+
+-- a text spells one file or has a first fault
+pub spells_or_fault : (text : List ℕ) → ((f : PlainFile) × Spells text f) ⊎ ((e : ReadFault) × (first_fault text ≡ Some e))
+spells_or_fault text = from (first_fault text) refl
+  where
+    from : (o : Option ReadFault) → first_fault text ≡ o → ((f : PlainFile) × Spells text f) ⊎ ((e : ReadFault) × (first_fault text ≡ Some e))
+    from None e = inl (file_said text, spells_from_no_fault text e)
+    from (Some fault) e = inr (fault, e)
+
+pub never_spells_and_faults : (text : List ℕ) (f : PlainFile) (e : ReadFault) → Spells text f → first_fault text ≡ Some e → ⊥
+never_spells_and_faults text f e s q = let none : None ≡ Some e = sym (no_fault_from_spells text f s) ∙ q in cc
