@@ -1,5 +1,5 @@
 -- The bid that a line spells, and the bid of a line's words.
-use Rattle.std.proofs.Common.{◌≡◌, ℕ, zero, suc, ◌<◌, ◌≤◌, Bool, true, false, not, cond, ltb, ◌||◌, ◌⊎◌, ⊎_elim, List, [], ◌∷◌, ◌++◌, length, map, Option, Some, None, refl, sym, ap, ap₂, ◌∙◌, subst, arith}
+use Rattle.std.proofs.Common.{◌≡◌, ℕ, zero, suc, ◌<◌, ◌≤◌, true, false, not, cond, ltb, ⊎_elim, List, [], ◌∷◌, ◌++◌, length, map, Some, refl, sym, ap, ap₂, ◌∙◌, subst}
 use Rattle.std.proofs.lemmas.Bool.{both_ways, ltb-true, lt-ltb, or_cases, or_left, or_right}
 use Rattle.std.proofs.lemmas.List.Sums.{take_while-cons}
 use Rattle.std.proofs.lemmas.Option.{slice_get_within}
@@ -56,12 +56,14 @@ line_is_bid h words q =
       goods = bid_on_real h.goods (map number_of q.goods) some.0 some.2 some.1;
       rising = IsRising-of (real h.goods (map number_of q.goods));
       below = bid_on_below h.goods (map number_of q.goods);
-      dummy = bid_on_dummy h.goods h.dummy (map number_of q.goods) q.goods_are
+      dummy = bid_on_dummy h.goods h.dummy (map number_of q.goods) q.goods_are;
     })
 
 pub line_spells : (h : Bounds) (f : PlainFile) (words : List Word) → f.goods ≡ h.goods → IsBidLine h words → slice_get f.bids (line_number words) ≡ Some (bid_of h.goods words) → SpellsBid f words
 line_spells h f words same q stands = record {
-  number = q.number; price = q.price; goods = q.goods;
+  number = q.number;
+  price = q.price;
+  goods = q.goods;
   bid = bid_on h.goods (price_of q.price) (map number_of q.goods);
   words_are = q.words_are;
   number_spelled = q.number_spelled;
@@ -70,7 +72,7 @@ line_spells h f words same q stands = record {
   goods_spelled = q.goods_spelled;
   distinct = q.goods_are.distinct;
   same_goods = λ g. subst (λ G. has_number (map number_of q.goods) g ≡ has_number (goods_of G (bid_on h.goods (price_of q.price) (map number_of q.goods))) g) (sym same)
-    (bid_on_same h.goods h.dummy (price_of q.price) (map number_of q.goods) q.goods_are g)
+      (bid_on_same h.goods h.dummy (price_of q.price) (map number_of q.goods) q.goods_are g);
 }
 
 -- ---- a bid that a line spells
@@ -88,29 +90,31 @@ spelled_is_bid f words p s = all_at (IsBid f.goods f.dummy) f.bids (number_of s.
 
 pub spelled_line : (f : PlainFile) (words : List Word) → IsPlainFile f → SpellsBid f words → IsBidLine (file_bounds f) words
 spelled_line f words p s =
-  let is : IsBid f.goods f.dummy s.bid = spelled_is_bid f words p s in
-  let some : (g : ℕ) × (g < f.goods) × (has_number (map number_of s.goods) g ≡ true) = has_real_good f.goods f.dummy s.bid.goods s.bid.dummy (map number_of s.goods) is.rising is.below is.dummy s.same_goods is.goods in
-  record {
-    number = s.number; price = s.price; goods = s.goods;
-    words_are = s.words_are;
-    number_spelled = s.number_spelled;
-    number_below = slice_get_within f.bids (number_of s.number) s.bid s.stands;
-    price_spelled = s.price_spelled.price;
-    not_large = price_small s.price s.price_spelled.price s.price_spelled.exact (subst (λ n. n ≤ MAX_PRICE) (sym s.price_spelled.value) is.price);
-    exact = s.price_spelled.exact;
-    goods_spelled = s.goods_spelled;
-    goods_are = goods_are f.goods f.dummy s.bid.goods s.bid.dummy (map number_of s.goods) is.rising is.below is.dummy s.same_goods s.distinct;
-    real = any_real_from f.goods s.goods some.0 some.1 some.2
-  }
+    let is : IsBid f.goods f.dummy s.bid = spelled_is_bid f words p s in
+    let some : (g : ℕ) × (g < f.goods) × (has_number (map number_of s.goods) g ≡ true) = has_real_good f.goods f.dummy s.bid.goods s.bid.dummy (map number_of s.goods) is.rising is.below is.dummy s.same_goods is.goods in
+    record {
+      number = s.number;
+      price = s.price;
+      goods = s.goods;
+      words_are = s.words_are;
+      number_spelled = s.number_spelled;
+      number_below = slice_get_within f.bids (number_of s.number) s.bid s.stands;
+      price_spelled = s.price_spelled.price;
+      not_large = price_small s.price s.price_spelled.price s.price_spelled.exact (subst (λ n. n ≤ MAX_PRICE) (sym s.price_spelled.value) is.price);
+      exact = s.price_spelled.exact;
+      goods_spelled = s.goods_spelled;
+      goods_are = goods_are f.goods f.dummy s.bid.goods s.bid.dummy (map number_of s.goods) is.rising is.below is.dummy s.same_goods s.distinct;
+      real = any_real_from f.goods s.goods some.0 some.1 some.2;
+    }
 
 pub spelled_bid : (f : PlainFile) (words : List Word) → IsPlainFile f → SpellsBid f words → slice_get f.bids (line_number words) ≡ Some (bid_of f.goods words)
 spelled_bid f words p s =
-  let is : IsBid f.goods f.dummy s.bid = spelled_is_bid f words p s in
-  let goods : s.bid.goods ≡ (bid_on f.goods (price_of s.price) (map number_of s.goods)).goods
-      = rising_goods f.goods f.dummy s.bid.goods s.bid.dummy (map number_of s.goods) is.rising is.below is.dummy s.same_goods in
-  let dummy : s.bid.dummy ≡ dummy_of f.goods (map number_of s.goods)
-      = same_dummy f.goods f.dummy s.bid.goods s.bid.dummy (map number_of s.goods) is.rising is.below is.dummy s.same_goods in
-  let bid : s.bid ≡ bid_on f.goods (price_of s.price) (map number_of s.goods)
-      = ap (λ n. record { price = n; goods = s.bid.goods; dummy = s.bid.dummy }) (sym s.price_spelled.value)
-        ∙ ap₂ (λ gs o. record { price = price_of s.price; goods = gs; dummy = o }) goods dummy in
-  ap (λ ws. slice_get f.bids (line_number ws)) s.words_are ∙ s.stands ∙ ap Some (bid ∙ sym (ap (bid_of f.goods) s.words_are ∙ bid_of_words f.goods s.number s.price s.goods s.goods_spelled))
+    let is : IsBid f.goods f.dummy s.bid = spelled_is_bid f words p s in
+    let goods : s.bid.goods ≡ (bid_on f.goods (price_of s.price) (map number_of s.goods)).goods
+    = rising_goods f.goods f.dummy s.bid.goods s.bid.dummy (map number_of s.goods) is.rising is.below is.dummy s.same_goods in
+    let dummy : s.bid.dummy ≡ dummy_of f.goods (map number_of s.goods)
+    = same_dummy f.goods f.dummy s.bid.goods s.bid.dummy (map number_of s.goods) is.rising is.below is.dummy s.same_goods in
+    let bid : s.bid ≡ bid_on f.goods (price_of s.price) (map number_of s.goods)
+    = ap (λ n. record { price = n; goods = s.bid.goods; dummy = s.bid.dummy }) (sym s.price_spelled.value)
+    ∙ ap₂ (λ gs o. record { price = price_of s.price; goods = gs; dummy = o }) goods dummy in
+    ap (λ ws. slice_get f.bids (line_number ws)) s.words_are ∙ s.stands ∙ ap Some (bid ∙ sym (ap (bid_of f.goods) s.words_are ∙ bid_of_words f.goods s.number s.price s.goods s.goods_spelled))

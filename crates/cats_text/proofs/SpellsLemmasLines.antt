@@ -1,5 +1,5 @@
 -- Lines without a fault: three header lines, and then bid lines, each with a number of its own, as many as the header says.
-use Rattle.std.proofs.Common.{◌≡◌, ℕ, suc, ◌+◌, ◌<◌, ◌≤◌, Bool, true, false, cond, ltb, ◌||◌, ⊎_elim, List, [], ◌∷◌, ◌++◌, length, map, Option, Some, None, refl, sym, ap, ◌∙◌, subst, arith, append_assoc, append-nil, length-append}
+use Rattle.std.proofs.Common.{◌≡◌, ℕ, suc, ◌+◌, ◌<◌, ◌≤◌, true, false, cond, ◌||◌, List, [], ◌∷◌, ◌++◌, length, map, Some, None, refl, sym, ap, ◌∙◌, subst, arith, append_assoc, append-nil, length-append}
 use Rattle.std.proofs.lemmas.Bool.{both_ways, ltb-false, le-ltb}
 use Rattle.std.proofs.lemmas.List.{map-append}
 use Rattle.std.specs.List.{AllByRecursion}
@@ -7,9 +7,8 @@ use Rattle.std.specs.Option.{option_or, option_map}
 use Rattle.std.specs.Prelude.{codes}
 use Rattle.cats_text.specs.Lines.{Word, Line}
 use Rattle.cats_text.specs.Grammar.{AreDistinct, line_number}
-use Rattle.cats_text.specs.Faults.{Bounds, bounds_of, header_value, words_fault, end_fault, is_line_due, fault_at, line_fault, lines_fault}
+use Rattle.cats_text.specs.Faults.{Bounds, bounds_of, words_fault, end_fault, is_line_due, fault_at, line_fault, lines_fault}
 use Rattle.cats_text.specs.declared.fault.Kind.TheVariants.{Missing}
-use Rattle.cats_text.specs.declared.fault.ReadFault.{ReadFault}
 use Rattle.cats_text.specs.declared.limits.TheConstants.{MAX_GOODS, MAX_BIDS, MAX_DUMMY}
 use Rattle.cats_text.proofs.Marks.{AreDistinct-push}
 use Rattle.cats_text.proofs.SpellsLemmasMembers.{new_at}
@@ -28,7 +27,7 @@ words_from count lines [] f = cond_none (is_line_due lines) (fault_at (suc count
 words_from count lines (l ∷ ls) f =
     let first : (line_fault true lines l ≡ None) × (lines_fault true count (lines ++ l.words ∷ []) ls ≡ None) = or_none (line_fault true lines l) (lines_fault true count (lines ++ l.words ∷ []) ls) f in
     let kind : option_or (words_fault lines [] l.words) (cond (l.ended || true) (end_fault lines l.words) None) ≡ None
-        = map_none (fault_at l.number) (option_or (words_fault lines [] l.words) (cond (l.ended || true) (end_fault lines l.words) None)) first.0 in
+    = map_none (fault_at l.number) (option_or (words_fault lines [] l.words) (cond (l.ended || true) (end_fault lines l.words) None)) first.0 in
     let both : (words_fault lines [] l.words ≡ None) × (cond (l.ended || true) (end_fault lines l.words) None ≡ None) = or_none (words_fault lines [] l.words) (cond (l.ended || true) (end_fault lines l.words) None) kind in
     (both.0, sym (or_whole l.ended (end_fault lines l.words) None) ∙ both.1, words_from count (lines ++ l.words ∷ []) ls first.1)
 
@@ -36,8 +35,8 @@ pub words_none : (count : ℕ) (lines : List (List Word)) (ls : List Line) → H
 words_none count lines [] h = ap (λ b. cond b (Some (fault_at (suc count) Missing)) None) h
 words_none count lines (l ∷ ls) h =
     none_or (line_fault true lines l) (lines_fault true count (lines ++ l.words ∷ []) ls)
-      (ap (option_map (fault_at l.number)) (none_or (words_fault lines [] l.words) (cond (l.ended || true) (end_fault lines l.words) None) h.0 (or_whole l.ended (end_fault lines l.words) None ∙ h.1)))
-      (words_none count (lines ++ l.words ∷ []) ls h.2)
+    (ap (option_map (fault_at l.number)) (none_or (words_fault lines [] l.words) (cond (l.ended || true) (end_fault lines l.words) None) h.0 (or_whole l.ended (end_fault lines l.words) None ∙ h.1)))
+    (words_none count (lines ++ l.words ∷ []) ls h.2)
 
 -- ---- bid lines
 
@@ -64,9 +63,9 @@ module _ (g b d : List Word) where
       let due : length before < bounds.bids = line.1.due in
       let more : length (before ++ w ∷ []) ≡ length before + 1 = length-append before (w ∷ []) in
       subst (AreBidLines bounds) (append_assoc before (w ∷ []) ws)
-        (bid_lines_from (before ++ w ∷ []) ws (all_push (IsBidLine bounds) before w a line.0)
-          (subst AreDistinct (sym (map-append line_number before (w ∷ []))) (AreDistinct-push (map line_number before) (line_number w) distinct line.1.new))
-          (omega arith) h.2)
+      (bid_lines_from (before ++ w ∷ []) ws (all_push (IsBidLine bounds) before w a line.0)
+      (subst AreDistinct (sym (map-append line_number before (w ∷ []))) (AreDistinct-push (map line_number before) (line_number w) distinct line.1.new))
+      (omega arith) h.2)
 
   bid_lines_none : (before rest : List (List Word)) → AllByRecursion (IsBidLine bounds) rest → AreDistinct (map line_number (before ++ rest)) → length (before ++ rest) ≡ bounds.bids → HaveNoFault (g ∷ b ∷ d ∷ before) rest
   bid_lines_none before [] a distinct l =
@@ -75,8 +74,9 @@ module _ (g b d : List Word) where
   bid_lines_none before (w ∷ ws) a distinct l =
       let all : length (before ++ w ∷ ws) ≡ length before + length (w ∷ ws) = length-append before (w ∷ ws) in
       let new : IsNewLine bounds before w = record {
-          due = omega arith;
-          new = new_at (map line_number before) (line_number w) (map line_number ws) (subst AreDistinct (map-append line_number before (w ∷ ws)) distinct) } in
+        due = omega arith;
+        new = new_at (map line_number before) (line_number w) (map line_number ws) (subst AreDistinct (map-append line_number before (w ∷ ws)) distinct);
+      } in
       let none : (words_fault (g ∷ b ∷ d ∷ before) [] w ≡ None) × (end_fault (g ∷ b ∷ d ∷ before) w ≡ None) = bid_line_none g b d before w a.0 new in
       let moved : before ++ w ∷ ws ≡ (before ++ w ∷ []) ++ ws = sym (append_assoc before (w ∷ []) ws) in
       (none.0, none.1, bid_lines_none (before ++ w ∷ []) ws a.1 (subst (λ ls. AreDistinct (map line_number ls)) moved distinct) (ap length (sym moved) ∙ l))
@@ -99,11 +99,15 @@ lines_from [] h = absurd (both_ways true h refl)
 lines_from (g ∷ []) h = absurd (both_ways true h.2 refl)
 lines_from (g ∷ b ∷ []) h = absurd (both_ways true h.2.2 refl)
 lines_from (g ∷ b ∷ d ∷ ls) h = record {
-  g = g; b = b; d = d; bid_lines = ls; lines_are = refl;
+  g = g;
+  b = b;
+  d = d;
+  bid_lines = ls;
+  lines_are = refl;
   goods = header_from (codes "goods") MAX_GOODS [] (λ before w. refl) g h.0 h.1;
   bids = header_from (codes "bids") MAX_BIDS (g ∷ []) (λ before w. refl) b h.2.0 h.2.1;
   dummy = header_from (codes "dummy") MAX_DUMMY (g ∷ b ∷ []) (λ before w. refl) d h.2.2.0 h.2.2.1;
-  are = bid_lines_from g b d [] ls tt tt (omega arith) h.2.2.2
+  are = bid_lines_from g b d [] ls tt tt (omega arith) h.2.2.2;
 }
 
 file_lines_none : (g b d : List Word) (ls : List (List Word)) → IsHeader (codes "goods") MAX_GOODS g → IsHeader (codes "bids") MAX_BIDS b → IsHeader (codes "dummy") MAX_DUMMY d

@@ -1,6 +1,6 @@
 -- Prices: a price that is neither too large nor too fine is at most the greatest one in millionths, and the other way round.
-use Rattle.std.proofs.Common.{◌≡◌, ℕ, zero, suc, ◌+◌, ◌-◌, ◌*◌, ◌^◌, ◌<◌, ◌≤◌, Bool, true, false, not, eqb, ltb, leb, ◌||◌, ◌&&◌, ◌⊎◌, inl, inr, ⊎_elim, List, [], ◌∷◌, ◌++◌, length, take, drop, refl, sym, ap, ◌∙◌, subst, arith, length-append, length-take}
-use Rattle.std.proofs.lemmas.Bool.{both_ways, eqb-true, eq-eqb, ltb-true, ltb-false, lt-ltb, le-ltb, leb-true, or_cases, or_parts, or_from, and_parts, and_left, and_from, false_from_ne_true, true_from_ne_false, not-true, not-false, cases_Bool}
+use Rattle.std.proofs.Common.{◌≡◌, ℕ, zero, suc, ◌+◌, ◌-◌, ◌*◌, ◌^◌, ◌<◌, ◌≤◌, Bool, true, false, not, eqb, ltb, leb, ◌||◌, ◌&&◌, ⊎_elim, List, [], ◌∷◌, ◌++◌, length, take, drop, refl, sym, ap, ◌∙◌, subst, arith, length-append, length-take}
+use Rattle.std.proofs.lemmas.Bool.{both_ways, eqb-true, eq-eqb, ltb-false, le-ltb, leb-true, or_cases, or_parts, or_from, and_parts, and_from, false_from_ne_true, not-true, not-false, cases_Bool}
 use Rattle.std.proofs.lemmas.List.{take-append-drop}
 use Rattle.std.proofs.lemmas.List.Folds.{list_any-append, list_all-append}
 use Rattle.std.proofs.Math.Nat.{mul-le-mul_left, pow-succ'}
@@ -112,31 +112,31 @@ places_digits : (w : Word) → is_price w ≡ true → digits_alone (places w) �
 places_digits w h =
     let p : (is_number (whole_part w) ≡ true) × ((not (has_point w) || is_number (places w)) ≡ true) = and_parts (is_number (whole_part w)) (not (has_point w) || is_number (places w)) h in
     ⊎_elim (λ (e : not (has_point w) ≡ true). ap digits_alone (no_places w (not-true (has_point w) e))) (λ (e : is_number (places w) ≡ true). number_digits (places w) e)
-      (or_cases (not (has_point w)) (is_number (places w)) p.1)
+    (or_cases (not (has_point w)) (is_number (places w)) p.1)
 
 pub price_below : (w : Word) → is_price w ≡ true → is_too_large w ≡ false → price_of w ≤ MAX_PRICE
 price_below w h large =
     let p : (ltb GREATEST_PRICE (number_of (whole_part w)) ≡ false) × ((eqb (number_of (whole_part w)) GREATEST_PRICE && has_place_from 0 (places w)) ≡ false)
-        = or_parts (ltb GREATEST_PRICE (number_of (whole_part w))) (eqb (number_of (whole_part w)) GREATEST_PRICE && has_place_from 0 (places w)) large in
+    = or_parts (ltb GREATEST_PRICE (number_of (whole_part w))) (eqb (number_of (whole_part w)) GREATEST_PRICE && has_place_from 0 (places w)) large in
     let le : number_of (whole_part w) ≤ GREATEST_PRICE = ltb-false GREATEST_PRICE (number_of (whole_part w)) p.0 in
     let six : number_of (six_places (places w)) < 1000000 = six_below (places w) (places_digits w h) in
     ⊎_elim
-      (λ (e : has_place_from 0 (places w) ≡ true). greatest e p.1 le six)
-      (λ (e : has_place_from 0 (places w) ≡ false). let none : number_of (six_places (places w)) ≡ 0 = six_zero (places w) e in omega arith)
-      (cases_Bool (has_place_from 0 (places w)))
+    (λ (e : has_place_from 0 (places w) ≡ true). greatest e p.1 le six)
+    (λ (e : has_place_from 0 (places w) ≡ false). let none : number_of (six_places (places w)) ≡ 0 = six_zero (places w) e in omega arith)
+    (cases_Bool (has_place_from 0 (places w)))
   where
     greatest : has_place_from 0 (places w) ≡ true → (eqb (number_of (whole_part w)) GREATEST_PRICE && has_place_from 0 (places w)) ≡ false
         → number_of (whole_part w) ≤ GREATEST_PRICE → number_of (six_places (places w)) < 1000000 → price_of w ≤ MAX_PRICE
     greatest e q le six =
-      let other : number_of (whole_part w) ≡ GREATEST_PRICE → ⊥ = λ same. both_ways (eqb (number_of (whole_part w)) GREATEST_PRICE && has_place_from 0 (places w)) q (and_from (eqb (number_of (whole_part w)) GREATEST_PRICE) (has_place_from 0 (places w)) (eq-eqb (number_of (whole_part w)) GREATEST_PRICE same) e) in
-      omega arith
+        let other : number_of (whole_part w) ≡ GREATEST_PRICE → ⊥ = λ same. both_ways (eqb (number_of (whole_part w)) GREATEST_PRICE && has_place_from 0 (places w)) q (and_from (eqb (number_of (whole_part w)) GREATEST_PRICE) (has_place_from 0 (places w)) (eq-eqb (number_of (whole_part w)) GREATEST_PRICE same) e) in
+        omega arith
 
 pub price_small : (w : Word) → is_price w ≡ true → is_too_fine w ≡ false → price_of w ≤ MAX_PRICE → is_too_large w ≡ false
 price_small w h fine le =
     or_from (ltb GREATEST_PRICE (number_of (whole_part w))) (eqb (number_of (whole_part w)) GREATEST_PRICE && has_place_from 0 (places w))
-      (le-ltb GREATEST_PRICE (number_of (whole_part w)) (omega arith))
-      (false_from_ne_true (eqb (number_of (whole_part w)) GREATEST_PRICE && has_place_from 0 (places w)) (λ e.
-        let p : (eqb (number_of (whole_part w)) GREATEST_PRICE ≡ true) × (has_place_from 0 (places w) ≡ true) = and_parts (eqb (number_of (whole_part w)) GREATEST_PRICE) (has_place_from 0 (places w)) e in
-        let whole : number_of (whole_part w) ≡ GREATEST_PRICE = eqb-true (number_of (whole_part w)) GREATEST_PRICE p.0 in
-        let none : number_of (six_places (places w)) ≡ 0 = omega arith in
-        both_ways (has_place_from 0 (places w)) (zero_six (places w) (places_digits w h) fine none) p.1))
+    (le-ltb GREATEST_PRICE (number_of (whole_part w)) (omega arith))
+    (false_from_ne_true (eqb (number_of (whole_part w)) GREATEST_PRICE && has_place_from 0 (places w)) (λ e.
+    let p : (eqb (number_of (whole_part w)) GREATEST_PRICE ≡ true) × (has_place_from 0 (places w) ≡ true) = and_parts (eqb (number_of (whole_part w)) GREATEST_PRICE) (has_place_from 0 (places w)) e in
+    let whole : number_of (whole_part w) ≡ GREATEST_PRICE = eqb-true (number_of (whole_part w)) GREATEST_PRICE p.0 in
+    let none : number_of (six_places (places w)) ≡ 0 = omega arith in
+    both_ways (has_place_from 0 (places w)) (zero_six (places w) (places_digits w h) fine none) p.1))

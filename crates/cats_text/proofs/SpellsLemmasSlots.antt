@@ -1,6 +1,6 @@
 -- The bids of lines, each at its number. The idea: each line with a number of its own fills one more place, so as many lines
 -- as there are places fill them all.
-use Rattle.std.proofs.Common.{◌≡◌, ◌≢◌, ℕ, zero, suc, ◌+◌, ◌-◌, ◌<◌, ◌≤◌, ◌⊎◌, ⊎_elim, List, [], ◌∷◌, ◌++◌, length, map, replicate, set, get_or, Option, Some, None, refl, sym, ap, ap₂, ◌∙◌, subst, arith, length-append, get_or-set_same, get_or-set_other}
+use Rattle.std.proofs.Common.{◌≡◌, ◌≢◌, ℕ, zero, suc, ◌+◌, ◌-◌, ◌<◌, ◌≤◌, ⊎_elim, List, [], ◌∷◌, ◌++◌, length, map, replicate, set, get_or, Option, Some, None, refl, sym, ap, ap₂, ◌∙◌, subst, arith, length-append, get_or-set_same, get_or-set_other}
 use Rattle.std.proofs.lemmas.Bool.{cases_eq}
 use Rattle.std.proofs.lemmas.List.{length-replicate, length-set}
 use Rattle.std.specs.List.{AllByRecursion, fold, slice_get}
@@ -108,9 +108,10 @@ kept G xs (l ∷ ls) k a = kept G (put_slot xs (line_number l) (bid_of G l)) ls 
 each_put : (G : ℕ) (xs : Slots) (lines : List (List Word)) → AreDistinct (lines_numbers lines)
     → AllByRecursion (λ l. get_or (slots_from G xs lines) (line_number l) None ≡ Some (bid_of G l)) lines
 each_put G xs [] d = tt
-each_put G xs (l ∷ ls) d =
-    (kept G (put_slot xs (line_number l) (bid_of G l)) ls (line_number l) d.0 ∙ put_same xs (line_number l) (bid_of G l),
-     each_put G (put_slot xs (line_number l) (bid_of G l)) ls d.1)
+each_put G xs (l ∷ ls) d = (
+  kept G (put_slot xs (line_number l) (bid_of G l)) ls (line_number l) d.0 ∙ put_same xs (line_number l) (bid_of G l),
+  each_put G (put_slot xs (line_number l) (bid_of G l)) ls d.1,
+)
 
 free_put : (xs : Slots) (n : ℕ) (b : PlainBid) (ms : List ℕ) → AllByRecursion (λ m. n ≢ m) ms → AllByRecursion (λ m. get_or xs m None ≡ None) ms → AllByRecursion (λ m. get_or (put_slot xs n b) m None ≡ None) ms
 free_put xs n b [] d f = tt
@@ -122,7 +123,7 @@ filled_count G xs [] d f = omega arith
 filled_count G xs (l ∷ ls) d f =
     let one : length (filled (put_slot xs (line_number l) (bid_of G l))) ≡ suc (length (filled xs)) = length_filled_put xs (line_number l) (bid_of G l) f.0 in
     let rest : length (filled (slots_from G (put_slot xs (line_number l) (bid_of G l)) ls)) ≡ length ls + length (filled (put_slot xs (line_number l) (bid_of G l)))
-        = filled_count G (put_slot xs (line_number l) (bid_of G l)) ls d.1 (free_put xs (line_number l) (bid_of G l) (lines_numbers ls) d.0 f.1) in
+    = filled_count G (put_slot xs (line_number l) (bid_of G l)) ls d.1 (free_put xs (line_number l) (bid_of G l) (lines_numbers ls) d.0 f.1) in
     omega arith
 
 within : (G : ℕ) (xs : Slots) (lines : List (List Word)) (m : ℕ) → length xs ≤ m → AllByRecursion (λ n. n < m) (lines_numbers lines) → length (slots_from G xs lines) ≤ m
@@ -185,7 +186,7 @@ put_agrees : (bids : List PlainBid) (xs : Slots) (n : ℕ) (b : PlainBid) → sl
     → (k : ℕ) (c : PlainBid) → get_or (put_slot xs n b) k None ≡ Some c → slice_get bids k ≡ Some c
 put_agrees bids xs n b s h k c e = ⊎_elim
     (λ (q : k ≡ n). let there : get_or (put_slot xs n b) k None ≡ Some b = subst (λ m. get_or (put_slot xs n b) m None ≡ Some b) (sym q) (put_same xs n b) in
-        ap (slice_get bids) q ∙ s ∙ sym there ∙ e)
+    ap (slice_get bids) q ∙ s ∙ sym there ∙ e)
     (λ (ne : k ≡ n → ⊥). h k c (sym (put_other xs n b k ne) ∙ e)) (cases_eq k n)
 
 agrees : (G : ℕ) (bids : List PlainBid) (xs : Slots) (lines : List (List Word)) → AllByRecursion (λ l. slice_get bids (line_number l) ≡ Some (bid_of G l)) lines
@@ -197,4 +198,4 @@ pub bids_are : (G : ℕ) (bids : List PlainBid) (lines : List (List Word)) → F
     → AllByRecursion (λ l. slice_get bids (line_number l) ≡ Some (bid_of G l)) lines → bids ≡ filled (slots_of G lines)
 bids_are G bids lines p a =
     sym (same_by_place (filled (slots_of G lines)) bids (length_bids G (length bids) lines p)
-      (λ k b e. agrees G bids [] lines a (λ j c q. absurd (cc)) k b (at_slot G (length bids) lines p k ∙ e)))
+    (λ k b e. agrees G bids [] lines a (λ j c q. absurd (cc)) k b (at_slot G (length bids) lines p k ∙ e)))

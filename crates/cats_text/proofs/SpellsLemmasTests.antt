@@ -1,5 +1,5 @@
 -- Tests one after another: no fault is that each of them is false. And header lines.
-use Rattle.std.proofs.Common.{◌≡◌, ℕ, ◌<◌, ◌≤◌, Bool, true, false, not, cond, ltb, ◌||◌, List, [], ◌∷◌, ◌++◌, Option, Some, None, refl, sym, ap, ap₂, ◌∙◌, subst, arith}
+use Rattle.std.proofs.Common.{◌≡◌, ℕ, ◌≤◌, Bool, true, false, not, cond, ltb, ◌||◌, List, [], ◌∷◌, Option, Some, None, refl, sym, ap, ◌∙◌, subst}
 use Rattle.std.proofs.lemmas.Bool.{both_ways, ltb-false, le-ltb, not-false, not_from_true}
 use Rattle.std.proofs.lemmas.Slice.Eq.{bytes_eq-Decides}
 use Rattle.std.specs.Option.{option_or, option_map}
@@ -65,13 +65,13 @@ module _ (keyword : Word) (limit : ℕ) (lines : List (List Word)) (is_header : 
       let second : (word_fault lines (k ∷ []) w ≡ None) × (words_fault lines (k ∷ w ∷ []) [] ≡ None) = or_none (word_fault lines (k ∷ []) w) (words_fault lines (k ∷ w ∷ []) []) first.1 in
       let same : (not (bytes_eq k keyword) ≡ false) × (None ≡ None) = when_none (not (bytes_eq k keyword)) Header None (sym (is_header [] k) ∙ first.0) in
       let number : (not (is_number w) ≡ false) × (when (ltb limit (number_of w)) TooLarge None ≡ None)
-          = when_none (not (is_number w)) NotANumber (when (ltb limit (number_of w)) TooLarge None) (sym (is_header (k ∷ []) w) ∙ second.0) in
+      = when_none (not (is_number w)) NotANumber (when (ltb limit (number_of w)) TooLarge None) (sym (is_header (k ∷ []) w) ∙ second.0) in
       let small : (ltb limit (number_of w) ≡ false) × (None ≡ None) = when_none (ltb limit (number_of w)) TooLarge None number.1 in
       record {
         number = w;
         words_are = ap (λ v. v ∷ w ∷ []) (equal_words k keyword (not-false (bytes_eq k keyword) same.0));
         spelled = not-false (is_number w) number.0;
-        within = ltb-false limit (number_of w) small.0
+        within = ltb-false limit (number_of w) small.0;
       }
   header_from (k ∷ w ∷ x ∷ xs) f e =
       let first : (word_fault lines [] k ≡ None) × (words_fault lines (k ∷ []) (w ∷ x ∷ xs) ≡ None) = or_none (word_fault lines [] k) (words_fault lines (k ∷ []) (w ∷ x ∷ xs)) f in
@@ -83,11 +83,11 @@ module _ (keyword : Word) (limit : ℕ) (lines : List (List Word)) (is_header : 
   header_words_none : (number : Word) → is_number number ≡ true → number_of number ≤ limit → words_fault lines [] (keyword ∷ number ∷ []) ≡ None
   header_words_none number spelled small =
       none_or (word_fault lines [] keyword) (words_fault lines (keyword ∷ []) (number ∷ []))
-        (is_header [] keyword ∙ none_when (not (bytes_eq keyword keyword)) Header None (not_from_true (bytes_eq keyword keyword) (same_word keyword)) refl)
-        (none_or (word_fault lines (keyword ∷ []) number) None
-          (is_header (keyword ∷ []) number ∙ none_when (not (is_number number)) NotANumber (when (ltb limit (number_of number)) TooLarge None) (not_from_true (is_number number) spelled)
-            (none_when (ltb limit (number_of number)) TooLarge None (le-ltb limit (number_of number) small) refl))
-          refl)
+      (is_header [] keyword ∙ none_when (not (bytes_eq keyword keyword)) Header None (not_from_true (bytes_eq keyword keyword) (same_word keyword)) refl)
+      (none_or (word_fault lines (keyword ∷ []) number) None
+      (is_header (keyword ∷ []) number ∙ none_when (not (is_number number)) NotANumber (when (ltb limit (number_of number)) TooLarge None) (not_from_true (is_number number) spelled)
+      (none_when (ltb limit (number_of number)) TooLarge None (le-ltb limit (number_of number) small) refl))
+      refl)
 
   pub header_none : (words : List Word) → IsHeader keyword limit words → (words_fault lines [] words ≡ None) × (header_end words ≡ None)
   header_none words p = subst (λ ws. (words_fault lines [] ws ≡ None) × (header_end ws ≡ None)) (sym p.words_are) (header_words_none p.number p.spelled p.within, refl)

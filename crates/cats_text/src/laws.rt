@@ -11,5 +11,4 @@ pub fn spells_one_or_faults()
     ensures one_or_fault { (text : List ℕ) → ((f : PlainFile) × Spells text f) ⊎ ((e : ReadFault) × (first_fault text ≡ Some e)) }
     ensures never_both { (text : List ℕ) (f : PlainFile) (e : ReadFault) → Spells text f → first_fault text ≡ Some e → ⊥ }
     ensures only_one { (text : List ℕ) (f g : PlainFile) → Spells text f → Spells text g → f ≡ g }
-{
-}
+{}
