@@ -1,3 +1,11 @@
+pub mod SpellsLemmasSlots
+pub mod SpellsLemmasMembers
+pub mod SpellsLemmasPrices
+pub mod SpellsLemmasTests
+pub mod SpellsLemmasGoods
+pub mod SpellsLemmasLines
+pub mod SpellsLemmasBids
+pub mod SpellsLemmas
 pub mod Distinct
 pub mod Marks
 pub mod Slots
