@@ -1,0 +1,8 @@
+-- The order of bundles: by size, then lexicographically by their rising lists of goods.
+use Rattle.std.specs.Prelude.{ℕ, List, length}
+use Rattle.std.specs.Ordering.{nat_cmp, ordering_then}
+use Rattle.std.specs.Cmp.Lexicographic.{slice_cmp}
+use Rattle.std.specs.declared.cmp.Ordering.{Ordering}
+
+abbrev pub bundle_cmp : List ℕ → List ℕ → Ordering
+bundle_cmp xs ys = ordering_then (nat_cmp (length xs) (length ys)) (slice_cmp nat_cmp xs ys)
