@@ -1,3 +1,4 @@
 pub mod Bundles
 pub mod Members
 pub mod Orders
+pub mod Sizes
