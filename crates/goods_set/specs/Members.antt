@@ -59,8 +59,10 @@ same_from_has (x ∷ xs) (y ∷ ys) r s h k =
     heads (inl e) q = sym e
     heads (inr a) (inl e) = e
     heads (inr a) (inr b) = let l : y < x = has_above y ys x s.0 a in let m : x < y = has_above x xs y r.0 b in omega arith
+
     later : (g : ℕ) → has_good xs g ≡ true → x ≡ y → has_good ys g ≡ true
     later g m e = ⊎_elim (λ (d : y ≡ g). let l : x < g = has_above x xs g r.0 m in absurd (omega arith)) (λ (d : has_good ys g ≡ true). d) (has_cases y ys g (h g (has_tail x xs g m)))
+
     back : (g : ℕ) → has_good ys g ≡ true → x ≡ y → has_good xs g ≡ true
     back g m e = ⊎_elim (λ (d : x ≡ g). let l : y < g = has_above y ys g s.0 m in absurd (omega arith)) (λ (d : has_good xs g ≡ true). d) (has_cases x xs g (k g (has_tail y ys g m)))
 

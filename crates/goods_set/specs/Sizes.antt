@@ -101,6 +101,7 @@ length-without (x ∷ xs) (y ∷ ys) r s i =
         let t : has_good (y ∷ ys) x ≡ true = subst (λ n. has_good (n ∷ ys) x ≡ true) e (has_head x ys) in
         let w : without xs (y ∷ ys) ≡ without xs ys = without_head y xs ys (subst (λ n. AreAbove n xs) e r.0) in
         rw (t, w) (omega arith)
+
     left : x < y → length (without xs (y ∷ ys)) + length (y ∷ ys) ≡ length xs → length (without (x ∷ xs) (y ∷ ys)) + length (y ∷ ys) ≡ length (x ∷ xs)
     left l h =
         let t : has_good (y ∷ ys) x ≡ false = has_not_head x (y ∷ ys) (l, AreAbove-lower x y ys (omega arith) s.0) in
@@ -134,9 +135,11 @@ has-with_good x (y ∷ ys) g = at (has-with_good x ys g) (ltb x y) (eqb x y) ref
     or_swap true true c = refl
     or_swap true false c = refl
     or_swap false b c = refl
+
     or_twice : (a b : Bool) → (a || b) ≡ (a || (a || b))
     or_twice true b = refl
     or_twice false b = refl
+
     at : has_good (with_good x ys) g ≡ (eqb x g || has_good ys g) → (b c : Bool) → ltb x y ≡ b → eqb x y ≡ c → has_good (with_good x (y ∷ ys)) g ≡ (eqb x g || (eqb y g || has_good ys g))
     at h true c e f = rw e refl
     at h false true e f = let d : x ≡ y = eqb-true x y f in rw (e, f) (subst (λ n. (eqb y g || has_good ys g) ≡ (eqb n g || (eqb y g || has_good ys g))) (sym d) (or_twice (eqb y g) (has_good ys g)))
