@@ -1,5 +1,5 @@
 -- The laws of bundles as the trait's laws cite them.
-use Rattle.std.proofs.Common.{◌≡◌, ℕ, ◌⊎◌, List, Less, Equal}
+use Rattle.std.proofs.Common.{◌≡◌, ℕ, ◌≤◌, ◌⊎◌, List, Less, Equal, lit≤}
 use Rattle.std.specs.Cmp.{IsTotalOrder}
 use Rattle.goods_set.specs.Bundles.{IsBundle, IsInside}
 use Rattle.goods_set.specs.Members.{inside_antisymm}
@@ -16,3 +16,6 @@ inside_antisymm_law G xs ys a b = inside_antisymm xs ys a.0 b.0
 
 pub inside_ordered_law : (G : ℕ) (xs ys : List ℕ) → IsBundle G xs → IsBundle G ys → IsInside xs ys → (bundle_cmp xs ys ≡ Less) ⊎ (xs ≡ ys)
 inside_ordered_law G xs ys a b = inside_ordered xs ys a.0 b.0
+
+pub list_cap_fits : 65536 ≤ 65536
+list_cap_fits = lit≤ tt
