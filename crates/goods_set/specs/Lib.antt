@@ -1,3 +1,4 @@
+pub mod AllBundles
 pub mod Bundles
 pub mod Laws
 pub mod Members
