@@ -4,3 +4,4 @@ pub mod Laws
 pub mod Members
 pub mod Orders
 pub mod Sizes
+pub mod Words
