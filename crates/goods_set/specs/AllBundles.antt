@@ -69,11 +69,11 @@ record IsChoice (g G size : ℕ) (xs : List ℕ) : Type 0 where
 
 begun : (g G size : ℕ) (xs : List ℕ) → g < G → IsChoice (g + 1) G size xs → IsChoice g G (suc size) (g ∷ xs)
 begun g G size xs l c = record {
-    rising = (AreAbove-from_has g xs (λ x h. let m : g + 1 ≤ x = c.from x h in omega arith), c.rising);
-    from = λ x h. ⊎_elim (λ (e : g ≡ x). omega arith) (λ (k : has_good xs x ≡ true). let m : g + 1 ≤ x = c.from x k in omega arith) (has_cases g xs x h);
-    below = (l, c.below);
-    many = omega (arith, c.many)
-  }
+  rising = (AreAbove-from_has g xs (λ x h. let m : g + 1 ≤ x = c.from x h in omega arith), c.rising);
+  from = λ x h. ⊎_elim (λ (e : g ≡ x). omega arith) (λ (k : has_good xs x ≡ true). let m : g + 1 ≤ x = c.from x k in omega arith) (has_cases g xs x h);
+  below = (l, c.below);
+  many = omega (arith, c.many);
+}
 
 later : (g G size : ℕ) (xs : List ℕ) → IsChoice (g + 1) G size xs → IsChoice g G size xs
 later g G size xs c = record { rising = c.rising; from = λ x h. let m : g + 1 ≤ x = c.from x h in omega arith; below = c.below; many = c.many }

@@ -4,6 +4,7 @@
 
 pub mod list_set;
 pub mod set;
+pub mod word_set;
 pub mod worked;
 
 pub use list_set::ListSet;

@@ -1,0 +1,2 @@
+//! A set of goods as the bits of words.
+mod lanes;
