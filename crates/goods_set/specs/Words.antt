@@ -182,3 +182,10 @@ words_without cap us vs ws f h =
     left g l e n =
         let s : word_bit vs g < 2 = bit_at-lt (get_or vs (g / 64) 0) (g % 64) in
         is g l ∙ (let m : min (word_bit us g) (1 - word_bit vs g) ≡ 1 = omega arith in m)
+
+-- the bound on goods of n words
+abbrev pub word_cap : ℕ → ℕ
+word_cap n = min (64 * n) 65536
+
+pub word_cap_fits : (n : ℕ) → word_cap n ≤ 65536
+word_cap_fits n = omega arith

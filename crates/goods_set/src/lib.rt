@@ -9,3 +9,4 @@ pub mod worked;
 
 pub use list_set::ListSet;
 pub use set::GoodsSet;
+pub use word_set::WordSet;

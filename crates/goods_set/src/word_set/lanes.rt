@@ -1,9 +1,6 @@
 //! The kernels: what is said of two bundles of words, eight words at a time and then one by one.
-ghost use Rattle.std.specs.Prelude.{◌≡◌, ℕ, ◌*◌, ◌<◌, length, slice_index};
-ghost use Rattle.std.specs.Int.{bit_not};
-ghost use Rattle.std.specs.Int.RustNames.{bit_and};
-ghost use Rattle.std.proofs.Common.{w64};
-ghost use Rattle.goods_set.specs.Bundles.{is_inside, are_apart};
+ghost use Rattle.std.specs.Prelude.{◌≡◌, ℕ, ◌*◌, ◌≤◌, length};
+ghost use Rattle.goods_set.specs.Bundles.{is_inside, are_apart, without};
 ghost use Rattle.goods_set.specs.Words.{word_goods};
 
 use std::simd::prelude::*;
@@ -55,7 +52,7 @@ pub(crate) fn all_apart(a: &[u64], b: &[u64]) -> bool
 /// Takes the goods of `b` out of `a`.
 pub(crate) fn remove_all(a: &mut [u64], b: &[u64])
     requires { length a.old ≡ length b.now }
-    ensures { (k : ℕ) → k < length a.old → slice_index a.new k ≡ bit_and (slice_index a.old k) (bit_not w64 (slice_index b.now k)) }
+    ensures { (cap : ℕ) → cap ≤ 64 * length a.old → word_goods cap a.new ≡ without (word_goods cap a.old) (word_goods cap b.now) }
 {
     let mut i = 0;
     while a.len() - i >= LANES {

@@ -2,6 +2,7 @@ use Rattle.std.proofs.Common.{◌≡◌, ℕ, ◌+◌, ◌≤◌, length, sym, s
 use Rattle.std.specs.Int.{bit_not}
 use Rattle.std.specs.Int.RustNames.{bit_and}
 use Rattle.std.proofs.lemmas.Simd.{length-put_chunk}
+use Rattle.goods_set.specs.Words.{words_without}
 use Rattle.goods_set.proofs.Lanes.{AreLanes, lanes_outside, written_more, unwritten_more}
 use Rattle.goods_set.proofs.word_set.lanes.remove_all.Goals as goal
 
@@ -17,3 +18,6 @@ loop-a-preserved c =
       done = written_more (λ x y. bit_and x (bit_not w64 y)) c.args.a.now xs ys i _ lanes room c.loop-a.invariant.done c.loop-a.invariant.rest;
       rest = unwritten_more (λ x y. bit_and x (bit_not w64 y)) c.args.a.now xs ys i _ lanes c.loop-a.invariant.rest;
     }
+
+pub returns : goal.returns
+returns c = λ cap l. words_without cap c.args.a.now c.args.b.now c.loop-k.a (λ k. (c.type_inv.b k).fits) (λ k m. c.loop-k.invariant.done k (omega arith))
