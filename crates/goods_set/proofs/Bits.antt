@@ -1,15 +1,15 @@
 -- One good's bit in the words of a set: read, set, and in a set with no goods.
-use Rattle.std.proofs.Common.{◌≡◌, ℕ, ◌+◌, ◌-◌, ◌*◌, ◌/◌, ◌%◌, ◌^◌, min, ◌<◌, ◌≤◌, ◌≢◌, Bool, true, false, not, cond, ◌||◌, eqb, ltb, ◌⊎◌, inl, inr, ⊎_elim, List, [], ◌∷◌, length, get_or, take, set, replicate, refl, sym, ap, ap₂, ◌∙◌, subst, arith, w64, shl_exact, pow_pos, length-set, get_or-set_same, get_or-set_other, get_or-take, length-take}
+use Rattle.std.proofs.Common.{◌≡◌, ℕ, ◌*◌, ◌/◌, ◌%◌, ◌^◌, min, ◌<◌, ◌≤◌, ◌≢◌, true, false, not, eqb, ltb, ◌⊎◌, inl, inr, ⊎_elim, List, [], length, get_or, take, set, replicate, refl, sym, ap, ◌∙◌, subst, arith, w64, shl_exact, pow_pos, get_or-set_same, get_or-set_other, get_or-take, length-take}
 use Rattle.std.specs.Int.{bit_at}
 use Rattle.std.specs.Int.RustNames.{bit_and, bit_or}
-use Rattle.std.proofs.lemmas.Bool.{both_ways, cases_eq, cases_Bool, eq-eqb, ne_eqb, eqb-true, eqb-false, ltb-true, ltb-false, le-ltb, false_from_ne_true, or_left, or_right, or_cases, not_from_true}
+use Rattle.std.proofs.lemmas.Bool.{both_ways, cases_eq, cases_Bool, eq-eqb, ne_eqb, eqb-true, ltb-true, ltb-false, false_from_ne_true, or_left, or_right, or_cases}
 use Rattle.std.proofs.lemmas.Nat.Bits.{bit_at-lt, bit_at-zero, shr_and_one, and_pow, bit_at_set_same, bit_at_set_other}
 use Rattle.std.proofs.lemmas.Simd.{get_or-replicate, length-replicate}
 use Rattle.std.proofs.lemmas.List.{get_or_past}
 use Rattle.goods_set.specs.Bundles.{has_good, with_good}
 use Rattle.goods_set.specs.Members.{same_from_has}
 use Rattle.goods_set.specs.Sizes.{has-with_good, IsRising-with_good}
-use Rattle.goods_set.specs.Words.{word_bit, word_goods, word_cap, word_goods_bundle, word_goods_has, word_goods_parts, word_goods_same, word_goods_past}
+use Rattle.goods_set.specs.Words.{word_bit, word_goods, word_cap, word_goods_bundle, word_goods_has, word_goods_parts, word_goods_same}
 
 -- ---- a bit that is read
 

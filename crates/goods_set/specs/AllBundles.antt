@@ -1,6 +1,6 @@
 -- The list of all bundles over G goods: it holds exactly these, in strictly rising order, so none twice. The idea: the lists of
 -- one size that begin with the first good come before those that do not, and both are such lists over one good less.
-use Rattle.std.proofs.Common.{◌≡◌, ℕ, zero, suc, ◌+◌, ◌<◌, ◌≤◌, true, ◌⊎◌, inl, inr, ⊎_elim, List, [], ◌∷◌, ◌++◌, map, length, get_or, refl, sym, ap, ◌∙◌, subst, arith, Ordering, Less, Equal, nat_cmp}
+use Rattle.std.proofs.Common.{◌≡◌, ℕ, zero, suc, ◌+◌, ◌<◌, ◌≤◌, true, ◌⊎◌, inl, inr, ⊎_elim, List, [], ◌∷◌, ◌++◌, map, length, refl, sym, ap, ◌∙◌, subst, arith, Ordering, Less, nat_cmp}
 use Rattle.std.specs.List.{All, AllPairs, AllByRecursion, Contains, flat_map, range_with_len}
 use Rattle.std.specs.List.Sorted.{IsStrictlySortedBy}
 use Rattle.std.specs.Ordering.{ordering_then}
@@ -8,8 +8,8 @@ use Rattle.std.specs.Cmp.Lexicographic.{slice_cmp}
 use Rattle.std.proofs.lemmas.List.Elements.{All-from_recursion}
 use Rattle.std.proofs.lemmas.List.Kept.{AllPairs-cons}
 use Rattle.std.proofs.lemmas.Bool.{cases_order}
-use Rattle.goods_set.specs.Bundles.{AreAbove, AreBelow, IsRising, IsBundle, has_good, bundles_from, all_bundles}
-use Rattle.goods_set.specs.Members.{has_head, has_tail, has_cases, has_above, has_below, AreAbove-from_has}
+use Rattle.goods_set.specs.Bundles.{AreBelow, IsRising, IsBundle, has_good, bundles_from, all_bundles}
+use Rattle.goods_set.specs.Members.{has_head, has_cases, has_above, AreAbove-from_has}
 use Rattle.goods_set.specs.Orders.{bundle_cmp, nat_cmp-lt, nat_cmp-refl, same_size, smaller_first}
 
 -- ---- lists of bundles, by recursion

@@ -1,14 +1,14 @@
 -- Bundles as words of 64 bits: the good g is bit g % 64 of word g / 64.
-use Rattle.std.proofs.Common.{◌≡◌, ℕ, zero, suc, ◌+◌, ◌-◌, ◌*◌, ◌/◌, ◌%◌, ◌^◌, min, ◌<◌, ◌≤◌, ◌≢◌, Bool, true, false, not, cond, ◌&&◌, eqb, ◌⊎◌, inl, inr, ⊎_elim, List, [], ◌∷◌, length, get_or, refl, sym, ap, ◌∙◌, subst, arith, w64}
+use Rattle.std.proofs.Common.{◌≡◌, ℕ, zero, suc, ◌+◌, ◌-◌, ◌*◌, ◌/◌, ◌%◌, ◌^◌, min, ◌<◌, ◌≤◌, ◌≢◌, Bool, true, false, eqb, List, get_or, refl, sym, ap, ◌∙◌, arith, w64}
 use Rattle.std.specs.List.{filter, range_with_len}
 use Rattle.std.specs.Int.{bit_at, bit_not, trailing_zeros}
 use Rattle.std.specs.Int.RustNames.{bit_and}
 use Rattle.std.proofs.lemmas.Nat.Bits.{bit_at-lt, bit_at-zero, bit_at_and, bit_at_not, bit_at-trailing_zeros}
 use Rattle.std.proofs.lemmas.Nat.{and_le_l}
-use Rattle.std.proofs.lemmas.Bool.{and_parts, and_from, both_ways, eqb-true, eq-eqb, ne_eqb, false_from_ne_true}
-use Rattle.goods_set.specs.Bundles.{AreAbove, AreBelow, IsRising, IsBundle, IsInside, AreApart, has_good, is_inside, are_apart, without, with_good}
-use Rattle.goods_set.specs.Members.{has_head, has_tail, has_cases, has_above, has_below, AreBelow-filter, AreAbove-from_has, AreAbove-lower, AreBelow-from_has, has-filter, IsRising-filter, same_from_has, inside_at, inside_from, apart_at, apart_from, has_without_from, has_without_parts, IsRising-without}
-use Rattle.goods_set.specs.Sizes.{filter_same, has-with_good, IsRising-with_good}
+use Rattle.std.proofs.lemmas.Bool.{and_parts, and_from, both_ways, eqb-true, eq-eqb, false_from_ne_true}
+use Rattle.goods_set.specs.Bundles.{AreAbove, AreBelow, IsRising, IsBundle, has_good, is_inside, are_apart, without}
+use Rattle.goods_set.specs.Members.{has_below, AreBelow-filter, has-filter, IsRising-filter, same_from_has, inside_at, inside_from, apart_at, apart_from, has_without_from, has_without_parts, IsRising-without}
+use Rattle.goods_set.specs.Sizes.{filter_same}
 
 -- the bit of the good g
 abbrev pub word_bit : List ℕ → ℕ → ℕ

@@ -1,9 +1,7 @@
-use Rattle.std.proofs.Common.{◌≡◌, ℕ, ◌+◌, ◌≤◌, length, sym, subst, arith, w64}
-use Rattle.std.specs.Int.{bit_not}
+use Rattle.std.proofs.Common.{ℕ, ◌+◌, ◌≤◌, length, sym, arith}
 use Rattle.std.specs.Int.RustNames.{bit_and}
-use Rattle.std.proofs.lemmas.Bool.{cases_lt}
 use Rattle.goods_set.specs.Words.{words_apart, words_sharing}
-use Rattle.goods_set.proofs.Lanes.{AreLanes, lanes_shared, none_more, some_here, Somewhere}
+use Rattle.goods_set.proofs.Lanes.{lanes_shared, none_more, some_here}
 use Rattle.goods_set.proofs.word_set.lanes.all_apart.Goals as goal
 
 pub returns-then-shared-ne0 : goal.returns-then-shared-ne0

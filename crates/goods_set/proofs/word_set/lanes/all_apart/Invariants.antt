@@ -1,5 +1,4 @@
-use Rattle.std.proofs.Common.{◌≡◌, ℕ, ◌-◌, ◌<◌, ◌≤◌, length, get_or, w64}
-use Rattle.std.specs.Int.{bit_not}
+use Rattle.std.proofs.Common.{◌≡◌, ℕ, ◌-◌, ◌<◌, ◌≤◌, length, get_or}
 use Rattle.std.specs.Int.RustNames.{bit_and}
 use Rattle.goods_set.proofs.word_set.lanes.all_apart.Given as goal
 

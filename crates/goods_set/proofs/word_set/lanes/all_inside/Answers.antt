@@ -1,9 +1,8 @@
-use Rattle.std.proofs.Common.{◌≡◌, ℕ, ◌+◌, ◌≤◌, length, sym, subst, arith, w64}
+use Rattle.std.proofs.Common.{ℕ, ◌+◌, ◌≤◌, length, sym, arith, w64}
 use Rattle.std.specs.Int.{bit_not}
 use Rattle.std.specs.Int.RustNames.{bit_and}
-use Rattle.std.proofs.lemmas.Bool.{cases_lt}
 use Rattle.goods_set.specs.Words.{words_inside, words_outside}
-use Rattle.goods_set.proofs.Lanes.{AreLanes, lanes_outside, none_more, some_here, Somewhere}
+use Rattle.goods_set.proofs.Lanes.{lanes_outside, none_more, some_here}
 use Rattle.goods_set.proofs.word_set.lanes.all_inside.Goals as goal
 
 pub returns-then-outside-ne0 : goal.returns-then-outside-ne0

@@ -1,9 +1,9 @@
-use Rattle.std.proofs.Common.{◌≡◌, ℕ, ◌+◌, ◌≤◌, length, sym, subst, arith, w64}
+use Rattle.std.proofs.Common.{ℕ, ◌+◌, ◌≤◌, length, arith, w64}
 use Rattle.std.specs.Int.{bit_not}
 use Rattle.std.specs.Int.RustNames.{bit_and}
 use Rattle.std.proofs.lemmas.Simd.{length-put_chunk}
 use Rattle.goods_set.specs.Words.{words_without}
-use Rattle.goods_set.proofs.Lanes.{AreLanes, lanes_outside, written_more, unwritten_more}
+use Rattle.goods_set.proofs.Lanes.{lanes_outside, written_more, unwritten_more}
 use Rattle.goods_set.proofs.word_set.lanes.remove_all.Goals as goal
 
 pub loop-a-preserved : goal.loop-a-preserved

@@ -1,5 +1,5 @@
-use Rattle.std.proofs.Common.{◌≡◌, ℕ, length, refl, sym, arith}
-use Rattle.goods_set.proofs.Scans.{scan_begun, scan_more, scan_ended, scan_outside, scan_found}
+use Rattle.std.proofs.Common.{length, refl, sym}
+use Rattle.goods_set.proofs.Scans.{scan_begun, scan_ended, scan_outside, scan_found}
 use Rattle.goods_set.proofs.word_set.scans.next_good.Goals as goal
 
 pub returns-then-place-words : goal.returns-then-place-words

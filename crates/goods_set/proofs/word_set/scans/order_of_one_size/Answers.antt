@@ -1,8 +1,6 @@
-use Rattle.std.proofs.Common.{◌≡◌, ◌<◌, ◌^◌, ℕ, List, length, get_or, sym, arith, w64}
-use Rattle.std.specs.Int.{trailing_zeros}
-use Rattle.std.specs.Int.RustNames.{bit_xor}
+use Rattle.std.proofs.Common.{ℕ, length, get_or, sym, arith}
 use Rattle.std.proofs.lemmas.Nat.{xor_lt}
-use Rattle.goods_set.proofs.Firsts.{DiffersFirst, differs_first, less_by_words, greater_by_words, equal_words, same_more}
+use Rattle.goods_set.proofs.Firsts.{differs_first, less_by_words, greater_by_words, equal_words}
 use Rattle.goods_set.proofs.word_set.scans.order_of_one_size.Goals as goal
 
 pub overflow_shr-a : goal.overflow_shr-a
