@@ -1,6 +1,6 @@
 -- A strictly sorted list is what it contains: two that contain the same are equal. So a result that is sorted and contains
 -- exactly what a definition lists in order is the definition's list.
-use Rattle.std.proofs.Common.{◌≡◌, ℕ, zero, suc, ◌+◌, ◌<◌, ◌≤◌, ◌⊎◌, inl, inr, ⊎_elim, List, [], ◌∷◌, length, get_or, refl, sym, ap₂, ◌∙◌, subst, arith, Ordering, Less}
+use Rattle.std.proofs.Common.{◌≡◌, zero, suc, ◌⊎◌, inl, inr, ⊎_elim, List, [], ◌∷◌, refl, sym, ap₂, ◌∙◌, subst, arith, Ordering, Less}
 use Rattle.std.specs.List.{Contains, AllByRecursion}
 use Rattle.std.specs.List.Sorted.{IsStrictlySortedBy}
 
