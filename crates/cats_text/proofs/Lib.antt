@@ -23,3 +23,4 @@ pub mod BidSteps
 pub mod GoodSteps
 pub mod LineSteps
 pub mod WholeLines
+pub mod ByteLines
