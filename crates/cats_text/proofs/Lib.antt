@@ -24,3 +24,4 @@ pub mod GoodSteps
 pub mod LineSteps
 pub mod WholeLines
 pub mod ByteLines
+pub mod AllBytes
