@@ -76,10 +76,10 @@ lifted n m (Err kind) = Err (fault_at n kind)
 abbrev pub to_blank : State → List ℕ → Scan
 to_blank s bytes = and_then (run s bytes) blank_step
 
-byte_letter : (s : State) (b : ℕ) → eqb b 10 ≡ false → is_blank b ≡ false → byte_step s b ≡ Ok (record s { mode = letter_mode s.mode b })
+pub byte_letter : (s : State) (b : ℕ) → eqb b 10 ≡ false → is_blank b ≡ false → byte_step s b ≡ Ok (record s { mode = letter_mode s.mode b })
 byte_letter s b e h = rw (e, h) refl
 
-byte_blank : (s : State) (b : ℕ) → eqb b 10 ≡ false → is_blank b ≡ true → byte_step s b ≡ blank_step s
+pub byte_blank : (s : State) (b : ℕ) → eqb b 10 ≡ false → is_blank b ≡ true → byte_step s b ≡ blank_step s
 byte_blank s b e h = rw (e, h) refl
 
 reading_then_ok : (r : Reading) → reading_then r (λ p. Ok p) ≡ r
