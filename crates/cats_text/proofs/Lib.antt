@@ -25,3 +25,4 @@ pub mod LineSteps
 pub mod WholeLines
 pub mod ByteLines
 pub mod AllBytes
+pub mod TextFaults
