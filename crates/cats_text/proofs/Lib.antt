@@ -26,3 +26,4 @@ pub mod WholeLines
 pub mod ByteLines
 pub mod AllBytes
 pub mod TextFaults
+pub mod Pieces
