@@ -27,3 +27,4 @@ pub mod ByteLines
 pub mod AllBytes
 pub mod TextFaults
 pub mod Pieces
+pub mod BidLines
