@@ -1,4 +1,8 @@
 pub mod Distinct
+pub mod Numerals
+pub mod Zeros
+pub mod Places
+pub mod BidTexts
 pub mod Marks
 pub mod Slots
 pub mod Rising
