@@ -3,6 +3,10 @@ pub mod Numerals
 pub mod Zeros
 pub mod Places
 pub mod BidTexts
+pub mod TextLines
+pub mod Prices
+pub mod LayoutLines
+pub mod LayoutSpells
 pub mod Marks
 pub mod Slots
 pub mod Rising

@@ -15,7 +15,11 @@ number_then n w = fold (λ n b. 10 * n + (b - 48)) n w
 pub numerals : IsNumeralModel (λ ds. digits_alone ds ≡ true) number_of
 numerals = numerals_by_fold _ (search rules) number_then (search rules)
 
-is_number_from_digits : (w : Word) → digits_alone w ≡ true → 0 < length w → is_number w ≡ true
+pub digits_from_number : (w : Word) → is_number w ≡ true → digits_alone w ≡ true
+digits_from_number [] number = refl
+digits_from_number (b ∷ bs) number = number
+
+pub is_number_from_digits : (w : Word) → digits_alone w ≡ true → 0 < length w → is_number w ≡ true
 is_number_from_digits [] digits some = absurd (omega arith)
 is_number_from_digits (b ∷ bs) digits some = digits
 

@@ -1,0 +1,3 @@
+//! Laws of the definitions, each the contract of a function that does nothing.
+
+pub mod layout;
