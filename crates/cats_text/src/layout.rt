@@ -1,9 +1,10 @@
 //! Bid files as text.
 
-ghost use Rattle.std.specs.Prelude.{◌≡◌, ◌++◌, ◌∷◌, [], IfOk, OnOk, ◌/◌, ◌%◌, ◌<◌, decimal, length};
-ghost use Rattle.cats_text.specs.Files.{goods_of, plain_bid, plain_bids};
+ghost use Rattle.std.specs.Prelude.{◌≡◌, ◌++◌, ◌∷◌, ◌<◌, IfOk, OnOk, decimal};
+ghost use Rattle.cats_text.specs.Files.{plain_bid, plain_bids};
 ghost use Rattle.cats_text.specs.Views.{plain_file};
-ghost use Rattle.cats_text.specs.Layout.{layout, header_text, bid_text, bids_text, tabbed, price_text, places_text, without_zeros, six_digits};
+ghost use Rattle.cats_text.specs.Grammar.{Spells};
+ghost use Rattle.cats_text.specs.Layout.{layout, header_text, bid_text, bids_text, price_text, places_text, without_zeros};
 
 use crate::bid::{Bid, BidFile};
 use itoa::{Buffer, Integer};
@@ -16,6 +17,7 @@ const MILLION: u32 = 1_000_000;
 /// Words are joined by single tabs in a bid line and by a space in a header line; nothing else stands there.
 pub fn write(alloc: Global, file: &BidFile) -> Result<Vec<u8>, AllocError>
     ensures layout { IfOk result (λ out. out.items ≡ layout (plain_file file.now)) }
+    ensures spells { IfOk result (λ out. Spells out.items (plain_file file.now)) }
 {
     let mut out = Vec::new(alloc);
     push_header(&mut out, b"goods", u64::from(file.goods()))?;
