@@ -1,7 +1,7 @@
 pub mod Distinct
 pub mod Numerals
 pub mod Zeros
-pub mod Places
+pub mod SixDigits
 pub mod BidTexts
 pub mod TextLines
 pub mod Prices

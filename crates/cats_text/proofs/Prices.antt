@@ -8,7 +8,7 @@ use Rattle.cats_text.specs.Numbers.{is_digit, digits_alone, is_number, number_of
 use Rattle.cats_text.specs.Grammar.{SpellsNumber, SpellsPrice}
 use Rattle.cats_text.specs.Layout.{without_zeros, six_digits, places_text, price_text}
 use Rattle.cats_text.proofs.Numerals.{decimal_spells, digits_from_number, is_number_from_digits}
-use Rattle.cats_text.proofs.Places.{SpellsPlaces, six_digits_spell, six_places-without_zeros, digits_alone-without_zeros, length-without_zeros-le, places_text_none, places_text_some}
+use Rattle.cats_text.proofs.SixDigits.{SpellsPlaces, six_digits_spell, six_places-without_zeros, digits_alone-without_zeros, length-without_zeros-le, places_text_none, places_text_some}
 use Rattle.cats_text.proofs.TextLines.{IsWord, IsLetter, all_append, digits_are_letters, number_is_word}
 
 digit_not_point : (b : ℕ) → is_digit b ≡ true → eqb b 46 ≡ false

@@ -4,7 +4,6 @@
 mod bid;
 mod fault;
 mod goods;
-pub mod laws;
 mod layout;
 mod limits;
 mod parser;

@@ -2,7 +2,7 @@ use Rattle.std.proofs.Common.{◌≡◌, ℕ, ◌+◌, ◌<◌, List, [], ◌∷
 use Rattle.std.proofs.lemmas.Fmt.{decimal_nonempty}
 use Rattle.std.proofs.lemmas.List.{append-nil, take_rest}
 use Rattle.cats_text.specs.Layout.{without_zeros, six_digits}
-use Rattle.cats_text.proofs.Places.{places_text_none, places_text_some}
+use Rattle.cats_text.proofs.SixDigits.{places_text_none, places_text_some}
 use Rattle.cats_text.proofs.layout.push_places.Goals as goal
 
 pub returns-then-millionths-eq0 : goal.returns-then-millionths-eq0

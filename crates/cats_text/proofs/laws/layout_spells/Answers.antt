@@ -1,5 +1,5 @@
 use Rattle.cats_text.proofs.LayoutSpells as proof
-use Rattle.cats_text.proofs.laws.layout.layout_spells.Goals as goal
+use Rattle.cats_text.proofs.laws.layout_spells.Goals as goal
 
 pub returns : goal.returns
 returns c = proof.layout_spells
