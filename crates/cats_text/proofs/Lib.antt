@@ -1,3 +1,11 @@
+pub mod SpellsLemmasSlots
+pub mod SpellsLemmasMembers
+pub mod SpellsLemmasPrices
+pub mod SpellsLemmasTests
+pub mod SpellsLemmasGoods
+pub mod SpellsLemmasLines
+pub mod SpellsLemmasBids
+pub mod SpellsLemmas
 pub mod Distinct
 pub mod Numerals
 pub mod Zeros
@@ -12,3 +20,14 @@ pub mod Slots
 pub mod Rising
 pub mod Steps
 pub mod Scanned
+pub mod Places
+pub mod Summary
+pub mod Told
+pub mod Standing
+pub mod HeaderSteps
+pub mod GoodWords
+pub mod Taken
+pub mod BidSteps
+pub mod GoodSteps
+pub mod LineSteps
+pub mod WholeLines

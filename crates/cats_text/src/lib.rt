@@ -4,6 +4,7 @@
 mod bid;
 mod fault;
 mod goods;
+pub mod laws;
 mod layout;
 mod limits;
 mod parser;

@@ -1,0 +1,21 @@
+//! Laws of the definitions: the grammar of texts and their faults leave nothing open, and what is written spells what it
+//! was written from.
+
+ghost use Rattle.std.specs.Prelude.{◌≡◌, ◌⊎◌, ℕ, List, Some};
+ghost use Rattle.cats_text.specs.Files.{PlainFile, IsPlainFile};
+ghost use Rattle.cats_text.specs.Grammar.{Spells};
+ghost use Rattle.cats_text.specs.Faults.{first_fault};
+ghost use Rattle.cats_text.specs.Layout.{layout};
+ghost use Rattle.cats_text.specs.declared.fault.ReadFault.{ReadFault};
+
+/// The layout of a file spells that file.
+pub fn layout_spells()
+    ensures { (f : PlainFile) → IsPlainFile f → Spells (layout f) f }
+{}
+
+/// Each text either spells exactly one bid file or has a first fault, never both.
+pub fn spells_one_or_faults()
+    ensures one_or_fault { (text : List ℕ) → ((f : PlainFile) × Spells text f) ⊎ ((e : ReadFault) × (first_fault text ≡ Some e)) }
+    ensures never_both { (text : List ℕ) (f : PlainFile) (e : ReadFault) → Spells text f → first_fault text ≡ Some e → ⊥ }
+    ensures only_one { (text : List ℕ) (f g : PlainFile) → Spells text f → Spells text g → f ≡ g }
+{}
