@@ -8,6 +8,7 @@ use Rattle.cats_text.specs.Numbers.{is_digit, digits_alone, is_number, number_of
 use Rattle.cats_text.specs.Grammar.{significant_words}
 use Rattle.cats_text.specs.Files.{PlainBid, PlainFile, IsBid, IsPlainFile, IsDummyBelow, dummy_good, goods_of}
 use Rattle.cats_text.specs.Layout.{price_text, header_text, tabbed, bid_text, bids_text, layout}
+use Rattle.cats_text.proofs.Places.{digit_bounds}
 use Rattle.cats_text.proofs.Numerals.{decimal_spells}
 use Rattle.cats_text.proofs.Prices.{price_text_is_word}
 use Rattle.cats_text.proofs.TextLines.{IsInLine, IsLetter, IsWord, all_append, letters_in_line, number_is_word, line_words-word, line_words-last, lines_from, lines_from-line}
@@ -27,7 +28,7 @@ decimal_is_word n fits = number_is_word (decimal n) (decimal_spells n fits).numb
 number_is_significant : (w : Word) (ws : List Word) → is_number w ≡ true → is_significant (w ∷ ws) ≡ true
 number_is_significant [] ws number = absurd (false≢true number)
 number_is_significant (b ∷ bs) ws number =
-    let low : 48 ≤ b = leb-true 48 b (and_parts _ _ (and_parts (is_digit b) (digits_alone bs) number).0).0 in
+    let bounds = digit_bounds b (and_parts (is_digit b) (digits_alone bs) number).0 in
     not_from_false (eqb b 37) (ne_eqb b 37 (λ e. omega arith))
 
 -- ---- goods

@@ -8,21 +8,15 @@ use Rattle.cats_text.specs.Numbers.{is_digit, digits_alone, is_number, number_of
 use Rattle.cats_text.specs.Grammar.{SpellsNumber, SpellsPrice}
 use Rattle.cats_text.specs.Layout.{without_zeros, six_digits, places_text, price_text}
 use Rattle.cats_text.proofs.Numerals.{decimal_spells, digits_from_number, is_number_from_digits}
+use Rattle.cats_text.proofs.Places.{digit_bounds}
+use Rattle.cats_text.proofs.Summary.{whole-digits, point-digits, whole-point, places-point}
 use Rattle.cats_text.proofs.SixDigits.{SpellsPlaces, six_digits_spell, six_places-without_zeros, digits_alone-without_zeros, length-without_zeros-le, places_text_none, places_text_some}
 use Rattle.cats_text.proofs.TextLines.{IsWord, IsLetter, all_append, digits_are_letters, number_is_word}
 
 digit_not_point : (b : ℕ) → is_digit b ≡ true → eqb b 46 ≡ false
-digit_not_point b digit =
-    let low : 48 ≤ b = leb-true 48 b (and_parts _ _ digit).0 in
-    ne_eqb b 46 (λ e. omega arith)
+digit_not_point b digit = let bounds = digit_bounds b digit in ne_eqb b 46 (λ e. omega arith)
 
 -- ---- digits alone
-
-whole_part-digits : (w : Word) → digits_alone w ≡ true → whole_part w ≡ w
-whole_part-digits [] digits = refl
-whole_part-digits (b ∷ bs) digits =
-    let parts = and_parts (is_digit b) (digits_alone bs) digits in
-    cond-false _ _ _ (digit_not_point b parts.0) ∙ ap (λ w. b ∷ w) (whole_part-digits bs parts.1)
 
 places-digits : (w : Word) → digits_alone w ≡ true → places w ≡ []
 places-digits [] digits = refl
@@ -30,19 +24,13 @@ places-digits (b ∷ bs) digits =
     let parts = and_parts (is_digit b) (digits_alone bs) digits in
     cond-false _ _ _ (digit_not_point b parts.0) ∙ places-digits bs parts.1
 
-has_point-digits : (w : Word) → digits_alone w ≡ true → has_point w ≡ false
-has_point-digits [] digits = refl
-has_point-digits (b ∷ bs) digits =
-    let parts = and_parts (is_digit b) (digits_alone bs) digits in
-    or_from (eqb b 46) (has_point bs) (digit_not_point b parts.0) (has_point-digits bs parts.1)
-
 whole_price : (w : Word) (n : ℕ) → SpellsNumber w n → SpellsPrice w (1000000 * n)
 whole_price w n spelled =
     let digits : digits_alone w ≡ true = digits_from_number w spelled.number in
-    let whole : whole_part w ≡ w = whole_part-digits w digits in
+    let whole : whole_part w ≡ w = whole-digits w digits in
     let none : places w ≡ [] = places-digits w digits in
     record {
-      price = and_from _ _ (ap is_number whole ∙ spelled.number) (or_left _ _ (ap not (has_point-digits w digits)));
+      price = and_from _ _ (ap is_number whole ∙ spelled.number) (or_left _ _ (ap not (point-digits w digits)));
       exact = ap (has_place_from 6) none;
       value = ap (λ v. 1000000 * number_of v + number_of (six_places (places w))) whole
           ∙ ap (λ v. 1000000 * v + number_of (six_places (places w))) spelled.value
@@ -52,23 +40,11 @@ whole_price w n spelled =
 
 -- ---- digits, a point and digits
 
-whole_part-pointed : (w ds : Word) → digits_alone w ≡ true → whole_part (w ++ 46 ∷ ds) ≡ w
-whole_part-pointed [] ds digits = refl
-whole_part-pointed (b ∷ bs) ds digits =
-    let parts = and_parts (is_digit b) (digits_alone bs) digits in
-    cond-false _ _ _ (digit_not_point b parts.0) ∙ ap (λ w. b ∷ w) (whole_part-pointed bs ds parts.1)
-
-places-pointed : (w ds : Word) → digits_alone w ≡ true → places (w ++ 46 ∷ ds) ≡ ds
-places-pointed [] ds digits = refl
-places-pointed (b ∷ bs) ds digits =
-    let parts = and_parts (is_digit b) (digits_alone bs) digits in
-    cond-false _ _ _ (digit_not_point b parts.0) ∙ places-pointed bs ds parts.1
-
 pointed_price : (w ds : Word) (n m : ℕ) → SpellsNumber w n → is_number ds ≡ true → length ds ≤ 6 → number_of (six_places ds) ≡ m → SpellsPrice (w ++ 46 ∷ ds) (1000000 * n + m)
 pointed_price w ds n m spelled places_number few value =
     let digits : digits_alone w ≡ true = digits_from_number w spelled.number in
-    let whole : whole_part (w ++ 46 ∷ ds) ≡ w = whole_part-pointed w ds digits in
-    let behind : places (w ++ 46 ∷ ds) ≡ ds = places-pointed w ds digits in
+    let whole : whole_part (w ++ 46 ∷ ds) ≡ w = whole-point w ds digits in
+    let behind : places (w ++ 46 ∷ ds) ≡ ds = places-point w ds digits in
     record {
       price = and_from _ _ (ap is_number whole ∙ spelled.number) (or_right _ _ (ap is_number behind ∙ places_number));
       exact = ap (has_place_from 6) behind ∙ ap (list_any (λ b. not (eqb b 48))) (drop_all 6 ds few);

@@ -4,6 +4,7 @@ use Rattle.std.specs.List.{AllByRecursion}
 use Rattle.std.proofs.lemmas.Bool.{false≢true, cond-true, cond-false, not_from_true, not_from_false, and_parts, and_left, or_from, ne_eqb, leb-true}
 use Rattle.cats_text.specs.Lines.{Word, Line, RawLine, is_blank, line_ends, line_byte, blank_returns, with_byte, lines_with, raw_lines, begins_word, with_letter, words_with, line_words, is_significant, numbered}
 use Rattle.cats_text.specs.Numbers.{is_digit, digits_alone, is_number}
+use Rattle.cats_text.proofs.Places.{digit_bounds}
 
 -- a byte of a line, other than CR
 pub record IsInLine (b : ℕ) : Type 0 where
@@ -29,8 +30,7 @@ letters_in_line (b ∷ bs) letters = (letters.0.line, letters_in_line bs letters
 
 digit_is_letter : (b : ℕ) → is_digit b ≡ true → IsLetter b
 digit_is_letter b digit =
-    let parts = and_parts _ _ digit in
-    let low : 48 ≤ b = leb-true 48 b parts.0 in
+    let bounds = digit_bounds b digit in
     record {
       blank = or_from _ _ (ne_eqb b 32 (λ e. omega arith)) (ne_eqb b 9 (λ e. omega arith));
       line = record { feed = ne_eqb b 10 (λ e. omega arith); return = ne_eqb b 13 (λ e. omega arith) };
