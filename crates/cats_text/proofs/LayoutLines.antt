@@ -1,17 +1,17 @@
 -- The lines and words of a layout.
-use Rattle.std.proofs.Common.{◌≡◌, ℕ, suc, ◌+◌, ◌*◌, ◌/◌, ◌^◌, ◌<◌, ◌≤◌, true, false, not, eqb, List, [], ◌∷◌, ◌++◌, length, map, codes, decimal, Option, Some, None, refl, sym, ap, ◌∙◌, arith, rules, append_assoc}
+use Rattle.std.proofs.Common.{◌≡◌, ℕ, suc, ◌+◌, ◌/◌, ◌^◌, ◌<◌, true, eqb, List, [], ◌∷◌, ◌++◌, length, map, codes, decimal, Option, Some, None, refl, sym, ap, ◌∙◌, arith, rules, append_assoc}
 use Rattle.std.specs.List.{AllByRecursion}
-use Rattle.std.proofs.lemmas.Bool.{and_parts, false≢true, ne_eqb, leb-true, not_from_false}
+use Rattle.std.proofs.lemmas.Bool.{and_parts, false≢true, ne_eqb, not_from_false}
 use Rattle.std.proofs.lemmas.List.{append-nil}
 use Rattle.cats_text.specs.Lines.{Word, line_words, is_significant}
-use Rattle.cats_text.specs.Numbers.{is_digit, digits_alone, is_number, number_of}
+use Rattle.cats_text.specs.Numbers.{is_digit, digits_alone, is_number}
 use Rattle.cats_text.specs.Grammar.{significant_words}
-use Rattle.cats_text.specs.Files.{PlainBid, PlainFile, IsBid, IsPlainFile, IsDummyBelow, dummy_good, goods_of}
+use Rattle.cats_text.specs.Files.{PlainBid, PlainFile, IsBid, IsDummyBelow, dummy_good, goods_of}
 use Rattle.cats_text.specs.Layout.{price_text, header_text, tabbed, bid_text, bids_text, layout}
 use Rattle.cats_text.proofs.Places.{digit_bounds}
 use Rattle.cats_text.proofs.Numerals.{decimal_spells}
 use Rattle.cats_text.proofs.Prices.{price_text_is_word}
-use Rattle.cats_text.proofs.TextLines.{IsInLine, IsLetter, IsWord, all_append, letters_in_line, number_is_word, line_words-word, line_words-last, lines_from, lines_from-line}
+use Rattle.cats_text.proofs.TextLines.{IsInLine, IsWord, all_append, letters_in_line, number_is_word, line_words-word, line_words-last, lines_from, lines_from-line}
 
 -- ---- the words that are written
 
@@ -87,8 +87,8 @@ bid_line_in_line goods n b fits =
     let mark : AllByRecursion IsInLine (codes "\t#") = (tab, (record { feed = refl; return = refl }, tt)) in
     let front = all_append IsInLine (decimal n) (9 ∷ price_text b.price) number (tab, price) in
     all_append IsInLine (decimal n ++ 9 ∷ price_text b.price ++ tabbed (goods_of goods b)) (codes "\t#")
-        (all_append IsInLine (decimal n ++ 9 ∷ price_text b.price) (tabbed (goods_of goods b)) front (tabbed_in_line (goods_of goods b) fits.short))
-        mark
+    (all_append IsInLine (decimal n ++ 9 ∷ price_text b.price) (tabbed (goods_of goods b)) front (tabbed_in_line (goods_of goods b) fits.short))
+    mark
 
 ended : (front rest : List ℕ) → front ++ codes "\t#\n" ++ rest ≡ (front ++ codes "\t#") ++ 10 ∷ rest
 ended front rest = ap (λ t. t ++ rest) (sym (append_assoc front (codes "\t#") (10 ∷ []))) ∙ append_assoc (front ++ codes "\t#") (10 ∷ []) rest
@@ -97,7 +97,7 @@ lines_from-bid : (k goods n : ℕ) (b : PlainBid) (rest : List ℕ) → IsBidLin
 lines_from-bid k goods n b rest fits =
     ap (lines_from k) (ended (decimal n ++ 9 ∷ price_text b.price ++ tabbed (goods_of goods b)) rest)
     ∙ lines_from-line k (bid_line goods n b) rest (bid_words goods n b) (bid_line_in_line goods n b fits) (bid_line_words goods n b fits)
-        (number_is_significant (decimal n) _ (decimal_spells n fits.number).number)
+    (number_is_significant (decimal n) _ (decimal_spells n fits.number).number)
 
 -- what holds of the bids from the n-th on
 pub record AreBids (goods dummy n : ℕ) (bs : List PlainBid) : Type 0 where
@@ -130,15 +130,16 @@ lines_from-header k keyword n rest word significant fits =
     let blank : IsInLine 32 = record { feed = refl; return = refl } in
     ap (lines_from k) (append_assoc (keyword ++ 32 ∷ decimal n) (10 ∷ []) rest)
     ∙ lines_from-line k (keyword ++ 32 ∷ decimal n) rest (keyword ∷ decimal n ∷ [])
-        (all_append IsInLine keyword (32 ∷ decimal n) (letters_in_line keyword word.letters) (blank, letters_in_line (decimal n) number.letters))
-        (line_words-word keyword 32 (decimal n) word refl ∙ ap (λ ws. keyword ∷ ws) (line_words-last (decimal n) number))
-        significant
+    (all_append IsInLine keyword (32 ∷ decimal n) (letters_in_line keyword word.letters) (blank, letters_in_line (decimal n) number.letters))
+    (line_words-word keyword 32 (decimal n) word refl ∙ ap (λ ws. keyword ∷ ws) (line_words-last (decimal n) number))
+    significant
 
 keywords : IsWord (codes "goods") × IsWord (codes "bids") × IsWord (codes "dummy")
 keywords = (
-    record { some = omega arith; letters = search rules },
-    record { some = omega arith; letters = search rules },
-    record { some = omega arith; letters = search rules })
+  record { some = omega arith; letters = search rules },
+  record { some = omega arith; letters = search rules },
+  record { some = omega arith; letters = search rules },
+)
 
 -- ---- the whole text
 
@@ -155,7 +156,7 @@ layout_words f bids =
     ap (lines_from 1) (four goods count dummy lines)
     ∙ lines_from-header 1 (codes "goods") f.goods (count ++ (dummy ++ lines)) keywords.0 refl (omega (arith, bids.goods_fit))
     ∙ ap (λ ls. (codes "goods" ∷ decimal f.goods ∷ []) ∷ ls) (
-        lines_from-header 2 (codes "bids") (length f.bids) (dummy ++ lines) keywords.1 refl (omega (arith, bids.count))
-        ∙ ap (λ ls. (codes "bids" ∷ decimal (length f.bids) ∷ []) ∷ ls) (
-            lines_from-header 3 (codes "dummy") f.dummy lines keywords.2 refl (omega (arith, bids.goods_fit))
-            ∙ ap (λ ls. (codes "dummy" ∷ decimal f.dummy ∷ []) ∷ ls) (lines_from-bids 4 f.goods f.dummy 0 f.bids bids)))
+    lines_from-header 2 (codes "bids") (length f.bids) (dummy ++ lines) keywords.1 refl (omega (arith, bids.count))
+    ∙ ap (λ ls. (codes "bids" ∷ decimal (length f.bids) ∷ []) ∷ ls) (
+    lines_from-header 3 (codes "dummy") f.dummy lines keywords.2 refl (omega (arith, bids.goods_fit))
+    ∙ ap (λ ls. (codes "dummy" ∷ decimal f.dummy ∷ []) ∷ ls) (lines_from-bids 4 f.goods f.dummy 0 f.bids bids)))

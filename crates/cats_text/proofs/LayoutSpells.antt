@@ -1,11 +1,10 @@
 -- The layout of a file spells it: its lines are the bids by number, so each number comes once, and the goods of a bid rise.
-use Rattle.std.proofs.Common.{◌≡◌, ◌≢◌, ℕ, suc, ◌+◌, ◌/◌, ◌^◌, ◌<◌, ◌≤◌, true, List, [], ◌∷◌, ◌++◌, length, map, codes, decimal, Option, Some, None, refl, sym, ap, subst, ◌∙◌, arith, append_assoc, length-append}
+use Rattle.std.proofs.Common.{◌≡◌, ◌≢◌, ℕ, suc, ◌+◌, ◌^◌, ◌<◌, ◌≤◌, true, List, [], ◌∷◌, ◌++◌, length, map, decimal, Option, Some, None, refl, sym, ap, subst, ◌∙◌, arith, append_assoc, length-append}
 use Rattle.std.specs.List.{AllByRecursion, slice_get}
 use Rattle.std.proofs.lemmas.List.{append-nil}
-use Rattle.cats_text.specs.Lines.{Word}
 use Rattle.cats_text.specs.Numbers.{is_number, number_of}
 use Rattle.cats_text.specs.Grammar.{SpellsBid, Spells, AreDistinct, has_number, line_number}
-use Rattle.cats_text.specs.Files.{PlainBid, PlainFile, IsBid, IsPlainFile, AreAbove, IsRising, IsDummyBelow, dummy_good, goods_of}
+use Rattle.cats_text.specs.Files.{PlainBid, PlainFile, IsPlainFile, AreAbove, IsRising, dummy_good, goods_of}
 use Rattle.cats_text.specs.Layout.{price_text, layout}
 use Rattle.cats_text.proofs.Numerals.{decimal_spells}
 use Rattle.cats_text.proofs.Prices.{price_text_spells}

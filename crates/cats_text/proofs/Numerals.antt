@@ -1,11 +1,10 @@
 -- What decimal digits spell.
-use Rattle.std.proofs.Common.{◌≡◌, ℕ, suc, ◌+◌, ◌-◌, ◌*◌, ◌^◌, ◌<◌, ◌≤◌, true, List, [], ◌∷◌, length, fold, decimal, refl, sym, ap, ◌∙◌, arith, rules}
+use Rattle.std.proofs.Common.{◌≡◌, ℕ, ◌+◌, ◌-◌, ◌*◌, ◌^◌, ◌<◌, true, [], ◌∷◌, length, fold, decimal, refl, sym, ap, ◌∙◌, arith, rules}
 use Rattle.std.proofs.Math.Nat.{pow-suc}
-use Rattle.std.proofs.lemmas.Str.Parse.{IsNumeralModel, numerals_by_fold, digits_value_short}
+use Rattle.std.proofs.lemmas.Str.Parse.{IsNumeralModel, numerals_by_fold}
 use Rattle.std.proofs.lemmas.Fmt.{digits_decimal, digits_value-decimal, decimal_nonempty}
-use Rattle.std.proofs.lemmas.Bool.{and_parts}
 use Rattle.cats_text.specs.Lines.{Word}
-use Rattle.cats_text.specs.Numbers.{is_digit, digits_alone, is_number, number_of}
+use Rattle.cats_text.specs.Numbers.{digits_alone, is_number, number_of}
 use Rattle.cats_text.specs.Grammar.{SpellsNumber}
 
 -- digits behind a number

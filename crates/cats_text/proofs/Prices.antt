@@ -1,16 +1,16 @@
 -- What the text of a price spells.
-use Rattle.std.proofs.Common.{◌≡◌, ◌≢◌, ℕ, suc, ◌+◌, ◌*◌, ◌/◌, ◌%◌, ◌^◌, ◌<◌, ◌≤◌, ◌⊎◌, Bool, true, false, not, eqb, ◌&&◌, ◌||◌, List, [], ◌∷◌, ◌++◌, length, drop, decimal, refl, sym, ap, subst, ◌∙◌, inl, inr, arith, length-append}
-use Rattle.std.specs.List.{AllByRecursion, list_any}
-use Rattle.std.proofs.lemmas.Bool.{and_parts, and_from, or_from, or_left, or_right, cases_eq, cond-true, cond-false, ne_eqb, leb-true, false≢true}
+use Rattle.std.proofs.Common.{◌≡◌, ℕ, ◌+◌, ◌*◌, ◌/◌, ◌%◌, ◌^◌, ◌<◌, ◌≤◌, true, false, not, eqb, [], ◌∷◌, ◌++◌, length, decimal, refl, sym, ap, subst, ◌∙◌, inl, inr, arith, length-append}
+use Rattle.std.specs.List.{list_any}
+use Rattle.std.proofs.lemmas.Bool.{and_parts, and_from, or_left, or_right, cases_eq, cond-false, ne_eqb}
 use Rattle.std.proofs.lemmas.List.{append-nil, drop_all}
 use Rattle.cats_text.specs.Lines.{Word}
-use Rattle.cats_text.specs.Numbers.{is_digit, digits_alone, is_number, number_of, whole_part, has_point, places, is_price, is_too_fine, price_of, six_places, has_place_from}
+use Rattle.cats_text.specs.Numbers.{is_digit, digits_alone, is_number, number_of, whole_part, places, six_places, has_place_from}
 use Rattle.cats_text.specs.Grammar.{SpellsNumber, SpellsPrice}
 use Rattle.cats_text.specs.Layout.{without_zeros, six_digits, places_text, price_text}
 use Rattle.cats_text.proofs.Numerals.{decimal_spells, digits_from_number, is_number_from_digits}
 use Rattle.cats_text.proofs.Places.{digit_bounds}
 use Rattle.cats_text.proofs.Summary.{whole-digits, point-digits, whole-point, places-point}
-use Rattle.cats_text.proofs.SixDigits.{SpellsPlaces, six_digits_spell, six_places-without_zeros, digits_alone-without_zeros, length-without_zeros-le, places_text_none, places_text_some}
+use Rattle.cats_text.proofs.SixDigits.{six_digits_spell, six_places-without_zeros, digits_alone-without_zeros, length-without_zeros-le, places_text_none, places_text_some}
 use Rattle.cats_text.proofs.TextLines.{IsWord, IsLetter, all_append, digits_are_letters, number_is_word}
 
 digit_not_point : (b : ℕ) → is_digit b ≡ true → eqb b 46 ≡ false
@@ -92,8 +92,8 @@ price_word : (p : ℕ) → p / 1000000 < 2 ^ 64 → IsPriceWord p (price_text p)
 price_word p fits =
     let value : p ≡ 1000000 * (p / 1000000) + p % 1000000 = omega arith in
     elim (cases_eq (p % 1000000) 0) as (λ _. IsPriceWord p (price_text p)) [
-      inl none ↦ no_places (p / 1000000) (p % 1000000) p fits none value
-    | inr some ↦ with_places (p / 1000000) (p % 1000000) p fits (omega arith) (omega arith) value
+      | inl none ↦ no_places (p / 1000000) (p % 1000000) p fits none value
+      | inr some ↦ with_places (p / 1000000) (p % 1000000) p fits (omega arith) (omega arith) value
     ]
 
 -- the text of a price spells it

@@ -1,8 +1,8 @@
 -- The lines and words of a text that is put together of words, blanks and line ends.
-use Rattle.std.proofs.Common.{◌≡◌, ℕ, suc, ◌+◌, ◌<◌, ◌≤◌, Bool, true, false, not, cond, eqb, ◌&&◌, ◌||◌, List, [], ◌∷◌, ◌++◌, length, map, filter, refl, sym, ap, ◌∙◌, arith}
+use Rattle.std.proofs.Common.{◌≡◌, ℕ, suc, ◌<◌, true, false, eqb, List, [], ◌∷◌, ◌++◌, length, map, filter, refl, ap, ◌∙◌, arith}
 use Rattle.std.specs.List.{AllByRecursion}
-use Rattle.std.proofs.lemmas.Bool.{false≢true, cond-true, cond-false, not_from_true, not_from_false, and_parts, and_left, or_from, ne_eqb, leb-true}
-use Rattle.cats_text.specs.Lines.{Word, Line, RawLine, is_blank, line_ends, line_byte, blank_returns, with_byte, lines_with, raw_lines, begins_word, with_letter, words_with, line_words, is_significant, numbered}
+use Rattle.std.proofs.lemmas.Bool.{false≢true, cond-true, cond-false, not_from_true, not_from_false, and_parts, and_left, or_from, ne_eqb}
+use Rattle.cats_text.specs.Lines.{Word, Line, is_blank, blank_returns, lines_with, raw_lines, begins_word, with_letter, words_with, line_words, is_significant, numbered}
 use Rattle.cats_text.specs.Numbers.{is_digit, digits_alone, is_number}
 use Rattle.cats_text.proofs.Places.{digit_bounds}
 
@@ -99,6 +99,6 @@ pub lines_from-line : (n : ℕ) (line rest : List ℕ) (ws : List Word) → AllB
 lines_from-line n line rest ws within words significant =
     let later : List Line = numbered (suc n) (raw_lines (blank_returns rest)) in
     ap (λ t. map (λ (l : Line). l.words) (filter (λ (l : Line). is_significant l.words) (numbered n t)))
-        (ap raw_lines (blank_returns-line line rest within) ∙ raw_lines-line line (blank_returns rest) within)
+    (ap raw_lines (blank_returns-line line rest within) ∙ raw_lines-line line (blank_returns rest) within)
     ∙ ap (λ v. map (λ (l : Line). l.words) (filter (λ (l : Line). is_significant l.words) (record { number = n; words = v; ended = true } ∷ later))) words
     ∙ ap (λ ls. map (λ (l : Line). l.words) ls) (cond-true (is_significant ws) _ _ significant)

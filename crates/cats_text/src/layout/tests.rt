@@ -12,7 +12,11 @@ fn bid(alloc: Global, price: u64, goods: &[u16], dummy: Option<u32>) -> Result<B
     ensures { IfOk result (λ b. plain_bid b ≡ record { price = price; goods = goods.now; dummy = dummy }) }
 {
     let goods = Vec::from_slice(alloc, goods)?;
-    Ok(Bid { price, goods, dummy })
+    Ok(Bid {
+        price,
+        goods,
+        dummy,
+    })
 }
 
 #[test]
