@@ -31,3 +31,5 @@ pub mod BidSteps
 pub mod GoodSteps
 pub mod LineSteps
 pub mod WholeLines
+pub mod ByteLines
+pub mod AllBytes
