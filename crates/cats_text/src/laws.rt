@@ -8,9 +8,10 @@ ghost use Rattle.cats_text.specs.Faults.{first_fault};
 ghost use Rattle.cats_text.specs.Layout.{layout};
 ghost use Rattle.cats_text.specs.declared.fault.ReadFault.{ReadFault};
 
-/// The layout of a file spells that file.
+/// The layout of a file spells that file and no other.
 pub fn layout_spells()
-    ensures { (f : PlainFile) → IsPlainFile f → Spells (layout f) f }
+    ensures spelled { (f : PlainFile) → IsPlainFile f → Spells (layout f) f }
+    ensures no_other { (f g : PlainFile) → IsPlainFile f → Spells (layout f) g → g ≡ f }
 {}
 
 /// Each text either spells exactly one bid file or has a first fault, never both.
