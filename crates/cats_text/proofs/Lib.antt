@@ -7,6 +7,14 @@ pub mod SpellsLemmasLines
 pub mod SpellsLemmasBids
 pub mod SpellsLemmas
 pub mod Distinct
+pub mod Numerals
+pub mod Zeros
+pub mod SixDigits
+pub mod BidTexts
+pub mod TextLines
+pub mod Prices
+pub mod LayoutLines
+pub mod LayoutSpells
 pub mod Marks
 pub mod Slots
 pub mod Rising

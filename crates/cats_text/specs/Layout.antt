@@ -1,5 +1,5 @@
 -- The one layout that is written: header lines, then a line for each bid, by number.
-use Rattle.std.specs.Prelude.{ℕ, suc, ◌/◌, ◌%◌, ◌+◌, ◌==◌, if◌then◌else◌, List, [], ◌∷◌, ◌++◌, length, drop, Option, Some, None, codes, decimal}
+use Rattle.std.specs.Prelude.{ℕ, suc, ◌/◌, ◌%◌, ◌+◌, ◌==◌, if◌then◌else◌, List, [], ◌∷◌, ◌++◌, length, drop, codes, decimal}
 use Rattle.std.specs.List.{flat_map}
 use Rattle.cats_text.specs.Lines.{Word}
 use Rattle.cats_text.specs.Files.{PlainBid, PlainFile, goods_of}
@@ -21,9 +21,13 @@ abbrev pub behind_point : Word → Word
 behind_point [] = []
 behind_point (b ∷ bs) = 46 ∷ b ∷ bs
 
+-- so many millionths behind the point: nothing where there are none
+abbrev pub places_text : ℕ → Word
+places_text n = behind_point (without_zeros (six_digits n))
+
 -- a number of millionths: the whole part, then, where millionths are left, a point and their digits without zeros at the end
 abbrev pub price_text : ℕ → Word
-price_text millionths = decimal (millionths / 1000000) ++ behind_point (without_zeros (six_digits (millionths % 1000000)))
+price_text millionths = decimal (millionths / 1000000) ++ places_text (millionths % 1000000)
 
 abbrev pub header_text : List ℕ → ℕ → List ℕ
 header_text keyword n = keyword ++ 32 ∷ decimal n ++ 10 ∷ []

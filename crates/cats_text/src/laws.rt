@@ -1,10 +1,18 @@
-//! Laws of the definitions: the grammar of texts and their faults leave nothing open.
+//! Laws of the definitions: the grammar of texts and their faults leave nothing open, and what is written spells what it
+//! was written from.
 
 ghost use Rattle.std.specs.Prelude.{◌≡◌, ◌⊎◌, ℕ, List, Some};
-ghost use Rattle.cats_text.specs.Files.{PlainFile};
+ghost use Rattle.cats_text.specs.Files.{PlainFile, IsPlainFile};
 ghost use Rattle.cats_text.specs.Grammar.{Spells};
 ghost use Rattle.cats_text.specs.Faults.{first_fault};
+ghost use Rattle.cats_text.specs.Layout.{layout};
 ghost use Rattle.cats_text.specs.declared.fault.ReadFault.{ReadFault};
+
+/// The layout of a file spells that file and no other.
+pub fn layout_spells()
+    ensures spelled { (f : PlainFile) → IsPlainFile f → Spells (layout f) f }
+    ensures no_other { (f g : PlainFile) → IsPlainFile f → Spells (layout f) g → g ≡ f }
+{}
 
 /// Each text either spells exactly one bid file or has a first fault, never both.
 pub fn spells_one_or_faults()

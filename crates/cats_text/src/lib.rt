@@ -5,6 +5,7 @@ mod bid;
 mod fault;
 mod goods;
 pub mod laws;
+mod layout;
 mod limits;
 mod parser;
 mod scanner;
@@ -13,4 +14,5 @@ pub mod worked;
 
 pub use bid::{Bid, BidFile};
 pub use fault::{Kind, ReadFault, SendFault};
+pub use layout::{push_price, write};
 pub use limits::{MAX_BIDS, MAX_DUMMY, MAX_GOODS, MAX_PRICE, MAX_STREAM};

@@ -1,0 +1,113 @@
+//! Bid files as text.
+
+ghost use Rattle.std.specs.Prelude.{◌≡◌, ◌++◌, ◌∷◌, ◌<◌, IfOk, OnOk, decimal};
+ghost use Rattle.cats_text.specs.Files.{plain_bid, plain_bids};
+ghost use Rattle.cats_text.specs.Views.{plain_file};
+ghost use Rattle.cats_text.specs.Grammar.{Spells};
+ghost use Rattle.cats_text.specs.Layout.{layout, header_text, bid_text, bids_text, price_text, places_text, without_zeros};
+
+use crate::bid::{Bid, BidFile};
+use itoa::{Buffer, Integer};
+use std::alloc::{AllocError, Global};
+
+#[cfg(test)]
+mod tests;
+
+/// Millionths in a whole.
+const MILLION: u32 = 1_000_000;
+
+/// The text of a file: its header, then its bids in order of number, each with its goods rising and its dummy good last.
+/// Words are joined by single tabs in a bid line and by a space in a header line; nothing else stands there.
+pub fn write(alloc: Global, file: &BidFile) -> Result<Vec<u8>, AllocError>
+    ensures layout { IfOk result (λ out. out.items ≡ layout (plain_file file.now)) }
+    ensures spells { IfOk result (λ out. Spells out.items (plain_file file.now)) }
+{
+    let mut out = Vec::new(alloc);
+    push_header(&mut out, b"goods", u64::from(file.goods()))?;
+    push_header(&mut out, b"bids", file.bids().len() as u64)?;
+    push_header(&mut out, b"dummy", u64::from(file.dummy()))?;
+    push_bids(&mut out, file.goods(), file.bids())?;
+    Ok(out)
+}
+
+/// Appends a price, given in millionths: its whole part, then, where millionths are left, a point and their digits without
+/// zeros at the end. Where memory is refused, some of it may stand there.
+pub fn push_price(out: &mut Vec<u8>, millionths: u128) -> Result<(), AllocError>
+    ensures { OnOk result (out.new.items ≡ out.old.items ++ price_text millionths) }
+{
+    push_number(out, millionths / u128::from(MILLION))?;
+    push_places(out, (millionths % u128::from(MILLION)) as u32)
+}
+
+fn push_header(out: &mut Vec<u8>, keyword: &[u8], value: u64) -> Result<(), AllocError>
+    ensures { OnOk result (out.new.items ≡ out.old.items ++ header_text keyword.now value) }
+{
+    out.extend_from_slice(keyword)?;
+    out.push(b' ')?;
+    push_number(out, value)?;
+    out.push(b'\n')?;
+    Ok(())
+}
+
+fn push_bids(out: &mut Vec<u8>, goods: u16, bids: &[Bid]) -> Result<(), AllocError>
+    ensures { OnOk result (out.new.items ≡ out.old.items ++ bids_text goods 0 (plain_bids bids.now)) }
+{
+    for (number, bid) in bids.iter().enumerate() {
+        push_bid(out, goods, number as u64, bid)?;
+    }
+    Ok(())
+}
+
+fn push_bid(out: &mut Vec<u8>, goods: u16, number: u64, bid: &Bid) -> Result<(), AllocError>
+    ensures { OnOk result (out.new.items ≡ out.old.items ++ bid_text goods number (plain_bid bid.now)) }
+{
+    push_number(out, number)?;
+    out.push(b'\t')?;
+    push_price(out, u128::from(bid.price))?;
+    for good in &bid.goods {
+        push_good(out, u64::from(*good))?;
+    }
+    if let Some(dummy) = bid.dummy {
+        push_good(out, u64::from(goods) + u64::from(dummy))?;
+    }
+    out.extend_from_slice(b"\t#\n")
+}
+
+fn push_good(out: &mut Vec<u8>, good: u64) -> Result<(), AllocError>
+    ensures { OnOk result (out.new.items ≡ out.old.items ++ 9 ∷ decimal good) }
+{
+    out.push(b'\t')?;
+    push_number(out, good)
+}
+
+fn push_number<I: Integer>(out: &mut Vec<u8>, number: I) -> Result<(), AllocError>
+    ensures { OnOk result (out.new.items ≡ out.old.items ++ I.text number) }
+{
+    out.extend_from_slice(Buffer::new().format(number).as_bytes())
+}
+
+/// The point and the digits behind it, if there are any.
+fn push_places(out: &mut Vec<u8>, millionths: u32) -> Result<(), AllocError>
+    requires { millionths < 1000000 }
+    ensures { OnOk result (out.new.items ≡ out.old.items ++ places_text millionths) }
+{
+    if millionths == 0 {
+        return Ok(());
+    }
+    let mut buffer = Buffer::new();
+    let digits = buffer.format(MILLION + millionths).as_bytes();
+    out.push(b'.')?;
+    out.extend_from_slice(without_zeros(&digits[1..]))
+}
+
+/// The digits without the zeros at their end.
+#[tactic(auto, using(crate::proofs::Zeros::without_zeros_front, crate::proofs::Zeros::without_zeros_whole))]
+fn without_zeros(digits: &[u8]) -> &[u8]
+    ensures { result.now ≡ without_zeros digits.now }
+{
+    let mut left = digits;
+    while let [front @ .., b'0'] = left {
+        left = front;
+    }
+    left
+}

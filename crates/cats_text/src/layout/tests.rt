@@ -1,0 +1,81 @@
+//! Files whose text is known, written.
+
+ghost use Rattle.std.specs.Prelude.{◌≡◌, ◌≤◌, List, [], ◌∷◌, IfOk, None};
+ghost use Rattle.cats_text.specs.Files.{PlainBid, IsBidFile, plain_bid, plain_bids};
+
+use super::{push_price, write};
+use crate::bid::{Bid, BidFile};
+use std::alloc::{AllocError, Global};
+use std::test::Fail;
+
+fn bid(alloc: Global, price: u64, goods: &[u16], dummy: Option<u32>) -> Result<Bid, AllocError>
+    ensures { IfOk result (λ b. plain_bid b ≡ record { price = price; goods = goods.now; dummy = dummy }) }
+{
+    let goods = Vec::from_slice(alloc, goods)?;
+    Ok(Bid {
+        price,
+        goods,
+        dummy,
+    })
+}
+
+#[test]
+fn minimal_file(rt: HostRuntime) -> Result<(), Fail> {
+    let file = BidFile::new(0, 0, Vec::new(rt.alloc()));
+    let text = write(rt.alloc(), &file)?;
+    assert_eq!(rt; text.as_slice(), b"goods 0\nbids 0\ndummy 0\n".as_slice());
+    Ok(())
+}
+
+#[test]
+fn cats_layout(rt: HostRuntime) -> Result<(), Fail> {
+    let mut bids = Vec::new(rt.alloc());
+    bids.push(bid(rt.alloc(), 20_000_000, &[0, 2], Some(0))?)?;
+    bids.push(bid(rt.alloc(), 7_000_000, &[1], None)?)?;
+    let text = write(rt.alloc(), &BidFile::new(3, 1, bids))?;
+    let want = b"goods 3\nbids 2\ndummy 1\n0\t20\t0\t2\t3\t#\n1\t7\t1\t#\n";
+    assert_eq!(rt; text.as_slice(), want.as_slice());
+    Ok(())
+}
+
+#[test]
+fn bids_in_order_of_number(rt: HostRuntime) -> Result<(), Fail> {
+    let mut bids = Vec::new(rt.alloc());
+    bids.push(bid(rt.alloc(), 3_000_000, &[0], None)?)?;
+    bids.push(bid(rt.alloc(), 2_000_000, &[0], None)?)?;
+    bids.push(bid(rt.alloc(), 1_000_000, &[0], None)?)?;
+    let text = write(rt.alloc(), &BidFile::new(1, 0, bids))?;
+    let want = b"goods 1\nbids 3\ndummy 0\n0\t3\t0\t#\n1\t2\t0\t#\n2\t1\t0\t#\n";
+    assert_eq!(rt; text.as_slice(), want.as_slice());
+    Ok(())
+}
+
+#[test]
+fn decimal_prices(rt: HostRuntime) -> Result<(), Fail> {
+    let mut bids = Vec::new(rt.alloc());
+    bids.push(bid(rt.alloc(), 123_456, &[0], None)?)?;
+    bids.push(bid(rt.alloc(), 1_000_000_000_000_000_000, &[0], None)?)?;
+    bids.push(bid(rt.alloc(), 0, &[0], None)?)?;
+    let text = write(rt.alloc(), &BidFile::new(2, 0, bids))?;
+    let want = b"goods 2\nbids 3\ndummy 0\n0\t0.123456\t0\t#\n1\t1000000000000\t0\t#\n2\t0\t0\t#\n";
+    assert_eq!(rt; text.as_slice(), want.as_slice());
+    Ok(())
+}
+
+#[test]
+fn prices_and_sums(rt: HostRuntime) -> Result<(), Fail> {
+    let prices = [
+        (3_750_000, "3.75"),
+        (3_750_001, "3.750001"),
+        (1_500_000, "1.5"),
+        (2_250_000, "2.25"),
+        (10, "0.00001"),
+        (19_000_000_000_000_000_000, "19000000000000"),
+    ];
+    for (millionths, want) in prices {
+        let mut out = Vec::new(rt.alloc());
+        push_price(&mut out, millionths)?;
+        assert_eq!(rt; out.as_slice(), want.as_bytes());
+    }
+    Ok(())
+}
