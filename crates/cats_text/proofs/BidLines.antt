@@ -1,11 +1,23 @@
 -- Where the scanner is in a bid line, a fourth significant line has begun. The idea: count the lines that begin, byte by byte,
 -- and the header lines that have ended by the parser's stage.
-use Rattle.std.proofs.Common.{◌≡◌, ℕ, suc, ◌+◌, ◌<◌, ◌≤◌, Bool, true, false, not, ◌&&◌, ◌||◌, cond, eqb, ltb, leb, ◌⊎◌, ⊎_elim, List, [], ◌∷◌, ◌++◌, length, filter, refl, sym, ap, ◌∙◌, subst, arith, Result, Ok, Err, IfOk}
+use Rattle.std.proofs.Common.{◌≡◌, ℕ, suc, ◌+◌, ◌-◌, ◌<◌, ◌≤◌, Option, Some, None, Bool, true, false, not, ◌&&◌, ◌||◌, cond, eqb, ltb, leb, ◌⊎◌, ⊎_elim, List, [], ◌∷◌, ◌++◌, length, filter, refl, sym, ap, ◌∙◌, subst, arith, Result, Ok, Err, IsOkAnd}
 use Rattle.std.proofs.lemmas.Bool.{both_ways, lt-ltb, eqb-true}
 use Rattle.cats_text.specs.Lines.{Word, RawLine, Line, raw_lines, lines_with, with_byte, line_words, words_with, with_letter, begins_word, is_significant, is_blank, numbered, blank_returns, significant_lines}
 use Rattle.cats_text.specs.Faults.{fault_at, has_bid_line}
+use Rattle.std.specs.List.{slice_get}
+use Rattle.cats_text.specs.Grammar.{has_number}
 use Rattle.cats_text.specs.Progress.{Progress}
-use Rattle.cats_text.specs.Parsing.{Reading, word_read, line_read}
+use Rattle.cats_text.specs.Parsing.{Reading, keyword_read, header_number_read, number_read, is_some_bid, price_parts, with_price, price_read, dummy_read, good_or_end_read, word_read, line_read}
+use Rattle.cats_text.specs.declared.fault.Kind.{Kind}
+use Rattle.cats_text.specs.declared.fault.Kind.TheVariants as kinds
+use Rattle.cats_text.specs.declared.word.Keyword.{Keyword as Key}
+use Rattle.cats_text.specs.declared.word.Keyword.TheVariants as keywords
+use Rattle.cats_text.specs.declared.word.Word.TheVariants.{Keyword, Number, Decimal as Fraction, End, Other}
+use Rattle.cats_text.specs.declared.parser.Place.{Place}
+use Rattle.cats_text.specs.declared.parser.Place.TheVariants.{First, Second, Later, Ended}
+use Rattle.cats_text.specs.declared.limits.TheConstants.{MAX_GOODS, MAX_BIDS, MAX_DUMMY}
+use Rattle.cats_text.proofs.HeaderSteps.{read_at}
+use Rattle.cats_text.proofs.LineSteps.{line_at}
 use Rattle.cats_text.specs.Scanning.{State, Scan, and_then, run, byte_step, blank_step, words_step, line_step, next_line, with_reading, letter_mode, MeetsBidLine, IsInBidLine, IsInLine, first_state}
 use Rattle.cats_text.specs.Machine.{word_from}
 use Rattle.cats_text.specs.declared.fault.ReadFault.{ReadFault}
@@ -115,3 +127,276 @@ begins_other b bs e h = record {
 begins_are : (text : List ℕ) → Begins text
 begins_are [] = record { fresh = begins-nil false; later = begins-nil true }
 begins_are (b ∷ bs) = elim (eqb b 10) as (λ t. eqb b 10 ≡ t → Begins (b ∷ bs)) [ true ↦ λ e. begins_lf b bs e (begins_are bs) | false ↦ λ e. begins_other b bs e (begins_are bs) ] refl
+
+-- more bytes begin no fewer lines
+begins_more : (d : Bool) (xs ys : List ℕ) → begins_after d xs ≤ begins_after d (xs ++ ys)
+begins_more d [] ys = let none : begins_after d [] ≡ 0 = begins-nil d in omega arith
+begins_more d (x ∷ xs) ys = let first : begins_after d (x ∷ xs) ≡ next_begin d x (begins_after false xs) (begins_after true xs) = begins-cons d x xs in
+    let whole : begins_after d (x ∷ (xs ++ ys)) ≡ next_begin d x (begins_after false (xs ++ ys)) (begins_after true (xs ++ ys)) = begins-cons d x (xs ++ ys) in
+    subst (λ k. k ≤ begins_after d (x ∷ (xs ++ ys))) (sym first) (subst (λ k. next_begin d x (begins_after false xs) (begins_after true xs) ≤ k) (sym whole)
+    (grows (begins_after false xs) (begins_after true xs) (begins_after false (xs ++ ys)) (begins_after true (xs ++ ys)) (begins_more false xs ys) (begins_more true xs ys)))
+  where
+    grows : (a b c e : ℕ) → a ≤ c → b ≤ e → next_begin d x a b ≤ next_begin d x c e
+    grows a b c e l m = elim (eqb x 10) as (λ t. cond t a (cond d b (cond (is_blank x) a (cond (eqb x 37) b (suc b)))) ≤ cond t c (cond d e (cond (is_blank x) c (cond (eqb x 37) e (suc e))))) [
+        true ↦ l
+      | false ↦ elim d as (λ t. cond t b (cond (is_blank x) a (cond (eqb x 37) b (suc b))) ≤ cond t e (cond (is_blank x) c (cond (eqb x 37) e (suc e)))) [
+          true ↦ m
+        | false ↦ elim (is_blank x) as (λ t. cond t a (cond (eqb x 37) b (suc b)) ≤ cond t c (cond (eqb x 37) e (suc e))) [
+            true ↦ l
+          | false ↦ elim (eqb x 37) as (λ t. cond t b (suc b) ≤ cond t e (suc e)) [ true ↦ m | false ↦ omega arith ] ] ] ]
+
+-- ---- the header lines that have ended
+
+abbrev rank : Stage → ℕ
+rank Goods = 0
+rank Bids = 1
+rank Dummy = 2
+rank Bid = 3
+
+abbrev ok_of : Progress → Reading
+ok_of p = Ok p
+
+abbrev err_of : Kind → Reading
+err_of kind = Err kind
+
+-- what is read is of the same line
+record Keeps (p : Progress) (r : Reading) : Type 0 where
+  same : (q : Progress) → r ≡ Ok q → q.stage ≡ p.stage
+
+keeps_ok : (p q : Progress) → q.stage ≡ p.stage → Keeps p (Ok q)
+keeps_ok p q e = record { same = λ t h. subst (λ (u : Progress). u.stage ≡ p.stage) (progress_ok q t h) e }
+  where
+    progress_ok : (x y : Progress) → ok_of x ≡ ok_of y → x ≡ y
+    progress_ok x y h = cc
+
+keeps_err : (p : Progress) (kind : Kind) → Keeps p (Err kind)
+keeps_err p kind = record { same = λ t h. absurd (no kind t h) }
+  where
+    no : (k : Kind) (t : Progress) → err_of k ≡ ok_of t → ⊥
+    no k t h = cc
+
+keeps_cond : (p : Progress) (b : Bool) (x y : Reading) → Keeps p x → Keeps p y → Keeps p (cond b x y)
+keeps_cond p true x y h k = h
+keeps_cond p false x y h k = k
+
+keeps_keyword : (p : Progress) (k : Key) (w : Kept) → Keeps p (keyword_read p k w)
+keeps_keyword p k (Keyword j n) = keeps_cond p _ _ _ (keeps_ok p _ refl) (keeps_err p _)
+keeps_keyword p k (Number v) = keeps_err p _
+keeps_keyword p k (Fraction d) = keeps_err p _
+keeps_keyword p k End = keeps_err p _
+keeps_keyword p k Other = keeps_err p _
+
+keeps_header_number : (p : Progress) (stage : Stage) (v : ℕ) → Keeps p (elim stage [
+    Goods ↦ cond (ltb MAX_GOODS v) (Err kinds.TooLarge) (Ok (record p { place = Later; header = record p.header { goods = v } }))
+  | Bids ↦ cond (ltb MAX_BIDS v) (Err kinds.TooLarge) (Ok (record p { place = Later; header = record p.header { bids = v }; due = v }))
+  | Dummy ↦ cond (ltb MAX_DUMMY v) (Err kinds.TooLarge) (Ok (record p { place = Later; header = record p.header { dummy = v } }))
+  | Bid ↦ Err kinds.Header ])
+keeps_header_number p Goods v = keeps_cond p _ _ _ (keeps_err p _) (keeps_ok p _ refl)
+keeps_header_number p Bids v = keeps_cond p _ _ _ (keeps_err p _) (keeps_ok p _ refl)
+keeps_header_number p Dummy v = keeps_cond p _ _ _ (keeps_err p _) (keeps_ok p _ refl)
+keeps_header_number p Bid v = keeps_err p _
+
+keeps_second : (p : Progress) (w : Kept) → Keeps p (header_number_read p w)
+keeps_second p (Keyword j n) = keeps_err p _
+keeps_second p (Number v) = keeps_header_number p p.stage v
+keeps_second p (Fraction d) = keeps_err p _
+keeps_second p End = keeps_err p _
+keeps_second p Other = keeps_err p _
+
+keeps_number : (p : Progress) (w : Kept) → Keeps p (number_read p w)
+keeps_number p (Keyword j n) = keeps_err p _
+keeps_number p (Number v) =
+    let last : Reading = Ok (record p { place = Second; draft = record { number = v; price = 0; dummy = None } }) in
+    let new : Reading = cond (is_some_bid (slice_get p.slots v)) (Err kinds.RepeatedNumber) last in
+    let low : Reading = cond (leb p.header.bids v) (Err kinds.BidNumber) new in
+    keeps_cond p (eqb p.due 0) (Err kinds.ExtraBid) low (keeps_err p kinds.ExtraBid)
+    (keeps_cond p (leb p.header.bids v) (Err kinds.BidNumber) new (keeps_err p kinds.BidNumber)
+    (keeps_cond p (is_some_bid (slice_get p.slots v)) (Err kinds.RepeatedNumber) last (keeps_err p kinds.RepeatedNumber) (keeps_ok p (record p { place = Second; draft = record { number = v; price = 0; dummy = None } }) refl)))
+keeps_number p (Fraction d) = keeps_err p _
+keeps_number p End = keeps_err p _
+keeps_number p Other = keeps_err p _
+
+keeps_with_price : (p : Progress) (r : Result ℕ Kind) → Keeps p (with_price p r)
+keeps_with_price p (Ok m) = keeps_ok p _ refl
+keeps_with_price p (Err kind) = keeps_err p _
+
+keeps_price : (p : Progress) (w : Kept) → Keeps p (price_read p w)
+keeps_price p (Keyword j n) = keeps_err p _
+keeps_price p (Number v) = keeps_with_price p (price_parts v 0 false)
+keeps_price p (Fraction d) = keeps_cond p _ _ _ (keeps_err p _) (keeps_with_price p (price_parts d.whole d.millionths d.fine))
+keeps_price p End = keeps_err p _
+keeps_price p Other = keeps_err p _
+
+keeps_dummy : (p : Progress) (o : Option ℕ) (d : ℕ) → Keeps p (dummy_read p o d)
+keeps_dummy p None d = keeps_ok p _ refl
+keeps_dummy p (Some e) d = keeps_cond p _ _ _ (keeps_err p _) (keeps_err p _)
+
+keeps_good : (p : Progress) (w : Kept) → Keeps p (good_or_end_read p w)
+keeps_good p (Keyword j n) = keeps_err p _
+keeps_good p (Number v) =
+    let real : Reading = cond (has_number p.goods v) (Err kinds.RepeatedGood) (Ok (record p { goods = p.goods ++ v ∷ [] })) in
+    let good : Reading = cond (ltb v p.header.goods) real (dummy_read p p.draft.dummy (v - p.header.goods)) in
+    keeps_cond p (leb (p.header.goods + p.header.dummy) v) (Err kinds.GoodRange) good (keeps_err p kinds.GoodRange)
+    (keeps_cond p (ltb v p.header.goods) real (dummy_read p p.draft.dummy (v - p.header.goods))
+      (keeps_cond p (has_number p.goods v) (Err kinds.RepeatedGood) (Ok (record p { goods = p.goods ++ v ∷ [] })) (keeps_err p kinds.RepeatedGood) (keeps_ok p (record p { goods = p.goods ++ v ∷ [] }) refl))
+      (keeps_dummy p p.draft.dummy (v - p.header.goods)))
+keeps_good p (Fraction d) = keeps_err p _
+keeps_good p End = keeps_cond p _ _ _ (keeps_err p _) (keeps_ok p _ refl)
+keeps_good p Other = keeps_err p _
+
+keeps_at : (place : Place) (stage : Stage) (p : Progress) (w : Kept) → Keeps p (read_at place stage p w)
+keeps_at First Goods p w = keeps_keyword p keywords.Goods w
+keeps_at First Bids p w = keeps_keyword p keywords.Bids w
+keeps_at First Dummy p w = keeps_keyword p keywords.Dummy w
+keeps_at First Bid p w = keeps_number p w
+keeps_at Second Goods p w = keeps_second p w
+keeps_at Second Bids p w = keeps_second p w
+keeps_at Second Dummy p w = keeps_second p w
+keeps_at Second Bid p w = keeps_price p w
+keeps_at Later Goods p w = keeps_err p _
+keeps_at Later Bids p w = keeps_err p _
+keeps_at Later Dummy p w = keeps_err p _
+keeps_at Later Bid p w = keeps_good p w
+keeps_at Ended Goods p w = keeps_err p _
+keeps_at Ended Bids p w = keeps_err p _
+keeps_at Ended Dummy p w = keeps_err p _
+keeps_at Ended Bid p w = keeps_err p _
+
+-- a word keeps the line
+keeps_word : (p : Progress) (w : Kept) → Keeps p (word_read p w)
+keeps_word p w = keeps_at p.place p.stage p w
+
+abbrev ranked : ℕ → Reading → Type 0
+ranked k (Ok q) = rank q.stage ≤ suc k
+ranked k (Err kind) = Unit {0}
+
+-- a line's end goes on by one line at most
+ranked_at : (place : Place) (stage : Stage) (p : Progress) → p.stage ≡ stage → ranked (rank stage) (line_at place stage p)
+ranked_at First Goods p e = tt
+ranked_at Second Goods p e = tt
+ranked_at Later Goods p e = omega arith
+ranked_at Ended Goods p e = tt
+ranked_at First Bids p e = tt
+ranked_at Second Bids p e = tt
+ranked_at Later Bids p e = omega arith
+ranked_at Ended Bids p e = tt
+ranked_at First Dummy p e = tt
+ranked_at Second Dummy p e = tt
+ranked_at Later Dummy p e = omega arith
+ranked_at Ended Dummy p e = tt
+ranked_at First Bid p e = tt
+ranked_at Second Bid p e = tt
+ranked_at Later Bid p e = tt
+ranked_at Ended Bid p e = subst (λ (s : Stage). rank s ≤ 4) (sym e) (omega arith)
+
+ranked_line : (p : Progress) → ranked (rank p.stage) (line_read p)
+ranked_line p = ranked_at p.place p.stage p refl
+
+-- ---- lines begun and lines ended
+
+abbrev decided_in : Mode → Bool
+decided_in Start = false
+decided_in Blank = false
+decided_in Comment = true
+decided_in Between = true
+decided_in (Inside w) = true
+
+-- c lines have begun
+abbrev Begun : Mode → Stage → ℕ → Type 0
+Begun Start stage c = rank stage ≤ c
+Begun Blank stage c = rank stage ≤ c
+Begun Comment stage c = rank stage ≤ c
+Begun Between stage c = suc (rank stage) ≤ c
+Begun (Inside w) stage c = suc (rank stage) ≤ c
+
+-- a step keeps the count of the lines that begin from here on
+record Goes (c total : ℕ) (bs : List ℕ) (t : State) : Type 0 where
+  count : ℕ
+  begun : Begun t.mode t.progress.stage count
+  fewer : count + begins_after (decided_in t.mode) bs ≤ c + total
+
+abbrev GoesOn : ℕ → ℕ → List ℕ → Scan → Type 0
+GoesOn c total bs (Ok t) = Goes c total bs t
+GoesOn c total bs (Err e) = Unit {0}
+
+goes_reading : (c : ℕ) (bs : List ℕ) (s : State) (r : Reading) → Keeps s.progress r → suc (rank s.progress.stage) ≤ c → GoesOn c (begins_after true bs) bs (with_reading s Between r)
+goes_reading c bs s (Ok q) k l = record { count = c; begun = subst (λ (x : Stage). suc (rank x) ≤ c) (sym (k.same q refl)) l; fewer = omega arith }
+goes_reading c bs s (Err kind) k l = tt
+
+goes_blank : (c : ℕ) (bs : List ℕ) (m : Mode) (n : ℕ) (p : Progress) → Begun m p.stage c → GoesOn c (begins_after (decided_in m) bs) bs (blank_step (standing m n p))
+goes_blank c bs Start n p l = record { count = c; begun = l; fewer = omega arith }
+goes_blank c bs Blank n p l = record { count = c; begun = l; fewer = omega arith }
+goes_blank c bs Comment n p l = record { count = c; begun = l; fewer = omega arith }
+goes_blank c bs Between n p l = record { count = c; begun = l; fewer = omega arith }
+goes_blank c bs (Inside w) n p l = goes_reading c bs (standing (Inside w) n p) (word_read p w) (keeps_word p w) l
+
+goes_line_read : (c : ℕ) (bs : List ℕ) (n : ℕ) (p : Progress) (r : Reading) → ranked (rank p.stage) r → suc (rank p.stage) ≤ c → GoesOn c (begins_after false bs) bs (and_then (with_reading (standing Between n p) Between r) next_line)
+goes_line_read c bs n p (Ok q) k l = record { count = c; begun = omega arith; fewer = omega arith }
+goes_line_read c bs n p (Err kind) k l = tt
+
+goes_word_line : (c : ℕ) (bs : List ℕ) (n : ℕ) (w : Kept) (p : Progress) (r : Reading) → Keeps p r → suc (rank p.stage) ≤ c
+    → GoesOn c (begins_after false bs) bs (and_then (and_then (with_reading (standing (Inside w) n p) Between r) words_step) next_line)
+goes_word_line c bs n w p (Ok q) k l = goes_line_read c bs n q (line_read q) (ranked_line q) (subst (λ (x : Stage). suc (rank x) ≤ c) (sym (k.same q refl)) l)
+goes_word_line c bs n w p (Err kind) k l = tt
+
+goes_line : (c : ℕ) (bs : List ℕ) (m : Mode) (n : ℕ) (p : Progress) → Begun m p.stage c → GoesOn c (begins_after false bs) bs (line_step (standing m n p))
+goes_line c bs Start n p l = record { count = c; begun = l; fewer = omega arith }
+goes_line c bs Blank n p l = record { count = c; begun = l; fewer = omega arith }
+goes_line c bs Comment n p l = record { count = c; begun = l; fewer = omega arith }
+goes_line c bs Between n p l = goes_line_read c bs n p (line_read p) (ranked_line p) l
+goes_line c bs (Inside w) n p l = goes_word_line c bs n w p (word_read p w) (keeps_word p w) l
+
+goes_first : (c b : ℕ) (bs : List ℕ) (p : Progress) → rank p.stage ≤ c → (t : Bool) → (n : ℕ)
+    → Goes c (cond t (begins_after true bs) (suc (begins_after true bs))) bs (standing (cond t Comment (Inside (word_from b))) n p)
+goes_first c b bs p l true n = record { count = c; begun = l; fewer = omega arith }
+goes_first c b bs p l false n = record { count = suc c; begun = omega arith; fewer = omega arith }
+
+abbrev letter_begins : Bool → ℕ → ℕ → ℕ
+letter_begins decided b later = cond decided later (cond (eqb b 37) later (suc later))
+
+goes_letter : (c b : ℕ) (bs : List ℕ) (m : Mode) (n : ℕ) (p : Progress) → Begun m p.stage c → Goes c (letter_begins (decided_in m) b (begins_after true bs)) bs (standing (letter_mode m b) n p)
+goes_letter c b bs Start n p l = goes_first c b bs p l (eqb b 37) n
+goes_letter c b bs Blank n p l = goes_first c b bs p l (eqb b 37) n
+goes_letter c b bs Comment n p l = record { count = c; begun = l; fewer = omega arith }
+goes_letter c b bs Between n p l = record { count = c; begun = l; fewer = omega arith }
+goes_letter c b bs (Inside w) n p l = record { count = c; begun = l; fewer = omega arith }
+
+goes_byte : (c b : ℕ) (bs : List ℕ) (s : State) → Begun s.mode s.progress.stage c → GoesOn c (begins_after (decided_in s.mode) (b ∷ bs)) bs (byte_step s b)
+goes_byte c b bs s l = subst (λ k. GoesOn c k bs (byte_step s b)) (sym (begins-cons (decided_in s.mode) b bs))
+    (elim (eqb b 10) as (λ t. GoesOn c (cond t (begins_after false bs) (cond (decided_in s.mode) (begins_after true bs) (cond (is_blank b) (begins_after false bs) (cond (eqb b 37) (begins_after true bs) (suc (begins_after true bs)))))) bs
+          (cond t (line_step s) (cond (is_blank b) (blank_step s) (Ok (record s { mode = letter_mode s.mode b }))))) [
+      true ↦ goes_line c bs s.mode s.line s.progress l
+    | false ↦ elim (is_blank b) as (λ t. GoesOn c (cond (decided_in s.mode) (begins_after true bs) (cond t (begins_after false bs) (cond (eqb b 37) (begins_after true bs) (suc (begins_after true bs))))) bs
+          (cond t (blank_step s) (Ok (record s { mode = letter_mode s.mode b })))) [
+        true ↦ subst (λ k. GoesOn c k bs (blank_step s)) (by_decided (decided_in s.mode)) (goes_blank c bs s.mode s.line s.progress l)
+      | false ↦ goes_letter c b bs s.mode s.line s.progress l ] ])
+  where
+    by_decided : (d : Bool) → begins_after d bs ≡ cond d (begins_after true bs) (begins_after false bs)
+    by_decided true = refl
+    by_decided false = refl
+
+here_counts : (m : Mode) (stage : Stage) (c : ℕ) → stage ≡ Bid → IsInLine m → Begun m stage c → 4 ≤ c
+here_counts Start stage c e i l = absurd i
+here_counts Blank stage c e i l = absurd i
+here_counts Comment stage c e i l = absurd i
+here_counts Between stage c e i l = subst (λ (s : Stage). suc (rank s) ≤ c) e l
+here_counts (Inside w) stage c e i l = subst (λ (s : Stage). suc (rank s) ≤ c) e l
+
+four_begin : (bytes : List ℕ) (s : State) (c : ℕ) → Begun s.mode s.progress.stage c → MeetsBidLine s bytes → 4 ≤ c + begins_after (decided_in s.mode) bytes
+four_begin [] s c l m = let here : 4 ≤ c = here_counts s.mode s.progress.stage c m.0 m.1 l in omega arith
+four_begin (b ∷ bs) s c l m = ⊎_elim
+    (λ (i : IsInBidLine s). let here : 4 ≤ c = here_counts s.mode s.progress.stage c i.0 i.1 l in omega arith)
+    (λ (later : IsOkAnd (byte_step s b) (λ t. MeetsBidLine t bs)). step (byte_step s b) (goes_byte c b bs s l) later (λ t k g n. four_begin bs t k g n)) m
+  where
+    step : (r : Scan) → GoesOn c (begins_after (decided_in s.mode) (b ∷ bs)) bs r → IsOkAnd r (λ t. MeetsBidLine t bs)
+        → ((t : State) (k : ℕ) → Begun t.mode t.progress.stage k → MeetsBidLine t bs → 4 ≤ k + begins_after (decided_in t.mode) bs) → 4 ≤ c + begins_after (decided_in s.mode) (b ∷ bs)
+    step (Ok t) g n again = let more : 4 ≤ g.count + begins_after (decided_in t.mode) bs = again t g.count g.begun n in let le : g.count + begins_after (decided_in t.mode) bs ≤ c + begins_after (decided_in s.mode) (b ∷ bs) = g.fewer in omega arith
+    step (Err e) g n again = absurd n
+
+-- a bid line met in the bytes that are decided stands in the text
+pub bid_line_met : (text front back : List ℕ) → blank_returns text ≡ front ++ back → MeetsBidLine first_state front → has_bid_line text ≡ true
+bid_line_met text front back e m =
+    let four : 4 ≤ 0 + begins_after false front = four_begin front first_state 0 (omega arith) m in
+    let more : begins_after false front ≤ begins_after false (front ++ back) = begins_more false front back in
+    let all : begins_after false (front ++ back) ≡ length (significant_lines text) = ap (begins_after false) (sym e) ∙ (begins_are (blank_returns text)).fresh in
+    lt-ltb 3 (length (significant_lines text)) (omega arith)

@@ -50,7 +50,7 @@ word_step (g ∷ b ∷ d ∷ lines) words a w p at = bid_word_step g b d lines w
 -- ---- the end of a line
 
 -- the end at a known place of a known line
-abbrev line_at : Place → Stage → Progress → Reading
+abbrev pub line_at : Place → Stage → Progress → Reading
 line_at place stage p = elim stage [
     Goods ↦ elim place [ First ↦ Err kinds.Header | Second ↦ Err kinds.Header | Later ↦ Ok (record p { place = First; stage = Bids }) | Ended ↦ Err kinds.Header ]
   | Bids ↦ elim place [ First ↦ Err kinds.Header | Second ↦ Err kinds.Header | Later ↦ Ok (record p { place = First; stage = Dummy }) | Ended ↦ Err kinds.Header ]

@@ -1,5 +1,5 @@
 -- What a byte and the input's end do to what the scanner keeps.
-use Rattle.std.specs.Prelude.{◌≡◌, ℕ, suc, ◌==◌, Bool, true, false, if◌then◌else◌, List, [], ◌∷◌, ◌⊎◌, IfOk, Result, Ok, Err, length, ◌<◌}
+use Rattle.std.specs.Prelude.{◌≡◌, ℕ, suc, ◌==◌, Bool, true, false, if◌then◌else◌, List, [], ◌∷◌, ◌⊎◌, IsOkAnd, Result, Ok, Err, length, ◌<◌}
 use Rattle.cats_text.specs.Lines.{is_blank}
 use Rattle.cats_text.specs.Faults.{fault_at}
 use Rattle.cats_text.specs.Files.{PlainFile}
@@ -136,7 +136,7 @@ AsksHere s (Err Memory) = IsInBidLine s
 -- a bid line stands in the bytes
 abbrev pub MeetsBidLine : State → List ℕ → Type 0
 MeetsBidLine s [] = IsInBidLine s
-MeetsBidLine s (b ∷ bs) = IsInBidLine s ⊎ IfOk (byte_step s b) (λ t. MeetsBidLine t bs)
+MeetsBidLine s (b ∷ bs) = IsInBidLine s ⊎ IsOkAnd (byte_step s b) (λ t. MeetsBidLine t bs)
 
 abbrev pub Asks : {A : Type 0} → State → List ℕ → Result A Halt → Type 0
 Asks s bytes (Ok x) = Unit {0}
