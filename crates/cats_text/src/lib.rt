@@ -2,5 +2,7 @@
 #![tactic(auto)]
 
 mod fault;
+mod stream;
 
 pub use fault::{Kind, ReadFault, SendFault};
+pub use stream::{Watched, answers_of_devices, send};
