@@ -1,5 +1,5 @@
 -- What a contract sees of a `Watched` reader or writer, and which answers of a call make it failed or ended.
-use Rattle.std.specs.Prelude.{ℕ, Bool, true, false, ◌==◌, ◌||◌, List, [], ◌∷◌, Result, Ok, Err, is_err}
+use Rattle.std.specs.Prelude.{ℕ, Bool, false, ◌==◌, ◌||◌, List, [], ◌∷◌, Result, Ok, Err, is_err}
 use Rattle.std.specs.declared.io.Error.{Error}
 use Rattle.cats_text.specs.declared.stream.Watched.{Watched}
 

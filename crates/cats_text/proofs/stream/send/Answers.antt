@@ -1,10 +1,10 @@
 -- One more piece went out: what went out is still the beginning of the text, and the writer still works.
-use Rattle.std.proofs.Common.{arith, ◌≡◌, ◌<◌, ◌≤◌, ◌∷◌, ◌++◌, List, [], length, take, drop, false, true, ℕ, ◌+◌, ◌-◌, Ok, Option, refl, ◌∙◌}
+use Rattle.std.proofs.Common.{arith, ◌≡◌, ◌<◌, ◌≤◌, ◌∷◌, List, [], length, take, drop, false, ℕ, ◌+◌, ◌-◌, Ok, Option, refl, ◌∙◌}
 use Rattle.std.proofs.Math.Seq.{take-add, take-length}
 use Rattle.std.proofs.lemmas.List.{length-drop}
 use Rattle.std.proofs.KnownBytes.{Appends-trans}
 use Rattle.std.specs.Io.KnownBytes.{Appends}
-use Rattle.cats_text.specs.Streams.{inner_of, failed_to_write}
+use Rattle.cats_text.specs.Streams.{failed_to_write}
 use Rattle.cats_text.proofs.stream.send.Goals as goal
 
 all_but : (n : ℕ) (text : List ℕ) → take (length text - n) (drop n text) ≡ drop n text
