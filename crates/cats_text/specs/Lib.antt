@@ -1,2 +1,9 @@
 -- What the contracts of this crate cite.
+pub mod Lines
+pub mod Numbers
+pub mod Files
+pub mod Views
+pub mod Grammar
+pub mod Faults
+pub mod Layout
 pub mod Streams
