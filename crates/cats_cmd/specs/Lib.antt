@@ -1,0 +1,5 @@
+-- What the contracts of this crate cite.
+pub mod Outputs
+pub mod KindNames
+pub mod FaultLines
+pub mod Statuses
