@@ -2,9 +2,14 @@
 #![tactic(auto)]
 
 mod canon_fault;
+mod check;
+mod command_line;
+mod program;
 mod report;
 mod which;
 
 pub use canon_fault::CanonFault;
-pub use report::{RunFault, fault_line, status};
+pub use check::run_check;
+pub use program::run_cats;
+pub use report::{NO_MEMORY, RunFault, WRONG_USAGE, fault_line, status};
 pub use which::Which;
