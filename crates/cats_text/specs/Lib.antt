@@ -7,3 +7,6 @@ pub mod Grammar
 pub mod Faults
 pub mod Layout
 pub mod Streams
+pub mod Keywords
+pub mod Marks
+pub mod Machine

@@ -3,9 +3,11 @@
 
 mod bid;
 mod fault;
+mod goods;
 mod limits;
 mod stream;
-mod worked;
+mod word;
+pub mod worked;
 
 pub use bid::{Bid, BidFile};
 pub use fault::{Kind, ReadFault, SendFault};
