@@ -10,3 +10,8 @@ pub mod Streams
 pub mod Keywords
 pub mod Marks
 pub mod Machine
+pub mod Progress
+pub mod Parsing
+pub mod Returns
+pub mod Scanning
+pub mod FileLines
