@@ -3,3 +3,4 @@ pub mod Outputs
 pub mod KindNames
 pub mod FaultLines
 pub mod Statuses
+pub mod Runs

@@ -6,7 +6,11 @@ mod check;
 mod command_line;
 mod program;
 mod report;
+mod run;
+#[cfg(test)]
+mod tests;
 mod which;
+pub mod worked;
 
 pub use canon_fault::CanonFault;
 pub use check::run_check;

@@ -11,6 +11,9 @@ use crate::which::Which;
 use cats_text::{Kind, ReadFault, SendFault};
 use std::alloc::{AllocError, Global};
 
+/// A run did what it was asked for.
+pub const DONE: u8 = 0;
+
 /// A file is no bid file.
 pub const FILE_REFUSED: u8 = 2;
 

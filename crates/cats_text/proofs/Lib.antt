@@ -4,3 +4,8 @@ pub mod Slots
 pub mod Rising
 pub mod Steps
 pub mod Scanned
+pub mod FaultKinds
+pub mod StreamReading
+pub mod Pieces
+pub mod Bridge
+pub mod Feeding

@@ -15,3 +15,5 @@ pub mod Parsing
 pub mod Returns
 pub mod Scanning
 pub mod FileLines
+pub mod Fed
+pub mod Reading

@@ -4,8 +4,10 @@
 mod bid;
 mod fault;
 mod goods;
+mod history;
 mod limits;
 mod parser;
+mod reader;
 mod scanner;
 mod stream;
 mod word;
@@ -14,4 +16,5 @@ pub mod worked;
 pub use bid::{Bid, BidFile};
 pub use fault::{Kind, ReadFault, SendFault};
 pub use limits::{MAX_BIDS, MAX_DUMMY, MAX_GOODS, MAX_PRICE, MAX_STREAM};
-pub use stream::{Watched, answers_of_devices, send};
+pub use reader::{Reader, read};
+pub use stream::{Watched, answers_of_devices, read_from, send};

@@ -1,12 +1,17 @@
 //! Readers and writers that are watched for failures, and sending a text.
 
-ghost use Rattle.std.specs.Prelude.{◌≡◌, ◌≢◌, ◌≤◌, ◌||◌, length, take, false, true, IsTrue, IsErr, is_err, OnOk, IfErr, [], Ok, codes};
+ghost use Rattle.std.specs.Prelude.{◌≡◌, ℕ, List, ◌≢◌, ◌≤◌, ◌||◌, length, take, false, true, IsTrue, IsErr, is_err, OnOk, IfErr, [], Ok, codes};
 ghost use Rattle.std.specs.Io.{ReadsAtMost, WritesAtMost};
-ghost use Rattle.std.specs.Io.KnownBytes.{Appends, Keeps, ReadConsumes, WriteAppends};
+ghost use Rattle.std.specs.Io.KnownBytes.{Appends, Consumes, Keeps, ReadConsumes, WriteAppends};
 ghost use Rattle.std.specs.IoError.{error_kind};
-ghost use Rattle.cats_text.specs.Streams.{inner_of, has_failed, has_ended, moved_nothing, failed_to_write};
+ghost use Rattle.cats_text.specs.Faults.{fault_at};
+ghost use Rattle.cats_text.specs.Streams.{inner_of, has_failed, has_ended, moved_nothing, failed_to_write, ReadsAs, SendsPart, SendsWhole};
 
-use crate::fault::SendFault;
+use crate::bid::BidFile;
+use crate::fault::{Kind, ReadFault, SendFault};
+use crate::limits::MAX_STREAM;
+use crate::reader::Reader;
+use std::alloc::Global;
 use std::io;
 use std::io::{ErrorKind, Read, Write};
 
@@ -135,14 +140,43 @@ impl<W: Write> Write for Watched<W> {
     }
 }
 
+/// Reads the whole stream as a bid file. It makes no further read once a fault is complete in the bytes that came, and reads no
+/// more than `MAX_STREAM` bytes and one piece.
+pub fn read_from<R: Read>(alloc: Global, input: &mut Watched<R>) -> Result<BidFile, ReadFault>
+    requires works { has_failed input.old ≡ false }
+    requires fresh { has_ended input.old ≡ false }
+    ensures { (bytes : List ℕ) × Consumes (R.remaining (inner_of input.old)) (R.remaining (inner_of input.new)) bytes
+        × ReadsAs R.remaining bytes input.new result }
+{
+    let mut reader = Reader::new(alloc, MAX_STREAM);
+    let mut piece = [0; PIECE];
+    loop {
+        match input.read(&mut piece) {
+            Ok(0) => return reader.finish(),
+            Ok(count) => reader.feed(&piece[..count])?,
+            Err(_) => return Err(device_failed()),
+        }
+    }
+}
+
+fn device_failed() -> ReadFault
+    ensures { result ≡ fault_at 0 Kind.Device }
+{
+    ReadFault {
+        line: 0,
+        kind: Kind::Device,
+    }
+}
+
+/// How many bytes are read at once.
+const PIECE: usize = 65_536;
+
 /// Sends the whole text and then flushes once. Where the writer fails, what went out is the beginning of the text that
 /// the fault counts.
 pub fn send<W: Write>(out: &mut Watched<W>, text: &[u8]) -> Result<(), SendFault>
     requires { has_failed out.old ≡ false }
-    ensures whole { OnOk result (Appends (W.contents (inner_of out.old)) (W.contents (inner_of out.new)) text.now) }
-    ensures part { IfErr result (λ fault. (fault.written ≤ length text.now)
-        × Appends (W.contents (inner_of out.old)) (W.contents (inner_of out.new)) (take fault.written text.now)) }
-    ensures failed { has_failed out.new ≡ is_err result }
+    ensures whole { OnOk result (SendsWhole W.contents out.old out.new text.now) }
+    ensures part { IfErr result (λ fault. SendsPart W.contents out.old out.new text.now fault.written) }
     ensures ended { has_ended out.new ≡ has_ended out.old }
 {
     let mut written = 0;

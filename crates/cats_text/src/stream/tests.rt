@@ -1,8 +1,8 @@
 ghost use Rattle.std.specs.Prelude.{◌≡◌, false};
-ghost use Rattle.cats_text.specs.Streams.{has_failed};
+ghost use Rattle.cats_text.specs.Streams.{has_ended, has_failed};
 
-use super::{Watched, send};
-use crate::fault::SendFault;
+use super::{Watched, read_from, send};
+use crate::fault::{Kind, ReadFault, SendFault};
 use std::alloc::Global;
 use std::io;
 use std::io::{ErrorKind, Read, Write};
@@ -36,7 +36,10 @@ impl Read for ByteReader<'_> {
     }
 }
 
-fn reader(text: &[u8], cut: Option<usize>, kind: ErrorKind) -> Watched<ByteReader<'_>> {
+fn reader(text: &[u8], cut: Option<usize>, kind: ErrorKind) -> Watched<ByteReader<'_>>
+    ensures works { has_failed result ≡ false }
+    ensures fresh { has_ended result ≡ false }
+{
     Watched::new(ByteReader {
         text,
         given: 0,
@@ -242,5 +245,68 @@ fn counts_all_where_the_flush_fails(rt: HostRuntime) -> Result<(), Fail> {
     assert_eq!(rt; send(&mut out, b"goods 0"), Err(SendFault { written: 7 }));
     assert!(rt; out.failed());
     assert_eq!(rt; out.into_inner().taken.as_slice(), b"goods 0".as_slice());
+    Ok(())
+}
+
+/// What reading a stream answers: the sizes of the file, or the fault.
+fn read_sizes(
+    alloc: Global,
+    input: &mut Watched<ByteReader<'_>>,
+) -> Result<(u16, usize, u32), ReadFault>
+    requires works { has_failed input.old ≡ false }
+    requires fresh { has_ended input.old ≡ false }
+{
+    let file = read_from(alloc, input)?;
+    Ok((file.goods(), file.bids().len(), file.dummy()))
+}
+
+#[test]
+fn reads_until_the_end(rt: HostRuntime) -> Result<(), Fail> {
+    let text = b"goods 3\nbids 0\ndummy 1\n";
+    let mut input = reader(text, None, ErrorKind::Other);
+    assert_eq!(rt; read_sizes(rt.alloc(), &mut input), Ok((3, 0, 1)));
+    assert!(rt; input.ended());
+    assert!(rt; !input.failed());
+    assert_eq!(rt; input.into_inner().calls, text.len() as u64 + 1);
+    Ok(())
+}
+
+#[test]
+fn stops_reading_at_a_fault(rt: HostRuntime) -> Result<(), Fail> {
+    let mut input = reader(b"x y", None, ErrorKind::Other);
+    let (line, kind) = (1, Kind::Header);
+    assert_eq!(rt;
+        read_sizes(rt.alloc(), &mut input),
+        Err(ReadFault { line, kind })
+    );
+    assert!(rt; !input.ended());
+    assert_eq!(rt; input.into_inner().calls, 2);
+    Ok(())
+}
+
+#[test]
+fn device_fails(rt: HostRuntime) -> Result<(), Fail> {
+    for kind in [ErrorKind::BrokenPipe, ErrorKind::Interrupted] {
+        let mut input = reader(b"goods 0\nbids 0\n", Some(8), kind);
+        let (line, kind) = (0, Kind::Device);
+        assert_eq!(rt;
+            read_sizes(rt.alloc(), &mut input),
+            Err(ReadFault { line, kind })
+        );
+        assert!(rt; input.failed());
+        assert_eq!(rt; input.into_inner().calls, 9);
+    }
+    Ok(())
+}
+
+#[test]
+fn complete_fault_before_the_device_fails(rt: HostRuntime) -> Result<(), Fail> {
+    let mut input = reader(b"Goods 0\n", Some(8), ErrorKind::BrokenPipe);
+    let (line, kind) = (1, Kind::Header);
+    assert_eq!(rt;
+        read_sizes(rt.alloc(), &mut input),
+        Err(ReadFault { line, kind })
+    );
+    assert!(rt; !input.failed());
     Ok(())
 }
