@@ -5,6 +5,7 @@ mod bid;
 mod fault;
 mod goods;
 mod history;
+pub mod laws;
 mod limits;
 mod parser;
 mod reader;

@@ -1,0 +1,23 @@
+use Rattle.std.proofs.Common.{ℕ, ◌+◌, ◌≤◌, length, arith, w64}
+use Rattle.std.specs.Int.{bit_not}
+use Rattle.std.specs.Int.RustNames.{bit_and}
+use Rattle.std.proofs.lemmas.Simd.{length-put_chunk}
+use Rattle.goods_set.specs.Words.{words_without}
+use Rattle.goods_set.proofs.Lanes.{lanes_outside, written_more, unwritten_more}
+use Rattle.goods_set.proofs.word_set.lanes.remove_all.Goals as goal
+
+pub loop-words-preserved : goal.loop-words-preserved
+loop-words-preserved c =
+    let xs = c.loop-words.words in
+    let ys = c.args.taken.now in
+    let i : ℕ = c.loop-words.i in
+    let room : i + 8 ≤ length xs = omega arith in
+    let lanes = lanes_outside xs ys i room (omega arith) in
+    record {
+      within = omega (arith, length-put_chunk {A = ℕ});
+      done = written_more (λ x y. bit_and x (bit_not w64 y)) c.args.words.now xs ys i _ lanes room c.loop-words.invariant.done c.loop-words.invariant.rest;
+      rest = unwritten_more (λ x y. bit_and x (bit_not w64 y)) c.args.words.now xs ys i _ lanes c.loop-words.invariant.rest;
+    }
+
+pub returns : goal.returns
+returns c = λ cap l. words_without cap c.args.words.now c.args.taken.now c.loop-k.words (λ k. (c.type_inv.taken k).fits) (λ k m. c.loop-k.invariant.done k (omega arith))
