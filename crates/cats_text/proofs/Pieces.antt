@@ -32,15 +32,6 @@ waits-append [] ys = refl
 waits-append (b ∷ []) ys = one_waits b (b == 13) ys refl
 waits-append (b ∷ c ∷ cs) ys = waits-append (c ∷ cs) ys
 
-then_run : (r : Scan) (xs ys : List ℕ) → ((s : State) → run s (xs ++ ys) ≡ and_then (run s xs) (λ t. run t ys))
-    → and_then r (λ t. run t (xs ++ ys)) ≡ and_then (and_then r (λ t. run t xs)) (λ t. run t ys)
-then_run (Ok s) xs ys h = h s
-then_run (Err e) xs ys h = refl
-
-pub run-append : (s : State) (xs ys : List ℕ) → run s (xs ++ ys) ≡ and_then (run s xs) (λ t. run t ys)
-run-append s [] ys = refl
-run-append s (b ∷ xs) ys = then_run (byte_step s b) xs ys (λ t. run-append t xs ys)
-
 then_meets : (r : Scan) (t : State) (xs ys : List ℕ) → ((s : State) → run s xs ≡ Ok t → MeetsBidLine s (xs ++ ys))
     → and_then r (λ s. run s xs) ≡ Ok t → IfOk r (λ s. MeetsBidLine s (xs ++ ys))
 then_meets (Ok s) t xs ys h e = h s e
