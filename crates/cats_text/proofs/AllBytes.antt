@@ -201,7 +201,7 @@ outcome_then : (r : Scanned) (g : Progress → Scan) (f : State → Scan) → ou
 outcome_then (Ok p) g f = refl
 outcome_then (Err e) g f = refl
 
-outcome_from : (r : Scanned) (g : Progress → Scan) → outcome (then_from r g) ≡ scanned_then r (λ q. outcome (g q))
+pub outcome_from : (r : Scanned) (g : Progress → Scan) → outcome (then_from r g) ≡ scanned_then r (λ q. outcome (g q))
 outcome_from (Ok p) g = refl
 outcome_from (Err e) g = refl
 

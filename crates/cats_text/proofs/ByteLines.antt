@@ -46,7 +46,7 @@ words_join a b bs ws h k = rw (h, k) refl
 words_split : (a b : ℕ) (bs : List ℕ) (ws : List Word) → is_blank a ≡ false → is_blank b ≡ true → words_with a (b ∷ bs) ws ≡ (a ∷ []) ∷ ws
 words_split a b bs ws h k = rw (h, k) refl
 
-words_blank : (b : ℕ) (bs : List ℕ) → is_blank b ≡ true → line_words (b ∷ bs) ≡ line_words bs
+pub words_blank : (b : ℕ) (bs : List ℕ) → is_blank b ≡ true → line_words (b ∷ bs) ≡ line_words bs
 words_blank b bs e = rw e refl
 
 -- a word that ends with the line

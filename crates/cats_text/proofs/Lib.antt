@@ -30,3 +30,4 @@ pub mod LineSteps
 pub mod WholeLines
 pub mod ByteLines
 pub mod AllBytes
+pub mod TextFaults
