@@ -21,7 +21,7 @@ use Rattle.cats_text.specs.declared.scanner.Halt.TheVariants.{Fault, Memory}
 use Rattle.cats_text.specs.declared.scanner.Scanner.{Scanner}
 use Rattle.cats_text.proofs.ByteLines.{run-append}
 use Rattle.cats_text.proofs.Bridge.{stops_at_complete_fault, goes_on_without_fault, meets_bid_line, complete_fault_is_first, ends_at_file, ends_at_first_fault, ends_in_bid_line}
-use Rattle.cats_text.proofs.Pieces.{settled-append, waits-append, meets_behind, run-line, settled-length}
+use Rattle.cats_text.proofs.PieceRuns.{settled-append, waits-append, meets_behind, run-line, settled-length}
 
 -- ---- the bytes that are judged
 

@@ -14,7 +14,7 @@ pub mod Steps
 pub mod Scanned
 pub mod FaultKinds
 pub mod StreamReading
-pub mod Pieces
+pub mod PieceRuns
 pub mod Bridge
 pub mod Feeding
 pub mod Places
