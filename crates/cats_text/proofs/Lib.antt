@@ -20,6 +20,11 @@ pub mod Slots
 pub mod Rising
 pub mod Steps
 pub mod Scanned
+pub mod FaultKinds
+pub mod StreamReading
+pub mod PieceRuns
+pub mod Bridge
+pub mod Feeding
 pub mod Places
 pub mod Summary
 pub mod Told

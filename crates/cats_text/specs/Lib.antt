@@ -1,3 +1,4 @@
+-- What the contracts of this crate cite.
 pub mod Lines
 pub mod Numbers
 pub mod Files
@@ -5,6 +6,7 @@ pub mod Views
 pub mod Grammar
 pub mod Faults
 pub mod Layout
+pub mod Streams
 pub mod Keywords
 pub mod Marks
 pub mod Machine
@@ -13,3 +15,5 @@ pub mod Parsing
 pub mod Returns
 pub mod Scanning
 pub mod FileLines
+pub mod Fed
+pub mod Reading

@@ -4,11 +4,14 @@
 mod bid;
 mod fault;
 mod goods;
+mod history;
 pub mod laws;
 mod layout;
 mod limits;
 mod parser;
+mod reader;
 mod scanner;
+mod stream;
 mod word;
 pub mod worked;
 
@@ -16,3 +19,5 @@ pub use bid::{Bid, BidFile};
 pub use fault::{Kind, ReadFault, SendFault};
 pub use layout::{push_price, write};
 pub use limits::{MAX_BIDS, MAX_DUMMY, MAX_GOODS, MAX_PRICE, MAX_STREAM};
+pub use reader::{Reader, read};
+pub use stream::{Watched, answers_of_devices, read_from, send};

@@ -82,7 +82,8 @@ pub struct Scanner {
 impl Scanner {
     /// Before the first byte.
     pub fn new(alloc: Global) -> Scanner
-        ensures { state result ≡ first_state }
+        ensures state { state result ≡ first_state }
+        ensures waiting { result.waiting ≡ false }
     {
         Scanner {
             waiting: false,

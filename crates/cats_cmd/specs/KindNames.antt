@@ -1,0 +1,23 @@
+-- The names under which the kinds of faults are told.
+use Rattle.std.specs.Prelude.{ℕ, List, codes}
+use Rattle.cats_text.specs.declared.fault.Kind.{Kind}
+use Rattle.cats_text.specs.declared.fault.Kind.TheVariants.{Header, NotANumber, TooLarge, ExtraBid, BidNumber, RepeatedNumber, TooFine, GoodRange, RepeatedGood, TwoDummies, EmptyBundle, NoEnd, AfterEnd, Missing, TooLong, Device, Memory}
+
+abbrev pub name_of_kind : Kind → List ℕ
+name_of_kind Header = codes "Header"
+name_of_kind NotANumber = codes "NotANumber"
+name_of_kind TooLarge = codes "TooLarge"
+name_of_kind ExtraBid = codes "ExtraBid"
+name_of_kind BidNumber = codes "BidNumber"
+name_of_kind RepeatedNumber = codes "RepeatedNumber"
+name_of_kind TooFine = codes "TooFine"
+name_of_kind GoodRange = codes "GoodRange"
+name_of_kind RepeatedGood = codes "RepeatedGood"
+name_of_kind TwoDummies = codes "TwoDummies"
+name_of_kind EmptyBundle = codes "EmptyBundle"
+name_of_kind NoEnd = codes "NoEnd"
+name_of_kind AfterEnd = codes "AfterEnd"
+name_of_kind Missing = codes "Missing"
+name_of_kind TooLong = codes "TooLong"
+name_of_kind Device = codes "Device"
+name_of_kind Memory = codes "Memory"

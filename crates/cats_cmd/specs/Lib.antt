@@ -1,0 +1,6 @@
+-- What the contracts of this crate cite.
+pub mod Outputs
+pub mod KindNames
+pub mod FaultLines
+pub mod Statuses
+pub mod Runs

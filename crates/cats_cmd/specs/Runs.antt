@@ -1,0 +1,64 @@
+-- What a run does, by the bytes that it read.
+use Rattle.std.specs.Prelude.{◌≡◌, ◌≢◌, ℕ, List, Option, false, Result, Ok, Err}
+use Rattle.cats_text.specs.Files.{PlainFile}
+use Rattle.cats_text.specs.Streams.{has_failed, ReadsFile, FaultsAt, SendsWhole, SendsPart}
+use Rattle.cats_text.specs.Views.{plain_file}
+use Rattle.cats_text.specs.declared.bid.BidFile.{BidFile}
+use Rattle.cats_text.specs.declared.fault.ReadFault.{ReadFault}
+use Rattle.cats_text.specs.declared.fault.Kind.{Kind}
+use Rattle.cats_text.specs.declared.fault.Kind.TheVariants.{Memory as NoMemory}
+use Rattle.cats_text.specs.declared.stream.Watched.{Watched}
+use Rattle.cats_cmd.specs.declared.canon_fault.CanonFault.{CanonFault}
+use Rattle.cats_cmd.specs.declared.canon_fault.CanonFault.TheVariants.{Read, StepLimit, Memory}
+use Rattle.cats_cmd.specs.declared.which.Which.{Which}
+use Rattle.cats_cmd.specs.declared.which.Which.TheVariants.{Only}
+use Rattle.cats_cmd.specs.declared.report.RunFault.{RunFault}
+use Rattle.cats_cmd.specs.declared.report.RunFault.TheVariants.{Refused, GoodRange, Sent}
+use Rattle.cats_cmd.specs.declared.report.TheConstants.{DONE}
+
+-- Reading the bytes refused the file. Memory that a reader was refused is told as the run's own.
+module _ {R : Type 0} (remaining : R → Option (List ℕ)) where
+  abbrev pub IsRefusedByReading : List ℕ → Watched R → CanonFault → Type 0
+  IsRefusedByReading bytes input (Read fault) = (fault.kind ≢ NoMemory) × FaultsAt remaining bytes input fault.line fault.kind
+  IsRefusedByReading bytes input (StepLimit goods) = ⊥
+  IsRefusedByReading bytes input Memory = has_failed input ≡ false
+
+-- how a fault of reading is told
+abbrev pub refusal_by_kind : ReadFault → Kind → CanonFault
+refusal_by_kind fault NoMemory = Memory
+refusal_by_kind fault kind = Read fault
+
+abbrev pub refusal_of : ReadFault → CanonFault
+refusal_of fault = refusal_by_kind fault fault.kind
+
+module _ {R : Type 0} (remaining : R → Option (List ℕ)) where
+  abbrev pub ReadsOrRefuses : List ℕ → Watched R → Result BidFile CanonFault → Type 0
+  ReadsOrRefuses bytes input (Ok file) = ReadsFile remaining bytes input (plain_file file)
+  ReadsOrRefuses bytes input (Err fault) = IsRefusedByReading remaining bytes input fault
+
+-- A run that reads one file and tells it by a text, as `cats check` and `cats show`.
+module _ {R W : Type 0} (remaining : R → Option (List ℕ)) (contents : W → Option (List ℕ)) (text : PlainFile → List ℕ) where
+  -- the bytes spell a file, and its text went out
+  pub record TellsFile (bytes : List ℕ) (input : Watched R) (old new : Watched W) (status : ℕ) : Type 0 where
+    pub file : PlainFile
+    pub reads : ReadsFile remaining bytes input file
+    pub sends : SendsWhole contents old new (text file)
+    pub done : status ≡ DONE
+
+  -- the bytes spell a file, and the output failed in its text
+  pub record FailsToTell (bytes : List ℕ) (input : Watched R) (old new : Watched W) (written : ℕ) : Type 0 where
+    pub file : PlainFile
+    pub reads : ReadsFile remaining bytes input file
+    pub sends : SendsPart contents old new (text file) written
+
+  -- the file was refused, and nothing was written
+  pub record RefusesFile (bytes : List ℕ) (input : Watched R) (old new : Watched W) (which : Which) (fault : CanonFault) : Type 0 where
+    pub only : which ≡ Only
+    pub refused : IsRefusedByReading remaining bytes input fault
+    pub silent : new ≡ old
+
+  abbrev pub RunsAs : List ℕ → Watched R → Watched W → Watched W → Result ℕ RunFault → Type 0
+  RunsAs bytes input old new (Ok status) = TellsFile bytes input old new status
+  RunsAs bytes input old new (Err (Refused which fault)) = RefusesFile bytes input old new which fault
+  RunsAs bytes input old new (Err (GoodRange good)) = ⊥
+  RunsAs bytes input old new (Err (Sent fault)) = FailsToTell bytes input old new fault.written

@@ -1,0 +1,126 @@
+//! The program `cats`, but for its process: a command line, two output streams and an exit status.
+
+ghost use Rattle.std.specs.Prelude.{◌≡◌, IfOk, false};
+ghost use Rattle.cats_text.specs.Streams.{has_ended, has_failed};
+
+use crate::check::run_check;
+use crate::command_line;
+use crate::command_line::Request;
+use crate::report::{DEVICE_FAILED, NO_MEMORY, RunFault, WRONG_USAGE, fault_line, status};
+use cats_text::{Watched, send};
+use clap::Error;
+use clap::error::ErrorKind;
+use std::alloc::{AllocError, Global};
+use std::fs;
+use std::io::Write;
+use std::rt::Files;
+
+/// Why a request has no answer.
+#[derive(Drop)]
+enum Stop {
+    CannotOpen,
+    Run(RunFault),
+}
+
+impl From<RunFault> for Stop {
+    fn from(fault: RunFault) -> Stop {
+        Stop::Run(fault)
+    }
+}
+
+/// Does what a command line asks for and answers its exit status. The line's first word is the program's name; `out` and
+/// `err` stand for the standard streams.
+///
+/// A fault's line goes to `err`. Where that line cannot be made or written, the status stays what it is.
+pub fn run_cats<F: Files + AllocGlobal, W: Write, E: Write>(
+    rt: &F,
+    words: &[&str],
+    out: &mut Watched<W>,
+    err: &mut Watched<E>,
+) -> u8
+    requires out_works { has_failed out.old ≡ false }
+    requires err_works { has_failed err.old ≡ false }
+{
+    let alloc = rt.alloc();
+    let request = match command_line::parse(alloc, words) {
+        Ok(Some(request)) => request,
+        Ok(None) => return WRONG_USAGE,
+        Err(error) => return answer_usage(alloc, &error, out, err),
+    };
+    match carry_out(rt, &request, out) {
+        Ok(status) => status,
+        Err(stop) => tell(alloc, &stop, err),
+    }
+}
+
+fn carry_out<F: Files + AllocGlobal, W: Write>(
+    rt: &F,
+    request: &Request<'_>,
+    out: &mut Watched<W>,
+) -> Result<u8, Stop>
+    requires { has_failed out.old ≡ false }
+{
+    match request {
+        Request::Check { file } => {
+            let mut input = open(rt, file)?;
+            Ok(run_check(rt.alloc(), &mut input, out)?)
+        }
+    }
+}
+
+fn open<F: Files>(rt: &F, path: &str) -> Result<Watched<F::File>, Stop>
+    ensures works { IfOk result (λ file. has_failed file ≡ false) }
+    ensures fresh { IfOk result (λ file. has_ended file ≡ false) }
+{
+    match fs::open(rt, path) {
+        Ok(file) => Ok(Watched::new(file)),
+        Err(_) => Err(Stop::CannotOpen),
+    }
+}
+
+/// Help goes to `out`, and what is wrong with a command line to `err`.
+fn answer_usage<W: Write, E: Write>(
+    alloc: Global,
+    error: &Error,
+    out: &mut Watched<W>,
+    err: &mut Watched<E>,
+) -> u8
+    requires out_works { has_failed out.old ≡ false }
+    requires err_works { has_failed err.old ≡ false }
+{
+    let text = error.to_string(alloc);
+    if !error.use_stderr() {
+        return match text {
+            Err(AllocError) => NO_MEMORY,
+            Ok(help) => match send(out, help.as_bytes()) {
+                Ok(()) => 0,
+                Err(_) => DEVICE_FAILED,
+            },
+        };
+    }
+    if let Ok(message) = text {
+        let _ = send(err, message.as_bytes());
+    }
+    if error.kind() == ErrorKind::OutOfMemory {
+        NO_MEMORY
+    } else {
+        WRONG_USAGE
+    }
+}
+
+fn tell<E: Write>(alloc: Global, stop: &Stop, err: &mut Watched<E>) -> u8
+    requires { has_failed err.old ≡ false }
+{
+    match stop {
+        Stop::CannotOpen => {
+            let _ = send(err, b"cannot open\n");
+            DEVICE_FAILED
+        }
+        Stop::Run(fault) => {
+            if let Ok(line) = fault_line(alloc, fault) {
+                let _ = send(err, line.as_slice());
+            }
+            status(fault)
+        }
+    }
+}

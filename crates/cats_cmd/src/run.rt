@@ -1,0 +1,39 @@
+//! What the runs share: reading a file, and telling why it was refused.
+
+ghost use Rattle.std.specs.Prelude.{◌≡◌, ℕ, List, false};
+ghost use Rattle.std.specs.Io.KnownBytes.{Consumes};
+ghost use Rattle.cats_text.specs.Streams.{has_ended, has_failed, inner_of};
+ghost use Rattle.cats_text.specs.Views.{plain_file};
+ghost use Rattle.cats_cmd.specs.Runs.{ReadsOrRefuses, refusal_of};
+
+use crate::canon_fault::CanonFault;
+use crate::report::RunFault;
+use crate::which::Which;
+use cats_text::{BidFile, Kind, ReadFault, Watched, read_from};
+use std::alloc::Global;
+use std::io::Read;
+
+/// Reads a bid file. What a reader is refused in memory is the run's want of memory.
+pub(crate) fn read_file<R: Read>(
+    alloc: Global,
+    input: &mut Watched<R>,
+) -> Result<BidFile, CanonFault>
+    requires works { has_failed input.old ≡ false }
+    requires fresh { has_ended input.old ≡ false }
+    ensures { (bytes : List ℕ) × Consumes (R.remaining (inner_of input.old)) (R.remaining (inner_of input.new)) bytes
+        × ReadsOrRefuses R.remaining bytes input.new result }
+{
+    match read_from(alloc, input) {
+        Ok(file) => Ok(file),
+        Err(fault) => Err(refusal(fault)),
+    }
+}
+
+fn refusal(fault: ReadFault) -> CanonFault
+    ensures { result ≡ refusal_of fault }
+{
+    match fault.kind {
+        Kind::Memory => CanonFault::Memory,
+        _ => CanonFault::Read(fault),
+    }
+}

@@ -1,0 +1,6 @@
+//! Worked rows of the runs and of the program.
+
+mod check;
+mod program;
+mod report;
+mod streams;

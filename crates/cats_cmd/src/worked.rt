@@ -1,0 +1,42 @@
+//! Worked examples of what the runs print, computed by the prover.
+
+ghost use Rattle.std.specs.Prelude.{◌≡◌, ℕ, List, [], ◌∷◌, map, codes};
+ghost use Rattle.cats_text.specs.declared.fault.Kind.TheVariants.{TwoDummies, NoEnd, TooLong, Device, Memory as NoMemory};
+ghost use Rattle.cats_cmd.specs.Outputs.{bundle_text, sizes_text};
+ghost use Rattle.cats_cmd.specs.FaultLines.{line_of_fault};
+ghost use Rattle.cats_cmd.specs.Statuses.{status_of_fault};
+ghost use Rattle.cats_cmd.specs.declared.which.Which.TheVariants.{Only, First, Second, Both};
+ghost use Rattle.cats_cmd.specs.declared.canon_fault.CanonFault.TheVariants.{Read, Memory};
+ghost use Rattle.cats_cmd.specs.declared.report.RunFault.TheVariants.{Refused, GoodRange, Sent};
+
+/// How faults are told.
+pub fn fault_lines()
+    ensures { map line_of_fault
+        (Refused Only (Read (record { line = 5; kind = TwoDummies })) ∷ Refused First (Read (record { line = 5; kind = TwoDummies }))
+        ∷ Refused Second (Read (record { line = 12; kind = NoEnd })) ∷ Refused Only (Read (record { line = 0; kind = TooLong }))
+        ∷ Refused Second (Read (record { line = 0; kind = Device })) ∷ Refused First (Read (record { line = 0; kind = NoMemory }))
+        ∷ Refused Both Memory ∷ GoodRange 2 ∷ Sent (record { written = 5 }) ∷ []) ≡
+        codes "line 5: TwoDummies\n" ∷ codes "first: line 5: TwoDummies\n"
+        ∷ codes "second: line 12: NoEnd\n" ∷ codes "TooLong\n"
+        ∷ codes "second: Device\n" ∷ codes "first: want of memory\n"
+        ∷ codes "want of memory\n" ∷ codes "good 2 out of range\n" ∷ codes "output failed after 5 bytes\n" ∷ [] }
+{}
+
+/// The statuses of these faults.
+pub fn fault_statuses()
+    ensures { map status_of_fault
+        (Refused Only (Read (record { line = 5; kind = TwoDummies })) ∷ Refused Only (Read (record { line = 0; kind = TooLong }))
+        ∷ Refused Second (Read (record { line = 0; kind = Device })) ∷ Refused First (Read (record { line = 0; kind = NoMemory }))
+        ∷ Refused Both Memory ∷ GoodRange 2 ∷ Sent (record { written = 5 }) ∷ []) ≡
+        2 ∷ 2 ∷ 5 ∷ 4 ∷ 4 ∷ 64 ∷ 5 ∷ [] }
+{}
+
+/// Bundles as they are printed.
+pub fn bundles()
+    ensures { map bundle_text ((0 ∷ 1 ∷ 2 ∷ []) ∷ (4095 ∷ []) ∷ [] ∷ []) ≡ codes "0,1,2" ∷ codes "4095" ∷ [] ∷ [] }
+{}
+
+/// What `cats check` prints of 3 goods, 2 bids and 1 dummy good.
+pub fn sizes()
+    ensures { sizes_text 3 2 1 ≡ codes "goods 3 bids 2 dummy 1\n" }
+{}

@@ -1,0 +1,11 @@
+-- It has taken no bytes.
+use Rattle.std.proofs.Common.{arith, ◌≡◌, refl, sym, ap, ◌∙◌, Ok}
+use Rattle.cats_text.specs.Reading.{HasTaken}
+use Rattle.cats_text.proofs.Feeding.{nothing_taken}
+use Rattle.cats_text.proofs.reader.Reader.new.Goals as goal
+
+pub invariant_of-result : goal.invariant_of-result
+invariant_of-result c = record {
+  limit = c.requires;
+  taken = λ none. nothing_taken c.args.limit c.new.result c.new-2.result.bytes c.new.ensures.state c.new.ensures.waiting c.new-2.ensures;
+}

@@ -1,0 +1,52 @@
+-- What a reader in pieces keeps and answers.
+use Rattle.std.specs.Prelude.{◌≡◌, ◌⊎◌, ◌<◌, ◌≤◌, ◌^◌, ℕ, List, [], ◌++◌, length, take, true, Option, Some, None, Result, Ok, Err, MatchOption}
+use Rattle.std.specs.Coded.{Unit-prop}
+use Rattle.cats_text.specs.Faults.{first_fault, has_bid_line, fault_at}
+use Rattle.cats_text.specs.Grammar.{Spells}
+use Rattle.cats_text.specs.Views.{plain_file}
+use Rattle.cats_text.specs.Fed.{fed_fault, Fed}
+use Rattle.cats_text.specs.Returns.{settled, waits}
+use Rattle.cats_text.specs.Scanning.{state, first_state, run}
+use Rattle.cats_text.specs.declared.bid.BidFile.{BidFile}
+use Rattle.cats_text.specs.declared.fault.ReadFault.{ReadFault}
+use Rattle.cats_text.specs.declared.fault.Kind.TheVariants.{Memory as NoMemory}
+use Rattle.cats_text.specs.declared.scanner.Halt.{Halt}
+use Rattle.cats_text.specs.declared.scanner.Halt.TheVariants.{Fault, Memory}
+use Rattle.cats_text.specs.declared.scanner.Scanner.{Scanner}
+
+abbrev pub fault_told : Halt → ReadFault
+fault_told (Fault e) = e
+fault_told Memory = fault_at 0 NoMemory
+
+-- the scanner has taken these bytes
+pub record HasTaken (limit taken : ℕ) (scanner : Scanner) (bytes : List ℕ) : Type 0 where
+  pub count : taken ≡ length bytes
+  pub within : taken ≤ limit
+  pub runs : run first_state (settled bytes) ≡ Ok (state scanner)
+  pub waiting : scanner.waiting ≡ waits bytes
+
+pub record IsReading (most count : ℕ) (scanner : Scanner) (failed : Option ReadFault) (bytes : List ℕ) : Type 0 where
+  pub limit : most < 2 ^ 63
+  pub taken : failed ≡ None → HasTaken most count scanner bytes
+
+abbrev pub WantsMemory : List ℕ → ReadFault → Type 0
+WantsMemory bytes e = (e ≡ fault_at 0 NoMemory) × (has_bid_line bytes ≡ true)
+
+abbrev pub FeedAnswer : Fed → Result (Unit {0}) ReadFault → Type 0
+FeedAnswer new (Ok u) = (fed_fault new.limit new.bytes ≡ None) × (new.failed ≡ None)
+FeedAnswer new (Err e) = ((fed_fault new.limit new.bytes ≡ Some e) ⊎ WantsMemory (take new.limit new.bytes) e) × (new.failed ≡ Some e)
+
+pub record FeedsOn (old : Fed) (piece : List ℕ) (new : Fed) (r : Result (Unit {0}) ReadFault) : Type 0 where
+  pub limit : new.limit ≡ old.limit
+  pub bytes : new.bytes ≡ old.bytes ++ piece
+  pub answer : FeedAnswer new r
+
+abbrev pub FeedsAs : Fed → List ℕ → Fed → Result (Unit {0}) ReadFault → Type 0
+FeedsAs old piece new r = MatchOption old.failed (FeedsOn old piece new r) (λ e. (new ≡ old) × (r ≡ Err e))
+
+abbrev pub FinishAnswer : List ℕ → Result BidFile ReadFault → Type 0
+FinishAnswer bytes (Ok f) = Spells bytes (plain_file f)
+FinishAnswer bytes (Err e) = (first_fault bytes ≡ Some e) ⊎ WantsMemory bytes e
+
+abbrev pub FinishesAs : Fed → Result BidFile ReadFault → Type 0
+FinishesAs fed r = MatchOption fed.failed (FinishAnswer fed.bytes r) (λ e. r ≡ Err e)

@@ -1,0 +1,212 @@
+//! Readers and writers that are watched for failures, and sending a text.
+
+ghost use Rattle.std.specs.Prelude.{◌≡◌, ℕ, List, ◌≢◌, ◌≤◌, ◌||◌, length, take, false, true, IsTrue, IsErr, is_err, OnOk, IfErr, [], Ok, codes};
+ghost use Rattle.std.specs.Io.{ReadsAtMost, WritesAtMost};
+ghost use Rattle.std.specs.Io.KnownBytes.{Appends, Consumes, Keeps, ReadConsumes, WriteAppends};
+ghost use Rattle.std.specs.IoError.{error_kind};
+ghost use Rattle.cats_text.specs.Faults.{fault_at};
+ghost use Rattle.cats_text.specs.Streams.{inner_of, has_failed, has_ended, moved_nothing, failed_to_write, ReadsAs, SendsPart, SendsWhole};
+
+use crate::bid::BidFile;
+use crate::fault::{Kind, ReadFault, SendFault};
+use crate::limits::MAX_STREAM;
+use crate::reader::Reader;
+use std::alloc::Global;
+use std::io;
+use std::io::{ErrorKind, Read, Write};
+
+#[cfg(test)]
+mod tests;
+
+/// A reader, or a writer, that remembers whether it failed and whether it ended.
+///
+/// It fails with the first call that answers an error of any kind, `Interrupted` too, and with the first write that
+/// takes nothing of a piece that is not empty. That call's answer is passed on as it is; from then on every read, write
+/// and flush answers an error, and what is inside is not called again. It has ended once a read into a piece that is not
+/// empty gave no byte.
+#[derive(Drop)]
+pub struct Watched<T> {
+    inner: T,
+    failed: bool,
+    ended: bool,
+}
+
+impl<T> Watched<T> {
+    /// Watches a reader or a writer.
+    pub fn new(inner: T) -> Watched<T>
+        ensures inner { inner_of result ≡ inner }
+        ensures failed { has_failed result ≡ false }
+        ensures ended { has_ended result ≡ false }
+    {
+        Watched {
+            inner,
+            failed: false,
+            ended: false,
+        }
+    }
+
+    pub fn failed(&self) -> bool
+        ensures { result ≡ has_failed self.now }
+    {
+        self.failed
+    }
+
+    pub fn ended(&self) -> bool
+        ensures { result ≡ has_ended self.now }
+    {
+        self.ended
+    }
+
+    /// Gives back what was watched.
+    pub fn into_inner(self) -> T
+        ensures { result ≡ inner_of self }
+    {
+        self.inner
+    }
+}
+
+fn failed_before() -> io::Error
+    ensures { error_kind result ≢ ErrorKind.Interrupted }
+{
+    io::Error::from(ErrorKind::Other)
+}
+
+impl<R: Read> Read for Watched<R> {
+    ghost remaining = { λ w. R.remaining (inner_of w) };
+
+    fn read(&mut self, piece: &mut [u8]) -> io::Result<usize>
+        ensures bound { ReadsAtMost result piece.new }
+        ensures bytes { ReadConsumes (R.remaining (inner_of self.old)) (R.remaining (inner_of self.new)) result piece.new }
+
+        ensures failed { has_failed self.new ≡ is_err result }
+        ensures ended { has_ended self.new ≡ (has_ended self.old || moved_nothing result piece.new) }
+
+        ensures failed_before { IsTrue (has_failed self.old) → IsErr result × (self.new ≡ self.old) }
+        ensures not_retried { IsTrue (has_failed self.old) → IfErr result (λ e. error_kind e ≢ ErrorKind.Interrupted) }
+    {
+        if self.failed {
+            return Err(failed_before());
+        }
+        let answer = self.inner.read(piece);
+        match &answer {
+            Ok(0) if !piece.is_empty() => self.ended = true,
+            Ok(_) => {}
+            Err(_) => self.failed = true,
+        }
+        answer
+    }
+}
+
+impl<W: Write> Write for Watched<W> {
+    ghost contents = { λ w. W.contents (inner_of w) };
+
+    fn write(&mut self, piece: &[u8]) -> io::Result<usize>
+        ensures bound { WritesAtMost result piece.now }
+        ensures bytes { WriteAppends (W.contents (inner_of self.old)) (W.contents (inner_of self.new)) result piece.now }
+
+        ensures failed { has_failed self.new ≡ failed_to_write result piece.now }
+        ensures ended { has_ended self.new ≡ has_ended self.old }
+
+        ensures failed_before { IsTrue (has_failed self.old) → IsErr result × (self.new ≡ self.old) }
+        ensures not_retried { IsTrue (has_failed self.old) → IfErr result (λ e. error_kind e ≢ ErrorKind.Interrupted) }
+    {
+        if self.failed {
+            return Err(failed_before());
+        }
+        let answer = self.inner.write(piece);
+        match &answer {
+            Ok(0) => self.failed = !piece.is_empty(),
+            Ok(_) => {}
+            Err(_) => self.failed = true,
+        }
+        answer
+    }
+
+    fn flush(&mut self) -> io::Result<()>
+        ensures bytes { Keeps (W.contents (inner_of self.old)) (W.contents (inner_of self.new)) }
+
+        ensures failed { has_failed self.new ≡ is_err result }
+        ensures ended { has_ended self.new ≡ has_ended self.old }
+
+        ensures failed_before { IsTrue (has_failed self.old) → IsErr result × (self.new ≡ self.old) }
+        ensures not_retried { IsTrue (has_failed self.old) → IfErr result (λ e. error_kind e ≢ ErrorKind.Interrupted) }
+    {
+        if self.failed {
+            return Err(failed_before());
+        }
+        let answer = self.inner.flush();
+        self.failed = answer.is_err();
+        answer
+    }
+}
+
+/// Reads the whole stream as a bid file. It makes no further read once a fault is complete in the bytes that came, and reads no
+/// more than `MAX_STREAM` bytes and one piece.
+pub fn read_from<R: Read>(alloc: Global, input: &mut Watched<R>) -> Result<BidFile, ReadFault>
+    requires works { has_failed input.old ≡ false }
+    requires fresh { has_ended input.old ≡ false }
+    ensures { (bytes : List ℕ) × Consumes (R.remaining (inner_of input.old)) (R.remaining (inner_of input.new)) bytes
+        × ReadsAs R.remaining bytes input.new result }
+{
+    let mut reader = Reader::new(alloc, MAX_STREAM);
+    let mut piece = [0; PIECE];
+    loop {
+        match input.read(&mut piece) {
+            Ok(0) => return reader.finish(),
+            Ok(count) => reader.feed(&piece[..count])?,
+            Err(_) => return Err(device_failed()),
+        }
+    }
+}
+
+fn device_failed() -> ReadFault
+    ensures { result ≡ fault_at 0 Kind.Device }
+{
+    ReadFault {
+        line: 0,
+        kind: Kind::Device,
+    }
+}
+
+/// How many bytes are read at once.
+const PIECE: usize = 65_536;
+
+/// Sends the whole text and then flushes once. Where the writer fails, what went out is the beginning of the text that
+/// the fault counts.
+pub fn send<W: Write>(out: &mut Watched<W>, text: &[u8]) -> Result<(), SendFault>
+    requires { has_failed out.old ≡ false }
+    ensures whole { OnOk result (SendsWhole W.contents out.old out.new text.now) }
+    ensures part { IfErr result (λ fault. SendsPart W.contents out.old out.new text.now fault.written) }
+    ensures ended { has_ended out.new ≡ has_ended out.old }
+{
+    let mut written = 0;
+    while written < text.len() {
+        match out.write(&text[written..]) {
+            Ok(count) if count > 0 => written += count,
+            _ => return Err(sent(written)),
+        }
+    }
+    match out.flush() {
+        Ok(()) => Ok(()),
+        Err(_) => Err(sent(written)),
+    }
+}
+
+fn sent(written: usize) -> SendFault
+    ensures { result.written ≡ written }
+{
+    SendFault {
+        written: written as u64,
+    }
+}
+
+/// What a call's answer tells of a device, on worked answers: a call that moves nothing of a piece that is not empty
+/// ends a reader and fails a writer, and an empty piece tells nothing.
+pub fn answers_of_devices()
+    ensures nothing { moved_nothing (Ok 0) (codes "x") ≡ true }
+    ensures something { moved_nothing (Ok 1) (codes "xy") ≡ false }
+    ensures empty_piece { moved_nothing (Ok 0) [] ≡ false }
+    ensures refused { failed_to_write (Ok 0) (codes "x") ≡ true }
+    ensures taken { failed_to_write (Ok 2) (codes "xy") ≡ false }
+    ensures empty_write { failed_to_write (Ok 0) [] ≡ false }
+{}
