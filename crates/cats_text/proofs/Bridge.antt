@@ -1,37 +1,112 @@
 -- What the machine gives on bytes, by the definitions over lines and words.
-use Rattle.std.proofs.Common.{◌≡◌, ℕ, Bool, true, false, List, Option, Some, None, ◌⊎◌, Ok, Err, IfOk}
-use Rattle.cats_text.specs.Files.{IsPlainFile}
-use Rattle.cats_text.specs.Grammar.{Spells}
-use Rattle.cats_text.specs.Faults.{first_fault, complete_fault, has_bid_line}
+use Rattle.std.proofs.Common.{◌≡◌, ℕ, suc, ◌+◌, ◌<◌, Bool, true, false, List, [], ◌∷◌, ◌++◌, length, map, drop, Option, Some, None, ◌⊎◌, ⊎_elim, inl, inr, Ok, Err, IsOkAnd, sym, ap, ap₂, ◌∙◌, subst, arith, refl}
+use Rattle.std.proofs.lemmas.Bool.{both_ways, lt-ltb}
+use Rattle.std.proofs.lemmas.List.{length-map}
+use Rattle.cats_text.specs.Files.{PlainFile, PlainBid}
+use Rattle.cats_text.specs.Lines.{Word, Line, blank_returns, significant_lines}
+use Rattle.cats_text.specs.Grammar.{Spells, significant_words}
+use Rattle.cats_text.specs.Faults.{first_fault, complete_fault, has_bid_line, is_line_due}
 use Rattle.cats_text.specs.Returns.{settled, waits}
-use Rattle.cats_text.specs.Parsing.{file_from}
-use Rattle.cats_text.specs.Scanning.{State, first_state, run, end_of, MeetsBidLine, IsInBidLine, HasBids}
+use Rattle.cats_text.specs.Progress.{Progress}
+use Rattle.cats_text.specs.Parsing.{file_from, filled}
+use Rattle.cats_text.specs.FileLines.{file_of_lines, file_said, slots_of}
+use Rattle.cats_text.specs.Scanning.{State, Scan, first_state, and_then, run, byte_step, end_step, end_of, MeetsBidLine, IsInBidLine, HasBids}
 use Rattle.cats_text.specs.declared.fault.ReadFault.{ReadFault}
+use Rattle.cats_text.specs.declared.parser.Header.{Header}
+use Rattle.cats_text.proofs.AllBytes.{outcome}
+use Rattle.cats_text.proofs.TextFaults.{WholeIs, whole_fault}
+use Rattle.cats_text.proofs.Pieces.{CompleteIs, complete_is, end_of_text, waiting, blank_returns-settled}
+use Rattle.cats_text.proofs.BidLines.{bid_line_met}
+use Rattle.cats_text.proofs.Standing.{IsAt}
+use Rattle.cats_text.proofs.SpellsLemmas.{spells_from_no_fault}
+use Rattle.cats_text.proofs.ByteLines.{run-append}
+
+abbrev ok : State → Scan
+ok s = Ok s
+
+abbrev err : ReadFault → Scan
+err e = Err e
 
 -- a fault that stops the machine is complete in the bytes
-pub stops_at_complete_fault : (bytes : List ℕ) (e : ReadFault) → run first_state (settled bytes) ≡ Err e → complete_fault bytes ≡ Some e
-stops_at_complete_fault bytes e h = ?
+pub stops_at_complete_fault : (bytes : List ℕ) (e : ReadFault) → run first_state (settled bytes) ≡ err e → complete_fault bytes ≡ Some e
+stops_at_complete_fault bytes e h = subst (λ (r : Scan). CompleteIs bytes (outcome r)) h (complete_is bytes)
 
 -- where the machine goes on, no fault is complete
-pub goes_on_without_fault : (bytes : List ℕ) (s : State) → run first_state (settled bytes) ≡ Ok s → complete_fault bytes ≡ None
-goes_on_without_fault bytes s h = ?
+pub goes_on_without_fault : (bytes : List ℕ) (s : State) → run first_state (settled bytes) ≡ ok s → complete_fault bytes ≡ None
+goes_on_without_fault bytes s h = subst (λ (r : Scan). CompleteIs bytes (outcome r)) h (complete_is bytes)
+
+-- the answer of the machine for the whole text, where it stopped at a fault already
+stopped : (bytes : List ℕ) (e : ReadFault) → run first_state (settled bytes) ≡ err e → first_fault bytes ≡ Some e
+stopped bytes e h = subst (λ (r : Scan). WholeIs bytes (outcome r))
+    (ap (λ (r : Scan). and_then r end_step) (ap (run first_state) (blank_returns-settled bytes) ∙ run-append first_state (settled bytes) (waiting (waits bytes)) ∙ ap (λ (r : Scan). and_then r (λ t. run t (waiting (waits bytes)))) h))
+    (whole_fault bytes)
 
 -- and it is the first fault, whatever comes after
 pub complete_fault_is_first : (bytes : List ℕ) (e : ReadFault) → complete_fault bytes ≡ Some e → first_fault bytes ≡ Some e
-complete_fault_is_first bytes e h = ?
+complete_fault_is_first bytes e h = by_run (run first_state (settled bytes)) refl
+  where
+    no : None ≡ Some e → ⊥
+    no q = cc
+    by_run : (r : Scan) → run first_state (settled bytes) ≡ r → first_fault bytes ≡ Some e
+    by_run (Ok s) is = absurd (no (sym (goes_on_without_fault bytes s is) ∙ h))
+    by_run (Err c) is = stopped bytes c is ∙ sym (stops_at_complete_fault bytes c is) ∙ h
+
+whole_at_end : (bytes : List ℕ) (s : State) (r : Scan) → run first_state (settled bytes) ≡ ok s → end_of (waits bytes) s ≡ r → WholeIs bytes (outcome r)
+whole_at_end bytes s r h end = subst (λ (x : Scan). WholeIs bytes (outcome x)) (sym (end_of_text bytes s h) ∙ end) (whole_fault bytes)
 
 -- at the end of the input the machine stops at the first fault
-pub ends_at_first_fault : (bytes : List ℕ) (s : State) (e : ReadFault) → run first_state (settled bytes) ≡ Ok s → end_of (waits bytes) s ≡ Err e → first_fault bytes ≡ Some e
-ends_at_first_fault bytes s e h end = ?
+pub ends_at_first_fault : (bytes : List ℕ) (s : State) (e : ReadFault) → run first_state (settled bytes) ≡ ok s → end_of (waits bytes) s ≡ err e → first_fault bytes ≡ Some e
+ends_at_first_fault bytes s e h end = whole_at_end bytes s (err e) h end
+
+-- what the parser keeps behind all lines is the file that they say
+file_is_said : (lines : List (List Word)) (p : Progress) → IsAt lines [] p → is_line_due lines ≡ false → file_from p ≡ file_of_lines lines
+file_is_said [] p at due = absurd (both_ways true due refl)
+file_is_said (g ∷ []) p at due = absurd (both_ways true due refl)
+file_is_said (g ∷ b ∷ []) p at due = absurd (both_ways true due refl)
+file_is_said (g ∷ b ∷ d ∷ lines) p at due =
+    ap (λ (s : List (Option PlainBid)). file p.header s) at.slots ∙ ap (λ (h : Header). file h (slots_of h.goods lines)) at.header
+  where
+    file : Header → List (Option PlainBid) → PlainFile
+    file h s = record { goods = h.goods; dummy = h.dummy; bids = filled s }
 
 -- or has the file that the bytes spell
-pub ends_at_file : (bytes : List ℕ) (s t : State) → run first_state (settled bytes) ≡ Ok s → end_of (waits bytes) s ≡ Ok t
-    → Spells bytes (file_from t.progress)
-ends_at_file bytes s t h end = ?
+pub ends_at_file : (bytes : List ℕ) (s t : State) → run first_state (settled bytes) ≡ ok s → end_of (waits bytes) s ≡ ok t → Spells bytes (file_from t.progress)
+ends_at_file bytes s t h end = let whole = whole_at_end bytes s (ok t) h end in
+    subst (Spells bytes) (sym (file_is_said (significant_words bytes) t.progress whole.1 whole.2)) (spells_from_no_fault bytes whole.0)
 
 -- the machine keeps nothing before a bid line
 pub meets_bid_line : (bytes : List ℕ) → MeetsBidLine first_state (settled bytes) → has_bid_line bytes ≡ true
-meets_bid_line bytes m = ?
+meets_bid_line bytes m = bid_line_met bytes (settled bytes) (waiting (waits bytes)) (blank_returns-settled bytes) m
 
-pub ends_in_bid_line : (bytes : List ℕ) (s : State) → run first_state (settled bytes) ≡ Ok s → IsInBidLine s ⊎ HasBids (end_of (waits bytes) s) → has_bid_line bytes ≡ true
-ends_in_bid_line bytes s h b = ?
+met_at_end : (s t : State) (bytes : List ℕ) → run s bytes ≡ ok t → IsInBidLine t → MeetsBidLine s bytes
+met_at_end s t [] h i = subst IsInBidLine (sym (same s t h)) i
+  where
+    same : (x y : State) → ok x ≡ ok y → x ≡ y
+    same x y q = cc
+met_at_end s t (b ∷ bs) h i = inr (step (byte_step s b) h (λ u e. met_at_end u t bs e i))
+  where
+    no : (e : ReadFault) → err e ≡ ok t → ⊥
+    no e q = cc
+    step : (r : Scan) → and_then r (λ u. run u bs) ≡ ok t → ((u : State) → run u bs ≡ ok t → MeetsBidLine u bs) → IsOkAnd r (λ u. MeetsBidLine u bs)
+    step (Ok u) e next = next u e
+    step (Err c) e next = absurd (no c e)
+
+-- there are bids only behind a bid line
+bids_behind : (lines : List (List Word)) (p : Progress) → IsAt lines [] p → 0 < length p.slots → 3 < length lines
+bids_behind [] p at l = absurd (let none : length p.slots ≡ 0 = ap length at.slots in omega arith)
+bids_behind (g ∷ []) p at l = absurd (let none : length p.slots ≡ 0 = ap length at.slots in omega arith)
+bids_behind (g ∷ b ∷ []) p at l = absurd (let none : length p.slots ≡ 0 = ap length at.slots in omega arith)
+bids_behind (g ∷ b ∷ d ∷ []) p at l = absurd (let none : length p.slots ≡ 0 = ap length at.slots in omega arith)
+bids_behind (g ∷ b ∷ d ∷ m ∷ lines) p at l = omega arith
+
+pub ends_in_bid_line : (bytes : List ℕ) (s : State) → run first_state (settled bytes) ≡ ok s → IsInBidLine s ⊎ HasBids (end_of (waits bytes) s) → has_bid_line bytes ≡ true
+ends_in_bid_line bytes s h b = ⊎_elim
+    (λ (i : IsInBidLine s). meets_bid_line bytes (met_at_end first_state s (settled bytes) h i))
+    (λ (k : HasBids (end_of (waits bytes) s)). by_end (end_of (waits bytes) s) refl k) b
+  where
+    by_end : (r : Scan) → end_of (waits bytes) s ≡ r → HasBids r → has_bid_line bytes ≡ true
+    by_end (Ok t) is k = let whole = whole_at_end bytes s (ok t) h is in
+        let four : 3 < length (significant_words bytes) = bids_behind (significant_words bytes) t.progress whole.1 k in
+        let same : length (significant_words bytes) ≡ length (significant_lines bytes) = length-map (significant_lines bytes) (λ (l : Line). l.words) in
+        lt-ltb 3 (length (significant_lines bytes)) (omega arith)
+    by_end (Err e) is k = absurd k

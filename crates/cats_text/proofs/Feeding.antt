@@ -21,15 +21,12 @@ use Rattle.cats_text.specs.declared.scanner.Halt.TheVariants.{Fault, Memory}
 use Rattle.cats_text.specs.declared.scanner.Scanner.{Scanner}
 use Rattle.cats_text.proofs.ByteLines.{run-append}
 use Rattle.cats_text.proofs.Bridge.{stops_at_complete_fault, goes_on_without_fault, meets_bid_line, complete_fault_is_first, ends_at_file, ends_at_first_fault, ends_in_bid_line}
-use Rattle.cats_text.proofs.PieceRuns.{settled-append, waits-append, meets_behind, run-line, settled-length}
+use Rattle.cats_text.proofs.Pieces.{settled-append, waits-append}
+use Rattle.cats_text.proofs.StreamReading.{take-within}
+use Rattle.cats_text.proofs.PieceRuns.{meets_behind, run-line, settled-length}
 
 -- ---- the bytes that are judged
 
-take-within : (n : ℕ) (xs : List ℕ) → length xs ≤ n → take n xs ≡ xs
-take-within zero [] h = refl
-take-within (suc n) [] h = refl
-take-within zero (x ∷ xs) h = absurd (omega arith)
-take-within (suc n) (x ∷ xs) h = ap (λ l. x ∷ l) (take-within n xs (omega arith))
 
 take-behind : (n : ℕ) (xs ys : List ℕ) → length xs ≤ n → take n (xs ++ ys) ≡ xs ++ take (n - length xs) ys
 take-behind n [] ys h = let whole : n - 0 ≡ n = omega arith in rw whole refl

@@ -1,5 +1,5 @@
 -- Bytes that come in pieces: what is decided, waits and runs over an append.
-use Rattle.std.proofs.Common.{◌≡◌, ◌≢◌, ℕ, suc, ◌+◌, ◌-◌, ◌<◌, ◌≤◌, ◌==◌, min, Bool, true, false, List, [], ◌∷◌, ◌++◌, length, take, refl, sym, ap, ◌∙◌, subst, arith, inl, inr, ◌⊎◌, Result, Ok, Err, IfOk, if◌then◌else◌, append-nil, add-zero}
+use Rattle.std.proofs.Common.{◌≡◌, ◌≢◌, ℕ, suc, ◌+◌, ◌-◌, ◌<◌, ◌≤◌, ◌==◌, min, Bool, true, false, List, [], ◌∷◌, ◌++◌, length, take, refl, sym, ap, ◌∙◌, subst, arith, inl, inr, ◌⊎◌, Result, Ok, Err, IfOk, IsOkAnd, if◌then◌else◌, append-nil, add-zero}
 use Rattle.std.proofs.lemmas.Bool.{eq-eqb, ne_eqb}
 use Rattle.cats_text.specs.Lines.{is_blank}
 use Rattle.cats_text.specs.Returns.{settled, settle, waits, carried, return_byte}
@@ -9,33 +9,19 @@ use Rattle.cats_text.specs.declared.scanner.Mode.TheVariants.{Start, Blank, Comm
 use Rattle.cats_text.specs.Parsing.{Reading, word_read, line_read}
 use Rattle.cats_text.specs.Scanning.{State, Scan, and_then, with_reading, blank_step_at, blank_step, words_step_at, words_step, line_step, byte_step, run, IsInBidLine, MeetsBidLine}
 
--- a byte, by whether it is a CR
-one_settled : (b : ℕ) (test : Bool) (ys : List ℕ) → (b == 13) ≡ test → settled (b ∷ ys) ≡ settled (b ∷ []) ++ settled (carried test ys)
-one_settled b true [] e = sym (append-nil (settled (b ∷ [])))
-one_settled b false [] e = sym (append-nil (settled (b ∷ [])))
-one_settled b true (c ∷ cs) e = rw e refl
-one_settled b false (c ∷ cs) e = rw e refl
+abbrev ok : State → Scan
+ok t = Ok t
 
-pub settled-append : (xs ys : List ℕ) → settled (xs ++ ys) ≡ settled xs ++ settled (carried (waits xs) ys)
-settled-append [] ys = refl
-settled-append (b ∷ []) ys = one_settled b (b == 13) ys refl
-settled-append (b ∷ c ∷ cs) ys = ap (λ ds. (if b == 13 then return_byte c else b) ∷ ds) (settled-append (c ∷ cs) ys)
-
-one_waits : (b : ℕ) (test : Bool) (ys : List ℕ) → (b == 13) ≡ test → waits (b ∷ ys) ≡ waits (carried test ys)
-one_waits b true [] e = e
-one_waits b false [] e = e
-one_waits b true (c ∷ cs) e = refl
-one_waits b false (c ∷ cs) e = refl
-
-pub waits-append : (xs ys : List ℕ) → waits (xs ++ ys) ≡ waits (carried (waits xs) ys)
-waits-append [] ys = refl
-waits-append (b ∷ []) ys = one_waits b (b == 13) ys refl
-waits-append (b ∷ c ∷ cs) ys = waits-append (c ∷ cs) ys
+abbrev err : ReadFault → Scan
+err e = Err e
 
 then_meets : (r : Scan) (t : State) (xs ys : List ℕ) → ((s : State) → run s xs ≡ Ok t → MeetsBidLine s (xs ++ ys))
-    → and_then r (λ s. run s xs) ≡ Ok t → IfOk r (λ s. MeetsBidLine s (xs ++ ys))
+    → and_then r (λ s. run s xs) ≡ Ok t → IsOkAnd r (λ s. MeetsBidLine s (xs ++ ys))
 then_meets (Ok s) t xs ys h e = h s e
-then_meets (Err fault) t xs ys h e = tt
+then_meets (Err fault) t xs ys h e = absurd (no e)
+  where
+    no : err fault ≡ ok t → ⊥
+    no q = cc
 
 -- a bid line that is met behind the first bytes is met from their front
 pub meets_behind : (s t : State) (xs ys : List ℕ) → run s xs ≡ Ok t → MeetsBidLine t ys → MeetsBidLine s (xs ++ ys)

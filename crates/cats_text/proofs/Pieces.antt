@@ -33,7 +33,7 @@ waits-append (b ∷ c ∷ cs) p = waits-append (c ∷ cs) p
 
 -- ---- at the end a CR that waits is a blank
 
-abbrev waiting : Bool → List ℕ
+abbrev pub waiting : Bool → List ℕ
 waiting true = 32 ∷ []
 waiting false = []
 
@@ -42,7 +42,7 @@ line_byte-settle b c = elim (eqb b 13) as (λ t. eqb b 13 ≡ t → cond (t && e
     true ↦ λ (e : eqb b 13 ≡ true). ap (λ k. cond (eqb c 10) 32 k) (eqb-true b 13 e)
   | false ↦ λ (e : eqb b 13 ≡ false). refl ] refl
 
-blank_returns-settled : (x : List ℕ) → blank_returns x ≡ settled x ++ waiting (waits x)
+pub blank_returns-settled : (x : List ℕ) → blank_returns x ≡ settled x ++ waiting (waits x)
 blank_returns-settled [] = refl
 blank_returns-settled (b ∷ []) = elim (eqb b 13) as (λ t. cond (t && true) 32 b ∷ [] ≡ cond t [] (b ∷ []) ++ waiting t) [ true ↦ refl | false ↦ refl ]
 blank_returns-settled (b ∷ c ∷ cs) = ap₂ (λ (k : ℕ) (ds : List ℕ). k ∷ ds) (line_byte-settle b c) (blank_returns-settled (c ∷ cs))

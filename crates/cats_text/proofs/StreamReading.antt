@@ -15,7 +15,7 @@ use Rattle.cats_text.proofs.FaultKinds.{IsFaultOfBytes, first_fault-of_bytes, fe
 found : (fault : Option ReadFault) (e : ReadFault) → IfSome fault IsFaultOfBytes → fault ≡ Some e → IsFaultOfBytes e
 found fault e h is = rw is at h
 
-take-within : (n : ℕ) (xs : List ℕ) → length xs ≤ n → take n xs ≡ xs
+pub take-within : (n : ℕ) (xs : List ℕ) → length xs ≤ n → take n xs ≡ xs
 take-within zero [] h = refl
 take-within (suc n) [] h = refl
 take-within zero (x ∷ xs) h = absurd (omega arith)
