@@ -125,7 +125,7 @@ from_word n p (a ∷ w) (b ∷ bs) f h = elim (is_blank b) as (λ t. is_blank b 
 
 -- ---- from the beginning of a line on
 
-in_comment : (n : ℕ) (p : Progress) (bytes : List ℕ) → AllByRecursion IsNoEnd bytes → run (standing Comment n p) bytes ≡ Ok (standing Comment n p)
+pub in_comment : (n : ℕ) (p : Progress) (bytes : List ℕ) → AllByRecursion IsNoEnd bytes → run (standing Comment n p) bytes ≡ Ok (standing Comment n p)
 in_comment n p [] h = refl
 in_comment n p (b ∷ bs) h = elim (is_blank b) as (λ t. is_blank b ≡ t → run (standing Comment n p) (b ∷ bs) ≡ Ok (standing Comment n p)) [
     true ↦ λ (e : is_blank b ≡ true). ap (λ r. and_then r (λ t. run t bs)) (byte_blank (standing Comment n p) b h.0 e) ∙ in_comment n p bs h.1

@@ -41,3 +41,4 @@ pub mod AllBytes
 pub mod TextFaults
 pub mod Pieces
 pub mod BidLines
+pub mod Runs

@@ -4,16 +4,9 @@ use Rattle.std.proofs.Common.{add-one, drop-cons, ◌≡◌, ◌≢◌, ℕ, suc
 use Rattle.std.proofs.lemmas.Bool.{ne_eqb, eq-eqb}
 use Rattle.cats_text.specs.Returns.{settled, waits, return_byte, settle}
 use Rattle.cats_text.specs.declared.fault.ReadFault.{ReadFault}
-use Rattle.cats_text.specs.Scanning.{State, run, byte_step, and_then, MeetsBidLine, IsInBidLine}
+use Rattle.cats_text.specs.Scanning.{State, run, byte_step, and_then, MeetsBidLine, IsInBidLine, IsScanned}
 
-pub record IsScanned (s0 s : State) (waiting : Bool) (bytes rest : List ℕ) : Type 0 where
-  pub steps : run s (settled rest) ≡ run s0 (settled bytes)
-  pub asks : MeetsBidLine s (settled rest) → MeetsBidLine s0 (settled bytes)
-  pub last : 0 < length rest → waits rest ≡ waits bytes
-  pub going : 0 < length rest → waiting ≡ false
-  pub ended : rest ≡ [] → waiting ≡ waits bytes
-
-settled-other : (b : ℕ) (rest : List ℕ) → b ≢ 13 → settled (b ∷ rest) ≡ b ∷ settled rest
+pub settled-other : (b : ℕ) (rest : List ℕ) → b ≢ 13 → settled (b ∷ rest) ≡ b ∷ settled rest
 settled-other b [] ne = rw (ne_eqb b 13 ne) refl
 settled-other b (c ∷ cs) ne = rw (ne_eqb b 13 ne) refl
 
@@ -91,3 +84,22 @@ scan_return_at s0 s t w v bytes place l e p step q =
     subst (λ u. IsScanned s0 t u bytes (drop (place + 1) bytes)) (sym q) (rw next
     (scan_return s0 s t w bytes (get_or bytes place 0) (get_or bytes (place + 1) 0) (drop (place + 1 + 1) bytes) e
         (subst (λ r. IsScanned s0 s w bytes r) (at_place bytes place (omega arith) ∙ ap (λ r. get_or bytes place 0 ∷ r) next) p) step))
+
+-- ---- several bytes at once
+
+-- nothing yet
+pub scanned_none : (s : State) (w : Bool) (bytes : List ℕ) → w ≡ false → IsScanned s s w bytes bytes
+scanned_none s w bytes e = record { steps = refl; asks = λ m. m; last = λ l. refl; going = λ l. e; ended = λ q. e ∙ sym (ap waits q) }
+
+-- one scan behind another
+pub scanned_then : (s0 s t : State) (w v : Bool) (bytes mid rest : List ℕ) → IsScanned s0 s w bytes mid → IsScanned s t v mid rest → (0 < length rest → 0 < length mid) → (mid ≡ [] → rest ≡ [] → v ≡ w) → IsScanned s0 t v bytes rest
+scanned_then s0 s t w v bytes mid rest p q more none = record {
+  steps = q.steps ∙ p.steps;
+  asks = λ m. p.asks (q.asks m);
+  last = λ l. q.last l ∙ p.last (more l);
+  going = q.going;
+  ended = λ e. by_mid mid refl e }
+  where
+    by_mid : (m : List ℕ) → mid ≡ m → rest ≡ [] → v ≡ waits bytes
+    by_mid [] is e = none is e ∙ p.ended is
+    by_mid (b ∷ bs) is e = q.ended e ∙ p.last (subst (λ (ds : List ℕ). 0 < length ds) (sym is) (omega arith))

@@ -1,6 +1,7 @@
 -- What a byte and the input's end do to what the scanner keeps.
 use Rattle.std.specs.Prelude.{◌≡◌, ℕ, suc, ◌==◌, Bool, true, false, if◌then◌else◌, List, [], ◌∷◌, ◌⊎◌, IsOkAnd, Result, Ok, Err, length, ◌<◌}
 use Rattle.cats_text.specs.Lines.{is_blank}
+use Rattle.cats_text.specs.Returns.{settled, waits}
 use Rattle.cats_text.specs.Faults.{fault_at}
 use Rattle.cats_text.specs.Files.{PlainFile}
 use Rattle.cats_text.specs.Views.{plain_file}
@@ -162,3 +163,12 @@ abbrev pub AsksAtEnd : {A : Type 0} → Bool → State → Result A Halt → Typ
 AsksAtEnd waiting s (Ok x) = Unit {0}
 AsksAtEnd waiting s (Err (Fault e)) = Unit {0}
 AsksAtEnd waiting s (Err Memory) = IsInBidLine s ⊎ HasBids (end_of waiting s)
+
+-- What is left of a scan does to the state reached what the whole does to the first, and a CR waits at the end.
+pub record IsScanned (s0 s : State) (waiting : Bool) (bytes rest : List ℕ) : Type 0 where
+  pub steps : run s (settled rest) ≡ run s0 (settled bytes)
+  pub asks : MeetsBidLine s (settled rest) → MeetsBidLine s0 (settled bytes)
+  pub last : 0 < length rest → waits rest ≡ waits bytes
+  pub going : 0 < length rest → waiting ≡ false
+  pub ended : rest ≡ [] → waiting ≡ waits bytes
+

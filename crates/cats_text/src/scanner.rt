@@ -1,15 +1,18 @@
 //! From bytes to words and line ends.
 
-ghost use Rattle.std.specs.Prelude.{◌≡◌, ◌+◌, ◌-◌, ◌<◌, ◌≤◌, ◌^◌, length, false, OnOk, IfOk};
+ghost use Rattle.std.specs.Prelude.{◌≡◌, ◌+◌, ◌-◌, ◌<◌, ◌≤◌, ◌^◌, ◌==◌, true, take, drop, fold, position, unwrap_or, length, false, OnOk, IfOk};
+
+ghost use Rattle.cats_text.specs.Numbers.{digits_alone};
+ghost use Rattle.cats_text.specs.Machine.{word_with};
 ghost use Rattle.cats_text.specs.Files.{IsPlainFile};
 ghost use Rattle.cats_text.specs.Parsing.{file_from};
 ghost use Rattle.cats_text.specs.Returns.{settled, waits, carried, return_byte};
-ghost use Rattle.cats_text.specs.Scanning.{halt_of, letter_mode, state, first_state, blank_step, words_step, byte_step, run, end_of, Steps, AsksHere, Asks, Finishes, AsksAtEnd, IsInLine};
+ghost use Rattle.cats_text.specs.Scanning.{halt_of, letter_mode, state, first_state, blank_step, words_step, byte_step, run, end_of, IsScanned, Steps, AsksHere, Asks, Finishes, AsksAtEnd, IsInLine};
 
 use crate::bid::BidFile;
 use crate::fault::{Kind, ReadFault};
 use crate::parser::{Parser, Stop};
-use crate::word::Word;
+use crate::word::{HELD, Word};
 use std::alloc::Global;
 
 /// Why scanning stops.
@@ -49,6 +52,16 @@ pub enum Mode {
 }
 
 impl Mode {
+    /// Goes behind one more byte that is no blank.
+    fn push(&mut self, byte: u8)
+        ensures { self.new ≡ letter_mode self.old byte }
+    {
+        match self {
+            Mode::Inside(word) => *word = word.with(byte),
+            _ => *self = self.with(byte),
+        }
+    }
+
     /// Behind one more byte that is no blank.
     fn with(self, byte: u8) -> Mode
         ensures { result ≡ letter_mode self byte }
@@ -67,6 +80,33 @@ fn carriage_return(next: u8) -> u8
     ensures { result ≡ return_byte next }
 {
     if next == b'\n' { b' ' } else { b'\r' }
+}
+
+/// The place of the first LF.
+fn line_feed(bytes: &[u8]) -> Option<usize>
+    ensures { result ≡ position (λ b. b == 10) bytes.now }
+{
+    bytes.iter().position(|byte| *byte == b'\n')
+}
+
+/// A number with the digits that stand in front, and how many they are.
+fn with_digits(value: u64, bytes: &[u8]) -> (u64, usize)
+    ensures bound { result.1 ≤ length bytes.now }
+    ensures digits { digits_alone (take result.1 bytes.now) ≡ true }
+    ensures value { Word.Number result.0 ≡ fold word_with (Word.Number value) (take result.1 bytes.now) }
+{
+    let mut value = value;
+    for (count, byte) in bytes.iter().enumerate() {
+        match *byte {
+            digit @ b'0'..=b'9' => {
+                if value < HELD {
+                    value = value * 10 + u64::from(digit - b'0');
+                }
+            }
+            _ => return (value, count),
+        }
+    }
+    (value, bytes.len())
 }
 
 /// The text so far. A CR waits until the byte after it says whether a line ends there.
@@ -148,9 +188,34 @@ impl Scanner {
             }
             b' ' | b'\t' => self.end_word(),
             _ => {
-                self.mode = self.mode.with(byte);
+                self.mode.push(byte);
                 Ok(())
             }
+        }
+    }
+
+    /// Goes on with a comment or a number as far as it goes, and tells the place behind that.
+    fn go_on(&mut self, bytes: &[u8], place: usize) -> usize
+        requires waits { self.old.waiting ≡ false }
+        requires within { place < length bytes.now }
+        ensures scanned { IsScanned (state self.old) (state self.new) self.new.waiting (drop place bytes.now) (drop result bytes.now) }
+        ensures forward { place ≤ result }
+        ensures bound { result ≤ length bytes.now }
+        ensures line { self.new.line ≡ self.old.line }
+    {
+        let rest = &bytes[place..];
+        match self.mode {
+            Mode::Comment => {
+                let count = line_feed(rest).unwrap_or(rest.len());
+                self.waiting = count == rest.len() && rest[count - 1] == b'\r';
+                place + count
+            }
+            Mode::Inside(Word::Number(value)) => {
+                let (value, count) = with_digits(value, rest);
+                self.mode = Mode::Inside(Word::Number(value));
+                place + count
+            }
+            _ => place,
         }
     }
 
@@ -163,14 +228,20 @@ impl Scanner {
         ensures waiting { OnOk result (self.new.waiting ≡ waits bytes.now) }
         ensures line { self.new.line ≤ self.old.line + length bytes.now }
     {
-        for (place, byte) in bytes.iter().enumerate() {
-            if *byte != b'\r' {
-                self.byte(*byte)?;
+        let mut place = 0;
+        while place < bytes.len() {
+            place = self.go_on(bytes, place);
+            if place == bytes.len() {
+                break;
+            }
+            if bytes[place] != b'\r' {
+                self.byte(bytes[place])?;
             } else if place + 1 == bytes.len() {
                 self.waiting = true;
             } else {
                 self.byte(carriage_return(bytes[place + 1]))?;
             }
+            place += 1;
         }
         Ok(())
     }

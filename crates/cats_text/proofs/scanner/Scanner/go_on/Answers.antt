@@ -1,0 +1,24 @@
+use Rattle.std.proofs.Common.{◌≡◌, ◌≢◌, ◌-◌, ◌&&◌, Bool, true, false, eqb, List, ℕ, length, take, drop, get_or, sym, ap, ◌∙◌, rules}
+use Rattle.std.proofs.lemmas.Bool.{eq-eqb, ne_eqb}
+use Rattle.std.specs.List.{position}
+use Rattle.std.specs.Option.{unwrap_or}
+use Rattle.cats_text.specs.Scanning.{state}
+use Rattle.cats_text.specs.declared.scanner.Mode.TheVariants.{Inside}
+use Rattle.cats_text.specs.declared.word.Word.TheVariants.{Number}
+use Rattle.cats_text.proofs.Runs.{comment_at, number_at}
+use Rattle.cats_text.proofs.scanner.Scanner.go_on.Goals as goal
+use Rattle.cats_text.proofs.scanner.Scanner.go_on.Goals.{then-count-rest, else-count-rest}
+
+pub returns-after-count-rest-clause-scanned : goal.returns-after-count-rest-clause-scanned
+returns-after-count-rest-clause-scanned c =
+    comment_at (state c.args.self.now) c.args.bytes.now c.args.place c.unwrap_or-count.result c.if-count-rest.self c.in-Comment.is c.requires.within
+    (c.unwrap_or-count.ensures ∙ ap (λ o. unwrap_or o (length (take (length c.args.bytes.now - c.args.place) (drop c.args.place c.args.bytes.now)))) c.line_feed.ensures)
+    (elim c.if-count-rest.branch [
+      then-count-rest w ↦ w.self-is ∙ sym (ap (λ t. t && eqb (get_or (take (length c.args.bytes.now - c.args.place) (drop c.args.place c.args.bytes.now)) (c.unwrap_or-count.result - 1) 0) 13) (eq-eqb _ _ w.if-count-rest.true))
+    | else-count-rest w ↦ w.self-is ∙ ne_eqb _ _ w.if-count-rest.false ∙ sym (ap (λ t. t && eqb (get_or (take (length c.args.bytes.now - c.args.place) (drop c.args.place c.args.bytes.now)) (c.unwrap_or-count.result - 1) 0) 13) (ne_eqb _ _ w.if-count-rest.false)) ])
+
+pub returns-in-Inside-Number-clause-scanned : goal.returns-in-Inside-Number-clause-scanned
+returns-in-Inside-Number-clause-scanned c =
+    let mode : c.args.self.now.mode ≡ Inside (Number c.in-Inside-Number.value) = search rules in
+    number_at (state c.args.self.now) c.args.bytes.now c.args.place c.in-Inside-Number.value c.with_digits-value.result.0 c.with_digits-value.result.1 c.args.self.now.waiting mode
+    c.with_digits-value.ensures.digits c.with_digits-value.ensures.value c.requires.waits
