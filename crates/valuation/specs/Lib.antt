@@ -4,3 +4,7 @@ pub mod Tables
 pub mod Orders
 pub mod Auctions
 pub mod Examples
+pub mod Permutations
+pub mod XorLemmas
+pub mod OrLemmas
+pub mod ListLemmas
