@@ -1,6 +1,7 @@
 -- Bundles of goods (Nisan, "Bidding and allocation in combinatorial auctions", 2000): a bundle over G goods is a strictly
 -- rising list of numbers below G. Inside, apart and without are those of sets.
 use Rattle.std.specs.Prelude.{◌≡◌, ℕ, ◌<◌, ◌≤◌, zero, suc, ◌+◌, ◌==◌, nat_lt, nat_le, Bool, not, IsTrue, cond, List, [], ◌∷◌, ◌++◌, map, Option, length}
+use Rattle.std.specs.Coded.{×_prop, Unit-prop, le_prop}
 use Rattle.std.specs.List.{list_any, list_all, filter, find, flat_map, range_with_len}
 
 -- each member of the list is above g
@@ -21,6 +22,22 @@ IsRising (x ∷ xs) = AreAbove x xs × IsRising xs
 -- a bundle over G goods
 abbrev pub IsBundle : ℕ → List ℕ → Type 0
 IsBundle G xs = IsRising xs × AreBelow G xs
+
+-- each fact holds in one way at most, so that a struct may keep it
+AreAbove-prop : (g : ℕ) (xs : List ℕ) → IsProp (AreAbove g xs)
+AreAbove-prop g [] = Unit-prop
+AreAbove-prop g (x ∷ xs) = ×_prop le_prop (AreAbove-prop g xs)
+
+AreBelow-prop : (g : ℕ) (xs : List ℕ) → IsProp (AreBelow g xs)
+AreBelow-prop g [] = Unit-prop
+AreBelow-prop g (x ∷ xs) = ×_prop le_prop (AreBelow-prop g xs)
+
+IsRising-prop : (xs : List ℕ) → IsProp (IsRising xs)
+IsRising-prop [] = Unit-prop
+IsRising-prop (x ∷ xs) = ×_prop (AreAbove-prop x xs) (IsRising-prop xs)
+
+pub IsBundle-prop : (G : ℕ) (xs : List ℕ) → IsProp (IsBundle G xs)
+IsBundle-prop G xs = ×_prop (IsRising-prop xs) (AreBelow-prop G xs)
 
 -- whether the good g is in the list
 abbrev pub has_good : List ℕ → ℕ → Bool

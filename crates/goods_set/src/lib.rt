@@ -2,7 +2,9 @@
 //! and a bit set that implement it, and the order of bundles.
 #![tactic(auto)]
 
+pub mod list_set;
 pub mod set;
 pub mod worked;
 
+pub use list_set::ListSet;
 pub use set::GoodsSet;
