@@ -8,3 +8,4 @@ pub mod Permutations
 pub mod XorLemmas
 pub mod OrLemmas
 pub mod ListLemmas
+pub mod PackingLemmas
