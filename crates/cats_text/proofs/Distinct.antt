@@ -1,0 +1,73 @@
+-- Lists of numbers in which none stands twice. The idea: how often a number stands in a list is the same however the list is
+-- ordered, and in a list without repeats it is at most 1; so such a list rises once it is sorted.
+use Rattle.std.proofs.Common.{◌≡◌, ◌≢◌, ℕ, zero, suc, ◌+◌, ◌<◌, ◌≤◌, Bool, true, false, cond, eqb, List, [], ◌∷◌, length, get_or, refl, sym, ap, ◌∙◌, subst, arith}
+use Rattle.std.proofs.lemmas.Bool.{eqb-true, eq-eqb, ne_eqb}
+use Rattle.std.proofs.lemmas.Bool.Decides.{nat_tests}
+use Rattle.std.proofs.lemmas.List.Sorted.{sum_by-IsPermutation}
+use Rattle.std.proofs.lemmas.List.Sums.{sum_by-cons}
+use Rattle.std.specs.List.{sum_by, AllByRecursion}
+use Rattle.std.specs.List.Sorted.{IsPermutation, IsNonDecreasing}
+use Rattle.cats_text.specs.Files.{IsRising, AreAbove}
+use Rattle.cats_text.specs.Grammar.{AreDistinct}
+
+abbrev one_at : ℕ → ℕ → ℕ
+one_at g x = cond (eqb x g) 1 0
+
+-- how often g stands in the list
+abbrev pub times : List ℕ → ℕ → ℕ
+times xs g = sum_by (one_at g) xs
+
+times-cons : (x : ℕ) (xs : List ℕ) (g : ℕ) → times (x ∷ xs) g ≡ one_at g x + times xs g
+times-cons x xs g = sum_by-cons (one_at g) x xs
+
+one_at-same : (x : ℕ) → one_at x x ≡ 1
+one_at-same x = rw (eq-eqb x x refl) refl
+
+one_at-other : (x g : ℕ) → x ≢ g → one_at g x ≡ 0
+one_at-other x g ne = rw (ne_eqb x g ne) refl
+
+one_at-le : (x g : ℕ) → one_at g x ≤ 1
+one_at-le x g = elim (eqb x g) as (λ b. cond b 1 0 ≤ 1) [ true ↦ omega arith | false ↦ omega arith ]
+
+times-none : (x : ℕ) (xs : List ℕ) → AllByRecursion (λ y. x ≢ y) xs → times xs x ≡ 0
+times-none x [] h = refl
+times-none x (y ∷ ys) h =
+    let head : one_at x y ≡ 0 = one_at-other y x (λ e. h.0 (sym e)) in
+    let tail : times ys x ≡ 0 = times-none x ys h.1 in omega (arith, times-cons y ys x)
+
+pub times-AreDistinct : (xs : List ℕ) → AreDistinct xs → (g : ℕ) → times xs g ≤ 1
+times-AreDistinct [] d g = omega arith
+times-AreDistinct (x ∷ xs) d g = rw (times-cons x xs g)
+    (    let tail : times xs g ≤ 1 = times-AreDistinct xs d.1 g in
+    elim (eqb x g) as (λ b. eqb x g ≡ b → cond b 1 0 + times xs g ≤ 1) [
+      true ↦ λ (e : eqb x g ≡ true). let none : times xs x ≡ 0 = times-none x xs d.0 in
+        let same : times xs g ≡ times xs x = ap (times xs) (sym (eqb-true x g e)) in omega arith
+    | false ↦ λ (e : eqb x g ≡ false). omega arith ] refl)
+
+times-at : (xs : List ℕ) (i : ℕ) → i < length xs → 0 < times xs (get_or xs i 0)
+times-at [] i l = absurd (let no : i < 0 = l in omega arith)
+times-at (x ∷ xs) zero l = let one : one_at x x ≡ 1 = one_at-same x in omega (arith, times-cons x xs x)
+times-at (x ∷ xs) (suc i) l = let there : 0 < times xs (get_or xs i 0) = times-at xs i (omega arith) in omega (arith, times-cons x xs (get_or xs i 0))
+
+above_from_places : (x : ℕ) (xs : List ℕ) → ((i : ℕ) → i < length xs → x < get_or xs i 0) → AreAbove x xs
+above_from_places x [] h = tt
+above_from_places x (y ∷ ys) h = (h 0 (omega arith), above_from_places x ys (λ i l. h (suc i) (omega arith)))
+
+-- in order and none twice
+pub rising_from_order : (xs : List ℕ) → IsNonDecreasing xs → ((g : ℕ) → times xs g ≤ 1) → IsRising xs
+rising_from_order [] order once = tt
+rising_from_order (x ∷ xs) order once =
+    let tail : IsNonDecreasing xs = λ i j d l h. order (suc i) (suc j) d (omega arith) (omega arith) in
+    (above_from_places x xs (λ i l. let le : x ≤ get_or xs i 0 = order 0 (suc i) 0 (omega arith) (omega arith) in
+        let head : one_at x x ≡ 1 = one_at-same x in
+        let first : one_at x x + times xs x ≤ 1 = rw (times-cons x xs x) at (once x) in
+        let there : 0 < times xs (get_or xs i 0) = times-at xs i l in
+        let ne : x ≢ get_or xs i 0 = λ e. let again : 0 < times xs x = subst (λ n. 0 < times xs n) (sym e) there in omega arith in
+        omega arith),
+     rising_from_order xs tail (λ g. let all : one_at g x + times xs g ≤ 1 = rw (times-cons x xs g) at (once g) in omega arith))
+
+-- a list without repeats rises once it is put in order
+pub rising_from_sort : (xs ys : List ℕ) → AreDistinct xs → IsPermutation xs ys → IsNonDecreasing ys → IsRising ys
+rising_from_sort xs ys distinct moved order = rising_from_order ys order (λ g.
+    let same : times ys g ≡ times xs g = sum_by-IsPermutation (one_at g) xs ys moved in
+    let one : times xs g ≤ 1 = times-AreDistinct xs distinct g in omega arith)

@@ -1,0 +1,83 @@
+-- A bid file without where it lies in memory, and what holds of each. By the README of CATS 2.0: bids are numbered from 0,
+-- and with G goods and D dummies the real goods are 0 to G - 1 and the dummy goods G to G + D - 1.
+use Rattle.std.specs.Prelude.{◌≡◌, ℕ, ◌+◌, ◌<◌, ◌≤◌, List, [], ◌∷◌, ◌++◌, map, length, Option, Some, None, option_map, option_to_list}
+use Rattle.std.specs.List.{AllByRecursion, AllByRecursion-prop}
+use Rattle.std.specs.Coded.{×_prop, Unit-prop, le_prop}
+use Rattle.cats_text.specs.declared.bid.Bid.{Bid}
+use Rattle.cats_text.specs.declared.limits.TheConstants.{MAX_GOODS, MAX_BIDS, MAX_DUMMY, MAX_PRICE}
+
+-- a bid: a price in millionths for a bundle, as one of the bids that share a dummy good or as none of them
+pub record PlainBid : Type 0 where
+  pub price : ℕ
+  pub goods : List ℕ
+  pub dummy : Option ℕ
+
+-- a file: its bids by number
+pub record PlainFile : Type 0 where
+  pub goods : ℕ
+  pub dummy : ℕ
+  pub bids : List PlainBid
+
+abbrev pub plain_bid : Bid → PlainBid
+plain_bid b = record { price = b.price; goods = b.goods.items; dummy = b.dummy }
+
+abbrev pub plain_bids : List Bid → List PlainBid
+plain_bids bids = map plain_bid bids
+
+-- each number of the list is above g
+abbrev pub AreAbove : ℕ → List ℕ → Type 0
+AreAbove g xs = AllByRecursion (λ x. g < x) xs
+
+-- the numbers rise
+abbrev pub IsRising : List ℕ → Type 0
+IsRising [] = Unit {0}
+IsRising (x ∷ xs) = AreAbove x xs × IsRising xs
+
+-- the dummy good, if there is one, is below D
+abbrev pub IsDummyBelow : ℕ → Option ℕ → Type 0
+IsDummyBelow D None = Unit {0}
+IsDummyBelow D (Some d) = d < D
+
+-- a bid on real goods below G, at least one, and a dummy below D
+pub record IsBid (G D : ℕ) (b : PlainBid) : Type 0 where
+  pub price : b.price ≤ MAX_PRICE
+  pub goods : 0 < length b.goods
+  pub rising : IsRising b.goods
+  pub below : AllByRecursion (λ g. g < G) b.goods
+  pub dummy : IsDummyBelow D b.dummy
+
+-- a file of G goods, D dummies and these bids
+pub record IsBidFile (G D : ℕ) (bids : List PlainBid) : Type 0 where
+  pub goods : G ≤ MAX_GOODS
+  pub dummy : D ≤ MAX_DUMMY
+  pub count : length bids ≤ MAX_BIDS
+  pub each : AllByRecursion (IsBid G D) bids
+
+-- these facts have one proof at most, as a fact that a struct keeps has to
+pub IsRising-prop : (xs : List ℕ) → IsProp (IsRising xs)
+IsRising-prop [] = Unit-prop
+IsRising-prop (x ∷ xs) = ×_prop (AllByRecursion-prop (λ y. x < y) (λ y. le_prop) xs) (IsRising-prop xs)
+
+pub IsDummyBelow-prop : (D : ℕ) (d : Option ℕ) → IsProp (IsDummyBelow D d)
+IsDummyBelow-prop D None = Unit-prop
+IsDummyBelow-prop D (Some d) = le_prop
+
+pub AreBelow-prop : (G : ℕ) (xs : List ℕ) → IsProp (AllByRecursion (λ g. g < G) xs)
+AreBelow-prop G xs = AllByRecursion-prop (λ g. g < G) (λ g. le_prop) xs
+
+pub IsBid-prop : (G D : ℕ) (b : PlainBid) → IsProp (IsBid G D b)
+IsBid-prop G D b = hlevel (le_prop, IsRising-prop b.goods, AreBelow-prop G b.goods, IsDummyBelow-prop D b.dummy)
+
+pub IsBidFile-prop : (G D : ℕ) (bids : List PlainBid) → IsProp (IsBidFile G D bids)
+IsBidFile-prop G D bids = hlevel (le_prop, AllByRecursion-prop (IsBid G D) (IsBid-prop G D) bids)
+
+abbrev pub IsPlainFile : PlainFile → Type 0
+IsPlainFile f = IsBidFile f.goods f.dummy f.bids
+
+-- the numbers of a bid's goods as a file writes them: the real goods, and behind them its dummy good
+abbrev pub dummy_good : ℕ → Option ℕ → List ℕ
+dummy_good G None = []
+dummy_good G (Some d) = (G + d) ∷ []
+
+abbrev pub goods_of : ℕ → PlainBid → List ℕ
+goods_of G b = b.goods ++ dummy_good G b.dummy

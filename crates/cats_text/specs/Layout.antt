@@ -1,0 +1,43 @@
+-- The one layout that is written: header lines, then a line for each bid, by number.
+use Rattle.std.specs.Prelude.{ℕ, suc, ◌/◌, ◌%◌, ◌+◌, ◌==◌, if◌then◌else◌, List, [], ◌∷◌, ◌++◌, length, drop, Option, Some, None, codes, decimal}
+use Rattle.std.specs.List.{flat_map}
+use Rattle.cats_text.specs.Lines.{Word}
+use Rattle.cats_text.specs.Files.{PlainBid, PlainFile, goods_of}
+
+-- the digits without the zeros at their end
+abbrev pub with_place : ℕ → Word → Word
+with_place b [] = if b == 48 then [] else b ∷ []
+with_place b (c ∷ cs) = b ∷ c ∷ cs
+
+abbrev pub without_zeros : Word → Word
+without_zeros [] = []
+without_zeros (b ∷ bs) = with_place b (without_zeros bs)
+
+-- six digits
+abbrev pub six_digits : ℕ → Word
+six_digits n = drop 1 (decimal (1000000 + n))
+
+abbrev pub behind_point : Word → Word
+behind_point [] = []
+behind_point (b ∷ bs) = 46 ∷ b ∷ bs
+
+-- a number of millionths: the whole part, then, where millionths are left, a point and their digits without zeros at the end
+abbrev pub price_text : ℕ → Word
+price_text millionths = decimal (millionths / 1000000) ++ behind_point (without_zeros (six_digits (millionths % 1000000)))
+
+abbrev pub header_text : List ℕ → ℕ → List ℕ
+header_text keyword n = keyword ++ 32 ∷ decimal n ++ 10 ∷ []
+
+-- each number after a tab
+abbrev pub tabbed : List ℕ → List ℕ
+tabbed gs = flat_map (λ g. 9 ∷ decimal g) gs
+
+abbrev pub bid_text : ℕ → ℕ → PlainBid → List ℕ
+bid_text goods number b = decimal number ++ 9 ∷ price_text b.price ++ tabbed (goods_of goods b) ++ codes "\t#\n"
+
+abbrev pub bids_text : ℕ → ℕ → List PlainBid → List ℕ
+bids_text goods n [] = []
+bids_text goods n (b ∷ bs) = bid_text goods n b ++ bids_text goods (suc n) bs
+
+abbrev pub layout : PlainFile → List ℕ
+layout f = header_text (codes "goods") f.goods ++ header_text (codes "bids") (length f.bids) ++ header_text (codes "dummy") f.dummy ++ bids_text f.goods 0 f.bids

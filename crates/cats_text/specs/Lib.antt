@@ -1,0 +1,10 @@
+pub mod Lines
+pub mod Numbers
+pub mod Files
+pub mod Views
+pub mod Grammar
+pub mod Faults
+pub mod Layout
+pub mod Keywords
+pub mod Marks
+pub mod Machine

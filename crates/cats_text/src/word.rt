@@ -1,0 +1,144 @@
+//! What the reader keeps of a word: enough for every test that the grammar makes of it, whatever the word's length.
+
+ghost use Rattle.std.specs.Prelude.{◌≡◌, ◌≤◌};
+ghost use Rattle.cats_text.specs.Keywords.{keyword_text, place_value_of};
+
+/// The words that begin the header lines.
+#[derive(Clone, Copy, PartialEq, Eq, Debug)]
+pub enum Keyword {
+    Goods,
+    Bids,
+    Dummy,
+}
+
+impl Keyword {
+    pub fn text(self) -> &'static [u8]
+        ensures { result.now ≡ keyword_text self }
+    {
+        match self {
+            Keyword::Goods => b"goods",
+            Keyword::Bids => b"bids",
+            Keyword::Dummy => b"dummy",
+        }
+    }
+}
+
+/// From here on a number takes no further digits: it is above every limit.
+pub const HELD: u64 = 10_000_000_000_000;
+
+/// Digits, a point, and perhaps digits.
+#[derive(Clone, Copy, PartialEq, Eq, Debug)]
+pub struct Decimal {
+    /// The digits before the point, held like any number.
+    pub whole: u64,
+    /// The first six places behind it.
+    pub millionths: u64,
+    /// How many of those six have come.
+    pub places: u8,
+    /// Whether a place behind them is not 0.
+    pub fine: bool,
+}
+
+/// What a place counts, in millionths, with so many before it behind the point.
+fn place_value(places: u8) -> u64
+    ensures value { result ≡ place_value_of places }
+    ensures bound { result ≤ 100000 }
+{
+    match places {
+        0 => 100_000,
+        1 => 10_000,
+        2 => 1_000,
+        3 => 100,
+        4 => 10,
+        5 => 1,
+        _ => 0,
+    }
+}
+
+impl Decimal {
+    ghost use Rattle.cats_text.specs.Machine.{decimal_with};
+
+    fn with(self, digit: u8) -> Decimal
+        requires { digit ≤ 9 }
+        ensures { result ≡ decimal_with self digit }
+    {
+        if self.places < 6 {
+            let more = u64::from(digit) * place_value(self.places);
+            Decimal {
+                millionths: self.millionths.saturating_add(more),
+                places: self.places + 1,
+                ..self
+            }
+        } else {
+            Decimal {
+                fine: self.fine || digit != 0,
+                ..self
+            }
+        }
+    }
+}
+
+/// A word so far.
+#[derive(Clone, Copy, PartialEq, Eq, Debug)]
+pub enum Word {
+    /// So many bytes of a keyword.
+    Keyword(Keyword, usize),
+    /// Digits alone.
+    Number(u64),
+    /// Digits and a point.
+    Decimal(Decimal),
+    /// The word `#`.
+    End,
+    /// Nothing that the grammar takes, however it goes on.
+    Other,
+}
+
+impl Word {
+    ghost use Rattle.cats_text.specs.Machine.{word_from, word_with};
+
+    /// The word of one byte.
+    pub fn new(byte: u8) -> Word
+        ensures { result ≡ word_from byte }
+    {
+        match byte {
+            b'0'..=b'9' => Word::Number(u64::from(byte - b'0')),
+            b'#' => Word::End,
+            b'g' => Word::Keyword(Keyword::Goods, 1),
+            b'b' => Word::Keyword(Keyword::Bids, 1),
+            b'd' => Word::Keyword(Keyword::Dummy, 1),
+            _ => Word::Other,
+        }
+    }
+
+    /// The word with one more byte.
+    pub fn with(self, byte: u8) -> Word
+        ensures { result ≡ word_with self byte }
+    {
+        match self {
+            Word::Number(value) => match byte {
+                b'0'..=b'9' if value < HELD => Word::Number(value * 10 + u64::from(byte - b'0')),
+                b'0'..=b'9' => Word::Number(value),
+                b'.' => Word::Decimal(Decimal {
+                    whole: value,
+                    millionths: 0,
+                    places: 0,
+                    fine: false,
+                }),
+                _ => Word::Other,
+            },
+            Word::Decimal(decimal) => match byte {
+                b'0'..=b'9' => Word::Decimal(decimal.with(byte - b'0')),
+                _ => Word::Other,
+            },
+            Word::Keyword(keyword, length) => {
+                let text = keyword.text();
+                if length < text.len() && text[length] == byte {
+                    Word::Keyword(keyword, length + 1)
+                } else {
+                    Word::Other
+                }
+            }
+            Word::End | Word::Other => Word::Other,
+        }
+    }
+}
