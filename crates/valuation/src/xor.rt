@@ -15,7 +15,7 @@ pub fn xor_value<S: GoodsSet>(atoms: &[Atom<S>], bundle: &S) -> (u64, Option<usi
     let mut value = 0;
     let mut place = None;
     for (i, atom) in atoms.iter().enumerate() {
-        if atom.bundle.is_inside(bundle) && (place.is_none() || value < atom.price) {
+        if (place.is_none() || value < atom.price) && atom.bundle.is_inside(bundle) {
             value = atom.price;
             place = Some(i);
         }
