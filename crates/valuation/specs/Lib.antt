@@ -3,6 +3,8 @@ pub mod Packings
 pub mod Tables
 pub mod Orders
 pub mod Auctions
+pub mod Bidders
+pub mod Views
 pub mod AtomLemmas
 pub mod Examples
 pub mod Permutations

@@ -2,6 +2,7 @@
 #![tactic(auto)]
 
 mod atom;
+mod auction;
 mod budget;
 mod laws;
 mod packing;
@@ -10,6 +11,7 @@ mod worked;
 mod xor;
 
 pub use atom::Atom;
+pub use auction::Auction;
 pub use budget::Budget;
 pub use laws::{best_packing, packings_counted};
 pub use packing::{Packing, ValueFault, or_value};
