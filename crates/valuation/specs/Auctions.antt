@@ -51,10 +51,10 @@ xor_atoms_of bids d = map atom_of (filter (λ b. is_dummy d b.dummy) bids)
 -- the auction that a file stands for, its atoms in the order of the bids' numbers
 abbrev pub auction_from : PlainFile → PlainAuction
 auction_from f = record {
-    goods = f.goods;
-    or_atoms = or_atoms_of f.bids;
-    xor_bidders = map (xor_atoms_of f.bids) (range_with_len 0 f.dummy);
-  }
+  goods = f.goods;
+  or_atoms = or_atoms_of f.bids;
+  xor_bidders = map (xor_atoms_of f.bids) (range_with_len 0 f.dummy);
+}
 
 -- ---- these facts have one proof at most, as a fact that a struct keeps has to
 

@@ -5,6 +5,7 @@ pub mod Orders
 pub mod Auctions
 pub mod Bidders
 pub mod Views
+pub mod AuctionLemmas
 pub mod AtomLemmas
 pub mod Examples
 pub mod Permutations

@@ -2,9 +2,8 @@
 ghost use Rattle.valuation.specs.Auctions.{IsAuction, IsAuction-prop};
 ghost use Rattle.valuation.specs.Bidders.{plain_auction_of};
 
-use goods_set::GoodsSet;
-
 use crate::atom::Atom;
+use goods_set::GoodsSet;
 
 /// An auction: so many goods, the atoms of the OR bidder, and the atoms of each XOR bidder.
 #[derive(Debug, Drop)]
@@ -23,11 +22,7 @@ impl<S: GoodsSet> Auction<S> {
     ghost use Rattle.valuation.specs.Values.{atoms_of};
 
     /// The auction of these parts.
-    pub fn new(
-        goods: u16,
-        or_atoms: Vec<Atom<S>>,
-        xor_bidders: Vec<Vec<Atom<S>>>,
-    ) -> Auction<S>
+    pub fn new(goods: u16, or_atoms: Vec<Atom<S>>, xor_bidders: Vec<Vec<Atom<S>>>) -> Auction<S>
         requires { IsAuction S.CAP (plain_auction_of S.goods goods or_atoms.items xor_bidders.items) }
         ensures { plain_auction result ≡ plain_auction_of S.goods goods or_atoms.items xor_bidders.items }
     {
