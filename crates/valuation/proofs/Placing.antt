@@ -13,7 +13,7 @@ use Rattle.valuation.specs.Bidders.{bidders_of, plain_auction_of}
 use Rattle.valuation.specs.AuctionLemmas.{or_atoms_of-more, or_atoms_of-same, xor_bidders-more, xor_bidders-same}
 
 module _ {S : Type 0} (goods : S → List ℕ) (bids : List PlainBid) (i : ℕ) (b : PlainBid) (l : i < length bids) (here : get_or bids i b ≡ b)
-  (a : Atom S) (bundle : goods a.bundle ≡ b.goods) (price : a.price ≡ b.price) where
+    (a : Atom S) (bundle : goods a.bundle ≡ b.goods) (price : a.price ≡ b.price) where
   seen : ◌≡◌ {A = Atom (List ℕ)} (record { bundle = goods a.bundle; price = a.price }) (atom_of b)
   seen = ap₂ (λ (xs : List ℕ) (p : ℕ). record { bundle = xs; price = p }) bundle price
 
@@ -34,7 +34,7 @@ module _ {S : Type 0} (goods : S → List ℕ) (bids : List PlainBid) (i : ℕ) 
       let listed : Vec (Atom S) Global → List (Atom (List ℕ)) = λ v. atoms_of goods v.items in
       let long : length bidders ≡ n = sym (length-map bidders listed) ∙ ap (length {A = List (Atom (List ℕ))}) h ∙ length-map-range_with_len (xor_atoms_of (take i bids)) 0 n in
       let before : atoms_of goods old.items ≡ xor_atoms_of (take i bids) d =
-        ap listed is ∙ sym (get_or-map listed bidders d old [] (omega arith)) ∙ ap (λ (xs : List (List (Atom (List ℕ)))). get_or xs d []) h ∙ get_or-map-range_with_len (xor_atoms_of (take i bids)) 0 n d d [] m (omega arith) in
+      ap listed is ∙ sym (get_or-map listed bidders d old [] (omega arith)) ∙ ap (λ (xs : List (List (Atom (List ℕ)))). get_or xs d []) h ∙ get_or-map-range_with_len (xor_atoms_of (take i bids)) 0 n d d [] m (omega arith) in
       let after : listed new ≡ xor_atoms_of (take i bids) d ++ atom_of b ∷ [] = atoms-push old.items new.items e ∙ ap (λ (xs : List (Atom (List ℕ))). xs ++ atom_of b ∷ []) before in
       ap (bidders_of goods) c ∙ map-set listed bidders d new ∙ ap₂ (λ (xs : List (List (Atom (List ℕ)))) (x : List (Atom (List ℕ))). set xs d x) h after ∙ xor_bidders-more bids i b l here d s n m
 

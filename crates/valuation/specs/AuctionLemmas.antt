@@ -98,12 +98,12 @@ module _ (bids : List PlainBid) (i : ℕ) (b : PlainBid) (l : i < length bids) (
       let long : length old ≡ n = length-map-range_with_len (xor_atoms_of (take i bids)) 0 n in
       let there : xor_atoms_of (take (i + 1) bids) d ≡ xor_atoms_of (take i bids) d ++ atom_of b ∷ [] = kept (λ b. is_dummy d b.dummy) (ap (is_dummy d) s ∙ eq-eqb d d refl) in
       fill_by_all (xor_atoms_of (take (i + 1) bids)) (set old d (xor_atoms_of (take i bids) d ++ atom_of b ∷ [])) n [] (length-set old d _ ∙ long)
-        (λ k l. ⊎_elim
-          (λ (same : k ≡ d). rw (same, there) (get_or-set_same old d _ [] (omega arith)))
-          (λ (differ : k ≡ d → ⊥).
-            get_or-set_other old d k _ [] differ ∙ get_or-map-range_with_len (xor_atoms_of (take i bids)) 0 n k k [] l (omega arith)
-            ∙ sym (left_out (λ b. is_dummy k b.dummy) (ap (is_dummy k) s ∙ ne_eqb d k (λ f. differ (sym f)))))
-          (cases_eq k d))
+      (λ k l. ⊎_elim
+      (λ (same : k ≡ d). rw (same, there) (get_or-set_same old d _ [] (omega arith)))
+      (λ (differ : k ≡ d → ⊥).
+      get_or-set_other old d k _ [] differ ∙ get_or-map-range_with_len (xor_atoms_of (take i bids)) 0 n k k [] l (omega arith)
+      ∙ sym (left_out (λ b. is_dummy k b.dummy) (ap (is_dummy k) s ∙ ne_eqb d k (λ f. differ (sym f)))))
+      (cases_eq k d))
 
 -- ---- the auction of a file keeps the limits
 
@@ -134,19 +134,19 @@ count_xor-more b bids e s low (suc n) =
     let new = sum_by-cons (length {A = Atom (List ℕ)}) (xor_atoms_of (b ∷ bids) low) (map (xor_atoms_of (b ∷ bids)) (range_with_len (low + 1) n)) in
     let old = sum_by-cons (length {A = Atom (List ℕ)}) (xor_atoms_of bids low) (map (xor_atoms_of bids) (range_with_len (low + 1) n)) in
     ⊎_elim
-      (λ (same : e ≡ low).
-        let t : is_dummy low b.dummy ≡ true = ap (is_dummy low) s ∙ eq-eqb e low same in
-        let one : xor_atoms_of (b ∷ bids) low ≡ atom_of b ∷ xor_atoms_of bids low = simp t in
-        let long = ap (length {A = Atom (List ℕ)}) one in
-        let rest = count_xor-past b bids (low + 1) n (λ d l. ap (is_dummy d) s ∙ ne_eqb e d (λ f. omega arith)) in
-        omega arith)
-      (λ (differ : e ≡ low → ⊥).
-        let t : is_dummy low b.dummy ≡ false = ap (is_dummy low) s ∙ ne_eqb e low differ in
-        let one : xor_atoms_of (b ∷ bids) low ≡ xor_atoms_of bids low = simp t in
-        let long = ap (length {A = Atom (List ℕ)}) one in
-        let rest = count_xor-more b bids e s (low + 1) n in
-        omega arith)
-      (cases_eq e low)
+    (λ (same : e ≡ low).
+    let t : is_dummy low b.dummy ≡ true = ap (is_dummy low) s ∙ eq-eqb e low same in
+    let one : xor_atoms_of (b ∷ bids) low ≡ atom_of b ∷ xor_atoms_of bids low = simp t in
+    let long = ap (length {A = Atom (List ℕ)}) one in
+    let rest = count_xor-past b bids (low + 1) n (λ d l. ap (is_dummy d) s ∙ ne_eqb e d (λ f. omega arith)) in
+    omega arith)
+    (λ (differ : e ≡ low → ⊥).
+    let t : is_dummy low b.dummy ≡ false = ap (is_dummy low) s ∙ ne_eqb e low differ in
+    let one : xor_atoms_of (b ∷ bids) low ≡ xor_atoms_of bids low = simp t in
+    let long = ap (length {A = Atom (List ℕ)}) one in
+    let rest = count_xor-more b bids e s (low + 1) n in
+    omega arith)
+    (cases_eq e low)
 
 -- each bid is one atom
 count_atoms : (bids : List PlainBid) (n : ℕ) → length (or_atoms_of bids) + count_xor bids 0 n ≤ length bids
@@ -174,13 +174,13 @@ count_atoms (b ∷ bids) n = by b.dummy refl (count_atoms bids n)
 -- so it is an auction
 pub IsAuction-auction_from : (cap : ℕ) (f : PlainFile) → IsPlainFile f → f.goods ≤ cap → IsAuction cap (auction_from f)
 IsAuction-auction_from cap f h fits = record {
-    goods = h.goods;
-    fits = fits;
-    or_atoms = IsAtom-bids f.goods f.dummy f.bids (λ b. is_none b.dummy) h.each;
-    xor_atoms = All-map (All (IsAtom f.goods)) (xor_atoms_of f.bids) (range_with_len 0 f.dummy) (λ k d l. IsAtom-bids f.goods f.dummy f.bids (λ b. is_dummy (get_or (range_with_len 0 f.dummy) k d) b.dummy) h.each);
-    bidders = let long = length-map-range_with_len (xor_atoms_of f.bids) 0 f.dummy in omega (arith, h.dummy);
-    atoms = omega (arith, count_atoms f.bids f.dummy, h.count);
-  }
+  goods = h.goods;
+  fits = fits;
+  or_atoms = IsAtom-bids f.goods f.dummy f.bids (λ b. is_none b.dummy) h.each;
+  xor_atoms = All-map (All (IsAtom f.goods)) (xor_atoms_of f.bids) (range_with_len 0 f.dummy) (λ k d l. IsAtom-bids f.goods f.dummy f.bids (λ b. is_dummy (get_or (range_with_len 0 f.dummy) k d) b.dummy) h.each);
+  bidders = let long = length-map-range_with_len (xor_atoms_of f.bids) 0 f.dummy in omega (arith, h.dummy);
+  atoms = omega (arith, count_atoms f.bids f.dummy, h.count);
+}
 
 -- ---- the bids as the code has them
 

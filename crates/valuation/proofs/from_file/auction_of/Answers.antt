@@ -53,16 +53,16 @@ loop-bid-preserved g c =
     let bid = IsBid-at c.args.file.now.goods c.args.file.now.dummy c.bids-bids.result.now i c.bid-item.result c.loop-bid-test.true c.bid-item.is (rw c.bids-bids.ensures facts.each) in
     elim c.match-bid.branch [
       | in-None+in_ok-push-in-None w ↦
-        record {
-          or = rw w.or_atoms-is (place-or goods bids i b in_list here c.in_ok-atom.atom atom.bundle atom.price _ _ w.in-None.is c.loop-bid.invariant.or w.in_ok-push-in-None.ensures.items);
-          xor = rw w.xor_bidders-is (c.loop-bid.invariant.xor ∙ sym (xor_bidders-same bids i b in_list here w.in-None.is _));
-        }
+          record {
+            or = rw w.or_atoms-is (place-or goods bids i b in_list here c.in_ok-atom.atom atom.bundle atom.price _ _ w.in-None.is c.loop-bid.invariant.or w.in_ok-push-in-None.ensures.items);
+            xor = rw w.xor_bidders-is (c.loop-bid.invariant.xor ∙ sym (xor_bidders-same bids i b in_list here w.in-None.is _));
+          }
       | in-Some+in_ok-push-in-Some w ↦
-        let below : w.in-Some.dummy < c.args.file.now.dummy = rw w.in-Some.is at bid.dummy in
-        record {
-          or = rw w.or_atoms-is (c.loop-bid.invariant.or ∙ sym (or_atoms_of-same bids i b in_list here w.in-Some.dummy w.in-Some.is));
-          xor = rw w.xor_bidders-is (place-xor goods bids i b in_list here c.in_ok-atom.atom atom.bundle atom.price c.loop-bid.xor_bidders.items _ w.index_mut-bidder.result.now w.push-in-Some.new.self w.in-Some.dummy c.args.file.now.dummy w.in-Some.is below c.loop-bid.invariant.xor w.index_mut-bidder.ensures.value w.in_ok-push-in-Some.ensures.items refl);
-        }
+          let below : w.in-Some.dummy < c.args.file.now.dummy = rw w.in-Some.is at bid.dummy in
+          record {
+            or = rw w.or_atoms-is (c.loop-bid.invariant.or ∙ sym (or_atoms_of-same bids i b in_list here w.in-Some.dummy w.in-Some.is));
+            xor = rw w.xor_bidders-is (place-xor goods bids i b in_list here c.in_ok-atom.atom atom.bundle atom.price c.loop-bid.xor_bidders.items _ w.index_mut-bidder.result.now w.push-in-Some.new.self w.in-Some.dummy c.args.file.now.dummy w.in-Some.is below c.loop-bid.invariant.xor w.index_mut-bidder.ensures.value w.in_ok-push-in-Some.ensures.items refl);
+          }
     ]
 
 pub new-requires : goal.new-requires
