@@ -7,6 +7,8 @@ mod budget;
 mod from_file;
 mod laws;
 mod packing;
+#[cfg(test)]
+mod plain;
 mod search;
 mod worked;
 mod xor;

@@ -26,10 +26,9 @@ returns-in-Some g c =
 pub returns-in-None : goal.returns-in-None
 returns-in-None g c =
     let xs = g.S.GoodsSet.goods c.args.self.now.bundle in
-    let size = c.size.ensures in
-    (
+    let size = c.size.ensures in (
       λ t.
-        let some = ltb-true 0 c.size.result t in
-        record { nonempty = omega arith; below = below c.args.goods xs (ap (good_from xs) (sym c.from.ensures) ∙ sym c.in-None.ensures); price = c.if-self-gt-MAX_PRICE.false },
+          let some = ltb-true 0 c.size.result t in
+          record { nonempty = omega arith; below = below c.args.goods xs (ap (good_from xs) (sym c.from.ensures) ∙ sym c.in-None.ensures); price = c.if-self-gt-MAX_PRICE.false },
       λ a. let some = a.nonempty in lt-ltb 0 c.size.result (omega arith),
     )
