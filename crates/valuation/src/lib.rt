@@ -10,6 +10,8 @@ mod packing;
 #[cfg(test)]
 mod plain;
 mod search;
+#[cfg(test)]
+mod tests;
 mod worked;
 mod xor;
 
