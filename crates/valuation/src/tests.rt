@@ -4,7 +4,7 @@ ghost use Rattle.cats_text.specs.declared.limits.TheConstants.{MAX_GOODS};
 ghost use Rattle.valuation.specs.Auctions.{IsAtom};
 ghost use Rattle.valuation.specs.Values.{atoms_of};
 
-use crate::{Atom, ValueFault, or_value, xor_value};
+use crate::{Atom, ValueFault, or_value, plain, xor_value};
 use cats_text::{MAX_GOODS, MAX_PRICE};
 use goods_set::{GoodsSet, ListSet, WordSet};
 use std::alloc::Global;
@@ -202,4 +202,80 @@ fn search_stops_at_its_limit(rt: HostRuntime) -> Result<(), Fail> {
     many_packings::<ListSet>(&rt, rt.alloc(), 60, 9)?;
     many_packings::<WordSet<16>>(&rt, rt.alloc(), 60, 9)?;
     many_packings::<WordSet<64>>(&rt, rt.alloc(), 4096, 1_000_000)
+}
+
+// The next of a fixed sequence of numbers, which look random.
+fn next_number(state: &mut u64) -> u64 {
+    *state = state
+        .wrapping_mul(6_364_136_223_846_793_005)
+        .wrapping_add(1_442_695_040_888_963_407);
+    *state >> 33
+}
+
+// The goods whose bits the number has.
+fn goods_of(alloc: Global, bits: u64) -> Result<Vec<u16>, Fail> {
+    let mut goods = Vec::new(alloc);
+    for good in 0..6u16 {
+        if (bits >> good) & 1 == 1 {
+            goods.push(good)?;
+        }
+    }
+    Ok(goods)
+}
+
+// On one bundle the search and the plain recursions agree, and the step limit is as exact as they say.
+fn agree_on<S: GoodsSet>(
+    rt: &impl Abort,
+    alloc: Global,
+    atoms: &[Atom<S>],
+    bundle: &S,
+) -> Result<(), Fail>
+    requires { All (IsAtom MAX_GOODS) (atoms_of S.goods atoms.now) }
+{
+    assert_eq!(rt; xor_value(atoms, bundle).0, plain::xor_value(atoms, bundle));
+    let packing = or_value(alloc, atoms, bundle, 1_000_000)?;
+    let value = plain::or_value(atoms, bundle)?;
+    assert_eq!(rt; packing.value, value);
+    let places = plain::chosen_places(alloc, atoms, bundle)?;
+    assert_eq!(rt; packing.members.as_slice(), places.as_slice());
+    let count = plain::count_packings(atoms, bundle)?;
+    assert!(rt; or_value(alloc, atoms, bundle, count).is_ok());
+    assert!(rt; count > 0);
+    let fault = or_value(alloc, atoms, bundle, count - 1).expect_err(rt, "no value");
+    assert_eq!(rt; fault, ValueFault::StepLimit);
+    Ok(())
+}
+
+fn some_atoms<S: GoodsSet>(
+    rt: &impl Abort,
+    alloc: Global,
+    state: &mut u64,
+) -> Result<Vec<Atom<S>>, Fail>
+    ensures { IfOk result (λ atoms. All (IsAtom MAX_GOODS) (atoms_of S.goods atoms.items)) }
+{
+    let mut atoms = Vec::new(alloc);
+    for _i in 0..next_number(state) % 9 {
+        let goods = goods_of(alloc, next_number(state) % 63 + 1)?;
+        let price = next_number(state) % 6;
+        add_atom(rt, alloc, &mut atoms, &goods, price)?;
+    }
+    Ok(atoms)
+}
+
+fn agree<S: GoodsSet>(rt: &impl Abort, alloc: Global) -> Result<(), Fail> {
+    let mut state = 7;
+    for _ in 0..40 {
+        let atoms = some_atoms(rt, alloc, &mut state)?;
+        for bits in 0..64 {
+            let bundle = bundle_of::<S>(rt, alloc, &goods_of(alloc, bits)?)?;
+            agree_on(rt, alloc, &atoms, &bundle)?;
+        }
+    }
+    Ok(())
+}
+
+#[test]
+fn search_agrees_with_the_plain_recursions(rt: HostRuntime) -> Result<(), Fail> {
+    agree::<ListSet>(&rt, rt.alloc())?;
+    agree::<WordSet<16>>(&rt, rt.alloc())
 }
