@@ -4,10 +4,11 @@ ghost use Rattle.cats_text.specs.declared.limits.TheConstants.{MAX_GOODS};
 ghost use Rattle.valuation.specs.Auctions.{IsAtom};
 ghost use Rattle.valuation.specs.Values.{atoms_of};
 
-use crate::{Atom, ValueFault, or_value, plain, xor_value};
-use cats_text::{MAX_GOODS, MAX_PRICE};
+use crate::{Atom, Auction, ValueFault, auction_of, or_value, plain, xor_value};
+use cats_text::{Bid, BidFile, MAX_GOODS, MAX_PRICE};
 use goods_set::{GoodsSet, ListSet, WordSet};
 use std::alloc::Global;
+use std::cmp::Ordering;
 use std::process::Abort;
 use std::test::Fail;
 
@@ -278,4 +279,58 @@ fn agree<S: GoodsSet>(rt: &impl Abort, alloc: Global) -> Result<(), Fail> {
 fn search_agrees_with_the_plain_recursions(rt: HostRuntime) -> Result<(), Fail> {
     agree::<ListSet>(&rt, rt.alloc())?;
     agree::<WordSet<16>>(&rt, rt.alloc())
+}
+
+// Three goods and two dummy goods: a bid with the first dummy good, then one without.
+fn small_file(alloc: Global) -> Result<BidFile, Fail> {
+    let pair = vec![in alloc; 0, 2]?;
+    let single = vec![in alloc; 1]?;
+    let mut bids = Vec::new(alloc);
+    bids.push(Bid {
+        price: 20 * UNIT,
+        goods: pair,
+        dummy: Some(0),
+    })?;
+    bids.push(Bid {
+        price: 7 * UNIT,
+        goods: single,
+        dummy: None,
+    })?;
+    Ok(BidFile::new(3, 2, bids))
+}
+
+fn expect_atom<S: GoodsSet>(
+    rt: &impl Abort,
+    alloc: Global,
+    atoms: &[Atom<S>],
+    goods: &[u16],
+    price: u64,
+) -> Result<(), Fail> {
+    let bundle = bundle_of::<S>(rt, alloc, goods)?;
+    assert_eq!(rt; atoms.len(), 1);
+    assert_eq!(rt; atoms[0].price, price);
+    assert_eq!(rt; atoms[0].bundle.order(&bundle), Ordering::Equal);
+    Ok(())
+}
+
+// The bids without a dummy good are the OR bidder's, those with one its bidder's, and an unused one is a bidder without an atom.
+fn auction_of_small_file<S: GoodsSet>(rt: &impl Abort, alloc: Global) -> Result<(), Fail> {
+    let file = small_file(alloc)?;
+    assert!(rt; u32::from(file.goods()) <= S::cap());
+    let auction = auction_of::<S>(alloc, &file)?;
+    assert_eq!(rt; auction.goods(), 3);
+    expect_atom(rt, alloc, auction.or_atoms(), &[1], 7 * UNIT)?;
+    assert_eq!(rt; auction.xor_bidders().len(), 2);
+    expect_atom(rt, alloc, &auction.xor_bidders()[0], &[0, 2], 20 * UNIT)?;
+    assert!(rt; auction.xor_bidders()[1].is_empty());
+    let (goods, or_atoms, xor_bidders) = auction.into_parts();
+    let again = Auction::new(goods, or_atoms, xor_bidders);
+    assert_eq!(rt; again.goods(), 3);
+    expect_atom(rt, alloc, again.or_atoms(), &[1], 7 * UNIT)
+}
+
+#[test]
+fn auctions_of_files(rt: HostRuntime) -> Result<(), Fail> {
+    auction_of_small_file::<ListSet>(&rt, rt.alloc())?;
+    auction_of_small_file::<WordSet<64>>(&rt, rt.alloc())
 }
