@@ -1,10 +1,13 @@
 //! Laws of the definitions, which the check proves.
 ghost use Rattle.std.specs.Prelude.{◌≡◌, ℕ, ◌+◌, ◌<◌, ◌≤◌, List, ◌∷◌, length, All, IsPermutation};
+ghost use Rattle.std.specs.Cmp.{IsTotalOrder};
+ghost use Rattle.std.specs.declared.cmp.Ordering.TheVariants.{Equal};
 ghost use Rattle.goods_set.specs.Bundles.{IsInside, AreApart};
 ghost use Rattle.cats_text.specs.Files.{PlainFile, IsPlainFile};
 ghost use Rattle.valuation.specs.declared.atom.Atom.{Atom};
 ghost use Rattle.valuation.specs.Values.{xor_value, or_value, chosen_places};
 ghost use Rattle.valuation.specs.Packings.{atoms_at, price_sum, count_packings, IsBestPacking, AreThePackings};
+ghost use Rattle.valuation.specs.Orders.{atom_cmp, bidder_cmp};
 ghost use Rattle.valuation.specs.Auctions.{IsAuction, auction_from};
 
 /// The OR value is the price sum of the atoms at the chosen places. These are pairwise apart and inside the bundle, and no
@@ -33,6 +36,14 @@ pub fn or_value_laws()
     ensures any_order { (some other : List (Atom (List ℕ))) → IsPermutation some other → (bundle : List ℕ) → or_value some bundle ≡ or_value other bundle }
     ensures parts { (atoms : List (Atom (List ℕ))) → All (λ a. 0 < length a.bundle) atoms → (one other whole : List ℕ) → IsInside one whole → IsInside other whole → AreApart one other → or_value atoms one + or_value atoms other ≤ or_value atoms whole }
     ensures outbid { (a : Atom (List ℕ)) (rest : List (Atom (List ℕ))) → All (λ a. 0 < length a.bundle) rest → a.price ≤ or_value rest a.bundle → (bundle : List ℕ) → or_value (a ∷ rest) bundle ≡ or_value rest bundle }
+{}
+
+/// The orders of atoms and of bidders are total, and answer Equal only for equal ones.
+pub fn order_laws()
+    ensures atoms { IsTotalOrder atom_cmp }
+    ensures equal_atoms { (a b : Atom (List ℕ)) → atom_cmp a b ≡ Equal → a ≡ b }
+    ensures bidders { IsTotalOrder bidder_cmp }
+    ensures equal_bidders { (some other : List (Atom (List ℕ))) → bidder_cmp some other ≡ Equal → some ≡ other }
 {}
 
 /// The auction that a file stands for keeps the limits of auctions, where its goods fit the sets.
