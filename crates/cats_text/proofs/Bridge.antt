@@ -47,6 +47,7 @@ complete_fault_is_first bytes e h = by_run (run first_state (settled bytes)) ref
   where
     no : None ≡ Some e → ⊥
     no q = cc
+
     by_run : (r : Scan) → run first_state (settled bytes) ≡ r → first_fault bytes ≡ Some e
     by_run (Ok s) is = absurd (no (sym (goes_on_without_fault bytes s is) ∙ h))
     by_run (Err c) is = stopped bytes c is ∙ sym (stops_at_complete_fault bytes c is) ∙ h
@@ -57,8 +58,10 @@ complete_fault-append bytes rest e h = by_run (run first_state (settled bytes)) 
   where
     no : None ≡ Some e → ⊥
     no q = cc
+
     more : List ℕ
     more = settled (carried (waits bytes) rest)
+
     by_run : (r : Scan) → run first_state (settled bytes) ≡ r → complete_fault (bytes ++ rest) ≡ Some e
     by_run (Ok s) is = absurd (no (sym (goes_on_without_fault bytes s is) ∙ h))
     by_run (Err c) is = stops_at_complete_fault (bytes ++ rest) c
@@ -105,6 +108,7 @@ met_at_end s t (b ∷ bs) h i = inr (step (byte_step s b) h (λ u e. met_at_end 
   where
     no : (e : ReadFault) → err e ≡ ok t → ⊥
     no e q = cc
+
     step : (r : Scan) → and_then r (λ u. run u bs) ≡ ok t → ((u : State) → run u bs ≡ ok t → MeetsBidLine u bs) → IsOkAnd r (λ u. MeetsBidLine u bs)
     step (Ok u) e next = next u e
     step (Err c) e next = absurd (no c e)

@@ -41,7 +41,11 @@ pub const HEADER_TEXTS: [(&[u8], u64, Kind); 27] = [
 #[test]
 fn faults_of_header_lines(rt: HostRuntime) -> Result<(), Fail> {
     for (place, (text, line, kind)) in HEADER_TEXTS.into_iter().enumerate() {
-        assert_eq!(rt; fault_of(rt.alloc(), text), fault(line, kind), "row {place}");
+        assert_eq!(rt;
+            fault_of(rt.alloc(), text),
+            fault(line, kind),
+            "row {place}"
+        );
     }
     Ok(())
 }
@@ -100,32 +104,96 @@ fn faults_of_bid_lines(rt: HostRuntime) -> Result<(), Fail> {
 /// Texts, and the lines and kinds of their faults.
 pub const BID_TEXTS: [(&[u8], u64, Kind); 21] = [
     (b"goods 1\nbids 1\ndummy 1\n0 1 1 #\n", 4, Kind::EmptyBundle),
-    (b"goods 1\nbids 1\ndummy 2\n0 1 0 1 2 #\n", 4, Kind::TwoDummies),
-    (b"goods 1\nbids 1\ndummy 2\n0 1 0 1 1 #\n", 4, Kind::RepeatedGood),
-    (b"goods 1\nbids 1\ndummy 2\n0 1 1 2 #\n", 4, Kind::TwoDummies),
+    (
+        b"goods 1\nbids 1\ndummy 2\n0 1 0 1 2 #\n",
+        4,
+        Kind::TwoDummies,
+    ),
+    (
+        b"goods 1\nbids 1\ndummy 2\n0 1 0 1 1 #\n",
+        4,
+        Kind::RepeatedGood,
+    ),
+    (
+        b"goods 1\nbids 1\ndummy 2\n0 1 1 2 #\n",
+        4,
+        Kind::TwoDummies,
+    ),
     (b"goods 1\nbids 1\ndummy 2\n0 1 0 3 #\n", 4, Kind::GoodRange),
     (b"goods 0\nbids 1\ndummy 1\n0 1 0 #\n", 4, Kind::EmptyBundle),
-    (b"goods 2\nbids 2\ndummy 2\n0\t1\t0\t2\t#\n1\t1\t1\t2\t3\t#\n", 5, Kind::TwoDummies),
-    (b"goods 2\nbids 2\ndummy 2\n0\t1\t0\t2\t#\n1\t1\t1\t2\t2\t#\n", 5, Kind::RepeatedGood),
-    (b"goods 2\nbids 1\ndummy 0\n0\t1\t0\t#\n0 1 0 #\n", 5, Kind::ExtraBid),
-    (b"goods 2\nbids 1\ndummy 0\n0\t1\t0\t#\nx\n", 5, Kind::NotANumber),
-    (b"goods 2\nbids 2\ndummy 0\n0\t1\t0\t#\n0 1 1 #\n", 5, Kind::RepeatedNumber),
-    (b"goods 1\nbids 3\ndummy 0\n0\t1\t0\t#\n0\t3\t0\t#\n1\t2\t0\t#\n", 5, Kind::RepeatedNumber),
-    (b"goods 1\nbids 3\ndummy 0\n2\t1\t0\t#\n0\t3\t0\t#\n2\t2\t0\t#\n", 6, Kind::RepeatedNumber),
+    (
+        b"goods 2\nbids 2\ndummy 2\n0\t1\t0\t2\t#\n1\t1\t1\t2\t3\t#\n",
+        5,
+        Kind::TwoDummies,
+    ),
+    (
+        b"goods 2\nbids 2\ndummy 2\n0\t1\t0\t2\t#\n1\t1\t1\t2\t2\t#\n",
+        5,
+        Kind::RepeatedGood,
+    ),
+    (
+        b"goods 2\nbids 1\ndummy 0\n0\t1\t0\t#\n0 1 0 #\n",
+        5,
+        Kind::ExtraBid,
+    ),
+    (
+        b"goods 2\nbids 1\ndummy 0\n0\t1\t0\t#\nx\n",
+        5,
+        Kind::NotANumber,
+    ),
+    (
+        b"goods 2\nbids 2\ndummy 0\n0\t1\t0\t#\n0 1 1 #\n",
+        5,
+        Kind::RepeatedNumber,
+    ),
+    (
+        b"goods 1\nbids 3\ndummy 0\n0\t1\t0\t#\n0\t3\t0\t#\n1\t2\t0\t#\n",
+        5,
+        Kind::RepeatedNumber,
+    ),
+    (
+        b"goods 1\nbids 3\ndummy 0\n2\t1\t0\t#\n0\t3\t0\t#\n2\t2\t0\t#\n",
+        6,
+        Kind::RepeatedNumber,
+    ),
     (b"goods 2\nbids 0\ndummy 3\n0 1 0 #\n", 4, Kind::ExtraBid),
     (b"goods 2\nbids 0\ndummy 3\n5 1 0 #\n", 4, Kind::ExtraBid),
     (b"goods 1\nbids 1\ndummy 0\n", 4, Kind::Missing),
-    (b"goods 1\nbids 3\ndummy 0\n0\t5\t0\t#\n1\t5\t0\t#\n2 5 0", 6, Kind::NoEnd),
-    (b"goods 1\nbids 3\ndummy 0\n0\t5\t0\t#\n1\t5\t0\t#\n", 6, Kind::Missing),
-    (b"goods 1\nbids 3\ndummy 0\n0\t5\t0\t#\n1\t5\t0\t#\n%", 7, Kind::Missing),
-    (b"goods 1\nbids 3\ndummy 0\n0\t5\t0\t#\n1\t5\t0\t#\n\r", 7, Kind::Missing),
-    (b"goods 1\nbids 1\ndummy 0\n\r%\n0 5 0 #\n", 4, Kind::NotANumber),
+    (
+        b"goods 1\nbids 3\ndummy 0\n0\t5\t0\t#\n1\t5\t0\t#\n2 5 0",
+        6,
+        Kind::NoEnd,
+    ),
+    (
+        b"goods 1\nbids 3\ndummy 0\n0\t5\t0\t#\n1\t5\t0\t#\n",
+        6,
+        Kind::Missing,
+    ),
+    (
+        b"goods 1\nbids 3\ndummy 0\n0\t5\t0\t#\n1\t5\t0\t#\n%",
+        7,
+        Kind::Missing,
+    ),
+    (
+        b"goods 1\nbids 3\ndummy 0\n0\t5\t0\t#\n1\t5\t0\t#\n\r",
+        7,
+        Kind::Missing,
+    ),
+    (
+        b"goods 1\nbids 1\ndummy 0\n\r%\n0 5 0 #\n",
+        4,
+        Kind::NotANumber,
+    ),
 ];
 
 #[test]
 fn faults_after_other_headers_and_bids(rt: HostRuntime) -> Result<(), Fail> {
     for (place, (text, line, kind)) in BID_TEXTS.into_iter().enumerate() {
-        assert_eq!(rt; fault_of(rt.alloc(), text), fault(line, kind), "row {place}");
+        assert_eq!(rt;
+            fault_of(rt.alloc(), text),
+            fault(line, kind),
+            "row {place}"
+        );
     }
     Ok(())
 }

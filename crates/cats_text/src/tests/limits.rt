@@ -51,17 +51,21 @@ fn above_the_greatest_sizes(rt: HostRuntime) -> Result<(), Fail> {
         ),
     ];
     for (place, (text, line, kind)) in rows.into_iter().enumerate() {
-        assert_eq!(rt; fault_of(rt.alloc(), text), fault(line, kind), "row {place}");
+        assert_eq!(rt;
+            fault_of(rt.alloc(), text),
+            fault(line, kind),
+            "row {place}"
+        );
     }
     Ok(())
 }
 
-/// The text of as many bids as there may be, each on good 0 and a dummy of its own, with its number as its price. The bid
-/// that stands at place i has the number that `number` gives for i.
-fn many_bids<F: Fn(u32) -> u32>(alloc: Global, number: F) -> Result<Vec<u8>, AllocError> {
+/// The text of as many bids as there may be, each on good 0 and a dummy of its own, with its number as its price. The first
+/// has the number `first`, and from one to the next the number rises by `step`, going round at the end.
+fn many_bids(alloc: Global, first: u32, step: u32) -> Result<Vec<u8>, AllocError> {
     let mut text = joined(alloc, &[b"goods 1\nbids 65536\ndummy 65536\n"])?;
-    for place in 0..65_536 {
-        let bid = number(place);
+    for place in 0..65_536_u32 {
+        let bid = first.wrapping_add(place.wrapping_mul(step)) % 65_536;
         let good = bid.saturating_add(1);
         let line = format!(in alloc; "{bid}\t{bid}\t0\t{good}\t#\n")?;
         text.extend_from_slice(line.as_bytes())?;
@@ -71,9 +75,9 @@ fn many_bids<F: Fn(u32) -> u32>(alloc: Global, number: F) -> Result<Vec<u8>, All
 
 #[test]
 fn most_bids_in_any_order(rt: HostRuntime) -> Result<(), Fail> {
-    let rising = many_bids(rt.alloc(), |place| place)?;
-    let falling = many_bids(rt.alloc(), |place| 65_535_u32.saturating_sub(place))?;
-    let shuffled = many_bids(rt.alloc(), |place| place.wrapping_mul(40_503) % 65_536)?;
+    let rising = many_bids(rt.alloc(), 0, 1)?;
+    let falling = many_bids(rt.alloc(), 65_535, 65_535)?;
+    let shuffled = many_bids(rt.alloc(), 7, 40_503)?;
     for text in [&rising, &falling, &shuffled] {
         assert_eq!(rt; sizes(rt.alloc(), text), Ok((1, 65_536, 65_536)));
         let out = written(rt.alloc(), text)?;
@@ -81,8 +85,11 @@ fn most_bids_in_any_order(rt: HostRuntime) -> Result<(), Fail> {
     }
     let more = joined(rt.alloc(), &[shuffled.as_slice(), b"7 1 0 #\n"])?;
     assert_eq!(rt; fault_of(rt.alloc(), &more), fault(65_540, Kind::ExtraBid));
-    let twice = many_bids(rt.alloc(), |place| place.min(65_534))?;
-    assert_eq!(rt; fault_of(rt.alloc(), &twice), fault(65_539, Kind::RepeatedNumber));
+    let twice = many_bids(rt.alloc(), 0, 2)?;
+    assert_eq!(rt;
+        fault_of(rt.alloc(), &twice),
+        fault(32_772, Kind::RepeatedNumber)
+    );
     Ok(())
 }
 
@@ -99,6 +106,9 @@ fn all_goods_in_falling_order(rt: HostRuntime) -> Result<(), Fail> {
     text.extend_from_slice(b" #\n")?;
     want.extend_from_slice(b"\t4096\t#\n")?;
     assert_eq!(rt; written(rt.alloc(), &text)?.as_slice(), want.as_slice());
-    assert_eq!(rt; fault_of(rt.alloc(), &repeated), fault(4, Kind::RepeatedGood));
+    assert_eq!(rt;
+        fault_of(rt.alloc(), &repeated),
+        fault(4, Kind::RepeatedGood)
+    );
     Ok(())
 }

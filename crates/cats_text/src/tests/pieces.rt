@@ -1,5 +1,7 @@
 //! Texts that come in pieces.
 
+ghost use Rattle.std.specs.Prelude.{◌<◌, ◌^◌};
+
 use super::faults::{BID_LINES, BID_TEXTS, HEADER_TEXTS, TWO_GOODS};
 use super::whole_files::{ACCEPTED, CATS};
 use super::{Outcome, fault, fault_of, joined, many, outcome, outcome_of, read_pieces};
@@ -77,7 +79,11 @@ fn first_bytes_of_a_file(rt: HostRuntime) -> Result<(), Fail> {
         for count in counts {
             let text = CATS.get(..count).ok_or("too short")?;
             assert_eq!(rt; fault_of(rt.alloc(), text), want, "{count} bytes");
-            assert_eq!(rt; outcome_of_bytes(rt.alloc(), text)?.err(), want, "{count} bytes");
+            assert_eq!(rt;
+                outcome_of_bytes(rt.alloc(), text)?.err(),
+                want,
+                "{count} bytes"
+            );
         }
     }
     Ok(())
@@ -106,11 +112,19 @@ fn returns_wait_for_the_next_byte(rt: HostRuntime) -> Result<(), Fail> {
     let header = fault(1, Kind::Header);
     let rows: [(&[&[u8]], &[Option<ReadFault>], Option<ReadFault>); 9] = [
         (&[b"goods 0\r", b"\nbids 0\ndummy 0\n"], &[None, None], None),
-        (&[b"goods 0\r", b"1", b"\n"], &[None, None, not_a_number], not_a_number),
+        (
+            &[b"goods 0\r", b"1", b"\n"],
+            &[None, None, not_a_number],
+            not_a_number,
+        ),
         (&[b"\r%", b" "], &[None, header], header),
         (&[b"\r", b"%", b"\n"], &[None, None, header], header),
         (&[b"\r", b"\r", b"\n"], &[None, None, header], header),
-        (&[b"\r", b"", b"\n"], &[None, None, None], fault(2, Kind::Missing)),
+        (
+            &[b"\r", b"", b"\n"],
+            &[None, None, None],
+            fault(2, Kind::Missing),
+        ),
         (&[b"\r"], &[None], fault(2, Kind::Missing)),
         (&[b"x\r"], &[None], header),
         (&[b"x\r", b"\n"], &[None, header], header),
@@ -132,8 +146,18 @@ fn limits_and_ends_of_readers(rt: HostRuntime) -> Result<(), Fail> {
         (4, &[b"goods 0\n"], &[too_long], too_long),
         (6, &[b"x y z 1", b"goods"], &[header, header], header),
         (6, &[b"x y z 1", b""], &[header, header], header),
-        (8, &[b"goods 0\n", b"", b"b"], &[None, None, too_long], too_long),
-        (8, &[b"goods 0\n", b"b", b""], &[None, too_long, too_long], too_long),
+        (
+            8,
+            &[b"goods 0\n", b"", b"b"],
+            &[None, None, too_long],
+            too_long,
+        ),
+        (
+            8,
+            &[b"goods 0\n", b"b", b""],
+            &[None, too_long, too_long],
+            too_long,
+        ),
         (1, &[b"x "], &[too_long], too_long),
         (2, &[b"x "], &[header], header),
         (0, &[b""], &[None], fault(1, Kind::Missing)),

@@ -9,10 +9,12 @@ use crate::stream::{Watched, read_from, send};
 use std::test::Fail;
 
 /// Another text of the file "goods 2, bids 1, dummy 0, bid 0 of price 5 on the goods 0 and 1".
-const LENIENT: &[u8] = b"%% \xff\xe9\r\n\r\n \t% note\ngoods\t002\r\nbids  1 \r\n dummy 0\r\n\r\n00 0005 1 0 #\r";
+const LENIENT: &[u8] =
+    b"%% \xff\xe9\r\n\r\n \t% note\ngoods\t002\r\nbids  1 \r\n dummy 0\r\n\r\n00 0005 1 0 #\r";
 
 /// As CATS lays a file out.
-pub const CATS: &[u8] = b"%% a comment\n\ngoods 3\nbids 2\ndummy 1\n\n0\t20\t0\t2\t3\t#\n1\t7\t1\t#\n";
+pub const CATS: &[u8] =
+    b"%% a comment\n\ngoods 3\nbids 2\ndummy 1\n\n0\t20\t0\t2\t3\t#\n1\t7\t1\t#\n";
 
 /// Texts, and what is written of their files.
 pub const ACCEPTED: [(&[u8], &[u8]); 9] = [
