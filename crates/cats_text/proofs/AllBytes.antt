@@ -28,10 +28,12 @@ text_of-lines (b ∷ bs) = joined b (raw_lines bs) ∙ ap (λ ds. b ∷ ds) (tex
     front : (b : ℕ) (ls : List RawLine) → text_of (with_byte b ls) ≡ b ∷ text_of ls
     front b [] = refl
     front b (l ∷ ls) = refl
+
     joined : (b : ℕ) (ls : List RawLine) → text_of (lines_with b ls) ≡ b ∷ text_of ls
     joined b ls = elim (eqb b 10) as (λ t. eqb b 10 ≡ t → text_of (cond t (record { bytes = []; ended = true } ∷ ls) (with_byte b ls)) ≡ b ∷ text_of ls) [
-        true ↦ λ (e : eqb b 10 ≡ true). ap (λ c. c ∷ text_of ls) (sym (eqb-true b 10 e))
-      | false ↦ λ (e : eqb b 10 ≡ false). front b ls ] refl
+      | true ↦ λ (e : eqb b 10 ≡ true). ap (λ c. c ∷ text_of ls) (sym (eqb-true b 10 e))
+      | false ↦ λ (e : eqb b 10 ≡ false). front b ls
+    ] refl
 
 -- no LF in a line; only the last may lack one behind it, and then it is not empty
 abbrev pub AreRaw : List RawLine → Type 0
@@ -54,8 +56,9 @@ AreRaw-lines (b ∷ bs) = joined b (raw_lines bs) (AreRaw-lines bs)
   where
     joined : (b : ℕ) (ls : List RawLine) → AreRaw ls → AreRaw (lines_with b ls)
     joined b ls r = elim (eqb b 10) as (λ t. eqb b 10 ≡ t → AreRaw (cond t (record { bytes = []; ended = true } ∷ ls) (with_byte b ls))) [
-        true ↦ λ (e : eqb b 10 ≡ true). raw_ended ls r
-      | false ↦ λ (e : eqb b 10 ≡ false). raw_with_byte b ls e r ] refl
+      | true ↦ λ (e : eqb b 10 ≡ true). raw_ended ls r
+      | false ↦ λ (e : eqb b 10 ≡ false). raw_with_byte b ls e r
+    ] refl
 
 -- ---- a line and its LF
 
@@ -84,12 +87,14 @@ quiet_words n (w ∷ ws) p = refl
 pub line_then : (n : ℕ) (ws : List Word) (p : Progress) (f : State → Scan) (g : Progress → Scan) → ((m : Mode) (q : Progress) → f (standing m n q) ≡ g q)
     → and_then (and_then (fresh_outcome n ws p) words_step) f ≡ then_from (line_outcome n ws p) g
 line_then n ws p f g same = elim (is_significant ws) as (λ t. and_then (and_then (cond t (lifted n Between (words_read ws p)) (Ok (standing (quiet ws) n p))) words_step) f ≡ then_from (cond t (on_line n (reading_then (words_read ws p) line_read)) (Ok p)) g) [
-    true ↦ by_words (words_read ws p)
-  | false ↦ ap (λ r. and_then r f) (quiet_words n ws p) ∙ same (quiet ws) p ]
+  | true ↦ by_words (words_read ws p)
+  | false ↦ ap (λ r. and_then r f) (quiet_words n ws p) ∙ same (quiet ws) p
+]
   where
     at_end : (q : Progress) (r : Reading) → and_then (with_reading (standing Between n q) Between r) f ≡ then_from (on_line n r) g
     at_end q (Ok s) = same Between s
     at_end q (Err kind) = refl
+
     by_words : (r : Reading) → and_then (and_then (lifted n Between r) words_step) f ≡ then_from (on_line n (reading_then r line_read)) g
     by_words (Ok q) = at_end q (line_read q)
     by_words (Err kind) = refl
@@ -105,6 +110,7 @@ line_and_rest n p bytes rest h =
   where
     one : (t : State) → run t (10 ∷ rest) ≡ and_then (and_then (blank_step t) words_step) (λ u. and_then (next_line u) (λ v. run v rest))
     one t = and_then-assoc (and_then (blank_step t) words_step) next_line (λ u. run u rest)
+
     regroup : (r : Scan) → and_then r (λ t. run t (10 ∷ rest)) ≡ and_then (and_then (and_then r blank_step) words_step) (λ t. and_then (next_line t) (λ u. run u rest))
     regroup (Ok t) = one t
     regroup (Err e) = refl
@@ -118,12 +124,14 @@ scan_then (Err e) f = Err e
 line_then_outcome : (n : ℕ) (ws : List Word) (p : Progress) (f : State → Scanned) (g : Progress → Scanned) → ((m : Mode) (q : Progress) → f (standing m n q) ≡ g q)
     → scan_then (and_then (fresh_outcome n ws p) words_step) f ≡ scanned_then (line_outcome n ws p) g
 line_then_outcome n ws p f g same = elim (is_significant ws) as (λ t. scan_then (and_then (cond t (lifted n Between (words_read ws p)) (Ok (standing (quiet ws) n p))) words_step) f ≡ scanned_then (cond t (on_line n (reading_then (words_read ws p) line_read)) (Ok p)) g) [
-    true ↦ by_words (words_read ws p)
-  | false ↦ ap (λ r. scan_then r f) (quiet_words n ws p) ∙ same (quiet ws) p ]
+  | true ↦ by_words (words_read ws p)
+  | false ↦ ap (λ r. scan_then r f) (quiet_words n ws p) ∙ same (quiet ws) p
+]
   where
     at_end : (q : Progress) (r : Reading) → scan_then (with_reading (standing Between n q) Between r) f ≡ scanned_then (on_line n r) g
     at_end q (Ok s) = same Between s
     at_end q (Err kind) = refl
+
     by_words : (r : Reading) → scan_then (and_then (lifted n Between r) words_step) f ≡ scanned_then (on_line n (reading_then r line_read)) g
     by_words (Ok q) = at_end q (line_read q)
     by_words (Err kind) = refl
@@ -165,9 +173,10 @@ begun_letter (Inside w) n p b = refl
 
 pub begun_byte : (s t : State) (b : ℕ) → eqb b 10 ≡ false → byte_step s b ≡ Ok t → HasBegun s t
 begun_byte s t b h e = elim (is_blank b) as (λ q. is_blank b ≡ q → HasBegun s t) [
-    true ↦ λ (q : is_blank b ≡ true). begun_blank s.mode s.line s.progress t (sym (byte_blank s b h q) ∙ e)
+  | true ↦ λ (q : is_blank b ≡ true). begun_blank s.mode s.line s.progress t (sym (byte_blank s b h q) ∙ e)
   | false ↦ λ (q : is_blank b ≡ false). let is : record s { mode = letter_mode s.mode b } ≡ t = state_ok (record s { mode = letter_mode s.mode b }) t (sym (byte_letter s b h q) ∙ e) in
-      subst (HasBegun s) is (record { line = refl; behind = begun_letter s.mode s.line s.progress b }) ] refl
+      subst (HasBegun s) is (record { line = refl; behind = begun_letter s.mode s.line s.progress b })
+] refl
 
 begun_run : (s t : State) (bytes : List ℕ) → AllByRecursion IsNoEnd bytes → line_behind s ≡ suc s.line → run s bytes ≡ Ok t → HasBegun s t
 begun_run s t [] h b e = subst (HasBegun s) (state_ok s t e) (record { line = refl; behind = b })
@@ -216,6 +225,7 @@ last_line n p b bytes h =
     inner : (r : Scan) (k : ℕ) → outcome (and_then r (missing_step k)) ≡ scan_then r (λ t. outcome (missing_step k t))
     inner (Ok t) k = refl
     inner (Err e) k = refl
+
     regroup : (r : Scan) → ((t : State) → r ≡ Ok t → line_behind t ≡ suc n) → outcome (and_then r end_step) ≡ scan_then (and_then (and_then r blank_step) words_step) (λ t. outcome (missing_step (suc n) t))
     regroup (Ok t) behind = ap (λ k. outcome (and_then (and_then (blank_step t) words_step) (missing_step k))) (behind t refl) ∙ inner (and_then (blank_step t) words_step) (suc n)
     regroup (Err e) behind = refl
@@ -227,19 +237,22 @@ tail_raw l (m ∷ ls) r = (r.0, r.2)
 pub whole_text : (n : ℕ) (p : Progress) (ls : List RawLine) → AreRaw ls → outcome (and_then (run (standing Start n p) (text_of ls)) end_step) ≡ raw_scan true n ls p
 whole_text n p [] r = due_is n (standing Blank n p)
 whole_text n p (l ∷ ls) r = elim l.ended as (λ t. l.ended ≡ t → outcome (and_then (run (standing Start n p) (l.bytes ++ cond t (10 ∷ text_of ls) (text_of ls))) end_step)
-        ≡ cond (t || true) (scanned_then (line_outcome n (line_words l.bytes) p) (raw_scan true (suc n) ls)) (open_outcome n (line_words l.bytes) p)) [
-    true ↦ λ (e : l.ended ≡ true). let parts = tail_raw l ls r in ap (λ x. outcome (and_then x end_step)) (line_and_rest n p l.bytes (text_of ls) parts.0)
-      ∙ outcome_then (line_outcome n (line_words l.bytes) p) (λ q. run (standing Start (suc n) q) (text_of ls)) end_step
-      ∙ on_outcome (line_outcome n (line_words l.bytes) p) (λ q. whole_text (suc n) q ls parts.1)
-  | false ↦ λ (e : l.ended ≡ false). at_last l ls r e ] refl
+    ≡ cond (t || true) (scanned_then (line_outcome n (line_words l.bytes) p) (raw_scan true (suc n) ls)) (open_outcome n (line_words l.bytes) p)) [
+      | true ↦ λ (e : l.ended ≡ true). let parts = tail_raw l ls r in ap (λ x. outcome (and_then x end_step)) (line_and_rest n p l.bytes (text_of ls) parts.0)
+          ∙ outcome_then (line_outcome n (line_words l.bytes) p) (λ q. run (standing Start (suc n) q) (text_of ls)) end_step
+          ∙ on_outcome (line_outcome n (line_words l.bytes) p) (λ q. whole_text (suc n) q ls parts.1)
+      | false ↦ λ (e : l.ended ≡ false). at_last l ls r e
+    ] refl
   where
     on_outcome : (o : Scanned) → ((q : Progress) → outcome (and_then (run (standing Start (suc n) q) (text_of ls)) end_step) ≡ raw_scan true (suc n) ls q)
         → scanned_then o (λ q. outcome (and_then (run (standing Start (suc n) q) (text_of ls)) end_step)) ≡ scanned_then o (raw_scan true (suc n) ls)
     on_outcome (Ok q) h = h q
     on_outcome (Err e) h = refl
+
     at_bytes : (bytes : List ℕ) → AllByRecursion IsNoEnd bytes → 0 < length bytes → outcome (and_then (run (standing Start n p) (bytes ++ [])) end_step) ≡ scanned_then (line_outcome n (line_words bytes) p) (due_outcome (suc n))
     at_bytes [] h l = absurd (let no : 0 < 0 = l in omega arith)
     at_bytes (b ∷ bs) h l = ap (λ ds. outcome (and_then (run (standing Start n p) ds) end_step)) (append-nil (b ∷ bs)) ∙ last_line n p b bs h
+
     at_last : (l : RawLine) (ls : List RawLine) → AreRaw (l ∷ ls) → l.ended ≡ false → outcome (and_then (run (standing Start n p) (l.bytes ++ text_of ls)) end_step) ≡ scanned_then (line_outcome n (line_words l.bytes) p) (raw_scan true (suc n) ls)
     at_last l [] r e = at_bytes l.bytes r.0 (r.1 e)
     at_last l (m ∷ ms) r e = absurd (both_ways l.ended e r.1)

@@ -76,9 +76,10 @@ significant_letter b bs e = joined (line_words bs)
     front : (ws : List Word) → is_significant (with_letter b ws) ≡ not (eqb b 37)
     front [] = refl
     front (w ∷ ws) = refl
+
     joined : (ws : List Word) → is_significant (words_with b bs ws) ≡ not (eqb b 37)
     joined ws = ap (λ t. is_significant (cond t ws (cond (begins_word bs) (with_letter b ws) ((b ∷ []) ∷ ws)))) e
-      ∙ (elim (begins_word bs) as (λ t. is_significant (cond t (with_letter b ws) ((b ∷ []) ∷ ws)) ≡ not (eqb b 37)) [ true ↦ front ws | false ↦ refl ])
+        ∙ (elim (begins_word bs) as (λ t. is_significant (cond t (with_letter b ws) ((b ∷ []) ∷ ws)) ≡ not (eqb b 37)) [ true ↦ front ws | false ↦ refl ])
 
 counted_first : (ls : List RawLine) → counted 1 ls ≡ one_if (is_significant (line_words (first_bytes ls))) + counted 1 (behind_first ls)
 counted_first [] = refl
@@ -92,9 +93,10 @@ record Begins (text : List ℕ) : Type 0 where
 begins_lf : (b : ℕ) (bs : List ℕ) → eqb b 10 ≡ true → Begins bs → Begins (b ∷ bs)
 begins_lf b bs e h = record {
   fresh = begins-cons false b bs ∙ ap (λ t. cond t (begins_after false bs) (cond (is_blank b) (begins_after false bs) (cond (eqb b 37) (begins_after true bs) (suc (begins_after true bs))))) e ∙ h.fresh
-    ∙ sym (counted_first (lines_with b (raw_lines bs)) ∙ ap (λ t. one_if (is_significant (line_words (first_bytes (cond t (record { bytes = []; ended = true } ∷ raw_lines bs) (with_byte b (raw_lines bs)))))) + counted 1 (behind_first (cond t (record { bytes = []; ended = true } ∷ raw_lines bs) (with_byte b (raw_lines bs))))) e ∙ omega arith);
+      ∙ sym (counted_first (lines_with b (raw_lines bs)) ∙ ap (λ t. one_if (is_significant (line_words (first_bytes (cond t (record { bytes = []; ended = true } ∷ raw_lines bs) (with_byte b (raw_lines bs)))))) + counted 1 (behind_first (cond t (record { bytes = []; ended = true } ∷ raw_lines bs) (with_byte b (raw_lines bs))))) e ∙ omega arith);
   later = begins-cons true b bs ∙ ap (λ t. cond t (begins_after false bs) (begins_after true bs)) e ∙ h.fresh
-    ∙ sym (ap (λ t. counted 1 (behind_first (cond t (record { bytes = []; ended = true } ∷ raw_lines bs) (with_byte b (raw_lines bs))))) e) }
+      ∙ sym (ap (λ t. counted 1 (behind_first (cond t (record { bytes = []; ended = true } ∷ raw_lines bs) (with_byte b (raw_lines bs))))) e);
+}
 
 first_with : (b : ℕ) (ls : List RawLine) → first_bytes (with_byte b ls) ≡ b ∷ first_bytes ls
 first_with b [] = refl
@@ -110,19 +112,23 @@ lines_other b ls e = ap (λ t. cond t (record { bytes = []; ended = true } ∷ l
 begins_other : (b : ℕ) (bs : List ℕ) → eqb b 10 ≡ false → Begins bs → Begins (b ∷ bs)
 begins_other b bs e h = record {
   fresh = begins-cons false b bs ∙ ap (λ t. cond t (begins_after false bs) (cond (is_blank b) (begins_after false bs) (cond (eqb b 37) (begins_after true bs) (suc (begins_after true bs))))) e
-    ∙ by_blank ∙ sym whole;
-  later = begins-cons true b bs ∙ ap (λ t. cond t (begins_after false bs) (begins_after true bs)) e ∙ h.later ∙ sym (ap (counted 1) (ap behind_first (lines_other b (raw_lines bs) e) ∙ behind_with b (raw_lines bs))) }
+      ∙ by_blank ∙ sym whole;
+  later = begins-cons true b bs ∙ ap (λ t. cond t (begins_after false bs) (begins_after true bs)) e ∙ h.later ∙ sym (ap (counted 1) (ap behind_first (lines_other b (raw_lines bs) e) ∙ behind_with b (raw_lines bs)));
+}
   where
     whole : counted 1 (raw_lines (b ∷ bs)) ≡ one_if (is_significant (line_words (b ∷ first_bytes (raw_lines bs)))) + counted 1 (behind_first (raw_lines bs))
     whole = counted_first (raw_lines (b ∷ bs)) ∙ ap (λ (ls : List RawLine). one_if (is_significant (line_words (first_bytes ls))) + counted 1 (behind_first ls)) (lines_other b (raw_lines bs) e)
-      ∙ ap (λ (ds : List ℕ). one_if (is_significant (line_words ds)) + counted 1 (behind_first (with_byte b (raw_lines bs)))) (first_with b (raw_lines bs))
-      ∙ ap (λ (ls : List RawLine). one_if (is_significant (line_words (b ∷ first_bytes (raw_lines bs)))) + counted 1 ls) (behind_with b (raw_lines bs))
+        ∙ ap (λ (ds : List ℕ). one_if (is_significant (line_words ds)) + counted 1 (behind_first (with_byte b (raw_lines bs)))) (first_with b (raw_lines bs))
+        ∙ ap (λ (ls : List RawLine). one_if (is_significant (line_words (b ∷ first_bytes (raw_lines bs)))) + counted 1 ls) (behind_with b (raw_lines bs))
+
     by_blank : cond (is_blank b) (begins_after false bs) (cond (eqb b 37) (begins_after true bs) (suc (begins_after true bs))) ≡ one_if (is_significant (line_words (b ∷ first_bytes (raw_lines bs)))) + counted 1 (behind_first (raw_lines bs))
     by_blank = elim (is_blank b) as (λ t. is_blank b ≡ t → cond t (begins_after false bs) (cond (eqb b 37) (begins_after true bs) (suc (begins_after true bs))) ≡ one_if (is_significant (line_words (b ∷ first_bytes (raw_lines bs)))) + counted 1 (behind_first (raw_lines bs))) [
-        true ↦ λ (q : is_blank b ≡ true). h.fresh ∙ counted_first (raw_lines bs) ∙ ap (λ ws. one_if (is_significant ws) + counted 1 (behind_first (raw_lines bs))) (sym (words_blank b (first_bytes (raw_lines bs)) q))
+      | true ↦ λ (q : is_blank b ≡ true). h.fresh ∙ counted_first (raw_lines bs) ∙ ap (λ ws. one_if (is_significant ws) + counted 1 (behind_first (raw_lines bs))) (sym (words_blank b (first_bytes (raw_lines bs)) q))
       | false ↦ λ (q : is_blank b ≡ false). (elim (eqb b 37) as (λ t. cond t (begins_after true bs) (suc (begins_after true bs)) ≡ one_if (not t) + counted 1 (behind_first (raw_lines bs))) [
-            true ↦ h.later ∙ omega arith
-          | false ↦ ap suc h.later ∙ omega arith ]) ∙ ap (λ t. one_if t + counted 1 (behind_first (raw_lines bs))) (sym (significant_letter b (first_bytes (raw_lines bs)) q)) ] refl
+        | true ↦ h.later ∙ omega arith
+        | false ↦ ap suc h.later ∙ omega arith
+      ]) ∙ ap (λ t. one_if t + counted 1 (behind_first (raw_lines bs))) (sym (significant_letter b (first_bytes (raw_lines bs)) q))
+    ] refl
 
 begins_are : (text : List ℕ) → Begins text
 begins_are [] = record { fresh = begins-nil false; later = begins-nil true }
@@ -138,12 +144,15 @@ begins_more d (x ∷ xs) ys = let first : begins_after d (x ∷ xs) ≡ next_beg
   where
     grows : (a b c e : ℕ) → a ≤ c → b ≤ e → next_begin d x a b ≤ next_begin d x c e
     grows a b c e l m = elim (eqb x 10) as (λ t. cond t a (cond d b (cond (is_blank x) a (cond (eqb x 37) b (suc b)))) ≤ cond t c (cond d e (cond (is_blank x) c (cond (eqb x 37) e (suc e))))) [
-        true ↦ l
+      | true ↦ l
       | false ↦ elim d as (λ t. cond t b (cond (is_blank x) a (cond (eqb x 37) b (suc b))) ≤ cond t e (cond (is_blank x) c (cond (eqb x 37) e (suc e)))) [
-          true ↦ m
+        | true ↦ m
         | false ↦ elim (is_blank x) as (λ t. cond t a (cond (eqb x 37) b (suc b)) ≤ cond t c (cond (eqb x 37) e (suc e))) [
-            true ↦ l
-          | false ↦ elim (eqb x 37) as (λ t. cond t b (suc b) ≤ cond t e (suc e)) [ true ↦ m | false ↦ omega arith ] ] ] ]
+          | true ↦ l
+          | false ↦ elim (eqb x 37) as (λ t. cond t b (suc b) ≤ cond t e (suc e)) [ true ↦ m | false ↦ omega arith ]
+        ]
+      ]
+    ]
 
 -- ---- the header lines that have ended
 
@@ -187,10 +196,11 @@ keeps_keyword p k End = keeps_err p _
 keeps_keyword p k Other = keeps_err p _
 
 keeps_header_number : (p : Progress) (stage : Stage) (v : ℕ) → Keeps p (elim stage [
-    Goods ↦ cond (ltb MAX_GOODS v) (Err kinds.TooLarge) (Ok (record p { place = Later; header = record p.header { goods = v } }))
+  | Goods ↦ cond (ltb MAX_GOODS v) (Err kinds.TooLarge) (Ok (record p { place = Later; header = record p.header { goods = v } }))
   | Bids ↦ cond (ltb MAX_BIDS v) (Err kinds.TooLarge) (Ok (record p { place = Later; header = record p.header { bids = v }; due = v }))
   | Dummy ↦ cond (ltb MAX_DUMMY v) (Err kinds.TooLarge) (Ok (record p { place = Later; header = record p.header { dummy = v } }))
-  | Bid ↦ Err kinds.Header ])
+  | Bid ↦ Err kinds.Header
+])
 keeps_header_number p Goods v = keeps_cond p _ _ _ (keeps_err p _) (keeps_ok p _ refl)
 keeps_header_number p Bids v = keeps_cond p _ _ _ (keeps_err p _) (keeps_ok p _ refl)
 keeps_header_number p Dummy v = keeps_cond p _ _ _ (keeps_err p _) (keeps_ok p _ refl)
@@ -238,8 +248,8 @@ keeps_good p (Number v) =
     let good : Reading = cond (ltb v p.header.goods) real (dummy_read p p.draft.dummy (v - p.header.goods)) in
     keeps_cond p (leb (p.header.goods + p.header.dummy) v) (Err kinds.GoodRange) good (keeps_err p kinds.GoodRange)
     (keeps_cond p (ltb v p.header.goods) real (dummy_read p p.draft.dummy (v - p.header.goods))
-      (keeps_cond p (has_number p.goods v) (Err kinds.RepeatedGood) (Ok (record p { goods = p.goods ++ v ∷ [] })) (keeps_err p kinds.RepeatedGood) (keeps_ok p (record p { goods = p.goods ++ v ∷ [] }) refl))
-      (keeps_dummy p p.draft.dummy (v - p.header.goods)))
+    (keeps_cond p (has_number p.goods v) (Err kinds.RepeatedGood) (Ok (record p { goods = p.goods ++ v ∷ [] })) (keeps_err p kinds.RepeatedGood) (keeps_ok p (record p { goods = p.goods ++ v ∷ [] }) refl))
+    (keeps_dummy p p.draft.dummy (v - p.header.goods)))
 keeps_good p (Fraction d) = keeps_err p _
 keeps_good p End = keeps_cond p _ _ _ (keeps_err p _) (keeps_ok p _ refl)
 keeps_good p Other = keeps_err p _
@@ -364,12 +374,14 @@ goes_letter c b bs (Inside w) n p l = record { count = c; begun = l; fewer = ome
 goes_byte : (c b : ℕ) (bs : List ℕ) (s : State) → Begun s.mode s.progress.stage c → GoesOn c (begins_after (decided_in s.mode) (b ∷ bs)) bs (byte_step s b)
 goes_byte c b bs s l = subst (λ k. GoesOn c k bs (byte_step s b)) (sym (begins-cons (decided_in s.mode) b bs))
     (elim (eqb b 10) as (λ t. GoesOn c (cond t (begins_after false bs) (cond (decided_in s.mode) (begins_after true bs) (cond (is_blank b) (begins_after false bs) (cond (eqb b 37) (begins_after true bs) (suc (begins_after true bs)))))) bs
-          (cond t (line_step s) (cond (is_blank b) (blank_step s) (Ok (record s { mode = letter_mode s.mode b }))))) [
-      true ↦ goes_line c bs s.mode s.line s.progress l
-    | false ↦ elim (is_blank b) as (λ t. GoesOn c (cond (decided_in s.mode) (begins_after true bs) (cond t (begins_after false bs) (cond (eqb b 37) (begins_after true bs) (suc (begins_after true bs))))) bs
+    (cond t (line_step s) (cond (is_blank b) (blank_step s) (Ok (record s { mode = letter_mode s.mode b }))))) [
+      | true ↦ goes_line c bs s.mode s.line s.progress l
+      | false ↦ elim (is_blank b) as (λ t. GoesOn c (cond (decided_in s.mode) (begins_after true bs) (cond t (begins_after false bs) (cond (eqb b 37) (begins_after true bs) (suc (begins_after true bs))))) bs
           (cond t (blank_step s) (Ok (record s { mode = letter_mode s.mode b })))) [
-        true ↦ subst (λ k. GoesOn c k bs (blank_step s)) (by_decided (decided_in s.mode)) (goes_blank c bs s.mode s.line s.progress l)
-      | false ↦ goes_letter c b bs s.mode s.line s.progress l ] ])
+            | true ↦ subst (λ k. GoesOn c k bs (blank_step s)) (by_decided (decided_in s.mode)) (goes_blank c bs s.mode s.line s.progress l)
+            | false ↦ goes_letter c b bs s.mode s.line s.progress l
+          ]
+    ])
   where
     by_decided : (d : Bool) → begins_after d bs ≡ cond d (begins_after true bs) (begins_after false bs)
     by_decided true = refl

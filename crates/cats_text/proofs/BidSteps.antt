@@ -33,8 +33,9 @@ use Rattle.cats_text.proofs.GoodWords.{values, before_end-all, before_end-ended,
 pub follow_test : (lines : List (List (List ℕ))) (before : List (List ℕ)) (w : List ℕ) (b c : Bool) (kind : Kind) (r : Reading) (rest : Option Kind)
     → word_fault lines before w ≡ when c kind rest → b ≡ c → (b ≡ false → word_fault lines before w ≡ rest → WordFollows lines before w r) → WordFollows lines before w (cond b (Err kind) r)
 follow_test lines before w b c kind r rest fault same next = elim b as (λ x. b ≡ x → WordFollows lines before w (cond x (Err kind) r)) [
-    true ↦ λ (e : b ≡ true). fault ∙ ap (λ x. when x kind rest) (sym same ∙ e)
-  | false ↦ λ (e : b ≡ false). next e (fault ∙ ap (λ x. when x kind rest) (sym same ∙ e)) ] refl
+  | true ↦ λ (e : b ≡ true). fault ∙ ap (λ x. when x kind rest) (sym same ∙ e)
+  | false ↦ λ (e : b ≡ false). next e (fault ∙ ap (λ x. when x kind rest) (sym same ∙ e))
+] refl
 
 -- a fault that the definitions name too
 pub fault_named : (lines : List (List (List ℕ))) (before : List (List ℕ)) (w : List ℕ) (c : Bool) (kind : Kind) (rest : Option Kind) → word_fault lines before w ≡ when c kind rest → c ≡ true → WordFollows lines before w (Err kind)
@@ -48,8 +49,9 @@ passes lines before w c kind rest fault e = fault ∙ ap (λ x. when x kind rest
 
 none_due : (bids count : ℕ) → eqb (bids - count) 0 ≡ leb bids count
 none_due bids count = elim (leb bids count) as (λ b. leb bids count ≡ b → eqb (bids - count) 0 ≡ b) [
-    true ↦ λ (h : leb bids count ≡ true). let l : bids ≤ count = leb-true bids count h in eq-eqb (bids - count) 0 (omega arith)
-  | false ↦ λ (h : leb bids count ≡ false). let l : count < bids = leb-false bids count h in ne_eqb (bids - count) 0 (λ e. absurd (omega arith)) ] refl
+  | true ↦ λ (h : leb bids count ≡ true). let l : bids ≤ count = leb-true bids count h in eq-eqb (bids - count) 0 (omega arith)
+  | false ↦ λ (h : leb bids count ≡ false). let l : count < bids = leb-false bids count h in ne_eqb (bids - count) 0 (λ e. absurd (omega arith))
+] refl
 
 not_number : (p : Progress) (s : Word) → tells_number s ≡ false → number_read p s ≡ Err kinds.NotANumber
 not_number p (Number v) h = absurd (both_ways true h refl)
@@ -63,7 +65,7 @@ number_follows g b d lines w v p t at =
     let bids : p.header.bids ≡ header_value b = ap (λ (h : Header). h.bids) at.header in
     let small : p.header.bids ≤ MAX_BIDS = at.bids in
     let is : word_fault (g ∷ b ∷ d ∷ lines) [] w ≡ when (leb (header_value b) (length lines)) kinds.ExtraBid (when (leb (header_value b) (number_of w)) kinds.BidNumber (when (list_any (λ l. eqb (line_number l) (number_of w)) lines) kinds.RepeatedNumber None)) =
-        ap (λ x. when (not x) kinds.NotANumber (when (leb (header_value b) (length lines)) kinds.ExtraBid (when (leb (header_value b) (number_of w)) kinds.BidNumber (when (list_any (λ l. eqb (line_number l) (number_of w)) lines) kinds.RepeatedNumber None)))) t.0 in
+    ap (λ x. when (not x) kinds.NotANumber (when (leb (header_value b) (length lines)) kinds.ExtraBid (when (leb (header_value b) (number_of w)) kinds.BidNumber (when (list_any (λ l. eqb (line_number l) (number_of w)) lines) kinds.RepeatedNumber None)))) t.0 in
     follow_test (g ∷ b ∷ d ∷ lines) [] w _ _ kinds.ExtraBid _ _ is (ap (λ x. eqb x 0) at.due ∙ none_due p.header.bids (length lines) ∙ ap (λ x. leb x (length lines)) bids)
     (λ _ is. follow_test (g ∷ b ∷ d ∷ lines) [] w _ _ kinds.BidNumber _ _ is (holds_le p.header.bids v (number_of w) (omega arith) t.1 ∙ ap (λ x. leb x (number_of w)) bids)
     (λ below is. let l : v < p.header.bids = leb-false p.header.bids v below in let same : v ≡ number_of w = holds_same v (number_of w) (omega arith) t.1 in
@@ -82,7 +84,7 @@ bid_first g b d lines w Other p told t at = fault_named (g ∷ b ∷ d ∷ lines
 large_same : (v n : ℕ) (x y : Bool) → Holds v n → x ≡ y → (ltb GREATEST_PRICE v || (eqb v GREATEST_PRICE && x)) ≡ (ltb GREATEST_PRICE n || (eqb n GREATEST_PRICE && y))
 large_same v n x y h e = ⊎_elim (λ (same : v ≡ n). ap₂ (λ (k : ℕ) (z : Bool). ltb GREATEST_PRICE k || (eqb k GREATEST_PRICE && z)) same e)
     (λ (above : (HELD ≤ v) × (HELD ≤ n)). let a : HELD ≤ v = above.0 in let b : HELD ≤ n = above.1 in
-      or_left (ltb GREATEST_PRICE v) (eqb v GREATEST_PRICE && x) (lt-ltb GREATEST_PRICE v (omega arith)) ∙ sym (or_left (ltb GREATEST_PRICE n) (eqb n GREATEST_PRICE && y) (lt-ltb GREATEST_PRICE n (omega arith)))) h
+    or_left (ltb GREATEST_PRICE v) (eqb v GREATEST_PRICE && x) (lt-ltb GREATEST_PRICE v (omega arith)) ∙ sym (or_left (ltb GREATEST_PRICE n) (eqb n GREATEST_PRICE && y) (lt-ltb GREATEST_PRICE n (omega arith)))) h
 
 not_large : (v : ℕ) (x : Bool) → (ltb GREATEST_PRICE v || (eqb v GREATEST_PRICE && x)) ≡ false → v ≤ GREATEST_PRICE
 not_large v x h = ltb-false GREATEST_PRICE v (left (ltb GREATEST_PRICE v) (eqb v GREATEST_PRICE && x) h)
@@ -106,18 +108,20 @@ price_follows : (lines : List (List (List ℕ))) (n w : List ℕ) (p : Progress)
 price_follows lines n w p v m fine i fault next =
     let large : (ltb GREATEST_PRICE v || (eqb v GREATEST_PRICE && (fine || ltb 0 m))) ≡ is_too_large w = large_same v (number_of (whole_part w)) (fine || ltb 0 m) (has_place_from 0 (places w)) i.whole i.more in
     elim (ltb GREATEST_PRICE v || (eqb v GREATEST_PRICE && (fine || ltb 0 m))) as (λ b. (ltb GREATEST_PRICE v || (eqb v GREATEST_PRICE && (fine || ltb 0 m))) ≡ b
-        → WordFollows lines (n ∷ []) w (with_price p (cond b (Err kinds.TooLarge) (cond fine (Err kinds.TooFine) (Ok (min (v * 1000000 + m) (2 ^ 64 - 1))))))) [
-      true ↦ λ (e : (ltb GREATEST_PRICE v || (eqb v GREATEST_PRICE && (fine || ltb 0 m))) ≡ true). fault_named lines (n ∷ []) w _ _ _ fault (sym large ∙ e)
-    | false ↦ λ (e : (ltb GREATEST_PRICE v || (eqb v GREATEST_PRICE && (fine || ltb 0 m))) ≡ false).
-        let later : word_fault lines (n ∷ []) w ≡ when (is_too_fine w) kinds.TooFine None = passes lines (n ∷ []) w _ _ _ fault (sym large ∙ e) in
-        elim fine as (λ b. fine ≡ b → WordFollows lines (n ∷ []) w (with_price p (cond b (Err kinds.TooFine) (Ok (min (v * 1000000 + m) (2 ^ 64 - 1)))))) [
-          true ↦ λ (f : fine ≡ true). fault_named lines (n ∷ []) w _ _ _ later (sym i.finer ∙ f)
-        | false ↦ λ (f : fine ≡ false).
-            let l : v ≤ GREATEST_PRICE = not_large v (fine || ltb 0 m) e in
-            let same : v ≡ number_of (whole_part w) = holds_same v (number_of (whole_part w)) (omega arith) i.whole in
-            let below : m ≤ 1000000 = i.below in
-            let millionths : m ≡ number_of (six_places (places w)) = i.millionths in
-            (passes lines (n ∷ []) w _ _ _ later (sym i.finer ∙ f), next (min (v * 1000000 + m) (2 ^ 64 - 1)) (omega arith)) ] refl ] refl
+    → WordFollows lines (n ∷ []) w (with_price p (cond b (Err kinds.TooLarge) (cond fine (Err kinds.TooFine) (Ok (min (v * 1000000 + m) (2 ^ 64 - 1))))))) [
+      | true ↦ λ (e : (ltb GREATEST_PRICE v || (eqb v GREATEST_PRICE && (fine || ltb 0 m))) ≡ true). fault_named lines (n ∷ []) w _ _ _ fault (sym large ∙ e)
+      | false ↦ λ (e : (ltb GREATEST_PRICE v || (eqb v GREATEST_PRICE && (fine || ltb 0 m))) ≡ false).
+          let later : word_fault lines (n ∷ []) w ≡ when (is_too_fine w) kinds.TooFine None = passes lines (n ∷ []) w _ _ _ fault (sym large ∙ e) in
+          elim fine as (λ b. fine ≡ b → WordFollows lines (n ∷ []) w (with_price p (cond b (Err kinds.TooFine) (Ok (min (v * 1000000 + m) (2 ^ 64 - 1)))))) [
+            | true ↦ λ (f : fine ≡ true). fault_named lines (n ∷ []) w _ _ _ later (sym i.finer ∙ f)
+            | false ↦ λ (f : fine ≡ false).
+                let l : v ≤ GREATEST_PRICE = not_large v (fine || ltb 0 m) e in
+                let same : v ≡ number_of (whole_part w) = holds_same v (number_of (whole_part w)) (omega arith) i.whole in
+                let below : m ≤ 1000000 = i.below in
+                let millionths : m ≡ number_of (six_places (places w)) = i.millionths in
+                (passes lines (n ∷ []) w _ _ _ later (sym i.finer ∙ f), next (min (v * 1000000 + m) (2 ^ 64 - 1)) (omega arith))
+          ] refl
+    ] refl
 
 places-digits : (w : List ℕ) → digits_alone w ≡ true → places w ≡ []
 places-digits [] h = refl
@@ -129,8 +133,11 @@ priced_number [] v t = absurd (both_ways false refl t.0)
 priced_number (a ∷ w) v t =
     let none : places (a ∷ w) ≡ [] = places-digits (a ∷ w) t.0 in record {
       whole = subst (Holds v) (ap number_of (sym (whole-digits (a ∷ w) t.0))) t.1;
-      more = sym (ap (has_place_from 0) none); finer = sym (ap (has_place_from 6) none);
-      millionths = sym (ap (λ ds. number_of (six_places ds)) none); below = omega arith }
+      more = sym (ap (has_place_from 0) none);
+      finer = sym (ap (has_place_from 6) none);
+      millionths = sym (ap (λ ds. number_of (six_places ds)) none);
+      below = omega arith;
+    }
 
 priced_fraction : (w : List ℕ) (d : Decimal) → Tells w (Fraction d) → IsPriced w d.whole d.millionths d.fine
 priced_fraction w d f = at f.whole f.is f.number f.value
@@ -146,22 +153,31 @@ priced_fraction w d f = at f.whole f.is f.number f.value
           more = ap₂ (λ (x : Bool) (k : ℕ). x || ltb 0 k) f.fine m ∙ sym (place_not_zero f.behind f.digits) ∙ sym (ap (has_place_from 0) places_is);
           finer = f.fine ∙ sym (ap (has_place_from 6) places_is);
           millionths = m ∙ sym (places-six f.behind) ∙ sym (ap (λ ds. number_of (six_places ds)) places_is);
-          below = omega arith }
+          below = omega arith;
+        }
 
 -- nothing but the price has come
 behind_price : (g b d : List (List ℕ)) (lines : List (List (List ℕ))) (n w : List ℕ) (p : Progress) → IsAt (g ∷ b ∷ d ∷ lines) (n ∷ []) p
     → (x : ℕ) → x ≡ price_of w → IsAt (g ∷ b ∷ d ∷ lines) (n ∷ w ∷ []) (record p { place = Later; draft = record p.draft { price = x } })
 behind_price g b d lines n w p at x e = record {
-  stage = at.stage; place = refl; header = at.header; due = at.due; slots = at.slots;
+  stage = at.stage;
+  place = refl;
+  header = at.header;
+  due = at.due;
+  slots = at.slots;
   draft = record { number = at.draft.0; price = e; dummy = at.draft.1; goods = at.draft.2; one = λ v _ h. absurd (both_ways false refl h) };
-  goods = at.goods; bids = at.bids; dummy = at.dummy }
+  goods = at.goods;
+  bids = at.bids;
+  dummy = at.dummy;
+}
 
 pub bid_second : (g b d : List (List ℕ)) (lines : List (List (List ℕ))) (n w : List ℕ) (s : Word) (p : Progress) → IsTold w s → Tells w s → IsAt (g ∷ b ∷ d ∷ lines) (n ∷ []) p
     → WordFollows (g ∷ b ∷ d ∷ lines) (n ∷ []) w (price_read p s)
 bid_second g b d lines n w (Number v) p told t at = price_follows (g ∷ b ∷ d ∷ lines) n w p v 0 false (priced_number w v t) (passes (g ∷ b ∷ d ∷ lines) (n ∷ []) w _ _ _ refl (ap not told.price)) (behind_price g b d lines n w p at)
 bid_second g b d lines n w (Fraction e) p told t at = elim (eqb e.places 0) as (λ x. eqb e.places 0 ≡ x → WordFollows (g ∷ b ∷ d ∷ lines) (n ∷ []) w (cond x (Err kinds.NotANumber) (with_price p (price_parts e.whole e.millionths e.fine)))) [
-    true ↦ λ (q : eqb e.places 0 ≡ true). fault_named (g ∷ b ∷ d ∷ lines) (n ∷ []) w _ _ _ refl (ap not (told.price ∙ ap not q))
-  | false ↦ λ (q : eqb e.places 0 ≡ false). price_follows (g ∷ b ∷ d ∷ lines) n w p e.whole e.millionths e.fine (priced_fraction w e t) (passes (g ∷ b ∷ d ∷ lines) (n ∷ []) w _ _ _ refl (ap not (told.price ∙ ap not q))) (behind_price g b d lines n w p at) ] refl
+  | true ↦ λ (q : eqb e.places 0 ≡ true). fault_named (g ∷ b ∷ d ∷ lines) (n ∷ []) w _ _ _ refl (ap not (told.price ∙ ap not q))
+  | false ↦ λ (q : eqb e.places 0 ≡ false). price_follows (g ∷ b ∷ d ∷ lines) n w p e.whole e.millionths e.fine (priced_fraction w e t) (passes (g ∷ b ∷ d ∷ lines) (n ∷ []) w _ _ _ refl (ap not (told.price ∙ ap not q))) (behind_price g b d lines n w p at)
+] refl
 bid_second g b d lines n w (Keyword j k) p told t at = fault_named (g ∷ b ∷ d ∷ lines) (n ∷ []) w _ _ _ refl (ap not told.price)
 bid_second g b d lines n w End p told t at = fault_named (g ∷ b ∷ d ∷ lines) (n ∷ []) w _ _ _ refl (ap not told.price)
 bid_second g b d lines n w Other p told t at = fault_named (g ∷ b ∷ d ∷ lines) (n ∷ []) w _ _ _ refl (ap not told.price)

@@ -6,7 +6,7 @@ use Rattle.cats_text.specs.Files.{PlainFile, PlainBid}
 use Rattle.cats_text.specs.Lines.{Word, Line, blank_returns, significant_lines}
 use Rattle.cats_text.specs.Grammar.{Spells, significant_words}
 use Rattle.cats_text.specs.Faults.{first_fault, complete_fault, has_bid_line, is_line_due}
-use Rattle.cats_text.specs.Returns.{settled, waits}
+use Rattle.cats_text.specs.Returns.{settled, waits, carried}
 use Rattle.cats_text.specs.Progress.{Progress}
 use Rattle.cats_text.specs.Parsing.{file_from, filled}
 use Rattle.cats_text.specs.FileLines.{file_of_lines, file_said, slots_of}
@@ -15,7 +15,7 @@ use Rattle.cats_text.specs.declared.fault.ReadFault.{ReadFault}
 use Rattle.cats_text.specs.declared.parser.Header.{Header}
 use Rattle.cats_text.proofs.AllBytes.{outcome}
 use Rattle.cats_text.proofs.TextFaults.{WholeIs, whole_fault}
-use Rattle.cats_text.proofs.Pieces.{CompleteIs, complete_is, end_of_text, waiting, blank_returns-settled}
+use Rattle.cats_text.proofs.Pieces.{CompleteIs, complete_is, end_of_text, waiting, blank_returns-settled, settled-append}
 use Rattle.cats_text.proofs.BidLines.{bid_line_met}
 use Rattle.cats_text.proofs.Standing.{IsAt}
 use Rattle.cats_text.proofs.SpellsLemmas.{spells_from_no_fault}
@@ -41,15 +41,36 @@ stopped bytes e h = subst (λ (r : Scan). WholeIs bytes (outcome r))
     (ap (λ (r : Scan). and_then r end_step) (ap (run first_state) (blank_returns-settled bytes) ∙ run-append first_state (settled bytes) (waiting (waits bytes)) ∙ ap (λ (r : Scan). and_then r (λ t. run t (waiting (waits bytes)))) h))
     (whole_fault bytes)
 
--- and it is the first fault, whatever comes after
+-- and it is the first fault of the bytes
 pub complete_fault_is_first : (bytes : List ℕ) (e : ReadFault) → complete_fault bytes ≡ Some e → first_fault bytes ≡ Some e
 complete_fault_is_first bytes e h = by_run (run first_state (settled bytes)) refl
   where
     no : None ≡ Some e → ⊥
     no q = cc
+
     by_run : (r : Scan) → run first_state (settled bytes) ≡ r → first_fault bytes ≡ Some e
     by_run (Ok s) is = absurd (no (sym (goes_on_without_fault bytes s is) ∙ h))
     by_run (Err c) is = stopped bytes c is ∙ sym (stops_at_complete_fault bytes c is) ∙ h
+
+-- it is complete in every longer text too
+complete_fault-append : (bytes rest : List ℕ) (e : ReadFault) → complete_fault bytes ≡ Some e → complete_fault (bytes ++ rest) ≡ Some e
+complete_fault-append bytes rest e h = by_run (run first_state (settled bytes)) refl
+  where
+    no : None ≡ Some e → ⊥
+    no q = cc
+
+    more : List ℕ
+    more = settled (carried (waits bytes) rest)
+
+    by_run : (r : Scan) → run first_state (settled bytes) ≡ r → complete_fault (bytes ++ rest) ≡ Some e
+    by_run (Ok s) is = absurd (no (sym (goes_on_without_fault bytes s is) ∙ h))
+    by_run (Err c) is = stops_at_complete_fault (bytes ++ rest) c
+        (ap (run first_state) (settled-append bytes rest) ∙ run-append first_state (settled bytes) more ∙ ap (λ (r : Scan). and_then r (λ t. run t more)) is)
+        ∙ sym (stops_at_complete_fault bytes c is) ∙ h
+
+-- so it is the first fault, whatever follows
+pub complete_fault_stays : (bytes rest : List ℕ) (e : ReadFault) → complete_fault bytes ≡ Some e → first_fault (bytes ++ rest) ≡ Some e
+complete_fault_stays bytes rest e h = complete_fault_is_first (bytes ++ rest) e (complete_fault-append bytes rest e h)
 
 whole_at_end : (bytes : List ℕ) (s : State) (r : Scan) → run first_state (settled bytes) ≡ ok s → end_of (waits bytes) s ≡ r → WholeIs bytes (outcome r)
 whole_at_end bytes s r h end = subst (λ (x : Scan). WholeIs bytes (outcome x)) (sym (end_of_text bytes s h) ∙ end) (whole_fault bytes)
@@ -87,6 +108,7 @@ met_at_end s t (b ∷ bs) h i = inr (step (byte_step s b) h (λ u e. met_at_end 
   where
     no : (e : ReadFault) → err e ≡ ok t → ⊥
     no e q = cc
+
     step : (r : Scan) → and_then r (λ u. run u bs) ≡ ok t → ((u : State) → run u bs ≡ ok t → MeetsBidLine u bs) → IsOkAnd r (λ u. MeetsBidLine u bs)
     step (Ok u) e next = next u e
     step (Err c) e next = absurd (no c e)

@@ -110,26 +110,29 @@ from_word n p [] [] f h = refl
 from_word n p (a ∷ w) [] f h = lifted_word (standing (Inside (summary (a ∷ w))) n p) (summary (a ∷ w)) refl
     ∙ ap (lifted n Between) (sym (reading_then_ok (word_read p (summary (a ∷ w))))) ∙ ap (λ ws. lifted n Between (words_read ws p)) (sym (ap line_words (append-nil (a ∷ w)) ∙ words_last a w f))
 from_word n p [] (b ∷ bs) f h = elim (is_blank b) as (λ t. is_blank b ≡ t → to_blank (standing Between n p) (b ∷ bs) ≡ lifted n Between (words_read (line_words (b ∷ bs)) p)) [
-    true ↦ λ (e : is_blank b ≡ true). ap (λ r. and_then (and_then r (λ t. run t bs)) blank_step) (byte_blank (standing Between n p) b h.0 e)
+  | true ↦ λ (e : is_blank b ≡ true). ap (λ r. and_then (and_then r (λ t. run t bs)) blank_step) (byte_blank (standing Between n p) b h.0 e)
       ∙ from_word n p [] bs tt h.1 ∙ ap (λ ws. lifted n Between (words_read ws p)) (sym (words_blank b bs e))
   | false ↦ λ (e : is_blank b ≡ false). ap (λ r. and_then (and_then r (λ t. run t bs)) blank_step) (byte_letter (standing Between n p) b h.0 e)
-      ∙ from_word n p (b ∷ []) bs (e, tt) h.1 ] refl
+      ∙ from_word n p (b ∷ []) bs (e, tt) h.1
+] refl
 from_word n p (a ∷ w) (b ∷ bs) f h = elim (is_blank b) as (λ t. is_blank b ≡ t → to_blank (standing (Inside (summary (a ∷ w))) n p) (b ∷ bs) ≡ lifted n Between (words_read (line_words ((a ∷ w) ++ b ∷ bs)) p)) [
-    true ↦ λ (e : is_blank b ≡ true). ap (λ r. and_then (and_then r (λ t. run t bs)) blank_step) (byte_blank (standing (Inside (summary (a ∷ w))) n p) b h.0 e ∙ lifted_word (standing (Inside (summary (a ∷ w))) n p) (summary (a ∷ w)) refl)
+  | true ↦ λ (e : is_blank b ≡ true). ap (λ r. and_then (and_then r (λ t. run t bs)) blank_step) (byte_blank (standing (Inside (summary (a ∷ w))) n p) b h.0 e ∙ lifted_word (standing (Inside (summary (a ∷ w))) n p) (summary (a ∷ w)) refl)
       ∙ behind_word n (word_read p (summary (a ∷ w))) bs (words_read (line_words bs)) (λ q. from_word n q [] bs tt h.1)
       ∙ ap (λ ws. lifted n Between (words_read ws p)) (sym (words_next a w b bs f e))
   | false ↦ λ (e : is_blank b ≡ false). ap (λ r. and_then (and_then r (λ t. run t bs)) blank_step) (byte_letter (standing (Inside (summary (a ∷ w))) n p) b h.0 e)
       ∙ ap (λ s. to_blank (standing (Inside s) n p) bs) (sym (summary-push a w b))
       ∙ from_word n p ((a ∷ w) ++ b ∷ []) bs (blank_free_push (a ∷ w) b f e) h.1
-      ∙ ap (λ ds. lifted n Between (words_read (line_words ds) p)) (append_assoc (a ∷ w) (b ∷ []) bs) ] refl
+      ∙ ap (λ ds. lifted n Between (words_read (line_words ds) p)) (append_assoc (a ∷ w) (b ∷ []) bs)
+] refl
 
 -- ---- from the beginning of a line on
 
 pub in_comment : (n : ℕ) (p : Progress) (bytes : List ℕ) → AllByRecursion IsNoEnd bytes → run (standing Comment n p) bytes ≡ Ok (standing Comment n p)
 in_comment n p [] h = refl
 in_comment n p (b ∷ bs) h = elim (is_blank b) as (λ t. is_blank b ≡ t → run (standing Comment n p) (b ∷ bs) ≡ Ok (standing Comment n p)) [
-    true ↦ λ (e : is_blank b ≡ true). ap (λ r. and_then r (λ t. run t bs)) (byte_blank (standing Comment n p) b h.0 e) ∙ in_comment n p bs h.1
-  | false ↦ λ (e : is_blank b ≡ false). ap (λ r. and_then r (λ t. run t bs)) (byte_letter (standing Comment n p) b h.0 e) ∙ in_comment n p bs h.1 ] refl
+  | true ↦ λ (e : is_blank b ≡ true). ap (λ r. and_then r (λ t. run t bs)) (byte_blank (standing Comment n p) b h.0 e) ∙ in_comment n p bs h.1
+  | false ↦ λ (e : is_blank b ≡ false). ap (λ r. and_then r (λ t. run t bs)) (byte_letter (standing Comment n p) b h.0 e) ∙ in_comment n p bs h.1
+] refl
 
 -- the mode behind a line that has no words to judge
 abbrev pub quiet : List Word → Mode
@@ -142,8 +145,9 @@ fresh_outcome n ws p = cond (is_significant ws) (lifted n Between (words_read ws
 -- the words of a line that begins with a letter
 first_of_words : (b : ℕ) (bs : List ℕ) → is_blank b ≡ false → (t : List ℕ) × (ts : List Word) × (line_words (b ∷ bs) ≡ (b ∷ t) ∷ ts)
 first_of_words b bs e = elim (begins_word bs) as (λ q. (t : List ℕ) × (ts : List Word) × (cond (is_blank b) (line_words bs) (cond q (with_letter b (line_words bs)) ((b ∷ []) ∷ line_words bs)) ≡ (b ∷ t) ∷ ts)) [
-    true ↦ joined (line_words bs)
-  | false ↦ ([], line_words bs, rw e refl) ]
+  | true ↦ joined (line_words bs)
+  | false ↦ ([], line_words bs, rw e refl)
+]
   where
     joined : (ws : List Word) → (t : List ℕ) × (ts : List Word) × (cond (is_blank b) (line_words bs) (with_letter b ws) ≡ (b ∷ t) ∷ ts)
     joined [] = ([], [], rw e refl)
@@ -161,19 +165,22 @@ from_letter : (m : Mode) (n : ℕ) (p : Progress) (b : ℕ) (bs : List ℕ) → 
 from_letter m n p b bs h e mode = ap (λ r. and_then (and_then r (λ t. run t bs)) blank_step) (byte_letter (standing m n p) b h.0 e)
     ∙ ap (λ k. to_blank (standing k n p) bs) mode
     ∙ (elim (eqb b 37) as (λ c. eqb b 37 ≡ c → to_blank (standing (cond c Comment (Inside (word_from b))) n p) bs ≡ fresh_outcome n (line_words (b ∷ bs)) p) [
-      true ↦ λ (c : eqb b 37 ≡ true). ap (λ r. and_then r blank_step) (in_comment n p bs h.1) ∙ sym (fresh_comment n p b bs e c)
-    | false ↦ λ (c : eqb b 37 ≡ false). from_word n p (b ∷ []) bs (e, tt) h.1 ∙ sym (fresh_word n p b bs e c) ] refl)
+      | true ↦ λ (c : eqb b 37 ≡ true). ap (λ r. and_then r blank_step) (in_comment n p bs h.1) ∙ sym (fresh_comment n p b bs e c)
+      | false ↦ λ (c : eqb b 37 ≡ false). from_word n p (b ∷ []) bs (e, tt) h.1 ∙ sym (fresh_word n p b bs e c)
+    ] refl)
 
 pub from_blank : (n : ℕ) (p : Progress) (bytes : List ℕ) → AllByRecursion IsNoEnd bytes → to_blank (standing Blank n p) bytes ≡ fresh_outcome n (line_words bytes) p
 from_blank n p [] h = refl
 from_blank n p (b ∷ bs) h = elim (is_blank b) as (λ t. is_blank b ≡ t → to_blank (standing Blank n p) (b ∷ bs) ≡ fresh_outcome n (line_words (b ∷ bs)) p) [
-    true ↦ λ (e : is_blank b ≡ true). ap (λ r. and_then (and_then r (λ t. run t bs)) blank_step) (byte_blank (standing Blank n p) b h.0 e)
+  | true ↦ λ (e : is_blank b ≡ true). ap (λ r. and_then (and_then r (λ t. run t bs)) blank_step) (byte_blank (standing Blank n p) b h.0 e)
       ∙ from_blank n p bs h.1 ∙ ap (λ ws. fresh_outcome n ws p) (sym (words_blank b bs e))
-  | false ↦ λ (e : is_blank b ≡ false). from_letter Blank n p b bs h e refl ] refl
+  | false ↦ λ (e : is_blank b ≡ false). from_letter Blank n p b bs h e refl
+] refl
 
 pub from_start : (n : ℕ) (p : Progress) (bytes : List ℕ) → AllByRecursion IsNoEnd bytes → to_blank (standing Start n p) bytes ≡ fresh_outcome n (line_words bytes) p
 from_start n p [] h = refl
 from_start n p (b ∷ bs) h = elim (is_blank b) as (λ t. is_blank b ≡ t → to_blank (standing Start n p) (b ∷ bs) ≡ fresh_outcome n (line_words (b ∷ bs)) p) [
-    true ↦ λ (e : is_blank b ≡ true). ap (λ r. and_then (and_then r (λ t. run t bs)) blank_step) (byte_blank (standing Start n p) b h.0 e)
+  | true ↦ λ (e : is_blank b ≡ true). ap (λ r. and_then (and_then r (λ t. run t bs)) blank_step) (byte_blank (standing Start n p) b h.0 e)
       ∙ from_blank n p bs h.1 ∙ ap (λ ws. fresh_outcome n ws p) (sym (words_blank b bs e))
-  | false ↦ λ (e : is_blank b ≡ false). from_letter Start n p b bs h e refl ] refl
+  | false ↦ λ (e : is_blank b ≡ false). from_letter Start n p b bs h e refl
+] refl

@@ -38,11 +38,12 @@ times-none x (y ∷ ys) h =
 pub times-AreDistinct : (xs : List ℕ) → AreDistinct xs → (g : ℕ) → times xs g ≤ 1
 times-AreDistinct [] d g = omega arith
 times-AreDistinct (x ∷ xs) d g = rw (times-cons x xs g)
-    (    let tail : times xs g ≤ 1 = times-AreDistinct xs d.1 g in
+    (let tail : times xs g ≤ 1 = times-AreDistinct xs d.1 g in
     elim (eqb x g) as (λ b. eqb x g ≡ b → cond b 1 0 + times xs g ≤ 1) [
-      true ↦ λ (e : eqb x g ≡ true). let none : times xs x ≡ 0 = times-none x xs d.0 in
-        let same : times xs g ≡ times xs x = ap (times xs) (sym (eqb-true x g e)) in omega arith
-    | false ↦ λ (e : eqb x g ≡ false). omega arith ] refl)
+      | true ↦ λ (e : eqb x g ≡ true). let none : times xs x ≡ 0 = times-none x xs d.0 in
+          let same : times xs g ≡ times xs x = ap (times xs) (sym (eqb-true x g e)) in omega arith
+      | false ↦ λ (e : eqb x g ≡ false). omega arith
+    ] refl)
 
 times-at : (xs : List ℕ) (i : ℕ) → i < length xs → 0 < times xs (get_or xs i 0)
 times-at [] i l = absurd (let no : i < 0 = l in omega arith)
@@ -57,14 +58,15 @@ above_from_places x (y ∷ ys) h = (h 0 (omega arith), above_from_places x ys (�
 pub rising_from_order : (xs : List ℕ) → IsNonDecreasing xs → ((g : ℕ) → times xs g ≤ 1) → IsRising xs
 rising_from_order [] order once = tt
 rising_from_order (x ∷ xs) order once =
-    let tail : IsNonDecreasing xs = λ i j d l h. order (suc i) (suc j) d (omega arith) (omega arith) in
-    (above_from_places x xs (λ i l. let le : x ≤ get_or xs i 0 = order 0 (suc i) 0 (omega arith) (omega arith) in
-        let head : one_at x x ≡ 1 = one_at-same x in
-        let first : one_at x x + times xs x ≤ 1 = rw (times-cons x xs x) at (once x) in
-        let there : 0 < times xs (get_or xs i 0) = times-at xs i l in
-        let ne : x ≢ get_or xs i 0 = λ e. let again : 0 < times xs x = subst (λ n. 0 < times xs n) (sym e) there in omega arith in
-        omega arith),
-     rising_from_order xs tail (λ g. let all : one_at g x + times xs g ≤ 1 = rw (times-cons x xs g) at (once g) in omega arith))
+    let tail : IsNonDecreasing xs = λ i j d l h. order (suc i) (suc j) d (omega arith) (omega arith) in (
+      above_from_places x xs (λ i l. let le : x ≤ get_or xs i 0 = order 0 (suc i) 0 (omega arith) (omega arith) in
+          let head : one_at x x ≡ 1 = one_at-same x in
+          let first : one_at x x + times xs x ≤ 1 = rw (times-cons x xs x) at (once x) in
+          let there : 0 < times xs (get_or xs i 0) = times-at xs i l in
+          let ne : x ≢ get_or xs i 0 = λ e. let again : 0 < times xs x = subst (λ n. 0 < times xs n) (sym e) there in omega arith in
+          omega arith),
+      rising_from_order xs tail (λ g. let all : one_at g x + times xs g ≤ 1 = rw (times-cons x xs g) at (once g) in omega arith),
+    )
 
 -- a list without repeats rises once it is put in order
 pub rising_from_sort : (xs ys : List ℕ) → AreDistinct xs → IsPermutation xs ys → IsNonDecreasing ys → IsRising ys

@@ -27,7 +27,6 @@ use Rattle.cats_text.proofs.PieceRuns.{meets_behind, run-line, settled-length}
 
 -- ---- the bytes that are judged
 
-
 take-behind : (n : ℕ) (xs ys : List ℕ) → length xs ≤ n → take n (xs ++ ys) ≡ xs ++ take (n - length xs) ys
 take-behind n [] ys h = let whole : n - 0 ≡ n = omega arith in rw whole refl
 take-behind zero (x ∷ xs) ys h = absurd (omega arith)

@@ -20,14 +20,16 @@ values gs = map number_of gs
 
 before_end-cons : (g : Word) (gs : List Word) → before_end (g ∷ gs) ≡ cond (is_end g) [] (g ∷ before_end gs)
 before_end-cons g gs = elim (is_end g) as (λ b. take (cond (not b) (1 + prefix_len (λ w. not (is_end w)) gs) 0) (g ∷ gs) ≡ cond b [] (g ∷ before_end gs)) [
-    true ↦ refl
-  | false ↦ let n : 1 + prefix_len (λ w. not (is_end w)) gs ≡ suc (prefix_len (λ w. not (is_end w)) gs) = omega arith in ap (λ m. take m (g ∷ gs)) n ]
+  | true ↦ refl
+  | false ↦ let n : 1 + prefix_len (λ w. not (is_end w)) gs ≡ suc (prefix_len (λ w. not (is_end w)) gs) = omega arith in ap (λ m. take m (g ∷ gs)) n
+]
 
 pub before_end-all : (gs : List Word) → has_end gs ≡ false → before_end gs ≡ gs
 before_end-all [] h = refl
 before_end-all (g ∷ gs) h = rw (before_end-cons g gs) (elim (is_end g) as (λ b. (b || has_end gs) ≡ false → cond b [] (g ∷ before_end gs) ≡ g ∷ gs) [
-    true ↦ λ (e : true ≡ false). cc
-  | false ↦ λ (e : has_end gs ≡ false). ap (λ r. g ∷ r) (before_end-all gs e) ] h)
+  | true ↦ λ (e : true ≡ false). cc
+  | false ↦ λ (e : has_end gs ≡ false). ap (λ r. g ∷ r) (before_end-all gs e)
+] h)
 
 pub has_end-push : (gs : List Word) (w : Word) → has_end gs ≡ false → has_end (gs ++ w ∷ []) ≡ is_end w
 has_end-push gs w h = list_any-append is_end gs (w ∷ []) ∙ ap (λ b. b || (is_end w || false)) h ∙ or_false (is_end w)
@@ -40,8 +42,9 @@ has_end-push gs w h = list_any-append is_end gs (w ∷ []) ∙ ap (λ b. b || (i
 pub before_end-ended : (gs : List Word) (w : Word) → has_end gs ≡ false → is_end w ≡ true → before_end (gs ++ w ∷ []) ≡ gs
 before_end-ended [] w h e = before_end-cons w [] ∙ ap (λ b. cond b [] (w ∷ [])) e
 before_end-ended (g ∷ gs) w h e = before_end-cons g (gs ++ w ∷ []) ∙ (elim (is_end g) as (λ b. (b || has_end gs) ≡ false → cond b [] (g ∷ before_end (gs ++ w ∷ [])) ≡ g ∷ gs) [
-    true ↦ λ (q : true ≡ false). cc
-  | false ↦ λ (q : has_end gs ≡ false). ap (λ r. g ∷ r) (before_end-ended gs w q e) ] h)
+  | true ↦ λ (q : true ≡ false). cc
+  | false ↦ λ (q : has_end gs ≡ false). ap (λ r. g ∷ r) (before_end-ended gs w q e)
+] h)
 
 -- one more good
 pub before_end-push : (gs : List Word) (w : Word) → has_end gs ≡ false → is_end w ≡ false → before_end (gs ++ w ∷ []) ≡ gs ++ w ∷ []
@@ -63,22 +66,25 @@ find_passes p [] e h = absurd (no h)
     no : None ≡ Some e → ⊥
     no q = cc
 find_passes p (x ∷ xs) e h = elim (p x) as (λ b. p x ≡ b → cond b (Some x) (find p xs) ≡ Some e → (p e ≡ true) × ((eqb x e || has_number xs e) ≡ true)) [
-    true ↦ λ (t : p x ≡ true) (q : Some x ≡ Some e). let same : x ≡ e = cc in (subst (λ n. p n ≡ true) same t, ap (λ b. b || has_number xs e) (eq-eqb x e same))
-  | false ↦ λ (t : p x ≡ false) (q : find p xs ≡ Some e). let later = find_passes p xs e q in (later.0, or_right (eqb x e) (has_number xs e) later.1) ] refl h
+  | true ↦ λ (t : p x ≡ true) (q : Some x ≡ Some e). let same : x ≡ e = cc in (subst (λ n. p n ≡ true) same t, ap (λ b. b || has_number xs e) (eq-eqb x e same))
+  | false ↦ λ (t : p x ≡ false) (q : find p xs ≡ Some e). let later = find_passes p xs e q in (later.0, or_right (eqb x e) (has_number xs e) later.1)
+] refl h
 
 -- the real goods are those below G
 pub has_filtered : (G : ℕ) (vs : List ℕ) (v : ℕ) → v < G → has_number (filter (λ x. ltb x G) vs) v ≡ has_number vs v
 has_filtered G [] v l = refl
 has_filtered G (x ∷ xs) v l = elim (ltb x G) as (λ b. ltb x G ≡ b → has_number (cond b (x ∷ filter (λ y. ltb y G) xs) (filter (λ y. ltb y G) xs)) v ≡ (eqb x v || has_number xs v)) [
-    true ↦ λ (t : ltb x G ≡ true). ap (λ b. eqb x v || b) (has_filtered G xs v l)
-  | false ↦ λ (t : ltb x G ≡ false). let above : G ≤ x = ltb-false x G t in has_filtered G xs v l ∙ ap (λ b. b || has_number xs v) (sym (ne_eqb x v (λ e. absurd (omega arith)))) ] refl
+  | true ↦ λ (t : ltb x G ≡ true). ap (λ b. eqb x v || b) (has_filtered G xs v l)
+  | false ↦ λ (t : ltb x G ≡ false). let above : G ≤ x = ltb-false x G t in has_filtered G xs v l ∙ ap (λ b. b || has_number xs v) (sym (ne_eqb x v (λ e. absurd (omega arith))))
+] refl
 
 -- there is a real good exactly if the list of them is not empty
 pub none_real : (G : ℕ) (vs : List ℕ) → eqb (length (filter (λ x. ltb x G) vs)) 0 ≡ not (list_any (λ x. ltb x G) vs)
 none_real G [] = refl
 none_real G (x ∷ xs) = elim (ltb x G) as (λ b. eqb (length (cond b (x ∷ filter (λ y. ltb y G) xs) (filter (λ y. ltb y G) xs))) 0 ≡ not (b || list_any (λ y. ltb y G) xs)) [
-    true ↦ ne_eqb (length (x ∷ filter (λ y. ltb y G) xs)) 0 (λ e. absurd (omega arith))
-  | false ↦ none_real G xs ]
+  | true ↦ ne_eqb (length (x ∷ filter (λ y. ltb y G) xs)) 0 (λ e. absurd (omega arith))
+  | false ↦ none_real G xs
+]
 
 pub any_values : (p : ℕ → Bool) (gs : List Word) → list_any p (values gs) ≡ list_any (λ g. p (number_of g)) gs
 any_values p [] = refl

@@ -27,10 +27,11 @@ use Rattle.cats_text.proofs.Standing.{IsAt, WordFollows, stage_of, place_of}
 
 abbrev pub read_at : Place → Stage → Progress → Word → Reading
 read_at place stage p w = elim place [
-    First ↦ elim stage [ Goods ↦ keyword_read p keywords.Goods w | Bids ↦ keyword_read p keywords.Bids w | Dummy ↦ keyword_read p keywords.Dummy w | Bid ↦ number_read p w ]
+  | First ↦ elim stage [ Goods ↦ keyword_read p keywords.Goods w | Bids ↦ keyword_read p keywords.Bids w | Dummy ↦ keyword_read p keywords.Dummy w | Bid ↦ number_read p w ]
   | Second ↦ elim stage [ Goods ↦ header_number_read p w | Bids ↦ header_number_read p w | Dummy ↦ header_number_read p w | Bid ↦ price_read p w ]
   | Later ↦ elim stage [ Goods ↦ Err kinds.Header | Bids ↦ Err kinds.Header | Dummy ↦ Err kinds.Header | Bid ↦ good_or_end_read p w ]
-  | Ended ↦ Err kinds.AfterEnd ]
+  | Ended ↦ Err kinds.AfterEnd
+]
 
 -- ---- numbers that are held
 
@@ -61,14 +62,14 @@ keyword_bad p k (Fraction d) h = refl
 keyword_bad p k End h = refl
 keyword_bad p k Other h = refl
 
-
 first_word : (lines : List (List (List ℕ))) (k : Key) (limit : ℕ) (p : Progress) (s : Word) (w : List ℕ) → IsTold w s
     → word_read p s ≡ keyword_read p k s → word_fault lines [] w ≡ header_word (keyword_text k) limit [] w
     → IsAt lines (w ∷ []) (record p { place = Second }) → WordFollows lines [] w (word_read p s)
 first_word lines k limit p s w t read fault next = subst (WordFollows lines [] w) (sym read)
     (elim (tells_keyword k s) as (λ b. tells_keyword k s ≡ b → WordFollows lines [] w (keyword_read p k s)) [
-      true ↦ λ (h : tells_keyword k s ≡ true). subst (WordFollows lines [] w) (sym (keyword_good p k s h)) (fault ∙ ap (λ b. when (not b) kinds.Header None) (t.keyword k ∙ h), next)
-    | false ↦ λ (h : tells_keyword k s ≡ false). subst (WordFollows lines [] w) (sym (keyword_bad p k s h)) (fault ∙ ap (λ b. when (not b) kinds.Header None) (t.keyword k ∙ h)) ] refl)
+      | true ↦ λ (h : tells_keyword k s ≡ true). subst (WordFollows lines [] w) (sym (keyword_good p k s h)) (fault ∙ ap (λ b. when (not b) kinds.Header None) (t.keyword k ∙ h), next)
+      | false ↦ λ (h : tells_keyword k s ≡ false). subst (WordFollows lines [] w) (sym (keyword_bad p k s h)) (fault ∙ ap (λ b. when (not b) kinds.Header None) (t.keyword k ∙ h))
+    ] refl)
 
 -- ---- the second word of a header line
 
@@ -83,9 +84,10 @@ second_number : (lines : List (List (List ℕ))) (before : List (List ℕ)) (lim
     → word_fault lines before w ≡ when (not (is_number w)) kinds.NotANumber (when (ltb limit (number_of w)) kinds.TooLarge None)
     → (v ≡ number_of w → v ≤ limit → IsAt lines (before ++ w ∷ []) q) → WordFollows lines before w (limited limit q v)
 second_number lines before limit q v w small t fault next = elim (ltb limit v) as (λ b. ltb limit v ≡ b → WordFollows lines before w (cond b (Err kinds.TooLarge) (Ok q))) [
-      true ↦ λ (h : ltb limit v ≡ true). fault ∙ ap (λ b. when (not b) kinds.NotANumber (when (ltb limit (number_of w)) kinds.TooLarge None)) t.0 ∙ ap (λ b. when b kinds.TooLarge None) (sym (holds_lt limit v (number_of w) small t.1) ∙ h)
-    | false ↦ λ (h : ltb limit v ≡ false). let le : v ≤ limit = ltb-false limit v h in let same : v ≡ number_of w = holds_same v (number_of w) (omega arith) t.1 in
-        (fault ∙ number_word_none w limit v t.0 (sym same) h, next same le) ] refl
+  | true ↦ λ (h : ltb limit v ≡ true). fault ∙ ap (λ b. when (not b) kinds.NotANumber (when (ltb limit (number_of w)) kinds.TooLarge None)) t.0 ∙ ap (λ b. when b kinds.TooLarge None) (sym (holds_lt limit v (number_of w) small t.1) ∙ h)
+  | false ↦ λ (h : ltb limit v ≡ false). let le : v ≤ limit = ltb-false limit v h in let same : v ≡ number_of w = holds_same v (number_of w) (omega arith) t.1 in
+      (fault ∙ number_word_none w limit v t.0 (sym same) h, next same le)
+] refl
 
 -- a word that is no number
 no_number : (lines : List (List (List ℕ))) (before : List (List ℕ)) (w : List ℕ) (rest : Option Kind) → is_number w ≡ false → word_fault lines before w ≡ when (not (is_number w)) kinds.NotANumber rest → WordFollows lines before w (Err kinds.NotANumber)
@@ -120,10 +122,11 @@ not_number_read p Other h = refl
 
 abbrev numbers_at : Stage → Progress → ℕ → Reading
 numbers_at stage p v = elim stage [
-    Goods ↦ limited MAX_GOODS (record p { place = Later; header = record p.header { goods = v } }) v
+  | Goods ↦ limited MAX_GOODS (record p { place = Later; header = record p.header { goods = v } }) v
   | Bids ↦ limited MAX_BIDS (record p { place = Later; header = record p.header { bids = v }; due = v }) v
   | Dummy ↦ limited MAX_DUMMY (record p { place = Later; header = record p.header { dummy = v } }) v
-  | Bid ↦ Err kinds.Header ]
+  | Bid ↦ Err kinds.Header
+]
 
 number_there : (stage : Stage) (p : Progress) (v : ℕ) → p.stage ≡ stage → header_number_read p (Number v) ≡ numbers_at stage p v
 number_there stage p v e = ap (λ (x : Stage). numbers_at x p v) e

@@ -24,17 +24,19 @@ has_number-push (x ∷ xs) g k = elim (eqb x k) as (λ b. (b || has_number (xs +
 marked_push : (goods marks : List ℕ) (m g k : ℕ) → IsMarked goods marks m → g < length marks → eqb (get_or (set marks g m) k 0) m ≡ has_number (goods ++ g ∷ []) k
 marked_push goods marks m g k old there = rw (has_number-push goods g k)
     (elim (eqb g k) as (λ b. eqb g k ≡ b → eqb (get_or (set marks g m) k 0) m ≡ (has_number goods k || b)) [
-      true ↦ λ (e : eqb g k ≡ true). let same : get_or (set marks g m) k 0 ≡ m = subst (λ n. get_or (set marks g m) n 0 ≡ m) (eqb-true g k e) (get_or-set_same marks g m 0 there) in
-        eq-eqb _ _ same ∙ sym (or_right (has_number goods k) true refl)
-    | false ↦ λ (e : eqb g k ≡ false). let ne : g ≢ k = eqb-false g k e in
-        ap (λ n. eqb n m) (get_or-set_other marks g k m 0 (λ q. ne (sym q))) ∙ old.marked k ∙ (elim (has_number goods k) as (λ b. b ≡ (b || false)) [ true ↦ refl | false ↦ refl ]) ] refl)
+      | true ↦ λ (e : eqb g k ≡ true). let same : get_or (set marks g m) k 0 ≡ m = subst (λ n. get_or (set marks g m) n 0 ≡ m) (eqb-true g k e) (get_or-set_same marks g m 0 there) in
+          eq-eqb _ _ same ∙ sym (or_right (has_number goods k) true refl)
+      | false ↦ λ (e : eqb g k ≡ false). let ne : g ≢ k = eqb-false g k e in
+          ap (λ n. eqb n m) (get_or-set_other marks g k m 0 (λ q. ne (sym q))) ∙ old.marked k ∙ (elim (has_number goods k) as (λ b. b ≡ (b || false)) [ true ↦ refl | false ↦ refl ])
+    ] refl)
 
 older_push : (goods marks : List ℕ) (m g k : ℕ) → IsMarked goods marks m → g < length marks → get_or (set marks g m) k 0 ≤ m
 older_push goods marks m g k old there = elim (eqb g k) as (λ b. eqb g k ≡ b → get_or (set marks g m) k 0 ≤ m) [
-      true ↦ λ (e : eqb g k ≡ true). let same : get_or (set marks g m) k 0 ≡ m = subst (λ n. get_or (set marks g m) n 0 ≡ m) (eqb-true g k e) (get_or-set_same marks g m 0 there) in omega arith
-    | false ↦ λ (e : eqb g k ≡ false). let ne : g ≢ k = eqb-false g k e in
-        let other : get_or (set marks g m) k 0 ≡ get_or marks k 0 = get_or-set_other marks g k m 0 (λ q. ne (sym q)) in
-        let le : get_or marks k 0 ≤ m = old.older k in omega arith ] refl
+  | true ↦ λ (e : eqb g k ≡ true). let same : get_or (set marks g m) k 0 ≡ m = subst (λ n. get_or (set marks g m) n 0 ≡ m) (eqb-true g k e) (get_or-set_same marks g m 0 there) in omega arith
+  | false ↦ λ (e : eqb g k ≡ false). let ne : g ≢ k = eqb-false g k e in
+      let other : get_or (set marks g m) k 0 ≡ get_or marks k 0 = get_or-set_other marks g k m 0 (λ q. ne (sym q)) in
+      let le : get_or marks k 0 ≤ m = old.older k in omega arith
+] refl
 
 -- one more good, marked
 pub IsMarked-push : (goods marks : List ℕ) (m g : ℕ) → IsMarked goods marks m → has_number goods g ≡ false → g < length marks → IsMarked (goods ++ g ∷ []) (set marks g m) m
@@ -42,7 +44,7 @@ IsMarked-push goods marks m g old new there = record {
   begun = old.begun;
   marked = λ k. marked_push goods marks m g k old there;
   older = λ k. older_push goods marks m g k old there;
-  distinct = AreDistinct-push goods g old.distinct new
+  distinct = AreDistinct-push goods g old.distinct new;
 }
 
 -- a longer list of marks, the new ones 0
@@ -51,5 +53,5 @@ IsMarked-covered goods marks more m old same = record {
   begun = old.begun;
   marked = λ k. ap (λ n. eqb n m) (same k) ∙ old.marked k;
   older = λ k. let e : get_or more k 0 ≡ get_or marks k 0 = same k in let le : get_or marks k 0 ≤ m = old.older k in omega arith;
-  distinct = old.distinct
+  distinct = old.distinct;
 }

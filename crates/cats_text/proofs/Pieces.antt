@@ -17,8 +17,9 @@ use Rattle.cats_text.proofs.TextFaults.{EndsFinal, OpenIs, open_fault, WholeIs, 
 pub settled-append : (x p : List ℕ) → settled (x ++ p) ≡ settled x ++ settled (carried (waits x) p)
 settled-append [] p = refl
 settled-append (b ∷ []) p = elim (eqb b 13) as (λ t. eqb b 13 ≡ t → settled (b ∷ p) ≡ cond t [] (b ∷ []) ++ settled (carried t p)) [
-    true ↦ λ (e : eqb b 13 ≡ true). ap (λ c. settled (c ∷ p)) (eqb-true b 13 e)
-  | false ↦ λ (e : eqb b 13 ≡ false). other p e ] refl
+  | true ↦ λ (e : eqb b 13 ≡ true). ap (λ c. settled (c ∷ p)) (eqb-true b 13 e)
+  | false ↦ λ (e : eqb b 13 ≡ false). other p e
+] refl
   where
     other : (p : List ℕ) → eqb b 13 ≡ false → settled (b ∷ p) ≡ b ∷ settled p
     other [] e = rw e refl
@@ -39,8 +40,9 @@ waiting false = []
 
 line_byte-settle : (b c : ℕ) → line_byte b (c ∷ []) ≡ cond (eqb b 13) (return_byte c) b
 line_byte-settle b c = elim (eqb b 13) as (λ t. eqb b 13 ≡ t → cond (t && eqb c 10) 32 b ≡ cond t (cond (eqb c 10) 32 13) b) [
-    true ↦ λ (e : eqb b 13 ≡ true). ap (λ k. cond (eqb c 10) 32 k) (eqb-true b 13 e)
-  | false ↦ λ (e : eqb b 13 ≡ false). refl ] refl
+  | true ↦ λ (e : eqb b 13 ≡ true). ap (λ k. cond (eqb c 10) 32 k) (eqb-true b 13 e)
+  | false ↦ λ (e : eqb b 13 ≡ false). refl
+] refl
 
 pub blank_returns-settled : (x : List ℕ) → blank_returns x ≡ settled x ++ waiting (waits x)
 blank_returns-settled [] = refl
@@ -79,10 +81,11 @@ cut_of (b ∷ bs) = let later = cut_of bs in joined (up_to_final bs) refl later.
   where
     joined : (kept : List ℕ) → up_to_final bs ≡ kept → (rest : List ℕ) → IsCut bs rest → (rest' : List ℕ) × IsCut (b ∷ bs) rest'
     joined [] e rest c = elim (is_final b) as (λ t. is_final b ≡ t → (rest' : List ℕ) × IsCut (b ∷ bs) rest') [
-        true ↦ λ (f : is_final b ≡ true). let is : up_to_final (b ∷ bs) ≡ b ∷ [] = ap (keep_final b) e ∙ ap (λ t. cond t (b ∷ []) []) f in
+      | true ↦ λ (f : is_final b ≡ true). let is : up_to_final (b ∷ bs) ≡ b ∷ [] = ap (keep_final b) e ∙ ap (λ t. cond t (b ∷ []) []) f in
           (rest, record { is = ap (λ ds. b ∷ ds) (c.is ∙ ap (λ ds. ds ++ rest) e) ∙ ap (λ ds. ds ++ rest) (sym is); open_rest = c.open_rest; ends = subst EndsFinal (sym is) f })
       | false ↦ λ (f : is_final b ≡ false). let is : up_to_final (b ∷ bs) ≡ [] = ap (keep_final b) e ∙ ap (λ t. cond t (b ∷ []) []) f in
-          (b ∷ rest, record { is = ap (λ ds. b ∷ ds) (c.is ∙ ap (λ ds. ds ++ rest) e) ∙ ap (λ ds. ds ++ b ∷ rest) (sym is); open_rest = (f, c.open_rest); ends = subst EndsFinal (sym is) tt }) ] refl
+          (b ∷ rest, record { is = ap (λ ds. b ∷ ds) (c.is ∙ ap (λ ds. ds ++ rest) e) ∙ ap (λ ds. ds ++ b ∷ rest) (sym is); open_rest = (f, c.open_rest); ends = subst EndsFinal (sym is) tt })
+    ] refl
     joined (k ∷ ks) e rest c = let is : up_to_final (b ∷ bs) ≡ b ∷ k ∷ ks = ap (keep_final b) e in
         (rest, record { is = ap (λ ds. b ∷ ds) (c.is ∙ ap (λ ds. ds ++ rest) e) ∙ ap (λ ds. ds ++ rest) (sym is); open_rest = c.open_rest; ends = subst EndsFinal (sym is) (subst EndsFinal e c.ends) })
 
@@ -102,6 +105,7 @@ settled-final (b ∷ []) t f = last t
   where
     no : eqb b 13 ≡ false
     no = final_no_return b f
+
     last : (t : List ℕ) → settled (b ∷ t) ≡ blank_returns (b ∷ []) ++ settled t
     last [] = rw no refl
     last (c ∷ cs) = rw no refl
@@ -137,9 +141,9 @@ pub complete_is : (text : List ℕ) → CompleteIs text (outcome (run first_stat
 complete_is text =
     let cut = cut_of text in
     subst (CompleteIs text) (sym (ap (λ bs. outcome (run first_state (settled bs))) cut.1.is
-      ∙ ap (λ bs. outcome (run first_state bs)) (settled-final (up_to_final text) cut.0 cut.1.ends)
-      ∙ ap outcome (run-append first_state (blank_returns (up_to_final text)) (settled cut.0))
-      ∙ open_behind (run first_state (blank_returns (up_to_final text))) (settled cut.0) (open_settled cut.0 cut.1.open_rest)))
+    ∙ ap (λ bs. outcome (run first_state bs)) (settled-final (up_to_final text) cut.0 cut.1.ends)
+    ∙ ap outcome (run-append first_state (blank_returns (up_to_final text)) (settled cut.0))
+    ∙ open_behind (run first_state (blank_returns (up_to_final text))) (settled cut.0) (open_settled cut.0 cut.1.open_rest)))
     (answer (outcome (run first_state (blank_returns (up_to_final text)))) (open_fault (up_to_final text) (ends_returns (up_to_final text) cut.1.ends)))
   where
     answer : (r : Scanned) → OpenIs (up_to_final text) r → CompleteIs text r

@@ -99,11 +99,12 @@ place_not_zero bs h = at 6 0 bs h refl
         let low : 48 ≤ b = (digit_bounds b parts.0).0 in
         let later : has_place_from 0 bs ≡ (has_place_from left bs || ltb 0 (places_from (suc n) bs)) = at left (suc n) bs parts.1 (omega arith) in
         elim (eqb b 48) as (λ t. eqb b 48 ≡ t → (not t || has_place_from 0 bs) ≡ (has_place_from left bs || ltb 0 ((b - 48) * place_value_of n + places_from (suc n) bs))) [
-          true ↦ λ (q : eqb b 48 ≡ true). let is : b - 48 ≡ 0 = (let same : b ≡ 48 = eqb-true b 48 q in omega arith) in
-            let sum : (b - 48) * place_value_of n + places_from (suc n) bs ≡ places_from (suc n) bs = ap (λ k. k * place_value_of n + places_from (suc n) bs) is ∙ omega arith in
-            later ∙ ap (λ k. has_place_from left bs || ltb 0 k) (sym sum)
-        | false ↦ λ (q : eqb b 48 ≡ false). let ne : b ≢ 48 = eqb-false b 48 q in
-            let pos : 0 < place_value_of n = place_value_pos n (omega arith) in
-            let product : 1 * place_value_of n ≤ (b - 48) * place_value_of n = mul-le-mul_right (place_value_of n) (let one : 1 ≤ b - 48 = omega arith in one) in
-            let more : 0 < (b - 48) * place_value_of n + places_from (suc n) bs = omega arith in
-            sym (or_right (has_place_from left bs) (ltb 0 ((b - 48) * place_value_of n + places_from (suc n) bs)) (lt-ltb 0 ((b - 48) * place_value_of n + places_from (suc n) bs) more)) ] refl
+          | true ↦ λ (q : eqb b 48 ≡ true). let is : b - 48 ≡ 0 = (let same : b ≡ 48 = eqb-true b 48 q in omega arith) in
+              let sum : (b - 48) * place_value_of n + places_from (suc n) bs ≡ places_from (suc n) bs = ap (λ k. k * place_value_of n + places_from (suc n) bs) is ∙ omega arith in
+              later ∙ ap (λ k. has_place_from left bs || ltb 0 k) (sym sum)
+          | false ↦ λ (q : eqb b 48 ≡ false). let ne : b ≢ 48 = eqb-false b 48 q in
+              let pos : 0 < place_value_of n = place_value_pos n (omega arith) in
+              let product : 1 * place_value_of n ≤ (b - 48) * place_value_of n = mul-le-mul_right (place_value_of n) (let one : 1 ≤ b - 48 = omega arith in one) in
+              let more : 0 < (b - 48) * place_value_of n + places_from (suc n) bs = omega arith in
+              sym (or_right (has_place_from left bs) (ltb 0 ((b - 48) * place_value_of n + places_from (suc n) bs)) (lt-ltb 0 ((b - 48) * place_value_of n + places_from (suc n) bs) more))
+        ] refl

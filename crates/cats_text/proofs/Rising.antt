@@ -33,8 +33,9 @@ tail_has x xs ys g a h k = ⊎_elim (λ (e : x ≡ g). let l : x < g = above_has
 
 same_tail : (x : ℕ) (xs ys : List ℕ) → AreAbove x xs → AreAbove x ys → ((g : ℕ) → has_number (x ∷ xs) g ≡ has_number (x ∷ ys) g) → (g : ℕ) → has_number xs g ≡ has_number ys g
 same_tail x xs ys a b h g = elim (has_number xs g) as (λ p. has_number xs g ≡ p → p ≡ has_number ys g) [
-    true ↦ λ (e : has_number xs g ≡ true). sym (tail_has x xs ys g a (h g) e)
-  | false ↦ λ (e : has_number xs g ≡ false). sym (false_from_ne_true (has_number ys g) (λ k. both_ways (has_number xs g) e (tail_has x ys xs g b (sym (h g)) k))) ] refl
+  | true ↦ λ (e : has_number xs g ≡ true). sym (tail_has x xs ys g a (h g) e)
+  | false ↦ λ (e : has_number xs g ≡ false). sym (false_from_ne_true (has_number ys g) (λ k. both_ways (has_number xs g) e (tail_has x ys xs g b (sym (h g)) k)))
+] refl
 
 pub same_rising : (xs ys : List ℕ) → IsRising xs → IsRising ys → ((g : ℕ) → has_number xs g ≡ has_number ys g) → xs ≡ ys
 same_rising [] [] r s h = refl
@@ -66,21 +67,26 @@ or_swap false false c = refl
 pub has_rising_with : (g : ℕ) (xs : List ℕ) (n : ℕ) → has_number (rising_with g xs) n ≡ (eqb g n || has_number xs n)
 has_rising_with g [] n = refl
 has_rising_with g (x ∷ xs) n = elim (ltb g x) as (λ b. has_number (cond b (g ∷ (x ∷ xs)) (cond (eqb g x) (x ∷ xs) (x ∷ rising_with g xs))) n ≡ (eqb g n || (eqb x n || has_number xs n))) [
-    true ↦ refl
+  | true ↦ refl
   | false ↦ elim (eqb g x) as (λ b. eqb g x ≡ b → has_number (cond b (x ∷ xs) (x ∷ rising_with g xs)) n ≡ (eqb g n || (eqb x n || has_number xs n))) [
-      true ↦ λ (e : eqb g x ≡ true). rw (eqb-true g x e) (or_twice (eqb x n) (has_number xs n))
-    | false ↦ λ (e : eqb g x ≡ false). ap (λ b. eqb x n || b) (has_rising_with g xs n) ∙ or_swap (eqb x n) (eqb g n) (has_number xs n) ] refl ]
+    | true ↦ λ (e : eqb g x ≡ true). rw (eqb-true g x e) (or_twice (eqb x n) (has_number xs n))
+    | false ↦ λ (e : eqb g x ≡ false). ap (λ b. eqb x n || b) (has_rising_with g xs n) ∙ or_swap (eqb x n) (eqb g n) (has_number xs n)
+  ] refl
+]
 
 pub IsRising-with : (g : ℕ) (xs : List ℕ) → IsRising xs → IsRising (rising_with g xs)
 IsRising-with g [] r = (tt, tt)
 IsRising-with g (x ∷ xs) r = elim (ltb g x) as (λ b. ltb g x ≡ b → IsRising (cond b (g ∷ (x ∷ xs)) (cond (eqb g x) (x ∷ xs) (x ∷ rising_with g xs)))) [
-    true ↦ λ (e : ltb g x ≡ true). let l : g < x = ltb-true g x e in
+  | true ↦ λ (e : ltb g x ≡ true). let l : g < x = ltb-true g x e in
       (above_from_has g (x ∷ xs) (λ n k. ⊎_elim (λ (q : x ≡ n). subst (λ m. g < m) q l) (λ (m : has_number xs n ≡ true). let above : x < n = above_has x xs n r.0 m in omega arith) (has_cases x xs n k)), r)
   | false ↦ λ (e : ltb g x ≡ false). elim (eqb g x) as (λ b. eqb g x ≡ b → IsRising (cond b (x ∷ xs) (x ∷ rising_with g xs))) [
-      true ↦ λ (q : eqb g x ≡ true). r
-    | false ↦ λ (q : eqb g x ≡ false). let le : x ≤ g = ltb-false g x e in let ne : g ≢ x = eqb-false g x q in
-        (above_from_has x (rising_with g xs) (λ n k. ⊎_elim (λ (m : eqb g n ≡ true). let same : g ≡ n = eqb-true g n m in omega arith) (λ (m : has_number xs n ≡ true). above_has x xs n r.0 m) (or_cases (eqb g n) (has_number xs n) (sym (has_rising_with g xs n) ∙ k))),
-         IsRising-with g xs r.1) ] refl ] refl
+    | true ↦ λ (q : eqb g x ≡ true). r
+    | false ↦ λ (q : eqb g x ≡ false). let le : x ≤ g = ltb-false g x e in let ne : g ≢ x = eqb-false g x q in (
+      above_from_has x (rising_with g xs) (λ n k. ⊎_elim (λ (m : eqb g n ≡ true). let same : g ≡ n = eqb-true g n m in omega arith) (λ (m : has_number xs n ≡ true). above_has x xs n r.0 m) (or_cases (eqb g n) (has_number xs n) (sym (has_rising_with g xs n) ∙ k))),
+      IsRising-with g xs r.1,
+    )
+  ] refl
+] refl
 
 pub has_rising_of : (xs : List ℕ) (n : ℕ) → has_number (rising_of xs) n ≡ has_number xs n
 has_rising_of [] n = refl

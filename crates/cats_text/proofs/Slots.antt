@@ -22,7 +22,7 @@ pub padded_more : {X : Type 0} (xs more next : List (Option X)) (n : ℕ) → Is
 padded_more xs more next n p room e = record {
   count = p.count + 1;
   is = e ∙ ap (λ ys. ys ++ None ∷ []) p.is ∙ append_assoc xs (replicate p.count None) (None ∷ []) ∙ ap (λ ys. xs ++ ys) (replicate-append-replicate p.count 1 None);
-  few = let len : length more ≡ length xs + p.count = length-padded xs more n p in let few : p.count ≤ n + 1 - length xs = p.few in omega arith
+  few = let len : length more ≡ length xs + p.count = length-padded xs more n p in let few : p.count ≤ n + 1 - length xs = p.few in omega arith;
 }
 
 -- there is a place for n

@@ -66,8 +66,9 @@ not_digit_first a w h = rw h refl
 
 not_price_first : (a : ℕ) (w : List ℕ) → is_digit a ≡ false → is_price (a ∷ w) ≡ false
 not_price_first a w h = elim (eqb a 46) as (λ t. (is_number (cond t [] (a ∷ whole_part w)) && (not (t || has_point w) || is_number (cond t w (places w)))) ≡ false) [
-    true ↦ refl
-  | false ↦ rw h refl ]
+  | true ↦ refl
+  | false ↦ rw h refl
+]
 
 -- the first byte begins neither a number, nor `#`, nor a keyword
 other_first : (a : ℕ) (w : List ℕ) → is_digit a ≡ false → a ≢ 35 → a ≢ 103 → a ≢ 98 → a ≢ 100 → IsOther (a ∷ w)
@@ -75,21 +76,22 @@ other_first a w digit hash g b d = record {
   number = not_digit_first a w digit;
   price = not_price_first a w digit;
   ended = rw (ne_eqb a 35 hash) refl;
-  keyword = elim [ Goods ↦ rw (ne_eqb a 103 g) refl | Bids ↦ rw (ne_eqb a 98 b) refl | Dummy ↦ rw (ne_eqb a 100 d) refl ]
+  keyword = elim [ Goods ↦ rw (ne_eqb a 103 g) refl | Bids ↦ rw (ne_eqb a 98 b) refl | Dummy ↦ rw (ne_eqb a 100 d) refl ];
 }
 
 -- the first byte is a digit, so that it is neither `#` nor a keyword
 pub digit_not : (a c : ℕ) (w t : List ℕ) → is_digit a ≡ true → is_digit c ≡ false → bytes_eq (a ∷ w) (c ∷ t) ≡ false
 digit_not a c w t h k = elim (eqb a c) as (λ q. eqb a c ≡ q → (q && bytes_eq w t) ≡ false) [
-    true ↦ λ (e : eqb a c ≡ true). absurd (both_ways (is_digit c) k (subst (λ n. is_digit n ≡ true) (eqb-true a c e) h))
-  | false ↦ λ (e : eqb a c ≡ false). refl ] refl
+  | true ↦ λ (e : eqb a c ≡ true). absurd (both_ways (is_digit c) k (subst (λ n. is_digit n ≡ true) (eqb-true a c e) h))
+  | false ↦ λ (e : eqb a c ≡ false). refl
+] refl
 
 digit_is_other : (a : ℕ) (w : List ℕ) → is_digit a ≡ true → is_number (a ∷ w) ≡ false → is_price (a ∷ w) ≡ false → IsOther (a ∷ w)
 digit_is_other a w h n p = record {
   number = n;
   price = p;
   ended = digit_not a 35 w [] h refl;
-  keyword = elim [ Goods ↦ digit_not a 103 w _ h refl | Bids ↦ digit_not a 98 w _ h refl | Dummy ↦ digit_not a 100 w _ h refl ]
+  keyword = elim [ Goods ↦ digit_not a 103 w _ h refl | Bids ↦ digit_not a 98 w _ h refl | Dummy ↦ digit_not a 100 w _ h refl ];
 }
 
 -- ---- parts of a word
@@ -142,25 +144,31 @@ number_of-push w b = fold-append (λ n c. 10 * n + (c - 48)) 0 w (b ∷ [])
 -- a number held, with one more digit
 holds_more : (v n d : ℕ) → Holds v n → Holds (cond (ltb v HELD) (v * 10 + d) v) (10 * n + d)
 holds_more v n d h = elim (ltb v HELD) as (λ t. ltb v HELD ≡ t → Holds (cond t (v * 10 + d) v) (10 * n + d)) [
-    true ↦ λ (e : ltb v HELD ≡ true). let below : v < HELD = ltb-true v HELD e in
+  | true ↦ λ (e : ltb v HELD ≡ true). let below : v < HELD = ltb-true v HELD e in
       ⊎_elim (λ (same : v ≡ n). inl (omega arith)) (λ (above : (HELD ≤ v) × (HELD ≤ n)). let no : HELD ≤ v = above.0 in absurd (omega arith)) h
   | false ↦ λ (e : ltb v HELD ≡ false). let above : HELD ≤ v = ltb-false v HELD e in
-      inr (above, ⊎_elim (λ (same : v ≡ n). omega arith) (λ (both : (HELD ≤ v) × (HELD ≤ n)). let more : HELD ≤ n = both.1 in omega arith) h) ] refl
+      inr (above, ⊎_elim (λ (same : v ≡ n). omega arith) (λ (both : (HELD ≤ v) × (HELD ≤ n)). let more : HELD ≤ n = both.1 in omega arith) h)
+] refl
 
 -- ---- the first byte
 
 pub tells_first : (a : ℕ) → Tells (a ∷ []) (word_from a)
 tells_first a = elim (is_digit a) as (λ t. is_digit a ≡ t → Tells (a ∷ []) (cond t (Number (a - 48)) (cond (eqb a 35) End (cond (eqb a 103) (Keyword Goods 1) (cond (eqb a 98) (Keyword Bids 1) (cond (eqb a 100) (Keyword Dummy 1) Other)))))) [
-    true ↦ λ (e : is_digit a ≡ true). (rw e refl, inl (omega arith))
+  | true ↦ λ (e : is_digit a ≡ true). (rw e refl, inl (omega arith))
   | false ↦ λ (digit : is_digit a ≡ false). elim (eqb a 35) as (λ t. eqb a 35 ≡ t → Tells (a ∷ []) (cond t End (cond (eqb a 103) (Keyword Goods 1) (cond (eqb a 98) (Keyword Bids 1) (cond (eqb a 100) (Keyword Dummy 1) Other))))) [
-      true ↦ λ (e : eqb a 35 ≡ true). ap (λ n. n ∷ []) (eqb-true a 35 e)
+    | true ↦ λ (e : eqb a 35 ≡ true). ap (λ n. n ∷ []) (eqb-true a 35 e)
     | false ↦ λ (hash : eqb a 35 ≡ false). elim (eqb a 103) as (λ t. eqb a 103 ≡ t → Tells (a ∷ []) (cond t (Keyword Goods 1) (cond (eqb a 98) (Keyword Bids 1) (cond (eqb a 100) (Keyword Dummy 1) Other)))) [
-        true ↦ λ (e : eqb a 103 ≡ true). (ap (λ n. n ∷ []) (eqb-true a 103 e), omega arith, omega arith)
+      | true ↦ λ (e : eqb a 103 ≡ true). (ap (λ n. n ∷ []) (eqb-true a 103 e), omega arith, omega arith)
       | false ↦ λ (g : eqb a 103 ≡ false). elim (eqb a 98) as (λ t. eqb a 98 ≡ t → Tells (a ∷ []) (cond t (Keyword Bids 1) (cond (eqb a 100) (Keyword Dummy 1) Other))) [
-          true ↦ λ (e : eqb a 98 ≡ true). (ap (λ n. n ∷ []) (eqb-true a 98 e), omega arith, omega arith)
+        | true ↦ λ (e : eqb a 98 ≡ true). (ap (λ n. n ∷ []) (eqb-true a 98 e), omega arith, omega arith)
         | false ↦ λ (b : eqb a 98 ≡ false). elim (eqb a 100) as (λ t. eqb a 100 ≡ t → Tells (a ∷ []) (cond t (Keyword Dummy 1) Other)) [
-            true ↦ λ (e : eqb a 100 ≡ true). (ap (λ n. n ∷ []) (eqb-true a 100 e), omega arith, omega arith)
-          | false ↦ λ (d : eqb a 100 ≡ false). λ t. other_first a t digit (eqb-false a 35 hash) (eqb-false a 103 g) (eqb-false a 98 b) (eqb-false a 100 d) ] refl ] refl ] refl ] refl ] refl
+          | true ↦ λ (e : eqb a 100 ≡ true). (ap (λ n. n ∷ []) (eqb-true a 100 e), omega arith, omega arith)
+          | false ↦ λ (d : eqb a 100 ≡ false). λ t. other_first a t digit (eqb-false a 35 hash) (eqb-false a 103 g) (eqb-false a 98 b) (eqb-false a 100 d)
+        ] refl
+      ] refl
+    ] refl
+  ] refl
+] refl
 
 -- ---- one more byte
 
@@ -175,10 +183,12 @@ number_other a w b t h digit point =
 
 tells_number : (a : ℕ) (w : List ℕ) (b v : ℕ) → Tells (a ∷ w) (Number v) → Tells ((a ∷ w) ++ b ∷ []) (word_with (Number v) b)
 tells_number a w b v h = elim (is_digit b) as (λ t. is_digit b ≡ t → Tells ((a ∷ w) ++ b ∷ []) (cond t (Number (cond (ltb v HELD) (v * 10 + (b - 48)) v)) (cond (eqb b 46) (Fraction (record { whole = v; millionths = 0; places = 0; fine = false })) Other))) [
-    true ↦ λ (digit : is_digit b ≡ true). (digits-more (a ∷ w) b h.0 digit, rw (number_of-push (a ∷ w) b) (holds_more v (number_of (a ∷ w)) (b - 48) h.1))
+  | true ↦ λ (digit : is_digit b ≡ true). (digits-more (a ∷ w) b h.0 digit, rw (number_of-push (a ∷ w) b) (holds_more v (number_of (a ∷ w)) (b - 48) h.1))
   | false ↦ λ (digit : is_digit b ≡ false). elim (eqb b 46) as (λ t. eqb b 46 ≡ t → Tells ((a ∷ w) ++ b ∷ []) (cond t (Fraction (record { whole = v; millionths = 0; places = 0; fine = false })) Other)) [
-      true ↦ λ (point : eqb b 46 ≡ true). record { whole = a ∷ w; behind = []; is = ap (λ n. (a ∷ w) ++ n ∷ []) (eqb-true b 46 point); number = h.0; digits = refl; value = h.1; count = refl; millionths = refl; fine = refl }
-    | false ↦ λ (point : eqb b 46 ≡ false). λ t. subst IsOther (sym (append_assoc (a ∷ w) (b ∷ []) t)) (number_other a w b t h.0 digit (eqb-false b 46 point)) ] refl ] refl
+    | true ↦ λ (point : eqb b 46 ≡ true). record { whole = a ∷ w; behind = []; is = ap (λ n. (a ∷ w) ++ n ∷ []) (eqb-true b 46 point); number = h.0; digits = refl; value = h.1; count = refl; millionths = refl; fine = refl }
+    | false ↦ λ (point : eqb b 46 ≡ false). λ t. subst IsOther (sym (append_assoc (a ∷ w) (b ∷ []) t)) (number_other a w b t h.0 digit (eqb-false b 46 point))
+  ] refl
+] refl
 
 is_number-not : (w : List ℕ) → digits_alone w ≡ false → is_number w ≡ false
 is_number-not [] h = refl
@@ -216,21 +226,25 @@ fraction_early w d b f digit early =
     let more : length (f.behind ++ b ∷ []) ≡ length f.behind + 1 = length-append f.behind (b ∷ []) in
     let digits : digits_alone (f.behind ++ b ∷ []) ≡ true = digits-more f.behind b f.digits digit in
     let sum : d.millionths + (b - 48) * place_value_of d.places ≡ places_from 0 (f.behind ++ b ∷ []) =
-        ap (λ v. d.millionths + (b - 48) * place_value_of v) same ∙ ap (λ v. v + (b - 48) * place_value_of (0 + length f.behind)) f.millionths ∙ sym (places-push 0 f.behind b) in
+    ap (λ v. d.millionths + (b - 48) * place_value_of v) same ∙ ap (λ v. v + (b - 48) * place_value_of (0 + length f.behind)) f.millionths ∙ sym (places-push 0 f.behind b) in
     let low : places_from 0 (f.behind ++ b ∷ []) ≤ 1000000 = places_below_one (f.behind ++ b ∷ []) digits in
     record {
-      whole = f.whole; behind = f.behind ++ b ∷ [];
+      whole = f.whole;
+      behind = f.behind ++ b ∷ [];
       is = ap (λ ds. ds ++ b ∷ []) f.is ∙ append_assoc f.whole (46 ∷ f.behind) (b ∷ []);
-      number = f.number; digits = digits; value = f.value;
+      number = f.number;
+      digits = digits;
+      value = f.value;
       count = omega arith;
       millionths = omega arith;
-      fine = f.fine ∙ has_place_early f.behind (omega arith) ∙ sym (has_place_early (f.behind ++ b ∷ []) (omega arith))
+      fine = f.fine ∙ has_place_early f.behind (omega arith) ∙ sym (has_place_early (f.behind ++ b ∷ []) (omega arith));
     }
 
 zero_digit : (b : ℕ) → is_digit b ≡ true → eqb (b - 48) 0 ≡ eqb b 48
 zero_digit b digit = let low : 48 ≤ b = (digit_bounds b digit).0 in elim (eqb b 48) as (λ t. eqb b 48 ≡ t → eqb (b - 48) 0 ≡ t) [
-    true ↦ λ (e : eqb b 48 ≡ true). let is : b ≡ 48 = eqb-true b 48 e in eq-eqb (b - 48) 0 (omega arith)
-  | false ↦ λ (e : eqb b 48 ≡ false). let ne : b ≢ 48 = eqb-false b 48 e in ne_eqb (b - 48) 0 (λ z. absurd (omega arith)) ] refl
+  | true ↦ λ (e : eqb b 48 ≡ true). let is : b ≡ 48 = eqb-true b 48 e in eq-eqb (b - 48) 0 (omega arith)
+  | false ↦ λ (e : eqb b 48 ≡ false). let ne : b ≢ 48 = eqb-false b 48 e in ne_eqb (b - 48) 0 (λ z. absurd (omega arith))
+] refl
 
 one_more : (ds : List ℕ) (b : ℕ) → 6 ≤ length ds → (has_place_from 6 ds || not (eqb b 48)) ≡ has_place_from 6 (ds ++ b ∷ [])
 one_more ds b l = sym (ap (λ (r : List ℕ). list_any (λ c. not (eqb c 48)) r) (drop-append-le 6 ds (b ∷ []) l) ∙ list_any-append (λ c. not (eqb c 48)) (drop 6 ds) (b ∷ []) ∙ ap (λ x. has_place_from 6 ds || x) (or_false (not (eqb b 48))))
@@ -250,21 +264,26 @@ fraction_late w d b f digit late =
     let sum : places_from 0 (f.behind ++ b ∷ []) ≡ places_from 0 f.behind + (b - 48) * place_value_of (0 + length f.behind) = places-push 0 f.behind b in
     let millionths : d.millionths ≡ places_from 0 f.behind = f.millionths in
     record {
-      whole = f.whole; behind = f.behind ++ b ∷ [];
+      whole = f.whole;
+      behind = f.behind ++ b ∷ [];
       is = ap (λ ds. ds ++ b ∷ []) f.is ∙ append_assoc f.whole (46 ∷ f.behind) (b ∷ []);
-      number = f.number; digits = digits-more f.behind b f.digits digit; value = f.value;
+      number = f.number;
+      digits = digits-more f.behind b f.digits digit;
+      value = f.value;
       count = omega arith;
       millionths = omega arith;
-      fine = ap (λ x. x || not (eqb (b - 48) 0)) f.fine ∙ ap (λ x. has_place_from 6 f.behind || not x) (zero_digit b digit) ∙ one_more f.behind b long
+      fine = ap (λ x. x || not (eqb (b - 48) 0)) f.fine ∙ ap (λ x. has_place_from 6 f.behind || not x) (zero_digit b digit) ∙ one_more f.behind b long;
     }
 
 tells_fraction : (a : ℕ) (w : List ℕ) (b : ℕ) (d : Decimal) → Tells (a ∷ w) (Fraction d) → Tells ((a ∷ w) ++ b ∷ []) (word_with (Fraction d) b)
 tells_fraction a w b d f = elim (is_digit b) as (λ t. is_digit b ≡ t → Tells ((a ∷ w) ++ b ∷ []) (cond t (Fraction (decimal_with d (b - 48))) Other)) [
-    true ↦ λ (digit : is_digit b ≡ true). elim (ltb d.places 6) as (λ t. ltb d.places 6 ≡ t → IsFraction ((a ∷ w) ++ b ∷ []) (cond t (record d { millionths = min (d.millionths + (b - 48) * place_value_of d.places) (2 ^ 64 - 1); places = d.places + 1 }) (record d { fine = d.fine || not (eqb (b - 48) 0) }))) [
-      true ↦ λ (e : ltb d.places 6 ≡ true). fraction_early (a ∷ w) d b f digit (ltb-true d.places 6 e)
-    | false ↦ λ (e : ltb d.places 6 ≡ false). fraction_late (a ∷ w) d b f digit (ltb-false d.places 6 e) ] refl
+  | true ↦ λ (digit : is_digit b ≡ true). elim (ltb d.places 6) as (λ t. ltb d.places 6 ≡ t → IsFraction ((a ∷ w) ++ b ∷ []) (cond t (record d { millionths = min (d.millionths + (b - 48) * place_value_of d.places) (2 ^ 64 - 1); places = d.places + 1 }) (record d { fine = d.fine || not (eqb (b - 48) 0) }))) [
+    | true ↦ λ (e : ltb d.places 6 ≡ true). fraction_early (a ∷ w) d b f digit (ltb-true d.places 6 e)
+    | false ↦ λ (e : ltb d.places 6 ≡ false). fraction_late (a ∷ w) d b f digit (ltb-false d.places 6 e)
+  ] refl
   | false ↦ λ (digit : is_digit b ≡ false). λ t. other f.whole f.behind t f.number digit
-      (append_assoc (a ∷ w) (b ∷ []) t ∙ ap (λ ds. ds ++ b ∷ t) f.is ∙ append_assoc f.whole (46 ∷ f.behind) (b ∷ t)) ] refl
+      (append_assoc (a ∷ w) (b ∷ []) t ∙ ap (λ ds. ds ++ b ∷ t) f.is ∙ append_assoc f.whole (46 ∷ f.behind) (b ∷ t))
+] refl
   where
     other : (whole behind t : List ℕ) → is_number whole ≡ true → is_digit b ≡ false → ((a ∷ w) ++ b ∷ []) ++ t ≡ whole ++ 46 ∷ (behind ++ b ∷ t) → IsOther (((a ∷ w) ++ b ∷ []) ++ t)
     other [] behind t n digit e = absurd (both_ways false refl n)
@@ -274,15 +293,17 @@ tells_fraction a w b d f = elim (is_digit b) as (λ t. is_digit b ≡ t → Tell
 bytes_mismatch : (n : ℕ) (s : List ℕ) (b : ℕ) (t : List ℕ) → n ≤ length s → (ltb n (length s) && eqb (get_or s n 0) b) ≡ false → bytes_eq (take n s ++ b ∷ t) s ≡ false
 bytes_mismatch zero [] b t l h = refl
 bytes_mismatch zero (x ∷ xs) b t l h = elim (eqb b x) as (λ q. eqb b x ≡ q → (q && bytes_eq t xs) ≡ false) [
-    true ↦ λ (e : eqb b x ≡ true). absurd (both_ways (eqb x b) (ap (λ q. q && eqb x b) (sym (lt-ltb 0 (length (x ∷ xs)) (omega arith))) ∙ h) (eq-eqb x b (sym (eqb-true b x e))))
-  | false ↦ λ (e : eqb b x ≡ false). refl ] refl
+  | true ↦ λ (e : eqb b x ≡ true). absurd (both_ways (eqb x b) (ap (λ q. q && eqb x b) (sym (lt-ltb 0 (length (x ∷ xs)) (omega arith))) ∙ h) (eq-eqb x b (sym (eqb-true b x e))))
+  | false ↦ λ (e : eqb b x ≡ false). refl
+] refl
 bytes_mismatch (suc n) [] b t l h = absurd (let no : suc n ≤ 0 = l in omega arith)
 bytes_mismatch (suc n) (x ∷ xs) b t l h = rw (eq-eqb x x refl) (bytes_mismatch n xs b t (omega arith) (shorter ∙ h))
   where
     shorter : (ltb n (length xs) && eqb (get_or xs n 0) b) ≡ (ltb (suc n) (length (x ∷ xs)) && eqb (get_or (x ∷ xs) (suc n) 0) b)
     shorter = elim (ltb n (length xs)) as (λ q. ltb n (length xs) ≡ q → (q && eqb (get_or xs n 0) b) ≡ (ltb (suc n) (suc (length xs)) && eqb (get_or xs n 0) b)) [
-        true ↦ λ (e : ltb n (length xs) ≡ true). let l : n < length xs = ltb-true n (length xs) e in rw (lt-ltb (suc n) (suc (length xs)) (omega arith)) refl
-      | false ↦ λ (e : ltb n (length xs) ≡ false). let l : length xs ≤ n = ltb-false n (length xs) e in rw (le-ltb (suc n) (suc (length xs)) (omega arith)) refl ] refl
+      | true ↦ λ (e : ltb n (length xs) ≡ true). let l : n < length xs = ltb-true n (length xs) e in rw (lt-ltb (suc n) (suc (length xs)) (omega arith)) refl
+      | false ↦ λ (e : ltb n (length xs) ≡ false). let l : length xs ≤ n = ltb-false n (length xs) e in rw (le-ltb (suc n) (suc (length xs)) (omega arith)) refl
+    ] refl
 
 -- the first byte of a keyword's front
 pub first_of_take : (a : ℕ) (w : List ℕ) (x : ℕ) (xs : List ℕ) (n : ℕ) → a ∷ w ≡ take n (x ∷ xs) → a ≡ x
@@ -295,23 +316,33 @@ first_of_take a w x xs (suc n) e = cc
 keyword_other : (k : Key) (a : ℕ) (w : List ℕ) (n b : ℕ) (t : List ℕ) → a ∷ w ≡ take n (keyword_text k) → n ≤ length (keyword_text k)
     → (ltb n (length (keyword_text k)) && eqb (get_or (keyword_text k) n 0) b) ≡ false → IsOther ((a ∷ w) ++ b ∷ t)
 keyword_other Goods a w n b t e l h = let first : a ≡ 103 = first_of_take a w 103 _ n e in record {
-  number = rw first refl; price = rw first (not_price_first 103 (w ++ b ∷ t) refl); ended = rw first refl;
-  keyword = elim [ Goods ↦ ap (λ ds. bytes_eq (ds ++ b ∷ t) (keyword_text Goods)) e ∙ bytes_mismatch n (keyword_text Goods) b t l h | Bids ↦ rw first refl | Dummy ↦ rw first refl ] }
+  number = rw first refl;
+  price = rw first (not_price_first 103 (w ++ b ∷ t) refl);
+  ended = rw first refl;
+  keyword = elim [ Goods ↦ ap (λ ds. bytes_eq (ds ++ b ∷ t) (keyword_text Goods)) e ∙ bytes_mismatch n (keyword_text Goods) b t l h | Bids ↦ rw first refl | Dummy ↦ rw first refl ];
+}
 keyword_other Bids a w n b t e l h = let first : a ≡ 98 = first_of_take a w 98 _ n e in record {
-  number = rw first refl; price = rw first (not_price_first 98 (w ++ b ∷ t) refl); ended = rw first refl;
-  keyword = elim [ Goods ↦ rw first refl | Bids ↦ ap (λ ds. bytes_eq (ds ++ b ∷ t) (keyword_text Bids)) e ∙ bytes_mismatch n (keyword_text Bids) b t l h | Dummy ↦ rw first refl ] }
+  number = rw first refl;
+  price = rw first (not_price_first 98 (w ++ b ∷ t) refl);
+  ended = rw first refl;
+  keyword = elim [ Goods ↦ rw first refl | Bids ↦ ap (λ ds. bytes_eq (ds ++ b ∷ t) (keyword_text Bids)) e ∙ bytes_mismatch n (keyword_text Bids) b t l h | Dummy ↦ rw first refl ];
+}
 keyword_other Dummy a w n b t e l h = let first : a ≡ 100 = first_of_take a w 100 _ n e in record {
-  number = rw first refl; price = rw first (not_price_first 100 (w ++ b ∷ t) refl); ended = rw first refl;
-  keyword = elim [ Goods ↦ rw first refl | Bids ↦ rw first refl | Dummy ↦ ap (λ ds. bytes_eq (ds ++ b ∷ t) (keyword_text Dummy)) e ∙ bytes_mismatch n (keyword_text Dummy) b t l h ] }
+  number = rw first refl;
+  price = rw first (not_price_first 100 (w ++ b ∷ t) refl);
+  ended = rw first refl;
+  keyword = elim [ Goods ↦ rw first refl | Bids ↦ rw first refl | Dummy ↦ ap (λ ds. bytes_eq (ds ++ b ∷ t) (keyword_text Dummy)) e ∙ bytes_mismatch n (keyword_text Dummy) b t l h ];
+}
 
 tells_keyword : (k : Key) (a : ℕ) (w : List ℕ) (b n : ℕ) → Tells (a ∷ w) (Keyword k n) → Tells ((a ∷ w) ++ b ∷ []) (word_with (Keyword k n) b)
 tells_keyword k a w b n h = elim (ltb n (length (keyword_text k)) && eqb (get_or (keyword_text k) n 0) b) as (λ t. (ltb n (length (keyword_text k)) && eqb (get_or (keyword_text k) n 0) b) ≡ t → Tells ((a ∷ w) ++ b ∷ []) (cond t (Keyword k (n + 1)) Other)) [
-    true ↦ λ (e : (ltb n (length (keyword_text k)) && eqb (get_or (keyword_text k) n 0) b) ≡ true).
+  | true ↦ λ (e : (ltb n (length (keyword_text k)) && eqb (get_or (keyword_text k) n 0) b) ≡ true).
       let both = and_parts (ltb n (length (keyword_text k))) (eqb (get_or (keyword_text k) n 0) b) e in
       let l : n < length (keyword_text k) = ltb-true n (length (keyword_text k)) both.0 in
       (ap (λ ds. ds ++ b ∷ []) h.0 ∙ ap (λ c. take n (keyword_text k) ++ c ∷ []) (sym (eqb-true (get_or (keyword_text k) n 0) b both.1)) ∙ sym (take-suc (keyword_text k) n 0 l) ∙ ap (λ m. take m (keyword_text k)) (sym (add-one n)), omega arith, omega arith)
   | false ↦ λ (e : (ltb n (length (keyword_text k)) && eqb (get_or (keyword_text k) n 0) b) ≡ false).
-      λ t. subst IsOther (sym (append_assoc (a ∷ w) (b ∷ []) t)) (keyword_other k a w n b t h.0 h.2 e) ] refl
+      λ t. subst IsOther (sym (append_assoc (a ∷ w) (b ∷ []) t)) (keyword_other k a w n b t h.0 h.2 e)
+] refl
 
 hash_other : (b : ℕ) (t : List ℕ) → IsOther (35 ∷ b ∷ t)
 hash_other b t = record { number = refl; price = not_price_first 35 (b ∷ t) refl; ended = refl; keyword = elim [ Goods ↦ refl | Bids ↦ refl | Dummy ↦ refl ] }

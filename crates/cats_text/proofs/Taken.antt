@@ -18,8 +18,9 @@ taken_set (x ∷ xs) (suc n) b (suc k) l = taken_set xs n b k (omega arith) ∙ 
   where
     shift : (n k : ℕ) → eqb n k ≡ eqb (suc n) (suc k)
     shift n k = elim (eqb n k) as (λ t. eqb n k ≡ t → t ≡ eqb (suc n) (suc k)) [
-        true ↦ λ (e : eqb n k ≡ true). let same : n ≡ k = eqb-true n k e in sym (eq-eqb (suc n) (suc k) (omega arith))
-      | false ↦ λ (e : eqb n k ≡ false). let ne : n ≢ k = eqb-false n k e in sym (ne_eqb (suc n) (suc k) (λ q. ne (omega arith))) ] refl
+      | true ↦ λ (e : eqb n k ≡ true). let same : n ≡ k = eqb-true n k e in sym (eq-eqb (suc n) (suc k) (omega arith))
+      | false ↦ λ (e : eqb n k ≡ false). let ne : n ≢ k = eqb-false n k e in sym (ne_eqb (suc n) (suc k) (λ q. ne (omega arith)))
+    ] refl
 
 taken_none : (count k : ℕ) → is_some_bid (slice_get (replicate count None) k) ≡ false
 taken_none zero k = refl

@@ -41,13 +41,15 @@ neither false b e = (refl, e)
 raw_line : (whole : Bool) (n : ℕ) (l : RawLine) (ls : List RawLine) (p : Progress) (count : ℕ) → AreRaw (l ∷ ls) → ((q : Progress) → raw_scan whole (suc n) ls q ≡ lines_scan whole count (kept (numbered (suc n) ls)) q)
     → raw_scan whole n (l ∷ ls) p ≡ lines_scan whole count (kept (numbered n (l ∷ ls))) p
 raw_line whole n l ls p count r again = elim (is_significant (line_words l.bytes)) as (λ t. cond (l.ended || whole) (scanned_then (cond t (on_line n (reading_then (words_read (line_words l.bytes) p) line_read)) (Ok p)) (raw_scan whole (suc n) ls)) (cond t (on_line n (words_read (line_words l.bytes) p)) (Ok p))
-        ≡ lines_scan whole count (cond t (record { number = n; words = line_words l.bytes; ended = l.ended } ∷ kept (numbered (suc n) ls)) (kept (numbered (suc n) ls))) p) [
-    true ↦ ap (λ (x : Scanned). cond (l.ended || whole) x (on_line n (words_read (line_words l.bytes) p)))
-      (scanned_same (on_line n (reading_then (words_read (line_words l.bytes) p) line_read)) (raw_scan whole (suc n) ls) (lines_scan whole count (kept (numbered (suc n) ls))) again)
-  | false ↦ elim (l.ended || whole) as (λ t. (l.ended || whole) ≡ t → cond t (raw_scan whole (suc n) ls p) (Ok p) ≡ lines_scan whole count (kept (numbered (suc n) ls)) p) [
-      true ↦ λ (e : (l.ended || whole) ≡ true). again p
-    | false ↦ λ (e : (l.ended || whole) ≡ false). let both = neither l.ended whole e in
-        sym (ap (λ (ms : List RawLine). lines_scan whole count (kept (numbered (suc n) ms)) p) (last_raw l ls r both.0) ∙ ap (λ t. cond (t && is_due p) (Err (fault_at (suc count) Missing)) (Ok p)) both.1) ] refl ]
+    ≡ lines_scan whole count (cond t (record { number = n; words = line_words l.bytes; ended = l.ended } ∷ kept (numbered (suc n) ls)) (kept (numbered (suc n) ls))) p) [
+      | true ↦ ap (λ (x : Scanned). cond (l.ended || whole) x (on_line n (words_read (line_words l.bytes) p)))
+          (scanned_same (on_line n (reading_then (words_read (line_words l.bytes) p) line_read)) (raw_scan whole (suc n) ls) (lines_scan whole count (kept (numbered (suc n) ls))) again)
+      | false ↦ elim (l.ended || whole) as (λ t. (l.ended || whole) ≡ t → cond t (raw_scan whole (suc n) ls p) (Ok p) ≡ lines_scan whole count (kept (numbered (suc n) ls)) p) [
+        | true ↦ λ (e : (l.ended || whole) ≡ true). again p
+        | false ↦ λ (e : (l.ended || whole) ≡ false). let both = neither l.ended whole e in
+            sym (ap (λ (ms : List RawLine). lines_scan whole count (kept (numbered (suc n) ms)) p) (last_raw l ls r both.0) ∙ ap (λ t. cond (t && is_due p) (Err (fault_at (suc count) Missing)) (Ok p)) both.1)
+      ] refl
+    ]
 
 -- lines without words to judge do nothing
 pub raw_scan-lines : (whole : Bool) (n : ℕ) (ls : List RawLine) (p : Progress) (count : ℕ) → AreRaw ls → (whole ≡ true → suc count ≡ n + length ls) → raw_scan whole n ls p ≡ lines_scan whole count (kept (numbered n ls)) p
@@ -64,10 +66,12 @@ words_are (b ∷ bs) = joined (line_words bs) (words_are bs)
     front : (ws : List Word) → AllByRecursion IsWord ws → AllByRecursion IsWord (with_letter b ws)
     front [] h = (omega arith, tt)
     front (w ∷ ws) h = (omega arith, h.1)
+
     joined : (ws : List Word) → AllByRecursion IsWord ws → AllByRecursion IsWord (words_with b bs ws)
     joined ws h = elim (is_blank b) as (λ t. AllByRecursion IsWord (cond t ws (cond (begins_word bs) (with_letter b ws) ((b ∷ []) ∷ ws)))) [
-        true ↦ h
-      | false ↦ elim (begins_word bs) as (λ t. AllByRecursion IsWord (cond t (with_letter b ws) ((b ∷ []) ∷ ws))) [ true ↦ front ws h | false ↦ (omega arith, h) ] ]
+      | true ↦ h
+      | false ↦ elim (begins_word bs) as (λ t. AllByRecursion IsWord (cond t (with_letter b ws) ((b ∷ []) ∷ ws))) [ true ↦ front ws h | false ↦ (omega arith, h) ]
+    ]
 
 significant_pos : (ws : List Word) → is_significant ws ≡ true → 0 < length ws
 significant_pos [] e = absurd (both_ways false refl e)
@@ -76,8 +80,9 @@ significant_pos (w ∷ ws) e = omega arith
 pub kept_are : (n : ℕ) (ls : List RawLine) → AllByRecursion IsLine (kept (numbered n ls))
 kept_are n [] = tt
 kept_are n (l ∷ ls) = elim (is_significant (line_words l.bytes)) as (λ t. is_significant (line_words l.bytes) ≡ t → AllByRecursion IsLine (cond t (record { number = n; words = line_words l.bytes; ended = l.ended } ∷ kept (numbered (suc n) ls)) (kept (numbered (suc n) ls)))) [
-    true ↦ λ (e : is_significant (line_words l.bytes) ≡ true). ((significant_pos (line_words l.bytes) e, words_are l.bytes), kept_are (suc n) ls)
-  | false ↦ λ (e : is_significant (line_words l.bytes) ≡ false). kept_are (suc n) ls ] refl
+  | true ↦ λ (e : is_significant (line_words l.bytes) ≡ true). ((significant_pos (line_words l.bytes) e, words_are l.bytes), kept_are (suc n) ls)
+  | false ↦ λ (e : is_significant (line_words l.bytes) ≡ false). kept_are (suc n) ls
+] refl
 
 -- a line in front that has its LF, or is the last
 ends_front : (l : Line) (ls : List Line) → (0 < length ls → l.ended ≡ true) → AreEndedButLast ls → AreEndedButLast (l ∷ ls)
@@ -91,8 +96,9 @@ ended_or_last l (m ∷ ls) n r h = r.1
 pub kept_ends : (n : ℕ) (ls : List RawLine) → AreRaw ls → AreEndedButLast (kept (numbered n ls))
 kept_ends n [] r = tt
 kept_ends n (l ∷ ls) r = elim (is_significant (line_words l.bytes)) as (λ t. AreEndedButLast (cond t (record { number = n; words = line_words l.bytes; ended = l.ended } ∷ kept (numbered (suc n) ls)) (kept (numbered (suc n) ls)))) [
-    true ↦ ends_front (record { number = n; words = line_words l.bytes; ended = l.ended }) (kept (numbered (suc n) ls)) (ended_or_last l ls (suc n) r) (kept_ends (suc n) ls (tail_raw l ls r))
-  | false ↦ kept_ends (suc n) ls (tail_raw l ls r) ]
+  | true ↦ ends_front (record { number = n; words = line_words l.bytes; ended = l.ended }) (kept (numbered (suc n) ls)) (ended_or_last l ls (suc n) r) (kept_ends (suc n) ls (tail_raw l ls r))
+  | false ↦ kept_ends (suc n) ls (tail_raw l ls r)
+]
 
 -- ---- before the first line
 
@@ -107,10 +113,10 @@ WholeIs text (Err e) = first_fault text ≡ Some e
 pub whole_fault : (text : List ℕ) → WholeIs text (outcome (and_then (run first_state (blank_returns text)) end_step))
 whole_fault text =
     subst (WholeIs text) (sym (ap (λ bs. outcome (and_then (run first_state bs) end_step)) (sym (text_of-lines (blank_returns text)))
-      ∙ whole_text 1 start (raw_lines (blank_returns text)) (AreRaw-lines (blank_returns text))
-      ∙ raw_scan-lines true 1 (raw_lines (blank_returns text)) start (line_count text) (AreRaw-lines (blank_returns text)) (λ e. omega arith)))
+    ∙ whole_text 1 start (raw_lines (blank_returns text)) (AreRaw-lines (blank_returns text))
+    ∙ raw_scan-lines true 1 (raw_lines (blank_returns text)) start (line_count text) (AreRaw-lines (blank_returns text)) (λ e. omega arith)))
     (answer (lines_scan true (line_count text) (significant_lines text) start)
-      (lines_step true (line_count text) [] (significant_lines text) start (kept_are 1 (raw_lines (blank_returns text))) (kept_ends 1 (raw_lines (blank_returns text)) (AreRaw-lines (blank_returns text))) at_start))
+    (lines_step true (line_count text) [] (significant_lines text) start (kept_are 1 (raw_lines (blank_returns text))) (kept_ends 1 (raw_lines (blank_returns text)) (AreRaw-lines (blank_returns text))) at_start))
   where
     answer : (r : Scanned) → LinesAre true (line_count text) [] (significant_lines text) r → WholeIs text r
     answer (Ok q) h = (h.0, (h.1 refl).0, (h.1 refl).1)
@@ -155,29 +161,34 @@ some_line c cs = joined (raw_lines cs)
     front : (ls : List RawLine) → (l : RawLine) × (ms : List RawLine) × (with_byte c ls ≡ l ∷ ms)
     front [] = (record { bytes = c ∷ []; ended = false }, [], refl)
     front (l ∷ ls) = (record { bytes = c ∷ l.bytes; ended = l.ended }, ls, refl)
+
     joined : (ls : List RawLine) → (l : RawLine) × (ms : List RawLine) × (lines_with c ls ≡ l ∷ ms)
     joined ls = elim (eqb c 10) as (λ t. (l : RawLine) × (ms : List RawLine) × (cond t (record { bytes = []; ended = true } ∷ ls) (with_byte c ls) ≡ l ∷ ms)) [
-        true ↦ (record { bytes = []; ended = true }, ls, refl)
-      | false ↦ front ls ]
+      | true ↦ (record { bytes = []; ended = true }, ls, refl)
+      | false ↦ front ls
+    ]
 
 EndsBlank-lines : (text : List ℕ) → EndsFinal text → EndsBlank (raw_lines text)
 EndsBlank-lines [] f = tt
 EndsBlank-lines (b ∷ []) f = elim (eqb b 10) as (λ t. eqb b 10 ≡ t → EndsBlank (cond t (record { bytes = []; ended = true } ∷ []) (record { bytes = b ∷ []; ended = false } ∷ []))) [
-    true ↦ λ (e : eqb b 10 ≡ true). λ q. absurd (both_ways true q refl)
-  | false ↦ λ (e : eqb b 10 ≡ false). λ _. ([], b, refl, blank_of_final b f e) ] refl
+  | true ↦ λ (e : eqb b 10 ≡ true). λ q. absurd (both_ways true q refl)
+  | false ↦ λ (e : eqb b 10 ≡ false). λ _. ([], b, refl, blank_of_final b f e)
+] refl
 EndsBlank-lines (b ∷ c ∷ cs) f =
     let some = some_line c cs in
     let later : EndsBlank (some.0 ∷ some.1) = subst EndsBlank some.2 (EndsBlank-lines (c ∷ cs) f) in
     subst (λ ls. EndsBlank (lines_with b ls)) (sym some.2)
     (elim (eqb b 10) as (λ t. EndsBlank (cond t (record { bytes = []; ended = true } ∷ (some.0 ∷ some.1)) (with_byte b (some.0 ∷ some.1)))) [
-      true ↦ blank_front (record { bytes = []; ended = true }) (some.0 ∷ some.1) refl later
-    | false ↦ blank_with b some.0 some.1 later ])
+      | true ↦ blank_front (record { bytes = []; ended = true }) (some.0 ∷ some.1) refl later
+      | false ↦ blank_with b some.0 some.1 later
+    ])
 
 words_trailing : (bs : List ℕ) (b : ℕ) → is_blank b ≡ true → line_words (bs ++ b ∷ []) ≡ line_words bs
 words_trailing [] b e = words_blank b [] e
 words_trailing (c ∷ []) b e = elim (is_blank c) as (λ t. cond t (line_words (b ∷ [])) (cond (begins_word (b ∷ [])) (with_letter c (line_words (b ∷ []))) ((c ∷ []) ∷ line_words (b ∷ []))) ≡ cond t [] ((c ∷ []) ∷ [])) [
-    true ↦ words_blank b [] e
-  | false ↦ ap (λ t. cond (not t) (with_letter c (line_words (b ∷ []))) ((c ∷ []) ∷ line_words (b ∷ []))) e ∙ ap (λ ws. (c ∷ []) ∷ ws) (words_blank b [] e) ]
+  | true ↦ words_blank b [] e
+  | false ↦ ap (λ t. cond (not t) (with_letter c (line_words (b ∷ []))) ((c ∷ []) ∷ line_words (b ∷ []))) e ∙ ap (λ ws. (c ∷ []) ∷ ws) (words_blank b [] e)
+]
 words_trailing (c ∷ d ∷ ds) b e = ap (words_with c (d ∷ ds)) (words_trailing (d ∷ ds) b e)
 
 and_then_ok : (r : Scan) → and_then r (λ t. Ok t) ≡ r
@@ -201,6 +212,7 @@ open_line_end n p bs b h e =
     all_parts : (bs : List ℕ) → AllByRecursion IsNoEnd (bs ++ b ∷ []) → AllByRecursion IsNoEnd bs × (eqb b 10 ≡ false)
     all_parts [] h = (tt, h.0)
     all_parts (c ∷ cs) h = let k = all_parts cs h.1 in ((h.0, k.0), k.1)
+
     at_blank : (r : Scan) → eqb b 10 ≡ false → and_then r (λ t. run t (b ∷ [])) ≡ and_then r blank_step
     at_blank (Ok t) k = and_then_ok (byte_step t b) ∙ byte_blank t b k e
     at_blank (Err c) k = refl
@@ -212,15 +224,17 @@ tail_blank l (m ∷ ls) h = h
 open_text : (n : ℕ) (p : Progress) (ls : List RawLine) → AreRaw ls → EndsBlank ls → outcome (run (standing Start n p) (text_of ls)) ≡ raw_scan false n ls p
 open_text n p [] r b = refl
 open_text n p (l ∷ ls) r b = elim l.ended as (λ t. l.ended ≡ t → outcome (run (standing Start n p) (l.bytes ++ cond t (10 ∷ text_of ls) (text_of ls)))
-        ≡ cond (t || false) (scanned_then (line_outcome n (line_words l.bytes) p) (raw_scan false (suc n) ls)) (open_outcome n (line_words l.bytes) p)) [
-    true ↦ λ (e : l.ended ≡ true). ap outcome (line_and_rest n p l.bytes (text_of ls) (head_raw l ls r))
-      ∙ outcome_from (line_outcome n (line_words l.bytes) p) (λ q. run (standing Start (suc n) q) (text_of ls))
-      ∙ scanned_same (line_outcome n (line_words l.bytes) p) (λ q. outcome (run (standing Start (suc n) q) (text_of ls))) (raw_scan false (suc n) ls) (λ q. open_text (suc n) q ls (tail_raw l ls r) (tail_blank l ls b))
-  | false ↦ λ (e : l.ended ≡ false). at_last l ls r b e ] refl
+    ≡ cond (t || false) (scanned_then (line_outcome n (line_words l.bytes) p) (raw_scan false (suc n) ls)) (open_outcome n (line_words l.bytes) p)) [
+      | true ↦ λ (e : l.ended ≡ true). ap outcome (line_and_rest n p l.bytes (text_of ls) (head_raw l ls r))
+          ∙ outcome_from (line_outcome n (line_words l.bytes) p) (λ q. run (standing Start (suc n) q) (text_of ls))
+          ∙ scanned_same (line_outcome n (line_words l.bytes) p) (λ q. outcome (run (standing Start (suc n) q) (text_of ls))) (raw_scan false (suc n) ls) (λ q. open_text (suc n) q ls (tail_raw l ls r) (tail_blank l ls b))
+      | false ↦ λ (e : l.ended ≡ false). at_last l ls r b e
+    ] refl
   where
     head_raw : (l : RawLine) (ls : List RawLine) → AreRaw (l ∷ ls) → AllByRecursion IsNoEnd l.bytes
     head_raw l [] r = r.0
     head_raw l (m ∷ ms) r = r.0
+
     at_last : (l : RawLine) (ls : List RawLine) → AreRaw (l ∷ ls) → EndsBlank (l ∷ ls) → l.ended ≡ false → outcome (run (standing Start n p) (l.bytes ++ text_of ls)) ≡ open_outcome n (line_words l.bytes) p
     at_last l [] r b e = let k = b e in
         ap (λ ds. outcome (run (standing Start n p) ds)) (append-nil l.bytes ∙ k.2) ∙ open_line_end n p k.0 k.1 (subst (AllByRecursion IsNoEnd) k.2 r.0) k.3 ∙ ap (λ ds. open_outcome n (line_words ds) p) (sym k.2)
@@ -234,10 +248,10 @@ OpenIs text (Err e) = lines_fault false 0 [] (significant_lines text) ≡ Some e
 pub open_fault : (text : List ℕ) → EndsFinal (blank_returns text) → OpenIs text (outcome (run first_state (blank_returns text)))
 open_fault text f =
     subst (OpenIs text) (sym (ap (λ bs. outcome (run first_state bs)) (sym (text_of-lines (blank_returns text)))
-      ∙ open_text 1 start (raw_lines (blank_returns text)) (AreRaw-lines (blank_returns text)) (EndsBlank-lines (blank_returns text) f)
-      ∙ raw_scan-lines false 1 (raw_lines (blank_returns text)) start 0 (AreRaw-lines (blank_returns text)) (λ e. absurd (both_ways false refl e))))
+    ∙ open_text 1 start (raw_lines (blank_returns text)) (AreRaw-lines (blank_returns text)) (EndsBlank-lines (blank_returns text) f)
+    ∙ raw_scan-lines false 1 (raw_lines (blank_returns text)) start 0 (AreRaw-lines (blank_returns text)) (λ e. absurd (both_ways false refl e))))
     (answer (lines_scan false 0 (significant_lines text) start)
-      (lines_step false 0 [] (significant_lines text) start (kept_are 1 (raw_lines (blank_returns text))) (kept_ends 1 (raw_lines (blank_returns text)) (AreRaw-lines (blank_returns text))) at_start))
+    (lines_step false 0 [] (significant_lines text) start (kept_are 1 (raw_lines (blank_returns text))) (kept_ends 1 (raw_lines (blank_returns text)) (AreRaw-lines (blank_returns text))) at_start))
   where
     answer : (r : Scanned) → LinesAre false 0 [] (significant_lines text) r → OpenIs text r
     answer (Ok q) h = h.0

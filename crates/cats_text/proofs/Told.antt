@@ -51,19 +51,29 @@ same_front (x ∷ xs) (suc n) l = rw (eq-eqb x x refl) (same_front xs n (omega a
   where
     shift : eqb n (length xs) ≡ eqb (suc n) (length (x ∷ xs))
     shift = elim (eqb n (length xs)) as (λ t. eqb n (length xs) ≡ t → t ≡ eqb (suc n) (length (x ∷ xs))) [
-        true ↦ λ (e : eqb n (length xs) ≡ true). let same : n ≡ length xs = eqb-true n (length xs) e in sym (eq-eqb (suc n) (length (x ∷ xs)) (omega arith))
-      | false ↦ λ (e : eqb n (length xs) ≡ false). let ne : n ≢ length xs = eqb-false n (length xs) e in sym (ne_eqb (suc n) (length (x ∷ xs)) (λ q. ne (omega arith))) ] refl
+      | true ↦ λ (e : eqb n (length xs) ≡ true). let same : n ≡ length xs = eqb-true n (length xs) e in sym (eq-eqb (suc n) (length (x ∷ xs)) (omega arith))
+      | false ↦ λ (e : eqb n (length xs) ≡ false). let ne : n ≢ length xs = eqb-false n (length xs) e in sym (ne_eqb (suc n) (length (x ∷ xs)) (λ q. ne (omega arith)))
+    ] refl
 
 told_keyword : (j : Key) (a : ℕ) (w : List ℕ) (n : ℕ) → Tells (a ∷ w) (Keyword j n) → IsTold (a ∷ w) (Keyword j n)
 told_keyword Goods a w n h = let first : a ≡ 103 = first_of_take a w 103 _ n h.0 in record {
-  number = rw first refl; price = (first_not_digit a w (rw first refl)).1; ended = rw first refl;
-  keyword = elim [ Goods ↦ ap (λ ds. bytes_eq ds (keyword_text Goods)) h.0 ∙ same_front (keyword_text Goods) n h.2 | Bids ↦ rw first refl | Dummy ↦ rw first refl ] }
+  number = rw first refl;
+  price = (first_not_digit a w (rw first refl)).1;
+  ended = rw first refl;
+  keyword = elim [ Goods ↦ ap (λ ds. bytes_eq ds (keyword_text Goods)) h.0 ∙ same_front (keyword_text Goods) n h.2 | Bids ↦ rw first refl | Dummy ↦ rw first refl ];
+}
 told_keyword Bids a w n h = let first : a ≡ 98 = first_of_take a w 98 _ n h.0 in record {
-  number = rw first refl; price = (first_not_digit a w (rw first refl)).1; ended = rw first refl;
-  keyword = elim [ Goods ↦ rw first refl | Bids ↦ ap (λ ds. bytes_eq ds (keyword_text Bids)) h.0 ∙ same_front (keyword_text Bids) n h.2 | Dummy ↦ rw first refl ] }
+  number = rw first refl;
+  price = (first_not_digit a w (rw first refl)).1;
+  ended = rw first refl;
+  keyword = elim [ Goods ↦ rw first refl | Bids ↦ ap (λ ds. bytes_eq ds (keyword_text Bids)) h.0 ∙ same_front (keyword_text Bids) n h.2 | Dummy ↦ rw first refl ];
+}
 told_keyword Dummy a w n h = let first : a ≡ 100 = first_of_take a w 100 _ n h.0 in record {
-  number = rw first refl; price = (first_not_digit a w (rw first refl)).1; ended = rw first refl;
-  keyword = elim [ Goods ↦ rw first refl | Bids ↦ rw first refl | Dummy ↦ ap (λ ds. bytes_eq ds (keyword_text Dummy)) h.0 ∙ same_front (keyword_text Dummy) n h.2 ] }
+  number = rw first refl;
+  price = (first_not_digit a w (rw first refl)).1;
+  ended = rw first refl;
+  keyword = elim [ Goods ↦ rw first refl | Bids ↦ rw first refl | Dummy ↦ ap (λ ds. bytes_eq ds (keyword_text Dummy)) h.0 ∙ same_front (keyword_text Dummy) n h.2 ];
+}
 
 -- a word that begins with a digit is neither `#` nor a keyword
 digit_first : (a : ℕ) (w : List ℕ) → is_digit a ≡ true → (is_end (a ∷ w) ≡ false) × ((k : Key) → bytes_eq (a ∷ w) (keyword_text k) ≡ false)
@@ -73,7 +83,9 @@ told_number : (a : ℕ) (w : List ℕ) (v : ℕ) → Tells (a ∷ w) (Number v) 
 told_number a w v h = let first = digit_first a w (and_parts (is_digit a) (digits_alone w) h.0).0 in record {
   number = h.0;
   price = rw (whole-digits (a ∷ w) h.0, point-digits (a ∷ w) h.0, h.0) refl;
-  ended = first.0; keyword = first.1 }
+  ended = first.0;
+  keyword = first.1;
+}
 
 price_behind : (behind : List ℕ) (count : ℕ) → digits_alone behind ≡ true → count ≡ min 6 (length behind) → is_number behind ≡ not (eqb count 0)
 price_behind [] count h e = rw e refl
@@ -90,10 +102,12 @@ told_fraction a w d f = at f.whole f.is f.number
         let others = digit_first a w head in record {
           number = ap is_number e ∙ not_number cs;
           price = ap is_price e ∙ ap (λ x. is_number x && (not (has_point ((c ∷ cs) ++ 46 ∷ f.behind)) || is_number (places ((c ∷ cs) ++ 46 ∷ f.behind)))) (whole-point (c ∷ cs) f.behind n)
-            ∙ ap (λ x. x && (not (has_point ((c ∷ cs) ++ 46 ∷ f.behind)) || is_number (places ((c ∷ cs) ++ 46 ∷ f.behind)))) n
-            ∙ ap (λ x. not x || is_number (places ((c ∷ cs) ++ 46 ∷ f.behind))) (point-point (c ∷ cs) f.behind)
-            ∙ ap is_number (places-point (c ∷ cs) f.behind n) ∙ price_behind f.behind d.places f.digits f.count;
-          ended = others.0; keyword = others.1 }
+              ∙ ap (λ x. x && (not (has_point ((c ∷ cs) ++ 46 ∷ f.behind)) || is_number (places ((c ∷ cs) ++ 46 ∷ f.behind)))) n
+              ∙ ap (λ x. not x || is_number (places ((c ∷ cs) ++ 46 ∷ f.behind))) (point-point (c ∷ cs) f.behind)
+              ∙ ap is_number (places-point (c ∷ cs) f.behind n) ∙ price_behind f.behind d.places f.digits f.count;
+          ended = others.0;
+          keyword = others.1;
+        }
       where
         not_number : (ds : List ℕ) → is_number ((c ∷ ds) ++ 46 ∷ f.behind) ≡ false
         not_number ds = digits-not (c ∷ ds) f.behind 46 refl

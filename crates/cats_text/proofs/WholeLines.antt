@@ -79,10 +79,14 @@ pub whole_line_step : (whole : Bool) (lines : List (List Word)) (l : Line) (p : 
 whole_line_step whole lines l p judged is at = by_words (words_read l.words p) (words_step lines [] l.words p is.1 at)
   where
     by_end : (q : Progress) (r : Reading) → words_fault lines [] l.words ≡ None → LineFollows lines l.words r → LineIs whole lines l (on_line l.number r)
-    by_end q (Ok s) none f = (ap (λ o. option_map (fault_at l.number) (option_or o (cond (l.ended || whole) (end_fault lines l.words) None))) none
-        ∙ ap (λ b. option_map (fault_at l.number) (cond b (end_fault lines l.words) None)) judged ∙ ap (option_map (fault_at l.number)) f.0, f.1)
+    by_end q (Ok s) none f = (
+      ap (λ o. option_map (fault_at l.number) (option_or o (cond (l.ended || whole) (end_fault lines l.words) None))) none
+          ∙ ap (λ b. option_map (fault_at l.number) (cond b (end_fault lines l.words) None)) judged ∙ ap (option_map (fault_at l.number)) f.0,
+      f.1,
+    )
     by_end q (Err kind) none f = ap (λ o. option_map (fault_at l.number) (option_or o (cond (l.ended || whole) (end_fault lines l.words) None))) none
         ∙ ap (λ b. option_map (fault_at l.number) (cond b (end_fault lines l.words) None)) judged ∙ ap (option_map (fault_at l.number)) f
+
     by_words : (r : Reading) → WordsFollow lines [] l.words r → LineIs whole lines l (on_line l.number (reading_then r line_read))
     by_words (Ok q) f = by_end q (line_read q) f.0 (line_step lines l.words q is.0 f.1)
     by_words (Err kind) f = ap (λ o. option_map (fault_at l.number) (option_or o (cond (l.ended || whole) (end_fault lines l.words) None))) f
@@ -107,9 +111,10 @@ LinesAre whole count lines ls (Err e) = lines_fault whole count lines ls ≡ Som
 end_step : (whole : Bool) (count : ℕ) (lines : List (List Word)) (p : Progress) → IsAt lines [] p → LinesAre whole count lines [] (cond (whole && is_due p) (Err (fault_at (suc count) Missing)) (Ok p))
 end_step false count lines p at = (refl, λ e. absurd (both_ways false refl e))
 end_step true count lines p at = elim (is_due p) as (λ b. is_due p ≡ b → LinesAre true count lines [] (cond b (Err (fault_at (suc count) Missing)) (Ok p))) [
-    true ↦ λ (e : is_due p ≡ true). ap (λ b. cond b (Some (fault_at (suc count) Missing)) None) (sym (due_step lines p at) ∙ e)
+  | true ↦ λ (e : is_due p ≡ true). ap (λ b. cond b (Some (fault_at (suc count) Missing)) None) (sym (due_step lines p at) ∙ e)
   | false ↦ λ (e : is_due p ≡ false). let no : is_line_due lines ≡ false = sym (due_step lines p at) ∙ e in
-      (ap (λ b. cond b (Some (fault_at (suc count) Missing)) None) no, λ _. (subst (λ ds. IsAt ds [] p) (sym (append-nil lines)) at, ap is_line_due (append-nil lines) ∙ no)) ] refl
+      (ap (λ b. cond b (Some (fault_at (suc count) Missing)) None) no, λ _. (subst (λ ds. IsAt ds [] p) (sym (append-nil lines)) at, ap is_line_due (append-nil lines) ∙ no))
+] refl
 
 judged_line : (whole : Bool) (count : ℕ) (lines : List (List Word)) (l : Line) (ls : List Line) (r : Scanned) → LineIs whole lines l r
     → ((q : Progress) → IsAt (lines ++ l.words ∷ []) [] q → LinesAre whole count (lines ++ l.words ∷ []) ls (lines_scan whole count ls q)) → LinesAre whole count lines (l ∷ ls) (scanned_then r (lines_scan whole count ls))
@@ -117,8 +122,10 @@ judged_line whole count lines l ls (Err e) h next = ap (λ o. option_or o (lines
 judged_line whole count lines l ls (Ok q) h next = joined (lines_scan whole count ls q) (next q h.1)
   where
     joined : (r : Scanned) → LinesAre whole count (lines ++ l.words ∷ []) ls r → LinesAre whole count lines (l ∷ ls) r
-    joined (Ok s) f = (ap (λ o. option_or o (lines_fault whole count (lines ++ l.words ∷ []) ls)) h.0 ∙ f.0,
-        λ e. subst (λ ds. IsAt ds [] s × (is_line_due ds ≡ false)) (append_assoc lines (l.words ∷ []) (map (λ m. m.words) ls)) (f.1 e))
+    joined (Ok s) f = (
+      ap (λ o. option_or o (lines_fault whole count (lines ++ l.words ∷ []) ls)) h.0 ∙ f.0,
+      λ e. subst (λ ds. IsAt ds [] s × (is_line_due ds ≡ false)) (append_assoc lines (l.words ∷ []) (map (λ m. m.words) ls)) (f.1 e),
+    )
     joined (Err e) f = ap (λ o. option_or o (lines_fault whole count (lines ++ l.words ∷ []) ls)) h.0 ∙ f
 
 -- the last line, without its LF, where the input goes on
@@ -126,8 +133,11 @@ open_last : (count : ℕ) (lines : List (List Word)) (l : Line) (p : Progress) �
 open_last count lines l p unended is at = by_words (words_read l.words p) (words_step lines [] l.words p is.1 at)
   where
     by_words : (r : Reading) → WordsFollow lines [] l.words r → LinesAre false count lines (l ∷ []) (on_line l.number r)
-    by_words (Ok q) f = (ap (λ o. option_or (option_map (fault_at l.number) (option_or o (cond (l.ended || false) (end_fault lines l.words) None))) None) f.0
-        ∙ ap (λ b. option_or (option_map (fault_at l.number) (cond (b || false) (end_fault lines l.words) None)) None) unended, λ e. absurd (both_ways false refl e))
+    by_words (Ok q) f = (
+      ap (λ o. option_or (option_map (fault_at l.number) (option_or o (cond (l.ended || false) (end_fault lines l.words) None))) None) f.0
+          ∙ ap (λ b. option_or (option_map (fault_at l.number) (cond (b || false) (end_fault lines l.words) None)) None) unended,
+      λ e. absurd (both_ways false refl e),
+    )
     by_words (Err kind) f = ap (λ o. option_or (option_map (fault_at l.number) (option_or o (cond (l.ended || false) (end_fault lines l.words) None))) None) f
 
 open_is_last : (count : ℕ) (lines : List (List Word)) (l : Line) (ls : List Line) (p : Progress) → l.ended ≡ false → AreEndedButLast (l ∷ ls) → IsLine l → IsAt lines [] p → LinesAre false count lines (l ∷ ls) (open_line l p)
@@ -142,10 +152,11 @@ pub lines_step : (whole : Bool) (count : ℕ) (lines : List (List Word)) (ls : L
     → LinesAre whole count lines ls (lines_scan whole count ls p)
 lines_step whole count lines [] p is ends at = end_step whole count lines p at
 lines_step whole count lines (l ∷ ls) p is ends at = elim (l.ended || whole) as (λ b. (l.ended || whole) ≡ b → LinesAre whole count lines (l ∷ ls) (cond b (scanned_then (whole_line l p) (lines_scan whole count ls)) (open_line l p))) [
-    true ↦ λ (judged : (l.ended || whole) ≡ true). judged_line whole count lines l ls (whole_line l p) (whole_line_step whole lines l p judged is.0 at)
+  | true ↦ λ (judged : (l.ended || whole) ≡ true). judged_line whole count lines l ls (whole_line l p) (whole_line_step whole lines l p judged is.0 at)
       (λ q at'. lines_step whole count (lines ++ l.words ∷ []) ls q is.1 (tail_ends l ls ends) at')
   | false ↦ λ (judged : (l.ended || whole) ≡ false). let both = neither l.ended whole judged in
-      subst (λ b. LinesAre b count lines (l ∷ ls) (open_line l p)) (sym both.1) (open_is_last count lines l ls p both.0 ends is.0 at) ] refl
+      subst (λ b. LinesAre b count lines (l ∷ ls) (open_line l p)) (sym both.1) (open_is_last count lines l ls p both.0 ends is.0 at)
+] refl
   where
     neither : (a b : Bool) → (a || b) ≡ false → (a ≡ false) × (b ≡ false)
     neither true b e = absurd (both_ways true e refl)

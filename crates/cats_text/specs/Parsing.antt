@@ -22,8 +22,14 @@ Reading = Result Progress Kind
 
 abbrev pub start : Progress
 start = record {
-  stage = Goods; place = First; header = record { goods = 0; bids = 0; dummy = 0 }; due = 0; slots = [];
-  draft = record { number = 0; price = 0; dummy = None }; goods = [] }
+  stage = Goods;
+  place = First;
+  header = record { goods = 0; bids = 0; dummy = 0 };
+  due = 0;
+  slots = [];
+  draft = record { number = 0; price = 0; dummy = None };
+  goods = [];
+}
 
 -- ---- header lines
 
@@ -39,10 +45,11 @@ keyword_read p k _ = Err kinds.Header
 
 abbrev pub header_number_read : Progress → Word → Reading
 header_number_read p (words.Number n) = elim p.stage [
-    Goods ↦ if nat_lt MAX_GOODS n then Err kinds.TooLarge else Ok (record p { place = Later; header = record p.header { goods = n } })
+  | Goods ↦ if nat_lt MAX_GOODS n then Err kinds.TooLarge else Ok (record p { place = Later; header = record p.header { goods = n } })
   | Bids ↦ if nat_lt MAX_BIDS n then Err kinds.TooLarge else Ok (record p { place = Later; header = record p.header { bids = n }; due = n })
   | Dummy ↦ if nat_lt MAX_DUMMY n then Err kinds.TooLarge else Ok (record p { place = Later; header = record p.header { dummy = n } })
-  | Bid ↦ Err kinds.Header ]
+  | Bid ↦ Err kinds.Header
+]
 header_number_read p _ = Err kinds.NotANumber
 
 -- ---- bid lines
@@ -97,10 +104,11 @@ good_or_end_read p _ = Err kinds.NotANumber
 
 abbrev pub word_read : Progress → Word → Reading
 word_read p w = elim p.place [
-    First ↦ elim p.stage [ Goods ↦ keyword_read p keywords.Goods w | Bids ↦ keyword_read p keywords.Bids w | Dummy ↦ keyword_read p keywords.Dummy w | Bid ↦ number_read p w ]
+  | First ↦ elim p.stage [ Goods ↦ keyword_read p keywords.Goods w | Bids ↦ keyword_read p keywords.Bids w | Dummy ↦ keyword_read p keywords.Dummy w | Bid ↦ number_read p w ]
   | Second ↦ elim p.stage [ Goods ↦ header_number_read p w | Bids ↦ header_number_read p w | Dummy ↦ header_number_read p w | Bid ↦ price_read p w ]
   | Later ↦ elim p.stage [ Goods ↦ Err kinds.Header | Bids ↦ Err kinds.Header | Dummy ↦ Err kinds.Header | Bid ↦ good_or_end_read p w ]
-  | Ended ↦ Err kinds.AfterEnd ]
+  | Ended ↦ Err kinds.AfterEnd
+]
 
 -- ---- the end of a line
 

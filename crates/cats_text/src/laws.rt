@@ -1,10 +1,10 @@
 //! Laws of the definitions: the grammar of texts and their faults leave nothing open, and what is written spells what it
 //! was written from.
 
-ghost use Rattle.std.specs.Prelude.{◌≡◌, ◌⊎◌, ℕ, List, Some};
+ghost use Rattle.std.specs.Prelude.{◌≡◌, ◌⊎◌, ◌++◌, ℕ, List, Some};
 ghost use Rattle.cats_text.specs.Files.{PlainFile, IsPlainFile};
 ghost use Rattle.cats_text.specs.Grammar.{Spells};
-ghost use Rattle.cats_text.specs.Faults.{first_fault};
+ghost use Rattle.cats_text.specs.Faults.{first_fault, complete_fault};
 ghost use Rattle.cats_text.specs.Layout.{layout};
 ghost use Rattle.cats_text.specs.declared.fault.ReadFault.{ReadFault};
 
@@ -19,4 +19,9 @@ pub fn spells_one_or_faults()
     ensures one_or_fault { (text : List ℕ) → ((f : PlainFile) × Spells text f) ⊎ ((e : ReadFault) × (first_fault text ≡ Some e)) }
     ensures never_both { (text : List ℕ) (f : PlainFile) (e : ReadFault) → Spells text f → first_fault text ≡ Some e → ⊥ }
     ensures only_one { (text : List ℕ) (f g : PlainFile) → Spells text f → Spells text g → f ≡ g }
+{}
+
+/// A fault that is complete in the bytes so far is the first fault of every text that begins with them.
+pub fn complete_fault_stays()
+    ensures { (bytes rest : List ℕ) (e : ReadFault) → complete_fault bytes ≡ Some e → first_fault (bytes ++ rest) ≡ Some e }
 {}

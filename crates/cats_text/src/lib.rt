@@ -12,6 +12,8 @@ mod parser;
 mod reader;
 mod scanner;
 mod stream;
+#[cfg(test)]
+mod tests;
 mod word;
 pub mod worked;
 

@@ -274,11 +274,18 @@ impl Scanner {
         if self.waiting {
             self.byte(b' ')?;
         }
-        let lines = if self.mode == Mode::Start { self.line } else { self.line + 1 };
+        let lines = if self.mode == Mode::Start {
+            self.line
+        } else {
+            self.line + 1
+        };
         self.end_word()?;
         self.end_words()?;
         if self.parser.is_due() {
-            return Err(Halt::Fault(ReadFault { line: lines, kind: Kind::Missing }));
+            return Err(Halt::Fault(ReadFault {
+                line: lines,
+                kind: Kind::Missing,
+            }));
         }
         match self.parser.file() {
             Ok(file) => Ok(file),

@@ -15,8 +15,7 @@ pub fn lines_and_words()
     ensures comments { significant_lines (codes "%% " ++ 255 ∷ 233 ∷ codes "\r\n\r\n \t% note\n\r%\n") ≡
         record { number = 4; words = codes "\r%" ∷ []; ended = true } ∷ [] }
     ensures cut { significant_lines (codes "a b") ≡ record { number = 1; words = codes "a" ∷ codes "b" ∷ []; ended = false } ∷ [] }
-{
-}
+{}
 
 /// Numbers and prices as words.
 pub fn numbers_and_prices()
@@ -32,8 +31,7 @@ pub fn numbers_and_prices()
         123456 ∷ 2250000 ∷ 1000000000000000000 ∷ 0 ∷ [] }
     ensures written { map price_text (123456 ∷ 2250000 ∷ 1500000 ∷ 1000000000000000000 ∷ 0 ∷ 3750001 ∷ []) ≡
         codes "0.123456" ∷ codes "2.25" ∷ codes "1.5" ∷ codes "1000000000000" ∷ codes "0" ∷ codes "3.750001" ∷ [] }
-{
-}
+{}
 
 /// Faults of header lines.
 pub fn header_faults()
@@ -43,8 +41,7 @@ pub fn header_faults()
         (Some (fault_at 1 Missing) ∷ Some (fault_at 1 Header) ∷ Some (fault_at 1 Header) ∷ Some (fault_at 1 NotANumber)
         ∷ Some (fault_at 1 Header) ∷ Some (fault_at 1 TooLarge) ∷ Some (fault_at 1 Header) ∷ Some (fault_at 2 Missing)
         ∷ Some (fault_at 1 Header) ∷ Some (fault_at 1 TooLarge) ∷ Some (fault_at 1 Header) ∷ []) }
-{
-}
+{}
 
 /// Faults of a bid line.
 pub fn bid_line_faults()
@@ -68,8 +65,7 @@ pub fn bid_line_faults()
     ensures prices { map (λ price. first_fault (codes "goods 2\nbids 1\ndummy 0\n0 " ++ price ++ codes " 0 #\n"))
         (codes "0.1234567" ∷ codes "1000000000000.0000001" ∷ codes "1.2.3" ∷ codes "1000000000001" ∷ []) ≡
         (Some (fault_at 4 TooFine) ∷ Some (fault_at 4 TooLarge) ∷ Some (fault_at 4 NotANumber) ∷ Some (fault_at 4 TooLarge) ∷ []) }
-{
-}
+{}
 
 /// Texts without a fault.
 pub fn accepted_texts()
@@ -78,21 +74,22 @@ pub fn accepted_texts()
         ∷ (codes "%% " ++ 255 ∷ 233 ∷ codes "\r\n\r\n \t% note\ngoods\t002\r\nbids  1 \r\n dummy 0\r\n\r\n00 0005 1 0 #\r")
         ∷ codes "%% a comment\n\ngoods 3\nbids 2\ndummy 1\n\n0\t20\t0\t2\t3\t#\n1\t7\t1\t#\n"
         ∷ codes "goods 4096\nbids 1\ndummy 65536\n0\t1\t4095\t69631\t#\n" ∷ []) ≡ (None ∷ None ∷ None ∷ None ∷ []) }
-{
-}
+{}
 
 /// What is complete before the input ends.
 pub fn complete_faults()
     ensures { map complete_fault
         (codes "x y z 1" ∷ codes "x" ∷ codes "x\r" ∷ codes "x\r\n" ∷ codes "\r%" ∷ codes "\r% " ∷ codes "goods 0\r1" ∷ codes "goods 0\r1\n" ∷ codes "goods 0\n" ∷ codes "goods " ∷ codes "goods\n" ∷ []) ≡
         (Some (fault_at 1 Header) ∷ None ∷ None ∷ Some (fault_at 1 Header) ∷ None ∷ Some (fault_at 1 Header) ∷ None ∷ Some (fault_at 1 NotANumber) ∷ None ∷ None ∷ Some (fault_at 1 Header) ∷ []) }
-{
-}
+{}
 
 /// A file as it is written.
 pub fn written_file()
-    ensures { layout (record { goods = 3; dummy = 1; bids = record { price = 20000000; goods = 0 ∷ 2 ∷ []; dummy = Some 0 }
-        ∷ record { price = 7500000; goods = 1 ∷ []; dummy = None } ∷ [] }) ≡
+    ensures { layout (record {
+      goods = 3;
+      dummy = 1;
+      bids = record { price = 20000000; goods = 0 ∷ 2 ∷ []; dummy = Some 0 }
+          ∷ record { price = 7500000; goods = 1 ∷ []; dummy = None } ∷ [];
+    }) ≡
         codes "goods 3\nbids 2\ndummy 1\n0\t20\t0\t2\t3\t#\n1\t7.5\t1\t#\n" }
-{
-}
+{}

@@ -79,6 +79,8 @@ returns-in_err-feed-in-Ok g c =
 
 pub returns-in-Err : goal.returns-in-Err
 returns-in-Err g c =
-    let kept = c.loop-reader.invariant in
-    (c.loop-reader.reader.bytes, Consumes-kept _ _ _ c.loop-reader.reader.bytes kept.came c.in-Err.ensures.bytes,
-    rw c.device_failed.ensures (refl, c.in-Err.ensures.failed, kept.no_fault))
+    let kept = c.loop-reader.invariant in (
+      c.loop-reader.reader.bytes,
+      Consumes-kept _ _ _ c.loop-reader.reader.bytes kept.came c.in-Err.ensures.bytes,
+      rw c.device_failed.ensures (refl, c.in-Err.ensures.failed, kept.no_fault),
+    )

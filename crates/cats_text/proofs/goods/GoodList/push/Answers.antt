@@ -10,4 +10,4 @@ invariant_of-self-2 c =
     let there : c.args.good < length c.cover.new.marks.items = search rules in
     rw (c.in_ok-push.ensures.items, place)
     (IsMarked-push c.self.inside.goods.items c.cover.new.marks.items c.self.inside.bid_mark c.args.good
-        (IsMarked-covered c.self.inside.goods.items c.self.inside.marks.items c.cover.new.marks.items c.self.inside.bid_mark c.self.invariant c.cover.ensures.same) new there)
+    (IsMarked-covered c.self.inside.goods.items c.self.inside.marks.items c.cover.new.marks.items c.self.inside.bid_mark c.self.invariant c.cover.ensures.same) new there)

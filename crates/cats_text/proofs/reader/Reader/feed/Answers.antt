@@ -43,17 +43,17 @@ judged c =
     let is : bytes ++ take within piece ≡ take limit all = rw c.min-within.ensures (judged_bytes limit count bytes piece kept.count kept.within) in
     elim c.match-take.branch [
       | in-Err w ↦
-        rw (w.judged-is, w.told.ensures)
-        (judged_halted limit (count + within) count old new bytes (take within piece) all w.in-Err.halt kept is w.in-Err.ensures.steps w.in-Err.ensures.memory)
+          rw (w.judged-is, w.told.ensures)
+          (judged_halted limit (count + within) count old new bytes (take within piece) all w.in-Err.halt kept is w.in-Err.ensures.steps w.in-Err.ensures.memory)
       | in-Ok w ↦
-        rw (w.judged-is, w.too_long.ensures)
-        (judged_too_long limit (count + within) count old new bytes (take within piece) all kept is
-        (too_many limit count within bytes piece kept.count c.min-within.ensures w.if-within-piece.true) w.in-Ok.ensures.steps)
+          rw (w.judged-is, w.too_long.ensures)
+          (judged_too_long limit (count + within) count old new bytes (take within piece) all kept is
+          (too_many limit count within bytes piece kept.count c.min-within.ensures w.if-within-piece.true) w.in-Ok.ensures.steps)
       | in-Ok-2 w ↦
-        let whole = all_judged limit count within bytes piece kept.count kept.within c.min-within.ensures w.if-within-piece.false in
-        rw w.judged-is
-        (judged_ok limit (count + within) count old new bytes (take within piece) all kept (ap (λ l. bytes ++ l) whole.1) whole.0 w.in-Ok-2.ensures.steps w.in-Ok-2.ensures.waiting
-        (ap (λ n. count + n) (whole.2 ∙ ap length (sym whole.1))) (let sum = length-append bytes piece in let counted = kept.count in let more = whole.0 in let same = whole.2 in omega arith))
+          let whole = all_judged limit count within bytes piece kept.count kept.within c.min-within.ensures w.if-within-piece.false in
+          rw w.judged-is
+          (judged_ok limit (count + within) count old new bytes (take within piece) all kept (ap (λ l. bytes ++ l) whole.1) whole.0 w.in-Ok-2.ensures.steps w.in-Ok-2.ensures.waiting
+          (ap (λ n. count + n) (whole.2 ∙ ap length (sym whole.1))) (let sum = length-append bytes piece in let counted = kept.count in let more = whole.0 in let same = whole.2 in omega arith))
     ]
 
 pub invariant_of-self : goal.invariant_of-self

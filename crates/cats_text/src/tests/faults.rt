@@ -1,0 +1,199 @@
+//! Texts that are refused, and their first faults.
+
+use super::{fault, fault_of, joined};
+use crate::fault::Kind;
+use std::test::Fail;
+
+/// The header of two goods and one bid.
+pub const TWO_GOODS: &[u8] = b"goods 2\nbids 1\ndummy 0\n";
+
+/// Texts, and the lines and kinds of their faults.
+pub const HEADER_TEXTS: [(&[u8], u64, Kind); 27] = [
+    (b"goods\n", 1, Kind::Header),
+    (b"Goods 2\n", 1, Kind::Header),
+    (b"goods 2x\n", 1, Kind::NotANumber),
+    (b"goods 2 3\n", 1, Kind::Header),
+    (b"goods 1025 x\n", 1, Kind::Header),
+    (b"goods 4097 x\n", 1, Kind::TooLarge),
+    (b"bids 1\n", 1, Kind::Header),
+    (b"% only a comment\n", 2, Kind::Missing),
+    (b"", 1, Kind::Missing),
+    (b"goods 0", 2, Kind::Missing),
+    (b"x y z 1", 1, Kind::Header),
+    (b"good 1\n", 1, Kind::Header),
+    (b"goodss 1\n", 1, Kind::Header),
+    (b"goods# 1\n", 1, Kind::Header),
+    (b"goods +1\n", 1, Kind::NotANumber),
+    (b"goods 1.0\n", 1, Kind::NotANumber),
+    (b"goods #\n", 1, Kind::NotANumber),
+    (b"goods goods\n", 1, Kind::NotANumber),
+    (b"goods 1 #\n", 1, Kind::Header),
+    (b"goods 1\ngoods 1\n", 2, Kind::Header),
+    (b"goods 1\nbids\n", 2, Kind::Header),
+    (b"goods 1\nbids 65537\n", 2, Kind::TooLarge),
+    (b"goods 1\nbids 1\nbids 1\n", 3, Kind::Header),
+    (b"goods 1\nbids 1\ndummy 65537\n", 3, Kind::TooLarge),
+    (b"goods 1\nbids 1\ndummy -1\n", 3, Kind::NotANumber),
+    (b"\n% c\n\ngoods 1\n\nbids x\n", 6, Kind::NotANumber),
+    (b"\xef\xbb\xbfgoods 1\n", 1, Kind::Header),
+];
+
+#[test]
+fn faults_of_header_lines(rt: HostRuntime) -> Result<(), Fail> {
+    for (place, (text, line, kind)) in HEADER_TEXTS.into_iter().enumerate() {
+        assert_eq!(rt;
+            fault_of(rt.alloc(), text),
+            fault(line, kind),
+            "row {place}"
+        );
+    }
+    Ok(())
+}
+
+/// Fourth lines behind the header of two goods and one bid, and the kinds of their faults.
+pub const BID_LINES: [(&[u8], Kind); 38] = [
+    (b"x 1 0 #", Kind::NotANumber),
+    (b"1 1 0 #", Kind::BidNumber),
+    (b"0 .5 0 #", Kind::NotANumber),
+    (b"0 5. 0 #", Kind::NotANumber),
+    (b"0 -1 0 #", Kind::NotANumber),
+    (b"0 1e3 0 #", Kind::NotANumber),
+    (b"0 1 2 2 #", Kind::GoodRange),
+    (b"0 1 0 00 #", Kind::RepeatedGood),
+    (b"0 1 #", Kind::EmptyBundle),
+    (b"0 1 0#", Kind::NotANumber),
+    (b"0 1 0 # 1", Kind::AfterEnd),
+    (b"0 1 0", Kind::NoEnd),
+    (b"0", Kind::NoEnd),
+    (b"0 #", Kind::NotANumber),
+    (b"0 0.1234567 0 #", Kind::TooFine),
+    (b"0 1000000000000.0000001 0 #", Kind::TooLarge),
+    (b"0 1.2.3 0 #", Kind::NotANumber),
+    (b"0 1000000000001 0 #", Kind::TooLarge),
+    (b"0 1000000000000.000001 0 #", Kind::TooLarge),
+    (b"0 1000000000001.0000001 0 #", Kind::TooLarge),
+    (b"0 999999999999.9999999 0 #", Kind::TooFine),
+    (b"0 1. 0 #", Kind::NotANumber),
+    (b"0 . 0 #", Kind::NotANumber),
+    (b"0 0.12345x 0 #", Kind::NotANumber),
+    (b"0 +1 0 #", Kind::NotANumber),
+    (b"0 1,5 0 #", Kind::NotANumber),
+    (b"0 1", Kind::NoEnd),
+    (b"0.0 1 0 #", Kind::NotANumber),
+    (b"# 1 0 #", Kind::NotANumber),
+    (b"0 1 0.0 #", Kind::NotANumber),
+    (b"0 1 -0 #", Kind::NotANumber),
+    (b"0 1 goods #", Kind::NotANumber),
+    (b"0 1 ## #", Kind::NotANumber),
+    (b"0 1 0 %", Kind::NotANumber),
+    (b"0 1 0 # %", Kind::AfterEnd),
+    (b"0 1 0 # #", Kind::AfterEnd),
+    (b"0 1 0 1 0 #", Kind::RepeatedGood),
+    (b"0 1 0\r #", Kind::NotANumber),
+];
+
+#[test]
+fn faults_of_bid_lines(rt: HostRuntime) -> Result<(), Fail> {
+    for (place, (line, kind)) in BID_LINES.into_iter().enumerate() {
+        let text = joined(rt.alloc(), &[TWO_GOODS, line, b"\n"])?;
+        assert_eq!(rt; fault_of(rt.alloc(), &text), fault(4, kind), "row {place}");
+    }
+    Ok(())
+}
+
+/// Texts, and the lines and kinds of their faults.
+pub const BID_TEXTS: [(&[u8], u64, Kind); 21] = [
+    (b"goods 1\nbids 1\ndummy 1\n0 1 1 #\n", 4, Kind::EmptyBundle),
+    (
+        b"goods 1\nbids 1\ndummy 2\n0 1 0 1 2 #\n",
+        4,
+        Kind::TwoDummies,
+    ),
+    (
+        b"goods 1\nbids 1\ndummy 2\n0 1 0 1 1 #\n",
+        4,
+        Kind::RepeatedGood,
+    ),
+    (
+        b"goods 1\nbids 1\ndummy 2\n0 1 1 2 #\n",
+        4,
+        Kind::TwoDummies,
+    ),
+    (b"goods 1\nbids 1\ndummy 2\n0 1 0 3 #\n", 4, Kind::GoodRange),
+    (b"goods 0\nbids 1\ndummy 1\n0 1 0 #\n", 4, Kind::EmptyBundle),
+    (
+        b"goods 2\nbids 2\ndummy 2\n0\t1\t0\t2\t#\n1\t1\t1\t2\t3\t#\n",
+        5,
+        Kind::TwoDummies,
+    ),
+    (
+        b"goods 2\nbids 2\ndummy 2\n0\t1\t0\t2\t#\n1\t1\t1\t2\t2\t#\n",
+        5,
+        Kind::RepeatedGood,
+    ),
+    (
+        b"goods 2\nbids 1\ndummy 0\n0\t1\t0\t#\n0 1 0 #\n",
+        5,
+        Kind::ExtraBid,
+    ),
+    (
+        b"goods 2\nbids 1\ndummy 0\n0\t1\t0\t#\nx\n",
+        5,
+        Kind::NotANumber,
+    ),
+    (
+        b"goods 2\nbids 2\ndummy 0\n0\t1\t0\t#\n0 1 1 #\n",
+        5,
+        Kind::RepeatedNumber,
+    ),
+    (
+        b"goods 1\nbids 3\ndummy 0\n0\t1\t0\t#\n0\t3\t0\t#\n1\t2\t0\t#\n",
+        5,
+        Kind::RepeatedNumber,
+    ),
+    (
+        b"goods 1\nbids 3\ndummy 0\n2\t1\t0\t#\n0\t3\t0\t#\n2\t2\t0\t#\n",
+        6,
+        Kind::RepeatedNumber,
+    ),
+    (b"goods 2\nbids 0\ndummy 3\n0 1 0 #\n", 4, Kind::ExtraBid),
+    (b"goods 2\nbids 0\ndummy 3\n5 1 0 #\n", 4, Kind::ExtraBid),
+    (b"goods 1\nbids 1\ndummy 0\n", 4, Kind::Missing),
+    (
+        b"goods 1\nbids 3\ndummy 0\n0\t5\t0\t#\n1\t5\t0\t#\n2 5 0",
+        6,
+        Kind::NoEnd,
+    ),
+    (
+        b"goods 1\nbids 3\ndummy 0\n0\t5\t0\t#\n1\t5\t0\t#\n",
+        6,
+        Kind::Missing,
+    ),
+    (
+        b"goods 1\nbids 3\ndummy 0\n0\t5\t0\t#\n1\t5\t0\t#\n%",
+        7,
+        Kind::Missing,
+    ),
+    (
+        b"goods 1\nbids 3\ndummy 0\n0\t5\t0\t#\n1\t5\t0\t#\n\r",
+        7,
+        Kind::Missing,
+    ),
+    (
+        b"goods 1\nbids 1\ndummy 0\n\r%\n0 5 0 #\n",
+        4,
+        Kind::NotANumber,
+    ),
+];
+
+#[test]
+fn faults_after_other_headers_and_bids(rt: HostRuntime) -> Result<(), Fail> {
+    for (place, (text, line, kind)) in BID_TEXTS.into_iter().enumerate() {
+        assert_eq!(rt;
+            fault_of(rt.alloc(), text),
+            fault(line, kind),
+            "row {place}"
+        );
+    }
+    Ok(())
+}

@@ -1,0 +1,105 @@
+//! Files that are accepted, and what is written of them.
+
+use super::{sizes, written};
+use crate::bid::BidFile;
+use crate::layout::write;
+use crate::limits::MAX_STREAM;
+use crate::reader::{Reader, read};
+use crate::stream::{Watched, read_from, send};
+use std::test::Fail;
+
+/// Another text of the file "goods 2, bids 1, dummy 0, bid 0 of price 5 on the goods 0 and 1".
+const LENIENT: &[u8] =
+    b"%% \xff\xe9\r\n\r\n \t% note\ngoods\t002\r\nbids  1 \r\n dummy 0\r\n\r\n00 0005 1 0 #\r";
+
+/// As CATS lays a file out.
+pub const CATS: &[u8] =
+    b"%% a comment\n\ngoods 3\nbids 2\ndummy 1\n\n0\t20\t0\t2\t3\t#\n1\t7\t1\t#\n";
+
+/// Texts, and what is written of their files.
+pub const ACCEPTED: [(&[u8], &[u8]); 9] = [
+    (b"goods 0\nbids 0\ndummy 0\n", b"goods 0\nbids 0\ndummy 0\n"),
+    (b"goods 0\nbids 0\ndummy 0", b"goods 0\nbids 0\ndummy 0\n"),
+    (LENIENT, b"goods 2\nbids 1\ndummy 0\n0\t5\t0\t1\t#\n"),
+    (
+        CATS,
+        b"goods 3\nbids 2\ndummy 1\n0\t20\t0\t2\t3\t#\n1\t7\t1\t#\n",
+    ),
+    (
+        b"goods 3\nbids 2\ndummy 1\n0\t20\t0\t2\t3\t#\n1\t7\t1\t#\n",
+        b"goods 3\nbids 2\ndummy 1\n0\t20\t0\t2\t3\t#\n1\t7\t1\t#\n",
+    ),
+    (
+        b"goods 1\nbids 3\ndummy 0\n2\t1\t0\t#\n0\t3\t0\t#\n1\t2\t0\t#\n",
+        b"goods 1\nbids 3\ndummy 0\n0\t3\t0\t#\n1\t2\t0\t#\n2\t1\t0\t#\n",
+    ),
+    (
+        b"goods 2\nbids 1\ndummy 0\n0\t1\t0\t#\n% a comment after the bids\n",
+        b"goods 2\nbids 1\ndummy 0\n0\t1\t0\t#\n",
+    ),
+    (b"goods 2\nbids 0\ndummy 3\n", b"goods 2\nbids 0\ndummy 3\n"),
+    (
+        b"goods 3\nbids 1\ndummy 2\n0 1 4 2 0 #\n",
+        b"goods 3\nbids 1\ndummy 2\n0\t1\t0\t2\t4\t#\n",
+    ),
+];
+
+#[test]
+fn accepted_texts_as_they_are_written(rt: HostRuntime) -> Result<(), Fail> {
+    for (text, want) in ACCEPTED {
+        let out = written(rt.alloc(), text)?;
+        assert_eq!(rt; out.as_slice(), want);
+        let again = written(rt.alloc(), want)?;
+        assert_eq!(rt; again.as_slice(), want);
+    }
+    Ok(())
+}
+
+#[test]
+fn sizes_of_accepted_texts(rt: HostRuntime) -> Result<(), Fail> {
+    let rows: [(&[u8], (u16, usize, u32)); 4] = [
+        (b"goods 0\nbids 0\ndummy 0\n", (0, 0, 0)),
+        (LENIENT, (2, 1, 0)),
+        (CATS, (3, 2, 1)),
+        (b"goods 1025\nbids 0\ndummy 0\n", (1_025, 0, 0)),
+    ];
+    for (text, want) in rows {
+        assert_eq!(rt; sizes(rt.alloc(), text), Ok(want));
+    }
+    Ok(())
+}
+
+#[test]
+fn bids_as_values(rt: HostRuntime) -> Result<(), Fail> {
+    let file = read(rt.alloc(), CATS)?;
+    let bids = file.bids();
+    assert_eq!(rt; bids.len(), 2);
+    assert_eq!(rt; bids[0].price, 20_000_000);
+    assert_eq!(rt; bids[0].goods.as_slice(), [0, 2].as_slice());
+    assert_eq!(rt; bids[0].dummy, Some(0));
+    assert_eq!(rt; bids[1].price, 7_000_000);
+    assert_eq!(rt; bids[1].goods.as_slice(), [1].as_slice());
+    assert_eq!(rt; bids[1].dummy, None);
+    Ok(())
+}
+
+#[test]
+fn each_call_succeeds_with_memory(rt: HostRuntime) -> Result<(), Fail> {
+    let minimal = b"goods 0\nbids 0\ndummy 0\n";
+    let file = BidFile::new(0, 0, Vec::new(rt.alloc()));
+    assert_eq!(rt; (file.goods(), file.bids().len(), file.dummy()), (0, 0, 0));
+    assert_eq!(rt; write(rt.alloc(), &file)?.as_slice(), minimal.as_slice());
+    assert_eq!(rt; written(rt.alloc(), LENIENT)?.len(), 33);
+    let mut reader = Reader::new(rt.alloc(), MAX_STREAM);
+    reader.feed(CATS)?;
+    assert_eq!(rt; reader.finish()?.bids().len(), 2);
+    let mut input = Watched::new(CATS);
+    assert_eq!(rt; read_from(rt.alloc(), &mut input)?.bids().len(), 2);
+    assert!(rt; input.ended());
+    assert!(rt; !input.failed());
+    assert!(rt; input.into_inner().is_empty());
+    let mut out = Watched::new(Vec::new(rt.alloc()));
+    send(&mut out, minimal)?;
+    assert_eq!(rt; out.into_inner().as_slice(), minimal.as_slice());
+    Ok(())
+}
