@@ -1,0 +1,17 @@
+pub mod Values
+pub mod Packings
+pub mod Tables
+pub mod Orders
+pub mod OrderLemmas
+pub mod Auctions
+pub mod Bidders
+pub mod Views
+pub mod AuctionLemmas
+pub mod AtomLemmas
+pub mod Examples
+pub mod Permutations
+pub mod XorLemmas
+pub mod OrLemmas
+pub mod ListLemmas
+pub mod PackingLemmas
+pub mod CountLemmas

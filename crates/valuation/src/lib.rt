@@ -1,0 +1,23 @@
+//! What atomic bids are worth: Nisan's bidding languages XOR and OR over bundles of goods.
+#![tactic(auto)]
+
+mod atom;
+mod auction;
+mod budget;
+mod from_file;
+pub mod laws;
+mod packing;
+#[cfg(test)]
+mod plain;
+mod search;
+#[cfg(test)]
+mod tests;
+pub mod worked;
+mod xor;
+
+pub use atom::Atom;
+pub use auction::Auction;
+pub use budget::Budget;
+pub use from_file::auction_of;
+pub use packing::{Packing, ValueFault, or_value};
+pub use xor::xor_value;
