@@ -3,4 +3,5 @@ pub mod Outputs
 pub mod KindNames
 pub mod FaultLines
 pub mod Statuses
+pub mod Outcomes
 pub mod Runs

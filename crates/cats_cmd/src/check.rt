@@ -4,14 +4,13 @@ ghost use Rattle.std.specs.Prelude.{◌≡◌, ℕ, List, IfOk, false, string_by
 ghost use Rattle.std.specs.Io.KnownBytes.{Consumes};
 ghost use Rattle.cats_text.specs.Streams.{has_ended, has_failed, inner_of};
 ghost use Rattle.cats_text.specs.Views.{plain_file};
+ghost use Rattle.cats_cmd.specs.Outcomes.{check_outcome};
 ghost use Rattle.cats_cmd.specs.Outputs.{check_text, sizes_text};
 ghost use Rattle.cats_cmd.specs.Runs.{RunsAs};
 
-use crate::canon_fault::CanonFault;
 use crate::report::{DONE, RunFault};
-use crate::run::read_file;
-use crate::which::Which;
-use cats_text::{BidFile, Watched, send};
+use crate::run::{read_file, send_text};
+use cats_text::{BidFile, Watched};
 use std::alloc::{AllocError, Global};
 use std::io::{Read, Write};
 
@@ -25,19 +24,11 @@ pub fn run_check<R: Read, W: Write>(
     requires input_fresh { has_ended input.old ≡ false }
     requires out_works { has_failed out.old ≡ false }
     ensures { (bytes : List ℕ) × Consumes (R.remaining (inner_of input.old)) (R.remaining (inner_of input.new)) bytes
-        × RunsAs R.remaining W.contents check_text bytes input.new out.old out.new result }
+        × RunsAs R.remaining W.contents check_outcome bytes input.new out.old out.new result }
 {
-    let file = match read_file(alloc, input) {
-        Ok(file) => file,
-        Err(fault) => return Err(RunFault::Refused(Which::Only, fault)),
-    };
-    let Ok(text) = sizes(alloc, &file) else {
-        return Err(RunFault::Refused(Which::Only, CanonFault::Memory));
-    };
-    match send(out, text.as_bytes()) {
-        Ok(()) => Ok(DONE),
-        Err(fault) => Err(RunFault::Sent(fault)),
-    }
+    let file = read_file(alloc, input)?;
+    let text = sizes(alloc, &file)?;
+    send_text(out, DONE, text.as_bytes())
 }
 
 fn sizes(alloc: Global, file: &BidFile) -> Result<String, AllocError>

@@ -7,6 +7,7 @@ use std::alloc::{AllocError, Global};
 #[derive(Debug, Drop)]
 pub(crate) enum Request<'a> {
     Check { file: &'a str },
+    Show { file: &'a str },
 }
 
 const FILE: &str = "FILE";
@@ -25,6 +26,10 @@ fn find_request<'a>(matches: &ArgMatches<'a>) -> Option<Request<'a>> {
             let file = given.get_str(FILE)?;
             Some(Request::Check { file })
         }
+        "show" => {
+            let file = given.get_str(FILE)?;
+            Some(Request::Show { file })
+        }
         _ => None,
     }
 }
@@ -33,12 +38,19 @@ fn cats_command<'a>(alloc: Global) -> Result<Command<'a>, AllocError> {
     Command::new(alloc, "cats")
         .about("Reads auction bid files in the format of CATS 2.0")
         .subcommand_required(true)
-        .subcommand(check_command(alloc)?)
+        .subcommand(check_command(alloc)?)?
+        .subcommand(show_command(alloc)?)
 }
 
 fn check_command<'a>(alloc: Global) -> Result<Command<'a>, AllocError> {
     Command::new(alloc, "check")
         .about("Reads a bid file and prints how many goods, bids and dummy goods it has")
+        .arg(file_argument(alloc, FILE))
+}
+
+fn show_command<'a>(alloc: Global) -> Result<Command<'a>, AllocError> {
+    Command::new(alloc, "show")
+        .about("Prints a bid file in its one layout, with its bids in order of number")
         .arg(file_argument(alloc, FILE))
 }
 

@@ -7,6 +7,7 @@ mod command_line;
 mod program;
 mod report;
 mod run;
+mod show;
 #[cfg(test)]
 mod tests;
 mod which;
@@ -16,4 +17,5 @@ pub use canon_fault::CanonFault;
 pub use check::run_check;
 pub use program::run_cats;
 pub use report::{NO_MEMORY, RunFault, WRONG_USAGE, fault_line, status};
+pub use show::run_show;
 pub use which::Which;

@@ -7,6 +7,7 @@ use crate::check::run_check;
 use crate::command_line;
 use crate::command_line::Request;
 use crate::report::{DEVICE_FAILED, NO_MEMORY, RunFault, WRONG_USAGE, fault_line, status};
+use crate::show::run_show;
 use cats_text::{Watched, send};
 use clap::Error;
 use clap::error::ErrorKind;
@@ -64,6 +65,10 @@ fn carry_out<F: Files + AllocGlobal, W: Write>(
         Request::Check { file } => {
             let mut input = open(rt, file)?;
             Ok(run_check(rt.alloc(), &mut input, out)?)
+        }
+        Request::Show { file } => {
+            let mut input = open(rt, file)?;
+            Ok(run_show(rt.alloc(), &mut input, out)?)
         }
     }
 }

@@ -40,6 +40,33 @@ pub enum RunFault {
     Sent(SendFault),
 }
 
+/// The fault of a run of one file.
+impl From<CanonFault> for RunFault {
+    ghost use Rattle.std.specs.Prelude.{◌≡◌};
+    ghost use Rattle.cats_cmd.specs.declared.report.RunFault.TheVariants.{Refused};
+    ghost use Rattle.cats_cmd.specs.declared.which.Which.TheVariants.{Only};
+
+    ghost from_gives = { λ why fault. fault ≡ Refused Only why };
+
+    fn from(why: CanonFault) -> RunFault {
+        RunFault::Refused(Which::Only, why)
+    }
+}
+
+/// Want of memory in a run of one file.
+impl From<AllocError> for RunFault {
+    ghost use Rattle.std.specs.Prelude.{◌≡◌};
+    ghost use Rattle.cats_cmd.specs.declared.report.RunFault.TheVariants.{Refused};
+    ghost use Rattle.cats_cmd.specs.declared.which.Which.TheVariants.{Only};
+    ghost use Rattle.cats_cmd.specs.declared.canon_fault.CanonFault.TheVariants.{Memory};
+
+    ghost from_gives = { λ _ fault. fault ≡ Refused Only Memory };
+
+    fn from(_refused: AllocError) -> RunFault {
+        RunFault::Refused(Which::Only, CanonFault::Memory)
+    }
+}
+
 /// The exit status that tells the fault.
 pub fn status(fault: &RunFault) -> u8
     ensures { result ≡ status_of_fault fault.now }

@@ -1,17 +1,16 @@
-//! What the runs share: reading a file, and telling why it was refused.
+//! What the runs share: reading a file, telling why it was refused, and sending a text.
 
 ghost use Rattle.std.specs.Prelude.{◌≡◌, ℕ, List, false};
 ghost use Rattle.std.specs.Io.KnownBytes.{Consumes};
 ghost use Rattle.cats_text.specs.Streams.{has_ended, has_failed, inner_of};
 ghost use Rattle.cats_text.specs.Views.{plain_file};
-ghost use Rattle.cats_cmd.specs.Runs.{ReadsOrRefuses, refusal_of};
+ghost use Rattle.cats_cmd.specs.Runs.{ReadsOrRefuses, SendsAs, refusal_of};
 
 use crate::canon_fault::CanonFault;
 use crate::report::RunFault;
-use crate::which::Which;
-use cats_text::{BidFile, Kind, ReadFault, Watched, read_from};
+use cats_text::{BidFile, Kind, ReadFault, Watched, read_from, send};
 use std::alloc::Global;
-use std::io::Read;
+use std::io::{Read, Write};
 
 /// Reads a bid file. What a reader is refused in memory is the run's want of memory.
 pub(crate) fn read_file<R: Read>(
@@ -35,5 +34,20 @@ fn refusal(fault: ReadFault) -> CanonFault
     match fault.kind {
         Kind::Memory => CanonFault::Memory,
         _ => CanonFault::Read(fault),
+    }
+}
+
+/// Sends a run's whole text, and then answers its status.
+pub(crate) fn send_text<W: Write>(
+    out: &mut Watched<W>,
+    status: u8,
+    text: &[u8],
+) -> Result<u8, RunFault>
+    requires { has_failed out.old ≡ false }
+    ensures { SendsAs W.contents status text.now out.old out.new result }
+{
+    match send(out, text) {
+        Ok(()) => Ok(status),
+        Err(fault) => Err(RunFault::Sent(fault)),
     }
 }

@@ -3,4 +3,5 @@
 mod check;
 mod program;
 mod report;
+mod show;
 mod streams;

@@ -32,13 +32,17 @@ fn file_of(rt: &HostRuntime, name: &str, text: &[u8]) -> Result<String, Fail> {
 
 #[test]
 fn usage_faults(rt: HostRuntime) -> Result<(), Fail> {
-    let lines: [&[&str]; 7] = [
+    let lines: [&[&str]; 11] = [
         &[],
         &["cats"],
         &["cats", "check"],
+        &["cats", "show"],
         &["cats", "check", "a", "b"],
+        &["cats", "show", "a", "b"],
+        &["cats", "Check", "a"],
         &["cats", "chek", "a"],
         &["cats", "check", "--steps", "5", "a"],
+        &["cats", "show", "--steps", "5", "a"],
         &["cats", "check", "--all", "a"],
     ];
     for words in lines {
@@ -54,12 +58,13 @@ fn usage_faults(rt: HostRuntime) -> Result<(), Fail> {
 
 #[test]
 fn help(rt: HostRuntime) -> Result<(), Fail> {
-    let lines: [&[&str]; 5] = [
+    let lines: [&[&str]; 6] = [
         &["cats", "--help"],
         &["cats", "-h"],
         &["cats", "help"],
         &["cats", "help", "check"],
         &["cats", "check", "--help"],
+        &["cats", "show", "--help"],
     ];
     for words in lines {
         let (status, sent, told) = run(&rt, words, ROOM, ROOM)?;
@@ -117,17 +122,41 @@ fn checks_a_file(rt: HostRuntime) -> Result<(), Fail> {
 }
 
 #[test]
-fn refuses_a_file(rt: HostRuntime) -> Result<(), Fail> {
-    let path = file_of(&rt, "refused", b"goods 2\nbids 0\n")?;
-    let words = ["cats", "check", path.as_str()];
+fn shows_a_file(rt: HostRuntime) -> Result<(), Fail> {
+    let text = b"%% out of order\ngoods 2\nbids 2\ndummy 1\n1 0.50 2 0 #\n0 07 1 0 #\n";
+    let path = file_of(&rt, "shown", text)?;
+    let words = ["cats", "show", path.as_str()];
     let answered = run(&rt, &words, ROOM, ROOM)?;
-    let untold = run(&rt, &words, ROOM, 0)?;
+    let cut_off = run(&rt, &words, 8, ROOM)?;
     fs::remove_file(&rt, path.as_str())?;
     let (status, sent, told) = answered;
-    assert_eq!(rt; sent.as_str(), "");
-    assert_eq!(rt; told.as_str(), "line 3: Missing\n");
-    assert_eq!(rt; status, 2);
-    let (status, _, _) = untold;
-    assert_eq!(rt; status, 2);
+    assert_eq!(rt;
+        sent.as_str(),
+        "goods 2\nbids 2\ndummy 1\n0\t7\t0\t1\t#\n1\t0.5\t0\t2\t#\n"
+    );
+    assert_eq!(rt; told.as_str(), "");
+    assert_eq!(rt; status, 0);
+    let (status, sent, told) = cut_off;
+    assert_eq!(rt; sent.as_str(), "goods 2\n");
+    assert_eq!(rt; told.as_str(), "output failed after 8 bytes\n");
+    assert_eq!(rt; status, 5);
+    Ok(())
+}
+
+#[test]
+fn refuses_a_file(rt: HostRuntime) -> Result<(), Fail> {
+    for command in ["check", "show"] {
+        let path = file_of(&rt, "refused", b"goods 2\nbids 0\n")?;
+        let words = ["cats", command, path.as_str()];
+        let answered = run(&rt, &words, ROOM, ROOM)?;
+        let untold = run(&rt, &words, ROOM, 0)?;
+        fs::remove_file(&rt, path.as_str())?;
+        let (status, sent, told) = answered;
+        assert_eq!(rt; sent.as_str(), "");
+        assert_eq!(rt; told.as_str(), "line 3: Missing\n");
+        assert_eq!(rt; status, 2);
+        let (status, _, _) = untold;
+        assert_eq!(rt; status, 2);
+    }
     Ok(())
 }
