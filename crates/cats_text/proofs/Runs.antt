@@ -47,9 +47,10 @@ pub number_more : (first : ℕ) (bytes : List ℕ) (i sum next : ℕ) → i < le
 number_more first bytes i sum next l d so e = record {
   digits = ap digits_alone (take_push bytes i l) ∙ digits_push (take i bytes) (get_or bytes i 0) so.digits d;
   value = ap (λ n. Number n) e ∙ sym (number_with sum (get_or bytes i 0) d)
-    ∙ ap (λ w. word_with w (get_or bytes i 0)) so.value
-    ∙ sym (fold_push word_with (Number first) (take i bytes) (get_or bytes i 0))
-    ∙ ap (fold word_with (Number first)) (sym (take_push bytes i l)) }
+      ∙ ap (λ w. word_with w (get_or bytes i 0)) so.value
+      ∙ sym (fold_push word_with (Number first) (take i bytes) (get_or bytes i 0))
+      ∙ ap (fold word_with (Number first)) (sym (take_push bytes i l));
+}
 
 -- ---- over several bytes at once
 
@@ -76,36 +77,41 @@ settled_split (b ∷ front) back h = let later = settled_split front back h.1 in
   where
     one : (c : ℕ) → IsNoEnd (cond (eqb b 13) (return_byte c) b)
     one c = elim (eqb b 13) as (λ t. eqb (cond t (return_byte c) b) 10 ≡ false) [ true ↦ elim (eqb c 10) as (λ t. eqb (cond t 32 13) 10 ≡ false) [ true ↦ refl | false ↦ refl ] | false ↦ h.0 ]
+
     joined : (rest : List ℕ) → front ++ back ≡ rest → (decided : List ℕ) → settled (front ++ back) ≡ decided ++ settled back → AllByRecursion IsNoEnd decided
         → (all : List ℕ) × (settled (b ∷ (front ++ back)) ≡ all ++ settled back) × AllByRecursion IsNoEnd all
     joined [] e decided is none = elim (eqb b 13) as (λ t. eqb b 13 ≡ t → (all : List ℕ) × (settled (b ∷ (front ++ back)) ≡ all ++ settled back) × AllByRecursion IsNoEnd all) [
-        true ↦ λ (q : eqb b 13 ≡ true). (decided, ap (λ ds. settled (b ∷ ds)) e ∙ ap (λ t. cond t [] (b ∷ [])) q ∙ ap settled (sym e) ∙ is, none)
-      | false ↦ λ (q : eqb b 13 ≡ false). (b ∷ decided, ap (λ ds. settled (b ∷ ds)) e ∙ ap (λ t. cond t [] (b ∷ [])) q ∙ ap (λ ds. b ∷ settled ds) (sym e) ∙ ap (λ ds. b ∷ ds) is, (h.0, none)) ] refl
+      | true ↦ λ (q : eqb b 13 ≡ true). (decided, ap (λ ds. settled (b ∷ ds)) e ∙ ap (λ t. cond t [] (b ∷ [])) q ∙ ap settled (sym e) ∙ is, none)
+      | false ↦ λ (q : eqb b 13 ≡ false). (b ∷ decided, ap (λ ds. settled (b ∷ ds)) e ∙ ap (λ t. cond t [] (b ∷ [])) q ∙ ap (λ ds. b ∷ settled ds) (sym e) ∙ ap (λ ds. b ∷ ds) is, (h.0, none))
+    ] refl
     joined (c ∷ cs) e decided is none = (cond (eqb b 13) (return_byte c) b ∷ decided, ap (λ ds. settled (b ∷ ds)) e ∙ ap (λ ds. cond (eqb b 13) (return_byte c) b ∷ settled ds) (sym e) ∙ ap (λ ds. cond (eqb b 13) (return_byte c) b ∷ ds) is, (one c, none))
 
 comment_run : (n : ℕ) (p : Progress) (front back : List ℕ) → AllByRecursion IsNoEnd front
     → (run (standing Comment n p) (settled back) ≡ run (standing Comment n p) (settled (front ++ back))) × (MeetsBidLine (standing Comment n p) (settled back) → MeetsBidLine (standing Comment n p) (settled (front ++ back)))
 comment_run n p front back h = let split = settled_split front back h in
-    let quiet : run (standing Comment n p) split.0 ≡ Ok (standing Comment n p) = in_comment n p split.0 split.2 in
-    (sym (ap (run (standing Comment n p)) split.1 ∙ run-append (standing Comment n p) split.0 (settled back) ∙ ap (λ r. and_then r (λ t. run t (settled back))) quiet),
-     λ m. subst (MeetsBidLine (standing Comment n p)) (sym split.1) (meets_behind (standing Comment n p) (standing Comment n p) split.0 (settled back) quiet m))
+    let quiet : run (standing Comment n p) split.0 ≡ Ok (standing Comment n p) = in_comment n p split.0 split.2 in (
+      sym (ap (run (standing Comment n p)) split.1 ∙ run-append (standing Comment n p) split.0 (settled back) ∙ ap (λ r. and_then r (λ t. run t (settled back))) quiet),
+      λ m. subst (MeetsBidLine (standing Comment n p)) (sym split.1) (meets_behind (standing Comment n p) (standing Comment n p) split.0 (settled back) quiet m),
+    )
 
 no_feed_front : (bytes : List ℕ) → AllByRecursion IsNoEnd (take (prefix_len (λ b. not (eqb b 10)) bytes) bytes)
 no_feed_front [] = tt
 no_feed_front (b ∷ bs) = elim (eqb b 10) as (λ t. eqb b 10 ≡ t → AllByRecursion IsNoEnd (take (cond (not t) (1 + prefix_len (λ c. not (eqb c 10)) bs) 0) (b ∷ bs))) [
-    true ↦ λ e. tt
+  | true ↦ λ e. tt
   | false ↦ λ (e : eqb b 10 ≡ false). let n : 1 + prefix_len (λ c. not (eqb c 10)) bs ≡ suc (prefix_len (λ c. not (eqb c 10)) bs) = omega arith in
-      subst (λ k. AllByRecursion IsNoEnd (take k (b ∷ bs))) (sym n) (e, no_feed_front bs) ] refl
+      subst (λ k. AllByRecursion IsNoEnd (take k (b ∷ bs))) (sym n) (e, no_feed_front bs)
+] refl
 
 min_le_right : (k i n : ℕ) → k ≡ min i n → k ≤ n
 min_le_right k i n e = omega arith
 
 feed_at : (bytes : List ℕ) → unwrap_or (position (λ b. eqb b 10) bytes) (length bytes) ≡ prefix_len (λ b. not (eqb b 10)) bytes
 feed_at bytes = elim (ltb (position_or_len (λ b. eqb b 10) bytes) (length bytes)) as (λ t. ltb (position_or_len (λ b. eqb b 10) bytes) (length bytes) ≡ t → unwrap_or (cond t (Some (position_or_len (λ b. eqb b 10) bytes)) None) (length bytes) ≡ position_or_len (λ b. eqb b 10) bytes) [
-    true ↦ λ e. refl
+  | true ↦ λ e. refl
   | false ↦ λ (e : ltb (position_or_len (λ b. eqb b 10) bytes) (length bytes) ≡ false). let past : length bytes ≤ position_or_len (λ b. eqb b 10) bytes = ltb-false _ _ e in
       let most : length (take (prefix_len (λ b. not (eqb b 10)) bytes) bytes) ≡ prefix_len (λ b. not (eqb b 10)) bytes = length-prefix_len (λ b. not (eqb b 10)) bytes in
-      let short : length (take (prefix_len (λ b. not (eqb b 10)) bytes) bytes) ≤ length bytes = min_le_right _ _ _ (length-take (prefix_len (λ b. not (eqb b 10)) bytes) bytes) in omega arith ] refl
+      let short : length (take (prefix_len (λ b. not (eqb b 10)) bytes) bytes) ≤ length bytes = min_le_right _ _ _ (length-take (prefix_len (λ b. not (eqb b 10)) bytes) bytes) in omega arith
+] refl
 
 -- the rest of a comment in these bytes
 pub comment_scanned : (s : State) (rest : List ℕ) (count : ℕ) (w : Bool) → s.mode ≡ Comment → 0 < length rest → count ≡ unwrap_or (position (λ b. eqb b 10) rest) (length rest)
@@ -117,14 +123,15 @@ comment_scanned s rest count w mode some feed e =
     let both = comment_run s.line s.progress (take count rest) (drop count rest) front in
     let left : length (drop count rest) ≡ length rest - count = length-drop count rest in
     let within : count ≤ length rest = (let most : length (take (prefix_len (λ b. not (eqb b 10)) rest) rest) ≡ prefix_len (λ b. not (eqb b 10)) rest = length-prefix_len (λ b. not (eqb b 10)) rest in
-      let short : length (take (prefix_len (λ b. not (eqb b 10)) rest) rest) ≤ length rest = min_le_right _ _ _ (length-take (prefix_len (λ b. not (eqb b 10)) rest) rest) in let at : count ≡ prefix_len (λ b. not (eqb b 10)) rest = feed ∙ feed_at rest in omega arith) in
+    let short : length (take (prefix_len (λ b. not (eqb b 10)) rest) rest) ≤ length rest = min_le_right _ _ _ (length-take (prefix_len (λ b. not (eqb b 10)) rest) rest) in let at : count ≡ prefix_len (λ b. not (eqb b 10)) rest = feed ∙ feed_at rest in omega arith) in
     record {
       steps = ap (λ t. run t (settled (drop count rest))) is ∙ both.0 ∙ ap (λ ds. run (standing Comment s.line s.progress) (settled ds)) parts ∙ ap (λ t. run t (settled rest)) (sym is);
       asks = λ m. subst (λ t. MeetsBidLine t (settled rest)) (sym is) (subst (λ ds. MeetsBidLine (standing Comment s.line s.progress) (settled ds)) parts (both.1 (subst (λ t. MeetsBidLine t (settled (drop count rest))) is m)));
       last = λ l. sym (waits_behind (take count rest) (drop count rest) l) ∙ ap waits parts;
       going = λ l. e ∙ ap (λ t. t && eqb (get_or rest (count - 1) 0) 13) (ne_eqb count (length rest) (λ q. absurd (omega arith)));
       ended = λ q. let none : length (drop count rest) ≡ 0 = ap length q in let all : count ≡ length rest = omega arith in
-        e ∙ ap (λ t. t && eqb (get_or rest (count - 1) 0) 13) (eq-eqb count (length rest) all) ∙ ap (λ k. eqb (get_or rest (k - 1) 0) 13) all ∙ sym (waits_last rest some) }
+          e ∙ ap (λ t. t && eqb (get_or rest (count - 1) 0) 13) (eq-eqb count (length rest) all) ∙ ap (λ k. eqb (get_or rest (k - 1) 0) 13) all ∙ sym (waits_last rest some);
+    }
 
 -- ---- the digits of a number
 
@@ -164,7 +171,8 @@ number_scanned n p first sum rest count w digits value e =
       asks = λ m. subst (MeetsBidLine (standing (Inside (Number first)) n p)) (sym split) (meets_behind (standing (Inside (Number first)) n p) (standing (Inside (Number sum)) n p) (take count rest) (settled (drop count rest)) ran m);
       last = λ l. sym (waits_behind (take count rest) (drop count rest) l) ∙ ap waits parts;
       going = λ l. e;
-      ended = λ q. e ∙ sym (ap waits (sym parts ∙ ap (λ ds. take count rest ++ ds) q ∙ append-nil (take count rest)) ∙ waits_digits (take count rest) digits) }
+      ended = λ q. e ∙ sym (ap waits (sym parts ∙ ap (λ ds. take count rest ++ ds) q ∙ append-nil (take count rest)) ∙ waits_digits (take count rest) digits);
+    }
 
 -- ---- the same from a place on
 
@@ -185,8 +193,8 @@ comment_at s bytes place count w mode l feed e =
     let left : length (drop place bytes) ≡ length bytes - place = length-drop place bytes in
     subst (IsScanned s s w (drop place bytes)) (behind_count bytes place count)
     (comment_scanned s (drop place bytes) count w mode (omega arith)
-      (feed ∙ ap (λ ds. unwrap_or (position (λ b. eqb b 10) ds) (length ds)) (rest_is bytes place))
-      (e ∙ ap (λ ds. eqb count (length ds) && eqb (get_or ds (count - 1) 0) 13) (rest_is bytes place)))
+    (feed ∙ ap (λ ds. unwrap_or (position (λ b. eqb b 10) ds) (length ds)) (rest_is bytes place))
+    (e ∙ ap (λ ds. eqb count (length ds) && eqb (get_or ds (count - 1) 0) 13) (rest_is bytes place)))
 
 pub number_at : (s : State) (bytes : List ℕ) (place : ℕ) (first sum count : ℕ) (w : Bool) → s.mode ≡ Inside (Number first)
     → digits_alone (take count (take (length bytes - place) (drop place bytes))) ≡ true → Number sum ≡ fold word_with (Number first) (take count (take (length bytes - place) (drop place bytes))) → w ≡ false
@@ -196,4 +204,4 @@ number_at s bytes place first sum count w mode digits value e =
     subst (λ (t : State). IsScanned t (record s { mode = Inside (Number sum) }) w (drop place bytes) (drop (place + count) bytes)) (sym is)
     (subst (IsScanned (standing (Inside (Number first)) s.line s.progress) (record s { mode = Inside (Number sum) }) w (drop place bytes)) (behind_count bytes place count)
     (number_scanned s.line s.progress first sum (drop place bytes) count w
-      (sym (ap (λ ds. digits_alone (take count ds)) (rest_is bytes place)) ∙ digits) (value ∙ ap (λ ds. fold word_with (Number first) (take count ds)) (rest_is bytes place)) e))
+    (sym (ap (λ ds. digits_alone (take count ds)) (rest_is bytes place)) ∙ digits) (value ∙ ap (λ ds. fold word_with (Number first) (take count ds)) (rest_is bytes place)) e))

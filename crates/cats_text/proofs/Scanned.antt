@@ -23,8 +23,9 @@ waits-one b ne = ne_eqb b 13 ne
 scan_decided : (s0 s t : State) (w : Bool) (bytes rest after : List ℕ) (b : ℕ) → settled rest ≡ b ∷ after → IsScanned s0 s w bytes rest → byte_step s b ≡ Ok t
     → (run t after ≡ run s0 (settled bytes)) × (MeetsBidLine t after → MeetsBidLine s0 (settled bytes))
 scan_decided s0 s t w bytes rest after b e p step = (
-    rw step at (sym (ap (λ ds. run s ds) e) ∙ p.steps),
-    λ m. p.asks (rw e (let here : MeetsBidLine s (b ∷ after) = inr (rw step m) in here)))
+  rw step at (sym (ap (λ ds. run s ds) e) ∙ p.steps),
+  λ m. p.asks (rw e (let here : MeetsBidLine s (b ∷ after) = inr (rw step m) in here)),
+)
 
 pub scan_byte : (s0 s t : State) (w : Bool) (bytes : List ℕ) (b : ℕ) (rest : List ℕ) → b ≢ 13 → IsScanned s0 s w bytes (b ∷ rest) → byte_step s b ≡ Ok t → IsScanned s0 t w bytes rest
 scan_byte s0 s t w bytes b rest ne p step = let both : (run t (settled rest) ≡ run s0 (settled bytes)) × (MeetsBidLine t (settled rest) → MeetsBidLine s0 (settled bytes)) = scan_decided s0 s t w bytes (b ∷ rest) (settled rest) b (settled-other b rest ne) p step in record {
@@ -32,7 +33,7 @@ scan_byte s0 s t w bytes b rest ne p step = let both : (run t (settled rest) ≡
   asks = both.1;
   last = more rest p.last;
   going = λ l. p.going (omega arith);
-  ended = λ e. p.going (omega arith) ∙ sym (waits-one b ne) ∙ ap (λ bs. waits (b ∷ bs)) (sym e) ∙ p.last (omega arith)
+  ended = λ e. p.going (omega arith) ∙ sym (waits-one b ne) ∙ ap (λ bs. waits (b ∷ bs)) (sym e) ∙ p.last (omega arith);
 }
   where
     more : (rest : List ℕ) → (0 < length (b ∷ rest) → waits (b ∷ rest) ≡ waits bytes) → 0 < length rest → waits rest ≡ waits bytes
@@ -45,7 +46,7 @@ scan_last_return s0 s w bytes b e p = record {
   asks = λ m. p.asks (rw (settled-last_return b e) m);
   last = λ l. absurd (let no : 0 < 0 = l in omega arith);
   going = λ l. absurd (let no : 0 < 0 = l in omega arith);
-  ended = λ q. sym (eq-eqb b 13 e) ∙ p.last (omega arith)
+  ended = λ q. sym (eq-eqb b 13 e) ∙ p.last (omega arith);
 }
 
 pub scan_return : (s0 s t : State) (w : Bool) (bytes : List ℕ) (b c : ℕ) (cs : List ℕ) → b ≡ 13 → IsScanned s0 s w bytes (b ∷ c ∷ cs) → byte_step s (return_byte c) ≡ Ok t → IsScanned s0 t w bytes (c ∷ cs)
@@ -54,7 +55,7 @@ scan_return s0 s t w bytes b c cs e p step = let both : (run t (settled (c ∷ c
   asks = both.1;
   last = λ l. p.last (omega arith);
   going = λ l. p.going (omega arith);
-  ended = λ q. absurd (cons_not_nil c cs q)
+  ended = λ q. absurd (cons_not_nil c cs q);
 }
   where
     cons_not_nil : (x : ℕ) (xs : List ℕ) → x ∷ xs ≡ [] → ⊥
@@ -83,7 +84,7 @@ scan_return_at s0 s t w v bytes place l e p step q =
     let next : drop (place + 1) bytes ≡ get_or bytes (place + 1) 0 ∷ drop (place + 1 + 1) bytes = at_place bytes (place + 1) l in
     subst (λ u. IsScanned s0 t u bytes (drop (place + 1) bytes)) (sym q) (rw next
     (scan_return s0 s t w bytes (get_or bytes place 0) (get_or bytes (place + 1) 0) (drop (place + 1 + 1) bytes) e
-        (subst (λ r. IsScanned s0 s w bytes r) (at_place bytes place (omega arith) ∙ ap (λ r. get_or bytes place 0 ∷ r) next) p) step))
+    (subst (λ r. IsScanned s0 s w bytes r) (at_place bytes place (omega arith) ∙ ap (λ r. get_or bytes place 0 ∷ r) next) p) step))
 
 -- ---- several bytes at once
 
@@ -98,7 +99,8 @@ scanned_then s0 s t w v bytes mid rest p q more none = record {
   asks = λ m. p.asks (q.asks m);
   last = λ l. q.last l ∙ p.last (more l);
   going = q.going;
-  ended = λ e. by_mid mid refl e }
+  ended = λ e. by_mid mid refl e;
+}
   where
     by_mid : (m : List ℕ) → mid ≡ m → rest ≡ [] → v ≡ waits bytes
     by_mid [] is e = none is e ∙ p.ended is

@@ -171,4 +171,3 @@ pub record IsScanned (s0 s : State) (waiting : Bool) (bytes rest : List ℕ) : T
   pub last : 0 < length rest → waits rest ≡ waits bytes
   pub going : 0 < length rest → waiting ≡ false
   pub ended : rest ≡ [] → waiting ≡ waits bytes
-

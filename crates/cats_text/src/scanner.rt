@@ -1,7 +1,6 @@
 //! From bytes to words and line ends.
 
 ghost use Rattle.std.specs.Prelude.{◌≡◌, ◌+◌, ◌-◌, ◌<◌, ◌≤◌, ◌^◌, ◌==◌, true, take, drop, fold, position, unwrap_or, length, false, OnOk, IfOk};
-
 ghost use Rattle.cats_text.specs.Numbers.{digits_alone};
 ghost use Rattle.cats_text.specs.Machine.{word_with};
 ghost use Rattle.cats_text.specs.Files.{IsPlainFile};

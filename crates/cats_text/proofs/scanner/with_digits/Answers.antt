@@ -13,8 +13,9 @@ loop-count-preserved c =
     let digit : is_digit (get_or c.args.bytes.now c.loop-count.count 0) ≡ true = and_from _ _ (le-leb 48 _ low) (le-leb _ 57 high) in
     number_more c.args.value c.args.bytes.now c.loop-count.count c.loop-count.value c.if-value-lt-HELD.value c.loop-count-test.true digit c.loop-count.invariant
     (elim c.if-value-lt-HELD.branch [
-      then-value-lt-HELD w ↦ let below : c.loop-count.value < HELD = search rules in
-        let is : c.if-value-lt-HELD.value ≡ c.loop-count.value * 10 + (get_or c.args.bytes.now c.loop-count.count 0 - 48) = search rules in
-        is ∙ sym (ap (λ t. cond t (c.loop-count.value * 10 + (get_or c.args.bytes.now c.loop-count.count 0 - 48)) c.loop-count.value) (lt-ltb c.loop-count.value HELD below))
-    | else-value-lt-HELD w ↦ let above : HELD ≤ c.loop-count.value = search rules in
-        w.value-is ∙ sym (ap (λ t. cond t (c.loop-count.value * 10 + (get_or c.args.bytes.now c.loop-count.count 0 - 48)) c.loop-count.value) (le-ltb c.loop-count.value HELD above)) ])
+      | then-value-lt-HELD w ↦ let below : c.loop-count.value < HELD = search rules in
+          let is : c.if-value-lt-HELD.value ≡ c.loop-count.value * 10 + (get_or c.args.bytes.now c.loop-count.count 0 - 48) = search rules in
+          is ∙ sym (ap (λ t. cond t (c.loop-count.value * 10 + (get_or c.args.bytes.now c.loop-count.count 0 - 48)) c.loop-count.value) (lt-ltb c.loop-count.value HELD below))
+      | else-value-lt-HELD w ↦ let above : HELD ≤ c.loop-count.value = search rules in
+          w.value-is ∙ sym (ap (λ t. cond t (c.loop-count.value * 10 + (get_or c.args.bytes.now c.loop-count.count 0 - 48)) c.loop-count.value) (le-ltb c.loop-count.value HELD above))
+    ])

@@ -14,8 +14,9 @@ returns-after-count-rest-clause-scanned c =
     comment_at (state c.args.self.now) c.args.bytes.now c.args.place c.unwrap_or-count.result c.if-count-rest.self c.in-Comment.is c.requires.within
     (c.unwrap_or-count.ensures ∙ ap (λ o. unwrap_or o (length (take (length c.args.bytes.now - c.args.place) (drop c.args.place c.args.bytes.now)))) c.line_feed.ensures)
     (elim c.if-count-rest.branch [
-      then-count-rest w ↦ w.self-is ∙ sym (ap (λ t. t && eqb (get_or (take (length c.args.bytes.now - c.args.place) (drop c.args.place c.args.bytes.now)) (c.unwrap_or-count.result - 1) 0) 13) (eq-eqb _ _ w.if-count-rest.true))
-    | else-count-rest w ↦ w.self-is ∙ ne_eqb _ _ w.if-count-rest.false ∙ sym (ap (λ t. t && eqb (get_or (take (length c.args.bytes.now - c.args.place) (drop c.args.place c.args.bytes.now)) (c.unwrap_or-count.result - 1) 0) 13) (ne_eqb _ _ w.if-count-rest.false)) ])
+      | then-count-rest w ↦ w.self-is ∙ sym (ap (λ t. t && eqb (get_or (take (length c.args.bytes.now - c.args.place) (drop c.args.place c.args.bytes.now)) (c.unwrap_or-count.result - 1) 0) 13) (eq-eqb _ _ w.if-count-rest.true))
+      | else-count-rest w ↦ w.self-is ∙ ne_eqb _ _ w.if-count-rest.false ∙ sym (ap (λ t. t && eqb (get_or (take (length c.args.bytes.now - c.args.place) (drop c.args.place c.args.bytes.now)) (c.unwrap_or-count.result - 1) 0) 13) (ne_eqb _ _ w.if-count-rest.false))
+    ])
 
 pub returns-in-Inside-Number-clause-scanned : goal.returns-in-Inside-Number-clause-scanned
 returns-in-Inside-Number-clause-scanned c =
