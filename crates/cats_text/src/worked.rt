@@ -4,6 +4,7 @@ ghost use Rattle.std.specs.Prelude.{◌≡◌, ℕ, ◌++◌, List, [], ◌∷�
 ghost use Rattle.cats_text.specs.Lines.{line_words, blank_returns, significant_lines};
 ghost use Rattle.cats_text.specs.Numbers.{number_of, is_number, is_price, is_too_large, is_too_fine, price_of};
 ghost use Rattle.cats_text.specs.Files.{PlainBid, PlainFile};
+ghost use Rattle.cats_text.specs.Grammar.{Spells};
 ghost use Rattle.cats_text.specs.Faults.{first_fault, complete_fault, fault_at};
 ghost use Rattle.cats_text.specs.Layout.{layout, price_text};
 ghost use Rattle.cats_text.specs.declared.fault.Kind.TheVariants.{Header, NotANumber, TooLarge, ExtraBid, BidNumber, RepeatedNumber, TooFine, GoodRange, RepeatedGood, TwoDummies, EmptyBundle, NoEnd, AfterEnd, Missing};
@@ -92,4 +93,15 @@ pub fn written_file()
           ∷ record { price = 7500000; goods = 1 ∷ []; dummy = None } ∷ [];
     }) ≡
         codes "goods 3\nbids 2\ndummy 1\n0\t20\t0\t2\t3\t#\n1\t7.5\t1\t#\n" }
+{}
+
+/// Texts and the files that they spell: lines in any order of their numbers, goods in any order, prices with and without a point.
+pub fn spelled_files()
+    ensures lenient { Spells (codes "%% " ++ 255 ∷ 233 ∷ codes "\r\n\r\n \t% note\ngoods\t002\r\nbids  1 \r\n dummy 0\r\n\r\n00 0005 1 0 #\r")
+        (record { goods = 2; dummy = 0; bids = record { price = 5000000; goods = 0 ∷ 1 ∷ []; dummy = None } ∷ [] }) }
+    ensures cats { Spells (codes "%% a comment\n\ngoods 3\nbids 2\ndummy 1\n\n0\t20\t0\t2\t3\t#\n1\t7\t1\t#\n")
+        (record { goods = 3; dummy = 1; bids = record { price = 20000000; goods = 0 ∷ 2 ∷ []; dummy = Some 0 } ∷ record { price = 7000000; goods = 1 ∷ []; dummy = None } ∷ [] }) }
+    ensures out_of_order { Spells (codes "goods 2\nbids 2\ndummy 0\n1 02.250 1 0 #\n0 3 1 #\n")
+        (record { goods = 2; dummy = 0; bids = record { price = 3000000; goods = 1 ∷ []; dummy = None } ∷ record { price = 2250000; goods = 0 ∷ 1 ∷ []; dummy = None } ∷ [] }) }
+    ensures least { Spells (codes "goods 0\nbids 0\ndummy 0\n") (record { goods = 0; dummy = 0; bids = [] }) }
 {}
