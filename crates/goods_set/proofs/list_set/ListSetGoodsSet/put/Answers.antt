@@ -1,0 +1,15 @@
+use Rattle.std.proofs.Common.{◌≡◌, ◌<◌, ◌^◌, ◌∙◌, List, ℕ, cond, is_ok, sym, subst, ap}
+use Rattle.std.specs.List.{insert}
+use Rattle.goods_set.specs.Bundles.{IsBundle, with_good}
+use Rattle.goods_set.specs.Sizes.{IsBundle-with_good, with_good_there}
+use Rattle.goods_set.proofs.Places.{kept_bundle}
+use Rattle.goods_set.proofs.list_set.ListSetGoodsSet.put.Goals as goal
+
+pub invariant_of-self : goal.invariant_of-self
+invariant_of-self c =
+    let s = c.args.self.now in
+    record { bundle = kept_bundle s.goods.items c.args.good c.in-Err.place (is_ok c.insert.result) s.bundle c.ranges.good.fits c.in-Err.ensures.2 _ c.insert.ensures.items }
+
+pub returns-in-Ok-clause-goods : goal.returns-in-Ok-clause-goods
+returns-in-Ok-clause-goods c =
+    sym (with_good_there c.args.good c.args.self.now.goods.items c.args.self.now.bundle.0 c.in-Ok.ensures)

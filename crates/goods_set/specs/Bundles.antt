@@ -1,0 +1,83 @@
+-- Bundles of goods (Nisan, "Bidding and allocation in combinatorial auctions", 2000): a bundle over G goods is a strictly
+-- rising list of numbers below G. Inside, apart and without are those of sets.
+use Rattle.std.specs.Prelude.{◌≡◌, ℕ, ◌<◌, ◌≤◌, zero, suc, ◌+◌, ◌==◌, nat_lt, nat_le, Bool, not, IsTrue, cond, List, [], ◌∷◌, ◌++◌, map, Option, length}
+use Rattle.std.specs.Coded.{×_prop, Unit-prop, le_prop}
+use Rattle.std.specs.List.{list_any, list_all, filter, find, flat_map, range_with_len}
+
+-- each member of the list is above g
+abbrev pub AreAbove : ℕ → List ℕ → Type 0
+AreAbove g [] = Unit {0}
+AreAbove g (x ∷ xs) = (g < x) × AreAbove g xs
+
+-- each member of the list is below g
+abbrev pub AreBelow : ℕ → List ℕ → Type 0
+AreBelow g [] = Unit {0}
+AreBelow g (x ∷ xs) = (x < g) × AreBelow g xs
+
+-- the list rises strictly
+abbrev pub IsRising : List ℕ → Type 0
+IsRising [] = Unit {0}
+IsRising (x ∷ xs) = AreAbove x xs × IsRising xs
+
+-- a bundle over G goods
+abbrev pub IsBundle : ℕ → List ℕ → Type 0
+IsBundle G xs = IsRising xs × AreBelow G xs
+
+-- each fact holds in one way at most, so that a struct may keep it
+AreAbove-prop : (g : ℕ) (xs : List ℕ) → IsProp (AreAbove g xs)
+AreAbove-prop g [] = Unit-prop
+AreAbove-prop g (x ∷ xs) = ×_prop le_prop (AreAbove-prop g xs)
+
+AreBelow-prop : (g : ℕ) (xs : List ℕ) → IsProp (AreBelow g xs)
+AreBelow-prop g [] = Unit-prop
+AreBelow-prop g (x ∷ xs) = ×_prop le_prop (AreBelow-prop g xs)
+
+IsRising-prop : (xs : List ℕ) → IsProp (IsRising xs)
+IsRising-prop [] = Unit-prop
+IsRising-prop (x ∷ xs) = ×_prop (AreAbove-prop x xs) (IsRising-prop xs)
+
+pub IsBundle-prop : (G : ℕ) (xs : List ℕ) → IsProp (IsBundle G xs)
+IsBundle-prop G xs = ×_prop (IsRising-prop xs) (AreBelow-prop G xs)
+
+-- whether the good g is in the list
+abbrev pub has_good : List ℕ → ℕ → Bool
+has_good xs g = list_any (λ x. x == g) xs
+
+-- whether each good of xs is in ys
+abbrev pub is_inside : List ℕ → List ℕ → Bool
+is_inside xs ys = list_all (λ g. has_good ys g) xs
+
+-- whether no good of xs is in ys
+abbrev pub are_apart : List ℕ → List ℕ → Bool
+are_apart xs ys = list_all (λ g. not (has_good ys g)) xs
+
+-- each good of xs is in ys
+abbrev pub IsInside : List ℕ → List ℕ → Type 0
+IsInside xs ys = IsTrue (is_inside xs ys)
+
+-- xs and ys share no good
+abbrev pub AreApart : List ℕ → List ℕ → Type 0
+AreApart xs ys = IsTrue (are_apart xs ys)
+
+-- xs without the goods of ys
+abbrev pub without : List ℕ → List ℕ → List ℕ
+without xs ys = filter (λ g. not (has_good ys g)) xs
+
+-- a rising list with the good g put at its place, unless it is there
+abbrev pub with_good : ℕ → List ℕ → List ℕ
+with_good g [] = g ∷ []
+with_good g (x ∷ xs) = cond (nat_lt g x) (g ∷ (x ∷ xs)) (cond (g == x) (x ∷ xs) (x ∷ with_good g xs))
+
+-- the least good of a rising list that is at least g
+abbrev pub good_from : List ℕ → ℕ → Option ℕ
+good_from xs g = find (λ x. nat_le g x) xs
+
+-- the rising lists of `size` numbers out of the n numbers from g on, in lexicographic order
+abbrev pub bundles_from : (n : ℕ) → ℕ → ℕ → List (List ℕ)
+bundles_from n g zero = [] ∷ []
+bundles_from zero g (suc size) = []
+bundles_from (suc n) g (suc size) = map (λ xs. g ∷ xs) (bundles_from n (g + 1) size) ++ bundles_from n (g + 1) (suc size)
+
+-- all bundles over G goods, in order: by size, then lexicographically
+abbrev pub all_bundles : ℕ → List (List ℕ)
+all_bundles G = flat_map (λ size. bundles_from G 0 size) (range_with_len 0 (G + 1))

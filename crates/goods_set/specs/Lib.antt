@@ -1,0 +1,5 @@
+pub mod Bundles
+pub mod Laws
+pub mod Members
+pub mod Orders
+pub mod Sizes

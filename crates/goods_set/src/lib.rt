@@ -1,0 +1,10 @@
+//! Bundles of goods: the trait that values, pruning and the canonical form are written over, a list
+//! and a bit set that implement it, and the order of bundles.
+#![tactic(auto)]
+
+pub mod list_set;
+pub mod set;
+pub mod worked;
+
+pub use list_set::ListSet;
+pub use set::GoodsSet;

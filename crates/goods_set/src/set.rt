@@ -1,0 +1,88 @@
+//! What the crates above know of a set of goods.
+ghost use Rattle.std.specs.Prelude.{◌≡◌, ℕ, ◌<◌, ◌≤◌, List, [], not, length, IfOk, OnErr};
+ghost use Rattle.goods_set.specs.Bundles.{IsBundle, IsInside, has_good, is_inside, are_apart, without, with_good, good_from};
+ghost use Rattle.goods_set.specs.Orders.{bundle_cmp};
+
+use std::alloc::{AllocError, Global};
+use std::cmp::Ordering;
+
+/// A bundle: a finite set of goods, which are numbers below a bound that the type has. Contracts see
+/// it as the strictly rising list of its goods.
+pub trait GoodsSet: Sized + Drop {
+    ghost CAP: { ℕ };
+
+    ghost goods: { Self → List ℕ };
+
+    /// The bound: each good of a set of this type is below it. It is at most 65,536.
+    fn cap() -> u32
+        ensures { result ≡ CAP };
+
+    /// The set with no goods. It keeps `alloc` for its calls that may take memory.
+    fn empty(alloc: Global) -> Result<Self, AllocError>
+        ensures { IfOk result (λ s. goods s ≡ []) };
+
+    /// Puts a good in, and says whether it is new. Where memory is refused the set is as it was.
+    fn put(&mut self, good: u16) -> Result<bool, AllocError>
+        requires { good < CAP }
+        ensures added { IfOk result (λ new. new ≡ not (has_good (goods self.old) good)) }
+        ensures goods { IfOk result (λ _. goods self.new ≡ with_good good (goods self.old)) }
+        ensures refused { OnErr result (goods self.new ≡ goods self.old) };
+
+    /// Whether the good is in the set.
+    fn has(&self, good: u16) -> bool
+        ensures { result ≡ has_good (goods self.now) good };
+
+    /// How many goods the set has.
+    fn size(&self) -> usize
+        ensures { result ≡ length (goods self.now) };
+
+    /// The least good that is at least `from`.
+    fn next_from(&self, from: u32) -> Option<u16>
+        ensures { result ≡ good_from (goods self.now) from };
+
+    /// Whether each good of the set is in `other`.
+    fn is_inside(&self, other: &Self) -> bool
+        ensures { result ≡ is_inside (goods self.now) (goods other.now) };
+
+    /// Whether the two sets share no good.
+    fn is_apart(&self, other: &Self) -> bool
+        ensures { result ≡ are_apart (goods self.now) (goods other.now) };
+
+    /// Takes the goods of `other` out of the set.
+    fn take_out(&mut self, other: &Self)
+        ensures { goods self.new ≡ without (goods self.old) (goods other.now) };
+
+    /// The order of bundles: the smaller first, and those of one size lexicographically.
+    fn order(&self, other: &Self) -> Ordering
+        ensures { result ≡ bundle_cmp (goods self.now) (goods other.now) };
+
+    /// An equal set.
+    fn copy(&self) -> Result<Self, AllocError>
+        ensures { IfOk result (λ s. goods s ≡ goods self.now) };
+
+    ghost use Rattle.std.specs.Cmp.{IsTotalOrder};
+    ghost use Rattle.std.specs.Prelude.{◌⊎◌};
+    ghost use Rattle.std.specs.declared.cmp.Ordering.TheVariants.{Less, Equal};
+    ghost use Rattle.goods_set.specs.Laws.{order_total_law, order_equal_law, inside_antisymm_law, inside_ordered_law};
+    ghost use Rattle.goods_set.specs.Members.{inside_refl, inside_trans};
+
+    // Each set is a bundle over the goods below the bound.
+    ghost is_bundle: { (s : Self) → IsBundle CAP (goods s) };
+
+    ghost cap_fits: { CAP ≤ 65536 };
+
+    // The order is total, and answers Equal only for equal lists.
+    ghost order_total: { IsTotalOrder bundle_cmp } = { order_total_law };
+
+    ghost order_equal: { (s t : Self) → bundle_cmp (goods s) (goods t) ≡ Equal → goods s ≡ goods t } = { λ s t. order_equal_law (goods s) (goods t) };
+
+    // Inside is a partial order.
+    ghost inside_reflexive: { (s : Self) → IsInside (goods s) (goods s) } = { λ s. inside_refl (goods s) };
+
+    ghost inside_transitive: { (s t u : Self) → IsInside (goods s) (goods t) → IsInside (goods t) (goods u) → IsInside (goods s) (goods u) } = { λ s t u. inside_trans (goods s) (goods t) (goods u) };
+
+    ghost inside_antisymmetric: { (s t : Self) → IsInside (goods s) (goods t) → IsInside (goods t) (goods s) → goods s ≡ goods t } = { λ s t. inside_antisymm_law CAP (goods s) (goods t) (is_bundle s) (is_bundle t) };
+
+    // A set inside another comes before it or equals it.
+    ghost inside_ordered: { (s t : Self) → IsInside (goods s) (goods t) → (bundle_cmp (goods s) (goods t) ≡ Less) ⊎ (goods s ≡ goods t) } = { λ s t. inside_ordered_law CAP (goods s) (goods t) (is_bundle s) (is_bundle t) };
+}

@@ -1,0 +1,11 @@
+pub mod Values
+pub mod Packings
+pub mod Tables
+pub mod Orders
+pub mod Auctions
+pub mod Examples
+pub mod Permutations
+pub mod XorLemmas
+pub mod OrLemmas
+pub mod ListLemmas
+pub mod PackingLemmas

@@ -1,0 +1,18 @@
+-- A bidder's values on all bundles over G goods, in the order of bundles. The tables have 2^G entries, and no code builds them.
+use Rattle.std.specs.Prelude.{ℕ, Bool, not, ◌==◌, map, List}
+use Rattle.std.specs.List.{list_any}
+use Rattle.valuation.specs.declared.atom.Atom.{Atom}
+use Rattle.valuation.specs.Values.{xor_value, or_value}
+use Rattle.goods_set.specs.Bundles.{all_bundles}
+
+-- the OR values
+abbrev pub or_table : List (Atom (List ℕ)) → ℕ → List ℕ
+or_table atoms G = map (or_value atoms) (all_bundles G)
+
+-- the XOR values
+abbrev pub xor_table : List (Atom (List ℕ)) → ℕ → List ℕ
+xor_table atoms G = map (xor_value atoms) (all_bundles G)
+
+-- whether an entry of a table is not 0
+abbrev pub is_nonzero : List ℕ → Bool
+is_nonzero table = list_any (λ value. not (value == 0)) table
