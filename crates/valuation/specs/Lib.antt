@@ -9,3 +9,4 @@ pub mod XorLemmas
 pub mod OrLemmas
 pub mod ListLemmas
 pub mod PackingLemmas
+pub mod CountLemmas
