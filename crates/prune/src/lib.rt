@@ -1,0 +1,6 @@
+//! Pruning: of a bidder's atomic bids exactly those stay that its values alone ask for, the points.
+#![tactic(auto)]
+
+mod worked;
+
+pub use worked::{or_points_worked, steps_worked, xor_points_worked};
