@@ -1,2 +1,6 @@
 pub mod Points
 pub mod Steps
+pub mod Lists
+pub mod InOrder
+pub mod ValueLemmas
+pub mod PointLemmas
