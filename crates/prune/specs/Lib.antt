@@ -4,3 +4,4 @@ pub mod Lists
 pub mod InOrder
 pub mod ValueLemmas
 pub mod PointLemmas
+pub mod KeptLemmas
