@@ -1,11 +1,11 @@
 -- A list in order, of whose atoms none is reached by those below it, is the list of its points. The idea: for what is properly
 -- inside a kept atom's bundle only the atoms below it matter; and a value above 0 is reached with some atom, which is either
 -- on the whole bundle or one part of a split of it.
-use Rattle.std.proofs.Common.{◌≡◌, ℕ, zero, suc, ◌+◌, ◌<◌, ◌≤◌, Bool, true, false, not, cond, ◌&&◌, ◌⊎◌, inl, inr, ⊎_elim, List, [], ◌∷◌, length, refl, sym, ap, ap₂, ◌∙◌, subst, arith, le_trans, le_refl, le_antisymm}
+use Rattle.std.proofs.Common.{◌≡◌, ℕ, zero, suc, ◌+◌, ◌<◌, ◌≤◌, Bool, true, false, not, cond, ◌&&◌, ltb, ◌⊎◌, inl, inr, ⊎_elim, List, [], ◌∷◌, length, refl, sym, ap, ap₂, ◌∙◌, subst, arith, le_trans, le_refl, le_antisymm}
 use Rattle.std.specs.Prelude.{All, AllPairs, Contains}
-use Rattle.std.specs.List.{filter}
+use Rattle.std.specs.List.{filter, list_all}
 use Rattle.std.specs.Cmp.{both_ways as same_test}
-use Rattle.std.proofs.lemmas.Bool.{cases_Bool, both_ways, and_from, not_from_false, false_from_ne_true}
+use Rattle.std.proofs.lemmas.Bool.{cases_Bool, both_ways, and_from, and_cases, ltb-false, not_from_false, false_from_ne_true}
 use Rattle.std.proofs.lemmas.List.Elements.{All-contains, All-weaker, All-filter}
 use Rattle.goods_set.specs.Bundles.{IsRising, IsBundle, has_good, is_inside, IsInside, without}
 use Rattle.goods_set.specs.Members.{has_head, has_tail, has_cases, inside_at, inside_from, inside_refl, inside_trans, inside_antisymm, apart_from, has_without_parts, without_inside, inside_without, IsBundle-without}
@@ -17,7 +17,7 @@ use Rattle.valuation.specs.XorLemmas.{xor_value-grows}
 use Rattle.valuation.specs.OrLemmas.{or_value-split, or_value-empty, or_value-price, ReachesValue, ReachesValue-some}
 use Rattle.prune.specs.Points.{points_where, is_xor_point, xor_points, is_or_point, or_points}
 use Rattle.prune.specs.Steps.{is_below, atoms_below}
-use Rattle.prune.specs.Lists.{list_all_fails, Contains-nil, Contains-filter, Contains-filter_parts, All-from_Contains}
+use Rattle.prune.specs.Lists.{zero_or_more, list_all_fails, Contains-nil, Contains-filter, Contains-filter_parts, All-from_Contains}
 use Rattle.prune.specs.InOrder.{IsInOrder, same_bundle_same_atom, same_in_order}
 use Rattle.prune.specs.ValueLemmas.{xor_value-member, xor_value-bound, xor_value-outbid, xor_value-reached, xor_value-filter_on, or_value-outbid, or_value-filter_on}
 use Rattle.prune.specs.PointLemmas.{points_where-in_order, IsPoint, points_where-are, points_where-has, points_where-same, IsXorPoint, IsXorPoint-from_test, is_xor_point-true, IsPart, IsOrPoint, inside_below, IsOrPoint-from_test, is_or_point-true, no_or_point}
@@ -170,10 +170,6 @@ part_smaller part bundle r p =
     let l = p.nonempty in
     let k : 0 < length (without bundle part) = ⊎_elim (λ (z : length (without bundle part) ≡ 0). absurd (both_ways (is_inside bundle part) p.proper (inside_from_without bundle part (no_goods (without bundle part) z)))) (λ (z : 0 < length (without bundle part)). z) (zero_or_more (length (without bundle part))) in
     (omega arith, omega arith)
-  where
-    zero_or_more : (n : ℕ) → (n ≡ 0) ⊎ (0 < n)
-    zero_or_more zero = inl refl
-    zero_or_more (suc n) = inr (omega arith)
 
 -- the values of the points reach those of the list, on bundles over the goods, by their size
 or_points_reach : (goods : ℕ) (atoms : List (Atom (List ℕ))) → All (IsOnBundle goods) atoms → All (λ a. 0 < length a.bundle) (or_points goods atoms) → (n : ℕ) (bundle : List ℕ) → length bundle < n → IsBundle goods bundle → or_value atoms bundle ≤ or_value (or_points goods atoms) bundle
@@ -307,3 +303,48 @@ xor_points_same goods one other same =
         (λ t. is_xor_point-true other bundle (IsXorPoint-same goods one other same bundle b (IsXorPoint-from_test one bundle t)))
         (λ t. is_xor_point-true one bundle (IsXorPoint-same goods other one (λ bundle b. sym (same bundle b)) bundle b (IsXorPoint-from_test other bundle t))))
       same
+
+-- ---- XOR points keep the values
+
+-- a bundle that is no point has no value, or has it without some good
+no_xor_point : (atoms : List (Atom (List ℕ))) (bundle : List ℕ) → is_xor_point atoms bundle ≡ false → (xor_value atoms bundle ≡ 0) ⊎ ((good : ℕ) × Contains bundle good × (xor_value atoms bundle ≤ xor_value atoms (without bundle (good ∷ []))))
+unfolding is_xor_point
+no_xor_point atoms bundle e =
+    let less = λ (good : ℕ). ltb (xor_value atoms (without bundle (good ∷ []))) (xor_value atoms bundle) in
+    ⊎_elim (λ (t : ltb 0 (xor_value atoms bundle) ≡ false). let z : xor_value atoms bundle ≤ 0 = ltb-false _ _ t in inl (omega arith))
+    (λ (t : list_all less bundle ≡ false). let r = list_all_fails less bundle t in inr (r.0, r.1, ltb-false _ _ r.2))
+    (and_cases (ltb 0 (xor_value atoms bundle)) (list_all less bundle) e)
+
+-- the values of the points reach those of the list, on bundles over the goods, by their size
+xor_points_reach : (goods : ℕ) (atoms : List (Atom (List ℕ))) (n : ℕ) (bundle : List ℕ) → length bundle < n → IsBundle goods bundle → xor_value atoms bundle ≤ xor_value (xor_points goods atoms) bundle
+xor_points_reach goods atoms zero bundle l b = absurd (omega arith)
+xor_points_reach goods atoms (suc n) bundle l b =
+    ⊎_elim point (no_point (xor_points_reach goods atoms n)) (cases_Bool (is_xor_point atoms bundle))
+  where
+    point : is_xor_point atoms bundle ≡ true → xor_value atoms bundle ≤ xor_value (xor_points goods atoms) bundle
+    point t =
+        let p : Atom (List ℕ) = record { bundle = bundle; price = xor_value atoms bundle } in
+        let c = points_where-has (is_xor_point atoms) (xor_value atoms) goods p (record { bundle = b; chosen = t; price = refl }) in
+        xor_value-member (xor_points goods atoms) p c bundle (inside_refl bundle)
+
+    no_point : ((bundle : List ℕ) → length bundle < n → IsBundle goods bundle → xor_value atoms bundle ≤ xor_value (xor_points goods atoms) bundle) → is_xor_point atoms bundle ≡ false → xor_value atoms bundle ≤ xor_value (xor_points goods atoms) bundle
+    no_point reach t = ⊎_elim (λ (z : xor_value atoms bundle ≡ 0). omega arith) (λ (s : (good : ℕ) × Contains bundle good × (xor_value atoms bundle ≤ xor_value atoms (without bundle (good ∷ [])))). without_good s.0 s.1 s.2) (no_xor_point atoms bundle t)
+      where
+        without_good : (good : ℕ) → Contains bundle good → xor_value atoms bundle ≤ xor_value atoms (without bundle (good ∷ [])) → xor_value atoms bundle ≤ xor_value (xor_points goods atoms) bundle
+        without_good good c e =
+            let left = without bundle (good ∷ []) in
+            let size : length left + 1 ≡ length bundle = length-without bundle (good ∷ []) b.0 (tt, tt) (good_inside good bundle c) in
+            let first = reach left (omega arith) (IsBundle-without goods bundle (good ∷ []) b) in
+            let grows = xor_value-grows (xor_points goods atoms) left bundle (without_inside bundle (good ∷ [])) in
+            omega arith
+
+-- the XOR points have the XOR value of the list on each bundle over the goods
+pub xor_points_keep_values : (goods : ℕ) (atoms : List (Atom (List ℕ))) → All (λ a. IsBundle goods a.bundle) atoms → (bundle : List ℕ) → IsBundle goods bundle → xor_value (xor_points goods atoms) bundle ≡ xor_value atoms bundle
+xor_points_keep_values goods atoms on bundle b =
+    le_antisymm
+      (xor_value-outbid atoms (xor_points goods atoms) (All-weaker (Contains atoms) (λ a. a.price ≤ xor_value atoms a.bundle) (λ a c. xor_value-member atoms a c a.bundle (inside_refl a.bundle)) (xor_points goods atoms) (xor_points_are_atoms goods atoms on)) bundle)
+      (xor_points_reach goods atoms (suc (length bundle)) bundle (omega arith) b)
+
+-- and have themselves as points
+pub xor_points_again : (goods : ℕ) (atoms : List (Atom (List ℕ))) → All (λ a. IsBundle goods a.bundle) atoms → xor_points goods (xor_points goods atoms) ≡ xor_points goods atoms
+xor_points_again goods atoms on = xor_points_same goods (xor_points goods atoms) atoms (xor_points_keep_values goods atoms on)

@@ -5,3 +5,4 @@ pub mod InOrder
 pub mod ValueLemmas
 pub mod PointLemmas
 pub mod KeptLemmas
+pub mod StepLemmas
