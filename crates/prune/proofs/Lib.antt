@@ -1,0 +1,2 @@
+pub mod Pruning
+pub mod Offers
