@@ -8,3 +8,8 @@ pub mod Layout
 pub mod Keywords
 pub mod Marks
 pub mod Machine
+pub mod Progress
+pub mod Parsing
+pub mod Returns
+pub mod Scanning
+pub mod FileLines

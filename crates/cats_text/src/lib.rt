@@ -5,6 +5,8 @@ mod bid;
 mod fault;
 mod goods;
 mod limits;
+mod parser;
+mod scanner;
 mod word;
 pub mod worked;
 

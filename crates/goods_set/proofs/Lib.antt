@@ -1,1 +1,5 @@
+pub mod Bits
+pub mod Firsts
+pub mod Lanes
 pub mod Places
+pub mod Scans

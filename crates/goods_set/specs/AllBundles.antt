@@ -1,6 +1,6 @@
 -- The list of all bundles over G goods: it holds exactly these, in strictly rising order, so none twice. The idea: the lists of
 -- one size that begin with the first good come before those that do not, and both are such lists over one good less.
-use Rattle.std.proofs.Common.{◌≡◌, ℕ, zero, suc, ◌+◌, ◌<◌, ◌≤◌, true, ◌⊎◌, inl, inr, ⊎_elim, List, [], ◌∷◌, ◌++◌, map, length, get_or, refl, sym, ap, ◌∙◌, subst, arith, Ordering, Less, Equal, nat_cmp}
+use Rattle.std.proofs.Common.{◌≡◌, ℕ, zero, suc, ◌+◌, ◌<◌, ◌≤◌, true, ◌⊎◌, inl, inr, ⊎_elim, List, [], ◌∷◌, ◌++◌, map, length, refl, sym, ap, ◌∙◌, subst, arith, Ordering, Less, nat_cmp}
 use Rattle.std.specs.List.{All, AllPairs, AllByRecursion, Contains, flat_map, range_with_len}
 use Rattle.std.specs.List.Sorted.{IsStrictlySortedBy}
 use Rattle.std.specs.Ordering.{ordering_then}
@@ -8,8 +8,8 @@ use Rattle.std.specs.Cmp.Lexicographic.{slice_cmp}
 use Rattle.std.proofs.lemmas.List.Elements.{All-from_recursion}
 use Rattle.std.proofs.lemmas.List.Kept.{AllPairs-cons}
 use Rattle.std.proofs.lemmas.Bool.{cases_order}
-use Rattle.goods_set.specs.Bundles.{AreAbove, AreBelow, IsRising, IsBundle, has_good, bundles_from, all_bundles}
-use Rattle.goods_set.specs.Members.{has_head, has_tail, has_cases, has_above, has_below, AreAbove-from_has}
+use Rattle.goods_set.specs.Bundles.{AreBelow, IsRising, IsBundle, has_good, bundles_from, all_bundles}
+use Rattle.goods_set.specs.Members.{has_head, has_cases, has_above, AreAbove-from_has}
 use Rattle.goods_set.specs.Orders.{bundle_cmp, nat_cmp-lt, nat_cmp-refl, same_size, smaller_first}
 
 -- ---- lists of bundles, by recursion
@@ -69,11 +69,11 @@ record IsChoice (g G size : ℕ) (xs : List ℕ) : Type 0 where
 
 begun : (g G size : ℕ) (xs : List ℕ) → g < G → IsChoice (g + 1) G size xs → IsChoice g G (suc size) (g ∷ xs)
 begun g G size xs l c = record {
-    rising = (AreAbove-from_has g xs (λ x h. let m : g + 1 ≤ x = c.from x h in omega arith), c.rising);
-    from = λ x h. ⊎_elim (λ (e : g ≡ x). omega arith) (λ (k : has_good xs x ≡ true). let m : g + 1 ≤ x = c.from x k in omega arith) (has_cases g xs x h);
-    below = (l, c.below);
-    many = omega (arith, c.many)
-  }
+  rising = (AreAbove-from_has g xs (λ x h. let m : g + 1 ≤ x = c.from x h in omega arith), c.rising);
+  from = λ x h. ⊎_elim (λ (e : g ≡ x). omega arith) (λ (k : has_good xs x ≡ true). let m : g + 1 ≤ x = c.from x k in omega arith) (has_cases g xs x h);
+  below = (l, c.below);
+  many = omega (arith, c.many);
+}
 
 later : (g G size : ℕ) (xs : List ℕ) → IsChoice (g + 1) G size xs → IsChoice g G size xs
 later g G size xs c = record { rising = c.rising; from = λ x h. let m : g + 1 ≤ x = c.from x h in omega arith; below = c.below; many = c.many }

@@ -1,6 +1,6 @@
 -- Bundles of goods (Nisan, "Bidding and allocation in combinatorial auctions", 2000): a bundle over G goods is a strictly
 -- rising list of numbers below G. Inside, apart and without are those of sets.
-use Rattle.std.specs.Prelude.{◌≡◌, ℕ, ◌<◌, ◌≤◌, zero, suc, ◌+◌, ◌==◌, nat_lt, nat_le, Bool, not, IsTrue, cond, List, [], ◌∷◌, ◌++◌, map, Option, length}
+use Rattle.std.specs.Prelude.{ℕ, ◌<◌, zero, suc, ◌+◌, ◌==◌, nat_lt, nat_le, Bool, not, IsTrue, cond, List, [], ◌∷◌, ◌++◌, map, Option}
 use Rattle.std.specs.Coded.{×_prop, Unit-prop, le_prop}
 use Rattle.std.specs.List.{list_any, list_all, filter, find, flat_map, range_with_len}
 

@@ -1,10 +1,10 @@
 -- Lemmas on how many goods a list has, on putting a good, and on the next good.
 use Rattle.std.proofs.Common.{◌≡◌, ℕ, ◌+◌, ◌<◌, ◌≤◌, Bool, true, false, not, cond, ◌&&◌, ◌||◌, eqb, ltb, leb, ◌⊎◌, inl, inr, ⊎_elim, List, [], ◌∷◌, length, refl, sym, ap, ap₂, ◌∙◌, subst, arith}
-use Rattle.std.proofs.lemmas.Bool.{and_parts, and_from, or_cases, or_left, or_right, or_parts, both_ways, not-true, not-false, not_from_true, not_from_false, cases_Bool, false_from_ne_true, true_from_ne_false, or_from, eqb-true, eqb-false, eq-eqb, ne_eqb, ltb-true, ltb-false, leb-true, leb-false, lt-ltb, le-ltb, cases_order}
+use Rattle.std.proofs.lemmas.Bool.{or_cases, or_right, or_parts, both_ways, not_from_true, not_from_false, false_from_ne_true, true_from_ne_false, or_from, eqb-true, eqb-false, ne_eqb, ltb-true, ltb-false, leb-true, leb-false, cases_order}
 use Rattle.std.specs.Prelude.{Option, Some, None}
-use Rattle.std.specs.List.{list_any, list_all, filter, find}
-use Rattle.goods_set.specs.Bundles.{AreAbove, AreBelow, IsRising, IsBundle, IsInside, AreApart, has_good, is_inside, are_apart, without, with_good, good_from}
-use Rattle.goods_set.specs.Members.{has_head, has_tail, has_cases, has_above, has_below, has_not_head, AreAbove-lower, AreAbove-from_has, AreBelow-from_has, same_from_has, inside_at, inside_from, inside_refl, inside_antisymm, apart_at, has-without, has_without_parts, has_without_from, IsRising-without, without_inside}
+use Rattle.std.specs.List.{filter}
+use Rattle.goods_set.specs.Bundles.{AreAbove, AreBelow, IsRising, IsBundle, IsInside, AreApart, has_good, without, with_good, good_from}
+use Rattle.goods_set.specs.Members.{has_head, has_tail, has_cases, has_above, has_below, has_not_head, AreAbove-lower, AreAbove-from_has, AreBelow-from_has, same_from_has, inside_at, inside_from, inside_refl, inside_antisymm, apart_at, has_without_from}
 
 -- ---- what is left of nothing, and of a list whose goods are all taken, or none
 

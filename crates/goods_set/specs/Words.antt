@@ -1,14 +1,14 @@
 -- Bundles as words of 64 bits: the good g is bit g % 64 of word g / 64.
-use Rattle.std.proofs.Common.{◌≡◌, ℕ, zero, suc, ◌+◌, ◌-◌, ◌*◌, ◌/◌, ◌%◌, ◌^◌, min, ◌<◌, ◌≤◌, ◌≢◌, Bool, true, false, not, cond, ◌&&◌, eqb, ◌⊎◌, inl, inr, ⊎_elim, List, [], ◌∷◌, length, get_or, refl, sym, ap, ◌∙◌, subst, arith, w64}
+use Rattle.std.proofs.Common.{◌≡◌, ℕ, zero, suc, ◌+◌, ◌-◌, ◌*◌, ◌/◌, ◌%◌, ◌^◌, min, ◌<◌, ◌≤◌, ◌≢◌, Bool, true, false, eqb, List, get_or, refl, sym, ap, ◌∙◌, arith, w64}
 use Rattle.std.specs.List.{filter, range_with_len}
 use Rattle.std.specs.Int.{bit_at, bit_not, trailing_zeros}
 use Rattle.std.specs.Int.RustNames.{bit_and}
 use Rattle.std.proofs.lemmas.Nat.Bits.{bit_at-lt, bit_at-zero, bit_at_and, bit_at_not, bit_at-trailing_zeros}
 use Rattle.std.proofs.lemmas.Nat.{and_le_l}
-use Rattle.std.proofs.lemmas.Bool.{and_parts, and_from, both_ways, eqb-true, eq-eqb, ne_eqb, false_from_ne_true}
-use Rattle.goods_set.specs.Bundles.{AreAbove, AreBelow, IsRising, IsBundle, IsInside, AreApart, has_good, is_inside, are_apart, without, with_good}
-use Rattle.goods_set.specs.Members.{has_head, has_tail, has_cases, has_above, has_below, AreBelow-filter, AreAbove-from_has, AreAbove-lower, AreBelow-from_has, has-filter, IsRising-filter, same_from_has, inside_at, inside_from, apart_at, apart_from, has_without_from, has_without_parts, IsRising-without}
-use Rattle.goods_set.specs.Sizes.{filter_same, has-with_good, IsRising-with_good}
+use Rattle.std.proofs.lemmas.Bool.{and_parts, and_from, both_ways, eqb-true, eq-eqb, false_from_ne_true}
+use Rattle.goods_set.specs.Bundles.{AreAbove, AreBelow, IsRising, IsBundle, has_good, is_inside, are_apart, without}
+use Rattle.goods_set.specs.Members.{has_below, AreBelow-filter, has-filter, IsRising-filter, same_from_has, inside_at, inside_from, apart_at, apart_from, has_without_from, has_without_parts, IsRising-without}
+use Rattle.goods_set.specs.Sizes.{filter_same}
 
 -- the bit of the good g
 abbrev pub word_bit : List ℕ → ℕ → ℕ
@@ -133,50 +133,59 @@ word_bit_at ws k i l =
 pub words_inside : (n : ℕ) (us vs : List ℕ) → ((k : ℕ) → get_or vs k 0 < 2 ^ 64) → ((k : ℕ) → k < n → bit_and (get_or us k 0) (bit_not w64 (get_or vs k 0)) ≡ 0) → is_inside (word_goods (64 * n) us) (word_goods (64 * n) vs) ≡ true
 words_inside n us vs f h =
     inside_from (word_goods (64 * n) us) (word_goods (64 * n) vs) (λ g m.
-        let p : (g < 64 * n) × (word_bit us g ≡ 1) = word_goods_parts (64 * n) us g m in
-        word_goods_has (64 * n) vs g p.0 (bits_inside (get_or us (g / 64) 0) (get_or vs (g / 64) 0) (g % 64) (f (g / 64)) (h (g / 64) (omega arith)) (omega arith) p.1))
+    let p : (g < 64 * n) × (word_bit us g ≡ 1) = word_goods_parts (64 * n) us g m in
+    word_goods_has (64 * n) vs g p.0 (bits_inside (get_or us (g / 64) 0) (get_or vs (g / 64) 0) (g % 64) (f (g / 64)) (h (g / 64) (omega arith)) (omega arith) p.1))
 
 pub words_outside : (n : ℕ) (us vs : List ℕ) (k : ℕ) → ((j : ℕ) → get_or us j 0 < 2 ^ 64) → ((j : ℕ) → get_or vs j 0 < 2 ^ 64) → k < n → bit_and (get_or us k 0) (bit_not w64 (get_or vs k 0)) ≢ 0 → is_inside (word_goods (64 * n) us) (word_goods (64 * n) vs) ≡ false
 words_outside n us vs k e f l h =
     let o : BitOutside (get_or us k 0) (get_or vs k 0) = bit_outside (get_or us k 0) (get_or vs k 0) (e k) (f k) h in
     let w : o.bit < 64 = o.within in
     false_from_ne_true (is_inside (word_goods (64 * n) us) (word_goods (64 * n) vs)) (λ i.
-        both_ways (has_good (word_goods (64 * n) vs) (64 * k + o.bit)) (word_goods_lacks (64 * n) vs (64 * k + o.bit) (word_bit_at vs k o.bit w ∙ o.missing)) (inside_at (word_goods (64 * n) us) (word_goods (64 * n) vs) (64 * k + o.bit) i (word_goods_has (64 * n) us (64 * k + o.bit) (omega arith) (word_bit_at us k o.bit w ∙ o.there))))
+    both_ways (has_good (word_goods (64 * n) vs) (64 * k + o.bit)) (word_goods_lacks (64 * n) vs (64 * k + o.bit) (word_bit_at vs k o.bit w ∙ o.missing)) (inside_at (word_goods (64 * n) us) (word_goods (64 * n) vs) (64 * k + o.bit) i (word_goods_has (64 * n) us (64 * k + o.bit) (omega arith) (word_bit_at us k o.bit w ∙ o.there))))
 
 pub words_apart : (n : ℕ) (us vs : List ℕ) → ((k : ℕ) → k < n → bit_and (get_or us k 0) (get_or vs k 0) ≡ 0) → are_apart (word_goods (64 * n) us) (word_goods (64 * n) vs) ≡ true
 words_apart n us vs h =
     apart_from (word_goods (64 * n) us) (word_goods (64 * n) vs) (λ g m.
-        let p : (g < 64 * n) × (word_bit us g ≡ 1) = word_goods_parts (64 * n) us g m in
-        word_goods_lacks (64 * n) vs g (bits_apart (get_or us (g / 64) 0) (get_or vs (g / 64) 0) (g % 64) (h (g / 64) (omega arith)) p.1))
+    let p : (g < 64 * n) × (word_bit us g ≡ 1) = word_goods_parts (64 * n) us g m in
+    word_goods_lacks (64 * n) vs g (bits_apart (get_or us (g / 64) 0) (get_or vs (g / 64) 0) (g % 64) (h (g / 64) (omega arith)) p.1))
 
 pub words_sharing : (n : ℕ) (us vs : List ℕ) (k : ℕ) → ((j : ℕ) → get_or us j 0 < 2 ^ 64) → k < n → bit_and (get_or us k 0) (get_or vs k 0) ≢ 0 → are_apart (word_goods (64 * n) us) (word_goods (64 * n) vs) ≡ false
 words_sharing n us vs k e l h =
     let o : BitShared (get_or us k 0) (get_or vs k 0) = bit_shared (get_or us k 0) (get_or vs k 0) (e k) h in
     let w : o.bit < 64 = o.within in
     false_from_ne_true (are_apart (word_goods (64 * n) us) (word_goods (64 * n) vs)) (λ i.
-        both_ways (has_good (word_goods (64 * n) vs) (64 * k + o.bit)) (apart_at (word_goods (64 * n) us) (word_goods (64 * n) vs) (64 * k + o.bit) i (word_goods_has (64 * n) us (64 * k + o.bit) (omega arith) (word_bit_at us k o.bit w ∙ o.here))) (word_goods_has (64 * n) vs (64 * k + o.bit) (omega arith) (word_bit_at vs k o.bit w ∙ o.there)))
+    both_ways (has_good (word_goods (64 * n) vs) (64 * k + o.bit)) (apart_at (word_goods (64 * n) us) (word_goods (64 * n) vs) (64 * k + o.bit) i (word_goods_has (64 * n) us (64 * k + o.bit) (omega arith) (word_bit_at us k o.bit w ∙ o.here))) (word_goods_has (64 * n) vs (64 * k + o.bit) (omega arith) (word_bit_at vs k o.bit w ∙ o.there)))
 
 -- words less the bits of others hold the goods without the others' goods
 pub words_without : (cap : ℕ) (us vs ws : List ℕ) → ((k : ℕ) → get_or vs k 0 < 2 ^ 64) → ((k : ℕ) → 64 * k < cap → get_or ws k 0 ≡ bit_and (get_or us k 0) (bit_not w64 (get_or vs k 0))) → word_goods cap ws ≡ without (word_goods cap us) (word_goods cap vs)
 words_without cap us vs ws f h =
     same_from_has (word_goods cap ws) (without (word_goods cap us) (word_goods cap vs)) (word_goods_bundle cap ws).0 (IsRising-without (word_goods cap us) (word_goods cap vs) (word_goods_bundle cap us).0)
     (λ g m.
-        let p : (g < cap) × (word_bit ws g ≡ 1) = word_goods_parts cap ws g m in
-        let b : (word_bit us g ≡ 1) × (word_bit vs g ≡ 0) = parts g p.0 p.1 in
-        has_without_from (word_goods cap us) (word_goods cap vs) g (word_goods_has cap us g p.0 b.0) (word_goods_lacks cap vs g b.1))
+    let p : (g < cap) × (word_bit ws g ≡ 1) = word_goods_parts cap ws g m in
+    let b : (word_bit us g ≡ 1) × (word_bit vs g ≡ 0) = parts g p.0 p.1 in
+    has_without_from (word_goods cap us) (word_goods cap vs) g (word_goods_has cap us g p.0 b.0) (word_goods_lacks cap vs g b.1))
     (λ g m.
-        let q : (has_good (word_goods cap us) g ≡ true) × (has_good (word_goods cap vs) g ≡ false) = has_without_parts (word_goods cap us) (word_goods cap vs) g m in
-        let p : (g < cap) × (word_bit us g ≡ 1) = word_goods_parts cap us g q.0 in
-        word_goods_has cap ws g p.0 (left g p.0 p.1 (λ e. both_ways (has_good (word_goods cap vs) g) q.1 (word_goods_has cap vs g p.0 e))))
+    let q : (has_good (word_goods cap us) g ≡ true) × (has_good (word_goods cap vs) g ≡ false) = has_without_parts (word_goods cap us) (word_goods cap vs) g m in
+    let p : (g < cap) × (word_bit us g ≡ 1) = word_goods_parts cap us g q.0 in
+    word_goods_has cap ws g p.0 (left g p.0 p.1 (λ e. both_ways (has_good (word_goods cap vs) g) q.1 (word_goods_has cap vs g p.0 e))))
   where
     is : (g : ℕ) → g < cap → word_bit ws g ≡ min (word_bit us g) (1 - word_bit vs g)
     is g l = ap (λ w. bit_at w (g % 64)) (h (g / 64) (omega arith)) ∙ bit_at_and (get_or us (g / 64) 0) (bit_not w64 (get_or vs (g / 64) 0)) (g % 64) ∙ ap (λ x. min (word_bit us g) x) (bit_at_not w64 (get_or vs (g / 64) 0) (g % 64) (f (g / 64)) (omega arith))
+
     parts : (g : ℕ) → g < cap → word_bit ws g ≡ 1 → (word_bit us g ≡ 1) × (word_bit vs g ≡ 0)
     parts g l e =
         let m : min (word_bit us g) (1 - word_bit vs g) ≡ 1 = sym (is g l) ∙ e in
         let s : word_bit us g < 2 = bit_at-lt (get_or us (g / 64) 0) (g % 64) in
         (omega arith, omega arith)
+
     left : (g : ℕ) → g < cap → word_bit us g ≡ 1 → word_bit vs g ≢ 1 → word_bit ws g ≡ 1
     left g l e n =
         let s : word_bit vs g < 2 = bit_at-lt (get_or vs (g / 64) 0) (g % 64) in
         is g l ∙ (let m : min (word_bit us g) (1 - word_bit vs g) ≡ 1 = omega arith in m)
+
+-- the bound on goods of n words
+abbrev pub word_cap : ℕ → ℕ
+word_cap n = min (64 * n) 65536
+
+pub word_cap_fits : (n : ℕ) → word_cap n ≤ 65536
+word_cap_fits n = omega arith

@@ -2,9 +2,15 @@
 //! and a bit set that implement it, and the order of bundles.
 #![tactic(auto)]
 
+pub mod laws;
 pub mod list_set;
 pub mod set;
+pub mod word_set;
 pub mod worked;
 
 pub use list_set::ListSet;
 pub use set::GoodsSet;
+pub use word_set::WordSet;
+
+#[cfg(test)]
+mod tests;

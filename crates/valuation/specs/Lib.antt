@@ -3,6 +3,7 @@ pub mod Packings
 pub mod Tables
 pub mod Orders
 pub mod Auctions
+pub mod AtomLemmas
 pub mod Examples
 pub mod Permutations
 pub mod XorLemmas

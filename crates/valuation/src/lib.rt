@@ -2,7 +2,16 @@
 #![tactic(auto)]
 
 mod atom;
+mod budget;
+mod laws;
+mod packing;
+mod search;
 mod worked;
+mod xor;
 
 pub use atom::Atom;
+pub use budget::Budget;
+pub use laws::{best_packing, packings_counted};
+pub use packing::{Packing, ValueFault, or_value};
 pub use worked::{or_worked, orders_worked, packings_worked, tables_worked, xor_worked};
+pub use xor::xor_value;

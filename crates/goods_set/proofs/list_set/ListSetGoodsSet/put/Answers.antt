@@ -1,7 +1,5 @@
-use Rattle.std.proofs.Common.{◌≡◌, ◌<◌, ◌^◌, ◌∙◌, List, ℕ, cond, is_ok, sym, subst, ap}
-use Rattle.std.specs.List.{insert}
-use Rattle.goods_set.specs.Bundles.{IsBundle, with_good}
-use Rattle.goods_set.specs.Sizes.{IsBundle-with_good, with_good_there}
+use Rattle.std.proofs.Common.{is_ok, sym}
+use Rattle.goods_set.specs.Sizes.{with_good_there}
 use Rattle.goods_set.proofs.Places.{kept_bundle}
 use Rattle.goods_set.proofs.list_set.ListSetGoodsSet.put.Goals as goal
 

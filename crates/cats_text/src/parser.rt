@@ -1,0 +1,354 @@
+//! From words to bids: what is due, and what has come.
+
+ghost use Rattle.std.specs.Prelude.{◌≡◌, ◌<◌, length, IfOk, OnOk, OnErr};
+ghost use Rattle.cats_text.specs.Files.{IsPlainFile, plain_bid};
+ghost use Rattle.cats_text.specs.Views.{plain_file};
+ghost use Rattle.cats_text.specs.Progress.{progress, plain_slots, Gives, Answers, AsksOnBidLines};
+ghost use Rattle.cats_text.specs.Parsing.{start, keyword_read, header_number_read, number_read, price_parts, price_read, good_read, good_or_end_read, word_read, put_slot, bid_read, header_line_read, line_read, is_due, file_from};
+
+use crate::bid::{Bid, BidFile};
+use crate::fault::Kind;
+use crate::goods::GoodList;
+use crate::limits::{MAX_BIDS, MAX_DUMMY, MAX_GOODS, MAX_PRICE};
+use crate::word::{Keyword, Word};
+use std::alloc::{AllocError, AllocFailed, Global};
+
+/// Why parsing stops.
+#[derive(Clone, Copy, PartialEq, Eq, Debug)]
+pub enum Stop {
+    /// A fault of the text.
+    Fault(Kind),
+    /// Memory was refused.
+    Memory,
+}
+
+impl From<AllocError> for Stop {
+    ghost use Rattle.std.specs.Prelude.{◌≡◌};
+    ghost use Rattle.cats_text.specs.declared.parser.Stop.TheVariants.{Memory};
+
+    ghost from_gives = { λ _ stop. stop ≡ Memory };
+
+    fn from(_refused: AllocError) -> Stop {
+        Stop::Memory
+    }
+}
+
+impl<T: Drop> From<AllocFailed<T>> for Stop {
+    ghost use Rattle.std.specs.Prelude.{◌≡◌};
+    ghost use Rattle.cats_text.specs.declared.parser.Stop.TheVariants.{Memory};
+
+    ghost from_gives = { λ _ stop. stop ≡ Memory };
+
+    fn from(_refused: AllocFailed<T>) -> Stop {
+        Stop::Memory
+    }
+}
+
+/// Which significant line it is.
+#[derive(Clone, Copy, PartialEq, Eq, Debug)]
+pub enum Stage {
+    Goods,
+    Bids,
+    Dummy,
+    Bid,
+}
+
+/// Which word of the line is due.
+#[derive(Clone, Copy, PartialEq, Eq, Debug)]
+pub enum Place {
+    First,
+    Second,
+    Later,
+    /// Behind the `#` of a bid.
+    Ended,
+}
+
+/// What the header lines said.
+#[derive(Clone, Copy, PartialEq, Eq, Debug)]
+pub struct Header {
+    pub goods: u16,
+    pub bids: u32,
+    pub dummy: u32,
+}
+
+/// The bid whose line is being read, without its goods.
+#[derive(Clone, Copy, PartialEq, Eq, Debug)]
+pub struct Draft {
+    pub number: u32,
+    pub price: u64,
+    pub dummy: Option<u32>,
+}
+
+/// The lines so far: the header, the bids by number, and of the line that has begun what its words said.
+#[derive(Drop)]
+pub struct Parser {
+    alloc: Global,
+    pub stage: Stage,
+    pub place: Place,
+    pub header: Header,
+    /// How many bid lines are still due.
+    pub due: u32,
+    /// At each number the bid that has come, up to the greatest number that has.
+    pub slots: Vec<Option<Bid>>,
+    pub draft: Draft,
+    pub goods: GoodList,
+}
+
+/// How many millionths a whole unit has.
+const MILLIONTHS: u64 = 1_000_000;
+
+/// A price of so many whole units and millionths, and perhaps finer places.
+fn price_of(whole: u64, millionths: u64, fine: bool) -> Result<u64, Stop>
+    ensures { Answers result (price_parts whole millionths fine) }
+{
+    let greatest = MAX_PRICE / MILLIONTHS;
+    if whole > greatest || (whole == greatest && (fine || millionths > 0)) {
+        return Err(Stop::Fault(Kind::TooLarge));
+    }
+    if fine {
+        return Err(Stop::Fault(Kind::TooFine));
+    }
+    Ok((whole * MILLIONTHS).saturating_add(millionths))
+}
+
+/// Puts a bid at its number.
+fn put(slots: &mut Vec<Option<Bid>>, number: usize, bid: Bid) -> Result<(), AllocError>
+    ensures { OnOk result (plain_slots slots.new.items ≡ put_slot (plain_slots slots.old.items) number (plain_bid bid)) }
+{
+    while slots.len() <= number {
+        slots.push(None)?;
+    }
+    slots[number] = Some(bid);
+    Ok(())
+}
+
+impl Parser {
+    /// Before the first line.
+    pub fn new(alloc: Global) -> Parser
+        ensures { progress result ≡ start }
+    {
+        Parser {
+            alloc,
+            stage: Stage::Goods,
+            place: Place::First,
+            header: Header {
+                goods: 0,
+                bids: 0,
+                dummy: 0,
+            },
+            due: 0,
+            slots: Vec::new(alloc),
+            draft: Draft {
+                number: 0,
+                price: 0,
+                dummy: None,
+            },
+            goods: GoodList::new(alloc),
+        }
+    }
+
+    fn keyword(&mut self, keyword: Keyword, word: Word) -> Result<(), Stop>
+        ensures reads { Gives (progress self.new) result (keyword_read (progress self.old) keyword word) }
+        ensures memory { AsksOnBidLines (progress self.old) result }
+        ensures stage { self.new.stage ≡ self.old.stage }
+    {
+        if word == Word::Keyword(keyword, keyword.text().len()) {
+            self.place = Place::Second;
+            Ok(())
+        } else {
+            Err(Stop::Fault(Kind::Header))
+        }
+    }
+
+    fn header_number(&mut self, word: Word) -> Result<(), Stop>
+        ensures reads { Gives (progress self.new) result (header_number_read (progress self.old) word) }
+        ensures memory { AsksOnBidLines (progress self.old) result }
+        ensures stage { self.new.stage ≡ self.old.stage }
+    {
+        let Word::Number(value) = word else {
+            return Err(Stop::Fault(Kind::NotANumber));
+        };
+        match self.stage {
+            Stage::Goods if value <= u64::from(MAX_GOODS) => self.header.goods = value as u16,
+            Stage::Bids if value <= u64::from(MAX_BIDS) => {
+                self.header.bids = value as u32;
+                self.due = value as u32;
+            }
+            Stage::Dummy if value <= u64::from(MAX_DUMMY) => self.header.dummy = value as u32,
+            Stage::Bid => return Err(Stop::Fault(Kind::Header)),
+            _ => return Err(Stop::Fault(Kind::TooLarge)),
+        }
+        self.place = Place::Later;
+        Ok(())
+    }
+
+    fn number(&mut self, word: Word) -> Result<(), Stop>
+        ensures reads { Gives (progress self.new) result (number_read (progress self.old) word) }
+        ensures memory { AsksOnBidLines (progress self.old) result }
+        ensures stage { self.new.stage ≡ self.old.stage }
+    {
+        let Word::Number(value) = word else {
+            return Err(Stop::Fault(Kind::NotANumber));
+        };
+        if self.due == 0 {
+            return Err(Stop::Fault(Kind::ExtraBid));
+        }
+        if value >= u64::from(self.header.bids) {
+            return Err(Stop::Fault(Kind::BidNumber));
+        }
+        if let Some(Some(_)) = self.slots.get(value as usize) {
+            return Err(Stop::Fault(Kind::RepeatedNumber));
+        }
+        self.draft = Draft {
+            number: value as u32,
+            price: 0,
+            dummy: None,
+        };
+        self.place = Place::Second;
+        Ok(())
+    }
+
+    fn price(&mut self, word: Word) -> Result<(), Stop>
+        ensures reads { Gives (progress self.new) result (price_read (progress self.old) word) }
+        ensures memory { AsksOnBidLines (progress self.old) result }
+        ensures stage { self.new.stage ≡ self.old.stage }
+    {
+        self.draft.price = match word {
+            Word::Number(value) => price_of(value, 0, false)?,
+            Word::Decimal(decimal) if decimal.places > 0 => {
+                price_of(decimal.whole, decimal.millionths, decimal.fine)?
+            }
+            _ => return Err(Stop::Fault(Kind::NotANumber)),
+        };
+        self.place = Place::Later;
+        Ok(())
+    }
+
+    fn good(&mut self, value: u64) -> Result<(), Stop>
+        ensures reads { Gives (progress self.new) result (good_read (progress self.old) value) }
+        ensures memory { (progress self.old).stage ≡ Stage.Bid → AsksOnBidLines (progress self.old) result }
+        ensures stage { self.new.stage ≡ self.old.stage }
+    {
+        let goods = u64::from(self.header.goods);
+        if value >= goods + u64::from(self.header.dummy) {
+            return Err(Stop::Fault(Kind::GoodRange));
+        }
+        if value < goods {
+            let good = value as u16;
+            if self.goods.has(good) {
+                return Err(Stop::Fault(Kind::RepeatedGood));
+            }
+            self.goods.push(good)?;
+            return Ok(());
+        }
+        let dummy = (value - goods) as u32;
+        match self.draft.dummy {
+            None => {
+                self.draft.dummy = Some(dummy);
+                Ok(())
+            }
+            Some(before) if before == dummy => Err(Stop::Fault(Kind::RepeatedGood)),
+            Some(_) => Err(Stop::Fault(Kind::TwoDummies)),
+        }
+    }
+
+    fn good_or_end(&mut self, word: Word) -> Result<(), Stop>
+        ensures reads { Gives (progress self.new) result (good_or_end_read (progress self.old) word) }
+        ensures memory { (progress self.old).stage ≡ Stage.Bid → AsksOnBidLines (progress self.old) result }
+        ensures stage { self.new.stage ≡ self.old.stage }
+    {
+        match word {
+            Word::Number(value) => self.good(value),
+            Word::End if self.goods.is_empty() => Err(Stop::Fault(Kind::EmptyBundle)),
+            Word::End => {
+                self.place = Place::Ended;
+                Ok(())
+            }
+            _ => Err(Stop::Fault(Kind::NotANumber)),
+        }
+    }
+
+    /// The next word of a line.
+    pub fn word(&mut self, word: Word) -> Result<(), Stop>
+        ensures reads { Gives (progress self.new) result (word_read (progress self.old) word) }
+        ensures memory { AsksOnBidLines (progress self.old) result }
+        ensures stage { self.new.stage ≡ self.old.stage }
+    {
+        match (self.place, self.stage) {
+            (Place::First, Stage::Goods) => self.keyword(Keyword::Goods, word),
+            (Place::First, Stage::Bids) => self.keyword(Keyword::Bids, word),
+            (Place::First, Stage::Dummy) => self.keyword(Keyword::Dummy, word),
+            (Place::First, Stage::Bid) => self.number(word),
+            (Place::Second, Stage::Bid) => self.price(word),
+            (Place::Second, _) => self.header_number(word),
+            (Place::Later, Stage::Bid) => self.good_or_end(word),
+            (Place::Later, _) => Err(Stop::Fault(Kind::Header)),
+            (Place::Ended, _) => Err(Stop::Fault(Kind::AfterEnd)),
+        }
+    }
+
+    fn bid(&mut self) -> Result<(), Stop>
+        ensures reads { Gives (progress self.new) result (bid_read (progress self.old)) }
+        ensures memory { (progress self.old).stage ≡ Stage.Bid → AsksOnBidLines (progress self.old) result }
+    {
+        if self.place != Place::Ended {
+            return Err(Stop::Fault(Kind::NoEnd));
+        }
+        let bid = Bid {
+            price: self.draft.price,
+            goods: self.goods.take_rising(self.alloc)?,
+            dummy: self.draft.dummy,
+        };
+        put(&mut self.slots, self.draft.number as usize, bid)?;
+        self.due = self.due.saturating_sub(1);
+        self.place = Place::First;
+        Ok(())
+    }
+
+    fn header_line(&mut self, next: Stage) -> Result<(), Stop>
+        ensures reads { Gives (progress self.new) result (header_line_read (progress self.old) next) }
+        ensures memory { AsksOnBidLines (progress self.old) result }
+    {
+        if self.place != Place::Later {
+            return Err(Stop::Fault(Kind::Header));
+        }
+        self.stage = next;
+        self.place = Place::First;
+        Ok(())
+    }
+
+    /// The end of a line that has words.
+    pub fn line(&mut self) -> Result<(), Stop>
+        ensures reads { Gives (progress self.new) result (line_read (progress self.old)) }
+        ensures memory { AsksOnBidLines (progress self.old) result }
+    {
+        match self.stage {
+            Stage::Goods => self.header_line(Stage::Bids),
+            Stage::Bids => self.header_line(Stage::Dummy),
+            Stage::Dummy => self.header_line(Stage::Bid),
+            Stage::Bid => self.bid(),
+        }
+    }
+
+    /// Whether a line is still due.
+    pub fn is_due(&self) -> bool
+        ensures { result ≡ is_due (progress self.now) }
+    {
+        self.stage != Stage::Bid || self.due > 0
+    }
+
+    /// The file, where no line is due.
+    pub fn file(self) -> Result<BidFile, AllocError>
+        requires { IsPlainFile (file_from (progress self)) }
+        ensures file { IfOk result (λ f. plain_file f ≡ file_from (progress self)) }
+        ensures memory { OnErr result (0 < length (progress self).slots) }
+    {
+        let mut bids = Vec::new(self.alloc);
+        for slot in self.slots {
+            if let Some(bid) = slot {
+                bids.push(bid)?;
+            }
+        }
+        Ok(BidFile::new(self.header.goods, self.header.dummy, bids))
+    }
+}

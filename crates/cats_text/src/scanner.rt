@@ -1,0 +1,216 @@
+//! From bytes to words and line ends.
+
+ghost use Rattle.std.specs.Prelude.{◌≡◌, ◌+◌, ◌-◌, ◌<◌, ◌≤◌, ◌^◌, length, false, OnOk, IfOk};
+ghost use Rattle.cats_text.specs.Files.{IsPlainFile};
+ghost use Rattle.cats_text.specs.Parsing.{file_from};
+ghost use Rattle.cats_text.specs.Returns.{settled, waits, carried, return_byte};
+ghost use Rattle.cats_text.specs.Scanning.{halt_of, letter_mode, state, first_state, blank_step, words_step, byte_step, run, end_of, Steps, AsksHere, Asks, Finishes, AsksAtEnd, IsInLine};
+
+use crate::bid::BidFile;
+use crate::fault::{Kind, ReadFault};
+use crate::parser::{Parser, Stop};
+use crate::word::Word;
+use std::alloc::Global;
+
+/// Why scanning stops.
+#[derive(Clone, Copy, PartialEq, Eq, Debug)]
+pub enum Halt {
+    /// The text has this fault.
+    Fault(ReadFault),
+    /// Memory was refused.
+    Memory,
+}
+
+impl Halt {
+    /// The halt at a line that stopped the parser.
+    fn at(line: u64, stop: Stop) -> Halt
+        ensures { result ≡ halt_of line stop }
+    {
+        match stop {
+            Stop::Fault(kind) => Halt::Fault(ReadFault { line, kind }),
+            Stop::Memory => Halt::Memory,
+        }
+    }
+}
+
+/// Where in a line the scanner is.
+#[derive(Clone, Copy, PartialEq, Eq, Debug)]
+pub enum Mode {
+    /// Before its first byte.
+    Start,
+    /// Behind blanks alone.
+    Blank,
+    /// In a comment.
+    Comment,
+    /// Behind a word.
+    Between,
+    /// In a word.
+    Inside(Word),
+}
+
+impl Mode {
+    /// Behind one more byte that is no blank.
+    fn with(self, byte: u8) -> Mode
+        ensures { result ≡ letter_mode self byte }
+    {
+        match self {
+            Mode::Comment => Mode::Comment,
+            Mode::Inside(word) => Mode::Inside(word.with(byte)),
+            Mode::Start | Mode::Blank if byte == b'%' => Mode::Comment,
+            _ => Mode::Inside(Word::new(byte)),
+        }
+    }
+}
+
+/// A CR before this byte: a blank where the line ends there, and else a byte of a word.
+fn carriage_return(next: u8) -> u8
+    ensures { result ≡ return_byte next }
+{
+    if next == b'\n' { b' ' } else { b'\r' }
+}
+
+/// The text so far. A CR waits until the byte after it says whether a line ends there.
+#[derive(Drop)]
+pub struct Scanner {
+    pub waiting: bool,
+    pub mode: Mode,
+    /// The number of the line, counted from 1.
+    pub line: u64,
+    pub parser: Parser,
+}
+
+impl Scanner {
+    /// Before the first byte.
+    pub fn new(alloc: Global) -> Scanner
+        ensures { state result ≡ first_state }
+    {
+        Scanner {
+            waiting: false,
+            mode: Mode::Start,
+            line: 1,
+            parser: Parser::new(alloc),
+        }
+    }
+
+    /// A blank, or the end of a line, after which no word goes on.
+    fn end_word(&mut self) -> Result<(), Halt>
+        ensures steps { Steps (state self.new) result (blank_step (state self.old)) }
+        ensures memory { AsksHere (state self.old) result }
+        ensures begun { IsInLine self.new.mode → IsInLine self.old.mode }
+        ensures stage { self.new.parser.stage ≡ self.old.parser.stage }
+        ensures line { self.new.line ≡ self.old.line }
+        ensures waiting { self.new.waiting ≡ self.old.waiting }
+    {
+        match self.mode {
+            Mode::Inside(word) => {
+                if let Err(stop) = self.parser.word(word) {
+                    return Err(Halt::at(self.line, stop));
+                }
+                self.mode = Mode::Between;
+            }
+            Mode::Start => self.mode = Mode::Blank,
+            _ => {}
+        }
+        Ok(())
+    }
+
+    /// The end of the words of a line.
+    fn end_words(&mut self) -> Result<(), Halt>
+        ensures steps { Steps (state self.new) result (words_step (state self.old)) }
+        ensures memory { AsksHere (state self.old) result }
+        ensures line { self.new.line ≡ self.old.line }
+        ensures waiting { self.new.waiting ≡ self.old.waiting }
+    {
+        if let Mode::Between = self.mode {
+            if let Err(stop) = self.parser.line() {
+                return Err(Halt::at(self.line, stop));
+            }
+        }
+        Ok(())
+    }
+
+    /// The next byte, no CR that ends a line.
+    fn byte(&mut self, byte: u8) -> Result<(), Halt>
+        requires { self.old.line < 2 ^ 64 - 1 }
+        ensures steps { Steps (state self.new) result (byte_step (state self.old) byte) }
+        ensures memory { AsksHere (state self.old) result }
+        ensures line { self.new.line ≤ self.old.line + 1 }
+        ensures waiting { self.new.waiting ≡ self.old.waiting }
+    {
+        match byte {
+            b'\n' => {
+                self.end_word()?;
+                self.end_words()?;
+                self.mode = Mode::Start;
+                self.line += 1;
+                Ok(())
+            }
+            b' ' | b'\t' => self.end_word(),
+            _ => {
+                self.mode = self.mode.with(byte);
+                Ok(())
+            }
+        }
+    }
+
+    /// The next bytes, behind no CR that waits.
+    fn bytes(&mut self, bytes: &[u8]) -> Result<(), Halt>
+        requires waits { self.old.waiting ≡ false }
+        requires room { self.old.line + length bytes.now < 2 ^ 64 }
+        ensures steps { Steps (state self.new) result (run (state self.old) (settled bytes.now)) }
+        ensures memory { Asks (state self.old) (settled bytes.now) result }
+        ensures waiting { OnOk result (self.new.waiting ≡ waits bytes.now) }
+        ensures line { self.new.line ≤ self.old.line + length bytes.now }
+    {
+        for (place, byte) in bytes.iter().enumerate() {
+            if *byte != b'\r' {
+                self.byte(*byte)?;
+            } else if place + 1 == bytes.len() {
+                self.waiting = true;
+            } else {
+                self.byte(carriage_return(bytes[place + 1]))?;
+            }
+        }
+        Ok(())
+    }
+
+    /// The next bytes.
+    pub fn take(&mut self, bytes: &[u8]) -> Result<(), Halt>
+        requires { self.old.line + length bytes.now < 2 ^ 64 - 1 }
+        ensures steps { Steps (state self.new) result (run (state self.old) (settled (carried self.old.waiting bytes.now))) }
+        ensures memory { Asks (state self.old) (settled (carried self.old.waiting bytes.now)) result }
+        ensures waiting { OnOk result (self.new.waiting ≡ waits (carried self.old.waiting bytes.now)) }
+        ensures line { self.new.line ≤ self.old.line + length bytes.now + 1 }
+    {
+        if self.waiting {
+            let Some(next) = bytes.first() else {
+                return Ok(());
+            };
+            self.waiting = false;
+            self.byte(carriage_return(*next))?;
+        }
+        self.bytes(bytes)
+    }
+
+    /// The end of the input, and the file.
+    pub fn finish(mut self) -> Result<BidFile, Halt>
+        requires line { self.line < 2 ^ 64 - 2 }
+        requires file { IfOk (end_of self.waiting (state self)) (λ t. IsPlainFile (file_from t.progress)) }
+        ensures steps { Finishes result (end_of self.waiting (state self)) }
+        ensures memory { AsksAtEnd self.waiting (state self) result }
+    {
+        if self.waiting {
+            self.byte(b' ')?;
+        }
+        let lines = if self.mode == Mode::Start { self.line } else { self.line + 1 };
+        self.end_word()?;
+        self.end_words()?;
+        if self.parser.is_due() {
+            return Err(Halt::Fault(ReadFault { line: lines, kind: Kind::Missing }));
+        }
+        match self.parser.file() {
+            Ok(file) => Ok(file),
+            Err(_) => Err(Halt::Memory),
+        }
+    }
+}

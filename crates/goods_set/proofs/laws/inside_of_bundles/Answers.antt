@@ -1,0 +1,6 @@
+use Rattle.goods_set.specs.Members.{inside_refl, inside_trans}
+use Rattle.goods_set.specs.Laws.{inside_antisymm_law, inside_ordered_law}
+use Rattle.goods_set.proofs.laws.inside_of_bundles.Goals as goal
+
+pub returns : goal.returns
+returns c = record { reflexive = inside_refl; transitive = inside_trans; antisymmetric = inside_antisymm_law; ordered = inside_ordered_law }

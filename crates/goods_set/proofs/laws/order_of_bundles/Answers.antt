@@ -1,0 +1,5 @@
+use Rattle.goods_set.specs.Orders.{bundle_cmp_total, bundle_cmp_equal}
+use Rattle.goods_set.proofs.laws.order_of_bundles.Goals as goal
+
+pub returns : goal.returns
+returns c = record { total = bundle_cmp_total; equal = bundle_cmp_equal }

@@ -1,0 +1,17 @@
+use Rattle.std.proofs.Common.{◌≡◌, ◌∙◌, ◌/◌, ◌<◌, ◌≤◌, sym, arith}
+use Rattle.std.proofs.lemmas.Bool.{le-ltb}
+use Rattle.goods_set.specs.Words.{word_cap, word_goods_past}
+use Rattle.goods_set.proofs.Bits.{tested_shifted}
+use Rattle.goods_set.proofs.word_set.WordSetGoodsSet.has.Goals as goal
+
+pub returns-then-place : goal.returns-then-place
+returns-then-place g c =
+    let p : c.from-place.result ≡ c.args.good / 64 = c.from-place.ensures in
+    let l : c.args.good < word_cap g.row.N = omega (arith, c.ranges.good.fits) in
+    tested_shifted (word_cap g.row.N) c.args.self.now.words c.args.good c.from-place.result p l
+
+pub returns-else-place : goal.returns-else-place
+returns-else-place g c =
+    let p : c.from-place.result ≡ c.args.good / 64 = c.from-place.ensures in
+    let n : g.row.N ≤ c.from-place.result = c.if-place.false in
+    le-ltb c.from-place.result g.row.N n ∙ sym (word_goods_past (word_cap g.row.N) c.args.self.now.words c.args.good (omega arith))

@@ -1,0 +1,6 @@
+use Rattle.std.proofs.Common.{◌≡◌, ◌*◌, length}
+use Rattle.goods_set.specs.Words.{word_goods}
+use Rattle.goods_set.proofs.word_set.scans.count_goods.Given as goal
+
+abbrev pub invariant-loop-word : goal.invariant-loop-word
+invariant-loop-word l = l.count ≡ length (word_goods (64 * l.word-index) l.words)

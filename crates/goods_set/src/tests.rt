@@ -1,0 +1,140 @@
+//! What is seen of sets of both kinds, at worked examples. Each call is made with ample memory, so
+//! that it has to succeed.
+use crate::{GoodsSet, ListSet, WordSet};
+use std::alloc::Global;
+use std::cmp::Ordering;
+use std::process::Abort;
+use std::test::Fail;
+
+fn set_of<S: GoodsSet>(rt: &impl Abort, alloc: Global, goods: &[u16]) -> Result<S, Fail> {
+    let mut set = S::empty(alloc)?;
+    for good in goods {
+        assert!(rt; u32::from(*good) < S::cap());
+        assert!(rt; set.put(*good)?, "{good} is new");
+    }
+    Ok(set)
+}
+
+// The goods, as `next_from` gives them one after another.
+fn goods_of<S: GoodsSet>(alloc: Global, set: &S) -> Result<Vec<u16>, Fail> {
+    let mut goods = Vec::new(alloc);
+    let mut from = 0;
+    for _ in 0..set.size() {
+        if let Some(good) = set.next_from(from) {
+            goods.push(good)?;
+            from = u32::from(good) + 1;
+        }
+    }
+    Ok(goods)
+}
+
+fn put_and_ask<S: GoodsSet>(rt: &impl Abort, alloc: Global) -> Result<(), Fail> {
+    let mut set = S::empty(alloc)?;
+    assert_eq!(rt; set.size(), 0);
+    assert!(rt; S::cap() > 9);
+    assert!(rt; set.put(5)?);
+    assert!(rt; set.put(3)?);
+    assert!(rt; !set.put(5)?);
+    assert_eq!(rt; set.size(), 2);
+    assert!(rt; set.has(3));
+    assert!(rt; !set.has(4));
+    assert_eq!(rt; set.next_from(4), Some(5));
+    assert_eq!(rt; set.next_from(6), None);
+    let nine = set_of::<S>(rt, alloc, &[9])?;
+    let other = set_of::<S>(rt, alloc, &[3, 6])?;
+    assert_eq!(rt; set.order(&nine), Ordering::Greater);
+    assert_eq!(rt; set.order(&other), Ordering::Less);
+    let copy = set.copy()?;
+    assert_eq!(rt; copy.order(&set), Ordering::Equal);
+    assert_eq!(rt; goods_of(alloc, &copy)?.as_slice(), [3, 5].as_slice());
+    Ok(())
+}
+
+fn compare_sets<S: GoodsSet>(rt: &impl Abort, alloc: Global) -> Result<(), Fail> {
+    let none = set_of::<S>(rt, alloc, &[])?;
+    let two = set_of::<S>(rt, alloc, &[2])?;
+    let pair = set_of::<S>(rt, alloc, &[1, 3])?;
+    let triple = set_of::<S>(rt, alloc, &[1, 2, 3])?;
+    let first_two = set_of::<S>(rt, alloc, &[1, 2])?;
+    assert!(rt; none.is_inside(&two));
+    assert!(rt; none.is_apart(&none));
+    assert!(rt; pair.is_inside(&triple));
+    assert!(rt; !pair.is_inside(&first_two));
+    assert!(rt; pair.is_apart(&two));
+    assert!(rt; !pair.is_apart(&triple));
+    let mut odd = set_of::<S>(rt, alloc, &[1, 3, 5])?;
+    odd.take_out(&set_of::<S>(rt, alloc, &[3, 4])?);
+    assert_eq!(rt; goods_of(alloc, &odd)?.as_slice(), [1, 5].as_slice());
+    Ok(())
+}
+
+fn order_sets<S: GoodsSet>(rt: &impl Abort, alloc: Global) -> Result<(), Fail> {
+    let none = set_of::<S>(rt, alloc, &[])?;
+    let zero = set_of::<S>(rt, alloc, &[0])?;
+    let outer = set_of::<S>(rt, alloc, &[0, 9])?;
+    let inner = set_of::<S>(rt, alloc, &[1, 2])?;
+    let four = set_of::<S>(rt, alloc, &[4])?;
+    assert_eq!(rt; none.order(&zero), Ordering::Less);
+    assert_eq!(rt; outer.order(&inner), Ordering::Less);
+    assert_eq!(rt; four.order(&set_of::<S>(rt, alloc, &[4])?), Ordering::Equal);
+    Ok(())
+}
+
+#[test]
+fn lists_hold_goods(rt: HostRuntime) -> Result<(), Fail> {
+    put_and_ask::<ListSet>(&rt, rt.alloc())?;
+    compare_sets::<ListSet>(&rt, rt.alloc())?;
+    order_sets::<ListSet>(&rt, rt.alloc())
+}
+
+#[test]
+fn words_hold_goods(rt: HostRuntime) -> Result<(), Fail> {
+    put_and_ask::<WordSet<16>>(&rt, rt.alloc())?;
+    compare_sets::<WordSet<16>>(&rt, rt.alloc())?;
+    order_sets::<WordSet<16>>(&rt, rt.alloc())
+}
+
+#[test]
+fn last_goods_of_each_type(rt: HostRuntime) -> Result<(), Fail> {
+    let alloc = rt.alloc();
+    let list = set_of::<ListSet>(&rt, alloc, &[65_535])?;
+    assert_eq!(rt; list.next_from(65_535), Some(65_535));
+    assert_eq!(rt; list.next_from(65_536), None);
+    let one_word = set_of::<WordSet<1>>(&rt, alloc, &[63])?;
+    assert_eq!(rt; one_word.next_from(63), Some(63));
+    assert_eq!(rt; one_word.next_from(64), None);
+    let most_words = set_of::<WordSet<1024>>(&rt, alloc, &[65_535])?;
+    assert_eq!(rt; most_words.next_from(65_535), Some(65_535));
+    assert_eq!(rt; most_words.next_from(65_536), None);
+    let caps = [
+        ListSet::cap(),
+        WordSet::<0>::cap(),
+        WordSet::<1>::cap(),
+        WordSet::<64>::cap(),
+        WordSet::<2000>::cap(),
+    ];
+    assert_eq!(rt; caps, [65_536, 0, 64, 4_096, 65_536]);
+    Ok(())
+}
+
+#[test]
+fn words_past_the_last_lanes_count(rt: HostRuntime) -> Result<(), Fail> {
+    let alloc = rt.alloc();
+    let mut both = set_of::<WordSet<17>>(&rt, alloc, &[3, 1_087])?;
+    let three = set_of::<WordSet<17>>(&rt, alloc, &[3])?;
+    let last = set_of::<WordSet<17>>(&rt, alloc, &[1_087])?;
+    assert!(rt; !both.is_inside(&three));
+    assert!(rt; !both.is_apart(&last));
+    both.take_out(&last);
+    assert_eq!(rt; goods_of(alloc, &both)?.as_slice(), [3].as_slice());
+    Ok(())
+}
+
+#[test]
+fn sixty_four_words(rt: HostRuntime) -> Result<(), Fail> {
+    let set = set_of::<WordSet<64>>(&rt, rt.alloc(), &[4_095, 0])?;
+    assert_eq!(rt; set.size(), 2);
+    assert_eq!(rt; set.next_from(1), Some(4_095));
+    assert_eq!(rt; set.next_from(4_096), None);
+    Ok(())
+}

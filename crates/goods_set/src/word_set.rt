@@ -1,0 +1,105 @@
+//! A set of goods as the bits of words.
+mod lanes;
+mod scans;
+
+ghost use Rattle.std.specs.Prelude.{◌≡◌, ℕ, ◌*◌, ◌<◌, ◌≤◌, min, [], not, length, take, IsOk, IfOk, OnErr};
+ghost use Rattle.goods_set.specs.Bundles.{has_good, with_good};
+ghost use Rattle.goods_set.specs.Words.{word_goods, word_goods_bundle, word_cap, word_cap_fits};
+
+use crate::set::GoodsSet;
+use std::alloc::{AllocError, Global};
+use std::cmp::Ordering;
+
+/// A set of goods below the lesser of 64 times `N` and 65,536: a good is in it where its bit of the
+/// words is set. None of its calls takes memory.
+#[derive(Drop)]
+pub struct WordSet<const N: usize> {
+    words: [u64; N],
+}
+
+// Goods are below 65,536, so that further words hold none.
+const MAX_WORDS: usize = 1024;
+
+impl<const N: usize> WordSet<N> {
+    // The words that may hold goods.
+    fn used(&self) -> &[u64]
+        ensures words { length result.now ≡ min N 1024 }
+        ensures goods { word_goods (64 * length result.now) result.now ≡ word_goods (word_cap N) self.now.words }
+    {
+        &self.words[..N.min(MAX_WORDS)]
+    }
+}
+
+impl<const N: usize> GoodsSet for WordSet<N> {
+    ghost CAP = { word_cap N };
+
+    ghost goods = { λ s. word_goods (word_cap N) s.words };
+
+    fn cap() -> u32 {
+        if N < MAX_WORDS { 64 * N as u32 } else { 65_536 }
+    }
+
+    fn empty(_alloc: Global) -> Result<WordSet<N>, AllocError>
+        ensures goods { IfOk result (λ s. word_goods (word_cap N) s.words ≡ []) }
+        ensures ok { IsOk result }
+    {
+        Ok(WordSet { words: [0; N] })
+    }
+
+    fn put(&mut self, good: u16) -> Result<bool, AllocError>
+        requires { good < word_cap N }
+        ensures added { IfOk result (λ new. new ≡ not (has_good (word_goods (word_cap N) self.old.words) good)) }
+        ensures goods { IfOk result (λ _. word_goods (word_cap N) self.new.words ≡ with_good good (word_goods (word_cap N) self.old.words)) }
+        ensures refused { OnErr result (word_goods (word_cap N) self.new.words ≡ word_goods (word_cap N) self.old.words) }
+        ensures ok { IsOk result }
+    {
+        let place = usize::from(good / 64);
+        let bit = 1u64 << (good % 64);
+        let new = self.words[place] & bit == 0;
+        self.words[place] |= bit;
+        Ok(new)
+    }
+
+    fn has(&self, good: u16) -> bool {
+        let place = usize::from(good / 64);
+        place < N && (self.words[place] >> (good % 64)) & 1 == 1
+    }
+
+    fn size(&self) -> usize {
+        scans::count_goods(self.used())
+    }
+
+    fn next_from(&self, from: u32) -> Option<u16> {
+        scans::next_good(self.used(), from)
+    }
+
+    fn is_inside(&self, other: &WordSet<N>) -> bool {
+        lanes::all_inside(self.used(), other.used())
+    }
+
+    fn is_apart(&self, other: &WordSet<N>) -> bool {
+        lanes::all_apart(self.used(), other.used())
+    }
+
+    fn take_out(&mut self, other: &WordSet<N>) {
+        lanes::remove_all(&mut self.words, &other.words);
+    }
+
+    fn order(&self, other: &WordSet<N>) -> Ordering {
+        match self.size().cmp(&other.size()) {
+            Ordering::Equal => scans::order_of_one_size(self.used(), other.used()),
+            unequal => unequal,
+        }
+    }
+
+    fn copy(&self) -> Result<WordSet<N>, AllocError>
+        ensures goods { IfOk result (λ s. word_goods (word_cap N) s.words ≡ word_goods (word_cap N) self.now.words) }
+        ensures ok { IsOk result }
+    {
+        Ok(WordSet { words: self.words })
+    }
+
+    ghost is_bundle = { λ s. word_goods_bundle (word_cap N) s.words };
+
+    ghost cap_fits = { word_cap_fits N };
+}

@@ -1,0 +1,63 @@
+//! What goes through the words of a set from the first: how many goods they hold, the next good, and
+//! which of two comes first.
+ghost use Rattle.std.specs.Prelude.{◌≡◌, ◌*◌, ◌≤◌, length};
+ghost use Rattle.std.specs.Ordering.{nat_cmp};
+ghost use Rattle.std.specs.Cmp.Lexicographic.{slice_cmp};
+ghost use Rattle.goods_set.specs.Bundles.{good_from};
+ghost use Rattle.goods_set.specs.Words.{word_goods};
+
+use std::cmp::Ordering;
+
+/// How many goods the words hold.
+pub(crate) fn count_goods(words: &[u64]) -> usize
+    requires { length words.now ≤ 1024 }
+    ensures { result ≡ length (word_goods (64 * length words.now) words.now) }
+{
+    let mut count = 0;
+    for word in words {
+        count += word.count_ones() as usize;
+    }
+    count
+}
+
+/// The least good that is at least `from`.
+pub(crate) fn next_good(words: &[u64], from: u32) -> Option<u16>
+    requires { length words.now ≤ 1024 }
+    ensures { result ≡ good_from (word_goods (64 * length words.now) words.now) from }
+{
+    let mut place = (from / 64) as usize;
+    if place >= words.len() {
+        return None;
+    }
+    // The goods of the first word that are below `from` are left out.
+    let mut rest = words[place] & (u64::MAX << (from % 64));
+    while rest == 0 {
+        place += 1;
+        if place >= words.len() {
+            return None;
+        }
+        rest = words[place];
+    }
+    Some((64 * place) as u16 + rest.trailing_zeros() as u16)
+}
+
+/// The lexicographic order of two bundles of one size: the one with the least good that they do not
+/// share comes first.
+pub(crate) fn order_of_one_size(a: &[u64], b: &[u64]) -> Ordering
+    requires same_words { length a.now ≡ length b.now }
+    requires same_size { length (word_goods (64 * length a.now) a.now) ≡ length (word_goods (64 * length a.now) b.now) }
+    ensures { result ≡ slice_cmp nat_cmp (word_goods (64 * length a.now) a.now) (word_goods (64 * length a.now) b.now) }
+{
+    for k in 0..a.len() {
+        let unshared = a[k] ^ b[k];
+        if unshared != 0 {
+            let first = unshared.trailing_zeros();
+            return if (a[k] >> first) & 1 == 1 {
+                Ordering::Less
+            } else {
+                Ordering::Greater
+            };
+        }
+    }
+    Ordering::Equal
+}

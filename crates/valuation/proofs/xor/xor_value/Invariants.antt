@@ -1,0 +1,9 @@
+-- The atoms before i were looked at: see proofs/Scans.
+use Rattle.valuation.specs.Values.{atoms_of}
+use Rattle.valuation.proofs.Scans.{Scanned}
+use Rattle.valuation.proofs.xor.xor_value.Given as goal
+
+abbrev pub invariant-loop-i : goal.invariant-loop-i
+invariant-loop-i g l =
+    let goods = g.S.GoodsSet.goods in
+    Scanned (atoms_of goods l.atoms) (goods l.bundle) l.i l.value l.place
