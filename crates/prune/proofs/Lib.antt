@@ -1,2 +1,3 @@
 pub mod Pruning
 pub mod Offers
+pub mod Levels
