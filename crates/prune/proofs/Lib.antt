@@ -1,3 +1,4 @@
 pub mod Pruning
 pub mod Offers
 pub mod Levels
+pub mod CodeLevels
