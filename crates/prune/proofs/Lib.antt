@@ -1,4 +1,4 @@
 pub mod Pruning
-pub mod Offers
+pub mod BestBids
 pub mod Levels
 pub mod CodeLevels

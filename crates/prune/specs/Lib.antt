@@ -6,3 +6,4 @@ pub mod ValueLemmas
 pub mod PointLemmas
 pub mod KeptLemmas
 pub mod StepLemmas
+pub mod BestBids
