@@ -114,7 +114,7 @@ best_from_sorted bids sorted p up =
 -- ---- bids of the code, seen by the goods of their sets
 
 module _ {X : Type 0} (seen : X → Atom (List ℕ)) where
-  map-filter : (p : Atom (List ℕ) → Bool) (xs : List X) → map seen (filter (λ x. p (seen x)) xs) ≡ filter p (map seen xs)
+  pub map-filter : (p : Atom (List ℕ) → Bool) (xs : List X) → map seen (filter (λ x. p (seen x)) xs) ≡ filter p (map seen xs)
   map-filter p [] = refl
   map-filter p (x ∷ xs) =
       elim (p (seen x)) as (λ b. map seen (cond b (x ∷ filter (λ x. p (seen x)) xs) (filter (λ x. p (seen x)) xs)) ≡ cond b (seen x ∷ filter p (map seen xs)) (filter p (map seen xs))) [

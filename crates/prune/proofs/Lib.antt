@@ -2,3 +2,4 @@ pub mod Pruning
 pub mod BestBids
 pub mod Levels
 pub mod CodeLevels
+pub mod Listed

@@ -7,3 +7,4 @@ pub mod PointLemmas
 pub mod KeptLemmas
 pub mod StepLemmas
 pub mod BestBids
+pub mod Listings
