@@ -3,3 +3,4 @@ pub mod BestBids
 pub mod Levels
 pub mod CodeLevels
 pub mod Listed
+pub mod Results
