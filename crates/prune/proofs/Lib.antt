@@ -4,3 +4,4 @@ pub mod Levels
 pub mod CodeLevels
 pub mod Listed
 pub mod Results
+pub mod Turns

@@ -111,6 +111,7 @@ all_outbid value bids best b outbid =
       (zero_or_more a.price))
 
 pub record AreXorPoints (bids kept : List (Atom (List ℕ))) : Type 0 where
+  pub in_order : IsInOrder kept
   pub among : All (Contains bids) kept
   pub values : (bundle : List ℕ) → xor_value kept bundle ≡ xor_value bids bundle
   pub points : (goods : ℕ) → All (λ a. IsBundle goods a.bundle) bids → kept ≡ xor_points goods bids
@@ -122,6 +123,7 @@ xor_done bids best kept b k =
       (xor_value-outbid bids kept (All-weaker (Contains bids) (λ a. a.price ≤ xor_value bids a.bundle) (λ a c. xor_value-member bids a c a.bundle (inside_refl a.bundle)) kept among) bundle)
       (xor_value-outbid kept bids (all_outbid (xor_value kept) bids best b k.outbid) bundle) in
     record {
+      in_order = k.in_order;
       among = among;
       values = values;
       points = λ goods on.
@@ -130,6 +132,7 @@ xor_done bids best kept b k =
     }
 
 pub record AreOrPoints (bids kept : List (Atom (List ℕ))) : Type 0 where
+  pub in_order : IsInOrder kept
   pub among : All (Contains bids) kept
   pub values : (bundle : List ℕ) → or_value kept bundle ≡ or_value bids bundle
   pub points : (goods : ℕ) → All (IsOnBundle goods) bids → kept ≡ or_points goods bids
@@ -142,6 +145,7 @@ or_done bids best kept some b k =
       (or_value-outbid bids some kept (All-weaker (Contains bids) (λ a. a.price ≤ or_value bids a.bundle) (λ a c. or_value-price bids a c a.bundle (inside_refl a.bundle)) kept among) bundle)
       (or_value-outbid kept some_kept bids (all_outbid (or_value kept) bids best b k.outbid) bundle) in
     record {
+      in_order = k.in_order;
       among = among;
       values = values;
       points = λ goods on.

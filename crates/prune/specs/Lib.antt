@@ -8,3 +8,4 @@ pub mod KeptLemmas
 pub mod StepLemmas
 pub mod BestBids
 pub mod Listings
+pub mod Faults

@@ -30,6 +30,17 @@ impl<S: GoodsSet> Kept<S> {
         }
     }
 
+    /// The atoms.
+    pub fn into_atoms(self) -> Vec<Atom<S>>
+        ensures { result ≡ self.atoms }
+    {
+        let Kept {
+            atoms,
+            places_by_good: _,
+        } = self;
+        atoms
+    }
+
     /// Adds an atom, and lists it at the good of its bundle at which the fewest are listed.
     pub fn push(&mut self, alloc: Global, atom: Atom<S>) -> Result<(), AllocError>
         requires some { 0 < length (S.goods atom.bundle) }

@@ -2,11 +2,14 @@
 #![tactic(auto)]
 
 mod best;
+mod fault;
 mod kept;
+mod or;
 mod search;
 mod worked;
+mod xor;
 
-pub use best::keep_best_bids;
-pub use kept::Kept;
-pub use search::{SearchFault, is_reached};
+pub use fault::PruneFault;
+pub use or::prune_or;
 pub use worked::{or_points_worked, steps_worked, xor_points_worked};
+pub use xor::prune_xor;
