@@ -1,21 +1,23 @@
 -- The turns of a pruning's loop, by what the code knows of its variables.
-use Rattle.std.proofs.Common.{◌≡◌, ℕ, suc, ◌+◌, ◌<◌, ◌≤◌, Bool, true, false, ◌||◌, leb, ◌⊎◌, inl, inr, ⊎_elim, List, [], ◌∷◌, ◌++◌, length, map, max, refl, sym, ap, ap₂, ◌∙◌, subst, arith, append_assoc, append-nil, Bor}
+use Rattle.std.proofs.Common.{◌≡◌, ℕ, suc, ◌+◌, ◌<◌, ◌≤◌, Bool, true, false, ◌||◌, leb, ◌⊎◌, inl, inr, ⊎_elim, List, [], ◌∷◌, ◌++◌, length, map, max, refl, sym, ap, ap₂, ◌∙◌, subst, arith, append_assoc, append-nil, Bor, ltb, None}
 use Rattle.std.specs.Prelude.{All, Contains}
 use Rattle.std.specs.List.{filter, list_any}
-use Rattle.std.proofs.lemmas.Bool.{cases_lt, le-leb, lt-leb}
+use Rattle.std.proofs.lemmas.Bool.{cases_lt, le-leb, lt-leb, and_parts, ltb-true}
 use Rattle.std.proofs.lemmas.List.{map-append, map_push}
-use Rattle.std.proofs.lemmas.List.Elements.{All-nil, All-cons, All-head, All-tail, All-contains, filter_passes}
+use Rattle.std.proofs.lemmas.List.Elements.{All-nil, All-cons, All-head, All-tail, All-contains, All-filter, All-weaker, Contains-append_left, filter_passes}
 use Rattle.goods_set.specs.Bundles.{AreBelow, IsRising, IsBundle, is_inside, IsInside}
 use Rattle.valuation.specs.declared.atom.Atom.{Atom}
 use Rattle.valuation.specs.Auctions.{IsAtom}
 use Rattle.valuation.specs.Values.{atoms_of, xor_value}
 use Rattle.valuation.specs.XorLemmas.{xor_value-nil, xor_value-inside}
+use Rattle.prune.specs.Steps.{greatest_price, search_steps, steps_at_most, is_heavy, first_heavy}
+use Rattle.prune.specs.StepLemmas.{search_within_bound}
 use Rattle.prune.specs.Lists.{Contains-head, All-from_Contains}
 use Rattle.prune.specs.KeptLemmas.{IsOnBundle}
 use Rattle.prune.specs.BestBids.{AreBestBids}
 use Rattle.prune.proofs.BestBids.{seen_of}
 use Rattle.prune.proofs.Pruning.{HasRisingBundle}
-use Rattle.prune.proofs.Results.{IsTurn, IsXorKept, IsOrKept, AreXorPoints, AreOrPoints, xor_done, or_done}
+use Rattle.prune.proofs.Results.{IsTurn, IsXorKept, IsOrKept, AreXorPoints, AreOrPoints, xor_done, or_done, Within, none_heavy}
 
 -- ---- atoms of the code
 
@@ -89,3 +91,32 @@ pub has_price_is : {S : Type 0} (goods : S → List ℕ) (price : ℕ) (bundle :
     → list_any (λ a. leb price a.now.price) inside ≡ leb price (xor_value (filter (λ a. is_inside a.bundle bundle) kept) bundle)
 has_price_is goods price bundle inside kept l e =
     any_seen goods price inside ∙ ap (list_any (λ (a : Atom (List ℕ)). leb price a.price)) e ∙ price_reached price l bundle (filter (λ a. is_inside a.bundle bundle) kept) (filter_passes (λ a. is_inside a.bundle bundle) kept)
+
+-- the atoms inside the bundle ask for some goods, as all kept ones do
+pub nonempty_inside : {S : Type 0} (goods : S → List ℕ) (inside seen : List (Bor (Atom S))) (p : Atom (List ℕ) → Bool) (kept : List (Atom (List ℕ))) → seen ≡ inside → atoms_of goods (map (λ a. a.now) inside) ≡ filter p kept → All (λ a. 0 < length a.bundle) kept → All (λ a. 0 < length a.bundle) (atoms_of goods (map (λ a. a.now) seen))
+nonempty_inside goods inside seen p kept d e some = rw (d, e) (All-filter p (λ a. 0 < length a.bundle) kept some)
+
+pub kept_nonempty : {S : Type 0} (goods : S → List ℕ) (n : ℕ) (bids : List (Atom (List ℕ))) (yielded all kept : List (Atom S)) → AreBestBids bids (atoms_of goods (yielded ++ all)) → All (IsAtom n) bids → All (Contains (atoms_of goods yielded)) (atoms_of goods kept) → All (λ a. 0 < length a.bundle) (atoms_of goods kept)
+kept_nonempty {S} goods n bids yielded all kept b are among =
+    All-weaker (Contains (atoms_of goods yielded)) (λ a. 0 < length a.bundle)
+      (λ a c.
+        let there : Contains (atoms_of goods (yielded ++ all)) a = subst (λ (zs : List (Atom (List ℕ))). Contains zs a) (sym (map-append (seen_of goods) yielded all)) (Contains-append_left (atoms_of goods yielded) (atoms_of goods all) a c) in
+        (All-contains (IsAtom n) bids a are (All-contains (Contains bids) (atoms_of goods (yielded ++ all)) a b.among there)).nonempty)
+      (atoms_of goods kept) among
+
+pub all_some : (n : ℕ) (bids : List (Atom (List ℕ))) → All (IsAtom n) bids → All (λ a. 0 < length a.bundle) bids
+all_some n bids are = All-weaker (IsAtom n) (λ a. 0 < length a.bundle) (λ a i. i.nonempty) bids are
+
+-- nothing is heavy, and the first heavy bundle
+pub none_heavy_end : {S : Type 0} (goods : S → List ℕ) (n limit : ℕ) (bids : List (Atom (List ℕ))) (yielded all kept : List (Atom S)) → All (IsOnBundle n) bids → AreBestBids bids (atoms_of goods (yielded ++ all)) → IsOrKept (atoms_of goods yielded) (atoms_of goods kept) → Within limit (atoms_of goods kept) (atoms_of goods yielded) → all ≡ [] → first_heavy n limit bids ≡ None
+none_heavy_end {S} goods n limit bids yielded all kept on b k w none =
+    none_heavy n limit bids (atoms_of goods yielded) (atoms_of goods kept) on (subst (λ (zs : List (Atom S)). AreBestBids bids (atoms_of goods zs)) (none_left yielded all none) b) k w
+
+-- a heavy bundle has more packings by all bids than the limit
+pub heavy_load : (n limit : ℕ) (bids : List (Atom (List ℕ))) (bundle : List ℕ) → All (IsOnBundle n) bids → is_heavy n limit bids bundle ≡ true → limit < steps_at_most bids bundle
+unfolding is_heavy
+heavy_load n limit bids bundle on h =
+    let parts = and_parts (ltb 0 (greatest_price bids bundle)) (ltb limit (search_steps n bids bundle)) h in
+    let more : limit < search_steps n bids bundle = ltb-true _ _ parts.1 in
+    let bound = search_within_bound n bids on bundle in
+    omega arith
