@@ -1,2 +1,4 @@
 pub mod Levels
 pub mod Scans
+pub mod Placing
+pub mod Choosing

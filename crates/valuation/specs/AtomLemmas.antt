@@ -1,7 +1,8 @@
 -- Lemmas on the atoms of a list, seen as their lists of goods and their prices.
-use Rattle.std.proofs.Common.{◌≡◌, ℕ, ◌+◌, ◌<◌, List, ◌∷◌, length, map, drop, get_or, sym, ap, ◌∙◌, subst, arith}
+use Rattle.std.proofs.Common.{◌≡◌, ℕ, ◌+◌, ◌<◌, List, [], ◌∷◌, ◌++◌, length, map, drop, get_or, sym, ap, ◌∙◌, subst, arith}
 use Rattle.std.specs.Prelude.{All}
-use Rattle.std.proofs.lemmas.List.{drop-map, drop_more, length-map, get_or-map}
+use Rattle.std.proofs.lemmas.List.{drop-map, drop_more, length-map, get_or-map, map_push}
+use Rattle.std.proofs.lemmas.List.Elements.{All-push}
 use Rattle.valuation.specs.declared.atom.Atom.{Atom}
 use Rattle.valuation.specs.Values.{atoms_of}
 
@@ -26,3 +27,10 @@ atom-atoms_of {S} goods P atoms i a l e h =
     let d : Atom (List ℕ) = record { bundle = goods a.bundle; price = a.price } in
     let long = length-atoms_of goods atoms in
     subst P (get_or-atoms_of goods atoms i a d l e) (h i d (omega arith))
+
+-- one more atom of which it holds
+pub All-atoms_of-push : {S : Type 0} (goods : S → List ℕ) (P : Atom (List ℕ) → Type 0) (atoms more : List (Atom S)) (a : Atom S) → more ≡ atoms ++ a ∷ [] → All P (atoms_of goods atoms) → P (record { bundle = goods a.bundle; price = a.price }) → All P (atoms_of goods more)
+All-atoms_of-push {S} goods P atoms more a e h p =
+    let seen : Atom S → Atom (List ℕ) = λ b. record { bundle = goods b.bundle; price = b.price } in
+    let pushed : atoms_of goods more ≡ atoms_of goods atoms ++ seen a ∷ [] = ap (atoms_of goods) e ∙ map_push seen atoms a in
+    rw pushed (All-push P (atoms_of goods atoms) (seen a) h p)

@@ -1,8 +1,12 @@
--- Auctions: a number of goods, the atoms of the OR bidder, and the atoms of each XOR bidder.
-use Rattle.std.specs.Prelude.{◌≡◌, ℕ, ◌+◌, ◌<◌, ◌≤◌, List, length, All, sum_by}
+-- Auctions: a number of goods, the atoms of the OR bidder, and the atoms of each XOR bidder. The bids of a file without a dummy
+-- good are the OR bidder's, and those that share a dummy good are one XOR bidder's (README of CATS 2.0, and Nisan's phantom goods).
+use Rattle.std.specs.Prelude.{ℕ, ◌+◌, ◌<◌, ◌≤◌, ◌==◌, Bool, false, Option, Some, None, is_none, List, [], ◌∷◌, length, map, filter, All, sum_by}
+use Rattle.std.specs.List.{range_with_len}
+use Rattle.std.specs.Coded.{×_prop, Unit-prop, le_prop, Π_prop, →_prop}
 use Rattle.valuation.specs.declared.atom.Atom.{Atom}
 use Rattle.goods_set.specs.Bundles.{AreBelow}
-use Rattle.cats_text.specs.declared.limits.TheConstants.{MAX_GOODS, MAX_PRICE}
+use Rattle.cats_text.specs.Files.{PlainBid, PlainFile}
+use Rattle.cats_text.specs.declared.limits.TheConstants.{MAX_GOODS, MAX_BIDS, MAX_DUMMY, MAX_PRICE}
 
 -- an atom of an auction with that many goods: it asks for some goods, all of the auction, at a price within the limit
 pub record IsAtom (goods : ℕ) (a : Atom (List ℕ)) : Type 0 where
@@ -10,7 +14,7 @@ pub record IsAtom (goods : ℕ) (a : Atom (List ℕ)) : Type 0 where
   pub below : AreBelow goods a.bundle
   pub price : a.price ≤ MAX_PRICE
 
--- what an auction says
+-- an auction, without where it lies in memory
 pub record PlainAuction : Type 0 where
   pub goods : ℕ
   pub or_atoms : List (Atom (List ℕ))
@@ -22,5 +26,47 @@ pub record IsAuction (cap : ℕ) (a : PlainAuction) : Type 0 where
   pub fits : a.goods ≤ cap
   pub or_atoms : All (IsAtom a.goods) a.or_atoms
   pub xor_atoms : All (All (IsAtom a.goods)) a.xor_bidders
-  pub bidders : length a.xor_bidders ≤ 65536
-  pub atoms : length a.or_atoms + sum_by length a.xor_bidders ≤ 65536
+  pub bidders : length a.xor_bidders ≤ MAX_DUMMY
+  pub atoms : length a.or_atoms + sum_by length a.xor_bidders ≤ MAX_BIDS
+
+-- ---- the auction of a file
+
+-- what a bid offers
+abbrev pub atom_of : PlainBid → Atom (List ℕ)
+atom_of b = record { bundle = b.goods; price = b.price }
+
+-- whether the dummy good is d
+abbrev pub is_dummy : ℕ → Option ℕ → Bool
+is_dummy d None = false
+is_dummy d (Some e) = e == d
+
+-- the atoms of the bids without a dummy good
+abbrev pub or_atoms_of : List PlainBid → List (Atom (List ℕ))
+or_atoms_of bids = map atom_of (filter (λ b. is_none b.dummy) bids)
+
+-- the atoms of the bids with the dummy good d
+abbrev pub xor_atoms_of : List PlainBid → ℕ → List (Atom (List ℕ))
+xor_atoms_of bids d = map atom_of (filter (λ b. is_dummy d b.dummy) bids)
+
+-- the auction that a file stands for, its atoms in the order of the bids' numbers
+abbrev pub auction_from : PlainFile → PlainAuction
+auction_from f = record {
+  goods = f.goods;
+  or_atoms = or_atoms_of f.bids;
+  xor_bidders = map (xor_atoms_of f.bids) (range_with_len 0 f.dummy);
+}
+
+-- ---- these facts have one proof at most, as a fact that a struct keeps has to
+
+below-prop : (G : ℕ) (xs : List ℕ) → IsProp (AreBelow G xs)
+below-prop G [] = Unit-prop
+below-prop G (x ∷ xs) = ×_prop le_prop (below-prop G xs)
+
+IsAtom-prop : (goods : ℕ) (a : Atom (List ℕ)) → IsProp (IsAtom goods a)
+IsAtom-prop goods a = hlevel (le_prop, below-prop goods a.bundle)
+
+IsAtoms-prop : (goods : ℕ) (atoms : List (Atom (List ℕ))) → IsProp (All (IsAtom goods) atoms)
+IsAtoms-prop goods atoms = hlevel (IsAtom-prop goods)
+
+pub IsAuction-prop : (cap : ℕ) (a : PlainAuction) → IsProp (IsAuction cap a)
+IsAuction-prop cap a = hlevel (le_prop, IsAtoms-prop a.goods)

@@ -3,6 +3,9 @@ pub mod Packings
 pub mod Tables
 pub mod Orders
 pub mod Auctions
+pub mod Bidders
+pub mod Views
+pub mod AuctionLemmas
 pub mod AtomLemmas
 pub mod Examples
 pub mod Permutations

@@ -1,4 +1,9 @@
 //! Atomic bids.
+ghost use Rattle.std.specs.Prelude.{◌↔◌, IsTrue};
+ghost use Rattle.valuation.specs.Auctions.{IsAtom};
+
+use cats_text::MAX_PRICE;
+use goods_set::GoodsSet;
 
 /// An atomic bid: it offers its price for every bundle that contains its own.
 #[derive(Debug, Drop)]
@@ -7,4 +12,20 @@ pub struct Atom<S> {
     pub bundle: S,
     /// What it offers, in millionths.
     pub price: u64,
+}
+
+impl<S: GoodsSet> Atom<S> {
+    /// Whether it may stand in an auction with that many goods: it asks for some goods, all of the auction, at a price within the
+    /// limit.
+    pub fn keeps_limits(&self, goods: u16) -> bool
+        ensures { IsTrue result ↔ IsAtom goods (record { bundle = S.goods self.now.bundle; price = self.now.price }) }
+    {
+        if self.price > MAX_PRICE {
+            return false;
+        }
+        match self.bundle.next_from(u32::from(goods)) {
+            Some(_) => false,
+            None => self.bundle.size() > 0,
+        }
+    }
 }

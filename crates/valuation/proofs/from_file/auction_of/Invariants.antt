@@ -1,0 +1,18 @@
+use Rattle.std.proofs.Common.{◌≡◌, map, take}
+use Rattle.std.specs.List.{range_with_len}
+use Rattle.cats_text.specs.Files.{plain_bids}
+use Rattle.cats_text.specs.Views.{plain_file}
+use Rattle.valuation.specs.Values.{atoms_of}
+use Rattle.valuation.specs.Auctions.{or_atoms_of, xor_atoms_of}
+use Rattle.valuation.specs.Bidders.{bidders_of}
+use Rattle.valuation.proofs.from_file.auction_of.Given as goal
+
+-- the atoms of the bids so far are there
+abbrev pub invariant-loop-bid : goal.invariant-loop-bid
+invariant-loop-bid g l =
+    let goods = g.S.GoodsSet.goods in
+    let bids = take l.bid-index (plain_bids l.bids) in
+    record {
+      or : atoms_of goods l.or_atoms.items ≡ or_atoms_of bids;
+      xor : bidders_of goods l.xor_bidders.items ≡ map (xor_atoms_of bids) (range_with_len 0 (plain_file l.file).dummy);
+    }
