@@ -18,7 +18,8 @@ use Rattle.prune.specs.Steps.{is_below, atoms_below, greatest_price, cut_steps, 
 use Rattle.prune.specs.Lists.{zero_or_more, Contains-head, Contains-tail, Contains-filter_parts, All-from_Contains, find_first, find_none}
 use Rattle.prune.specs.InOrder.{IsBefore, IsInOrder, before_both, before_itself, same_bundle_same_atom}
 use Rattle.prune.specs.ValueLemmas.{xor_value-member, xor_value-bound, xor_value-outbid, or_value-outbid}
-use Rattle.prune.specs.KeptLemmas.{IsOnBundle, all_nonempty, xor_kept_are_points, xor_points_same, or_kept_are_points, or_points_same}
+use Rattle.prune.specs.Points.{IsOnBundle}
+use Rattle.prune.specs.KeptLemmas.{all_nonempty, xor_kept_are_points, xor_points_same, or_kept_are_points, or_points_same}
 use Rattle.prune.specs.StepLemmas.{greatest_price-member, greatest_price-bound, greatest_price-reached}
 use Rattle.prune.specs.BestBids.{AreBestBids}
 use Rattle.prune.proofs.Pruning.{HasRisingBundle, IsKept, IsKept-none, IsKept-reached, IsKept-missed, IsCompleted, completion, inside_is_below, below_push, later_not_below, not_below_itself, before_next, behind_next, rising_front}

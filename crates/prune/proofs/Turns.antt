@@ -13,7 +13,7 @@ use Rattle.valuation.specs.XorLemmas.{xor_value-nil, xor_value-inside}
 use Rattle.prune.specs.Steps.{greatest_price, search_steps, steps_at_most, is_heavy, first_heavy}
 use Rattle.prune.specs.StepLemmas.{search_within_bound}
 use Rattle.prune.specs.Lists.{Contains-head, All-from_Contains}
-use Rattle.prune.specs.KeptLemmas.{IsOnBundle}
+use Rattle.prune.specs.Points.{IsOnBundle}
 use Rattle.prune.specs.BestBids.{AreBestBids}
 use Rattle.prune.proofs.BestBids.{seen_of}
 use Rattle.prune.proofs.Pruning.{HasRisingBundle}

@@ -15,17 +15,12 @@ use Rattle.valuation.specs.Values.{xor_value, or_value}
 use Rattle.valuation.specs.ListLemmas.{Contains-cons_cases}
 use Rattle.valuation.specs.XorLemmas.{xor_value-grows}
 use Rattle.valuation.specs.OrLemmas.{or_value-split, or_value-empty, or_value-price, ReachesValue, ReachesValue-some}
-use Rattle.prune.specs.Points.{points_where, is_xor_point, xor_points, is_or_point, or_points}
+use Rattle.prune.specs.Points.{IsOnBundle, points_where, is_xor_point, xor_points, is_or_point, or_points}
 use Rattle.prune.specs.Steps.{is_below, atoms_below}
 use Rattle.prune.specs.Lists.{zero_or_more, list_all_fails, Contains-nil, Contains-filter, Contains-filter_parts, All-from_Contains}
 use Rattle.prune.specs.InOrder.{IsInOrder, same_bundle_same_atom, same_in_order}
 use Rattle.prune.specs.ValueLemmas.{xor_value-member, xor_value-bound, xor_value-outbid, xor_value-reached, xor_value-filter_on, or_value-outbid, or_value-filter_on}
 use Rattle.prune.specs.PointLemmas.{points_where-in_order, IsPoint, points_where-are, points_where-has, points_where-same, IsXorPoint, IsXorPoint-from_test, is_xor_point-true, IsPart, IsOrPoint, inside_below, IsOrPoint-from_test, is_or_point-true, no_or_point}
-
--- an atom on a nonempty bundle over so many goods
-pub record IsOnBundle (goods : ℕ) (a : Atom (List ℕ)) : Type 0 where
-  pub nonempty : 0 < length a.bundle
-  pub bundle : IsBundle goods a.bundle
 
 pub all_nonempty : (goods : ℕ) (atoms : List (Atom (List ℕ))) → All (IsOnBundle goods) atoms → All (λ a. 0 < length a.bundle) atoms
 all_nonempty goods atoms on = All-weaker (IsOnBundle goods) (λ a. 0 < length a.bundle) (λ a o. o.nonempty) atoms on

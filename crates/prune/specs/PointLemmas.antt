@@ -1,6 +1,6 @@
 -- What the points of a list are, good by good and split by split; and that points depend on values alone.
 use Rattle.std.proofs.Common.{◌≡◌, ℕ, ◌+◌, ◌<◌, ◌≤◌, Bool, true, false, not, cond, ◌&&◌, ltb, ◌⊎◌, inl, inr, ⊎_elim, List, [], ◌∷◌, length, map, refl, sym, ap, ap₂, ◌∙◌, subst, arith, Less}
-use Rattle.std.specs.Prelude.{All, AllPairs, Contains}
+use Rattle.std.specs.Prelude.{All, AllPairs, Contains, ◌↔◌}
 use Rattle.std.specs.List.{filter, list_all}
 use Rattle.std.proofs.lemmas.Bool.{cases_Bool, both_ways, and_parts, and_from, and_cases, not-true, not_from_false, ltb-true, ltb-false, lt-ltb, le-ltb}
 use Rattle.std.proofs.lemmas.List.Elements.{All-head, All-tail, All-contains}
@@ -144,3 +144,15 @@ no_or_point goods atoms bundle e =
       let q = Contains-filter_parts (λ part. is_part part bundle) (all_bundles goods) r.0 r.1 in
       inr (r.0, IsPart-from_test r.0 bundle (All-contains (IsBundle goods) (all_bundles goods) r.0 (all_bundles_are goods) q.0).0 q.1, ltb-false _ _ r.2))
     (and_cases (ltb 0 (or_value atoms bundle)) (list_all less all) e)
+
+-- ---- which atoms are points
+
+pub xor_points_are : (goods : ℕ) (atoms : List (Atom (List ℕ))) (a : Atom (List ℕ)) → (Contains (xor_points goods atoms) a ↔ (IsBundle goods a.bundle × IsXorPoint atoms a.bundle × (a.price ≡ xor_value atoms a.bundle)))
+xor_points_are goods atoms a =
+    (λ c. let p = points_where-are (is_xor_point atoms) (xor_value atoms) goods a c in (p.bundle, IsXorPoint-from_test atoms a.bundle p.chosen, p.price),
+     λ p. points_where-has (is_xor_point atoms) (xor_value atoms) goods a (record { bundle = p.0; chosen = is_xor_point-true atoms a.bundle p.1; price = p.2 }))
+
+pub or_points_are : (goods : ℕ) (atoms : List (Atom (List ℕ))) (a : Atom (List ℕ)) → (Contains (or_points goods atoms) a ↔ (IsBundle goods a.bundle × IsOrPoint atoms a.bundle × (a.price ≡ or_value atoms a.bundle)))
+or_points_are goods atoms a =
+    (λ c. let p = points_where-are (is_or_point goods atoms) (or_value atoms) goods a c in (p.bundle, IsOrPoint-from_test goods atoms a.bundle p.bundle p.chosen, p.price),
+     λ p. points_where-has (is_or_point goods atoms) (or_value atoms) goods a (record { bundle = p.0; chosen = is_or_point-true goods atoms a.bundle p.1; price = p.2 }))

@@ -1,11 +1,16 @@
 -- Points: the atoms that a bidder's values alone ask for (Nisan, "Bidding and allocation in combinatorial auctions", 2000, gives
 -- the values). They are chosen by values over the list of all bundles; the code drops bids by containment and by a search over
 -- the bids that it kept.
-use Rattle.std.specs.Prelude.{ℕ, ◌+◌, Bool, ◌&&◌, not, nat_lt, map, List, [], ◌∷◌, length}
+use Rattle.std.specs.Prelude.{ℕ, ◌+◌, ◌<◌, Bool, ◌&&◌, not, nat_lt, map, List, [], ◌∷◌, length}
 use Rattle.std.specs.List.{list_all, filter}
 use Rattle.valuation.specs.declared.atom.Atom.{Atom}
 use Rattle.valuation.specs.Values.{xor_value, or_value}
-use Rattle.goods_set.specs.Bundles.{is_inside, without, all_bundles}
+use Rattle.goods_set.specs.Bundles.{IsBundle, is_inside, without, all_bundles}
+
+-- an atom on a nonempty bundle over so many goods
+pub record IsOnBundle (goods : ℕ) (a : Atom (List ℕ)) : Type 0 where
+  pub nonempty : 0 < length a.bundle
+  pub bundle : IsBundle goods a.bundle
 
 -- the bundles over so many goods that pass the test, in order, each as an atom at its value
 unfoldable pub points_where : (List ℕ → Bool) → (List ℕ → ℕ) → ℕ → List (Atom (List ℕ))
