@@ -72,18 +72,18 @@ covered_from k [] s x (inr c) = absurd (Contains-nil x c)
 covered_from k (y ∷ ys) s x (inr c) =
     elim (cases_Bool (is_same_bundle y k)) [
       | inl t ↦
-        subst (λ (zs : List (Atom (List ℕ))). Covered zs x) (sym (cond-true (is_same_bundle y k) (dedup_from is_same_bundle k ys) (k ∷ dedup_from is_same_bundle y ys) t))
+          subst (λ (zs : List (Atom (List ℕ))). Covered zs x) (sym (cond-true (is_same_bundle y k) (dedup_from is_same_bundle k ys) (k ∷ dedup_from is_same_bundle y ys) t))
           (⊎_elim
-            (λ (e : y ≡ x).
-              let same : bundle_cmp y.bundle k.bundle ≡ Equal = equal_from_test y k t in
-              let price : y.price ≤ k.price = not_before_price y k same (AllPairs-head NotBefore k (y ∷ ys) s 0 y (omega arith)) in
-              subst (λ (z : Atom (List ℕ)). Covered (dedup_from is_same_bundle k ys) z) e (k, first_kept k ys, sym (bundle_cmp_equal y.bundle k.bundle same), price))
-            (λ (d : Contains ys x). covered_from k ys (skip_second s) x (inr d))
-            (Contains-cons_cases y ys x c))
+          (λ (e : y ≡ x).
+          let same : bundle_cmp y.bundle k.bundle ≡ Equal = equal_from_test y k t in
+          let price : y.price ≤ k.price = not_before_price y k same (AllPairs-head NotBefore k (y ∷ ys) s 0 y (omega arith)) in
+          subst (λ (z : Atom (List ℕ)). Covered (dedup_from is_same_bundle k ys) z) e (k, first_kept k ys, sym (bundle_cmp_equal y.bundle k.bundle same), price))
+          (λ (d : Contains ys x). covered_from k ys (skip_second s) x (inr d))
+          (Contains-cons_cases y ys x c))
       | inr t ↦
-        subst (λ (zs : List (Atom (List ℕ))). Covered zs x) (sym (cond-false (is_same_bundle y k) (dedup_from is_same_bundle k ys) (k ∷ dedup_from is_same_bundle y ys) t))
+          subst (λ (zs : List (Atom (List ℕ))). Covered zs x) (sym (cond-false (is_same_bundle y k) (dedup_from is_same_bundle k ys) (k ∷ dedup_from is_same_bundle y ys) t))
           (let r = covered_from y ys (AllPairs-tail NotBefore k (y ∷ ys) s) x (Contains-cons_cases y ys x c) in
-           (r.0, Contains-tail k (dedup_from is_same_bundle y ys) r.0 r.1, r.2, r.3))
+          (r.0, Contains-tail k (dedup_from is_same_bundle y ys) r.0 r.1, r.2, r.3))
     ]
   where
     skip_second : AllPairs NotBefore (k ∷ (y ∷ ys)) → AllPairs NotBefore (k ∷ ys)
@@ -142,7 +142,7 @@ module _ {X : Type 0} (seen : X → Atom (List ℕ)) where
       let here : k < length (x ∷ xs) = omega arith in
       let next : k + 1 < length (x ∷ xs) = omega arith in
       subst (λ (a : Atom (List ℕ)). lt a (get_or (map seen (x ∷ xs)) k d) ≡ false) (sym (get_or-map seen (x ∷ xs) (k + 1) x d next))
-        (subst (λ (b : Atom (List ℕ)). lt (seen (get_or (x ∷ xs) (k + 1) x)) b ≡ false) (sym (get_or-map seen (x ∷ xs) k x d here)) (up k x l next))
+      (subst (λ (b : Atom (List ℕ)). lt (seen (get_or (x ∷ xs) (k + 1) x)) b ≡ false) (sym (get_or-map seen (x ∷ xs) k x d here)) (up k x l next))
 
   pub best_from_steps : (bids priced sorted best : List X) → priced ≡ filter (λ x. has_price (seen x)) bids → IsPermutation priced sorted → IsSortedBy (λ x y. is_bid_before (seen x) (seen y)) sorted → best ≡ dedup (λ x y. is_same_bundle (seen x) (seen y)) sorted → AreBestBids (map seen bids) (map seen best)
   best_from_steps bids priced sorted best e p up d =

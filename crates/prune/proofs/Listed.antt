@@ -67,9 +67,9 @@ pub record IsFinding (lists : List (List ℕ)) (atoms : List (Atom (List ℕ))) 
 
 pub IsFinding-none : (lists : List (List ℕ)) (atoms : List (Atom (List ℕ))) (bundle found : List ℕ) → found ≡ [] → IsFinding lists atoms bundle 0 found
 IsFinding-none lists atoms bundle found e = rw e (record {
-    sound = All-nil (λ place. (is_inside_at atoms bundle place ≡ true) × (place < length atoms));
-    complete = λ good place h l. absurd (omega arith);
-  })
+  sound = All-nil (λ place. (is_inside_at atoms bundle place ≡ true) × (place < length atoms));
+  complete = λ good place h l. absurd (omega arith);
+})
 
 pub IsFinding-more : (lists : List (List ℕ)) (atoms : List (Atom (List ℕ))) (bundle : List ℕ) (from good : ℕ) (found more : List ℕ) → AreListed lists atoms → IsRising bundle → good_from bundle from ≡ Some good → more ≡ found ++ filter (is_inside_at atoms bundle) (listed_at lists good) → IsFinding lists atoms bundle from found → IsFinding lists atoms bundle (good + 1) more
 IsFinding-more lists atoms bundle from good found more a r next e f =
@@ -77,14 +77,14 @@ IsFinding-more lists atoms bundle from good found more a r next e f =
     let n : IsNextGood bundle from good = good_from-Some bundle from good r next in
     rw e (record {
       sound = All-append (λ place. (p place ≡ true) × (place < length atoms)) found (filter p (listed_at lists good)) f.sound
-        (All-from_Contains (λ place. (p place ≡ true) × (place < length atoms)) (filter p (listed_at lists good)) (λ place c. let t = Contains-filter_parts p (listed_at lists good) place c in (t.1, a.within good place t.0)));
+          (All-from_Contains (λ place. (p place ≡ true) × (place < length atoms)) (filter p (listed_at lists good)) (λ place c. let t = Contains-filter_parts p (listed_at lists good) place c in (t.1, a.within good place t.0)));
       complete = λ g place h l c t.
-        ⊎_elim (λ (q : g ≡ good). Contains-append_right found (filter p (listed_at lists good)) place (Contains-filter p (listed_at lists good) place (subst (λ m. Contains (listed_at lists m) place) q c) t))
-        (λ (d : g ≡ good → ⊥). ⊎_elim
+          ⊎_elim (λ (q : g ≡ good). Contains-append_right found (filter p (listed_at lists good)) place (Contains-filter p (listed_at lists good) place (subst (λ m. Contains (listed_at lists m) place) q c) t))
+          (λ (d : g ≡ good → ⊥). ⊎_elim
           (λ (m : g < from). Contains-append_left found (filter p (listed_at lists good)) place (f.complete g place h m c t))
           (λ (m : from ≤ g). let none = n.least g m (omega arith) in absurd (both_ways (has_good bundle g) none h))
           (cases_lt g from))
-        (cases_eq g good);
+          (cases_eq g good);
     })
 
 pub next_is_further : (bundle : List ℕ) (from good : ℕ) → IsRising bundle → good_from bundle from ≡ Some good → from ≤ good
@@ -104,19 +104,19 @@ IsFinding-all lists atoms bundle from found sorted places a none f p up e =
     let test = is_inside_at atoms bundle in
     let all = range_with_len 0 (length atoms) in
     e ∙ same_from_has (dedup eqb sorted) (filter test all)
-      (rising_from_pairs (dedup eqb sorted) (AllPairs-from_increasing (dedup eqb sorted) (IsStrictlyIncreasing-dedup sorted up)))
-      (IsRising-filter test all (range_rising 0 (length atoms)))
-      (λ g h.
-        let there = Contains-permutation sorted found g (IsPermutation-sym found sorted p) (Contains-from_dedup eqb sorted g (Contains_from_has (dedup eqb sorted) g h)) in
-        let s = All-contains (λ place. (test place ≡ true) × (place < length atoms)) found g f.sound there in
-        has-filter test all g ∙ and_from (test g) (has_good all g) s.0 (range_has 0 (length atoms) g (omega arith) (omega (arith, s.1))))
-      (λ g h.
-        let t = and_parts (test g) (has_good all g) (sym (has-filter test all g) ∙ h) in
-        let r = has_range 0 (length atoms) g t.1 in
-        let l = a.each g (omega (arith, r.1)) in
-        let of_bundle = inside_at (atom_at atoms g).bundle bundle l.good t.0 l.has in
-        let below : l.good < from = ⊎_elim (λ (m : l.good < from). m) (λ (m : from ≤ l.good). absurd (both_ways (has_good bundle l.good) (good_from-None bundle from l.good none m) of_bundle)) (cases_lt l.good from) in
-        has_from_Contains (dedup eqb sorted) g (Contains-dedup_nat sorted g (Contains-permutation found sorted g p (f.complete l.good g of_bundle below l.listed t.0))))
+    (rising_from_pairs (dedup eqb sorted) (AllPairs-from_increasing (dedup eqb sorted) (IsStrictlyIncreasing-dedup sorted up)))
+    (IsRising-filter test all (range_rising 0 (length atoms)))
+    (λ g h.
+    let there = Contains-permutation sorted found g (IsPermutation-sym found sorted p) (Contains-from_dedup eqb sorted g (Contains_from_has (dedup eqb sorted) g h)) in
+    let s = All-contains (λ place. (test place ≡ true) × (place < length atoms)) found g f.sound there in
+    has-filter test all g ∙ and_from (test g) (has_good all g) s.0 (range_has 0 (length atoms) g (omega arith) (omega (arith, s.1))))
+    (λ g h.
+    let t = and_parts (test g) (has_good all g) (sym (has-filter test all g) ∙ h) in
+    let r = has_range 0 (length atoms) g t.1 in
+    let l = a.each g (omega (arith, r.1)) in
+    let of_bundle = inside_at (atom_at atoms g).bundle bundle l.good t.0 l.has in
+    let below : l.good < from = ⊎_elim (λ (m : l.good < from). m) (λ (m : from ≤ l.good). absurd (both_ways (has_good bundle l.good) (good_from-None bundle from l.good none m) of_bundle)) (cases_lt l.good from) in
+    has_from_Contains (dedup eqb sorted) g (Contains-dedup_nat sorted g (Contains-permutation found sorted g p (f.complete l.good g of_bundle below l.listed t.0))))
 
 -- ---- the atoms at the places found
 
@@ -141,16 +141,16 @@ AreListed-push lists more atoms a good h has others there =
     let d : Atom (List ℕ) = record { bundle = []; price = 0 } in
     record {
       each = λ place l.
-        ⊎_elim
+          ⊎_elim
           (λ (m : place < length atoms).
-            let at : IsListed lists (atom_at atoms place).bundle place = h.each place m in
-            subst (λ (b : Atom (List ℕ)). IsListed more b.bundle place) (sym (get_or_append_left atoms (a ∷ []) d place m)) (record { good = at.good; has = at.has; listed = still at.good place at.listed }))
+          let at : IsListed lists (atom_at atoms place).bundle place = h.each place m in
+          subst (λ (b : Atom (List ℕ)). IsListed more b.bundle place) (sym (get_or_append_left atoms (a ∷ []) d place m)) (record { good = at.good; has = at.has; listed = still at.good place at.listed }))
           (λ (m : length atoms ≤ place).
-            let e : length atoms ≡ place = omega arith in
-            subst (λ (b : Atom (List ℕ)). IsListed more b.bundle place) (sym (get_or_push atoms a d place e)) (record { good = good; has = has; listed = subst (λ (zs : List ℕ). Contains zs place) (sym there) (subst (λ n. Contains (listed_at lists good ++ n ∷ []) place) (sym e) (Contains-push (listed_at lists good) place)) }))
+          let e : length atoms ≡ place = omega arith in
+          subst (λ (b : Atom (List ℕ)). IsListed more b.bundle place) (sym (get_or_push atoms a d place e)) (record { good = good; has = has; listed = subst (λ (zs : List ℕ). Contains zs place) (sym there) (subst (λ n. Contains (listed_at lists good ++ n ∷ []) place) (sym e) (Contains-push (listed_at lists good) place)) }))
           (cases_lt place (length atoms));
       within = λ g place c.
-        ⊎_elim
+          ⊎_elim
           (λ (e : g ≡ good). ⊎_elim (λ (k : Contains (listed_at lists good) place). let l = h.within good place k in omega arith) (λ (k : length atoms ≡ place). omega arith) (Contains-push_cases (listed_at lists good) (length atoms) place (subst (λ (zs : List ℕ). Contains zs place) (ap (listed_at more) e ∙ there) c)))
           (λ (n : g ≡ good → ⊥). let l = h.within g place (subst (λ (zs : List ℕ). Contains zs place) (others g n) c) in omega arith)
           (cases_eq g good);
@@ -181,9 +181,9 @@ seen_more {S} goods atoms inside more places i a l m e h f =
     let seen : Bor (Atom S) → Atom (List ℕ) = λ a. record { bundle = goods a.now.bundle; price = a.now.price } in
     let all : Atom S → Atom (List ℕ) = λ a. record { bundle = goods a.bundle; price = a.price } in
     let pushed : atoms_of goods (map (λ a. a.now) more) ≡ atoms_of goods (map (λ a. a.now) inside) ++ seen a ∷ [] =
-      ap (λ (zs : List (Bor (Atom S))). atoms_of goods (map (λ a. a.now) zs)) f ∙ ap (map all) (map_push (λ (a : Bor (Atom S)). a.now) inside a) ∙ map_push all (map (λ (a : Bor (Atom S)). a.now) inside) a.now in
+    ap (λ (zs : List (Bor (Atom S))). atoms_of goods (map (λ a. a.now) zs)) f ∙ ap (map all) (map_push (λ (a : Bor (Atom S)). a.now) inside a) ∙ map_push all (map (λ (a : Bor (Atom S)). a.now) inside) a.now in
     let taken : map (atom_at (atoms_of goods atoms)) (take (i + 1) places) ≡ map (atom_at (atoms_of goods atoms)) (take i places) ++ atom_at (atoms_of goods atoms) (get_or places i 0) ∷ [] =
-      ap (map (atom_at (atoms_of goods atoms))) (take_more places i 0 l) ∙ map_push (atom_at (atoms_of goods atoms)) (take i places) (get_or places i 0) in
+    ap (map (atom_at (atoms_of goods atoms))) (take_more places i 0 l) ∙ map_push (atom_at (atoms_of goods atoms)) (take i places) (get_or places i 0) in
     let here : atom_at (atoms_of goods atoms) (get_or places i 0) ≡ seen a = get_or-atoms_of goods atoms (get_or places i 0) a.now (record { bundle = []; price = 0 }) m e in
     pushed ∙ ap (λ (zs : List (Atom (List ℕ))). zs ++ seen a ∷ []) h ∙ sym (taken ∙ ap (λ (b : Atom (List ℕ)). map (atom_at (atoms_of goods atoms)) (take i places) ++ b ∷ []) here)
 

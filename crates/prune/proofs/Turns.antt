@@ -30,7 +30,7 @@ module _ {S : Type 0} (goods : S → List ℕ) (rising : (s : S) → IsRising (g
   pub next_turn : (bids : List (Atom (List ℕ))) (yielded all rest : List (Atom S)) (bid : Atom S) → AreBestBids bids (atoms_of goods (yielded ++ all)) → all ≡ bid ∷ rest → IsTurn bids (atoms_of goods yielded) (seen_of goods bid) (atoms_of goods rest)
   next_turn bids yielded all rest bid b e =
       let parts : atoms_of goods (yielded ++ all) ≡ atoms_of goods yielded ++ seen_of goods bid ∷ atoms_of goods rest =
-        ap (λ (zs : List (Atom S)). atoms_of goods (yielded ++ zs)) e ∙ map-append (seen_of goods) yielded (bid ∷ rest) in
+      ap (λ (zs : List (Atom S)). atoms_of goods (yielded ++ zs)) e ∙ map-append (seen_of goods) yielded (bid ∷ rest) in
       record {
         best = subst (λ (zs : List (Atom (List ℕ))). AreBestBids bids zs) parts b;
         rising = subst (λ (zs : List (Atom (List ℕ))). All HasRisingBundle zs) parts (all_rising (yielded ++ all));
@@ -46,8 +46,8 @@ none_left {X} yielded all e = ap (λ (zs : List X). yielded ++ zs) e ∙ append-
 pub on_bundles : (goods : ℕ) (atoms : List (Atom (List ℕ))) → All HasRisingBundle atoms → All (IsAtom goods) atoms → All (IsOnBundle goods) atoms
 on_bundles goods atoms rising are =
     All-from_Contains (IsOnBundle goods) atoms (λ a c.
-      let atom = All-contains (IsAtom goods) atoms a are c in
-      record { nonempty = atom.nonempty; bundle = (All-contains HasRisingBundle atoms a rising c, atom.below) })
+    let atom = All-contains (IsAtom goods) atoms a are c in
+    record { nonempty = atom.nonempty; bundle = (All-contains HasRisingBundle atoms a rising c, atom.below) })
 
 pub just_bundles : (goods : ℕ) (atoms : List (Atom (List ℕ))) → All (IsOnBundle goods) atoms → All (λ a. IsBundle goods a.bundle) atoms
 just_bundles goods atoms on = All-from_Contains (λ a. IsBundle goods a.bundle) atoms (λ a c. (All-contains (IsOnBundle goods) atoms a on c).bundle)
@@ -75,12 +75,12 @@ price_reached price l bundle (a ∷ rest) h =
     either : (m n : ℕ) → (leb price n || leb price m) ≡ leb price (max m n)
     either m n =
         ⊎_elim
-          (λ (p : n < price). ⊎_elim
-            (λ (q : m < price). let t = lt-leb price n p in let u = lt-leb price m q in let v = lt-leb price (max m n) (omega arith) in simp (t, u, v))
-            (λ (q : price ≤ m). let t = lt-leb price n p in let u = le-leb price m q in let v = le-leb price (max m n) (omega arith) in simp (t, u, v))
-            (cases_lt m price))
-          (λ (p : price ≤ n). let t = le-leb price n p in let v = le-leb price (max m n) (omega arith) in simp (t, v))
-          (cases_lt n price)
+        (λ (p : n < price). ⊎_elim
+        (λ (q : m < price). let t = lt-leb price n p in let u = lt-leb price m q in let v = lt-leb price (max m n) (omega arith) in simp (t, u, v))
+        (λ (q : price ≤ m). let t = lt-leb price n p in let u = le-leb price m q in let v = le-leb price (max m n) (omega arith) in simp (t, u, v))
+        (cases_lt m price))
+        (λ (p : price ≤ n). let t = le-leb price n p in let v = le-leb price (max m n) (omega arith) in simp (t, v))
+        (cases_lt n price)
 
 any_seen : {S : Type 0} (goods : S → List ℕ) (price : ℕ) (atoms : List (Bor (Atom S))) → list_any (λ a. leb price a.now.price) atoms ≡ list_any (λ a. leb price a.price) (atoms_of goods (map (λ a. a.now) atoms))
 any_seen goods price [] = refl
@@ -99,10 +99,10 @@ nonempty_inside goods inside seen p kept d e some = rw (d, e) (All-filter p (λ 
 pub kept_nonempty : {S : Type 0} (goods : S → List ℕ) (n : ℕ) (bids : List (Atom (List ℕ))) (yielded all kept : List (Atom S)) → AreBestBids bids (atoms_of goods (yielded ++ all)) → All (IsAtom n) bids → All (Contains (atoms_of goods yielded)) (atoms_of goods kept) → All (λ a. 0 < length a.bundle) (atoms_of goods kept)
 kept_nonempty {S} goods n bids yielded all kept b are among =
     All-weaker (Contains (atoms_of goods yielded)) (λ a. 0 < length a.bundle)
-      (λ a c.
-        let there : Contains (atoms_of goods (yielded ++ all)) a = subst (λ (zs : List (Atom (List ℕ))). Contains zs a) (sym (map-append (seen_of goods) yielded all)) (Contains-append_left (atoms_of goods yielded) (atoms_of goods all) a c) in
-        (All-contains (IsAtom n) bids a are (All-contains (Contains bids) (atoms_of goods (yielded ++ all)) a b.among there)).nonempty)
-      (atoms_of goods kept) among
+    (λ a c.
+    let there : Contains (atoms_of goods (yielded ++ all)) a = subst (λ (zs : List (Atom (List ℕ))). Contains zs a) (sym (map-append (seen_of goods) yielded all)) (Contains-append_left (atoms_of goods yielded) (atoms_of goods all) a c) in
+    (All-contains (IsAtom n) bids a are (All-contains (Contains bids) (atoms_of goods (yielded ++ all)) a b.among there)).nonempty)
+    (atoms_of goods kept) among
 
 pub all_some : (n : ℕ) (bids : List (Atom (List ℕ))) → All (IsAtom n) bids → All (λ a. 0 < length a.bundle) bids
 all_some n bids are = All-weaker (IsAtom n) (λ a. 0 < length a.bundle) (λ a i. i.nonempty) bids are

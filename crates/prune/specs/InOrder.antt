@@ -49,9 +49,9 @@ pub same_bundle_same_atom : (atoms : List (Atom (List ℕ))) → IsInOrder atoms
 same_bundle_same_atom [] s a b c d e = absurd (Contains-nil a c)
 same_bundle_same_atom (x ∷ xs) s a b c d e =
     ⊎_elim
-      (λ (p : x ≡ a). ⊎_elim (λ (q : x ≡ b). sym p ∙ q) (λ (q : Contains xs b). absurd (alike b q (ap (λ (z : Atom (List ℕ)). z.bundle) p ∙ e))) (Contains-cons_cases x xs b d))
-      (λ (p : Contains xs a). ⊎_elim (λ (q : x ≡ b). absurd (alike a p (ap (λ (z : Atom (List ℕ)). z.bundle) q ∙ sym e))) (λ (q : Contains xs b). same_bundle_same_atom xs (AllPairs-tail IsBefore x xs s) a b p q e) (Contains-cons_cases x xs b d))
-      (Contains-cons_cases x xs a c)
+    (λ (p : x ≡ a). ⊎_elim (λ (q : x ≡ b). sym p ∙ q) (λ (q : Contains xs b). absurd (alike b q (ap (λ (z : Atom (List ℕ)). z.bundle) p ∙ e))) (Contains-cons_cases x xs b d))
+    (λ (p : Contains xs a). ⊎_elim (λ (q : x ≡ b). absurd (alike a p (ap (λ (z : Atom (List ℕ)). z.bundle) q ∙ sym e))) (λ (q : Contains xs b). same_bundle_same_atom xs (AllPairs-tail IsBefore x xs s) a b p q e) (Contains-cons_cases x xs b d))
+    (Contains-cons_cases x xs a c)
   where
     alike : (z : Atom (List ℕ)) → Contains xs z → x.bundle ≡ z.bundle → ⊥
     alike z q f = before_itself x.bundle (subst (λ (zs : List ℕ). bundle_cmp x.bundle zs ≡ Less) (sym f) (All-contains (IsBefore x) xs z (AllPairs-head IsBefore x xs s) q))
@@ -64,7 +64,7 @@ same_in_order (x ∷ xs) [] s t h k = absurd (Contains-nil x (h x (Contains-head
 same_in_order (x ∷ xs) (y ∷ ys) s t h k =
     let e : x ≡ y = heads (Contains-cons_cases y ys x (h x (Contains-head x xs))) (Contains-cons_cases x xs y (k y (Contains-head y ys))) in
     ap₂ (λ (z : Atom (List ℕ)) (zs : List (Atom (List ℕ))). z ∷ zs) e
-      (same_in_order xs ys (AllPairs-tail IsBefore x xs s) (AllPairs-tail IsBefore y ys t) (λ a c. later a c e) (λ a c. back a c e))
+    (same_in_order xs ys (AllPairs-tail IsBefore x xs s) (AllPairs-tail IsBefore y ys t) (λ a c. later a c e) (λ a c. back a c e))
   where
     heads : (y ≡ x) ⊎ Contains ys x → (x ≡ y) ⊎ Contains xs y → x ≡ y
     heads (inl e) q = sym e

@@ -37,7 +37,7 @@ pub left_is_proper : (part bundle : List ℕ) → 0 < length part → IsInside p
 left_is_proper [] bundle l i = absurd (omega arith)
 left_is_proper (x ∷ xs) bundle l i =
     false_from_ne_true (is_inside bundle (without bundle (x ∷ xs))) (λ j.
-      both_ways (has_good (x ∷ xs) x) (has_without_parts bundle (x ∷ xs) x (inside_at bundle (without bundle (x ∷ xs)) x j (inside_at (x ∷ xs) bundle x i (has_head x xs)))).1 (has_head x xs))
+    both_ways (has_good (x ∷ xs) x) (has_without_parts bundle (x ∷ xs) x (inside_at bundle (without bundle (x ∷ xs)) x j (inside_at (x ∷ xs) bundle x i (has_head x xs)))).1 (has_head x xs))
 
 -- an atom inside what is properly inside the bundle is below the bundle
 below_from_inside : (xs proper bundle : List ℕ) → IsInside proper bundle → is_inside bundle proper ≡ false → IsInside xs proper → is_below xs bundle ≡ true
@@ -120,18 +120,18 @@ or_point_is_atom goods atoms on bundle rising point =
 pub or_points_are_atoms : (goods : ℕ) (atoms : List (Atom (List ℕ))) → All (IsOnBundle goods) atoms → All (Contains atoms) (or_points goods atoms)
 or_points_are_atoms goods atoms on =
     All-from_Contains (Contains atoms) (or_points goods atoms) (λ a c.
-      let p = points_where-are (is_or_point goods atoms) (or_value atoms) goods a c in
-      let there = or_point_is_atom goods atoms on a.bundle p.bundle.0 (IsOrPoint-from_test goods atoms a.bundle p.bundle p.chosen) in
-      subst (λ (z : Atom (List ℕ)). Contains atoms z) (atom_from_parts (record { bundle = a.bundle; price = or_value atoms a.bundle }) a refl (sym p.price)) there)
+    let p = points_where-are (is_or_point goods atoms) (or_value atoms) goods a c in
+    let there = or_point_is_atom goods atoms on a.bundle p.bundle.0 (IsOrPoint-from_test goods atoms a.bundle p.bundle p.chosen) in
+    subst (λ (z : Atom (List ℕ)). Contains atoms z) (atom_from_parts (record { bundle = a.bundle; price = or_value atoms a.bundle }) a refl (sym p.price)) there)
 
 -- a list in order, of whose atoms none is reached by those below it, is its points
 pub or_kept_are_points : (goods : ℕ) (atoms : List (Atom (List ℕ))) → IsInOrder atoms → All (IsOnBundle goods) atoms → All (λ b. or_value (atoms_below atoms b.bundle) b.bundle < b.price) atoms → atoms ≡ or_points goods atoms
 or_kept_are_points goods atoms order on short =
     same_in_order atoms (or_points goods atoms) order (points_where-in_order (is_or_point goods atoms) (or_value atoms) goods)
-      (λ b c.
-        let p = or_kept_is_point goods atoms order on b c (All-contains (λ b. or_value (atoms_below atoms b.bundle) b.bundle < b.price) atoms b short c) in
-        points_where-has (is_or_point goods atoms) (or_value atoms) goods b (record { bundle = (All-contains (IsOnBundle goods) atoms b on c).bundle; chosen = is_or_point-true goods atoms b.bundle p.1; price = p.0 }))
-      (λ b c. All-contains (Contains atoms) (or_points goods atoms) b (or_points_are_atoms goods atoms on) c)
+    (λ b c.
+    let p = or_kept_is_point goods atoms order on b c (All-contains (λ b. or_value (atoms_below atoms b.bundle) b.bundle < b.price) atoms b short c) in
+    points_where-has (is_or_point goods atoms) (or_value atoms) goods b (record { bundle = (All-contains (IsOnBundle goods) atoms b on c).bundle; chosen = is_or_point-true goods atoms b.bundle p.1; price = p.0 }))
+    (λ b c. All-contains (Contains atoms) (or_points goods atoms) b (or_points_are_atoms goods atoms on) c)
 
 -- ---- OR points depend on the values on bundles over the goods alone
 
@@ -142,19 +142,19 @@ IsOrPoint-same goods one other same bundle b p =
     record {
       positive = omega arith;
       split = λ part q.
-        let f = same part (q.rising, inside_below goods part bundle b.1 q.inside) in
-        let g = same (without bundle part) (IsBundle-without goods bundle part b) in
-        let s = p.split part q in
-        omega arith
+          let f = same part (q.rising, inside_below goods part bundle b.1 q.inside) in
+          let g = same (without bundle part) (IsBundle-without goods bundle part b) in
+          let s = p.split part q in
+          omega arith;
     }
 
 pub or_points_same : (goods : ℕ) (one other : List (Atom (List ℕ))) → ((bundle : List ℕ) → IsBundle goods bundle → or_value one bundle ≡ or_value other bundle) → or_points goods one ≡ or_points goods other
 or_points_same goods one other same =
     points_where-same (is_or_point goods one) (is_or_point goods other) (or_value one) (or_value other) goods
-      (λ bundle b. same_test (is_or_point goods one bundle) (is_or_point goods other bundle)
-        (λ t. is_or_point-true goods other bundle (IsOrPoint-same goods one other same bundle b (IsOrPoint-from_test goods one bundle b t)))
-        (λ t. is_or_point-true goods one bundle (IsOrPoint-same goods other one (λ bundle b. sym (same bundle b)) bundle b (IsOrPoint-from_test goods other bundle b t))))
-      same
+    (λ bundle b. same_test (is_or_point goods one bundle) (is_or_point goods other bundle)
+    (λ t. is_or_point-true goods other bundle (IsOrPoint-same goods one other same bundle b (IsOrPoint-from_test goods one bundle b t)))
+    (λ t. is_or_point-true goods one bundle (IsOrPoint-same goods other one (λ bundle b. sym (same bundle b)) bundle b (IsOrPoint-from_test goods other bundle b t))))
+    same
 
 -- ---- OR points keep the values
 
@@ -198,8 +198,8 @@ pub or_points_keep_values : (goods : ℕ) (atoms : List (Atom (List ℕ))) → A
 or_points_keep_values goods atoms on bundle b =
     let some = all_nonempty goods (or_points goods atoms) (or_points_on_bundles goods atoms on) in
     le_antisymm
-      (or_value-outbid atoms (all_nonempty goods atoms on) (or_points goods atoms) (All-weaker (Contains atoms) (λ a. a.price ≤ or_value atoms a.bundle) (λ a c. or_value-price atoms a c a.bundle (inside_refl a.bundle)) (or_points goods atoms) (or_points_are_atoms goods atoms on)) bundle)
-      (or_points_reach goods atoms on some (suc (length bundle)) bundle (omega arith) b)
+    (or_value-outbid atoms (all_nonempty goods atoms on) (or_points goods atoms) (All-weaker (Contains atoms) (λ a. a.price ≤ or_value atoms a.bundle) (λ a c. or_value-price atoms a c a.bundle (inside_refl a.bundle)) (or_points goods atoms) (or_points_are_atoms goods atoms on)) bundle)
+    (or_points_reach goods atoms on some (suc (length bundle)) bundle (omega arith) b)
 
 -- and have themselves as points
 pub or_points_again : (goods : ℕ) (atoms : List (Atom (List ℕ))) → All (IsOnBundle goods) atoms → or_points goods (or_points goods atoms) ≡ or_points goods atoms
@@ -219,23 +219,25 @@ good_less_is_proper good bundle c = left_is_proper (good ∷ []) bundle (omega a
 inside_good_less : (xs bundle : List ℕ) (good : ℕ) → IsInside xs bundle → has_good xs good ≡ false → IsInside xs (without bundle (good ∷ []))
 inside_good_less xs bundle good i n =
     inside_without xs bundle (good ∷ []) i (apart_from xs (good ∷ []) (λ g h. false_from_ne_true (has_good (good ∷ []) g) (λ k.
-      ⊎_elim (λ (e : good ≡ g). both_ways (has_good xs good) n (subst (λ m. has_good xs m ≡ true) (sym e) h)) (λ (m : has_good [] g ≡ true). both_ways false refl m) (has_cases good [] g k))))
+    ⊎_elim (λ (e : good ≡ g). both_ways (has_good xs good) n (subst (λ m. has_good xs m ≡ true) (sym e) h)) (λ (m : has_good [] g ≡ true). both_ways false refl m) (has_cases good [] g k))))
 
 -- where the atoms below do not have the price of a kept atom, it is an XOR point
 pub xor_kept_is_point : (goods : ℕ) (atoms : List (Atom (List ℕ))) → IsInOrder atoms → All (λ a. IsBundle goods a.bundle) atoms → (b : Atom (List ℕ)) → Contains atoms b → xor_value (atoms_below atoms b.bundle) b.bundle < b.price → (b.price ≡ xor_value atoms b.bundle) × IsXorPoint atoms b.bundle
 xor_kept_is_point goods atoms order on b c short =
     let below = atoms_below atoms b.bundle in
     let low : b.price ≤ xor_value atoms b.bundle = xor_value-member atoms b c b.bundle (inside_refl b.bundle) in
-    let high : xor_value atoms b.bundle ≤ b.price = xor_value-bound atoms b.bundle b.price (All-from_Contains (λ a. IsInside a.bundle b.bundle → a.price ≤ b.price) atoms (λ a d i. ⊎_elim (λ (j : is_inside b.bundle a.bundle ≡ true). whole a d i j) (λ (n : is_inside b.bundle a.bundle ≡ false). part a d i n) (cases_Bool (is_inside b.bundle a.bundle)))) in
-    (omega arith, record {
-      positive = omega arith;
-      less = λ good d.
-        let left = without b.bundle (good ∷ []) in
-        let inside = without_inside b.bundle (good ∷ []) in
-        let e = xor_value-filter_on (λ a. is_below a.bundle b.bundle) atoms left (all_below atoms left b.bundle inside (good_less_is_proper good b.bundle d)) in
-        let g = xor_value-grows below left b.bundle inside in
-        omega arith
-    })
+    let high : xor_value atoms b.bundle ≤ b.price = xor_value-bound atoms b.bundle b.price (All-from_Contains (λ a. IsInside a.bundle b.bundle → a.price ≤ b.price) atoms (λ a d i. ⊎_elim (λ (j : is_inside b.bundle a.bundle ≡ true). whole a d i j) (λ (n : is_inside b.bundle a.bundle ≡ false). part a d i n) (cases_Bool (is_inside b.bundle a.bundle)))) in (
+      omega arith,
+      record {
+        positive = omega arith;
+        less = λ good d.
+            let left = without b.bundle (good ∷ []) in
+            let inside = without_inside b.bundle (good ∷ []) in
+            let e = xor_value-filter_on (λ a. is_below a.bundle b.bundle) atoms left (all_below atoms left b.bundle inside (good_less_is_proper good b.bundle d)) in
+            let g = xor_value-grows below left b.bundle inside in
+            omega arith;
+      },
+    )
   where
     whole : (a : Atom (List ℕ)) → Contains atoms a → IsInside a.bundle b.bundle → is_inside b.bundle a.bundle ≡ true → a.price ≤ b.price
     whole a d i j =
@@ -254,32 +256,32 @@ pub xor_point_is_atom : (goods : ℕ) (atoms : List (Atom (List ℕ))) → All (
 xor_point_is_atom goods atoms on bundle rising point =
     let r = xor_value-reached atoms bundle point.positive in
     ⊎_elim (λ (j : is_inside bundle r.0.bundle ≡ true).
-      let e : r.0.bundle ≡ bundle = inside_antisymm r.0.bundle bundle (All-contains (λ a. IsBundle goods a.bundle) atoms r.0 on r.1).0 rising r.2 j in
-      subst (λ (z : Atom (List ℕ)). Contains atoms z) (atom_from_parts r.0 (record { bundle = bundle; price = xor_value atoms bundle }) e r.3) r.1)
+    let e : r.0.bundle ≡ bundle = inside_antisymm r.0.bundle bundle (All-contains (λ a. IsBundle goods a.bundle) atoms r.0 on r.1).0 rising r.2 j in
+    subst (λ (z : Atom (List ℕ)). Contains atoms z) (atom_from_parts r.0 (record { bundle = bundle; price = xor_value atoms bundle }) e r.3) r.1)
     (λ (n : is_inside bundle r.0.bundle ≡ false).
-      let g = list_all_fails (λ good. has_good r.0.bundle good) bundle n in
-      let less = point.less g.0 g.1 in
-      let own = xor_value-member atoms r.0 r.1 (without bundle (g.0 ∷ [])) (inside_good_less r.0.bundle bundle g.0 r.2 g.2) in
-      let price = r.3 in
-      absurd (omega arith))
+    let g = list_all_fails (λ good. has_good r.0.bundle good) bundle n in
+    let less = point.less g.0 g.1 in
+    let own = xor_value-member atoms r.0 r.1 (without bundle (g.0 ∷ [])) (inside_good_less r.0.bundle bundle g.0 r.2 g.2) in
+    let price = r.3 in
+    absurd (omega arith))
     (cases_Bool (is_inside bundle r.0.bundle))
 
 -- each XOR point is an atom of the list
 pub xor_points_are_atoms : (goods : ℕ) (atoms : List (Atom (List ℕ))) → All (λ a. IsBundle goods a.bundle) atoms → All (Contains atoms) (xor_points goods atoms)
 xor_points_are_atoms goods atoms on =
     All-from_Contains (Contains atoms) (xor_points goods atoms) (λ a c.
-      let p = points_where-are (is_xor_point atoms) (xor_value atoms) goods a c in
-      let there = xor_point_is_atom goods atoms on a.bundle p.bundle.0 (IsXorPoint-from_test atoms a.bundle p.chosen) in
-      subst (λ (z : Atom (List ℕ)). Contains atoms z) (atom_from_parts (record { bundle = a.bundle; price = xor_value atoms a.bundle }) a refl (sym p.price)) there)
+    let p = points_where-are (is_xor_point atoms) (xor_value atoms) goods a c in
+    let there = xor_point_is_atom goods atoms on a.bundle p.bundle.0 (IsXorPoint-from_test atoms a.bundle p.chosen) in
+    subst (λ (z : Atom (List ℕ)). Contains atoms z) (atom_from_parts (record { bundle = a.bundle; price = xor_value atoms a.bundle }) a refl (sym p.price)) there)
 
 -- a list in order, of whose atoms none has its price below it, is its points
 pub xor_kept_are_points : (goods : ℕ) (atoms : List (Atom (List ℕ))) → IsInOrder atoms → All (λ a. IsBundle goods a.bundle) atoms → All (λ b. xor_value (atoms_below atoms b.bundle) b.bundle < b.price) atoms → atoms ≡ xor_points goods atoms
 xor_kept_are_points goods atoms order on short =
     same_in_order atoms (xor_points goods atoms) order (points_where-in_order (is_xor_point atoms) (xor_value atoms) goods)
-      (λ b c.
-        let p = xor_kept_is_point goods atoms order on b c (All-contains (λ b. xor_value (atoms_below atoms b.bundle) b.bundle < b.price) atoms b short c) in
-        points_where-has (is_xor_point atoms) (xor_value atoms) goods b (record { bundle = All-contains (λ a. IsBundle goods a.bundle) atoms b on c; chosen = is_xor_point-true atoms b.bundle p.1; price = p.0 }))
-      (λ b c. All-contains (Contains atoms) (xor_points goods atoms) b (xor_points_are_atoms goods atoms on) c)
+    (λ b c.
+    let p = xor_kept_is_point goods atoms order on b c (All-contains (λ b. xor_value (atoms_below atoms b.bundle) b.bundle < b.price) atoms b short c) in
+    points_where-has (is_xor_point atoms) (xor_value atoms) goods b (record { bundle = All-contains (λ a. IsBundle goods a.bundle) atoms b on c; chosen = is_xor_point-true atoms b.bundle p.1; price = p.0 }))
+    (λ b c. All-contains (Contains atoms) (xor_points goods atoms) b (xor_points_are_atoms goods atoms on) c)
 
 IsXorPoint-same : (goods : ℕ) (one other : List (Atom (List ℕ))) → ((bundle : List ℕ) → IsBundle goods bundle → xor_value one bundle ≡ xor_value other bundle) → (bundle : List ℕ) → IsBundle goods bundle → IsXorPoint one bundle → IsXorPoint other bundle
 IsXorPoint-same goods one other same bundle b p =
@@ -287,17 +289,17 @@ IsXorPoint-same goods one other same bundle b p =
     let positive = p.positive in
     record {
       positive = omega arith;
-      less = λ good c. let f = same (without bundle (good ∷ [])) (IsBundle-without goods bundle (good ∷ []) b) in let l = p.less good c in omega arith
+      less = λ good c. let f = same (without bundle (good ∷ [])) (IsBundle-without goods bundle (good ∷ []) b) in let l = p.less good c in omega arith;
     }
 
 -- XOR points depend on the values on bundles over the goods alone
 pub xor_points_same : (goods : ℕ) (one other : List (Atom (List ℕ))) → ((bundle : List ℕ) → IsBundle goods bundle → xor_value one bundle ≡ xor_value other bundle) → xor_points goods one ≡ xor_points goods other
 xor_points_same goods one other same =
     points_where-same (is_xor_point one) (is_xor_point other) (xor_value one) (xor_value other) goods
-      (λ bundle b. same_test (is_xor_point one bundle) (is_xor_point other bundle)
-        (λ t. is_xor_point-true other bundle (IsXorPoint-same goods one other same bundle b (IsXorPoint-from_test one bundle t)))
-        (λ t. is_xor_point-true one bundle (IsXorPoint-same goods other one (λ bundle b. sym (same bundle b)) bundle b (IsXorPoint-from_test other bundle t))))
-      same
+    (λ bundle b. same_test (is_xor_point one bundle) (is_xor_point other bundle)
+    (λ t. is_xor_point-true other bundle (IsXorPoint-same goods one other same bundle b (IsXorPoint-from_test one bundle t)))
+    (λ t. is_xor_point-true one bundle (IsXorPoint-same goods other one (λ bundle b. sym (same bundle b)) bundle b (IsXorPoint-from_test other bundle t))))
+    same
 
 -- ---- XOR points keep the values
 
@@ -337,8 +339,8 @@ xor_points_reach goods atoms (suc n) bundle l b =
 pub xor_points_keep_values : (goods : ℕ) (atoms : List (Atom (List ℕ))) → All (λ a. IsBundle goods a.bundle) atoms → (bundle : List ℕ) → IsBundle goods bundle → xor_value (xor_points goods atoms) bundle ≡ xor_value atoms bundle
 xor_points_keep_values goods atoms on bundle b =
     le_antisymm
-      (xor_value-outbid atoms (xor_points goods atoms) (All-weaker (Contains atoms) (λ a. a.price ≤ xor_value atoms a.bundle) (λ a c. xor_value-member atoms a c a.bundle (inside_refl a.bundle)) (xor_points goods atoms) (xor_points_are_atoms goods atoms on)) bundle)
-      (xor_points_reach goods atoms (suc (length bundle)) bundle (omega arith) b)
+    (xor_value-outbid atoms (xor_points goods atoms) (All-weaker (Contains atoms) (λ a. a.price ≤ xor_value atoms a.bundle) (λ a c. xor_value-member atoms a c a.bundle (inside_refl a.bundle)) (xor_points goods atoms) (xor_points_are_atoms goods atoms on)) bundle)
+    (xor_points_reach goods atoms (suc (length bundle)) bundle (omega arith) b)
 
 -- and have themselves as points
 pub xor_points_again : (goods : ℕ) (atoms : List (Atom (List ℕ))) → All (λ a. IsBundle goods a.bundle) atoms → xor_points goods (xor_points goods atoms) ≡ xor_points goods atoms

@@ -40,7 +40,7 @@ points_where-are passes value goods a c =
     record {
       bundle = subst (λ (xs : List ℕ). IsBundle goods xs) (sym e) (All-contains (IsBundle goods) (all_bundles goods) r.0 (all_bundles_are goods) t.0);
       chosen = ap passes e ∙ t.1;
-      price = ap (λ (z : Atom (List ℕ)). z.price) r.2 ∙ ap value (sym e)
+      price = ap (λ (z : Atom (List ℕ)). z.price) r.2 ∙ ap value (sym e);
     }
 
 pub points_where-has : (passes : List ℕ → Bool) (value : List ℕ → ℕ) (goods : ℕ) (a : Atom (List ℕ)) → IsPoint passes value goods a → Contains (points_where passes value goods) a
@@ -120,7 +120,7 @@ IsOrPoint-from_test goods atoms bundle b e =
     let parts = and_parts (ltb 0 (or_value atoms bundle)) (list_all less all) e in
     record {
       positive = ltb-true 0 (or_value atoms bundle) parts.0;
-      split = λ part p. ltb-true _ _ (list_all_at less all parts.1 part (Contains-filter (λ part. is_part part bundle) (all_bundles goods) part (all_bundles_has goods part (p.rising, inside_below goods part bundle b.1 p.inside)) (is_part-true part bundle p)))
+      split = λ part p. ltb-true _ _ (list_all_at less all parts.1 part (Contains-filter (λ part. is_part part bundle) (all_bundles goods) part (all_bundles_has goods part (p.rising, inside_below goods part bundle b.1 p.inside)) (is_part-true part bundle p)));
     }
 
 pub is_or_point-true : (goods : ℕ) (atoms : List (Atom (List ℕ))) (bundle : List ℕ) → IsOrPoint atoms bundle → is_or_point goods atoms bundle ≡ true
@@ -129,8 +129,8 @@ is_or_point-true goods atoms bundle p =
     let less = λ (part : List ℕ). ltb (or_value atoms part + or_value atoms (without bundle part)) (or_value atoms bundle) in
     let all = filter (λ part. is_part part bundle) (all_bundles goods) in
     and_from (ltb 0 (or_value atoms bundle)) (list_all less all) (lt-ltb 0 (or_value atoms bundle) p.positive) (list_all_from less all (λ part c.
-      let r = Contains-filter_parts (λ part. is_part part bundle) (all_bundles goods) part c in
-      lt-ltb _ _ (p.split part (IsPart-from_test part bundle (All-contains (IsBundle goods) (all_bundles goods) part (all_bundles_are goods) r.0).0 r.1))))
+    let r = Contains-filter_parts (λ part. is_part part bundle) (all_bundles goods) part c in
+    lt-ltb _ _ (p.split part (IsPart-from_test part bundle (All-contains (IsBundle goods) (all_bundles goods) part (all_bundles_are goods) r.0).0 r.1))))
 
 -- a bundle that is no point has no value, or splits into two parts without loss
 pub no_or_point : (goods : ℕ) (atoms : List (Atom (List ℕ))) (bundle : List ℕ) → is_or_point goods atoms bundle ≡ false → (or_value atoms bundle ≡ 0) ⊎ ((part : List ℕ) × IsPart part bundle × (or_value atoms bundle ≤ or_value atoms part + or_value atoms (without bundle part)))
@@ -140,19 +140,21 @@ no_or_point goods atoms bundle e =
     let all = filter (λ part. is_part part bundle) (all_bundles goods) in
     ⊎_elim (λ (t : ltb 0 (or_value atoms bundle) ≡ false). let z : or_value atoms bundle ≤ 0 = ltb-false _ _ t in inl (omega arith))
     (λ (t : list_all less all ≡ false).
-      let r = list_all_fails less all t in
-      let q = Contains-filter_parts (λ part. is_part part bundle) (all_bundles goods) r.0 r.1 in
-      inr (r.0, IsPart-from_test r.0 bundle (All-contains (IsBundle goods) (all_bundles goods) r.0 (all_bundles_are goods) q.0).0 q.1, ltb-false _ _ r.2))
+    let r = list_all_fails less all t in
+    let q = Contains-filter_parts (λ part. is_part part bundle) (all_bundles goods) r.0 r.1 in
+    inr (r.0, IsPart-from_test r.0 bundle (All-contains (IsBundle goods) (all_bundles goods) r.0 (all_bundles_are goods) q.0).0 q.1, ltb-false _ _ r.2))
     (and_cases (ltb 0 (or_value atoms bundle)) (list_all less all) e)
 
 -- ---- which atoms are points
 
 pub xor_points_are : (goods : ℕ) (atoms : List (Atom (List ℕ))) (a : Atom (List ℕ)) → (Contains (xor_points goods atoms) a ↔ (IsBundle goods a.bundle × IsXorPoint atoms a.bundle × (a.price ≡ xor_value atoms a.bundle)))
-xor_points_are goods atoms a =
-    (λ c. let p = points_where-are (is_xor_point atoms) (xor_value atoms) goods a c in (p.bundle, IsXorPoint-from_test atoms a.bundle p.chosen, p.price),
-     λ p. points_where-has (is_xor_point atoms) (xor_value atoms) goods a (record { bundle = p.0; chosen = is_xor_point-true atoms a.bundle p.1; price = p.2 }))
+xor_points_are goods atoms a = (
+  λ c. let p = points_where-are (is_xor_point atoms) (xor_value atoms) goods a c in (p.bundle, IsXorPoint-from_test atoms a.bundle p.chosen, p.price),
+  λ p. points_where-has (is_xor_point atoms) (xor_value atoms) goods a (record { bundle = p.0; chosen = is_xor_point-true atoms a.bundle p.1; price = p.2 }),
+)
 
 pub or_points_are : (goods : ℕ) (atoms : List (Atom (List ℕ))) (a : Atom (List ℕ)) → (Contains (or_points goods atoms) a ↔ (IsBundle goods a.bundle × IsOrPoint atoms a.bundle × (a.price ≡ or_value atoms a.bundle)))
-or_points_are goods atoms a =
-    (λ c. let p = points_where-are (is_or_point goods atoms) (or_value atoms) goods a c in (p.bundle, IsOrPoint-from_test goods atoms a.bundle p.bundle p.chosen, p.price),
-     λ p. points_where-has (is_or_point goods atoms) (or_value atoms) goods a (record { bundle = p.0; chosen = is_or_point-true goods atoms a.bundle p.1; price = p.2 }))
+or_points_are goods atoms a = (
+  λ c. let p = points_where-are (is_or_point goods atoms) (or_value atoms) goods a c in (p.bundle, IsOrPoint-from_test goods atoms a.bundle p.bundle p.chosen, p.price),
+  λ p. points_where-has (is_or_point goods atoms) (or_value atoms) goods a (record { bundle = p.0; chosen = is_or_point-true goods atoms a.bundle p.1; price = p.2 }),
+)

@@ -61,8 +61,8 @@ xor_value-reached (b ∷ rest) bundle l = ⊎_elim (inside_case (xor_value-reach
 pub xor_value-filter_on : (p : Atom (List ℕ) → Bool) (atoms : List (Atom (List ℕ))) (bundle : List ℕ) → All (λ a. IsInside a.bundle bundle → p a ≡ true) atoms → xor_value (filter p atoms) bundle ≡ xor_value atoms bundle
 xor_value-filter_on p atoms bundle h =
     le_antisymm
-      (xor_value-bound (filter p atoms) bundle (xor_value atoms bundle) (All-from_Contains (λ a. IsInside a.bundle bundle → a.price ≤ xor_value atoms bundle) (filter p atoms) (λ a c i. xor_value-member atoms a (Contains-filter_parts p atoms a c).0 bundle i)))
-      (xor_value-bound atoms bundle (xor_value (filter p atoms) bundle) (All-from_Contains (λ a. IsInside a.bundle bundle → a.price ≤ xor_value (filter p atoms) bundle) atoms (λ a c i. xor_value-member (filter p atoms) a (Contains-filter p atoms a c (All-contains (λ a. IsInside a.bundle bundle → p a ≡ true) atoms a h c i)) bundle i)))
+    (xor_value-bound (filter p atoms) bundle (xor_value atoms bundle) (All-from_Contains (λ a. IsInside a.bundle bundle → a.price ≤ xor_value atoms bundle) (filter p atoms) (λ a c i. xor_value-member atoms a (Contains-filter_parts p atoms a c).0 bundle i)))
+    (xor_value-bound atoms bundle (xor_value (filter p atoms) bundle) (All-from_Contains (λ a. IsInside a.bundle bundle → a.price ≤ xor_value (filter p atoms) bundle) atoms (λ a c i. xor_value-member (filter p atoms) a (Contains-filter p atoms a c (All-contains (λ a. IsInside a.bundle bundle → p a ≡ true) atoms a h c i)) bundle i)))
 
 -- ---- OR
 
@@ -84,9 +84,9 @@ enough_on p (a ∷ rest) bundle h =
     or_value-least a rest bundle _
     (le_trans (enough_on p rest bundle more) (elim (p a) as (λ b. or_value (filter p rest) bundle ≤ or_value (cond b (a ∷ filter p rest) (filter p rest)) bundle) [ true ↦ or_value-rest a (filter p rest) bundle | false ↦ le_refl _ ]))
     (λ i.
-      let taken = or_value-taken a (filter p rest) bundle i in
-      let left = enough_on p rest (without bundle a.bundle) (λ k d l j. more k d l (inside_trans _ (without bundle a.bundle) bundle j (without_inside bundle a.bundle))) in
-      rw (filter-kept p a rest (first i)) (omega arith))
+    let taken = or_value-taken a (filter p rest) bundle i in
+    let left = enough_on p rest (without bundle a.bundle) (λ k d l j. more k d l (inside_trans _ (without bundle a.bundle) bundle j (without_inside bundle a.bundle))) in
+    rw (filter-kept p a rest (first i)) (omega arith))
 
 pub or_value-filter_on : (p : Atom (List ℕ) → Bool) (atoms : List (Atom (List ℕ))) (bundle : List ℕ) → All (λ a. IsInside a.bundle bundle → p a ≡ true) atoms → or_value (filter p atoms) bundle ≡ or_value atoms bundle
 or_value-filter_on p atoms bundle h = le_antisymm (or_value-filter_le p atoms bundle) (enough_on p atoms bundle h)

@@ -7,6 +7,8 @@ mod kept;
 mod laws;
 mod or;
 mod search;
+#[cfg(test)]
+mod tests;
 mod worked;
 mod xor;
 

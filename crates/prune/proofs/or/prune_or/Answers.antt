@@ -99,7 +99,7 @@ returns-in-Err-StepLimit-clause-load g c =
     let turn = next_turn goods (λ s. (g.met.S.GoodsSet.is_bundle s).0) bids yielded _ _ bid h.best step in
     let on = on_bundles MAX_GOODS bids (all_rising goods (λ s. (g.met.S.GoodsSet.is_bundle s).0) c.args.atoms.items) c.requires in
     heavy_load MAX_GOODS c.args.limit bids _ on
-      (heavy_found MAX_GOODS c.args.limit bids _ _ _ (atoms_of goods kept) on turn h.kept h.within (c.in-Err-StepLimit.ensures.step_limit (ap Err c.in-Err-StepLimit.field-0-is))).1
+    (heavy_found MAX_GOODS c.args.limit bids _ _ _ (atoms_of goods kept) on turn h.kept h.within (c.in-Err-StepLimit.ensures.step_limit (ap Err c.in-Err-StepLimit.field-0-is))).1
 
 pub returns-clause-points : goal.returns-clause-points
 returns-clause-points g c =
@@ -116,7 +116,7 @@ returns-clause-none_heavy g c =
     let none : into_iter_items c.loop-bid.bid-iterator ≡ [] = nil_from_length (into_iter_items c.loop-bid.bid-iterator) (omega (arith, c.in-None.ensures.steps.0, c.loop-bid.bid-iterator.rest.ok.0)) in
     λ n are.
     none_heavy_end goods n c.args.limit bids c.loop-bid.yielded _ c.loop-bid.kept.atoms.items (on_bundles n bids (all_rising goods (λ s. (g.met.S.GoodsSet.is_bundle s).0) c.args.atoms.items) are)
-      c.loop-bid.invariant.best c.loop-bid.invariant.kept c.loop-bid.invariant.within none
+    c.loop-bid.invariant.best c.loop-bid.invariant.kept c.loop-bid.invariant.within none
 
 pub returns-clause-values : goal.returns-clause-values
 returns-clause-values g c =

@@ -28,7 +28,7 @@ loop-place-preserved g c =
     let tested : p place ≡ c.is_inside.result = ap (λ a. is_inside a.bundle (goods c.args.bundle.now)) atom ∙ sym c.is_inside.ensures in
     elim c.if-is_inside.branch [
       | then-is_inside+in_ok-push w ↦ let t : p place ≡ true = tested ∙ w.if-is_inside.true in
-        found_more p _ _ _ xs _ c.loop-place-test.true c.loop-place.invariant (ap (λ v. v.items) w.found-is ∙ w.in_ok-push.ensures.items ∙ ap (λ b. c.loop-place.found.items ++ cond b (place ∷ []) []) (sym t))
+          found_more p _ _ _ xs _ c.loop-place-test.true c.loop-place.invariant (ap (λ v. v.items) w.found-is ∙ w.in_ok-push.ensures.items ∙ ap (λ b. c.loop-place.found.items ++ cond b (place ∷ []) []) (sym t))
       | else-is_inside w ↦ let t : p place ≡ false = tested ∙ w.if-is_inside.false in
-        found_more p _ _ _ xs _ c.loop-place-test.true c.loop-place.invariant (ap (λ v. v.items) w.found-is ∙ sym (append-nil c.loop-place.found.items) ∙ ap (λ b. c.loop-place.found.items ++ cond b (place ∷ []) []) (sym t))
+          found_more p _ _ _ xs _ c.loop-place-test.true c.loop-place.invariant (ap (λ v. v.items) w.found-is ∙ sym (append-nil c.loop-place.found.items) ∙ ap (λ b. c.loop-place.found.items ++ cond b (place ∷ []) []) (sym t))
     ]

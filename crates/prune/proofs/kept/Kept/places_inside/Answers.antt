@@ -24,5 +24,5 @@ returns g c =
     let goods = g.S.GoodsSet.goods in
     let atoms = c.args.self.now.atoms.items in
     IsFinding-all (lists_of c.args.self.now.places_by_good.items) (atoms_of goods atoms) (goods c.args.bundle.now) c.loop-good.from _ _ _ c.requires (sym c.in_default.ensures) c.loop-good.invariant
-      c.sort_unstable.ensures.permutation c.sort_unstable.ensures.sorted (dedup_is _ _ _ c.dedup.ensures.filtered)
+    c.sort_unstable.ensures.permutation c.sort_unstable.ensures.sorted (dedup_is _ _ _ c.dedup.ensures.filtered)
     ∙ ap (λ n. filter (is_inside_at (atoms_of goods atoms) (goods c.args.bundle.now)) (range_with_len 0 n)) (length-atoms_of goods atoms)
