@@ -1,14 +1,14 @@
 -- Bids sorted by bundle and by falling price: the first on each bundle are the best.
-use Rattle.std.proofs.Common.{◌≡◌, ℕ, suc, ◌+◌, ◌<◌, ◌≤◌, Bool, true, false, cond, ltb, ◌⊎◌, inl, inr, ⊎_elim, List, [], ◌∷◌, map, length, get_or, refl, sym, ap, ap₂, ◌∙◌, subst, arith, le_refl, Ordering, Less, Equal, Greater, is_lt, nat_cmp}
-use Rattle.std.specs.Prelude.{All, AllPairs, Contains, IsPermutation}
+use Rattle.std.proofs.Common.{◌≡◌, ℕ, ◌+◌, ◌<◌, ◌≤◌, Bool, true, false, cond, ltb, ◌⊎◌, inl, inr, ⊎_elim, List, [], ◌∷◌, map, length, get_or, refl, sym, ap, ap₂, ◌∙◌, subst, arith, le_refl, Ordering, Less, Equal, Greater, is_lt, nat_cmp}
+use Rattle.std.specs.Prelude.{AllPairs, Contains, IsPermutation}
 use Rattle.std.specs.Cmp.{IsTotalOrder}
 use Rattle.std.specs.List.{filter, dedup, dedup_from}
-use Rattle.std.specs.List.Sorted.{IsSortedBy, IsSorted, IsStrictlySortedBy}
-use Rattle.std.specs.Ordering.{is_eq, on, ordering_then, then_cmp, flip_args}
+use Rattle.std.specs.List.Sorted.{IsSortedBy, IsStrictlySortedBy}
+use Rattle.std.specs.Ordering.{is_eq, ordering_then}
 use Rattle.std.proofs.lemmas.Bool.{cases_Bool, cases_lt, both_ways, ltb-true, lt-ltb, cond-true, cond-false}
 use Rattle.std.proofs.lemmas.Cmp.{on_total, then_total, back_total, nat_cmp_total}
 use Rattle.std.proofs.lemmas.List.{length-map, get_or-map}
-use Rattle.std.proofs.lemmas.List.Elements.{All-nil, All-cons, All-head, All-tail, All-contains, All-from_recursion}
+use Rattle.std.proofs.lemmas.List.Elements.{All-tail, All-from_recursion}
 use Rattle.std.proofs.lemmas.List.Kept.{IsStrictlySortedBy-dedup, Contains-from_dedup}
 use Rattle.std.proofs.lemmas.List.Sorted.{sorted_far, ranks_by, Contains-permutation, IsPermutation-sym, IsPermutation-map}
 use Rattle.goods_set.specs.Orders.{bundle_cmp, bundle_cmp_total, bundle_cmp_equal, nat_cmp-lt}

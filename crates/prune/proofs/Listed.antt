@@ -1,18 +1,18 @@
 -- Atoms are found through the goods of a bundle: each atom inside it is listed at one of its goods, which is a good of the bundle.
 -- The places found, sorted and without repetitions, are those of the atoms inside the bundle.
-use Rattle.std.proofs.Common.{◌≡◌, ℕ, zero, suc, ◌+◌, ◌<◌, ◌≤◌, Bool, true, false, cond, ◌&&◌, take, set, get_or-set_same, get_or-set_other, append_assoc, Bor, eqb, ◌⊎◌, inl, inr, ⊎_elim, List, [], ◌∷◌, ◌++◌, length, map, get_or, refl, sym, ap, ◌∙◌, subst, arith, Option, Some, None, nat_cmp, le_trans}
+use Rattle.std.proofs.Common.{◌≡◌, ℕ, zero, suc, ◌+◌, ◌<◌, ◌≤◌, Bool, true, false, cond, take, set, get_or-set_same, get_or-set_other, append_assoc, Bor, eqb, ⊎_elim, List, [], ◌∷◌, ◌++◌, length, map, get_or, refl, sym, ap, ◌∙◌, subst, arith, Some, None, nat_cmp}
 use Rattle.std.specs.Prelude.{All, AllPairs, Contains, IsPermutation}
 use Rattle.std.specs.Global.{Vec}
 use Rattle.std.specs.List.{filter, dedup, range_with_len}
 use Rattle.std.specs.List.Sorted.{IsSorted}
-use Rattle.std.proofs.lemmas.Bool.{cases_Bool, cases_lt, cases_eq, both_ways, and_parts, and_from}
+use Rattle.std.proofs.lemmas.Bool.{cases_lt, cases_eq, both_ways, and_parts, and_from}
 use Rattle.std.proofs.lemmas.List.{map-set, map_push, take_more, get_or-map, get_or_past, get_or_append_left, get_or_push, length-map, length_push}
-use Rattle.std.proofs.lemmas.List.Elements.{filter_more, Contains-get_or, All-nil, All-append, All-contains, All-filter, filter_passes, Contains-append_left, Contains-append_right, Contains-append_cases, Contains-push_cases, Contains-push}
+use Rattle.std.proofs.lemmas.List.Elements.{filter_more, Contains-get_or, All-nil, All-append, All-contains, All-filter, Contains-append_left, Contains-append_right, Contains-push_cases, Contains-push}
 use Rattle.std.proofs.lemmas.List.FromFn.{fill_by_all}
 use Rattle.std.proofs.lemmas.List.Kept.{AllPairs-from_increasing, Contains-dedup_nat, Contains-from_dedup}
 use Rattle.std.proofs.lemmas.List.Sorted.{Contains-permutation, IsPermutation-sym}
 use Rattle.std.proofs.lemmas.Map.Keys.{IsStrictlyIncreasing-dedup}
-use Rattle.goods_set.specs.Bundles.{AreAbove, IsRising, has_good, is_inside, good_from}
+use Rattle.goods_set.specs.Bundles.{IsRising, has_good, is_inside, good_from}
 use Rattle.goods_set.specs.Members.{has_head, has_tail, has_cases, has-filter, AreAbove-from_has, IsRising-filter, same_from_has, inside_at}
 use Rattle.goods_set.specs.Sizes.{IsNextGood, good_from-Some, good_from-None}
 use Rattle.valuation.specs.declared.atom.Atom.{Atom}

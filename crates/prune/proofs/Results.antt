@@ -1,17 +1,16 @@
 -- What a pruning that is done has kept: the points, with the values of all bids.
-use Rattle.std.proofs.Common.{◌≡◌, ℕ, suc, ◌+◌, ◌<◌, ◌≤◌, Bool, true, false, leb, ltb, ◌&&◌, ◌⊎◌, inl, inr, ⊎_elim, List, [], ◌∷◌, ◌++◌, length, map, refl, sym, ap, ◌∙◌, subst, arith, le_trans, le_antisymm, Option, Some, None, Less}
-use Rattle.std.specs.Prelude.{All, AllPairs, Contains}
-use Rattle.std.specs.List.{filter, find}
-use Rattle.std.proofs.lemmas.Bool.{cases_Bool, cases_lt, and_left, and_right, and_from, and_parts, both_ways, leb-true, leb-false, ltb-true, lt-ltb, le-ltb, false_from_ne_true}
-use Rattle.std.proofs.lemmas.List.Elements.{All-nil, All-contains, All-weaker, All-push, Contains-append_left, Contains-append_right, Contains-append_cases}
-use Rattle.goods_set.specs.Bundles.{IsRising, IsBundle, is_inside, IsInside, without, all_bundles}
+use Rattle.std.proofs.Common.{◌≡◌, ℕ, ◌+◌, ◌<◌, ◌≤◌, Bool, true, false, leb, ltb, ◌&&◌, ⊎_elim, List, [], ◌∷◌, ◌++◌, length, refl, sym, ap, ◌∙◌, subst, arith, le_trans, le_antisymm, Some, None, Less}
+use Rattle.std.specs.Prelude.{All, Contains}
+use Rattle.std.specs.List.{filter}
+use Rattle.std.proofs.lemmas.Bool.{and_left, and_right, and_from, leb-true, leb-false, lt-ltb, le-ltb}
+use Rattle.std.proofs.lemmas.List.Elements.{All-contains, All-weaker, All-push, Contains-append_left, Contains-append_right, Contains-append_cases}
+use Rattle.goods_set.specs.Bundles.{IsBundle, is_inside, IsInside, without, all_bundles}
 use Rattle.goods_set.specs.Members.{inside_refl}
 use Rattle.goods_set.specs.Orders.{bundle_cmp, bundle_cmp_total}
 use Rattle.goods_set.specs.AllBundles.{all_bundles_has, all_bundles_rise}
 use Rattle.valuation.specs.declared.atom.Atom.{Atom}
-use Rattle.valuation.specs.Values.{atoms_of, xor_value, or_value}
+use Rattle.valuation.specs.Values.{xor_value, or_value}
 use Rattle.valuation.specs.ListLemmas.{Contains-cons_cases}
-use Rattle.valuation.specs.XorLemmas.{xor_value-nil}
 use Rattle.valuation.specs.OrLemmas.{or_value-nil, or_value-rest, or_value-least, or_value-taken, or_value-price, or_value-filter_le}
 use Rattle.prune.specs.Points.{xor_points, or_points}
 use Rattle.prune.specs.Steps.{is_below, atoms_below, greatest_price, cut_steps, search_steps, is_heavy, first_heavy}
@@ -20,9 +19,9 @@ use Rattle.prune.specs.InOrder.{IsBefore, IsInOrder, before_both, before_itself,
 use Rattle.prune.specs.ValueLemmas.{xor_value-member, xor_value-bound, xor_value-outbid, or_value-outbid}
 use Rattle.prune.specs.Points.{IsOnBundle}
 use Rattle.prune.specs.KeptLemmas.{all_nonempty, xor_kept_are_points, xor_points_same, or_kept_are_points, or_points_same}
-use Rattle.prune.specs.StepLemmas.{greatest_price-member, greatest_price-bound, greatest_price-reached}
+use Rattle.prune.specs.StepLemmas.{greatest_price-member, greatest_price-reached}
 use Rattle.prune.specs.BestBids.{AreBestBids}
-use Rattle.prune.proofs.Pruning.{HasRisingBundle, IsKept, IsKept-none, IsKept-reached, IsKept-missed, IsCompleted, completion, inside_is_below, below_push, later_not_below, not_below_itself, before_next, behind_next, rising_front}
+use Rattle.prune.proofs.Pruning.{HasRisingBundle, IsKept, IsKept-reached, IsKept-missed, IsCompleted, completion, inside_is_below, below_push, later_not_below, not_below_itself, before_next, behind_next, rising_front}
 
 -- ---- values grow with the list
 

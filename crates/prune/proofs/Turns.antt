@@ -1,18 +1,18 @@
 -- The turns of a pruning's loop, by what the code knows of its variables.
-use Rattle.std.proofs.Common.{◌≡◌, ℕ, suc, ◌+◌, ◌<◌, ◌≤◌, Bool, true, false, ◌||◌, leb, ◌⊎◌, inl, inr, ⊎_elim, List, [], ◌∷◌, ◌++◌, length, map, max, refl, sym, ap, ap₂, ◌∙◌, subst, arith, append_assoc, append-nil, Bor, ltb, None}
+use Rattle.std.proofs.Common.{◌≡◌, ℕ, ◌<◌, ◌≤◌, Bool, true, ◌||◌, leb, ⊎_elim, List, [], ◌∷◌, ◌++◌, length, map, max, refl, sym, ap, ◌∙◌, subst, arith, append_assoc, append-nil, Bor, ltb, None}
 use Rattle.std.specs.Prelude.{All, Contains}
 use Rattle.std.specs.List.{filter, list_any}
 use Rattle.std.proofs.lemmas.Bool.{cases_lt, le-leb, lt-leb, and_parts, ltb-true}
-use Rattle.std.proofs.lemmas.List.{map-append, map_push}
+use Rattle.std.proofs.lemmas.List.{map-append}
 use Rattle.std.proofs.lemmas.List.Elements.{All-nil, All-cons, All-head, All-tail, All-contains, All-filter, All-weaker, Contains-append_left, filter_passes}
-use Rattle.goods_set.specs.Bundles.{AreBelow, IsRising, IsBundle, is_inside, IsInside}
+use Rattle.goods_set.specs.Bundles.{IsRising, IsBundle, is_inside, IsInside}
 use Rattle.valuation.specs.declared.atom.Atom.{Atom}
 use Rattle.valuation.specs.Auctions.{IsAtom}
 use Rattle.valuation.specs.Values.{atoms_of, xor_value}
 use Rattle.valuation.specs.XorLemmas.{xor_value-nil, xor_value-inside}
 use Rattle.prune.specs.Steps.{greatest_price, search_steps, steps_at_most, is_heavy, first_heavy}
 use Rattle.prune.specs.StepLemmas.{search_within_bound}
-use Rattle.prune.specs.Lists.{Contains-head, All-from_Contains}
+use Rattle.prune.specs.Lists.{All-from_Contains}
 use Rattle.prune.specs.Points.{IsOnBundle}
 use Rattle.prune.specs.BestBids.{AreBestBids}
 use Rattle.prune.proofs.BestBids.{seen_of}

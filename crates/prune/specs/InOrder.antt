@@ -1,10 +1,9 @@
 -- Lists of atoms in order: by bundle, no bundle twice. Two such lists with the same atoms are equal.
-use Rattle.std.proofs.Common.{◌≡◌, ℕ, ◌<◌, Bool, true, false, ◌⊎◌, inl, inr, ⊎_elim, List, [], ◌∷◌, ◌++◌, refl, sym, ap, ap₂, ◌∙◌, subst, arith, Ordering, Less, Equal, Greater}
-use Rattle.std.specs.Prelude.{All, AllPairs, Contains}
-use Rattle.std.specs.Cmp.{IsTotalOrder}
-use Rattle.std.specs.Ordering.{is_eq, ordering_reverse}
-use Rattle.std.proofs.lemmas.List.Elements.{All-head, All-tail, All-contains}
-use Rattle.goods_set.specs.Bundles.{IsRising, is_inside, IsInside}
+use Rattle.std.proofs.Common.{◌≡◌, ℕ, true, false, ◌⊎◌, inl, inr, ⊎_elim, List, [], ◌∷◌, refl, sym, ap, ap₂, ◌∙◌, subst, Ordering, Less, Equal, Greater}
+use Rattle.std.specs.Prelude.{AllPairs, Contains}
+use Rattle.std.specs.Ordering.{is_eq}
+use Rattle.std.proofs.lemmas.List.Elements.{All-contains}
+use Rattle.goods_set.specs.Bundles.{IsRising, IsInside}
 use Rattle.goods_set.specs.Orders.{bundle_cmp, bundle_cmp_total, bundle_cmp_refl, bundle_cmp_equal, inside_ordered}
 use Rattle.valuation.specs.declared.atom.Atom.{Atom}
 use Rattle.valuation.specs.ListLemmas.{Contains-cons_cases, AllPairs-head, AllPairs-tail}

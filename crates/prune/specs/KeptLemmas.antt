@@ -1,9 +1,9 @@
 -- A list in order, of whose atoms none is reached by those below it, is the list of its points. The idea: for what is properly
 -- inside a kept atom's bundle only the atoms below it matter; and a value above 0 is reached with some atom, which is either
 -- on the whole bundle or one part of a split of it.
-use Rattle.std.proofs.Common.{◌≡◌, ℕ, zero, suc, ◌+◌, ◌<◌, ◌≤◌, Bool, true, false, not, cond, ◌&&◌, ltb, ◌⊎◌, inl, inr, ⊎_elim, List, [], ◌∷◌, length, refl, sym, ap, ap₂, ◌∙◌, subst, arith, le_trans, le_refl, le_antisymm}
-use Rattle.std.specs.Prelude.{All, AllPairs, Contains}
-use Rattle.std.specs.List.{filter, list_all}
+use Rattle.std.proofs.Common.{◌≡◌, ℕ, zero, suc, ◌+◌, ◌<◌, ◌≤◌, true, false, not, ltb, ◌⊎◌, inl, inr, ⊎_elim, List, [], ◌∷◌, length, refl, sym, ap, ap₂, subst, arith, le_antisymm}
+use Rattle.std.specs.Prelude.{All, Contains}
+use Rattle.std.specs.List.{list_all}
 use Rattle.std.specs.Cmp.{both_ways as same_test}
 use Rattle.std.proofs.lemmas.Bool.{cases_Bool, both_ways, and_from, and_cases, ltb-false, not_from_false, false_from_ne_true}
 use Rattle.std.proofs.lemmas.List.Elements.{All-contains, All-weaker, All-filter}
@@ -15,12 +15,12 @@ use Rattle.valuation.specs.Values.{xor_value, or_value}
 use Rattle.valuation.specs.ListLemmas.{Contains-cons_cases}
 use Rattle.valuation.specs.XorLemmas.{xor_value-grows}
 use Rattle.valuation.specs.OrLemmas.{or_value-split, or_value-empty, or_value-price, ReachesValue, ReachesValue-some}
-use Rattle.prune.specs.Points.{IsOnBundle, points_where, is_xor_point, xor_points, is_or_point, or_points}
+use Rattle.prune.specs.Points.{IsOnBundle, is_xor_point, xor_points, is_or_point, or_points}
 use Rattle.prune.specs.Steps.{is_below, atoms_below}
-use Rattle.prune.specs.Lists.{zero_or_more, list_all_fails, Contains-nil, Contains-filter, Contains-filter_parts, All-from_Contains}
+use Rattle.prune.specs.Lists.{zero_or_more, list_all_fails, Contains-nil, Contains-filter, All-from_Contains}
 use Rattle.prune.specs.InOrder.{IsInOrder, same_bundle_same_atom, same_in_order}
 use Rattle.prune.specs.ValueLemmas.{xor_value-member, xor_value-bound, xor_value-outbid, xor_value-reached, xor_value-filter_on, or_value-outbid, or_value-filter_on}
-use Rattle.prune.specs.PointLemmas.{points_where-in_order, IsPoint, points_where-are, points_where-has, points_where-same, IsXorPoint, IsXorPoint-from_test, is_xor_point-true, IsPart, IsOrPoint, inside_below, IsOrPoint-from_test, is_or_point-true, no_or_point}
+use Rattle.prune.specs.PointLemmas.{points_where-in_order, points_where-are, points_where-has, points_where-same, IsXorPoint, IsXorPoint-from_test, is_xor_point-true, IsPart, IsOrPoint, inside_below, IsOrPoint-from_test, is_or_point-true, no_or_point}
 
 pub all_nonempty : (goods : ℕ) (atoms : List (Atom (List ℕ))) → All (IsOnBundle goods) atoms → All (λ a. 0 < length a.bundle) atoms
 all_nonempty goods atoms on = All-weaker (IsOnBundle goods) (λ a. 0 < length a.bundle) (λ a o. o.nonempty) atoms on

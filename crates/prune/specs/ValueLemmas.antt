@@ -1,17 +1,17 @@
 -- Lemmas on values: of lists of which one outbids the other, and of the atoms of a list that matter for a bundle.
-use Rattle.std.proofs.Common.{◌≡◌, ℕ, ◌+◌, ◌<◌, ◌≤◌, max, Bool, true, false, cond, ◌⊎◌, inl, inr, ⊎_elim, List, [], ◌∷◌, length, refl, sym, ap, ◌∙◌, subst, arith, le_trans, le_refl, le_antisymm}
+use Rattle.std.proofs.Common.{◌≡◌, ℕ, ◌<◌, ◌≤◌, max, Bool, true, false, cond, ◌⊎◌, inl, inr, ⊎_elim, List, [], ◌∷◌, length, sym, ◌∙◌, subst, arith, le_trans, le_refl, le_antisymm}
 use Rattle.std.specs.Prelude.{All, Contains}
 use Rattle.std.specs.List.{filter}
 use Rattle.std.proofs.lemmas.Bool.{cases_Bool}
 use Rattle.std.proofs.lemmas.List.Elements.{All-head, All-tail, All-contains}
 use Rattle.goods_set.specs.Bundles.{is_inside, IsInside, without}
-use Rattle.goods_set.specs.Members.{inside_refl, inside_trans, without_inside}
+use Rattle.goods_set.specs.Members.{inside_trans, without_inside}
 use Rattle.valuation.specs.declared.atom.Atom.{Atom}
 use Rattle.valuation.specs.Values.{xor_value, or_value}
 use Rattle.valuation.specs.ListLemmas.{Contains-cons_cases}
 use Rattle.valuation.specs.XorLemmas.{xor_value-nil, xor_value-inside, xor_value-outside, xor_value-rest, xor_value-price, xor_value-least, xor_value-grows}
 use Rattle.valuation.specs.OrLemmas.{or_value-nil, or_value-rest, or_value-taken, or_value-least, or_value-split, or_value-filter_le}
-use Rattle.prune.specs.Lists.{Contains-nil, Contains-head, Contains-tail, All-from_Contains, filter-kept, filter-lost, Contains-filter, Contains-filter_parts}
+use Rattle.prune.specs.Lists.{Contains-nil, Contains-head, Contains-tail, All-from_Contains, filter-kept, Contains-filter, Contains-filter_parts}
 
 -- ---- XOR
 

@@ -1,8 +1,4 @@
-use Rattle.std.proofs.Common.{length, ap, ◌∙◌, sym, subst, map, List}
-use Rattle.std.specs.Prelude.{All}
-use Rattle.std.proofs.lemmas.List.Elements.{All-filter}
 use Rattle.goods_set.specs.Bundles.{is_inside}
-use Rattle.valuation.specs.declared.atom.Atom.{Atom}
 use Rattle.valuation.specs.Values.{atoms_of}
 use Rattle.prune.proofs.Turns.{nonempty_inside}
 use Rattle.prune.proofs.or.is_outbid.Goals as goal

@@ -1,12 +1,10 @@
-use Rattle.std.proofs.Common.{arith, Err, ◌≡◌, ◌++◌, ◌+◌, ◌<◌, ℕ, length, sym, ap, ◌∙◌, subst, List, [], ◌∷◌, true, false}
+use Rattle.std.proofs.Common.{arith, Err, ◌≡◌, length, sym, ap, ◌∙◌, []}
 use Rattle.std.proofs.lemmas.List.{map_push, nil_from_length, length_push}
 use Rattle.std.proofs.lemmas.List.Elements.{All-contains}
 use Rattle.std.specs.Vec.Iter.{into_iter_items}
 use Rattle.cats_text.specs.declared.limits.TheConstants.{MAX_GOODS}
-use Rattle.valuation.specs.declared.atom.Atom.{Atom}
 use Rattle.valuation.specs.Auctions.{IsAtom}
 use Rattle.valuation.specs.Values.{atoms_of}
-use Rattle.prune.specs.BestBids.{AreBestBids}
 use Rattle.prune.proofs.BestBids.{seen_of}
 use Rattle.prune.proofs.Results.{turn_among, or_reached, or_missed, within_reached, within_missed, heavy_found}
 use Rattle.prune.proofs.Turns.{all_rising, next_turn, taken, or_end, on_bundles, kept_nonempty, all_some, none_heavy_end, heavy_load}

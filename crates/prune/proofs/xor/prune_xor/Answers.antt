@@ -1,16 +1,13 @@
-use Rattle.std.proofs.Common.{arith, ◌≡◌, ◌++◌, ◌+◌, ◌<◌, ℕ, length, sym, ap, ◌∙◌, subst, List, [], ◌∷◌, true, false, not}
-use Rattle.std.proofs.lemmas.Bool.{not-true, not-false}
+use Rattle.std.proofs.Common.{arith, ◌≡◌, length, sym, ap, ◌∙◌, []}
 use Rattle.std.proofs.lemmas.List.{map_push, nil_from_length, length_push}
 use Rattle.std.proofs.lemmas.List.Elements.{All-contains}
 use Rattle.std.specs.Vec.Iter.{into_iter_items}
 use Rattle.cats_text.specs.declared.limits.TheConstants.{MAX_GOODS}
-use Rattle.valuation.specs.declared.atom.Atom.{Atom}
 use Rattle.valuation.specs.Auctions.{IsAtom}
 use Rattle.valuation.specs.Values.{atoms_of}
-use Rattle.prune.specs.BestBids.{AreBestBids}
 use Rattle.prune.proofs.BestBids.{seen_of}
-use Rattle.prune.proofs.Results.{IsXorKept, turn_positive, turn_among, xor_reached, xor_missed, xor_done}
-use Rattle.prune.proofs.Turns.{xor_end, all_rising, next_turn, taken, none_left, on_bundles, just_bundles}
+use Rattle.prune.proofs.Results.{turn_positive, turn_among, xor_reached, xor_missed}
+use Rattle.prune.proofs.Turns.{xor_end, all_rising, next_turn, taken, on_bundles, just_bundles}
 use Rattle.prune.proofs.xor.prune_xor.Goals as goal
 
 pub is_outbid-requires-clause-positive : goal.is_outbid-requires-clause-positive

@@ -1,8 +1,8 @@
-use Rattle.std.proofs.Common.{arith, rules, ◌≡◌, ◌++◌, ◌+◌, ◌<◌, length, take, get_or, sym, ap, ◌∙◌, subst, true, false, cond, List, [], ◌∷◌, append-nil}
+use Rattle.std.proofs.Common.{arith, ◌≡◌, ◌++◌, get_or, sym, ap, ◌∙◌, true, false, cond, [], ◌∷◌, append-nil}
 use Rattle.goods_set.specs.Bundles.{is_inside}
 use Rattle.valuation.specs.Values.{atoms_of}
 use Rattle.valuation.specs.AtomLemmas.{length-atoms_of, get_or-atoms_of}
-use Rattle.prune.specs.Listings.{lists_of, listed_at, is_inside_at}
+use Rattle.prune.specs.Listings.{is_inside_at}
 use Rattle.prune.proofs.Listed.{listed_there, listed_index, found_more}
 use Rattle.prune.proofs.kept.Kept.find_listed.Goals as goal
 use Rattle.prune.proofs.kept.Kept.find_listed.Goals.{then-is_inside+in_ok-push, else-is_inside}

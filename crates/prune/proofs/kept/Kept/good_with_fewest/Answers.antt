@@ -1,5 +1,5 @@
-use Rattle.std.proofs.Common.{arith, ◌≡◌, Some, None, sym, ⊎_elim, ◌∙◌, subst, inr}
-use Rattle.goods_set.specs.Bundles.{has_good, good_from}
+use Rattle.std.proofs.Common.{arith, ◌≡◌, None, sym, ⊎_elim, subst, inr}
+use Rattle.goods_set.specs.Bundles.{good_from}
 use Rattle.prune.proofs.Listed.{next_is_further, next_is_had, some_from_zero}
 use Rattle.prune.proofs.kept.Kept.good_with_fewest.Goals as goal
 use Rattle.prune.proofs.kept.Kept.good_with_fewest.Goals.{then-is_first, else-is_first+else-count-fewest}

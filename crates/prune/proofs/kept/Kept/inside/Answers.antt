@@ -1,8 +1,8 @@
-use Rattle.std.proofs.Common.{arith, ◌≡◌, ◌++◌, ◌+◌, ◌<◌, length, map, take, get_or, sym, ap, ◌∙◌, subst, List, [], ◌∷◌}
+use Rattle.std.proofs.Common.{arith, map, sym, ap, ◌∙◌}
 use Rattle.std.specs.List.{filter, range_with_len}
-use Rattle.std.proofs.lemmas.List.{map_push, take_more, take_all}
+use Rattle.std.proofs.lemmas.List.{take_all}
 use Rattle.valuation.specs.Values.{atoms_of}
-use Rattle.valuation.specs.AtomLemmas.{length-atoms_of, get_or-atoms_of}
+use Rattle.valuation.specs.AtomLemmas.{length-atoms_of}
 use Rattle.prune.specs.Listings.{atom_at, is_inside_at}
 use Rattle.prune.proofs.Listed.{places_in_list, atoms_at_places, seen_more}
 use Rattle.prune.proofs.kept.Kept.inside.Goals as goal

@@ -1,10 +1,10 @@
-use Rattle.std.proofs.Common.{arith, ◌≡◌, ◌++◌, sym, ap, ◌∙◌, rules}
+use Rattle.std.proofs.Common.{arith, sym, ap, ◌∙◌}
 use Rattle.std.proofs.lemmas.List.Filters.{dedup_is}
 use Rattle.std.specs.List.{filter, range_with_len}
 use Rattle.valuation.specs.Values.{atoms_of}
 use Rattle.valuation.specs.AtomLemmas.{length-atoms_of}
-use Rattle.prune.specs.Listings.{lists_of, listed_at, is_inside_at}
-use Rattle.prune.proofs.Listed.{next_is_further, IsFinding-none, IsFinding-more, IsFinding-all}
+use Rattle.prune.specs.Listings.{lists_of, is_inside_at}
+use Rattle.prune.proofs.Listed.{next_is_further, IsFinding-more, IsFinding-all}
 use Rattle.prune.proofs.kept.Kept.places_inside.Goals as goal
 
 pub loop-good-smaller : goal.loop-good-smaller

@@ -1,4 +1,4 @@
-use Rattle.std.proofs.Common.{arith, ◌≡◌, ◌++◌, ◌+◌, ◌<◌, ℕ, length, sym, ap, ◌∙◌, subst, true, set, List, [], ◌∷◌}
+use Rattle.std.proofs.Common.{arith, ◌≡◌, ◌++◌, ◌<◌, ℕ, length, sym, ap, ◌∙◌, subst, true, set, List, [], ◌∷◌}
 use Rattle.std.proofs.lemmas.List.{map_push}
 use Rattle.goods_set.specs.Bundles.{has_good}
 use Rattle.valuation.specs.Values.{atoms_of}
