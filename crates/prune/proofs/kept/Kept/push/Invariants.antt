@@ -1,0 +1,13 @@
+-- The lists that are added are empty.
+use Rattle.std.proofs.Common.{◌≡◌, ℕ, ◌+◌, ◌-◌, vec_len}
+use Rattle.prune.specs.Listings.{lists_of, listed_at}
+use Rattle.prune.proofs.kept.Kept.push.Given as goal
+
+abbrev pub invariant-loop-alloc : goal.invariant-loop-alloc
+invariant-loop-alloc g l = record {
+  atoms : l.self.atoms ≡ l.fn.self.atoms;
+  lists : (k : ℕ) → listed_at (lists_of l.self.places_by_good.items) k ≡ listed_at (lists_of l.fn.self.places_by_good.items) k;
+}
+
+abbrev pub decreases-loop-alloc : goal.decreases-loop-alloc
+decreases-loop-alloc g l = l.good + 1 - vec_len l.self.places_by_good

@@ -1,0 +1,6 @@
+use Rattle.prune.specs.KeptLemmas.{xor_points_are_atoms, or_points_are_atoms}
+use Rattle.prune.proofs.Turns.{just_bundles}
+use Rattle.prune.proofs.laws.points_are_bids.Goals as goal
+
+pub returns : goal.returns
+returns c = record { xor = λ goods atoms on. xor_points_are_atoms goods atoms (just_bundles goods atoms on); or = or_points_are_atoms }

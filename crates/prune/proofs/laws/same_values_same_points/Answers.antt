@@ -1,0 +1,5 @@
+use Rattle.prune.specs.KeptLemmas.{xor_points_same, or_points_same}
+use Rattle.prune.proofs.laws.same_values_same_points.Goals as goal
+
+pub returns : goal.returns
+returns c = record { xor = xor_points_same; or = or_points_same }

@@ -1,0 +1,5 @@
+use Rattle.prune.specs.StepLemmas.{search_within_packings, search_within_bound}
+use Rattle.prune.proofs.laws.steps_are_bounded.Goals as goal
+
+pub returns : goal.returns
+returns c = record { cut = search_within_packings; load = search_within_bound }

@@ -1,0 +1,141 @@
+use Rattle.std.proofs.Common.{arith, Err, ◌≡◌, length, sym, ap, ◌∙◌, []}
+use Rattle.std.proofs.lemmas.List.{map_push, nil_from_length, length_push}
+use Rattle.std.proofs.lemmas.List.Elements.{All-contains}
+use Rattle.std.specs.Vec.Iter.{into_iter_items}
+use Rattle.cats_text.specs.declared.limits.TheConstants.{MAX_GOODS}
+use Rattle.valuation.specs.Auctions.{IsAtom}
+use Rattle.valuation.specs.Values.{atoms_of}
+use Rattle.prune.proofs.BestBids.{seen_of}
+use Rattle.prune.proofs.Results.{turn_among, or_reached, or_missed, within_reached, within_missed, heavy_found}
+use Rattle.prune.proofs.Turns.{all_rising, next_turn, taken, or_end, on_bundles, kept_nonempty, all_some, none_heavy_end, heavy_load}
+use Rattle.prune.proofs.or.prune_or.Goals as goal
+
+pub is_outbid-requires-clause-some : goal.is_outbid-requires-clause-some
+is_outbid-requires-clause-some g c =
+    let goods = g.S.GoodsSet.goods in
+    kept_nonempty goods MAX_GOODS (atoms_of goods c.args.atoms.items) c.loop-bid.yielded _ c.loop-bid.kept.atoms.items c.loop-bid.invariant.best c.requires c.loop-bid.invariant.kept.among
+
+pub loop-bid-preserved-then-is_outbid : goal.loop-bid-preserved-then-is_outbid
+loop-bid-preserved-then-is_outbid g c =
+    let goods = g.S.GoodsSet.goods in
+    let h = c.loop-bid.invariant in
+    let bids = atoms_of goods c.args.atoms.items in
+    let yielded = c.loop-bid.yielded in
+    let bid = c.in-Some.bid in
+    let kept = c.loop-bid.kept.atoms.items in
+    let step = c.in-Some.ensures.steps.0 in
+    let turn = next_turn goods (λ s. (g.met.S.GoodsSet.is_bundle s).0) bids yielded _ _ bid h.best step in
+    let reached = or_reached _ _ _ _ (atoms_of goods kept) turn h.kept (sym c.in-Ok-true.field-0-test ∙ c.in-Ok-true.ensures.answer) in
+    let within = within_reached c.args.limit _ _ _ _ (atoms_of goods kept) turn h.kept h.within c.in-Ok-true.ensures.within in
+    let joined = taken yielded _ _ bid step in
+    record {
+      best = rw joined at h.best;
+      fits = rw joined at h.fits;
+      listed = h.listed;
+      kept = rw (map_push (seen_of goods) yielded bid) reached;
+      within = rw (map_push (seen_of goods) yielded bid) within;
+      fewer = omega (arith, h.fewer, length_push yielded bid);
+    }
+
+pub push-requires-clause-some : goal.push-requires-clause-some
+push-requires-clause-some g c =
+    let goods = g.S.GoodsSet.goods in
+    let h = c.loop-bid.invariant in
+    let bids = atoms_of goods c.args.atoms.items in
+    let yielded = c.loop-bid.yielded in
+    let bid = c.in-Some.bid in
+    let kept = c.loop-bid.kept.atoms.items in
+    let step = c.in-Some.ensures.steps.0 in
+    let turn = next_turn goods (λ s. (g.met.S.GoodsSet.is_bundle s).0) bids yielded _ _ bid h.best step in
+    (All-contains (IsAtom MAX_GOODS) bids _ c.requires (turn_among _ _ _ _ turn)).nonempty
+
+pub loop-bid-preserved : goal.loop-bid-preserved
+loop-bid-preserved g c =
+    let goods = g.S.GoodsSet.goods in
+    let h = c.loop-bid.invariant in
+    let bids = atoms_of goods c.args.atoms.items in
+    let yielded = c.loop-bid.yielded in
+    let bid = c.in-Some.bid in
+    let kept = c.loop-bid.kept.atoms.items in
+    let step = c.in-Some.ensures.steps.0 in
+    let turn = next_turn goods (λ s. (g.met.S.GoodsSet.is_bundle s).0) bids yielded _ _ bid h.best step in
+    let pushed = c.in_ok-push-in-Ok-false.ensures in
+    let missed = or_missed _ _ _ _ (atoms_of goods kept) turn h.kept (sym c.in-Ok-false.field-0-test ∙ c.in-Ok-false.ensures.answer) in
+    let within = within_missed c.args.limit _ _ _ _ (atoms_of goods kept) turn h.kept h.within c.in-Ok-false.ensures.within in
+    let joined = taken yielded _ _ bid step in
+    record {
+      best = rw joined at h.best;
+      fits = rw joined at h.fits;
+      listed = pushed.listed;
+      kept = rw (map_push (seen_of goods) yielded bid, pushed.atoms, map_push (seen_of goods) kept bid) missed;
+      within = rw (pushed.atoms, map_push (seen_of goods) kept bid, map_push (seen_of goods) yielded bid) within;
+      fewer = omega (arith, h.fewer, c.loop-bid.kept.atoms.ok.0, c.push.new.self.atoms.ok.0, ap length pushed.atoms, length_push kept bid, length_push yielded bid);
+    }
+
+pub returns-in-Err-StepLimit-clause-step_limit : goal.returns-in-Err-StepLimit-clause-step_limit
+returns-in-Err-StepLimit-clause-step_limit g c =
+    let goods = g.S.GoodsSet.goods in
+    let h = c.loop-bid.invariant in
+    let bids = atoms_of goods c.args.atoms.items in
+    let yielded = c.loop-bid.yielded in
+    let bid = c.in-Some.bid in
+    let kept = c.loop-bid.kept.atoms.items in
+    let step = c.in-Some.ensures.steps.0 in
+    let turn = next_turn goods (λ s. (g.met.S.GoodsSet.is_bundle s).0) bids yielded _ _ bid h.best step in
+    λ n are.
+    (heavy_found n c.args.limit bids _ _ _ (atoms_of goods kept) (on_bundles n bids (all_rising goods (λ s. (g.met.S.GoodsSet.is_bundle s).0) c.args.atoms.items) are) turn h.kept h.within (c.in-Err-StepLimit.ensures.step_limit (ap Err c.in-Err-StepLimit.field-0-is))).0
+
+pub returns-in-Err-StepLimit-clause-load : goal.returns-in-Err-StepLimit-clause-load
+returns-in-Err-StepLimit-clause-load g c =
+    let goods = g.S.GoodsSet.goods in
+    let h = c.loop-bid.invariant in
+    let bids = atoms_of goods c.args.atoms.items in
+    let yielded = c.loop-bid.yielded in
+    let bid = c.in-Some.bid in
+    let kept = c.loop-bid.kept.atoms.items in
+    let step = c.in-Some.ensures.steps.0 in
+    let turn = next_turn goods (λ s. (g.met.S.GoodsSet.is_bundle s).0) bids yielded _ _ bid h.best step in
+    let on = on_bundles MAX_GOODS bids (all_rising goods (λ s. (g.met.S.GoodsSet.is_bundle s).0) c.args.atoms.items) c.requires in
+    heavy_load MAX_GOODS c.args.limit bids _ on
+    (heavy_found MAX_GOODS c.args.limit bids _ _ _ (atoms_of goods kept) on turn h.kept h.within (c.in-Err-StepLimit.ensures.step_limit (ap Err c.in-Err-StepLimit.field-0-is))).1
+
+pub returns-clause-points : goal.returns-clause-points
+returns-clause-points g c =
+    let goods = g.S.GoodsSet.goods in
+    let bids = atoms_of goods c.args.atoms.items in
+    let none : into_iter_items c.loop-bid.bid-iterator ≡ [] = nil_from_length (into_iter_items c.loop-bid.bid-iterator) (omega (arith, c.in-None.ensures.steps.0, c.loop-bid.bid-iterator.rest.ok.0)) in
+    let done = or_end goods bids c.loop-bid.yielded _ c.loop-bid.kept.atoms.items _ (all_some MAX_GOODS bids c.requires) c.loop-bid.invariant.best c.loop-bid.invariant.kept none (ap (λ v. v.items) c.into_atoms.ensures) in
+    λ n are. done.points n (on_bundles n bids (all_rising goods (λ s. (g.met.S.GoodsSet.is_bundle s).0) c.args.atoms.items) are)
+
+pub returns-clause-none_heavy : goal.returns-clause-none_heavy
+returns-clause-none_heavy g c =
+    let goods = g.S.GoodsSet.goods in
+    let bids = atoms_of goods c.args.atoms.items in
+    let none : into_iter_items c.loop-bid.bid-iterator ≡ [] = nil_from_length (into_iter_items c.loop-bid.bid-iterator) (omega (arith, c.in-None.ensures.steps.0, c.loop-bid.bid-iterator.rest.ok.0)) in
+    λ n are.
+    none_heavy_end goods n c.args.limit bids c.loop-bid.yielded _ c.loop-bid.kept.atoms.items (on_bundles n bids (all_rising goods (λ s. (g.met.S.GoodsSet.is_bundle s).0) c.args.atoms.items) are)
+    c.loop-bid.invariant.best c.loop-bid.invariant.kept c.loop-bid.invariant.within none
+
+pub returns-clause-values : goal.returns-clause-values
+returns-clause-values g c =
+    let goods = g.S.GoodsSet.goods in
+    let bids = atoms_of goods c.args.atoms.items in
+    let none : into_iter_items c.loop-bid.bid-iterator ≡ [] = nil_from_length (into_iter_items c.loop-bid.bid-iterator) (omega (arith, c.in-None.ensures.steps.0, c.loop-bid.bid-iterator.rest.ok.0)) in
+    let done = or_end goods bids c.loop-bid.yielded _ c.loop-bid.kept.atoms.items _ (all_some MAX_GOODS bids c.requires) c.loop-bid.invariant.best c.loop-bid.invariant.kept none (ap (λ v. v.items) c.into_atoms.ensures) in
+    done.values
+
+pub returns-clause-bids : goal.returns-clause-bids
+returns-clause-bids g c =
+    let goods = g.S.GoodsSet.goods in
+    let bids = atoms_of goods c.args.atoms.items in
+    let none : into_iter_items c.loop-bid.bid-iterator ≡ [] = nil_from_length (into_iter_items c.loop-bid.bid-iterator) (omega (arith, c.in-None.ensures.steps.0, c.loop-bid.bid-iterator.rest.ok.0)) in
+    let done = or_end goods bids c.loop-bid.yielded _ c.loop-bid.kept.atoms.items _ (all_some MAX_GOODS bids c.requires) c.loop-bid.invariant.best c.loop-bid.invariant.kept none (ap (λ v. v.items) c.into_atoms.ensures) in
+    done.among
+
+pub returns-clause-in_order : goal.returns-clause-in_order
+returns-clause-in_order g c =
+    let goods = g.S.GoodsSet.goods in
+    let bids = atoms_of goods c.args.atoms.items in
+    let none : into_iter_items c.loop-bid.bid-iterator ≡ [] = nil_from_length (into_iter_items c.loop-bid.bid-iterator) (omega (arith, c.in-None.ensures.steps.0, c.loop-bid.bid-iterator.rest.ok.0)) in
+    let done = or_end goods bids c.loop-bid.yielded _ c.loop-bid.kept.atoms.items _ (all_some MAX_GOODS bids c.requires) c.loop-bid.invariant.best c.loop-bid.invariant.kept none (ap (λ v. v.items) c.into_atoms.ensures) in
+    done.in_order

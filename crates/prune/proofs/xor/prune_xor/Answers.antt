@@ -1,0 +1,88 @@
+use Rattle.std.proofs.Common.{arith, ◌≡◌, length, sym, ap, ◌∙◌, []}
+use Rattle.std.proofs.lemmas.List.{map_push, nil_from_length, length_push}
+use Rattle.std.proofs.lemmas.List.Elements.{All-contains}
+use Rattle.std.specs.Vec.Iter.{into_iter_items}
+use Rattle.cats_text.specs.declared.limits.TheConstants.{MAX_GOODS}
+use Rattle.valuation.specs.Auctions.{IsAtom}
+use Rattle.valuation.specs.Values.{atoms_of}
+use Rattle.prune.proofs.BestBids.{seen_of}
+use Rattle.prune.proofs.Results.{turn_positive, turn_among, xor_reached, xor_missed}
+use Rattle.prune.proofs.Turns.{xor_end, all_rising, next_turn, taken, on_bundles, just_bundles}
+use Rattle.prune.proofs.xor.prune_xor.Goals as goal
+
+pub is_outbid-requires-clause-positive : goal.is_outbid-requires-clause-positive
+is_outbid-requires-clause-positive g c =
+    let goods = g.S.GoodsSet.goods in
+    let turn = next_turn goods (λ s. (g.met.S.GoodsSet.is_bundle s).0) _ c.loop-bid.yielded _ _ c.in-Some.bid c.loop-bid.invariant.best c.in-Some.ensures.steps.0 in
+    turn_positive _ _ _ _ turn
+
+pub push-requires-clause-some : goal.push-requires-clause-some
+push-requires-clause-some g c =
+    let goods = g.S.GoodsSet.goods in
+    let turn = next_turn goods (λ s. (g.met.S.GoodsSet.is_bundle s).0) _ c.loop-bid.yielded _ _ c.in-Some.bid c.loop-bid.invariant.best c.in-Some.ensures.steps.0 in
+    (All-contains (IsAtom MAX_GOODS) (atoms_of goods c.args.atoms.items) _ c.requires (turn_among _ _ _ _ turn)).nonempty
+
+pub loop-bid-preserved-in_ok-push : goal.loop-bid-preserved-in_ok-push
+loop-bid-preserved-in_ok-push g c =
+    let goods = g.S.GoodsSet.goods in
+    let h = c.loop-bid.invariant in
+    let bids = atoms_of goods c.args.atoms.items in
+    let yielded = c.loop-bid.yielded in
+    let bid = c.in-Some.bid in
+    let kept = c.loop-bid.kept.atoms.items in
+    let step = c.in-Some.ensures.steps.0 in
+    let turn = next_turn goods (λ s. (g.met.S.GoodsSet.is_bundle s).0) bids yielded _ _ bid h.best step in
+    let missed = xor_missed _ _ _ _ (atoms_of goods kept) turn h.kept (sym c.if-not-branch.true ∙ c.in_ok-is_outbid.ensures) in
+    let joined = taken yielded _ _ bid step in
+    record {
+      best = rw joined at h.best;
+      fits = rw joined at h.fits;
+      listed = c.in_ok-push.ensures.listed;
+      kept = rw (map_push (seen_of goods) yielded bid, c.in_ok-push.ensures.atoms, map_push (seen_of goods) kept bid) missed;
+      fewer = omega (arith, h.fewer, c.loop-bid.kept.atoms.ok.0, c.push.new.self.atoms.ok.0, ap length c.in_ok-push.ensures.atoms, length_push kept bid, length_push yielded bid);
+    }
+
+pub loop-bid-preserved : goal.loop-bid-preserved
+loop-bid-preserved g c =
+    let goods = g.S.GoodsSet.goods in
+    let h = c.loop-bid.invariant in
+    let bids = atoms_of goods c.args.atoms.items in
+    let yielded = c.loop-bid.yielded in
+    let bid = c.in-Some.bid in
+    let step = c.in-Some.ensures.steps.0 in
+    let turn = next_turn goods (λ s. (g.met.S.GoodsSet.is_bundle s).0) bids yielded _ _ bid h.best step in
+    let reached = xor_reached _ _ _ _ (atoms_of goods c.loop-bid.kept.atoms.items) turn h.kept (sym c.if-not-branch.false ∙ c.in_ok-is_outbid.ensures) in
+    let joined = taken yielded _ _ bid step in
+    record {
+      best = rw joined at h.best;
+      fits = rw joined at h.fits;
+      listed = h.listed;
+      kept = rw (map_push (seen_of goods) yielded bid) reached;
+      fewer = omega (arith, h.fewer, length_push yielded bid);
+    }
+
+pub returns-clause-points : goal.returns-clause-points
+returns-clause-points g c =
+    let goods = g.S.GoodsSet.goods in
+    let bids = atoms_of goods c.args.atoms.items in
+    let none : into_iter_items c.loop-bid.bid-iterator ≡ [] = nil_from_length (into_iter_items c.loop-bid.bid-iterator) (omega (arith, c.in-None.ensures.steps.0, c.loop-bid.bid-iterator.rest.ok.0)) in
+    let done = xor_end goods bids c.loop-bid.yielded _ c.loop-bid.kept.atoms.items _ c.loop-bid.invariant.best c.loop-bid.invariant.kept none (ap (λ v. v.items) c.into_atoms.ensures) in
+    λ n are. done.points n (just_bundles n bids (on_bundles n bids (all_rising goods (λ s. (g.met.S.GoodsSet.is_bundle s).0) c.args.atoms.items) are))
+
+pub returns-clause-values : goal.returns-clause-values
+returns-clause-values g c =
+    let goods = g.S.GoodsSet.goods in
+    let none : into_iter_items c.loop-bid.bid-iterator ≡ [] = nil_from_length (into_iter_items c.loop-bid.bid-iterator) (omega (arith, c.in-None.ensures.steps.0, c.loop-bid.bid-iterator.rest.ok.0)) in
+    (xor_end goods (atoms_of goods c.args.atoms.items) c.loop-bid.yielded _ c.loop-bid.kept.atoms.items _ c.loop-bid.invariant.best c.loop-bid.invariant.kept none (ap (λ v. v.items) c.into_atoms.ensures)).values
+
+pub returns-clause-bids : goal.returns-clause-bids
+returns-clause-bids g c =
+    let goods = g.S.GoodsSet.goods in
+    let none : into_iter_items c.loop-bid.bid-iterator ≡ [] = nil_from_length (into_iter_items c.loop-bid.bid-iterator) (omega (arith, c.in-None.ensures.steps.0, c.loop-bid.bid-iterator.rest.ok.0)) in
+    (xor_end goods (atoms_of goods c.args.atoms.items) c.loop-bid.yielded _ c.loop-bid.kept.atoms.items _ c.loop-bid.invariant.best c.loop-bid.invariant.kept none (ap (λ v. v.items) c.into_atoms.ensures)).among
+
+pub returns-clause-in_order : goal.returns-clause-in_order
+returns-clause-in_order g c =
+    let goods = g.S.GoodsSet.goods in
+    let none : into_iter_items c.loop-bid.bid-iterator ≡ [] = nil_from_length (into_iter_items c.loop-bid.bid-iterator) (omega (arith, c.in-None.ensures.steps.0, c.loop-bid.bid-iterator.rest.ok.0)) in
+    (xor_end goods (atoms_of goods c.args.atoms.items) c.loop-bid.yielded _ c.loop-bid.kept.atoms.items _ c.loop-bid.invariant.best c.loop-bid.invariant.kept none (ap (λ v. v.items) c.into_atoms.ensures)).in_order

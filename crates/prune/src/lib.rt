@@ -1,0 +1,22 @@
+//! Pruning: of a bidder's atomic bids exactly those stay that its values alone ask for, the points.
+#![tactic(auto)]
+
+mod best;
+mod fault;
+mod kept;
+mod laws;
+mod or;
+mod search;
+#[cfg(test)]
+mod tests;
+mod worked;
+mod xor;
+
+pub use fault::PruneFault;
+pub use laws::{
+    no_new_heavy_bundle, points_are, points_are_bids, points_keep_values, points_of_points,
+    same_values_same_points, steps_are_bounded,
+};
+pub use or::prune_or;
+pub use worked::{or_points_worked, steps_worked, xor_points_worked};
+pub use xor::prune_xor;

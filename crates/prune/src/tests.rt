@@ -1,0 +1,311 @@
+//! Worked examples on both kinds of sets. Each call is made with ample memory, so that it has to succeed.
+ghost use Rattle.std.specs.Prelude.{All, IfOk};
+ghost use Rattle.cats_text.specs.declared.limits.TheConstants.{MAX_GOODS};
+ghost use Rattle.valuation.specs.Auctions.{IsAtom};
+ghost use Rattle.valuation.specs.Values.{atoms_of};
+
+use crate::{PruneFault, prune_or, prune_xor};
+use cats_text::MAX_GOODS;
+use goods_set::{GoodsSet, ListSet, WordSet};
+use std::alloc::Global;
+use std::cmp::Ordering;
+use std::process::Abort;
+use std::test::Fail;
+use valuation::Atom;
+
+// A million millionths.
+const UNIT: u64 = 1_000_000;
+
+// A limit that no search of a small example reaches.
+const AMPLE: u64 = 1_000_000;
+
+fn bundle_of<S: GoodsSet>(rt: &impl Abort, alloc: Global, goods: &[u16]) -> Result<S, Fail> {
+    let mut bundle = S::empty(alloc)?;
+    for good in goods {
+        assert!(rt; u32::from(*good) < S::cap());
+        bundle.put(*good)?;
+    }
+    Ok(bundle)
+}
+
+fn add_bid<S: GoodsSet>(
+    rt: &impl Abort,
+    alloc: Global,
+    bids: &mut Vec<Atom<S>>,
+    goods: &[u16],
+    price: u64,
+) -> Result<(), Fail>
+    requires { All (IsAtom MAX_GOODS) (atoms_of S.goods bids.old.items) }
+    ensures { IfOk result (λ _. All (IsAtom MAX_GOODS) (atoms_of S.goods bids.new.items)) }
+{
+    let bundle = bundle_of::<S>(rt, alloc, goods)?;
+    let bid = Atom { bundle, price };
+    let kept = bid.keeps_limits(MAX_GOODS);
+    assert!(rt; kept);
+    bids.push(bid)?;
+    Ok(())
+}
+
+fn bids_on<S: GoodsSet>(
+    rt: &impl Abort,
+    alloc: Global,
+    offers: &[(&[u16], u64)],
+) -> Result<Vec<Atom<S>>, Fail>
+    ensures { IfOk result (λ bids. All (IsAtom MAX_GOODS) (atoms_of S.goods bids.items)) }
+{
+    let mut bids = Vec::new(alloc);
+    for (goods, price) in offers {
+        add_bid(rt, alloc, &mut bids, goods, *price)?;
+    }
+    Ok(bids)
+}
+
+fn expect_bids<S: GoodsSet>(
+    rt: &impl Abort,
+    alloc: Global,
+    bids: &[Atom<S>],
+    offers: &[(&[u16], u64)],
+) -> Result<(), Fail> {
+    assert_eq!(rt; bids.len(), offers.len());
+    for (bid, (goods, price)) in bids.iter().zip(offers) {
+        let bundle = bundle_of::<S>(rt, alloc, goods)?;
+        assert_eq!(rt; bid.bundle.order(&bundle), Ordering::Equal);
+        assert_eq!(rt; bid.price, *price);
+    }
+    Ok(())
+}
+
+fn expect_xor<S: GoodsSet>(
+    rt: &impl Abort,
+    alloc: Global,
+    offers: &[(&[u16], u64)],
+    points: &[(&[u16], u64)],
+) -> Result<(), Fail> {
+    let bids = bids_on::<S>(rt, alloc, offers)?;
+    expect_bids(rt, alloc, &prune_xor(alloc, bids)?, points)
+}
+
+fn xor_points<S: GoodsSet>(rt: &impl Abort, alloc: Global) -> Result<(), Fail> {
+    expect_xor::<S>(rt, alloc, &[], &[])?;
+    expect_xor::<S>(rt, alloc, &[(&[0], 0)], &[])?;
+    expect_xor::<S>(rt, alloc, &[(&[0, 1], 5), (&[0], 5)], &[(&[0], 5)])?;
+    expect_xor::<S>(rt, alloc, &[(&[0], 3), (&[0], 5)], &[(&[0], 5)])?;
+    expect_xor::<S>(rt, alloc, &[(&[0], 5), (&[0], 3)], &[(&[0], 5)])?;
+    let equal: [(&[u16], u64); 3] = [(&[0, 1], 1), (&[1], 1), (&[0], 1)];
+    expect_xor::<S>(rt, alloc, &equal, &[(&[0], 1), (&[1], 1)])?;
+    let long: [(&[u16], u64); 3] = [(&[0, 1, 2], 2), (&[0, 1], 2), (&[0], 1)];
+    expect_xor::<S>(rt, alloc, &long, &[(&[0], 1), (&[0, 1], 2)])?;
+    let ladder: [(&[u16], u64); 3] = [(&[0], 5 * UNIT), (&[0, 1], 5 * UNIT), (&[0, 1], 6 * UNIT)];
+    expect_xor::<S>(
+        rt,
+        alloc,
+        &ladder,
+        &[(&[0], 5_000_000), (&[0, 1], 6_000_000)],
+    )
+}
+
+#[test]
+fn xor_points_on_both_sets(rt: HostRuntime) -> Result<(), Fail> {
+    xor_points::<ListSet>(&rt, rt.alloc())?;
+    xor_points::<WordSet<16>>(&rt, rt.alloc())?;
+    xor_points::<WordSet<64>>(&rt, rt.alloc())
+}
+
+fn expect_or<S: GoodsSet>(
+    rt: &impl Abort,
+    alloc: Global,
+    offers: &[(&[u16], u64)],
+    limit: u64,
+    points: &[(&[u16], u64)],
+) -> Result<(), Fail> {
+    let bids = bids_on::<S>(rt, alloc, offers)?;
+    let Ok(kept) = prune_or(alloc, bids, limit) else {
+        panic!(rt; "the bids are pruned");
+    };
+    expect_bids(rt, alloc, &kept, points)
+}
+
+fn expect_step_limit<S: GoodsSet>(
+    rt: &impl Abort,
+    alloc: Global,
+    offers: &[(&[u16], u64)],
+    limit: u64,
+    goods: &[u16],
+) -> Result<(), Fail> {
+    let bids = bids_on::<S>(rt, alloc, offers)?;
+    let expected = bundle_of::<S>(rt, alloc, goods)?;
+    let Err(PruneFault::StepLimit { bundle }) = prune_or(alloc, bids, limit) else {
+        panic!(rt; "the step limit is told");
+    };
+    assert_eq!(rt; bundle.order(&expected), Ordering::Equal);
+    Ok(())
+}
+
+// A bid that others reach goes, one above them stays.
+fn or_points<S: GoodsSet>(rt: &impl Abort, alloc: Global) -> Result<(), Fail> {
+    expect_or::<S>(rt, alloc, &[], 0, &[])?;
+    expect_or::<S>(rt, alloc, &[(&[0], 0)], 0, &[])?;
+    let greatest: [(&[u16], u64); 3] = [(&[0], 1), (&[0], 2), (&[0, 1, 2], 0)];
+    expect_or::<S>(rt, alloc, &greatest, 1, &[(&[0], 2)])?;
+    let reached: [(&[u16], u64); 3] = [(&[0], 3 * UNIT), (&[1], 4 * UNIT), (&[0, 1], 7 * UNIT)];
+    expect_or::<S>(
+        rt,
+        alloc,
+        &reached,
+        4,
+        &[(&[0], 3_000_000), (&[1], 4_000_000)],
+    )?;
+    let synergy: [(&[u16], u64); 4] = [
+        (&[0, 1], 8 * UNIT),
+        (&[0], 3 * UNIT),
+        (&[1], 4 * UNIT),
+        (&[0, 1], 8 * UNIT),
+    ];
+    let kept: [(&[u16], u64); 3] = [(&[0], 3_000_000), (&[1], 4_000_000), (&[0, 1], 8_000_000)];
+    expect_or::<S>(rt, alloc, &synergy, AMPLE, &kept)?;
+    let repeated: [(&[u16], u64); 4] = [(&[0], 1), (&[0], 1), (&[1], 1), (&[0, 1], 3)];
+    expect_or::<S>(
+        rt,
+        alloc,
+        &repeated,
+        4,
+        &[(&[0], 1), (&[1], 1), (&[0, 1], 3)],
+    )
+}
+
+#[test]
+fn or_points_on_both_sets(rt: HostRuntime) -> Result<(), Fail> {
+    or_points::<ListSet>(&rt, rt.alloc())?;
+    or_points::<WordSet<16>>(&rt, rt.alloc())?;
+    or_points::<WordSet<64>>(&rt, rt.alloc())
+}
+
+// The search is cut where the prices left do not suffice, and ends where the price is reached.
+fn or_steps<S: GoodsSet>(rt: &impl Abort, alloc: Global) -> Result<(), Fail> {
+    expect_step_limit::<S>(rt, alloc, &[(&[0], 1)], 0, &[0])?;
+    expect_step_limit::<S>(rt, alloc, &[(&[1], 1), (&[0], 1)], 0, &[0])?;
+    let triple: [(&[u16], u64); 4] = [(&[0], 1), (&[1], 1), (&[2], 1), (&[0, 1, 2], 4)];
+    expect_or::<S>(rt, alloc, &triple, 1, &triple)?;
+    expect_or::<S>(rt, alloc, &triple, 7, &triple)?;
+    let pairs: [(&[u16], u64); 4] = [(&[0], 2), (&[1], 2), (&[2], 2), (&[0, 1, 2], 5)];
+    expect_step_limit::<S>(rt, alloc, &pairs, 3, &[0, 1, 2])?;
+    expect_or::<S>(rt, alloc, &pairs, 4, &[(&[0], 2), (&[1], 2), (&[2], 2)])?;
+    let reached: [(&[u16], u64); 3] = [(&[0], 3), (&[1], 4), (&[0, 1], 7)];
+    expect_step_limit::<S>(rt, alloc, &reached, 2, &[0, 1])?;
+    expect_or::<S>(rt, alloc, &reached, 3, &[(&[0], 3), (&[1], 4)])
+}
+
+#[test]
+fn or_steps_on_both_sets(rt: HostRuntime) -> Result<(), Fail> {
+    or_steps::<ListSet>(&rt, rt.alloc())?;
+    or_steps::<WordSet<16>>(&rt, rt.alloc())?;
+    or_steps::<WordSet<64>>(&rt, rt.alloc())
+}
+
+// The bids 0:1 to (n-1):1, then n on all goods but the last, then n + 2 on all.
+fn step_bomb<S: GoodsSet>(
+    rt: &impl Abort,
+    alloc: Global,
+    n: u16,
+) -> Result<(Vec<Atom<S>>, Vec<u16>), Fail>
+    ensures { IfOk result (λ r. All (IsAtom MAX_GOODS) (atoms_of S.goods r.0.items)) }
+{
+    assert!(rt; 0 < n && n < 1000);
+    let mut bids = Vec::new(alloc);
+    let mut goods = Vec::new(alloc);
+    for good in 0..n {
+        if good + 1 == n {
+            add_bid(rt, alloc, &mut bids, &goods, u64::from(n))?;
+        }
+        goods.push(good)?;
+    }
+    add_bid(rt, alloc, &mut bids, &goods, u64::from(n) + 2)?;
+    for good in 0..n {
+        add_bid(rt, alloc, &mut bids, &[good], 1)?;
+    }
+    Ok((bids, goods))
+}
+
+fn bombs<S: GoodsSet>(rt: &impl Abort, alloc: Global) -> Result<(), Fail> {
+    let (bids, goods) = step_bomb::<S>(rt, alloc, 20)?;
+    let Err(PruneFault::StepLimit { bundle }) = prune_or(alloc, bids, 1_000_000) else {
+        panic!(rt; "the step limit is told");
+    };
+    assert_eq!(rt;
+        bundle.order(&bundle_of(rt, alloc, &goods)?),
+        Ordering::Equal
+    );
+    let (bids, _) = step_bomb::<S>(rt, alloc, 20)?;
+    let Ok(kept) = prune_or(alloc, bids, 1_048_575) else {
+        panic!(rt; "the bids are pruned");
+    };
+    assert_eq!(rt; kept.len(), 22);
+    for (place, bid) in kept.iter().enumerate() {
+        let price = match place {
+            20 => 20,
+            21 => 22,
+            _ => 1,
+        };
+        assert_eq!(rt; bid.price, price);
+    }
+    let (bids, _) = step_bomb::<S>(rt, alloc, 20)?;
+    assert!(rt; prune_or(alloc, bids, 1_048_574).is_err());
+    Ok(())
+}
+
+#[test]
+fn many_steps_on_both_sets(rt: HostRuntime) -> Result<(), Fail> {
+    bombs::<ListSet>(&rt, rt.alloc())?;
+    bombs::<WordSet<64>>(&rt, rt.alloc())
+}
+
+fn endless<S: GoodsSet>(rt: &impl Abort, alloc: Global) -> Result<(), Fail> {
+    let (bids, goods) = step_bomb::<S>(rt, alloc, 60)?;
+    let Err(PruneFault::StepLimit { bundle }) = prune_or(alloc, bids, 1_000_000) else {
+        panic!(rt; "the step limit is told");
+    };
+    assert_eq!(rt;
+        bundle.order(&bundle_of(rt, alloc, &goods)?),
+        Ordering::Equal
+    );
+    Ok(())
+}
+
+// A search that goes on behind its limit would not end here in anybody's lifetime.
+#[test]
+fn search_stops_at_its_limit(rt: HostRuntime) -> Result<(), Fail> {
+    endless::<ListSet>(&rt, rt.alloc())?;
+    endless::<WordSet<64>>(&rt, rt.alloc())
+}
+
+// The bids 0:0, 0:1, and so on, in units.
+fn bids_on_one_bundle<S: GoodsSet>(rt: &impl Abort, alloc: Global) -> Result<Vec<Atom<S>>, Fail>
+    ensures { IfOk result (λ bids. All (IsAtom MAX_GOODS) (atoms_of S.goods bids.items)) }
+{
+    let mut bids = Vec::new(alloc);
+    for price in 0..65_536 {
+        add_bid(rt, alloc, &mut bids, &[0], price * UNIT)?;
+    }
+    Ok(bids)
+}
+
+fn one_bundle<S: GoodsSet>(rt: &impl Abort, alloc: Global) -> Result<(), Fail> {
+    let bids = bids_on_one_bundle::<S>(rt, alloc)?;
+    expect_bids(
+        rt,
+        alloc,
+        &prune_xor(alloc, bids)?,
+        &[(&[0], 65_535_000_000)],
+    )?;
+    let bids = bids_on_one_bundle::<S>(rt, alloc)?;
+    let Ok(kept) = prune_or(alloc, bids, 1) else {
+        panic!(rt; "the bids are pruned");
+    };
+    expect_bids(rt, alloc, &kept, &[(&[0], 65_535_000_000)])
+}
+
+#[test]
+fn many_bids_on_one_bundle(rt: HostRuntime) -> Result<(), Fail> {
+    one_bundle::<ListSet>(&rt, rt.alloc())?;
+    one_bundle::<WordSet<64>>(&rt, rt.alloc())
+}
