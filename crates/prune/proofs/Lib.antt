@@ -5,3 +5,4 @@ pub mod CodeLevels
 pub mod Listed
 pub mod Results
 pub mod Turns
+pub mod PlainPoints

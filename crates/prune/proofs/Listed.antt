@@ -32,7 +32,7 @@ listed_there vectors good v l e = get_or-map (λ (v : Vec ℕ). v.items) vectors
 pub listed_past : (vectors : List (Vec ℕ)) (good : ℕ) → length vectors ≤ good → listed_at (lists_of vectors) good ≡ []
 listed_past vectors good l = let long = length-map vectors (λ (v : Vec ℕ). v.items) in get_or_past (lists_of vectors) good [] (omega arith)
 
-Contains_from_has : (xs : List ℕ) (g : ℕ) → has_good xs g ≡ true → Contains xs g
+pub Contains_from_has : (xs : List ℕ) (g : ℕ) → has_good xs g ≡ true → Contains xs g
 Contains_from_has [] g h = absurd (both_ways false refl h)
 Contains_from_has (x ∷ xs) g h =
     ⊎_elim (λ (e : x ≡ g). subst (λ n. Contains (x ∷ xs) n) e (Contains-head x xs)) (λ (k : has_good xs g ≡ true). Contains-tail x xs g (Contains_from_has xs g k)) (has_cases x xs g h)

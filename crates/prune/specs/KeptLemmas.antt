@@ -208,7 +208,7 @@ or_points_again goods atoms on = or_points_same goods (or_points goods atoms) at
 -- ---- XOR
 
 -- a good less leaves a bundle that is not the whole
-good_inside : (good : ℕ) (bundle : List ℕ) → Contains bundle good → IsInside (good ∷ []) bundle
+pub good_inside : (good : ℕ) (bundle : List ℕ) → Contains bundle good → IsInside (good ∷ []) bundle
 good_inside good bundle c =
     inside_from (good ∷ []) bundle (λ g h. ⊎_elim (λ (e : good ≡ g). subst (λ n. has_good bundle n ≡ true) e (has_from_Contains bundle good c)) (λ (k : has_good [] g ≡ true). absurd (both_ways false refl k)) (has_cases good [] g h))
 

@@ -98,11 +98,11 @@ pub record IsOrPoint (atoms : List (Atom (List ℕ))) (bundle : List ℕ) : Type
   pub positive : 0 < or_value atoms bundle
   pub split : (part : List ℕ) → IsPart part bundle → or_value atoms part + or_value atoms (without bundle part) < or_value atoms bundle
 
-is_part-true : (part bundle : List ℕ) → IsPart part bundle → is_part part bundle ≡ true
+pub is_part-true : (part bundle : List ℕ) → IsPart part bundle → is_part part bundle ≡ true
 is_part-true part bundle p =
     and_from (ltb 0 (length part)) (is_inside part bundle && not (is_inside bundle part)) (lt-ltb 0 (length part) p.nonempty) (and_from (is_inside part bundle) (not (is_inside bundle part)) p.inside (not_from_false (is_inside bundle part) p.proper))
 
-IsPart-from_test : (part bundle : List ℕ) → IsRising part → is_part part bundle ≡ true → IsPart part bundle
+pub IsPart-from_test : (part bundle : List ℕ) → IsRising part → is_part part bundle ≡ true → IsPart part bundle
 IsPart-from_test part bundle r e =
     let a = and_parts (ltb 0 (length part)) (is_inside part bundle && not (is_inside bundle part)) e in
     let b = and_parts (is_inside part bundle) (not (is_inside bundle part)) a.1 in

@@ -6,6 +6,8 @@ mod fault;
 mod kept;
 mod laws;
 mod or;
+#[cfg(test)]
+mod plain;
 mod search;
 #[cfg(test)]
 mod tests;

@@ -4,14 +4,14 @@ ghost use Rattle.cats_text.specs.declared.limits.TheConstants.{MAX_GOODS};
 ghost use Rattle.valuation.specs.Auctions.{IsAtom};
 ghost use Rattle.valuation.specs.Values.{atoms_of};
 
-use crate::{PruneFault, prune_or, prune_xor};
+use crate::{PruneFault, plain, prune_or, prune_xor};
 use cats_text::MAX_GOODS;
 use goods_set::{GoodsSet, ListSet, WordSet};
 use std::alloc::Global;
 use std::cmp::Ordering;
 use std::process::Abort;
 use std::test::Fail;
-use valuation::Atom;
+use valuation::{Atom, or_value, xor_value};
 
 // A million millionths.
 const UNIT: u64 = 1_000_000;
@@ -308,4 +308,97 @@ fn one_bundle<S: GoodsSet>(rt: &impl Abort, alloc: Global) -> Result<(), Fail> {
 fn many_bids_on_one_bundle(rt: HostRuntime) -> Result<(), Fail> {
     one_bundle::<ListSet>(&rt, rt.alloc())?;
     one_bundle::<WordSet<64>>(&rt, rt.alloc())
+}
+
+// The next of a fixed sequence of numbers, which look random.
+fn next_number(state: &mut u64) -> u64 {
+    *state = state
+        .wrapping_mul(6_364_136_223_846_793_005)
+        .wrapping_add(1_442_695_040_888_963_407);
+    *state >> 33
+}
+
+// All bundles over three goods, in order.
+fn small_bundles<S: GoodsSet>(rt: &impl Abort, alloc: Global) -> Result<Vec<S>, Fail> {
+    let lists: [&[u16]; 8] = [&[], &[0], &[1], &[2], &[0, 1], &[0, 2], &[1, 2], &[0, 1, 2]];
+    let mut bundles = Vec::new(alloc);
+    for goods in lists {
+        bundles.push(bundle_of(rt, alloc, goods)?)?;
+    }
+    Ok(bundles)
+}
+
+// The bids of one auction of the family: up to eight, on nonempty bundles over three goods, at prices below 6.
+fn family_bids<S: GoodsSet>(rt: &impl Abort, alloc: Global, seed: u64) -> Result<Vec<Atom<S>>, Fail>
+    ensures { IfOk result (λ bids. All (IsAtom MAX_GOODS) (atoms_of S.goods bids.items)) }
+{
+    let lists: [&[u16]; 7] = [&[0], &[1], &[2], &[0, 1], &[0, 2], &[1, 2], &[0, 1, 2]];
+    let mut state = seed;
+    let mut bids = Vec::new(alloc);
+    for _i in 0..next_number(&mut state) % 9 {
+        let goods = lists[(next_number(&mut state) % 7) as usize];
+        let price = next_number(&mut state) % 6;
+        add_bid(rt, alloc, &mut bids, goods, price)?;
+    }
+    Ok(bids)
+}
+
+// The pruned OR bids are exactly the points that the plain test finds, in order.
+fn or_agrees<S: GoodsSet>(
+    rt: &impl Abort,
+    alloc: Global,
+    bundles: &[S],
+    seed: u64,
+) -> Result<(), Fail> {
+    let all = family_bids::<S>(rt, alloc, seed)?;
+    let Ok(kept) = prune_or(alloc, family_bids::<S>(rt, alloc, seed)?, AMPLE) else {
+        panic!(rt; "the bids are pruned");
+    };
+    let mut found = kept.iter();
+    for bundle in bundles {
+        if plain::is_or_point(alloc, bundles, &all, bundle)? {
+            let point = found.next().expect(rt, "a point");
+            let value = or_value(alloc, &all, bundle, AMPLE)?.value;
+            assert_eq!(rt; point.bundle.order(bundle), Ordering::Equal);
+            assert_eq!(rt; u128::from(point.price), value);
+        }
+    }
+    assert!(rt; found.next().is_none());
+    Ok(())
+}
+
+// So are the pruned XOR bids.
+fn xor_agrees<S: GoodsSet>(
+    rt: &impl Abort,
+    alloc: Global,
+    bundles: &[S],
+    seed: u64,
+) -> Result<(), Fail> {
+    let all = family_bids::<S>(rt, alloc, seed)?;
+    let kept = prune_xor(alloc, family_bids::<S>(rt, alloc, seed)?)?;
+    let mut found = kept.iter();
+    for bundle in bundles {
+        if plain::is_xor_point(bundles, &all, bundle)? {
+            let point = found.next().expect(rt, "a point");
+            assert_eq!(rt; point.bundle.order(bundle), Ordering::Equal);
+            assert_eq!(rt; point.price, xor_value(&all, bundle).0);
+        }
+    }
+    assert!(rt; found.next().is_none());
+    Ok(())
+}
+
+fn family_agrees<S: GoodsSet>(rt: &impl Abort, alloc: Global) -> Result<(), Fail> {
+    let bundles = small_bundles::<S>(rt, alloc)?;
+    for seed in 0..300 {
+        or_agrees(rt, alloc, &bundles, seed)?;
+        xor_agrees(rt, alloc, &bundles, seed)?;
+    }
+    Ok(())
+}
+
+#[test]
+fn pruning_agrees_with_the_definition(rt: HostRuntime) -> Result<(), Fail> {
+    family_agrees::<ListSet>(&rt, rt.alloc())?;
+    family_agrees::<WordSet<16>>(&rt, rt.alloc())
 }
