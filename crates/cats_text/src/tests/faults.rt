@@ -1,7 +1,7 @@
 //! Texts that are refused, and their first faults.
 
 use super::{fault, fault_of, joined};
-use crate::fault::Kind;
+use crate::fault::{Kind, ReadFault, SendFault};
 use std::test::Fail;
 
 /// The header of two goods and one bid.
@@ -102,7 +102,7 @@ fn faults_of_bid_lines(rt: HostRuntime) -> Result<(), Fail> {
 }
 
 /// Texts, and the lines and kinds of their faults.
-pub const BID_TEXTS: [(&[u8], u64, Kind); 21] = [
+pub const BID_TEXTS: [(&[u8], u64, Kind); 22] = [
     (b"goods 1\nbids 1\ndummy 1\n0 1 1 #\n", 4, Kind::EmptyBundle),
     (
         b"goods 1\nbids 1\ndummy 2\n0 1 0 1 2 #\n",
@@ -158,6 +158,7 @@ pub const BID_TEXTS: [(&[u8], u64, Kind); 21] = [
     ),
     (b"goods 2\nbids 0\ndummy 3\n0 1 0 #\n", 4, Kind::ExtraBid),
     (b"goods 2\nbids 0\ndummy 3\n5 1 0 #\n", 4, Kind::ExtraBid),
+    (b"goods 2\nbids 0\ndummy 3\n0 1 0 #", 4, Kind::ExtraBid),
     (b"goods 1\nbids 1\ndummy 0\n", 4, Kind::Missing),
     (
         b"goods 1\nbids 3\ndummy 0\n0\t5\t0\t#\n1\t5\t0\t#\n2 5 0",
@@ -195,5 +196,20 @@ fn faults_after_other_headers_and_bids(rt: HostRuntime) -> Result<(), Fail> {
             "row {place}"
         );
     }
+    Ok(())
+}
+
+#[test]
+fn faults_as_text(rt: HostRuntime) -> Result<(), Fail> {
+    let fault = ReadFault {
+        line: 5,
+        kind: Kind::TwoDummies,
+    };
+    assert_eq!(rt; fault.to_string(rt.alloc())?.as_str(), "line 5: TwoDummies");
+    let fault = SendFault { written: 5 };
+    assert_eq!(rt;
+        fault.to_string(rt.alloc())?.as_str(),
+        "the writer failed after 5 bytes"
+    );
     Ok(())
 }

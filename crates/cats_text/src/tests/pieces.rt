@@ -12,9 +12,21 @@ use std::alloc::{AllocError, Global};
 use std::process::Abort;
 use std::test::Fail;
 
-/// Asserts that a text gives in two pieces what it gives in one, wherever it is cut.
+/// What reading byte by byte gives.
+fn outcome_of_bytes(alloc: Global, text: &[u8]) -> Result<Outcome, AllocError> {
+    let mut reader = Reader::new(alloc, MAX_STREAM);
+    for byte in text {
+        if let Err(fault) = reader.feed(&[*byte]) {
+            return Ok(Err(fault));
+        }
+    }
+    outcome(alloc, reader.finish())
+}
+
+/// Asserts that a text gives in two pieces what it gives in one, wherever it is cut, and byte by byte too.
 fn assert_any_cut(rt: &impl Abort, alloc: Global, text: &[u8]) -> Result<(), AllocError> {
     let whole = outcome_of(alloc, text)?;
+    assert_eq!(rt; outcome_of_bytes(alloc, text)?, whole, "byte by byte");
     for place in 0..=text.len() {
         let (front, back) = text.split_at(place);
         let pieces = outcome(alloc, read_pieces(alloc, &[front, back]))?;
@@ -46,17 +58,6 @@ fn faulty_texts_cut_at_every_place(rt: HostRuntime) -> Result<(), Fail> {
     Ok(())
 }
 
-/// What reading byte by byte gives.
-fn outcome_of_bytes(alloc: Global, text: &[u8]) -> Result<Outcome, AllocError> {
-    let mut reader = Reader::new(alloc, MAX_STREAM);
-    for byte in text {
-        if let Err(fault) = reader.feed(&[*byte]) {
-            return Ok(Err(fault));
-        }
-    }
-    outcome(alloc, reader.finish())
-}
-
 #[test]
 fn first_bytes_of_a_file(rt: HostRuntime) -> Result<(), Fail> {
     let rows = [
@@ -85,6 +86,22 @@ fn first_bytes_of_a_file(rt: HostRuntime) -> Result<(), Fail> {
                 "{count} bytes"
             );
         }
+    }
+    Ok(())
+}
+
+#[test]
+fn fault_told_once_it_is_complete(rt: HostRuntime) -> Result<(), Fail> {
+    let text = b"goods 2\nbids 2\ndummy 2\n0\t1\t0\t2\t#\n1\t1\t1\t2\t3\t#\n";
+    for count in 0..=45 {
+        let piece = text.get(..count).ok_or("too short")?;
+        let told = Reader::new(rt.alloc(), MAX_STREAM).feed(piece).err();
+        let want = if count < 43 {
+            None
+        } else {
+            fault(5, Kind::TwoDummies)
+        };
+        assert_eq!(rt; told, want, "{count} bytes");
     }
     Ok(())
 }

@@ -17,7 +17,7 @@ pub const CATS: &[u8] =
     b"%% a comment\n\ngoods 3\nbids 2\ndummy 1\n\n0\t20\t0\t2\t3\t#\n1\t7\t1\t#\n";
 
 /// Texts, and what is written of their files.
-pub const ACCEPTED: [(&[u8], &[u8]); 9] = [
+pub const ACCEPTED: [(&[u8], &[u8]); 13] = [
     (b"goods 0\nbids 0\ndummy 0\n", b"goods 0\nbids 0\ndummy 0\n"),
     (b"goods 0\nbids 0\ndummy 0", b"goods 0\nbids 0\ndummy 0\n"),
     (LENIENT, b"goods 2\nbids 1\ndummy 0\n0\t5\t0\t1\t#\n"),
@@ -41,6 +41,22 @@ pub const ACCEPTED: [(&[u8], &[u8]); 9] = [
     (
         b"goods 3\nbids 1\ndummy 2\n0 1 4 2 0 #\n",
         b"goods 3\nbids 1\ndummy 2\n0\t1\t0\t2\t4\t#\n",
+    ),
+    (
+        b"goods 2\nbids 3\ndummy 0\n0\t3\t0\t#\n1\t4\t1\t#\n2\t7\t0\t1\t#\n",
+        b"goods 2\nbids 3\ndummy 0\n0\t3\t0\t#\n1\t4\t1\t#\n2\t7\t0\t1\t#\n",
+    ),
+    (
+        b"goods 2\nbids 4\ndummy 0\n0\t8\t0\t1\t#\n1\t3\t0\t#\n2\t4\t1\t#\n3\t8\t0\t1\t#\n",
+        b"goods 2\nbids 4\ndummy 0\n0\t8\t0\t1\t#\n1\t3\t0\t#\n2\t4\t1\t#\n3\t8\t0\t1\t#\n",
+    ),
+    (
+        b"goods 2\nbids 3\ndummy 1\n0\t5\t0\t2\t#\n1\t5\t0\t1\t2\t#\n2\t6\t0\t1\t2\t#\n",
+        b"goods 2\nbids 3\ndummy 1\n0\t5\t0\t2\t#\n1\t5\t0\t1\t2\t#\n2\t6\t0\t1\t2\t#\n",
+    ),
+    (
+        b"goods 2\nbids 2\ndummy 2\n0\t0\t0\t2\t#\n1\t2\t1\t3\t#\n",
+        b"goods 2\nbids 2\ndummy 2\n0\t0\t0\t2\t#\n1\t2\t1\t3\t#\n",
     ),
 ];
 
