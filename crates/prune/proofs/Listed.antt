@@ -29,9 +29,6 @@ use Rattle.prune.proofs.BestBids.{map-filter}
 pub listed_there : (vectors : List (Vec ℕ)) (good : ℕ) (v : Vec ℕ) → good < length vectors → v ≡ get_or vectors good v → listed_at (lists_of vectors) good ≡ v.items
 listed_there vectors good v l e = get_or-map (λ (v : Vec ℕ). v.items) vectors good v [] l ∙ ap (λ (v : Vec ℕ). v.items) (sym e)
 
-pub listed_past : (vectors : List (Vec ℕ)) (good : ℕ) → length vectors ≤ good → listed_at (lists_of vectors) good ≡ []
-listed_past vectors good l = let long = length-map vectors (λ (v : Vec ℕ). v.items) in get_or_past (lists_of vectors) good [] (omega arith)
-
 pub Contains_from_has : (xs : List ℕ) (g : ℕ) → has_good xs g ≡ true → Contains xs g
 Contains_from_has [] g h = absurd (both_ways false refl h)
 Contains_from_has (x ∷ xs) g h =
@@ -64,12 +61,6 @@ range_rising a (suc n) = (AreAbove-from_has a (range_with_len (a + 1) n) (λ g h
 pub record IsFinding (lists : List (List ℕ)) (atoms : List (Atom (List ℕ))) (bundle : List ℕ) (from : ℕ) (found : List ℕ) : Type 0 where
   pub sound : All (λ place. (is_inside_at atoms bundle place ≡ true) × (place < length atoms)) found
   pub complete : (good place : ℕ) → has_good bundle good ≡ true → good < from → Contains (listed_at lists good) place → is_inside_at atoms bundle place ≡ true → Contains found place
-
-pub IsFinding-none : (lists : List (List ℕ)) (atoms : List (Atom (List ℕ))) (bundle found : List ℕ) → found ≡ [] → IsFinding lists atoms bundle 0 found
-IsFinding-none lists atoms bundle found e = rw e (record {
-  sound = All-nil (λ place. (is_inside_at atoms bundle place ≡ true) × (place < length atoms));
-  complete = λ good place h l. absurd (omega arith);
-})
 
 pub IsFinding-more : (lists : List (List ℕ)) (atoms : List (Atom (List ℕ))) (bundle : List ℕ) (from good : ℕ) (found more : List ℕ) → AreListed lists atoms → IsRising bundle → good_from bundle from ≡ Some good → more ≡ found ++ filter (is_inside_at atoms bundle) (listed_at lists good) → IsFinding lists atoms bundle from found → IsFinding lists atoms bundle (good + 1) more
 IsFinding-more lists atoms bundle from good found more a r next e f =
@@ -130,9 +121,6 @@ atoms_at_places atoms bundle places e =
     ∙ ap (filter (λ a. is_inside a.bundle bundle)) (sym (fill_by_all (atom_at atoms) atoms (length atoms) (record { bundle = []; price = 0 }) refl (λ k l. refl)))
 
 -- ---- one more atom
-
-pub AreListed-none : (lists : List (List ℕ)) (atoms : List (Atom (List ℕ))) → lists ≡ [] → atoms ≡ [] → AreListed lists atoms
-AreListed-none lists atoms e f = rw (e, f) (record { each = λ place l. absurd (omega arith); within = λ good place c. absurd (Contains-nil place c) })
 
 pub AreListed-push : (lists more : List (List ℕ)) (atoms : List (Atom (List ℕ))) (a : Atom (List ℕ)) (good : ℕ) → AreListed lists atoms → has_good a.bundle good ≡ true
     → ((g : ℕ) → (g ≡ good → ⊥) → listed_at more g ≡ listed_at lists g) → listed_at more good ≡ listed_at lists good ++ length atoms ∷ [] → AreListed more (atoms ++ a ∷ [])

@@ -68,6 +68,3 @@ xor_all goods atoms bundle all n b e m l h =
 -- the bundle at an index
 pub bundle_at : {S : Type 0} (goods : S → List ℕ) (bundles : List S) (i : ℕ) (s : S) → i < length bundles → s ≡ get_or bundles i s → (i < length (map goods bundles)) × (get_or (map goods bundles) i [] ≡ goods s)
 bundle_at goods bundles i s l e = let long = length-map bundles goods in (omega arith, get_or-map goods bundles i s [] l ∙ ap goods (sym e))
-
-pub not_less : (value first second : ℕ) → value - first ≤ second → value ≤ first + second
-not_less value first second l = omega arith

@@ -61,11 +61,6 @@ filter_same_on p q [] h = refl
 filter_same_on p q (x ∷ xs) h =
     ap₂ (λ (b : Bool) (zs : List _). cond b (x ∷ zs) zs) (All-head (λ x. p x ≡ q x) x xs h) (filter_same_on p q xs (All-tail (λ x. p x ≡ q x) x xs h))
 
--- a test that every element fails keeps none
-pub filter_none_on : {X : Type 0} (p : X → Bool) (xs : List X) → All (λ x. p x ≡ false) xs → filter p xs ≡ []
-filter_none_on p [] h = refl
-filter_none_on p (x ∷ xs) h = filter-lost p x xs (All-head (λ x. p x ≡ false) x xs h) ∙ filter_none_on p xs (All-tail (λ x. p x ≡ false) x xs h)
-
 -- ---- a test of each element
 
 pub list_all_at : {X : Type 0} (p : X → Bool) (xs : List X) → list_all p xs ≡ true → (x : X) → Contains xs x → p x ≡ true
@@ -95,13 +90,6 @@ find_first R p (y ∷ ys) s x c e h =
 pub find_none : {X : Type 0} (p : X → Bool) (xs : List X) → ((x : X) → Contains xs x → p x ≡ false) → find p xs ≡ None
 find_none p [] h = refl
 find_none p (y ∷ ys) h = let t : p y ≡ false = h y (Contains-head y ys) in simp t (find_none p ys (λ x c. h x (Contains-tail y ys x c)))
-
-pub none_found : {X : Type 0} (p : X → Bool) (xs : List X) → find p xs ≡ None → (x : X) → Contains xs x → p x ≡ false
-none_found p [] e x c = absurd (Contains-nil x c)
-none_found p (y ∷ ys) e x c = ⊎_elim hit (miss (λ f d. none_found p ys f x d)) (cases_Bool (p y))
-  where
-    hit : p y ≡ true → p x ≡ false
-    hit t = let f : Some y ≡ None = rw t at e in absurd (cc)
 
     miss : (find p ys ≡ None → Contains ys x → p x ≡ false) → p y ≡ false → p x ≡ false
     miss h t =
