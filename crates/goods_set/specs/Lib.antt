@@ -4,4 +4,5 @@ pub mod Laws
 pub mod Members
 pub mod Orders
 pub mod Sizes
+pub mod Sorted
 pub mod Words

@@ -8,6 +8,7 @@ use Rattle.std.proofs.lemmas.Cmp.{nat_cmp_total, nat_list_cmp_total, on_total, t
 use Rattle.std.proofs.lemmas.Bool.{cases_order, lt-ltb, le-ltb, ne_eqb}
 use Rattle.goods_set.specs.Bundles.{IsRising, IsInside}
 use Rattle.goods_set.specs.Sizes.{length_inside, same_from_length}
+use Rattle.goods_set.specs.Sorted.{IsStrict}
 
 abbrev pub bundle_cmp : List ℕ → List ℕ → Ordering
 bundle_cmp xs ys = ordering_then (nat_cmp (length xs) (length ys)) (slice_cmp nat_cmp xs ys)
@@ -27,6 +28,10 @@ then_equal Greater b e = absurd (cc)
 
 pub bundle_cmp_equal : (xs ys : List ℕ) → bundle_cmp xs ys ≡ Equal → xs ≡ ys
 bundle_cmp_equal xs ys e = slice_cmp-IsAntisymmetric nat_cmp-IsAntisymmetric xs ys (then_equal (nat_cmp (length xs) (length ys)) (slice_cmp nat_cmp xs ys) e)
+
+-- so that strictly sorted lists of bundles with the same bundles are equal
+pub bundle_cmp_strict : IsStrict bundle_cmp
+bundle_cmp_strict = record { irreflexive = λ xs e. let f : bundle_cmp xs xs ≡ Equal = bundle_cmp_refl xs in cc; transitive = bundle_cmp_total.trans }
 
 -- ---- which comes first
 

@@ -1,10 +1,10 @@
--- Lemmas on how many goods a list has, on putting a good, and on the next good.
+-- Lemmas on what is left of a list, on how many goods a list has, on putting a good, on the next good, and on parts of a bundle.
 use Rattle.std.proofs.Common.{◌≡◌, ℕ, ◌+◌, ◌<◌, ◌≤◌, Bool, true, false, not, cond, ◌&&◌, ◌||◌, eqb, ltb, leb, ◌⊎◌, inl, inr, ⊎_elim, List, [], ◌∷◌, length, refl, sym, ap, ap₂, ◌∙◌, subst, arith}
-use Rattle.std.proofs.lemmas.Bool.{or_cases, or_right, or_parts, both_ways, not_from_true, not_from_false, false_from_ne_true, true_from_ne_false, or_from, eqb-true, eqb-false, ne_eqb, ltb-true, ltb-false, leb-true, leb-false, cases_order}
+use Rattle.std.proofs.lemmas.Bool.{and_parts, and_from, cases_Bool, or_cases, or_right, or_parts, both_ways, not_from_true, not_from_false, false_from_ne_true, true_from_ne_false, or_from, eqb-true, eqb-false, ne_eqb, ltb-true, ltb-false, leb-true, leb-false, cases_order}
 use Rattle.std.specs.Prelude.{Option, Some, None}
 use Rattle.std.specs.List.{filter}
-use Rattle.goods_set.specs.Bundles.{AreAbove, AreBelow, IsRising, IsBundle, IsInside, AreApart, has_good, without, with_good, good_from}
-use Rattle.goods_set.specs.Members.{has_head, has_tail, has_cases, has_above, has_below, has_not_head, AreAbove-lower, AreAbove-from_has, AreBelow-from_has, same_from_has, inside_at, inside_from, inside_refl, inside_antisymm, apart_at, has_without_from}
+use Rattle.goods_set.specs.Bundles.{is_inside, are_apart, AreAbove, AreBelow, IsRising, IsBundle, IsInside, AreApart, has_good, without, with_good, good_from}
+use Rattle.goods_set.specs.Members.{has_head, has_tail, has_cases, has_above, has_below, has_not_head, AreAbove-lower, AreAbove-from_has, AreBelow-from_has, same_from_has, inside_at, inside_from, inside_refl, inside_antisymm, apart_at, apart_sym, has_without_from, has_without_parts, inside_without, inside_without_parts, IsRising-without, AreBelow-higher}
 
 -- ---- what is left of nothing, and of a list whose goods are all taken, or none
 
@@ -234,3 +234,40 @@ good_from_none xs g r h = at (good_from xs g) refl
     at : (o : Option ℕ) → good_from xs g ≡ o → good_from xs g ≡ None
     at None e = e
     at (Some k) e = let q : IsNextGood xs g k = good_from-Some xs g k r e in absurd (both_ways (has_good xs k) (h k q.from) q.there)
+
+-- ---- parts of a bundle
+
+-- taking out what is left gives back what was taken
+pub without_without : (xs ys : List ℕ) → IsRising xs → IsRising ys → IsInside ys xs → without xs (without xs ys) ≡ ys
+without_without xs ys r s i =
+    same_from_has (without xs (without xs ys)) ys (IsRising-without xs (without xs ys) r) s
+    (λ g h.
+    let p : (has_good xs g ≡ true) × (has_good (without xs ys) g ≡ false) = has_without_parts xs (without xs ys) g h in
+    true_from_ne_false (has_good ys g) (λ n. both_ways (has_good (without xs ys) g) p.1 (has_without_from xs ys g p.0 n)))
+    (λ g h. has_without_from xs (without xs ys) g (inside_at ys xs g i h) (false_from_ne_true (has_good (without xs ys) g) (λ k. both_ways (has_good ys g) (has_without_parts xs ys g k).1 h)))
+
+-- a good of a list in one of two parts
+pub has_parts : (xs ys : List ℕ) (g : ℕ) → has_good xs g ≡ true → (has_good ys g ≡ true) ⊎ (has_good (without xs ys) g ≡ true)
+has_parts xs ys g h = ⊎_elim (λ (e : has_good ys g ≡ true). inl e) (λ (e : has_good ys g ≡ false). inr (has_without_from xs ys g h e)) (cases_Bool (has_good ys g))
+
+pub are_apart_comm : (xs ys : List ℕ) → are_apart xs ys ≡ are_apart ys xs
+are_apart_comm xs ys = by (are_apart xs ys) (are_apart ys xs) refl refl
+  where
+    by : (b c : Bool) → are_apart xs ys ≡ b → are_apart ys xs ≡ c → are_apart xs ys ≡ are_apart ys xs
+    by true c e f = e ∙ sym (apart_sym xs ys e)
+    by false true e f = apart_sym ys xs f ∙ sym f
+    by false false e f = e ∙ sym f
+
+pub is_inside-without : (zs xs ys : List ℕ) → is_inside zs (without xs ys) ≡ (is_inside zs xs && are_apart zs ys)
+is_inside-without zs xs ys = by (is_inside zs (without xs ys)) (is_inside zs xs && are_apart zs ys) refl refl
+  where
+    by : (b c : Bool) → is_inside zs (without xs ys) ≡ b → (is_inside zs xs && are_apart zs ys) ≡ c → is_inside zs (without xs ys) ≡ (is_inside zs xs && are_apart zs ys)
+    by true c e f = let p : IsInside zs xs × AreApart zs ys = inside_without_parts zs xs ys e in e ∙ sym (and_from (is_inside zs xs) (are_apart zs ys) p.0 p.1)
+    by false true e f = let p : (is_inside zs xs ≡ true) × (are_apart zs ys ≡ true) = and_parts (is_inside zs xs) (are_apart zs ys) f in inside_without zs xs ys p.0 p.1 ∙ sym f
+    by false false e f = e ∙ sym f
+
+pub AreBelow-inside : (G : ℕ) (xs ys : List ℕ) → IsInside xs ys → AreBelow G ys → AreBelow G xs
+AreBelow-inside G xs ys i b = AreBelow-from_has G xs (λ g h. has_below G ys g b (inside_at xs ys g i h))
+
+pub IsBundle-higher : (G H : ℕ) (xs : List ℕ) → G ≤ H → IsBundle G xs → IsBundle H xs
+IsBundle-higher G H xs l b = (b.0, AreBelow-higher G H xs l b.1)

@@ -16,8 +16,10 @@ pub fn order_of_bundles()
 pub fn inside_of_bundles()
     ensures reflexive { (xs : List ℕ) → IsInside xs xs }
     ensures transitive { (xs ys zs : List ℕ) → IsInside xs ys → IsInside ys zs → IsInside xs zs }
-    ensures antisymmetric { (G : ℕ) (xs ys : List ℕ) → IsBundle G xs → IsBundle G ys → IsInside xs ys → IsInside ys xs → xs ≡ ys }
-    ensures ordered { (G : ℕ) (xs ys : List ℕ) → IsBundle G xs → IsBundle G ys → IsInside xs ys → (bundle_cmp xs ys ≡ Less) ⊎ (xs ≡ ys) }
+    ensures antisymmetric { (G : ℕ) (xs ys : List ℕ) → IsBundle G xs → IsBundle G ys
+        → IsInside xs ys → IsInside ys xs → xs ≡ ys }
+    ensures ordered { (G : ℕ) (xs ys : List ℕ) → IsBundle G xs → IsBundle G ys
+        → IsInside xs ys → (bundle_cmp xs ys ≡ Less) ⊎ (xs ≡ ys) }
 {}
 
 /// The list of all bundles holds exactly the bundles, each before all later ones, so none twice.

@@ -8,7 +8,7 @@ use std::alloc::{AllocError, Global};
 use std::cmp::Ordering;
 
 /// A set of goods as the rising vector of them: for few goods, of any number below 65,536.
-#[derive(Drop)]
+#[derive(Debug, Drop)]
 pub struct ListSet {
     goods: Vec<u16>,
     ghost bundle: { IsBundle 65536 goods.items } by { IsBundle-prop 65536 goods.items },
@@ -19,7 +19,9 @@ impl ListSet {
     fn place(&self, good: u16) -> Result<usize, usize>
         ensures { MatchResult result
             (λ i. has_good self.now.goods.items good ≡ true)
-            (λ i. (i ≤ length self.now.goods.items) × (has_good self.now.goods.items good ≡ false) × (insert self.now.goods.items i good ≡ with_good good self.now.goods.items)) }
+            (λ i. (i ≤ length self.now.goods.items)
+            × (has_good self.now.goods.items good ≡ false)
+            × (insert self.now.goods.items i good ≡ with_good good self.now.goods.items)) }
     {
         self.goods.binary_search(&good)
     }
@@ -76,7 +78,7 @@ impl GoodsSet for ListSet {
     }
 
     fn order(&self, other: &ListSet) -> Ordering {
-        let sizes = self.goods.len().cmp(&other.goods.len());
+        let sizes = self.size().cmp(&other.size());
         sizes.then_with(|| self.goods.cmp(&other.goods))
     }
 

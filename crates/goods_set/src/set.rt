@@ -1,7 +1,11 @@
 //! What the crates above know of a set of goods.
-ghost use Rattle.std.specs.Prelude.{◌≡◌, ℕ, ◌<◌, ◌≤◌, List, [], not, length, IfOk, OnErr};
+ghost use Rattle.std.specs.Prelude.{◌≡◌, ◌⊎◌, ℕ, ◌<◌, ◌≤◌, List, [], not, length, IfOk, OnErr};
+ghost use Rattle.std.specs.Cmp.{IsTotalOrder};
+ghost use Rattle.std.specs.declared.cmp.Ordering.TheVariants.{Less, Equal};
 ghost use Rattle.goods_set.specs.Bundles.{IsBundle, IsInside, has_good, is_inside, are_apart, without, with_good, good_from};
-ghost use Rattle.goods_set.specs.Orders.{bundle_cmp};
+ghost use Rattle.goods_set.specs.Members.{inside_refl, inside_trans};
+ghost use Rattle.goods_set.specs.Orders.{bundle_cmp, bundle_cmp_total, bundle_cmp_equal};
+ghost use Rattle.goods_set.specs.Laws.{inside_antisymm_law, inside_ordered_law};
 
 use std::alloc::{AllocError, Global};
 use std::cmp::Ordering;
@@ -60,29 +64,26 @@ pub trait GoodsSet: Sized + Drop {
     fn copy(&self) -> Result<Self, AllocError>
         ensures { IfOk result (λ s. goods s ≡ goods self.now) };
 
-    ghost use Rattle.std.specs.Cmp.{IsTotalOrder};
-    ghost use Rattle.std.specs.Prelude.{◌⊎◌};
-    ghost use Rattle.std.specs.declared.cmp.Ordering.TheVariants.{Less, Equal};
-    ghost use Rattle.goods_set.specs.Laws.{order_total_law, order_equal_law, inside_antisymm_law, inside_ordered_law};
-    ghost use Rattle.goods_set.specs.Members.{inside_refl, inside_trans};
-
     // Each set is a bundle over the goods below the bound.
     ghost is_bundle: { (s : Self) → IsBundle CAP (goods s) };
 
     ghost cap_fits: { CAP ≤ 65536 };
 
     // The order is total, and answers Equal only for equal lists.
-    ghost order_total: { IsTotalOrder bundle_cmp } = { order_total_law };
+    ghost order_total: { IsTotalOrder bundle_cmp } = { bundle_cmp_total };
 
-    ghost order_equal: { (s t : Self) → bundle_cmp (goods s) (goods t) ≡ Equal → goods s ≡ goods t } = { λ s t. order_equal_law (goods s) (goods t) };
+    ghost order_equal: { (s t : Self) → bundle_cmp (goods s) (goods t) ≡ Equal → goods s ≡ goods t } = { λ s t. bundle_cmp_equal (goods s) (goods t) };
 
     // Inside is a partial order.
     ghost inside_reflexive: { (s : Self) → IsInside (goods s) (goods s) } = { λ s. inside_refl (goods s) };
 
-    ghost inside_transitive: { (s t u : Self) → IsInside (goods s) (goods t) → IsInside (goods t) (goods u) → IsInside (goods s) (goods u) } = { λ s t u. inside_trans (goods s) (goods t) (goods u) };
+    ghost inside_transitive: { (s t u : Self) → IsInside (goods s) (goods t)
+        → IsInside (goods t) (goods u) → IsInside (goods s) (goods u) } = { λ s t u. inside_trans (goods s) (goods t) (goods u) };
 
-    ghost inside_antisymmetric: { (s t : Self) → IsInside (goods s) (goods t) → IsInside (goods t) (goods s) → goods s ≡ goods t } = { λ s t. inside_antisymm_law CAP (goods s) (goods t) (is_bundle s) (is_bundle t) };
+    ghost inside_antisymmetric: { (s t : Self) → IsInside (goods s) (goods t)
+        → IsInside (goods t) (goods s) → goods s ≡ goods t } = { λ s t. inside_antisymm_law CAP (goods s) (goods t) (is_bundle s) (is_bundle t) };
 
     // A set inside another comes before it or equals it.
-    ghost inside_ordered: { (s t : Self) → IsInside (goods s) (goods t) → (bundle_cmp (goods s) (goods t) ≡ Less) ⊎ (goods s ≡ goods t) } = { λ s t. inside_ordered_law CAP (goods s) (goods t) (is_bundle s) (is_bundle t) };
+    ghost inside_ordered: { (s t : Self) → IsInside (goods s) (goods t)
+        → (bundle_cmp (goods s) (goods t) ≡ Less) ⊎ (goods s ≡ goods t) } = { λ s t. inside_ordered_law CAP (goods s) (goods t) (is_bundle s) (is_bundle t) };
 }

@@ -6,6 +6,8 @@ use std::cmp::Ordering;
 use std::process::Abort;
 use std::test::Fail;
 
+mod speed;
+
 fn set_of<S: GoodsSet>(rt: &impl Abort, alloc: Global, goods: &[u16]) -> Result<S, Fail> {
     let mut set = S::empty(alloc)?;
     for good in goods {

@@ -12,7 +12,7 @@ use std::cmp::Ordering;
 
 /// A set of goods below the lesser of 64 times `N` and 65,536: a good is in it where its bit of the
 /// words is set. None of its calls takes memory.
-#[derive(Drop)]
+#[derive(Debug, Drop)]
 pub struct WordSet<const N: usize> {
     words: [u64; N],
 }
@@ -48,9 +48,12 @@ impl<const N: usize> GoodsSet for WordSet<N> {
 
     fn put(&mut self, good: u16) -> Result<bool, AllocError>
         requires { good < word_cap N }
-        ensures added { IfOk result (λ new. new ≡ not (has_good (word_goods (word_cap N) self.old.words) good)) }
-        ensures goods { IfOk result (λ _. word_goods (word_cap N) self.new.words ≡ with_good good (word_goods (word_cap N) self.old.words)) }
-        ensures refused { OnErr result (word_goods (word_cap N) self.new.words ≡ word_goods (word_cap N) self.old.words) }
+        ensures added { IfOk result (λ new. new
+            ≡ not (has_good (word_goods (word_cap N) self.old.words) good)) }
+        ensures goods { IfOk result (λ _. word_goods (word_cap N) self.new.words
+            ≡ with_good good (word_goods (word_cap N) self.old.words)) }
+        ensures refused { OnErr result (word_goods (word_cap N) self.new.words
+            ≡ word_goods (word_cap N) self.old.words) }
         ensures ok { IsOk result }
     {
         let place = usize::from(good / 64);
@@ -93,7 +96,8 @@ impl<const N: usize> GoodsSet for WordSet<N> {
     }
 
     fn copy(&self) -> Result<WordSet<N>, AllocError>
-        ensures goods { IfOk result (λ s. word_goods (word_cap N) s.words ≡ word_goods (word_cap N) self.now.words) }
+        ensures goods { IfOk result (λ s. word_goods (word_cap N) s.words
+            ≡ word_goods (word_cap N) self.now.words) }
         ensures ok { IsOk result }
     {
         Ok(WordSet { words: self.words })

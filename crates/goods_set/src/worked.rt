@@ -36,6 +36,7 @@ pub fn order_worked()
     ensures equal { bundle_cmp (4 ∷ []) (4 ∷ []) ≡ Equal }
     ensures by_size { bundle_cmp (3 ∷ 5 ∷ []) (9 ∷ []) ≡ Greater }
     ensures last_good { bundle_cmp (3 ∷ 5 ∷ []) (3 ∷ 6 ∷ []) ≡ Less }
-    ensures all { all_bundles 3 ≡ [] ∷ (0 ∷ []) ∷ (1 ∷ []) ∷ (2 ∷ []) ∷ (0 ∷ 1 ∷ []) ∷ (0 ∷ 2 ∷ []) ∷ (1 ∷ 2 ∷ []) ∷ (0 ∷ 1 ∷ 2 ∷ []) ∷ [] }
+    ensures all { all_bundles 3 ≡ [] ∷ (0 ∷ []) ∷ (1 ∷ []) ∷ (2 ∷ [])
+        ∷ (0 ∷ 1 ∷ []) ∷ (0 ∷ 2 ∷ []) ∷ (1 ∷ 2 ∷ []) ∷ (0 ∷ 1 ∷ 2 ∷ []) ∷ [] }
     ensures over_none { all_bundles 0 ≡ [] ∷ [] }
 {}

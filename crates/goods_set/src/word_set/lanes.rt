@@ -7,60 +7,63 @@ use std::simd::prelude::*;
 
 const LANES: usize = 8;
 
-/// Whether each good of `a` is in `b`.
-pub(crate) fn all_inside(a: &[u64], b: &[u64]) -> bool
-    requires { length a.now ≡ length b.now }
-    ensures { result ≡ is_inside (word_goods (64 * length a.now) a.now) (word_goods (64 * length a.now) b.now) }
+/// Whether each good of `inner` is in `outer`.
+pub(crate) fn all_inside(inner: &[u64], outer: &[u64]) -> bool
+    requires { length inner.now ≡ length outer.now }
+    ensures { result ≡ is_inside (word_goods (64 * length inner.now) inner.now)
+        (word_goods (64 * length inner.now) outer.now) }
 {
     let mut i = 0;
-    while a.len() - i >= LANES {
-        let outside = u64x8::from_slice(&a[i..]) & !u64x8::from_slice(&b[i..]);
+    while inner.len() - i >= LANES {
+        let outside = u64x8::from_slice(&inner[i..]) & !u64x8::from_slice(&outer[i..]);
         if outside.reduce_or() != 0 {
             return false;
         }
         i += LANES;
     }
-    for k in i..a.len() {
-        if a[k] & !b[k] != 0 {
+    for k in i..inner.len() {
+        if inner[k] & !outer[k] != 0 {
             return false;
         }
     }
     true
 }
 
-/// Whether no good of `a` is in `b`.
-pub(crate) fn all_apart(a: &[u64], b: &[u64]) -> bool
-    requires { length a.now ≡ length b.now }
-    ensures { result ≡ are_apart (word_goods (64 * length a.now) a.now) (word_goods (64 * length a.now) b.now) }
+/// Whether no good of `one` is in `other`.
+pub(crate) fn all_apart(one: &[u64], other: &[u64]) -> bool
+    requires { length one.now ≡ length other.now }
+    ensures { result ≡ are_apart (word_goods (64 * length one.now) one.now)
+        (word_goods (64 * length one.now) other.now) }
 {
     let mut i = 0;
-    while a.len() - i >= LANES {
-        let shared = u64x8::from_slice(&a[i..]) & u64x8::from_slice(&b[i..]);
+    while one.len() - i >= LANES {
+        let shared = u64x8::from_slice(&one[i..]) & u64x8::from_slice(&other[i..]);
         if shared.reduce_or() != 0 {
             return false;
         }
         i += LANES;
     }
-    for k in i..a.len() {
-        if a[k] & b[k] != 0 {
+    for k in i..one.len() {
+        if one[k] & other[k] != 0 {
             return false;
         }
     }
     true
 }
 
-/// Takes the goods of `b` out of `a`.
-pub(crate) fn remove_all(a: &mut [u64], b: &[u64])
-    requires { length a.old ≡ length b.now }
-    ensures { (cap : ℕ) → cap ≤ 64 * length a.old → word_goods cap a.new ≡ without (word_goods cap a.old) (word_goods cap b.now) }
+/// Takes the goods of `taken` out of `words`.
+pub(crate) fn remove_all(words: &mut [u64], taken: &[u64])
+    requires { length words.old ≡ length taken.now }
+    ensures { (cap : ℕ) → cap ≤ 64 * length words.old → word_goods cap words.new
+        ≡ without (word_goods cap words.old) (word_goods cap taken.now) }
 {
     let mut i = 0;
-    while a.len() - i >= LANES {
-        let left = u64x8::from_slice(&a[i..]) & !u64x8::from_slice(&b[i..]);
-        left.copy_to_slice(&mut a[i..]);
+    while words.len() - i >= LANES {
+        let left = u64x8::from_slice(&words[i..]) & !u64x8::from_slice(&taken[i..]);
+        left.copy_to_slice(&mut words[i..]);
         i += LANES;
     }
-    for k in i..a.len() {
-        a[k] &= !b[k];
+    for k in i..words.len() {
+        words[k] &= !taken[k];
     }
 }

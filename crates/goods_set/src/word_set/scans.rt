@@ -45,8 +45,10 @@ pub(crate) fn next_good(words: &[u64], from: u32) -> Option<u16>
 /// share comes first.
 pub(crate) fn order_of_one_size(a: &[u64], b: &[u64]) -> Ordering
     requires same_words { length a.now ≡ length b.now }
-    requires same_size { length (word_goods (64 * length a.now) a.now) ≡ length (word_goods (64 * length a.now) b.now) }
-    ensures { result ≡ slice_cmp nat_cmp (word_goods (64 * length a.now) a.now) (word_goods (64 * length a.now) b.now) }
+    requires same_size { length (word_goods (64 * length a.now) a.now)
+        ≡ length (word_goods (64 * length a.now) b.now) }
+    ensures { result ≡ slice_cmp nat_cmp (word_goods (64 * length a.now) a.now)
+        (word_goods (64 * length a.now) b.now) }
 {
     for k in 0..a.len() {
         let unshared = a[k] ^ b[k];

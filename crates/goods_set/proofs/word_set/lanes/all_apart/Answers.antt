@@ -6,29 +6,29 @@ use Rattle.goods_set.proofs.word_set.lanes.all_apart.Goals as goal
 
 pub returns-then-shared-ne0 : goal.returns-then-shared-ne0
 returns-then-shared-ne0 c =
-    let xs = c.args.a.now in
-    let ys = c.args.b.now in
+    let xs = c.args.one.now in
+    let ys = c.args.other.now in
     let i : ℕ = c.loop-i.i in
     let room : i + 8 ≤ length xs = omega arith in
     let s = some_here (bit_and) xs ys i _ (lanes_shared xs ys i room c.requires) room c.if-shared-ne0.true in
-    sym (words_sharing (length xs) xs ys s.place (λ k. (c.type_inv.a k).fits) s.within s.holds)
+    sym (words_sharing (length xs) xs ys s.place (λ k. (c.type_inv.one k).fits) s.within s.holds)
 
 pub loop-i-preserved : goal.loop-i-preserved
 loop-i-preserved c =
-    let xs = c.args.a.now in
-    let ys = c.args.b.now in
+    let xs = c.args.one.now in
+    let ys = c.args.other.now in
     let i : ℕ = c.loop-i.i in
     let room : i + 8 ≤ length xs = omega arith in
     record { within = room; none = none_more (bit_and) xs ys i _ (lanes_shared xs ys i room c.requires) c.if-shared-ne0.false c.loop-i.invariant.none }
 
-pub returns-then-a-k-ne0 : goal.returns-then-a-k-ne0
-returns-then-a-k-ne0 c =
-    let xs = c.args.a.now in
-    let ys = c.args.b.now in
-    sym (words_sharing (length xs) xs ys c.loop-k.k (λ k. (c.type_inv.a k).fits) (omega arith) c.if-a-k-ne0.true)
+pub returns-then-one-k-ne0 : goal.returns-then-one-k-ne0
+returns-then-one-k-ne0 c =
+    let xs = c.args.one.now in
+    let ys = c.args.other.now in
+    sym (words_sharing (length xs) xs ys c.loop-k.k (λ k. (c.type_inv.one k).fits) (omega arith) c.if-one-k-ne0.true)
 
 pub returns : goal.returns
 returns c =
-    let xs = c.args.a.now in
-    let ys = c.args.b.now in
+    let xs = c.args.one.now in
+    let ys = c.args.other.now in
     sym (words_apart (length xs) xs ys (λ k l. c.loop-k.invariant k (omega arith)))

@@ -7,29 +7,29 @@ use Rattle.goods_set.proofs.word_set.lanes.all_inside.Goals as goal
 
 pub returns-then-outside-ne0 : goal.returns-then-outside-ne0
 returns-then-outside-ne0 c =
-    let xs = c.args.a.now in
-    let ys = c.args.b.now in
+    let xs = c.args.inner.now in
+    let ys = c.args.outer.now in
     let i : ℕ = c.loop-i.i in
     let room : i + 8 ≤ length xs = omega arith in
     let s = some_here (λ x y. bit_and x (bit_not w64 y)) xs ys i _ (lanes_outside xs ys i room c.requires) room c.if-outside-ne0.true in
-    sym (words_outside (length xs) xs ys s.place (λ k. (c.type_inv.a k).fits) (λ k. (c.type_inv.b k).fits) s.within s.holds)
+    sym (words_outside (length xs) xs ys s.place (λ k. (c.type_inv.inner k).fits) (λ k. (c.type_inv.outer k).fits) s.within s.holds)
 
 pub loop-i-preserved : goal.loop-i-preserved
 loop-i-preserved c =
-    let xs = c.args.a.now in
-    let ys = c.args.b.now in
+    let xs = c.args.inner.now in
+    let ys = c.args.outer.now in
     let i : ℕ = c.loop-i.i in
     let room : i + 8 ≤ length xs = omega arith in
     record { within = room; none = none_more (λ x y. bit_and x (bit_not w64 y)) xs ys i _ (lanes_outside xs ys i room c.requires) c.if-outside-ne0.false c.loop-i.invariant.none }
 
-pub returns-then-a-k-ne0 : goal.returns-then-a-k-ne0
-returns-then-a-k-ne0 c =
-    let xs = c.args.a.now in
-    let ys = c.args.b.now in
-    sym (words_outside (length xs) xs ys c.loop-k.k (λ k. (c.type_inv.a k).fits) (λ k. (c.type_inv.b k).fits) (omega arith) c.if-a-k-ne0.true)
+pub returns-then-inner-k-ne0 : goal.returns-then-inner-k-ne0
+returns-then-inner-k-ne0 c =
+    let xs = c.args.inner.now in
+    let ys = c.args.outer.now in
+    sym (words_outside (length xs) xs ys c.loop-k.k (λ k. (c.type_inv.inner k).fits) (λ k. (c.type_inv.outer k).fits) (omega arith) c.if-inner-k-ne0.true)
 
 pub returns : goal.returns
 returns c =
-    let xs = c.args.a.now in
-    let ys = c.args.b.now in
-    sym (words_inside (length xs) xs ys (λ k. (c.type_inv.b k).fits) (λ k l. c.loop-k.invariant k (omega arith)))
+    let xs = c.args.inner.now in
+    let ys = c.args.outer.now in
+    sym (words_inside (length xs) xs ys (λ k. (c.type_inv.outer k).fits) (λ k l. c.loop-k.invariant k (omega arith)))

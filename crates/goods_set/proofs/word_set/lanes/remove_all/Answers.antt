@@ -6,18 +6,18 @@ use Rattle.goods_set.specs.Words.{words_without}
 use Rattle.goods_set.proofs.Lanes.{lanes_outside, written_more, unwritten_more}
 use Rattle.goods_set.proofs.word_set.lanes.remove_all.Goals as goal
 
-pub loop-a-preserved : goal.loop-a-preserved
-loop-a-preserved c =
-    let xs = c.loop-a.a in
-    let ys = c.args.b.now in
-    let i : ℕ = c.loop-a.i in
+pub loop-words-preserved : goal.loop-words-preserved
+loop-words-preserved c =
+    let xs = c.loop-words.words in
+    let ys = c.args.taken.now in
+    let i : ℕ = c.loop-words.i in
     let room : i + 8 ≤ length xs = omega arith in
     let lanes = lanes_outside xs ys i room (omega arith) in
     record {
       within = omega (arith, length-put_chunk {A = ℕ});
-      done = written_more (λ x y. bit_and x (bit_not w64 y)) c.args.a.now xs ys i _ lanes room c.loop-a.invariant.done c.loop-a.invariant.rest;
-      rest = unwritten_more (λ x y. bit_and x (bit_not w64 y)) c.args.a.now xs ys i _ lanes c.loop-a.invariant.rest;
+      done = written_more (λ x y. bit_and x (bit_not w64 y)) c.args.words.now xs ys i _ lanes room c.loop-words.invariant.done c.loop-words.invariant.rest;
+      rest = unwritten_more (λ x y. bit_and x (bit_not w64 y)) c.args.words.now xs ys i _ lanes c.loop-words.invariant.rest;
     }
 
 pub returns : goal.returns
-returns c = λ cap l. words_without cap c.args.a.now c.args.b.now c.loop-k.a (λ k. (c.type_inv.b k).fits) (λ k m. c.loop-k.invariant.done k (omega arith))
+returns c = λ cap l. words_without cap c.args.words.now c.args.taken.now c.loop-k.words (λ k. (c.type_inv.taken k).fits) (λ k m. c.loop-k.invariant.done k (omega arith))
