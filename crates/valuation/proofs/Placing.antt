@@ -1,6 +1,6 @@
 -- The turns of the loop that makes the auction of a file, by what the code knows of its vectors: an atom goes to the end of the OR
 -- bidder's list, or of the list of one XOR bidder.
-use Rattle.std.proofs.Common.{◌≡◌, ℕ, zero, suc, ◌+◌, ◌<◌, ◌≤◌, List, [], ◌∷◌, ◌++◌, length, map, get_or, set, take, replicate, Option, Some, None, Global, refl, sym, ap, ap₂, ◌∙◌, subst, arith}
+use Rattle.std.proofs.Common.{◌≡◌, ℕ, zero, suc, ◌+◌, ◌<◌, ◌≤◌, List, [], ◌∷◌, ◌++◌, length, map, get_or, set, take, replicate, Some, None, Global, refl, sym, ap, ap₂, ◌∙◌, arith}
 use Rattle.std.specs.Prelude.{Vec}
 use Rattle.std.specs.List.{range_with_len}
 use Rattle.std.proofs.lemmas.List.{map_push, map-set, length-map, get_or-map, take_all}
@@ -10,7 +10,7 @@ use Rattle.valuation.specs.declared.atom.Atom.{Atom}
 use Rattle.valuation.specs.Values.{atoms_of}
 use Rattle.valuation.specs.Auctions.{atom_of, or_atoms_of, xor_atoms_of, auction_from}
 use Rattle.valuation.specs.Bidders.{bidders_of, plain_auction_of}
-use Rattle.valuation.specs.AuctionLemmas.{or_atoms_of-more, or_atoms_of-same, xor_bidders-more, xor_bidders-same}
+use Rattle.valuation.specs.AuctionLemmas.{or_atoms_of-more, xor_bidders-more}
 
 module _ {S : Type 0} (goods : S → List ℕ) (bids : List PlainBid) (i : ℕ) (b : PlainBid) (l : i < length bids) (here : get_or bids i b ≡ b)
     (a : Atom S) (bundle : goods a.bundle ≡ b.goods) (price : a.price ≡ b.price) where

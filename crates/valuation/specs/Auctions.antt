@@ -2,7 +2,7 @@
 -- good are the OR bidder's, and those that share a dummy good are one XOR bidder's (README of CATS 2.0, and Nisan's phantom goods).
 use Rattle.std.specs.Prelude.{ℕ, ◌+◌, ◌<◌, ◌≤◌, ◌==◌, Bool, false, Option, Some, None, is_none, List, [], ◌∷◌, length, map, filter, All, sum_by}
 use Rattle.std.specs.List.{range_with_len}
-use Rattle.std.specs.Coded.{×_prop, Unit-prop, le_prop, Π_prop, →_prop}
+use Rattle.std.specs.Coded.{×_prop, Unit-prop, le_prop}
 use Rattle.valuation.specs.declared.atom.Atom.{Atom}
 use Rattle.goods_set.specs.Bundles.{AreBelow}
 use Rattle.cats_text.specs.Files.{PlainBid, PlainFile}

@@ -2,6 +2,7 @@ pub mod Values
 pub mod Packings
 pub mod Tables
 pub mod Orders
+pub mod OrderLemmas
 pub mod Auctions
 pub mod Bidders
 pub mod Views

@@ -1,17 +1,52 @@
 //! Laws of the definitions, which the check proves.
-ghost use Rattle.std.specs.Prelude.{◌≡◌, ℕ, List, length};
+ghost use Rattle.std.specs.Prelude.{◌≡◌, ℕ, ◌+◌, ◌<◌, ◌≤◌, List, ◌∷◌, length, All, IsPermutation};
+ghost use Rattle.std.specs.Cmp.{IsTotalOrder};
+ghost use Rattle.std.specs.declared.cmp.Ordering.TheVariants.{Equal};
+ghost use Rattle.goods_set.specs.Bundles.{IsInside, AreApart};
+ghost use Rattle.cats_text.specs.Files.{PlainFile, IsPlainFile};
 ghost use Rattle.valuation.specs.declared.atom.Atom.{Atom};
-ghost use Rattle.valuation.specs.Values.{or_value, chosen_places};
+ghost use Rattle.valuation.specs.Values.{xor_value, or_value, chosen_places};
 ghost use Rattle.valuation.specs.Packings.{atoms_at, price_sum, count_packings, IsBestPacking, AreThePackings};
+ghost use Rattle.valuation.specs.Orders.{atom_cmp, bidder_cmp};
+ghost use Rattle.valuation.specs.Auctions.{IsAuction, auction_from};
 
 /// The OR value is the price sum of the atoms at the chosen places. These are pairwise apart and inside the bundle, and no
 /// other such family has a greater price sum.
-pub fn best_packing()
+pub fn or_value_is_best_packing()
     ensures value { (atoms : List (Atom (List ℕ))) (bundle : List ℕ) → or_value atoms bundle ≡ price_sum (atoms_at atoms (chosen_places atoms bundle)) }
     ensures best { (atoms : List (Atom (List ℕ))) (bundle : List ℕ) → IsBestPacking atoms bundle (chosen_places atoms bundle) }
 {}
 
 /// The number of packings counts them: there is a list of so many, which has each packing once and nothing else.
-pub fn packings_counted()
+pub fn packings_are_counted()
     ensures { (atoms : List (Atom (List ℕ))) (bundle : List ℕ) → ((families : List (List ℕ)) × AreThePackings atoms bundle families × (length families ≡ count_packings atoms bundle)) }
+{}
+
+/// The XOR value grows with the bundle, and does not depend on the order of the atoms.
+pub fn xor_value_laws()
+    ensures grows { (atoms : List (Atom (List ℕ))) (small large : List ℕ) → IsInside small large → xor_value atoms small ≤ xor_value atoms large }
+    ensures any_order { (some other : List (Atom (List ℕ))) → IsPermutation some other → (bundle : List ℕ) → xor_value some bundle ≡ xor_value other bundle }
+{}
+
+/// The OR value grows with the bundle, and does not depend on the order of the atoms. Where each atom asks for some good, the
+/// values of two parts of a bundle together are at most its own, and an atom that the others outbid on its own bundle changes no
+/// value.
+pub fn or_value_laws()
+    ensures grows { (atoms : List (Atom (List ℕ))) (small large : List ℕ) → IsInside small large → or_value atoms small ≤ or_value atoms large }
+    ensures any_order { (some other : List (Atom (List ℕ))) → IsPermutation some other → (bundle : List ℕ) → or_value some bundle ≡ or_value other bundle }
+    ensures parts { (atoms : List (Atom (List ℕ))) → All (λ a. 0 < length a.bundle) atoms → (one other whole : List ℕ) → IsInside one whole → IsInside other whole → AreApart one other → or_value atoms one + or_value atoms other ≤ or_value atoms whole }
+    ensures outbid { (a : Atom (List ℕ)) (rest : List (Atom (List ℕ))) → All (λ a. 0 < length a.bundle) rest → a.price ≤ or_value rest a.bundle → (bundle : List ℕ) → or_value (a ∷ rest) bundle ≡ or_value rest bundle }
+{}
+
+/// The orders of atoms and of bidders are total, and answer Equal only for equal ones.
+pub fn order_laws()
+    ensures atoms { IsTotalOrder atom_cmp }
+    ensures equal_atoms { (a b : Atom (List ℕ)) → atom_cmp a b ≡ Equal → a ≡ b }
+    ensures bidders { IsTotalOrder bidder_cmp }
+    ensures equal_bidders { (some other : List (Atom (List ℕ))) → bidder_cmp some other ≡ Equal → some ≡ other }
+{}
+
+/// The auction that a file stands for keeps the limits of auctions, where its goods fit the sets.
+pub fn auctions_of_files_keep_limits()
+    ensures { (cap : ℕ) (file : PlainFile) → IsPlainFile file → file.goods ≤ cap → IsAuction cap (auction_from file) }
 {}

@@ -5,21 +5,19 @@ mod atom;
 mod auction;
 mod budget;
 mod from_file;
-mod laws;
+pub mod laws;
 mod packing;
 #[cfg(test)]
 mod plain;
 mod search;
 #[cfg(test)]
 mod tests;
-mod worked;
+pub mod worked;
 mod xor;
 
 pub use atom::Atom;
 pub use auction::Auction;
 pub use budget::Budget;
 pub use from_file::auction_of;
-pub use laws::{best_packing, packings_counted};
 pub use packing::{Packing, ValueFault, or_value};
-pub use worked::{or_worked, orders_worked, packings_worked, tables_worked, xor_worked};
 pub use xor::xor_value;

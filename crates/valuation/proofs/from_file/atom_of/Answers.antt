@@ -1,5 +1,4 @@
-use Rattle.std.proofs.Common.{arith, take, ap, ◌∙◌}
-use Rattle.std.proofs.lemmas.List.{take_all}
+use Rattle.std.proofs.Common.{ap, ◌∙◌}
 use Rattle.goods_set.specs.Bundles.{with_good}
 use Rattle.valuation.specs.AuctionLemmas.{with_good-take, below_at}
 use Rattle.valuation.proofs.from_file.atom_of.Goals as goal

@@ -1,14 +1,10 @@
-use Rattle.std.proofs.Common.{arith, rules, ◌≡◌, ◌<◌, ℕ, List, [], ◌∷◌, ◌++◌, length, map, get_or, set, take, refl, sym, ap, ◌∙◌}
-use Rattle.std.specs.List.{range_with_len}
-use Rattle.goods_set.specs.Bundles.{AreBelow}
+use Rattle.std.proofs.Common.{arith, ◌<◌, length, take, refl, sym, ap, ◌∙◌}
 use Rattle.goods_set.specs.Members.{AreBelow-higher}
-use Rattle.cats_text.specs.Files.{IsBid, plain_bid, plain_bids}
+use Rattle.cats_text.specs.Files.{plain_bid, plain_bids}
 use Rattle.cats_text.specs.Views.{plain_file}
 use Rattle.std.proofs.lemmas.List.{length-map}
-use Rattle.valuation.specs.Auctions.{auction_from}
 use Rattle.valuation.specs.Values.{atoms_of}
-use Rattle.valuation.specs.Bidders.{bidders_of}
-use Rattle.valuation.specs.AuctionLemmas.{rising-from, below-from, plain_bid_at, IsBid-at, or_atoms_of-more, or_atoms_of-same, xor_bidders-more, xor_bidders-same, IsAuction-auction_from}
+use Rattle.valuation.specs.AuctionLemmas.{rising-from, below-from, plain_bid_at, IsBid-at, or_atoms_of-same, xor_bidders-same, IsAuction-auction_from}
 use Rattle.valuation.proofs.Placing.{place-or, place-xor, placed, no_bids, length-bidders_of}
 use Rattle.valuation.proofs.from_file.auction_of.Goals as goal
 use Rattle.valuation.proofs.from_file.auction_of.Goals.{in-None+in_ok-push-in-None, in-Some+in_ok-push-in-Some}

@@ -1,9 +1,8 @@
-use Rattle.std.proofs.Common.{arith, ◌≡◌, ℕ, ◌<◌, ◌≤◌, true, false, List, length, Option, Some, None, ⊎_elim, refl, sym, ap, ◌∙◌}
+use Rattle.std.proofs.Common.{arith, ◌≡◌, ℕ, ◌<◌, ◌≤◌, List, Some, None, ⊎_elim, sym, ap, ◌∙◌}
 use Rattle.std.proofs.lemmas.Bool.{both_ways, cases_lt, ltb-true, lt-ltb}
 use Rattle.goods_set.specs.Bundles.{IsRising, AreBelow, has_good, good_from}
 use Rattle.goods_set.specs.Members.{has_below, AreBelow-from_has}
 use Rattle.goods_set.specs.Sizes.{good_from-Some, good_from-None}
-use Rattle.valuation.specs.Auctions.{IsAtom}
 use Rattle.valuation.proofs.atom.Atom.keeps_limits.Goals as goal
 
 -- no good is at least the number of goods

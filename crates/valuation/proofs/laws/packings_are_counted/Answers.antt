@@ -1,5 +1,5 @@
 use Rattle.valuation.specs.CountLemmas.{count_packings-packings}
-use Rattle.valuation.proofs.laws.packings_counted.Goals as goal
+use Rattle.valuation.proofs.laws.packings_are_counted.Goals as goal
 
 pub returns : goal.returns
 returns c = count_packings-packings

@@ -1,0 +1,5 @@
+use Rattle.valuation.specs.AuctionLemmas.{IsAuction-auction_from}
+use Rattle.valuation.proofs.laws.auctions_of_files_keep_limits.Goals as goal
+
+pub returns : goal.returns
+returns c = IsAuction-auction_from

@@ -1,0 +1,10 @@
+use Rattle.valuation.specs.OrLemmas.{or_value-grows, or_value-permutation, or_value-parts, or_value-dominated}
+use Rattle.valuation.proofs.laws.or_value_laws.Goals as goal
+
+pub returns : goal.returns
+returns c = record {
+  grows = or_value-grows;
+  any_order = or_value-permutation;
+  parts = or_value-parts;
+  outbid = or_value-dominated;
+}
