@@ -1,16 +1,16 @@
 -- The plain tests of points, over plain lists: what holds of the bundles that were looked at.
-use Rattle.std.proofs.Common.{◌≡◌, ℕ, ◌+◌, ◌-◌, ◌<◌, ◌≤◌, Bool, true, false, ◌⊎◌, inl, inr, ⊎_elim, List, [], ◌∷◌, length, map, take, get_or, refl, sym, ap, ◌∙◌, subst, arith}
+use Rattle.std.proofs.Common.{◌≡◌, ℕ, ◌+◌, ◌-◌, ◌<◌, ◌≤◌, true, false, ⊎_elim, List, [], ◌∷◌, length, map, take, get_or, sym, ap, ◌∙◌, subst, arith}
 use Rattle.std.specs.Prelude.{Contains}
-use Rattle.std.proofs.lemmas.Bool.{false_from_ne_true, both_ways}
+use Rattle.std.proofs.lemmas.Bool.{false_from_ne_true}
 use Rattle.std.proofs.lemmas.List.{take_more, take_all, get_or-map, length-map}
 use Rattle.std.proofs.lemmas.List.Elements.{Contains-push_cases}
-use Rattle.goods_set.specs.Bundles.{IsRising, IsBundle, IsInside, has_good, without, all_bundles}
+use Rattle.goods_set.specs.Bundles.{IsRising, IsBundle, IsInside, without, all_bundles}
 use Rattle.goods_set.specs.Members.{has_head, has_below, inside_at}
 use Rattle.goods_set.specs.AllBundles.{all_bundles_has}
 use Rattle.valuation.specs.declared.atom.Atom.{Atom}
 use Rattle.valuation.specs.Values.{xor_value, or_value}
 use Rattle.prune.specs.Points.{is_part, is_xor_point, is_or_point}
-use Rattle.prune.specs.PointLemmas.{IsXorPoint, IsXorPoint-from_test, is_xor_point-true, IsPart, IsPart-from_test, is_part-true, IsOrPoint, inside_below, IsOrPoint-from_test, is_or_point-true}
+use Rattle.prune.specs.PointLemmas.{IsXorPoint-from_test, is_xor_point-true, IsPart-from_test, is_part-true, inside_below, IsOrPoint-from_test, is_or_point-true}
 use Rattle.prune.specs.KeptLemmas.{good_inside, has_from_Contains}
 use Rattle.prune.proofs.Listed.{Contains_from_has}
 

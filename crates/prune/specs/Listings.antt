@@ -1,6 +1,7 @@
 -- Atoms listed by their goods, so that those inside a bundle are found through the goods of the bundle.
 use Rattle.std.specs.Prelude.{◌≡◌, ℕ, ◌<◌, Bool, true, map, slice_index_or, List, [], length, Contains}
 use Rattle.std.specs.Global.{Vec}
+use Rattle.std.specs.List.{filter}
 use Rattle.valuation.specs.declared.atom.Atom.{Atom}
 use Rattle.goods_set.specs.Bundles.{has_good, is_inside}
 
@@ -30,3 +31,7 @@ pub record IsListed (lists : List (List ℕ)) (bundle : List ℕ) (place : ℕ) 
 pub record AreListed (lists : List (List ℕ)) (atoms : List (Atom (List ℕ))) : Type 0 where
   pub each : (place : ℕ) → place < length atoms → IsListed lists (atom_at atoms place).bundle place
   pub within : (good place : ℕ) → Contains (listed_at lists good) place → place < length atoms
+
+-- the atoms of a list inside a bundle
+abbrev pub atoms_inside : List (Atom (List ℕ)) → List ℕ → List (Atom (List ℕ))
+atoms_inside atoms bundle = filter (λ a. is_inside a.bundle bundle) atoms

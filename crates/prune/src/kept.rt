@@ -1,9 +1,15 @@
 //! The atoms that a pruning keeps, found by their goods.
 ghost use Rattle.std.specs.Prelude.{◌≡◌, ℕ, ◌+◌, ◌<◌, true, map, length, IfOk, OnOk, [], ◌∷◌, ◌++◌};
 ghost use Rattle.std.specs.List.{filter, range_with_len};
-ghost use Rattle.goods_set.specs.Bundles.{has_good, is_inside};
+ghost use Rattle.goods_set.specs.Bundles.{has_good};
 ghost use Rattle.valuation.specs.Values.{atoms_of};
-ghost use Rattle.prune.specs.Listings.{lists_of, listed_at, is_inside_at, AreListed};
+ghost use Rattle.prune.specs.Listings.{
+  lists_of,
+  listed_at,
+  is_inside_at,
+  atoms_inside,
+  AreListed,
+};
 
 use goods_set::GoodsSet;
 use std::alloc::{AllocError, Global};
@@ -89,7 +95,9 @@ impl<S: GoodsSet> Kept<S> {
     /// Adds to `found` the places of the atoms inside the bundle that are listed at the good.
     fn find_listed(&self, good: u16, bundle: &S, found: &mut Vec<usize>) -> Result<(), AllocError>
         requires { AreListed (lists_of self.now.places_by_good.items) (atoms_of S.goods self.now.atoms.items) }
-        ensures { OnOk result (found.new.items ≡ found.old.items ++ filter (is_inside_at (atoms_of S.goods self.now.atoms.items) (S.goods bundle.now)) (listed_at (lists_of self.now.places_by_good.items) good)) }
+        ensures { let inside = is_inside_at (atoms_of S.goods self.now.atoms.items) (S.goods bundle.now) in
+            let listed = listed_at (lists_of self.now.places_by_good.items) good in
+            OnOk result (found.new.items ≡ found.old.items ++ filter inside listed) }
     {
         let good = usize::from(good);
         if good < self.places_by_good.len() {
@@ -105,7 +113,9 @@ impl<S: GoodsSet> Kept<S> {
     /// The places of the atoms inside the bundle, rising.
     fn places_inside(&self, alloc: Global, bundle: &S) -> Result<Vec<usize>, AllocError>
         requires { AreListed (lists_of self.now.places_by_good.items) (atoms_of S.goods self.now.atoms.items) }
-        ensures { IfOk result (λ places. places.items ≡ filter (is_inside_at (atoms_of S.goods self.now.atoms.items) (S.goods bundle.now)) (range_with_len 0 (length self.now.atoms.items))) }
+        ensures { let inside = is_inside_at (atoms_of S.goods self.now.atoms.items) (S.goods bundle.now) in
+            let all = range_with_len 0 (length self.now.atoms.items) in
+            IfOk result (λ places. places.items ≡ filter inside all) }
     {
         let mut found = Vec::new(alloc);
         let mut from = 0;
@@ -121,7 +131,9 @@ impl<S: GoodsSet> Kept<S> {
     /// The atoms inside the bundle, in the order in which they came.
     pub fn inside(&self, alloc: Global, bundle: &S) -> Result<Vec<&Atom<S>>, AllocError>
         requires { AreListed (lists_of self.now.places_by_good.items) (atoms_of S.goods self.now.atoms.items) }
-        ensures { IfOk result (λ inside. atoms_of S.goods (map (λ a. a.now) inside.items) ≡ filter (λ a. is_inside a.bundle (S.goods bundle.now)) (atoms_of S.goods self.now.atoms.items)) }
+        ensures { let atoms = atoms_of S.goods self.now.atoms.items in
+            IfOk result (λ inside. atoms_of S.goods (map (λ a. a.now) inside.items)
+            ≡ atoms_inside atoms (S.goods bundle.now)) }
     {
         let places = self.places_inside(alloc, bundle)?;
         let mut inside = Vec::new(alloc);

@@ -1,13 +1,12 @@
 //! Pruning the bids of an XOR bidder.
 ghost use Rattle.std.specs.Prelude.{◌≡◌, ℕ, ◌<◌, ◌≤◌, nat_le, List, All, Contains, IfOk, vec_len};
-ghost use Rattle.std.specs.List.{filter, list_any};
-ghost use Rattle.goods_set.specs.Bundles.{is_inside};
+ghost use Rattle.std.specs.List.{list_any};
 ghost use Rattle.cats_text.specs.declared.limits.TheConstants.{MAX_GOODS};
 ghost use Rattle.valuation.specs.Auctions.{IsAtom};
 ghost use Rattle.valuation.specs.Values.{atoms_of, xor_value};
 ghost use Rattle.prune.specs.InOrder.{IsInOrder};
 ghost use Rattle.prune.specs.Points.{xor_points};
-ghost use Rattle.prune.specs.Listings.{lists_of, AreListed};
+ghost use Rattle.prune.specs.Listings.{lists_of, atoms_inside, AreListed};
 
 use crate::best::keep_best_bids;
 use crate::kept::Kept;
@@ -26,7 +25,9 @@ fn has_price<S>(atoms: &[&Atom<S>], price: u64) -> bool
 fn is_outbid<S: GoodsSet>(alloc: Global, kept: &Kept<S>, bid: &Atom<S>) -> Result<bool, AllocError>
     requires positive { 0 < bid.now.price }
     requires listed { AreListed (lists_of kept.now.places_by_good.items) (atoms_of S.goods kept.now.atoms.items) }
-    ensures { IfOk result (λ outbid. outbid ≡ nat_le bid.now.price (xor_value (filter (λ a. is_inside a.bundle (S.goods bid.now.bundle)) (atoms_of S.goods kept.now.atoms.items)) (S.goods bid.now.bundle))) }
+    ensures { let bundle = S.goods bid.now.bundle in
+        let inside = atoms_inside (atoms_of S.goods kept.now.atoms.items) bundle in
+        IfOk result (λ outbid. outbid ≡ nat_le bid.now.price (xor_value inside bundle)) }
 {
     let inside = kept.inside(alloc, &bid.bundle)?;
     Ok(has_price(&inside, bid.price))
@@ -38,9 +39,15 @@ pub fn prune_xor<S: GoodsSet>(
     mut atoms: Vec<Atom<S>>,
 ) -> Result<Vec<Atom<S>>, AllocError>
     requires { All (IsAtom MAX_GOODS) (atoms_of S.goods atoms.items) }
-    ensures points { IfOk result (λ points. (goods : ℕ) → All (IsAtom goods) (atoms_of S.goods atoms.items) → atoms_of S.goods points.items ≡ xor_points goods (atoms_of S.goods atoms.items)) }
-    ensures values { IfOk result (λ points. (bundle : List ℕ) → xor_value (atoms_of S.goods points.items) bundle ≡ xor_value (atoms_of S.goods atoms.items) bundle) }
-    ensures bids { IfOk result (λ points. All (Contains (atoms_of S.goods atoms.items)) (atoms_of S.goods points.items)) }
+    // For each number of goods that the bids are within.
+    ensures points { let bids = atoms_of S.goods atoms.items in
+        IfOk result (λ points. (goods : ℕ) → All (IsAtom goods) bids
+        → atoms_of S.goods points.items ≡ xor_points goods bids) }
+    ensures values { let bids = atoms_of S.goods atoms.items in
+        IfOk result (λ points. (bundle : List ℕ)
+        → xor_value (atoms_of S.goods points.items) bundle ≡ xor_value bids bundle) }
+    ensures bids { let bids = atoms_of S.goods atoms.items in
+        IfOk result (λ points. All (Contains bids) (atoms_of S.goods points.items)) }
     ensures in_order { IfOk result (λ points. IsInOrder (atoms_of S.goods points.items)) }
     ensures no_longer { IfOk result (λ points. vec_len points ≤ vec_len atoms) }
 {
