@@ -6,8 +6,8 @@ use Rattle.std.specs.Global.{Vec}
 use Rattle.std.specs.List.{filter, dedup, range_with_len}
 use Rattle.std.specs.List.Sorted.{IsSorted}
 use Rattle.std.proofs.lemmas.Bool.{cases_lt, cases_eq, both_ways, and_parts, and_from}
-use Rattle.std.proofs.lemmas.List.{map-set, map_push, take_more, get_or-map, get_or_past, get_or_append_left, get_or_push, length-map, length_push}
-use Rattle.std.proofs.lemmas.List.Elements.{filter_more, Contains-get_or, All-nil, All-append, All-contains, All-filter, Contains-append_left, Contains-append_right, Contains-push_cases, Contains-push}
+use Rattle.std.proofs.lemmas.List.{map-set, map_push, take_more, get_or-map, get_or_append_left, get_or_push, length-map, length_push}
+use Rattle.std.proofs.lemmas.List.Elements.{filter_more, Contains-get_or, All-append, All-contains, All-filter, Contains-append_left, Contains-append_right, Contains-push_cases, Contains-push}
 use Rattle.std.proofs.lemmas.List.FromFn.{fill_by_all}
 use Rattle.std.proofs.lemmas.List.Kept.{AllPairs-from_increasing, Contains-dedup_nat, Contains-from_dedup}
 use Rattle.std.proofs.lemmas.List.Sorted.{Contains-permutation, IsPermutation-sym}
@@ -20,7 +20,7 @@ use Rattle.valuation.specs.Values.{atoms_of}
 use Rattle.valuation.specs.AtomLemmas.{get_or-atoms_of}
 use Rattle.valuation.specs.ListLemmas.{AllPairs-head, AllPairs-tail}
 use Rattle.prune.specs.Listings.{lists_of, listed_at, atom_at, is_inside_at, IsListed, AreListed}
-use Rattle.prune.specs.Lists.{Contains-nil, Contains-head, Contains-tail, Contains-filter, Contains-filter_parts, All-from_Contains}
+use Rattle.prune.specs.Lists.{Contains-head, Contains-tail, Contains-filter, Contains-filter_parts, All-from_Contains}
 use Rattle.prune.specs.KeptLemmas.{has_from_Contains}
 use Rattle.prune.proofs.BestBids.{map-filter}
 

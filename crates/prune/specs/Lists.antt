@@ -90,8 +90,3 @@ find_first R p (y ∷ ys) s x c e h =
 pub find_none : {X : Type 0} (p : X → Bool) (xs : List X) → ((x : X) → Contains xs x → p x ≡ false) → find p xs ≡ None
 find_none p [] h = refl
 find_none p (y ∷ ys) h = let t : p y ≡ false = h y (Contains-head y ys) in simp t (find_none p ys (λ x c. h x (Contains-tail y ys x c)))
-
-    miss : (find p ys ≡ None → Contains ys x → p x ≡ false) → p y ≡ false → p x ≡ false
-    miss h t =
-        let f : find p ys ≡ None = rw t at e in
-        ⊎_elim (λ (d : y ≡ x). ap p (sym d) ∙ t) (λ (d : Contains ys x). h f d) (Contains-cons_cases y ys x c)
