@@ -1,10 +1,9 @@
 -- A scan of a list of bytes: what is left of it does to the state reached what the whole does to the first.
 use Rattle.std.proofs.Math.ListN.{drop_of_length-le}
-use Rattle.std.proofs.Common.{add-one, drop-cons, ◌≡◌, ◌≢◌, ℕ, suc, ◌+◌, ◌<◌, ◌≤◌, Bool, true, false, cond, eqb, List, [], ◌∷◌, length, drop, get_or, refl, sym, ap, ◌∙◌, subst, arith, inr, Ok, Err}
+use Rattle.std.proofs.Common.{add-one, drop-cons, ◌≡◌, ◌≢◌, ℕ, ◌+◌, ◌<◌, Bool, true, false, List, [], ◌∷◌, length, drop, get_or, refl, sym, ap, ◌∙◌, subst, arith, inr, Ok}
 use Rattle.std.proofs.lemmas.Bool.{ne_eqb, eq-eqb}
-use Rattle.cats_text.specs.Returns.{settled, waits, return_byte, settle}
-use Rattle.cats_text.specs.declared.fault.ReadFault.{ReadFault}
-use Rattle.cats_text.specs.Scanning.{State, run, byte_step, and_then, MeetsBidLine, IsInBidLine}
+use Rattle.cats_text.specs.Returns.{settled, waits, return_byte}
+use Rattle.cats_text.specs.Scanning.{State, run, byte_step, MeetsBidLine}
 
 pub record IsScanned (s0 s : State) (waiting : Bool) (bytes rest : List ℕ) : Type 0 where
   pub steps : run s (settled rest) ≡ run s0 (settled bytes)

@@ -1,4 +1,4 @@
-use Rattle.std.proofs.Common.{◌≡◌, ◌≢◌, ◌+◌, ◌≤◌, ◌<◌, Ok, length, get_or, arith, rules, ap, ◌∙◌}
+use Rattle.std.proofs.Common.{◌≡◌, ◌≢◌, ◌+◌, Ok, length, get_or, arith, rules}
 use Rattle.cats_text.specs.Scanning.{state, byte_step}
 use Rattle.cats_text.specs.Returns.{return_byte}
 use Rattle.cats_text.proofs.Scanned.{scan_byte_at, scan_last_return_at, scan_return_at}
