@@ -1,19 +1,19 @@
 -- From bytes to lines: the scanner over a whole text gives what the parser gives over its significant lines.
-use Rattle.std.proofs.Common.{◌≡◌, ◌≢◌, ℕ, suc, ◌+◌, ◌<◌, ◌≤◌, Bool, true, false, not, ◌&&◌, ◌||◌, cond, eqb, List, [], ◌∷◌, ◌++◌, length, filter, refl, sym, ap, ap₂, ◌∙◌, subst, arith, Result, Ok, Err, append-nil, append_assoc}
+use Rattle.std.proofs.Common.{◌≡◌, ℕ, suc, ◌<◌, Bool, true, false, ◌&&◌, ◌||◌, cond, eqb, List, [], ◌∷◌, ◌++◌, length, refl, sym, ap, ◌∙◌, subst, arith, Ok, Err, append-nil}
 use Rattle.std.proofs.lemmas.Bool.{both_ways, eqb-true}
 use Rattle.std.specs.List.{AllByRecursion}
-use Rattle.cats_text.specs.Lines.{Word, RawLine, raw_lines, lines_with, with_byte, line_words, is_significant, is_blank, numbered, Line}
+use Rattle.cats_text.specs.Lines.{Word, RawLine, raw_lines, lines_with, with_byte, line_words, is_significant, is_blank}
 use Rattle.cats_text.specs.Faults.{fault_at}
 use Rattle.cats_text.specs.Progress.{Progress}
 use Rattle.cats_text.specs.Parsing.{Reading, line_read, is_due}
-use Rattle.cats_text.specs.Scanning.{State, Scan, and_then, run, byte_step, blank_step, words_step, words_step_at, line_step, next_line, end_step, missing_step, line_behind, with_reading, letter_mode}
+use Rattle.cats_text.specs.Scanning.{State, Scan, and_then, run, byte_step, blank_step, words_step, next_line, end_step, missing_step, line_behind, with_reading, letter_mode}
 use Rattle.cats_text.specs.declared.fault.Kind.TheVariants.{Missing}
 use Rattle.cats_text.specs.declared.fault.ReadFault.{ReadFault}
 use Rattle.cats_text.specs.declared.scanner.Mode.{Mode}
 use Rattle.cats_text.specs.declared.scanner.Mode.TheVariants.{Start, Blank, Comment, Between, Inside}
 use Rattle.cats_text.specs.Machine.{word_from}
-use Rattle.cats_text.proofs.ByteLines.{byte_blank, byte_letter, and_then-assoc, run-append, IsNoEnd, standing, lifted, to_blank, fresh_outcome, quiet, from_start}
-use Rattle.cats_text.proofs.WholeLines.{words_read, reading_then, on_line, Scanned, scanned_then, whole_line, open_line, lines_scan}
+use Rattle.cats_text.proofs.ByteLines.{byte_blank, byte_letter, and_then-assoc, run-append, IsNoEnd, standing, lifted, fresh_outcome, quiet, from_start}
+use Rattle.cats_text.proofs.WholeLines.{words_read, reading_then, on_line, Scanned, scanned_then}
 
 -- ---- a text as its lines
 

@@ -1,9 +1,9 @@
 -- Where the scanner is in a bid line, a fourth significant line has begun. The idea: count the lines that begin, byte by byte,
 -- and the header lines that have ended by the parser's stage.
-use Rattle.std.proofs.Common.{◌≡◌, ℕ, suc, ◌+◌, ◌-◌, ◌<◌, ◌≤◌, Option, Some, None, Bool, true, false, not, ◌&&◌, ◌||◌, cond, eqb, ltb, leb, ◌⊎◌, ⊎_elim, List, [], ◌∷◌, ◌++◌, length, filter, refl, sym, ap, ◌∙◌, subst, arith, Result, Ok, Err, IsOkAnd}
-use Rattle.std.proofs.lemmas.Bool.{both_ways, lt-ltb, eqb-true}
+use Rattle.std.proofs.Common.{◌≡◌, ℕ, suc, ◌+◌, ◌-◌, ◌≤◌, Option, Some, None, Bool, true, false, not, cond, eqb, ltb, leb, ⊎_elim, List, [], ◌∷◌, ◌++◌, length, filter, refl, sym, ap, ◌∙◌, subst, arith, Result, Ok, Err, IsOkAnd}
+use Rattle.std.proofs.lemmas.Bool.{lt-ltb}
 use Rattle.cats_text.specs.Lines.{Word, RawLine, Line, raw_lines, lines_with, with_byte, line_words, words_with, with_letter, begins_word, is_significant, is_blank, numbered, blank_returns, significant_lines}
-use Rattle.cats_text.specs.Faults.{fault_at, has_bid_line}
+use Rattle.cats_text.specs.Faults.{has_bid_line}
 use Rattle.std.specs.List.{slice_get}
 use Rattle.cats_text.specs.Grammar.{has_number}
 use Rattle.cats_text.specs.Progress.{Progress}
@@ -18,15 +18,14 @@ use Rattle.cats_text.specs.declared.parser.Place.TheVariants.{First, Second, Lat
 use Rattle.cats_text.specs.declared.limits.TheConstants.{MAX_GOODS, MAX_BIDS, MAX_DUMMY}
 use Rattle.cats_text.proofs.HeaderSteps.{read_at}
 use Rattle.cats_text.proofs.LineSteps.{line_at}
-use Rattle.cats_text.specs.Scanning.{State, Scan, and_then, run, byte_step, blank_step, words_step, line_step, next_line, with_reading, letter_mode, MeetsBidLine, IsInBidLine, IsInLine, first_state}
+use Rattle.cats_text.specs.Scanning.{State, Scan, and_then, byte_step, blank_step, words_step, line_step, next_line, with_reading, letter_mode, MeetsBidLine, IsInBidLine, IsInLine, first_state}
 use Rattle.cats_text.specs.Machine.{word_from}
-use Rattle.cats_text.specs.declared.fault.ReadFault.{ReadFault}
 use Rattle.cats_text.specs.declared.word.Word.{Word as Kept}
 use Rattle.cats_text.specs.declared.parser.Stage.{Stage}
 use Rattle.cats_text.specs.declared.parser.Stage.TheVariants.{Goods, Bids, Dummy, Bid}
 use Rattle.cats_text.specs.declared.scanner.Mode.{Mode}
 use Rattle.cats_text.specs.declared.scanner.Mode.TheVariants.{Start, Blank, Comment, Between, Inside}
-use Rattle.cats_text.proofs.ByteLines.{standing, words_blank, byte_letter, byte_blank}
+use Rattle.cats_text.proofs.ByteLines.{standing, words_blank}
 
 -- ---- how many significant lines begin in the bytes
 

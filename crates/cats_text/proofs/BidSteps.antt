@@ -1,14 +1,12 @@
 -- The words of a bid line: the parser and the definitions agree.
-use Rattle.std.proofs.Common.{lit<, lit≤, ◌≡◌, ◌≢◌, ℕ, zero, suc, ◌+◌, ◌-◌, ◌*◌, ◌^◌, ◌<◌, ◌≤◌, min, Bool, true, false, not, ◌&&◌, ◌||◌, cond, eqb, ltb, leb, ◌⊎◌, ⊎_elim, List, [], ◌∷◌, ◌++◌, length, drop, map, refl, sym, ap, ap₂, ◌∙◌, subst, arith, Option, Some, None, Result, Ok, Err}
-use Rattle.std.proofs.lemmas.Bool.{ltb-true, ltb-false, lt-ltb, le-ltb, le-leb, lt-leb, leb-true, leb-false, eqb-true, eqb-false, eq-eqb, ne_eqb, both_ways, or_right, or_left, and_parts}
-use Rattle.std.specs.List.{list_any, find, slice_get}
-use Rattle.std.specs.Option.{option_map, is_some}
-use Rattle.cats_text.specs.Numbers.{is_number, number_of, is_price, is_too_large, is_too_fine, price_of, whole_part, places, has_place_from, six_places, is_digit, digits_alone, GREATEST_PRICE}
-use Rattle.cats_text.specs.Grammar.{has_number, line_number}
-use Rattle.cats_text.specs.Faults.{Bounds, bounds_of, header_value, number_word, price_word, good_word, bid_word, word_fault, when, has_end, is_end}
-use Rattle.cats_text.specs.FileLines.{before_end, real_goods, dummy_in, slots_of}
+use Rattle.std.proofs.Common.{◌≡◌, ℕ, ◌+◌, ◌-◌, ◌*◌, ◌^◌, ◌<◌, ◌≤◌, min, Bool, true, false, not, ◌&&◌, ◌||◌, cond, eqb, ltb, leb, ⊎_elim, List, [], ◌∷◌, ◌++◌, length, refl, sym, ap, ap₂, ◌∙◌, subst, arith, Option, None, Ok, Err}
+use Rattle.std.proofs.lemmas.Bool.{ltb-false, lt-ltb, leb-true, leb-false, eq-eqb, ne_eqb, both_ways, or_left, and_parts}
+use Rattle.std.specs.List.{list_any, slice_get}
+use Rattle.cats_text.specs.Numbers.{is_number, number_of, is_too_large, is_too_fine, price_of, whole_part, places, has_place_from, six_places, is_digit, digits_alone, GREATEST_PRICE}
+use Rattle.cats_text.specs.Grammar.{line_number}
+use Rattle.cats_text.specs.Faults.{header_value, word_fault, when}
 use Rattle.cats_text.specs.Progress.{Progress}
-use Rattle.cats_text.specs.Parsing.{Reading, number_read, price_read, price_parts, with_price, good_or_end_read, good_read, dummy_read, end_read, word_read, is_some_bid}
+use Rattle.cats_text.specs.Parsing.{Reading, number_read, price_read, price_parts, with_price, is_some_bid}
 use Rattle.cats_text.specs.declared.fault.Kind.{Kind}
 use Rattle.cats_text.specs.declared.fault.Kind.TheVariants as kinds
 use Rattle.cats_text.specs.declared.word.Word.{Word}
@@ -16,18 +14,14 @@ use Rattle.cats_text.specs.declared.word.Decimal.{Decimal}
 use Rattle.cats_text.specs.declared.word.Word.TheVariants.{Keyword, Number, Decimal as Fraction, End, Other}
 use Rattle.cats_text.specs.declared.word.TheConstants.{HELD}
 use Rattle.cats_text.specs.declared.parser.Header.{Header}
-use Rattle.cats_text.specs.declared.parser.Stage.{Stage}
-use Rattle.cats_text.specs.declared.parser.Stage.TheVariants.{Goods, Bids, Dummy, Bid}
-use Rattle.cats_text.specs.declared.parser.Place.{Place}
-use Rattle.cats_text.specs.declared.parser.Place.TheVariants.{First, Second, Later, Ended}
-use Rattle.cats_text.specs.declared.limits.TheConstants.{MAX_GOODS, MAX_BIDS, MAX_DUMMY}
+use Rattle.cats_text.specs.declared.parser.Place.TheVariants.{Later}
+use Rattle.cats_text.specs.declared.limits.TheConstants.{MAX_BIDS}
 use Rattle.cats_text.proofs.Places.{digit_bounds, places_from, places-six, places_below_one, place_not_zero}
-use Rattle.cats_text.proofs.Summary.{Tells, Holds, IsFraction, whole-digits, whole-point, places-point}
-use Rattle.cats_text.proofs.Told.{IsTold, tells_number, tells_price, tells_end}
-use Rattle.cats_text.proofs.Standing.{IsAt, IsDraft, WordFollows, HasOneDummy}
-use Rattle.cats_text.proofs.HeaderSteps.{read_there, holds_lt, holds_le, holds_same}
+use Rattle.cats_text.proofs.Summary.{Tells, Holds, whole-digits, whole-point, places-point}
+use Rattle.cats_text.proofs.Told.{IsTold, tells_number}
+use Rattle.cats_text.proofs.Standing.{IsAt, WordFollows}
+use Rattle.cats_text.proofs.HeaderSteps.{holds_le, holds_same}
 use Rattle.cats_text.proofs.Taken.{taken}
-use Rattle.cats_text.proofs.GoodWords.{values, before_end-all, before_end-ended, before_end-push, has_end-push, values-push, any_find, any_values, find_passes, has_filtered, none_real, no_dummy_has_not, other_dummy_has_not, one_more_real, first_dummy, real_goods-real, real_goods-dummy, dummy_in-real, dummy_in-dummy}
 
 -- one test of the definitions against one of the parser
 pub follow_test : (lines : List (List (List ℕ))) (before : List (List ℕ)) (w : List ℕ) (b c : Bool) (kind : Kind) (r : Reading) (rest : Option Kind)

@@ -1,15 +1,15 @@
 -- What the machine gives on bytes, by the definitions over lines and words.
-use Rattle.std.proofs.Common.{◌≡◌, ℕ, suc, ◌+◌, ◌<◌, Bool, true, false, List, [], ◌∷◌, ◌++◌, length, map, drop, Option, Some, None, ◌⊎◌, ⊎_elim, inl, inr, Ok, Err, IsOkAnd, sym, ap, ap₂, ◌∙◌, subst, arith, refl}
+use Rattle.std.proofs.Common.{◌≡◌, ℕ, ◌<◌, true, false, List, [], ◌∷◌, ◌++◌, length, Option, Some, None, ◌⊎◌, ⊎_elim, inr, Ok, Err, IsOkAnd, sym, ap, ◌∙◌, subst, arith, refl}
 use Rattle.std.proofs.lemmas.Bool.{both_ways, lt-ltb}
 use Rattle.std.proofs.lemmas.List.{length-map}
 use Rattle.cats_text.specs.Files.{PlainFile, PlainBid}
-use Rattle.cats_text.specs.Lines.{Word, Line, blank_returns, significant_lines}
+use Rattle.cats_text.specs.Lines.{Word, Line, significant_lines}
 use Rattle.cats_text.specs.Grammar.{Spells, significant_words}
 use Rattle.cats_text.specs.Faults.{first_fault, complete_fault, has_bid_line, is_line_due}
 use Rattle.cats_text.specs.Returns.{settled, waits, carried}
 use Rattle.cats_text.specs.Progress.{Progress}
 use Rattle.cats_text.specs.Parsing.{file_from, filled}
-use Rattle.cats_text.specs.FileLines.{file_of_lines, file_said, slots_of}
+use Rattle.cats_text.specs.FileLines.{file_of_lines, slots_of}
 use Rattle.cats_text.specs.Scanning.{State, Scan, first_state, and_then, run, byte_step, end_step, end_of, MeetsBidLine, IsInBidLine, HasBids}
 use Rattle.cats_text.specs.declared.fault.ReadFault.{ReadFault}
 use Rattle.cats_text.specs.declared.parser.Header.{Header}

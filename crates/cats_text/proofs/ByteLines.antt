@@ -1,20 +1,18 @@
 -- From bytes to lines of words: the scanner's states over the bytes of a line, and over all lines. The idea: at each state one
 -- statement on the rest of the line, by induction on the rest, general in what has come of the word.
-use Rattle.std.proofs.Common.{◌≡◌, ◌≢◌, ℕ, suc, ◌+◌, ◌<◌, ◌≤◌, Bool, true, false, not, ◌&&◌, ◌||◌, cond, eqb, List, [], ◌∷◌, ◌++◌, length, refl, sym, ap, ap₂, ◌∙◌, subst, arith, Result, Ok, Err, append-nil, append_assoc}
-use Rattle.std.proofs.lemmas.Bool.{both_ways, eqb-true, eqb-false, eq-eqb}
+use Rattle.std.proofs.Common.{◌≡◌, ℕ, true, false, not, cond, eqb, List, [], ◌∷◌, ◌++◌, refl, sym, ap, ◌∙◌, Ok, Err, append-nil, append_assoc}
 use Rattle.std.specs.List.{AllByRecursion}
 use Rattle.cats_text.specs.Lines.{Word, is_blank, begins_word, with_letter, words_with, line_words, is_significant}
 use Rattle.cats_text.specs.Faults.{fault_at}
 use Rattle.cats_text.specs.Progress.{Progress}
-use Rattle.cats_text.specs.Parsing.{Reading, word_read, line_read}
-use Rattle.cats_text.specs.Machine.{word_from, word_with}
-use Rattle.cats_text.specs.Scanning.{State, Scan, and_then, run, byte_step, blank_step, words_step, line_step, next_line, with_reading, letter_mode, blank_step_at}
+use Rattle.cats_text.specs.Parsing.{Reading, word_read}
+use Rattle.cats_text.specs.Machine.{word_from}
+use Rattle.cats_text.specs.Scanning.{State, Scan, and_then, run, byte_step, blank_step, with_reading, letter_mode, blank_step_at}
 use Rattle.cats_text.specs.declared.word.Word.{Word as Kept}
-use Rattle.cats_text.specs.declared.fault.ReadFault.{ReadFault}
 use Rattle.cats_text.specs.declared.scanner.Mode.{Mode}
 use Rattle.cats_text.specs.declared.scanner.Mode.TheVariants.{Start, Blank, Comment, Between, Inside}
 use Rattle.cats_text.proofs.Summary.{summary, summary-push}
-use Rattle.cats_text.proofs.WholeLines.{words_read, reading_then, on_line, Scanned}
+use Rattle.cats_text.proofs.WholeLines.{words_read, reading_then}
 
 -- ---- steps one after another
 

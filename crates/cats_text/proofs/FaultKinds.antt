@@ -1,11 +1,11 @@
 -- A fault of a text has one of the kinds that belong to a line.
-use Rattle.std.proofs.Common.{◌≡◌, ◌≢◌, ℕ, suc, Bool, true, false, not, ◌&&◌, ◌||◌, List, [], ◌∷◌, ◌++◌, Option, Some, None, IfSome, option_map, refl, if◌then◌else◌, take, length, ◌≤◌, nat_le, arith}
+use Rattle.std.proofs.Common.{◌≡◌, ◌≢◌, ℕ, suc, Bool, true, false, ◌||◌, List, [], ◌∷◌, ◌++◌, Option, Some, None, IfSome, option_map, refl, if◌then◌else◌, take, length, ◌≤◌, nat_le, arith}
 use Rattle.std.specs.Option.{option_or}
 use Rattle.cats_text.specs.Lines.{Word, Line, line_count, significant_lines}
 use Rattle.cats_text.specs.Faults.{when, header_word, header_end, number_word, price_word, good_word, bid_word, bid_end, Bounds, word_fault, end_fault, words_fault, fault_at, line_fault, lines_fault, first_fault, complete_fault, up_to_final}
 use Rattle.cats_text.specs.Fed.{fed_fault}
 use Rattle.cats_text.specs.declared.fault.Kind.{Kind}
-use Rattle.cats_text.specs.declared.fault.Kind.TheVariants.{Header, NotANumber, TooLarge, ExtraBid, BidNumber, RepeatedNumber, TooFine, GoodRange, RepeatedGood, TwoDummies, EmptyBundle, NoEnd, AfterEnd, Missing, TooLong, Device, Memory}
+use Rattle.cats_text.specs.declared.fault.Kind.TheVariants.{Missing, TooLong, Device, Memory}
 use Rattle.cats_text.specs.declared.fault.ReadFault.{ReadFault}
 
 -- it belongs to a line

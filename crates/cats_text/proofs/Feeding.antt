@@ -1,5 +1,5 @@
 -- What a reader answers to one more piece.
-use Rattle.std.proofs.Common.{◌≡◌, ◌≢◌, ℕ, suc, zero, ◌+◌, ◌-◌, ◌<◌, ◌≤◌, min, nat_le, Bool, true, false, List, [], ◌∷◌, ◌++◌, length, take, drop, Option, Some, None, refl, sym, ap, ◌∙◌, subst, arith, inl, inr, ◌⊎◌, Result, Ok, Err, IfOk, if◌then◌else◌, length-append, append-nil, ◌^◌}
+use Rattle.std.proofs.Common.{◌≡◌, ℕ, suc, zero, ◌+◌, ◌-◌, ◌<◌, ◌≤◌, min, Bool, false, List, [], ◌∷◌, ◌++◌, length, take, Some, None, refl, sym, ap, ◌∙◌, arith, inl, inr, ◌⊎◌, Result, Ok, Err, IfOk, length-append, ◌^◌}
 use Rattle.std.specs.Option.{option_or}
 use Rattle.std.specs.Result.{result_err}
 use Rattle.std.proofs.lemmas.Bool.{le-leb, lt-leb}
@@ -15,7 +15,7 @@ use Rattle.cats_text.specs.Reading.{HasTaken, IsReading, WantsMemory, FeedsAs, f
 use Rattle.cats_text.specs.Returns.{settled, waits, carried}
 use Rattle.cats_text.specs.Scanning.{State, state, first_state, Scan, run, and_then, Steps, Asks, MeetsBidLine, end_of, IsFileOf, Finishes, AsksAtEnd, IsInBidLine, HasBids}
 use Rattle.cats_text.specs.declared.fault.ReadFault.{ReadFault}
-use Rattle.cats_text.specs.declared.fault.Kind.TheVariants.{TooLong, Memory as NoMemory}
+use Rattle.cats_text.specs.declared.fault.Kind.TheVariants.{TooLong}
 use Rattle.cats_text.specs.declared.scanner.Halt.{Halt}
 use Rattle.cats_text.specs.declared.scanner.Halt.TheVariants.{Fault, Memory}
 use Rattle.cats_text.specs.declared.scanner.Scanner.{Scanner}

@@ -1,6 +1,6 @@
 -- The goods of a bid line and its `#`: the parser and the definitions agree.
-use Rattle.std.proofs.Common.{lit<, ◌≡◌, ◌≢◌, ℕ, suc, ◌+◌, ◌-◌, ◌<◌, ◌≤◌, Bool, true, false, not, ◌&&◌, ◌||◌, cond, eqb, ltb, leb, ◌⊎◌, List, [], ◌∷◌, ◌++◌, length, map, refl, sym, ap, ap₂, ◌∙◌, subst, arith, Option, Some, None, Result, Ok, Err}
-use Rattle.std.proofs.lemmas.Bool.{ltb-true, ltb-false, lt-ltb, le-ltb, le-leb, lt-leb, leb-true, leb-false, eqb-true, eqb-false, eq-eqb, ne_eqb, both_ways, false_from_ne_true}
+use Rattle.std.proofs.Common.{◌≡◌, ◌≢◌, ℕ, ◌+◌, ◌-◌, ◌<◌, ◌≤◌, Bool, true, false, not, ◌&&◌, cond, eqb, ltb, leb, List, [], ◌∷◌, ◌++◌, length, refl, sym, ap, ap₂, ◌∙◌, subst, arith, Option, Some, None, Ok, Err}
+use Rattle.std.proofs.lemmas.Bool.{ltb-true, ltb-false, le-leb, lt-leb, leb-true, leb-false, eqb-true, eqb-false, eq-eqb, ne_eqb}
 use Rattle.std.specs.List.{list_any, find}
 use Rattle.std.specs.Option.{option_map, is_some}
 use Rattle.cats_text.specs.Numbers.{is_number, number_of}
@@ -8,18 +8,16 @@ use Rattle.cats_text.specs.Grammar.{has_number}
 use Rattle.cats_text.specs.Faults.{header_value, word_fault, when, has_end, is_end}
 use Rattle.cats_text.specs.FileLines.{before_end, real_goods, dummy_in}
 use Rattle.cats_text.specs.Progress.{Progress}
-use Rattle.cats_text.specs.Parsing.{Reading, good_or_end_read, good_read, dummy_read, end_read}
+use Rattle.cats_text.specs.Parsing.{good_or_end_read, good_read, dummy_read, end_read}
 use Rattle.cats_text.specs.declared.fault.Kind.{Kind}
 use Rattle.cats_text.specs.declared.fault.Kind.TheVariants as kinds
 use Rattle.cats_text.specs.declared.word.Word.{Word}
 use Rattle.cats_text.specs.declared.word.Word.TheVariants.{Keyword, Number, Decimal as Fraction, End, Other}
-use Rattle.cats_text.specs.declared.word.TheConstants.{HELD}
 use Rattle.cats_text.specs.declared.parser.Header.{Header}
-use Rattle.cats_text.specs.declared.parser.Place.TheVariants.{Later, Ended}
-use Rattle.cats_text.specs.declared.limits.TheConstants.{MAX_GOODS, MAX_BIDS, MAX_DUMMY}
-use Rattle.cats_text.proofs.Summary.{Tells, Holds}
+use Rattle.cats_text.specs.declared.limits.TheConstants.{MAX_GOODS, MAX_DUMMY}
+use Rattle.cats_text.proofs.Summary.{Tells}
 use Rattle.cats_text.proofs.Told.{IsTold, tells_number, tells_end}
-use Rattle.cats_text.proofs.Standing.{IsAt, IsDraft, WordFollows, HasOneDummy, ended_place}
+use Rattle.cats_text.proofs.Standing.{IsAt, WordFollows, HasOneDummy, ended_place}
 use Rattle.cats_text.proofs.HeaderSteps.{holds_le, holds_same}
 use Rattle.cats_text.proofs.BidSteps.{follow_test, fault_named, passes}
 use Rattle.cats_text.proofs.GoodWords.{values, before_end-all, before_end-ended, before_end-push, has_end-push, values-push, any_find, any_values, find_passes, has_filtered, none_real, no_dummy_has_not, other_dummy_has_not, one_more_real, first_dummy, real_goods-real, real_goods-dummy, dummy_in-real, dummy_in-dummy}

@@ -1,6 +1,6 @@
 -- The words of the header lines: the parser and the definitions agree.
-use Rattle.std.proofs.Common.{lit<, ◌≡◌, ◌≢◌, ℕ, ◌+◌, ◌-◌, ◌<◌, ◌≤◌, Bool, true, false, not, cond, eqb, ltb, leb, ◌⊎◌, ⊎_elim, List, [], ◌∷◌, ◌++◌, length, refl, sym, ap, ap₂, ◌∙◌, subst, arith, Option, Some, None, Result, Ok, Err}
-use Rattle.std.proofs.lemmas.Bool.{ltb-true, ltb-false, lt-ltb, le-ltb, le-leb, lt-leb, leb-true, leb-false, both_ways}
+use Rattle.std.proofs.Common.{lit<, ◌≡◌, ℕ, ◌<◌, ◌≤◌, true, false, not, cond, ltb, leb, ⊎_elim, List, [], ◌∷◌, ◌++◌, refl, sym, ap, ap₂, ◌∙◌, subst, arith, Option, None, Ok, Err}
+use Rattle.std.proofs.lemmas.Bool.{ltb-false, lt-ltb, le-leb, both_ways}
 use Rattle.cats_text.specs.Numbers.{is_number, number_of}
 use Rattle.cats_text.specs.Faults.{header_word, word_fault, when, header_value}
 use Rattle.cats_text.specs.Keywords.{keyword_text}
@@ -21,7 +21,7 @@ use Rattle.cats_text.specs.declared.parser.Place.TheVariants.{First, Second, Lat
 use Rattle.cats_text.specs.declared.limits.TheConstants.{MAX_GOODS, MAX_BIDS, MAX_DUMMY}
 use Rattle.cats_text.proofs.Summary.{Tells, Holds}
 use Rattle.cats_text.proofs.Told.{IsTold, tells_number, tells_keyword}
-use Rattle.cats_text.proofs.Standing.{IsAt, WordFollows, stage_of, place_of}
+use Rattle.cats_text.proofs.Standing.{IsAt, WordFollows}
 
 -- ---- a word by its place, the place and the line given
 

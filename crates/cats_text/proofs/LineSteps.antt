@@ -1,19 +1,15 @@
 -- Words, line ends and whole lines: the parser and the definitions agree.
-use Rattle.std.proofs.Common.{◌≡◌, ℕ, suc, ◌+◌, ◌-◌, ◌<◌, ◌≤◌, Bool, true, false, not, ◌&&◌, ◌||◌, cond, eqb, ltb, leb, List, [], ◌∷◌, ◌++◌, length, map, fold, refl, sym, ap, ap₂, ◌∙◌, subst, arith, Option, Some, None, Result, Ok, Err, append-nil, append_assoc, length-append}
-use Rattle.std.proofs.lemmas.Bool.{ltb-true, ltb-false, lt-ltb, le-ltb, both_ways, or_right}
+use Rattle.std.proofs.Common.{◌≡◌, ℕ, ◌+◌, ◌-◌, ◌<◌, ◌≤◌, Bool, true, false, not, ltb, List, [], ◌∷◌, ◌++◌, length, refl, sym, ap, ap₂, ◌∙◌, subst, arith, Option, None, Ok, Err, length-append}
+use Rattle.std.proofs.lemmas.Bool.{ltb-true, ltb-false, lt-ltb, le-ltb}
 use Rattle.std.proofs.lemmas.List.Sums.{fold_push}
-use Rattle.std.specs.Option.{option_or, option_map}
-use Rattle.std.specs.List.{AllByRecursion}
-use Rattle.cats_text.specs.Lines.{Line}
 use Rattle.cats_text.specs.Numbers.{number_of, price_of}
 use Rattle.cats_text.specs.Grammar.{line_number}
-use Rattle.cats_text.specs.Faults.{word_fault, end_fault, words_fault, line_fault, lines_fault, fault_at, is_line_due, header_value, when, has_end}
+use Rattle.cats_text.specs.Faults.{is_line_due, when, has_end}
 use Rattle.cats_text.specs.FileLines.{before_end, real_goods, bid_of, slots_of}
 use Rattle.cats_text.specs.Files.{PlainBid}
 use Rattle.cats_text.specs.Progress.{Progress}
-use Rattle.cats_text.specs.Parsing.{Reading, word_read, line_read, header_line_read, bid_read, with_bid, drafted, rising_of, put_slot, is_due}
+use Rattle.cats_text.specs.Parsing.{Reading, word_read, line_read, with_bid, drafted, rising_of, put_slot, is_due}
 use Rattle.cats_text.specs.declared.fault.Kind.TheVariants as kinds
-use Rattle.cats_text.specs.declared.fault.ReadFault.{ReadFault}
 use Rattle.cats_text.specs.declared.parser.Header.{Header}
 use Rattle.cats_text.specs.declared.parser.Stage.{Stage}
 use Rattle.cats_text.specs.declared.parser.Stage.TheVariants.{Goods, Bids, Dummy, Bid}
@@ -21,10 +17,10 @@ use Rattle.cats_text.specs.declared.parser.Place.{Place}
 use Rattle.cats_text.specs.declared.parser.Place.TheVariants.{First, Second, Later, Ended}
 use Rattle.cats_text.proofs.Summary.{summary, tells}
 use Rattle.cats_text.proofs.Told.{told}
-use Rattle.cats_text.proofs.Standing.{IsAt, IsDraft, WordFollows, LineFollows, stage_of, place_of, ended_place}
+use Rattle.cats_text.proofs.Standing.{IsAt, IsDraft, WordFollows, LineFollows, ended_place}
 use Rattle.cats_text.proofs.HeaderSteps.{read_there, goods_word, bids_word, dummy_word}
 use Rattle.cats_text.proofs.BidSteps.{fault_named, bid_first, bid_second}
-use Rattle.cats_text.proofs.GoodSteps.{GoesOn, bid_later}
+use Rattle.cats_text.proofs.GoodSteps.{bid_later}
 
 -- ---- a word
 

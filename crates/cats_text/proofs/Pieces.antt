@@ -1,16 +1,15 @@
 -- Pieces of a text: what is decided of a CR, what is complete, and what waits.
-use Rattle.std.proofs.Common.{◌≡◌, ◌≢◌, ℕ, suc, ◌+◌, ◌<◌, ◌≤◌, Bool, true, false, not, ◌&&◌, ◌||◌, cond, eqb, List, [], ◌∷◌, ◌++◌, length, refl, sym, ap, ap₂, ◌∙◌, subst, arith, Option, Some, None, Result, Ok, Err, append-nil, append_assoc}
-use Rattle.std.proofs.lemmas.Bool.{both_ways, eqb-true, eqb-false, ne_eqb}
+use Rattle.std.proofs.Common.{◌≡◌, ℕ, Bool, true, false, ◌&&◌, ◌||◌, cond, eqb, List, [], ◌∷◌, ◌++◌, refl, sym, ap, ap₂, ◌∙◌, subst, Some, None, Ok, Err}
+use Rattle.std.proofs.lemmas.Bool.{both_ways, eqb-true, ne_eqb}
 use Rattle.std.specs.List.{AllByRecursion}
-use Rattle.cats_text.specs.Lines.{is_blank, line_byte, line_ends, blank_returns}
-use Rattle.cats_text.specs.Faults.{is_final, keep_final, up_to_final, complete_fault, first_fault}
-use Rattle.cats_text.specs.Returns.{return_byte, settle, settled, waits, carried}
+use Rattle.cats_text.specs.Lines.{is_blank, line_byte, blank_returns}
+use Rattle.cats_text.specs.Faults.{is_final, keep_final, up_to_final, complete_fault}
+use Rattle.cats_text.specs.Returns.{return_byte, settled, waits, carried}
 use Rattle.cats_text.specs.Scanning.{State, Scan, first_state, and_then, run, byte_step, end_step, end_of, letter_mode}
-use Rattle.cats_text.specs.declared.fault.ReadFault.{ReadFault}
-use Rattle.cats_text.proofs.ByteLines.{and_then-assoc, run-append, byte_letter}
+use Rattle.cats_text.proofs.ByteLines.{run-append, byte_letter}
 use Rattle.cats_text.proofs.WholeLines.{Scanned}
 use Rattle.cats_text.proofs.AllBytes.{outcome}
-use Rattle.cats_text.proofs.TextFaults.{EndsFinal, OpenIs, open_fault, WholeIs, whole_fault}
+use Rattle.cats_text.proofs.TextFaults.{EndsFinal, OpenIs, open_fault}
 
 -- ---- one piece behind another
 

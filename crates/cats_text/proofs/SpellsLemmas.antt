@@ -6,7 +6,7 @@ use Rattle.cats_text.specs.Lines.{Word, significant_lines, line_count}
 use Rattle.cats_text.specs.Numbers.{number_of}
 use Rattle.cats_text.specs.Files.{PlainFile, IsBid, IsPlainFile}
 use Rattle.cats_text.specs.Grammar.{Spells, SpellsBid, SpellsNumber, line_number, significant_words}
-use Rattle.cats_text.specs.Faults.{Bounds, bounds_of, header_value, first_fault}
+use Rattle.cats_text.specs.Faults.{bounds_of, header_value, first_fault}
 use Rattle.cats_text.specs.Parsing.{filled}
 use Rattle.cats_text.specs.FileLines.{bid_of, slots_of, file_of_lines, file_said}
 use Rattle.cats_text.specs.declared.fault.ReadFault.{ReadFault}

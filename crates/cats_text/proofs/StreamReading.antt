@@ -1,6 +1,6 @@
 -- Reading a stream answers as the reader that was fed the bytes.
-use Rattle.std.proofs.Common.{◌≡◌, ◌≢◌, ◌≤◌, ℕ, zero, suc, Bool, true, false, List, [], ◌∷◌, ◌++◌, length, take, Option, Some, None, IfSome, Result, Ok, Err, ◌⊎◌, inl, inr, refl, sym, ◌∙◌, ap, arith, subst}
-use Rattle.cats_text.specs.Faults.{first_fault, has_bid_line, fault_at}
+use Rattle.std.proofs.Common.{◌≡◌, ◌≤◌, ℕ, zero, suc, false, List, [], ◌∷◌, length, take, Option, Some, IfSome, Result, Ok, Err, ◌⊎◌, inl, inr, refl, ap, arith}
+use Rattle.cats_text.specs.Faults.{first_fault, fault_at}
 use Rattle.cats_text.specs.Fed.{fed_fault}
 use Rattle.cats_text.specs.Reading.{WantsMemory, FinishAnswer}
 use Rattle.cats_text.specs.Streams.{has_failed, IsWhole, IsTextFault, FaultsAt, ReadsAs}

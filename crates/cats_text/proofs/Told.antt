@@ -1,10 +1,8 @@
 -- What is kept of a word answers every test that the grammar makes of the word.
-use Rattle.std.proofs.Common.{◌≡◌, ◌≢◌, ℕ, zero, suc, ◌+◌, ◌-◌, ◌*◌, ◌<◌, ◌≤◌, min, Bool, true, false, not, ◌&&◌, ◌||◌, cond, eqb, ltb, leb, ◌⊎◌, inl, inr, ⊎_elim, List, [], ◌∷◌, ◌++◌, length, take, refl, sym, ap, ◌∙◌, subst, arith, append-nil}
-use Rattle.std.proofs.lemmas.Bool.{and_parts, eqb-true, eqb-false, eq-eqb, ne_eqb, ltb-true, ltb-false, lt-ltb, le-ltb, both_ways, false_from_ne_true}
-use Rattle.std.proofs.Math.Seq.{take-length}
+use Rattle.std.proofs.Common.{◌≡◌, ◌≢◌, ℕ, zero, suc, ◌<◌, ◌≤◌, min, Bool, true, false, not, ◌&&◌, ◌||◌, cond, eqb, List, [], ◌∷◌, ◌++◌, length, take, refl, sym, ap, ◌∙◌, subst, arith, append-nil}
+use Rattle.std.proofs.lemmas.Bool.{and_parts, eqb-true, eqb-false, eq-eqb, ne_eqb, both_ways}
 use Rattle.std.specs.Str.{bytes_eq}
-use lib.Pointwise.{pointwise_long}
-use Rattle.cats_text.specs.Numbers.{is_digit, digits_alone, is_number, number_of, is_price, whole_part, has_point, places}
+use Rattle.cats_text.specs.Numbers.{is_digit, digits_alone, is_number, is_price, whole_part, has_point, places}
 use Rattle.cats_text.specs.Faults.{is_end}
 use Rattle.cats_text.specs.Keywords.{keyword_text}
 use Rattle.cats_text.specs.Parsing.{is_same_keyword}
@@ -13,7 +11,7 @@ use Rattle.cats_text.specs.declared.word.Keyword.TheVariants.{Goods, Bids, Dummy
 use Rattle.cats_text.specs.declared.word.Word.{Word}
 use Rattle.cats_text.specs.declared.word.Decimal.{Decimal}
 use Rattle.cats_text.specs.declared.word.Word.TheVariants.{Keyword, Number, Decimal as Fraction, End, Other}
-use Rattle.cats_text.proofs.Summary.{Tells, IsFraction, IsOther, digit_not, first_of_take, digits-not, whole-digits, point-digits, whole-point, places-point, point-point}
+use Rattle.cats_text.proofs.Summary.{Tells, IsOther, digit_not, first_of_take, digits-not, whole-digits, point-digits, whole-point, places-point, point-point}
 
 abbrev pub tells_number : Word → Bool
 tells_number (Number v) = true

@@ -1,13 +1,12 @@
 -- All words of a line, and all lines: the parser and the definitions agree.
-use Rattle.std.proofs.Common.{◌≡◌, ℕ, suc, ◌+◌, ◌<◌, ◌≤◌, Bool, true, false, ◌&&◌, ◌||◌, cond, List, [], ◌∷◌, ◌++◌, length, map, refl, sym, ap, ◌∙◌, subst, arith, Option, Some, None, Result, Ok, Err, append-nil, append_assoc}
-use Rattle.std.proofs.lemmas.Bool.{both_ways, or_right}
+use Rattle.std.proofs.Common.{◌≡◌, ℕ, suc, ◌<◌, Bool, true, false, ◌&&◌, ◌||◌, cond, List, [], ◌∷◌, ◌++◌, length, map, refl, sym, ap, ◌∙◌, subst, arith, Some, None, Result, Ok, Err, append-nil, append_assoc}
+use Rattle.std.proofs.lemmas.Bool.{both_ways}
 use Rattle.std.specs.Option.{option_or, option_map}
 use Rattle.std.specs.List.{AllByRecursion}
 use Rattle.cats_text.specs.Lines.{Word, Line}
-use Rattle.cats_text.specs.Faults.{word_fault, end_fault, words_fault, line_fault, lines_fault, fault_at, is_line_due}
+use Rattle.cats_text.specs.Faults.{end_fault, words_fault, line_fault, lines_fault, fault_at, is_line_due}
 use Rattle.cats_text.specs.Progress.{Progress}
 use Rattle.cats_text.specs.Parsing.{Reading, word_read, line_read, is_due}
-use Rattle.cats_text.specs.declared.fault.Kind.{Kind}
 use Rattle.cats_text.specs.declared.fault.Kind.TheVariants.{Missing}
 use Rattle.cats_text.specs.declared.fault.ReadFault.{ReadFault}
 use Rattle.cats_text.proofs.Summary.{summary}

@@ -1,4 +1,4 @@
-use Rattle.std.specs.Prelude.{◌≡◌, ◌⊎◌, ℕ, nat_le, if◌then◌else◌, List, [], ◌++◌, length, take, true, Option, Some, None}
+use Rattle.std.specs.Prelude.{ℕ, nat_le, if◌then◌else◌, List, length, take, Option, Some}
 use Rattle.std.specs.Option.{option_or}
 use Rattle.cats_text.specs.Faults.{complete_fault, fault_at}
 use Rattle.cats_text.specs.declared.fault.ReadFault.{ReadFault}

@@ -2,7 +2,7 @@
 -- the numbers of its goods, then `#`"; this project's profile says which spellings of them are taken).
 use Rattle.std.specs.Prelude.{◌≡◌, ◌≢◌, ℕ, ◌==◌, Bool, true, false, List, [], ◌∷◌, ◌++◌, map, length, slice_get, Some, codes}
 use Rattle.std.specs.List.{AllByRecursion, list_any}
-use Rattle.cats_text.specs.Lines.{Word, Line, significant_lines}
+use Rattle.cats_text.specs.Lines.{Word, significant_lines}
 use Rattle.cats_text.specs.Numbers.{is_number, number_of, is_price, is_too_fine, price_of}
 use Rattle.cats_text.specs.Files.{PlainBid, PlainFile, IsPlainFile, goods_of}
 

@@ -1,6 +1,5 @@
 -- What a reader in pieces keeps and answers.
-use Rattle.std.specs.Prelude.{◌≡◌, ◌⊎◌, ◌<◌, ◌≤◌, ◌^◌, ℕ, List, [], ◌++◌, length, take, true, Option, Some, None, Result, Ok, Err, MatchOption}
-use Rattle.std.specs.Coded.{Unit-prop}
+use Rattle.std.specs.Prelude.{◌≡◌, ◌⊎◌, ◌<◌, ◌≤◌, ◌^◌, ℕ, List, ◌++◌, length, take, true, Option, Some, None, Result, Ok, Err, MatchOption}
 use Rattle.cats_text.specs.Faults.{first_fault, has_bid_line, fault_at}
 use Rattle.cats_text.specs.Grammar.{Spells}
 use Rattle.cats_text.specs.Views.{plain_file}

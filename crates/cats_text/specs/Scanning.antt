@@ -3,16 +3,13 @@ use Rattle.std.specs.Prelude.{◌≡◌, ℕ, suc, ◌==◌, Bool, true, false, 
 use Rattle.cats_text.specs.Lines.{is_blank}
 use Rattle.cats_text.specs.Returns.{settled, waits}
 use Rattle.cats_text.specs.Faults.{fault_at}
-use Rattle.cats_text.specs.Files.{PlainFile}
 use Rattle.cats_text.specs.Views.{plain_file}
 use Rattle.cats_text.specs.Machine.{word_from, word_with}
 use Rattle.cats_text.specs.Progress.{Progress, progress}
 use Rattle.cats_text.specs.Parsing.{Reading, start, word_read, line_read, is_due, file_from}
 use Rattle.cats_text.specs.declared.bid.BidFile.{BidFile}
-use Rattle.cats_text.specs.declared.fault.Kind.{Kind}
 use Rattle.cats_text.specs.declared.fault.Kind.TheVariants.{Missing}
 use Rattle.cats_text.specs.declared.fault.ReadFault.{ReadFault}
-use Rattle.cats_text.specs.declared.word.Word.{Word}
 use Rattle.cats_text.specs.declared.parser.Stop.{Stop}
 use Rattle.cats_text.specs.declared.parser.Stop.TheVariants as stops
 use Rattle.cats_text.specs.declared.parser.Stage.TheVariants.{Bid}

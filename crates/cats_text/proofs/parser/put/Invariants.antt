@@ -1,4 +1,4 @@
-use Rattle.std.proofs.Common.{ℕ, ◌+◌, ◌-◌, vec_len}
+use Rattle.std.proofs.Common.{◌+◌, ◌-◌, vec_len}
 use Rattle.cats_text.proofs.Slots.{IsPadded}
 use Rattle.cats_text.proofs.parser.put.Given as goal
 

@@ -1,5 +1,5 @@
 -- The bytes that came are those that the reader was fed.
-use Rattle.std.proofs.Common.{rules, arith, ◌≡◌, ◌<◌, ◌≤◌, ◌++◌, ℕ, Bool, true, List, [], ◌∷◌, ◌||◌, length, take, refl, ◌∙◌, append-nil, ap, Ok, Option, length-append, ◌≢◌}
+use Rattle.std.proofs.Common.{arith, ◌≡◌, ◌<◌, ◌++◌, ℕ, Bool, true, List, [], ◌∷◌, ◌||◌, length, take, refl, ◌∙◌, append-nil, Ok, Option, length-append, ◌≢◌}
 use Rattle.std.proofs.lemmas.Result.{err_from_is_err_and}
 use Rattle.cats_text.specs.declared.limits.TheConstants.{MAX_STREAM}
 use Rattle.std.proofs.KnownBytes.{Consumes-trans, Consumes-kept}

@@ -1,4 +1,4 @@
-use Rattle.std.proofs.Common.{◌≡◌, ◌<◌, ℕ, List, false, length, rules, arith, sym, ap, subst, ◌∙◌}
+use Rattle.std.proofs.Common.{◌≡◌, ◌<◌, ℕ, List, false, length, rules, ap, ◌∙◌}
 use Rattle.cats_text.specs.Grammar.{has_number}
 use Rattle.cats_text.proofs.Marks.{IsMarked-push, IsMarked-covered}
 use Rattle.cats_text.proofs.goods.GoodList.push.Goals as goal

@@ -32,7 +32,7 @@ use Rattle.cats_text.specs.contracts.history.History.note as it
 use Rattle.cats_text.proofs.history.History.note.Statement as stated
 use Rattle.cats_text.proofs.history.History.note.Code as code
 use denote.Ref.{Bor}
-use denote.Builtin.{u8, u64}
+use denote.Builtin.{u8}
 use denote.Exit.{yes}
 use denote.Slice.{ShrSlice, slice_val, shr_slice_vals, shr_slice_Tells}
 use denote.Triple.Walked.{stay_none_slice, Goes-none_slice}

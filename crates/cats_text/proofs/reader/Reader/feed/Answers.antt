@@ -1,8 +1,7 @@
 -- What the scanner was given is what the limit leaves of the piece.
-use Rattle.std.proofs.Common.{arith, ◌≡◌, ◌<◌, ◌≤◌, ◌+◌, ◌-◌, ◌++◌, min, ℕ, List, length, take, refl, sym, ap, ◌∙◌, Ok, length-append}
+use Rattle.std.proofs.Common.{arith, ◌≡◌, ◌<◌, ◌≤◌, ◌+◌, ◌-◌, ◌++◌, min, ℕ, List, length, take, sym, ap, ◌∙◌, length-append}
 use Rattle.std.proofs.Math.Seq.{take-length}
 use Rattle.std.proofs.lemmas.List.{length-take}
-use Rattle.cats_text.specs.Reading.{HasTaken}
 use Rattle.cats_text.proofs.Feeding.{IsJudged, judged_bytes, judged_halted, judged_too_long, judged_ok, few_lines, still_reading, fed_told}
 use Rattle.cats_text.proofs.reader.Reader.feed.Goals as goal
 use Rattle.cats_text.proofs.reader.Reader.feed.Goals.{in-Err, in-Ok, in-Ok-2}

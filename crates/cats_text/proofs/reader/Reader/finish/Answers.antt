@@ -1,5 +1,5 @@
 -- The end of the bytes that the scanner took.
-use Rattle.std.proofs.Common.{arith, ◌≡◌, ◌≤◌, refl, sym, ap, ◌∙◌, Ok}
+use Rattle.std.proofs.Common.{arith}
 use Rattle.cats_text.proofs.Feeding.{ended_fact, ended_file, ended_fault, few_lines}
 use Rattle.cats_text.proofs.reader.Reader.finish.Goals as goal
 

@@ -1,6 +1,4 @@
 -- It has taken no bytes.
-use Rattle.std.proofs.Common.{arith, ◌≡◌, refl, sym, ap, ◌∙◌, Ok}
-use Rattle.cats_text.specs.Reading.{HasTaken}
 use Rattle.cats_text.proofs.Feeding.{nothing_taken}
 use Rattle.cats_text.proofs.reader.Reader.new.Goals as goal
 
