@@ -4,7 +4,7 @@ use Rattle.cats_text.specs.Files.{PlainFile}
 use Rattle.cats_text.specs.Streams.{ReadsFile}
 use Rattle.cats_text.specs.declared.stream.Watched.{Watched}
 use Rattle.cats_cmd.specs.Outcomes.{Outcome, Tells}
-use Rattle.cats_cmd.specs.Runs.{RunsAs, SendsAs, HasOutcome}
+use Rattle.cats_cmd.specs.Runs.{RunsAs, SendsAs}
 use Rattle.cats_cmd.specs.declared.canon_fault.CanonFault.TheVariants.{Memory}
 use Rattle.cats_cmd.specs.declared.which.Which.TheVariants.{Only}
 use Rattle.cats_cmd.specs.declared.report.RunFault.{RunFault}

@@ -1,5 +1,5 @@
 -- How the faults of a run are told on standard error.
-use Rattle.std.specs.Prelude.{ℕ, List, [], ◌∷◌, ◌++◌, codes, decimal}
+use Rattle.std.specs.Prelude.{ℕ, List, [], ◌++◌, codes, decimal}
 use Rattle.cats_text.specs.declared.fault.Kind.{Kind}
 use Rattle.cats_text.specs.declared.fault.Kind.TheVariants.{TooLong, Device, Memory as NoMemory}
 use Rattle.cats_text.specs.declared.fault.ReadFault.{ReadFault}

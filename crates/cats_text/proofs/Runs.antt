@@ -1,14 +1,14 @@
 -- Several bytes at once: the digits of a number, and the bytes of a comment.
-use Rattle.std.proofs.Common.{◌≡◌, ◌≢◌, ℕ, zero, suc, ◌+◌, ◌-◌, ◌*◌, ◌<◌, ◌≤◌, Bool, true, false, not, ◌&&◌, ◌||◌, cond, eqb, ltb, leb, List, [], ◌∷◌, ◌++◌, length, get_or, take, drop, fold, refl, sym, ap, ◌∙◌, subst, arith, Ok, add-one}
-use Rattle.std.proofs.lemmas.Bool.{and_parts, and_from, le-leb, both_ways, ltb-true, ltb-false, ne_eqb}
+use Rattle.std.proofs.Common.{◌≡◌, ◌≢◌, ℕ, zero, suc, ◌+◌, ◌-◌, ◌*◌, ◌<◌, ◌≤◌, Bool, true, false, not, ◌&&◌, ◌||◌, cond, eqb, ltb, List, [], ◌∷◌, ◌++◌, length, get_or, take, drop, fold, refl, sym, ap, ◌∙◌, subst, arith, Ok, add-one}
+use Rattle.std.proofs.lemmas.Bool.{and_parts, and_from, ltb-false, ne_eqb}
 use Rattle.std.proofs.lemmas.List.Sums.{fold_push}
 use Rattle.std.proofs.Math.Seq.{take-suc}
-use Rattle.std.specs.List.{list_all, AllByRecursion}
+use Rattle.std.specs.List.{AllByRecursion}
 use Rattle.std.proofs.lemmas.Bool.{eq-eqb}
 use Rattle.std.proofs.lemmas.List.{take-append-drop, length-drop, length-take}
 use Rattle.std.proofs.lemmas.List.Folds.{length-prefix_len}
 use Rattle.std.proofs.Math.Seq.{take-length, drop-nil}
-use Rattle.std.proofs.Common.{zero-add, append-nil, Option, Some, None, min}
+use Rattle.std.proofs.Common.{zero-add, append-nil, Some, None, min}
 use Rattle.std.specs.List.{prefix_len, position_or_len, position}
 use Rattle.std.specs.Option.{unwrap_or}
 use Rattle.cats_text.specs.Lines.{is_blank}

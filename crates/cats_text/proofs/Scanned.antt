@@ -2,9 +2,8 @@
 use Rattle.std.proofs.Math.ListN.{drop_of_length-le}
 use Rattle.std.proofs.Common.{add-one, drop-cons, ◌≡◌, ◌≢◌, ℕ, ◌+◌, ◌<◌, Bool, true, false, List, [], ◌∷◌, length, drop, get_or, refl, sym, ap, ◌∙◌, subst, arith, inr, Ok}
 use Rattle.std.proofs.lemmas.Bool.{ne_eqb, eq-eqb}
-use Rattle.cats_text.specs.Returns.{settled, waits, return_byte, settle}
-use Rattle.cats_text.specs.declared.fault.ReadFault.{ReadFault}
-use Rattle.cats_text.specs.Scanning.{State, run, byte_step, and_then, MeetsBidLine, IsInBidLine, IsScanned}
+use Rattle.cats_text.specs.Returns.{settled, waits, return_byte}
+use Rattle.cats_text.specs.Scanning.{State, run, byte_step, MeetsBidLine, IsScanned}
 
 pub settled-other : (b : ℕ) (rest : List ℕ) → b ≢ 13 → settled (b ∷ rest) ≡ b ∷ settled rest
 settled-other b [] ne = rw (ne_eqb b 13 ne) refl

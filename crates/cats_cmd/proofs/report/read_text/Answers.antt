@@ -1,5 +1,5 @@
 -- A kind that belongs to a line is told with its line.
-use Rattle.std.proofs.Common.{rules, ◌≡◌, ◌≢◌, ◌++◌, ℕ, refl, codes, decimal}
+use Rattle.std.proofs.Common.{◌≡◌, ◌≢◌, ◌++◌, ℕ, refl, codes, decimal}
 use Rattle.cats_text.specs.declared.fault.Kind.{Kind}
 use Rattle.cats_text.specs.declared.fault.Kind.TheVariants.{TooLong, Device, Memory}
 use Rattle.cats_cmd.specs.KindNames.{name_of_kind}

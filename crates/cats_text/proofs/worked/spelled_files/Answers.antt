@@ -1,4 +1,4 @@
-use Rattle.std.proofs.Common.{refl, codes, ◌++◌, ◌∷◌, []}
+use Rattle.std.proofs.Common.{refl, codes, ◌++◌, ◌∷◌}
 use Rattle.cats_text.proofs.SpellsLemmas.{spells_from_no_fault}
 use Rattle.cats_text.proofs.worked.spelled_files.Goals as goal
 

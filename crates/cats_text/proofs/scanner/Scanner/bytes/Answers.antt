@@ -1,4 +1,4 @@
-use Rattle.std.proofs.Common.{◌≡◌, ◌≢◌, ◌+◌, ◌-◌, ◌≤◌, ◌<◌, List, [], ℕ, Ok, length, drop, get_or, arith, rules, ap, sym, subst, ◌∙◌}
+use Rattle.std.proofs.Common.{◌≡◌, ◌≢◌, ◌+◌, ◌-◌, ◌≤◌, ◌<◌, Ok, length, drop, get_or, arith, rules, ap}
 use Rattle.std.proofs.lemmas.List.{length-drop}
 use Rattle.cats_text.specs.Scanning.{state, byte_step, IsScanned}
 use Rattle.cats_text.specs.Returns.{return_byte}

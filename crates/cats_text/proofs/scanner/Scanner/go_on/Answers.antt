@@ -1,6 +1,5 @@
-use Rattle.std.proofs.Common.{◌≡◌, ◌≢◌, ◌-◌, ◌&&◌, Bool, true, false, eqb, List, ℕ, length, take, drop, get_or, sym, ap, ◌∙◌, rules}
+use Rattle.std.proofs.Common.{◌≡◌, ◌-◌, ◌&&◌, eqb, length, take, drop, get_or, sym, ap, ◌∙◌, rules}
 use Rattle.std.proofs.lemmas.Bool.{eq-eqb, ne_eqb}
-use Rattle.std.specs.List.{position}
 use Rattle.std.specs.Option.{unwrap_or}
 use Rattle.cats_text.specs.Scanning.{state}
 use Rattle.cats_text.specs.declared.scanner.Mode.TheVariants.{Inside}
