@@ -143,20 +143,24 @@ fn shows_a_file(rt: HostRuntime) -> Result<(), Fail> {
     Ok(())
 }
 
+/// Has a file refused by a command.
+fn refuses_by(rt: &HostRuntime, command: &str) -> Result<(), Fail> {
+    let path = file_of(rt, command, b"goods 2\nbids 0\n")?;
+    let words = ["cats", command, path.as_str()];
+    let answered = run(rt, &words, ROOM, ROOM)?;
+    let untold = run(rt, &words, ROOM, 0)?;
+    fs::remove_file(rt, path.as_str())?;
+    let (status, sent, told) = answered;
+    assert_eq!(rt; sent.as_str(), "");
+    assert_eq!(rt; told.as_str(), "line 3: Missing\n");
+    assert_eq!(rt; status, 2);
+    let (status, _, _) = untold;
+    assert_eq!(rt; status, 2);
+    Ok(())
+}
+
 #[test]
 fn refuses_a_file(rt: HostRuntime) -> Result<(), Fail> {
-    for command in ["check", "show"] {
-        let path = file_of(&rt, "refused", b"goods 2\nbids 0\n")?;
-        let words = ["cats", command, path.as_str()];
-        let answered = run(&rt, &words, ROOM, ROOM)?;
-        let untold = run(&rt, &words, ROOM, 0)?;
-        fs::remove_file(&rt, path.as_str())?;
-        let (status, sent, told) = answered;
-        assert_eq!(rt; sent.as_str(), "");
-        assert_eq!(rt; told.as_str(), "line 3: Missing\n");
-        assert_eq!(rt; status, 2);
-        let (status, _, _) = untold;
-        assert_eq!(rt; status, 2);
-    }
-    Ok(())
+    refuses_by(&rt, "check")?;
+    refuses_by(&rt, "show")
 }
