@@ -1,13 +1,13 @@
 //! The lines that `cats value` prints.
 
-ghost use Rattle.std.specs.Prelude.{◌≡◌, ◌<◌, ◌++◌, ◌∷◌, [], All, OnOk, codes, decimal, length, map};
+ghost use Rattle.std.specs.Prelude.{◌≡◌, ◌<◌, ◌++◌, ◌∷◌, [], All, IfSome, OnOk, codes, decimal, length, map};
 ghost use Rattle.std.specs.List.{flat_map, range_with_len};
 ghost use Rattle.cats_text.specs.Layout.{price_text};
 ghost use Rattle.cats_text.specs.Views.{plain_file};
 ghost use Rattle.valuation.specs.Auctions.{xor_atoms_of};
 ghost use Rattle.valuation.specs.Bidders.{bidders_of};
 ghost use Rattle.valuation.specs.Values.{atoms_of};
-ghost use Rattle.cats_cmd.specs.ValueTexts.{dummy_line, lists_of, numbers_text, xor_line, xor_numbers};
+ghost use Rattle.cats_cmd.specs.ValueTexts.{dummy_line, lists_of, numbers_text, option_places, xor_line, xor_numbers};
 
 use cats_text::{BidFile, push_price};
 use goods_set::GoodsSet;
@@ -26,9 +26,7 @@ pub(super) fn push_or_line(
 {
     text.extend_from_slice(b"or ")?;
     push_price(text, packing.value)?;
-    for place in &packing.members {
-        push_number(text, numbers[*place])?;
-    }
+    push_bids(text, numbers, packing.members.as_slice())?;
     text.extend_from_slice(b"\n")
 }
 
@@ -68,10 +66,30 @@ fn push_xor_line<S: GoodsSet>(
     push_number(text, good)?;
     text.extend_from_slice(b" ")?;
     push_price(text, u128::from(value))?;
-    if let Some(place) = place {
-        push_number(text, numbers[place])?;
-    }
+    push_bid(text, numbers, place)?;
     text.extend_from_slice(b"\n")
+}
+
+/// Appends the number at the place, if there is one.
+fn push_bid(text: &mut Vec<u8>, numbers: &[usize], place: Option<usize>) -> Result<(), AllocError>
+    requires { IfSome place (λ i. i < length numbers.now) }
+    ensures { OnOk result (text.new.items ≡ text.old.items ++ numbers_text numbers.now (option_places place)) }
+{
+    match place {
+        Some(place) => push_bids(text, numbers, &[place]),
+        None => Ok(()),
+    }
+}
+
+/// Appends the numbers at these places.
+fn push_bids(text: &mut Vec<u8>, numbers: &[usize], places: &[usize]) -> Result<(), AllocError>
+    requires { All (λ place. place < length numbers.now) places.now }
+    ensures { OnOk result (text.new.items ≡ text.old.items ++ numbers_text numbers.now places.now) }
+{
+    for place in places {
+        push_number(text, numbers[*place])?;
+    }
+    Ok(())
 }
 
 /// Appends a space and the number.
