@@ -1,6 +1,6 @@
 -- The lines of the XOR bidders, one by one.
 use Rattle.std.proofs.Common.{◌≡◌, ℕ, zero, suc, ◌+◌, ◌<◌, List, [], ◌∷◌, ◌++◌, length, map, get_or, Global, sym, ap, ap₂, ◌∙◌, arith, append_assoc, append-nil, add-zero, add-one, zero-add}
-use Rattle.std.specs.Prelude.{Vec, Option, All, codes, decimal}
+use Rattle.std.specs.Prelude.{Vec, Option, Result, Ok, Err, OnOk, is_ok, if◌then◌else◌, All, codes, decimal}
 use Rattle.std.specs.List.{flat_map, range_with_len}
 use Rattle.std.proofs.lemmas.Grind.{flat_map-append}
 use Rattle.std.proofs.lemmas.List.{length-map, get_or-map}
@@ -50,6 +50,11 @@ line_added file bundle old before after d good atoms numbers b a g seen listed =
     ap (λ (m : ℕ). xor_line m atoms numbers bundle) g ∙ ap₂ (λ (xs : List (Atom (List ℕ))) (ms : List ℕ). xor_line (file.goods + d) xs ms bundle) seen listed in
     a ∙ ap₂ (λ (xs ys : List ℕ). xs ++ ys) b line ∙ append_assoc old (flat_map (dummy_line file bundle) (range_with_len 0 d)) (dummy_line file bundle d)
     ∙ ap (λ (xs : List ℕ). old ++ xs) (lines_more (dummy_line file bundle) d)
+
+-- where it succeeded, this was appended
+pub appended : {T E : Type 0} (r : Result T E) (new longer old : List ℕ) → new ≡ (if is_ok r then longer else old) → OnOk r (new ≡ longer)
+appended (Ok x) new longer old e = e
+appended (Err x) new longer old e = tt
 
 -- the line of a bidder, piece by piece
 pub xor_line_made : (good value : ℕ) (place : Option ℕ) (atoms : List (Atom (List ℕ))) (numbers bundle old keyword named spaced priced told after : List ℕ)

@@ -1,4 +1,4 @@
-use Rattle.std.proofs.Common.{◌≡◌, ℕ, List, Option, Some, [], ◌∷◌, ◌++◌, refl, sym, ap, ◌∙◌, subst, append_assoc}
+use Rattle.std.proofs.Common.{◌≡◌, ◌+◌, ℕ, List, Option, Some, [], ◌∷◌, ◌++◌, refl, sym, ap, ◌∙◌, subst, append_assoc}
 use Rattle.goods_set.specs.Bundles.{IsRising, good_from}
 use Rattle.cats_cmd.proofs.Bundling.{first_good, good_from-start, good_from-next}
 use Rattle.cats_cmd.proofs.value.bundles.goods_of.Goals as goal
@@ -26,4 +26,5 @@ loop-next-preserved g c =
     let goods = g.S.GoodsSet.goods c.args.bundle.now in
     let kept = c.loop-next.invariant in
     one_more goods c.loop-next.goods.items c.push.new.self.items kept.0 c.in-Some.good c.loop-next.next c.next_from-next-in-Some.result
-    (g.S.GoodsSet.is_bundle c.args.bundle.now).0 kept.1 kept.2 c.in-Some.is c.in_ok-push.ensures.items ?
+    (g.S.GoodsSet.is_bundle c.args.bundle.now).0 kept.1 kept.2 c.in-Some.is c.in_ok-push.ensures.items
+    (c.next_from-next-in-Some.ensures ∙ ap (λ (n : ℕ). good_from goods (n + 1)) c.from.ensures)
