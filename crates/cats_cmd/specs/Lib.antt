@@ -6,4 +6,5 @@ pub mod Statuses
 pub mod ValueTexts
 pub mod Outcomes
 pub mod Searches
+pub mod Examples
 pub mod Runs

@@ -26,5 +26,5 @@ loop-next-preserved g c =
     let goods = g.S.GoodsSet.goods c.args.bundle.now in
     let kept = c.loop-next.invariant in
     one_more goods c.loop-next.goods.items c.push.new.self.items kept.0 c.in-Some.good c.loop-next.next c.next_from-next-in-Some.result
-    (g.S.GoodsSet.is_bundle c.args.bundle.now).0 kept.1 kept.2 c.in-Some.is c.in_ok-push.ensures.items
+    (g.met.S.GoodsSet.is_bundle c.args.bundle.now).0 kept.1 kept.2 c.in-Some.is c.in_ok-push.ensures.items
     (c.next_from-next-in-Some.ensures ∙ ap (λ (n : ℕ). good_from goods (n + 1)) c.from.ensures)
