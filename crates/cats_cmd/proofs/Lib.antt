@@ -1,2 +1,6 @@
 -- Proofs that several functions of this crate cite.
 mod Tellings
+mod Numbering
+mod Bundling
+mod BestPlaces
+mod Printing

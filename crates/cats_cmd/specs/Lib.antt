@@ -3,5 +3,8 @@ pub mod Outputs
 pub mod KindNames
 pub mod FaultLines
 pub mod Statuses
+pub mod ValueTexts
 pub mod Outcomes
+pub mod Searches
+pub mod Examples
 pub mod Runs

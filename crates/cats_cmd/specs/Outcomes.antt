@@ -1,8 +1,11 @@
 -- What a run makes of the files that it read: a text with a status, or why there is none.
-use Rattle.std.specs.Prelude.{ℕ, List}
+use Rattle.std.specs.Prelude.{ℕ, List, Option, Some, None, find, nat_le, nat_lt, if◌then◌else◌}
 use Rattle.cats_text.specs.Files.{PlainFile}
 use Rattle.cats_text.specs.Layout.{layout}
+use Rattle.valuation.specs.Auctions.{or_atoms_of}
+use Rattle.valuation.specs.Packings.{count_packings}
 use Rattle.cats_cmd.specs.Outputs.{check_text}
+use Rattle.cats_cmd.specs.ValueTexts.{bundle_from, value_text}
 use Rattle.cats_cmd.specs.declared.report.TheConstants.{DONE}
 
 pub data Outcome : Type 0 where
@@ -20,3 +23,20 @@ check_outcome file = Tells DONE (check_text file)
 -- of `cats show`
 abbrev pub show_outcome : PlainFile → Outcome
 show_outcome file = Tells DONE (layout file)
+
+-- the first of the goods that a file with so many does not have
+abbrev pub missing_good : ℕ → List ℕ → Option ℕ
+missing_good count goods = find (λ g. nat_le count g) goods
+
+abbrev pub outcome_unless : Option ℕ → Outcome → Outcome
+outcome_unless None outcome = outcome
+outcome_unless (Some good) outcome = LacksGood good
+
+-- the values of the bundle, unless it has more packings than the limit
+abbrev pub values_within : ℕ → List ℕ → PlainFile → Outcome
+values_within limit bundle file =
+    if nat_lt limit (count_packings (or_atoms_of file.bids) bundle) then ExceedsSteps bundle else Tells DONE (value_text file bundle)
+
+-- of `cats value` on these goods
+abbrev pub value_outcome : List ℕ → ℕ → PlainFile → Outcome
+value_outcome goods limit file = outcome_unless (missing_good file.goods goods) (values_within limit (bundle_from goods) file)

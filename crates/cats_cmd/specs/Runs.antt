@@ -1,5 +1,6 @@
 -- What a run does, by the bytes that it read.
-use Rattle.std.specs.Prelude.{◌≡◌, ◌≢◌, ℕ, List, Option, false, Result, Ok, Err}
+use Rattle.std.specs.Prelude.{◌≡◌, ◌≢◌, ℕ, List, Option, false, Result, Ok, Err, Vec}
+use Rattle.std.specs.Global.{Global}
 use Rattle.cats_text.specs.Files.{PlainFile}
 use Rattle.cats_text.specs.Streams.{has_failed, ReadsFile, FaultsAt, SendsWhole, SendsPart}
 use Rattle.cats_text.specs.Views.{plain_file}
@@ -14,6 +15,7 @@ use Rattle.cats_cmd.specs.declared.which.Which.{Which}
 use Rattle.cats_cmd.specs.declared.which.Which.TheVariants.{Only}
 use Rattle.cats_cmd.specs.declared.report.RunFault.{RunFault}
 use Rattle.cats_cmd.specs.declared.report.RunFault.TheVariants.{Refused, GoodRange, Sent}
+use Rattle.cats_cmd.specs.declared.report.TheConstants.{DONE}
 use Rattle.cats_cmd.specs.Outcomes.{Outcome, Tells, LacksGood, ExceedsSteps}
 
 -- Reading the bytes refused the file. Memory that a reader was refused is told as the run's own.
@@ -35,6 +37,13 @@ module _ {R : Type 0} (remaining : R → Option (List ℕ)) where
   abbrev pub ReadsOrRefuses : List ℕ → Watched R → Result BidFile CanonFault → Type 0
   ReadsOrRefuses bytes input (Ok file) = ReadsFile remaining bytes input (plain_file file)
   ReadsOrRefuses bytes input (Err fault) = IsRefusedByReading remaining bytes input fault
+
+-- Making a run's whole text, where this is to come of it. Memory may be refused in place of either outcome.
+abbrev pub MakesAs : Outcome → Result (Vec ℕ Global) CanonFault → Type 0
+MakesAs outcome (Ok text) = outcome ≡ Tells DONE text.items
+MakesAs outcome (Err (Read fault)) = ⊥
+MakesAs outcome (Err (StepLimit goods)) = outcome ≡ ExceedsSteps goods.items
+MakesAs outcome (Err Memory) = Unit {0}
 
 -- Sending a run's whole text, where the run then answers this status.
 module _ {W : Type 0} (contents : W → Option (List ℕ)) where

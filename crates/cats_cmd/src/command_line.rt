@@ -1,37 +1,77 @@
 //! What a command line asks for.
 
-use clap::{Arg, ArgMatches, Command, Error};
+use clap::{Arg, ArgMatches, Command, Error, value_parser};
 use std::alloc::{AllocError, Global};
 
 /// What a command line asks for.
 #[derive(Debug, Drop)]
 pub(crate) enum Request<'a> {
-    Check { file: &'a str },
-    Show { file: &'a str },
+    Check {
+        file: &'a str,
+    },
+    Show {
+        file: &'a str,
+    },
+    Value {
+        file: &'a str,
+        goods: Vec<u16>,
+        limit: u64,
+    },
 }
 
 const FILE: &str = "FILE";
+
+const GOOD: &str = "GOOD";
+
+const STEPS: &str = "steps";
+
+/// The most steps that a command line may allow a search.
+const MAX_STEPS: i64 = 1_000_000_000;
+
+/// The steps that a search may make where the command line says nothing.
+const DEFAULT_STEPS: &str = "1000000";
 
 /// Reads a command line, whose first word is the program's name. `None` is for a line that `clap` takes and that names no
 /// subcommand or no file: it takes none such.
 pub(crate) fn parse<'a>(alloc: Global, words: &'a [&'a str]) -> Result<Option<Request<'a>>, Error> {
     let matches = cats_command(alloc)?.try_get_matches_from(words)?;
-    Ok(find_request(&matches))
+    Ok(find_request(alloc, &matches)?)
 }
 
-fn find_request<'a>(matches: &ArgMatches<'a>) -> Option<Request<'a>> {
-    let (name, given) = matches.subcommand()?;
+fn find_request<'a>(
+    alloc: Global,
+    matches: &ArgMatches<'a>,
+) -> Result<Option<Request<'a>>, AllocError> {
+    let Some((name, given)) = matches.subcommand() else {
+        return Ok(None);
+    };
+    let Some(file) = given.get_str(FILE) else {
+        return Ok(None);
+    };
     match name {
-        "check" => {
-            let file = given.get_str(FILE)?;
-            Some(Request::Check { file })
-        }
-        "show" => {
-            let file = given.get_str(FILE)?;
-            Some(Request::Show { file })
-        }
-        _ => None,
+        "check" => Ok(Some(Request::Check { file })),
+        "show" => Ok(Some(Request::Show { file })),
+        "value" => find_value_request(alloc, given, file),
+        _ => Ok(None),
     }
+}
+
+fn find_value_request<'a>(
+    alloc: Global,
+    given: &ArgMatches<'a>,
+    file: &'a str,
+) -> Result<Option<Request<'a>>, AllocError> {
+    let Some(limit) = given.get_one::<u64>(STEPS) else {
+        return Ok(None);
+    };
+    let mut goods = Vec::new(alloc);
+    if let Some(words) = given.get_many::<u16>(GOOD) {
+        for good in words {
+            let Ok(good) = good else { return Ok(None) };
+            goods.push(good)?;
+        }
+    }
+    Ok(Some(Request::Value { file, goods, limit }))
 }
 
 fn cats_command<'a>(alloc: Global) -> Result<Command<'a>, AllocError> {
@@ -39,7 +79,8 @@ fn cats_command<'a>(alloc: Global) -> Result<Command<'a>, AllocError> {
         .about("Reads auction bid files in the format of CATS 2.0")
         .subcommand_required(true)
         .subcommand(check_command(alloc)?)?
-        .subcommand(show_command(alloc)?)
+        .subcommand(show_command(alloc)?)?
+        .subcommand(value_command(alloc)?)
 }
 
 fn check_command<'a>(alloc: Global) -> Result<Command<'a>, AllocError> {
@@ -52,6 +93,27 @@ fn show_command<'a>(alloc: Global) -> Result<Command<'a>, AllocError> {
     Command::new(alloc, "show")
         .about("Prints a bid file in its one layout, with its bids in order of number")
         .arg(file_argument(alloc, FILE))
+}
+
+fn value_command<'a>(alloc: Global) -> Result<Command<'a>, AllocError> {
+    let goods = Arg::new(alloc, GOOD)
+        .num_args(0..)
+        .value_parser(value_parser!(u16))
+        .help("The goods of the bundle");
+    Command::new(alloc, "value")
+        .about("Prints what the bidders of a bid file offer for a bundle of goods")
+        .arg(steps_option(alloc))?
+        .arg(file_argument(alloc, FILE))?
+        .arg(goods)
+}
+
+fn steps_option<'a>(alloc: Global) -> Arg<'a> {
+    Arg::new(alloc, STEPS)
+        .long(STEPS)
+        .value_name("N")
+        .default_value(DEFAULT_STEPS)
+        .value_parser(value_parser!(u64).range(1..=MAX_STEPS))
+        .help("The most packings that a search may enter")
 }
 
 fn file_argument<'a>(alloc: Global, id: &'a str) -> Arg<'a> {

@@ -10,6 +10,7 @@ mod run;
 mod show;
 #[cfg(test)]
 mod tests;
+mod value;
 mod which;
 pub mod worked;
 
@@ -18,4 +19,5 @@ pub use check::run_check;
 pub use program::run_cats;
 pub use report::{NO_MEMORY, RunFault, WRONG_USAGE, fault_line, status};
 pub use show::run_show;
+pub use value::run_value;
 pub use which::Which;

@@ -8,6 +8,7 @@ use crate::command_line;
 use crate::command_line::Request;
 use crate::report::{DEVICE_FAILED, NO_MEMORY, RunFault, WRONG_USAGE, fault_line, status};
 use crate::show::run_show;
+use crate::value::run_value;
 use cats_text::{Watched, send};
 use clap::Error;
 use clap::error::ErrorKind;
@@ -69,6 +70,11 @@ fn carry_out<F: Files + AllocGlobal, W: Write>(
         Request::Show { file } => {
             let mut input = open(rt, file)?;
             Ok(run_show(rt.alloc(), &mut input, out)?)
+        }
+        Request::Value { file, goods, limit } => {
+            let mut input = open(rt, file)?;
+            let goods = goods.as_slice();
+            Ok(run_value(rt.alloc(), &mut input, goods, *limit, out)?)
         }
     }
 }

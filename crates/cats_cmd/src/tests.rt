@@ -5,3 +5,4 @@ mod program;
 mod report;
 mod show;
 mod streams;
+mod value;

@@ -2,7 +2,10 @@
 
 ghost use Rattle.std.specs.Prelude.{◌≡◌, ℕ, List, [], ◌∷◌, map, codes};
 ghost use Rattle.cats_text.specs.declared.fault.Kind.TheVariants.{TwoDummies, NoEnd, TooLong, Device, Memory as NoMemory};
+ghost use Rattle.cats_cmd.specs.Examples.{larger_bid, xor_ladder};
+ghost use Rattle.cats_cmd.specs.Outcomes.{LacksGood, ExceedsSteps, Tells, value_outcome};
 ghost use Rattle.cats_cmd.specs.Outputs.{bundle_text, sizes_text};
+ghost use Rattle.cats_cmd.specs.ValueTexts.{bundle_from};
 ghost use Rattle.cats_cmd.specs.FaultLines.{line_of_fault};
 ghost use Rattle.cats_cmd.specs.Statuses.{status_of_fault};
 ghost use Rattle.cats_cmd.specs.declared.which.Which.TheVariants.{Only, First, Second, Both};
@@ -39,4 +42,16 @@ pub fn bundles()
 /// What `cats check` prints of 3 goods, 2 bids and 1 dummy good.
 pub fn sizes()
     ensures { sizes_text 3 2 1 ≡ codes "goods 3 bids 2 dummy 1\n" }
+{}
+
+/// What `cats value` makes of two files.
+pub fn values()
+    ensures best_packing { value_outcome (1 ∷ 0 ∷ 1 ∷ []) 5 larger_bid ≡ Tells 0 (codes "or 7 2\n") }
+    ensures one_good { value_outcome (1 ∷ []) 2 larger_bid ≡ Tells 0 (codes "or 4 1\n") }
+    ensures step_limit { value_outcome (1 ∷ 0 ∷ []) 4 larger_bid ≡ ExceedsSteps (0 ∷ 1 ∷ []) }
+    ensures missing { value_outcome (0 ∷ 3 ∷ 2 ∷ []) 0 larger_bid ≡ LacksGood 3 }
+    ensures both { value_outcome (0 ∷ 1 ∷ []) 2 xor_ladder ≡ Tells 0 (codes "or 1.5 1\nxor 2 6 2\n") }
+    ensures first { value_outcome (0 ∷ []) 1 xor_ladder ≡ Tells 0 (codes "or 0\nxor 2 5 0\n") }
+    ensures none_inside { value_outcome [] 1 xor_ladder ≡ Tells 0 (codes "or 0\nxor 2 0\n") }
+    ensures bundle { bundle_from (3 ∷ 1 ∷ 3 ∷ 0 ∷ []) ≡ 0 ∷ 1 ∷ 3 ∷ [] }
 {}

@@ -1,5 +1,5 @@
-use super::streams::{failing_reader, reader, writer};
-use crate::{fault_line, run_check, status};
+use super::streams::{failing_reader, reader, told, writer};
+use crate::run_check;
 use std::process::Abort;
 use std::test::Fail;
 
@@ -19,14 +19,7 @@ fn checked(
     };
     let mut out = writer(alloc, step, room);
     let answer = run_check(alloc, &mut input, &mut out);
-    let sent = String::from_utf8(out.into_inner().taken)?;
-    match answer {
-        Ok(done) => Ok((done, sent, String::new(alloc))),
-        Err(fault) => {
-            let line = String::from_utf8(fault_line(alloc, &fault)?)?;
-            Ok((status(&fault), sent, line))
-        }
-    }
+    told(alloc, answer, out)
 }
 
 /// Each text, what `check` tells of it on standard error, and the status.

@@ -58,13 +58,14 @@ fn usage_faults(rt: HostRuntime) -> Result<(), Fail> {
 
 #[test]
 fn help(rt: HostRuntime) -> Result<(), Fail> {
-    let lines: [&[&str]; 6] = [
+    let lines: [&[&str]; 7] = [
         &["cats", "--help"],
         &["cats", "-h"],
         &["cats", "help"],
         &["cats", "help", "check"],
         &["cats", "check", "--help"],
         &["cats", "show", "--help"],
+        &["cats", "value", "--help"],
     ];
     for words in lines {
         let (status, sent, told) = run(&rt, words, ROOM, ROOM)?;
@@ -143,24 +144,99 @@ fn shows_a_file(rt: HostRuntime) -> Result<(), Fail> {
     Ok(())
 }
 
-/// Has a file refused by a command.
-fn refuses_by(rt: &HostRuntime, command: &str) -> Result<(), Fail> {
+/// Values with these words behind the file.
+fn valued<'a>(
+    rt: &HostRuntime,
+    before: &[&'a str],
+    path: &'a str,
+    after: &[&'a str],
+) -> Result<(u8, String, String), Fail> {
+    let mut words = Vec::from_array(rt.alloc(), ["cats", "value"])?;
+    words.extend_from_slice(before)?;
+    words.push(path)?;
+    words.extend_from_slice(after)?;
+    run(rt, words.as_slice(), ROOM, ROOM)
+}
+
+const VALUED: &[u8] = b"goods 2\nbids 3\ndummy 1\n0 3 0 #\n1 4.5 1 #\n2 7 0 1 2 #\n";
+
+#[test]
+fn values_of_a_file(rt: HostRuntime) -> Result<(), Fail> {
+    let path = file_of(&rt, "valued", VALUED)?;
+    let file = path.as_str();
+    let both = valued(&rt, &[], file, &["1", "0", "+1", "007"])?;
+    let none = valued(&rt, &[], file, &[])?;
+    let enough = valued(&rt, &["--steps", "4"], file, &["0", "1"])?;
+    let most = valued(&rt, &["--steps=1000000000"], file, &["1"])?;
+    let short = valued(&rt, &[], file, &["0", "1", "--steps", "3"])?;
+    let missing = valued(&rt, &[], file, &["0", "65535", "2"])?;
+    fs::remove_file(&rt, file)?;
+    let rows = [
+        (both, 64, "", "good 7 out of range\n"),
+        (none, 0, "or 0\nxor 2 0\n", ""),
+        (enough, 0, "or 7.5 0 1\nxor 2 7 2\n", ""),
+        (most, 0, "or 4.5 1\nxor 2 0\n", ""),
+        (short, 3, "", "step limit at 0,1\n"),
+        (missing, 64, "", "good 65535 out of range\n"),
+    ];
+    for ((status, sent, told), answer, text, line) in rows {
+        assert_eq!(rt; told.as_str(), line);
+        assert_eq!(rt; sent.as_str(), text);
+        assert_eq!(rt; status, answer);
+    }
+    Ok(())
+}
+
+#[test]
+fn usage_of_value(rt: HostRuntime) -> Result<(), Fail> {
+    let path = file_of(&rt, "usage", VALUED)?;
+    let file = path.as_str();
+    let rows = [
+        valued(&rt, &["--steps", "0"], file, &[])?,
+        valued(&rt, &["--steps", "1000000001"], file, &[])?,
+        valued(&rt, &["--steps", "-1"], file, &[])?,
+        valued(&rt, &["--steps", "1.5"], file, &[])?,
+        valued(&rt, &["--steps", "5", "--steps", "6"], file, &[])?,
+        valued(&rt, &["--steps"], file, &[])?,
+        valued(&rt, &[], file, &["65536"])?,
+        valued(&rt, &[], file, &["-1"])?,
+        valued(&rt, &[], file, &["0", "a"])?,
+        run(&rt, &["cats", "value"], ROOM, ROOM)?,
+    ];
+    fs::remove_file(&rt, file)?;
+    for (place, (status, sent, told)) in rows.into_iter().enumerate() {
+        assert_eq!(rt; status, 64, "of {place}");
+        assert_eq!(rt; sent.as_str(), "");
+        assert!(rt; !told.is_empty());
+    }
+    Ok(())
+}
+
+/// What a command answers of a file that is refused, with room for its faults and without.
+fn refused_by(
+    rt: &HostRuntime,
+    command: &str,
+) -> Result<((u8, String, String), (u8, String, String)), Fail> {
     let path = file_of(rt, command, b"goods 2\nbids 0\n")?;
     let words = ["cats", command, path.as_str()];
     let answered = run(rt, &words, ROOM, ROOM)?;
     let untold = run(rt, &words, ROOM, 0)?;
     fs::remove_file(rt, path.as_str())?;
-    let (status, sent, told) = answered;
-    assert_eq!(rt; sent.as_str(), "");
-    assert_eq!(rt; told.as_str(), "line 3: Missing\n");
-    assert_eq!(rt; status, 2);
-    let (status, _, _) = untold;
-    assert_eq!(rt; status, 2);
-    Ok(())
+    Ok((answered, untold))
 }
 
 #[test]
 fn refuses_a_file(rt: HostRuntime) -> Result<(), Fail> {
-    refuses_by(&rt, "check")?;
-    refuses_by(&rt, "show")
+    let rows = [
+        refused_by(&rt, "check")?,
+        refused_by(&rt, "show")?,
+        refused_by(&rt, "value")?,
+    ];
+    for ((status, sent, told), (untold, _, _)) in rows {
+        assert_eq!(rt; sent.as_str(), "");
+        assert_eq!(rt; told.as_str(), "line 3: Missing\n");
+        assert_eq!(rt; status, 2);
+        assert_eq!(rt; untold, 2);
+    }
+    Ok(())
 }

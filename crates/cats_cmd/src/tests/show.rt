@@ -1,5 +1,5 @@
-use super::streams::{failing_reader, reader, writer};
-use crate::{fault_line, run_show, status};
+use super::streams::{failing_reader, reader, told, writer};
+use crate::run_show;
 use std::process::Abort;
 use std::test::Fail;
 
@@ -18,14 +18,7 @@ fn shown(
     };
     let mut out = writer(alloc, 7, room);
     let answer = run_show(alloc, &mut input, &mut out);
-    let sent = String::from_utf8(out.into_inner().taken)?;
-    match answer {
-        Ok(done) => Ok((done, sent, String::new(alloc))),
-        Err(fault) => {
-            let line = String::from_utf8(fault_line(alloc, &fault)?)?;
-            Ok((status(&fault), sent, line))
-        }
-    }
+    told(alloc, answer, out)
 }
 
 const ROOM: usize = 65_536;

@@ -1,12 +1,14 @@
-//! A reader and a writer over memory that fail.
+//! A reader and a writer over memory that fail, and what a run did with them.
 
 ghost use Rattle.std.specs.Prelude.{◌≡◌, false};
 ghost use Rattle.cats_text.specs.Streams.{has_ended, has_failed};
 
+use crate::{RunFault, fault_line, status};
 use cats_text::Watched;
 use std::alloc::Global;
 use std::io;
 use std::io::{ErrorKind, Read, Write};
+use std::test::Fail;
 
 /// Gives at most `step` bytes of its text a call, and where it is to it fails in place of its end.
 #[derive(Drop)]
@@ -84,4 +86,20 @@ pub fn writer(alloc: Global, step: usize, room: usize) -> Watched<StepWriter>
         step,
         room,
     })
+}
+
+/// The status of a run, with what went to its output and to standard error.
+pub fn told(
+    alloc: Global,
+    answer: Result<u8, RunFault>,
+    out: Watched<StepWriter>,
+) -> Result<(u8, String, String), Fail> {
+    let sent = String::from_utf8(out.into_inner().taken)?;
+    match answer {
+        Ok(done) => Ok((done, sent, String::new(alloc))),
+        Err(fault) => {
+            let line = String::from_utf8(fault_line(alloc, &fault)?)?;
+            Ok((status(&fault), sent, line))
+        }
+    }
 }

@@ -1,0 +1,11 @@
+use Rattle.std.proofs.lemmas.List.Elements.{All-weaker}
+use Rattle.cats_text.specs.declared.limits.TheConstants.{MAX_GOODS}
+use Rattle.goods_set.specs.Members.{AreBelow-higher}
+use Rattle.valuation.specs.Auctions.{IsAtom}
+use Rattle.cats_cmd.proofs.value.best_packing.Goals as goal
+
+pub or_value-requires : goal.or_value-requires
+or_value-requires g c =
+    let facts = c.args.auction.now.facts in
+    rw c.or_atoms.ensures (All-weaker (IsAtom c.args.auction.now.goods) (IsAtom MAX_GOODS)
+    (λ a h. record { nonempty = h.nonempty; below = AreBelow-higher c.args.auction.now.goods MAX_GOODS a.bundle facts.goods h.below; price = h.price }) _ facts.or_atoms)

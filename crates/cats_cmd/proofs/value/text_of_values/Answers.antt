@@ -1,0 +1,18 @@
+use Rattle.std.proofs.Common.{arith, ◌<◌, ap, ◌∙◌}
+use Rattle.std.proofs.lemmas.List.Elements.{All-weaker}
+use Rattle.cats_text.specs.Views.{plain_file}
+use Rattle.valuation.specs.Auctions.{PlainAuction}
+use Rattle.cats_cmd.proofs.Bundling.{below_none_missing}
+use Rattle.cats_cmd.proofs.Printing.{places_within}
+use Rattle.cats_cmd.proofs.value.text_of_values.Goals as goal
+
+pub bundle_of-requires : goal.bundle_of-requires
+bundle_of-requires g c =
+    let facts = c.args.file.now.facts in
+    let fits = facts.goods in let cap = c.requires.cap in
+    All-weaker (λ x. x < c.args.file.now.goods) (λ x. x < g.S.GoodsSet.CAP) (λ x below. omega (arith, fits, cap)) c.args.goods.now
+    (below_none_missing c.args.file.now.goods c.args.goods.now c.requires.there)
+
+pub push_or_line-requires : goal.push_or_line-requires
+push_or_line-requires g c =
+    places_within _ (plain_file c.args.file.now).bids _ _ _ c.in_ok-packing.ensures.members (ap (λ (a : PlainAuction). a.or_atoms) c.in_ok-auction.ensures) (c.as_slice.ensures.value ∙ c.in_ok-numbers.ensures.or)

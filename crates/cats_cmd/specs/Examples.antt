@@ -1,0 +1,22 @@
+-- Files for worked examples.
+use Rattle.std.specs.Prelude.{ℕ, List, [], ◌∷◌, Option, Some, None}
+use Rattle.cats_text.specs.Files.{PlainBid, PlainFile}
+
+abbrev bid : ℕ → List ℕ → Option ℕ → PlainBid
+bid price goods dummy = record { price = price; goods = goods; dummy = dummy }
+
+-- a bid for two goods at the price of the bids for each
+abbrev pub larger_bid : PlainFile
+larger_bid = record {
+  goods = 2;
+  dummy = 0;
+  bids = bid 3000000 (0 ∷ []) None ∷ bid 4000000 (1 ∷ []) None ∷ bid 7000000 (0 ∷ 1 ∷ []) None ∷ [];
+}
+
+-- an OR bidder with one bid, between the bids of an XOR bidder
+abbrev pub xor_ladder : PlainFile
+xor_ladder = record {
+  goods = 2;
+  dummy = 1;
+  bids = bid 5000000 (0 ∷ []) (Some 0) ∷ bid 1500000 (1 ∷ []) None ∷ bid 6000000 (0 ∷ 1 ∷ []) (Some 0) ∷ [];
+}

@@ -1,0 +1,106 @@
+//! `cats value`: what the bidders of a file offer for a bundle.
+
+mod bundles;
+mod lines;
+mod numbers;
+
+ghost use Rattle.std.specs.Prelude.{◌≡◌, ◌≤◌, ℕ, List, None, false};
+ghost use Rattle.std.specs.Io.KnownBytes.{Consumes};
+ghost use Rattle.cats_text.specs.Streams.{has_ended, has_failed, inner_of};
+ghost use Rattle.cats_text.specs.Views.{plain_file};
+ghost use Rattle.cats_text.specs.declared.limits.TheConstants.{MAX_GOODS};
+ghost use Rattle.valuation.specs.Views.{plain_auction};
+ghost use Rattle.cats_cmd.specs.Outcomes.{missing_good, value_outcome, values_within};
+ghost use Rattle.cats_cmd.specs.Runs.{MakesAs, RunsAs};
+ghost use Rattle.cats_cmd.specs.Searches.{SearchesAs};
+ghost use Rattle.cats_cmd.specs.ValueTexts.{bundle_from};
+
+use crate::canon_fault::CanonFault;
+use crate::report::{DONE, RunFault};
+use crate::run::{read_file, send_text};
+use bundles::{bundle_of, goods_of};
+use cats_text::{BidFile, Watched};
+use goods_set::{GoodsSet, WordSet};
+use lines::{push_or_line, push_xor_lines};
+use numbers::bid_numbers;
+use std::alloc::Global;
+use std::io::{Read, Write};
+use valuation::{Auction, Packing, ValueFault, auction_of, or_value};
+
+/// Reads a bid file, and sends what its bidders offer for the bundle of these goods: the OR value with the bids of one best
+/// packing, and each XOR bidder's value with the bid that gives it. `limit` bounds the packings that the search may enter.
+///
+/// The first of the goods that the file does not have is refused once the file was read.
+pub fn run_value<R: Read, W: Write>(
+    alloc: Global,
+    input: &mut Watched<R>,
+    goods: &[u16],
+    limit: u64,
+    out: &mut Watched<W>,
+) -> Result<u8, RunFault>
+    requires input_works { has_failed input.old ≡ false }
+    requires input_fresh { has_ended input.old ≡ false }
+    requires out_works { has_failed out.old ≡ false }
+    ensures { (bytes : List ℕ) × Consumes (R.remaining (inner_of input.old)) (R.remaining (inner_of input.new)) bytes
+        × RunsAs R.remaining W.contents (value_outcome goods.now limit) bytes input.new out.old out.new result }
+{
+    let file = read_file(alloc, input)?;
+    if let Some(good) = first_missing(goods, file.goods()) {
+        return Err(RunFault::GoodRange(good));
+    }
+    let text = text_of_values::<WordSet<64>>(alloc, &file, goods, limit)?;
+    send_text(out, DONE, text.as_slice())
+}
+
+/// The first of the goods that a file with `count` goods does not have.
+fn first_missing(goods: &[u16], count: u16) -> Option<u16>
+    ensures { result ≡ missing_good count goods.now }
+{
+    goods.iter().copied().find(|good| *good >= count)
+}
+
+/// The values of the bundle of these goods, as they are printed.
+fn text_of_values<S: GoodsSet>(
+    alloc: Global,
+    file: &BidFile,
+    goods: &[u16],
+    limit: u64,
+) -> Result<Vec<u8>, CanonFault>
+    requires cap { MAX_GOODS ≤ S.CAP }
+    requires there { missing_good (plain_file file.now).goods goods.now ≡ None }
+    ensures { MakesAs (values_within limit (bundle_from goods.now) (plain_file file.now)) result }
+{
+    let bundle: S = bundle_of(alloc, goods)?;
+    let auction = auction_of(alloc, file)?;
+    let packing = best_packing(alloc, &auction, &bundle, limit)?;
+    let numbers = bid_numbers(alloc, file)?;
+    let mut text = Vec::new(alloc);
+    push_or_line(&mut text, &packing, numbers.or_bids.as_slice())?;
+    push_xor_lines(
+        &mut text,
+        file,
+        auction.xor_bidders(),
+        numbers.xor_bids.as_slice(),
+        &bundle,
+    )?;
+    Ok(text)
+}
+
+/// A best packing of the bundle by the OR bidder.
+fn best_packing<S: GoodsSet>(
+    alloc: Global,
+    auction: &Auction<S>,
+    bundle: &S,
+    limit: u64,
+) -> Result<Packing, CanonFault>
+    ensures { SearchesAs (plain_auction auction.now).or_atoms (S.goods bundle.now) limit result }
+{
+    match or_value(alloc, auction.or_atoms(), bundle, limit) {
+        Ok(packing) => Ok(packing),
+        Err(ValueFault::StepLimit) => {
+            let goods = goods_of(alloc, bundle)?;
+            Err(CanonFault::StepLimit { goods })
+        }
+        Err(ValueFault::Memory) => Err(CanonFault::Memory),
+    }
+}

@@ -1,0 +1,47 @@
+//! The numbers of the bids behind an auction's atoms.
+
+ghost use Rattle.std.specs.Prelude.{◌≡◌, List, [], IfOk, map, replicate};
+ghost use Rattle.std.specs.List.{range_with_len};
+ghost use Rattle.cats_text.specs.Views.{plain_file};
+ghost use Rattle.cats_cmd.specs.ValueTexts.{lists_of, or_numbers, xor_numbers};
+
+use cats_text::BidFile;
+use std::alloc::{AllocError, Global};
+
+/// The numbers of the bids of the OR bidder, and of each XOR bidder: each list is in the order of the bidder's atoms.
+#[derive(Drop)]
+pub(super) struct BidNumbers {
+    pub or_bids: Vec<usize>,
+    pub xor_bids: Vec<Vec<usize>>,
+}
+
+/// The numbers of a file's bids, by bidder.
+pub(super) fn bid_numbers(alloc: Global, file: &BidFile) -> Result<BidNumbers, AllocError>
+    ensures or { IfOk result (λ numbers. numbers.or_bids.items ≡ or_numbers (plain_file file.now).bids) }
+    ensures xor { IfOk result (λ numbers. lists_of numbers.xor_bids.items ≡ map (xor_numbers (plain_file file.now).bids) (range_with_len 0 (plain_file file.now).dummy)) }
+{
+    let bids = file.bids();
+    let mut or_bids = Vec::new(alloc);
+    let mut xor_bids = empty_lists(alloc, file.dummy())?;
+    for (number, bid) in bids.iter().enumerate() {
+        match bid.dummy {
+            None => or_bids.push(number)?,
+            Some(dummy) => {
+                let bidder = &mut xor_bids[dummy as usize];
+                bidder.push(number)?;
+            }
+        }
+    }
+    Ok(BidNumbers { or_bids, xor_bids })
+}
+
+/// So many lists without a number.
+fn empty_lists(alloc: Global, count: u32) -> Result<Vec<Vec<usize>>, AllocError>
+    ensures { IfOk result (λ lists. lists_of lists.items ≡ replicate count []) }
+{
+    let mut lists = Vec::new(alloc);
+    for _ in 0..count {
+        lists.push(Vec::new(alloc))?;
+    }
+    Ok(lists)
+}
