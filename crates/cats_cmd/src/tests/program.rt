@@ -144,35 +144,26 @@ fn shows_a_file(rt: HostRuntime) -> Result<(), Fail> {
     Ok(())
 }
 
-/// Values with these words behind the file.
-fn valued<'a>(
-    rt: &HostRuntime,
-    before: &[&'a str],
-    path: &'a str,
-    after: &[&'a str],
-) -> Result<(u8, String, String), Fail> {
-    let mut words = Vec::from_array(rt.alloc(), ["cats", "value"])?;
-    words.extend_from_slice(before)?;
-    words.push(path)?;
-    words.extend_from_slice(after)?;
-    run(rt, words.as_slice(), ROOM, ROOM)
-}
-
 const VALUED: &[u8] = b"goods 2\nbids 3\ndummy 1\n0 3 0 #\n1 4.5 1 #\n2 7 0 1 2 #\n";
 
 #[test]
 fn values_of_a_file(rt: HostRuntime) -> Result<(), Fail> {
     let path = file_of(&rt, "valued", VALUED)?;
-    let file = path.as_str();
-    let both = valued(&rt, &[], file, &["1", "0", "+1", "007"])?;
-    let none = valued(&rt, &[], file, &[])?;
-    let enough = valued(&rt, &["--steps", "4"], file, &["0", "1"])?;
-    let most = valued(&rt, &["--steps=1000000000"], file, &["1"])?;
-    let short = valued(&rt, &[], file, &["0", "1", "--steps", "3"])?;
-    let missing = valued(&rt, &[], file, &["0", "65535", "2"])?;
-    fs::remove_file(&rt, file)?;
+    let words = ["cats", "value", path.as_str(), "1", "0", "+1", "01"];
+    let both = run(&rt, &words, ROOM, ROOM)?;
+    let words = ["cats", "value", path.as_str()];
+    let none = run(&rt, &words, ROOM, ROOM)?;
+    let words = ["cats", "value", "--steps", "4", path.as_str(), "0", "1"];
+    let enough = run(&rt, &words, ROOM, ROOM)?;
+    let words = ["cats", "value", "--steps=1000000000", path.as_str(), "1"];
+    let most = run(&rt, &words, ROOM, ROOM)?;
+    let words = ["cats", "value", path.as_str(), "0", "1", "--steps", "3"];
+    let short = run(&rt, &words, ROOM, ROOM)?;
+    let words = ["cats", "value", path.as_str(), "0", "65535", "2"];
+    let missing = run(&rt, &words, ROOM, ROOM)?;
+    fs::remove_file(&rt, path.as_str())?;
     let rows = [
-        (both, 64, "", "good 7 out of range\n"),
+        (both, 0, "or 7.5 0 1\nxor 2 7 2\n", ""),
         (none, 0, "or 0\nxor 2 0\n", ""),
         (enough, 0, "or 7.5 0 1\nxor 2 7 2\n", ""),
         (most, 0, "or 4.5 1\nxor 2 0\n", ""),
@@ -189,23 +180,21 @@ fn values_of_a_file(rt: HostRuntime) -> Result<(), Fail> {
 
 #[test]
 fn usage_of_value(rt: HostRuntime) -> Result<(), Fail> {
-    let path = file_of(&rt, "usage", VALUED)?;
-    let file = path.as_str();
-    let rows = [
-        valued(&rt, &["--steps", "0"], file, &[])?,
-        valued(&rt, &["--steps", "1000000001"], file, &[])?,
-        valued(&rt, &["--steps", "-1"], file, &[])?,
-        valued(&rt, &["--steps", "1.5"], file, &[])?,
-        valued(&rt, &["--steps", "5", "--steps", "6"], file, &[])?,
-        valued(&rt, &["--steps"], file, &[])?,
-        valued(&rt, &[], file, &["65536"])?,
-        valued(&rt, &[], file, &["-1"])?,
-        valued(&rt, &[], file, &["0", "a"])?,
-        run(&rt, &["cats", "value"], ROOM, ROOM)?,
+    let lines: [&[&str]; 10] = [
+        &["cats", "value"],
+        &["cats", "value", "--steps", "0", "a"],
+        &["cats", "value", "--steps", "1000000001", "a"],
+        &["cats", "value", "--steps", "-1", "a"],
+        &["cats", "value", "--steps", "1.5", "a"],
+        &["cats", "value", "--steps", "5", "--steps", "6", "a"],
+        &["cats", "value", "a", "--steps"],
+        &["cats", "value", "a", "65536"],
+        &["cats", "value", "a", "-1"],
+        &["cats", "value", "a", "0", "b"],
     ];
-    fs::remove_file(&rt, file)?;
-    for (place, (status, sent, told)) in rows.into_iter().enumerate() {
-        assert_eq!(rt; status, 64, "of {place}");
+    for words in lines {
+        let (status, sent, told) = run(&rt, words, ROOM, ROOM)?;
+        assert_eq!(rt; status, 64, "of {words:?}");
         assert_eq!(rt; sent.as_str(), "");
         assert!(rt; !told.is_empty());
     }
