@@ -10,6 +10,7 @@ pub mod AuctionLemmas
 pub mod AtomLemmas
 pub mod Examples
 pub mod Permutations
+pub mod Sorting
 pub mod XorLemmas
 pub mod OrLemmas
 pub mod ListLemmas
