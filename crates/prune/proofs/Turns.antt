@@ -5,7 +5,7 @@ use Rattle.std.specs.List.{filter, list_any}
 use Rattle.std.proofs.lemmas.Bool.{cases_lt, le-leb, lt-leb, and_parts, ltb-true}
 use Rattle.std.proofs.lemmas.List.{map-append}
 use Rattle.std.proofs.lemmas.List.Elements.{All-nil, All-cons, All-head, All-tail, All-contains, All-filter, All-weaker, Contains-append_left, filter_passes}
-use Rattle.goods_set.specs.Bundles.{IsRising, IsBundle, is_inside, IsInside}
+use Rattle.goods_set.specs.Bundles.{IsRising, is_inside, IsInside}
 use Rattle.valuation.specs.declared.atom.Atom.{Atom}
 use Rattle.valuation.specs.Auctions.{IsAtom}
 use Rattle.valuation.specs.Values.{atoms_of, xor_value}
@@ -48,9 +48,6 @@ on_bundles goods atoms rising are =
     All-from_Contains (IsOnBundle goods) atoms (λ a c.
     let atom = All-contains (IsAtom goods) atoms a are c in
     record { nonempty = atom.nonempty; bundle = (All-contains HasRisingBundle atoms a rising c, atom.below) })
-
-pub just_bundles : (goods : ℕ) (atoms : List (Atom (List ℕ))) → All (IsOnBundle goods) atoms → All (λ a. IsBundle goods a.bundle) atoms
-just_bundles goods atoms on = All-from_Contains (λ a. IsBundle goods a.bundle) atoms (λ a c. (All-contains (IsOnBundle goods) atoms a on c).bundle)
 
 -- ---- the loop's end
 

@@ -20,10 +20,13 @@ use Rattle.prune.specs.Steps.{is_below, atoms_below}
 use Rattle.prune.specs.Lists.{zero_or_more, list_all_fails, Contains-nil, Contains-filter, All-from_Contains}
 use Rattle.prune.specs.InOrder.{IsInOrder, same_bundle_same_atom, same_in_order}
 use Rattle.prune.specs.ValueLemmas.{xor_value-member, xor_value-bound, xor_value-outbid, xor_value-reached, xor_value-filter_on, or_value-outbid, or_value-filter_on}
-use Rattle.prune.specs.PointLemmas.{points_where-in_order, points_where-are, points_where-has, points_where-same, IsXorPoint, IsXorPoint-from_test, is_xor_point-true, IsPart, IsOrPoint, inside_below, IsOrPoint-from_test, is_or_point-true, no_or_point}
+use Rattle.prune.specs.PointLemmas.{points_where-in_order, points_where-are, points_where-has, points_where-same, IsXorPoint, IsXorPoint-from_test, is_xor_point-true, IsPart, IsOrPoint, inside_below, IsOrPoint-from_test, is_or_point-true, no_or_point, xor_points_are, or_points_are}
 
 pub all_nonempty : (goods : ℕ) (atoms : List (Atom (List ℕ))) → All (IsOnBundle goods) atoms → All (λ a. 0 < length a.bundle) atoms
 all_nonempty goods atoms on = All-weaker (IsOnBundle goods) (λ a. 0 < length a.bundle) (λ a o. o.nonempty) atoms on
+
+pub just_bundles : (goods : ℕ) (atoms : List (Atom (List ℕ))) → All (IsOnBundle goods) atoms → All (λ a. IsBundle goods a.bundle) atoms
+just_bundles goods atoms on = All-weaker (IsOnBundle goods) (λ a. IsBundle goods a.bundle) (λ a o. o.bundle) atoms on
 
 -- ---- what is properly inside a bundle
 
@@ -345,3 +348,25 @@ xor_points_keep_values goods atoms on bundle b =
 -- and have themselves as points
 pub xor_points_again : (goods : ℕ) (atoms : List (Atom (List ℕ))) → All (λ a. IsBundle goods a.bundle) atoms → xor_points goods (xor_points goods atoms) ≡ xor_points goods atoms
 xor_points_again goods atoms on = xor_points_same goods (xor_points goods atoms) atoms (xor_points_keep_values goods atoms on)
+
+-- ---- points do not depend on the number of goods
+
+pub xor_points_any_goods : (fewer more : ℕ) (atoms : List (Atom (List ℕ))) → All (IsOnBundle fewer) atoms → All (IsOnBundle more) atoms → xor_points fewer atoms ≡ xor_points more atoms
+xor_points_any_goods fewer more atoms on there =
+    same_in_order (xor_points fewer atoms) (xor_points more atoms) (points_where-in_order (is_xor_point atoms) (xor_value atoms) fewer) (points_where-in_order (is_xor_point atoms) (xor_value atoms) more) (moved fewer more on there) (moved more fewer there on)
+  where
+    moved : (goods others : ℕ) → All (IsOnBundle goods) atoms → All (IsOnBundle others) atoms → (a : Atom (List ℕ)) → Contains (xor_points goods atoms) a → Contains (xor_points others atoms) a
+    moved goods others o p a c =
+        let point = (xor_points_are goods atoms a).0 c in
+        let bid = All-contains (Contains atoms) (xor_points goods atoms) a (xor_points_are_atoms goods atoms (just_bundles goods atoms o)) c in
+        (xor_points_are others atoms a).1 ((All-contains (IsOnBundle others) atoms a p bid).bundle, point.1, point.2)
+
+pub or_points_any_goods : (fewer more : ℕ) (atoms : List (Atom (List ℕ))) → All (IsOnBundle fewer) atoms → All (IsOnBundle more) atoms → or_points fewer atoms ≡ or_points more atoms
+or_points_any_goods fewer more atoms on there =
+    same_in_order (or_points fewer atoms) (or_points more atoms) (points_where-in_order (is_or_point fewer atoms) (or_value atoms) fewer) (points_where-in_order (is_or_point more atoms) (or_value atoms) more) (moved fewer more on there) (moved more fewer there on)
+  where
+    moved : (goods others : ℕ) → All (IsOnBundle goods) atoms → All (IsOnBundle others) atoms → (a : Atom (List ℕ)) → Contains (or_points goods atoms) a → Contains (or_points others atoms) a
+    moved goods others o p a c =
+        let point = (or_points_are goods atoms a).0 c in
+        let bid = All-contains (Contains atoms) (or_points goods atoms) a (or_points_are_atoms goods atoms o) c in
+        (or_points_are others atoms a).1 ((All-contains (IsOnBundle others) atoms a p bid).bundle, point.1, point.2)

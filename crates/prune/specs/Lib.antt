@@ -6,6 +6,7 @@ pub mod ValueLemmas
 pub mod PointLemmas
 pub mod KeptLemmas
 pub mod StepLemmas
+pub mod TableLemmas
 pub mod BestBids
 pub mod Listings
 pub mod Faults

@@ -1,8 +1,8 @@
 -- Lemmas on lists: which elements a list has, behind a filter too, and the first that passes a test.
-use Rattle.std.proofs.Common.{◌≡◌, ℕ, zero, suc, ◌<◌, Bool, true, false, cond, ◌⊎◌, inl, inr, ⊎_elim, List, [], ◌∷◌, refl, sym, ap, ap₂, ◌∙◌, subst, arith, Some, None}
+use Rattle.std.proofs.Common.{◌≡◌, ℕ, zero, suc, ◌<◌, Bool, true, false, cond, ◌⊎◌, inl, inr, ⊎_elim, List, [], ◌∷◌, map, refl, sym, ap, ap₂, ◌∙◌, subst, arith, Some, None}
 use Rattle.std.specs.Prelude.{All, AllPairs, Contains}
-use Rattle.std.specs.List.{filter, find, list_all}
-use Rattle.std.proofs.lemmas.Bool.{cases_Bool, and_parts, and_from, and_cases}
+use Rattle.std.specs.List.{filter, find, list_all, list_any}
+use Rattle.std.proofs.lemmas.Bool.{cases_Bool, or_parts, and_parts, and_from, and_cases}
 use Rattle.std.proofs.lemmas.List.Elements.{All-nil, All-cons, All-head, All-tail, All-contains, Contains-append_right}
 use Rattle.valuation.specs.ListLemmas.{Contains-cons_cases, AllPairs-head, AllPairs-tail}
 
@@ -20,6 +20,10 @@ Contains-head x xs = (0, omega arith, refl)
 
 pub Contains-tail : {X : Type 0} (y : X) (xs : List X) (x : X) → Contains xs x → Contains (y ∷ xs) x
 Contains-tail y xs x c = Contains-append_right (y ∷ []) xs x c
+
+pub nil_from_none : {X : Type 0} (xs : List X) → ((x : X) → Contains xs x → ⊥) → xs ≡ []
+nil_from_none [] h = refl
+nil_from_none (x ∷ xs) h = absurd (h x (Contains-head x xs))
 
 pub All-from_Contains : {X : Type 0} (P : X → Type 0) (xs : List X) → ((x : X) → Contains xs x → P x) → All P xs
 All-from_Contains P [] h = All-nil P
@@ -90,3 +94,37 @@ find_first R p (y ∷ ys) s x c e h =
 pub find_none : {X : Type 0} (p : X → Bool) (xs : List X) → ((x : X) → Contains xs x → p x ≡ false) → find p xs ≡ None
 find_none p [] h = refl
 find_none p (y ∷ ys) h = let t : p y ≡ false = h y (Contains-head y ys) in simp t (find_none p ys (λ x c. h x (Contains-tail y ys x c)))
+
+pub found_none : {X : Type 0} (p : X → Bool) (xs : List X) → find p xs ≡ None → (x : X) → Contains xs x → p x ≡ false
+found_none p [] e x c = absurd (Contains-nil x c)
+found_none p (y ∷ ys) e x c =
+    ⊎_elim (λ (t : p y ≡ true). absurd (let d = simp t at e in cc))
+    (λ (t : p y ≡ false). ⊎_elim (λ (d : y ≡ x). ap p (sym d) ∙ t) (λ (d : Contains ys x). found_none p ys (simp t at e) x d) (Contains-cons_cases y ys x c))
+    (cases_Bool (p y))
+
+-- what is found is the first of those that pass
+find_of_passing : {X : Type 0} (p : X → Bool) (xs : List X) → find p xs ≡ find (λ x. true) (filter p xs)
+find_of_passing p [] = refl
+find_of_passing p (x ∷ xs) = elim (p x) as (λ b. cond b (Some x) (find p xs) ≡ find (λ x. true) (cond b (x ∷ filter p xs) (filter p xs))) [ true ↦ refl | false ↦ find_of_passing p xs ]
+
+pub find_alike : {X : Type 0} (p q : X → Bool) (xs ys : List X) → filter p xs ≡ filter q ys → find p xs ≡ find q ys
+find_alike p q xs ys e = find_of_passing p xs ∙ ap (find (λ x. true)) e ∙ sym (find_of_passing q ys)
+
+-- ---- each element's image
+
+pub map_same_on : {X Y : Type 0} (f g : X → Y) (xs : List X) → All (λ x. f x ≡ g x) xs → map f xs ≡ map g xs
+map_same_on f g [] h = refl
+map_same_on {X} {Y} f g (x ∷ xs) h =
+    ap₂ (λ (y : Y) (ys : List Y). y ∷ ys) (All-head (λ x. f x ≡ g x) x xs h) (map_same_on f g xs (All-tail (λ x. f x ≡ g x) x xs h))
+
+pub map_same_at : {X Y : Type 0} (f g : X → Y) (xs : List X) → map f xs ≡ map g xs → (x : X) → Contains xs x → f x ≡ g x
+map_same_at f g [] e x c = absurd (Contains-nil x c)
+map_same_at f g (y ∷ ys) e x c =
+    ⊎_elim (λ (d : y ≡ x). let h : f y ≡ g y = cc in ap f (sym d) ∙ h ∙ ap g d) (λ (d : Contains ys x). map_same_at f g ys (cc) x d) (Contains-cons_cases y ys x c)
+
+-- ---- whether some element passes
+
+pub list_any_fails : {X : Type 0} (p : X → Bool) (xs : List X) → list_any p xs ≡ false → (x : X) → Contains xs x → p x ≡ false
+list_any_fails p [] e x c = absurd (Contains-nil x c)
+list_any_fails p (y ∷ ys) e x c =
+    ⊎_elim (λ (d : y ≡ x). ap p (sym d) ∙ (or_parts (p y) (list_any p ys) e).0) (λ (d : Contains ys x). list_any_fails p ys (or_parts (p y) (list_any p ys) e).1 x d) (Contains-cons_cases y ys x c)

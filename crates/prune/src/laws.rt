@@ -1,12 +1,13 @@
 //! Laws of the definitions, which the check proves.
-ghost use Rattle.std.specs.Prelude.{◌≡◌, ℕ, ◌≤◌, ◌↔◌, true, List, All, Contains};
+ghost use Rattle.std.specs.Prelude.{◌≡◌, ℕ, ◌≤◌, ◌↔◌, true, false, None, List, [], All, Contains};
 ghost use Rattle.goods_set.specs.Bundles.{IsBundle};
 ghost use Rattle.valuation.specs.declared.atom.Atom.{Atom};
 ghost use Rattle.valuation.specs.Packings.{count_packings};
+ghost use Rattle.valuation.specs.Tables.{xor_table, or_table, is_nonzero};
 ghost use Rattle.valuation.specs.Values.{xor_value, or_value};
 ghost use Rattle.prune.specs.PointLemmas.{IsXorPoint, IsOrPoint};
 ghost use Rattle.prune.specs.Points.{IsOnBundle, xor_points, or_points};
-ghost use Rattle.prune.specs.Steps.{atoms_below, steps_at_most, search_steps, is_heavy};
+ghost use Rattle.prune.specs.Steps.{atoms_below, steps_at_most, search_steps, is_heavy, first_heavy};
 
 /// Which atoms are points. An XOR point is on a bundle of a value above 0, which each good less makes smaller; an OR point on one
 /// of a value above 0, which each split into two nonempty parts makes smaller. Either has the value for its price.
@@ -48,4 +49,28 @@ pub fn steps_are_bounded()
 /// A bundle that is heavy for the points is heavy for all bids.
 pub fn no_new_heavy_bundle()
     ensures { (goods limit : ℕ) (atoms : List (Atom (List ℕ))) → All (IsOnBundle goods) atoms → (bundle : List ℕ) → is_heavy goods limit (or_points goods atoms) bundle ≡ true → is_heavy goods limit atoms bundle ≡ true }
+{}
+
+/// There are no points exactly where the table of values is all zeros.
+pub fn no_points_no_values()
+    ensures xor { (goods : ℕ) (atoms : List (Atom (List ℕ))) → All (IsOnBundle goods) atoms → (xor_points goods atoms ≡ [] ↔ is_nonzero (xor_table atoms goods) ≡ false) }
+    ensures or { (goods : ℕ) (atoms : List (Atom (List ℕ))) → All (IsOnBundle goods) atoms → (or_points goods atoms ≡ [] ↔ is_nonzero (or_table atoms goods) ≡ false) }
+{}
+
+/// Lists of bids have the same points exactly where their tables of values are equal.
+pub fn same_tables_same_points()
+    ensures xor { (goods : ℕ) (one other : List (Atom (List ℕ))) → All (IsOnBundle goods) one → All (IsOnBundle goods) other → (xor_table one goods ≡ xor_table other goods ↔ xor_points goods one ≡ xor_points goods other) }
+    ensures or { (goods : ℕ) (one other : List (Atom (List ℕ))) → All (IsOnBundle goods) one → All (IsOnBundle goods) other → (or_table one goods ≡ or_table other goods ↔ or_points goods one ≡ or_points goods other) }
+{}
+
+/// Where no bundle is heavy for the bids, none is heavy for their points.
+pub fn none_heavy_for_points()
+    ensures { (goods limit : ℕ) (atoms : List (Atom (List ℕ))) → All (IsOnBundle goods) atoms → first_heavy goods limit atoms ≡ None → first_heavy goods limit (or_points goods atoms) ≡ None }
+{}
+
+/// The points, and the first heavy bundle, are the same for each number of goods that all bids are within.
+pub fn goods_without_bids()
+    ensures xor { (fewer more : ℕ) (atoms : List (Atom (List ℕ))) → All (IsOnBundle fewer) atoms → All (IsOnBundle more) atoms → xor_points fewer atoms ≡ xor_points more atoms }
+    ensures or { (fewer more : ℕ) (atoms : List (Atom (List ℕ))) → All (IsOnBundle fewer) atoms → All (IsOnBundle more) atoms → or_points fewer atoms ≡ or_points more atoms }
+    ensures heavy { (fewer more limit : ℕ) (atoms : List (Atom (List ℕ))) → All (IsOnBundle fewer) atoms → All (IsOnBundle more) atoms → first_heavy fewer limit atoms ≡ first_heavy more limit atoms }
 {}

@@ -16,7 +16,8 @@ mod xor;
 
 pub use fault::PruneFault;
 pub use laws::{
-    no_new_heavy_bundle, points_are, points_are_bids, points_keep_values, points_of_points,
+    goods_without_bids, no_new_heavy_bundle, no_points_no_values, none_heavy_for_points,
+    points_are, points_are_bids, points_keep_values, points_of_points, same_tables_same_points,
     same_values_same_points, steps_are_bounded,
 };
 pub use or::prune_or;

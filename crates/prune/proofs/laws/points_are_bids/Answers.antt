@@ -1,5 +1,4 @@
-use Rattle.prune.specs.KeptLemmas.{xor_points_are_atoms, or_points_are_atoms}
-use Rattle.prune.proofs.Turns.{just_bundles}
+use Rattle.prune.specs.KeptLemmas.{just_bundles, xor_points_are_atoms, or_points_are_atoms}
 use Rattle.prune.proofs.laws.points_are_bids.Goals as goal
 
 pub returns : goal.returns

@@ -1,5 +1,4 @@
-use Rattle.prune.specs.KeptLemmas.{xor_points_keep_values, or_points_keep_values}
-use Rattle.prune.proofs.Turns.{just_bundles}
+use Rattle.prune.specs.KeptLemmas.{just_bundles, xor_points_keep_values, or_points_keep_values}
 use Rattle.prune.proofs.laws.points_keep_values.Goals as goal
 
 pub returns : goal.returns

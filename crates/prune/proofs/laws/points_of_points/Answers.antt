@@ -1,5 +1,4 @@
-use Rattle.prune.specs.KeptLemmas.{xor_points_again, or_points_again}
-use Rattle.prune.proofs.Turns.{just_bundles}
+use Rattle.prune.specs.KeptLemmas.{just_bundles, xor_points_again, or_points_again}
 use Rattle.prune.proofs.laws.points_of_points.Goals as goal
 
 pub returns : goal.returns

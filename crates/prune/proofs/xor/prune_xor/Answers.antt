@@ -7,7 +7,8 @@ use Rattle.valuation.specs.Auctions.{IsAtom}
 use Rattle.valuation.specs.Values.{atoms_of}
 use Rattle.prune.proofs.BestBids.{seen_of}
 use Rattle.prune.proofs.Results.{turn_positive, turn_among, xor_reached, xor_missed}
-use Rattle.prune.proofs.Turns.{xor_end, all_rising, next_turn, taken, on_bundles, just_bundles}
+use Rattle.prune.specs.KeptLemmas.{just_bundles}
+use Rattle.prune.proofs.Turns.{xor_end, all_rising, next_turn, taken, on_bundles}
 use Rattle.prune.proofs.xor.prune_xor.Goals as goal
 
 pub is_outbid-requires-clause-positive : goal.is_outbid-requires-clause-positive
