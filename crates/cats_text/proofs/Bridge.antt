@@ -8,8 +8,8 @@ use Rattle.cats_text.specs.Grammar.{Spells, significant_words}
 use Rattle.cats_text.specs.Faults.{first_fault, complete_fault, has_bid_line, is_line_due}
 use Rattle.cats_text.specs.Returns.{settled, waits, carried}
 use Rattle.cats_text.specs.Progress.{Progress}
-use Rattle.cats_text.specs.Parsing.{file_from, filled}
-use Rattle.cats_text.specs.FileLines.{file_of_lines, slots_of}
+use Rattle.cats_text.specs.Parsing.{file_from}
+use Rattle.cats_text.specs.FileLines.{filled, file_of_lines, slots_of}
 use Rattle.cats_text.specs.Scanning.{State, Scan, first_state, and_then, run, byte_step, end_step, end_of, MeetsBidLine, IsInBidLine, HasBids}
 use Rattle.cats_text.specs.declared.fault.ReadFault.{ReadFault}
 use Rattle.cats_text.specs.declared.parser.Header.{Header}

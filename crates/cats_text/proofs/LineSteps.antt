@@ -5,10 +5,10 @@ use Rattle.std.proofs.lemmas.List.Sums.{fold_push}
 use Rattle.cats_text.specs.Numbers.{number_of, price_of}
 use Rattle.cats_text.specs.Grammar.{line_number}
 use Rattle.cats_text.specs.Faults.{is_line_due, when, has_end}
-use Rattle.cats_text.specs.FileLines.{before_end, real_goods, bid_of, slots_of}
+use Rattle.cats_text.specs.FileLines.{rising_of, put_slot, before_end, real_goods, bid_of, slots_of}
 use Rattle.cats_text.specs.Files.{PlainBid}
 use Rattle.cats_text.specs.Progress.{Progress}
-use Rattle.cats_text.specs.Parsing.{Reading, word_read, line_read, with_bid, drafted, rising_of, put_slot, is_due}
+use Rattle.cats_text.specs.Parsing.{Reading, word_read, line_read, with_bid, drafted, is_due}
 use Rattle.cats_text.specs.declared.fault.Kind.TheVariants as kinds
 use Rattle.cats_text.specs.declared.parser.Header.{Header}
 use Rattle.cats_text.specs.declared.parser.Stage.{Stage}

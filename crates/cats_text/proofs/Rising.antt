@@ -3,7 +3,7 @@ use Rattle.std.proofs.Common.{◌≡◌, ◌≢◌, ℕ, ◌<◌, ◌≤◌, Boo
 use Rattle.std.proofs.lemmas.Bool.{or_cases, or_left, or_right, both_ways, eqb-true, eqb-false, eq-eqb, ltb-true, ltb-false, false_from_ne_true}
 use Rattle.cats_text.specs.Files.{IsRising, AreAbove}
 use Rattle.cats_text.specs.Grammar.{has_number}
-use Rattle.cats_text.specs.Parsing.{rising_with, rising_of}
+use Rattle.cats_text.specs.FileLines.{rising_with, rising_of}
 
 pub has_head : (x : ℕ) (xs : List ℕ) → has_number (x ∷ xs) x ≡ true
 has_head x xs = or_left (eqb x x) (has_number xs x) (eq-eqb x x refl)

@@ -6,7 +6,7 @@ use Rattle.cats_text.specs.Files.{plain_bid}
 use Rattle.cats_text.specs.Progress.{plain_slot, plain_slots}
 use Rattle.std.proofs.lemmas.List.Elements.{filter_map-append}
 use Rattle.std.specs.Option.{option_to_list}
-use Rattle.cats_text.specs.Parsing.{put_slot, filled}
+use Rattle.cats_text.specs.FileLines.{put_slot, filled}
 
 -- more is xs with some empty places behind it, as many as a place n asks for at most
 pub record IsPadded {X : Type 0} (xs more : List (Option X)) (n : ℕ) : Type 0 where

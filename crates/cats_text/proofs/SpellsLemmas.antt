@@ -7,8 +7,7 @@ use Rattle.cats_text.specs.Numbers.{number_of}
 use Rattle.cats_text.specs.Files.{PlainFile, IsBid, IsPlainFile}
 use Rattle.cats_text.specs.Grammar.{Spells, SpellsBid, SpellsNumber, line_number, significant_words}
 use Rattle.cats_text.specs.Faults.{bounds_of, header_value, first_fault}
-use Rattle.cats_text.specs.Parsing.{filled}
-use Rattle.cats_text.specs.FileLines.{bid_of, slots_of, file_of_lines, file_said}
+use Rattle.cats_text.specs.FileLines.{filled, bid_of, slots_of, file_of_lines, spelled_file}
 use Rattle.cats_text.specs.declared.fault.ReadFault.{ReadFault}
 use Rattle.cats_text.specs.declared.limits.TheConstants.{MAX_GOODS, MAX_BIDS, MAX_DUMMY}
 use Rattle.cats_text.proofs.SpellsLemmasSlots.{FillPlaces, length_bids, bids_stand, bids_all, bids_are}
@@ -27,7 +26,7 @@ all_both P Q R h (x ∷ xs) a b = (h x a.0 b.0, all_both P Q R h xs a.1 b.1)
 
 -- ---- no fault
 
-pub spells_from_no_fault : (text : List ℕ) → first_fault text ≡ None → Spells text (file_said text)
+pub spells_from_no_fault : (text : List ℕ) → first_fault text ≡ None → Spells text (spelled_file text)
 spells_from_no_fault text none =
     let p : AreFileLines (significant_words text) = lines_from (significant_words text) (words_from (line_count text) [] (significant_lines text) none) in
     let fill : FillPlaces (header_value p.b) p.bid_lines = fill_places (bounds_of p.g p.b p.d) p.bid_lines p.are in
@@ -106,8 +105,8 @@ pub no_fault_from_spells : (text : List ℕ) (f : PlainFile) → Spells text f �
 no_fault_from_spells text f s = words_none (line_count text) [] (significant_lines text) (lines_none (significant_words text) (file_lines text f s))
 
 -- it is the file that the text says
-pub spells_file_said : (text : List ℕ) (f : PlainFile) → Spells text f → f ≡ file_said text
-spells_file_said text f s =
+pub says_spelled : (text : List ℕ) (f : PlainFile) → Spells text f → f ≡ spelled_file text
+says_spelled text f s =
     let fill : FillPlaces (length f.bids) s.bid_lines = fill_places (file_bounds f) s.bid_lines (file_bid_lines text f s) in
     let bids : f.bids ≡ filled (slots_of f.goods s.bid_lines) = bids_are f.goods f.bids s.bid_lines fill (each_bid f s.bid_lines s.facts s.each) in
     ap (λ bs. record { goods = f.goods; dummy = f.dummy; bids = bs }) bids
@@ -117,14 +116,14 @@ spells_file_said text f s =
     ∙ sym (ap file_of_lines s.lines_are)
 
 pub spells_one : (text : List ℕ) (f g : PlainFile) → Spells text f → Spells text g → f ≡ g
-spells_one text f g s t = spells_file_said text f s ∙ sym (spells_file_said text g t)
+spells_one text f g s t = says_spelled text f s ∙ sym (says_spelled text g t)
 
 -- a text spells one file or has a first fault
 pub spells_or_fault : (text : List ℕ) → ((f : PlainFile) × Spells text f) ⊎ ((e : ReadFault) × (first_fault text ≡ Some e))
 spells_or_fault text = from (first_fault text) refl
   where
     from : (o : Option ReadFault) → first_fault text ≡ o → ((f : PlainFile) × Spells text f) ⊎ ((e : ReadFault) × (first_fault text ≡ Some e))
-    from None e = inl (file_said text, spells_from_no_fault text e)
+    from None e = inl (spelled_file text, spells_from_no_fault text e)
     from (Some fault) e = inr (fault, e)
 
 pub never_spells_and_faults : (text : List ℕ) (f : PlainFile) (e : ReadFault) → Spells text f → first_fault text ≡ Some e → ⊥

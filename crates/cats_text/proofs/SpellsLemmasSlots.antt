@@ -7,8 +7,7 @@ use Rattle.std.specs.List.{AllByRecursion, fold, slice_get}
 use Rattle.cats_text.specs.Lines.{Word}
 use Rattle.cats_text.specs.Files.{PlainBid}
 use Rattle.cats_text.specs.Grammar.{AreDistinct, line_number}
-use Rattle.cats_text.specs.Parsing.{put_slot, filled}
-use Rattle.cats_text.specs.FileLines.{bid_of, slots_of}
+use Rattle.cats_text.specs.FileLines.{put_slot, filled, bid_of, slots_of}
 
 abbrev Slots : Type 0
 Slots = List (Option PlainBid)

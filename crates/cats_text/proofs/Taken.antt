@@ -6,8 +6,8 @@ use Rattle.std.specs.List.{slice_get, list_any}
 use Rattle.cats_text.specs.Lines.{Word}
 use Rattle.cats_text.specs.Files.{PlainBid}
 use Rattle.cats_text.specs.Grammar.{line_number}
-use Rattle.cats_text.specs.Parsing.{is_some_bid, put_slot}
-use Rattle.cats_text.specs.FileLines.{bid_of, slots_of}
+use Rattle.cats_text.specs.Parsing.{is_some_bid}
+use Rattle.cats_text.specs.FileLines.{put_slot, bid_of, slots_of}
 
 taken_set : (xs : List (Option PlainBid)) (n : ℕ) (b : PlainBid) (k : ℕ) → n < length xs → is_some_bid (slice_get (set xs n (Some b)) k) ≡ (eqb n k || is_some_bid (slice_get xs k))
 taken_set [] n b k l = absurd (let no : n < 0 = l in omega arith)

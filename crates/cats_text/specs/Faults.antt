@@ -1,6 +1,6 @@
 -- The first fault of a text. Its places are, line by line, the words of its significant lines from the left and after them
 -- the line's end; last comes the end of the input. At each place the first test that holds is the fault there.
-use Rattle.std.specs.Prelude.{ℕ, suc, ◌+◌, ◌==◌, nat_lt, nat_le, Bool, true, false, not, ◌&&◌, ◌||◌, if◌then◌else◌, List, [], ◌∷◌, ◌++◌, length, drop, Option, Some, None, option_map, codes}
+use Rattle.std.specs.Prelude.{◌≡◌, ℕ, suc, ◌+◌, ◌<◌, ◌==◌, nat_lt, nat_le, Bool, true, false, not, ◌&&◌, ◌||◌, if◌then◌else◌, List, [], ◌∷◌, ◌++◌, length, drop, Option, Some, None, option_map, codes}
 use Rattle.std.specs.Option.{option_or}
 use Rattle.std.specs.List.{list_any}
 use Rattle.std.specs.Str.{bytes_eq}
@@ -8,7 +8,7 @@ use Rattle.cats_text.specs.Lines.{Word, Line, is_blank, significant_lines, line_
 use Rattle.cats_text.specs.Numbers.{is_number, number_of, is_price, is_too_large, is_too_fine}
 use Rattle.cats_text.specs.Grammar.{line_number}
 use Rattle.cats_text.specs.declared.fault.Kind.{Kind}
-use Rattle.cats_text.specs.declared.fault.Kind.TheVariants.{Header, NotANumber, TooLarge, ExtraBid, BidNumber, RepeatedNumber, TooFine, GoodRange, RepeatedGood, TwoDummies, EmptyBundle, NoEnd, AfterEnd, Missing}
+use Rattle.cats_text.specs.declared.fault.Kind.TheVariants.{Header, NotANumber, TooLarge, ExtraBid, BidNumber, RepeatedNumber, TooFine, GoodRange, RepeatedGood, TwoDummies, EmptyBundle, NoEnd, AfterEnd, Missing, TooLong, Device, Memory}
 use Rattle.cats_text.specs.declared.fault.ReadFault.{ReadFault}
 use Rattle.cats_text.specs.declared.limits.TheConstants.{MAX_GOODS, MAX_BIDS, MAX_DUMMY}
 
@@ -111,6 +111,18 @@ is_line_due (g ∷ b ∷ d ∷ lines) = nat_lt (length lines) (header_value b)
 
 abbrev pub fault_at : ℕ → Kind → ReadFault
 fault_at line kind = record { line = line; kind = kind }
+
+-- the kinds of a text's own faults
+abbrev pub is_text_kind : Kind → Bool
+is_text_kind TooLong = false
+is_text_kind Device = false
+is_text_kind Memory = false
+is_text_kind kind = true
+
+-- a fault of a text, at one of its lines or behind the last
+pub record IsOfText (e : ReadFault) : Type 0 where
+  pub kind : is_text_kind e.kind ≡ true
+  pub line : 0 < e.line
 
 -- The places of a line; its end is judged where an LF stands there, or where the input is whole.
 abbrev pub line_fault : Bool → List (List Word) → Line → Option ReadFault

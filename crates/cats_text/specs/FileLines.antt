@@ -1,11 +1,21 @@
 -- The file that lines of words say, where they have no fault.
-use Rattle.std.specs.Prelude.{ℕ, ◌-◌, nat_lt, nat_le, not, List, [], ◌∷◌, map, filter, find, fold, take_while, Option, None, option_map}
+use Rattle.std.specs.Prelude.{ℕ, ◌+◌, ◌-◌, ◌==◌, nat_lt, nat_le, not, if◌then◌else◌, List, [], ◌∷◌, ◌++◌, length, map, filter, filter_map, find, fold, take_while, set, replicate, Option, Some, None, option_map}
 use Rattle.cats_text.specs.Lines.{Word}
 use Rattle.cats_text.specs.Numbers.{number_of, price_of}
 use Rattle.cats_text.specs.Grammar.{line_number, significant_words}
 use Rattle.cats_text.specs.Faults.{is_end, header_value}
 use Rattle.cats_text.specs.Files.{PlainBid, PlainFile}
-use Rattle.cats_text.specs.Parsing.{rising_of, put_slot, filled}
+
+-- ---- a bid
+
+-- the numbers in rising order
+abbrev pub rising_with : ℕ → List ℕ → List ℕ
+rising_with g [] = g ∷ []
+rising_with g (x ∷ xs) = if nat_lt g x then g ∷ x ∷ xs else if g == x then x ∷ xs else x ∷ rising_with g xs
+
+abbrev pub rising_of : List ℕ → List ℕ
+rising_of [] = []
+rising_of (x ∷ xs) = rising_with x (rising_of xs)
 
 -- the words before the first `#`
 abbrev pub before_end : List Word → List Word
@@ -25,6 +35,16 @@ bid_of G [] = record { price = 0; goods = []; dummy = None }
 bid_of G (_ ∷ []) = record { price = 0; goods = []; dummy = None }
 bid_of G (_ ∷ p ∷ gs) = record { price = price_of p; goods = rising_of (real_goods G (before_end gs)); dummy = dummy_in G (before_end gs) }
 
+-- ---- bids by number
+
+-- the bid at its number
+abbrev pub put_slot : List (Option PlainBid) → ℕ → PlainBid → List (Option PlainBid)
+put_slot slots n b = set (slots ++ replicate (n + 1 - length slots) None) n (Some b)
+
+-- the bids of the places that have one
+abbrev pub filled : List (Option PlainBid) → List PlainBid
+filled slots = filter_map (λ slot. slot) slots
+
 -- the bids of lines, each at its number
 abbrev pub slots_of : ℕ → List (List Word) → List (Option PlainBid)
 slots_of G lines = fold (λ slots l. put_slot slots (line_number l) (bid_of G l)) [] lines
@@ -34,5 +54,5 @@ file_of_lines (g ∷ b ∷ d ∷ lines) = record { goods = header_value g; dummy
 file_of_lines _ = record { goods = 0; dummy = 0; bids = [] }
 
 -- the file that a text without a fault says
-abbrev pub file_said : List ℕ → PlainFile
-file_said text = file_of_lines (significant_words text)
+abbrev pub spelled_file : List ℕ → PlainFile
+spelled_file text = file_of_lines (significant_words text)

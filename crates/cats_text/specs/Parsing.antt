@@ -1,8 +1,9 @@
 -- What a word, a line's end and the input's end do to what the parser keeps.
-use Rattle.std.specs.Prelude.{ℕ, ◌+◌, ◌-◌, ◌*◌, ◌^◌, ◌==◌, nat_lt, nat_le, min, Bool, true, false, ◌&&◌, ◌||◌, if◌then◌else◌, List, [], ◌∷◌, ◌++◌, length, set, replicate, slice_get, filter_map, Option, Some, None, Result, Ok, Err}
+use Rattle.std.specs.Prelude.{ℕ, ◌+◌, ◌-◌, ◌*◌, ◌^◌, ◌==◌, nat_lt, nat_le, min, Bool, true, false, ◌&&◌, ◌||◌, if◌then◌else◌, [], ◌∷◌, ◌++◌, length, slice_get, Option, Some, None, Result, Ok, Err}
 use Rattle.cats_text.specs.Numbers.{GREATEST_PRICE}
 use Rattle.cats_text.specs.Grammar.{has_number}
 use Rattle.cats_text.specs.Files.{PlainBid, PlainFile}
+use Rattle.cats_text.specs.FileLines.{rising_of, put_slot, filled}
 use Rattle.cats_text.specs.Keywords.{keyword_text}
 use Rattle.cats_text.specs.Progress.{Progress}
 use Rattle.cats_text.specs.declared.fault.Kind.{Kind}
@@ -111,21 +112,8 @@ word_read p w = elim p.place [
 
 -- ---- the end of a line
 
--- the numbers in rising order
-abbrev pub rising_with : ℕ → List ℕ → List ℕ
-rising_with g [] = g ∷ []
-rising_with g (x ∷ xs) = if nat_lt g x then g ∷ x ∷ xs else if g == x then x ∷ xs else x ∷ rising_with g xs
-
-abbrev pub rising_of : List ℕ → List ℕ
-rising_of [] = []
-rising_of (x ∷ xs) = rising_with x (rising_of xs)
-
 abbrev pub drafted : Progress → PlainBid
 drafted p = record { price = p.draft.price; goods = rising_of p.goods; dummy = p.draft.dummy }
-
--- the bid at its number
-abbrev pub put_slot : List (Option PlainBid) → ℕ → PlainBid → List (Option PlainBid)
-put_slot slots n b = set (slots ++ replicate (n + 1 - length slots) None) n (Some b)
 
 abbrev pub with_bid : Progress → Progress
 with_bid p = record p { place = First; due = p.due - 1; slots = put_slot p.slots p.draft.number (drafted p); goods = [] }
@@ -143,9 +131,6 @@ line_read p = elim p.stage [ Goods ↦ header_line_read p Bids | Bids ↦ header
 
 abbrev pub is_due : Progress → Bool
 is_due p = elim p.stage [ Goods ↦ true | Bids ↦ true | Dummy ↦ true | Bid ↦ nat_lt 0 p.due ]
-
-abbrev pub filled : List (Option PlainBid) → List PlainBid
-filled slots = filter_map (λ slot. slot) slots
 
 abbrev pub file_from : Progress → PlainFile
 file_from p = record { goods = p.header.goods; dummy = p.header.dummy; bids = filled p.slots }

@@ -6,6 +6,7 @@ ghost use Rattle.cats_text.specs.Numbers.{number_of, is_number, is_price, is_too
 ghost use Rattle.cats_text.specs.Files.{PlainBid, PlainFile};
 ghost use Rattle.cats_text.specs.Grammar.{Spells};
 ghost use Rattle.cats_text.specs.Faults.{first_fault, complete_fault, fault_at};
+ghost use Rattle.cats_text.specs.FileLines.{spelled_file};
 ghost use Rattle.cats_text.specs.Layout.{layout, price_text};
 ghost use Rattle.cats_text.specs.declared.limits.TheConstants.{MAX_GOODS, MAX_BIDS, MAX_DUMMY, MAX_PRICE, MAX_STREAM};
 ghost use Rattle.cats_text.specs.declared.fault.Kind.TheVariants.{Header, NotANumber, TooLarge, ExtraBid, BidNumber, RepeatedNumber, TooFine, GoodRange, RepeatedGood, TwoDummies, EmptyBundle, NoEnd, AfterEnd, Missing};
@@ -114,4 +115,15 @@ pub fn spelled_files()
     ensures out_of_order { Spells (codes "goods 2\nbids 2\ndummy 0\n1 02.250 1 0 #\n0 3 1 #\n")
         (record { goods = 2; dummy = 0; bids = record { price = 3000000; goods = 1 ∷ []; dummy = None } ∷ record { price = 2250000; goods = 0 ∷ 1 ∷ []; dummy = None } ∷ [] }) }
     ensures least { Spells (codes "goods 0\nbids 0\ndummy 0\n") (record { goods = 0; dummy = 0; bids = [] }) }
+{}
+
+/// The files that texts without a fault say, computed from their lines; a text that lacks its header says an empty file.
+pub fn computed_files()
+    ensures { map spelled_file
+        (codes "goods 2\nbids 2\ndummy 0\n1 02.250 1 0 #\n0 3 1 #\n"
+        ∷ codes "%% a comment\n\ngoods 3\nbids 2\ndummy 1\n\n0\t20\t0\t2\t3\t#\n1\t7\t1\t#\n"
+        ∷ codes "goods 007\r\nbids 0\r\ndummy 2\r" ∷ [] ∷ []) ≡
+        (record { goods = 2; dummy = 0; bids = record { price = 3000000; goods = 1 ∷ []; dummy = None } ∷ record { price = 2250000; goods = 0 ∷ 1 ∷ []; dummy = None } ∷ [] }
+        ∷ record { goods = 3; dummy = 1; bids = record { price = 20000000; goods = 0 ∷ 2 ∷ []; dummy = Some 0 } ∷ record { price = 7000000; goods = 1 ∷ []; dummy = None } ∷ [] }
+        ∷ record { goods = 7; dummy = 2; bids = [] } ∷ record { goods = 0; dummy = 0; bids = [] } ∷ []) }
 {}

@@ -1,7 +1,7 @@
 use Rattle.std.proofs.Common.{◌≡◌, ◌∙◌, ℕ, ◌-◌, List, [], Option, Ok, sym, ap, rules}
 use Rattle.cats_text.specs.Files.{PlainBid}
 use Rattle.cats_text.specs.Progress.{Progress, progress, plain_slots}
-use Rattle.cats_text.specs.Parsing.{rising_of, put_slot}
+use Rattle.cats_text.specs.FileLines.{rising_of, put_slot}
 use Rattle.cats_text.specs.declared.parser.Place.TheVariants.{First, Ended}
 use Rattle.cats_text.proofs.Rising.{rising_of_is}
 use Rattle.cats_text.proofs.Steps.{bid_read-ended}

@@ -3,7 +3,7 @@ use Rattle.std.proofs.lemmas.List.{map-append}
 use Rattle.cats_text.specs.declared.bid.Bid.{Bid}
 use Rattle.cats_text.specs.Files.{PlainBid, plain_bid, plain_bids}
 use Rattle.cats_text.specs.Progress.{plain_slots, plain_slot}
-use Rattle.cats_text.specs.Parsing.{filled}
+use Rattle.cats_text.specs.FileLines.{filled}
 use Rattle.std.specs.Option.{option_to_list}
 use Rattle.cats_text.proofs.Slots.{filled-push}
 use Rattle.cats_text.proofs.parser.Parser.file.Goals as goal
