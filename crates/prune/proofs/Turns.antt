@@ -47,7 +47,7 @@ pub on_bundles : (goods : ℕ) (atoms : List (Atom (List ℕ))) → All HasRisin
 on_bundles goods atoms rising are =
     All-from_Contains (IsOnBundle goods) atoms (λ a c.
     let atom = All-contains (IsAtom goods) atoms a are c in
-    record { nonempty = atom.nonempty; bundle = (All-contains HasRisingBundle atoms a rising c, atom.below) })
+    record { nonempty = atom.nonempty; bundle = atom.bundle })
 
 -- ---- the loop's end
 

@@ -108,7 +108,7 @@ module _ (bids : List PlainBid) (i : ℕ) (b : PlainBid) (l : i < length bids) (
 -- ---- the auction of a file keeps the limits
 
 IsAtom-bid : (G D : ℕ) (b : PlainBid) → IsBid G D b → IsAtom G (atom_of b)
-IsAtom-bid G D b h = record { nonempty = h.goods; below = below-from G b.goods h.below; price = h.price }
+IsAtom-bid G D b h = record { nonempty = h.goods; bundle = (rising-from b.goods h.rising, below-from G b.goods h.below); price = h.price }
 
 IsAtom-bids : (G D : ℕ) (bids : List PlainBid) (p : PlainBid → Bool) → AllByRecursion (IsBid G D) bids → All (IsAtom G) (map atom_of (filter p bids))
 IsAtom-bids G D bids p h =

@@ -1,17 +1,17 @@
 -- Auctions: a number of goods, the atoms of the OR bidder, and the atoms of each XOR bidder. The bids of a file without a dummy
 -- good are the OR bidder's, and those that share a dummy good are one XOR bidder's (README of CATS 2.0, and Nisan's phantom goods).
-use Rattle.std.specs.Prelude.{ℕ, ◌+◌, ◌<◌, ◌≤◌, ◌==◌, Bool, false, Option, Some, None, is_none, List, [], ◌∷◌, length, map, filter, All, sum_by}
+use Rattle.std.specs.Prelude.{ℕ, ◌+◌, ◌<◌, ◌≤◌, ◌==◌, Bool, false, Option, Some, None, is_none, List, length, map, filter, All, sum_by}
 use Rattle.std.specs.List.{range_with_len}
-use Rattle.std.specs.Coded.{×_prop, Unit-prop, le_prop}
+use Rattle.std.specs.Coded.{le_prop}
 use Rattle.valuation.specs.declared.atom.Atom.{Atom}
-use Rattle.goods_set.specs.Bundles.{AreBelow}
+use Rattle.goods_set.specs.Bundles.{IsBundle, IsBundle-prop}
 use Rattle.cats_text.specs.Files.{PlainBid, PlainFile}
 use Rattle.cats_text.specs.declared.limits.TheConstants.{MAX_GOODS, MAX_BIDS, MAX_DUMMY, MAX_PRICE}
 
--- an atom of an auction with that many goods: it asks for some goods, all of the auction, at a price within the limit
+-- an atom of an auction with that many goods: it asks for a bundle of some of them, at a price within the limit
 pub record IsAtom (goods : ℕ) (a : Atom (List ℕ)) : Type 0 where
   pub nonempty : 0 < length a.bundle
-  pub below : AreBelow goods a.bundle
+  pub bundle : IsBundle goods a.bundle
   pub price : a.price ≤ MAX_PRICE
 
 -- an auction, without where it lies in memory
@@ -58,12 +58,8 @@ auction_from f = record {
 
 -- ---- these facts have one proof at most, as a fact that a struct keeps has to
 
-below-prop : (G : ℕ) (xs : List ℕ) → IsProp (AreBelow G xs)
-below-prop G [] = Unit-prop
-below-prop G (x ∷ xs) = ×_prop le_prop (below-prop G xs)
-
-IsAtom-prop : (goods : ℕ) (a : Atom (List ℕ)) → IsProp (IsAtom goods a)
-IsAtom-prop goods a = hlevel (le_prop, below-prop goods a.bundle)
+pub IsAtom-prop : (goods : ℕ) (a : Atom (List ℕ)) → IsProp (IsAtom goods a)
+IsAtom-prop goods a = hlevel (le_prop, IsBundle-prop goods a.bundle)
 
 IsAtoms-prop : (goods : ℕ) (atoms : List (Atom (List ℕ))) → IsProp (All (IsAtom goods) atoms)
 IsAtoms-prop goods atoms = hlevel (IsAtom-prop goods)

@@ -8,4 +8,4 @@ pub or_value-requires : goal.or_value-requires
 or_value-requires g c =
     let facts = c.args.auction.now.facts in
     rw c.or_atoms.ensures (All-weaker (IsAtom c.args.auction.now.goods) (IsAtom MAX_GOODS)
-    (λ a h. record { nonempty = h.nonempty; below = AreBelow-higher c.args.auction.now.goods MAX_GOODS a.bundle facts.goods h.below; price = h.price }) _ facts.or_atoms)
+    (λ a h. record { nonempty = h.nonempty; bundle = (h.bundle.0, AreBelow-higher c.args.auction.now.goods MAX_GOODS a.bundle facts.goods h.bundle.1); price = h.price }) _ facts.or_atoms)

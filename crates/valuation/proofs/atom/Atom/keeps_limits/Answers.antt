@@ -20,7 +20,7 @@ not_below goods xs m r e b =
 pub returns-in-Some : goal.returns-in-Some
 returns-in-Some g c =
     let xs = g.S.GoodsSet.goods c.args.self.now.bundle in
-    (λ t. cc, λ a. absurd (not_below c.args.goods xs _ (g.met.S.GoodsSet.is_bundle _).0 (ap (good_from xs) (sym c.from.ensures) ∙ sym c.in-Some.ensures) a.below))
+    (λ t. cc, λ a. absurd (not_below c.args.goods xs _ (g.met.S.GoodsSet.is_bundle _).0 (ap (good_from xs) (sym c.from.ensures) ∙ sym c.in-Some.ensures) a.bundle.1))
 
 pub returns-in-None : goal.returns-in-None
 returns-in-None g c =
@@ -28,6 +28,6 @@ returns-in-None g c =
     let size = c.size.ensures in (
       λ t.
           let some = ltb-true 0 c.size.result t in
-          record { nonempty = omega arith; below = below c.args.goods xs (ap (good_from xs) (sym c.from.ensures) ∙ sym c.in-None.ensures); price = c.if-self-gt-MAX_PRICE.false },
+          record { nonempty = omega arith; bundle = ((g.met.S.GoodsSet.is_bundle _).0, below c.args.goods xs (ap (good_from xs) (sym c.from.ensures) ∙ sym c.in-None.ensures)); price = c.if-self-gt-MAX_PRICE.false },
       λ a. let some = a.nonempty in lt-ltb 0 c.size.result (omega arith),
     )
