@@ -1,0 +1,4 @@
+pub mod Atoms
+pub mod Counting
+pub mod Sames
+pub mod Files

@@ -1,22 +1,27 @@
 -- When two auctions ask for the same things. Values are those of Nisan ("Bidding and allocation in combinatorial auctions", 2000);
 -- a table has them on all bundles. XOR bidders have no names, so they are counted, each valuation by itself; one that is 0 on every
 -- bundle asks for nothing and does not count.
-use Rattle.std.specs.Prelude.{◌≡◌, ℕ, true, List, map}
-use Rattle.std.specs.Ordering.{nat_cmp}
+use Rattle.std.specs.Prelude.{◌≡◌, ℕ, Bool, true, List}
+use Rattle.std.specs.List.{count_by}
+use Rattle.std.specs.Ordering.{nat_cmp, is_eq}
 use Rattle.std.specs.Cmp.Lexicographic.{slice_cmp}
 use Rattle.cats_text.specs.Files.{PlainFile}
 use Rattle.cats_text.specs.Grammar.{Spells}
+use Rattle.valuation.specs.declared.atom.Atom.{Atom}
 use Rattle.valuation.specs.Auctions.{PlainAuction, auction_from}
-use Rattle.valuation.specs.Sorting.{count_of}
 use Rattle.valuation.specs.Tables.{or_table, xor_table, is_nonzero}
 
 -- the values of the OR bidder
 abbrev pub or_values : PlainAuction → List ℕ
 or_values a = or_table a.or_atoms a.goods
 
--- how many XOR bidders have this table of values
+-- whether this is the XOR bidder's table of values
+abbrev pub has_table : ℕ → List ℕ → List (Atom (List ℕ)) → Bool
+has_table goods table bidder = is_eq (slice_cmp nat_cmp (xor_table bidder goods) table)
+
+-- how many XOR bidders have this table
 abbrev pub bidders_with : List ℕ → PlainAuction → ℕ
-bidders_with table a = count_of (slice_cmp nat_cmp) table (map (λ bidder. xor_table bidder a.goods) a.xor_bidders)
+bidders_with table a = count_by (has_table a.goods table) a.xor_bidders
 
 -- the same number of goods, the same OR value on every bundle, and as many XOR bidders of each valuation that is not zero
 pub record IsSameAuction (a b : PlainAuction) : Type 0 where
