@@ -2,3 +2,5 @@ pub mod Atoms
 pub mod Counting
 pub mod Sames
 pub mod Files
+pub mod Smaller
+pub mod Texts

@@ -2,7 +2,7 @@
 use Rattle.std.specs.Prelude.{ℕ, List, Option, Some, None}
 use Rattle.cats_text.specs.Files.{PlainFile}
 use Rattle.cats_text.specs.Faults.{first_fault}
-use Rattle.cats_text.specs.FileLines.{file_said}
+use Rattle.cats_text.specs.FileLines.{spelled_file}
 use Rattle.cats_text.specs.declared.fault.ReadFault.{ReadFault}
 use Rattle.valuation.specs.Auctions.{or_atoms_of}
 use Rattle.prune.specs.Steps.{first_heavy}
@@ -25,7 +25,7 @@ abbrev pub normalised_file : ℕ → PlainFile → Normalised
 normalised_file limit f = unless_heavy f (first_heavy f.goods limit (or_atoms_of f.bids))
 
 abbrev pub unless_fault : ℕ → List ℕ → Option ReadFault → Normalised
-unless_fault limit text None = normalised_file limit (file_said text)
+unless_fault limit text None = normalised_file limit (spelled_file text)
 unless_fault limit text (Some fault) = IsNoFile fault
 
 -- of a text: its first fault, and else the answer of the file that it spells
