@@ -15,7 +15,7 @@ pub record HasAtoms (a : PlainAuction) : Type 0 where
   pub xor_atoms : All (All (IsAtom a.goods)) a.xor_bidders
 
 pub on_bundles : (goods : ℕ) (atoms : List (Atom (List ℕ))) → All (IsAtom goods) atoms → All (IsOnBundle goods) atoms
-on_bundles goods atoms h = All-weaker (IsAtom goods) (IsOnBundle goods) (λ a p. record { nonempty = p.nonempty; bundle = (p.rising, p.below) }) atoms h
+on_bundles goods atoms h = All-weaker (IsAtom goods) (IsOnBundle goods) (λ a p. record { nonempty = p.nonempty; bundle = p.bundle }) atoms h
 
 -- points are atoms over the goods, with the table of all atoms
 pub or_points_atoms : (goods : ℕ) (atoms : List (Atom (List ℕ))) → All (IsAtom goods) atoms → All (IsAtom goods) (or_points goods atoms)

@@ -59,10 +59,10 @@ alike p q x xs y ys e rest = let first : cond {A = ℕ} (p x) 1 0 ≡ cond {A = 
 
 module _ (goods : ℕ) where
   -- the points of one more bidder
-  points_more : (bidder : List (Atom (List ℕ))) (bidders : List (List (Atom (List ℕ)))) → is_nonzero (xor_table bidder goods) ≡ true → points_of_bidders goods (bidder ∷ bidders) ≡ xor_points goods bidder ∷ points_of_bidders goods bidders
+  pub points_more : (bidder : List (Atom (List ℕ))) (bidders : List (List (Atom (List ℕ)))) → is_nonzero (xor_table bidder goods) ≡ true → points_of_bidders goods (bidder ∷ bidders) ≡ xor_points goods bidder ∷ points_of_bidders goods bidders
   points_more bidder bidders e = ap (map (xor_points goods)) (cond-true (is_nonzero (xor_table bidder goods)) (bidder ∷ filter (λ b. is_nonzero (xor_table b goods)) bidders) (filter (λ b. is_nonzero (xor_table b goods)) bidders) e)
 
-  points_without : (bidder : List (Atom (List ℕ))) (bidders : List (List (Atom (List ℕ)))) → is_nonzero (xor_table bidder goods) ≡ false → points_of_bidders goods (bidder ∷ bidders) ≡ points_of_bidders goods bidders
+  pub points_without : (bidder : List (Atom (List ℕ))) (bidders : List (List (Atom (List ℕ)))) → is_nonzero (xor_table bidder goods) ≡ false → points_of_bidders goods (bidder ∷ bidders) ≡ points_of_bidders goods bidders
   points_without bidder bidders e = ap (map (xor_points goods)) (cond-false (is_nonzero (xor_table bidder goods)) (bidder ∷ filter (λ b. is_nonzero (xor_table b goods)) bidders) (filter (λ b. is_nonzero (xor_table b goods)) bidders) e)
 
   -- ---- by table, the points of bidders are counted as the bidders are
@@ -110,7 +110,7 @@ module _ (goods : ℕ) where
   pub record IsPointsOf (points bidder : List (Atom (List ℕ))) : Type 0 where
     pub atoms : All (IsAtom goods) bidder
     pub nonzero : is_nonzero (xor_table bidder goods) ≡ true
-    pub points : points ≡ xor_points goods bidder
+    pub are : points ≡ xor_points goods bidder
 
   pub occurring : (points : List (Atom (List ℕ))) (bidders : List (List (Atom (List ℕ)))) → All (All (IsAtom goods)) bidders → 0 < count_of bidder_cmp points (points_of_bidders goods bidders) → (bidder : List (Atom (List ℕ))) × IsPointsOf points bidder
   occurring points [] h l = let none : count_of bidder_cmp points [] ≡ 0 = refl in absurd (omega arith)
@@ -120,7 +120,7 @@ module _ (goods : ℕ) where
       (λ (e : is_nonzero (xor_table bidder goods) ≡ true).
       ⊎_elim
       (λ (t : is_eq (bidder_cmp points (xor_points goods bidder)) ≡ true).
-      (bidder, record { atoms = All-head (All (IsAtom goods)) bidder bidders h; nonzero = e; points = bidder_cmp_equal points (xor_points goods bidder) (equal_from_test (bidder_cmp points (xor_points goods bidder)) t) }))
+      (bidder, record { atoms = All-head (All (IsAtom goods)) bidder bidders h; nonzero = e; are = bidder_cmp_equal points (xor_points goods bidder) (equal_from_test (bidder_cmp points (xor_points goods bidder)) t) }))
       (λ (t : is_eq (bidder_cmp points (xor_points goods bidder)) ≡ false).
       let same = ap (count_of bidder_cmp points) (points_more bidder bidders e) ∙ skips (λ p. is_eq (bidder_cmp points p)) (xor_points goods bidder) (points_of_bidders goods bidders) t in
       later (subst (λ n. 0 < n) same l))
@@ -134,8 +134,8 @@ module _ (goods : ℕ) where
       (λ (z : count_of bidder_cmp points (points_of_bidders goods one) ≡ 0). omega arith)
       (λ (l : 0 < count_of bidder_cmp points (points_of_bidders goods one)).
       let r = occurring points one h l in
-      let here = ap (λ (p : List (Atom (List ℕ))). count_of bidder_cmp p (points_of_bidders goods one)) r.1.points ∙ points_as_tables r.0 r.1.atoms r.1.nonzero one h in
-      let there = ap (λ (p : List (Atom (List ℕ))). count_of bidder_cmp p (points_of_bidders goods other)) r.1.points ∙ points_as_tables r.0 r.1.atoms r.1.nonzero other k in
+      let here = ap (λ (p : List (Atom (List ℕ))). count_of bidder_cmp p (points_of_bidders goods one)) r.1.are ∙ points_as_tables r.0 r.1.atoms r.1.nonzero one h in
+      let there = ap (λ (p : List (Atom (List ℕ))). count_of bidder_cmp p (points_of_bidders goods other)) r.1.are ∙ points_as_tables r.0 r.1.atoms r.1.nonzero other k in
       let tables = same (xor_table r.0 goods) r.1.nonzero in
       omega arith)
       (zero_or_more (count_of bidder_cmp points (points_of_bidders goods one)))

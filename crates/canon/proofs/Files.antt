@@ -100,7 +100,7 @@ below-into G [] h = tt
 below-into G (x ∷ xs) h = (h.0, below-into G xs h.1)
 
 IsBid-from : (G D : ℕ) (dummy : Option ℕ) (a : Atom (List ℕ)) → files.IsDummyBelow D dummy → IsAtom G a → IsBid G D (bid_from dummy a)
-IsBid-from G D dummy a d h = record { price = h.price; goods = h.nonempty; rising = rising-into a.bundle h.rising; below = below-into G a.bundle h.below; dummy = d }
+IsBid-from G D dummy a d h = record { price = h.price; goods = h.nonempty; rising = rising-into a.bundle h.bundle.0; below = below-into G a.bundle h.bundle.1; dummy = d }
 
 each_append : (P : PlainBid → Type 0) (xs ys : List PlainBid) → AllByRecursion P xs → AllByRecursion P ys → AllByRecursion P (xs ++ ys)
 each_append P [] ys h k = k

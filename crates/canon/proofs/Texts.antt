@@ -62,7 +62,7 @@ pub record IsNormalText (limit : ℕ) (text out : List ℕ) : Type 0 where
   pub file : PlainFile
   pub spelled : Spells text file
   pub light : first_heavy file.goods limit (or_atoms_of file.bids) ≡ None
-  pub out : out ≡ canonical_text file
+  pub is : out ≡ canonical_text file
 
 text_of_file : (limit : ℕ) (f : PlainFile) (out : List ℕ) → normalised_file limit f ≡ IsText out → (first_heavy f.goods limit (or_atoms_of f.bids) ≡ None) × (out ≡ canonical_text f)
 text_of_file limit f out = by (first_heavy f.goods limit (or_atoms_of f.bids)) refl
@@ -75,7 +75,7 @@ pub text_from_normalised : (limit : ℕ) (text out : List ℕ) → normalised li
 text_from_normalised limit text out = by (first_fault text) refl
   where
     by : (o : Option ReadFault) → first_fault text ≡ o → unless_fault limit text o ≡ IsText out → IsNormalText limit text out
-    by None e q = let r = text_of_file limit (spelled_file text) out q in record { file = spelled_file text; spelled = spells_from_no_fault text e; light = r.0; out = r.1 }
+    by None e q = let r = text_of_file limit (spelled_file text) out q in record { file = spelled_file text; spelled = spells_from_no_fault text e; light = r.0; is = r.1 }
     by (Some fault) e q = absurd (cc)
 
 -- the answer for a text that spells a file
@@ -85,7 +85,7 @@ normalised_spelled limit text f s =
 
 pub normalised_from_text : (limit : ℕ) (text out : List ℕ) → IsNormalText limit text out → normalised limit text ≡ IsText out
 normalised_from_text limit text out n =
-    normalised_spelled limit text n.file n.spelled ∙ ap (unless_heavy n.file) n.light ∙ ap IsText (sym n.out)
+    normalised_spelled limit text n.file n.spelled ∙ ap (unless_heavy n.file) n.light ∙ ap IsText (sym n.is)
 
 -- what normalising gives, normalised again
 pub normalised_again : (limit : ℕ) (text out : List ℕ) → IsNormalText limit text out → IsNormalText limit out out
@@ -96,9 +96,9 @@ normalised_again limit text out n =
     let ors : or_atoms_of (canonical_file f).bids ≡ or_points f.goods (or_atoms_of f.bids) = ap (λ (a : PlainAuction). a.or_atoms) (auction_from-file_from (canonical_auction (auction_from f))) in
     record {
       file = canonical_file f;
-      spelled = subst (λ (t : List ℕ). Spells t (canonical_file f)) (sym n.out) (laid_out.layout_spells (canonical_file f) (IsPlainFile-canonical f facts));
+      spelled = subst (λ (t : List ℕ). Spells t (canonical_file f)) (sym n.is) (laid_out.layout_spells (canonical_file f) (IsPlainFile-canonical f facts));
       light = ap (first_heavy f.goods limit) ors ∙ no_heavy_point f.goods limit (or_atoms_of f.bids) (on_bundles f.goods (or_atoms_of f.bids) atoms.or_atoms) n.light;
-      out = n.out ∙ ap layout (sym (canonical_file_is_fixed f facts));
+      is = n.is ∙ ap layout (sym (canonical_file_is_fixed f facts));
     }
 
 -- two outputs are equal exactly for texts of the same auction
@@ -108,7 +108,7 @@ equal_texts m n one other s t p q e = record {
   second = q.file;
   first_spelled = p.spelled;
   second_spelled = q.spelled;
-  same = same_from_text p.file q.file p.spelled.facts q.spelled.facts (sym p.out ∙ e ∙ q.out);
+  same = same_from_text p.file q.file p.spelled.facts q.spelled.facts (sym p.is ∙ e ∙ q.is);
 }
 
 pub texts_equal : (m n : ℕ) (one other s t : List ℕ) → IsNormalText m one s → IsNormalText n other t → AreSameTexts one other → s ≡ t
@@ -116,4 +116,4 @@ texts_equal m n one other s t p q same =
     let f = spells_one one same.first p.file same.first_spelled p.spelled in
     let g = spells_one other same.second q.file same.second_spelled q.spelled in
     let files : AreSameFiles p.file q.file = subst (λ (x : PlainFile). AreSameFiles x q.file) f (subst (λ (x : PlainFile). AreSameFiles same.first x) g same.same) in
-    p.out ∙ same_text p.file q.file p.spelled.facts q.spelled.facts files ∙ sym q.out
+    p.is ∙ same_text p.file q.file p.spelled.facts q.spelled.facts files ∙ sym q.is
