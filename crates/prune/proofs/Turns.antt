@@ -1,5 +1,5 @@
 -- The turns of a pruning's loop, by what the code knows of its variables.
-use Rattle.std.proofs.Common.{◌≡◌, ℕ, ◌<◌, ◌≤◌, Bool, true, ◌||◌, leb, ⊎_elim, List, [], ◌∷◌, ◌++◌, length, map, max, refl, sym, ap, ◌∙◌, subst, arith, append_assoc, append-nil, Bor, ltb, None}
+use Rattle.std.proofs.Common.{◌≡◌, ℕ, ◌<◌, ◌≤◌, Bool, true, ◌||◌, leb, ⊎_elim, List, [], ◌∷◌, ◌++◌, length, map, max, sym, ap, ◌∙◌, subst, arith, append_assoc, append-nil, Bor, ltb, None}
 use Rattle.std.specs.Prelude.{All, Contains}
 use Rattle.std.specs.List.{filter, list_any}
 use Rattle.std.proofs.lemmas.Bool.{cases_lt, le-leb, lt-leb, and_parts, ltb-true}
@@ -12,7 +12,8 @@ use Rattle.valuation.specs.Values.{atoms_of, xor_value}
 use Rattle.valuation.specs.XorLemmas.{xor_value-nil, xor_value-inside}
 use Rattle.prune.specs.Steps.{greatest_price, search_steps, steps_at_most, is_heavy, first_heavy}
 use Rattle.prune.specs.StepLemmas.{search_within_bound}
-use Rattle.prune.specs.Lists.{All-from_Contains}
+use Rattle.prune.specs.Lists.{list_any_filter}
+use Rattle.prune.specs.Listings.{covers, atoms_inside}
 use Rattle.prune.specs.Points.{IsOnBundle}
 use Rattle.prune.specs.BestBids.{AreBestBids}
 use Rattle.prune.proofs.BestBids.{seen_of}
@@ -22,7 +23,7 @@ use Rattle.prune.proofs.Results.{IsTurn, IsXorKept, IsOrKept, AreXorPoints, AreO
 -- ---- atoms of the code
 
 module _ {S : Type 0} (goods : S → List ℕ) (rising : (s : S) → IsRising (goods s)) where
-  pub all_rising : (atoms : List (Atom S)) → All HasRisingBundle (atoms_of goods atoms)
+  all_rising : (atoms : List (Atom S)) → All HasRisingBundle (atoms_of goods atoms)
   all_rising [] = All-nil HasRisingBundle
   all_rising (a ∷ rest) = All-cons HasRisingBundle (seen_of goods a) (atoms_of goods rest) (rising a.bundle) (all_rising rest)
 
@@ -42,12 +43,6 @@ taken {X} yielded all rest x e = ap (λ (zs : List X). yielded ++ zs) e ∙ sym 
 -- no bid is left
 pub none_left : {X : Type 0} (yielded all : List X) → all ≡ [] → yielded ++ all ≡ yielded
 none_left {X} yielded all e = ap (λ (zs : List X). yielded ++ zs) e ∙ append-nil yielded
-
-pub on_bundles : (goods : ℕ) (atoms : List (Atom (List ℕ))) → All HasRisingBundle atoms → All (IsAtom goods) atoms → All (IsOnBundle goods) atoms
-on_bundles goods atoms rising are =
-    All-from_Contains (IsOnBundle goods) atoms (λ a c.
-    let atom = All-contains (IsAtom goods) atoms a are c in
-    record { nonempty = atom.nonempty; bundle = atom.bundle })
 
 -- ---- the loop's end
 
@@ -79,15 +74,10 @@ price_reached price l bundle (a ∷ rest) h =
         (λ (p : price ≤ n). let t = le-leb price n p in let v = le-leb price (max m n) (omega arith) in simp (t, v))
         (cases_lt n price)
 
-any_seen : {S : Type 0} (goods : S → List ℕ) (price : ℕ) (atoms : List (Bor (Atom S))) → list_any (λ a. leb price a.now.price) atoms ≡ list_any (λ a. leb price a.price) (atoms_of goods (map (λ a. a.now) atoms))
-any_seen goods price [] = refl
-any_seen goods price (a ∷ rest) = ap (λ b. leb price a.now.price || b) (any_seen goods price rest)
-
 -- whether a kept atom inside the bundle has the price
-pub has_price_is : {S : Type 0} (goods : S → List ℕ) (price : ℕ) (bundle : List ℕ) (inside : List (Bor (Atom S))) (kept : List (Atom (List ℕ))) → 0 < price → atoms_of goods (map (λ a. a.now) inside) ≡ filter (λ a. is_inside a.bundle bundle) kept
-    → list_any (λ a. leb price a.now.price) inside ≡ leb price (xor_value (filter (λ a. is_inside a.bundle bundle) kept) bundle)
-has_price_is goods price bundle inside kept l e =
-    any_seen goods price inside ∙ ap (list_any (λ (a : Atom (List ℕ)). leb price a.price)) e ∙ price_reached price l bundle (filter (λ a. is_inside a.bundle bundle) kept) (filter_passes (λ a. is_inside a.bundle bundle) kept)
+pub covers_is : (price : ℕ) (bundle : List ℕ) (kept : List (Atom (List ℕ))) → 0 < price → list_any (covers bundle price) kept ≡ leb price (xor_value (atoms_inside kept bundle) bundle)
+covers_is price bundle kept l =
+    list_any_filter (λ (a : Atom (List ℕ)). leb price a.price) (λ (a : Atom (List ℕ)). is_inside a.bundle bundle) kept ∙ price_reached price l bundle (atoms_inside kept bundle) (filter_passes (λ a. is_inside a.bundle bundle) kept)
 
 -- the atoms inside the bundle ask for some goods, as all kept ones do
 pub nonempty_inside : {S : Type 0} (goods : S → List ℕ) (inside seen : List (Bor (Atom S))) (p : Atom (List ℕ) → Bool) (kept : List (Atom (List ℕ))) → seen ≡ inside → atoms_of goods (map (λ a. a.now) inside) ≡ filter p kept → All (λ a. 0 < length a.bundle) kept → All (λ a. 0 < length a.bundle) (atoms_of goods (map (λ a. a.now) seen))

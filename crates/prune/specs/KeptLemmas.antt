@@ -11,6 +11,7 @@ use Rattle.goods_set.specs.Bundles.{IsRising, IsBundle, has_good, is_inside, IsI
 use Rattle.goods_set.specs.Members.{has_head, has_tail, has_cases, inside_at, inside_from, inside_refl, inside_trans, inside_antisymm, apart_from, has_without_parts, without_inside, inside_without, IsBundle-without}
 use Rattle.goods_set.specs.Sizes.{without_all, length-without, inside_from_without, no_goods}
 use Rattle.valuation.specs.declared.atom.Atom.{Atom}
+use Rattle.valuation.specs.Auctions.{IsAtom}
 use Rattle.valuation.specs.Values.{xor_value, or_value}
 use Rattle.valuation.specs.ListLemmas.{Contains-cons_cases}
 use Rattle.valuation.specs.XorLemmas.{xor_value-grows}
@@ -21,6 +22,10 @@ use Rattle.prune.specs.Lists.{zero_or_more, list_all_fails, Contains-nil, Contai
 use Rattle.prune.specs.InOrder.{IsInOrder, same_bundle_same_atom, same_in_order}
 use Rattle.prune.specs.ValueLemmas.{xor_value-member, xor_value-bound, xor_value-outbid, xor_value-reached, xor_value-filter_on, or_value-outbid, or_value-filter_on}
 use Rattle.prune.specs.PointLemmas.{points_where-in_order, points_where-are, points_where-has, points_where-same, IsXorPoint, IsXorPoint-from_test, is_xor_point-true, IsPart, IsOrPoint, inside_below, IsOrPoint-from_test, is_or_point-true, no_or_point, xor_points_are, or_points_are}
+
+-- atoms over the goods are on bundles; their prices do not matter here
+pub on_bundles : (goods : ℕ) (atoms : List (Atom (List ℕ))) → All (IsAtom goods) atoms → All (IsOnBundle goods) atoms
+on_bundles goods atoms are = All-weaker (IsAtom goods) (IsOnBundle goods) (λ a i. record { nonempty = i.nonempty; bundle = i.bundle }) atoms are
 
 pub all_nonempty : (goods : ℕ) (atoms : List (Atom (List ℕ))) → All (IsOnBundle goods) atoms → All (λ a. 0 < length a.bundle) atoms
 all_nonempty goods atoms on = All-weaker (IsOnBundle goods) (λ a. 0 < length a.bundle) (λ a o. o.nonempty) atoms on

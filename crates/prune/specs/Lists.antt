@@ -1,8 +1,9 @@
 -- Lemmas on lists: which elements a list has, behind a filter too, and the first that passes a test.
-use Rattle.std.proofs.Common.{◌≡◌, ℕ, zero, suc, ◌<◌, Bool, true, false, cond, ◌⊎◌, inl, inr, ⊎_elim, List, [], ◌∷◌, map, refl, sym, ap, ap₂, ◌∙◌, subst, arith, Some, None}
+use Rattle.std.proofs.Common.{◌≡◌, ℕ, zero, suc, ◌<◌, Bool, true, false, cond, ◌&&◌, ◌||◌, ◌⊎◌, inl, inr, ⊎_elim, List, [], ◌∷◌, map, refl, sym, ap, ap₂, ◌∙◌, subst, arith, Some, None}
 use Rattle.std.specs.Prelude.{All, AllPairs, Contains}
 use Rattle.std.specs.List.{filter, find, list_all, list_any}
-use Rattle.std.proofs.lemmas.Bool.{cases_Bool, or_parts, and_parts, and_from, and_cases}
+use Rattle.std.proofs.Math.Bool.{and-true, and-false}
+use Rattle.std.proofs.lemmas.Bool.{cases_Bool, both_ways, true_from_ne_false, or_parts, and_parts, and_from, and_cases}
 use Rattle.std.proofs.lemmas.List.Elements.{All-nil, All-cons, All-head, All-tail, All-contains, Contains-append_right}
 use Rattle.valuation.specs.ListLemmas.{Contains-cons_cases, AllPairs-head, AllPairs-tail}
 
@@ -128,3 +129,18 @@ pub list_any_fails : {X : Type 0} (p : X → Bool) (xs : List X) → list_any p 
 list_any_fails p [] e x c = absurd (Contains-nil x c)
 list_any_fails p (y ∷ ys) e x c =
     ⊎_elim (λ (d : y ≡ x). ap p (sym d) ∙ (or_parts (p y) (list_any p ys) e).0) (λ (d : Contains ys x). list_any_fails p ys (or_parts (p y) (list_any p ys) e).1 x d) (Contains-cons_cases y ys x c)
+
+pub list_any_found : {X : Type 0} (p : X → Bool) (xs : List X) → list_any p xs ≡ true → (x : X) × Contains xs x × (p x ≡ true)
+list_any_found p [] e = absurd (cc)
+list_any_found p (y ∷ ys) e =
+    ⊎_elim (λ (t : p y ≡ true). (y, Contains-head y ys, t)) (λ (t : p y ≡ false). let r = list_any_found p ys (simp t at e) in (r.0, Contains-tail y ys r.0 r.1, r.2)) (cases_Bool (p y))
+
+pub list_any_has : {X : Type 0} (p : X → Bool) (xs : List X) (x : X) → Contains xs x → p x ≡ true → list_any p xs ≡ true
+list_any_has p xs x c t = true_from_ne_false (list_any p xs) (λ e. both_ways (p x) (list_any_fails p xs e x c) t)
+
+pub list_any_filter : {X : Type 0} (p q : X → Bool) (xs : List X) → list_any (λ x. p x && q x) xs ≡ list_any p (filter q xs)
+list_any_filter p q [] = refl
+list_any_filter p q (x ∷ xs) = elim (q x) as (λ b. ((p x && b) || list_any (λ x. p x && q x) xs) ≡ list_any p (cond b (x ∷ filter q xs) (filter q xs))) [
+  | true ↦ ap₂ (λ b c. b || c) (and-true (p x)) (list_any_filter p q xs)
+  | false ↦ ap (λ b. b || list_any (λ x. p x && q x) xs) (and-false (p x)) ∙ list_any_filter p q xs
+]

@@ -1,13 +1,16 @@
 //! The atoms that a pruning keeps, found by their goods.
-ghost use Rattle.std.specs.Prelude.{◌≡◌, ℕ, ◌+◌, ◌<◌, true, map, length, IfOk, OnOk, [], ◌∷◌, ◌++◌};
-ghost use Rattle.std.specs.List.{filter, range_with_len};
+ghost use Rattle.std.specs.Prelude.{◌≡◌, ℕ, ◌<◌, true, map, length, vec_len, IfOk, OnOk, [], ◌∷◌, ◌++◌};
+ghost use Rattle.std.specs.List.{filter, list_any, range_with_len};
 ghost use Rattle.goods_set.specs.Bundles.{has_good};
 ghost use Rattle.valuation.specs.Values.{atoms_of};
 ghost use Rattle.prune.specs.Listings.{
   lists_of,
-  listed_at,
+  places_at,
   is_inside_at,
+  covers_at,
   atoms_inside,
+  covers,
+  IsListing,
   AreListed,
 };
 
@@ -15,24 +18,37 @@ use goods_set::GoodsSet;
 use std::alloc::{AllocError, Global};
 use valuation::Atom;
 
+/// An atom as it is listed at a good, with what tells most atoms apart before their bundles are read.
+#[derive(Drop)]
+struct Listing {
+    /// The place of the atom.
+    place: usize,
+    /// The price of the atom.
+    price: u64,
+    /// A good of its bundle.
+    witness: u16,
+    /// Another good of its bundle, where it has so many.
+    second: u16,
+}
+
 /// Atoms, each listed at one of its goods, so that those inside a bundle are found through the bundle's goods.
 #[derive(Drop)]
 pub struct Kept<S> {
     /// The atoms, in the order in which they came.
     pub atoms: Vec<Atom<S>>,
-    /// For each good the places of the atoms that are listed there.
-    places_by_good: Vec<Vec<usize>>,
+    /// For each good the atoms that are listed there.
+    lists: Vec<Vec<Listing>>,
 }
 
 impl<S: GoodsSet> Kept<S> {
     /// No atoms.
     pub fn new(alloc: Global) -> Kept<S>
         ensures atoms { result.atoms.items ≡ [] }
-        ensures listed { AreListed (lists_of result.places_by_good.items) (atoms_of S.goods result.atoms.items) }
+        ensures listed { AreListed (lists_of result.lists.items) (atoms_of S.goods result.atoms.items) }
     {
         Kept {
             atoms: Vec::new(alloc),
-            places_by_good: Vec::new(alloc),
+            lists: Vec::new(alloc),
         }
     }
 
@@ -40,70 +56,94 @@ impl<S: GoodsSet> Kept<S> {
     pub fn into_atoms(self) -> Vec<Atom<S>>
         ensures { result ≡ self.atoms }
     {
-        let Kept {
-            atoms,
-            places_by_good: _,
-        } = self;
+        let Kept { atoms, lists: _ } = self;
         atoms
     }
 
     /// Adds an atom, and lists it at the good of its bundle at which the fewest are listed.
     pub fn push(&mut self, alloc: Global, atom: Atom<S>) -> Result<(), AllocError>
         requires some { 0 < length (S.goods atom.bundle) }
-        requires listed { AreListed (lists_of self.old.places_by_good.items) (atoms_of S.goods self.old.atoms.items) }
+        requires listed { AreListed (lists_of self.old.lists.items) (atoms_of S.goods self.old.atoms.items) }
         ensures atoms { OnOk result (self.new.atoms.items ≡ self.old.atoms.items ++ atom ∷ []) }
-        ensures listed { OnOk result (AreListed (lists_of self.new.places_by_good.items) (atoms_of S.goods self.new.atoms.items)) }
+        ensures listed { OnOk result (AreListed (lists_of self.new.lists.items) (atoms_of S.goods self.new.atoms.items)) }
     {
-        let good = usize::from(self.good_with_fewest(&atom.bundle));
-        let place = self.atoms.len();
-        while self.places_by_good.len() <= good {
-            self.places_by_good.push(Vec::new(alloc))?;
+        let (least, listing) = self.listing_of(&atom);
+        let good = usize::from(least);
+        while self.lists.len() <= good {
+            self.lists.push(Vec::new(alloc))?;
         }
-        self.places_by_good[good].push(place)?;
+        self.lists[good].push(listing)?;
         self.atoms.push(atom)?;
         Ok(())
     }
 
     /// How many atoms are listed at the good.
     fn count_at(&self, good: u16) -> usize {
-        match self.places_by_good.get(usize::from(good)) {
-            Some(places) => places.len(),
+        match self.lists.get(usize::from(good)) {
+            Some(list) => list.len(),
             None => 0,
         }
     }
 
-    /// The good of the bundle at which the fewest atoms are listed.
-    fn good_with_fewest(&self, bundle: &S) -> u16
-        requires { 0 < length (S.goods bundle.now) }
-        ensures { has_good (S.goods bundle.now) result ≡ true }
+    /// The good of the atom's bundle at which the fewest atoms are listed, and what is to be listed there.
+    fn listing_of(&self, atom: &Atom<S>) -> (u16, Listing)
+        requires { 0 < length (S.goods atom.now.bundle) }
+        ensures good { has_good (S.goods atom.now.bundle) result.0 ≡ true }
+        ensures place { result.1.place ≡ vec_len self.now.atoms }
+        ensures price { result.1.price ≡ atom.now.price }
+        ensures witness { has_good (S.goods atom.now.bundle) result.1.witness ≡ true }
+        ensures second { has_good (S.goods atom.now.bundle) result.1.second ≡ true }
     {
         let mut best = 0;
         let mut fewest = 0;
+        let mut listing = Listing {
+            place: self.atoms.len(),
+            price: atom.price,
+            witness: 0,
+            second: 0,
+        };
         let mut from = 0;
-        while let Some(good) = bundle.next_from(from) {
+        while let Some(good) = atom.bundle.next_from(from) {
             let count = self.count_at(good);
-            let is_first = from == 0;
-            if is_first || count < fewest {
+            if from == 0 {
+                listing.witness = good;
+                best = good;
+                fewest = count;
+            }
+            listing.second = listing.witness;
+            listing.witness = good;
+            if count < fewest {
+                listing.witness = best;
                 best = good;
                 fewest = count;
             }
             from = u32::from(good) + 1;
         }
-        best
+        (best, listing)
+    }
+
+    /// Whether the atom that is listed is inside the bundle.
+    fn is_inside(&self, listing: &Listing, bundle: &S) -> bool
+        requires { IsListing (atoms_of S.goods self.now.atoms.items) listing.now }
+        ensures { result ≡ is_inside_at (atoms_of S.goods self.now.atoms.items) (S.goods bundle.now) listing.now.place }
+    {
+        bundle.has(listing.witness)
+            && bundle.has(listing.second)
+            && self.atoms[listing.place].bundle.is_inside(bundle)
     }
 
     /// Adds to `found` the places of the atoms inside the bundle that are listed at the good.
     fn find_listed(&self, good: u16, bundle: &S, found: &mut Vec<usize>) -> Result<(), AllocError>
-        requires { AreListed (lists_of self.now.places_by_good.items) (atoms_of S.goods self.now.atoms.items) }
+        requires { AreListed (lists_of self.now.lists.items) (atoms_of S.goods self.now.atoms.items) }
         ensures { let inside = is_inside_at (atoms_of S.goods self.now.atoms.items) (S.goods bundle.now) in
-            let listed = listed_at (lists_of self.now.places_by_good.items) good in
+            let listed = places_at (lists_of self.now.lists.items) good in
             OnOk result (found.new.items ≡ found.old.items ++ filter inside listed) }
     {
         let good = usize::from(good);
-        if good < self.places_by_good.len() {
-            for place in &self.places_by_good[good] {
-                if self.atoms[*place].bundle.is_inside(bundle) {
-                    found.push(*place)?;
+        if good < self.lists.len() {
+            for listing in &self.lists[good] {
+                if self.is_inside(listing, bundle) {
+                    found.push(listing.place)?;
                 }
             }
         }
@@ -112,7 +152,7 @@ impl<S: GoodsSet> Kept<S> {
 
     /// The places of the atoms inside the bundle, rising.
     fn places_inside(&self, alloc: Global, bundle: &S) -> Result<Vec<usize>, AllocError>
-        requires { AreListed (lists_of self.now.places_by_good.items) (atoms_of S.goods self.now.atoms.items) }
+        requires { AreListed (lists_of self.now.lists.items) (atoms_of S.goods self.now.atoms.items) }
         ensures { let inside = is_inside_at (atoms_of S.goods self.now.atoms.items) (S.goods bundle.now) in
             let all = range_with_len 0 (length self.now.atoms.items) in
             IfOk result (λ places. places.items ≡ filter inside all) }
@@ -124,13 +164,12 @@ impl<S: GoodsSet> Kept<S> {
             from = u32::from(good) + 1;
         }
         found.sort_unstable();
-        found.dedup();
         Ok(found)
     }
 
     /// The atoms inside the bundle, in the order in which they came.
     pub fn inside(&self, alloc: Global, bundle: &S) -> Result<Vec<&Atom<S>>, AllocError>
-        requires { AreListed (lists_of self.now.places_by_good.items) (atoms_of S.goods self.now.atoms.items) }
+        requires { AreListed (lists_of self.now.lists.items) (atoms_of S.goods self.now.atoms.items) }
         ensures { let atoms = atoms_of S.goods self.now.atoms.items in
             IfOk result (λ inside. atoms_of S.goods (map (λ a. a.now) inside.items)
             ≡ atoms_inside atoms (S.goods bundle.now)) }
@@ -141,5 +180,37 @@ impl<S: GoodsSet> Kept<S> {
             inside.push(&self.atoms[*place])?;
         }
         Ok(inside)
+    }
+
+    /// Whether an atom inside the bundle that is listed at the good has at least the price.
+    fn has_listed(&self, good: u16, bundle: &S, price: u64) -> bool
+        requires { AreListed (lists_of self.now.lists.items) (atoms_of S.goods self.now.atoms.items) }
+        ensures { let covering = covers_at (atoms_of S.goods self.now.atoms.items) (S.goods bundle.now) price in
+            result ≡ list_any covering (places_at (lists_of self.now.lists.items) good) }
+    {
+        let good = usize::from(good);
+        if good < self.lists.len() {
+            for listing in &self.lists[good] {
+                if price <= listing.price && self.is_inside(listing, bundle) {
+                    return true;
+                }
+            }
+        }
+        false
+    }
+
+    /// Whether an atom inside the bundle has at least the price.
+    pub fn has_inside(&self, bundle: &S, price: u64) -> bool
+        requires { AreListed (lists_of self.now.lists.items) (atoms_of S.goods self.now.atoms.items) }
+        ensures { result ≡ list_any (covers (S.goods bundle.now) price) (atoms_of S.goods self.now.atoms.items) }
+    {
+        let mut from = 0;
+        while let Some(good) = bundle.next_from(from) {
+            if self.has_listed(good, bundle, price) {
+                return true;
+            }
+            from = u32::from(good) + 1;
+        }
+        false
     }
 }

@@ -91,6 +91,7 @@ fn xor_points<S: GoodsSet>(rt: &impl Abort, alloc: Global) -> Result<(), Fail> {
     expect_xor::<S>(rt, alloc, &[(&[0, 1], 5), (&[0], 5)], &[(&[0], 5)])?;
     expect_xor::<S>(rt, alloc, &[(&[0], 3), (&[0], 5)], &[(&[0], 5)])?;
     expect_xor::<S>(rt, alloc, &[(&[0], 5), (&[0], 3)], &[(&[0], 5)])?;
+    expect_xor::<S>(rt, alloc, &[(&[0], 5), (&[0], 5)], &[(&[0], 5)])?;
     let equal: [(&[u16], u64); 3] = [(&[0, 1], 1), (&[1], 1), (&[0], 1)];
     expect_xor::<S>(rt, alloc, &equal, &[(&[0], 1), (&[1], 1)])?;
     let long: [(&[u16], u64); 3] = [(&[0, 1, 2], 2), (&[0, 1], 2), (&[0], 1)];

@@ -1,37 +1,16 @@
 //! Pruning the bids of an XOR bidder.
-ghost use Rattle.std.specs.Prelude.{◌≡◌, ℕ, ◌<◌, ◌≤◌, nat_le, List, All, Contains, IfOk, vec_len};
-ghost use Rattle.std.specs.List.{list_any};
+ghost use Rattle.std.specs.Prelude.{◌≡◌, ℕ, ◌≤◌, List, All, Contains, IfOk, vec_len};
 ghost use Rattle.cats_text.specs.declared.limits.TheConstants.{MAX_GOODS};
 ghost use Rattle.valuation.specs.Auctions.{IsAtom};
 ghost use Rattle.valuation.specs.Values.{atoms_of, xor_value};
 ghost use Rattle.prune.specs.InOrder.{IsInOrder};
 ghost use Rattle.prune.specs.Points.{xor_points};
-ghost use Rattle.prune.specs.Listings.{lists_of, atoms_inside, AreListed};
 
 use crate::best::keep_best_bids;
 use crate::kept::Kept;
 use goods_set::GoodsSet;
 use std::alloc::{AllocError, Global};
 use valuation::Atom;
-
-/// Whether an atom has at least this price.
-fn has_price<S>(atoms: &[&Atom<S>], price: u64) -> bool
-    ensures { result ≡ list_any (λ a. nat_le price a.now.price) atoms.now }
-{
-    atoms.iter().any(|atom| price <= atom.price)
-}
-
-/// Whether a kept atom inside the bid's bundle has at least its price.
-fn is_outbid<S: GoodsSet>(alloc: Global, kept: &Kept<S>, bid: &Atom<S>) -> Result<bool, AllocError>
-    requires positive { 0 < bid.now.price }
-    requires listed { AreListed (lists_of kept.now.places_by_good.items) (atoms_of S.goods kept.now.atoms.items) }
-    ensures { let bundle = S.goods bid.now.bundle in
-        let inside = atoms_inside (atoms_of S.goods kept.now.atoms.items) bundle in
-        IfOk result (λ outbid. outbid ≡ nat_le bid.now.price (xor_value inside bundle)) }
-{
-    let inside = kept.inside(alloc, &bid.bundle)?;
-    Ok(has_price(&inside, bid.price))
-}
 
 /// The bids that the bidder's values alone ask for, in order: a bid stays where no kept bid inside its bundle has its price.
 pub fn prune_xor<S: GoodsSet>(
@@ -54,7 +33,7 @@ pub fn prune_xor<S: GoodsSet>(
     keep_best_bids(&mut atoms);
     let mut kept = Kept::new(alloc);
     for bid in atoms {
-        if !is_outbid(alloc, &kept, &bid)? {
+        if !kept.has_inside(&bid.bundle, bid.price) {
             kept.push(alloc, bid)?;
         }
     }

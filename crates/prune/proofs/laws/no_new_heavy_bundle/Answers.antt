@@ -1,5 +1,6 @@
+use Rattle.prune.specs.KeptLemmas.{on_bundles}
 use Rattle.prune.specs.StepLemmas.{no_new_heavy}
 use Rattle.prune.proofs.laws.no_new_heavy_bundle.Goals as goal
 
 pub returns : goal.returns
-returns c = no_new_heavy
+returns c = λ goods limit atoms are. no_new_heavy goods limit atoms (on_bundles goods atoms are)

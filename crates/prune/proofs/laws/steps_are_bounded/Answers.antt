@@ -1,5 +1,6 @@
+use Rattle.prune.specs.KeptLemmas.{on_bundles}
 use Rattle.prune.specs.StepLemmas.{search_within_packings, search_within_bound}
 use Rattle.prune.proofs.laws.steps_are_bounded.Goals as goal
 
 pub returns : goal.returns
-returns c = record { cut = search_within_packings; load = search_within_bound }
+returns c = record { cut = search_within_packings; load = λ goods atoms are. search_within_bound goods atoms (on_bundles goods atoms are) }

@@ -7,7 +7,8 @@ use Rattle.valuation.specs.Auctions.{IsAtom}
 use Rattle.valuation.specs.Values.{atoms_of}
 use Rattle.prune.proofs.BestBids.{seen_of}
 use Rattle.prune.proofs.Results.{turn_among, or_reached, or_missed, within_reached, within_missed, heavy_found}
-use Rattle.prune.proofs.Turns.{all_rising, next_turn, taken, or_end, on_bundles, kept_nonempty, all_some, none_heavy_end, heavy_load}
+use Rattle.prune.specs.KeptLemmas.{on_bundles}
+use Rattle.prune.proofs.Turns.{next_turn, taken, or_end, kept_nonempty, all_some, none_heavy_end, heavy_load}
 use Rattle.prune.proofs.or.prune_or.Goals as goal
 
 pub is_outbid-requires-clause-some : goal.is_outbid-requires-clause-some
@@ -83,7 +84,7 @@ returns-in-Err-StepLimit-clause-step_limit g c =
     let step = c.in-Some.ensures.steps.0 in
     let turn = next_turn goods (λ s. (g.met.S.GoodsSet.is_bundle s).0) bids yielded _ _ bid h.best step in
     λ n are.
-    (heavy_found n c.args.limit bids _ _ _ (atoms_of goods kept) (on_bundles n bids (all_rising goods (λ s. (g.met.S.GoodsSet.is_bundle s).0) c.args.atoms.items) are) turn h.kept h.within (c.in-Err-StepLimit.ensures.step_limit (ap Err c.in-Err-StepLimit.field-0-is))).0
+    (heavy_found n c.args.limit bids _ _ _ (atoms_of goods kept) (on_bundles n bids are) turn h.kept h.within (c.in-Err-StepLimit.ensures.step_limit (ap Err c.in-Err-StepLimit.field-0-is))).0
 
 pub returns-in-Err-StepLimit-clause-load : goal.returns-in-Err-StepLimit-clause-load
 returns-in-Err-StepLimit-clause-load g c =
@@ -95,7 +96,7 @@ returns-in-Err-StepLimit-clause-load g c =
     let kept = c.loop-bid.kept.atoms.items in
     let step = c.in-Some.ensures.steps.0 in
     let turn = next_turn goods (λ s. (g.met.S.GoodsSet.is_bundle s).0) bids yielded _ _ bid h.best step in
-    let on = on_bundles MAX_GOODS bids (all_rising goods (λ s. (g.met.S.GoodsSet.is_bundle s).0) c.args.atoms.items) c.requires in
+    let on = on_bundles MAX_GOODS bids c.requires in
     heavy_load MAX_GOODS c.args.limit bids _ on
     (heavy_found MAX_GOODS c.args.limit bids _ _ _ (atoms_of goods kept) on turn h.kept h.within (c.in-Err-StepLimit.ensures.step_limit (ap Err c.in-Err-StepLimit.field-0-is))).1
 
@@ -105,7 +106,7 @@ returns-clause-points g c =
     let bids = atoms_of goods c.args.atoms.items in
     let none : into_iter_items c.loop-bid.bid-iterator ≡ [] = nil_from_length (into_iter_items c.loop-bid.bid-iterator) (omega (arith, c.in-None.ensures.steps.0, c.loop-bid.bid-iterator.rest.ok.0)) in
     let done = or_end goods bids c.loop-bid.yielded _ c.loop-bid.kept.atoms.items _ (all_some MAX_GOODS bids c.requires) c.loop-bid.invariant.best c.loop-bid.invariant.kept none (ap (λ v. v.items) c.into_atoms.ensures) in
-    λ n are. done.points n (on_bundles n bids (all_rising goods (λ s. (g.met.S.GoodsSet.is_bundle s).0) c.args.atoms.items) are)
+    λ n are. done.points n (on_bundles n bids are)
 
 pub returns-clause-none_heavy : goal.returns-clause-none_heavy
 returns-clause-none_heavy g c =
@@ -113,7 +114,7 @@ returns-clause-none_heavy g c =
     let bids = atoms_of goods c.args.atoms.items in
     let none : into_iter_items c.loop-bid.bid-iterator ≡ [] = nil_from_length (into_iter_items c.loop-bid.bid-iterator) (omega (arith, c.in-None.ensures.steps.0, c.loop-bid.bid-iterator.rest.ok.0)) in
     λ n are.
-    none_heavy_end goods n c.args.limit bids c.loop-bid.yielded _ c.loop-bid.kept.atoms.items (on_bundles n bids (all_rising goods (λ s. (g.met.S.GoodsSet.is_bundle s).0) c.args.atoms.items) are)
+    none_heavy_end goods n c.args.limit bids c.loop-bid.yielded _ c.loop-bid.kept.atoms.items (on_bundles n bids are)
     c.loop-bid.invariant.best c.loop-bid.invariant.kept c.loop-bid.invariant.within none
 
 pub returns-clause-values : goal.returns-clause-values

@@ -7,15 +7,9 @@ use Rattle.valuation.specs.Auctions.{IsAtom}
 use Rattle.valuation.specs.Values.{atoms_of}
 use Rattle.prune.proofs.BestBids.{seen_of}
 use Rattle.prune.proofs.Results.{turn_positive, turn_among, xor_reached, xor_missed}
-use Rattle.prune.specs.KeptLemmas.{just_bundles}
-use Rattle.prune.proofs.Turns.{xor_end, all_rising, next_turn, taken, on_bundles}
+use Rattle.prune.specs.KeptLemmas.{on_bundles, just_bundles}
+use Rattle.prune.proofs.Turns.{xor_end, next_turn, taken, covers_is}
 use Rattle.prune.proofs.xor.prune_xor.Goals as goal
-
-pub is_outbid-requires-clause-positive : goal.is_outbid-requires-clause-positive
-is_outbid-requires-clause-positive g c =
-    let goods = g.S.GoodsSet.goods in
-    let turn = next_turn goods (λ s. (g.met.S.GoodsSet.is_bundle s).0) _ c.loop-bid.yielded _ _ c.in-Some.bid c.loop-bid.invariant.best c.in-Some.ensures.steps.0 in
-    turn_positive _ _ _ _ turn
 
 pub push-requires-clause-some : goal.push-requires-clause-some
 push-requires-clause-some g c =
@@ -23,8 +17,8 @@ push-requires-clause-some g c =
     let turn = next_turn goods (λ s. (g.met.S.GoodsSet.is_bundle s).0) _ c.loop-bid.yielded _ _ c.in-Some.bid c.loop-bid.invariant.best c.in-Some.ensures.steps.0 in
     (All-contains (IsAtom MAX_GOODS) (atoms_of goods c.args.atoms.items) _ c.requires (turn_among _ _ _ _ turn)).nonempty
 
-pub loop-bid-preserved-in_ok-push : goal.loop-bid-preserved-in_ok-push
-loop-bid-preserved-in_ok-push g c =
+pub loop-bid-preserved-in-Continue-1 : goal.loop-bid-preserved-in-Continue-1
+loop-bid-preserved-in-Continue-1 g c =
     let goods = g.S.GoodsSet.goods in
     let h = c.loop-bid.invariant in
     let bids = atoms_of goods c.args.atoms.items in
@@ -33,7 +27,8 @@ loop-bid-preserved-in_ok-push g c =
     let kept = c.loop-bid.kept.atoms.items in
     let step = c.in-Some.ensures.steps.0 in
     let turn = next_turn goods (λ s. (g.met.S.GoodsSet.is_bundle s).0) bids yielded _ _ bid h.best step in
-    let missed = xor_missed _ _ _ _ (atoms_of goods kept) turn h.kept (sym c.if-not-branch.true ∙ c.in_ok-is_outbid.ensures) in
+    let asked = covers_is bid.price (goods bid.bundle) (atoms_of goods kept) (turn_positive _ _ _ _ turn) in
+    let missed = xor_missed _ _ _ _ (atoms_of goods kept) turn h.kept (sym c.if-not-has_inside.true ∙ c.has_inside.ensures ∙ asked) in
     let joined = taken yielded _ _ bid step in
     record {
       best = rw joined at h.best;
@@ -52,7 +47,8 @@ loop-bid-preserved g c =
     let bid = c.in-Some.bid in
     let step = c.in-Some.ensures.steps.0 in
     let turn = next_turn goods (λ s. (g.met.S.GoodsSet.is_bundle s).0) bids yielded _ _ bid h.best step in
-    let reached = xor_reached _ _ _ _ (atoms_of goods c.loop-bid.kept.atoms.items) turn h.kept (sym c.if-not-branch.false ∙ c.in_ok-is_outbid.ensures) in
+    let asked = covers_is bid.price (goods bid.bundle) (atoms_of goods c.loop-bid.kept.atoms.items) (turn_positive _ _ _ _ turn) in
+    let reached = xor_reached _ _ _ _ (atoms_of goods c.loop-bid.kept.atoms.items) turn h.kept (sym c.if-not-has_inside.false ∙ c.has_inside.ensures ∙ asked) in
     let joined = taken yielded _ _ bid step in
     record {
       best = rw joined at h.best;
@@ -68,7 +64,7 @@ returns-clause-points g c =
     let bids = atoms_of goods c.args.atoms.items in
     let none : into_iter_items c.loop-bid.bid-iterator ≡ [] = nil_from_length (into_iter_items c.loop-bid.bid-iterator) (omega (arith, c.in-None.ensures.steps.0, c.loop-bid.bid-iterator.rest.ok.0)) in
     let done = xor_end goods bids c.loop-bid.yielded _ c.loop-bid.kept.atoms.items _ c.loop-bid.invariant.best c.loop-bid.invariant.kept none (ap (λ v. v.items) c.into_atoms.ensures) in
-    λ n are. done.points n (just_bundles n bids (on_bundles n bids (all_rising goods (λ s. (g.met.S.GoodsSet.is_bundle s).0) c.args.atoms.items) are))
+    λ n are. done.points n (just_bundles n bids (on_bundles n bids are))
 
 pub returns-clause-values : goal.returns-clause-values
 returns-clause-values g c =

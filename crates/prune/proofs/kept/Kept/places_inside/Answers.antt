@@ -1,5 +1,4 @@
 use Rattle.std.proofs.Common.{arith, sym, ap, ◌∙◌}
-use Rattle.std.proofs.lemmas.List.Filters.{dedup_is}
 use Rattle.std.specs.List.{filter, range_with_len}
 use Rattle.valuation.specs.Values.{atoms_of}
 use Rattle.valuation.specs.AtomLemmas.{length-atoms_of}
@@ -23,6 +22,6 @@ pub returns : goal.returns
 returns g c =
     let goods = g.S.GoodsSet.goods in
     let atoms = c.args.self.now.atoms.items in
-    IsFinding-all (lists_of c.args.self.now.places_by_good.items) (atoms_of goods atoms) (goods c.args.bundle.now) c.loop-good.from _ _ _ c.requires (sym c.in_default.ensures) c.loop-good.invariant
-    c.sort_unstable.ensures.permutation c.sort_unstable.ensures.sorted (dedup_is _ _ _ c.dedup.ensures.filtered)
+    IsFinding-all (lists_of c.args.self.now.lists.items) (atoms_of goods atoms) (goods c.args.bundle.now) c.loop-good.from _ _ c.requires (sym c.in_default.ensures) c.loop-good.invariant
+    c.sort_unstable.ensures.permutation c.sort_unstable.ensures.sorted
     ∙ ap (λ n. filter (is_inside_at (atoms_of goods atoms) (goods c.args.bundle.now)) (range_with_len 0 n)) (length-atoms_of goods atoms)

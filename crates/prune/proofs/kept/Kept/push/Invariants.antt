@@ -6,8 +6,8 @@ use Rattle.prune.proofs.kept.Kept.push.Given as goal
 abbrev pub invariant-loop-alloc : goal.invariant-loop-alloc
 invariant-loop-alloc g l = record {
   atoms : l.self.atoms ≡ l.fn.self.atoms;
-  lists : (k : ℕ) → listed_at (lists_of l.self.places_by_good.items) k ≡ listed_at (lists_of l.fn.self.places_by_good.items) k;
+  lists : (k : ℕ) → listed_at (lists_of l.self.lists.items) k ≡ listed_at (lists_of l.fn.self.lists.items) k;
 }
 
 abbrev pub decreases-loop-alloc : goal.decreases-loop-alloc
-decreases-loop-alloc g l = l.good + 1 - vec_len l.self.places_by_good
+decreases-loop-alloc g l = l.good + 1 - vec_len l.self.lists
