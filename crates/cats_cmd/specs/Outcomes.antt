@@ -6,7 +6,6 @@ use Rattle.valuation.specs.Auctions.{or_atoms_of}
 use Rattle.valuation.specs.Packings.{count_packings}
 use Rattle.cats_cmd.specs.Outputs.{check_text}
 use Rattle.cats_cmd.specs.ValueTexts.{bundle_from, value_text}
-use Rattle.cats_cmd.specs.declared.report.TheConstants.{DONE}
 
 pub data Outcome : Type 0 where
   -- this status, and this text on the output
@@ -18,11 +17,11 @@ pub data Outcome : Type 0 where
 
 -- of `cats check`
 abbrev pub check_outcome : PlainFile → Outcome
-check_outcome file = Tells DONE (check_text file)
+check_outcome file = Tells 0 (check_text file)
 
 -- of `cats show`
 abbrev pub show_outcome : PlainFile → Outcome
-show_outcome file = Tells DONE (layout file)
+show_outcome file = Tells 0 (layout file)
 
 -- the first of the goods that a file with so many does not have
 abbrev pub missing_good : ℕ → List ℕ → Option ℕ
@@ -35,7 +34,7 @@ outcome_unless (Some good) outcome = LacksGood good
 -- the values of the bundle, unless it has more packings than the limit
 abbrev pub values_within : ℕ → List ℕ → PlainFile → Outcome
 values_within limit bundle file =
-    if nat_lt limit (count_packings (or_atoms_of file.bids) bundle) then ExceedsSteps bundle else Tells DONE (value_text file bundle)
+    if nat_lt limit (count_packings (or_atoms_of file.bids) bundle) then ExceedsSteps bundle else Tells 0 (value_text file bundle)
 
 -- of `cats value` on these goods
 abbrev pub value_outcome : List ℕ → ℕ → PlainFile → Outcome

@@ -1,10 +1,8 @@
 //! What the runs share: reading a file, telling why it was refused, and sending a text.
 
-ghost use Rattle.std.specs.Prelude.{◌≡◌, ℕ, List, false};
-ghost use Rattle.std.specs.Io.KnownBytes.{Consumes};
-ghost use Rattle.cats_text.specs.Streams.{has_ended, has_failed, inner_of};
-ghost use Rattle.cats_text.specs.Views.{plain_file};
-ghost use Rattle.cats_cmd.specs.Runs.{ReadsOrRefuses, SendsAs, refusal_of};
+ghost use Rattle.std.specs.Prelude.{◌≡◌, false};
+ghost use Rattle.cats_text.specs.Streams.{has_ended, has_failed};
+ghost use Rattle.cats_cmd.specs.Runs.{ReadsInput, SendsAs, refusal_of};
 
 use crate::canon_fault::CanonFault;
 use crate::report::RunFault;
@@ -19,8 +17,7 @@ pub(crate) fn read_file<R: Read>(
 ) -> Result<BidFile, CanonFault>
     requires works { has_failed input.old ≡ false }
     requires fresh { has_ended input.old ≡ false }
-    ensures { (bytes : List ℕ) × Consumes (R.remaining (inner_of input.old)) (R.remaining (inner_of input.new)) bytes
-        × ReadsOrRefuses R.remaining bytes input.new result }
+    ensures { ReadsInput R.remaining input.old input.new result }
 {
     match read_from(alloc, input) {
         Ok(file) => Ok(file),

@@ -1,10 +1,9 @@
 //! `cats show`: a bid file in the one layout that is written.
 
-ghost use Rattle.std.specs.Prelude.{◌≡◌, ℕ, List, false};
-ghost use Rattle.std.specs.Io.KnownBytes.{Consumes};
-ghost use Rattle.cats_text.specs.Streams.{has_ended, has_failed, inner_of};
+ghost use Rattle.std.specs.Prelude.{◌≡◌, false};
+ghost use Rattle.cats_text.specs.Streams.{has_ended, has_failed};
 ghost use Rattle.cats_cmd.specs.Outcomes.{show_outcome};
-ghost use Rattle.cats_cmd.specs.Runs.{RunsAs};
+ghost use Rattle.cats_cmd.specs.Runs.{RunsOnFile};
 
 use crate::report::{DONE, RunFault};
 use crate::run::{read_file, send_text};
@@ -21,8 +20,7 @@ pub fn run_show<R: Read, W: Write>(
     requires input_works { has_failed input.old ≡ false }
     requires input_fresh { has_ended input.old ≡ false }
     requires out_works { has_failed out.old ≡ false }
-    ensures { (bytes : List ℕ) × Consumes (R.remaining (inner_of input.old)) (R.remaining (inner_of input.new)) bytes
-        × RunsAs R.remaining W.contents show_outcome bytes input.new out.old out.new result }
+    ensures { RunsOnFile R.remaining W.contents show_outcome input.old input.new out.old out.new result }
 {
     let file = read_file(alloc, input)?;
     let text = write(alloc, &file)?;

@@ -4,14 +4,13 @@ mod bundles;
 mod lines;
 mod numbers;
 
-ghost use Rattle.std.specs.Prelude.{◌≡◌, ◌≤◌, ℕ, List, None, false};
-ghost use Rattle.std.specs.Io.KnownBytes.{Consumes};
-ghost use Rattle.cats_text.specs.Streams.{has_ended, has_failed, inner_of};
+ghost use Rattle.std.specs.Prelude.{◌≡◌, ◌≤◌, None, false};
+ghost use Rattle.cats_text.specs.Streams.{has_ended, has_failed};
 ghost use Rattle.cats_text.specs.Views.{plain_file};
 ghost use Rattle.cats_text.specs.declared.limits.TheConstants.{MAX_GOODS};
 ghost use Rattle.valuation.specs.Views.{plain_auction};
 ghost use Rattle.cats_cmd.specs.Outcomes.{missing_good, value_outcome, values_within};
-ghost use Rattle.cats_cmd.specs.Runs.{MakesAs, RunsAs};
+ghost use Rattle.cats_cmd.specs.Runs.{MakesAs, RunsOnFile};
 ghost use Rattle.cats_cmd.specs.Searches.{SearchesAs};
 ghost use Rattle.cats_cmd.specs.ValueTexts.{bundle_from};
 
@@ -41,8 +40,7 @@ pub fn run_value<R: Read, W: Write>(
     requires input_works { has_failed input.old ≡ false }
     requires input_fresh { has_ended input.old ≡ false }
     requires out_works { has_failed out.old ≡ false }
-    ensures { (bytes : List ℕ) × Consumes (R.remaining (inner_of input.old)) (R.remaining (inner_of input.new)) bytes
-        × RunsAs R.remaining W.contents (value_outcome goods.now limit) bytes input.new out.old out.new result }
+    ensures { RunsOnFile R.remaining W.contents (value_outcome goods.now limit) input.old input.new out.old out.new result }
 {
     let file = read_file(alloc, input)?;
     if let Some(good) = first_missing(goods, file.goods()) {

@@ -1,15 +1,16 @@
 //! Worked examples of what the runs print, computed by the prover.
 
-ghost use Rattle.std.specs.Prelude.{◌≡◌, ℕ, List, [], ◌∷◌, map, codes};
+ghost use Rattle.std.specs.Prelude.{◌≡◌, ℕ, List, [], ◌∷◌, map, codes, Vec};
+ghost use Rattle.std.specs.Global.{Global};
 ghost use Rattle.cats_text.specs.declared.fault.Kind.TheVariants.{TwoDummies, NoEnd, TooLong, Device, Memory as NoMemory};
 ghost use Rattle.cats_cmd.specs.Examples.{larger_bid, xor_ladder};
-ghost use Rattle.cats_cmd.specs.Outcomes.{LacksGood, ExceedsSteps, Tells, value_outcome};
+ghost use Rattle.cats_cmd.specs.Outcomes.{LacksGood, ExceedsSteps, Tells, check_outcome, show_outcome, value_outcome};
 ghost use Rattle.cats_cmd.specs.Outputs.{bundle_text, sizes_text};
 ghost use Rattle.cats_cmd.specs.ValueTexts.{bundle_from};
 ghost use Rattle.cats_cmd.specs.FaultLines.{line_of_fault};
 ghost use Rattle.cats_cmd.specs.Statuses.{status_of_fault};
 ghost use Rattle.cats_cmd.specs.declared.which.Which.TheVariants.{Only, First, Second, Both};
-ghost use Rattle.cats_cmd.specs.declared.canon_fault.CanonFault.TheVariants.{Read, Memory};
+ghost use Rattle.cats_cmd.specs.declared.canon_fault.CanonFault.TheVariants.{Read, StepLimit, Memory};
 ghost use Rattle.cats_cmd.specs.declared.report.RunFault.TheVariants.{Refused, GoodRange, Sent};
 
 /// How faults are told.
@@ -34,14 +35,24 @@ pub fn fault_statuses()
         2 ∷ 2 ∷ 5 ∷ 4 ∷ 4 ∷ 64 ∷ 5 ∷ [] }
 {}
 
+/// How a step limit is told, whatever vector holds the goods, and its status.
+pub fn step_limits()
+    ensures bundle { (goods : Vec ℕ Global) → goods.items ≡ 0 ∷ 1 ∷ 2 ∷ [] → line_of_fault (Refused Only (StepLimit goods)) ≡ codes "step limit at 0,1,2\n" }
+    ensures no_goods { (goods : Vec ℕ Global) → goods.items ≡ [] → line_of_fault (Refused Only (StepLimit goods)) ≡ codes "step limit at \n" }
+    ensures first_file { (goods : Vec ℕ Global) → goods.items ≡ 4095 ∷ [] → line_of_fault (Refused First (StepLimit goods)) ≡ codes "first: step limit at 4095\n" }
+    ensures status { (goods : Vec ℕ Global) → status_of_fault (Refused Only (StepLimit goods)) ≡ 3 }
+{}
+
 /// Bundles as they are printed.
 pub fn bundles()
     ensures { map bundle_text ((0 ∷ 1 ∷ 2 ∷ []) ∷ (4095 ∷ []) ∷ [] ∷ []) ≡ codes "0,1,2" ∷ codes "4095" ∷ [] ∷ [] }
 {}
 
-/// What `cats check` prints of 3 goods, 2 bids and 1 dummy good.
-pub fn sizes()
-    ensures { sizes_text 3 2 1 ≡ codes "goods 3 bids 2 dummy 1\n" }
+/// What `cats check` and `cats show` make of files.
+pub fn sizes_and_layouts()
+    ensures sizes { sizes_text 3 2 1 ≡ codes "goods 3 bids 2 dummy 1\n" }
+    ensures check { check_outcome xor_ladder ≡ Tells 0 (codes "goods 2 bids 3 dummy 1\n") }
+    ensures show { show_outcome xor_ladder ≡ Tells 0 (codes "goods 2\nbids 3\ndummy 1\n0\t5\t0\t2\t#\n1\t1.5\t1\t#\n2\t6\t0\t1\t2\t#\n") }
 {}
 
 /// What `cats value` makes of two files.

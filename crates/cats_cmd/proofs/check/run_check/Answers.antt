@@ -1,17 +1,14 @@
-use Rattle.std.proofs.Common.{sym, ap, ◌∙◌, Err}
-use Rattle.std.proofs.lemmas.Result.{err_from_is_err_and}
+use Rattle.std.proofs.Common.{sym, ap, ◌∙◌}
 use Rattle.cats_cmd.specs.Outcomes.{check_outcome, Tells}
-use Rattle.cats_cmd.specs.declared.report.TheConstants.{DONE}
-use Rattle.cats_cmd.proofs.Tellings.{runs_without_memory, runs_by_sending}
+use Rattle.cats_cmd.specs.declared.canon_fault.CanonFault.TheVariants.{Memory}
+use Rattle.cats_cmd.proofs.Tellings.{run_unread, run_unmade, run_told}
 use Rattle.cats_cmd.proofs.check.run_check.Goals as goal
 
+pub returns-in_err-file : goal.returns-in_err-file
+returns-in_err-file g c = run_unread _ _ check_outcome _ _ _ _ c.in_err-file.ensures _ c.from_residual.ensures.1
+
 pub returns-in_err-text : goal.returns-in_err-text
-returns-in_err-text g c =
-    let read = c.in_ok-file.ensures in
-    let told = err_from_is_err_and c.from_residual-in_err-text.result c.from_residual-in_err-text.ensures.1 in
-    (read.0, read.1, runs_without_memory _ _ check_outcome read.2 _ _ (told.1 ∙ ap (λ fault. Err fault) told.2))
+returns-in_err-text g c = run_unmade _ _ check_outcome _ _ _ _ c.in_ok-file.ensures Memory tt _ c.from_residual-in_err-text.ensures.1
 
 pub returns : goal.returns
-returns g c =
-    let read = c.in_ok-file.ensures in
-    (read.0, read.1, runs_by_sending _ _ check_outcome read.2 _ _ DONE _ (ap (λ text. Tells DONE text) (sym (c.as_bytes.ensures.value ∙ c.in_ok-text.ensures))) _ c.send_text.ensures)
+returns g c = run_told _ _ check_outcome _ _ _ _ _ c.in_ok-file.ensures 0 _ (ap (λ text. Tells 0 text) (sym (c.as_bytes.ensures.value ∙ c.in_ok-text.ensures))) _ c.send_text.ensures

@@ -1,39 +1,31 @@
 use Rattle.std.proofs.Common.{rules, ◌≡◌, ℕ, List, Option, None, Err, sym, ap, ◌∙◌, subst}
-use Rattle.std.proofs.lemmas.Result.{err_from_is_err_and}
 use Rattle.cats_text.specs.Files.{PlainFile}
 use Rattle.cats_text.specs.Views.{plain_file}
 use Rattle.cats_cmd.specs.Outcomes.{Outcome, Tells, missing_good, outcome_unless, value_outcome, values_within}
 use Rattle.cats_cmd.specs.Runs.{MakesAs}
 use Rattle.cats_cmd.specs.ValueTexts.{bundle_from}
-use Rattle.cats_cmd.specs.declared.report.TheConstants.{DONE}
-use Rattle.cats_cmd.proofs.Tellings.{runs_by_refusing, runs_by_sending}
+use Rattle.cats_cmd.proofs.Tellings.{run_unread, run_unmade, run_told}
 use Rattle.cats_cmd.proofs.value.run_value.Goals as goal
 
 -- where the file has all of the goods
 with_all_goods : (goods : List ℕ) (limit : ℕ) (file : PlainFile) → missing_good file.goods goods ≡ None → value_outcome goods limit file ≡ values_within limit (bundle_from goods) file
 with_all_goods goods limit file none = ap (λ (m : Option ℕ). outcome_unless m (values_within limit (bundle_from goods) file)) none
 
+pub returns-in_err-file : goal.returns-in_err-file
+returns-in_err-file g c = run_unread _ _ (value_outcome c.args.goods.now c.args.limit) _ _ _ _ c.in_err-file.ensures _ c.from_residual.ensures.1
+
 pub returns-in_err-text : goal.returns-in_err-text
 returns-in_err-text g c =
-    let read = c.in_ok-file.ensures in
-    let told = err_from_is_err_and c.from_residual-in_err-text.result c.from_residual-in_err-text.ensures.1 in
     let file = plain_file c.in_ok-file.file in
     let none : missing_good file.goods c.args.goods.now ≡ None = search rules in
     let fault = c.in_err-text.field-0.0 in
-    let made : MakesAs (values_within c.args.limit (bundle_from c.args.goods.now) file) (Err fault) = c.in_err-text.ensures in (
-      read.0,
-      read.1,
-      runs_by_refusing _ _ (value_outcome c.args.goods.now c.args.limit) read.2 _ fault _ (told.1 ∙ ap (λ fault. Err fault) told.2)
-          (subst (λ (o : Outcome). MakesAs o (Err fault)) (sym (with_all_goods c.args.goods.now c.args.limit file none)) made),
-    )
+    let made : MakesAs (values_within c.args.limit (bundle_from c.args.goods.now) file) (Err fault) = c.in_err-text.ensures in
+    run_unmade _ _ (value_outcome c.args.goods.now c.args.limit) _ _ _ _ c.in_ok-file.ensures fault
+    (subst (λ (o : Outcome). MakesAs o (Err fault)) (sym (with_all_goods c.args.goods.now c.args.limit file none)) made) _ c.from_residual-in_err-text.ensures.1
 
 pub returns : goal.returns
 returns g c =
-    let read = c.in_ok-file.ensures in
     let file = plain_file c.in_ok-file.file in
-    let none : missing_good file.goods c.args.goods.now ≡ None = search rules in (
-      read.0,
-      read.1,
-      runs_by_sending _ _ (value_outcome c.args.goods.now c.args.limit) read.2 _ _ DONE _
-          (with_all_goods c.args.goods.now c.args.limit file none ∙ c.in_ok-text.ensures ∙ ap (λ text. Tells DONE text) (sym c.as_slice.ensures.value)) _ c.send_text.ensures,
-    )
+    let none : missing_good file.goods c.args.goods.now ≡ None = search rules in
+    run_told _ _ (value_outcome c.args.goods.now c.args.limit) _ _ _ _ _ c.in_ok-file.ensures 0 _
+    (with_all_goods c.args.goods.now c.args.limit file none ∙ c.in_ok-text.ensures ∙ ap (λ text. Tells 0 text) (sym c.as_slice.ensures.value)) _ c.send_text.ensures
