@@ -4,3 +4,7 @@ pub mod Sames
 pub mod Files
 pub mod Smaller
 pub mod Texts
+pub mod Finding
+pub mod OrDifferences
+pub mod BidderDifferences
+pub mod Differences

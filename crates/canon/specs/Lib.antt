@@ -3,3 +3,5 @@ pub mod Sameness
 pub mod Canonical
 pub mod Normalising
 pub mod Examples
+pub mod Difference
+pub mod Verdicts

@@ -1,0 +1,17 @@
+-- What callers see of a verdict.
+use Rattle.std.specs.Prelude.{ℕ, map, List, Vec}
+use Rattle.std.specs.Global.{Global}
+use Rattle.valuation.specs.declared.atom.Atom.{Atom}
+use Rattle.canon.specs.declared.verdict.Verdict.{Verdict}
+use Rattle.canon.specs.declared.verdict.Verdict.TheVariants.{Same, Goods, Or, Xor}
+use Rattle.canon.specs.Difference.{Difference, NoDifference, InGoods, InOr, InXor}
+
+-- bids that are told by their goods and prices
+abbrev pub told_atoms : List (Vec ℕ Global × ℕ) → List (Atom (List ℕ))
+told_atoms bids = map (λ b. record { bundle = b.0.items; price = b.1 }) bids
+
+abbrev pub plain_verdict : Verdict → Difference
+plain_verdict Same = NoDifference
+plain_verdict (Goods left right) = InGoods left right
+plain_verdict (Or bundle left right) = InOr bundle.items left right
+plain_verdict (Xor bidder left right) = InXor (told_atoms bidder.items) left right
