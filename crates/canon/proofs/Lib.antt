@@ -4,6 +4,10 @@ pub mod Sames
 pub mod Files
 pub mod Smaller
 pub mod Texts
+pub mod Least
+pub mod Bidders
+pub mod Filing
+pub mod Answering
 pub mod Finding
 pub mod OrDifferences
 pub mod BidderDifferences

@@ -30,11 +30,11 @@ no_more (x ∷ rest) atoms s h =
     let c = All-head (Contains atoms) x rest h in
     let p = IsPermutation-remove atoms c.0 x c.1 (sym c.2) in
     let later = no_more rest (remove atoms c.0) (AllPairs-tail IsBefore x rest s)
-        (All-from_Contains (Contains (remove atoms c.0)) rest (λ y d.
-        ⊎_elim
-        (λ (e : x ≡ y). absurd (before_itself y.bundle (subst (λ (z : Atom (List ℕ)). IsBefore z y) e (All-contains (IsBefore x) rest y (AllPairs-head IsBefore x rest s) d))))
-        (λ (k : Contains (remove atoms c.0) y). k)
-        (Contains-cons_cases x (remove atoms c.0) y (Contains-permutation atoms (x ∷ remove atoms c.0) y p (All-contains (Contains atoms) (x ∷ rest) y h (Contains-tail x rest y d)))))) in
+    (All-from_Contains (Contains (remove atoms c.0)) rest (λ y d.
+    ⊎_elim
+    (λ (e : x ≡ y). absurd (before_itself y.bundle (subst (λ (z : Atom (List ℕ)). IsBefore z y) e (All-contains (IsBefore x) rest y (AllPairs-head IsBefore x rest s) d))))
+    (λ (k : Contains (remove atoms c.0) y). k)
+    (Contains-cons_cases x (remove atoms c.0) y (Contains-permutation atoms (x ∷ remove atoms c.0) y p (All-contains (Contains atoms) (x ∷ rest) y h (Contains-tail x rest y d)))))) in
     let long = length_permutation atoms (x ∷ remove atoms c.0) p in
     omega arith
 
@@ -65,25 +65,34 @@ count_is_length : {X : Type 0} (xs : List X) → sum_by (λ x. 1) xs ≡ length 
 count_is_length [] = refl
 count_is_length {X} (x ∷ xs) = let later = count_is_length xs in omega (arith, sum_by-cons (λ (y : X). 1) x xs)
 
+-- the canonical auction has no more bidders
+pub no_more_canonical_bidders : (a : PlainAuction) → HasAtoms a → length (canonical_auction a).xor_bidders ≤ length a.xor_bidders
+no_more_canonical_bidders a h =
+    let sorted = sort_by bidder_cmp (points_of_bidders a.goods a.xor_bidders) in
+    let one : List (Atom (List ℕ)) → ℕ = λ b. 1 in
+    let same : sum_by one sorted ≡ sum_by one (points_of_bidders a.goods a.xor_bidders) = sum_by-sort_by bidder_cmp one (points_of_bidders a.goods a.xor_bidders) in
+    let fewer = no_more_bidders a.goods one (λ b k. omega arith) a.xor_bidders h.xor_atoms in
+    let long : sum_by one sorted ≡ length sorted = count_is_length sorted in
+    let all : sum_by one a.xor_bidders ≡ length a.xor_bidders = count_is_length a.xor_bidders in
+    omega arith
+
+-- and no more atoms
+pub no_more_canonical_atoms : (a : PlainAuction) → HasAtoms a → length (canonical_auction a).or_atoms + sum_by length (canonical_auction a).xor_bidders ≤ length a.or_atoms + sum_by length a.xor_bidders
+no_more_canonical_atoms a h =
+    let same = sum_by-sort_by bidder_cmp (length {A = Atom (List ℕ)}) (points_of_bidders a.goods a.xor_bidders) in
+    let fewer = no_more_bidders a.goods length (λ b k. length-xor_points a.goods b k) a.xor_bidders h.xor_atoms in
+    let ors = length-or_points a.goods a.or_atoms h.or_atoms in
+    omega arith
+
 pub IsAuction-canonical : (cap : ℕ) (a : PlainAuction) → IsAuction cap a → IsAuction cap (canonical_auction a)
 IsAuction-canonical cap a h =
-    let atoms = HasAtoms-canonical a (HasAtoms-auction cap a h) in
-    let sorted = sort_by bidder_cmp (points_of_bidders a.goods a.xor_bidders) in
+    let given = HasAtoms-auction cap a h in
+    let atoms = HasAtoms-canonical a given in
     record {
       goods = h.goods;
       fits = h.fits;
       or_atoms = atoms.or_atoms;
       xor_atoms = atoms.xor_atoms;
-      bidders =
-          let one : List (Atom (List ℕ)) → ℕ = λ b. 1 in
-          let same : sum_by one sorted ≡ sum_by one (points_of_bidders a.goods a.xor_bidders) = sum_by-sort_by bidder_cmp one (points_of_bidders a.goods a.xor_bidders) in
-          let fewer = no_more_bidders a.goods one (λ b k. omega arith) a.xor_bidders h.xor_atoms in
-          let long : sum_by one sorted ≡ length sorted = count_is_length sorted in
-          let all : sum_by one a.xor_bidders ≡ length a.xor_bidders = count_is_length a.xor_bidders in
-          omega (arith, h.bidders);
-      atoms =
-          let same : sum_by length sorted ≡ sum_by length (points_of_bidders a.goods a.xor_bidders) = sum_by-sort_by bidder_cmp length (points_of_bidders a.goods a.xor_bidders) in
-          let fewer = no_more_bidders a.goods length (λ b k. length-xor_points a.goods b k) a.xor_bidders h.xor_atoms in
-          let ors = length-or_points a.goods a.or_atoms h.or_atoms in
-          omega (arith, h.atoms);
+      bidders = omega (arith, h.bidders, no_more_canonical_bidders a given);
+      atoms = omega (arith, h.atoms, no_more_canonical_atoms a given);
     }

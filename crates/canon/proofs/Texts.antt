@@ -117,3 +117,14 @@ texts_equal m n one other s t p q same =
     let g = spells_one other same.second q.file same.second_spelled q.spelled in
     let files : AreSameFiles p.file q.file = subst (λ (x : PlainFile). AreSameFiles x q.file) f (subst (λ (x : PlainFile). AreSameFiles same.first x) g same.same) in
     p.is ∙ same_text p.file q.file p.spelled.facts q.spelled.facts files ∙ sym q.is
+
+-- the text that normalising gives spells a file of the same auction
+pub same_as_its_text : (limit : ℕ) (text out : List ℕ) → IsNormalText limit text out → AreSameTexts text out
+unfolding normalised_again
+same_as_its_text limit text out n = record {
+  first = n.file;
+  second = canonical_file n.file;
+  first_spelled = n.spelled;
+  second_spelled = (normalised_again limit text out n).spelled;
+  same = canonical_file_is_same n.file n.spelled.facts;
+}

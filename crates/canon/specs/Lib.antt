@@ -2,6 +2,9 @@
 pub mod Sameness
 pub mod Canonical
 pub mod Normalising
+pub mod Answers
+pub mod Least
+pub mod Refusals
 pub mod Examples
 pub mod Difference
 pub mod Verdicts

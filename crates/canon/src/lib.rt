@@ -1,13 +1,24 @@
 //! The one text of an auction: the canonical auction, its file and its bytes, and whether two files ask for the same things.
 #![tactic(auto)]
 
+mod auction;
 mod difference_laws;
+mod fault;
+mod file;
+pub mod laws;
+mod text;
 mod verdict;
+mod which;
 pub mod worked;
 pub mod worked_differences;
 
+pub use auction::canonical;
 pub use difference_laws::{
     difference_is_a_point, difference_is_the_least_bidder, differences_exchanged,
     no_difference_of_the_same,
 };
+pub use fault::CanonFault;
+pub use file::file_of;
+pub use text::{normal_file, normal_text, normalise};
 pub use verdict::{Side, Verdict};
+pub use which::Which;

@@ -115,7 +115,7 @@ IsAtom-bids G D bids p h =
     All-map (IsAtom G) atom_of (filter p bids) (All-filter p (λ b. IsAtom G (atom_of b)) bids (All-weaker (IsBid G D) (λ b. IsAtom G (atom_of b)) (IsAtom-bid G D) bids (All-from_recursion (IsBid G D) bids h)))
 
 -- how many atoms of the bidders there are in all
-abbrev count_xor : List PlainBid → ℕ → ℕ → ℕ
+abbrev pub count_xor : List PlainBid → ℕ → ℕ → ℕ
 count_xor bids low n = sum_by length (map (xor_atoms_of bids) (range_with_len low n))
 
 -- a bid adds none behind its dummy good's bidder
@@ -149,7 +149,7 @@ count_xor-more b bids e s low (suc n) =
     (cases_eq e low)
 
 -- each bid is one atom
-count_atoms : (bids : List PlainBid) (n : ℕ) → length (or_atoms_of bids) + count_xor bids 0 n ≤ length bids
+pub count_atoms : (bids : List PlainBid) (n : ℕ) → length (or_atoms_of bids) + count_xor bids 0 n ≤ length bids
 count_atoms [] n = let none = count_none 0 n in omega arith
   where
     count_none : (low n : ℕ) → count_xor [] low n ≡ 0

@@ -1,0 +1,9 @@
+use Rattle.prune.specs.StepLemmas.{no_new_heavy, no_heavy_point}
+use Rattle.canon.proofs.Atoms.{on_bundles}
+use Rattle.canon.proofs.laws.no_new_heavy_bundle.Goals as goal
+
+pub returns : goal.returns
+returns c = record {
+  heavy = λ cap limit a h. no_new_heavy a.goods limit a.or_atoms (on_bundles a.goods a.or_atoms h.or_atoms);
+  none = λ cap limit a h. no_heavy_point a.goods limit a.or_atoms (on_bundles a.goods a.or_atoms h.or_atoms);
+}

@@ -1,0 +1,41 @@
+-- What the calls answer, by what normalising a file or a text gives. Want of memory may come in the place of each answer.
+use Rattle.std.specs.Prelude.{◌≡◌, ℕ, List, Result, Ok, Err, Some, None, Vec}
+use Rattle.std.specs.Global.{Global}
+use Rattle.cats_text.specs.Files.{PlainFile}
+use Rattle.cats_text.specs.Views.{plain_file}
+use Rattle.cats_text.specs.declared.bid.BidFile.{BidFile}
+use Rattle.valuation.specs.Auctions.{PlainAuction, auction_from}
+use Rattle.prune.specs.Steps.{first_heavy}
+use Rattle.canon.specs.Canonical.{canonical_auction, file_from}
+use Rattle.canon.specs.Normalising.{Normalised, IsNoFile, ExceedsSteps, IsText}
+use Rattle.canon.specs.declared.fault.CanonFault.{CanonFault}
+use Rattle.canon.specs.declared.fault.CanonFault.TheVariants.{Read, StepLimit, Memory}
+
+-- why there is no text
+abbrev pub RefusesAs : Normalised → CanonFault → Type 0
+RefusesAs expected (Read fault) = expected ≡ IsNoFile fault
+RefusesAs expected (StepLimit goods) = expected ≡ ExceedsSteps goods.items
+RefusesAs expected Memory = Unit {0}
+
+-- the text, or why there is none
+abbrev pub NormalisesAs : Normalised → Result (Vec ℕ Global) CanonFault → Type 0
+NormalisesAs expected (Ok text) = expected ≡ IsText text.items
+NormalisesAs expected (Err fault) = RefusesAs expected fault
+
+-- the file of the canonical auction where no bundle is heavy, and else the first heavy bundle
+pub record IsNormalFile (limit : ℕ) (a : PlainAuction) (h : PlainFile) : Type 0 where
+  pub canonical : h ≡ file_from (canonical_auction a)
+  pub light : first_heavy a.goods limit a.or_atoms ≡ None
+
+abbrev pub RefusesAuction : ℕ → PlainAuction → CanonFault → Type 0
+RefusesAuction limit a (Read fault) = ⊥
+RefusesAuction limit a (StepLimit goods) = first_heavy a.goods limit a.or_atoms ≡ Some goods.items
+RefusesAuction limit a Memory = Unit {0}
+
+abbrev pub NormalisesAuctionAs : ℕ → PlainAuction → Result BidFile CanonFault → Type 0
+NormalisesAuctionAs limit a (Ok h) = IsNormalFile limit a (plain_file h)
+NormalisesAuctionAs limit a (Err fault) = RefusesAuction limit a fault
+
+-- the same of a file
+abbrev pub NormalisesFileAs : ℕ → PlainFile → Result BidFile CanonFault → Type 0
+NormalisesFileAs limit f r = NormalisesAuctionAs limit (auction_from f) r

@@ -1,0 +1,68 @@
+//! The canonical auction.
+
+ghost use Rattle.std.specs.Prelude.{◌≡◌, ℕ, None, Some, All, IfOk, IfErr, OnOk};
+ghost use Rattle.cats_text.specs.declared.limits.TheConstants.{MAX_GOODS};
+ghost use Rattle.valuation.specs.Auctions.{IsAtom};
+ghost use Rattle.valuation.specs.Bidders.{bidders_of};
+ghost use Rattle.valuation.specs.Orders.{bidder_cmp};
+ghost use Rattle.valuation.specs.Sorting.{sort_by};
+ghost use Rattle.valuation.specs.Views.{plain_auction};
+ghost use Rattle.prune.specs.Faults.{IfStepLimit};
+ghost use Rattle.prune.specs.Steps.{first_heavy};
+ghost use Rattle.canon.specs.Canonical.{IsCanonical, canonical_auction, points_of_bidders};
+ghost use Rattle.canon.specs.Sameness.{IsSameAuction};
+
+use goods_set::GoodsSet;
+use prune::{PruneFault, prune_or, prune_xor};
+use std::alloc::{AllocError, Global};
+use valuation::{Atom, Auction, compare_bidders};
+
+/// The canonical auction of an auction: of each bidder the points, without the XOR bidders of value zero, and the others in order.
+/// It uses the auction up, and copies none of its atoms.
+pub fn canonical<S: GoodsSet>(
+    alloc: Global,
+    auction: Auction<S>,
+    limit: u64,
+) -> Result<Auction<S>, PruneFault<S>>
+    ensures canonical { IfOk result (λ c. plain_auction c ≡ canonical_auction (plain_auction auction)) }
+    ensures same { IfOk result (λ c. IsSameAuction (plain_auction auction) (plain_auction c)) }
+    ensures fixed { IfOk result (λ c. IsCanonical (plain_auction c)) }
+    ensures none_heavy { let a = plain_auction auction in
+        OnOk result (first_heavy a.goods limit a.or_atoms ≡ None) }
+    ensures step_limit { let a = plain_auction auction in
+        IfErr result (λ fault. IfStepLimit fault (λ bundle. first_heavy a.goods limit a.or_atoms ≡ Some (S.goods bundle))) }
+{
+    let (goods, or_atoms, xor_bidders) = auction.into_parts();
+    let or_points = prune_or(alloc, or_atoms, limit)?;
+    let mut bidders = points_of_each(alloc, xor_bidders)?;
+    sort_bidders(&mut bidders);
+    Ok(Auction::new(goods, or_points, bidders))
+}
+
+/// The points of each bidder that has any.
+fn points_of_each<S: GoodsSet>(
+    alloc: Global,
+    bidders: Vec<Vec<Atom<S>>>,
+) -> Result<Vec<Vec<Atom<S>>>, AllocError>
+    requires { All (All (IsAtom MAX_GOODS)) (bidders_of S.goods bidders.items) }
+    // For each number of goods that the atoms are within.
+    ensures { let atoms = bidders_of S.goods bidders.items in
+        IfOk result (λ points. (goods : ℕ) → All (All (IsAtom goods)) atoms
+        → bidders_of S.goods points.items ≡ points_of_bidders goods atoms) }
+{
+    let mut points = Vec::new(alloc);
+    for bidder in bidders {
+        let own = prune_xor(alloc, bidder)?;
+        if !own.is_empty() {
+            points.push(own)?;
+        }
+    }
+    Ok(points)
+}
+
+/// Puts the bidders in the order of their lists of atoms.
+fn sort_bidders<S: GoodsSet>(bidders: &mut Vec<Vec<Atom<S>>>)
+    ensures { bidders_of S.goods bidders.new.items ≡ sort_by bidder_cmp (bidders_of S.goods bidders.old.items) }
+{
+    bidders.sort_unstable_by(|one, other| compare_bidders(one, other));
+}

@@ -1,0 +1,110 @@
+//! The canonical file of a file, and the canonical text of a text.
+
+ghost use Rattle.std.specs.Prelude.{◌≡◌, ◌≤◌, ◌↔◌, IfOk};
+ghost use Rattle.cats_text.specs.Files.{PlainFile, IsPlainFile};
+ghost use Rattle.cats_text.specs.Grammar.{Spells};
+ghost use Rattle.cats_text.specs.Views.{plain_file};
+ghost use Rattle.valuation.specs.Views.{plain_auction};
+ghost use Rattle.canon.specs.Answers.{NormalisesAs, NormalisesAuctionAs, NormalisesFileAs};
+ghost use Rattle.canon.specs.Canonical.{IsCanonicalFile, canonical_text};
+ghost use Rattle.canon.specs.Least.{IsLeastFor};
+ghost use Rattle.canon.specs.Normalising.{IsText, normalised, normalised_file};
+ghost use Rattle.canon.specs.Sameness.{AreSameFiles};
+
+use crate::auction::canonical;
+use crate::fault::CanonFault;
+use crate::file::file_of;
+use cats_text::{BidFile, read, write};
+use goods_set::{GoodsSet, WordSet, goods_of};
+use prune::PruneFault;
+use std::alloc::Global;
+use valuation::{Auction, auction_of};
+
+/// Calls a function that is generic over sets of goods on the least set that holds so many goods: an atom then takes no more
+/// memory than they need.
+macro_rules! on_least_set {
+    ($goods:expr, $call:ident($($argument:expr),*)) => {
+        match $goods {
+            0..=64 => $call::<WordSet<1>>($($argument),*),
+            65..=256 => $call::<WordSet<4>>($($argument),*),
+            257..=1024 => $call::<WordSet<16>>($($argument),*),
+            _ => $call::<WordSet<64>>($($argument),*),
+        }
+    };
+}
+
+/// The canonical file of a file: the file of its canonical auction. `limit` bounds each search that decides on a bundle of the OR
+/// bidder.
+pub fn normal_file(alloc: Global, file: &BidFile, limit: u64) -> Result<BidFile, CanonFault>
+    ensures answer { NormalisesFileAs limit (plain_file file.now) result }
+    ensures same { IfOk result (λ h. AreSameFiles (plain_file file.now) (plain_file h)) }
+    ensures canonical { IfOk result (λ h. IsCanonicalFile (plain_file h)) }
+    ensures least { IfOk result (λ h. IsLeastFor (plain_file file.now) (plain_file h)) }
+{
+    on_least_set!(file.goods(), normal_file_on(alloc, file, limit))
+}
+
+/// The canonical text of a file, whose bids are given up before its auction is made canonical.
+pub fn normal_text(alloc: Global, file: BidFile, limit: u64) -> Result<Vec<u8>, CanonFault>
+    ensures { NormalisesAs (normalised_file limit (plain_file file)) result }
+{
+    on_least_set!(file.goods(), normal_text_on(alloc, file, limit))
+}
+
+/// The canonical text of the file that a text spells: the one text of its auction.
+pub fn normalise(alloc: Global, text: &[u8], limit: u64) -> Result<Vec<u8>, CanonFault>
+    ensures answer { NormalisesAs (normalised limit text.now) result }
+    // Equal texts come of files of the same auction, and of these alone.
+    ensures same { IfOk result (λ out. (f g : PlainFile) → Spells text.now f → IsPlainFile g
+        → (out.items ≡ canonical_text g ↔ AreSameFiles f g)) }
+    ensures again { IfOk result (λ out. normalised limit out.items ≡ IsText out.items) }
+{
+    let file = read(alloc, text)?;
+    normal_text(alloc, file, limit)
+}
+
+fn normal_file_on<S: GoodsSet>(
+    alloc: Global,
+    file: &BidFile,
+    limit: u64,
+) -> Result<BidFile, CanonFault>
+    requires { (plain_file file.now).goods ≤ S.CAP }
+    ensures answer { NormalisesFileAs limit (plain_file file.now) result }
+    ensures same { IfOk result (λ h. AreSameFiles (plain_file file.now) (plain_file h)) }
+    ensures canonical { IfOk result (λ h. IsCanonicalFile (plain_file h)) }
+    ensures least { IfOk result (λ h. IsLeastFor (plain_file file.now) (plain_file h)) }
+{
+    let auction: Auction<S> = auction_of(alloc, file)?;
+    file_of_canonical(alloc, auction, limit)
+}
+
+fn normal_text_on<S: GoodsSet>(
+    alloc: Global,
+    file: BidFile,
+    limit: u64,
+) -> Result<Vec<u8>, CanonFault>
+    requires { (plain_file file).goods ≤ S.CAP }
+    ensures { NormalisesAs (normalised_file limit (plain_file file)) result }
+{
+    let auction: Auction<S> = auction_of(alloc, &file)?;
+    drop(file);
+    let canonical = file_of_canonical(alloc, auction, limit)?;
+    Ok(write(alloc, &canonical)?)
+}
+
+/// The file of the canonical auction.
+fn file_of_canonical<S: GoodsSet>(
+    alloc: Global,
+    auction: Auction<S>,
+    limit: u64,
+) -> Result<BidFile, CanonFault>
+    ensures { NormalisesAuctionAs limit (plain_auction auction) result }
+{
+    match canonical(alloc, auction, limit) {
+        Ok(canonical) => Ok(file_of(alloc, &canonical)?),
+        Err(PruneFault::StepLimit { bundle }) => Err(CanonFault::StepLimit {
+            goods: goods_of(alloc, &bundle)?,
+        }),
+        Err(PruneFault::Memory) => Err(CanonFault::Memory),
+    }
+}
