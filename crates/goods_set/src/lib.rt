@@ -4,11 +4,13 @@
 
 pub mod laws;
 pub mod list_set;
+pub mod listing;
 pub mod set;
 pub mod word_set;
 pub mod worked;
 
 pub use list_set::ListSet;
+pub use listing::goods_of;
 pub use set::GoodsSet;
 pub use word_set::WordSet;
 

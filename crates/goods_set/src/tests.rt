@@ -1,6 +1,6 @@
 //! What is seen of sets of both kinds, at worked examples. Each call is made with ample memory, so
 //! that it has to succeed.
-use crate::{GoodsSet, ListSet, WordSet};
+use crate::{GoodsSet, ListSet, WordSet, goods_of};
 use std::alloc::Global;
 use std::cmp::Ordering;
 use std::process::Abort;
@@ -15,19 +15,6 @@ fn set_of<S: GoodsSet>(rt: &impl Abort, alloc: Global, goods: &[u16]) -> Result<
         assert!(rt; set.put(*good)?, "{good} is new");
     }
     Ok(set)
-}
-
-// The goods, as `next_from` gives them one after another.
-fn goods_of<S: GoodsSet>(alloc: Global, set: &S) -> Result<Vec<u16>, Fail> {
-    let mut goods = Vec::new(alloc);
-    let mut from = 0;
-    for _ in 0..set.size() {
-        if let Some(good) = set.next_from(from) {
-            goods.push(good)?;
-            from = u32::from(good) + 1;
-        }
-    }
-    Ok(goods)
 }
 
 fn put_and_ask<S: GoodsSet>(rt: &impl Abort, alloc: Global) -> Result<(), Fail> {

@@ -2,3 +2,4 @@ pub mod Levels
 pub mod Scans
 pub mod Placing
 pub mod Choosing
+mod Comparing

@@ -1,15 +1,15 @@
 -- Lists in an order that answers Equal for equal elements alone. The idea: a list in order is determined by how often it has each
 -- element, so a list is put in order in one way only, whichever way that is done.
-use Rattle.std.proofs.Common.{◌≡◌, ℕ, ◌+◌, ◌<◌, ◌≤◌, Bool, true, false, cond, ⊎_elim, List, [], ◌∷◌, length, get_or, refl, sym, ap, ◌∙◌, subst, arith, Ordering, Less, Equal, Greater}
+use Rattle.std.proofs.Common.{◌≡◌, ℕ, zero, suc, ◌+◌, ◌<◌, ◌≤◌, Bool, true, false, cond, ⊎_elim, List, [], ◌∷◌, length, get_or, refl, sym, ap, ◌∙◌, subst, arith, Ordering, Less, Equal, Greater}
 use Rattle.std.specs.Prelude.{All, AllPairs, IsPermutation}
 use Rattle.std.specs.List.{AllByRecursion, count_by, sum_by}
-use Rattle.std.specs.List.Sorted.{IsSortedBy}
+use Rattle.std.specs.List.Sorted.{IsSortedBy, IsSorted}
 use Rattle.std.specs.Ordering.{is_eq, is_gt, is_lt, ordering_reverse}
 use Rattle.std.specs.Cmp.{IsTotalOrder}
 use Rattle.std.proofs.lemmas.Bool.{cases_Bool, both_ways}
 use Rattle.std.proofs.lemmas.Cmp.{upto, tied_itself, alike_right}
 use Rattle.std.proofs.lemmas.List.Elements.{recursion_from_All, All-from_recursion}
-use Rattle.std.proofs.lemmas.List.Sorted.{sorted_far, ranks_by, sum_by-IsPermutation}
+use Rattle.std.proofs.lemmas.List.Sorted.{sorted_far, ranks_by, sum_by-IsPermutation, IsPermutation-refl, IsPermutation-sym, IsPermutation-trans, IsPermutation-cons, IsPermutation-middle}
 use Rattle.std.proofs.lemmas.List.Sums.{sum_by-cons}
 use Rattle.valuation.specs.ListLemmas.{AllPairs-head, AllPairs-tail}
 
@@ -171,3 +171,35 @@ module _ {X : Type 0} (cmp : X → X → Ordering) (total : IsTotalOrder cmp) wh
   sorted_same exact xs ys p up also =
       ordered_from_counts exact xs ys (ordered_from_sorted xs up) (ordered_from_sorted ys also)
       (λ x. sym (sum_by-IsPermutation (λ y. cond (is_eq (cmp x y)) 1 0) xs ys p))
+
+-- ---- what is put in order is a sorted permutation, in std's words
+
+permutation-insert_by : {X : Type 0} (cmp : X → X → Ordering) (x : X) (xs : List X) → IsPermutation (x ∷ xs) (insert_by cmp x xs)
+permutation-insert_by cmp x [] = IsPermutation-refl (x ∷ [])
+permutation-insert_by cmp x (y ∷ ys) =
+    let exchanged : IsPermutation (x ∷ (y ∷ ys)) (y ∷ (x ∷ ys)) = IsPermutation-sym (y ∷ (x ∷ ys)) (x ∷ (y ∷ ys)) (IsPermutation-middle (y ∷ []) x ys) in
+    let later : IsPermutation (y ∷ (x ∷ ys)) (y ∷ insert_by cmp x ys) = IsPermutation-cons y (x ∷ ys) (insert_by cmp x ys) (permutation-insert_by cmp x ys) in
+    elim (is_gt (cmp x y)) as (λ b. IsPermutation (x ∷ (y ∷ ys)) (cond b (y ∷ insert_by cmp x ys) (x ∷ (y ∷ ys)))) [
+      | true ↦ IsPermutation-trans (x ∷ (y ∷ ys)) (y ∷ (x ∷ ys)) (y ∷ insert_by cmp x ys) exchanged later
+      | false ↦ IsPermutation-refl (x ∷ (y ∷ ys))
+    ]
+
+pub permutation-sort_by : {X : Type 0} (cmp : X → X → Ordering) (xs : List X) → IsPermutation xs (sort_by cmp xs)
+permutation-sort_by cmp [] = IsPermutation-refl []
+permutation-sort_by cmp (x ∷ xs) =
+    IsPermutation-trans (x ∷ xs) (x ∷ sort_by cmp xs) (insert_by cmp x (sort_by cmp xs))
+    (IsPermutation-cons x xs (sort_by cmp xs) (permutation-sort_by cmp xs)) (permutation-insert_by cmp x (sort_by cmp xs))
+
+not_below_back : (o : Ordering) → is_gt o ≡ false → is_lt (ordering_reverse o) ≡ false
+not_below_back Less e = refl
+not_below_back Equal e = refl
+not_below_back Greater e = absurd (cc)
+
+sorted_from_ordered : {X : Type 0} (cmp : X → X → Ordering) → IsTotalOrder cmp → (xs : List X) → IsOrdered cmp xs → IsSorted cmp xs
+sorted_from_ordered cmp total [] h k d l m = absurd (omega arith)
+sorted_from_ordered cmp total (x ∷ []) h k d l m = absurd (omega arith)
+sorted_from_ordered cmp total (x ∷ y ∷ ys) h zero d l m = ap is_lt (total.antisymm y x) ∙ not_below_back (cmp x y) h.0.0
+sorted_from_ordered cmp total (x ∷ y ∷ ys) h (suc k) d l m = let next : suc k + 1 ≡ suc (k + 1) = omega arith in rw next (sorted_from_ordered cmp total (y ∷ ys) h.1 k d (omega arith) (omega arith))
+
+pub sorted-sort_by : {X : Type 0} (cmp : X → X → Ordering) → IsTotalOrder cmp → (xs : List X) → IsSorted cmp (sort_by cmp xs)
+sorted-sort_by cmp total xs = sorted_from_ordered cmp total (sort_by cmp xs) (ordered-sort_by cmp total xs)

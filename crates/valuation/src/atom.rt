@@ -1,6 +1,7 @@
 //! Atomic bids.
 ghost use Rattle.std.specs.Prelude.{◌↔◌, IsTrue};
 ghost use Rattle.valuation.specs.Auctions.{IsAtom};
+ghost use Rattle.valuation.specs.Values.{plain_atom};
 
 use cats_text::MAX_PRICE;
 use goods_set::GoodsSet;
@@ -18,7 +19,7 @@ impl<S: GoodsSet> Atom<S> {
     /// Whether it may stand in an auction with that many goods: it asks for some goods, all of the auction, at a price within the
     /// limit.
     pub fn keeps_limits(&self, goods: u16) -> bool
-        ensures { IsTrue result ↔ IsAtom goods (record { bundle = S.goods self.now.bundle; price = self.now.price }) }
+        ensures { IsTrue result ↔ IsAtom goods (plain_atom S.goods self.now) }
     {
         if self.price > MAX_PRICE {
             return false;

@@ -1,5 +1,5 @@
 //! Laws of the definitions, which the check proves.
-ghost use Rattle.std.specs.Prelude.{◌≡◌, ℕ, ◌+◌, ◌<◌, ◌≤◌, List, ◌∷◌, length, All, IsPermutation};
+ghost use Rattle.std.specs.Prelude.{◌≡◌, ℕ, ◌+◌, ◌<◌, ◌≤◌, List, ◌∷◌, length, All, IsPermutation, IsSorted};
 ghost use Rattle.std.specs.Cmp.{IsTotalOrder};
 ghost use Rattle.std.specs.declared.cmp.Ordering.TheVariants.{Equal};
 ghost use Rattle.goods_set.specs.Bundles.{IsInside, AreApart};
@@ -8,6 +8,7 @@ ghost use Rattle.valuation.specs.declared.atom.Atom.{Atom};
 ghost use Rattle.valuation.specs.Values.{xor_value, or_value, chosen_places};
 ghost use Rattle.valuation.specs.Packings.{atoms_at, price_sum, count_packings, IsBestPacking, AreThePackings};
 ghost use Rattle.valuation.specs.Orders.{atom_cmp, bidder_cmp};
+ghost use Rattle.valuation.specs.Sorting.{sort_by};
 ghost use Rattle.valuation.specs.Auctions.{IsAuction, auction_from};
 
 /// The OR value is the price sum of the atoms at the chosen places. These are pairwise apart and inside the bundle, and no
@@ -44,6 +45,13 @@ pub fn order_laws()
     ensures equal_atoms { (a b : Atom (List ℕ)) → atom_cmp a b ≡ Equal → a ≡ b }
     ensures bidders { IsTotalOrder bidder_cmp }
     ensures equal_bidders { (some other : List (Atom (List ℕ))) → bidder_cmp some other ≡ Equal → some ≡ other }
+{}
+
+/// Sorting gives the bidders in order, and no other list in order has the same bidders.
+pub fn sorting_laws()
+    ensures permutation { (bidders : List (List (Atom (List ℕ)))) → IsPermutation bidders (sort_by bidder_cmp bidders) }
+    ensures in_order { (bidders : List (List (Atom (List ℕ)))) → IsSorted bidder_cmp (sort_by bidder_cmp bidders) }
+    ensures only { (some other : List (List (Atom (List ℕ)))) → IsPermutation some other → IsSorted bidder_cmp some → IsSorted bidder_cmp other → some ≡ other }
 {}
 
 /// The auction that a file stands for keeps the limits of auctions, where its goods fit the sets.

@@ -6,6 +6,7 @@ mod auction;
 mod budget;
 mod from_file;
 pub mod laws;
+mod order;
 mod packing;
 #[cfg(test)]
 mod plain;
@@ -19,5 +20,6 @@ pub use atom::Atom;
 pub use auction::Auction;
 pub use budget::Budget;
 pub use from_file::auction_of;
+pub use order::{compare_atoms, compare_bidders};
 pub use packing::{Packing, ValueFault, or_value};
 pub use xor::xor_value;

@@ -6,6 +6,7 @@ ghost use Rattle.valuation.specs.Values.{xor_value, or_value, chosen_places};
 ghost use Rattle.valuation.specs.Packings.{count_packings};
 ghost use Rattle.valuation.specs.Tables.{or_table, xor_table, is_nonzero};
 ghost use Rattle.valuation.specs.Orders.{atom_cmp, bidder_cmp};
+ghost use Rattle.valuation.specs.Sorting.{sort_by};
 
 /// The XOR value is the greatest price of an atom inside the bundle.
 #[tactic(auto, unfolding(crate::specs::Values::xor_value))]
@@ -57,4 +58,11 @@ pub fn orders_worked()
     ensures prefix_first { bidder_cmp (atom (1 ∷ []) 9 ∷ []) (atom (1 ∷ []) 9 ∷ atom (0 ∷ 1 ∷ []) 9 ∷ []) ≡ Less }
     ensures by_first_atom { bidder_cmp (atom (1 ∷ []) 9 ∷ []) (atom (0 ∷ []) 9 ∷ atom (0 ∷ 1 ∷ []) 9 ∷ []) ≡ Greater }
     ensures same_bidder { bidder_cmp (atom (1 ∷ []) 9 ∷ []) (atom (1 ∷ []) 9 ∷ []) ≡ Equal }
+{}
+
+/// Bidders are sorted with the equal ones kept.
+pub fn sorting_worked()
+    ensures none { sort_by bidder_cmp [] ≡ [] }
+    ensures all { let one = atom (0 ∷ []) 9 ∷ [] in let two = atom (1 ∷ []) 8 ∷ [] in let both = atom (0 ∷ []) 9 ∷ atom (1 ∷ []) 8 ∷ [] in
+        sort_by bidder_cmp (two ∷ both ∷ one ∷ two ∷ []) ≡ one ∷ both ∷ two ∷ two ∷ [] }
 {}

@@ -1,4 +1,4 @@
-//! Bundles from lists of goods, and back.
+//! Bundles from lists of goods.
 
 ghost use Rattle.std.specs.Prelude.{◌≡◌, ◌<◌, All, IfOk};
 ghost use Rattle.cats_cmd.specs.ValueTexts.{bundle_from};
@@ -16,17 +16,4 @@ pub(super) fn bundle_of<S: GoodsSet>(alloc: Global, goods: &[u16]) -> Result<S, 
         bundle.put(*good)?;
     }
     Ok(bundle)
-}
-
-/// The goods of a bundle, rising.
-pub(super) fn goods_of<S: GoodsSet>(alloc: Global, bundle: &S) -> Result<Vec<u16>, AllocError>
-    ensures { IfOk result (λ goods. goods.items ≡ S.goods bundle.now) }
-{
-    let mut goods = Vec::new(alloc);
-    let mut next = bundle.next_from(0);
-    while let Some(good) = next {
-        goods.push(good)?;
-        next = bundle.next_from(u32::from(good) + 1);
-    }
-    Ok(goods)
 }

@@ -1,12 +1,12 @@
 use Rattle.std.proofs.Common.{◌≡◌, ◌+◌, ℕ, List, Option, Some, [], ◌∷◌, ◌++◌, sym, ap, ◌∙◌, subst, append_assoc}
 use Rattle.goods_set.specs.Bundles.{IsRising, good_from}
-use Rattle.cats_cmd.proofs.Bundling.{first_good, good_from-start, good_from-next}
-use Rattle.cats_cmd.proofs.value.bundles.goods_of.Goals as goal
+use Rattle.goods_set.proofs.NextGoods.{first_good, good_from-start, good_from-next}
+use Rattle.goods_set.proofs.listing.goods_of.Goals as goal
 
 pub loop-next-init : goal.loop-next-init
 loop-next-init g c =
-    let goods = g.S.GoodsSet.goods c.args.bundle.now in
-    (goods, ap (λ (xs : List ℕ). xs ++ goods) c.new-goods.ensures.items, c.next_from-next.ensures ∙ good_from-start goods)
+    let goods = g.S.GoodsSet.goods c.args.set.now in
+    (goods, ap (λ (xs : List ℕ). xs ++ goods) c.in_ok-goods.ensures.items, c.next_from-next.ensures ∙ good_from-start goods)
 
 -- the good that is next goes to those that came
 one_more : (goods came more rest : List ℕ) (good : ℕ) (next after : Option ℕ) → IsRising goods → came ++ rest ≡ goods → next ≡ first_good rest → next ≡ Some good
@@ -23,8 +23,8 @@ one_more goods came more (g ∷ rest) good next after rising all first is longer
 
 pub loop-next-preserved : goal.loop-next-preserved
 loop-next-preserved g c =
-    let goods = g.S.GoodsSet.goods c.args.bundle.now in
+    let goods = g.S.GoodsSet.goods c.args.set.now in
     let kept = c.loop-next.invariant in
     one_more goods c.loop-next.goods.items c.push.new.self.items kept.0 c.in-Some.good c.loop-next.next c.next_from-next-in-Some.result
-    (g.met.S.GoodsSet.is_bundle c.args.bundle.now).0 kept.1 kept.2 c.in-Some.is c.in_ok-push.ensures.items
+    (g.met.S.GoodsSet.is_bundle c.args.set.now).0 kept.1 kept.2 c.in-Some.is c.in_ok-push.ensures.items
     (c.next_from-next-in-Some.ensures ∙ ap (λ (n : ℕ). good_from goods (n + 1)) c.from.ensures)
