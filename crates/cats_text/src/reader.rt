@@ -80,7 +80,7 @@ impl Reader {
         }
         match self.scanner.finish() {
             Ok(file) => Ok(file),
-            Err(halt) => Err(told(halt)),
+            Err(stopped) => Err(told(stopped)),
         }
     }
 }

@@ -13,6 +13,7 @@ use crate::layout::write;
 use crate::limits::MAX_STREAM;
 use crate::reader::{Reader, read};
 use std::alloc::{AllocError, Global};
+use std::process::Abort;
 use std::test::Fail;
 
 /// What reading gave: the text of the file, or the fault.
@@ -23,11 +24,6 @@ fn outcome(alloc: Global, answer: Result<BidFile, ReadFault>) -> Result<Outcome,
         Ok(file) => Ok(Ok(write(alloc, &file)?)),
         Err(fault) => Ok(Err(fault)),
     }
-}
-
-/// What reading the whole text gives.
-fn outcome_of(alloc: Global, text: &[u8]) -> Result<Outcome, AllocError> {
-    outcome(alloc, read(alloc, text))
 }
 
 /// The fault of a text, if there is one.
@@ -69,11 +65,64 @@ fn many(alloc: Global, byte: u8, count: usize) -> Result<Vec<u8>, AllocError> {
     Ok(bytes)
 }
 
-/// Reads the pieces, one after the other.
-fn read_pieces(alloc: Global, pieces: &[&[u8]]) -> Result<BidFile, ReadFault> {
+/// What reading byte by byte gives.
+fn outcome_of_bytes(alloc: Global, text: &[u8]) -> Result<Outcome, AllocError> {
     let mut reader = Reader::new(alloc, MAX_STREAM);
-    for piece in pieces {
-        reader.feed(piece)?;
+    for byte in text {
+        if let Err(fault) = reader.feed(&[*byte]) {
+            return Ok(Err(fault));
+        }
     }
-    reader.finish()
+    outcome(alloc, reader.finish())
+}
+
+/// What reading two pieces gives.
+fn outcome_of_two(alloc: Global, front: &[u8], back: &[u8]) -> Result<Outcome, AllocError> {
+    let mut reader = Reader::new(alloc, MAX_STREAM);
+    let _ = reader.feed(front);
+    let _ = reader.feed(back);
+    outcome(alloc, reader.finish())
+}
+
+/// Asserts that a text gives this file's text or this fault: whole, in two pieces wherever it is cut, and byte by byte.
+fn assert_outcome(
+    rt: &impl Abort,
+    alloc: Global,
+    text: &[u8],
+    want: &Outcome,
+) -> Result<(), AllocError> {
+    assert_eq!(rt; outcome(alloc, read(alloc, text))?, *want, "{text:?}");
+    assert_eq!(rt; outcome_of_bytes(alloc, text)?, *want, "{text:?}");
+    for place in 0..=text.len() {
+        let (front, back) = text.split_at(place);
+        assert_eq!(rt; outcome_of_two(alloc, front, back)?, *want, "{text:?}");
+    }
+    Ok(())
+}
+
+/// Asserts the faults of texts: their lines and kinds.
+fn assert_faults(
+    rt: &impl Abort,
+    alloc: Global,
+    rows: &[(&[u8], u64, Kind)],
+) -> Result<(), AllocError> {
+    for (text, line, kind) in rows {
+        let (line, kind) = (*line, *kind);
+        assert_outcome(rt, alloc, text, &Err(ReadFault { line, kind }))?;
+    }
+    Ok(())
+}
+
+/// Asserts what is written of the files of texts.
+fn assert_written(
+    rt: &impl Abort,
+    alloc: Global,
+    rows: &[(&[u8], &[u8])],
+) -> Result<(), AllocError> {
+    for (text, want) in rows {
+        let outcome = Ok(Vec::from_slice(alloc, want)?);
+        assert_outcome(rt, alloc, text, &outcome)?;
+        assert_outcome(rt, alloc, want, &outcome)?;
+    }
+    Ok(())
 }

@@ -39,30 +39,6 @@ fn cats_layout(rt: HostRuntime) -> Result<(), Fail> {
 }
 
 #[test]
-fn bids_in_order_of_number(rt: HostRuntime) -> Result<(), Fail> {
-    let mut bids = Vec::new(rt.alloc());
-    bids.push(bid(rt.alloc(), 3_000_000, &[0], None)?)?;
-    bids.push(bid(rt.alloc(), 2_000_000, &[0], None)?)?;
-    bids.push(bid(rt.alloc(), 1_000_000, &[0], None)?)?;
-    let text = write(rt.alloc(), &BidFile::new(1, 0, bids))?;
-    let want = b"goods 1\nbids 3\ndummy 0\n0\t3\t0\t#\n1\t2\t0\t#\n2\t1\t0\t#\n";
-    assert_eq!(rt; text.as_slice(), want.as_slice());
-    Ok(())
-}
-
-#[test]
-fn decimal_prices(rt: HostRuntime) -> Result<(), Fail> {
-    let mut bids = Vec::new(rt.alloc());
-    bids.push(bid(rt.alloc(), 123_456, &[0], None)?)?;
-    bids.push(bid(rt.alloc(), 1_000_000_000_000_000_000, &[0], None)?)?;
-    bids.push(bid(rt.alloc(), 0, &[0], None)?)?;
-    let text = write(rt.alloc(), &BidFile::new(2, 0, bids))?;
-    let want = b"goods 2\nbids 3\ndummy 0\n0\t0.123456\t0\t#\n1\t1000000000000\t0\t#\n2\t0\t0\t#\n";
-    assert_eq!(rt; text.as_slice(), want.as_slice());
-    Ok(())
-}
-
-#[test]
 fn prices_and_sums(rt: HostRuntime) -> Result<(), Fail> {
     let prices = [
         (3_750_000, "3.75"),

@@ -2,10 +2,13 @@ ghost use Rattle.std.specs.Prelude.{◌≡◌, false};
 ghost use Rattle.cats_text.specs.Streams.{has_ended, has_failed};
 
 use super::{Watched, read_from, send};
+use crate::bid::BidFile;
 use crate::fault::{Kind, ReadFault, SendFault};
+use crate::limits::MAX_STREAM;
 use std::alloc::Global;
 use std::io;
 use std::io::{ErrorKind, Read, Write};
+use std::process::Abort;
 use std::test::Fail;
 
 /// Gives its text byte by byte, fails once with `kind` after `cut` bytes, and counts the calls.
@@ -92,7 +95,13 @@ impl Write for StepWriter {
     }
 }
 
-fn writer(alloc: Global, step: usize, room: usize, full: Full) -> Watched<StepWriter>
+fn writer(
+    alloc: Global,
+    step: usize,
+    room: usize,
+    full: Full,
+    flush_fails: bool,
+) -> Watched<StepWriter>
     ensures { has_failed result ≡ false }
 {
     Watched::new(StepWriter {
@@ -100,213 +109,295 @@ fn writer(alloc: Global, step: usize, room: usize, full: Full) -> Watched<StepWr
         step,
         room,
         full,
-        flush_fails: false,
+        flush_fails,
         writes: 0,
         flushes: 0,
     })
 }
 
-fn error_kind<T: Drop>(answer: io::Result<T>) -> Option<ErrorKind> {
-    match answer {
-        Ok(_) => None,
-        Err(e) => Some(e.kind()),
-    }
-}
-
 const BROKEN: Full = Full::Fails(ErrorKind::BrokenPipe);
 
-#[test]
-fn reads_pass_through_until_the_end(rt: HostRuntime) -> Result<(), Fail> {
-    let mut input = reader(b"xy", None, ErrorKind::Other);
-    let mut piece = [0; 4];
-    assert_eq!(rt; input.read(&mut piece)?, 1);
-    assert_eq!(rt; piece[0], b'x');
-    assert_eq!(rt; input.read(&mut piece)?, 1);
-    assert_eq!(rt; piece[0], b'y');
-    assert_eq!(rt; input.read(&mut [])?, 0);
-    assert!(rt; !input.ended());
-    assert_eq!(rt; input.read(&mut piece)?, 0);
-    assert!(rt; input.ended());
-    assert!(rt; !input.failed());
-    assert_eq!(rt; input.into_inner().calls, 4);
-    Ok(())
-}
+/// A read into a piece of four bytes, or into none; what it answers; the piece's first byte, and whether the reader has
+/// ended and has failed, afterwards.
+type ReadStep = (bool, Result<usize, ErrorKind>, u8, bool, bool);
+
+static READS: [(Option<usize>, &[ReadStep], u64); 2] = [
+    (
+        None,
+        &[
+            (true, Ok(1), b'x', false, false),
+            (true, Ok(1), b'y', false, false),
+            (false, Ok(0), b'y', false, false),
+            (true, Ok(0), b'y', true, false),
+        ],
+        4,
+    ),
+    (
+        Some(1),
+        &[
+            (true, Ok(1), b'x', false, false),
+            (true, Err(ErrorKind::Interrupted), b'x', false, true),
+            (true, Err(ErrorKind::Other), b'x', false, true),
+        ],
+        2,
+    ),
+];
 
 #[test]
-fn failed_reader_is_not_called_again(rt: HostRuntime) -> Result<(), Fail> {
-    let mut input = reader(b"xy", Some(1), ErrorKind::Interrupted);
-    let mut piece = [0; 4];
-    assert_eq!(rt; input.read(&mut piece)?, 1);
-    assert_eq!(rt;
-        error_kind(input.read(&mut piece)),
-        Some(ErrorKind::Interrupted)
-    );
-    assert!(rt; input.failed());
-    let again = error_kind(input.read(&mut piece));
-    assert!(rt; again.is_some_and(|kind| kind != ErrorKind::Interrupted));
-    assert!(rt; !input.ended());
-    assert_eq!(rt; input.into_inner().calls, 2);
-    Ok(())
-}
-
-#[test]
-fn failed_writer_is_not_called_again(rt: HostRuntime) -> Result<(), Fail> {
-    let mut out = writer(rt.alloc(), 3, 4, Full::Fails(ErrorKind::Interrupted));
-    assert_eq!(rt; out.write(b"goods")?, 3);
-    assert_eq!(rt; out.write(b"ds")?, 1);
-    assert_eq!(rt; out.write(b"")?, 0);
-    assert!(rt; !out.failed());
-    assert_eq!(rt; error_kind(out.write(b"s")), Some(ErrorKind::Interrupted));
-    assert!(rt; out.failed());
-    let again = error_kind(out.write(b""));
-    assert!(rt; again.is_some_and(|kind| kind != ErrorKind::Interrupted));
-    let flushed = error_kind(out.flush());
-    assert!(rt; flushed.is_some_and(|kind| kind != ErrorKind::Interrupted));
-    let inner = out.into_inner();
-    assert_eq!(rt; inner.taken.as_slice(), b"good".as_slice());
-    assert_eq!(rt; inner.writes, 4);
-    assert_eq!(rt; inner.flushes, 0);
-    Ok(())
-}
-
-#[test]
-fn taking_nothing_fails(rt: HostRuntime) -> Result<(), Fail> {
-    let mut out = writer(rt.alloc(), 3, 0, Full::TakesNothing);
-    assert_eq!(rt; out.write(b"goods")?, 0);
-    assert!(rt; out.failed());
-    assert!(rt; out.write(b"goods").is_err());
-    assert_eq!(rt; out.into_inner().writes, 1);
-    Ok(())
-}
-
-#[test]
-fn failed_flush_fails(rt: HostRuntime) -> Result<(), Fail> {
-    let mut out = writer(rt.alloc(), 3, 9, BROKEN);
-    out.flush()?;
-    assert!(rt; !out.failed());
-    let mut inner = out.into_inner();
-    inner.flush_fails = true;
-    let mut out = Watched::new(inner);
-    assert_eq!(rt; error_kind(out.flush()), Some(ErrorKind::BrokenPipe));
-    assert!(rt; out.failed());
-    assert_eq!(rt; out.into_inner().flushes, 2);
-    Ok(())
-}
-
-#[test]
-fn sends_the_whole_text_and_flushes_once(rt: HostRuntime) -> Result<(), Fail> {
-    for step in 1..9 {
-        let mut out = writer(rt.alloc(), step, 7, BROKEN);
-        send(&mut out, b"goods 0")?;
-        assert!(rt; !out.failed());
-        let inner = out.into_inner();
-        assert_eq!(rt; inner.taken.as_slice(), b"goods 0".as_slice());
-        assert_eq!(rt; inner.flushes, 1);
+fn reads_pass_through_until_one_fails(rt: HostRuntime) -> Result<(), Fail> {
+    for (cut, steps, calls) in &READS {
+        let mut input = reader(b"xy", *cut, ErrorKind::Interrupted);
+        let mut piece = [0; 4];
+        for (has_room, want, first, ended, failed) in *steps {
+            let answer = if *has_room {
+                input.read(&mut piece)
+            } else {
+                input.read(&mut [])
+            };
+            let told = (kind_of(answer), piece[0], input.ended(), input.failed());
+            assert_eq!(rt; told, (*want, *first, *ended, *failed));
+        }
+        assert_eq!(rt; input.into_inner().calls, *calls);
     }
     Ok(())
 }
 
+/// The answer with the kind of its error.
+fn kind_of(answer: io::Result<usize>) -> Result<usize, ErrorKind> {
+    match answer {
+        Ok(count) => Ok(count),
+        Err(e) => Err(e.kind()),
+    }
+}
+
+/// A write of a piece, or else a flush; what it answers, a flush with 0; whether the writer has failed afterwards.
+type WriteStep = (Option<&'static [u8]>, Result<usize, ErrorKind>, bool);
+
+/// What a writer of three bytes a call does that has room for so many, and whose flush may fail; what it takes, and how many
+/// writes and flushes reach it.
+type Writes = (
+    usize,
+    Full,
+    bool,
+    &'static [WriteStep],
+    &'static [u8],
+    u64,
+    u64,
+);
+
+static WRITES: [Writes; 4] = [
+    (
+        4,
+        Full::Fails(ErrorKind::Interrupted),
+        false,
+        &[
+            (Some(b"goods"), Ok(3), false),
+            (Some(b"ds"), Ok(1), false),
+            (Some(b""), Ok(0), false),
+            (Some(b"s"), Err(ErrorKind::Interrupted), true),
+            (Some(b""), Err(ErrorKind::Other), true),
+            (None, Err(ErrorKind::Other), true),
+        ],
+        b"good",
+        4,
+        0,
+    ),
+    (
+        0,
+        Full::TakesNothing,
+        false,
+        &[
+            (Some(b"goods"), Ok(0), true),
+            (Some(b"goods"), Err(ErrorKind::Other), true),
+        ],
+        b"",
+        1,
+        0,
+    ),
+    (9, BROKEN, false, &[(None, Ok(0), false)], b"", 0, 1),
+    (
+        9,
+        BROKEN,
+        true,
+        &[(None, Err(ErrorKind::BrokenPipe), true)],
+        b"",
+        0,
+        1,
+    ),
+];
+
 #[test]
-fn sends_nothing_and_flushes(rt: HostRuntime) -> Result<(), Fail> {
-    let mut out = writer(rt.alloc(), 1, 0, BROKEN);
-    send(&mut out, b"")?;
-    let inner = out.into_inner();
-    assert_eq!(rt; inner.writes, 0);
-    assert_eq!(rt; inner.flushes, 1);
+fn writes_pass_through_until_one_fails(rt: HostRuntime) -> Result<(), Fail> {
+    for (room, full, flush_fails, steps, taken, writes, flushes) in &WRITES {
+        let mut out = writer(rt.alloc(), 3, *room, *full, *flush_fails);
+        for (piece, want, failed) in *steps {
+            let answer = match piece {
+                Some(piece) => out.write(piece),
+                None => out.flush().map(|_| 0),
+            };
+            assert_eq!(rt; (kind_of(answer), out.failed()), (*want, *failed));
+        }
+        let inner = out.into_inner();
+        assert_eq!(rt; inner.taken.as_slice(), *taken);
+        assert_eq!(rt; (inner.writes, inner.flushes), (*writes, *flushes));
+    }
     Ok(())
 }
 
+/// Asserts what a writer that takes so many bytes a call and so many in all makes of a text that is sent: how much goes out,
+/// and whether a flush reaches it.
+fn assert_sends(
+    rt: &impl Abort,
+    mut out: Watched<StepWriter>,
+    text: &[u8],
+    want: Result<(), SendFault>,
+    flushes: u64,
+)
+    requires { has_failed out ≡ false }
+{
+    let written = match want {
+        Ok(()) => text.len() as u64,
+        Err(fault) => fault.written,
+    };
+    assert_eq!(rt; send(&mut out, text), want);
+    assert_eq!(rt; out.failed(), want.is_err());
+    let inner = out.into_inner();
+    assert_eq!(rt; inner.taken.len() as u64, written);
+    assert!(rt; text.starts_with(&inner.taken));
+    assert_eq!(rt; inner.flushes, flushes);
+}
+
 #[test]
-fn counts_what_went_out(rt: HostRuntime) -> Result<(), Fail> {
+fn sends_the_whole_text_and_flushes_once(rt: HostRuntime) {
+    for step in 1..9 {
+        let out = writer(rt.alloc(), step, 7, BROKEN, false);
+        assert_sends(&rt, out, b"goods 0", Ok(()), 1);
+    }
+    let out = writer(rt.alloc(), 1, 0, BROKEN, false);
+    assert_sends(&rt, out, b"", Ok(()), 1);
+}
+
+#[test]
+fn counts_what_went_out(rt: HostRuntime) {
     for full in [
         BROKEN,
         Full::Fails(ErrorKind::Interrupted),
         Full::TakesNothing,
     ] {
         for room in 0..7 {
-            let mut out = writer(rt.alloc(), 2, room, full);
-            let answer = send(&mut out, b"goods 0");
+            let out = writer(rt.alloc(), 2, room, full, false);
             let written = room as u64;
-            assert_eq!(rt; answer, Err(SendFault { written }));
-            assert!(rt; out.failed());
-            let inner = out.into_inner();
-            assert_eq!(rt; inner.taken.as_slice(), &b"goods 0"[..room]);
-            assert_eq!(rt; inner.flushes, 0);
+            assert_sends(&rt, out, b"goods 0", Err(SendFault { written }), 0);
         }
     }
-    Ok(())
+    let out = writer(rt.alloc(), 2, 9, BROKEN, true);
+    assert_sends(&rt, out, b"goods 0", Err(SendFault { written: 7 }), 1);
 }
 
-#[test]
-fn counts_all_where_the_flush_fails(rt: HostRuntime) -> Result<(), Fail> {
-    let mut inner = writer(rt.alloc(), 2, 9, BROKEN).into_inner();
-    inner.flush_fails = true;
-    let mut out = Watched::new(inner);
-    assert_eq!(rt; send(&mut out, b"goods 0"), Err(SendFault { written: 7 }));
-    assert!(rt; out.failed());
-    assert_eq!(rt; out.into_inner().taken.as_slice(), b"goods 0".as_slice());
-    Ok(())
-}
+/// A text, where and how its reader fails, and what reading it answers: the sizes of the file, or the fault. Whether the
+/// reader has ended and has failed afterwards, and how many reads reach it.
+type Stream = (
+    &'static [u8],
+    Option<usize>,
+    ErrorKind,
+    Result<(u16, usize, u32), ReadFault>,
+    bool,
+    bool,
+    u64,
+);
 
-/// What reading a stream answers: the sizes of the file, or the fault.
-fn read_sizes(
-    alloc: Global,
-    input: &mut Watched<ByteReader<'_>>,
-) -> Result<(u16, usize, u32), ReadFault>
-    requires works { has_failed input.old ≡ false }
-    requires fresh { has_ended input.old ≡ false }
-{
-    let file = read_from(alloc, input)?;
+const DEVICE: ReadFault = ReadFault {
+    line: 0,
+    kind: Kind::Device,
+};
+
+const HEADER: ReadFault = ReadFault {
+    line: 1,
+    kind: Kind::Header,
+};
+
+static STREAMS: [Stream; 5] = [
+    (
+        b"goods 3\nbids 0\ndummy 1\n",
+        None,
+        ErrorKind::Other,
+        Ok((3, 0, 1)),
+        true,
+        false,
+        24,
+    ),
+    (b"x y", None, ErrorKind::Other, Err(HEADER), false, false, 2),
+    (
+        b"goods 0\nbids 0\n",
+        Some(8),
+        ErrorKind::BrokenPipe,
+        Err(DEVICE),
+        false,
+        true,
+        9,
+    ),
+    (
+        b"goods 0\nbids 0\n",
+        Some(8),
+        ErrorKind::Interrupted,
+        Err(DEVICE),
+        false,
+        true,
+        9,
+    ),
+    (
+        b"Goods 0\n",
+        Some(8),
+        ErrorKind::BrokenPipe,
+        Err(HEADER),
+        false,
+        false,
+        6,
+    ),
+];
+
+/// The sizes of the file, or the fault.
+fn sizes(answer: Result<BidFile, ReadFault>) -> Result<(u16, usize, u32), ReadFault> {
+    let file = answer?;
     Ok((file.goods(), file.bids().len(), file.dummy()))
 }
 
 #[test]
-fn reads_until_the_end(rt: HostRuntime) -> Result<(), Fail> {
-    let text = b"goods 3\nbids 0\ndummy 1\n";
-    let mut input = reader(text, None, ErrorKind::Other);
-    assert_eq!(rt; read_sizes(rt.alloc(), &mut input), Ok((3, 0, 1)));
-    assert!(rt; input.ended());
-    assert!(rt; !input.failed());
-    assert_eq!(rt; input.into_inner().calls, text.len() as u64 + 1);
-    Ok(())
-}
-
-#[test]
-fn stops_reading_at_a_fault(rt: HostRuntime) -> Result<(), Fail> {
-    let mut input = reader(b"x y", None, ErrorKind::Other);
-    let (line, kind) = (1, Kind::Header);
-    assert_eq!(rt;
-        read_sizes(rt.alloc(), &mut input),
-        Err(ReadFault { line, kind })
-    );
-    assert!(rt; !input.ended());
-    assert_eq!(rt; input.into_inner().calls, 2);
-    Ok(())
-}
-
-#[test]
-fn device_fails(rt: HostRuntime) -> Result<(), Fail> {
-    for kind in [ErrorKind::BrokenPipe, ErrorKind::Interrupted] {
-        let mut input = reader(b"goods 0\nbids 0\n", Some(8), kind);
-        let (line, kind) = (0, Kind::Device);
-        assert_eq!(rt;
-            read_sizes(rt.alloc(), &mut input),
-            Err(ReadFault { line, kind })
-        );
-        assert!(rt; input.failed());
-        assert_eq!(rt; input.into_inner().calls, 9);
+fn reads_until_a_fault_or_the_end(rt: HostRuntime) -> Result<(), Fail> {
+    for (text, cut, kind, want, ended, failed, calls) in &STREAMS {
+        let mut input = reader(text, *cut, *kind);
+        let answer = sizes(read_from(rt.alloc(), &mut input));
+        let told = (answer, input.ended(), input.failed());
+        assert_eq!(rt; told, (*want, *ended, *failed));
+        assert_eq!(rt; input.into_inner().calls, *calls);
     }
     Ok(())
 }
 
+/// Gives a comment in each piece, and has no end. It counts the calls.
+#[derive(Drop)]
+struct EndlessReader {
+    calls: u64,
+}
+
+impl Read for EndlessReader {
+    fn read(&mut self, piece: &mut [u8]) -> io::Result<usize> {
+        self.calls = self.calls.saturating_add(1);
+        piece.fill(b'%');
+        if let Some(last) = piece.last_mut() {
+            *last = b'\n';
+        }
+        Ok(piece.len())
+    }
+}
+
 #[test]
-fn complete_fault_before_the_device_fails(rt: HostRuntime) -> Result<(), Fail> {
-    let mut input = reader(b"Goods 0\n", Some(8), ErrorKind::BrokenPipe);
-    let (line, kind) = (1, Kind::Header);
-    assert_eq!(rt;
-        read_sizes(rt.alloc(), &mut input),
-        Err(ReadFault { line, kind })
-    );
-    assert!(rt; !input.failed());
+fn endless_stream_is_too_long(rt: HostRuntime) -> Result<(), Fail> {
+    let mut input = Watched::new(EndlessReader { calls: 0 });
+    let answer = read_from(rt.alloc(), &mut input).err();
+    let (line, kind) = (0, Kind::TooLong);
+    assert_eq!(rt; answer, Some(ReadFault { line, kind }));
+    assert!(rt; !input.ended());
+    assert_eq!(rt; input.into_inner().calls, MAX_STREAM / 65_536 + 1);
     Ok(())
 }

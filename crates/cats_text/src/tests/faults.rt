@@ -1,14 +1,13 @@
 //! Texts that are refused, and their first faults.
 
-use super::{fault, fault_of, joined};
+use super::{assert_faults, assert_outcome, joined};
 use crate::fault::{Kind, ReadFault, SendFault};
+use std::alloc::{AllocError, Global};
+use std::process::Abort;
 use std::test::Fail;
 
-/// The header of two goods and one bid.
-pub const TWO_GOODS: &[u8] = b"goods 2\nbids 1\ndummy 0\n";
-
-/// Texts, and the lines and kinds of their faults.
-pub const HEADER_TEXTS: [(&[u8], u64, Kind); 27] = [
+/// Texts with faults in their header, and the lines and kinds of these.
+static HEADER_TEXTS: [(&[u8], u64, Kind); 27] = [
     (b"goods\n", 1, Kind::Header),
     (b"Goods 2\n", 1, Kind::Header),
     (b"goods 2x\n", 1, Kind::NotANumber),
@@ -38,71 +37,8 @@ pub const HEADER_TEXTS: [(&[u8], u64, Kind); 27] = [
     (b"\xef\xbb\xbfgoods 1\n", 1, Kind::Header),
 ];
 
-#[test]
-fn faults_of_header_lines(rt: HostRuntime) -> Result<(), Fail> {
-    for (place, (text, line, kind)) in HEADER_TEXTS.into_iter().enumerate() {
-        assert_eq!(rt;
-            fault_of(rt.alloc(), text),
-            fault(line, kind),
-            "row {place}"
-        );
-    }
-    Ok(())
-}
-
-/// Fourth lines behind the header of two goods and one bid, and the kinds of their faults.
-pub const BID_LINES: [(&[u8], Kind); 38] = [
-    (b"x 1 0 #", Kind::NotANumber),
-    (b"1 1 0 #", Kind::BidNumber),
-    (b"0 .5 0 #", Kind::NotANumber),
-    (b"0 5. 0 #", Kind::NotANumber),
-    (b"0 -1 0 #", Kind::NotANumber),
-    (b"0 1e3 0 #", Kind::NotANumber),
-    (b"0 1 2 2 #", Kind::GoodRange),
-    (b"0 1 0 00 #", Kind::RepeatedGood),
-    (b"0 1 #", Kind::EmptyBundle),
-    (b"0 1 0#", Kind::NotANumber),
-    (b"0 1 0 # 1", Kind::AfterEnd),
-    (b"0 1 0", Kind::NoEnd),
-    (b"0", Kind::NoEnd),
-    (b"0 #", Kind::NotANumber),
-    (b"0 0.1234567 0 #", Kind::TooFine),
-    (b"0 1000000000000.0000001 0 #", Kind::TooLarge),
-    (b"0 1.2.3 0 #", Kind::NotANumber),
-    (b"0 1000000000001 0 #", Kind::TooLarge),
-    (b"0 1000000000000.000001 0 #", Kind::TooLarge),
-    (b"0 1000000000001.0000001 0 #", Kind::TooLarge),
-    (b"0 999999999999.9999999 0 #", Kind::TooFine),
-    (b"0 1. 0 #", Kind::NotANumber),
-    (b"0 . 0 #", Kind::NotANumber),
-    (b"0 0.12345x 0 #", Kind::NotANumber),
-    (b"0 +1 0 #", Kind::NotANumber),
-    (b"0 1,5 0 #", Kind::NotANumber),
-    (b"0 1", Kind::NoEnd),
-    (b"0.0 1 0 #", Kind::NotANumber),
-    (b"# 1 0 #", Kind::NotANumber),
-    (b"0 1 0.0 #", Kind::NotANumber),
-    (b"0 1 -0 #", Kind::NotANumber),
-    (b"0 1 goods #", Kind::NotANumber),
-    (b"0 1 ## #", Kind::NotANumber),
-    (b"0 1 0 %", Kind::NotANumber),
-    (b"0 1 0 # %", Kind::AfterEnd),
-    (b"0 1 0 # #", Kind::AfterEnd),
-    (b"0 1 0 1 0 #", Kind::RepeatedGood),
-    (b"0 1 0\r #", Kind::NotANumber),
-];
-
-#[test]
-fn faults_of_bid_lines(rt: HostRuntime) -> Result<(), Fail> {
-    for (place, (line, kind)) in BID_LINES.into_iter().enumerate() {
-        let text = joined(rt.alloc(), &[TWO_GOODS, line, b"\n"])?;
-        assert_eq!(rt; fault_of(rt.alloc(), &text), fault(4, kind), "row {place}");
-    }
-    Ok(())
-}
-
-/// Texts, and the lines and kinds of their faults.
-pub const BID_TEXTS: [(&[u8], u64, Kind); 22] = [
+/// The same behind other headers and bids.
+static BID_TEXTS: [(&[u8], u64, Kind); 22] = [
     (b"goods 1\nbids 1\ndummy 1\n0 1 1 #\n", 4, Kind::EmptyBundle),
     (
         b"goods 1\nbids 1\ndummy 2\n0 1 0 1 2 #\n",
@@ -187,15 +123,101 @@ pub const BID_TEXTS: [(&[u8], u64, Kind); 22] = [
     ),
 ];
 
+/// The same where a number is above its limit, or stands at it.
+static ABOVE_SIZES: [(&[u8], u64, Kind); 9] = [
+    (
+        b"goods 1024\nbids 1\ndummy 0\n0\t1000000000001\t1023\t#\n",
+        4,
+        Kind::TooLarge,
+    ),
+    (
+        b"goods 1024\nbids 1\ndummy 0\n0\t1000000000000\t1024\t#\n",
+        4,
+        Kind::GoodRange,
+    ),
+    (b"goods 4097\nbids 0\ndummy 0\n", 1, Kind::TooLarge),
+    (b"goods 0\nbids 65537\ndummy 0\n", 2, Kind::TooLarge),
+    (b"goods 0\nbids 65536\ndummy 65537\n", 3, Kind::TooLarge),
+    (
+        b"goods 4096\nbids 1\ndummy 65536\n0\t1\t4095\t69632\t#\n",
+        4,
+        Kind::GoodRange,
+    ),
+    (b"goods 1024\nbids 65536\ndummy 65536\n", 4, Kind::Missing),
+    (b"goods 4096\nbids 65536\ndummy 65536\n", 4, Kind::Missing),
+    (
+        b"goods 4096\nbids 65536\ndummy 0\n65535 1 0 #\n65536 1 0 #\n",
+        5,
+        Kind::BidNumber,
+    ),
+];
+
 #[test]
-fn faults_after_other_headers_and_bids(rt: HostRuntime) -> Result<(), Fail> {
-    for (place, (text, line, kind)) in BID_TEXTS.into_iter().enumerate() {
-        assert_eq!(rt;
-            fault_of(rt.alloc(), text),
-            fault(line, kind),
-            "row {place}"
-        );
+fn faults_of_texts(rt: HostRuntime) -> Result<(), Fail> {
+    assert_faults(&rt, rt.alloc(), &HEADER_TEXTS)?;
+    assert_faults(&rt, rt.alloc(), &BID_TEXTS)?;
+    assert_faults(&rt, rt.alloc(), &ABOVE_SIZES)?;
+    Ok(())
+}
+
+/// Fourth lines behind the header of two goods and one bid, and the kinds of their faults.
+static BID_LINES: [(&[u8], Kind); 38] = [
+    (b"x 1 0 #", Kind::NotANumber),
+    (b"1 1 0 #", Kind::BidNumber),
+    (b"0 .5 0 #", Kind::NotANumber),
+    (b"0 5. 0 #", Kind::NotANumber),
+    (b"0 -1 0 #", Kind::NotANumber),
+    (b"0 1e3 0 #", Kind::NotANumber),
+    (b"0 1 2 2 #", Kind::GoodRange),
+    (b"0 1 0 00 #", Kind::RepeatedGood),
+    (b"0 1 #", Kind::EmptyBundle),
+    (b"0 1 0#", Kind::NotANumber),
+    (b"0 1 0 # 1", Kind::AfterEnd),
+    (b"0 1 0", Kind::NoEnd),
+    (b"0", Kind::NoEnd),
+    (b"0 #", Kind::NotANumber),
+    (b"0 0.1234567 0 #", Kind::TooFine),
+    (b"0 1000000000000.0000001 0 #", Kind::TooLarge),
+    (b"0 1.2.3 0 #", Kind::NotANumber),
+    (b"0 1000000000001 0 #", Kind::TooLarge),
+    (b"0 1000000000000.000001 0 #", Kind::TooLarge),
+    (b"0 1000000000001.0000001 0 #", Kind::TooLarge),
+    (b"0 999999999999.9999999 0 #", Kind::TooFine),
+    (b"0 1. 0 #", Kind::NotANumber),
+    (b"0 . 0 #", Kind::NotANumber),
+    (b"0 0.12345x 0 #", Kind::NotANumber),
+    (b"0 +1 0 #", Kind::NotANumber),
+    (b"0 1,5 0 #", Kind::NotANumber),
+    (b"0 1", Kind::NoEnd),
+    (b"0.0 1 0 #", Kind::NotANumber),
+    (b"# 1 0 #", Kind::NotANumber),
+    (b"0 1 0.0 #", Kind::NotANumber),
+    (b"0 1 -0 #", Kind::NotANumber),
+    (b"0 1 goods #", Kind::NotANumber),
+    (b"0 1 ## #", Kind::NotANumber),
+    (b"0 1 0 %", Kind::NotANumber),
+    (b"0 1 0 # %", Kind::AfterEnd),
+    (b"0 1 0 # #", Kind::AfterEnd),
+    (b"0 1 0 1 0 #", Kind::RepeatedGood),
+    (b"0 1 0\r #", Kind::NotANumber),
+];
+
+fn assert_line_faults(
+    rt: &impl Abort,
+    alloc: Global,
+    rows: &[(&[u8], Kind)],
+) -> Result<(), AllocError> {
+    for (line, kind) in rows {
+        let text = joined(alloc, &[b"goods 2\nbids 1\ndummy 0\n", line, b"\n"])?;
+        let (line, kind) = (4, *kind);
+        assert_outcome(rt, alloc, &text, &Err(ReadFault { line, kind }))?;
     }
+    Ok(())
+}
+
+#[test]
+fn faults_of_bid_lines(rt: HostRuntime) -> Result<(), Fail> {
+    assert_line_faults(&rt, rt.alloc(), &BID_LINES)?;
     Ok(())
 }
 

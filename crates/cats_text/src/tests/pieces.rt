@@ -2,89 +2,41 @@
 
 ghost use Rattle.std.specs.Prelude.{◌<◌, ◌^◌};
 
-use super::faults::{BID_LINES, BID_TEXTS, HEADER_TEXTS, TWO_GOODS};
-use super::whole_files::{ACCEPTED, CATS};
-use super::{Outcome, fault, fault_of, joined, many, outcome, outcome_of, read_pieces};
+use super::whole_files::CATS;
+use super::{fault, fault_of, many, outcome_of_bytes};
 use crate::fault::{Kind, ReadFault};
 use crate::limits::MAX_STREAM;
 use crate::reader::Reader;
 use std::alloc::{AllocError, Global};
-use std::process::Abort;
 use std::test::Fail;
 
-/// What reading byte by byte gives.
-fn outcome_of_bytes(alloc: Global, text: &[u8]) -> Result<Outcome, AllocError> {
-    let mut reader = Reader::new(alloc, MAX_STREAM);
-    for byte in text {
-        if let Err(fault) = reader.feed(&[*byte]) {
-            return Ok(Err(fault));
-        }
-    }
-    outcome(alloc, reader.finish())
-}
-
-/// Asserts that a text gives in two pieces what it gives in one, wherever it is cut, and byte by byte too.
-fn assert_any_cut(rt: &impl Abort, alloc: Global, text: &[u8]) -> Result<(), AllocError> {
-    let whole = outcome_of(alloc, text)?;
-    assert_eq!(rt; outcome_of_bytes(alloc, text)?, whole, "byte by byte");
-    for place in 0..=text.len() {
-        let (front, back) = text.split_at(place);
-        let pieces = outcome(alloc, read_pieces(alloc, &[front, back]))?;
-        assert_eq!(rt; pieces, whole, "cut at {place}");
-    }
-    Ok(())
-}
-
-#[test]
-fn accepted_texts_cut_at_every_place(rt: HostRuntime) -> Result<(), Fail> {
-    for (text, _) in ACCEPTED {
-        assert_any_cut(&rt, rt.alloc(), text)?;
-    }
-    Ok(())
-}
-
-#[test]
-fn faulty_texts_cut_at_every_place(rt: HostRuntime) -> Result<(), Fail> {
-    for (text, _, _) in HEADER_TEXTS {
-        assert_any_cut(&rt, rt.alloc(), text)?;
-    }
-    for (line, _) in BID_LINES {
-        let text = joined(rt.alloc(), &[TWO_GOODS, line, b"\n"])?;
-        assert_any_cut(&rt, rt.alloc(), &text)?;
-    }
-    for (text, _, _) in BID_TEXTS {
-        assert_any_cut(&rt, rt.alloc(), text)?;
-    }
-    Ok(())
-}
+/// The least and the greatest of some numbers of first bytes of `CATS`, and the line and the kind of their fault.
+static FIRST_BYTES: [(usize, usize, Option<(u64, Kind)>); 14] = [
+    (0, 0, Some((1, Kind::Missing))),
+    (1, 13, Some((2, Kind::Missing))),
+    (14, 14, Some((3, Kind::Missing))),
+    (15, 20, Some((3, Kind::Header))),
+    (21, 22, Some((4, Kind::Missing))),
+    (23, 27, Some((4, Kind::Header))),
+    (28, 29, Some((5, Kind::Missing))),
+    (30, 35, Some((5, Kind::Header))),
+    (36, 37, Some((6, Kind::Missing))),
+    (38, 38, Some((7, Kind::Missing))),
+    (39, 49, Some((7, Kind::NoEnd))),
+    (50, 51, Some((8, Kind::Missing))),
+    (52, 57, Some((8, Kind::NoEnd))),
+    (58, 59, None),
+];
 
 #[test]
 fn first_bytes_of_a_file(rt: HostRuntime) -> Result<(), Fail> {
-    let rows = [
-        (0..=0, fault(1, Kind::Missing)),
-        (1..=13, fault(2, Kind::Missing)),
-        (14..=14, fault(3, Kind::Missing)),
-        (15..=20, fault(3, Kind::Header)),
-        (21..=22, fault(4, Kind::Missing)),
-        (23..=27, fault(4, Kind::Header)),
-        (28..=29, fault(5, Kind::Missing)),
-        (30..=35, fault(5, Kind::Header)),
-        (36..=37, fault(6, Kind::Missing)),
-        (38..=38, fault(7, Kind::Missing)),
-        (39..=49, fault(7, Kind::NoEnd)),
-        (50..=51, fault(8, Kind::Missing)),
-        (52..=57, fault(8, Kind::NoEnd)),
-        (58..=59, None),
-    ];
-    for (counts, want) in rows {
-        for count in counts {
+    for (least, greatest, want) in &FIRST_BYTES {
+        for count in *least..=*greatest {
             let text = CATS.get(..count).ok_or("too short")?;
+            let want = want.and_then(|(line, kind)| fault(line, kind));
             assert_eq!(rt; fault_of(rt.alloc(), text), want, "{count} bytes");
-            assert_eq!(rt;
-                outcome_of_bytes(rt.alloc(), text)?.err(),
-                want,
-                "{count} bytes"
-            );
+            let told = outcome_of_bytes(rt.alloc(), text)?.err();
+            assert_eq!(rt; told, want, "{count} bytes");
         }
     }
     Ok(())
@@ -93,18 +45,108 @@ fn first_bytes_of_a_file(rt: HostRuntime) -> Result<(), Fail> {
 #[test]
 fn fault_told_once_it_is_complete(rt: HostRuntime) -> Result<(), Fail> {
     let text = b"goods 2\nbids 2\ndummy 2\n0\t1\t0\t2\t#\n1\t1\t1\t2\t3\t#\n";
+    let two_dummies = fault(5, Kind::TwoDummies);
     for count in 0..=45 {
         let piece = text.get(..count).ok_or("too short")?;
         let told = Reader::new(rt.alloc(), MAX_STREAM).feed(piece).err();
-        let want = if count < 43 {
-            None
-        } else {
-            fault(5, Kind::TwoDummies)
-        };
+        let want = if count < 43 { None } else { two_dummies };
         assert_eq!(rt; told, want, "{count} bytes");
     }
     Ok(())
 }
+
+const NOT_A_NUMBER: Option<ReadFault> = Some(ReadFault {
+    line: 1,
+    kind: Kind::NotANumber,
+});
+
+const HEADER: Option<ReadFault> = Some(ReadFault {
+    line: 1,
+    kind: Kind::Header,
+});
+
+const MISSING_1: Option<ReadFault> = Some(ReadFault {
+    line: 1,
+    kind: Kind::Missing,
+});
+
+const MISSING_2: Option<ReadFault> = Some(ReadFault {
+    line: 2,
+    kind: Kind::Missing,
+});
+
+const TOO_LONG: Option<ReadFault> = Some(ReadFault {
+    line: 0,
+    kind: Kind::TooLong,
+});
+
+/// A limit and pieces, and what a reader answers to each and at the end.
+type Answers = (
+    u64,
+    &'static [&'static [u8]],
+    &'static [Option<ReadFault>],
+    Option<ReadFault>,
+);
+
+/// Carriage returns wait for the byte behind them; limits, faults and ends.
+static ANSWERS: [Answers; 21] = [
+    (
+        MAX_STREAM,
+        &[b"goods 0\r", b"\nbids 0\ndummy 0\n"],
+        &[None, None],
+        None,
+    ),
+    (
+        MAX_STREAM,
+        &[b"goods 0\r", b"1", b"\n"],
+        &[None, None, NOT_A_NUMBER],
+        NOT_A_NUMBER,
+    ),
+    (MAX_STREAM, &[b"\r%", b" "], &[None, HEADER], HEADER),
+    (
+        MAX_STREAM,
+        &[b"\r", b"%", b"\n"],
+        &[None, None, HEADER],
+        HEADER,
+    ),
+    (
+        MAX_STREAM,
+        &[b"\r", b"\r", b"\n"],
+        &[None, None, HEADER],
+        HEADER,
+    ),
+    (
+        MAX_STREAM,
+        &[b"\r", b"", b"\n"],
+        &[None, None, None],
+        MISSING_2,
+    ),
+    (MAX_STREAM, &[b"\r"], &[None], MISSING_2),
+    (MAX_STREAM, &[b"x\r"], &[None], HEADER),
+    (MAX_STREAM, &[b"x\r", b"\n"], &[None, HEADER], HEADER),
+    (4, &[b"goods 0\n"], &[TOO_LONG], TOO_LONG),
+    (6, &[b"x y z 1", b"goods"], &[HEADER, HEADER], HEADER),
+    (6, &[b"x y z 1", b""], &[HEADER, HEADER], HEADER),
+    (
+        8,
+        &[b"goods 0\n", b"", b"b"],
+        &[None, None, TOO_LONG],
+        TOO_LONG,
+    ),
+    (
+        8,
+        &[b"goods 0\n", b"b", b""],
+        &[None, TOO_LONG, TOO_LONG],
+        TOO_LONG,
+    ),
+    (1, &[b"x "], &[TOO_LONG], TOO_LONG),
+    (2, &[b"x "], &[HEADER], HEADER),
+    (0, &[b""], &[None], MISSING_1),
+    (0, &[b"\n"], &[TOO_LONG], TOO_LONG),
+    (MAX_STREAM, &[], &[], MISSING_1),
+    (MAX_STREAM, &[b"goods 0"], &[None], MISSING_2),
+    (23, &[b"goods 0\nbids 0\ndummy 0\n"], &[None], None),
+];
 
 /// What a reader of this limit answers to each piece and at the end.
 fn answers(
@@ -123,70 +165,11 @@ fn answers(
 }
 
 #[test]
-fn returns_wait_for_the_next_byte(rt: HostRuntime) -> Result<(), Fail> {
-    let alloc = rt.alloc();
-    let not_a_number = fault(1, Kind::NotANumber);
-    let header = fault(1, Kind::Header);
-    let rows: [(&[&[u8]], &[Option<ReadFault>], Option<ReadFault>); 9] = [
-        (&[b"goods 0\r", b"\nbids 0\ndummy 0\n"], &[None, None], None),
-        (
-            &[b"goods 0\r", b"1", b"\n"],
-            &[None, None, not_a_number],
-            not_a_number,
-        ),
-        (&[b"\r%", b" "], &[None, header], header),
-        (&[b"\r", b"%", b"\n"], &[None, None, header], header),
-        (&[b"\r", b"\r", b"\n"], &[None, None, header], header),
-        (
-            &[b"\r", b"", b"\n"],
-            &[None, None, None],
-            fault(2, Kind::Missing),
-        ),
-        (&[b"\r"], &[None], fault(2, Kind::Missing)),
-        (&[b"x\r"], &[None], header),
-        (&[b"x\r", b"\n"], &[None, header], header),
-    ];
-    for (place, (pieces, want, end)) in rows.into_iter().enumerate() {
-        let (told, last) = answers(alloc, MAX_STREAM, pieces)?;
-        assert_eq!(rt; told.as_slice(), want, "row {place}");
-        assert_eq!(rt; last, end, "row {place}");
-    }
-    Ok(())
-}
-
-#[test]
-fn limits_and_ends_of_readers(rt: HostRuntime) -> Result<(), Fail> {
-    let alloc = rt.alloc();
-    let too_long = fault(0, Kind::TooLong);
-    let header = fault(1, Kind::Header);
-    let rows: [(u64, &[&[u8]], &[Option<ReadFault>], Option<ReadFault>); 12] = [
-        (4, &[b"goods 0\n"], &[too_long], too_long),
-        (6, &[b"x y z 1", b"goods"], &[header, header], header),
-        (6, &[b"x y z 1", b""], &[header, header], header),
-        (
-            8,
-            &[b"goods 0\n", b"", b"b"],
-            &[None, None, too_long],
-            too_long,
-        ),
-        (
-            8,
-            &[b"goods 0\n", b"b", b""],
-            &[None, too_long, too_long],
-            too_long,
-        ),
-        (1, &[b"x "], &[too_long], too_long),
-        (2, &[b"x "], &[header], header),
-        (0, &[b""], &[None], fault(1, Kind::Missing)),
-        (0, &[b"\n"], &[too_long], too_long),
-        (MAX_STREAM, &[], &[], fault(1, Kind::Missing)),
-        (MAX_STREAM, &[b"goods 0"], &[None], fault(2, Kind::Missing)),
-        (23, &[b"goods 0\nbids 0\ndummy 0\n"], &[None], None),
-    ];
-    for (place, (limit, pieces, want, end)) in rows.into_iter().enumerate() {
-        let (told, last) = answers(alloc, limit, pieces)?;
-        assert_eq!(rt; told.as_slice(), want, "row {place}");
-        assert_eq!(rt; last, end, "row {place}");
+fn answers_to_each_piece_and_at_the_end(rt: HostRuntime) -> Result<(), Fail> {
+    for (limit, pieces, want, end) in &ANSWERS {
+        let (told, last) = answers(rt.alloc(), (*limit).min(MAX_STREAM), pieces)?;
+        assert_eq!(rt; told.as_slice(), *want, "{pieces:?}");
+        assert_eq!(rt; last, *end, "{pieces:?}");
     }
     Ok(())
 }

@@ -1,6 +1,6 @@
 //! Files that are accepted, and what is written of them.
 
-use super::{sizes, written};
+use super::{assert_written, sizes, written};
 use crate::bid::BidFile;
 use crate::layout::write;
 use crate::limits::MAX_STREAM;
@@ -17,7 +17,7 @@ pub const CATS: &[u8] =
     b"%% a comment\n\ngoods 3\nbids 2\ndummy 1\n\n0\t20\t0\t2\t3\t#\n1\t7\t1\t#\n";
 
 /// Texts, and what is written of their files.
-pub const ACCEPTED: [(&[u8], &[u8]); 13] = [
+static ACCEPTED: [(&[u8], &[u8]); 20] = [
     (b"goods 0\nbids 0\ndummy 0\n", b"goods 0\nbids 0\ndummy 0\n"),
     (b"goods 0\nbids 0\ndummy 0", b"goods 0\nbids 0\ndummy 0\n"),
     (LENIENT, b"goods 2\nbids 1\ndummy 0\n0\t5\t0\t1\t#\n"),
@@ -58,29 +58,54 @@ pub const ACCEPTED: [(&[u8], &[u8]); 13] = [
         b"goods 2\nbids 2\ndummy 2\n0\t0\t0\t2\t#\n1\t2\t1\t3\t#\n",
         b"goods 2\nbids 2\ndummy 2\n0\t0\t0\t2\t#\n1\t2\t1\t3\t#\n",
     ),
+    (
+        b"goods 2\nbids 3\ndummy 0\n0 1.50 0 #\n1 02.25 1 #\n2 3.75 0 1 #\n",
+        b"goods 2\nbids 3\ndummy 0\n0\t1.5\t0\t#\n1\t2.25\t1\t#\n2\t3.75\t0\t1\t#\n",
+    ),
+    (
+        b"goods 1024\nbids 1\ndummy 0\n0\t1000000000000\t1023\t#\n",
+        b"goods 1024\nbids 1\ndummy 0\n0\t1000000000000\t1023\t#\n",
+    ),
+    (
+        b"goods 4096\nbids 1\ndummy 0\n0\t1\t4095\t#\n",
+        b"goods 4096\nbids 1\ndummy 0\n0\t1\t4095\t#\n",
+    ),
+    (
+        b"goods 4096\nbids 1\ndummy 65536\n0\t1\t4095\t69631\t#\n",
+        b"goods 4096\nbids 1\ndummy 65536\n0\t1\t4095\t69631\t#\n",
+    ),
+    (
+        b"goods 4096\nbids 1\ndummy 65536\n0\t1\t0\t65536\t#\n",
+        b"goods 4096\nbids 1\ndummy 65536\n0\t1\t0\t65536\t#\n",
+    ),
+    (
+        b"goods 4096\nbids 0\ndummy 65536\n",
+        b"goods 4096\nbids 0\ndummy 65536\n",
+    ),
+    (
+        b"goods 1025\nbids 0\ndummy 0\n",
+        b"goods 1025\nbids 0\ndummy 0\n",
+    ),
 ];
 
 #[test]
 fn accepted_texts_as_they_are_written(rt: HostRuntime) -> Result<(), Fail> {
-    for (text, want) in ACCEPTED {
-        let out = written(rt.alloc(), text)?;
-        assert_eq!(rt; out.as_slice(), want);
-        let again = written(rt.alloc(), want)?;
-        assert_eq!(rt; again.as_slice(), want);
-    }
+    assert_written(&rt, rt.alloc(), &ACCEPTED)?;
     Ok(())
 }
 
+/// Texts, and their numbers of goods, bids and dummies.
+static SIZES: [(&[u8], (u16, usize, u32)); 4] = [
+    (b"goods 0\nbids 0\ndummy 0\n", (0, 0, 0)),
+    (LENIENT, (2, 1, 0)),
+    (CATS, (3, 2, 1)),
+    (b"goods 1025\nbids 0\ndummy 0\n", (1_025, 0, 0)),
+];
+
 #[test]
 fn sizes_of_accepted_texts(rt: HostRuntime) -> Result<(), Fail> {
-    let rows: [(&[u8], (u16, usize, u32)); 4] = [
-        (b"goods 0\nbids 0\ndummy 0\n", (0, 0, 0)),
-        (LENIENT, (2, 1, 0)),
-        (CATS, (3, 2, 1)),
-        (b"goods 1025\nbids 0\ndummy 0\n", (1_025, 0, 0)),
-    ];
-    for (text, want) in rows {
-        assert_eq!(rt; sizes(rt.alloc(), text), Ok(want));
+    for (text, want) in &SIZES {
+        assert_eq!(rt; sizes(rt.alloc(), text), Ok(*want));
     }
     Ok(())
 }

@@ -22,5 +22,5 @@ returns-in-Ok c =
 pub returns-in-Err : goal.returns-in-Err
 returns-in-Err c =
     rw (← c.self.view_is, c.in_default.is, c.told.ensures)
-    (ended_fault c.self.inside.limit c.self.inside.count c.self.inside.scanner c.self.inside.history.bytes c.in-Err.halt (c.self.invariant.taken c.in_default.is)
+    (ended_fault c.self.inside.limit c.self.inside.count c.self.inside.scanner c.self.inside.history.bytes c.in-Err.stopped (c.self.invariant.taken c.in_default.is)
     c.in-Err.ensures.steps c.in-Err.ensures.memory)
