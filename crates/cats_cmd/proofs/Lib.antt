@@ -1,3 +1,4 @@
+pub mod Normalised
 -- Proofs that several functions of this crate cite.
 mod Tellings
 mod Numbering

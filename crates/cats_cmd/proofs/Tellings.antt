@@ -9,9 +9,9 @@ use Rattle.cats_text.specs.declared.bid.BidFile.{BidFile}
 use Rattle.cats_text.specs.declared.stream.Watched.{Watched}
 use Rattle.cats_cmd.specs.Outcomes.{Outcome, Tells}
 use Rattle.cats_cmd.specs.Runs.{ReadsInput, RunsOnFile, RunsAs, SendsAs, TellsAs, IsRefusedByReading, IsRefusedFile, MakesAs}
-use Rattle.cats_cmd.specs.declared.canon_fault.CanonFault.{CanonFault}
-use Rattle.cats_cmd.specs.declared.canon_fault.CanonFault.TheVariants.{Read, StepLimit, Memory}
-use Rattle.cats_cmd.specs.declared.which.Which.TheVariants.{Only}
+use Rattle.canon.specs.declared.fault.CanonFault.{CanonFault}
+use Rattle.canon.specs.declared.fault.CanonFault.TheVariants.{Read, StepLimit, Memory}
+use Rattle.canon.specs.declared.which.Which.TheVariants.{Only}
 use Rattle.cats_cmd.specs.declared.report.RunFault.{RunFault}
 use Rattle.cats_cmd.specs.declared.report.RunFault.TheVariants.{Refused, GoodRange, Sent}
 

@@ -4,6 +4,8 @@ use Rattle.cats_text.specs.Files.{PlainFile}
 use Rattle.cats_text.specs.Layout.{layout}
 use Rattle.valuation.specs.Auctions.{or_atoms_of}
 use Rattle.valuation.specs.Packings.{count_packings}
+use Rattle.prune.specs.Steps.{first_heavy}
+use Rattle.canon.specs.Canonical.{canonical_text}
 use Rattle.cats_cmd.specs.Outputs.{check_text}
 use Rattle.cats_cmd.specs.ValueTexts.{bundle_from, value_text}
 
@@ -39,3 +41,11 @@ values_within limit bundle file =
 -- of `cats value` on these goods
 abbrev pub value_outcome : List ℕ → ℕ → PlainFile → Outcome
 value_outcome goods limit file = outcome_unless (missing_good file.goods goods) (values_within limit (bundle_from goods) file)
+
+abbrev pub text_unless_heavy : PlainFile → Option (List ℕ) → Outcome
+text_unless_heavy file None = Tells 0 (canonical_text file)
+text_unless_heavy file (Some goods) = ExceedsSteps goods
+
+-- of `cats normalise`: the canonical text, unless a bundle of the OR bidder is heavy
+abbrev pub normalise_outcome : ℕ → PlainFile → Outcome
+normalise_outcome limit file = text_unless_heavy file (first_heavy file.goods limit (or_atoms_of file.bids))

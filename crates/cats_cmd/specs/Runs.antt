@@ -6,27 +6,17 @@ use Rattle.cats_text.specs.Files.{PlainFile}
 use Rattle.cats_text.specs.Streams.{inner_of, ReadsFile, FaultsAt, SendsWhole, SendsPart}
 use Rattle.cats_text.specs.Views.{plain_file}
 use Rattle.cats_text.specs.declared.bid.BidFile.{BidFile}
-use Rattle.cats_text.specs.declared.fault.ReadFault.{ReadFault}
-use Rattle.cats_text.specs.declared.fault.Kind.{Kind}
 use Rattle.cats_text.specs.declared.fault.Kind.TheVariants.{Memory as NoMemory}
 use Rattle.cats_text.specs.declared.stream.Watched.{Watched}
-use Rattle.cats_cmd.specs.declared.canon_fault.CanonFault.{CanonFault}
-use Rattle.cats_cmd.specs.declared.canon_fault.CanonFault.TheVariants.{Read, StepLimit, Memory}
-use Rattle.cats_cmd.specs.declared.which.Which.{Which}
-use Rattle.cats_cmd.specs.declared.which.Which.TheVariants.{Only}
+use Rattle.canon.specs.declared.fault.CanonFault.{CanonFault}
+use Rattle.canon.specs.declared.fault.CanonFault.TheVariants.{Read, StepLimit, Memory}
+use Rattle.canon.specs.declared.which.Which.{Which}
+use Rattle.canon.specs.declared.which.Which.TheVariants.{Only}
 use Rattle.cats_cmd.specs.declared.report.RunFault.{RunFault}
 use Rattle.cats_cmd.specs.declared.report.RunFault.TheVariants.{Refused, GoodRange, Sent}
 use Rattle.cats_cmd.specs.Outcomes.{Outcome, Tells, LacksGood, ExceedsSteps}
 
 -- ---- reading a file
-
--- how a fault of reading is told
-abbrev pub refusal_by_kind : ReadFault → Kind → CanonFault
-refusal_by_kind fault NoMemory = Memory
-refusal_by_kind fault kind = Read fault
-
-abbrev pub refusal_of : ReadFault → CanonFault
-refusal_of fault = refusal_by_kind fault fault.kind
 
 module _ {R : Type 0} (remaining : R → Option (List ℕ)) where
   -- Reading the bytes refused the file. Memory that a reader was refused is told as the run's own.

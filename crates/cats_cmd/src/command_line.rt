@@ -17,6 +17,10 @@ pub(crate) enum Request<'a> {
         goods: Vec<u16>,
         limit: u64,
     },
+    Normalise {
+        file: &'a str,
+        limit: u64,
+    },
 }
 
 const FILE: &str = "FILE";
@@ -52,6 +56,7 @@ fn find_request<'a>(
         "check" => Ok(Some(Request::Check { file })),
         "show" => Ok(Some(Request::Show { file })),
         "value" => find_value_request(alloc, given, file),
+        "normalise" => Ok(find_normalise_request(given, file)),
         _ => Ok(None),
     }
 }
@@ -74,13 +79,19 @@ fn find_value_request<'a>(
     Ok(Some(Request::Value { file, goods, limit }))
 }
 
+fn find_normalise_request<'a>(given: &ArgMatches<'a>, file: &'a str) -> Option<Request<'a>> {
+    let limit = given.get_one::<u64>(STEPS)?;
+    Some(Request::Normalise { file, limit })
+}
+
 fn cats_command<'a>(alloc: Global) -> Result<Command<'a>, AllocError> {
     Command::new(alloc, "cats")
         .about("Reads auction bid files in the format of CATS 2.0")
         .subcommand_required(true)
         .subcommand(check_command(alloc)?)?
         .subcommand(show_command(alloc)?)?
-        .subcommand(value_command(alloc)?)
+        .subcommand(value_command(alloc)?)?
+        .subcommand(normalise_command(alloc)?)
 }
 
 fn check_command<'a>(alloc: Global) -> Result<Command<'a>, AllocError> {
@@ -102,18 +113,25 @@ fn value_command<'a>(alloc: Global) -> Result<Command<'a>, AllocError> {
         .help("The goods of the bundle");
     Command::new(alloc, "value")
         .about("Prints what the bidders of a bid file offer for a bundle of goods")
-        .arg(steps_option(alloc))?
+        .arg(steps_option(alloc, "The most packings that a search may enter"))?
         .arg(file_argument(alloc, FILE))?
         .arg(goods)
 }
 
-fn steps_option<'a>(alloc: Global) -> Arg<'a> {
+fn normalise_command<'a>(alloc: Global) -> Result<Command<'a>, AllocError> {
+    Command::new(alloc, "normalise")
+        .about("Prints the one canonical text of a bid file's auction")
+        .arg(steps_option(alloc, "The most steps that the search on a bundle may take"))?
+        .arg(file_argument(alloc, FILE))
+}
+
+fn steps_option<'a>(alloc: Global, help: &'a str) -> Arg<'a> {
     Arg::new(alloc, STEPS)
         .long(STEPS)
         .value_name("N")
         .default_value(DEFAULT_STEPS)
         .value_parser(value_parser!(u64).range(1..=MAX_STEPS))
-        .help("The most packings that a search may enter")
+        .help(help)
 }
 
 fn file_argument<'a>(alloc: Global, id: &'a str) -> Arg<'a> {

@@ -6,6 +6,7 @@ ghost use Rattle.cats_text.specs.Streams.{has_ended, has_failed};
 use crate::check::run_check;
 use crate::command_line;
 use crate::command_line::Request;
+use crate::normalise::run_normalise;
 use crate::report::{DEVICE_FAILED, NO_MEMORY, RunFault, WRONG_USAGE, fault_line, status};
 use crate::show::run_show;
 use crate::value::run_value;
@@ -75,6 +76,10 @@ fn carry_out<F: Files + AllocGlobal, W: Write>(
             let mut input = open(rt, file)?;
             let goods = goods.as_slice();
             Ok(run_value(rt.alloc(), &mut input, goods, *limit, out)?)
+        }
+        Request::Normalise { file, limit } => {
+            let mut input = open(rt, file)?;
+            Ok(run_normalise(rt.alloc(), &mut input, *limit, out)?)
         }
     }
 }

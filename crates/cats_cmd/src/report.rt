@@ -6,8 +6,7 @@ ghost use Rattle.cats_cmd.specs.KindNames.{name_of_kind};
 ghost use Rattle.cats_cmd.specs.FaultLines.{line_of_fault, prefix_of, text_of_canon_fault, text_of_read_fault};
 ghost use Rattle.cats_cmd.specs.Statuses.{status_of_fault, status_of_canon_fault, status_of_read_fault};
 
-use crate::canon_fault::CanonFault;
-use crate::which::Which;
+use canon::{CanonFault, Which};
 use cats_text::{Kind, ReadFault, SendFault};
 use std::alloc::{AllocError, Global};
 
@@ -44,7 +43,7 @@ pub enum RunFault {
 impl From<CanonFault> for RunFault {
     ghost use Rattle.std.specs.Prelude.{◌≡◌};
     ghost use Rattle.cats_cmd.specs.declared.report.RunFault.TheVariants.{Refused};
-    ghost use Rattle.cats_cmd.specs.declared.which.Which.TheVariants.{Only};
+    ghost use Rattle.canon.specs.declared.which.Which.TheVariants.{Only};
 
     ghost from_gives = { λ why fault. fault ≡ Refused Only why };
 
@@ -57,8 +56,8 @@ impl From<CanonFault> for RunFault {
 impl From<AllocError> for RunFault {
     ghost use Rattle.std.specs.Prelude.{◌≡◌};
     ghost use Rattle.cats_cmd.specs.declared.report.RunFault.TheVariants.{Refused};
-    ghost use Rattle.cats_cmd.specs.declared.which.Which.TheVariants.{Only};
-    ghost use Rattle.cats_cmd.specs.declared.canon_fault.CanonFault.TheVariants.{Memory};
+    ghost use Rattle.canon.specs.declared.which.Which.TheVariants.{Only};
+    ghost use Rattle.canon.specs.declared.fault.CanonFault.TheVariants.{Memory};
 
     ghost from_gives = { λ _ fault. fault ≡ Refused Only Memory };
 

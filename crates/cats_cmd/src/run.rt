@@ -2,11 +2,11 @@
 
 ghost use Rattle.std.specs.Prelude.{◌≡◌, false};
 ghost use Rattle.cats_text.specs.Streams.{has_ended, has_failed};
-ghost use Rattle.cats_cmd.specs.Runs.{ReadsInput, SendsAs, refusal_of};
+ghost use Rattle.cats_cmd.specs.Runs.{ReadsInput, SendsAs};
 
-use crate::canon_fault::CanonFault;
 use crate::report::RunFault;
-use cats_text::{BidFile, Kind, ReadFault, Watched, read_from, send};
+use canon::CanonFault;
+use cats_text::{BidFile, Watched, read_from, send};
 use std::alloc::Global;
 use std::io::{Read, Write};
 
@@ -21,16 +21,7 @@ pub(crate) fn read_file<R: Read>(
 {
     match read_from(alloc, input) {
         Ok(file) => Ok(file),
-        Err(fault) => Err(refusal(fault)),
-    }
-}
-
-fn refusal(fault: ReadFault) -> CanonFault
-    ensures { result ≡ refusal_of fault }
-{
-    match fault.kind {
-        Kind::Memory => CanonFault::Memory,
-        _ => CanonFault::Read(fault),
+        Err(fault) => Err(CanonFault::from(fault)),
     }
 }
 

@@ -14,10 +14,10 @@ ghost use Rattle.cats_cmd.specs.Runs.{MakesAs, RunsOnFile};
 ghost use Rattle.cats_cmd.specs.Searches.{SearchesAs};
 ghost use Rattle.cats_cmd.specs.ValueTexts.{bundle_from};
 
-use crate::canon_fault::CanonFault;
 use crate::report::{DONE, RunFault};
 use crate::run::{read_file, send_text};
 use bundles::bundle_of;
+use canon::CanonFault;
 use cats_text::{BidFile, Watched};
 use goods_set::{GoodsSet, WordSet, goods_of};
 use lines::{push_or_line, push_xor_lines};

@@ -9,8 +9,8 @@ ghost use Rattle.cats_cmd.specs.Outputs.{bundle_text, sizes_text};
 ghost use Rattle.cats_cmd.specs.ValueTexts.{bundle_from};
 ghost use Rattle.cats_cmd.specs.FaultLines.{line_of_fault};
 ghost use Rattle.cats_cmd.specs.Statuses.{status_of_fault};
-ghost use Rattle.cats_cmd.specs.declared.which.Which.TheVariants.{Only, First, Second, Both};
-ghost use Rattle.cats_cmd.specs.declared.canon_fault.CanonFault.TheVariants.{Read, StepLimit, Memory};
+ghost use Rattle.canon.specs.declared.which.Which.TheVariants.{Only, First, Second, Both};
+ghost use Rattle.canon.specs.declared.fault.CanonFault.TheVariants.{Read, StepLimit, Memory};
 ghost use Rattle.cats_cmd.specs.declared.report.RunFault.TheVariants.{Refused, GoodRange, Sent};
 
 /// How faults are told.

@@ -1,6 +1,6 @@
 use Rattle.std.proofs.Common.{sym, ap, ◌∙◌}
 use Rattle.cats_cmd.specs.Outcomes.{check_outcome, Tells}
-use Rattle.cats_cmd.specs.declared.canon_fault.CanonFault.TheVariants.{Memory}
+use Rattle.canon.specs.declared.fault.CanonFault.TheVariants.{Memory}
 use Rattle.cats_cmd.proofs.Tellings.{run_unread, run_unmade, run_told}
 use Rattle.cats_cmd.proofs.check.run_check.Goals as goal
 
