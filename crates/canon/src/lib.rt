@@ -6,6 +6,8 @@ mod difference_laws;
 mod fault;
 mod file;
 pub mod laws;
+#[cfg(test)]
+mod tests;
 mod text;
 mod verdict;
 mod which;
