@@ -93,11 +93,11 @@ fn cannot_open(rt: HostRuntime) -> Result<(), Fail> {
 }
 
 /// What a command line answers that has a new file with this text between its words.
-fn run_on(
+fn run_on<'a>(
     rt: &HostRuntime,
     text: &str,
-    before: &[&str],
-    after: &[&str],
+    before: &[&'a str],
+    after: &[&'a str],
     out_room: usize,
     err_room: usize,
 ) -> Result<Told, Fail> {
