@@ -5,3 +5,4 @@ mod Numbering
 mod Bundling
 mod BestPlaces
 mod Printing
+mod Stopping

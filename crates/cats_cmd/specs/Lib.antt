@@ -7,4 +7,5 @@ pub mod ValueTexts
 pub mod Outcomes
 pub mod Searches
 pub mod Examples
+pub mod Stops
 pub mod Runs

@@ -1,7 +1,8 @@
 //! The program `cats`, but for its process: a command line, two output streams and an exit status.
 
-ghost use Rattle.std.specs.Prelude.{◌≡◌, IfOk, false};
+ghost use Rattle.std.specs.Prelude.{◌≡◌, ◌≢◌, IfErr, IfOk, false};
 ghost use Rattle.cats_text.specs.Streams.{has_ended, has_failed};
+ghost use Rattle.cats_cmd.specs.Stops.{IsSilent, SendsBeginning, line_of_stop, status_of_stop};
 
 use crate::check::run_check;
 use crate::command_line;
@@ -26,6 +27,11 @@ enum Stop {
 }
 
 impl From<RunFault> for Stop {
+    ghost use Rattle.std.specs.Prelude.{◌≡◌};
+    ghost use Rattle.cats_cmd.specs.declared.program.Stop.TheVariants.{Run};
+
+    ghost from_gives = { λ fault stop. stop ≡ Run fault };
+
     fn from(fault: RunFault) -> Stop {
         Stop::Run(fault)
     }
@@ -43,6 +49,8 @@ pub fn run_cats<F: Files + AllocGlobal, W: Write, E: Write>(
 ) -> u8
     requires out_works { has_failed out.old ≡ false }
     requires err_works { has_failed err.old ≡ false }
+    ensures silent { result ≢ 0 → result ≢ 5 → out.new ≡ out.old }
+    ensures done { result ≡ 0 → err.new ≡ err.old }
 {
     let alloc = rt.alloc();
     let request = match command_line::parse(alloc, words) {
@@ -62,6 +70,8 @@ fn carry_out<F: Files + AllocGlobal, W: Write>(
     out: &mut Watched<W>,
 ) -> Result<u8, Stop>
     requires { has_failed out.old ≡ false }
+    ensures done { IfOk result (λ status. status ≡ 0) }
+    ensures stopped { IfErr result (λ stop. IsSilent stop out.old out.new) }
 {
     match request {
         Request::Check { file } => {
@@ -87,6 +97,7 @@ fn carry_out<F: Files + AllocGlobal, W: Write>(
 fn open<F: Files>(rt: &F, path: &str) -> Result<Watched<F::File>, Stop>
     ensures works { IfOk result (λ file. has_failed file ≡ false) }
     ensures fresh { IfOk result (λ file. has_ended file ≡ false) }
+    ensures refused { IfErr result (λ stop. stop ≡ Stop.CannotOpen) }
 {
     match fs::open(rt, path) {
         Ok(file) => Ok(Watched::new(file)),
@@ -103,6 +114,8 @@ fn answer_usage<W: Write, E: Write>(
 ) -> u8
     requires out_works { has_failed out.old ≡ false }
     requires err_works { has_failed err.old ≡ false }
+    ensures silent { result ≢ 0 → result ≢ 5 → out.new ≡ out.old }
+    ensures done { result ≡ 0 → err.new ≡ err.old }
 {
     let text = error.to_string(alloc);
     if !error.use_stderr() {
@@ -126,17 +139,19 @@ fn answer_usage<W: Write, E: Write>(
 
 fn tell<E: Write>(alloc: Global, stop: &Stop, err: &mut Watched<E>) -> u8
     requires { has_failed err.old ≡ false }
+    ensures status { result ≡ status_of_stop stop.now }
+    ensures line { SendsBeginning E.contents err.old err.new (line_of_stop stop.now) }
 {
     match stop {
         Stop::CannotOpen => {
             let _ = send(err, b"cannot open\n");
             DEVICE_FAILED
         }
-        Stop::Run(fault) => {
-            if let Ok(line) = fault_line(alloc, fault) {
+        Stop::Run(why) => {
+            if let Ok(line) = fault_line(alloc, why) {
                 let _ = send(err, line.as_slice());
             }
-            status(fault)
+            status(why)
         }
     }
 }

@@ -19,11 +19,11 @@ pub fn fault_lines()
         (Refused Only (Read (record { line = 5; kind = TwoDummies })) ∷ Refused First (Read (record { line = 5; kind = TwoDummies }))
         ∷ Refused Second (Read (record { line = 12; kind = NoEnd })) ∷ Refused Only (Read (record { line = 0; kind = TooLong }))
         ∷ Refused Second (Read (record { line = 0; kind = Device })) ∷ Refused First (Read (record { line = 0; kind = NoMemory }))
-        ∷ Refused Both Memory ∷ GoodRange 2 ∷ Sent (record { written = 5 }) ∷ []) ≡
+        ∷ Refused Both Memory ∷ Refused Only Memory ∷ GoodRange 2 ∷ Sent (record { written = 5 }) ∷ []) ≡
         codes "line 5: TwoDummies\n" ∷ codes "first: line 5: TwoDummies\n"
         ∷ codes "second: line 12: NoEnd\n" ∷ codes "TooLong\n"
         ∷ codes "second: Device\n" ∷ codes "first: want of memory\n"
-        ∷ codes "want of memory\n" ∷ codes "good 2 out of range\n" ∷ codes "output failed after 5 bytes\n" ∷ [] }
+        ∷ codes "want of memory\n" ∷ codes "want of memory\n" ∷ codes "good 2 out of range\n" ∷ codes "output failed after 5 bytes\n" ∷ [] }
 {}
 
 /// The statuses of these faults.
@@ -31,8 +31,8 @@ pub fn fault_statuses()
     ensures { map status_of_fault
         (Refused Only (Read (record { line = 5; kind = TwoDummies })) ∷ Refused Only (Read (record { line = 0; kind = TooLong }))
         ∷ Refused Second (Read (record { line = 0; kind = Device })) ∷ Refused First (Read (record { line = 0; kind = NoMemory }))
-        ∷ Refused Both Memory ∷ GoodRange 2 ∷ Sent (record { written = 5 }) ∷ []) ≡
-        2 ∷ 2 ∷ 5 ∷ 4 ∷ 4 ∷ 64 ∷ 5 ∷ [] }
+        ∷ Refused Both Memory ∷ Refused Only Memory ∷ GoodRange 2 ∷ Sent (record { written = 5 }) ∷ []) ≡
+        2 ∷ 2 ∷ 5 ∷ 4 ∷ 4 ∷ 4 ∷ 64 ∷ 5 ∷ [] }
 {}
 
 /// How a step limit is told, whatever vector holds the goods, and its status.

@@ -1,84 +1,59 @@
-use super::streams::{failing_reader, reader, told, writer};
+use super::streams::{Comments, Told, answer_of, expect, reader, writer};
 use crate::run_check;
+use cats_text::Watched;
+use std::alloc::Global;
 use std::process::Abort;
 use std::test::Fail;
 
-/// Checks a text into a writer with this room, and gives the status and what went to the output and to standard error.
+/// What `check` answers of a text, with a writer of this step and room.
 fn checked(
-    rt: &(impl Abort + AllocGlobal),
+    alloc: Global,
     text: &[u8],
     fails: bool,
     step: usize,
     room: usize,
-) -> Result<(u8, String, String), Fail> {
-    let alloc = rt.alloc();
-    let mut input = if fails {
-        failing_reader(text)
-    } else {
-        reader(text)
-    };
+) -> Result<Told, Fail> {
+    let mut input = reader(text, fails);
     let mut out = writer(alloc, step, room);
     let answer = run_check(alloc, &mut input, &mut out);
-    told(alloc, answer, out)
-}
-
-/// Each text, what `check` tells of it on standard error, and the status.
-fn refuses(rt: &(impl Abort + AllocGlobal), rows: &[(&str, &str)]) -> Result<(), Fail> {
-    for (text, line) in rows {
-        let (status, sent, told) = checked(rt, text.as_bytes(), false, 4096, 4096)?;
-        assert_eq!(rt; told.as_str(), *line, "of {text:?}");
-        assert_eq!(rt; sent.as_str(), "");
-        assert_eq!(rt; status, 2);
-    }
-    Ok(())
-}
-
-const EMPTY: &[u8] = b"goods 0\nbids 0\ndummy 0\n";
-
-#[test]
-fn minimal_file(rt: HostRuntime) -> Result<(), Fail> {
-    let (status, sent, told) = checked(&rt, EMPTY, false, 4096, 4096)?;
-    assert_eq!(rt; sent.as_str(), "goods 0 bids 0 dummy 0\n");
-    assert_eq!(rt; told.as_str(), "");
-    assert_eq!(rt; status, 0);
-    Ok(())
-}
-
-#[test]
-fn header_faults(rt: HostRuntime) -> Result<(), Fail> {
-    refuses(
-        &rt,
-        &[
-            ("", "line 1: Missing\n"),
-            ("goods\n", "line 1: Header\n"),
-            ("Goods 2\n", "line 1: Header\n"),
-            ("goods 2x\n", "line 1: NotANumber\n"),
-            ("goods 2 3\n", "line 1: Header\n"),
-            ("goods 1025 x\n", "line 1: Header\n"),
-            ("goods 4097 x\n", "line 1: TooLarge\n"),
-            ("goods 4097\nbids 0\ndummy 0\n", "line 1: TooLarge\n"),
-            ("bids 1\n", "line 1: Header\n"),
-            ("% only a comment\n", "line 2: Missing\n"),
-        ],
-    )
+    answer_of(alloc, answer, out)
 }
 
 /// Each text, and what `check` sends of it.
 fn takes(rt: &(impl Abort + AllocGlobal), rows: &[(&[u8], &str)]) -> Result<(), Fail> {
     for (text, sizes) in rows {
-        let (status, sent, told) = checked(rt, text, false, 4096, 4096)?;
-        assert_eq!(rt; sent.as_str(), *sizes);
-        assert_eq!(rt; told.as_str(), "");
-        assert_eq!(rt; status, 0);
+        let answer = checked(rt.alloc(), text, false, 4096, 4096)?;
+        expect(rt, &answer, 0, sizes, "");
+    }
+    Ok(())
+}
+
+/// Each text, and what `check` tells of it on standard error.
+fn refuses(rt: &(impl Abort + AllocGlobal), rows: &[(&str, &str)]) -> Result<(), Fail> {
+    for (text, line) in rows {
+        let answer = checked(rt.alloc(), text.as_bytes(), false, 4096, 4096)?;
+        expect(rt, &answer, 2, "", line);
+    }
+    Ok(())
+}
+
+/// Each header with a line behind it, and what `check` tells of it.
+fn refuses_lines(rt: &(impl Abort + AllocGlobal), rows: &[(&str, &str, &str)]) -> Result<(), Fail> {
+    for (header, line, told) in rows {
+        let text = format!(in rt.alloc(); "{header}{line}\n")?;
+        refuses(rt, &[(text.as_str(), *told)])?;
     }
     Ok(())
 }
 
 #[test]
-fn layouts(rt: HostRuntime) -> Result<(), Fail> {
+fn sizes_of_files(rt: HostRuntime) -> Result<(), Fail> {
     takes(
         &rt,
         &[
+            // the least file
+            (b"goods 0\nbids 0\ndummy 0\n", "goods 0 bids 0 dummy 0\n"),
+            // layouts
             (b"goods 2\nbids 0\ndummy 3\n", "goods 2 bids 0 dummy 3\n"),
             (
                 b"%% a comment\n\ngoods 3\nbids 2\ndummy 1\n\n0\t20\t0\t2\t3\t#\n1\t7\t1\t#\n",
@@ -96,15 +71,12 @@ fn layouts(rt: HostRuntime) -> Result<(), Fail> {
                 b"goods 2\nbids 1\ndummy 0\n0 1.5 0 #\n",
                 "goods 2 bids 1 dummy 0\n",
             ),
-        ],
-    )
-}
-
-#[test]
-fn limits(rt: HostRuntime) -> Result<(), Fail> {
-    takes(
-        &rt,
-        &[
+            // numbers out of order
+            (
+                b"goods 1\nbids 3\ndummy 0\n2 1 0 #\n0 3 0 #\n1 2 0 #\n",
+                "goods 1 bids 3 dummy 0\n",
+            ),
+            // limits
             (
                 b"goods 1024\nbids 1\ndummy 0\n0\t1000000000000\t1023\t#\n",
                 "goods 1024 bids 1 dummy 0\n",
@@ -122,10 +94,26 @@ fn limits(rt: HostRuntime) -> Result<(), Fail> {
                 "goods 4096 bids 1 dummy 65536\n",
             ),
         ],
-    )?;
+    )
+}
+
+#[test]
+fn faults_of_texts(rt: HostRuntime) -> Result<(), Fail> {
     refuses(
         &rt,
         &[
+            // the header
+            ("", "line 1: Missing\n"),
+            ("goods\n", "line 1: Header\n"),
+            ("Goods 2\n", "line 1: Header\n"),
+            ("goods 2x\n", "line 1: NotANumber\n"),
+            ("goods 2 3\n", "line 1: Header\n"),
+            ("goods 1025 x\n", "line 1: Header\n"),
+            ("goods 4097 x\n", "line 1: TooLarge\n"),
+            ("goods 4097\nbids 0\ndummy 0\n", "line 1: TooLarge\n"),
+            ("bids 1\n", "line 1: Header\n"),
+            ("% only a comment\n", "line 2: Missing\n"),
+            // limits
             (
                 "goods 1024\nbids 1\ndummy 0\n0\t1000000000001\t1023\t#\n",
                 "line 4: TooLarge\n",
@@ -141,95 +129,7 @@ fn limits(rt: HostRuntime) -> Result<(), Fail> {
             ("goods 1\nbids 65537\ndummy 0\n", "line 2: TooLarge\n"),
             ("goods 1\nbids 0\ndummy 65537\n", "line 3: TooLarge\n"),
             ("goods 1024\nbids 65536\ndummy 65536\n", "line 4: Missing\n"),
-        ],
-    )
-}
-
-/// What `check` tells of each line behind a header.
-fn refuses_lines(
-    rt: &(impl Abort + AllocGlobal),
-    header: &str,
-    rows: &[(&str, &str)],
-) -> Result<(), Fail> {
-    for (line, told) in rows {
-        let text = format!(in rt.alloc(); "{header}{line}\n")?;
-        refuses(rt, &[(text.as_str(), *told)])?;
-    }
-    Ok(())
-}
-
-#[test]
-fn bid_line_faults(rt: HostRuntime) -> Result<(), Fail> {
-    refuses_lines(
-        &rt,
-        "goods 2\nbids 1\ndummy 0\n",
-        &[
-            ("x 1 0 #", "line 4: NotANumber\n"),
-            ("1 1 0 #", "line 4: BidNumber\n"),
-            ("0 .5 0 #", "line 4: NotANumber\n"),
-            ("0 5. 0 #", "line 4: NotANumber\n"),
-            ("0 1.2.3 0 #", "line 4: NotANumber\n"),
-            ("0 -1 0 #", "line 4: NotANumber\n"),
-            ("0 1e3 0 #", "line 4: NotANumber\n"),
-            ("0 0.1234567 0 #", "line 4: TooFine\n"),
-            ("0 1000000000000.0000001 0 #", "line 4: TooLarge\n"),
-            ("0 1 2 2 #", "line 4: GoodRange\n"),
-            ("0 1 0 00 #", "line 4: RepeatedGood\n"),
-            ("0 1 #", "line 4: EmptyBundle\n"),
-            ("0 1 0#", "line 4: NotANumber\n"),
-            ("0 1 0 # 1", "line 4: AfterEnd\n"),
-            ("0 1 0", "line 4: NoEnd\n"),
-            ("0", "line 4: NoEnd\n"),
-            ("0 #", "line 4: NotANumber\n"),
-        ],
-    )?;
-    refuses_lines(
-        &rt,
-        "goods 1\nbids 1\ndummy 1\n",
-        &[("0 1 1 #", "line 4: EmptyBundle\n")],
-    )?;
-    refuses_lines(
-        &rt,
-        "goods 1\nbids 1\ndummy 2\n",
-        &[("0 1 0 1 2 #", "line 4: TwoDummies\n")],
-    )?;
-    refuses_lines(
-        &rt,
-        "goods 2\nbids 1\ndummy 0\n0 1 0 #\n",
-        &[
-            ("0 1 0 #", "line 5: ExtraBid\n"),
-            ("x", "line 5: NotANumber\n"),
-        ],
-    )?;
-    refuses_lines(
-        &rt,
-        "goods 2\nbids 2\ndummy 0\n0 1 0 #\n",
-        &[("0 1 1 #", "line 5: RepeatedNumber\n")],
-    )?;
-    refuses_lines(
-        &rt,
-        "goods 2\nbids 0\ndummy 3\n",
-        &[("0 1 0 #", "line 4: ExtraBid\n")],
-    )
-}
-
-#[test]
-fn two_dummies(rt: HostRuntime) -> Result<(), Fail> {
-    refuses_lines(
-        &rt,
-        "goods 2\nbids 2\ndummy 2\n0\t1\t0\t2\t#\n",
-        &[
-            ("1\t1\t1\t2\t3\t#", "line 5: TwoDummies\n"),
-            ("1\t1\t1\t2\t2\t#", "line 5: RepeatedGood\n"),
-        ],
-    )
-}
-
-#[test]
-fn no_end(rt: HostRuntime) -> Result<(), Fail> {
-    refuses(
-        &rt,
-        &[
+            // a bid line without its end, and one too few
             (
                 "goods 1\nbids 3\ndummy 0\n0\t5\t0\t#\n1\t5\t0\t#\n2 5 0",
                 "line 6: NoEnd\n",
@@ -238,90 +138,188 @@ fn no_end(rt: HostRuntime) -> Result<(), Fail> {
                 "goods 1\nbids 3\ndummy 0\n0\t5\t0\t#\n1\t5\t0\t#\n",
                 "line 6: Missing\n",
             ),
-            ("", "line 1: Missing\n"),
+            // a number that came before
+            (
+                "goods 1\nbids 3\ndummy 0\n0 1 0 #\n0 3 0 #\n1 2 0 #\n",
+                "line 5: RepeatedNumber\n",
+            ),
+        ],
+    )
+}
+
+/// Two goods and one bid.
+const ONE_BID: &str = "goods 2\nbids 1\ndummy 0\n";
+
+/// Two goods, one of two bids, and two dummy goods.
+const TWO_DUMMIES: &str = "goods 2\nbids 2\ndummy 2\n0\t1\t0\t2\t#\n";
+
+#[test]
+fn faults_of_bid_lines(rt: HostRuntime) -> Result<(), Fail> {
+    refuses_lines(
+        &rt,
+        &[
+            (ONE_BID, "x 1 0 #", "line 4: NotANumber\n"),
+            (ONE_BID, "1 1 0 #", "line 4: BidNumber\n"),
+            (ONE_BID, "0 .5 0 #", "line 4: NotANumber\n"),
+            (ONE_BID, "0 5. 0 #", "line 4: NotANumber\n"),
+            (ONE_BID, "0 1.2.3 0 #", "line 4: NotANumber\n"),
+            (ONE_BID, "0 -1 0 #", "line 4: NotANumber\n"),
+            (ONE_BID, "0 1e3 0 #", "line 4: NotANumber\n"),
+            (ONE_BID, "0 0.1234567 0 #", "line 4: TooFine\n"),
+            (ONE_BID, "0 1000000000000.0000001 0 #", "line 4: TooLarge\n"),
+            (ONE_BID, "0 1 2 2 #", "line 4: GoodRange\n"),
+            (ONE_BID, "0 1 0 00 #", "line 4: RepeatedGood\n"),
+            (ONE_BID, "0 1 #", "line 4: EmptyBundle\n"),
+            (ONE_BID, "0 1 0#", "line 4: NotANumber\n"),
+            (ONE_BID, "0 1 0 # 1", "line 4: AfterEnd\n"),
+            (ONE_BID, "0 1 0", "line 4: NoEnd\n"),
+            (ONE_BID, "0", "line 4: NoEnd\n"),
+            (ONE_BID, "0 #", "line 4: NotANumber\n"),
+            (
+                "goods 1\nbids 1\ndummy 1\n",
+                "0 1 1 #",
+                "line 4: EmptyBundle\n",
+            ),
+            (
+                "goods 1\nbids 1\ndummy 2\n",
+                "0 1 0 1 2 #",
+                "line 4: TwoDummies\n",
+            ),
+            (
+                "goods 2\nbids 1\ndummy 0\n0 1 0 #\n",
+                "0 1 0 #",
+                "line 5: ExtraBid\n",
+            ),
+            (
+                "goods 2\nbids 1\ndummy 0\n0 1 0 #\n",
+                "x",
+                "line 5: NotANumber\n",
+            ),
+            (
+                "goods 2\nbids 2\ndummy 0\n0 1 0 #\n",
+                "0 1 1 #",
+                "line 5: RepeatedNumber\n",
+            ),
+            (
+                "goods 2\nbids 0\ndummy 3\n",
+                "0 1 0 #",
+                "line 4: ExtraBid\n",
+            ),
+            (TWO_DUMMIES, "1\t1\t1\t2\t3\t#", "line 5: TwoDummies\n"),
+            (TWO_DUMMIES, "1\t1\t1\t2\t2\t#", "line 5: RepeatedGood\n"),
         ],
     )
 }
 
 #[test]
-fn numbers_out_of_order(rt: HostRuntime) -> Result<(), Fail> {
-    takes(
-        &rt,
-        &[(
-            b"goods 1\nbids 3\ndummy 0\n2 1 0 #\n0 3 0 #\n1 2 0 #\n",
-            "goods 1 bids 3 dummy 0\n",
-        )],
-    )?;
-    refuses(
-        &rt,
-        &[(
-            "goods 1\nbids 3\ndummy 0\n0 1 0 #\n0 3 0 #\n1 2 0 #\n",
-            "line 5: RepeatedNumber\n",
-        )],
-    )
-}
-
-#[test]
-fn output_fails_after_five_bytes(rt: HostRuntime) -> Result<(), Fail> {
-    let (status, sent, told) = checked(&rt, EMPTY, false, 4096, 5)?;
-    assert_eq!(rt; sent.as_str(), "goods");
-    assert_eq!(rt; told.as_str(), "output failed after 5 bytes\n");
-    assert_eq!(rt; status, 5);
-    Ok(())
-}
-
-#[test]
-fn output_takes_one_byte_a_call(rt: HostRuntime) -> Result<(), Fail> {
-    let (status, sent, _) = checked(&rt, EMPTY, false, 1, 4096)?;
-    assert_eq!(rt; sent.as_str(), "goods 0 bids 0 dummy 0\n");
-    assert_eq!(rt; status, 0);
-    Ok(())
-}
-
-#[test]
-fn input_fails(rt: HostRuntime) -> Result<(), Fail> {
-    for (text, line, status) in [
-        ("goods 0\n", "Device\n", 5),
-        ("goods 0\nbids 0\ndummy 0\n", "Device\n", 5),
-        ("Goods 0\n", "line 1: Header\n", 2),
+fn streams_fail(rt: HostRuntime) -> Result<(), Fail> {
+    for (text, fails, step, room, status, sent, line) in [
+        // the output takes one byte a call, or fails after five, or at its flush
+        (EMPTY, false, 1, 4096, 0, SIZES, ""),
+        (
+            EMPTY,
+            false,
+            4096,
+            5,
+            5,
+            "goods",
+            "output failed after 5 bytes\n",
+        ),
+        (
+            EMPTY,
+            false,
+            0,
+            4096,
+            5,
+            SIZES,
+            "output failed after 23 bytes\n",
+        ),
+        // the input fails
+        ("goods 0\n", true, 4096, 4096, 5, "", "Device\n"),
+        (EMPTY, true, 4096, 4096, 5, "", "Device\n"),
+        ("Goods 0\n", true, 4096, 4096, 2, "", "line 1: Header\n"),
     ] {
-        let (answered, sent, told) = checked(&rt, text.as_bytes(), true, 4096, 4096)?;
-        assert_eq!(rt; told.as_str(), line, "of {text:?}");
-        assert_eq!(rt; sent.as_str(), "");
-        assert_eq!(rt; answered, status);
+        let answer = checked(rt.alloc(), text.as_bytes(), fails, step, room)?;
+        expect(&rt, &answer, status, sent, line);
     }
     Ok(())
 }
 
-/// `before`, a million copies of a digit, and `after`.
-fn long_text(rt: &HostRuntime, before: &str, digit: u8, after: &str) -> Result<Vec<u8>, Fail> {
-    let mut text = Vec::from_slice(rt.alloc(), before.as_bytes())?;
+const EMPTY: &str = "goods 0\nbids 0\ndummy 0\n";
+
+const SIZES: &str = "goods 0 bids 0 dummy 0\n";
+
+#[test]
+fn input_never_ends(rt: HostRuntime) -> Result<(), Fail> {
+    let mut input = Watched::new(Comments);
+    let mut out = writer(rt.alloc(), 4096, 4096);
+    let answer = run_check(rt.alloc(), &mut input, &mut out);
+    expect(
+        &rt,
+        &answer_of(rt.alloc(), answer, out)?,
+        2,
+        "",
+        "TooLong\n",
+    );
+    Ok(())
+}
+
+/// What `check` answers of `before`, a million copies of a digit, and `after`.
+fn checked_long(alloc: Global, before: &str, digit: u8, after: &str) -> Result<Told, Fail> {
+    let mut text = Vec::from_slice(alloc, before.as_bytes())?;
     for _ in 0..1_000_000 {
         text.push(digit)?;
     }
     text.extend_from_slice(after.as_bytes())?;
-    Ok(text)
+    checked(alloc, text.as_slice(), false, 4096, 4096)
 }
 
 #[test]
-fn million_zeros_before_a_number(rt: HostRuntime) -> Result<(), Fail> {
-    let text = long_text(&rt, "goods ", b'0', "2\nbids 0\ndummy 0\n")?;
-    takes(&rt, &[(text.as_slice(), "goods 2 bids 0 dummy 0\n")])
-}
-
-#[test]
-fn million_nines(rt: HostRuntime) -> Result<(), Fail> {
-    for (before, after, line) in [
-        ("0 ", " 0 #\n", "line 4: TooLarge\n"),
-        ("0 ", ".5 0 #\n", "line 4: TooLarge\n"),
-        ("0 1 ", " #\n", "line 4: GoodRange\n"),
-        ("", " 1 0 #\n", "line 4: BidNumber\n"),
+fn words_of_a_million_digits(rt: HostRuntime) -> Result<(), Fail> {
+    for (before, digit, after, status, sent, line) in [
+        (
+            "goods ",
+            b'0',
+            "2\nbids 0\ndummy 0\n",
+            0,
+            "goods 2 bids 0 dummy 0\n",
+            "",
+        ),
+        (
+            "goods 2\nbids 1\ndummy 0\n0 ",
+            b'9',
+            " 0 #\n",
+            2,
+            "",
+            "line 4: TooLarge\n",
+        ),
+        (
+            "goods 2\nbids 1\ndummy 0\n0 ",
+            b'9',
+            ".5 0 #\n",
+            2,
+            "",
+            "line 4: TooLarge\n",
+        ),
+        (
+            "goods 2\nbids 1\ndummy 0\n0 1 ",
+            b'9',
+            " #\n",
+            2,
+            "",
+            "line 4: GoodRange\n",
+        ),
+        (
+            "goods 2\nbids 1\ndummy 0\n",
+            b'9',
+            " 1 0 #\n",
+            2,
+            "",
+            "line 4: BidNumber\n",
+        ),
     ] {
-        let before = format!(in rt.alloc(); "goods 2\nbids 1\ndummy 0\n{before}")?;
-        let text = long_text(&rt, before.as_str(), b'9', after)?;
-        let (status, _, told) = checked(&rt, text.as_slice(), false, 4096, 4096)?;
-        assert_eq!(rt; told.as_str(), line);
-        assert_eq!(rt; status, 2);
+        let answer = checked_long(rt.alloc(), before, digit, after)?;
+        expect(&rt, &answer, status, sent, line);
     }
     Ok(())
 }

@@ -1,38 +1,26 @@
-use super::streams::{failing_reader, reader, told, writer};
+use super::streams::{Told, answer_of, expect, reader, writer};
 use crate::run_show;
+use std::alloc::Global;
 use std::process::Abort;
 use std::test::Fail;
 
-/// Shows a text into a writer with this room, and gives the status and what went to the output and to standard error.
-fn shown(
-    rt: &(impl Abort + AllocGlobal),
-    text: &[u8],
-    fails: bool,
-    room: usize,
-) -> Result<(u8, String, String), Fail> {
-    let alloc = rt.alloc();
-    let mut input = if fails {
-        failing_reader(text)
-    } else {
-        reader(text)
-    };
+/// What `show` answers of a text, with a writer that takes 7 bytes a call and this room in all.
+fn shown(alloc: Global, text: &[u8], fails: bool, room: usize) -> Result<Told, Fail> {
+    let mut input = reader(text, fails);
     let mut out = writer(alloc, 7, room);
     let answer = run_show(alloc, &mut input, &mut out);
-    told(alloc, answer, out)
+    answer_of(alloc, answer, out)
 }
 
 const ROOM: usize = 65_536;
 
-/// Each text, and what `show` sends of it.
+/// Each text, and what `show` sends of it, and of what it sent.
 fn shows(rt: &(impl Abort + AllocGlobal), rows: &[(&[u8], &str)]) -> Result<(), Fail> {
     for (text, layout) in rows {
-        let (status, sent, told) = shown(rt, text, false, ROOM)?;
-        assert_eq!(rt; sent.as_str(), *layout);
-        assert_eq!(rt; told.as_str(), "");
-        assert_eq!(rt; status, 0);
-        let (status, again, _) = shown(rt, sent.as_bytes(), false, ROOM)?;
-        assert_eq!(rt; again.as_str(), *layout);
-        assert_eq!(rt; status, 0);
+        let answer = shown(rt.alloc(), text, false, ROOM)?;
+        expect(rt, &answer, 0, layout, "");
+        let again = shown(rt.alloc(), answer.sent.as_bytes(), false, ROOM)?;
+        expect(rt, &again, 0, layout, "");
     }
     Ok(())
 }
@@ -63,14 +51,6 @@ fn layouts(rt: HostRuntime) -> Result<(), Fail> {
     )
 }
 
-/// What `show` makes of a price.
-fn shows_price(rt: &(impl Abort + AllocGlobal), price: &str, shown: &str) -> Result<(), Fail> {
-    let alloc = rt.alloc();
-    let text = format!(in alloc; "goods 2\nbids 1\ndummy 0\n0 {price} 0 #\n")?;
-    let layout = format!(in alloc; "goods 2\nbids 1\ndummy 0\n0\t{shown}\t0\t#\n")?;
-    shows(rt, &[(text.as_bytes(), layout.as_str())])
-}
-
 #[test]
 fn prices(rt: HostRuntime) -> Result<(), Fail> {
     for (price, shown) in [
@@ -83,41 +63,40 @@ fn prices(rt: HostRuntime) -> Result<(), Fail> {
         ("0.000001", "0.000001"),
         ("999999999999.999999", "999999999999.999999"),
     ] {
-        shows_price(&rt, price, shown)?;
+        let text = format!(in rt.alloc(); "goods 2\nbids 1\ndummy 0\n0 {price} 0 #\n")?;
+        let layout = format!(in rt.alloc(); "goods 2\nbids 1\ndummy 0\n0\t{shown}\t0\t#\n")?;
+        shows(&rt, &[(text.as_bytes(), layout.as_str())])?;
     }
     Ok(())
 }
 
 #[test]
 fn refusals(rt: HostRuntime) -> Result<(), Fail> {
-    for (text, fails, line, status) in [
-        ("", false, "line 1: Missing\n", 2),
+    for (text, fails, status, line) in [
+        ("", false, 2, "line 1: Missing\n"),
         (
             "goods 1\nbids 3\ndummy 0\n0 1 0 #\n0 3 0 #\n1 2 0 #\n",
             false,
-            "line 5: RepeatedNumber\n",
             2,
+            "line 5: RepeatedNumber\n",
         ),
-        ("goods 0\nbids 0\ndummy 0\n", true, "Device\n", 5),
+        ("goods 0\nbids 0\ndummy 0\n", true, 5, "Device\n"),
     ] {
-        let (answered, sent, told) = shown(&rt, text.as_bytes(), fails, ROOM)?;
-        assert_eq!(rt; told.as_str(), line, "of {text:?}");
-        assert_eq!(rt; sent.as_str(), "");
-        assert_eq!(rt; answered, status);
+        let answer = shown(rt.alloc(), text.as_bytes(), fails, ROOM)?;
+        expect(&rt, &answer, status, "", line);
     }
     Ok(())
 }
 
 #[test]
 fn output_fails(rt: HostRuntime) -> Result<(), Fail> {
-    let text = b"goods 2\nbids 1\ndummy 0\n0\t5\t0\t#\n";
-    let layout = "goods 2\nbids 1\ndummy 0\n0\t5\t0\t#\n";
+    let text = "goods 2\nbids 1\ndummy 0\n0\t5\t0\t#\n";
     for room in 0..text.len() {
-        let (status, sent, told) = shown(&rt, text, false, room)?;
-        assert_eq!(rt; sent.as_bytes(), &layout.as_bytes()[..room]);
+        let answer = shown(rt.alloc(), text.as_bytes(), false, room)?;
         let line = format!(in rt.alloc(); "output failed after {room} bytes\n")?;
-        assert_eq!(rt; told.as_str(), line.as_str());
-        assert_eq!(rt; status, 5);
+        assert_eq!(rt; answer.sent.as_bytes(), &text.as_bytes()[..room]);
+        assert_eq!(rt; answer.line.as_str(), line.as_str());
+        assert_eq!(rt; answer.status, 5);
     }
     Ok(())
 }

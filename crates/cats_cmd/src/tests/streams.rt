@@ -1,4 +1,4 @@
-//! A reader and a writer over memory that fail, and what a run did with them.
+//! Readers and writers over memory that fail, and what a run did with them.
 
 ghost use Rattle.std.specs.Prelude.{◌≡◌, false};
 ghost use Rattle.cats_text.specs.Streams.{has_ended, has_failed};
@@ -8,6 +8,7 @@ use cats_text::Watched;
 use std::alloc::Global;
 use std::io;
 use std::io::{ErrorKind, Read, Write};
+use std::process::Abort;
 use std::test::Fail;
 
 /// Gives at most `step` bytes of its text a call, and where it is to it fails in place of its end.
@@ -30,31 +31,30 @@ impl Read for StepReader<'_> {
     }
 }
 
-/// Gives the whole text.
-pub fn reader(text: &[u8]) -> Watched<StepReader<'_>>
+/// Gives the whole text, or, where it fails, gives it byte by byte and then fails.
+pub fn reader(text: &[u8], fails: bool) -> Watched<StepReader<'_>>
     ensures works { has_failed result ≡ false }
     ensures fresh { has_ended result ≡ false }
 {
-    Watched::new(StepReader {
-        text,
-        step: 4096,
-        fails: false,
-    })
+    let step = if fails { 1 } else { 4096 };
+    Watched::new(StepReader { text, step, fails })
 }
 
-/// Gives the text byte by byte, and then fails.
-pub fn failing_reader(text: &[u8]) -> Watched<StepReader<'_>>
-    ensures works { has_failed result ≡ false }
-    ensures fresh { has_ended result ≡ false }
-{
-    Watched::new(StepReader {
-        text,
-        step: 1,
-        fails: true,
-    })
+/// Gives comment lines and never ends.
+#[derive(Drop)]
+pub struct Comments;
+
+impl Read for Comments {
+    fn read(&mut self, piece: &mut [u8]) -> io::Result<usize> {
+        piece.fill(b'%');
+        if let Some(last) = piece.last_mut() {
+            *last = b'\n';
+        }
+        Ok(piece.len())
+    }
 }
 
-/// Takes at most `step` bytes a call and `room` in all, and then fails.
+/// Takes at most `step` bytes a call and `room` in all, and then fails; or, with no step, fails at its flush alone.
 #[derive(Drop)]
 pub struct StepWriter {
     pub taken: Vec<u8>,
@@ -64,7 +64,7 @@ pub struct StepWriter {
 
 impl Write for StepWriter {
     fn write(&mut self, piece: &[u8]) -> io::Result<usize> {
-        let count = piece.len().min(self.step).min(self.room);
+        let count = piece.len().min(self.step.max(1)).min(self.room);
         if count == 0 && !piece.is_empty() {
             return Err(io::Error::from(ErrorKind::BrokenPipe));
         }
@@ -74,6 +74,9 @@ impl Write for StepWriter {
     }
 
     fn flush(&mut self) -> io::Result<()> {
+        if self.step == 0 {
+            return Err(io::Error::from(ErrorKind::BrokenPipe));
+        }
         Ok(())
     }
 }
@@ -88,18 +91,41 @@ pub fn writer(alloc: Global, step: usize, room: usize) -> Watched<StepWriter>
     })
 }
 
-/// The status of a run, with what went to its output and to standard error.
-pub fn told(
+/// What a run or the program answered: its status, and what went to its output and to standard error.
+#[derive(Drop)]
+pub struct Told {
+    pub status: u8,
+    pub sent: String,
+    pub line: String,
+}
+
+/// What a run answered.
+pub fn answer_of(
     alloc: Global,
     answer: Result<u8, RunFault>,
     out: Watched<StepWriter>,
-) -> Result<(u8, String, String), Fail> {
+) -> Result<Told, Fail> {
     let sent = String::from_utf8(out.into_inner().taken)?;
     match answer {
-        Ok(done) => Ok((done, sent, String::new(alloc))),
+        Ok(status) => Ok(Told {
+            status,
+            sent,
+            line: String::new(alloc),
+        }),
         Err(fault) => {
             let line = String::from_utf8(fault_line(alloc, &fault)?)?;
-            Ok((status(&fault), sent, line))
+            Ok(Told {
+                status: status(&fault),
+                sent,
+                line,
+            })
         }
     }
+}
+
+/// That this is what was answered.
+pub fn expect(rt: &impl Abort, answer: &Told, status: u8, sent: &str, line: &str) {
+    assert_eq!(rt; answer.line.as_str(), line);
+    assert_eq!(rt; answer.sent.as_str(), sent);
+    assert_eq!(rt; answer.status, status, "of {sent:?}, {line:?}");
 }

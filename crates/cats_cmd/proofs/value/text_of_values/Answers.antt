@@ -8,9 +8,8 @@ use Rattle.cats_cmd.proofs.value.text_of_values.Goals as goal
 
 pub bundle_of-requires : goal.bundle_of-requires
 bundle_of-requires g c =
-    let facts = c.args.file.now.facts in
-    let fits = facts.goods in let cap = c.requires.cap in
-    All-weaker (λ x. x < c.args.file.now.goods) (λ x. x < g.S.GoodsSet.CAP) (λ x below. omega (arith, fits, cap)) c.args.goods.now
+    let cap = c.requires.cap in
+    All-weaker (λ x. x < c.args.file.now.goods) (λ x. x < g.S.GoodsSet.CAP) (λ x below. omega (arith, cap)) c.args.goods.now
     (below_none_missing c.args.file.now.goods c.args.goods.now c.requires.there)
 
 pub push_or_line-requires : goal.push_or_line-requires

@@ -1,4 +1,4 @@
-use Rattle.std.proofs.Common.{◌≡◌, ℕ, List, ◌++◌, ap, refl}
+use Rattle.std.proofs.Common.{ℕ, List, ◌++◌, ap, refl}
 use Rattle.std.specs.Prelude.{codes}
 use Rattle.std.specs.Fmt.{digits}
 use Rattle.cats_cmd.specs.Outputs.{bundle_text}

@@ -1,0 +1,32 @@
+-- Why the program stops without an answer of its own, and how it tells that.
+use Rattle.std.specs.Prelude.{◌≡◌, ℕ, List, Option, take, codes}
+use Rattle.std.specs.Io.KnownBytes.{Appends}
+use Rattle.cats_text.specs.Streams.{inner_of}
+use Rattle.cats_text.specs.declared.stream.Watched.{Watched}
+use Rattle.cats_cmd.specs.FaultLines.{line_of_fault}
+use Rattle.cats_cmd.specs.Statuses.{status_of_fault}
+use Rattle.cats_cmd.specs.declared.program.Stop.{Stop}
+use Rattle.cats_cmd.specs.declared.program.Stop.TheVariants.{CannotOpen, Run}
+use Rattle.cats_cmd.specs.declared.report.RunFault.TheVariants.{Refused, GoodRange, Sent}
+
+abbrev pub status_of_stop : Stop → ℕ
+status_of_stop CannotOpen = 5
+status_of_stop (Run fault) = status_of_fault fault
+
+abbrev pub line_of_stop : Stop → List ℕ
+line_of_stop CannotOpen = codes "cannot open\n"
+line_of_stop (Run fault) = line_of_fault fault
+
+module _ {W : Type 0} where
+  -- nothing was written, unless it is the output that failed
+  abbrev pub IsSilent : Stop → Watched W → Watched W → Type 0
+  IsSilent CannotOpen old new = new ≡ old
+  IsSilent (Run (Refused which fault)) old new = new ≡ old
+  IsSilent (Run (GoodRange good)) old new = new ≡ old
+  IsSilent (Run (Sent fault)) old new = Unit {0}
+
+module _ {W : Type 0} (contents : W → Option (List ℕ)) where
+  -- so many of the first bytes of the text went out: all of them, or fewer where memory or the writer failed
+  pub record SendsBeginning (old new : Watched W) (text : List ℕ) : Type 0 where
+    pub sent : ℕ
+    pub appended : Appends (contents (inner_of old)) (contents (inner_of new)) (take sent text)
