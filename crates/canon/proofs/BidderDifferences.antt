@@ -54,7 +54,7 @@ module _ {X : Type 0} (cmp : X → X → Ordering) (total : IsTotalOrder cmp) (e
   least_uneven_swap one other =
       let lists : both_in_order one other ≡ both_in_order other one = sort_by-same cmp total exact (one ++ other) (other ++ one) (λ x. let a = count_of-append cmp x one other in let b = count_of-append cmp x other one in omega arith) in
       find_alike (is_uneven cmp one other) (is_uneven cmp other one) (both_in_order one other) (both_in_order one other)
-        (filter_same_on (is_uneven cmp one other) (is_uneven cmp other one) (both_in_order one other) (All-from_Contains (λ x. is_uneven cmp one other x ≡ is_uneven cmp other one x) (both_in_order one other) (λ x c. ap not (eqb_swap (count_of cmp x one) (count_of cmp x other)))))
+      (filter_same_on (is_uneven cmp one other) (is_uneven cmp other one) (both_in_order one other) (All-from_Contains (λ x. is_uneven cmp one other x ≡ is_uneven cmp other one x) (both_in_order one other) (λ x c. ap not (eqb_swap (count_of cmp x one) (count_of cmp x other)))))
       ∙ ap (find (is_uneven cmp other one)) lists
 
   -- an element that either list has is among both

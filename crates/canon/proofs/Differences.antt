@@ -158,7 +158,7 @@ numbers_by_table a b h k same bidder e =
     ⊎_elim
     (λ (z : copies_of bidder a ≡ 0).
     let some : 0 < count_of bidder_cmp bidder (points_of_bidders b.goods b.xor_bidders) =
-        ⊎_elim (λ (y : copies_of bidder b ≡ 0). absurd (least.differ (z ∙ sym y))) (λ (l : 0 < copies_of bidder b). omega arith) (zero_or_more (copies_of bidder b)) in
+    ⊎_elim (λ (y : copies_of bidder b ≡ 0). absurd (least.differ (z ∙ sym y))) (λ (l : 0 < copies_of bidder b). omega arith) (zero_or_more (copies_of bidder b)) in
     let r = occurring b.goods bidder b.xor_bidders k.xor_atoms some in
     by r.0 (subst (λ n. IsPointsOf n bidder r.0) (sym same) r.1) r.1)
     (λ (l : 0 < copies_of bidder a).

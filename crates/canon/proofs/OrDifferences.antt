@@ -87,7 +87,7 @@ module _ (goods : ℕ) where
       let rest = IsBundle-without goods bundle part b in (
         rest,
         inside_before (without bundle part) bundle rest.0 b.0 (without_inside bundle part)
-          (λ e. both_ways (is_inside bundle (without bundle part)) (left_is_proper part bundle p.nonempty p.inside) (subst (λ (xs : List ℕ). is_inside bundle xs ≡ true) (sym e) (inside_refl bundle))),
+            (λ e. both_ways (is_inside bundle (without bundle part)) (left_is_proper part bundle p.nonempty p.inside) (subst (λ (xs : List ℕ). is_inside bundle xs ≡ true) (sym e) (inside_refl bundle))),
       )
 
   -- the bidder with the greater value has a point there
@@ -171,8 +171,8 @@ module _ (goods : ℕ) where
         value_of_front front (x ∷ xs) earlier b.0 (λ a c. (
           (All-contains (IsOnBundle goods) (front ++ (x ∷ xs)) a left.on (Contains-append_right front (x ∷ xs) a c)).bundle.0,
           ⊎_elim (λ (d : x ≡ a). subst (λ (z : Atom (List ℕ)). bundle_cmp earlier z.bundle ≡ Less) d l)
-          (λ (d : Contains xs a). bundle_cmp_total.trans earlier x.bundle a.bundle l (All-contains (IsBefore x) xs a (AllPairs-head IsBefore x xs (suffix_in_order front (x ∷ xs) (in_order (front ++ (x ∷ xs)) left))) d))
-          (Contains-cons_cases x xs a c),
+              (λ (d : Contains xs a). bundle_cmp_total.trans earlier x.bundle a.bundle l (All-contains (IsBefore x) xs a (AllPairs-head IsBefore x xs (suffix_in_order front (x ∷ xs) (in_order (front ++ (x ∷ xs)) left))) d))
+              (Contains-cons_cases x xs a c),
         ))
 
     -- the other list goes on behind the bundle, or ends
@@ -186,9 +186,9 @@ module _ (goods : ℕ) where
       agree_left : AgreeBefore (front ++ (x ∷ xs)) (front ++ ys) x.bundle
       agree_left = record {
         agree = λ earlier b l. before_place earlier b l ∙ sym (value_of_front front ys earlier b.0 (λ a c. (
-            (All-contains (IsOnBundle goods) (front ++ ys) a right.on (Contains-append_right front ys a c)).bundle.0,
-            bundle_cmp_total.trans earlier x.bundle a.bundle l (later a c),
-          )));
+          (All-contains (IsOnBundle goods) (front ++ ys) a right.on (Contains-append_right front ys a c)).bundle.0,
+          bundle_cmp_total.trans earlier x.bundle a.bundle l (later a c),
+        )));
       }
 
       none_on_right : is_or_point goods (front ++ ys) x.bundle ≡ false
@@ -228,10 +228,10 @@ module _ (goods : ℕ) where
       let there : IsOrPoint (front ++ (y ∷ ys)) x.bundle = subst (λ (b : List ℕ). IsOrPoint (front ++ (y ∷ ys)) b) (sym same) other.1 in
       record {
         found = first_unequal_found (front ++ (x ∷ xs)) (front ++ (y ∷ ys)) x.bundle (record {
-            within = mine.0;
-            earlier = record { agree = λ earlier b l. before_place front x xs left earlier b l ∙ sym (before_place front y ys right earlier b (subst (λ (b : List ℕ). bundle_cmp earlier b ≡ Less) same l)) };
-            differ = λ e. differ (mine.2 ∙ e ∙ sym price);
-          });
+          within = mine.0;
+          earlier = record { agree = λ earlier b l. before_place front x xs left earlier b l ∙ sym (before_place front y ys right earlier b (subst (λ (b : List ℕ). bundle_cmp earlier b ≡ Less) same l)) };
+          differ = λ e. differ (mine.2 ∙ e ∙ sym price);
+        });
         left_point = is_or_point-true goods (front ++ (x ∷ xs)) x.bundle mine.1;
         left_price = sym mine.2;
         right_point = is_or_point-true goods (front ++ (y ∷ ys)) x.bundle there;

@@ -8,7 +8,8 @@ use std::process::Abort;
 use std::test::Fail;
 use valuation::{Auction, auction_of};
 
-const EQUAL_BIDDERS: &str = "goods 2\nbids 5\ndummy 2\n0\t1\t0\t2\t#\n1\t2\t0\t1\t2\t#\n2\t1\t0\t3\t#\n3\t1\t0\t1\t3\t#\n4\t2\t0\t1\t3\t#\n";
+const EQUAL_BIDDERS: &str =
+    "goods 2\nbids 5\ndummy 2\n0\t1\t0\t2\t#\n1\t2\t0\t1\t2\t#\n2\t1\t0\t3\t#\n3\t1\t0\t1\t3\t#\n4\t2\t0\t1\t3\t#\n";
 
 const EQUAL_BIDDERS_TEXT: &str =
     "goods 2\nbids 4\ndummy 2\n0\t1\t0\t2\t#\n1\t2\t0\t1\t2\t#\n2\t1\t0\t3\t#\n3\t2\t0\t1\t3\t#\n";

@@ -15,23 +15,10 @@ use crate::auction::canonical;
 use crate::fault::CanonFault;
 use crate::file::file_of;
 use cats_text::{BidFile, read, write};
-use goods_set::{GoodsSet, WordSet, goods_of};
+use goods_set::{GoodsSet, goods_of, on_least_set};
 use prune::PruneFault;
 use std::alloc::Global;
 use valuation::{Auction, auction_of};
-
-/// Calls a function that is generic over sets of goods on the least set that holds so many goods: an atom then takes no more
-/// memory than they need.
-macro_rules! on_least_set {
-    ($goods:expr, $call:ident($($argument:expr),*)) => {
-        match $goods {
-            0..=64 => $call::<WordSet<1>>($($argument),*),
-            65..=256 => $call::<WordSet<4>>($($argument),*),
-            257..=1024 => $call::<WordSet<16>>($($argument),*),
-            _ => $call::<WordSet<64>>($($argument),*),
-        }
-    };
-}
 
 /// The canonical file of a file: the file of its canonical auction. `limit` bounds each search that decides on a bundle of the OR
 /// bidder.

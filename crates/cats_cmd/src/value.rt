@@ -18,7 +18,7 @@ use crate::run::{read_file, send_text};
 use bundles::bundle_of;
 use canon::CanonFault;
 use cats_text::{BidFile, Watched};
-use goods_set::{GoodsSet, WordSet, goods_of};
+use goods_set::{GoodsSet, goods_of, on_least_set};
 use lines::{push_or_line, push_xor_lines};
 use numbers::bid_numbers;
 use std::alloc::Global;
@@ -56,8 +56,7 @@ fn first_missing(goods: &[u16], count: u16) -> Option<u16>
     goods.iter().copied().find(|good| *good >= count)
 }
 
-/// The values of the bundle of these goods, as they are printed, by the least of a few sets that hold the file's goods. The
-/// fewer words a set has, the less an atom takes and the faster a search is.
+/// The values of the bundle of these goods, as they are printed, by the least set that holds the file's goods.
 fn text_on_least_sets(
     alloc: Global,
     file: &BidFile,
@@ -67,12 +66,7 @@ fn text_on_least_sets(
     requires { missing_good (plain_file file.now).goods goods.now ≡ None }
     ensures { MakesAs (values_within limit (bundle_from goods.now) (plain_file file.now)) result }
 {
-    match file.goods() {
-        0..=64 => text_of_values::<WordSet<1>>(alloc, file, goods, limit),
-        65..=256 => text_of_values::<WordSet<4>>(alloc, file, goods, limit),
-        257..=1024 => text_of_values::<WordSet<16>>(alloc, file, goods, limit),
-        _ => text_of_values::<WordSet<64>>(alloc, file, goods, limit),
-    }
+    on_least_set!(file.goods(), text_of_values(alloc, file, goods, limit))
 }
 
 /// The values of the bundle of these goods, as they are printed.

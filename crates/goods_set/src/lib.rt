@@ -3,6 +3,7 @@
 #![tactic(auto)]
 
 pub mod laws;
+mod least;
 pub mod list_set;
 pub mod listing;
 pub mod set;

@@ -9,13 +9,7 @@ const STEPS: u64 = 1_000_000;
 const ROOM: usize = 8_388_608;
 
 /// What `normalise` answers of a text under a step limit, with a writer that has this room in all.
-fn normal(
-    alloc: Global,
-    text: &[u8],
-    fails: bool,
-    limit: u64,
-    room: usize,
-) -> Result<Told, Fail> {
+fn normal(alloc: Global, text: &[u8], fails: bool, limit: u64, room: usize) -> Result<Told, Fail> {
     let mut input = reader(text, fails);
     let mut out = writer(alloc, 4096, room);
     let answer = run_normalise(alloc, &mut input, limit, &mut out);
@@ -46,7 +40,11 @@ fn or_bids(rt: HostRuntime) -> Result<(), Fail> {
     gives(
         &rt,
         &[
-            ("goods 0\nbids 0\ndummy 0\n", STEPS, "goods 0\nbids 0\ndummy 0\n"),
+            (
+                "goods 0\nbids 0\ndummy 0\n",
+                STEPS,
+                "goods 0\nbids 0\ndummy 0\n",
+            ),
             (
                 LARGER_BID,
                 STEPS,
@@ -161,7 +159,13 @@ fn refusals(rt: HostRuntime) -> Result<(), Fail> {
     for (text, fails, limit, status, line) in [
         (TRIPLE_REACHED, false, 3, 3, "step limit at 0,1,2\n"),
         (LARGER_BID, false, 2, 3, "step limit at 0,1\n"),
-        ("goods 2\nbids 2\ndummy 2\n0 1 0 2 #\n1 1 1 2 3 #\n", false, 1, 2, "line 5: TwoDummies\n"),
+        (
+            "goods 2\nbids 2\ndummy 2\n0 1 0 2 #\n1 1 1 2 3 #\n",
+            false,
+            1,
+            2,
+            "line 5: TwoDummies\n",
+        ),
         ("goods 0\n", true, 1, 5, "Device\n"),
         ("Goods 0\n", true, 1, 2, "line 1: Header\n"),
         ("", false, 1, 2, "line 1: Missing\n"),
