@@ -95,9 +95,10 @@ module _ {X : Type 0} (cmp : X → X → Ordering) (total : IsTotalOrder cmp) wh
 
   ordered_from_pairs : (xs : List X) → AllPairs (λ x y. is_gt (cmp x y) ≡ false) xs → IsOrdered cmp xs
   ordered_from_pairs [] h = tt
-  ordered_from_pairs (x ∷ xs) h =
-      (recursion_from_All (λ y. is_gt (cmp x y) ≡ false) xs (AllPairs-head (λ x y. is_gt (cmp x y) ≡ false) x xs h),
-      ordered_from_pairs xs (AllPairs-tail (λ x y. is_gt (cmp x y) ≡ false) x xs h))
+  ordered_from_pairs (x ∷ xs) h = (
+    recursion_from_All (λ y. is_gt (cmp x y) ≡ false) xs (AllPairs-head (λ x y. is_gt (cmp x y) ≡ false) x xs h),
+    ordered_from_pairs xs (AllPairs-tail (λ x y. is_gt (cmp x y) ≡ false) x xs h),
+  )
 
   pub ordered_from_sorted : (xs : List X) → IsSortedBy (λ x y. is_lt (cmp x y)) xs → IsOrdered cmp xs
   ordered_from_sorted xs up =

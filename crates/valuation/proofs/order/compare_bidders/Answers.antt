@@ -1,5 +1,5 @@
-use Rattle.std.proofs.Common.{◌+◌, ◌<◌, length, drop, sym, ◌∙◌, arith}
-use Rattle.valuation.specs.Values.{plain_atom, atoms_of}
+use Rattle.std.proofs.Common.{◌+◌, drop, sym, ◌∙◌, arith}
+use Rattle.valuation.specs.Values.{atoms_of}
 use Rattle.valuation.specs.Orders.{atom_cmp, bidder_cmp}
 use Rattle.valuation.specs.AtomLemmas.{length-atoms_of}
 use Rattle.valuation.proofs.Comparing.{then-decided, then-left, slice_cmp-ended, bidder_cmp-drop}
