@@ -1,5 +1,5 @@
 //! The auction of a bid file.
-ghost use Rattle.std.specs.Prelude.{◌≡◌, ◌≤◌, List, [], replicate, IfOk};
+ghost use Rattle.std.specs.Prelude.{◌≡◌, ◌≤◌, List, [], length, replicate, vec_len, IfOk};
 ghost use Rattle.goods_set.specs.Bundles.{IsRising, AreBelow};
 ghost use Rattle.cats_text.specs.Views.{plain_file};
 ghost use Rattle.valuation.specs.Auctions.{auction_from};
@@ -29,13 +29,31 @@ fn atom_of<S: GoodsSet>(alloc: Global, bid: &Bid) -> Result<Atom<S>, AllocError>
     })
 }
 
-/// So many bidders without an atom.
-fn empty_bidders<S: GoodsSet>(alloc: Global, count: u32) -> Result<Vec<Vec<Atom<S>>>, AllocError>
-    ensures { IfOk result (λ bidders. bidders_of S.goods bidders.items ≡ replicate count []) }
+/// How many bids have each dummy good, so that no bidder's vector takes more memory than it has to.
+fn bids_of_dummies(alloc: Global, file: &BidFile) -> Result<Vec<usize>, AllocError>
+    ensures { IfOk result (λ counts. vec_len counts ≡ (plain_file file.now).dummy) }
 {
-    let mut bidders = Vec::new(alloc);
-    for _ in 0..count {
-        bidders.push(Vec::new(alloc))?;
+    let bids = file.bids();
+    let mut counts: Vec<usize> = vec![in alloc; 0; file.dummy() as usize]?;
+    for bid in bids {
+        if let Some(dummy) = bid.dummy {
+            let count = &mut counts[dummy as usize];
+            *count = count.saturating_add(1);
+        }
+    }
+    Ok(counts)
+}
+
+/// As many bidders without an atom, with room for so many atoms each.
+fn empty_bidders<S: GoodsSet>(
+    alloc: Global,
+    counts: &[usize],
+) -> Result<Vec<Vec<Atom<S>>>, AllocError>
+    ensures { IfOk result (λ bidders. bidders_of S.goods bidders.items ≡ replicate (length counts.now) []) }
+{
+    let mut bidders = Vec::with_capacity(alloc, counts.len())?;
+    for count in counts {
+        bidders.push(Vec::with_capacity(alloc, *count)?)?;
     }
     Ok(bidders)
 }
@@ -48,8 +66,10 @@ pub fn auction_of<S: GoodsSet>(alloc: Global, file: &BidFile) -> Result<Auction<
     ensures { IfOk result (λ a. plain_auction a ≡ auction_from (plain_file file.now)) }
 {
     let bids = file.bids();
-    let mut or_atoms = Vec::new(alloc);
-    let mut xor_bidders = empty_bidders(alloc, file.dummy())?;
+    let counts = bids_of_dummies(alloc, file)?;
+    let or_count = bids.iter().filter(|bid| bid.dummy.is_none()).count();
+    let mut or_atoms = Vec::with_capacity(alloc, or_count)?;
+    let mut xor_bidders = empty_bidders(alloc, &counts)?;
     for bid in bids {
         let atom = atom_of(alloc, bid)?;
         match bid.dummy {

@@ -1,4 +1,4 @@
-use Rattle.std.proofs.Common.{arith, ◌<◌, length, take, refl, sym, ap, ◌∙◌}
+use Rattle.std.proofs.Common.{arith, ◌≡◌, ◌<◌, length, take, refl, sym, ap, ◌∙◌}
 use Rattle.goods_set.specs.Members.{AreBelow-higher}
 use Rattle.cats_text.specs.Files.{plain_bid, plain_bids}
 use Rattle.cats_text.specs.Views.{plain_file}
@@ -11,9 +11,10 @@ use Rattle.valuation.proofs.from_file.auction_of.Goals.{in-None+in_ok-push-in-No
 
 pub loop-bid-init : goal.loop-bid-init
 loop-bid-init g c =
+    let counted : length c.deref.result.now ≡ c.args.file.now.dummy = omega (arith, ap length c.deref.ensures.value, c.in_ok-counts.ensures, c.in_ok-counts.counts.ok.0) in
     record {
-      or = ap (atoms_of g.S.GoodsSet.goods) c.new-or_atoms.ensures.items;
-      xor = c.in_ok-xor_bidders.ensures ∙ rw c.dummy.ensures (no_bids 0 c.args.file.now.dummy);
+      or = ap (atoms_of g.S.GoodsSet.goods) c.in_ok-or_atoms.ensures.items;
+      xor = c.in_ok-xor_bidders.ensures ∙ rw counted (no_bids 0 c.args.file.now.dummy);
     }
 
 pub atom_of-requires-clause-rising : goal.atom_of-requires-clause-rising
@@ -57,7 +58,7 @@ loop-bid-preserved g c =
           let below : w.in-Some.dummy < c.args.file.now.dummy = rw w.in-Some.is at bid.dummy in
           record {
             or = rw w.or_atoms-is (c.loop-bid.invariant.or ∙ sym (or_atoms_of-same bids i b in_list here w.in-Some.dummy w.in-Some.is));
-            xor = rw w.xor_bidders-is (place-xor goods bids i b in_list here c.in_ok-atom.atom atom.bundle atom.price c.loop-bid.xor_bidders.items _ w.index_mut-bidder.result.now w.push-in-Some.new.self w.in-Some.dummy c.args.file.now.dummy w.in-Some.is below c.loop-bid.invariant.xor w.index_mut-bidder.ensures.value w.in_ok-push-in-Some.ensures.items refl);
+            xor = rw w.xor_bidders-is (place-xor goods bids i b in_list here c.in_ok-atom.atom atom.bundle atom.price c.loop-bid.xor_bidders.items _ w.index_mut-bidder.result.now _ w.in-Some.dummy c.args.file.now.dummy w.in-Some.is below c.loop-bid.invariant.xor w.index_mut-bidder.ensures.value w.in_ok-push-in-Some.ensures.items refl);
           }
     ]
 
