@@ -14,15 +14,15 @@ use Rattle.std.specs.Option.{unwrap_or}
 use Rattle.cats_text.specs.Lines.{is_blank}
 use Rattle.cats_text.specs.Returns.{settled, waits, return_byte}
 use Rattle.cats_text.specs.Progress.{Progress}
-use Rattle.cats_text.specs.Scanning.{State, run, and_then, MeetsBidLine, IsScanned}
+use Rattle.cats_text.specs.Scanning.{State, run, and_then, letter_mode, MeetsBidLine, IsScanned}
 use Rattle.cats_text.specs.declared.scanner.Mode.{Mode}
-use Rattle.cats_text.specs.declared.scanner.Mode.TheVariants.{Comment, Inside}
+use Rattle.cats_text.specs.declared.scanner.Mode.TheVariants.{Start, Blank, Comment, Between, Inside}
 use Rattle.cats_text.proofs.Places.{digit_bounds}
 use Rattle.cats_text.proofs.Scanned.{settled-other}
 use Rattle.cats_text.proofs.PieceRuns.{meets_behind}
 use Rattle.cats_text.proofs.ByteLines.{IsNoEnd, standing, run-append, in_comment, byte_letter}
 use Rattle.cats_text.specs.Numbers.{is_digit, digits_alone}
-use Rattle.cats_text.specs.Machine.{word_with}
+use Rattle.cats_text.specs.Machine.{word_from, word_with}
 use Rattle.cats_text.specs.declared.word.Word.{Word}
 use Rattle.cats_text.specs.declared.word.Word.TheVariants.{Number}
 use Rattle.cats_text.specs.declared.word.TheConstants.{HELD}
@@ -147,6 +147,9 @@ waits_digits [] h = refl
 waits_digits (b ∷ []) h = let p = and_parts (is_digit b) true h in ne_eqb b 13 (digit_no_return b p.0)
 waits_digits (b ∷ c ∷ xs) h = let p = and_parts (is_digit b) (digits_alone (c ∷ xs)) h in waits_digits (c ∷ xs) p.1
 
+no_comment : (b : ℕ) → is_digit b ≡ true → eqb b 37 ≡ false
+no_comment b d = let low : 48 ≤ b = (digit_bounds b d).0 in ne_eqb b 37 (λ e. absurd (omega arith))
+
 digit_letter : (b : ℕ) → is_digit b ≡ true → (eqb b 10 ≡ false) × (is_blank b ≡ false)
 digit_letter b d = let low : 48 ≤ b = (digit_bounds b d).0 in
     (ne_eqb b 10 (λ e. absurd (omega arith)), neither (eqb b 32) (eqb b 9) (ne_eqb b 32 (λ e. absurd (omega arith))) (ne_eqb b 9 (λ e. absurd (omega arith))))
@@ -159,20 +162,60 @@ digits_run w n p [] h = refl
 digits_run w n p (b ∷ ds) h = let parts = and_parts (is_digit b) (digits_alone ds) h in let letter = digit_letter b parts.0 in
     ap (λ r. and_then r (λ t. run t ds)) (byte_letter (standing (Inside w) n p) b letter.0 letter.1) ∙ digits_run (word_with w b) n p ds parts.1
 
--- the rest of a number's digits in these bytes
-pub number_scanned : (n : ℕ) (p : Progress) (first sum : ℕ) (rest : List ℕ) (count : ℕ) (w : Bool) → digits_alone (take count rest) ≡ true → Number sum ≡ fold word_with (Number first) (take count rest) → w ≡ false
-    → IsScanned (standing (Inside (Number first)) n p) (standing (Inside (Number sum)) n p) w rest (drop count rest)
-number_scanned n p first sum rest count w digits value e =
+-- digits in front, which lead from one state to another
+digits_scanned : (s t : State) (rest : List ℕ) (count : ℕ) (w : Bool) → digits_alone (take count rest) ≡ true → run s (take count rest) ≡ Ok t → w ≡ false → IsScanned s t w rest (drop count rest)
+digits_scanned s t rest count w digits ran e =
     let parts : take count rest ++ drop count rest ≡ rest = take-append-drop count rest in
     let split : settled rest ≡ take count rest ++ settled (drop count rest) = ap settled (sym parts) ∙ settled_digits (take count rest) (drop count rest) digits in
-    let ran : run (standing (Inside (Number first)) n p) (take count rest) ≡ Ok (standing (Inside (Number sum)) n p) = digits_run (Number first) n p (take count rest) digits ∙ ap (λ k. Ok (standing (Inside k) n p)) (sym value) in
     record {
-      steps = sym (ap (run (standing (Inside (Number first)) n p)) split ∙ run-append (standing (Inside (Number first)) n p) (take count rest) (settled (drop count rest)) ∙ ap (λ r. and_then r (λ t. run t (settled (drop count rest)))) ran);
-      asks = λ m. subst (MeetsBidLine (standing (Inside (Number first)) n p)) (sym split) (meets_behind (standing (Inside (Number first)) n p) (standing (Inside (Number sum)) n p) (take count rest) (settled (drop count rest)) ran m);
+      steps = sym (ap (run s) split ∙ run-append s (take count rest) (settled (drop count rest)) ∙ ap (λ r. and_then r (λ t. run t (settled (drop count rest)))) ran);
+      asks = λ m. subst (MeetsBidLine s) (sym split) (meets_behind s t (take count rest) (settled (drop count rest)) ran m);
       last = λ l. sym (waits_behind (take count rest) (drop count rest) l) ∙ ap waits parts;
       going = λ l. e;
       ended = λ q. e ∙ sym (ap waits (sym parts ∙ ap (λ ds. take count rest ++ ds) q ∙ append-nil (take count rest)) ∙ waits_digits (take count rest) digits);
     }
+
+-- the rest of a number's digits in these bytes
+pub number_scanned : (n : ℕ) (p : Progress) (first sum : ℕ) (rest : List ℕ) (count : ℕ) (w : Bool) → digits_alone (take count rest) ≡ true → Number sum ≡ fold word_with (Number first) (take count rest) → w ≡ false
+    → IsScanned (standing (Inside (Number first)) n p) (standing (Inside (Number sum)) n p) w rest (drop count rest)
+number_scanned n p first sum rest count w digits value e =
+    digits_scanned (standing (Inside (Number first)) n p) (standing (Inside (Number sum)) n p) rest count w digits
+    (digits_run (Number first) n p (take count rest) digits ∙ ap (λ k. Ok (standing (Inside k) n p)) (sym value)) e
+
+-- ---- a number that begins
+
+-- no word has begun, and no comment
+abbrev pub is_before_word : Mode → Bool
+is_before_word Start = true
+is_before_word Blank = true
+is_before_word Comment = false
+is_before_word Between = true
+is_before_word (Inside w) = false
+
+first_digit : (b : ℕ) → is_digit b ≡ true → Inside (word_from b) ≡ Inside (word_with (Number 0) b)
+first_digit b d = rw d (ap (λ n. Inside (Number n)) (sym (zero-add (b - 48))))
+
+digit_begins : (m : Mode) (b : ℕ) → is_before_word m ≡ true → is_digit b ≡ true → letter_mode m b ≡ Inside (word_with (Number 0) b)
+digit_begins Start b e d = ap (λ t. cond t Comment (Inside (word_from b))) (no_comment b d) ∙ first_digit b d
+digit_begins Blank b e d = ap (λ t. cond t Comment (Inside (word_from b))) (no_comment b d) ∙ first_digit b d
+digit_begins Comment b e d = cc
+digit_begins Between b e d = first_digit b d
+digit_begins (Inside w) b e d = cc
+
+-- the mode behind so many digits, which make this number
+abbrev pub begun_mode : Mode → ℕ → ℕ → Mode
+begun_mode m sum zero = m
+begun_mode m sum (suc count) = Inside (Number sum)
+
+begun_run : (m : Mode) (n : ℕ) (p : Progress) (sum count : ℕ) (rest : List ℕ) → is_before_word m ≡ true → count ≤ length rest → digits_alone (take count rest) ≡ true → Number sum ≡ fold word_with (Number 0) (take count rest)
+    → run (standing m n p) (take count rest) ≡ Ok (standing (begun_mode m sum count) n p)
+begun_run m n p sum zero rest before l digits value = refl
+begun_run m n p sum (suc count) [] before l digits value = absurd (omega arith)
+begun_run m n p sum (suc count) (b ∷ rest) before l digits value =
+    let parts = and_parts (is_digit b) (digits_alone (take count rest)) digits in
+    let letter = digit_letter b parts.0 in
+    ap (λ r. and_then r (λ t. run t (take count rest))) (byte_letter (standing m n p) b letter.0 letter.1 ∙ ap (λ k. Ok (standing k n p)) (digit_begins m b before parts.0))
+    ∙ digits_run (word_with (Number 0) b) n p (take count rest) parts.1 ∙ ap (λ k. Ok (standing (Inside k) n p)) (sym value)
 
 -- ---- the same from a place on
 
@@ -205,3 +248,15 @@ number_at s bytes place first sum count w mode digits value e =
     (subst (IsScanned (standing (Inside (Number first)) s.line s.progress) (record s { mode = Inside (Number sum) }) w (drop place bytes)) (behind_count bytes place count)
     (number_scanned s.line s.progress first sum (drop place bytes) count w
     (sym (ap (λ ds. digits_alone (take count ds)) (rest_is bytes place)) ∙ digits) (value ∙ ap (λ ds. fold word_with (Number first) (take count ds)) (rest_is bytes place)) e))
+
+pub number_begun_at : (s : State) (bytes : List ℕ) (place : ℕ) (m : Mode) (sum count : ℕ) (w : Bool) → is_before_word s.mode ≡ true
+    → count ≤ length (take (length bytes - place) (drop place bytes)) → digits_alone (take count (take (length bytes - place) (drop place bytes))) ≡ true
+    → Number sum ≡ fold word_with (Number 0) (take count (take (length bytes - place) (drop place bytes))) → m ≡ begun_mode s.mode sum count → w ≡ false
+    → IsScanned s (record s { mode = m }) w (drop place bytes) (drop (place + count) bytes)
+number_begun_at s bytes place m sum count w before within digits value mode e =
+    let within' : count ≤ length (drop place bytes) = subst (λ ds. count ≤ length ds) (rest_is bytes place) within in
+    let digits' : digits_alone (take count (drop place bytes)) ≡ true = sym (ap (λ ds. digits_alone (take count ds)) (rest_is bytes place)) ∙ digits in
+    let value' : Number sum ≡ fold word_with (Number 0) (take count (drop place bytes)) = value ∙ ap (λ ds. fold word_with (Number 0) (take count ds)) (rest_is bytes place) in
+    subst (IsScanned s (record s { mode = m }) w (drop place bytes)) (behind_count bytes place count)
+    (digits_scanned s (record s { mode = m }) (drop place bytes) count w digits'
+    (begun_run s.mode s.line s.progress sum count (drop place bytes) before within' digits' value' ∙ ap (λ k. Ok (standing k s.line s.progress)) (sym mode)) e)

@@ -83,7 +83,9 @@ impl GoodList {
         ensures empty { OnOk result (self.new ≡ []) }
     {
         let mut goods = Vec::from_slice(alloc, self.goods.as_slice())?;
-        goods.sort_unstable();
+        if !goods.as_slice().is_sorted() {
+            goods.sort_unstable();
+        }
         self.goods.clear();
         if self.bid_mark == u32::MAX {
             self.marks.clear();

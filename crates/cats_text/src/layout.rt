@@ -22,12 +22,27 @@ pub fn write(alloc: Global, file: &BidFile) -> Result<Vec<u8>, AllocError>
     ensures layout { IfOk result (λ out. out.items ≡ layout (plain_file file.now)) }
     ensures spells { IfOk result (λ out. Spells out.items (plain_file file.now)) }
 {
-    let mut out = Vec::new(alloc);
+    let mut out = Vec::with_capacity(alloc, room_for(file.bids()))?;
     push_header(&mut out, b"goods", u64::from(file.goods()))?;
     push_header(&mut out, b"bids", file.bids().len() as u64)?;
     push_header(&mut out, b"dummy", u64::from(file.dummy()))?;
     push_bids(&mut out, file.goods(), file.bids())?;
     Ok(out)
+}
+
+/// The bytes that a header, or a line of a bid without its goods, has at most, and a good with its tab.
+const LINE: usize = 64;
+
+const GOOD: usize = 5;
+
+/// As many bytes as the text of these bids has at most.
+fn room_for(bids: &[Bid]) -> usize {
+    let mut room = LINE;
+    for bid in bids {
+        let goods = bid.goods.len().saturating_mul(GOOD);
+        room = room.saturating_add(LINE).saturating_add(goods);
+    }
+    room
 }
 
 /// Appends a price, given in millionths: its whole part, then, where millionths are left, a point and their digits without

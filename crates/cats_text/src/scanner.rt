@@ -193,7 +193,7 @@ impl Scanner {
         }
     }
 
-    /// Goes on with a comment or a number as far as it goes, and tells the place behind that.
+    /// Goes on with a comment or a number as far as it goes, or begins a number, and tells the place behind that.
     fn go_on(&mut self, bytes: &[u8], place: usize) -> usize
         requires waits { self.old.waiting ≡ false }
         requires within { place < length bytes.now }
@@ -213,6 +213,13 @@ impl Scanner {
                 let (value, count) = with_digits(value, rest);
                 self.mode = Mode::Inside(Word::Number(value));
                 place + count
+            }
+            Mode::Start | Mode::Blank | Mode::Between => {
+                let (begun, digits) = with_digits(0, rest);
+                if digits > 0 {
+                    self.mode = Mode::Inside(Word::Number(begun));
+                }
+                place + digits
             }
             _ => place,
         }
