@@ -93,11 +93,11 @@ fn cannot_open(rt: HostRuntime) -> Result<(), Fail> {
 }
 
 /// What a command line answers that has a new file with this text between its words.
-fn run_on<'a>(
+fn run_on(
     rt: &HostRuntime,
     text: &str,
-    before: &[&'a str],
-    after: &[&'a str],
+    before: &[&str],
+    after: &[&str],
     out_room: usize,
     err_room: usize,
 ) -> Result<Told, Fail> {
@@ -105,9 +105,14 @@ fn run_on<'a>(
     let id = process::id(rt.process());
     let path = format!(in alloc; "/tmp/cats_cmd_{id}.cats")?;
     fs::write(rt, path.as_str(), text)?;
-    let mut words = Vec::from_slice(alloc, before)?;
+    let mut words = Vec::new(alloc);
+    for word in before {
+        words.push(*word)?;
+    }
     words.push(path.as_str())?;
-    words.extend_from_slice(after)?;
+    for word in after {
+        words.push(*word)?;
+    }
     let answer = run(rt, words.as_slice(), out_room, err_room)?;
     fs::remove_file(rt, path.as_str())?;
     Ok(answer)
