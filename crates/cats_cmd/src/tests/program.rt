@@ -92,28 +92,26 @@ fn cannot_open(rt: HostRuntime) -> Result<(), Fail> {
     Ok(())
 }
 
-/// What a command line answers that has a new file with this text between its words.
-fn run_on(
-    rt: &HostRuntime,
-    text: &str,
-    before: &[&str],
-    after: &[&str],
-    out_room: usize,
-    err_room: usize,
-) -> Result<Told, Fail> {
+/// The path of a new file with this text.
+fn new_file(rt: &HostRuntime, text: &str) -> Result<String, Fail> {
     let alloc = rt.alloc();
     let id = process::id(rt.process());
     let path = format!(in alloc; "/tmp/cats_cmd_{id}.cats")?;
     fs::write(rt, path.as_str(), text)?;
-    let mut words = Vec::new(alloc);
-    for word in before {
-        words.push(*word)?;
-    }
-    words.push(path.as_str())?;
-    for word in after {
-        words.push(*word)?;
-    }
-    let answer = run(rt, words.as_slice(), out_room, err_room)?;
+    Ok(path)
+}
+
+/// What a command answers of a new file with this text.
+fn run_on(
+    rt: &HostRuntime,
+    command: &str,
+    text: &str,
+    out_room: usize,
+    err_room: usize,
+) -> Result<Told, Fail> {
+    let path = new_file(rt, text)?;
+    let words = ["cats", command, path.as_str()];
+    let answer = run(rt, &words, out_room, err_room)?;
     fs::remove_file(rt, path.as_str())?;
     Ok(answer)
 }
@@ -165,74 +163,48 @@ fn files(rt: HostRuntime) -> Result<(), Fail> {
         ("value", MISSING, ROOM, ROOM, 2, "", "line 3: Missing\n"),
         ("value", MISSING, ROOM, 0, 2, "", ""),
     ] {
-        let answer = run_on(&rt, text, &["cats", command], &[], room, err_room)?;
+        let answer = run_on(&rt, command, text, room, err_room)?;
         expect(&rt, &answer, status, sent, line);
     }
     Ok(())
 }
-
-const PLAIN: &[&str] = &["cats", "value"];
 
 const VALUED: &str = "goods 2\nbids 3\ndummy 1\n0 3 0 #\n1 4.5 1 #\n2 7 0 1 2 #\n";
 
 #[test]
 fn values_of_a_file(rt: HostRuntime) -> Result<(), Fail> {
-    let rows: [(&[&str], &[&str], u8, &str, &str); 8] = [
-        (
-            PLAIN,
-            &["1", "0", "+1", "01"],
-            0,
-            "or 7.5 0 1\nxor 2 7 2\n",
-            "",
-        ),
-        (PLAIN, &[], 0, "or 0\nxor 2 0\n", ""),
-        (
-            &["cats", "value", "--steps", "4"],
-            &["0", "1"],
-            0,
-            "or 7.5 0 1\nxor 2 7 2\n",
-            "",
-        ),
-        (
-            &["cats", "value", "--steps=1000000000"],
-            &["1"],
-            0,
-            "or 4.5 1\nxor 2 0\n",
-            "",
-        ),
-        (
-            PLAIN,
-            &["0", "1", "--steps", "3"],
-            3,
-            "",
-            "step limit at 0,1\n",
-        ),
-        (PLAIN, &["0", "--steps", "1"], 3, "", "step limit at 0\n"),
-        (PLAIN, &["--steps", "1"], 0, "or 0\nxor 2 0\n", ""),
-        (
-            PLAIN,
-            &["0", "65535", "2"],
-            64,
-            "",
-            "good 65535 out of range\n",
-        ),
-    ];
-    for (before, after, status, sent, line) in rows {
-        let answer = run_on(&rt, VALUED, before, after, ROOM, ROOM)?;
+    let path = new_file(&rt, VALUED)?;
+    let words = ["cats", "value", path.as_str(), "1", "0", "+1", "01"];
+    let both = run(&rt, &words, ROOM, ROOM)?;
+    let words = ["cats", "value", path.as_str()];
+    let none = run(&rt, &words, ROOM, ROOM)?;
+    let words = ["cats", "value", "--steps", "4", path.as_str(), "0", "1"];
+    let enough = run(&rt, &words, ROOM, ROOM)?;
+    let words = ["cats", "value", "--steps=1000000000", path.as_str(), "1"];
+    let most = run(&rt, &words, ROOM, ROOM)?;
+    let words = ["cats", "value", path.as_str(), "0", "1", "--steps", "3"];
+    let short = run(&rt, &words, ROOM, ROOM)?;
+    let words = ["cats", "value", path.as_str(), "0", "--steps", "1"];
+    let one_step = run(&rt, &words, ROOM, ROOM)?;
+    let words = ["cats", "value", path.as_str(), "--steps", "1"];
+    let no_goods = run(&rt, &words, ROOM, ROOM)?;
+    let words = ["cats", "value", path.as_str(), "0", "65535", "2"];
+    let missing = run(&rt, &words, ROOM, ROOM)?;
+    fs::remove_file(&rt, path.as_str())?;
+    for (answer, status, sent, line) in [
+        (both, 0, "or 7.5 0 1\nxor 2 7 2\n", ""),
+        (none, 0, "or 0\nxor 2 0\n", ""),
+        (enough, 0, "or 7.5 0 1\nxor 2 7 2\n", ""),
+        (most, 0, "or 4.5 1\nxor 2 0\n", ""),
+        (short, 3, "", "step limit at 0,1\n"),
+        (one_step, 3, "", "step limit at 0\n"),
+        (no_goods, 0, "or 0\nxor 2 0\n", ""),
+        (missing, 64, "", "good 65535 out of range\n"),
+    ] {
         expect(&rt, &answer, status, sent, line);
     }
     Ok(())
 }
-
-const FIRST_19: &[&str] = &[
-    "0", "1", "2", "3", "4", "5", "6", "7", "8", "9", "10", "11", "12", "13", "14", "15", "16",
-    "17", "18",
-];
-
-const FIRST_20: &[&str] = &[
-    "0", "1", "2", "3", "4", "5", "6", "7", "8", "9", "10", "11", "12", "13", "14", "15", "16",
-    "17", "18", "19",
-];
 
 /// A bid for each of 20 goods: 2 to the 19 packings are within the steps that are allowed where the command line says
 /// nothing, and 2 to the 20 are not.
@@ -242,23 +214,62 @@ fn default_step_limit(rt: HostRuntime) -> Result<(), Fail> {
     for good in 0..20 {
         write!(text, "{good} 1 {good} #\n")?;
     }
-    let rows: [(&[&str], u8, &str, &str); 2] = [
-        (
-            FIRST_19,
-            0,
-            "or 19 0 1 2 3 4 5 6 7 8 9 10 11 12 13 14 15 16 17 18\n",
-            "",
-        ),
-        (
-            FIRST_20,
-            3,
-            "",
-            "step limit at 0,1,2,3,4,5,6,7,8,9,10,11,12,13,14,15,16,17,18,19\n",
-        ),
+    let path = new_file(&rt, text.as_str())?;
+    let words = [
+        "cats",
+        "value",
+        path.as_str(),
+        "0",
+        "1",
+        "2",
+        "3",
+        "4",
+        "5",
+        "6",
+        "7",
+        "8",
+        "9",
+        "10",
+        "11",
+        "12",
+        "13",
+        "14",
+        "15",
+        "16",
+        "17",
+        "18",
     ];
-    for (goods, status, sent, line) in rows {
-        let answer = run_on(&rt, text.as_str(), PLAIN, goods, ROOM, ROOM)?;
-        expect(&rt, &answer, status, sent, line);
-    }
+    let within = run(&rt, &words, ROOM, ROOM)?;
+    let words = [
+        "cats",
+        "value",
+        path.as_str(),
+        "0",
+        "1",
+        "2",
+        "3",
+        "4",
+        "5",
+        "6",
+        "7",
+        "8",
+        "9",
+        "10",
+        "11",
+        "12",
+        "13",
+        "14",
+        "15",
+        "16",
+        "17",
+        "18",
+        "19",
+    ];
+    let beyond = run(&rt, &words, ROOM, ROOM)?;
+    fs::remove_file(&rt, path.as_str())?;
+    let values = "or 19 0 1 2 3 4 5 6 7 8 9 10 11 12 13 14 15 16 17 18\n";
+    expect(&rt, &within, 0, values, "");
+    let line = "step limit at 0,1,2,3,4,5,6,7,8,9,10,11,12,13,14,15,16,17,18,19\n";
+    expect(&rt, &beyond, 3, "", line);
     Ok(())
 }
