@@ -4,7 +4,10 @@ ghost use Rattle.cats_text.specs.declared.limits.TheConstants.{MAX_GOODS};
 ghost use Rattle.valuation.specs.Auctions.{IsAtom};
 ghost use Rattle.valuation.specs.Values.{atoms_of};
 
-use crate::{Atom, Auction, ValueFault, auction_of, or_value, plain, xor_value};
+use crate::{
+    Atom, Auction, ValueFault, auction_of, compare_atoms, compare_bidders, or_value, plain,
+    xor_value,
+};
 use cats_text::{Bid, BidFile, MAX_GOODS, MAX_PRICE};
 use goods_set::{GoodsSet, ListSet, WordSet};
 use std::alloc::Global;
@@ -333,4 +336,34 @@ fn auction_of_small_file<S: GoodsSet>(rt: &impl Abort, alloc: Global) -> Result<
 fn auctions_of_files(rt: HostRuntime) -> Result<(), Fail> {
     auction_of_small_file::<ListSet>(&rt, rt.alloc())?;
     auction_of_small_file::<WordSet<64>>(&rt, rt.alloc())
+}
+
+// Each bidder comes before those that stand behind it.
+fn bidders_in_order<S: GoodsSet>(rt: &impl Abort, alloc: Global) -> Result<(), Fail> {
+    let table: [&[(&[u16], u64)]; 5] = [
+        &[],
+        &[(&[0], 9)],
+        &[(&[0], 9), (&[1], 8)],
+        &[(&[1], 8)],
+        &[(&[0, 1], 1)],
+    ];
+    for (i, some) in table.iter().enumerate() {
+        let one = atoms_on::<S>(rt, alloc, some)?;
+        for (j, others) in table.iter().enumerate() {
+            let other = atoms_on::<S>(rt, alloc, others)?;
+            assert_eq!(rt; compare_bidders(&one, &other), i.cmp(&j), "{i} and {j}");
+        }
+    }
+    let atoms = atoms_on::<S>(rt, alloc, &[(&[1], 8), (&[1], 9), (&[0, 1], 1)])?;
+    assert_eq!(rt; atoms.len(), 3);
+    assert_eq!(rt; compare_atoms(&atoms[0], &atoms[0]), Ordering::Equal);
+    assert_eq!(rt; compare_atoms(&atoms[0], &atoms[1]), Ordering::Less);
+    assert_eq!(rt; compare_atoms(&atoms[2], &atoms[1]), Ordering::Greater);
+    Ok(())
+}
+
+#[test]
+fn orders_on_both_sets(rt: HostRuntime) -> Result<(), Fail> {
+    bidders_in_order::<ListSet>(&rt, rt.alloc())?;
+    bidders_in_order::<WordSet<16>>(&rt, rt.alloc())
 }
