@@ -8,8 +8,6 @@ mod program;
 mod report;
 mod run;
 mod show;
-#[cfg(test)]
-mod tests;
 mod value;
 pub mod worked;
 

@@ -1,5 +1,5 @@
 use super::streams::{Told, answer_of, expect, reader, writer};
-use crate::run_show;
+use cats_cmd::run_show;
 use std::alloc::Global;
 use std::process::Abort;
 use std::test::Fail;

@@ -1,5 +1,5 @@
 use super::streams::{Comments, Told, answer_of, expect, reader, writer};
-use crate::run_check;
+use cats_cmd::run_check;
 use cats_text::Watched;
 use std::alloc::Global;
 use std::process::Abort;

@@ -1,5 +1,5 @@
 use super::streams::{Told, answer_of, expect, reader, writer};
-use crate::run_normalise;
+use cats_cmd::run_normalise;
 use std::alloc::{AllocError, Global};
 use std::process::Abort;
 use std::test::Fail;

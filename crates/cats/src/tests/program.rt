@@ -1,5 +1,5 @@
 use super::streams::{Told, expect, writer};
-use crate::run_cats;
+use cats_cmd::run_cats;
 use std::test::Fail;
 use std::{env, fs, process};
 

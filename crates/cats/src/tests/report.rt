@@ -1,4 +1,4 @@
-use crate::{CanonFault, RunFault, Which, fault_line, status};
+use cats_cmd::{CanonFault, RunFault, Which, fault_line, status};
 use cats_text::{Kind, ReadFault};
 use std::test::Fail;
 

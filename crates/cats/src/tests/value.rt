@@ -1,5 +1,5 @@
 use super::streams::{Told, answer_of, expect, reader, writer};
-use crate::run_value;
+use cats_cmd::run_value;
 use std::alloc::Global;
 use std::process::Abort;
 use std::test::Fail;
