@@ -21,6 +21,6 @@ pub use difference_laws::{
 };
 pub use fault::CanonFault;
 pub use file::file_of;
-pub use text::{normal_file, normal_text, normalise};
+pub use text::{into_normal_file, normal_file, normal_text, normalise};
 pub use verdict::{Side, Verdict};
 pub use which::Which;
