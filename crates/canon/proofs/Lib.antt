@@ -13,3 +13,5 @@ pub mod OrDifferences
 pub mod BidderDifferences
 pub mod Differences
 pub mod SameDifferences
+pub mod OrWalks
+pub mod Comparisons

@@ -9,3 +9,4 @@ pub mod Examples
 pub mod Difference
 pub mod Verdicts
 pub mod Comparing
+pub mod OrBids
