@@ -12,3 +12,5 @@ pub mod Finding
 pub mod OrDifferences
 pub mod BidderDifferences
 pub mod Differences
+pub mod BidOrders
+pub mod BidderWalks
