@@ -14,3 +14,4 @@ pub mod BidderDifferences
 pub mod Differences
 pub mod BidOrders
 pub mod BidderWalks
+pub mod SameDifferences

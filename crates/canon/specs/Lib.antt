@@ -9,3 +9,4 @@ pub mod Examples
 pub mod Difference
 pub mod Verdicts
 pub mod BidderBids
+pub mod Comparing
