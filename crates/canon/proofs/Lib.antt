@@ -12,3 +12,4 @@ pub mod Finding
 pub mod OrDifferences
 pub mod BidderDifferences
 pub mod Differences
+pub mod SameDifferences

@@ -17,10 +17,10 @@ pub mod worked_differences;
 pub use auction::canonical;
 pub use difference_laws::{
     difference_is_a_point, difference_is_the_least_bidder, differences_exchanged,
-    no_difference_of_the_same,
+    no_difference_of_the_same, same_auctions_have_one_difference,
 };
 pub use fault::CanonFault;
 pub use file::file_of;
-pub use text::{normal_file, normal_text, normalise};
+pub use text::{into_normal_file, normal_file, normal_text, normalise};
 pub use verdict::{Side, Verdict};
 pub use which::Which;
