@@ -1,5 +1,5 @@
 -- The first difference, from its parts as the program finds them.
-use Rattle.std.proofs.Common.{◌≡◌, ℕ, List, ◌++◌, Option, Some, None, refl, sym, ap, ap₂, ◌∙◌}
+use Rattle.std.proofs.Common.{◌≡◌, ℕ, List, ◌++◌, Option, Some, None, refl, ap, ap₂, ◌∙◌}
 use Rattle.std.specs.List.{find}
 use Rattle.std.proofs.lemmas.Bool.{cond-true, eq-eqb}
 use Rattle.valuation.specs.declared.atom.Atom.{Atom}
@@ -7,7 +7,7 @@ use Rattle.valuation.specs.Auctions.{PlainAuction}
 use Rattle.valuation.specs.Orders.{bidder_cmp}
 use Rattle.valuation.specs.Sorting.{sort_by}
 use Rattle.canon.specs.Canonical.{canonical_auction}
-use Rattle.canon.specs.Difference.{Difference, first_difference, first_unequal_bundle, or_difference, xor_difference, least_unequal_bidder}
+use Rattle.canon.specs.Difference.{first_difference, first_unequal_bundle, or_difference, xor_difference, least_unequal_bidder}
 use Rattle.by_definition.specs.Differences.{bidder_difference, is_unequal}
 
 module _ (a b : PlainAuction) where

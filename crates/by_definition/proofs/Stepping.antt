@@ -1,5 +1,5 @@
 -- One step of the recursions over numbers.
-use Rattle.std.proofs.Common.{◌≡◌, ℕ, zero, suc, ◌+◌, ◌-◌, List, ◌∷◌, ◌++◌, map, refl, arith}
+use Rattle.std.proofs.Common.{◌≡◌, ℕ, zero, suc, ◌+◌, ◌-◌, ◌∷◌, ◌++◌, map, refl, arith}
 use Rattle.std.specs.List.{range_with_len}
 use Rattle.goods_set.specs.Bundles.{bundles_from}
 

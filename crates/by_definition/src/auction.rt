@@ -58,11 +58,7 @@ fn is_dummy(dummy: u32, own: Option<u32>) -> bool
 }
 
 /// The atoms of the bids with this dummy good.
-fn xor_atoms_of(
-    alloc: Global,
-    bids: &[Bid],
-    dummy: u32,
-) -> Result<Vec<Atom<Vec<u16>>>, AllocError>
+fn xor_atoms_of(alloc: Global, bids: &[Bid], dummy: u32) -> Result<Vec<Atom<Vec<u16>>>, AllocError>
     ensures { IfOk result (λ atoms. atoms_in atoms.items ≡ xor_atoms_of (plain_bids bids.now) dummy) }
 {
     let [bid, rest @ ..] = bids else {

@@ -33,11 +33,7 @@ pub fn without(alloc: Global, bundle: &[u16], other: &[u16]) -> Result<Vec<u16>,
 }
 
 /// Each bundle with the good in front.
-fn with_front(
-    alloc: Global,
-    good: u16,
-    bundles: &[Vec<u16>],
-) -> Result<Vec<Vec<u16>>, AllocError>
+fn with_front(alloc: Global, good: u16, bundles: &[Vec<u16>]) -> Result<Vec<Vec<u16>>, AllocError>
     ensures { IfOk result (λ all. bundles_in all.items ≡ map (λ bundle. good ∷ bundle) (bundles_in bundles.now)) }
 {
     let [first, rest @ ..] = bundles else {

@@ -39,10 +39,7 @@ fn points_of_bidders(
 }
 
 /// The canonical auction of an auction.
-pub fn canonical_auction(
-    alloc: Global,
-    auction: &ListedAuction,
-) -> Result<ListedAuction, NoAnswer>
+pub fn canonical_auction(alloc: Global, auction: &ListedAuction) -> Result<ListedAuction, NoAnswer>
     requires { auction.now.goods + 1 < 2 ^ 16 }
     ensures { IfOk result (λ canonical. auction_in canonical ≡ canonical_auction (auction_in auction.now)) }
 {

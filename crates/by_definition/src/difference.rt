@@ -176,11 +176,7 @@ fn difference_of_auctions(
 }
 
 /// The first difference of two files.
-pub fn first_difference(
-    alloc: Global,
-    one: &BidFile,
-    other: &BidFile,
-) -> Result<Verdict, NoAnswer>
+pub fn first_difference(alloc: Global, one: &BidFile, other: &BidFile) -> Result<Verdict, NoAnswer>
     ensures { IfOk result (λ verdict. plain_verdict verdict ≡ first_difference (auction_from (plain_file one.now)) (auction_from (plain_file other.now))) }
 {
     let auction = auction_from(alloc, one)?;

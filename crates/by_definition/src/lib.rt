@@ -17,9 +17,8 @@ mod steps;
 mod tests;
 mod values;
 
-pub use auction::{ListedAuction, auction_from};
-pub use canonical::{canonical_auction, canonical_text};
+pub use canonical::canonical_text;
 pub use difference::first_difference;
 pub use fault::NoAnswer;
-pub use same::{are_same_files, is_same_auction};
+pub use same::are_same_files;
 pub use steps::first_heavy;

@@ -22,8 +22,9 @@ pub fn compare_bundles(one: &[u16], other: &[u16]) -> Ordering
 fn compare_atoms(one: &Atom<Vec<u16>>, other: &Atom<Vec<u16>>) -> Ordering
     ensures { result ≡ atom_cmp (atom_in one.now) (atom_in other.now) }
 {
-    compare_bundles(one.bundle.as_slice(), other.bundle.as_slice())
-        .then(one.price.cmp(&other.price))
+    compare_bundles(one.bundle.as_slice(), other.bundle.as_slice()).then(
+        one.price.cmp(&other.price),
+    )
 }
 
 /// Lexicographically by atoms.

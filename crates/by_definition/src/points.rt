@@ -47,11 +47,7 @@ fn each_is_missed(
 
 /// Whether the bundle is a point of the XOR bidder with these atoms.
 #[tactic(auto, unfolding(prune::specs::Points::is_xor_point))]
-fn is_xor_point(
-    alloc: Global,
-    atoms: &[Atom<Vec<u16>>],
-    bundle: &[u16],
-) -> Result<bool, AllocError>
+fn is_xor_point(alloc: Global, atoms: &[Atom<Vec<u16>>], bundle: &[u16]) -> Result<bool, AllocError>
     ensures { IfOk result (λ is_point. is_point ≡ is_xor_point (atoms_in atoms.now) bundle.now) }
 {
     if 0 < xor_value(atoms, bundle) {

@@ -86,7 +86,7 @@ fn are_as_frequent(
 
 /// Whether the auctions are the same: the same number of goods, the same OR values, and as many XOR bidders of each valuation that
 /// is not zero.
-pub fn is_same_auction(
+fn is_same_auction(
     alloc: Global,
     one: &ListedAuction,
     other: &ListedAuction,
@@ -112,11 +112,7 @@ pub fn is_same_auction(
 }
 
 /// Whether two files are of the same auction.
-pub fn are_same_files(
-    alloc: Global,
-    one: &BidFile,
-    other: &BidFile,
-) -> Result<bool, NoAnswer>
+pub fn are_same_files(alloc: Global, one: &BidFile, other: &BidFile) -> Result<bool, NoAnswer>
     ensures { IfOk result (λ same. IsTrue same ↔ AreSameFiles (plain_file one.now) (plain_file other.now)) }
 {
     let auction = auction_from(alloc, one)?;

@@ -73,12 +73,7 @@ fn push_goods(
 }
 
 /// The text is what the definition gives, normalising it gives it back, and under a small limit the first heavy bundle is told.
-fn expect_text(
-    rt: &impl Abort,
-    alloc: Global,
-    text: &str,
-    limit: u64,
-) -> Result<(), Fail> {
+fn expect_text(rt: &impl Abort, alloc: Global, text: &str, limit: u64) -> Result<(), Fail> {
     let file = read(alloc, text.as_bytes())?;
     let expected = canonical_text(alloc, &file)?;
     let found = normalise(alloc, text.as_bytes(), AMPLE)?;
@@ -109,7 +104,7 @@ fn texts_are_by_definition(rt: HostRuntime) -> Result<(), Fail> {
         price: 4,
     };
     let mut state = 1;
-    for number in 0..2000 {
+    for number in 0..4000 {
         let text = next_text(rt.alloc(), &mut state, sizes)?;
         expect_text(&rt, rt.alloc(), text.as_str(), 1 + number % 3)?;
     }
@@ -117,11 +112,7 @@ fn texts_are_by_definition(rt: HostRuntime) -> Result<(), Fail> {
 }
 
 /// The files of a family, each with its canonical text.
-fn family(
-    alloc: Global,
-    count: u64,
-    sizes: Sizes,
-) -> Result<Vec<(BidFile, Vec<u8>)>, Fail> {
+fn family(alloc: Global, count: u64, sizes: Sizes) -> Result<Vec<(BidFile, Vec<u8>)>, Fail> {
     let mut state = 2;
     let mut files = Vec::new(alloc);
     for _number in 0..count {
