@@ -5,9 +5,7 @@ mod text;
 ghost use Rattle.std.specs.Prelude.{◌≡◌, false, IfOk};
 ghost use Rattle.cats_text.specs.Streams.{has_ended, has_failed};
 ghost use Rattle.cats_text.specs.Views.{plain_file};
-ghost use Rattle.valuation.specs.Auctions.{auction_from};
 ghost use Rattle.canon.specs.Canonical.{IsCanonicalFile};
-ghost use Rattle.canon.specs.Difference.{first_difference};
 ghost use Rattle.canon.specs.Verdicts.{plain_verdict};
 ghost use Rattle.cats_cmd.specs.Comparisons.{ReadsCanonical, RunsOnFiles};
 ghost use Rattle.cats_cmd.specs.Outcomes.{Tells, compare_outcome};
@@ -15,7 +13,7 @@ ghost use Rattle.cats_cmd.specs.Statuses.{status_of_difference};
 
 use crate::report::{DIFFERENT, DONE, RunFault};
 use crate::run::{read_file, send_text};
-use canon::{CanonFault, Verdict, Which, into_normal_file};
+use canon::{CanonFault, Verdict, Which, compare_files, into_normal_file};
 use cats_text::{BidFile, Watched};
 use std::alloc::{AllocError, Global};
 use std::io::{Read, Write};
@@ -86,12 +84,4 @@ fn status_of(verdict: &Verdict) -> u8
         Verdict::Same => DONE,
         _ => DIFFERENT,
     }
-}
-
-fn compare_files(_alloc: Global, left: &BidFile, right: &BidFile) -> Result<Verdict, AllocError>
-    requires left { IsCanonicalFile (plain_file left.now) }
-    requires right { IsCanonicalFile (plain_file right.now) }
-    ensures answer { IfOk result (λ v. plain_verdict v ≡ first_difference (auction_from (plain_file left.now)) (auction_from (plain_file right.now))) }
-{
-    Ok(Verdict::Same)
 }

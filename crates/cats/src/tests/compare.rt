@@ -55,8 +55,20 @@ fn same_auctions(rt: HostRuntime) -> Result<(), Fail> {
         ),
     ];
     for (first, second) in rows {
-        expect(&rt, &compared(rt.alloc(), first, second, STEPS, ROOM)?, 0, "same\n", "");
-        expect(&rt, &compared(rt.alloc(), second, first, STEPS, ROOM)?, 0, "same\n", "");
+        expect(
+            &rt,
+            &compared(rt.alloc(), first, second, STEPS, ROOM)?,
+            0,
+            "same\n",
+            "",
+        );
+        expect(
+            &rt,
+            &compared(rt.alloc(), second, first, STEPS, ROOM)?,
+            0,
+            "same\n",
+            "",
+        );
     }
     Ok(())
 }
@@ -72,8 +84,20 @@ fn parts(
     let alloc = rt.alloc();
     let there = format!(in alloc; "different\n{place}\nleft {one}\nright {other}\n")?;
     let back = format!(in alloc; "different\n{place}\nleft {other}\nright {one}\n")?;
-    expect(rt, &compared(alloc, first, second, STEPS, ROOM)?, 1, there.as_str(), "");
-    expect(rt, &compared(alloc, second, first, STEPS, ROOM)?, 1, back.as_str(), "");
+    expect(
+        rt,
+        &compared(alloc, first, second, STEPS, ROOM)?,
+        1,
+        there.as_str(),
+        "",
+    );
+    expect(
+        rt,
+        &compared(alloc, second, first, STEPS, ROOM)?,
+        1,
+        back.as_str(),
+        "",
+    );
     Ok(())
 }
 
@@ -130,13 +154,30 @@ fn refusals_in_order(rt: HostRuntime) -> Result<(), Fail> {
         (TWO_DUMMIES, LARGER_BID, 2, two_dummies),
         (LARGER_BID, TWO_DUMMIES, 3, "first: step limit at 0,1\n"),
         (LARGER_BID, LARGER_BID, 3, "first: step limit at 0,1\n"),
-        (LARGER_BID, "goods 3\nbids 0\ndummy 0\n", 3, "first: step limit at 0,1\n"),
+        (
+            LARGER_BID,
+            "goods 3\nbids 0\ndummy 0\n",
+            3,
+            "first: step limit at 0,1\n",
+        ),
         (SINGLES, LARGER_BID, 3, "second: step limit at 0,1\n"),
     ];
     for (first, second, status, line) in rows {
-        expect(&rt, &compared(rt.alloc(), first, second, 2, ROOM)?, status, "", line);
+        expect(
+            &rt,
+            &compared(rt.alloc(), first, second, 2, ROOM)?,
+            status,
+            "",
+            line,
+        );
     }
-    expect(&rt, &compared(rt.alloc(), LARGER_BID, SINGLES, 3, ROOM)?, 0, "same\n", "");
+    expect(
+        &rt,
+        &compared(rt.alloc(), LARGER_BID, SINGLES, 3, ROOM)?,
+        0,
+        "same\n",
+        "",
+    );
     Ok(())
 }
 

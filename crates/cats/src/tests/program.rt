@@ -381,8 +381,20 @@ fn two_files(rt: HostRuntime) -> Result<(), Fail> {
     let heavy = run_words(&rt, &words, ROOM, ROOM)?;
     fs::remove_file(&rt, left.as_str())?;
     fs::remove_file(&rt, right.as_str())?;
-    expect(&rt, &there, 1, "different\nor 0\nleft 3\nright below 3\n", "");
-    expect(&rt, &back, 1, "different\nor 0\nleft below 3\nright 3\n", "");
+    expect(
+        &rt,
+        &there,
+        1,
+        "different\nor 0\nleft 3\nright below 3\n",
+        "",
+    );
+    expect(
+        &rt,
+        &back,
+        1,
+        "different\nor 0\nleft below 3\nright 3\n",
+        "",
+    );
     expect(&rt, &heavy, 3, "", "second: step limit at 0,1\n");
     Ok(())
 }

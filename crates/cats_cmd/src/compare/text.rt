@@ -45,12 +45,7 @@ pub(super) fn verdict_text(alloc: Global, verdict: &Verdict) -> Result<Vec<u8>, 
 }
 
 /// That two auctions are different, where they part, and what is told of each.
-fn parted(
-    alloc: Global,
-    place: &[u8],
-    left: &[u8],
-    right: &[u8],
-) -> Result<Vec<u8>, AllocError>
+fn parted(alloc: Global, place: &[u8], left: &[u8], right: &[u8]) -> Result<Vec<u8>, AllocError>
     ensures { IfOk result (λ text. text.items ≡ parted_text place.now left.now right.now) }
 {
     let mut text = Vec::from_slice(alloc, b"different\n")?;

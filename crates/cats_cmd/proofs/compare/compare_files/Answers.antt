@@ -1,4 +1,0 @@
-use Rattle.cats_cmd.proofs.compare.compare_files.Goals as goal
-
-pub returns : goal.returns
-returns c = ?
