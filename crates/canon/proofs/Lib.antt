@@ -12,4 +12,6 @@ pub mod Finding
 pub mod OrDifferences
 pub mod BidderDifferences
 pub mod Differences
+pub mod BidOrders
+pub mod BidderWalks
 pub mod SameDifferences

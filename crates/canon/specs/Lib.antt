@@ -8,4 +8,5 @@ pub mod Refusals
 pub mod Examples
 pub mod Difference
 pub mod Verdicts
+pub mod BidderBids
 pub mod Comparing

@@ -6,6 +6,7 @@ mod difference_laws;
 mod fault;
 mod file;
 pub mod laws;
+mod parting;
 #[cfg(test)]
 mod tests;
 mod text;
