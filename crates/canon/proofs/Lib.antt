@@ -15,3 +15,5 @@ pub mod Differences
 pub mod BidOrders
 pub mod BidderWalks
 pub mod SameDifferences
+pub mod OrWalks
+pub mod Comparisons

@@ -27,7 +27,7 @@ are_unequal one other bundle = not (eqb (or_value one bundle) (or_value other bu
 unequal_test : (one other : List (Atom (List ℕ))) (bundle : List ℕ) → (or_value one bundle ≡ or_value other bundle → ⊥) → are_unequal one other bundle ≡ true
 unequal_test one other bundle n = not_from_false (eqb (or_value one bundle) (or_value other bundle)) (ne_eqb (or_value one bundle) (or_value other bundle) n)
 
-equal_test : (one other : List (Atom (List ℕ))) (bundle : List ℕ) → or_value one bundle ≡ or_value other bundle → are_unequal one other bundle ≡ false
+pub equal_test : (one other : List (Atom (List ℕ))) (bundle : List ℕ) → or_value one bundle ≡ or_value other bundle → are_unequal one other bundle ≡ false
 equal_test one other bundle e = not_from_true (eqb (or_value one bundle) (or_value other bundle)) (eq-eqb (or_value one bundle) (or_value other bundle) e)
 
 pub equal_from_test : (one other : List (Atom (List ℕ))) (bundle : List ℕ) → are_unequal one other bundle ≡ false → or_value one bundle ≡ or_value other bundle
@@ -123,7 +123,7 @@ module _ (goods : ℕ) where
 
   -- ---- lists of points that part at some place
 
-  suffix_in_order : (front rest : List (Atom (List ℕ))) → IsInOrder (front ++ rest) → IsInOrder rest
+  pub suffix_in_order : (front rest : List (Atom (List ℕ))) → IsInOrder (front ++ rest) → IsInOrder rest
   suffix_in_order [] rest s = s
   suffix_in_order (a ∷ front) rest s = suffix_in_order front rest (AllPairs-tail IsBefore a (front ++ rest) s)
 
@@ -148,7 +148,7 @@ module _ (goods : ℕ) where
     pub on : All (IsOnBundle goods) atoms
     pub points : or_points goods atoms ≡ atoms
 
-  in_order : (atoms : List (Atom (List ℕ))) → ArePoints atoms → IsInOrder atoms
+  pub in_order : (atoms : List (Atom (List ℕ))) → ArePoints atoms → IsInOrder atoms
   in_order atoms p = subst (λ (zs : List (Atom (List ℕ))). IsInOrder zs) p.points (points_where-in_order (is_or_point goods atoms) (or_value atoms) goods)
 
   -- each is a point, at its price

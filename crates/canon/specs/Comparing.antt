@@ -1,8 +1,12 @@
 -- What comparing two texts answers. The first text comes first: of two texts that both have no canonical text, the first is told.
 use Rattle.std.specs.Prelude.{◌≡◌, ℕ, List, Result, Ok, Err}
 use Rattle.cats_text.specs.FileLines.{spelled_file}
+use Rattle.cats_text.specs.Files.{PlainFile}
+use Rattle.cats_text.specs.Grammar.{Spells}
+use Rattle.cats_text.specs.Views.{plain_file}
+use Rattle.cats_text.specs.declared.bid.BidFile.{BidFile}
 use Rattle.valuation.specs.Auctions.{auction_from}
-use Rattle.canon.specs.Answers.{RefusesAs}
+use Rattle.canon.specs.Answers.{IsNormalFile, RefusesAs}
 use Rattle.canon.specs.Difference.{Difference, first_difference}
 use Rattle.canon.specs.Normalising.{Normalised, IsText, normalised}
 use Rattle.canon.specs.Verdicts.{plain_verdict}
@@ -46,3 +50,15 @@ RefusesOf Both expected fault = ⊥
 abbrev pub ComparesAs : Compared → Result Verdict (Which × CanonFault) → Type 0
 ComparesAs expected (Ok verdict) = expected ≡ ComparedBy (plain_verdict verdict)
 ComparesAs expected (Err refusal) = RefusesOf refusal.0 expected refusal.1
+
+-- ---- the first step
+
+-- the canonical file of the file that the text spells, which has no heavy bundle
+pub record IsNormalFileOf (limit : ℕ) (text : List ℕ) (h : PlainFile) : Type 0 where
+  pub file : PlainFile
+  pub spelled : Spells text file
+  pub normal : IsNormalFile limit (auction_from file) h
+
+abbrev pub ReadsNormalAs : ℕ → List ℕ → Result BidFile CanonFault → Type 0
+ReadsNormalAs limit text (Ok h) = IsNormalFileOf limit text (plain_file h)
+ReadsNormalAs limit text (Err fault) = RefusesAs (normalised limit text) fault

@@ -10,3 +10,4 @@ pub mod Difference
 pub mod Verdicts
 pub mod BidderBids
 pub mod Comparing
+pub mod OrBids

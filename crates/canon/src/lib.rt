@@ -2,6 +2,9 @@
 #![tactic(auto)]
 
 mod auction;
+mod bid_order;
+mod bundles;
+mod comparison;
 mod difference_laws;
 mod fault;
 mod file;
@@ -16,6 +19,7 @@ pub mod worked;
 pub mod worked_differences;
 
 pub use auction::canonical;
+pub use comparison::{compare, compare_files};
 pub use difference_laws::{
     difference_is_a_point, difference_is_the_least_bidder, differences_exchanged,
     no_difference_of_the_same, same_auctions_have_one_difference,

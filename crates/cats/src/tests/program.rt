@@ -40,7 +40,7 @@ fn run(
 const ROOM: usize = 65_536;
 
 /// Command lines that ask for nothing that the program does.
-static WRONG_LINES: [&str; 23] = [
+static WRONG_LINES: [&str; 27] = [
     "cats",
     "cats check",
     "cats show",
@@ -64,6 +64,10 @@ static WRONG_LINES: [&str; 23] = [
     "cats normalise",
     "cats normalise --steps 0 a",
     "cats normalise a b",
+    "cats compare",
+    "cats compare a",
+    "cats compare a b c",
+    "cats compare --steps 0 a b",
 ];
 
 #[test]
@@ -80,7 +84,7 @@ fn usage_faults(rt: HostRuntime) -> Result<(), Fail> {
 }
 
 /// Command lines that ask for help.
-static HELP_LINES: [&str; 8] = [
+static HELP_LINES: [&str; 9] = [
     "cats --help",
     "cats -h",
     "cats help",
@@ -89,6 +93,7 @@ static HELP_LINES: [&str; 8] = [
     "cats show --help",
     "cats value --help",
     "cats normalise --help",
+    "cats compare --help",
 ];
 
 #[test]
@@ -175,7 +180,7 @@ static SHOWN_ROWS: [Row<'static>; 2] = [
 
 const MISSING: &str = "goods 2\nbids 0\n";
 
-static MISSING_ROWS: [Row<'static>; 8] = [
+static MISSING_ROWS: [Row<'static>; 11] = [
     ("cats check FILE", ROOM, ROOM, 2, "", "line 3: Missing\n"),
     ("cats check FILE", ROOM, 0, 2, "", ""),
     ("cats show FILE", ROOM, ROOM, 2, "", "line 3: Missing\n"),
@@ -191,6 +196,31 @@ static MISSING_ROWS: [Row<'static>; 8] = [
         "line 3: Missing\n",
     ),
     ("cats normalise FILE", ROOM, 0, 2, "", ""),
+    (
+        "cats compare FILE FILE",
+        ROOM,
+        ROOM,
+        2,
+        "",
+        "first: line 3: Missing\n",
+    ),
+    // both files are opened before either is read
+    (
+        "cats compare FILE /tmp/cats_cmd_no_such_folder/a.cats",
+        ROOM,
+        ROOM,
+        5,
+        "",
+        "second: cannot open\n",
+    ),
+    (
+        "cats compare /tmp/cats_cmd_no_such_folder/a.cats /tmp/cats_cmd_no_such_folder/b.cats",
+        ROOM,
+        ROOM,
+        5,
+        "",
+        "first: cannot open\n",
+    ),
 ];
 
 const VALUED: &str = "goods 2\nbids 3\ndummy 1\n0 3 0 #\n1 4.5 1 #\n2 7 0 1 2 #\n";
@@ -259,8 +289,17 @@ const LARGER_BID: &str = "goods 2\nbids 3\ndummy 0\n0 3 0 #\n1 4 1 #\n2 7 0 1 #\
 
 const LARGER_BID_TEXT: &str = "goods 2\nbids 2\ndummy 0\n0\t3\t0\t#\n1\t4\t1\t#\n";
 
-static LARGER_BID_ROWS: [Row<'static>; 4] = [
+static LARGER_BID_ROWS: [Row<'static>; 6] = [
     ("cats normalise FILE", ROOM, ROOM, 0, LARGER_BID_TEXT, ""),
+    ("cats compare FILE FILE", ROOM, ROOM, 0, "same\n", ""),
+    (
+        "cats compare FILE --steps 2 FILE",
+        ROOM,
+        ROOM,
+        3,
+        "",
+        "first: step limit at 0,1\n",
+    ),
     (
         "cats normalise --steps 3 FILE",
         ROOM,
@@ -319,4 +358,43 @@ fn files(rt: HostRuntime) -> Result<(), Fail> {
     answers(&rt, &rt, VALUED, &VALUED_ROWS)?;
     answers(&rt, &rt, LARGER_BID, &LARGER_BID_ROWS)?;
     answers(&rt, &rt, SINGLES, &SINGLES_ROWS)
+}
+
+#[test]
+fn two_files(rt: HostRuntime) -> Result<(), Fail> {
+    let id = process::id(rt.process());
+    let left = format!(in rt.alloc(); "/tmp/cats_cmd_{id}_left.cats")?;
+    let right = format!(in rt.alloc(); "/tmp/cats_cmd_{id}_right.cats")?;
+    fs::write(&rt, left.as_str(), LARGER_BID)?;
+    fs::write(&rt, right.as_str(), SIZES)?;
+    let words = ["cats", "compare", left.as_str(), right.as_str()];
+    let there = run_words(&rt, &words, ROOM, ROOM)?;
+    let words = ["cats", "compare", right.as_str(), left.as_str()];
+    let back = run_words(&rt, &words, ROOM, ROOM)?;
+    let words = [
+        "cats",
+        "compare",
+        "--steps=2",
+        right.as_str(),
+        left.as_str(),
+    ];
+    let heavy = run_words(&rt, &words, ROOM, ROOM)?;
+    fs::remove_file(&rt, left.as_str())?;
+    fs::remove_file(&rt, right.as_str())?;
+    expect(
+        &rt,
+        &there,
+        1,
+        "different\nor 0\nleft 3\nright below 3\n",
+        "",
+    );
+    expect(
+        &rt,
+        &back,
+        1,
+        "different\nor 0\nleft below 3\nright 3\n",
+        "",
+    );
+    expect(&rt, &heavy, 3, "", "second: step limit at 0,1\n");
+    Ok(())
 }
