@@ -12,3 +12,8 @@ pub mod Finding
 pub mod OrDifferences
 pub mod BidderDifferences
 pub mod Differences
+pub mod BidOrders
+pub mod BidderWalks
+pub mod SameDifferences
+pub mod OrWalks
+pub mod Comparisons

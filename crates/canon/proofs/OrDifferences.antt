@@ -1,13 +1,13 @@
 -- The first bundle on which the OR values differ, of any two OR bidders, and of two lists of points that part at some place.
-use Rattle.std.proofs.Common.{◌≡◌, ℕ, ◌+◌, ◌<◌, ◌≤◌, Bool, true, false, not, eqb, ◌⊎◌, inl, inr, ⊎_elim, List, [], ◌∷◌, ◌++◌, length, refl, sym, ap, ap₂, ◌∙◌, subst, arith, Some, None, Less}
-use Rattle.std.specs.Prelude.{All, AllPairs, Contains}
+use Rattle.std.proofs.Common.{◌≡◌, ℕ, ◌+◌, ◌<◌, ◌≤◌, Bool, true, false, not, eqb, ⊎_elim, List, [], ◌∷◌, ◌++◌, refl, sym, ap, ◌∙◌, subst, arith, Some, Less}
+use Rattle.std.specs.Prelude.{All, Contains}
 use Rattle.std.specs.List.{filter, find}
-use Rattle.std.proofs.lemmas.Bool.{cases_Bool, both_ways, eqb-true, eqb-false, eq-eqb, ne_eqb, not-true, not_from_true, not_from_false, false_from_ne_true}
+use Rattle.std.proofs.lemmas.Bool.{cases_Bool, both_ways, eqb-true, eqb-false, eq-eqb, ne_eqb, not_from_true, not_from_false, false_from_ne_true}
 use Rattle.std.proofs.lemmas.List.{append-nil}
 use Rattle.std.proofs.lemmas.List.Elements.{All-contains, Contains-append_cases, Contains-append_right, filter-append}
-use Rattle.goods_set.specs.Bundles.{IsRising, IsBundle, IsInside, is_inside, without, all_bundles}
+use Rattle.goods_set.specs.Bundles.{IsRising, IsBundle, is_inside, without, all_bundles}
 use Rattle.goods_set.specs.Members.{inside_refl, without_inside, IsBundle-without}
-use Rattle.goods_set.specs.Orders.{bundle_cmp, bundle_cmp_total, bundle_cmp_refl, inside_before}
+use Rattle.goods_set.specs.Orders.{bundle_cmp, bundle_cmp_total, inside_before}
 use Rattle.goods_set.specs.AllBundles.{all_bundles_are, all_bundles_has, all_bundles_rise}
 use Rattle.valuation.specs.declared.atom.Atom.{Atom}
 use Rattle.valuation.specs.Values.{or_value}
@@ -15,10 +15,10 @@ use Rattle.valuation.specs.ListLemmas.{Contains-cons_cases, AllPairs-head, AllPa
 use Rattle.valuation.specs.OrLemmas.{or_value-split, or_value-filter}
 use Rattle.prune.specs.InOrder.{IsBefore, IsInOrder, before_itself, before_both, before_not_inside}
 use Rattle.prune.specs.KeptLemmas.{all_nonempty, left_is_proper}
-use Rattle.prune.specs.Lists.{Contains-nil, Contains-head, Contains-tail, nil_from_none, Contains-filter_parts, filter_same_on, find_alike, All-from_Contains}
+use Rattle.prune.specs.Lists.{Contains-nil, Contains-head, nil_from_none, Contains-filter_parts, filter_same_on, find_alike, All-from_Contains}
 use Rattle.prune.specs.Points.{IsOnBundle, is_or_point, or_points}
 use Rattle.prune.specs.PointLemmas.{IsPart, IsOrPoint, IsOrPoint-from_test, is_or_point-true, no_or_point, inside_below, points_where-in_order, or_points_are}
-use Rattle.canon.proofs.Finding.{IsFirst, found_first, find_it}
+use Rattle.canon.proofs.Finding.{found_first, find_it}
 
 -- whether the values on the bundle differ
 abbrev pub are_unequal : List (Atom (List ℕ)) → List (Atom (List ℕ)) → List ℕ → Bool
@@ -27,7 +27,7 @@ are_unequal one other bundle = not (eqb (or_value one bundle) (or_value other bu
 unequal_test : (one other : List (Atom (List ℕ))) (bundle : List ℕ) → (or_value one bundle ≡ or_value other bundle → ⊥) → are_unequal one other bundle ≡ true
 unequal_test one other bundle n = not_from_false (eqb (or_value one bundle) (or_value other bundle)) (ne_eqb (or_value one bundle) (or_value other bundle) n)
 
-equal_test : (one other : List (Atom (List ℕ))) (bundle : List ℕ) → or_value one bundle ≡ or_value other bundle → are_unequal one other bundle ≡ false
+pub equal_test : (one other : List (Atom (List ℕ))) (bundle : List ℕ) → or_value one bundle ≡ or_value other bundle → are_unequal one other bundle ≡ false
 equal_test one other bundle e = not_from_true (eqb (or_value one bundle) (or_value other bundle)) (eq-eqb (or_value one bundle) (or_value other bundle) e)
 
 pub equal_from_test : (one other : List (Atom (List ℕ))) (bundle : List ℕ) → are_unequal one other bundle ≡ false → or_value one bundle ≡ or_value other bundle
@@ -123,7 +123,7 @@ module _ (goods : ℕ) where
 
   -- ---- lists of points that part at some place
 
-  suffix_in_order : (front rest : List (Atom (List ℕ))) → IsInOrder (front ++ rest) → IsInOrder rest
+  pub suffix_in_order : (front rest : List (Atom (List ℕ))) → IsInOrder (front ++ rest) → IsInOrder rest
   suffix_in_order [] rest s = s
   suffix_in_order (a ∷ front) rest s = suffix_in_order front rest (AllPairs-tail IsBefore a (front ++ rest) s)
 
@@ -148,7 +148,7 @@ module _ (goods : ℕ) where
     pub on : All (IsOnBundle goods) atoms
     pub points : or_points goods atoms ≡ atoms
 
-  in_order : (atoms : List (Atom (List ℕ))) → ArePoints atoms → IsInOrder atoms
+  pub in_order : (atoms : List (Atom (List ℕ))) → ArePoints atoms → IsInOrder atoms
   in_order atoms p = subst (λ (zs : List (Atom (List ℕ))). IsInOrder zs) p.points (points_where-in_order (is_or_point goods atoms) (or_value atoms) goods)
 
   -- each is a point, at its price

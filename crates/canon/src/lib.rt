@@ -2,10 +2,14 @@
 #![tactic(auto)]
 
 mod auction;
+mod bid_order;
+mod bundles;
+mod comparison;
 mod difference_laws;
 mod fault;
 mod file;
 pub mod laws;
+mod parting;
 #[cfg(test)]
 mod tests;
 mod text;
@@ -15,12 +19,13 @@ pub mod worked;
 pub mod worked_differences;
 
 pub use auction::canonical;
+pub use comparison::{compare, compare_files};
 pub use difference_laws::{
     difference_is_a_point, difference_is_the_least_bidder, differences_exchanged,
-    no_difference_of_the_same,
+    no_difference_of_the_same, same_auctions_have_one_difference,
 };
 pub use fault::CanonFault;
 pub use file::file_of;
-pub use text::{normal_file, normal_text, normalise};
+pub use text::{into_normal_file, normal_file, normal_text, normalise};
 pub use verdict::{Side, Verdict};
 pub use which::Which;

@@ -1,6 +1,8 @@
 //! Each public call once, with ample memory, on worked rows.
 
-use crate::{CanonFault, canonical, file_of, normal_file, normal_text, normalise};
+use crate::{
+    CanonFault, canonical, file_of, into_normal_file, normal_file, normal_text, normalise,
+};
 use cats_text::{BidFile, read, write};
 use goods_set::{GoodsSet, ListSet, WordSet};
 use std::alloc::Global;
@@ -95,5 +97,12 @@ fn canonical_files(rt: HostRuntime) -> Result<(), Fail> {
     assert_eq!(rt; normal_file(rt.alloc(), &file, 2).is_err(), true);
     let answer = normal_text(rt.alloc(), file, 3);
     assert_eq!(rt; told(rt.alloc(), answer)?.as_str(), LARGER_BID_TEXT);
+    let given_up = read(rt.alloc(), LARGER_BID.as_bytes())?;
+    match into_normal_file(rt.alloc(), given_up, 3) {
+        Ok(normal) => {
+            assert_eq!(rt; text_of(rt.alloc(), &normal)?.as_str(), LARGER_BID_TEXT);
+        }
+        Err(_) => assert!(rt; false),
+    }
     Ok(())
 }

@@ -31,6 +31,15 @@ pub fn normal_file(alloc: Global, file: &BidFile, limit: u64) -> Result<BidFile,
     on_least_set!(file.goods(), normal_file_on(alloc, file, limit))
 }
 
+/// The canonical file of a file, as `normal_file`. The file is given up before its auction is made canonical, so the two are never
+/// held at once.
+pub fn into_normal_file(alloc: Global, file: BidFile, limit: u64) -> Result<BidFile, CanonFault>
+    ensures answer { NormalisesFileAs limit (plain_file file) result }
+    ensures canonical { IfOk result (λ h. IsCanonicalFile (plain_file h)) }
+{
+    on_least_set!(file.goods(), into_normal_file_on(alloc, file, limit))
+}
+
 /// The canonical text of a file, whose bids are given up before its auction is made canonical.
 pub fn normal_text(alloc: Global, file: BidFile, limit: u64) -> Result<Vec<u8>, CanonFault>
     ensures { NormalisesAs (normalised_file limit (plain_file file)) result }
@@ -62,6 +71,20 @@ fn normal_file_on<S: GoodsSet>(
     ensures least { IfOk result (λ h. IsLeastFor (plain_file file.now) (plain_file h)) }
 {
     let auction: Auction<S> = auction_of(alloc, file)?;
+    file_of_canonical(alloc, auction, limit)
+}
+
+fn into_normal_file_on<S: GoodsSet>(
+    alloc: Global,
+    file: BidFile,
+    limit: u64,
+) -> Result<BidFile, CanonFault>
+    requires { (plain_file file).goods ≤ S.CAP }
+    ensures answer { NormalisesFileAs limit (plain_file file) result }
+    ensures canonical { IfOk result (λ h. IsCanonicalFile (plain_file h)) }
+{
+    let auction: Auction<S> = auction_of(alloc, &file)?;
+    drop(file);
     file_of_canonical(alloc, auction, limit)
 }
 

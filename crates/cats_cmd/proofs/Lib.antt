@@ -6,3 +6,4 @@ mod Bundling
 mod BestPlaces
 mod Printing
 mod Stopping
+mod Comparing

@@ -6,10 +6,10 @@ use Rattle.valuation.specs.Auctions.{or_atoms_of}
 use Rattle.prune.specs.Steps.{first_heavy}
 use Rattle.canon.specs.Answers.{NormalisesAs}
 use Rattle.canon.specs.Canonical.{canonical_text}
-use Rattle.canon.specs.Normalising.{Normalised, IsText as IsNormalText, ExceedsSteps as IsTooLong, unless_heavy, normalised_file}
+use Rattle.canon.specs.Normalising.{unless_heavy, normalised_file}
 use Rattle.canon.specs.declared.fault.CanonFault.{CanonFault}
 use Rattle.canon.specs.declared.fault.CanonFault.TheVariants.{Read, StepLimit, Memory}
-use Rattle.cats_cmd.specs.Outcomes.{Outcome, Tells, ExceedsSteps, text_unless_heavy, normalise_outcome}
+use Rattle.cats_cmd.specs.Outcomes.{Tells, ExceedsSteps, text_unless_heavy, normalise_outcome}
 use Rattle.cats_cmd.specs.Runs.{MakesAs}
 
 made_by : (f : PlainFile) (o : Option (List ℕ)) (r : Result (Vec ℕ Global) CanonFault) → NormalisesAs (unless_heavy f o) r → MakesAs (text_unless_heavy f o) r

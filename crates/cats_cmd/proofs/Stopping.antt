@@ -1,5 +1,5 @@
 -- The statuses that the runs answer, and what of a line goes out where sending it may fail.
-use Rattle.std.proofs.Common.{◌≡◌, ℕ, List, length, Option, None, Some, Result, Ok, Err, Bool, true, false, cond, sym, subst}
+use Rattle.std.proofs.Common.{◌≡◌, ℕ, List, length, Option, None, Some, Result, Ok, Err, Bool, true, false, cond, sym, subst, arith, ◌≤◌}
 use Rattle.std.proofs.Math.Seq.{take-length}
 use Rattle.std.specs.Io.KnownBytes.{Appends}
 use Rattle.std.specs.Prelude.{nat_lt, OnOk, IfErr}
@@ -7,13 +7,17 @@ use Rattle.cats_text.specs.Files.{PlainFile}
 use Rattle.cats_text.specs.Streams.{inner_of, SendsWhole, SendsPart}
 use Rattle.cats_text.specs.declared.fault.SendFault.{SendFault}
 use Rattle.cats_text.specs.declared.stream.Watched.{Watched}
-use Rattle.valuation.specs.Auctions.{or_atoms_of}
+use Rattle.valuation.specs.Auctions.{or_atoms_of, auction_from}
 use Rattle.valuation.specs.Packings.{count_packings}
 use Rattle.prune.specs.Steps.{first_heavy}
-use Rattle.cats_cmd.specs.Outcomes.{Outcome, Tells, ExceedsSteps, normalise_outcome, value_outcome, values_within, missing_good, outcome_unless, text_unless_heavy}
+use Rattle.canon.specs.Difference.{Difference, NoDifference, InGoods, InOr, InXor, first_difference}
+use Rattle.cats_cmd.specs.Comparisons.{RunsOnFiles}
+use Rattle.cats_cmd.specs.Outcomes.{Outcome, Tells, ExceedsSteps, normalise_outcome, value_outcome, values_within, missing_good, outcome_unless, text_unless_heavy, outcome_of_difference, compare_outcome}
 use Rattle.cats_cmd.specs.ValueTexts.{bundle_from, value_text}
 use Rattle.cats_cmd.specs.Runs.{RunsOnFile}
-use Rattle.cats_cmd.specs.Stops.{SendsBeginning}
+use Rattle.cats_cmd.specs.Stops.{IsAnswer, SendsBeginning}
+use Rattle.cats_cmd.specs.declared.command_line.Request.{Request}
+use Rattle.cats_cmd.specs.declared.command_line.Request.TheVariants.{Compare}
 
 -- a run that answered has the status that its outcome tells
 pub told_run : {R W : Type 0} (remaining : R → Option (List ℕ)) (contents : W → Option (List ℕ)) (outcome : PlainFile → Outcome)
@@ -49,3 +53,22 @@ sends_beginning contents old new text (Ok done) whole part = record {
   appended = subst (Appends (contents (inner_of old)) (contents (inner_of new))) (sym (take-length text)) whole.appended;
 }
 sends_beginning contents old new text (Err fault) whole part = record { sent = fault.written; appended = part.appended }
+
+-- ---- a comparison
+
+differs_or_same : (difference : Difference) (status : ℕ) (text : List ℕ) → outcome_of_difference difference ≡ Tells status text → status ≤ 1
+differs_or_same NoDifference status text is = let same : 0 ≡ status = cc in omega arith
+differs_or_same (InGoods left right) status text is = let same : 1 ≡ status = cc in omega arith
+differs_or_same (InOr bundle left right) status text is = let same : 1 ≡ status = cc in omega arith
+differs_or_same (InXor bidder left right) status text is = let same : 1 ≡ status = cc in omega arith
+
+-- a comparison that answered has the status 0 or 1
+pub told_comparison : {R S W : Type 0} (remaining_first : R → Option (List ℕ)) (remaining_second : S → Option (List ℕ)) (contents : W → Option (List ℕ)) (limit : ℕ)
+    → (first first_after : Watched R) (second second_after : Watched S) (old new : Watched W) (status : ℕ)
+    → RunsOnFiles remaining_first remaining_second contents limit compare_outcome first first_after second second_after old new (Ok status) → status ≤ 1
+told_comparison remaining_first remaining_second contents limit first first_after second second_after old new status ran =
+    differs_or_same (first_difference (auction_from ran.left.file) (auction_from ran.right.file)) status ran.tells.text ran.tells.is_made
+
+pub answer_is_small : (request : Request) (status : ℕ) → IsAnswer request status → status ≤ 1
+answer_is_small (Compare first second limit) status is = is
+answer_is_small request status is = omega (arith, is)

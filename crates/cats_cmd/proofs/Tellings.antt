@@ -24,6 +24,18 @@ told_by_sending contents made old new status text is (Err (Refused which fault))
 told_by_sending contents made old new status text is (Err (GoodRange good)) sends = absurd sends
 told_by_sending contents made old new status text is (Err (Sent fault)) sends = record { status = status; text = text; is_made = is; sends = sends }
 
+module _ {R : Type 0} (remaining : R → Option (List ℕ)) (outcome : PlainFile → Outcome) where
+  pub refused_in_reading : (bytes : List ℕ) (input : Watched R) (fault : CanonFault) → IsRefusedByReading remaining bytes input fault → IsRefusedFile remaining outcome bytes input fault
+  refused_in_reading bytes input (Read why) refused = refused
+  refused_in_reading bytes input (StepLimit goods) refused = absurd refused
+  refused_in_reading bytes input Memory refused = inl refused
+
+  refused_in_making : (bytes : List ℕ) (input : Watched R) (file : PlainFile) → ReadsFile remaining bytes input file
+      → (fault : CanonFault) → MakesAs (outcome file) (Err fault) → IsRefusedFile remaining outcome bytes input fault
+  refused_in_making bytes input file reads (Read why) made = absurd made
+  refused_in_making bytes input file reads (StepLimit goods) made = record { file = file; reads = reads; made = made }
+  refused_in_making bytes input file reads Memory made = inr (record { file = file; reads = reads })
+
 module _ {R W : Type 0} (remaining : R → Option (List ℕ)) (contents : W → Option (List ℕ)) (outcome : PlainFile → Outcome) where
   runs_by_telling : (bytes : List ℕ) (input : Watched R) (file : PlainFile) → ReadsFile remaining bytes input file
       → (old new : Watched W) (answer : Result ℕ RunFault) → TellsAs contents (outcome file) old new answer → RunsAs remaining contents outcome bytes input old new answer
@@ -40,24 +52,13 @@ module _ {R W : Type 0} (remaining : R → Option (List ℕ)) (contents : W → 
       let only : answer ≡ Err (Refused Only fault) = told.1 ∙ ap (λ (f : RunFault). Err f) told.2 in
       subst (λ (r : Result ℕ RunFault). RunsAs remaining contents outcome bytes input out out r) (sym only) (record { only = refl; refused = refused; silent = refl })
 
-  refused_in_reading : (bytes : List ℕ) (input : Watched R) (fault : CanonFault) → IsRefusedByReading remaining bytes input fault → IsRefusedFile remaining outcome bytes input fault
-  refused_in_reading bytes input (Read why) refused = refused
-  refused_in_reading bytes input (StepLimit goods) refused = absurd refused
-  refused_in_reading bytes input Memory refused = inl refused
-
-  refused_in_making : (bytes : List ℕ) (input : Watched R) (file : PlainFile) → ReadsFile remaining bytes input file
-      → (fault : CanonFault) → MakesAs (outcome file) (Err fault) → IsRefusedFile remaining outcome bytes input fault
-  refused_in_making bytes input file reads (Read why) made = absurd made
-  refused_in_making bytes input file reads (StepLimit goods) made = record { file = file; reads = reads; made = made }
-  refused_in_making bytes input file reads Memory made = inr (record { file = file; reads = reads })
-
   -- a run whose file was refused in reading
   pub run_unread : (input read : Watched R) (out : Watched W) (fault : CanonFault) → ReadsInput remaining input read (Err fault)
       → (answer : Result ℕ RunFault) → IsErrAnd answer (λ told. told ≡ Refused Only fault) → RunsOnFile remaining contents outcome input read out out answer
   run_unread input read out fault read_as answer is = record {
     bytes = read_as.bytes;
     consumes = read_as.consumes;
-    runs = runs_by_refusing read_as.bytes read out fault (refused_in_reading read_as.bytes read fault read_as.reads) answer is;
+    runs = runs_by_refusing read_as.bytes read out fault (refused_in_reading remaining outcome read_as.bytes read fault read_as.reads) answer is;
   }
 
   -- a run whose text was refused
@@ -66,7 +67,7 @@ module _ {R W : Type 0} (remaining : R → Option (List ℕ)) (contents : W → 
   run_unmade input read out file read_as fault made answer is = record {
     bytes = read_as.bytes;
     consumes = read_as.consumes;
-    runs = runs_by_refusing read_as.bytes read out fault (refused_in_making read_as.bytes read (plain_file file) read_as.reads fault made) answer is;
+    runs = runs_by_refusing read_as.bytes read out fault (refused_in_making remaining outcome read_as.bytes read (plain_file file) read_as.reads fault made) answer is;
   }
 
   -- a run that sent its text

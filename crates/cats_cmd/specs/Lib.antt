@@ -4,8 +4,10 @@ pub mod KindNames
 pub mod FaultLines
 pub mod Statuses
 pub mod ValueTexts
+pub mod DifferenceTexts
 pub mod Outcomes
 pub mod Searches
 pub mod Examples
 pub mod Stops
 pub mod Runs
+pub mod Comparisons

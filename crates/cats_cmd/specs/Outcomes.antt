@@ -2,11 +2,14 @@
 use Rattle.std.specs.Prelude.{ℕ, List, Option, Some, None, find, nat_le, nat_lt, if◌then◌else◌}
 use Rattle.cats_text.specs.Files.{PlainFile}
 use Rattle.cats_text.specs.Layout.{layout}
-use Rattle.valuation.specs.Auctions.{or_atoms_of}
+use Rattle.valuation.specs.Auctions.{or_atoms_of, auction_from}
 use Rattle.valuation.specs.Packings.{count_packings}
 use Rattle.prune.specs.Steps.{first_heavy}
 use Rattle.canon.specs.Canonical.{canonical_text}
+use Rattle.canon.specs.Difference.{Difference, first_difference}
+use Rattle.cats_cmd.specs.DifferenceTexts.{difference_text}
 use Rattle.cats_cmd.specs.Outputs.{check_text}
+use Rattle.cats_cmd.specs.Statuses.{status_of_difference}
 use Rattle.cats_cmd.specs.ValueTexts.{bundle_from, value_text}
 
 pub data Outcome : Type 0 where
@@ -49,3 +52,10 @@ text_unless_heavy file (Some goods) = ExceedsSteps goods
 -- of `cats normalise`: the canonical text, unless a bundle of the OR bidder is heavy
 abbrev pub normalise_outcome : ℕ → PlainFile → Outcome
 normalise_outcome limit file = text_unless_heavy file (first_heavy file.goods limit (or_atoms_of file.bids))
+
+abbrev pub outcome_of_difference : Difference → Outcome
+outcome_of_difference difference = Tells (status_of_difference difference) (difference_text difference)
+
+-- of `cats compare` on two files
+abbrev pub compare_outcome : PlainFile → PlainFile → Outcome
+compare_outcome left right = outcome_of_difference (first_difference (auction_from left) (auction_from right))

@@ -1,7 +1,8 @@
--- The exit statuses that tell the faults of a run, as users know them: they are written out here, and the code's constants are proved to be these.
+-- The exit statuses that tell the faults of a run and the answer of a comparison, as users know them: they are written out here, and the code's constants are proved to be these.
 use Rattle.std.specs.Prelude.{ℕ}
 use Rattle.cats_text.specs.declared.fault.Kind.{Kind}
 use Rattle.cats_text.specs.declared.fault.Kind.TheVariants.{Device, Memory as NoMemory}
+use Rattle.canon.specs.Difference.{Difference, NoDifference}
 use Rattle.canon.specs.declared.fault.CanonFault.{CanonFault}
 use Rattle.canon.specs.declared.fault.CanonFault.TheVariants.{Read, StepLimit, Memory}
 use Rattle.cats_cmd.specs.declared.report.RunFault.{RunFault}
@@ -21,3 +22,8 @@ abbrev pub status_of_fault : RunFault → ℕ
 status_of_fault (Refused which fault) = status_of_canon_fault fault
 status_of_fault (GoodRange good) = 64
 status_of_fault (Sent fault) = 5
+
+-- the status of a comparison
+abbrev pub status_of_difference : Difference → ℕ
+status_of_difference NoDifference = 0
+status_of_difference _ = 1

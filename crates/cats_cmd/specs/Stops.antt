@@ -1,26 +1,33 @@
--- Why the program stops without an answer of its own, and how it tells that.
-use Rattle.std.specs.Prelude.{◌≡◌, ℕ, List, Option, take, codes}
+-- With which statuses the program answers, why it stops without an answer of its own, and how it tells that.
+use Rattle.std.specs.Prelude.{◌≡◌, ◌≤◌, ◌++◌, ℕ, List, Option, take, codes}
 use Rattle.std.specs.Io.KnownBytes.{Appends}
 use Rattle.cats_text.specs.Streams.{inner_of}
 use Rattle.cats_text.specs.declared.stream.Watched.{Watched}
-use Rattle.cats_cmd.specs.FaultLines.{line_of_fault}
+use Rattle.cats_cmd.specs.FaultLines.{line_of_fault, prefix_of}
 use Rattle.cats_cmd.specs.Statuses.{status_of_fault}
+use Rattle.cats_cmd.specs.declared.command_line.Request.{Request}
+use Rattle.cats_cmd.specs.declared.command_line.Request.TheVariants.{Compare}
 use Rattle.cats_cmd.specs.declared.program.Stop.{Stop}
 use Rattle.cats_cmd.specs.declared.program.Stop.TheVariants.{CannotOpen, Run}
 use Rattle.cats_cmd.specs.declared.report.RunFault.TheVariants.{Refused, GoodRange, Sent}
 
+-- the statuses with which a request may be answered
+abbrev pub IsAnswer : Request → ℕ → Type 0
+IsAnswer (Compare first second limit) status = status ≤ 1
+IsAnswer request status = status ≡ 0
+
 abbrev pub status_of_stop : Stop → ℕ
-status_of_stop CannotOpen = 5
+status_of_stop (CannotOpen which) = 5
 status_of_stop (Run fault) = status_of_fault fault
 
 abbrev pub line_of_stop : Stop → List ℕ
-line_of_stop CannotOpen = codes "cannot open\n"
+line_of_stop (CannotOpen which) = prefix_of which ++ codes "cannot open\n"
 line_of_stop (Run fault) = line_of_fault fault
 
 module _ {W : Type 0} where
   -- nothing was written, unless it is the output that failed
   abbrev pub IsSilent : Stop → Watched W → Watched W → Type 0
-  IsSilent CannotOpen old new = new ≡ old
+  IsSilent (CannotOpen which) old new = new ≡ old
   IsSilent (Run (Refused which fault)) old new = new ≡ old
   IsSilent (Run (GoodRange good)) old new = new ≡ old
   IsSilent (Run (Sent fault)) old new = Unit {0}

@@ -4,7 +4,7 @@ use clap::{Arg, ArgMatches, Command, Error, value_parser};
 use std::alloc::{AllocError, Global};
 
 /// What a command line asks for.
-#[derive(Debug, Drop)]
+#[derive(Drop)]
 pub(crate) enum Request<'a> {
     Check {
         file: &'a str,
@@ -21,9 +21,17 @@ pub(crate) enum Request<'a> {
         file: &'a str,
         limit: u64,
     },
+    Compare {
+        first: &'a str,
+        second: &'a str,
+        limit: u64,
+    },
 }
 
 const FILE: &str = "FILE";
+
+/// The second of two files, whose first is `FILE`.
+const SECOND_FILE: &str = "SECOND_FILE";
 
 const GOOD: &str = "GOOD";
 
@@ -57,6 +65,7 @@ fn find_request<'a>(
         "show" => Ok(Some(Request::Show { file })),
         "value" => find_value_request(alloc, given, file),
         "normalise" => Ok(find_normalise_request(given, file)),
+        "compare" => Ok(find_compare_request(given, file)),
         _ => Ok(None),
     }
 }
@@ -84,6 +93,16 @@ fn find_normalise_request<'a>(given: &ArgMatches<'a>, file: &'a str) -> Option<R
     Some(Request::Normalise { file, limit })
 }
 
+fn find_compare_request<'a>(given: &ArgMatches<'a>, first: &'a str) -> Option<Request<'a>> {
+    let limit = given.get_one::<u64>(STEPS)?;
+    let second = given.get_str(SECOND_FILE)?;
+    Some(Request::Compare {
+        first,
+        second,
+        limit,
+    })
+}
+
 fn cats_command<'a>(alloc: Global) -> Result<Command<'a>, AllocError> {
     Command::new(alloc, "cats")
         .about("Reads auction bid files in the format of CATS 2.0")
@@ -91,7 +110,8 @@ fn cats_command<'a>(alloc: Global) -> Result<Command<'a>, AllocError> {
         .subcommand(check_command(alloc)?)?
         .subcommand(show_command(alloc)?)?
         .subcommand(value_command(alloc)?)?
-        .subcommand(normalise_command(alloc)?)
+        .subcommand(normalise_command(alloc)?)?
+        .subcommand(compare_command(alloc)?)
 }
 
 fn check_command<'a>(alloc: Global) -> Result<Command<'a>, AllocError> {
@@ -107,15 +127,11 @@ fn show_command<'a>(alloc: Global) -> Result<Command<'a>, AllocError> {
 }
 
 fn value_command<'a>(alloc: Global) -> Result<Command<'a>, AllocError> {
-    let goods = Arg::new(alloc, GOOD)
-        .num_args(0..)
-        .value_parser(value_parser!(u16))
-        .help("The goods of the bundle");
     Command::new(alloc, "value")
         .about("Prints what the bidders of a bid file offer for a bundle of goods")
         .arg(steps_option(alloc, "The most packings that a search may enter"))?
         .arg(file_argument(alloc, FILE))?
-        .arg(goods)
+        .arg(goods_argument(alloc))
 }
 
 fn normalise_command<'a>(alloc: Global) -> Result<Command<'a>, AllocError> {
@@ -123,6 +139,14 @@ fn normalise_command<'a>(alloc: Global) -> Result<Command<'a>, AllocError> {
         .about("Prints the one canonical text of a bid file's auction")
         .arg(steps_option(alloc, "The most steps that the search on a bundle may take"))?
         .arg(file_argument(alloc, FILE))
+}
+
+fn compare_command<'a>(alloc: Global) -> Result<Command<'a>, AllocError> {
+    Command::new(alloc, "compare")
+        .about("Tells whether two bid files are the same auction, and else where they part first")
+        .arg(steps_option(alloc, "The most steps that the search on a bundle may take"))?
+        .arg(file_argument(alloc, FILE))?
+        .arg(file_argument(alloc, SECOND_FILE).value_name(FILE))
 }
 
 fn steps_option<'a>(alloc: Global, help: &'a str) -> Arg<'a> {
@@ -138,4 +162,11 @@ fn file_argument<'a>(alloc: Global, id: &'a str) -> Arg<'a> {
     Arg::new(alloc, id)
         .required(true)
         .help("The path of a bid file")
+}
+
+fn goods_argument<'a>(alloc: Global) -> Arg<'a> {
+    Arg::new(alloc, GOOD)
+        .num_args(0..)
+        .value_parser(value_parser!(u16))
+        .help("The goods of the bundle")
 }

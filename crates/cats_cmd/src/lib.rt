@@ -3,18 +3,18 @@
 
 mod check;
 mod command_line;
+mod compare;
 mod normalise;
 mod program;
 mod report;
 mod run;
 mod show;
-#[cfg(test)]
-mod tests;
 mod value;
 pub mod worked;
 
 pub use canon::{CanonFault, Which};
 pub use check::run_check;
+pub use compare::run_compare;
 pub use normalise::run_normalise;
 pub use program::run_cats;
 pub use report::{NO_MEMORY, RunFault, WRONG_USAGE, fault_line, status};

@@ -1,16 +1,18 @@
 //! The program `cats`, but for its process: a command line, two output streams and an exit status.
 
-ghost use Rattle.std.specs.Prelude.{◌≡◌, ◌≢◌, IfErr, IfOk, false};
+ghost use Rattle.std.specs.Prelude.{◌≡◌, ◌≢◌, ◌≤◌, IfErr, IfOk, false};
 ghost use Rattle.cats_text.specs.Streams.{has_ended, has_failed};
-ghost use Rattle.cats_cmd.specs.Stops.{IsSilent, SendsBeginning, line_of_stop, status_of_stop};
+ghost use Rattle.cats_cmd.specs.Stops.{IsAnswer, IsSilent, SendsBeginning, line_of_stop, status_of_stop};
 
 use crate::check::run_check;
 use crate::command_line;
 use crate::command_line::Request;
+use crate::compare::run_compare;
 use crate::normalise::run_normalise;
 use crate::report::{DEVICE_FAILED, NO_MEMORY, RunFault, WRONG_USAGE, fault_line, status};
 use crate::show::run_show;
 use crate::value::run_value;
+use canon::Which;
 use cats_text::{Watched, send};
 use clap::Error;
 use clap::error::ErrorKind;
@@ -22,7 +24,7 @@ use std::rt::Files;
 /// Why a request has no answer.
 #[derive(Drop)]
 enum Stop {
-    CannotOpen,
+    CannotOpen(Which),
     Run(RunFault),
 }
 
@@ -49,8 +51,8 @@ pub fn run_cats<F: Files + AllocGlobal, W: Write, E: Write>(
 ) -> u8
     requires out_works { has_failed out.old ≡ false }
     requires err_works { has_failed err.old ≡ false }
-    ensures silent { result ≢ 0 → result ≢ 5 → out.new ≡ out.old }
-    ensures done { result ≡ 0 → err.new ≡ err.old }
+    ensures silent { result ≢ 0 → result ≢ 1 → result ≢ 5 → out.new ≡ out.old }
+    ensures done { result ≤ 1 → err.new ≡ err.old }
 {
     let alloc = rt.alloc();
     let request = match command_line::parse(alloc, words) {
@@ -70,38 +72,47 @@ fn carry_out<F: Files + AllocGlobal, W: Write>(
     out: &mut Watched<W>,
 ) -> Result<u8, Stop>
     requires { has_failed out.old ≡ false }
-    ensures done { IfOk result (λ status. status ≡ 0) }
+    ensures done { IfOk result (λ status. IsAnswer request.now status) }
     ensures stopped { IfErr result (λ stop. IsSilent stop out.old out.new) }
 {
     match request {
         Request::Check { file } => {
-            let mut input = open(rt, file)?;
+            let mut input = open(rt, file, Which::Only)?;
             Ok(run_check(rt.alloc(), &mut input, out)?)
         }
         Request::Show { file } => {
-            let mut input = open(rt, file)?;
+            let mut input = open(rt, file, Which::Only)?;
             Ok(run_show(rt.alloc(), &mut input, out)?)
         }
         Request::Value { file, goods, limit } => {
-            let mut input = open(rt, file)?;
+            let mut input = open(rt, file, Which::Only)?;
             let goods = goods.as_slice();
             Ok(run_value(rt.alloc(), &mut input, goods, *limit, out)?)
         }
         Request::Normalise { file, limit } => {
-            let mut input = open(rt, file)?;
+            let mut input = open(rt, file, Which::Only)?;
             Ok(run_normalise(rt.alloc(), &mut input, *limit, out)?)
+        }
+        Request::Compare {
+            first,
+            second,
+            limit,
+        } => {
+            let mut left = open(rt, first, Which::First)?;
+            let mut right = open(rt, second, Which::Second)?;
+            Ok(run_compare(rt.alloc(), &mut left, &mut right, *limit, out)?)
         }
     }
 }
 
-fn open<F: Files>(rt: &F, path: &str) -> Result<Watched<F::File>, Stop>
+fn open<F: Files>(rt: &F, path: &str, which: Which) -> Result<Watched<F::File>, Stop>
     ensures works { IfOk result (λ file. has_failed file ≡ false) }
     ensures fresh { IfOk result (λ file. has_ended file ≡ false) }
-    ensures refused { IfErr result (λ stop. stop ≡ Stop.CannotOpen) }
+    ensures refused { IfErr result (λ stop. stop ≡ Stop.CannotOpen which) }
 {
     match fs::open(rt, path) {
         Ok(file) => Ok(Watched::new(file)),
-        Err(_) => Err(Stop::CannotOpen),
+        Err(_) => Err(Stop::CannotOpen(which)),
     }
 }
 
@@ -115,7 +126,7 @@ fn answer_usage<W: Write, E: Write>(
     requires out_works { has_failed out.old ≡ false }
     requires err_works { has_failed err.old ≡ false }
     ensures silent { result ≢ 0 → result ≢ 5 → out.new ≡ out.old }
-    ensures done { result ≡ 0 → err.new ≡ err.old }
+    ensures done { result ≤ 1 → err.new ≡ err.old }
 {
     let text = error.to_string(alloc);
     if !error.use_stderr() {
@@ -143,8 +154,8 @@ fn tell<E: Write>(alloc: Global, stop: &Stop, err: &mut Watched<E>) -> u8
     ensures line { SendsBeginning E.contents err.old err.new (line_of_stop stop.now) }
 {
     match stop {
-        Stop::CannotOpen => {
-            let _ = send(err, b"cannot open\n");
+        Stop::CannotOpen(which) => {
+            let _ = send(err, unopened(*which).as_bytes());
             DEVICE_FAILED
         }
         Stop::Run(why) => {
@@ -153,5 +164,16 @@ fn tell<E: Write>(alloc: Global, stop: &Stop, err: &mut Watched<E>) -> u8
             }
             status(why)
         }
+    }
+}
+
+/// The line of a file that cannot be opened.
+fn unopened(which: Which) -> &'static str
+    ensures { result.now ≡ line_of_stop (Stop.CannotOpen which) }
+{
+    match which {
+        Which::First => "first: cannot open\n",
+        Which::Second => "second: cannot open\n",
+        Which::Only | Which::Both => "cannot open\n",
     }
 }

@@ -13,6 +13,9 @@ use std::alloc::{AllocError, Global};
 /// A run did what it was asked for.
 pub const DONE: u8 = 0;
 
+/// Two files are different auctions.
+pub const DIFFERENT: u8 = 1;
+
 /// A file is no bid file.
 pub const FILE_REFUSED: u8 = 2;
 
@@ -180,7 +183,7 @@ fn kind_name(kind: Kind) -> &'static str
 }
 
 /// The goods with a comma between each two.
-fn joined_goods(alloc: Global, goods: &[u16]) -> Result<String, AllocError>
+pub(crate) fn joined_goods(alloc: Global, goods: &[u16]) -> Result<String, AllocError>
     ensures { IfOk result (λ text. string_bytes text ≡ bundle_text goods.now) }
 {
     let Some((first, rest)) = goods.split_first() else {

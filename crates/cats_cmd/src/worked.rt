@@ -3,12 +3,16 @@
 ghost use Rattle.std.specs.Prelude.{◌≡◌, ℕ, List, [], ◌∷◌, map, codes, Vec};
 ghost use Rattle.std.specs.Global.{Global};
 ghost use Rattle.cats_text.specs.declared.fault.Kind.TheVariants.{TwoDummies, NoEnd, TooLong, Device, Memory as NoMemory};
+ghost use Rattle.canon.specs.Difference.{NoDifference, InGoods, InOr, InXor};
+ghost use Rattle.canon.specs.declared.verdict.Side.TheVariants.{Exactly, Below};
+ghost use Rattle.valuation.specs.Examples.{atom};
+ghost use Rattle.cats_cmd.specs.DifferenceTexts.{difference_text};
 ghost use Rattle.cats_cmd.specs.Examples.{larger_bid, xor_ladder};
 ghost use Rattle.cats_cmd.specs.Outcomes.{LacksGood, ExceedsSteps, Tells, check_outcome, show_outcome, value_outcome};
 ghost use Rattle.cats_cmd.specs.Outputs.{bundle_text, sizes_text};
 ghost use Rattle.cats_cmd.specs.ValueTexts.{bundle_from};
 ghost use Rattle.cats_cmd.specs.FaultLines.{line_of_fault};
-ghost use Rattle.cats_cmd.specs.Statuses.{status_of_fault};
+ghost use Rattle.cats_cmd.specs.Statuses.{status_of_difference, status_of_fault};
 ghost use Rattle.canon.specs.declared.which.Which.TheVariants.{Only, First, Second, Both};
 ghost use Rattle.canon.specs.declared.fault.CanonFault.TheVariants.{Read, StepLimit, Memory};
 ghost use Rattle.cats_cmd.specs.declared.report.RunFault.TheVariants.{Refused, GoodRange, Sent};
@@ -65,4 +69,14 @@ pub fn values()
     ensures first { value_outcome (0 ∷ []) 1 xor_ladder ≡ Tells 0 (codes "or 0\nxor 2 5 0\n") }
     ensures none_inside { value_outcome [] 1 xor_ladder ≡ Tells 0 (codes "or 0\nxor 2 0\n") }
     ensures bundle { bundle_from (3 ∷ 1 ∷ 3 ∷ 0 ∷ []) ≡ 0 ∷ 1 ∷ 3 ∷ [] }
+{}
+
+/// How differences are told, and the statuses of comparisons.
+pub fn differences()
+    ensures same { difference_text NoDifference ≡ codes "same\n" }
+    ensures goods { difference_text (InGoods 1 2) ≡ codes "different\ngoods\nleft 1\nright 2\n" }
+    ensures below { difference_text (InOr (0 ∷ []) (Exactly 4000000) (Below 4500000)) ≡ codes "different\nor 0\nleft 4\nright below 4.5\n" }
+    ensures pair { difference_text (InOr (0 ∷ 12 ∷ []) (Below 8000000) (Exactly 8000000)) ≡ codes "different\nor 0,12\nleft below 8\nright 8\n" }
+    ensures bidder { difference_text (InXor (atom (0 ∷ []) 1000000 ∷ atom (0 ∷ 1 ∷ []) 2000000 ∷ []) 2 1) ≡ codes "different\nxor 0:1 0,1:2\nleft 2\nright 1\n" }
+    ensures statuses { map status_of_difference (NoDifference ∷ InGoods 1 2 ∷ InOr [] (Exactly 1) (Exactly 2) ∷ InXor [] 0 1 ∷ []) ≡ 0 ∷ 1 ∷ 1 ∷ 1 ∷ [] }
 {}

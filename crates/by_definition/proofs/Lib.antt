@@ -1,0 +1,3 @@
+pub mod Frequent
+pub mod Parting
+pub mod Stepping

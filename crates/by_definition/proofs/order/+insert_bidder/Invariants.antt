@@ -1,0 +1,5 @@
+use Rattle.std.proofs.Common.{vec_len}
+use Rattle.by_definition.proofs.order.+insert_bidder.Given as goal
+
+abbrev pub decreases-insert_bidder : goal.decreases-insert_bidder
+decreases-insert_bidder l = vec_len l.bidders

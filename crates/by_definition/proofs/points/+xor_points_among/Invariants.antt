@@ -1,0 +1,5 @@
+use Rattle.std.proofs.Common.{length}
+use Rattle.by_definition.proofs.points.+xor_points_among.Given as goal
+
+abbrev pub decreases-xor_points_among : goal.decreases-xor_points_among
+decreases-xor_points_among l = length l.bundles.now

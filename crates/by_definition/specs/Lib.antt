@@ -1,0 +1,4 @@
+-- What the contracts of this crate cite.
+pub mod Lists
+pub mod Tables
+pub mod Differences

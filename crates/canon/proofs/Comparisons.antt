@@ -1,0 +1,227 @@
+-- What comparing answers: of two canonical files, by their OR bids and their XOR bids, and of two texts, by the files that they spell.
+use Rattle.std.proofs.Common.{◌≡◌, ℕ, zero, suc, ◌+◌, ◌≤◌, Bool, true, cond, List, [], ◌∷◌, ◌++◌, length, map, take, drop, Option, Some, None, is_none, Result, Ok, Err, refl, sym, ap, ap₂, ◌∙◌, subst, arith}
+use Rattle.std.specs.Prelude.{◌↔◌, IfOk, MatchOption}
+use Rattle.std.specs.List.{prefix_len}
+use Rattle.std.proofs.lemmas.Bool.{cond-true}
+use Rattle.std.proofs.lemmas.List.{length-map}
+use Rattle.std.proofs.lemmas.Option.{MatchOption-at_some, MatchOption-at_none}
+use Rattle.std.proofs.lemmas.Result.{IfOk-weaker}
+use Rattle.std.proofs.Math.Seq.{take-append_seam, drop-append_seam}
+use Rattle.cats_text.specs.declared.bid.Bid.{Bid}
+use Rattle.cats_text.specs.declared.bid.BidFile.{BidFile}
+use Rattle.cats_text.specs.declared.limits.TheConstants.{MAX_BIDS, MAX_GOODS}
+use Rattle.cats_text.specs.Files.{PlainBid, PlainFile, IsPlainFile, plain_bid, plain_bids}
+use Rattle.cats_text.specs.Grammar.{Spells}
+use Rattle.cats_text.proofs.SpellsLemmas.{says_spelled, spells_one}
+use Rattle.valuation.specs.declared.atom.Atom.{Atom}
+use Rattle.valuation.specs.AuctionLemmas.{IsAuction-auction_from}
+use Rattle.valuation.specs.Auctions.{PlainAuction, IsAuction, auction_from}
+use Rattle.canon.specs.Answers.{RefusesAs, NormalisesFileAs}
+use Rattle.canon.specs.BidderBids.{HasBidders}
+use Rattle.canon.specs.Canonical.{IsCanonical, IsCanonicalFile, bid_from, canonical_auction, canonical_text, dummy_bids, file_from}
+use Rattle.canon.specs.Comparing.{Compared, ComparedBy, IsNormalFileOf, ReadsNormalAs, RefusesOf, compared, unless_first_refused, unless_second_refused}
+use Rattle.canon.specs.Difference.{NoDifference, first_difference, first_unequal_bundle, least_unequal_bidder, or_difference, xor_difference}
+use Rattle.canon.specs.Normalising.{Normalised, IsNoFile, ExceedsSteps, IsText, normalised}
+use Rattle.canon.specs.OrBids.{HasOrBids}
+use Rattle.canon.specs.Sameness.{AreSameFiles, AreSameTexts, IsSameAuction}
+use Rattle.canon.specs.Verdicts.{plain_verdict}
+use Rattle.canon.specs.declared.fault.CanonFault.{CanonFault}
+use Rattle.canon.specs.declared.fault.CanonFault.TheVariants.{Read, StepLimit, Memory}
+use Rattle.canon.specs.declared.verdict.Verdict.{Verdict}
+use Rattle.canon.specs.declared.verdict.Verdict.TheVariants.{Same, Goods, Or, Xor}
+use Rattle.canon.specs.declared.which.Which.TheVariants.{First, Second, Both}
+use Rattle.canon.proofs.Answering.{refused_file}
+use Rattle.canon.proofs.Atoms.{HasAtoms}
+use Rattle.canon.proofs.Differences.{at_same_goods, same_from_no_difference, no_difference_from_same}
+use Rattle.canon.proofs.Files.{auction_from-file_from}
+use Rattle.canon.proofs.SameDifferences.{difference_of_same_files}
+use Rattle.canon.proofs.Sames.{same_sym, same_trans}
+use Rattle.canon.proofs.Texts.{IsPlainFile-canonical, canonical_file_is_same, canonical_file_is_fixed, normalised_from_text, normalised_spelled}
+
+-- ---- the bids of a canonical file
+
+-- how many bids pass, of the OR bidder's and then of the XOR bidders'
+or_bids_pass : (p : PlainBid → Bool) → ((a : Atom (List ℕ)) → p (bid_from None a) ≡ true) → (atoms : List (Atom (List ℕ))) (rest : List PlainBid) → prefix_len p rest ≡ 0 → prefix_len p (map (bid_from None) atoms ++ rest) ≡ length (map (bid_from None) atoms)
+or_bids_pass p h [] rest e = e
+or_bids_pass p h (a ∷ atoms) rest e =
+    let here = h a in
+    let later = or_bids_pass p h atoms rest e in
+    cond-true (p (bid_from None a)) (1 + prefix_len p (map (bid_from None) atoms ++ rest)) 0 here ∙ omega arith
+
+no_bidder_passes : (d : ℕ) (bidders : List (List (Atom (List ℕ)))) → prefix_len (λ b. is_none b.dummy) (dummy_bids d bidders) ≡ 0
+no_bidder_passes d [] = refl
+no_bidder_passes d ([] ∷ bidders) = no_bidder_passes (d + 1) bidders
+no_bidder_passes d ((a ∷ atoms) ∷ bidders) = refl
+
+passing_plain : (bids : List Bid) → prefix_len (λ (b : Bid). is_none b.dummy) bids ≡ prefix_len (λ (b : PlainBid). is_none b.dummy) (plain_bids bids)
+passing_plain [] = refl
+passing_plain (b ∷ bids) = ap (λ n. cond (is_none b.dummy) (1 + n) 0) (passing_plain bids)
+
+module _ (a : PlainAuction) (bids : List Bid) (are : plain_bids bids ≡ (file_from a).bids) (n : ℕ) (is : n ≡ prefix_len (λ (b : Bid). is_none b.dummy) bids) where
+  or_count : n ≡ length (map (bid_from None) a.or_atoms)
+  or_count =
+      is ∙ passing_plain bids ∙ ap (prefix_len (λ (b : PlainBid). is_none b.dummy)) are
+      ∙ or_bids_pass (λ b. is_none b.dummy) (λ atom. refl) a.or_atoms (dummy_bids 0 a.xor_bidders) (no_bidder_passes 0 a.xor_bidders)
+
+  pub or_part : plain_bids (take n bids) ≡ map (bid_from None) a.or_atoms
+  or_part =
+      map-take plain_bid bids n ∙ ap₂ (λ (m : ℕ) (zs : List PlainBid). take m zs) or_count are
+      ∙ take-append_seam (map (bid_from None) a.or_atoms) (dummy_bids 0 a.xor_bidders)
+    where
+      map-take : {X Y : Type 0} (f : X → Y) (xs : List X) (k : ℕ) → map f (take k xs) ≡ take k (map f xs)
+      map-take f xs zero = refl
+      map-take f [] (suc k) = refl
+      map-take {X} {Y} f (x ∷ xs) (suc k) = ap (λ (zs : List Y). f x ∷ zs) (map-take f xs k)
+
+  pub xor_part : plain_bids (drop n bids) ≡ dummy_bids 0 a.xor_bidders
+  xor_part =
+      map-drop plain_bid bids n ∙ ap₂ (λ (m : ℕ) (zs : List PlainBid). drop m zs) or_count are
+      ∙ drop-append_seam (map (bid_from None) a.or_atoms) (dummy_bids 0 a.xor_bidders)
+    where
+      map-drop : {X Y : Type 0} (f : X → Y) (xs : List X) (k : ℕ) → map f (drop k xs) ≡ drop k (map f xs)
+      map-drop f xs zero = refl
+      map-drop f [] (suc k) = refl
+      map-drop f (x ∷ xs) (suc k) = map-drop f xs k
+
+-- ---- a canonical file
+
+-- its auction, and its bids, which are those of the auction's file
+pub record StandsFor (f : PlainFile) : Type 0 where
+  pub facts : IsAuction MAX_GOODS (auction_from f)
+  pub canonical : IsCanonical (auction_from f)
+  pub are : f.bids ≡ (file_from (auction_from f)).bids
+
+pub stands_for : (f : PlainFile) → IsPlainFile f → IsCanonicalFile f → StandsFor f
+stands_for f h c =
+    let same : auction_from f ≡ canonical_auction (auction_from f) = sym (ap auction_from c) ∙ auction_from-file_from (canonical_auction (auction_from f)) in
+    record {
+      facts = IsAuction-auction_from MAX_GOODS f h h.goods;
+      canonical = sym same;
+      are = ap (λ (g : PlainFile). g.bids) (sym c ∙ ap file_from (sym same));
+    }
+
+pub or_bids_of : (f : PlainFile) → StandsFor f → (bids : List PlainBid) → bids ≡ map (bid_from None) (auction_from f).or_atoms → HasOrBids MAX_GOODS (auction_from f) bids
+or_bids_of f s bids e = record { facts = s.facts; canonical = s.canonical; are = e }
+
+pub xor_bids_of : (f : PlainFile) → StandsFor f → (bids : List PlainBid) → bids ≡ dummy_bids 0 (auction_from f).xor_bidders → HasBidders MAX_GOODS (auction_from f) bids
+xor_bids_of f s bids e = record { facts = s.facts; canonical = s.canonical; are = e }
+
+-- ---- the verdict that there is no difference
+
+is_same : (v : Verdict) → plain_verdict v ≡ NoDifference → v ≡ Same
+is_same Same e = refl
+is_same (Goods left right) e = absurd (cc)
+is_same (Or bundle left right) e = absurd (cc)
+is_same (Xor bidder left right) e = absurd (cc)
+
+pub same_exactly_by_difference : (a b : PlainAuction) → HasAtoms a → HasAtoms b → (v : Verdict) → plain_verdict v ≡ first_difference a b → (v ≡ Same ↔ IsSameAuction a b)
+same_exactly_by_difference a b h k v d = (
+  λ e. same_from_no_difference a b h k (sym d ∙ ap plain_verdict e),
+  λ s. is_same v (d ∙ no_difference_from_same a b h k s),
+)
+
+-- ---- the first step: a text is read and made canonical
+
+pub normal_from_file : (limit : ℕ) (text : List ℕ) (f : PlainFile) → Spells text f → (r : Result BidFile CanonFault) → NormalisesFileAs limit f r → ReadsNormalAs limit text r
+normal_from_file limit text f s (Ok h) n = record { file = f; spelled = s; normal = n }
+normal_from_file limit text f s (Err fault) n =
+    subst (λ (e : Normalised). RefusesAs e fault) (sym (normalised_spelled limit text f s)) (refused_file limit f fault n)
+
+module _ (limit : ℕ) (text : List ℕ) (h : PlainFile) (n : IsNormalFileOf limit text h) where
+  pub text_is : normalised limit text ≡ IsText (canonical_text n.file)
+  text_is = normalised_from_text limit text (canonical_text n.file) (record { file = n.file; spelled = n.spelled; light = n.normal.light; is = refl })
+
+  pub canonical_of_text : IsCanonicalFile h
+  canonical_of_text = subst (λ (g : PlainFile). IsCanonicalFile g) (sym n.normal.canonical) (canonical_file_is_fixed n.file n.spelled.facts)
+
+  plain_of_text : IsPlainFile h
+  plain_of_text = subst (λ (g : PlainFile). IsPlainFile g) (sym n.normal.canonical) (IsPlainFile-canonical n.file n.spelled.facts)
+
+  same_of_text : AreSameFiles n.file h
+  same_of_text = subst (λ (g : PlainFile). AreSameFiles n.file g) (sym n.normal.canonical) (canonical_file_is_same n.file n.spelled.facts)
+
+-- ---- both texts have a canonical file
+
+module _ (limit : ℕ) (one other : List ℕ) (h k : PlainFile) (n : IsNormalFileOf limit one h) (m : IsNormalFileOf limit other k) where
+  pub compared_is : compared limit one other ≡ ComparedBy (first_difference (auction_from h) (auction_from k))
+  compared_is =
+      ap (unless_first_refused limit one other) (text_is limit one h n)
+      ∙ ap (unless_second_refused one other) (text_is limit other k m)
+      ∙ ap ComparedBy
+      (ap₂ (λ (f g : PlainFile). first_difference (auction_from f) (auction_from g)) (sym (says_spelled one n.file n.spelled)) (sym (says_spelled other m.file m.spelled))
+      ∙ difference_of_same_files n.file h m.file k n.spelled.facts (plain_of_text limit one h n) m.spelled.facts (plain_of_text limit other k m) (same_of_text limit one h n) (same_of_text limit other k m))
+
+  same_texts : AreSameFiles h k → AreSameTexts one other
+  same_texts s = record {
+    first = n.file;
+    second = m.file;
+    first_spelled = n.spelled;
+    second_spelled = m.spelled;
+    same = same_trans (auction_from n.file) (auction_from h) (auction_from m.file) (same_of_text limit one h n)
+        (same_trans (auction_from h) (auction_from k) (auction_from m.file) s (same_sym (auction_from m.file) (auction_from k) (same_of_text limit other k m)));
+  }
+
+  same_files : AreSameTexts one other → AreSameFiles h k
+  same_files t =
+      let f = spells_one one t.first n.file t.first_spelled n.spelled in
+      let g = spells_one other t.second m.file t.second_spelled m.spelled in
+      let files : AreSameFiles n.file m.file = subst (λ (x : PlainFile). AreSameFiles x m.file) f (subst (λ (x : PlainFile). AreSameFiles t.first x) g t.same) in
+      same_trans (auction_from h) (auction_from n.file) (auction_from k) (same_sym (auction_from n.file) (auction_from h) (same_of_text limit one h n))
+      (same_trans (auction_from n.file) (auction_from m.file) (auction_from k) files (same_of_text limit other k m))
+
+  pub same_by_texts : (v : Verdict) → (v ≡ Same ↔ AreSameFiles h k) → (v ≡ Same ↔ AreSameTexts one other)
+  same_by_texts v e = (λ p. same_texts (e.0 p), λ t. e.1 (same_files t))
+
+  pub both_refused : RefusesOf Both (compared limit one other) Memory
+  both_refused = subst (λ (c : Compared). RefusesOf Both c Memory) (sym compared_is) refl
+
+-- ---- one text has none
+
+module _ (limit : ℕ) (one other : List ℕ) where
+  memory_first : (o : Normalised) → RefusesOf First (unless_second_refused one other o) Memory
+  memory_first (IsText text) = refl
+  memory_first (IsNoFile fault) = refl
+  memory_first (ExceedsSteps goods) = refl
+
+  first_in_place : (text : List ℕ) (fault : CanonFault) → RefusesAs (IsText text) fault → RefusesOf First (unless_second_refused one other (normalised limit other)) fault
+  first_in_place text (Read fault) r = absurd (cc)
+  first_in_place text (StepLimit goods) r = absurd (cc)
+  first_in_place text Memory r = memory_first (normalised limit other)
+
+  first_by : (fault : CanonFault) (o : Normalised) → RefusesAs o fault → RefusesOf First (unless_first_refused limit one other o) fault
+  first_by fault (IsText text) r = first_in_place text fault r
+  first_by fault (IsNoFile why) r = r
+  first_by fault (ExceedsSteps goods) r = r
+
+  pub first_refused : (fault : CanonFault) → RefusesAs (normalised limit one) fault → RefusesOf First (compared limit one other) fault
+  first_refused fault r = first_by fault (normalised limit one) r
+
+  second_in_place : (text : List ℕ) (fault : CanonFault) → RefusesAs (IsText text) fault → RefusesOf Second (unless_second_refused one other (IsText text)) fault
+  second_in_place text (Read fault) r = absurd (cc)
+  second_in_place text (StepLimit goods) r = absurd (cc)
+  second_in_place text Memory r = refl
+
+  second_by : (fault : CanonFault) (o : Normalised) → RefusesAs o fault → RefusesOf Second (unless_second_refused one other o) fault
+  second_by fault (IsText text) r = second_in_place text fault r
+  second_by fault (IsNoFile why) r = r
+  second_by fault (ExceedsSteps goods) r = r
+
+  pub second_refused : (h : PlainFile) → IsNormalFileOf limit one h → (fault : CanonFault) → RefusesAs (normalised limit other) fault → RefusesOf Second (compared limit one other) fault
+  second_refused h n fault r =
+      subst (λ (c : Compared). RefusesOf Second c fault) (sym (ap (unless_first_refused limit one other) (text_is limit one h n))) (second_by fault (normalised limit other) r)
+
+-- ---- the walk over two files
+
+module _ (a b : PlainAuction) (e : a.goods ≡ b.goods) where
+  pub or_told : (told : Option Verdict) (v : Verdict) → told ≡ Some v → MatchOption told (first_unequal_bundle a b ≡ None) (λ verdict. plain_verdict verdict ≡ or_difference a b (first_unequal_bundle a b)) → plain_verdict v ≡ first_difference a b
+  or_told told v is h = MatchOption-at_some (first_unequal_bundle a b ≡ None) (λ verdict. plain_verdict verdict ≡ or_difference a b (first_unequal_bundle a b)) v is h ∙ sym (at_same_goods a b e)
+
+  pub xor_told : {E : Type 0} (told : Option Verdict) → told ≡ None → MatchOption told (first_unequal_bundle a b ≡ None) (λ verdict. plain_verdict verdict ≡ or_difference a b (first_unequal_bundle a b))
+      → (r : Result Verdict E) → IfOk r (λ verdict. plain_verdict verdict ≡ xor_difference a b (least_unequal_bidder a b)) → IfOk r (λ verdict. plain_verdict verdict ≡ first_difference a b)
+  xor_told told is h r k =
+      let none = MatchOption-at_none (first_unequal_bundle a b ≡ None) (λ verdict. plain_verdict verdict ≡ or_difference a b (first_unequal_bundle a b)) is h in
+      IfOk-weaker r (λ verdict. plain_verdict verdict ≡ xor_difference a b (least_unequal_bidder a b)) (λ verdict. plain_verdict verdict ≡ first_difference a b)
+      (λ verdict d. d ∙ sym (ap (or_difference a b) none) ∙ sym (at_same_goods a b e)) k
+
+pub bids_count : (f : PlainFile) → IsPlainFile f → (bids : List Bid) → plain_bids bids ≡ f.bids → length bids ≤ MAX_BIDS
+bids_count f h bids e = let long = length-map bids plain_bid in let same = ap (λ (zs : List PlainBid). length zs) e in omega (arith, h.count)

@@ -1,0 +1,31 @@
+use Rattle.std.proofs.Common.{◌+◌, drop, sym, ◌∙◌, arith}
+use Rattle.valuation.specs.Orders.{atom_cmp, bidder_cmp}
+use Rattle.canon.specs.BidderBids.{offers}
+use Rattle.canon.proofs.BidOrders.{then-decided, then-left, slice_cmp-ended, bidder_cmp-drop, length-offers}
+use Rattle.canon.proofs.parting.order_of_bidders.Goals as goal
+
+pub returns-then-is_ne : goal.returns-then-is_ne
+returns-then-is_ne c =
+    let some = c.args.one.now in
+    let other = c.args.other.now in
+    let i = c.loop-i.i in
+    let later = bidder_cmp (drop (i + 1) (offers some)) (drop (i + 1) (offers other)) in
+    let turn = bidder_cmp-drop some other i c.index-one-i.result c.index-other-i.result (omega arith) (omega arith) c.index-one-i.is c.index-other-i.is in
+    let differ = rw c.order_of_bids-bids.ensures at (sym c.is_ne.ensures ∙ c.if-is_ne.true) in
+    c.order_of_bids-bids.ensures ∙ sym (then-decided _ later differ) ∙ sym turn ∙ c.loop-i.invariant
+
+pub loop-i-preserved : goal.loop-i-preserved
+loop-i-preserved c =
+    let some = c.args.one.now in
+    let other = c.args.other.now in
+    let i = c.loop-i.i in
+    let later = bidder_cmp (drop (i + 1) (offers some)) (drop (i + 1) (offers other)) in
+    let turn = bidder_cmp-drop some other i c.index-one-i.result c.index-other-i.result (omega arith) (omega arith) c.index-one-i.is c.index-other-i.is in
+    let same = rw c.order_of_bids-bids.ensures at (sym c.is_ne.ensures ∙ c.if-is_ne.false) in
+    sym (then-left _ later same) ∙ sym turn ∙ c.loop-i.invariant
+
+pub returns : goal.returns
+returns c =
+    let some = length-offers c.args.one.now in
+    let other = length-offers c.args.other.now in
+    c.cmp.ensures ∙ sym (rw (some, other) at (slice_cmp-ended atom_cmp c.loop-i.i (offers c.args.one.now) (offers c.args.other.now) (omega arith))) ∙ c.loop-i.invariant

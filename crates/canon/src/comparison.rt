@@ -1,0 +1,102 @@
+//! Where two files part first, and whether two texts ask for the same things.
+
+ghost use Rattle.std.specs.Prelude.{◌≡◌, ◌↔◌, ◌≤◌, length, map, None, IfOk};
+ghost use Rattle.std.specs.List.{prefix_len};
+ghost use Rattle.std.specs.Option.{is_none};
+ghost use Rattle.cats_text.specs.Files.{plain_bids};
+ghost use Rattle.cats_text.specs.Views.{plain_file};
+ghost use Rattle.valuation.specs.Auctions.{PlainAuction, auction_from};
+ghost use Rattle.canon.specs.Canonical.{IsCanonicalFile, bid_from, dummy_bids, file_from};
+ghost use Rattle.canon.specs.Comparing.{ComparesAs, ReadsNormalAs, compared};
+ghost use Rattle.canon.specs.Difference.{first_difference};
+ghost use Rattle.canon.specs.Sameness.{AreSameFiles, AreSameTexts};
+ghost use Rattle.canon.specs.Verdicts.{plain_verdict};
+ghost use Rattle.canon.specs.declared.verdict.Verdict.TheVariants.{Same};
+
+use crate::bundles::bundle_verdict;
+use crate::fault::CanonFault;
+use crate::parting::bidder_verdict;
+use crate::text::into_normal_file;
+use crate::verdict::Verdict;
+use crate::which::Which;
+use cats_text::{Bid, BidFile, read};
+use std::alloc::{AllocError, Global};
+
+#[cfg(test)]
+mod tests;
+
+/// Where the auctions of two texts' files part first. The first text is read and made canonical, and what was read of it given up,
+/// before the second is read; `limit` bounds each search that decides on a bundle of an OR bidder.
+pub fn compare(
+    alloc: Global,
+    left: &[u8],
+    right: &[u8],
+    limit: u64,
+) -> Result<Verdict, (Which, CanonFault)>
+    ensures answer { ComparesAs (compared limit left.now right.now) result }
+    ensures same { IfOk result (λ verdict. verdict ≡ Same ↔ AreSameTexts left.now right.now) }
+{
+    let first = match read_normal(alloc, left, limit) {
+        Ok(file) => file,
+        Err(fault) => return Err((Which::First, fault)),
+    };
+    let second = match read_normal(alloc, right, limit) {
+        Ok(file) => file,
+        Err(fault) => return Err((Which::Second, fault)),
+    };
+    match compare_files(alloc, &first, &second) {
+        Ok(verdict) => Ok(verdict),
+        Err(_) => Err((Which::Both, CanonFault::Memory)),
+    }
+}
+
+/// Where the auctions of two canonical files part first. Nothing of the files is copied but what the verdict names.
+pub fn compare_files(alloc: Global, left: &BidFile, right: &BidFile) -> Result<Verdict, AllocError>
+    requires left_canonical { IsCanonicalFile (plain_file left.now) }
+    requires right_canonical { IsCanonicalFile (plain_file right.now) }
+    ensures difference { IfOk result (λ verdict. plain_verdict verdict
+        ≡ first_difference (auction_from (plain_file left.now)) (auction_from (plain_file right.now))) }
+    ensures same { IfOk result (λ verdict. verdict ≡ Same ↔ AreSameFiles (plain_file left.now) (plain_file right.now)) }
+{
+    walk_files(alloc, left, right)
+}
+
+/// The walk over the bids of two files, from the first number on. Of canonical files it finds where their auctions part.
+fn walk_files(alloc: Global, left: &BidFile, right: &BidFile) -> Result<Verdict, AllocError>
+    ensures { IsCanonicalFile (plain_file left.now) → IsCanonicalFile (plain_file right.now) → IfOk result (λ verdict. plain_verdict verdict
+        ≡ first_difference (auction_from (plain_file left.now)) (auction_from (plain_file right.now))) }
+{
+    if left.goods() != right.goods() {
+        return Ok(Verdict::Goods(left.goods(), right.goods()));
+    }
+    let (left_or, left_xor) = split_bids(left.bids());
+    let (right_or, right_xor) = split_bids(right.bids());
+    match bundle_verdict(alloc, left_or, right_or)? {
+        Some(verdict) => Ok(verdict),
+        None => bidder_verdict(alloc, left_xor, right_xor),
+    }
+}
+
+/// The canonical file of the file that a text spells.
+fn read_normal(alloc: Global, text: &[u8], limit: u64) -> Result<BidFile, CanonFault>
+    ensures { ReadsNormalAs limit text.now result }
+{
+    let file = read(alloc, text)?;
+    into_normal_file(alloc, file, limit)
+}
+
+/// The bids of a canonical file without a dummy good, and behind them those with one.
+fn split_bids(bids: &[Bid]) -> (&[Bid], &[Bid])
+    ensures or_bids { (a : PlainAuction) → plain_bids bids.now ≡ (file_from a).bids → plain_bids result.0.now ≡ map (bid_from None) a.or_atoms }
+    ensures xor_bids { (a : PlainAuction) → plain_bids bids.now ≡ (file_from a).bids → plain_bids result.1.now ≡ dummy_bids 0 a.xor_bidders }
+    ensures fewer { length result.1.now ≤ length bids.now }
+{
+    bids.split_at(count_or_bids(bids))
+}
+
+/// How many bids, from the first on, have no dummy good.
+fn count_or_bids(bids: &[Bid]) -> usize
+    ensures { result ≡ prefix_len (λ bid. is_none bid.dummy) bids.now }
+{
+    bids.iter().take_while(|bid| bid.dummy.is_none()).count()
+}

@@ -1,0 +1,9 @@
+//! Worked rows of the runs and of the program, each by the call of `cats_cmd` that it shows.
+
+mod check;
+mod compare;
+mod normalise;
+mod program;
+mod show;
+mod streams;
+mod value;

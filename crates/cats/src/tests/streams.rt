@@ -1,0 +1,146 @@
+//! Readers and writers over memory that fail, and what a run did with them.
+
+ghost use Rattle.std.specs.Prelude.{◌≡◌, false};
+ghost use Rattle.cats_text.specs.Streams.{has_ended, has_failed};
+
+use cats_cmd::{RunFault, fault_line, status};
+use cats_text::Watched;
+use std::alloc::Global;
+use std::io;
+use std::io::{ErrorKind, Read, Write};
+use std::process::Abort;
+use std::test::Fail;
+
+/// Gives at most `step` bytes of its text a call, and where it is to it fails in place of its end.
+#[derive(Drop)]
+pub struct StepReader<'a> {
+    text: &'a [u8],
+    step: usize,
+    fails: bool,
+}
+
+impl Read for StepReader<'_> {
+    fn read(&mut self, piece: &mut [u8]) -> io::Result<usize> {
+        let count = self.text.len().min(self.step).min(piece.len());
+        if count == 0 && self.fails && !piece.is_empty() {
+            return Err(io::Error::from(ErrorKind::BrokenPipe));
+        }
+        piece[..count].copy_from_slice(&self.text[..count]);
+        self.text = &self.text[count..];
+        Ok(count)
+    }
+}
+
+/// Gives the whole text, or, where it fails, gives it byte by byte and then fails.
+pub fn reader(text: &[u8], fails: bool) -> Watched<StepReader<'_>>
+    ensures works { has_failed result ≡ false }
+    ensures fresh { has_ended result ≡ false }
+{
+    let step = if fails { 1 } else { 4096 };
+    Watched::new(StepReader { text, step, fails })
+}
+
+/// Gives comment lines and never ends.
+#[derive(Drop)]
+pub struct Comments;
+
+impl Read for Comments {
+    fn read(&mut self, piece: &mut [u8]) -> io::Result<usize> {
+        piece.fill(b'%');
+        if let Some(last) = piece.last_mut() {
+            *last = b'\n';
+        }
+        Ok(piece.len())
+    }
+}
+
+/// Takes at most `step` bytes a call and `room` in all, and then fails; or, with no step, fails at its flush alone.
+#[derive(Drop)]
+pub struct StepWriter {
+    pub taken: Vec<u8>,
+    step: usize,
+    room: usize,
+}
+
+impl Write for StepWriter {
+    fn write(&mut self, piece: &[u8]) -> io::Result<usize> {
+        let count = piece.len().min(self.step.max(1)).min(self.room);
+        if count == 0 && !piece.is_empty() {
+            return Err(io::Error::from(ErrorKind::BrokenPipe));
+        }
+        self.room -= count;
+        self.taken.extend_from_slice(&piece[..count])?;
+        Ok(count)
+    }
+
+    fn flush(&mut self) -> io::Result<()> {
+        if self.step == 0 {
+            return Err(io::Error::from(ErrorKind::BrokenPipe));
+        }
+        Ok(())
+    }
+}
+
+pub fn writer(alloc: Global, step: usize, room: usize) -> Watched<StepWriter>
+    ensures { has_failed result ≡ false }
+{
+    Watched::new(StepWriter {
+        taken: Vec::new(alloc),
+        step,
+        room,
+    })
+}
+
+/// What a run or the program answered: its status, and what went to its output and to standard error.
+#[derive(Debug, Drop)]
+pub struct Told {
+    pub status: u8,
+    pub sent: String,
+    pub line: String,
+}
+
+/// What a run answered.
+pub fn answer_of(
+    alloc: Global,
+    answer: Result<u8, RunFault>,
+    out: Watched<StepWriter>,
+) -> Result<Told, Fail> {
+    let sent = String::from_utf8(out.into_inner().taken)?;
+    match answer {
+        Ok(status) => Ok(Told {
+            status,
+            sent,
+            line: String::new(alloc),
+        }),
+        Err(fault) => {
+            let line = String::from_utf8(fault_line(alloc, &fault)?)?;
+            Ok(Told {
+                status: status(&fault),
+                sent,
+                line,
+            })
+        }
+    }
+}
+
+/// That this is what was answered.
+pub fn expect(rt: &impl Abort, answer: &Told, status: u8, sent: &str, line: &str) {
+    let same = answer.line.as_str() == line && answer.sent.as_str() == sent;
+    assert!(rt;
+        same && answer.status == status,
+        "of {sent:?}, {line:?}: {answer:?}"
+    );
+}
+
+/// That the output failed after so many bytes of this text.
+pub fn expect_cut_off(
+    rt: &(impl Abort + AllocGlobal),
+    answer: &Told,
+    text: &str,
+    room: usize,
+) -> Result<(), Fail> {
+    let line = format!(in rt.alloc(); "output failed after {room} bytes\n")?;
+    let sent = text.get(..room).unwrap_or(text);
+    expect(rt, answer, 5, sent, line.as_str());
+    Ok(())
+}

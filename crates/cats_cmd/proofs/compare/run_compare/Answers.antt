@@ -1,0 +1,9 @@
+use Rattle.std.proofs.Common.{ap, sym, ◌∙◌}
+use Rattle.cats_cmd.specs.Outcomes.{Tells}
+use Rattle.cats_cmd.proofs.Comparing.{run_compared}
+use Rattle.cats_cmd.proofs.compare.run_compare.Goals as goal
+
+pub returns-in-Ok-told : goal.returns-in-Ok-told
+returns-in-Ok-told g c =
+    run_compared _ _ _ _ _ _ _ _ _ _ c.in-Ok.file c.in-Ok-read_canonical.file c.in-Ok.ensures.answer c.in-Ok-read_canonical.ensures.answer c.in-Ok-told.status _
+    (c.in-Ok-told.ensures ∙ ap (λ text. Tells c.in-Ok-told.status text) (sym c.as_slice.ensures.value)) _ c.send_text.ensures

@@ -1,0 +1,87 @@
+//! `cats compare`: whether two bid files are the same auction, and else where they part first.
+
+mod text;
+
+ghost use Rattle.std.specs.Prelude.{◌≡◌, false, IfOk};
+ghost use Rattle.cats_text.specs.Streams.{has_ended, has_failed};
+ghost use Rattle.cats_text.specs.Views.{plain_file};
+ghost use Rattle.canon.specs.Canonical.{IsCanonicalFile};
+ghost use Rattle.canon.specs.Verdicts.{plain_verdict};
+ghost use Rattle.cats_cmd.specs.Comparisons.{ReadsCanonical, RunsOnFiles};
+ghost use Rattle.cats_cmd.specs.Outcomes.{Tells, compare_outcome};
+ghost use Rattle.cats_cmd.specs.Statuses.{status_of_difference};
+
+use crate::report::{DIFFERENT, DONE, RunFault};
+use crate::run::{read_file, send_text};
+use canon::{CanonFault, Verdict, Which, compare_files, into_normal_file};
+use cats_text::{BidFile, Watched};
+use std::alloc::{AllocError, Global};
+use std::io::{Read, Write};
+use text::verdict_text;
+
+/// Reads and normalises the first file, and then the second, and sends whether they are the same auction, or where they part first.
+/// `limit` bounds the steps of each search that decides on a bundle of an OR bidder.
+///
+/// The status is 0 for the same auction, and 1 for a difference. A fault of a file tells which of the two it belongs to; want of
+/// memory that is met while the two are compared belongs to both.
+pub fn run_compare<R: Read, S: Read, W: Write>(
+    alloc: Global,
+    first: &mut Watched<R>,
+    second: &mut Watched<S>,
+    limit: u64,
+    out: &mut Watched<W>,
+) -> Result<u8, RunFault>
+    requires first_works { has_failed first.old ≡ false }
+    requires first_fresh { has_ended first.old ≡ false }
+    requires second_works { has_failed second.old ≡ false }
+    requires second_fresh { has_ended second.old ≡ false }
+    requires out_works { has_failed out.old ≡ false }
+    ensures { RunsOnFiles R.remaining S.remaining W.contents limit compare_outcome first.old first.new second.old second.new out.old out.new result }
+{
+    let left = match read_canonical(alloc, first, limit) {
+        Ok(file) => file,
+        Err(fault) => return Err(RunFault::Refused(Which::First, fault)),
+    };
+    let right = match read_canonical(alloc, second, limit) {
+        Ok(file) => file,
+        Err(fault) => return Err(RunFault::Refused(Which::Second, fault)),
+    };
+    match told(alloc, &left, &right) {
+        Ok((status, text)) => send_text(out, status, text.as_slice()),
+        Err(AllocError) => Err(RunFault::Refused(Which::Both, CanonFault::Memory)),
+    }
+}
+
+/// Reads a bid file, and gives it up for its canonical file.
+fn read_canonical<R: Read>(
+    alloc: Global,
+    input: &mut Watched<R>,
+    limit: u64,
+) -> Result<BidFile, CanonFault>
+    requires works { has_failed input.old ≡ false }
+    requires fresh { has_ended input.old ≡ false }
+    ensures answer { ReadsCanonical R.remaining limit input.old input.new result }
+    ensures canonical { IfOk result (λ file. IsCanonicalFile (plain_file file)) }
+{
+    let file = read_file(alloc, input)?;
+    into_normal_file(alloc, file, limit)
+}
+
+/// The status and the text of a comparison.
+fn told(alloc: Global, left: &BidFile, right: &BidFile) -> Result<(u8, Vec<u8>), AllocError>
+    requires left { IsCanonicalFile (plain_file left.now) }
+    requires right { IsCanonicalFile (plain_file right.now) }
+    ensures { IfOk result (λ t. compare_outcome (plain_file left.now) (plain_file right.now) ≡ Tells t.0 t.1.items) }
+{
+    let verdict = compare_files(alloc, left, right)?;
+    Ok((status_of(&verdict), verdict_text(alloc, &verdict)?))
+}
+
+fn status_of(verdict: &Verdict) -> u8
+    ensures { result ≡ status_of_difference (plain_verdict verdict.now) }
+{
+    match verdict {
+        Verdict::Same => DONE,
+        _ => DIFFERENT,
+    }
+}
