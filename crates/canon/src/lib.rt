@@ -13,6 +13,7 @@ mod verdict;
 mod which;
 pub mod worked;
 pub mod worked_differences;
+mod writing;
 
 pub use auction::canonical;
 pub use difference_laws::{
