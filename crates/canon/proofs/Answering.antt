@@ -1,8 +1,8 @@
 -- What the calls answer, from what the calls below them answered.
-use Rattle.std.proofs.Common.{◌≡◌, ℕ, ◌⊎◌, inl, inr, List, Option, Some, None, Result, Ok, Err, refl, sym, ap, ◌∙◌, subst, Global}
+use Rattle.std.proofs.Common.{◌≡◌, ℕ, ◌⊎◌, inl, inr, List, Some, Result, Ok, Err, sym, ap, ◌∙◌, subst, Global}
 use Rattle.std.specs.Prelude.{Vec, ◌↔◌, IfOk}
 use Rattle.cats_text.specs.Files.{PlainFile, IsPlainFile}
-use Rattle.cats_text.specs.Faults.{first_fault, fault_at}
+use Rattle.cats_text.specs.Faults.{first_fault}
 use Rattle.cats_text.specs.Grammar.{Spells}
 use Rattle.cats_text.specs.Layout.{layout}
 use Rattle.cats_text.specs.Reading.{WantsMemory}
@@ -13,11 +13,10 @@ use Rattle.cats_text.specs.declared.fault.Kind.TheVariants.{Memory as NoMemory}
 use Rattle.cats_text.specs.declared.fault.ReadFault.{ReadFault}
 use Rattle.cats_text.proofs.SpellsLemmas.{spells_one}
 use Rattle.valuation.specs.Auctions.{PlainAuction, auction_from}
-use Rattle.prune.specs.Steps.{first_heavy}
 use Rattle.canon.specs.Answers.{RefusesAs, NormalisesAs, RefusesAuction, IsNormalFile, NormalisesAuctionAs, NormalisesFileAs}
 use Rattle.canon.specs.Canonical.{IsCanonicalFile, canonical_text}
 use Rattle.canon.specs.Least.{IsLeastFor}
-use Rattle.canon.specs.Normalising.{Normalised, IsNoFile, ExceedsSteps, IsText, unless_heavy, unless_fault, normalised, normalised_file}
+use Rattle.canon.specs.Normalising.{Normalised, IsNoFile, IsText, unless_heavy, unless_fault, normalised, normalised_file}
 use Rattle.canon.specs.Refusals.{refusal_by_kind, refusal_of}
 use Rattle.canon.specs.Sameness.{AreSameFiles}
 use Rattle.canon.specs.declared.fault.CanonFault.{CanonFault}

@@ -1,15 +1,15 @@
 -- The least bidder that two lists of bidders in order do not have equally often.
-use Rattle.std.proofs.Common.{◌≡◌, ℕ, ◌+◌, ◌<◌, ◌≤◌, Bool, true, false, not, eqb, cond, ◌⊎◌, inl, inr, ⊎_elim, List, [], ◌∷◌, ◌++◌, refl, sym, ap, ap₂, ◌∙◌, subst, arith, Option, Some, None, Ordering, Less, Equal, Greater}
+use Rattle.std.proofs.Common.{◌≡◌, ℕ, ◌+◌, ◌<◌, Bool, true, false, not, eqb, cond, ⊎_elim, List, [], ◌∷◌, ◌++◌, refl, ap, ◌∙◌, subst, arith, Option, Some, None, Ordering, Less, Equal, Greater}
 use Rattle.std.specs.Prelude.{Contains}
-use Rattle.std.specs.List.{find, count_by, sum_by, AllByRecursion}
+use Rattle.std.specs.List.{find, AllByRecursion}
 use Rattle.std.specs.Ordering.{is_eq, is_gt}
 use Rattle.std.specs.Cmp.{IsTotalOrder}
-use Rattle.std.proofs.lemmas.Bool.{cases_Bool, both_ways, eqb-true, eqb-false, eq-eqb, ne_eqb, not_from_true, not_from_false}
+use Rattle.std.proofs.lemmas.Bool.{cases_Bool, both_ways, eqb-true, eq-eqb, ne_eqb, not_from_true, not_from_false}
 use Rattle.std.proofs.lemmas.Cmp.{tied_itself}
 use Rattle.std.proofs.lemmas.List.Sums.{sum_by-cons, sum_by-append}
-use Rattle.valuation.specs.Sorting.{sort_by, sum_by-sort_by, ordered-sort_by, sort_by-same, ordered_from_counts, IsOrdered, count_of}
+use Rattle.valuation.specs.Sorting.{sort_by, sum_by-sort_by, ordered-sort_by, sort_by-same, IsOrdered, count_of}
 use Rattle.prune.specs.Lists.{zero_or_more, filter_same_on, find_alike, All-from_Contains, found_none}
-use Rattle.canon.proofs.Finding.{find_least, found_least, IsLeast, counted_is_there}
+use Rattle.canon.proofs.Finding.{find_least, found_least, counted_is_there}
 use Rattle.canon.proofs.OrDifferences.{eqb_swap}
 
 module _ {X : Type 0} (cmp : X → X → Ordering) where

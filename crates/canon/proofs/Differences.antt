@@ -1,11 +1,10 @@
 -- Laws of the first difference.
-use Rattle.std.proofs.Common.{◌≡◌, ℕ, ◌+◌, ◌<◌, Bool, true, false, not, eqb, cond, ◌⊎◌, inl, inr, ⊎_elim, List, map, refl, sym, ap, ap₂, ◌∙◌, subst, arith, Option, Some, None, Less}
+use Rattle.std.proofs.Common.{◌≡◌, ℕ, ◌<◌, true, false, eqb, cond, ⊎_elim, List, refl, sym, ap, ap₂, ◌∙◌, subst, arith, Option, Some, None}
 use Rattle.std.specs.Prelude.{All, ◌↔◌}
 use Rattle.std.specs.List.{find, count_by}
 use Rattle.std.specs.Ordering.{is_eq}
 use Rattle.std.proofs.lemmas.Bool.{cases_Bool, eqb-true, eq-eqb, ne_eqb, eqb-false, not_from_true, cond-true, cond-false}
-use Rattle.goods_set.specs.Bundles.{all_bundles, IsBundle}
-use Rattle.goods_set.specs.Orders.{bundle_cmp}
+use Rattle.goods_set.specs.Bundles.{all_bundles}
 use Rattle.valuation.specs.declared.atom.Atom.{Atom}
 use Rattle.valuation.specs.Auctions.{PlainAuction, IsAtom}
 use Rattle.valuation.specs.Orders.{bidder_cmp}
@@ -18,11 +17,11 @@ use Rattle.prune.specs.Points.{is_or_point, or_points}
 use Rattle.prune.specs.TableLemmas.{same_or_points}
 use Rattle.canon.specs.Sameness.{IsSameAuction, has_table, bidders_with}
 use Rattle.canon.specs.Canonical.{canonical_auction, points_of_bidders}
-use Rattle.canon.specs.Difference.{Difference, NoDifference, InGoods, InOr, InXor, first_difference, first_unequal_bundle, least_unequal_bidder, or_difference, xor_difference, copies_of, exchanged}
+use Rattle.canon.specs.Difference.{NoDifference, InGoods, first_difference, first_unequal_bundle, least_unequal_bidder, or_difference, xor_difference, copies_of, exchanged}
 use Rattle.canon.proofs.Atoms.{HasAtoms, on_bundles, xor_points_table}
 use Rattle.canon.proofs.Counting.{IsPointsOf, occurring, points_as_tables}
 use Rattle.canon.proofs.Sames.{same_canonical, same_from_canonical}
-use Rattle.canon.proofs.OrDifferences.{are_unequal, equal_from_test, eqb_swap, unequal_swap, IsFirstUnequal, first_unequal, greater_is_point}
+use Rattle.canon.proofs.OrDifferences.{are_unequal, equal_from_test, unequal_swap, IsFirstUnequal, first_unequal, greater_is_point}
 use Rattle.canon.proofs.BidderDifferences.{least_uneven, least_uneven_swap, all_even, none_of_same, IsLeastUneven, least_uneven_is}
 
 -- ---- exchanging

@@ -1,7 +1,7 @@
 -- What is found first in a list in order.
-use Rattle.std.proofs.Common.{◌≡◌, ℕ, ◌+◌, ◌<◌, Bool, true, false, cond, ◌⊎◌, inl, inr, ⊎_elim, List, [], ◌∷◌, ◌++◌, refl, sym, ap, ◌∙◌, subst, arith, Some, None, Ordering, Less, Equal, Greater}
+use Rattle.std.proofs.Common.{◌≡◌, ℕ, ◌<◌, Bool, true, false, cond, ⊎_elim, List, [], ◌∷◌, refl, sym, ap, ◌∙◌, subst, arith, Some, Ordering, Less, Equal, Greater}
 use Rattle.std.specs.Prelude.{AllPairs, Contains}
-use Rattle.std.specs.List.{find, AllByRecursion, count_by, sum_by, filter}
+use Rattle.std.specs.List.{find, AllByRecursion}
 use Rattle.std.specs.Ordering.{is_eq, is_gt, ordering_reverse}
 use Rattle.std.specs.Cmp.{IsTotalOrder}
 use Rattle.std.proofs.lemmas.Bool.{cases_Bool, both_ways}

@@ -13,3 +13,4 @@ pub mod Finding
 pub mod OrDifferences
 pub mod BidderDifferences
 pub mod Differences
+pub mod SameDifferences

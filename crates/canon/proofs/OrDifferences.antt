@@ -1,13 +1,13 @@
 -- The first bundle on which the OR values differ, of any two OR bidders, and of two lists of points that part at some place.
-use Rattle.std.proofs.Common.{◌≡◌, ℕ, ◌+◌, ◌<◌, ◌≤◌, Bool, true, false, not, eqb, ◌⊎◌, inl, inr, ⊎_elim, List, [], ◌∷◌, ◌++◌, length, refl, sym, ap, ap₂, ◌∙◌, subst, arith, Some, None, Less}
-use Rattle.std.specs.Prelude.{All, AllPairs, Contains}
+use Rattle.std.proofs.Common.{◌≡◌, ℕ, ◌+◌, ◌<◌, ◌≤◌, Bool, true, false, not, eqb, ⊎_elim, List, [], ◌∷◌, ◌++◌, refl, sym, ap, ◌∙◌, subst, arith, Some, Less}
+use Rattle.std.specs.Prelude.{All, Contains}
 use Rattle.std.specs.List.{filter, find}
-use Rattle.std.proofs.lemmas.Bool.{cases_Bool, both_ways, eqb-true, eqb-false, eq-eqb, ne_eqb, not-true, not_from_true, not_from_false, false_from_ne_true}
+use Rattle.std.proofs.lemmas.Bool.{cases_Bool, both_ways, eqb-true, eqb-false, eq-eqb, ne_eqb, not_from_true, not_from_false, false_from_ne_true}
 use Rattle.std.proofs.lemmas.List.{append-nil}
 use Rattle.std.proofs.lemmas.List.Elements.{All-contains, Contains-append_cases, Contains-append_right, filter-append}
-use Rattle.goods_set.specs.Bundles.{IsRising, IsBundle, IsInside, is_inside, without, all_bundles}
+use Rattle.goods_set.specs.Bundles.{IsRising, IsBundle, is_inside, without, all_bundles}
 use Rattle.goods_set.specs.Members.{inside_refl, without_inside, IsBundle-without}
-use Rattle.goods_set.specs.Orders.{bundle_cmp, bundle_cmp_total, bundle_cmp_refl, inside_before}
+use Rattle.goods_set.specs.Orders.{bundle_cmp, bundle_cmp_total, inside_before}
 use Rattle.goods_set.specs.AllBundles.{all_bundles_are, all_bundles_has, all_bundles_rise}
 use Rattle.valuation.specs.declared.atom.Atom.{Atom}
 use Rattle.valuation.specs.Values.{or_value}
@@ -15,10 +15,10 @@ use Rattle.valuation.specs.ListLemmas.{Contains-cons_cases, AllPairs-head, AllPa
 use Rattle.valuation.specs.OrLemmas.{or_value-split, or_value-filter}
 use Rattle.prune.specs.InOrder.{IsBefore, IsInOrder, before_itself, before_both, before_not_inside}
 use Rattle.prune.specs.KeptLemmas.{all_nonempty, left_is_proper}
-use Rattle.prune.specs.Lists.{Contains-nil, Contains-head, Contains-tail, nil_from_none, Contains-filter_parts, filter_same_on, find_alike, All-from_Contains}
+use Rattle.prune.specs.Lists.{Contains-nil, Contains-head, nil_from_none, Contains-filter_parts, filter_same_on, find_alike, All-from_Contains}
 use Rattle.prune.specs.Points.{IsOnBundle, is_or_point, or_points}
 use Rattle.prune.specs.PointLemmas.{IsPart, IsOrPoint, IsOrPoint-from_test, is_or_point-true, no_or_point, inside_below, points_where-in_order, or_points_are}
-use Rattle.canon.proofs.Finding.{IsFirst, found_first, find_it}
+use Rattle.canon.proofs.Finding.{found_first, find_it}
 
 -- whether the values on the bundle differ
 abbrev pub are_unequal : List (Atom (List ℕ)) → List (Atom (List ℕ)) → List ℕ → Bool

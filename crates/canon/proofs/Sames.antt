@@ -1,7 +1,7 @@
 -- The canonical auction is the same auction, and auctions are the same exactly where their canonical auctions are equal.
-use Rattle.std.proofs.Common.{◌≡◌, ℕ, true, cond, List, refl, sym, ap, ap₂, ◌∙◌, subst}
+use Rattle.std.proofs.Common.{◌≡◌, ℕ, true, cond, List, refl, sym, ap₂, ◌∙◌, subst}
 use Rattle.std.specs.Prelude.{All}
-use Rattle.std.specs.List.{count_by, filter, sum_by}
+use Rattle.std.specs.List.{count_by, filter}
 use Rattle.std.proofs.lemmas.List.Elements.{All-map, All-filter, All-weaker}
 use Rattle.valuation.specs.declared.atom.Atom.{Atom}
 use Rattle.valuation.specs.Auctions.{PlainAuction, IsAtom, IsAuction}
@@ -9,9 +9,9 @@ use Rattle.valuation.specs.Orders.{bidder_cmp}
 use Rattle.valuation.specs.OrderLemmas.{bidder_cmp_total, bidder_cmp_equal}
 use Rattle.valuation.specs.Sorting.{sort_by, sum_by-sort_by, All-sort_by, sort_by-same}
 use Rattle.valuation.specs.Tables.{or_table, xor_table, is_nonzero}
-use Rattle.prune.specs.Points.{or_points, xor_points}
+use Rattle.prune.specs.Points.{xor_points}
 use Rattle.prune.specs.TableLemmas.{same_or_points}
-use Rattle.canon.specs.Sameness.{has_table, bidders_with, IsSameAuction}
+use Rattle.canon.specs.Sameness.{has_table, IsSameAuction}
 use Rattle.canon.specs.Canonical.{points_of_bidders, canonical_auction}
 use Rattle.canon.proofs.Atoms.{HasAtoms, on_bundles, or_points_atoms, xor_points_atoms, or_points_table}
 use Rattle.canon.proofs.Counting.{tables_of_points, points_counted}

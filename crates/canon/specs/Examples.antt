@@ -1,5 +1,5 @@
 -- Auctions and files for worked examples. Prices are millionths.
-use Rattle.std.specs.Prelude.{ℕ, List, [], ◌∷◌}
+use Rattle.std.specs.Prelude.{ℕ, List}
 use Rattle.valuation.specs.declared.atom.Atom.{Atom}
 use Rattle.valuation.specs.Auctions.{PlainAuction}
 

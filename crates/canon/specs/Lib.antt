@@ -8,3 +8,4 @@ pub mod Refusals
 pub mod Examples
 pub mod Difference
 pub mod Verdicts
+pub mod Comparing

@@ -3,14 +3,15 @@ ghost use Rattle.std.specs.Prelude.{◌≡◌, ℕ, ◌<◌, ◌↔◌, List, So
 ghost use Rattle.goods_set.specs.Bundles.{IsBundle};
 ghost use Rattle.goods_set.specs.Orders.{bundle_cmp};
 ghost use Rattle.std.specs.declared.cmp.Ordering.TheVariants.{Less};
+ghost use Rattle.cats_text.specs.Files.{PlainFile, IsPlainFile};
 ghost use Rattle.valuation.specs.declared.atom.Atom.{Atom};
-ghost use Rattle.valuation.specs.Auctions.{PlainAuction, IsAuction};
+ghost use Rattle.valuation.specs.Auctions.{PlainAuction, IsAuction, auction_from};
 ghost use Rattle.valuation.specs.Orders.{bidder_cmp};
 ghost use Rattle.valuation.specs.Tables.{xor_table};
 ghost use Rattle.valuation.specs.Values.{or_value};
 ghost use Rattle.prune.specs.Points.{is_or_point};
 ghost use Rattle.canon.specs.Difference.{first_difference, first_unequal_bundle, least_unequal_bidder, copies_of, exchanged, NoDifference};
-ghost use Rattle.canon.specs.Sameness.{IsSameAuction, bidders_with};
+ghost use Rattle.canon.specs.Sameness.{AreSameFiles, IsSameAuction, bidders_with};
 
 /// Two auctions have no difference exactly where they are the same auction.
 pub fn no_difference_of_the_same()
@@ -20,6 +21,14 @@ pub fn no_difference_of_the_same()
 /// Exchanging the auctions exchanges left and right, and nothing else.
 pub fn differences_exchanged()
     ensures { (a b : PlainAuction) → first_difference b a ≡ exchanged (first_difference a b) }
+{}
+
+/// The first difference depends on what is asked for alone: in the place of either auction, or of either file, the same one may stand.
+pub fn same_auctions_have_one_difference()
+    ensures auctions { (cap : ℕ) (a c b d : PlainAuction) → IsAuction cap a → IsAuction cap c → IsAuction cap b → IsAuction cap d
+        → IsSameAuction a c → IsSameAuction b d → first_difference a b ≡ first_difference c d }
+    ensures files { (f h g k : PlainFile) → IsPlainFile f → IsPlainFile h → IsPlainFile g → IsPlainFile k
+        → AreSameFiles f h → AreSameFiles g k → first_difference (auction_from f) (auction_from g) ≡ first_difference (auction_from h) (auction_from k) }
 {}
 
 /// The first bundle on which the OR values differ. On all earlier bundles they agree, and it is an OR point of the auction with

@@ -18,7 +18,7 @@ mod writing;
 pub use auction::canonical;
 pub use difference_laws::{
     difference_is_a_point, difference_is_the_least_bidder, differences_exchanged,
-    no_difference_of_the_same,
+    no_difference_of_the_same, same_auctions_have_one_difference,
 };
 pub use fault::CanonFault;
 pub use file::file_of;

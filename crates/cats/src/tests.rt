@@ -3,7 +3,6 @@
 mod check;
 mod normalise;
 mod program;
-mod report;
 mod show;
 mod streams;
 mod value;

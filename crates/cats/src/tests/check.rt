@@ -28,20 +28,12 @@ fn takes(rt: &(impl Abort + AllocGlobal), rows: &[(&[u8], &str)]) -> Result<(), 
     Ok(())
 }
 
-/// Each text, and what `check` tells of it on standard error.
-fn refuses(rt: &(impl Abort + AllocGlobal), rows: &[(&str, &str)]) -> Result<(), Fail> {
-    for (text, line) in rows {
+/// Each header with the lines behind it, and what `check` tells of the two on standard error.
+fn refuses(rt: &(impl Abort + AllocGlobal), rows: &[(&str, &str, &str)]) -> Result<(), Fail> {
+    for (header, lines, told) in rows {
+        let text = format!(in rt.alloc(); "{header}{lines}")?;
         let answer = checked(rt.alloc(), text.as_bytes(), false, 4096, 4096)?;
-        expect(rt, &answer, 2, "", line);
-    }
-    Ok(())
-}
-
-/// Each header with a line behind it, and what `check` tells of it.
-fn refuses_lines(rt: &(impl Abort + AllocGlobal), rows: &[(&str, &str, &str)]) -> Result<(), Fail> {
-    for (header, line, told) in rows {
-        let text = format!(in rt.alloc(); "{header}{line}\n")?;
-        refuses(rt, &[(text.as_str(), *told)])?;
+        expect(rt, &answer, 2, "", told);
     }
     Ok(())
 }
@@ -98,51 +90,22 @@ fn sizes_of_files(rt: HostRuntime) -> Result<(), Fail> {
 }
 
 #[test]
-fn faults_of_texts(rt: HostRuntime) -> Result<(), Fail> {
+fn faults_of_headers(rt: HostRuntime) -> Result<(), Fail> {
     refuses(
         &rt,
         &[
-            // the header
-            ("", "line 1: Missing\n"),
-            ("goods\n", "line 1: Header\n"),
-            ("Goods 2\n", "line 1: Header\n"),
-            ("goods 2x\n", "line 1: NotANumber\n"),
-            ("goods 2 3\n", "line 1: Header\n"),
-            ("goods 1025 x\n", "line 1: Header\n"),
-            ("goods 4097 x\n", "line 1: TooLarge\n"),
-            ("goods 4097\nbids 0\ndummy 0\n", "line 1: TooLarge\n"),
-            ("bids 1\n", "line 1: Header\n"),
-            ("% only a comment\n", "line 2: Missing\n"),
-            // limits
-            (
-                "goods 1024\nbids 1\ndummy 0\n0\t1000000000001\t1023\t#\n",
-                "line 4: TooLarge\n",
-            ),
-            (
-                "goods 1024\nbids 1\ndummy 0\n0\t1000000000000\t1024\t#\n",
-                "line 4: GoodRange\n",
-            ),
-            (
-                "goods 4096\nbids 1\ndummy 65536\n0 1 4095 69632 #\n",
-                "line 4: GoodRange\n",
-            ),
-            ("goods 1\nbids 65537\ndummy 0\n", "line 2: TooLarge\n"),
-            ("goods 1\nbids 0\ndummy 65537\n", "line 3: TooLarge\n"),
-            ("goods 1024\nbids 65536\ndummy 65536\n", "line 4: Missing\n"),
-            // a bid line without its end, and one too few
-            (
-                "goods 1\nbids 3\ndummy 0\n0\t5\t0\t#\n1\t5\t0\t#\n2 5 0",
-                "line 6: NoEnd\n",
-            ),
-            (
-                "goods 1\nbids 3\ndummy 0\n0\t5\t0\t#\n1\t5\t0\t#\n",
-                "line 6: Missing\n",
-            ),
-            // a number that came before
-            (
-                "goods 1\nbids 3\ndummy 0\n0 1 0 #\n0 3 0 #\n1 2 0 #\n",
-                "line 5: RepeatedNumber\n",
-            ),
+            ("", "", "line 1: Missing\n"),
+            ("goods", "\n", "line 1: Header\n"),
+            ("Goods 2", "\n", "line 1: Header\n"),
+            ("goods 2x", "\n", "line 1: NotANumber\n"),
+            ("goods 2 3", "\n", "line 1: Header\n"),
+            ("goods 1025 x", "\n", "line 1: Header\n"),
+            ("goods 4097 x", "\n", "line 1: TooLarge\n"),
+            ("bids 1", "\n", "line 1: Header\n"),
+            ("% only a comment", "\n", "line 2: Missing\n"),
+            ("goods 4097\n", "bids 0\ndummy 0\n", "line 1: TooLarge\n"),
+            ("goods 1\n", "bids 65537\ndummy 0\n", "line 2: TooLarge\n"),
+            ("goods 1\n", "bids 0\ndummy 65537\n", "line 3: TooLarge\n"),
         ],
     )
 }
@@ -150,70 +113,106 @@ fn faults_of_texts(rt: HostRuntime) -> Result<(), Fail> {
 /// Two goods and one bid.
 const ONE_BID: &str = "goods 2\nbids 1\ndummy 0\n";
 
+/// As many goods as a file of CATS has, and one bid.
+const MANY_GOODS: &str = "goods 1024\nbids 1\ndummy 0\n";
+
+/// The most goods and dummy goods, and one bid.
+const MOST_GOODS: &str = "goods 4096\nbids 1\ndummy 65536\n";
+
 /// Two goods, one of two bids, and two dummy goods.
 const TWO_DUMMIES: &str = "goods 2\nbids 2\ndummy 2\n0\t1\t0\t2\t#\n";
 
+/// One good, and two of three bids.
+const TWO_OF_THREE: &str = "goods 1\nbids 3\ndummy 0\n0\t5\t0\t#\n1\t5\t0\t#\n";
+
 #[test]
 fn faults_of_bid_lines(rt: HostRuntime) -> Result<(), Fail> {
-    refuses_lines(
+    refuses(
         &rt,
         &[
-            (ONE_BID, "x 1 0 #", "line 4: NotANumber\n"),
-            (ONE_BID, "1 1 0 #", "line 4: BidNumber\n"),
-            (ONE_BID, "0 .5 0 #", "line 4: NotANumber\n"),
-            (ONE_BID, "0 5. 0 #", "line 4: NotANumber\n"),
-            (ONE_BID, "0 1.2.3 0 #", "line 4: NotANumber\n"),
-            (ONE_BID, "0 -1 0 #", "line 4: NotANumber\n"),
-            (ONE_BID, "0 1e3 0 #", "line 4: NotANumber\n"),
-            (ONE_BID, "0 0.1234567 0 #", "line 4: TooFine\n"),
-            (ONE_BID, "0 1000000000000.0000001 0 #", "line 4: TooLarge\n"),
-            (ONE_BID, "0 1 2 2 #", "line 4: GoodRange\n"),
-            (ONE_BID, "0 1 0 00 #", "line 4: RepeatedGood\n"),
-            (ONE_BID, "0 1 #", "line 4: EmptyBundle\n"),
-            (ONE_BID, "0 1 0#", "line 4: NotANumber\n"),
-            (ONE_BID, "0 1 0 # 1", "line 4: AfterEnd\n"),
-            (ONE_BID, "0 1 0", "line 4: NoEnd\n"),
-            (ONE_BID, "0", "line 4: NoEnd\n"),
-            (ONE_BID, "0 #", "line 4: NotANumber\n"),
+            (ONE_BID, "x 1 0 #\n", "line 4: NotANumber\n"),
+            (ONE_BID, "1 1 0 #\n", "line 4: BidNumber\n"),
+            (ONE_BID, "0 .5 0 #\n", "line 4: NotANumber\n"),
+            (ONE_BID, "0 5. 0 #\n", "line 4: NotANumber\n"),
+            (ONE_BID, "0 1.2.3 0 #\n", "line 4: NotANumber\n"),
+            (ONE_BID, "0 -1 0 #\n", "line 4: NotANumber\n"),
+            (ONE_BID, "0 1e3 0 #\n", "line 4: NotANumber\n"),
+            (ONE_BID, "0 0.1234567 0 #\n", "line 4: TooFine\n"),
+            (
+                ONE_BID,
+                "0 1000000000000.0000001 0 #\n",
+                "line 4: TooLarge\n",
+            ),
+            (ONE_BID, "0 1 2 2 #\n", "line 4: GoodRange\n"),
+            (ONE_BID, "0 1 0 00 #\n", "line 4: RepeatedGood\n"),
+            (ONE_BID, "0 1 #\n", "line 4: EmptyBundle\n"),
+            (ONE_BID, "0 1 0#\n", "line 4: NotANumber\n"),
+            (ONE_BID, "0 1 0 # 1\n", "line 4: AfterEnd\n"),
+            (ONE_BID, "0 1 0\n", "line 4: NoEnd\n"),
+            (ONE_BID, "0\n", "line 4: NoEnd\n"),
+            (ONE_BID, "0 #\n", "line 4: NotANumber\n"),
+            (
+                MANY_GOODS,
+                "0\t1000000000001\t1023\t#\n",
+                "line 4: TooLarge\n",
+            ),
+            (
+                MANY_GOODS,
+                "0\t1000000000000\t1024\t#\n",
+                "line 4: GoodRange\n",
+            ),
+            (MOST_GOODS, "0 1 4095 69632 #\n", "line 4: GoodRange\n"),
+            (
+                "goods 1024\nbids 65536\n",
+                "dummy 65536\n",
+                "line 4: Missing\n",
+            ),
             (
                 "goods 1\nbids 1\ndummy 1\n",
-                "0 1 1 #",
+                "0 1 1 #\n",
                 "line 4: EmptyBundle\n",
             ),
             (
                 "goods 1\nbids 1\ndummy 2\n",
-                "0 1 0 1 2 #",
+                "0 1 0 1 2 #\n",
                 "line 4: TwoDummies\n",
             ),
             (
+                "goods 2\nbids 0\ndummy 3\n",
+                "0 1 0 #\n",
+                "line 4: ExtraBid\n",
+            ),
+            (
                 "goods 2\nbids 1\ndummy 0\n0 1 0 #\n",
-                "0 1 0 #",
+                "0 1 0 #\n",
                 "line 5: ExtraBid\n",
             ),
             (
                 "goods 2\nbids 1\ndummy 0\n0 1 0 #\n",
-                "x",
+                "x\n",
                 "line 5: NotANumber\n",
             ),
             (
                 "goods 2\nbids 2\ndummy 0\n0 1 0 #\n",
-                "0 1 1 #",
+                "0 1 1 #\n",
                 "line 5: RepeatedNumber\n",
             ),
             (
-                "goods 2\nbids 0\ndummy 3\n",
-                "0 1 0 #",
-                "line 4: ExtraBid\n",
+                "goods 1\nbids 3\ndummy 0\n0 1 0 #\n",
+                "0 3 0 #\n1 2 0 #\n",
+                "line 5: RepeatedNumber\n",
             ),
-            (TWO_DUMMIES, "1\t1\t1\t2\t3\t#", "line 5: TwoDummies\n"),
-            (TWO_DUMMIES, "1\t1\t1\t2\t2\t#", "line 5: RepeatedGood\n"),
+            (TWO_DUMMIES, "1\t1\t1\t2\t3\t#\n", "line 5: TwoDummies\n"),
+            (TWO_DUMMIES, "1\t1\t1\t2\t2\t#\n", "line 5: RepeatedGood\n"),
+            (TWO_OF_THREE, "2 5 0", "line 6: NoEnd\n"),
+            (TWO_OF_THREE, "", "line 6: Missing\n"),
         ],
     )
 }
 
 #[test]
 fn streams_fail(rt: HostRuntime) -> Result<(), Fail> {
-    for (text, fails, step, room, status, sent, line) in [
+    for (text, fails, step, room, status, sent, line) in &[
         // the output takes one byte a call, or fails after five, or at its flush
         (EMPTY, false, 1, 4096, 0, SIZES, ""),
         (
@@ -239,8 +238,8 @@ fn streams_fail(rt: HostRuntime) -> Result<(), Fail> {
         (EMPTY, true, 4096, 4096, 5, "", "Device\n"),
         ("Goods 0\n", true, 4096, 4096, 2, "", "line 1: Header\n"),
     ] {
-        let answer = checked(rt.alloc(), text.as_bytes(), fails, step, room)?;
-        expect(&rt, &answer, status, sent, line);
+        let answer = checked(rt.alloc(), text.as_bytes(), *fails, *step, *room)?;
+        expect(&rt, &answer, *status, sent, line);
     }
     Ok(())
 }
@@ -276,7 +275,7 @@ fn checked_long(alloc: Global, before: &str, digit: u8, after: &str) -> Result<T
 
 #[test]
 fn words_of_a_million_digits(rt: HostRuntime) -> Result<(), Fail> {
-    for (before, digit, after, status, sent, line) in [
+    for (before, digit, after, status, sent, line) in &[
         (
             "goods ",
             b'0',
@@ -318,8 +317,8 @@ fn words_of_a_million_digits(rt: HostRuntime) -> Result<(), Fail> {
             "line 4: BidNumber\n",
         ),
     ] {
-        let answer = checked_long(rt.alloc(), before, digit, after)?;
-        expect(&rt, &answer, status, sent, line);
+        let answer = checked_long(rt.alloc(), before, *digit, after)?;
+        expect(&rt, &answer, *status, sent, line);
     }
     Ok(())
 }

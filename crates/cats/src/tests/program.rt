@@ -1,10 +1,16 @@
 use super::streams::{Told, expect, writer};
 use cats_cmd::run_cats;
+use std::process::Abort;
 use std::test::Fail;
 use std::{env, fs, process};
 
-/// What a command line answers, with so much room for its output and for its faults.
-fn run(rt: &HostRuntime, words: &[&str], out_room: usize, err_room: usize) -> Result<Told, Fail> {
+/// What a command line of these words answers, with so much room for its output and for its faults.
+fn run_words(
+    rt: &HostRuntime,
+    words: &[&str],
+    out_room: usize,
+    err_room: usize,
+) -> Result<Told, Fail> {
     let alloc = rt.alloc();
     let mut out = writer(alloc, 4096, out_room);
     let mut err = writer(alloc, 4096, err_room);
@@ -16,69 +22,90 @@ fn run(rt: &HostRuntime, words: &[&str], out_room: usize, err_room: usize) -> Re
     })
 }
 
+/// What a command line answers, whose words have a blank between each two, and in which FILE stands for a path.
+fn run(
+    rt: &HostRuntime,
+    line: &str,
+    path: &str,
+    out_room: usize,
+    err_room: usize,
+) -> Result<Told, Fail> {
+    let mut words = Vec::new(rt.alloc());
+    for word in line.split(' ') {
+        words.push(if word == "FILE" { path } else { word })?;
+    }
+    run_words(rt, words.as_slice(), out_room, err_room)
+}
+
 const ROOM: usize = 65_536;
+
+/// Command lines that ask for nothing that the program does.
+static WRONG_LINES: [&str; 23] = [
+    "cats",
+    "cats check",
+    "cats show",
+    "cats check a b",
+    "cats show a b",
+    "cats Check a",
+    "cats chek a",
+    "cats check --steps 5 a",
+    "cats show --steps 5 a",
+    "cats check --all a",
+    "cats value",
+    "cats value --steps 0 a",
+    "cats value --steps 1000000001 a",
+    "cats value --steps -1 a",
+    "cats value --steps 1.5 a",
+    "cats value --steps 5 --steps 6 a",
+    "cats value a --steps",
+    "cats value a 65536",
+    "cats value a -1",
+    "cats value a 0 b",
+    "cats normalise",
+    "cats normalise --steps 0 a",
+    "cats normalise a b",
+];
 
 #[test]
 fn usage_faults(rt: HostRuntime) -> Result<(), Fail> {
-    let lines: [&[&str]; 21] = [
-        &[],
-        &["cats"],
-        &["cats", "check"],
-        &["cats", "show"],
-        &["cats", "check", "a", "b"],
-        &["cats", "show", "a", "b"],
-        &["cats", "Check", "a"],
-        &["cats", "chek", "a"],
-        &["cats", "check", "--steps", "5", "a"],
-        &["cats", "show", "--steps", "5", "a"],
-        &["cats", "check", "--all", "a"],
-        &["cats", "value"],
-        &["cats", "value", "--steps", "0", "a"],
-        &["cats", "value", "--steps", "1000000001", "a"],
-        &["cats", "value", "--steps", "-1", "a"],
-        &["cats", "value", "--steps", "1.5", "a"],
-        &["cats", "value", "--steps", "5", "--steps", "6", "a"],
-        &["cats", "value", "a", "--steps"],
-        &["cats", "value", "a", "65536"],
-        &["cats", "value", "a", "-1"],
-        &["cats", "value", "a", "0", "b"],
-    ];
-    for words in lines {
-        let answer = run(&rt, words, ROOM, ROOM)?;
-        assert_eq!(rt; answer.status, 64, "of {words:?}");
-        assert_eq!(rt; answer.sent.as_str(), "");
-        assert!(rt; !answer.line.is_empty());
-        let untold = run(&rt, words, ROOM, 3)?;
-        assert_eq!(rt; untold.status, 64);
+    for line in &WRONG_LINES {
+        for err_room in [ROOM, 3] {
+            let answer = run(&rt, line, "", ROOM, err_room)?;
+            let told = answer.sent.is_empty() && !answer.line.is_empty();
+            assert!(rt; told && answer.status == 64, "of {line:?}: {answer:?}");
+        }
     }
+    assert!(rt; run_words(&rt, &[], ROOM, ROOM)?.status == 64);
     Ok(())
 }
 
+/// Command lines that ask for help.
+static HELP_LINES: [&str; 8] = [
+    "cats --help",
+    "cats -h",
+    "cats help",
+    "cats help check",
+    "cats check --help",
+    "cats show --help",
+    "cats value --help",
+    "cats normalise --help",
+];
+
 #[test]
 fn help(rt: HostRuntime) -> Result<(), Fail> {
-    let lines: [&[&str]; 7] = [
-        &["cats", "--help"],
-        &["cats", "-h"],
-        &["cats", "help"],
-        &["cats", "help", "check"],
-        &["cats", "check", "--help"],
-        &["cats", "show", "--help"],
-        &["cats", "value", "--help"],
-    ];
-    for words in lines {
-        let answer = run(&rt, words, ROOM, ROOM)?;
-        assert_eq!(rt; answer.status, 0, "of {words:?}");
-        assert!(rt; answer.sent.as_str().contains("Usage: cats"));
-        assert_eq!(rt; answer.line.as_str(), "");
-        let cut_off = run(&rt, words, 3, ROOM)?;
-        assert_eq!(rt; cut_off.status, 5);
+    for line in &HELP_LINES {
+        let answer = run(&rt, line, "", ROOM, ROOM)?;
+        let told = answer.sent.as_str().contains("Usage: cats") && answer.line.is_empty();
+        assert!(rt; told && answer.status == 0, "of {line:?}: {answer:?}");
+        let cut_off = run(&rt, line, "", 3, ROOM)?;
+        assert!(rt; cut_off.status == 5, "of {line:?}: {cut_off:?}");
     }
     Ok(())
 }
 
 #[test]
 fn cannot_open(rt: HostRuntime) -> Result<(), Fail> {
-    for (path, room, line) in [
+    for (path, room, told) in &[
         ("/tmp/cats_cmd_no_such_folder/a.cats", ROOM, "cannot open\n"),
         ("/tmp/cats_cmd_no_such_folder/a.cats", 0, ""),
         ("", ROOM, "cannot open\n"),
@@ -86,190 +113,210 @@ fn cannot_open(rt: HostRuntime) -> Result<(), Fail> {
         // a folder is opened, and cannot be read
         ("/tmp", ROOM, "Device\n"),
     ] {
-        let answer = run(&rt, &["cats", "check", path], ROOM, room)?;
-        expect(&rt, &answer, 5, "", line);
+        let answer = run(&rt, "cats check FILE", path, ROOM, *room)?;
+        expect(&rt, &answer, 5, "", told);
     }
     Ok(())
 }
 
-/// The path of a new file with this text.
-fn new_file(rt: &HostRuntime, text: &str) -> Result<String, Fail> {
-    let alloc = rt.alloc();
-    let id = process::id(rt.process());
-    let path = format!(in alloc; "/tmp/cats_cmd_{id}.cats")?;
-    fs::write(rt, path.as_str(), text)?;
-    Ok(path)
-}
+/// A command line with its room for output and faults, and what it answers: its status, its output and its fault's line.
+type Row<'a> = (&'a str, usize, usize, u8, &'a str, &'a str);
 
-/// What a command answers of a new file with this text.
-fn run_on(
-    rt: &HostRuntime,
-    command: &str,
-    text: &str,
-    out_room: usize,
-    err_room: usize,
-) -> Result<Told, Fail> {
-    let path = new_file(rt, text)?;
-    let words = ["cats", command, path.as_str()];
-    let answer = run(rt, &words, out_room, err_room)?;
+/// What command lines answer of a new file with this text.
+fn answers(rt: &HostRuntime, abort: &impl Abort, text: &str, rows: &[Row<'_>]) -> Result<(), Fail> {
+    let id = process::id(rt.process());
+    let path = format!(in rt.alloc(); "/tmp/cats_cmd_{id}.cats")?;
+    fs::write(rt, path.as_str(), text)?;
+    for (line, out_room, err_room, status, sent, told) in rows {
+        let answer = run(rt, line, path.as_str(), *out_room, *err_room)?;
+        expect(abort, &answer, *status, sent, told);
+    }
     fs::remove_file(rt, path.as_str())?;
-    Ok(answer)
+    Ok(())
 }
 
 const SIZES: &str = "goods 2\nbids 0\ndummy 1\n";
+
+static SIZES_ROWS: [Row<'static>; 3] = [
+    (
+        "cats check FILE",
+        ROOM,
+        ROOM,
+        0,
+        "goods 2 bids 0 dummy 1\n",
+        "",
+    ),
+    (
+        "cats check FILE",
+        5,
+        ROOM,
+        5,
+        "goods",
+        "output failed after 5 bytes\n",
+    ),
+    ("cats check FILE", 5, 0, 5, "goods", ""),
+];
 
 const SHOWN: &str = "%% out of order\ngoods 2\nbids 2\ndummy 1\n1 0.50 2 0 #\n0 07 1 0 #\n";
 
 const LAYOUT: &str = "goods 2\nbids 2\ndummy 1\n0\t7\t0\t1\t#\n1\t0.5\t0\t2\t#\n";
 
+static SHOWN_ROWS: [Row<'static>; 2] = [
+    ("cats show FILE", ROOM, ROOM, 0, LAYOUT, ""),
+    (
+        "cats show FILE",
+        8,
+        ROOM,
+        5,
+        "goods 2\n",
+        "output failed after 8 bytes\n",
+    ),
+];
+
 const MISSING: &str = "goods 2\nbids 0\n";
 
-#[test]
-fn files(rt: HostRuntime) -> Result<(), Fail> {
-    for (command, text, room, err_room, status, sent, line) in [
-        (
-            "check",
-            SIZES,
-            ROOM,
-            ROOM,
-            0,
-            "goods 2 bids 0 dummy 1\n",
-            "",
-        ),
-        (
-            "check",
-            SIZES,
-            5,
-            ROOM,
-            5,
-            "goods",
-            "output failed after 5 bytes\n",
-        ),
-        ("check", SIZES, 5, 0, 5, "goods", ""),
-        ("show", SHOWN, ROOM, ROOM, 0, LAYOUT, ""),
-        (
-            "show",
-            SHOWN,
-            8,
-            ROOM,
-            5,
-            "goods 2\n",
-            "output failed after 8 bytes\n",
-        ),
-        ("check", MISSING, ROOM, ROOM, 2, "", "line 3: Missing\n"),
-        ("check", MISSING, ROOM, 0, 2, "", ""),
-        ("show", MISSING, ROOM, ROOM, 2, "", "line 3: Missing\n"),
-        ("show", MISSING, ROOM, 0, 2, "", ""),
-        ("value", MISSING, ROOM, ROOM, 2, "", "line 3: Missing\n"),
-        ("value", MISSING, ROOM, 0, 2, "", ""),
-    ] {
-        let answer = run_on(&rt, command, text, room, err_room)?;
-        expect(&rt, &answer, status, sent, line);
-    }
-    Ok(())
-}
+static MISSING_ROWS: [Row<'static>; 8] = [
+    ("cats check FILE", ROOM, ROOM, 2, "", "line 3: Missing\n"),
+    ("cats check FILE", ROOM, 0, 2, "", ""),
+    ("cats show FILE", ROOM, ROOM, 2, "", "line 3: Missing\n"),
+    ("cats show FILE", ROOM, 0, 2, "", ""),
+    ("cats value FILE", ROOM, ROOM, 2, "", "line 3: Missing\n"),
+    ("cats value FILE", ROOM, 0, 2, "", ""),
+    (
+        "cats normalise FILE",
+        ROOM,
+        ROOM,
+        2,
+        "",
+        "line 3: Missing\n",
+    ),
+    ("cats normalise FILE", ROOM, 0, 2, "", ""),
+];
 
 const VALUED: &str = "goods 2\nbids 3\ndummy 1\n0 3 0 #\n1 4.5 1 #\n2 7 0 1 2 #\n";
 
-#[test]
-fn values_of_a_file(rt: HostRuntime) -> Result<(), Fail> {
-    let path = new_file(&rt, VALUED)?;
-    let words = ["cats", "value", path.as_str(), "1", "0", "+1", "01"];
-    let both = run(&rt, &words, ROOM, ROOM)?;
-    let words = ["cats", "value", path.as_str()];
-    let none = run(&rt, &words, ROOM, ROOM)?;
-    let words = ["cats", "value", "--steps", "4", path.as_str(), "0", "1"];
-    let enough = run(&rt, &words, ROOM, ROOM)?;
-    let words = ["cats", "value", "--steps=1000000000", path.as_str(), "1"];
-    let most = run(&rt, &words, ROOM, ROOM)?;
-    let words = ["cats", "value", path.as_str(), "0", "1", "--steps", "3"];
-    let short = run(&rt, &words, ROOM, ROOM)?;
-    let words = ["cats", "value", path.as_str(), "0", "--steps", "1"];
-    let one_step = run(&rt, &words, ROOM, ROOM)?;
-    let words = ["cats", "value", path.as_str(), "--steps", "1"];
-    let no_goods = run(&rt, &words, ROOM, ROOM)?;
-    let words = ["cats", "value", path.as_str(), "0", "65535", "2"];
-    let missing = run(&rt, &words, ROOM, ROOM)?;
-    fs::remove_file(&rt, path.as_str())?;
-    for (answer, status, sent, line) in [
-        (both, 0, "or 7.5 0 1\nxor 2 7 2\n", ""),
-        (none, 0, "or 0\nxor 2 0\n", ""),
-        (enough, 0, "or 7.5 0 1\nxor 2 7 2\n", ""),
-        (most, 0, "or 4.5 1\nxor 2 0\n", ""),
-        (short, 3, "", "step limit at 0,1\n"),
-        (one_step, 3, "", "step limit at 0\n"),
-        (no_goods, 0, "or 0\nxor 2 0\n", ""),
-        (missing, 64, "", "good 65535 out of range\n"),
-    ] {
-        expect(&rt, &answer, status, sent, line);
-    }
-    Ok(())
-}
+static VALUED_ROWS: [Row<'static>; 8] = [
+    (
+        "cats value FILE 1 0 +1 01",
+        ROOM,
+        ROOM,
+        0,
+        "or 7.5 0 1\nxor 2 7 2\n",
+        "",
+    ),
+    ("cats value FILE", ROOM, ROOM, 0, "or 0\nxor 2 0\n", ""),
+    (
+        "cats value --steps 4 FILE 0 1",
+        ROOM,
+        ROOM,
+        0,
+        "or 7.5 0 1\nxor 2 7 2\n",
+        "",
+    ),
+    (
+        "cats value --steps=1000000000 FILE 1",
+        ROOM,
+        ROOM,
+        0,
+        "or 4.5 1\nxor 2 0\n",
+        "",
+    ),
+    (
+        "cats value FILE 0 1 --steps 3",
+        ROOM,
+        ROOM,
+        3,
+        "",
+        "step limit at 0,1\n",
+    ),
+    (
+        "cats value FILE 0 --steps 1",
+        ROOM,
+        ROOM,
+        3,
+        "",
+        "step limit at 0\n",
+    ),
+    (
+        "cats value FILE --steps 1",
+        ROOM,
+        ROOM,
+        0,
+        "or 0\nxor 2 0\n",
+        "",
+    ),
+    (
+        "cats value FILE 0 65535 2",
+        ROOM,
+        ROOM,
+        64,
+        "",
+        "good 65535 out of range\n",
+    ),
+];
+
+const LARGER_BID: &str = "goods 2\nbids 3\ndummy 0\n0 3 0 #\n1 4 1 #\n2 7 0 1 #\n";
+
+const LARGER_BID_TEXT: &str = "goods 2\nbids 2\ndummy 0\n0\t3\t0\t#\n1\t4\t1\t#\n";
+
+static LARGER_BID_ROWS: [Row<'static>; 4] = [
+    ("cats normalise FILE", ROOM, ROOM, 0, LARGER_BID_TEXT, ""),
+    (
+        "cats normalise --steps 3 FILE",
+        ROOM,
+        ROOM,
+        0,
+        LARGER_BID_TEXT,
+        "",
+    ),
+    (
+        "cats normalise FILE --steps=2",
+        ROOM,
+        ROOM,
+        3,
+        "",
+        "step limit at 0,1\n",
+    ),
+    (
+        "cats normalise FILE",
+        8,
+        ROOM,
+        5,
+        "goods 2\n",
+        "output failed after 8 bytes\n",
+    ),
+];
 
 /// A bid for each of 20 goods: 2 to the 19 packings are within the steps that are allowed where the command line says
 /// nothing, and 2 to the 20 are not.
+const SINGLES: &str =
+    "goods 20\nbids 20\ndummy 0\n0 1 0 #\n1 1 1 #\n2 1 2 #\n3 1 3 #\n4 1 4 #\n5 1 5 #\n6 1 6 #\n7 1 7 #\n8 1 8 #\n9 1 9 #\n10 1 10 #\n11 1 11 #\n12 1 12 #\n13 1 13 #\n14 1 14 #\n15 1 15 #\n16 1 16 #\n17 1 17 #\n18 1 18 #\n19 1 19 #\n";
+
+static SINGLES_ROWS: [Row<'static>; 2] = [
+    (
+        "cats value FILE 0 1 2 3 4 5 6 7 8 9 10 11 12 13 14 15 16 17 18",
+        ROOM,
+        ROOM,
+        0,
+        "or 19 0 1 2 3 4 5 6 7 8 9 10 11 12 13 14 15 16 17 18\n",
+        "",
+    ),
+    (
+        "cats value FILE 0 1 2 3 4 5 6 7 8 9 10 11 12 13 14 15 16 17 18 19",
+        ROOM,
+        ROOM,
+        3,
+        "",
+        "step limit at 0,1,2,3,4,5,6,7,8,9,10,11,12,13,14,15,16,17,18,19\n",
+    ),
+];
+
 #[test]
-fn default_step_limit(rt: HostRuntime) -> Result<(), Fail> {
-    let mut text = String::from_str(rt.alloc(), "goods 20\nbids 20\ndummy 0\n")?;
-    for good in 0..20 {
-        write!(text, "{good} 1 {good} #\n")?;
-    }
-    let path = new_file(&rt, text.as_str())?;
-    let words = [
-        "cats",
-        "value",
-        path.as_str(),
-        "0",
-        "1",
-        "2",
-        "3",
-        "4",
-        "5",
-        "6",
-        "7",
-        "8",
-        "9",
-        "10",
-        "11",
-        "12",
-        "13",
-        "14",
-        "15",
-        "16",
-        "17",
-        "18",
-    ];
-    let within = run(&rt, &words, ROOM, ROOM)?;
-    let words = [
-        "cats",
-        "value",
-        path.as_str(),
-        "0",
-        "1",
-        "2",
-        "3",
-        "4",
-        "5",
-        "6",
-        "7",
-        "8",
-        "9",
-        "10",
-        "11",
-        "12",
-        "13",
-        "14",
-        "15",
-        "16",
-        "17",
-        "18",
-        "19",
-    ];
-    let beyond = run(&rt, &words, ROOM, ROOM)?;
-    fs::remove_file(&rt, path.as_str())?;
-    let values = "or 19 0 1 2 3 4 5 6 7 8 9 10 11 12 13 14 15 16 17 18\n";
-    expect(&rt, &within, 0, values, "");
-    let line = "step limit at 0,1,2,3,4,5,6,7,8,9,10,11,12,13,14,15,16,17,18,19\n";
-    expect(&rt, &beyond, 3, "", line);
-    Ok(())
+fn files(rt: HostRuntime) -> Result<(), Fail> {
+    answers(&rt, &rt, SIZES, &SIZES_ROWS)?;
+    answers(&rt, &rt, SHOWN, &SHOWN_ROWS)?;
+    answers(&rt, &rt, MISSING, &MISSING_ROWS)?;
+    answers(&rt, &rt, VALUED, &VALUED_ROWS)?;
+    answers(&rt, &rt, LARGER_BID, &LARGER_BID_ROWS)?;
+    answers(&rt, &rt, SINGLES, &SINGLES_ROWS)
 }

@@ -92,7 +92,7 @@ pub fn writer(alloc: Global, step: usize, room: usize) -> Watched<StepWriter>
 }
 
 /// What a run or the program answered: its status, and what went to its output and to standard error.
-#[derive(Drop)]
+#[derive(Debug, Drop)]
 pub struct Told {
     pub status: u8,
     pub sent: String,
@@ -125,7 +125,22 @@ pub fn answer_of(
 
 /// That this is what was answered.
 pub fn expect(rt: &impl Abort, answer: &Told, status: u8, sent: &str, line: &str) {
-    assert_eq!(rt; answer.line.as_str(), line);
-    assert_eq!(rt; answer.sent.as_str(), sent);
-    assert_eq!(rt; answer.status, status, "of {sent:?}, {line:?}");
+    let same = answer.line.as_str() == line && answer.sent.as_str() == sent;
+    assert!(rt;
+        same && answer.status == status,
+        "of {sent:?}, {line:?}: {answer:?}"
+    );
+}
+
+/// That the output failed after so many bytes of this text.
+pub fn expect_cut_off(
+    rt: &(impl Abort + AllocGlobal),
+    answer: &Told,
+    text: &str,
+    room: usize,
+) -> Result<(), Fail> {
+    let line = format!(in rt.alloc(); "output failed after {room} bytes\n")?;
+    let sent = text.get(..room).unwrap_or(text);
+    expect(rt, answer, 5, sent, line.as_str());
+    Ok(())
 }

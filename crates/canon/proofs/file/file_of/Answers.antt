@@ -1,4 +1,4 @@
-use Rattle.std.proofs.Common.{◌≡◌, List, ◌++◌, None, Some, map, refl, sym, ap, ap₂, ◌∙◌, arith}
+use Rattle.std.proofs.Common.{List, ◌++◌, None, Some, map, refl, ap, ap₂, ◌∙◌, arith}
 use Rattle.cats_text.specs.Files.{PlainBid, plain_bids}
 use Rattle.cats_text.specs.declared.bid.Bid.{Bid}
 use Rattle.valuation.specs.Bidders.{bidders_of}
