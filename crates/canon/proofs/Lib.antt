@@ -7,7 +7,7 @@ pub mod Texts
 pub mod Least
 pub mod Bidders
 pub mod Filing
-pub mod Writing
+pub mod TextLines
 pub mod Answering
 pub mod Finding
 pub mod OrDifferences

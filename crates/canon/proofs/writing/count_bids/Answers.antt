@@ -1,12 +1,12 @@
 use Rattle.std.proofs.Common.{arith, refl}
 use Rattle.valuation.specs.Views.{plain_auction}
 use Rattle.canon.proofs.Files.{IsPlainFile-file_from}
-use Rattle.canon.proofs.Writing.{count_begun, count_more, count_all}
+use Rattle.canon.proofs.TextLines.{count_begun, count_more, count_all}
 use Rattle.canon.proofs.writing.count_bids.Goals as goal
 
 pub loop-bidder-init : goal.loop-bidder-init
 loop-bidder-init g c =
-    count_begun g.S.GoodsSet.goods (plain_auction c.args.auction.now) _ c.or_atoms.result.now c.xor_bidders-bidders.result.now c.or_atoms.ensures c.xor_bidders-bidders.ensures refl
+    count_begun g.S.GoodsSet.goods (plain_auction c.args.auction.now) _ c.or_atoms-count.result.now c.xor_bidders-bidders.result.now c.or_atoms-count.ensures c.xor_bidders-bidders.ensures refl
 
 pub overflow_add-count : goal.overflow_add-count
 overflow_add-count g c =

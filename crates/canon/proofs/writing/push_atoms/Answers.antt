@@ -1,5 +1,5 @@
 use Rattle.std.proofs.Common.{List, ℕ, ◌++◌, ap, ◌∙◌, arith}
-use Rattle.canon.proofs.Writing.{atoms_text_none, atoms_text_more, atoms_text_all}
+use Rattle.canon.proofs.TextLines.{atoms_text_none, atoms_text_more, atoms_text_all}
 use Rattle.canon.proofs.writing.push_atoms.Goals as goal
 
 pub loop-place-init : goal.loop-place-init

@@ -1,5 +1,5 @@
 use Rattle.std.proofs.Common.{arith, ◌≡◌, length, sym, ap, ◌∙◌, []}
-use Rattle.std.proofs.lemmas.Bool.{both_ways}
+use Rattle.std.proofs.lemmas.Bool.{both_ways, le-leb}
 use Rattle.std.proofs.lemmas.List.{map_push, nil_from_length, length_push}
 use Rattle.std.proofs.lemmas.List.Elements.{All-contains}
 use Rattle.std.specs.Vec.Iter.{into_iter_items}
@@ -34,7 +34,7 @@ loop-bid-preserved-in-Continue-1 g c =
     record {
       best = rw joined at h.best;
       fits = rw joined at h.fits;
-      listed = λ many. absurd (both_ways _ many c.if-few.true);
+      listed = λ many. absurd (both_ways _ many (le-leb _ _ c.if-few.true));
       kept = rw (map_push (seen_of goods) yielded bid, c.in_ok-push.ensures.items, map_push (seen_of goods) kept bid) missed;
       fewer = omega (arith, h.fewer, c.loop-bid.kept.atoms.ok.0, c.push.new.self.ok.0, ap length c.in_ok-push.ensures.items, length_push kept bid, length_push yielded bid);
     }

@@ -54,6 +54,9 @@ atoms_text_all goods count first i dummy atoms out all l before =
 
 -- ---- one bidder after another
 
+pub behind_nothing : (before text out : List ℕ) → before ≡ [] → out ≡ before ++ text → out ≡ text
+behind_nothing before text out e h = h ∙ ap (λ (zs : List ℕ). zs ++ text) e
+
 -- the header and the OR bidder's lines are written
 pub text_begun : {S : Type 0} (goods : S → List ℕ) (a : PlainAuction) (count bids dummy n : ℕ) (atoms : List (Atom S)) (bidders : List (Vec (Atom S) Global)) (header out : List ℕ)
     → count ≡ a.goods → bids ≡ length (file_from a).bids → dummy ≡ length bidders → atoms_of goods atoms ≡ a.or_atoms → bidders_of goods bidders ≡ a.xor_bidders → n ≡ length atoms
