@@ -1,30 +1,27 @@
 -- What comparing answers: of two canonical files, by their OR bids and their XOR bids, and of two texts, by the files that they spell.
-use Rattle.std.proofs.Common.{◌≡◌, ℕ, zero, suc, ◌+◌, ◌≤◌, Bool, true, false, cond, eqb, ⊎_elim, List, [], ◌∷◌, ◌++◌, length, map, take, drop, Option, Some, None, is_none, Result, Ok, Err, refl, sym, ap, ap₂, ◌∙◌, subst, arith}
+use Rattle.std.proofs.Common.{◌≡◌, ℕ, zero, suc, ◌+◌, ◌≤◌, Bool, true, cond, List, [], ◌∷◌, ◌++◌, length, map, take, drop, Option, Some, None, is_none, Result, Ok, Err, refl, sym, ap, ap₂, ◌∙◌, subst, arith}
 use Rattle.std.specs.Prelude.{◌↔◌, IfOk, MatchOption}
 use Rattle.std.specs.List.{prefix_len}
-use Rattle.std.proofs.lemmas.Bool.{eq-eqb, cond-true}
-use Rattle.std.proofs.lemmas.List.{length-map, length-append}
-use Rattle.std.proofs.lemmas.List.Folds.{prefix_len-append}
+use Rattle.std.proofs.lemmas.Bool.{cond-true}
+use Rattle.std.proofs.lemmas.List.{length-map}
 use Rattle.std.proofs.lemmas.Option.{MatchOption-at_some, MatchOption-at_none}
 use Rattle.std.proofs.lemmas.Result.{IfOk-weaker}
 use Rattle.std.proofs.Math.Seq.{take-append_seam, drop-append_seam}
 use Rattle.cats_text.specs.declared.bid.Bid.{Bid}
 use Rattle.cats_text.specs.declared.bid.BidFile.{BidFile}
 use Rattle.cats_text.specs.declared.limits.TheConstants.{MAX_BIDS, MAX_GOODS}
-use Rattle.cats_text.specs.FileLines.{spelled_file}
 use Rattle.cats_text.specs.Files.{PlainBid, PlainFile, IsPlainFile, plain_bid, plain_bids}
 use Rattle.cats_text.specs.Grammar.{Spells}
-use Rattle.cats_text.specs.Views.{plain_file}
 use Rattle.cats_text.proofs.SpellsLemmas.{says_spelled, spells_one}
 use Rattle.valuation.specs.declared.atom.Atom.{Atom}
 use Rattle.valuation.specs.AuctionLemmas.{IsAuction-auction_from}
 use Rattle.valuation.specs.Auctions.{PlainAuction, IsAuction, auction_from}
-use Rattle.canon.specs.Answers.{RefusesAs, IsNormalFile, NormalisesFileAs}
+use Rattle.canon.specs.Answers.{RefusesAs, NormalisesFileAs}
 use Rattle.canon.specs.BidderBids.{HasBidders}
-use Rattle.canon.specs.Canonical.{IsCanonical, IsCanonicalFile, bid_from, canonical_auction, canonical_file, canonical_text, dummy_bids, file_from}
-use Rattle.canon.specs.Comparing.{Compared, FirstRefused, SecondRefused, ComparedBy, IsNormalFileOf, ReadsNormalAs, RefusesOf, compared, unless_first_refused, unless_second_refused}
-use Rattle.canon.specs.Difference.{Difference, NoDifference, first_difference, first_unequal_bundle, least_unequal_bidder, or_difference, xor_difference}
-use Rattle.canon.specs.Normalising.{Normalised, IsNoFile, ExceedsSteps, IsText, normalised, normalised_file}
+use Rattle.canon.specs.Canonical.{IsCanonical, IsCanonicalFile, bid_from, canonical_auction, canonical_text, dummy_bids, file_from}
+use Rattle.canon.specs.Comparing.{Compared, ComparedBy, IsNormalFileOf, ReadsNormalAs, RefusesOf, compared, unless_first_refused, unless_second_refused}
+use Rattle.canon.specs.Difference.{NoDifference, first_difference, first_unequal_bundle, least_unequal_bidder, or_difference, xor_difference}
+use Rattle.canon.specs.Normalising.{Normalised, IsNoFile, ExceedsSteps, IsText, normalised}
 use Rattle.canon.specs.OrBids.{HasOrBids}
 use Rattle.canon.specs.Sameness.{AreSameFiles, AreSameTexts, IsSameAuction}
 use Rattle.canon.specs.Verdicts.{plain_verdict}
@@ -33,13 +30,13 @@ use Rattle.canon.specs.declared.fault.CanonFault.TheVariants.{Read, StepLimit, M
 use Rattle.canon.specs.declared.verdict.Verdict.{Verdict}
 use Rattle.canon.specs.declared.verdict.Verdict.TheVariants.{Same, Goods, Or, Xor}
 use Rattle.canon.specs.declared.which.Which.TheVariants.{First, Second, Both}
-use Rattle.canon.proofs.Answering.{answered_as_file, refused_file}
+use Rattle.canon.proofs.Answering.{refused_file}
 use Rattle.canon.proofs.Atoms.{HasAtoms}
 use Rattle.canon.proofs.Differences.{at_same_goods, same_from_no_difference, no_difference_from_same}
 use Rattle.canon.proofs.Files.{auction_from-file_from}
 use Rattle.canon.proofs.SameDifferences.{difference_of_same_files}
 use Rattle.canon.proofs.Sames.{same_sym, same_trans}
-use Rattle.canon.proofs.Texts.{HasAtoms-file, IsPlainFile-canonical, canonical_file_is_same, canonical_file_is_fixed, normalised_from_text, normalised_spelled}
+use Rattle.canon.proofs.Texts.{IsPlainFile-canonical, canonical_file_is_same, canonical_file_is_fixed, normalised_from_text, normalised_spelled}
 
 -- ---- the bids of a canonical file
 
@@ -133,7 +130,6 @@ normal_from_file limit text f s (Err fault) n =
 module _ (limit : ℕ) (text : List ℕ) (h : PlainFile) (n : IsNormalFileOf limit text h) where
   pub text_is : normalised limit text ≡ IsText (canonical_text n.file)
   text_is = normalised_from_text limit text (canonical_text n.file) (record { file = n.file; spelled = n.spelled; light = n.normal.light; is = refl })
-
 
   pub canonical_of_text : IsCanonicalFile h
   canonical_of_text = subst (λ (g : PlainFile). IsCanonicalFile g) (sym n.normal.canonical) (canonical_file_is_fixed n.file n.spelled.facts)

@@ -5,13 +5,13 @@
 
 ghost use Rattle.std.specs.Prelude.{◌≡◌, ℕ, IfOk, MatchOption, None};
 ghost use Rattle.cats_text.specs.Files.{plain_bids};
-ghost use Rattle.goods_set.specs.Orders.{bundle_cmp};
 ghost use Rattle.valuation.specs.Auctions.{PlainAuction};
 ghost use Rattle.canon.specs.Difference.{InOr, first_unequal_bundle, or_difference};
 ghost use Rattle.canon.specs.OrBids.{HasOrBids};
 ghost use Rattle.canon.specs.Verdicts.{plain_verdict};
 ghost use Rattle.canon.specs.declared.verdict.Side.TheVariants.{Exactly, Below};
 
+use crate::bid_order::order_of_bundles;
 use crate::verdict::{Side, Verdict};
 use cats_text::Bid;
 use std::alloc::{AllocError, Global};
@@ -101,12 +101,4 @@ fn only_right(bid: &Bid) -> Parting<'_>
         left: Side::Below(bid.price),
         right: Side::Exactly(bid.price),
     }
-}
-
-/// The order of the bundles of two bids.
-fn order_of_bundles(one: &Bid, other: &Bid) -> Ordering
-    ensures { result ≡ bundle_cmp one.now.goods.items other.now.goods.items }
-{
-    let sizes = one.goods.len().cmp(&other.goods.len());
-    sizes.then_with(|| one.goods.cmp(&other.goods))
 }

@@ -51,11 +51,7 @@ pub fn compare(
 }
 
 /// Where the auctions of two canonical files part first. Nothing of the files is copied but what the verdict names.
-pub fn compare_files(
-    alloc: Global,
-    left: &BidFile,
-    right: &BidFile,
-) -> Result<Verdict, AllocError>
+pub fn compare_files(alloc: Global, left: &BidFile, right: &BidFile) -> Result<Verdict, AllocError>
     requires left_canonical { IsCanonicalFile (plain_file left.now) }
     requires right_canonical { IsCanonicalFile (plain_file right.now) }
     ensures difference { IfOk result (λ verdict. plain_verdict verdict

@@ -2,6 +2,7 @@
 #![tactic(auto)]
 
 mod auction;
+mod bid_order;
 mod bundles;
 mod comparison;
 mod difference_laws;

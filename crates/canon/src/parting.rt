@@ -4,11 +4,11 @@
 //! files are walked side by side, bidder by bidder, up to the first place where they part. The lesser bidder there is the one.
 
 ghost use Rattle.std.specs.Prelude.{◌≡◌, ℕ, ◌≤◌, length, List, IfOk, MatchOption};
-ghost use Rattle.cats_text.specs.Files.{plain_bid, plain_bids};
+ghost use Rattle.cats_text.specs.Files.{plain_bids};
 ghost use Rattle.cats_text.specs.declared.limits.TheConstants.{MAX_BIDS};
 ghost use Rattle.valuation.specs.declared.atom.Atom.{Atom};
-ghost use Rattle.valuation.specs.Auctions.{PlainAuction, atom_of};
-ghost use Rattle.valuation.specs.Orders.{atom_cmp, bidder_cmp};
+ghost use Rattle.valuation.specs.Auctions.{PlainAuction};
+ghost use Rattle.valuation.specs.Orders.{bidder_cmp};
 ghost use Rattle.valuation.specs.Sorting.{count_of};
 ghost use Rattle.canon.specs.BidderBids.{offers, AreBidsOf, HasBidders, IsFirstBidder};
 ghost use Rattle.canon.specs.Difference.{least_unequal_bidder, xor_difference};
@@ -17,6 +17,7 @@ ghost use Rattle.canon.specs.Verdicts.{plain_verdict, told_atoms};
 #[cfg(test)]
 mod tests;
 
+use crate::bid_order::order_of_bids;
 use crate::verdict::Verdict;
 use cats_text::Bid;
 use std::alloc::{AllocError, Global};
@@ -103,15 +104,6 @@ fn order_of_bidders(one: &[Bid], other: &[Bid]) -> Ordering
         }
     }
     one.len().cmp(&other.len())
-}
-
-/// The order of bids: by size, by goods, and on one bundle by price, the smaller first.
-fn order_of_bids(one: &Bid, other: &Bid) -> Ordering
-    ensures { result ≡ atom_cmp (atom_of (plain_bid one.now)) (atom_of (plain_bid other.now)) }
-{
-    let sizes = one.goods.len().cmp(&other.goods.len());
-    let bundles = sizes.then_with(|| one.goods.cmp(&other.goods));
-    bundles.then_with(|| one.price.cmp(&other.price))
 }
 
 /// The bids' goods and prices.

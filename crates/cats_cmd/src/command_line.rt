@@ -4,7 +4,7 @@ use clap::{Arg, ArgMatches, Command, Error, value_parser};
 use std::alloc::{AllocError, Global};
 
 /// What a command line asks for.
-#[derive(Debug, Drop)]
+#[derive(Drop)]
 pub(crate) enum Request<'a> {
     Check {
         file: &'a str,
@@ -127,15 +127,11 @@ fn show_command<'a>(alloc: Global) -> Result<Command<'a>, AllocError> {
 }
 
 fn value_command<'a>(alloc: Global) -> Result<Command<'a>, AllocError> {
-    let goods = Arg::new(alloc, GOOD)
-        .num_args(0..)
-        .value_parser(value_parser!(u16))
-        .help("The goods of the bundle");
     Command::new(alloc, "value")
         .about("Prints what the bidders of a bid file offer for a bundle of goods")
         .arg(steps_option(alloc, "The most packings that a search may enter"))?
         .arg(file_argument(alloc, FILE))?
-        .arg(goods)
+        .arg(goods_argument(alloc))
 }
 
 fn normalise_command<'a>(alloc: Global) -> Result<Command<'a>, AllocError> {
@@ -166,4 +162,11 @@ fn file_argument<'a>(alloc: Global, id: &'a str) -> Arg<'a> {
     Arg::new(alloc, id)
         .required(true)
         .help("The path of a bid file")
+}
+
+fn goods_argument<'a>(alloc: Global) -> Arg<'a> {
+    Arg::new(alloc, GOOD)
+        .num_args(0..)
+        .value_parser(value_parser!(u16))
+        .help("The goods of the bundle")
 }

@@ -60,10 +60,7 @@ const ROWS: [(&str, &str, &str); 9] = [
 ];
 
 /// What comparing answered, as a line.
-fn told(
-    alloc: Global,
-    answer: Result<Verdict, (Which, CanonFault)>,
-) -> Result<String, Fail> {
+fn told(alloc: Global, answer: Result<Verdict, (Which, CanonFault)>) -> Result<String, Fail> {
     match answer {
         Ok(verdict) => Ok(format!(in alloc; "{verdict:?}")?),
         Err((which, CanonFault::Read(fault))) => Ok(format!(in alloc; "{which:?} {fault}")?),

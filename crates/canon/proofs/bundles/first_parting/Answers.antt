@@ -1,4 +1,4 @@
-use Rattle.std.proofs.Common.{◌≡◌, ℕ, take, refl, sym, subst, arith}
+use Rattle.std.proofs.Common.{◌≡◌, take, refl, sym, subst, arith}
 use Rattle.canon.specs.BidderBids.{offers}
 use Rattle.canon.specs.declared.verdict.Side.TheVariants.{Exactly}
 use Rattle.canon.proofs.OrWalks.{told_left, told_right, told_both, told_left_longer, told_right_longer, shared_more, shared_all}

@@ -1,4 +1,4 @@
-use Rattle.std.proofs.Common.{◌≡◌, ◌≤◌, length, is_none, sym, ap, ◌∙◌, subst}
+use Rattle.std.proofs.Common.{◌≤◌, length, is_none, sym, ap, ◌∙◌, subst}
 use Rattle.std.proofs.lemmas.List.Sums.{prefix_len-le-length}
 use Rattle.cats_text.specs.declared.bid.Bid.{Bid}
 use Rattle.cats_text.specs.Files.{plain_bids}

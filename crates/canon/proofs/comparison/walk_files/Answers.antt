@@ -1,5 +1,5 @@
-use Rattle.std.proofs.Common.{◌≡◌, ◌≤◌, length, ◌∙◌, arith}
-use Rattle.cats_text.specs.declared.limits.TheConstants.{MAX_BIDS, MAX_GOODS}
+use Rattle.std.proofs.Common.{◌≡◌, ◌∙◌, arith}
+use Rattle.cats_text.specs.declared.limits.TheConstants.{MAX_GOODS}
 use Rattle.cats_text.specs.Files.{plain_bids}
 use Rattle.cats_text.specs.Views.{plain_file}
 use Rattle.valuation.specs.Auctions.{auction_from}
