@@ -97,11 +97,7 @@ fn told(alloc: Global, atoms: &[ListAtom]) -> Result<Vec<(Vec<u16>, u64)>, Alloc
 
 /// Whether one of the lists has the bidder more often.
 #[tactic(auto, unfolding(crate::specs::Differences::is_unequal))]
-fn is_unequal(
-    one: &[Bidder],
-    other: &[Bidder],
-    bidder: &[ListAtom],
-) -> Result<bool, NoAnswer>
+fn is_unequal(one: &[Bidder], other: &[Bidder], bidder: &[ListAtom]) -> Result<bool, NoAnswer>
     ensures { IfOk result (λ is. is ≡ is_unequal (bidders_in one.now) (bidders_in other.now) (atoms_in bidder.now)) }
 {
     Ok(count_of(bidder, one)? != count_of(bidder, other)?)

@@ -12,11 +12,7 @@ use cats_text::{Bid, BidFile};
 use std::alloc::{AllocError, Global};
 
 /// The bids of one bidder, with its dummy good, if it has one.
-fn bids_from(
-    alloc: Global,
-    dummy: Option<u32>,
-    atoms: &[ListAtom],
-) -> Result<Vec<Bid>, AllocError>
+fn bids_from(alloc: Global, dummy: Option<u32>, atoms: &[ListAtom]) -> Result<Vec<Bid>, AllocError>
     ensures { IfOk result (λ bids. plain_bids bids.items ≡ map (bid_from dummy) (atoms_in atoms.now)) }
 {
     let [atom, rest @ ..] = atoms else {
@@ -31,11 +27,7 @@ fn bids_from(
 }
 
 /// The bids of these bidders, with the dummy goods from `dummy` on.
-fn dummy_bids(
-    alloc: Global,
-    dummy: u32,
-    bidders: &[Bidder],
-) -> Result<Vec<Bid>, AllocError>
+fn dummy_bids(alloc: Global, dummy: u32, bidders: &[Bidder]) -> Result<Vec<Bid>, AllocError>
     requires { dummy + length bidders.now < 2 ^ 32 }
     ensures { IfOk result (λ bids. plain_bids bids.items ≡ dummy_bids dummy (bidders_in bidders.now)) }
 {

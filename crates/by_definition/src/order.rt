@@ -63,10 +63,7 @@ fn insert_bidder(
 }
 
 /// The bidders in order.
-pub fn sort_bidders(
-    alloc: Global,
-    bidders: Vec<Bidder>,
-) -> Result<Vec<Bidder>, AllocError>
+pub fn sort_bidders(alloc: Global, bidders: Vec<Bidder>) -> Result<Vec<Bidder>, AllocError>
     ensures { IfOk result (λ sorted. bidders_in sorted.items ≡ sort_by bidder_cmp (bidders_in bidders.items)) }
 {
     let Some((first, rest)) = split_first(bidders) else {

@@ -80,11 +80,7 @@ fn xor_points_among(
 
 /// The points of the XOR bidder with these atoms, in order.
 #[tactic(auto, unfolding(prune::specs::Points::points_where))]
-pub fn xor_points(
-    alloc: Global,
-    goods: u16,
-    atoms: &[ListAtom],
-) -> Result<Bidder, AllocError>
+pub fn xor_points(alloc: Global, goods: u16, atoms: &[ListAtom]) -> Result<Bidder, AllocError>
     requires { goods + 1 < 2 ^ 16 }
     ensures { IfOk result (λ points. atoms_in points.items ≡ xor_points goods (atoms_in atoms.now)) }
 {
@@ -169,11 +165,7 @@ fn or_points_among(
 
 /// The points of the OR bidder with these atoms, in order.
 #[tactic(auto, unfolding(prune::specs::Points::points_where))]
-pub fn or_points(
-    alloc: Global,
-    goods: u16,
-    atoms: &[ListAtom],
-) -> Result<Bidder, NoAnswer>
+pub fn or_points(alloc: Global, goods: u16, atoms: &[ListAtom]) -> Result<Bidder, NoAnswer>
     requires { goods + 1 < 2 ^ 16 }
     ensures { IfOk result (λ points. atoms_in points.items ≡ or_points goods (atoms_in atoms.now)) }
 {

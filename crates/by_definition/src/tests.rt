@@ -159,7 +159,10 @@ fn equal_text_exactly_for_the_same_auction(rt: HostRuntime) -> Result<(), Fail> 
     for one in &members {
         for other in &members {
             let same = are_same_files(rt.alloc(), &one.file, &other.file)?;
-            assert_eq!(rt; one.canonical.as_slice() == other.canonical.as_slice(), same);
+            assert_eq!(rt;
+                one.canonical.as_slice() == other.canonical.as_slice(),
+                same
+            );
             if same {
                 equal = equal.saturating_add(1);
             }
@@ -223,19 +226,20 @@ fn expect_refusal(
 ) -> Result<(), Fail> {
     let heavy = first_heavy(alloc, &one.file, 1)?;
     let other_heavy = first_heavy(alloc, &other.file, 1)?;
-    match compare(alloc, one.text.as_bytes(), other.text.as_bytes(), 1) {
-        Ok(_) => {
+    let (which, fault) = match compare(alloc, one.text.as_bytes(), other.text.as_bytes(), 1) {
+        Ok(_verdict) => {
             assert!(rt; heavy.is_none() && other_heavy.is_none());
+            return Ok(());
         }
-        Err((Which::First, CanonFault::StepLimit { goods })) => {
-            assert_eq!(rt; heavy, Some(goods));
-        }
-        Err((Which::Second, CanonFault::StepLimit { goods })) => {
-            assert!(rt; heavy.is_none());
-            assert_eq!(rt; other_heavy, Some(goods));
-        }
-        Err(_) => panic!(rt; "another answer"),
-    }
+        Err(refusal) => refusal,
+    };
+    let CanonFault::StepLimit { goods } = fault else {
+        panic!(rt; "the step limit is told");
+    };
+    assert_eq!(rt; which == Which::First, heavy.is_some());
+    assert_eq!(rt; which == Which::Second, heavy.is_none());
+    let bundle = heavy.or(other_heavy);
+    assert_eq!(rt; bundle, Some(goods));
     Ok(())
 }
 
