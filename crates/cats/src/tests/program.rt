@@ -152,7 +152,14 @@ fn answers(
     let path = new_file(rt, "one", text)?;
     let other = new_file(rt, "other", other_text)?;
     for (line, out_room, err_room, status, sent, told) in rows {
-        let answer = run(rt, line, path.as_str(), other.as_str(), *out_room, *err_room)?;
+        let answer = run(
+            rt,
+            line,
+            path.as_str(),
+            other.as_str(),
+            *out_room,
+            *err_room,
+        )?;
         expect(abort, &answer, *status, sent, told);
     }
     fs::remove_file(rt, path.as_str())?;
