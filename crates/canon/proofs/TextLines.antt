@@ -68,9 +68,9 @@ text_begun {S} goods a count bids dummy n atoms bidders header out c b d o x m h
     let head : List ℕ = headers_text a.goods (length (file_from a).bids) (length a.xor_bidders) in
     let long : length bidders ≡ length a.xor_bidders = sym (length-map bidders (λ (v : Vec (Atom S) Global). atoms_of goods v.items)) ∙ ap length x in
     let front : header ≡ headers_text a.goods (length (file_from a).bids) (length a.xor_bidders) =
-        h ∙ ap (λ g. headers_text g bids dummy) c ∙ ap₂ (λ k e. headers_text a.goods k e) b (d ∙ long) in
+    h ∙ ap (λ g. headers_text g bids dummy) c ∙ ap₂ (λ k e. headers_text a.goods k e) b (d ∙ long) in
     let lines : bids_text count 0 (map (bid_from None) (atoms_of goods atoms)) ≡ bids_text a.goods 0 xs =
-        ap₂ (λ (g : ℕ) (zs : List (Atom (List ℕ))). bids_text g 0 (map (bid_from None) zs)) c o in
+    ap₂ (λ (g : ℕ) (zs : List (Atom (List ℕ))). bids_text g 0 (map (bid_from None) zs)) c o in
     let at : n ≡ 0 + length xs = (let q : length (map (bid_from None) (atoms_of goods atoms)) ≡ length (map (bid_from None) a.or_atoms) = ap (λ (zs : List (Atom (List ℕ))). length (map (bid_from None) zs)) o in omega (arith, m, q, length-bids goods None atoms)) in
     ap (λ (t : List ℕ). t ++ bids_text count n (dummy_bids 0 (bidders_of goods bidders))) (more ∙ ap₂ (λ (t u : List ℕ). t ++ u) front lines)
     ∙ ap (λ (t : List ℕ). (head ++ bids_text a.goods 0 xs) ++ t) (ap₂ (λ (g : ℕ) (zs : List (List (Atom (List ℕ)))). bids_text g n (dummy_bids 0 zs)) c x ∙ ap (λ k. bids_text a.goods k ys) at)
@@ -87,7 +87,7 @@ bidders_text_more goods count number i bidders b atoms out new all l is same mor
     let mine : List PlainBid = map (bid_from (Some i)) (atoms_of goods atoms) in
     let rest : List PlainBid = dummy_bids (i + 1) (drop (i + 1) (bidders_of goods bidders)) in
     let next : drop i (bidders_of goods bidders) ≡ atoms_of goods atoms ∷ drop (i + 1) (bidders_of goods bidders) =
-        next_bidder goods bidders i b l is ∙ ap (λ (zs : List _). atoms_of goods zs ∷ drop (i + 1) (bidders_of goods bidders)) (sym same) in
+    next_bidder goods bidders i b l is ∙ ap (λ (zs : List _). atoms_of goods zs ∷ drop (i + 1) (bidders_of goods bidders)) (sym same) in
     ap (λ (t : List ℕ). t ++ bids_text count (number + length atoms) rest) more
     ∙ append_assoc out (bids_text count number mine) (bids_text count (number + length atoms) rest)
     ∙ ap (λ n. out ++ (bids_text count number mine ++ bids_text count (number + n) rest)) (sym (length-bids goods (Some i) atoms))
@@ -119,7 +119,7 @@ count_more goods number total i bidders b atoms l is same before =
     let mine : List PlainBid = map (bid_from (Some i)) (atoms_of goods atoms) in
     let rest : List PlainBid = dummy_bids (i + 1) (drop (i + 1) (bidders_of goods bidders)) in
     let next : drop i (bidders_of goods bidders) ≡ atoms_of goods atoms ∷ drop (i + 1) (bidders_of goods bidders) =
-        next_bidder goods bidders i b l is ∙ ap (λ (zs : List _). atoms_of goods zs ∷ drop (i + 1) (bidders_of goods bidders)) (sym same) in
+    next_bidder goods bidders i b l is ∙ ap (λ (zs : List _). atoms_of goods zs ∷ drop (i + 1) (bidders_of goods bidders)) (sym same) in
     let q : length (dummy_bids i (drop i (bidders_of goods bidders))) ≡ length (mine ++ rest) = ap (λ (zs : List (List (Atom (List ℕ)))). length (dummy_bids i zs)) next in
     omega (arith, before, q, length-append mine rest, length-bids goods (Some i) atoms)
 

@@ -29,7 +29,14 @@ pub(crate) fn text_of<S: GoodsSet>(
     let mut number = or_atoms.len();
     for (dummy, bidder) in bidders.iter().enumerate() {
         let atoms = bidder.as_slice();
-        push_atoms(&mut out, &mut bundle, goods, number, atoms, Some(dummy as u32))?;
+        push_atoms(
+            &mut out,
+            &mut bundle,
+            goods,
+            number,
+            atoms,
+            Some(dummy as u32),
+        )?;
         number += atoms.len();
     }
     Ok(out)
@@ -62,7 +69,14 @@ fn push_atoms<S: GoodsSet>(
     for (place, atom) in atoms.iter().enumerate() {
         bundle.clear();
         atom.bundle.list_into(bundle)?;
-        push_bid(out, goods, first + place, atom.price, bundle.as_slice(), dummy)?;
+        push_bid(
+            out,
+            goods,
+            first + place,
+            atom.price,
+            bundle.as_slice(),
+            dummy,
+        )?;
     }
     Ok(())
 }

@@ -23,7 +23,12 @@ pub fn write(alloc: Global, file: &BidFile) -> Result<Vec<u8>, AllocError>
     ensures spells { IfOk result (λ out. Spells out.items (plain_file file.now)) }
 {
     let mut out = Vec::with_capacity(alloc, room_for(file.bids()))?;
-    push_header(&mut out, file.goods(), file.bids().len(), file.dummy() as usize)?;
+    push_header(
+        &mut out,
+        file.goods(),
+        file.bids().len(),
+        file.dummy() as usize,
+    )?;
     push_bids(&mut out, file.goods(), file.bids())?;
     Ok(out)
 }
@@ -88,7 +93,14 @@ fn push_bids(out: &mut Vec<u8>, goods: u16, bids: &[Bid]) -> Result<(), AllocErr
     ensures { OnOk result (out.new.items ≡ out.old.items ++ bids_text goods 0 (plain_bids bids.now)) }
 {
     for (number, bid) in bids.iter().enumerate() {
-        push_bid(out, goods, number, bid.price, bid.goods.as_slice(), bid.dummy)?;
+        push_bid(
+            out,
+            goods,
+            number,
+            bid.price,
+            bid.goods.as_slice(),
+            bid.dummy,
+        )?;
     }
     Ok(())
 }

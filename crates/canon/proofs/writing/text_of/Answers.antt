@@ -36,14 +36,14 @@ loop-dummy-preserved g c =
 pub push_atoms-requires-in-loop-dummy : goal.push_atoms-requires-in-loop-dummy
 push_atoms-requires-in-loop-dummy g c =
     let more = count_more g.S.GoodsSet.goods c.loop-dummy.number _ c.loop-dummy.dummy c.xor_bidders-bidders.result.now c.index-bidders-dummy.result c.as_slice-atoms.result.now
-        c.loop-dummy-test.true c.index-bidders-dummy.is c.as_slice-atoms.ensures.value c.loop-dummy.invariant.count in
+    c.loop-dummy-test.true c.index-bidders-dummy.is c.as_slice-atoms.ensures.value c.loop-dummy.invariant.count in
     let most = (IsPlainFile-file_from g.S.GoodsSet.CAP (plain_auction c.args.auction.now) c.args.auction.now.facts).count in
     omega (arith, more, most)
 
 pub overflow_add-number : goal.overflow_add-number
 overflow_add-number g c =
     let more = count_more g.S.GoodsSet.goods c.loop-dummy.number _ c.loop-dummy.dummy c.xor_bidders-bidders.result.now c.index-bidders-dummy.result c.as_slice-atoms.result.now
-        c.loop-dummy-test.true c.index-bidders-dummy.is c.as_slice-atoms.ensures.value c.loop-dummy.invariant.count in
+    c.loop-dummy-test.true c.index-bidders-dummy.is c.as_slice-atoms.ensures.value c.loop-dummy.invariant.count in
     let most = (IsPlainFile-file_from g.S.GoodsSet.CAP (plain_auction c.args.auction.now) c.args.auction.now.facts).count in
     record { fits = omega (arith, more, most) }
 

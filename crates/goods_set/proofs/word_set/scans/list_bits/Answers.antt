@@ -2,7 +2,6 @@ use Rattle.std.proofs.Common.{refl}
 use Rattle.goods_set.proofs.Listed.{bits_more, bits_all, fewer_bits}
 use Rattle.goods_set.proofs.word_set.scans.list_bits.Goals as goal
 
-
 pub loop-rest-smaller : goal.loop-rest-smaller
 loop-rest-smaller c = fewer_bits c.loop-rest.rest _ c.loop-rest-test.true c.loop-rest.auto.rest-fits.fits refl
 
