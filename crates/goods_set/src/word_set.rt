@@ -76,6 +76,10 @@ impl<const N: usize> GoodsSet for WordSet<N> {
         scans::next_good(self.used(), from)
     }
 
+    fn list_into(&self, out: &mut Vec<u16>) -> Result<(), AllocError> {
+        scans::list_goods(self.used(), out)
+    }
+
     fn is_inside(&self, other: &WordSet<N>) -> bool {
         lanes::all_inside(self.used(), other.used())
     }
