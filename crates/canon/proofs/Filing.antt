@@ -32,19 +32,23 @@ pub all_bids : {X Y : Type 0} (done : List Y) (f : X → Y) (xs : List X) (i : �
 all_bids {X} {Y} done f xs i all l h =
     sym (append-nil done) ∙ ap (λ (zs : List X). done ++ map f zs) (sym (drop_all i xs l)) ∙ h
 
+-- the bidder at a place, and those behind it
+pub next_bidder : {S : Type 0} (goods : S → List ℕ) (bidders : List (Vec (Atom S) Global)) (i : ℕ) (b : Vec (Atom S) Global)
+    → i < length bidders → b ≡ get_or bidders i b → drop i (bidders_of goods bidders) ≡ atoms_of goods b.items ∷ drop (i + 1) (bidders_of goods bidders)
+next_bidder {S} goods bidders i b l e =
+    let seen : Vec (Atom S) Global → List (Atom (List ℕ)) = λ v. atoms_of goods v.items in
+    drop-map seen i bidders ∙ ap (map seen) (drop_more bidders i b l ∙ ap (λ (x : Vec (Atom S) Global). x ∷ drop (i + 1) bidders) (sym e))
+    ∙ ap (λ (zs : List (List (Atom (List ℕ)))). seen b ∷ zs) (sym (drop-map seen (i + 1) bidders))
+
 -- one more bidder, and one less to come
 pub one_more_bidder : {S : Type 0} (goods : S → List ℕ) (old new : List PlainBid) (bidders : List (Vec (Atom S) Global)) (i : ℕ) (b : Vec (Atom S) Global)
     → i < length bidders → b ≡ get_or bidders i b → new ≡ old ++ map (bid_from (Some i)) (atoms_of goods b.items)
     → new ++ dummy_bids (i + 1) (drop (i + 1) (bidders_of goods bidders)) ≡ old ++ dummy_bids i (drop i (bidders_of goods bidders))
 one_more_bidder {S} goods old new bidders i b l e more =
-    let seen : Vec (Atom S) Global → List (Atom (List ℕ)) = λ v. atoms_of goods v.items in
     let rest = dummy_bids (i + 1) (drop (i + 1) (bidders_of goods bidders)) in
-    let next : drop i (bidders_of goods bidders) ≡ seen b ∷ drop (i + 1) (bidders_of goods bidders) =
-    drop-map seen i bidders ∙ ap (map seen) (drop_more bidders i b l ∙ ap (λ (x : Vec (Atom S) Global). x ∷ drop (i + 1) bidders) (sym e))
-    ∙ ap (λ (zs : List (List (Atom (List ℕ)))). seen b ∷ zs) (sym (drop-map seen (i + 1) bidders)) in
     ap (λ (zs : List PlainBid). zs ++ rest) more
-    ∙ append_assoc old (map (bid_from (Some i)) (seen b)) rest
-    ∙ ap (λ (zs : List (List (Atom (List ℕ)))). old ++ dummy_bids i zs) (sym next)
+    ∙ append_assoc old (map (bid_from (Some i)) (atoms_of goods b.items)) rest
+    ∙ ap (λ (zs : List (List (Atom (List ℕ)))). old ++ dummy_bids i zs) (sym (next_bidder goods bidders i b l e))
 
 pub all_bidders : (done all : List PlainBid) (i : ℕ) (bidders : List (List (Atom (List ℕ)))) → length bidders ≤ i → done ++ dummy_bids i (drop i bidders) ≡ all → done ≡ all
 all_bidders done all i bidders l h =

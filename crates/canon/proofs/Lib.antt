@@ -7,6 +7,7 @@ pub mod Texts
 pub mod Least
 pub mod Bidders
 pub mod Filing
+pub mod TextLines
 pub mod Answering
 pub mod Finding
 pub mod OrDifferences

@@ -17,6 +17,7 @@ mod verdict;
 mod which;
 pub mod worked;
 pub mod worked_differences;
+mod writing;
 
 pub use auction::canonical;
 pub use comparison::{compare, compare_files};

@@ -1,12 +1,13 @@
 //! The canonical file of a file, and the canonical text of a text.
 
-ghost use Rattle.std.specs.Prelude.{◌≡◌, ◌≤◌, ◌↔◌, IfOk};
+ghost use Rattle.std.specs.Prelude.{◌≡◌, ◌≤◌, ◌↔◌, None, IfOk, IfErr, OnOk};
 ghost use Rattle.cats_text.specs.Files.{PlainFile, IsPlainFile};
 ghost use Rattle.cats_text.specs.Grammar.{Spells};
 ghost use Rattle.cats_text.specs.Views.{plain_file};
 ghost use Rattle.valuation.specs.Views.{plain_auction};
-ghost use Rattle.canon.specs.Answers.{NormalisesAs, NormalisesAuctionAs, NormalisesFileAs};
-ghost use Rattle.canon.specs.Canonical.{IsCanonicalFile, canonical_text};
+ghost use Rattle.prune.specs.Steps.{first_heavy};
+ghost use Rattle.canon.specs.Answers.{NormalisesAs, NormalisesAuctionAs, NormalisesFileAs, RefusesAuction};
+ghost use Rattle.canon.specs.Canonical.{IsCanonicalFile, canonical_auction, canonical_text};
 ghost use Rattle.canon.specs.Least.{IsLeastFor};
 ghost use Rattle.canon.specs.Normalising.{IsText, normalised, normalised_file};
 ghost use Rattle.canon.specs.Sameness.{AreSameFiles};
@@ -14,7 +15,8 @@ ghost use Rattle.canon.specs.Sameness.{AreSameFiles};
 use crate::auction::canonical;
 use crate::fault::CanonFault;
 use crate::file::file_of;
-use cats_text::{BidFile, read, write};
+use crate::writing::text_of;
+use cats_text::{BidFile, read};
 use goods_set::{GoodsSet, goods_of, on_least_set};
 use prune::PruneFault;
 use std::alloc::Global;
@@ -98,8 +100,8 @@ fn normal_text_on<S: GoodsSet>(
 {
     let auction: Auction<S> = auction_of(alloc, &file)?;
     drop(file);
-    let canonical = file_of_canonical(alloc, auction, limit)?;
-    Ok(write(alloc, &canonical)?)
+    let canonical = light_canonical(alloc, auction, limit)?;
+    Ok(text_of(alloc, &canonical)?)
 }
 
 /// The file of the canonical auction.
@@ -110,8 +112,23 @@ fn file_of_canonical<S: GoodsSet>(
 ) -> Result<BidFile, CanonFault>
     ensures { NormalisesAuctionAs limit (plain_auction auction) result }
 {
+    let canonical = light_canonical(alloc, auction, limit)?;
+    Ok(file_of(alloc, &canonical)?)
+}
+
+/// The canonical auction, where no bundle is heavy.
+fn light_canonical<S: GoodsSet>(
+    alloc: Global,
+    auction: Auction<S>,
+    limit: u64,
+) -> Result<Auction<S>, CanonFault>
+    ensures canonical { IfOk result (λ c. plain_auction c ≡ canonical_auction (plain_auction auction)) }
+    ensures light { let a = plain_auction auction in
+        OnOk result (first_heavy a.goods limit a.or_atoms ≡ None) }
+    ensures refused { IfErr result (λ fault. RefusesAuction limit (plain_auction auction) fault) }
+{
     match canonical(alloc, auction, limit) {
-        Ok(canonical) => Ok(file_of(alloc, &canonical)?),
+        Ok(canonical) => Ok(canonical),
         Err(PruneFault::StepLimit { bundle }) => Err(CanonFault::StepLimit {
             goods: goods_of(alloc, &bundle)?,
         }),

@@ -32,6 +32,9 @@ price_text millionths = decimal (millionths / 1000000) ++ places_text (millionth
 abbrev pub header_text : List ℕ → ℕ → List ℕ
 header_text keyword n = keyword ++ 32 ∷ decimal n ++ 10 ∷ []
 
+abbrev pub headers_text : ℕ → ℕ → ℕ → List ℕ
+headers_text goods bids dummy = header_text (codes "goods") goods ++ header_text (codes "bids") bids ++ header_text (codes "dummy") dummy
+
 -- each number after a tab
 abbrev pub tabbed : List ℕ → List ℕ
 tabbed gs = flat_map (λ g. 9 ∷ decimal g) gs
@@ -44,4 +47,4 @@ bids_text goods n [] = []
 bids_text goods n (b ∷ bs) = bid_text goods n b ++ bids_text goods (suc n) bs
 
 abbrev pub layout : PlainFile → List ℕ
-layout f = header_text (codes "goods") f.goods ++ header_text (codes "bids") (length f.bids) ++ header_text (codes "dummy") f.dummy ++ bids_text f.goods 0 f.bids
+layout f = headers_text f.goods (length f.bids) f.dummy ++ bids_text f.goods 0 f.bids

@@ -1,10 +1,10 @@
 //! Bid files as text.
 
 ghost use Rattle.std.specs.Prelude.{◌≡◌, ◌++◌, ◌∷◌, ◌<◌, IfOk, OnOk, decimal};
-ghost use Rattle.cats_text.specs.Files.{plain_bid, plain_bids};
+ghost use Rattle.cats_text.specs.Files.{PlainBid, plain_bids};
 ghost use Rattle.cats_text.specs.Views.{plain_file};
 ghost use Rattle.cats_text.specs.Grammar.{Spells};
-ghost use Rattle.cats_text.specs.Layout.{layout, header_text, bid_text, bids_text, price_text, places_text, without_zeros};
+ghost use Rattle.cats_text.specs.Layout.{layout, header_text, headers_text, bid_text, bids_text, price_text, places_text, without_zeros};
 
 use crate::bid::{Bid, BidFile};
 use itoa::{Buffer, Integer};
@@ -23,9 +23,12 @@ pub fn write(alloc: Global, file: &BidFile) -> Result<Vec<u8>, AllocError>
     ensures spells { IfOk result (λ out. Spells out.items (plain_file file.now)) }
 {
     let mut out = Vec::with_capacity(alloc, room_for(file.bids()))?;
-    push_header(&mut out, b"goods", u64::from(file.goods()))?;
-    push_header(&mut out, b"bids", file.bids().len() as u64)?;
-    push_header(&mut out, b"dummy", u64::from(file.dummy()))?;
+    push_header(
+        &mut out,
+        file.goods(),
+        file.bids().len(),
+        file.dummy() as usize,
+    )?;
     push_bids(&mut out, file.goods(), file.bids())?;
     Ok(out)
 }
@@ -54,7 +57,29 @@ pub fn push_price(out: &mut Vec<u8>, millionths: u128) -> Result<(), AllocError>
     push_places(out, (millionths % u128::from(MILLION)) as u32)
 }
 
-fn push_header(out: &mut Vec<u8>, keyword: &[u8], value: u64) -> Result<(), AllocError>
+/// As `push_price`, of a price that fits 64 bits: their division is the faster one.
+fn push_small_price(out: &mut Vec<u8>, millionths: u64) -> Result<(), AllocError>
+    ensures { OnOk result (out.new.items ≡ out.old.items ++ price_text millionths) }
+{
+    push_number(out, millionths / u64::from(MILLION))?;
+    push_places(out, (millionths % u64::from(MILLION)) as u32)
+}
+
+/// Appends the header of a file with so many goods, bids and dummy goods. Where memory is refused, some of it may stand there.
+pub fn push_header(
+    out: &mut Vec<u8>,
+    goods: u16,
+    bids: usize,
+    dummy: usize,
+) -> Result<(), AllocError>
+    ensures { OnOk result (out.new.items ≡ out.old.items ++ headers_text goods bids dummy) }
+{
+    push_header_line(out, b"goods", u64::from(goods))?;
+    push_header_line(out, b"bids", bids as u64)?;
+    push_header_line(out, b"dummy", dummy as u64)
+}
+
+fn push_header_line(out: &mut Vec<u8>, keyword: &[u8], value: u64) -> Result<(), AllocError>
     ensures { OnOk result (out.new.items ≡ out.old.items ++ header_text keyword.now value) }
 {
     out.extend_from_slice(keyword)?;
@@ -68,21 +93,38 @@ fn push_bids(out: &mut Vec<u8>, goods: u16, bids: &[Bid]) -> Result<(), AllocErr
     ensures { OnOk result (out.new.items ≡ out.old.items ++ bids_text goods 0 (plain_bids bids.now)) }
 {
     for (number, bid) in bids.iter().enumerate() {
-        push_bid(out, goods, number as u64, bid)?;
+        push_bid(
+            out,
+            goods,
+            number,
+            bid.price,
+            bid.goods.as_slice(),
+            bid.dummy,
+        )?;
     }
     Ok(())
 }
 
-fn push_bid(out: &mut Vec<u8>, goods: u16, number: u64, bid: &Bid) -> Result<(), AllocError>
-    ensures { OnOk result (out.new.items ≡ out.old.items ++ bid_text goods number (plain_bid bid.now)) }
+/// Appends the line of a bid in a file of so many `goods`: its number, its price in millionths, the goods of its `bundle`, and its
+/// dummy good, counted from 0 behind the real goods. Where memory is refused, some of it may stand there.
+pub fn push_bid(
+    out: &mut Vec<u8>,
+    goods: u16,
+    number: usize,
+    price: u64,
+    bundle: &[u16],
+    dummy: Option<u32>,
+) -> Result<(), AllocError>
+    ensures { let bid : PlainBid = record { price = price; goods = bundle.now; dummy = dummy } in
+        OnOk result (out.new.items ≡ out.old.items ++ bid_text goods number bid) }
 {
     push_number(out, number)?;
     out.push(b'\t')?;
-    push_price(out, u128::from(bid.price))?;
-    for good in &bid.goods {
+    push_small_price(out, price)?;
+    for good in bundle {
         push_good(out, u64::from(*good))?;
     }
-    if let Some(dummy) = bid.dummy {
+    if let Some(dummy) = dummy {
         push_good(out, u64::from(goods) + u64::from(dummy))?;
     }
     out.extend_from_slice(b"\t#\n")

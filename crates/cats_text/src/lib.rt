@@ -19,7 +19,7 @@ pub mod worked;
 
 pub use bid::{Bid, BidFile};
 pub use fault::{Kind, ReadFault, SendFault};
-pub use layout::{push_price, write};
+pub use layout::{push_bid, push_header, push_price, write};
 pub use limits::{MAX_BIDS, MAX_DUMMY, MAX_GOODS, MAX_PRICE, MAX_STREAM};
 pub use reader::{Reader, read};
 pub use stream::{Watched, answers_of_devices, read_from, send};

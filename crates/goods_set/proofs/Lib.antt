@@ -3,4 +3,4 @@ pub mod Firsts
 pub mod Lanes
 pub mod Places
 pub mod Scans
-mod NextGoods
+pub mod Listed

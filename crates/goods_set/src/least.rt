@@ -8,7 +8,9 @@ macro_rules! on_least_set {
         match $goods {
             0..=64 => $call::<$crate::WordSet<1>>($($argument),*),
             65..=256 => $call::<$crate::WordSet<4>>($($argument),*),
-            257..=1024 => $call::<$crate::WordSet<16>>($($argument),*),
+            257..=512 => $call::<$crate::WordSet<8>>($($argument),*),
+            513..=1024 => $call::<$crate::WordSet<16>>($($argument),*),
+            1025..=2048 => $call::<$crate::WordSet<32>>($($argument),*),
             _ => $call::<$crate::WordSet<64>>($($argument),*),
         }
     };

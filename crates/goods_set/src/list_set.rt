@@ -65,6 +65,10 @@ impl GoodsSet for ListSet {
         self.goods.get(place).copied()
     }
 
+    fn list_into(&self, out: &mut Vec<u16>) -> Result<(), AllocError> {
+        out.extend_from_slice(self.goods.as_slice())
+    }
+
     fn is_inside(&self, other: &ListSet) -> bool {
         self.goods.iter().all(|good| other.has(*good))
     }

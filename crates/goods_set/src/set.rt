@@ -1,5 +1,5 @@
 //! What the crates above know of a set of goods.
-ghost use Rattle.std.specs.Prelude.{◌≡◌, ◌⊎◌, ℕ, ◌<◌, ◌≤◌, List, [], not, length, IfOk, OnErr};
+ghost use Rattle.std.specs.Prelude.{◌≡◌, ◌⊎◌, ℕ, ◌<◌, ◌≤◌, List, [], ◌++◌, not, length, IfOk, OnOk, OnErr};
 ghost use Rattle.std.specs.Cmp.{IsTotalOrder};
 ghost use Rattle.std.specs.declared.cmp.Ordering.TheVariants.{Less, Equal};
 ghost use Rattle.goods_set.specs.Bundles.{IsBundle, IsInside, has_good, is_inside, are_apart, without, with_good, good_from};
@@ -43,6 +43,10 @@ pub trait GoodsSet: Sized + Drop {
     /// The least good that is at least `from`.
     fn next_from(&self, from: u32) -> Option<u16>
         ensures { result ≡ good_from (goods self.now) from };
+
+    /// Appends the goods of the set, rising. Where memory is refused, some of them may stand there.
+    fn list_into(&self, out: &mut Vec<u16>) -> Result<(), AllocError>
+        ensures { OnOk result (out.new.items ≡ out.old.items ++ goods self.now) };
 
     /// Whether each good of the set is in `other`.
     fn is_inside(&self, other: &Self) -> bool

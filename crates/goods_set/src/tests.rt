@@ -36,6 +36,9 @@ fn put_and_ask<S: GoodsSet>(rt: &impl Abort, alloc: Global) -> Result<(), Fail> 
     let copy = set.copy()?;
     assert_eq!(rt; copy.order(&set), Ordering::Equal);
     assert_eq!(rt; goods_of(alloc, &copy)?.as_slice(), [3, 5].as_slice());
+    let mut listed = [7].to_vec(alloc)?;
+    copy.list_into(&mut listed)?;
+    assert_eq!(rt; listed.as_slice(), [7, 3, 5].as_slice());
     Ok(())
 }
 

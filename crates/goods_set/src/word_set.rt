@@ -11,7 +11,7 @@ use std::alloc::{AllocError, Global};
 use std::cmp::Ordering;
 
 /// A set of goods below the lesser of 64 times `N` and 65,536: a good is in it where its bit of the
-/// words is set. None of its calls takes memory.
+/// words is set. None of its calls takes memory, but for the vector that `list_into` appends to.
 #[derive(Debug, Drop)]
 pub struct WordSet<const N: usize> {
     words: [u64; N],
@@ -74,6 +74,10 @@ impl<const N: usize> GoodsSet for WordSet<N> {
 
     fn next_from(&self, from: u32) -> Option<u16> {
         scans::next_good(self.used(), from)
+    }
+
+    fn list_into(&self, out: &mut Vec<u16>) -> Result<(), AllocError> {
+        scans::list_goods(self.used(), out)
     }
 
     fn is_inside(&self, other: &WordSet<N>) -> bool {

@@ -1,9 +1,11 @@
 //! Pruning the bids of an XOR bidder.
-ghost use Rattle.std.specs.Prelude.{◌≡◌, ℕ, ◌≤◌, List, All, Contains, IfOk, vec_len};
+ghost use Rattle.std.specs.Prelude.{◌≡◌, ℕ, ◌≤◌, false, List, All, Contains, IfOk, vec_len};
+ghost use Rattle.std.specs.List.{list_any};
 ghost use Rattle.cats_text.specs.declared.limits.TheConstants.{MAX_GOODS};
 ghost use Rattle.valuation.specs.Auctions.{IsAtom};
-ghost use Rattle.valuation.specs.Values.{atoms_of, xor_value};
+ghost use Rattle.valuation.specs.Values.{atoms_of, plain_atom, xor_value};
 ghost use Rattle.prune.specs.InOrder.{IsInOrder};
+ghost use Rattle.prune.specs.Listings.{lists_of, covers, AreListed};
 ghost use Rattle.prune.specs.Points.{xor_points};
 
 use crate::best::keep_best_bids;
@@ -11,6 +13,32 @@ use crate::kept::Kept;
 use goods_set::GoodsSet;
 use std::alloc::{AllocError, Global};
 use valuation::Atom;
+
+/// So few bids are compared one by one, which takes less time than to list each at a good.
+const FEW: usize = 32;
+
+/// Whether the atom is inside the bid's bundle and has at least its price.
+fn is_covered_by<S: GoodsSet>(bid: &Atom<S>, atom: &Atom<S>) -> bool
+    ensures { result ≡ covers (S.goods bid.now.bundle) bid.now.price (plain_atom S.goods atom.now) }
+{
+    bid.price <= atom.price && atom.bundle.is_inside(&bid.bundle)
+}
+
+/// Whether a kept atom inside the bid's bundle has at least its price. Few atoms need not be listed.
+fn is_covered<S: GoodsSet>(kept: &Kept<S>, bid: &Atom<S>, few: bool) -> bool
+    requires { few ≡ false → AreListed (lists_of kept.now.lists.items) (atoms_of S.goods kept.now.atoms.items) }
+    ensures { result ≡ list_any (covers (S.goods bid.now.bundle) bid.now.price) (atoms_of S.goods kept.now.atoms.items) }
+{
+    if !few {
+        return kept.has_inside(&bid.bundle, bid.price);
+    }
+    for atom in &kept.atoms {
+        if is_covered_by(bid, atom) {
+            return true;
+        }
+    }
+    false
+}
 
 /// The bids that the bidder's values alone ask for, in order: a bid stays where no kept bid inside its bundle has its price.
 pub fn prune_xor<S: GoodsSet>(
@@ -31,10 +59,15 @@ pub fn prune_xor<S: GoodsSet>(
     ensures no_longer { IfOk result (λ points. vec_len points ≤ vec_len atoms) }
 {
     keep_best_bids(&mut atoms);
+    let few = atoms.len() <= FEW;
     let mut kept = Kept::new(alloc);
     for bid in atoms {
-        if !kept.has_inside(&bid.bundle, bid.price) {
-            kept.push(alloc, bid)?;
+        if !is_covered(&kept, &bid, few) {
+            if few {
+                kept.atoms.push(bid)?;
+            } else {
+                kept.push(alloc, bid)?;
+            }
         }
     }
     Ok(kept.into_atoms())

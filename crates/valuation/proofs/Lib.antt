@@ -1,4 +1,6 @@
 pub mod Levels
+pub mod PlaceMarks
+pub mod MarkedLevels
 pub mod Scans
 pub mod Placing
 pub mod Choosing

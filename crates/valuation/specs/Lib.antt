@@ -16,3 +16,4 @@ pub mod OrLemmas
 pub mod ListLemmas
 pub mod PackingLemmas
 pub mod CountLemmas
+pub mod PlaceMarks

@@ -6,6 +6,8 @@ mod auction;
 mod budget;
 mod from_file;
 pub mod laws;
+mod marked;
+mod marks;
 mod order;
 mod packing;
 #[cfg(test)]

@@ -3,7 +3,7 @@
 ghost use Rattle.std.specs.Prelude.{◌≡◌, ◌≤◌, List, [], ◌∷◌, IfOk, None};
 ghost use Rattle.cats_text.specs.Files.{PlainBid, IsBidFile, plain_bid, plain_bids};
 
-use super::{push_price, write};
+use super::{push_bid, push_header, push_price, write};
 use crate::bid::{Bid, BidFile};
 use std::alloc::{AllocError, Global};
 use std::test::Fail;
@@ -35,6 +35,17 @@ fn cats_layout(rt: HostRuntime) -> Result<(), Fail> {
     let text = write(rt.alloc(), &BidFile::new(3, 1, bids))?;
     let want = b"goods 3\nbids 2\ndummy 1\n0\t20\t0\t2\t3\t#\n1\t7\t1\t#\n";
     assert_eq!(rt; text.as_slice(), want.as_slice());
+    Ok(())
+}
+
+#[test]
+fn text_in_parts(rt: HostRuntime) -> Result<(), Fail> {
+    let mut out = Vec::new(rt.alloc());
+    push_header(&mut out, 3, 2, 1)?;
+    push_bid(&mut out, 3, 0, 20_000_000, &[0, 2], Some(0))?;
+    push_bid(&mut out, 3, 1, 7_500_000, &[1], None)?;
+    let want = b"goods 3\nbids 2\ndummy 1\n0\t20\t0\t2\t3\t#\n1\t7.5\t1\t#\n";
+    assert_eq!(rt; out.as_slice(), want.as_slice());
     Ok(())
 }
 

@@ -1,11 +1,12 @@
-//! What goes through the words of a set from the first: how many goods they hold, the next good, and
-//! which of two comes first.
-ghost use Rattle.std.specs.Prelude.{◌≡◌, ◌*◌, ◌≤◌, length};
+//! What goes through the words of a set from the first: how many goods they hold, the next good, all
+//! goods, and which of two sets comes first.
+ghost use Rattle.std.specs.Prelude.{◌≡◌, ◌+◌, ◌*◌, ◌≤◌, [], ◌∷◌, ◌++◌, map, length, OnOk};
 ghost use Rattle.std.specs.Ordering.{nat_cmp};
 ghost use Rattle.std.specs.Cmp.Lexicographic.{slice_cmp};
 ghost use Rattle.goods_set.specs.Bundles.{good_from};
 ghost use Rattle.goods_set.specs.Words.{word_goods};
 
+use std::alloc::AllocError;
 use std::cmp::Ordering;
 
 /// How many goods the words hold.
@@ -39,6 +40,31 @@ pub(crate) fn next_good(words: &[u64], from: u32) -> Option<u16>
         rest = words[place];
     }
     Some((64 * place) as u16 + rest.trailing_zeros() as u16)
+}
+
+/// Appends the goods that the words hold, rising.
+pub(crate) fn list_goods(words: &[u64], out: &mut Vec<u16>) -> Result<(), AllocError>
+    requires { length words.now ≤ 1024 }
+    ensures { OnOk result (out.new.items ≡ out.old.items ++ word_goods (64 * length words.now) words.now) }
+{
+    for k in 0..words.len() {
+        list_bits(words[k], 64 * k as u16, out)?;
+    }
+    Ok(())
+}
+
+/// Appends the places of the bits that are set in a word, counted from `first`.
+fn list_bits(word: u64, first: u16, out: &mut Vec<u16>) -> Result<(), AllocError>
+    requires { first ≤ 65472 }
+    ensures { OnOk result (out.new.items ≡ out.old.items ++ map (λ place. first + place) (word_goods 64 (word ∷ []))) }
+{
+    let mut rest = word;
+    while rest != 0 {
+        let place = rest.trailing_zeros();
+        out.push(first + place as u16)?;
+        rest &= !(1 << place);
+    }
+    Ok(())
 }
 
 /// The lexicographic order of two bundles of one size: the one with the least good that they do not

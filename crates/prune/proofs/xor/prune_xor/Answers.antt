@@ -1,4 +1,5 @@
 use Rattle.std.proofs.Common.{arith, ◌≡◌, length, sym, ap, ◌∙◌, []}
+use Rattle.std.proofs.lemmas.Bool.{both_ways, le-leb}
 use Rattle.std.proofs.lemmas.List.{map_push, nil_from_length, length_push}
 use Rattle.std.proofs.lemmas.List.Elements.{All-contains}
 use Rattle.std.specs.Vec.Iter.{into_iter_items}
@@ -11,8 +12,8 @@ use Rattle.prune.specs.KeptLemmas.{on_bundles, just_bundles}
 use Rattle.prune.proofs.Turns.{xor_end, next_turn, taken, covers_is}
 use Rattle.prune.proofs.xor.prune_xor.Goals as goal
 
-pub push-requires-clause-some : goal.push-requires-clause-some
-push-requires-clause-some g c =
+pub push-requires-else-few-clause-some : goal.push-requires-else-few-clause-some
+push-requires-else-few-clause-some g c =
     let goods = g.S.GoodsSet.goods in
     let turn = next_turn goods (λ s. (g.met.S.GoodsSet.is_bundle s).0) _ c.loop-bid.yielded _ _ c.in-Some.bid c.loop-bid.invariant.best c.in-Some.ensures.steps.0 in
     (All-contains (IsAtom MAX_GOODS) (atoms_of goods c.args.atoms.items) _ c.requires (turn_among _ _ _ _ turn)).nonempty
@@ -28,14 +29,35 @@ loop-bid-preserved-in-Continue-1 g c =
     let step = c.in-Some.ensures.steps.0 in
     let turn = next_turn goods (λ s. (g.met.S.GoodsSet.is_bundle s).0) bids yielded _ _ bid h.best step in
     let asked = covers_is bid.price (goods bid.bundle) (atoms_of goods kept) (turn_positive _ _ _ _ turn) in
-    let missed = xor_missed _ _ _ _ (atoms_of goods kept) turn h.kept (sym c.if-not-has_inside.true ∙ c.has_inside.ensures ∙ asked) in
+    let missed = xor_missed _ _ _ _ (atoms_of goods kept) turn h.kept (sym c.if-not-is_covered.true ∙ c.is_covered.ensures ∙ asked) in
     let joined = taken yielded _ _ bid step in
     record {
       best = rw joined at h.best;
       fits = rw joined at h.fits;
-      listed = c.in_ok-push.ensures.listed;
-      kept = rw (map_push (seen_of goods) yielded bid, c.in_ok-push.ensures.atoms, map_push (seen_of goods) kept bid) missed;
-      fewer = omega (arith, h.fewer, c.loop-bid.kept.atoms.ok.0, c.push.new.self.atoms.ok.0, ap length c.in_ok-push.ensures.atoms, length_push kept bid, length_push yielded bid);
+      listed = λ many. absurd (both_ways _ many (le-leb _ _ c.if-few.true));
+      kept = rw (map_push (seen_of goods) yielded bid, c.in_ok-push.ensures.items, map_push (seen_of goods) kept bid) missed;
+      fewer = omega (arith, h.fewer, c.loop-bid.kept.atoms.ok.0, c.push.new.self.ok.0, ap length c.in_ok-push.ensures.items, length_push kept bid, length_push yielded bid);
+    }
+
+pub loop-bid-preserved-in-Continue-branch-2 : goal.loop-bid-preserved-in-Continue-branch-2
+loop-bid-preserved-in-Continue-branch-2 g c =
+    let goods = g.S.GoodsSet.goods in
+    let h = c.loop-bid.invariant in
+    let bids = atoms_of goods c.args.atoms.items in
+    let yielded = c.loop-bid.yielded in
+    let bid = c.in-Some.bid in
+    let kept = c.loop-bid.kept.atoms.items in
+    let step = c.in-Some.ensures.steps.0 in
+    let turn = next_turn goods (λ s. (g.met.S.GoodsSet.is_bundle s).0) bids yielded _ _ bid h.best step in
+    let asked = covers_is bid.price (goods bid.bundle) (atoms_of goods kept) (turn_positive _ _ _ _ turn) in
+    let missed = xor_missed _ _ _ _ (atoms_of goods kept) turn h.kept (sym c.if-not-is_covered.true ∙ c.is_covered.ensures ∙ asked) in
+    let joined = taken yielded _ _ bid step in
+    record {
+      best = rw joined at h.best;
+      fits = rw joined at h.fits;
+      listed = λ _. c.in_ok-push-2.ensures.listed;
+      kept = rw (map_push (seen_of goods) yielded bid, c.in_ok-push-2.ensures.atoms, map_push (seen_of goods) kept bid) missed;
+      fewer = omega (arith, h.fewer, c.loop-bid.kept.atoms.ok.0, c.push-else-few.new.self.atoms.ok.0, ap length c.in_ok-push-2.ensures.atoms, length_push kept bid, length_push yielded bid);
     }
 
 pub loop-bid-preserved : goal.loop-bid-preserved
@@ -48,7 +70,7 @@ loop-bid-preserved g c =
     let step = c.in-Some.ensures.steps.0 in
     let turn = next_turn goods (λ s. (g.met.S.GoodsSet.is_bundle s).0) bids yielded _ _ bid h.best step in
     let asked = covers_is bid.price (goods bid.bundle) (atoms_of goods c.loop-bid.kept.atoms.items) (turn_positive _ _ _ _ turn) in
-    let reached = xor_reached _ _ _ _ (atoms_of goods c.loop-bid.kept.atoms.items) turn h.kept (sym c.if-not-has_inside.false ∙ c.has_inside.ensures ∙ asked) in
+    let reached = xor_reached _ _ _ _ (atoms_of goods c.loop-bid.kept.atoms.items) turn h.kept (sym c.if-not-is_covered.false ∙ c.is_covered.ensures ∙ asked) in
     let joined = taken yielded _ _ bid step in
     record {
       best = rw joined at h.best;

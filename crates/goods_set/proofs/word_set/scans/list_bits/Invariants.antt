@@ -1,0 +1,11 @@
+-- What is listed, and the bits that are left, are all bits.
+use Rattle.std.proofs.Common.{◌≡◌, ◌+◌, [], ◌∷◌, ◌++◌, map, length}
+use Rattle.goods_set.specs.Words.{word_goods}
+use Rattle.goods_set.proofs.word_set.scans.list_bits.Given as goal
+
+abbrev pub invariant-loop-rest : goal.invariant-loop-rest
+invariant-loop-rest l =
+    l.out.items ++ map (λ place. l.first + place) (word_goods 64 (l.rest ∷ [])) ≡ l.fn.out.items ++ map (λ place. l.first + place) (word_goods 64 (l.word ∷ []))
+
+abbrev pub decreases-loop-rest : goal.decreases-loop-rest
+decreases-loop-rest l = length (word_goods 64 (l.rest ∷ []))
