@@ -12,19 +12,25 @@ use cats_text::{Bid, BidFile};
 use std::alloc::{AllocError, Global};
 use valuation::Atom;
 
+/// A bid on a bundle that is a list.
+pub type ListAtom = Atom<Vec<u16>>;
+
+/// The bids of one bidder.
+pub type Bidder = Vec<ListAtom>;
+
 /// An auction on bundles that are lists.
 #[derive(Debug, Drop)]
 pub struct ListedAuction {
     /// How many goods there are.
     pub goods: u16,
     /// The atoms of the OR bidder.
-    pub or_atoms: Vec<Atom<Vec<u16>>>,
+    pub or_atoms: Bidder,
     /// The atoms of each XOR bidder.
-    pub xor_bidders: Vec<Vec<Atom<Vec<u16>>>>,
+    pub xor_bidders: Vec<Bidder>,
 }
 
 /// What the bid offers.
-fn atom_of(alloc: Global, bid: &Bid) -> Result<Atom<Vec<u16>>, AllocError>
+fn atom_of(alloc: Global, bid: &Bid) -> Result<ListAtom, AllocError>
     ensures { IfOk result (λ atom. atom_in atom ≡ atom_of (plain_bid bid.now)) }
 {
     Ok(Atom {
@@ -34,7 +40,7 @@ fn atom_of(alloc: Global, bid: &Bid) -> Result<Atom<Vec<u16>>, AllocError>
 }
 
 /// The atoms of the bids without a dummy good.
-pub fn or_atoms_of(alloc: Global, bids: &[Bid]) -> Result<Vec<Atom<Vec<u16>>>, AllocError>
+pub fn or_atoms_of(alloc: Global, bids: &[Bid]) -> Result<Bidder, AllocError>
     ensures { IfOk result (λ atoms. atoms_in atoms.items ≡ or_atoms_of (plain_bids bids.now)) }
 {
     let [bid, rest @ ..] = bids else {
@@ -58,7 +64,7 @@ fn is_dummy(dummy: u32, own: Option<u32>) -> bool
 }
 
 /// The atoms of the bids with this dummy good.
-fn xor_atoms_of(alloc: Global, bids: &[Bid], dummy: u32) -> Result<Vec<Atom<Vec<u16>>>, AllocError>
+fn xor_atoms_of(alloc: Global, bids: &[Bid], dummy: u32) -> Result<Bidder, AllocError>
     ensures { IfOk result (λ atoms. atoms_in atoms.items ≡ xor_atoms_of (plain_bids bids.now) dummy) }
 {
     let [bid, rest @ ..] = bids else {
@@ -78,7 +84,7 @@ fn bidders_from(
     bids: &[Bid],
     dummy: u32,
     count: u32,
-) -> Result<Vec<Vec<Atom<Vec<u16>>>>, AllocError>
+) -> Result<Vec<Bidder>, AllocError>
     requires { dummy + count < 2 ^ 32 }
     ensures { IfOk result (λ bidders. bidders_in bidders.items ≡ map (xor_atoms_of (plain_bids bids.now)) (range_with_len dummy count)) }
 {

@@ -5,7 +5,7 @@ ghost use Rattle.cats_text.specs.Views.{plain_file};
 ghost use Rattle.canon.specs.Canonical.{canonical_auction, canonical_text, points_of_bidders};
 ghost use Rattle.by_definition.specs.Lists.{auction_in, bidders_in};
 
-use crate::auction::{ListedAuction, auction_from};
+use crate::auction::{Bidder, ListedAuction, auction_from};
 use crate::fault::NoAnswer;
 use crate::file::file_from;
 use crate::list::prepend;
@@ -15,14 +15,13 @@ use crate::values::{is_nonzero, xor_table};
 use canon::laws::{canonical_is_same, file_reads_back};
 use cats_text::{BidFile, write};
 use std::alloc::{AllocError, Global};
-use valuation::Atom;
 
 /// The points of each bidder whose value is not 0 on every bundle.
 fn points_of_bidders(
     alloc: Global,
     goods: u16,
-    bidders: &[Vec<Atom<Vec<u16>>>],
-) -> Result<Vec<Vec<Atom<Vec<u16>>>>, AllocError>
+    bidders: &[Bidder],
+) -> Result<Vec<Bidder>, AllocError>
     requires { goods + 1 < 2 ^ 16 }
     ensures { IfOk result (λ points. bidders_in points.items ≡ points_of_bidders goods (bidders_in bidders.now)) }
 {

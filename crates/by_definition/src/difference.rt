@@ -13,7 +13,7 @@ ghost use Rattle.canon.specs.Verdicts.{plain_verdict, told_atoms};
 ghost use Rattle.by_definition.specs.Lists.{atoms_in, auction_in, bidders_in, bundles_in, goods_in};
 ghost use Rattle.by_definition.specs.Differences.{bidder_difference, is_unequal};
 
-use crate::auction::{ListedAuction, auction_from};
+use crate::auction::{Bidder, ListAtom, ListedAuction, auction_from};
 use crate::bundle::all_bundles;
 use crate::canonical::canonical_auction;
 use crate::fault::NoAnswer;
@@ -24,7 +24,6 @@ use crate::values::or_value;
 use canon::{Side, Verdict};
 use cats_text::BidFile;
 use std::alloc::{AllocError, Global};
-use valuation::Atom;
 
 /// The first of the bundles on which the OR values differ.
 fn first_unequal_bundle(
@@ -69,7 +68,7 @@ fn side_of(
 }
 
 /// How many of the bidders are this one.
-fn count_of(bidder: &[Atom<Vec<u16>>], bidders: &[Vec<Atom<Vec<u16>>>]) -> Result<u32, NoAnswer>
+fn count_of(bidder: &[ListAtom], bidders: &[Bidder]) -> Result<u32, NoAnswer>
     ensures { IfOk result (λ count. count ≡ count_of bidder_cmp (atoms_in bidder.now) (bidders_in bidders.now)) }
 {
     let [first, rest @ ..] = bidders else {
@@ -86,7 +85,7 @@ fn count_of(bidder: &[Atom<Vec<u16>>], bidders: &[Vec<Atom<Vec<u16>>>]) -> Resul
 }
 
 /// The atoms, each as its goods and its price.
-fn told(alloc: Global, atoms: &[Atom<Vec<u16>>]) -> Result<Vec<(Vec<u16>, u64)>, AllocError>
+fn told(alloc: Global, atoms: &[ListAtom]) -> Result<Vec<(Vec<u16>, u64)>, AllocError>
     ensures { IfOk result (λ bids. told_atoms bids.items ≡ atoms_in atoms.now) }
 {
     let [atom, rest @ ..] = atoms else {
@@ -98,11 +97,7 @@ fn told(alloc: Global, atoms: &[Atom<Vec<u16>>]) -> Result<Vec<(Vec<u16>, u64)>,
 
 /// Whether one of the lists has the bidder more often.
 #[tactic(auto, unfolding(crate::specs::Differences::is_unequal))]
-fn is_unequal(
-    one: &[Vec<Atom<Vec<u16>>>],
-    other: &[Vec<Atom<Vec<u16>>>],
-    bidder: &[Atom<Vec<u16>>],
-) -> Result<bool, NoAnswer>
+fn is_unequal(one: &[Bidder], other: &[Bidder], bidder: &[ListAtom]) -> Result<bool, NoAnswer>
     ensures { IfOk result (λ is. is ≡ is_unequal (bidders_in one.now) (bidders_in other.now) (atoms_in bidder.now)) }
 {
     Ok(count_of(bidder, one)? != count_of(bidder, other)?)
@@ -111,9 +106,9 @@ fn is_unequal(
 /// The difference in the first of the bidders that one of the lists has more often.
 fn first_unequal_bidder(
     alloc: Global,
-    one: &[Vec<Atom<Vec<u16>>>],
-    other: &[Vec<Atom<Vec<u16>>>],
-    bidders: &[Vec<Atom<Vec<u16>>>],
+    one: &[Bidder],
+    other: &[Bidder],
+    bidders: &[Bidder],
 ) -> Result<Verdict, NoAnswer>
     ensures { let ones = bidders_in one.now in let others = bidders_in other.now in
         IfOk result (λ verdict. plain_verdict verdict ≡ bidder_difference ones others (find (is_unequal ones others) (bidders_in bidders.now))) }

@@ -6,18 +6,13 @@ ghost use Rattle.cats_text.specs.Views.{plain_file};
 ghost use Rattle.canon.specs.Canonical.{bid_from, dummy_bids, file_from};
 ghost use Rattle.by_definition.specs.Lists.{atoms_in, auction_in, bidders_in};
 
-use crate::auction::ListedAuction;
+use crate::auction::{Bidder, ListAtom, ListedAuction};
 use crate::list::prepend;
 use cats_text::{Bid, BidFile};
 use std::alloc::{AllocError, Global};
-use valuation::Atom;
 
 /// The bids of one bidder, with its dummy good, if it has one.
-fn bids_from(
-    alloc: Global,
-    dummy: Option<u32>,
-    atoms: &[Atom<Vec<u16>>],
-) -> Result<Vec<Bid>, AllocError>
+fn bids_from(alloc: Global, dummy: Option<u32>, atoms: &[ListAtom]) -> Result<Vec<Bid>, AllocError>
     ensures { IfOk result (λ bids. plain_bids bids.items ≡ map (bid_from dummy) (atoms_in atoms.now)) }
 {
     let [atom, rest @ ..] = atoms else {
@@ -32,11 +27,7 @@ fn bids_from(
 }
 
 /// The bids of these bidders, with the dummy goods from `dummy` on.
-fn dummy_bids(
-    alloc: Global,
-    dummy: u32,
-    bidders: &[Vec<Atom<Vec<u16>>>],
-) -> Result<Vec<Bid>, AllocError>
+fn dummy_bids(alloc: Global, dummy: u32, bidders: &[Bidder]) -> Result<Vec<Bid>, AllocError>
     requires { dummy + length bidders.now < 2 ^ 32 }
     ensures { IfOk result (λ bids. plain_bids bids.items ≡ dummy_bids dummy (bidders_in bidders.now)) }
 {

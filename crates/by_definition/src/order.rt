@@ -6,10 +6,10 @@ ghost use Rattle.valuation.specs.Orders.{atom_cmp, bidder_cmp};
 ghost use Rattle.valuation.specs.Sorting.{insert_by, sort_by};
 ghost use Rattle.by_definition.specs.Lists.{atom_in, atoms_in, bidders_in};
 
+use crate::auction::{Bidder, ListAtom};
 use crate::list::{prepend, split_first};
 use std::alloc::{AllocError, Global};
 use std::cmp::Ordering;
-use valuation::Atom;
 
 /// By size, then lexicographically.
 pub fn compare_bundles(one: &[u16], other: &[u16]) -> Ordering
@@ -19,7 +19,7 @@ pub fn compare_bundles(one: &[u16], other: &[u16]) -> Ordering
 }
 
 /// By bundle, then by price.
-fn compare_atoms(one: &Atom<Vec<u16>>, other: &Atom<Vec<u16>>) -> Ordering
+fn compare_atoms(one: &ListAtom, other: &ListAtom) -> Ordering
     ensures { result ≡ atom_cmp (atom_in one.now) (atom_in other.now) }
 {
     compare_bundles(one.bundle.as_slice(), other.bundle.as_slice()).then(
@@ -28,7 +28,7 @@ fn compare_atoms(one: &Atom<Vec<u16>>, other: &Atom<Vec<u16>>) -> Ordering
 }
 
 /// Lexicographically by atoms.
-pub fn compare_bidders(one: &[Atom<Vec<u16>>], other: &[Atom<Vec<u16>>]) -> Ordering
+pub fn compare_bidders(one: &[ListAtom], other: &[ListAtom]) -> Ordering
     ensures { result ≡ bidder_cmp (atoms_in one.now) (atoms_in other.now) }
 {
     let [first, rest @ ..] = one else {
@@ -47,9 +47,9 @@ pub fn compare_bidders(one: &[Atom<Vec<u16>>], other: &[Atom<Vec<u16>>]) -> Orde
 /// The bidders, of which the list is in order, with one more at its place.
 fn insert_bidder(
     alloc: Global,
-    bidder: Vec<Atom<Vec<u16>>>,
-    bidders: Vec<Vec<Atom<Vec<u16>>>>,
-) -> Result<Vec<Vec<Atom<Vec<u16>>>>, AllocError>
+    bidder: Bidder,
+    bidders: Vec<Bidder>,
+) -> Result<Vec<Bidder>, AllocError>
     ensures { IfOk result (λ all. bidders_in all.items ≡ insert_by bidder_cmp (atoms_in bidder.items) (bidders_in bidders.items)) }
 {
     let Some((first, rest)) = split_first(bidders) else {
@@ -63,10 +63,7 @@ fn insert_bidder(
 }
 
 /// The bidders in order.
-pub fn sort_bidders(
-    alloc: Global,
-    bidders: Vec<Vec<Atom<Vec<u16>>>>,
-) -> Result<Vec<Vec<Atom<Vec<u16>>>>, AllocError>
+pub fn sort_bidders(alloc: Global, bidders: Vec<Bidder>) -> Result<Vec<Bidder>, AllocError>
     ensures { IfOk result (λ sorted. bidders_in sorted.items ≡ sort_by bidder_cmp (bidders_in bidders.items)) }
 {
     let Some((first, rest)) = split_first(bidders) else {

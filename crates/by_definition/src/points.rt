@@ -7,6 +7,7 @@ ghost use Rattle.valuation.specs.Values.{xor_value, or_value};
 ghost use Rattle.prune.specs.Points.{is_part, is_or_point, is_xor_point, or_points, xor_points};
 ghost use Rattle.by_definition.specs.Lists.{atoms_in, bundles_in, points_among};
 
+use crate::auction::{Bidder, ListAtom};
 use crate::bundle::{all_bundles, is_inside, without};
 use crate::fault::{NoAnswer, sum};
 use crate::list::prepend;
@@ -15,7 +16,7 @@ use std::alloc::{AllocError, Global};
 use valuation::Atom;
 
 /// An atom on a copy of the bundle.
-fn atom_on(alloc: Global, bundle: &[u16], price: u64) -> Result<Atom<Vec<u16>>, AllocError>
+fn atom_on(alloc: Global, bundle: &[u16], price: u64) -> Result<ListAtom, AllocError>
     ensures { IfOk result (λ atom. (atom.bundle.items ≡ bundle.now) × (atom.price ≡ price)) }
 {
     Ok(Atom {
@@ -27,7 +28,7 @@ fn atom_on(alloc: Global, bundle: &[u16], price: u64) -> Result<Atom<Vec<u16>>, 
 /// Whether taking any one of these goods out of the bundle gives a smaller value.
 fn each_is_missed(
     alloc: Global,
-    atoms: &[Atom<Vec<u16>>],
+    atoms: &[ListAtom],
     bundle: &[u16],
     goods: &[u16],
 ) -> Result<bool, AllocError>
@@ -47,7 +48,7 @@ fn each_is_missed(
 
 /// Whether the bundle is a point of the XOR bidder with these atoms.
 #[tactic(auto, unfolding(prune::specs::Points::is_xor_point))]
-fn is_xor_point(alloc: Global, atoms: &[Atom<Vec<u16>>], bundle: &[u16]) -> Result<bool, AllocError>
+fn is_xor_point(alloc: Global, atoms: &[ListAtom], bundle: &[u16]) -> Result<bool, AllocError>
     ensures { IfOk result (λ is_point. is_point ≡ is_xor_point (atoms_in atoms.now) bundle.now) }
 {
     if 0 < xor_value(atoms, bundle) {
@@ -59,9 +60,9 @@ fn is_xor_point(alloc: Global, atoms: &[Atom<Vec<u16>>], bundle: &[u16]) -> Resu
 
 fn xor_points_among(
     alloc: Global,
-    atoms: &[Atom<Vec<u16>>],
+    atoms: &[ListAtom],
     bundles: &[Vec<u16>],
-) -> Result<Vec<Atom<Vec<u16>>>, AllocError>
+) -> Result<Bidder, AllocError>
     ensures { let a = atoms_in atoms.now in
         IfOk result (λ points. atoms_in points.items ≡ points_among (is_xor_point a) (xor_value a) (bundles_in bundles.now)) }
 {
@@ -79,11 +80,7 @@ fn xor_points_among(
 
 /// The points of the XOR bidder with these atoms, in order.
 #[tactic(auto, unfolding(prune::specs::Points::points_where))]
-pub fn xor_points(
-    alloc: Global,
-    goods: u16,
-    atoms: &[Atom<Vec<u16>>],
-) -> Result<Vec<Atom<Vec<u16>>>, AllocError>
+pub fn xor_points(alloc: Global, goods: u16, atoms: &[ListAtom]) -> Result<Bidder, AllocError>
     requires { goods + 1 < 2 ^ 16 }
     ensures { IfOk result (λ points. atoms_in points.items ≡ xor_points goods (atoms_in atoms.now)) }
 {
@@ -100,7 +97,7 @@ fn is_part(part: &[u16], bundle: &[u16]) -> bool
 /// Whether splitting the bundle into any of these parts and what it leaves gives values that add up to less.
 fn each_split_is_less(
     alloc: Global,
-    atoms: &[Atom<Vec<u16>>],
+    atoms: &[ListAtom],
     bundle: &[u16],
     parts: &[Vec<u16>],
 ) -> Result<bool, NoAnswer>
@@ -130,7 +127,7 @@ pub fn is_or_point(
     alloc: Global,
     goods: u16,
     all: &[Vec<u16>],
-    atoms: &[Atom<Vec<u16>>],
+    atoms: &[ListAtom],
     bundle: &[u16],
 ) -> Result<bool, NoAnswer>
     requires { bundles_in all.now ≡ all_bundles goods }
@@ -147,9 +144,9 @@ fn or_points_among(
     alloc: Global,
     goods: u16,
     all: &[Vec<u16>],
-    atoms: &[Atom<Vec<u16>>],
+    atoms: &[ListAtom],
     bundles: &[Vec<u16>],
-) -> Result<Vec<Atom<Vec<u16>>>, NoAnswer>
+) -> Result<Bidder, NoAnswer>
     requires { bundles_in all.now ≡ all_bundles goods }
     ensures { let a = atoms_in atoms.now in
         IfOk result (λ points. atoms_in points.items ≡ points_among (is_or_point goods a) (or_value a) (bundles_in bundles.now)) }
@@ -168,11 +165,7 @@ fn or_points_among(
 
 /// The points of the OR bidder with these atoms, in order.
 #[tactic(auto, unfolding(prune::specs::Points::points_where))]
-pub fn or_points(
-    alloc: Global,
-    goods: u16,
-    atoms: &[Atom<Vec<u16>>],
-) -> Result<Vec<Atom<Vec<u16>>>, NoAnswer>
+pub fn or_points(alloc: Global, goods: u16, atoms: &[ListAtom]) -> Result<Bidder, NoAnswer>
     requires { goods + 1 < 2 ^ 16 }
     ensures { IfOk result (λ points. atoms_in points.items ≡ or_points goods (atoms_in atoms.now)) }
 {

@@ -9,12 +9,11 @@ ghost use Rattle.canon.specs.Sameness.{has_table, AreSameFiles, IsSameAuction};
 ghost use Rattle.by_definition.specs.Lists.{atoms_in, auction_in, bidders_in};
 ghost use Rattle.by_definition.specs.Tables.{is_as_frequent};
 
-use crate::auction::{ListedAuction, auction_from};
+use crate::auction::{Bidder, ListAtom, ListedAuction, auction_from};
 use crate::fault::{NoAnswer, sum};
 use crate::values::{is_nonzero, or_table, xor_table};
 use cats_text::BidFile;
 use std::alloc::Global;
-use valuation::Atom;
 
 /// Whether the tables have the same values.
 fn are_equal(one: &[u64], other: &[u64]) -> bool
@@ -28,7 +27,7 @@ fn bidders_with(
     alloc: Global,
     goods: u16,
     table: &[u64],
-    bidders: &[Vec<Atom<Vec<u16>>>],
+    bidders: &[Bidder],
 ) -> Result<u64, NoAnswer>
     requires { goods + 1 < 2 ^ 16 }
     ensures { IfOk result (λ count. count ≡ count_by (has_table goods table.now) (bidders_in bidders.now)) }
@@ -50,9 +49,9 @@ fn bidders_with(
 fn is_as_frequent(
     alloc: Global,
     goods: u16,
-    one: &[Vec<Atom<Vec<u16>>>],
-    other: &[Vec<Atom<Vec<u16>>>],
-    bidder: &[Atom<Vec<u16>>],
+    one: &[Bidder],
+    other: &[Bidder],
+    bidder: &[ListAtom],
 ) -> Result<bool, NoAnswer>
     requires { goods + 1 < 2 ^ 16 }
     ensures { IfOk result (λ is. is ≡ is_as_frequent goods (bidders_in one.now) (bidders_in other.now) (atoms_in bidder.now)) }
@@ -67,9 +66,9 @@ fn is_as_frequent(
 fn are_as_frequent(
     alloc: Global,
     goods: u16,
-    one: &[Vec<Atom<Vec<u16>>>],
-    other: &[Vec<Atom<Vec<u16>>>],
-    bidders: &[Vec<Atom<Vec<u16>>>],
+    one: &[Bidder],
+    other: &[Bidder],
+    bidders: &[Bidder],
 ) -> Result<bool, NoAnswer>
     requires { goods + 1 < 2 ^ 16 }
     ensures { IfOk result (λ are. are ≡ list_all (is_as_frequent goods (bidders_in one.now) (bidders_in other.now)) (bidders_in bidders.now)) }

@@ -1,7 +1,7 @@
 //! The program's answers on families of small auctions, each compared with what the definitions give.
 
 use crate::{are_same_files, canonical_text, first_difference, first_heavy};
-use canon::{CanonFault, Verdict, normalise};
+use canon::{CanonFault, Verdict, Which, compare, normalise};
 use cats_text::{BidFile, read};
 use std::alloc::{AllocError, Global};
 use std::process::Abort;
@@ -31,6 +31,14 @@ struct Sizes {
     dummies: u64,
     price: u64,
 }
+
+/// A family of which many pairs are the same auction.
+const SMALL: Sizes = Sizes {
+    goods: 2,
+    bids: 4,
+    dummies: 2,
+    price: 2,
+};
 
 /// The next auction of a family, as a text: up to so many goods, bids and dummy goods, at prices of up to so many units.
 fn next_text(alloc: Global, state: &mut u64, sizes: Sizes) -> Result<String, AllocError> {
@@ -72,8 +80,9 @@ fn push_goods(
     Ok(())
 }
 
-/// The text is what the definition gives, normalising it gives it back, and under a small limit the first heavy bundle is told.
-fn expect_text(rt: &impl Abort, alloc: Global, text: &str, limit: u64) -> Result<(), Fail> {
+/// The text is what the definition gives, normalising it gives it back, and under the limit the first heavy bundle is told. Answers
+/// whether there is one.
+fn expect_text(rt: &impl Abort, alloc: Global, text: &str, limit: u64) -> Result<bool, Fail> {
     let file = read(alloc, text.as_bytes())?;
     let expected = canonical_text(alloc, &file)?;
     let found = normalise(alloc, text.as_bytes(), AMPLE)?;
@@ -86,13 +95,14 @@ fn expect_text(rt: &impl Abort, alloc: Global, text: &str, limit: u64) -> Result
     ) {
         (None, Ok(light)) => {
             assert_eq!(rt; light.as_slice(), expected.as_slice(), "of {text}");
+            Ok(false)
         }
         (Some(bundle), Err(CanonFault::StepLimit { goods })) => {
             assert_eq!(rt; goods.as_slice(), bundle.as_slice(), "of {text}");
+            Ok(true)
         }
         _ => panic!(rt; "another answer of {text}"),
     }
-    Ok(())
 }
 
 #[test]
@@ -104,46 +114,61 @@ fn texts_are_by_definition(rt: HostRuntime) -> Result<(), Fail> {
         price: 4,
     };
     let mut state = 1;
-    for number in 0..4000 {
+    let mut heavy = 0u64;
+    for number in 0..100_000 {
         let text = next_text(rt.alloc(), &mut state, sizes)?;
-        expect_text(&rt, rt.alloc(), text.as_str(), 1 + number % 3)?;
+        if expect_text(&rt, rt.alloc(), text.as_str(), 1 + number % 3)? {
+            heavy = heavy.saturating_add(1);
+        }
     }
+    assert!(rt; heavy > 1000);
     Ok(())
 }
 
-/// The files of a family, each with its canonical text.
-fn family(alloc: Global, count: u64, sizes: Sizes) -> Result<Vec<(BidFile, Vec<u8>)>, Fail> {
-    let mut state = 2;
-    let mut files = Vec::new(alloc);
-    for _number in 0..count {
-        let text = next_text(alloc, &mut state, sizes)?;
-        let file = read(alloc, text.as_bytes())?;
-        files.push((file, normalise(alloc, text.as_bytes(), AMPLE)?))?;
-    }
-    Ok(files)
+/// An auction of a family, as a text and as a file, and its canonical text.
+#[derive(Drop)]
+struct Member {
+    text: String,
+    file: BidFile,
+    canonical: Vec<u8>,
 }
+
+/// The first auctions of the small family.
+fn first_members(alloc: Global, count: u64) -> Result<Vec<Member>, Fail> {
+    let mut state = 2;
+    let mut members = Vec::new(alloc);
+    for _number in 0..count {
+        let text = next_text(alloc, &mut state, SMALL)?;
+        members.push(Member {
+            file: read(alloc, text.as_bytes())?,
+            canonical: normalise(alloc, text.as_bytes(), AMPLE)?,
+            text,
+        })?;
+    }
+    Ok(members)
+}
+
+/// How many pairs of the first 1,000 members are the same auction, as a program in another language counted by tables of values alone.
+const EQUAL_PAIRS: u64 = 68_380;
 
 /// Two texts are equal exactly where the tables of values say that the auctions are the same.
 #[test]
 fn equal_text_exactly_for_the_same_auction(rt: HostRuntime) -> Result<(), Fail> {
-    let sizes = Sizes {
-        goods: 2,
-        bids: 4,
-        dummies: 2,
-        price: 2,
-    };
-    let files = family(rt.alloc(), 200, sizes)?;
+    let members = first_members(rt.alloc(), 1000)?;
     let mut equal = 0u64;
-    for (one, text) in &files {
-        for (other, other_text) in &files {
-            let same = are_same_files(rt.alloc(), one, other)?;
-            assert_eq!(rt; text.as_slice() == other_text.as_slice(), same);
+    for one in &members {
+        for other in &members {
+            let same = are_same_files(rt.alloc(), &one.file, &other.file)?;
+            assert_eq!(rt;
+                one.canonical.as_slice() == other.canonical.as_slice(),
+                same
+            );
             if same {
                 equal = equal.saturating_add(1);
             }
         }
     }
-    assert!(rt; equal > 400);
+    assert_eq!(rt; equal, EQUAL_PAIRS);
     Ok(())
 }
 
@@ -173,24 +198,72 @@ fn exchanged(verdict: Verdict) -> Verdict {
     }
 }
 
-/// What is told of the first difference is exchanged, and nothing else, where the files are.
-#[test]
-fn first_differences_are_exchanged(rt: HostRuntime) -> Result<(), Fail> {
-    let sizes = Sizes {
-        goods: 2,
-        bids: 4,
-        dummies: 2,
-        price: 2,
+/// The verdict is the first difference by the definition, and the other way round it is exchanged. Answers it.
+fn expect_verdict(
+    rt: &impl Abort,
+    alloc: Global,
+    one: &Member,
+    other: &Member,
+) -> Result<Verdict, Fail> {
+    let expected = first_difference(alloc, &one.file, &other.file)?;
+    let Ok(there) = compare(alloc, one.text.as_bytes(), other.text.as_bytes(), AMPLE) else {
+        panic!(rt; "the texts are compared");
     };
-    let files = family(rt.alloc(), 100, sizes)?;
-    for (one, text) in &files {
-        for (other, other_text) in &files {
-            let there = first_difference(rt.alloc(), one, other)?;
-            let back = first_difference(rt.alloc(), other, one)?;
-            let same = text.as_slice() == other_text.as_slice();
-            assert_eq!(rt; matches!(there, Verdict::Same), same);
-            assert_eq!(rt; exchanged(there), back);
+    assert_eq!(rt; there, expected);
+    let Ok(back) = compare(alloc, other.text.as_bytes(), one.text.as_bytes(), AMPLE) else {
+        panic!(rt; "the texts are compared the other way round");
+    };
+    assert_eq!(rt; exchanged(back), expected);
+    Ok(expected)
+}
+
+/// Under a limit of one step the first heavy bundle of the first text that has one is told.
+fn expect_refusal(
+    rt: &impl Abort,
+    alloc: Global,
+    one: &Member,
+    other: &Member,
+) -> Result<(), Fail> {
+    let heavy = first_heavy(alloc, &one.file, 1)?;
+    let other_heavy = first_heavy(alloc, &other.file, 1)?;
+    let (which, fault) = match compare(alloc, one.text.as_bytes(), other.text.as_bytes(), 1) {
+        Ok(_verdict) => {
+            assert!(rt; heavy.is_none() && other_heavy.is_none());
+            return Ok(());
+        }
+        Err(refusal) => refusal,
+    };
+    let CanonFault::StepLimit { goods } = fault else {
+        panic!(rt; "the step limit is told");
+    };
+    assert_eq!(rt; which == Which::First, heavy.is_some());
+    assert_eq!(rt; which == Which::Second, heavy.is_none());
+    let bundle = heavy.or(other_heavy);
+    assert_eq!(rt; bundle, Some(goods));
+    Ok(())
+}
+
+/// How many pairs of the first 300 members part on a bundle, and how many in a bidder, counted in the same way.
+const UNEQUAL_BUNDLES: u64 = 30_488;
+
+const UNEQUAL_BIDDERS: u64 = 9_024;
+
+#[test]
+fn verdicts_are_by_definition(rt: HostRuntime) -> Result<(), Fail> {
+    let members = first_members(rt.alloc(), 300)?;
+    let mut bundles = 0u64;
+    let mut bidders = 0u64;
+    for one in &members {
+        for other in &members {
+            match expect_verdict(&rt, rt.alloc(), one, other)? {
+                Verdict::Or { .. } => bundles = bundles.saturating_add(1),
+                Verdict::Xor { .. } => bidders = bidders.saturating_add(1),
+                Verdict::Same | Verdict::Goods(..) => {}
+            }
+            expect_refusal(&rt, rt.alloc(), one, other)?;
         }
     }
+    assert_eq!(rt; bundles, UNEQUAL_BUNDLES);
+    assert_eq!(rt; bidders, UNEQUAL_BIDDERS);
     Ok(())
 }

@@ -11,7 +11,7 @@ use std::alloc::{AllocError, Global};
 use std::cmp::Ordering;
 
 /// A set of goods below the lesser of 64 times `N` and 65,536: a good is in it where its bit of the
-/// words is set. None of its calls takes memory.
+/// words is set. None of its calls takes memory, but for the vector that `list_into` appends to.
 #[derive(Debug, Drop)]
 pub struct WordSet<const N: usize> {
     words: [u64; N],

@@ -22,17 +22,23 @@ fn run_words(
     })
 }
 
-/// What a command line answers, whose words have a blank between each two, and in which FILE stands for a path.
+/// What a command line answers, whose words have a blank between each two, and in which FILE stands for a path, and OTHER for
+/// another.
 fn run(
     rt: &HostRuntime,
     line: &str,
     path: &str,
+    other: &str,
     out_room: usize,
     err_room: usize,
 ) -> Result<Told, Fail> {
     let mut words = Vec::new(rt.alloc());
     for word in line.split(' ') {
-        words.push(if word == "FILE" { path } else { word })?;
+        words.push(match word {
+            "FILE" => path,
+            "OTHER" => other,
+            _ => word,
+        })?;
     }
     run_words(rt, words.as_slice(), out_room, err_room)
 }
@@ -74,7 +80,7 @@ static WRONG_LINES: [&str; 27] = [
 fn usage_faults(rt: HostRuntime) -> Result<(), Fail> {
     for line in &WRONG_LINES {
         for err_room in [ROOM, 3] {
-            let answer = run(&rt, line, "", ROOM, err_room)?;
+            let answer = run(&rt, line, "", "", ROOM, err_room)?;
             let told = answer.sent.is_empty() && !answer.line.is_empty();
             assert!(rt; told && answer.status == 64, "of {line:?}: {answer:?}");
         }
@@ -99,10 +105,10 @@ static HELP_LINES: [&str; 9] = [
 #[test]
 fn help(rt: HostRuntime) -> Result<(), Fail> {
     for line in &HELP_LINES {
-        let answer = run(&rt, line, "", ROOM, ROOM)?;
+        let answer = run(&rt, line, "", "", ROOM, ROOM)?;
         let told = answer.sent.as_str().contains("Usage: cats") && answer.line.is_empty();
         assert!(rt; told && answer.status == 0, "of {line:?}: {answer:?}");
-        let cut_off = run(&rt, line, "", 3, ROOM)?;
+        let cut_off = run(&rt, line, "", "", 3, ROOM)?;
         assert!(rt; cut_off.status == 5, "of {line:?}: {cut_off:?}");
     }
     Ok(())
@@ -118,7 +124,7 @@ fn cannot_open(rt: HostRuntime) -> Result<(), Fail> {
         // a folder is opened, and cannot be read
         ("/tmp", ROOM, "Device\n"),
     ] {
-        let answer = run(&rt, "cats check FILE", path, ROOM, *room)?;
+        let answer = run(&rt, "cats check FILE", path, "", ROOM, *room)?;
         expect(&rt, &answer, 5, "", told);
     }
     Ok(())
@@ -127,16 +133,37 @@ fn cannot_open(rt: HostRuntime) -> Result<(), Fail> {
 /// A command line with its room for output and faults, and what it answers: its status, its output and its fault's line.
 type Row<'a> = (&'a str, usize, usize, u8, &'a str, &'a str);
 
-/// What command lines answer of a new file with this text.
-fn answers(rt: &HostRuntime, abort: &impl Abort, text: &str, rows: &[Row<'_>]) -> Result<(), Fail> {
+/// The path of a new file with this text.
+fn new_file(rt: &HostRuntime, name: &str, text: &str) -> Result<String, Fail> {
     let id = process::id(rt.process());
-    let path = format!(in rt.alloc(); "/tmp/cats_cmd_{id}.cats")?;
+    let path = format!(in rt.alloc(); "/tmp/cats_cmd_{id}_{name}.cats")?;
     fs::write(rt, path.as_str(), text)?;
+    Ok(path)
+}
+
+/// What command lines answer of two new files with these texts.
+fn answers(
+    rt: &HostRuntime,
+    abort: &impl Abort,
+    text: &str,
+    other_text: &str,
+    rows: &[Row<'_>],
+) -> Result<(), Fail> {
+    let path = new_file(rt, "one", text)?;
+    let other = new_file(rt, "other", other_text)?;
     for (line, out_room, err_room, status, sent, told) in rows {
-        let answer = run(rt, line, path.as_str(), *out_room, *err_room)?;
+        let answer = run(
+            rt,
+            line,
+            path.as_str(),
+            other.as_str(),
+            *out_room,
+            *err_room,
+        )?;
         expect(abort, &answer, *status, sent, told);
     }
     fs::remove_file(rt, path.as_str())?;
+    fs::remove_file(rt, other.as_str())?;
     Ok(())
 }
 
@@ -289,9 +316,33 @@ const LARGER_BID: &str = "goods 2\nbids 3\ndummy 0\n0 3 0 #\n1 4 1 #\n2 7 0 1 #\
 
 const LARGER_BID_TEXT: &str = "goods 2\nbids 2\ndummy 0\n0\t3\t0\t#\n1\t4\t1\t#\n";
 
-static LARGER_BID_ROWS: [Row<'static>; 6] = [
+static LARGER_BID_ROWS: [Row<'static>; 9] = [
     ("cats normalise FILE", ROOM, ROOM, 0, LARGER_BID_TEXT, ""),
     ("cats compare FILE FILE", ROOM, ROOM, 0, "same\n", ""),
+    (
+        "cats compare FILE OTHER",
+        ROOM,
+        ROOM,
+        1,
+        "different\nor 0\nleft 3\nright below 3\n",
+        "",
+    ),
+    (
+        "cats compare OTHER FILE",
+        ROOM,
+        ROOM,
+        1,
+        "different\nor 0\nleft below 3\nright 3\n",
+        "",
+    ),
+    (
+        "cats compare --steps=2 OTHER FILE",
+        ROOM,
+        ROOM,
+        3,
+        "",
+        "second: step limit at 0,1\n",
+    ),
     (
         "cats compare FILE --steps 2 FILE",
         ROOM,
@@ -352,49 +403,10 @@ static SINGLES_ROWS: [Row<'static>; 2] = [
 
 #[test]
 fn files(rt: HostRuntime) -> Result<(), Fail> {
-    answers(&rt, &rt, SIZES, &SIZES_ROWS)?;
-    answers(&rt, &rt, SHOWN, &SHOWN_ROWS)?;
-    answers(&rt, &rt, MISSING, &MISSING_ROWS)?;
-    answers(&rt, &rt, VALUED, &VALUED_ROWS)?;
-    answers(&rt, &rt, LARGER_BID, &LARGER_BID_ROWS)?;
-    answers(&rt, &rt, SINGLES, &SINGLES_ROWS)
-}
-
-#[test]
-fn two_files(rt: HostRuntime) -> Result<(), Fail> {
-    let id = process::id(rt.process());
-    let left = format!(in rt.alloc(); "/tmp/cats_cmd_{id}_left.cats")?;
-    let right = format!(in rt.alloc(); "/tmp/cats_cmd_{id}_right.cats")?;
-    fs::write(&rt, left.as_str(), LARGER_BID)?;
-    fs::write(&rt, right.as_str(), SIZES)?;
-    let words = ["cats", "compare", left.as_str(), right.as_str()];
-    let there = run_words(&rt, &words, ROOM, ROOM)?;
-    let words = ["cats", "compare", right.as_str(), left.as_str()];
-    let back = run_words(&rt, &words, ROOM, ROOM)?;
-    let words = [
-        "cats",
-        "compare",
-        "--steps=2",
-        right.as_str(),
-        left.as_str(),
-    ];
-    let heavy = run_words(&rt, &words, ROOM, ROOM)?;
-    fs::remove_file(&rt, left.as_str())?;
-    fs::remove_file(&rt, right.as_str())?;
-    expect(
-        &rt,
-        &there,
-        1,
-        "different\nor 0\nleft 3\nright below 3\n",
-        "",
-    );
-    expect(
-        &rt,
-        &back,
-        1,
-        "different\nor 0\nleft below 3\nright 3\n",
-        "",
-    );
-    expect(&rt, &heavy, 3, "", "second: step limit at 0,1\n");
-    Ok(())
+    answers(&rt, &rt, SIZES, "", &SIZES_ROWS)?;
+    answers(&rt, &rt, SHOWN, "", &SHOWN_ROWS)?;
+    answers(&rt, &rt, MISSING, "", &MISSING_ROWS)?;
+    answers(&rt, &rt, VALUED, "", &VALUED_ROWS)?;
+    answers(&rt, &rt, LARGER_BID, SIZES, &LARGER_BID_ROWS)?;
+    answers(&rt, &rt, SINGLES, "", &SINGLES_ROWS)
 }
