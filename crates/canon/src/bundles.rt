@@ -45,6 +45,7 @@ pub(crate) fn bundle_verdict(
     }
 }
 
+/// The first place where two lists of bids part, and what is told of it.
 fn first_parting<'a>(left: &'a [Bid], right: &'a [Bid]) -> Option<Parting<'a>>
     ensures { (cap : ℕ) (a b : PlainAuction) → HasOrBids cap a (plain_bids left.now) → HasOrBids cap b (plain_bids right.now)
         → a.goods ≡ b.goods → MatchOption result (first_unequal_bundle a b ≡ None)
