@@ -35,7 +35,7 @@ fn canonical_on<S: GoodsSet>(alloc: Global, auction: Auction<S>) -> Result<Strin
 
 #[test]
 fn canonical_auctions(rt: HostRuntime) -> Result<(), Fail> {
-    for (text, expected) in [
+    for (text, expected) in &[
         (EQUAL_BIDDERS, EQUAL_BIDDERS_TEXT),
         (LARGER_BID, LARGER_BID_TEXT),
     ] {
@@ -43,20 +43,20 @@ fn canonical_auctions(rt: HostRuntime) -> Result<(), Fail> {
         assert!(rt; file.goods() <= 64);
         let words: Auction<WordSet<1>> = auction_of(rt.alloc(), &file)?;
         let lists: Auction<ListSet> = auction_of(rt.alloc(), &file)?;
-        assert_eq!(rt; canonical_on(rt.alloc(), words)?.as_str(), expected);
-        assert_eq!(rt; canonical_on(rt.alloc(), lists)?.as_str(), expected);
+        assert_eq!(rt; canonical_on(rt.alloc(), words)?.as_str(), *expected);
+        assert_eq!(rt; canonical_on(rt.alloc(), lists)?.as_str(), *expected);
     }
     Ok(())
 }
 
 #[test]
 fn files_of_auctions(rt: HostRuntime) -> Result<(), Fail> {
-    for text in [EQUAL_BIDDERS_TEXT, LARGER_BID] {
+    for text in &[EQUAL_BIDDERS_TEXT, LARGER_BID] {
         let file = read(rt.alloc(), text.as_bytes())?;
         assert!(rt; file.goods() <= 1024);
         let auction: Auction<WordSet<16>> = auction_of(rt.alloc(), &file)?;
         let again = file_of(rt.alloc(), &auction)?;
-        assert_eq!(rt; text_of(rt.alloc(), &again)?.as_str(), text);
+        assert_eq!(rt; text_of(rt.alloc(), &again)?.as_str(), *text);
     }
     Ok(())
 }
@@ -73,14 +73,14 @@ fn told(alloc: Global, answer: Result<Vec<u8>, CanonFault>) -> Result<String, Fa
 
 #[test]
 fn canonical_texts(rt: HostRuntime) -> Result<(), Fail> {
-    for (text, limit, expected) in [
+    for (text, limit, expected) in &[
         (EQUAL_BIDDERS, 1, EQUAL_BIDDERS_TEXT),
         (LARGER_BID, 3, LARGER_BID_TEXT),
         (LARGER_BID, 2, "steps [0, 1]"),
         ("goods 2\n", 2, "line 2: Missing"),
     ] {
-        let answer = normalise(rt.alloc(), text.as_bytes(), limit);
-        assert_eq!(rt; told(rt.alloc(), answer)?.as_str(), expected);
+        let answer = normalise(rt.alloc(), text.as_bytes(), *limit);
+        assert_eq!(rt; told(rt.alloc(), answer)?.as_str(), *expected);
     }
     Ok(())
 }

@@ -266,10 +266,28 @@ fn some_atoms<S: GoodsSet>(
     Ok(atoms)
 }
 
-fn agree<S: GoodsSet>(rt: &impl Abort, alloc: Global) -> Result<(), Fail> {
+// Appends so many atoms on a good that no bundle of the tests has.
+fn add_others<S: GoodsSet>(
+    rt: &impl Abort,
+    alloc: Global,
+    atoms: &mut Vec<Atom<S>>,
+    count: u8,
+) -> Result<(), Fail>
+    requires { All (IsAtom MAX_GOODS) (atoms_of S.goods atoms.old.items) }
+    ensures { IfOk result (λ _. All (IsAtom MAX_GOODS) (atoms_of S.goods atoms.new.items)) }
+{
+    for _i in 0..count {
+        add_atom(rt, alloc, atoms, &[6], 1)?;
+    }
+    Ok(())
+}
+
+// With more than 128 atoms the search is the one by sets of goods, and else the one by marks.
+fn agree<S: GoodsSet>(rt: &impl Abort, alloc: Global, others: u8) -> Result<(), Fail> {
     let mut state = 7;
     for _ in 0..40 {
-        let atoms = some_atoms(rt, alloc, &mut state)?;
+        let mut atoms = some_atoms(rt, alloc, &mut state)?;
+        add_others(rt, alloc, &mut atoms, others)?;
         for bits in 0..64 {
             let bundle = bundle_of::<S>(rt, alloc, &goods_of(alloc, bits)?)?;
             agree_on(rt, alloc, &atoms, &bundle)?;
@@ -280,8 +298,10 @@ fn agree<S: GoodsSet>(rt: &impl Abort, alloc: Global) -> Result<(), Fail> {
 
 #[test]
 fn search_agrees_with_the_plain_recursions(rt: HostRuntime) -> Result<(), Fail> {
-    agree::<ListSet>(&rt, rt.alloc())?;
-    agree::<WordSet<16>>(&rt, rt.alloc())
+    agree::<ListSet>(&rt, rt.alloc(), 0)?;
+    agree::<ListSet>(&rt, rt.alloc(), 130)?;
+    agree::<WordSet<16>>(&rt, rt.alloc(), 0)?;
+    agree::<WordSet<16>>(&rt, rt.alloc(), 130)
 }
 
 // Three goods and two dummy goods: a bid with the first dummy good, then one without.

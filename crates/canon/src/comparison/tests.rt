@@ -23,7 +23,7 @@ const ONE_EACH: &str = "goods 2\nbids 2\ndummy 0\n0\t1\t0\t#\n1\t1\t1\t#\n";
 const ONE_AND_PAIR: &str = "goods 2\nbids 2\ndummy 0\n0\t1\t0\t#\n1\t9\t0\t1\t#\n";
 
 /// Pairs of texts, and how they part.
-const ROWS: [(&str, &str, &str); 9] = [
+static ROWS: [(&str, &str, &str); 9] = [
     (TWICE, TWICE, "Same"),
     (
         TWICE,
@@ -73,23 +73,23 @@ fn told(alloc: Global, answer: Result<Verdict, (Which, CanonFault)>) -> Result<S
 
 #[test]
 fn texts_part(rt: HostRuntime) -> Result<(), Fail> {
-    for (left, right, expected) in ROWS {
+    for (left, right, expected) in &ROWS {
         let answer = compare(rt.alloc(), left.as_bytes(), right.as_bytes(), 100);
-        assert_eq!(rt; told(rt.alloc(), answer)?.as_str(), expected);
+        assert_eq!(rt; told(rt.alloc(), answer)?.as_str(), *expected);
     }
     Ok(())
 }
 
 #[test]
 fn canonical_files_part(rt: HostRuntime) -> Result<(), Fail> {
-    for (left, right, expected) in ROWS {
+    for (left, right, expected) in &ROWS {
         let one = read(rt.alloc(), left.as_bytes())?;
         let one = normal_file(rt.alloc(), &one, 100)?;
         let other = read(rt.alloc(), right.as_bytes())?;
         let other = normal_file(rt.alloc(), &other, 100)?;
         let verdict = compare_files(rt.alloc(), &one, &other)?;
         let line = format!(in rt.alloc(); "{verdict:?}")?;
-        assert_eq!(rt; line.as_str(), expected);
+        assert_eq!(rt; line.as_str(), *expected);
     }
     Ok(())
 }
@@ -98,7 +98,7 @@ fn canonical_files_part(rt: HostRuntime) -> Result<(), Fail> {
 fn the_first_refusal_is_told(rt: HostRuntime) -> Result<(), Fail> {
     let fault = "goods 2\n";
     let heavy = PAIR_AT_7;
-    for (left, right, expected) in [
+    for (left, right, expected) in &[
         (fault, "goods x\n", "First line 2: Missing"),
         (fault, heavy, "First line 2: Missing"),
         (fault, SINGLES, "First line 2: Missing"),
@@ -110,7 +110,7 @@ fn the_first_refusal_is_told(rt: HostRuntime) -> Result<(), Fail> {
         (SINGLES, SINGLES, "Same"),
     ] {
         let answer = compare(rt.alloc(), left.as_bytes(), right.as_bytes(), 2);
-        assert_eq!(rt; told(rt.alloc(), answer)?.as_str(), expected);
+        assert_eq!(rt; told(rt.alloc(), answer)?.as_str(), *expected);
     }
     Ok(())
 }
@@ -120,9 +120,9 @@ fn the_first_refusal_is_told(rt: HostRuntime) -> Result<(), Fail> {
 fn a_heavy_bundle_comes_before_goods(rt: HostRuntime) -> Result<(), Fail> {
     let few = "goods 1024\nbids 3\ndummy 0\n0\t3\t0\t#\n1\t4\t1\t#\n2\t7\t0\t1\t#\n";
     let many = "goods 4096\nbids 0\ndummy 0\n";
-    for (limit, expected) in [(2, "First steps [0, 1]"), (3, "Goods(1024, 4096)")] {
-        let answer = compare(rt.alloc(), few.as_bytes(), many.as_bytes(), limit);
-        assert_eq!(rt; told(rt.alloc(), answer)?.as_str(), expected);
+    for (limit, expected) in &[(2, "First steps [0, 1]"), (3, "Goods(1024, 4096)")] {
+        let answer = compare(rt.alloc(), few.as_bytes(), many.as_bytes(), *limit);
+        assert_eq!(rt; told(rt.alloc(), answer)?.as_str(), *expected);
     }
     Ok(())
 }

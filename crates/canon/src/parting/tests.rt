@@ -32,7 +32,7 @@ fn told(rt: &impl Abort, alloc: Global, left: &str, right: &str) -> Result<Strin
 
 #[test]
 fn bidders_that_part(rt: HostRuntime) -> Result<(), Fail> {
-    for (left, right, expected) in [
+    for (left, right, expected) in &[
         (ONE_OTHER, ONE_OTHER, "Same"),
         (
             ONE_ONE_OTHER,
@@ -51,7 +51,7 @@ fn bidders_that_part(rt: HostRuntime) -> Result<(), Fail> {
         ),
     ] {
         let answer = told(&rt, rt.alloc(), left, right)?;
-        assert_eq!(rt; answer.as_str(), expected);
+        assert_eq!(rt; answer.as_str(), *expected);
     }
     Ok(())
 }
