@@ -1,24 +1,31 @@
 //! The definitions as a program, slow and plain, which the tests compare the program's answers with. Bundles are lists of goods,
-//! bidders are gone through bundle by bundle, and each function's contract is the definition that it computes.
+//! bidders are gone through bundle by bundle, and each function's contract is the definition that it computes. All of it is for
+//! these tests: as a library the crate offers nothing.
 #![tactic(auto)]
 
+#[cfg(test)]
 mod auction;
+#[cfg(test)]
 mod bundle;
+#[cfg(test)]
 mod canonical;
+#[cfg(test)]
 mod difference;
+#[cfg(test)]
 mod fault;
+#[cfg(test)]
 mod file;
+#[cfg(test)]
 mod list;
+#[cfg(test)]
 mod order;
+#[cfg(test)]
 mod points;
+#[cfg(test)]
 mod same;
+#[cfg(test)]
 mod steps;
 #[cfg(test)]
 mod tests;
+#[cfg(test)]
 mod values;
-
-pub use canonical::canonical_text;
-pub use difference::first_difference;
-pub use fault::NoAnswer;
-pub use same::are_same_files;
-pub use steps::first_heavy;

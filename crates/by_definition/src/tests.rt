@@ -1,6 +1,9 @@
 //! The program's answers on families of small auctions, each compared with what the definitions give.
 
-use crate::{are_same_files, canonical_text, first_difference, first_heavy};
+use crate::canonical::canonical_text;
+use crate::difference::first_difference;
+use crate::same::are_same_files;
+use crate::steps::first_heavy;
 use canon::{CanonFault, Verdict, Which, compare, normalise};
 use cats_text::{BidFile, read};
 use std::alloc::{AllocError, Global};

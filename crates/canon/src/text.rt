@@ -17,10 +17,10 @@ use crate::fault::CanonFault;
 use crate::file::file_of;
 use crate::writing::text_of;
 use cats_text::{BidFile, read};
-use goods_set::{GoodsSet, goods_of, on_least_set};
+use goods_set::{GoodsSet, ListSet, goods_of, on_least_set};
 use prune::PruneFault;
 use std::alloc::Global;
-use valuation::{Auction, auction_of};
+use valuation::{Auction, auction_of, into_auction};
 
 /// The canonical file of a file: the file of its canonical auction. `limit` bounds each search that decides on a bundle of the OR
 /// bidder.
@@ -30,6 +30,9 @@ pub fn normal_file(alloc: Global, file: &BidFile, limit: u64) -> Result<BidFile,
     ensures canonical { IfOk result (λ h. IsCanonicalFile (plain_file h)) }
     ensures least { IfOk result (λ h. IsLeastFor (plain_file file.now) (plain_file h)) }
 {
+    if is_sparse(file) {
+        return normal_file_on::<ListSet>(alloc, file, limit);
+    }
     on_least_set!(file.goods(), normal_file_on(alloc, file, limit))
 }
 
@@ -39,6 +42,9 @@ pub fn into_normal_file(alloc: Global, file: BidFile, limit: u64) -> Result<BidF
     ensures answer { NormalisesFileAs limit (plain_file file) result }
     ensures canonical { IfOk result (λ h. IsCanonicalFile (plain_file h)) }
 {
+    if is_sparse(&file) {
+        return into_normal_file_on::<ListSet>(alloc, file, limit);
+    }
     on_least_set!(file.goods(), into_normal_file_on(alloc, file, limit))
 }
 
@@ -46,6 +52,9 @@ pub fn into_normal_file(alloc: Global, file: BidFile, limit: u64) -> Result<BidF
 pub fn normal_text(alloc: Global, file: BidFile, limit: u64) -> Result<Vec<u8>, CanonFault>
     ensures { NormalisesAs (normalised_file limit (plain_file file)) result }
 {
+    if is_sparse(&file) {
+        return normal_text_on::<ListSet>(alloc, file, limit);
+    }
     on_least_set!(file.goods(), normal_text_on(alloc, file, limit))
 }
 
@@ -59,6 +68,16 @@ pub fn normalise(alloc: Global, text: &[u8], limit: u64) -> Result<Vec<u8>, Cano
 {
     let file = read(alloc, text)?;
     normal_text(alloc, file, limit)
+}
+
+/// Whether the bids have so few goods that lists of them take less memory than words with a bit for each good.
+fn is_sparse(file: &BidFile) -> bool {
+    let words = usize::from(file.goods() / 64);
+    let mut listed: usize = 0;
+    for bid in file.bids() {
+        listed = listed.saturating_add(bid.goods.len());
+    }
+    listed < file.bids().len().saturating_mul(words / 4)
 }
 
 fn normal_file_on<S: GoodsSet>(
@@ -85,8 +104,7 @@ fn into_normal_file_on<S: GoodsSet>(
     ensures answer { NormalisesFileAs limit (plain_file file) result }
     ensures canonical { IfOk result (λ h. IsCanonicalFile (plain_file h)) }
 {
-    let auction: Auction<S> = auction_of(alloc, &file)?;
-    drop(file);
+    let auction: Auction<S> = into_auction(alloc, file)?;
     file_of_canonical(alloc, auction, limit)
 }
 
@@ -98,8 +116,7 @@ fn normal_text_on<S: GoodsSet>(
     requires { (plain_file file).goods ≤ S.CAP }
     ensures { NormalisesAs (normalised_file limit (plain_file file)) result }
 {
-    let auction: Auction<S> = auction_of(alloc, &file)?;
-    drop(file);
+    let auction: Auction<S> = into_auction(alloc, file)?;
     let canonical = light_canonical(alloc, auction, limit)?;
     Ok(text_of(alloc, &canonical)?)
 }

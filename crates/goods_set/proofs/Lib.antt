@@ -1,6 +1,8 @@
 pub mod Bits
 pub mod Firsts
+pub mod Fronts
 pub mod Lanes
 pub mod Places
+pub mod Residues
 pub mod Scans
 pub mod Listed

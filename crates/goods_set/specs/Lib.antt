@@ -1,8 +1,11 @@
 pub mod AllBundles
 pub mod Bundles
+pub mod Fronts
+pub mod GoodByGood
 pub mod Laws
 pub mod Members
 pub mod Orders
+pub mod Residues
 pub mod Sizes
 pub mod Sorted
 pub mod Words

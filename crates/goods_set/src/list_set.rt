@@ -1,7 +1,11 @@
 //! A set of goods as a sorted vector.
+mod summary;
+
 ghost use Rattle.std.specs.Prelude.{◌≡◌, ℕ, ◌<◌, ◌≤◌, length, not, true, false, MatchResult};
 ghost use Rattle.std.specs.List.{insert};
 ghost use Rattle.goods_set.specs.Bundles.{IsBundle, IsBundle-prop, has_good, with_good};
+ghost use Rattle.goods_set.specs.Fronts.{front_of};
+ghost use Rattle.goods_set.specs.Residues.{HasResidues};
 
 use crate::set::GoodsSet;
 use std::alloc::{AllocError, Global};
@@ -11,10 +15,37 @@ use std::cmp::Ordering;
 #[derive(Debug, Drop)]
 pub struct ListSet {
     goods: Vec<u16>,
+    /// The first four goods as one number, which tells most sets of one size apart.
+    front: u64,
+    /// The goods modulo 64, as bits, which tell most goods that are not there.
+    residues: u64,
+    ghost fronts: { front ≡ front_of goods.items },
+    ghost marked: { HasResidues residues goods.items },
     ghost bundle: { IsBundle 65536 goods.items } by { IsBundle-prop 65536 goods.items },
 }
 
 impl ListSet {
+    // The set of a rising vector.
+    fn new(rising: Vec<u16>) -> ListSet
+        requires { IsBundle 65536 rising.items }
+        ensures { result.goods ≡ rising }
+    {
+        let front = summary::front(&rising);
+        let residues = summary::residues(&rising);
+        ListSet {
+            goods: rising,
+            front,
+            residues,
+        }
+    }
+
+    // Whether a good with the same residue is there.
+    fn may_have(&self, good: u16) -> bool
+        ensures { has_good self.now.goods.items good ≡ true → result ≡ true }
+    {
+        (self.residues >> (good % 64)) & 1 == 1
+    }
+
     // Where the good stands, or else where it goes.
     fn place(&self, good: u16) -> Result<usize, usize>
         ensures { MatchResult result
@@ -37,9 +68,11 @@ impl GoodsSet for ListSet {
     }
 
     fn empty(alloc: Global) -> Result<ListSet, AllocError> {
-        Ok(ListSet {
-            goods: Vec::new(alloc),
-        })
+        Ok(ListSet::new(Vec::new(alloc)))
+    }
+
+    fn from_rising(_alloc: Global, rising: Vec<u16>) -> Result<ListSet, AllocError> {
+        Ok(ListSet::new(rising))
     }
 
     fn put(&mut self, good: u16) -> Result<bool, AllocError> {
@@ -47,13 +80,15 @@ impl GoodsSet for ListSet {
             Ok(_) => Ok(false),
             Err(place) => {
                 self.goods.insert(place, good)?;
+                self.front = summary::front(&self.goods);
+                self.residues = summary::residues(&self.goods);
                 Ok(true)
             }
         }
     }
 
     fn has(&self, good: u16) -> bool {
-        self.place(good).is_ok()
+        self.may_have(good) && self.place(good).is_ok()
     }
 
     fn size(&self) -> usize {
@@ -69,6 +104,15 @@ impl GoodsSet for ListSet {
         out.extend_from_slice(self.goods.as_slice())
     }
 
+    fn into_list(self, _alloc: Global) -> Result<Vec<u16>, AllocError> {
+        let ListSet {
+            goods,
+            front: _,
+            residues: _,
+        } = self;
+        Ok(goods)
+    }
+
     fn is_inside(&self, other: &ListSet) -> bool {
         self.goods.iter().all(|good| other.has(*good))
     }
@@ -79,16 +123,23 @@ impl GoodsSet for ListSet {
 
     fn take_out(&mut self, other: &ListSet) {
         self.goods.retain(|good| !other.has(*good));
+        self.front = summary::front(&self.goods);
+        self.residues = summary::residues(&self.goods);
     }
 
     fn order(&self, other: &ListSet) -> Ordering {
         let sizes = self.size().cmp(&other.size());
-        sizes.then_with(|| self.goods.cmp(&other.goods))
+        match sizes.then(self.front.cmp(&other.front)) {
+            Ordering::Equal => self.goods.cmp(&other.goods),
+            unequal => unequal,
+        }
     }
 
     fn copy(&self) -> Result<ListSet, AllocError> {
         Ok(ListSet {
             goods: self.goods.clone()?,
+            front: self.front,
+            residues: self.residues,
         })
     }
 

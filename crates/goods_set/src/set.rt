@@ -2,7 +2,7 @@
 ghost use Rattle.std.specs.Prelude.{◌≡◌, ◌⊎◌, ℕ, ◌<◌, ◌≤◌, List, [], ◌++◌, not, length, IfOk, OnOk, OnErr};
 ghost use Rattle.std.specs.Cmp.{IsTotalOrder};
 ghost use Rattle.std.specs.declared.cmp.Ordering.TheVariants.{Less, Equal};
-ghost use Rattle.goods_set.specs.Bundles.{IsBundle, IsInside, has_good, is_inside, are_apart, without, with_good, good_from};
+ghost use Rattle.goods_set.specs.Bundles.{IsBundle, IsInside, IsRising, AreBelow, has_good, is_inside, are_apart, without, with_good, good_from};
 ghost use Rattle.goods_set.specs.Members.{inside_refl, inside_trans};
 ghost use Rattle.goods_set.specs.Orders.{bundle_cmp, bundle_cmp_total, bundle_cmp_equal};
 ghost use Rattle.goods_set.specs.Laws.{inside_antisymm_law, inside_ordered_law};
@@ -24,6 +24,12 @@ pub trait GoodsSet: Sized + Drop {
     /// The set with no goods. It keeps `alloc` for its calls that may take memory.
     fn empty(alloc: Global) -> Result<Self, AllocError>
         ensures { IfOk result (λ s. goods s ≡ []) };
+
+    /// The set of these goods. It may keep the vector.
+    fn from_rising(alloc: Global, rising: Vec<u16>) -> Result<Self, AllocError>
+        requires rising { IsRising rising.items }
+        requires below { AreBelow CAP rising.items }
+        ensures { IfOk result (λ s. goods s ≡ rising.items) };
 
     /// Puts a good in, and says whether it is new. Where memory is refused the set is as it was.
     fn put(&mut self, good: u16) -> Result<bool, AllocError>
@@ -47,6 +53,10 @@ pub trait GoodsSet: Sized + Drop {
     /// Appends the goods of the set, rising. Where memory is refused, some of them may stand there.
     fn list_into(&self, out: &mut Vec<u16>) -> Result<(), AllocError>
         ensures { OnOk result (out.new.items ≡ out.old.items ++ goods self.now) };
+
+    /// The goods of the set, rising. It may give its own vector away.
+    fn into_list(self, alloc: Global) -> Result<Vec<u16>, AllocError>
+        ensures { IfOk result (λ list. list.items ≡ goods self) };
 
     /// Whether each good of the set is in `other`.
     fn is_inside(&self, other: &Self) -> bool

@@ -46,6 +46,15 @@ impl<const N: usize> GoodsSet for WordSet<N> {
         Ok(WordSet { words: [0; N] })
     }
 
+    fn from_rising(_alloc: Global, rising: Vec<u16>) -> Result<WordSet<N>, AllocError> {
+        let mut set = WordSet { words: [0; N] };
+        for good in &rising {
+            let place = usize::from(*good / 64);
+            set.words[place] |= 1u64 << (*good % 64);
+        }
+        Ok(set)
+    }
+
     fn put(&mut self, good: u16) -> Result<bool, AllocError>
         requires { good < word_cap N }
         ensures added { IfOk result (λ new. new
@@ -78,6 +87,12 @@ impl<const N: usize> GoodsSet for WordSet<N> {
 
     fn list_into(&self, out: &mut Vec<u16>) -> Result<(), AllocError> {
         scans::list_goods(self.used(), out)
+    }
+
+    fn into_list(self, alloc: Global) -> Result<Vec<u16>, AllocError> {
+        let mut goods = Vec::with_capacity(alloc, scans::count_goods(self.used()))?;
+        scans::list_goods(self.used(), &mut goods)?;
+        Ok(goods)
     }
 
     fn is_inside(&self, other: &WordSet<N>) -> bool {

@@ -75,34 +75,24 @@ fn expect_bids<S: GoodsSet>(
     Ok(())
 }
 
-fn expect_xor<S: GoodsSet>(
-    rt: &impl Abort,
-    alloc: Global,
-    offers: &[(&[u16], u64)],
-    points: &[(&[u16], u64)],
-) -> Result<(), Fail> {
-    let bids = bids_on::<S>(rt, alloc, offers)?;
-    expect_bids(rt, alloc, &prune_xor(alloc, bids)?, points)
-}
-
 fn xor_points<S: GoodsSet>(rt: &impl Abort, alloc: Global) -> Result<(), Fail> {
-    expect_xor::<S>(rt, alloc, &[], &[])?;
-    expect_xor::<S>(rt, alloc, &[(&[0], 0)], &[])?;
-    expect_xor::<S>(rt, alloc, &[(&[0, 1], 5), (&[0], 5)], &[(&[0], 5)])?;
-    expect_xor::<S>(rt, alloc, &[(&[0], 3), (&[0], 5)], &[(&[0], 5)])?;
-    expect_xor::<S>(rt, alloc, &[(&[0], 5), (&[0], 3)], &[(&[0], 5)])?;
-    expect_xor::<S>(rt, alloc, &[(&[0], 5), (&[0], 5)], &[(&[0], 5)])?;
-    let equal: [(&[u16], u64); 3] = [(&[0, 1], 1), (&[1], 1), (&[0], 1)];
-    expect_xor::<S>(rt, alloc, &equal, &[(&[0], 1), (&[1], 1)])?;
-    let long: [(&[u16], u64); 3] = [(&[0, 1, 2], 2), (&[0, 1], 2), (&[0], 1)];
-    expect_xor::<S>(rt, alloc, &long, &[(&[0], 1), (&[0, 1], 2)])?;
-    let ladder: [(&[u16], u64); 3] = [(&[0], 5 * UNIT), (&[0, 1], 5 * UNIT), (&[0, 1], 6 * UNIT)];
-    expect_xor::<S>(
-        rt,
-        alloc,
-        &ladder,
-        &[(&[0], 5_000_000), (&[0, 1], 6_000_000)],
-    )
+    let ladder: &[(&[u16], u64)] = &[(&[0], 5 * UNIT), (&[0, 1], 5 * UNIT), (&[0, 1], 6 * UNIT)];
+    let rows: &[(&[(&[u16], u64)], &[(&[u16], u64)])] = &[
+        (&[], &[]),
+        (&[(&[0], 0)], &[]),
+        (&[(&[0, 1], 5), (&[0], 5)], &[(&[0], 5)]),
+        (&[(&[0], 3), (&[0], 5)], &[(&[0], 5)]),
+        (&[(&[0], 5), (&[0], 3)], &[(&[0], 5)]),
+        (&[(&[0], 5), (&[0], 5)], &[(&[0], 5)]),
+        (&[(&[0, 1], 1), (&[1], 1), (&[0], 1)], &[(&[0], 1), (&[1], 1)]),
+        (&[(&[0, 1, 2], 2), (&[0, 1], 2), (&[0], 1)], &[(&[0], 1), (&[0, 1], 2)]),
+        (ladder, &[(&[0], 5_000_000), (&[0, 1], 6_000_000)]),
+    ];
+    for (offers, points) in rows {
+        let bids = bids_on::<S>(rt, alloc, offers)?;
+        expect_bids(rt, alloc, &prune_xor(alloc, bids)?, points)?;
+    }
+    Ok(())
 }
 
 #[test]
@@ -112,65 +102,66 @@ fn xor_points_on_both_sets(rt: HostRuntime) -> Result<(), Fail> {
     xor_points::<WordSet<64>>(&rt, rt.alloc())
 }
 
+// The OR bids are pruned to these, or their search is stopped at these goods.
+enum Pruned {
+    To(&'static [(&'static [u16], u64)]),
+    StoppedAt(&'static [u16]),
+}
+
 fn expect_or<S: GoodsSet>(
     rt: &impl Abort,
     alloc: Global,
-    offers: &[(&[u16], u64)],
+    bids: Vec<Atom<S>>,
     limit: u64,
-    points: &[(&[u16], u64)],
-) -> Result<(), Fail> {
-    let bids = bids_on::<S>(rt, alloc, offers)?;
-    let Ok(kept) = prune_or(alloc, bids, limit) else {
-        panic!(rt; "the bids are pruned");
-    };
-    expect_bids(rt, alloc, &kept, points)
+    pruned: &Pruned,
+) -> Result<(), Fail>
+    requires { All (IsAtom MAX_GOODS) (atoms_of S.goods bids.items) }
+{
+    match (prune_or(alloc, bids, limit), pruned) {
+        (Ok(kept), Pruned::To(points)) => expect_bids(rt, alloc, &kept, points),
+        (Err(PruneFault::StepLimit { bundle }), Pruned::StoppedAt(goods)) => {
+            let expected = bundle_of::<S>(rt, alloc, goods)?;
+            assert_eq!(rt; bundle.order(&expected), Ordering::Equal);
+            Ok(())
+        }
+        _ => panic!(rt; "the other answer, or no memory"),
+    }
 }
 
-fn expect_step_limit<S: GoodsSet>(
+fn each_or_row<S: GoodsSet>(
     rt: &impl Abort,
     alloc: Global,
-    offers: &[(&[u16], u64)],
-    limit: u64,
-    goods: &[u16],
+    rows: &[(&[(&[u16], u64)], u64, Pruned)],
 ) -> Result<(), Fail> {
-    let bids = bids_on::<S>(rt, alloc, offers)?;
-    let expected = bundle_of::<S>(rt, alloc, goods)?;
-    let Err(PruneFault::StepLimit { bundle }) = prune_or(alloc, bids, limit) else {
-        panic!(rt; "the step limit is told");
-    };
-    assert_eq!(rt; bundle.order(&expected), Ordering::Equal);
+    for (offers, limit, pruned) in rows {
+        let bids = bids_on::<S>(rt, alloc, offers)?;
+        expect_or(rt, alloc, bids, *limit, pruned)?;
+    }
     Ok(())
 }
 
 // A bid that others reach goes, one above them stays.
 fn or_points<S: GoodsSet>(rt: &impl Abort, alloc: Global) -> Result<(), Fail> {
-    expect_or::<S>(rt, alloc, &[], 0, &[])?;
-    expect_or::<S>(rt, alloc, &[(&[0], 0)], 0, &[])?;
-    let greatest: [(&[u16], u64); 3] = [(&[0], 1), (&[0], 2), (&[0, 1, 2], 0)];
-    expect_or::<S>(rt, alloc, &greatest, 1, &[(&[0], 2)])?;
-    let reached: [(&[u16], u64); 3] = [(&[0], 3 * UNIT), (&[1], 4 * UNIT), (&[0, 1], 7 * UNIT)];
-    expect_or::<S>(
-        rt,
-        alloc,
-        &reached,
-        4,
-        &[(&[0], 3_000_000), (&[1], 4_000_000)],
-    )?;
-    let synergy: [(&[u16], u64); 4] = [
+    let reached: &[(&[u16], u64)] = &[(&[0], 3 * UNIT), (&[1], 4 * UNIT), (&[0, 1], 7 * UNIT)];
+    let synergy: &[(&[u16], u64)] = &[
         (&[0, 1], 8 * UNIT),
         (&[0], 3 * UNIT),
         (&[1], 4 * UNIT),
         (&[0, 1], 8 * UNIT),
     ];
-    let kept: [(&[u16], u64); 3] = [(&[0], 3_000_000), (&[1], 4_000_000), (&[0, 1], 8_000_000)];
-    expect_or::<S>(rt, alloc, &synergy, AMPLE, &kept)?;
-    let repeated: [(&[u16], u64); 4] = [(&[0], 1), (&[0], 1), (&[1], 1), (&[0, 1], 3)];
-    expect_or::<S>(
+    let kept = Pruned::To(&[(&[0], 3_000_000), (&[1], 4_000_000), (&[0, 1], 8_000_000)]);
+    let repeated: &[(&[u16], u64)] = &[(&[0], 1), (&[0], 1), (&[1], 1), (&[0, 1], 3)];
+    each_or_row::<S>(
         rt,
         alloc,
-        &repeated,
-        4,
-        &[(&[0], 1), (&[1], 1), (&[0, 1], 3)],
+        &[
+            (&[], 0, Pruned::To(&[])),
+            (&[(&[0], 0)], 0, Pruned::To(&[])),
+            (&[(&[0], 1), (&[0], 2), (&[0, 1, 2], 0)], 1, Pruned::To(&[(&[0], 2)])),
+            (reached, 4, Pruned::To(&[(&[0], 3_000_000), (&[1], 4_000_000)])),
+            (synergy, AMPLE, kept),
+            (repeated, 4, Pruned::To(&[(&[0], 1), (&[1], 1), (&[0, 1], 3)])),
+        ],
     )
 }
 
@@ -183,17 +174,23 @@ fn or_points_on_both_sets(rt: HostRuntime) -> Result<(), Fail> {
 
 // The search is cut where the prices left do not suffice, and ends where the price is reached.
 fn or_steps<S: GoodsSet>(rt: &impl Abort, alloc: Global) -> Result<(), Fail> {
-    expect_step_limit::<S>(rt, alloc, &[(&[0], 1)], 0, &[0])?;
-    expect_step_limit::<S>(rt, alloc, &[(&[1], 1), (&[0], 1)], 0, &[0])?;
-    let triple: [(&[u16], u64); 4] = [(&[0], 1), (&[1], 1), (&[2], 1), (&[0, 1, 2], 4)];
-    expect_or::<S>(rt, alloc, &triple, 1, &triple)?;
-    expect_or::<S>(rt, alloc, &triple, 7, &triple)?;
-    let pairs: [(&[u16], u64); 4] = [(&[0], 2), (&[1], 2), (&[2], 2), (&[0, 1, 2], 5)];
-    expect_step_limit::<S>(rt, alloc, &pairs, 3, &[0, 1, 2])?;
-    expect_or::<S>(rt, alloc, &pairs, 4, &[(&[0], 2), (&[1], 2), (&[2], 2)])?;
-    let reached: [(&[u16], u64); 3] = [(&[0], 3), (&[1], 4), (&[0, 1], 7)];
-    expect_step_limit::<S>(rt, alloc, &reached, 2, &[0, 1])?;
-    expect_or::<S>(rt, alloc, &reached, 3, &[(&[0], 3), (&[1], 4)])
+    let triple: &'static [(&'static [u16], u64)] = &[(&[0], 1), (&[1], 1), (&[2], 1), (&[0, 1, 2], 4)];
+    let pairs: &[(&[u16], u64)] = &[(&[0], 2), (&[1], 2), (&[2], 2), (&[0, 1, 2], 5)];
+    let reached: &[(&[u16], u64)] = &[(&[0], 3), (&[1], 4), (&[0, 1], 7)];
+    each_or_row::<S>(
+        rt,
+        alloc,
+        &[
+            (&[(&[0], 1)], 0, Pruned::StoppedAt(&[0])),
+            (&[(&[1], 1), (&[0], 1)], 0, Pruned::StoppedAt(&[0])),
+            (triple, 1, Pruned::To(triple)),
+            (triple, 7, Pruned::To(triple)),
+            (pairs, 3, Pruned::StoppedAt(&[0, 1, 2])),
+            (pairs, 4, Pruned::To(&[(&[0], 2), (&[1], 2), (&[2], 2)])),
+            (reached, 2, Pruned::StoppedAt(&[0, 1])),
+            (reached, 3, Pruned::To(&[(&[0], 3), (&[1], 4)])),
+        ],
+    )
 }
 
 #[test]

@@ -29,8 +29,13 @@ fn atom_of<S: GoodsSet>(alloc: Global, bid: &Bid) -> Result<Atom<S>, AllocError>
     })
 }
 
+/// How many bids have no dummy good.
+pub(crate) fn count_or_bids(bids: &[Bid]) -> usize {
+    bids.iter().filter(|bid| bid.dummy.is_none()).count()
+}
+
 /// How many bids have each dummy good, so that no bidder's vector takes more memory than it has to.
-fn bids_of_dummies(alloc: Global, file: &BidFile) -> Result<Vec<usize>, AllocError>
+pub(crate) fn bids_of_dummies(alloc: Global, file: &BidFile) -> Result<Vec<usize>, AllocError>
     ensures { IfOk result (λ counts. vec_len counts ≡ (plain_file file.now).dummy) }
 {
     let bids = file.bids();
@@ -45,7 +50,7 @@ fn bids_of_dummies(alloc: Global, file: &BidFile) -> Result<Vec<usize>, AllocErr
 }
 
 /// As many bidders without an atom, with room for so many atoms each.
-fn empty_bidders<S: GoodsSet>(
+pub(crate) fn empty_bidders<S: GoodsSet>(
     alloc: Global,
     counts: &[usize],
 ) -> Result<Vec<Vec<Atom<S>>>, AllocError>
@@ -67,8 +72,7 @@ pub fn auction_of<S: GoodsSet>(alloc: Global, file: &BidFile) -> Result<Auction<
 {
     let bids = file.bids();
     let counts = bids_of_dummies(alloc, file)?;
-    let or_count = bids.iter().filter(|bid| bid.dummy.is_none()).count();
-    let mut or_atoms = Vec::with_capacity(alloc, or_count)?;
+    let mut or_atoms = Vec::with_capacity(alloc, count_or_bids(bids))?;
     let mut xor_bidders = empty_bidders(alloc, &counts)?;
     for bid in bids {
         let atom = atom_of(alloc, bid)?;

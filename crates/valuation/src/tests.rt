@@ -86,23 +86,20 @@ fn all_goods<S: GoodsSet>(rt: &impl Abort, alloc: Global, count: u16) -> Result<
 }
 
 fn xor_values<S: GoodsSet>(rt: &impl Abort, alloc: Global) -> Result<(), Fail> {
-    let none = atoms_on::<S>(rt, alloc, &[])?;
-    let worthless = atoms_on::<S>(rt, alloc, &[(&[0], 0)])?;
-    let equal = atoms_on::<S>(rt, alloc, &[(&[0], 5), (&[0], 5)])?;
-    let ladder = atoms_on::<S>(
-        rt,
-        alloc,
-        &[(&[0], 5 * UNIT), (&[0, 1], 5 * UNIT), (&[0, 1], 6 * UNIT)],
-    )?;
-    let first = bundle_of::<S>(rt, alloc, &[0])?;
-    let second = bundle_of::<S>(rt, alloc, &[1])?;
-    let both = bundle_of::<S>(rt, alloc, &[1, 0])?;
-    assert_eq!(rt; xor_value(&none, &both), (0, None));
-    assert_eq!(rt; xor_value(&worthless, &first), (0, Some(0)));
-    assert_eq!(rt; xor_value(&equal, &both), (5, Some(0)));
-    assert_eq!(rt; xor_value(&ladder, &both), (6 * UNIT, Some(2)));
-    assert_eq!(rt; xor_value(&ladder, &first), (5 * UNIT, Some(0)));
-    assert_eq!(rt; xor_value(&ladder, &second), (0, None));
+    let ladder: &[(&[u16], u64)] = &[(&[0], 5 * UNIT), (&[0, 1], 5 * UNIT), (&[0, 1], 6 * UNIT)];
+    let rows: &[(&[(&[u16], u64)], &[u16], (u64, Option<usize>))] = &[
+        (&[], &[0, 1], (0, None)),
+        (&[(&[0], 0)], &[0], (0, Some(0))),
+        (&[(&[0], 5), (&[0], 5)], &[0, 1], (5, Some(0))),
+        (ladder, &[1, 0], (6_000_000, Some(2))),
+        (ladder, &[0], (5_000_000, Some(0))),
+        (ladder, &[1], (0, None)),
+    ];
+    for (offers, goods, found) in rows {
+        let atoms = atoms_on::<S>(rt, alloc, offers)?;
+        let bundle = bundle_of::<S>(rt, alloc, goods)?;
+        assert!(rt; xor_value(&atoms, &bundle) == *found);
+    }
     Ok(())
 }
 
@@ -113,50 +110,52 @@ fn xor_values_on_both_sets(rt: HostRuntime) -> Result<(), Fail> {
     xor_values::<WordSet<64>>(&rt, rt.alloc())
 }
 
-fn expect_value<S: GoodsSet>(
-    rt: &impl Abort,
-    alloc: Global,
-    offers: &[(&[u16], u64)],
-    goods: &[u16],
-    limit: u64,
-    value: u128,
-    members: &[usize],
-) -> Result<(), Fail> {
-    let atoms = atoms_on::<S>(rt, alloc, offers)?;
-    let bundle = bundle_of::<S>(rt, alloc, goods)?;
-    let packing = or_value(alloc, &atoms, &bundle, limit).expect(rt, "a value");
-    assert_eq!(rt; packing.value, value);
-    assert_eq!(rt; packing.members.as_slice(), members);
-    Ok(())
-}
+// What a search for a value answers: the value and the places of the atoms, or nothing where its steps do not suffice.
+type Found = Option<(u128, &'static [usize])>;
 
-fn expect_step_limit<S: GoodsSet>(
+fn expect_found<S: GoodsSet>(
     rt: &impl Abort,
     alloc: Global,
-    offers: &[(&[u16], u64)],
-    goods: &[u16],
+    atoms: &[Atom<S>],
+    bundle: &S,
     limit: u64,
-) -> Result<(), Fail> {
-    let atoms = atoms_on::<S>(rt, alloc, offers)?;
-    let bundle = bundle_of::<S>(rt, alloc, goods)?;
-    let fault = or_value(alloc, &atoms, &bundle, limit).expect_err(rt, "no value");
-    assert_eq!(rt; fault, ValueFault::StepLimit);
+    found: Found,
+) -> Result<(), Fail>
+    requires { All (IsAtom MAX_GOODS) (atoms_of S.goods atoms.now) }
+{
+    match or_value(alloc, atoms, bundle, limit) {
+        Ok(packing) => {
+            let members = packing.members.as_slice();
+            assert!(rt; found == Some((packing.value, members)));
+        }
+        Err(fault) => {
+            assert!(rt; fault == ValueFault::StepLimit && found.is_none());
+        }
+    }
     Ok(())
 }
 
 fn or_values<S: GoodsSet>(rt: &impl Abort, alloc: Global) -> Result<(), Fail> {
-    expect_step_limit::<S>(rt, alloc, &[], &[], 0)?;
-    expect_value::<S>(rt, alloc, &[], &[], 1, 0, &[])?;
-    expect_value::<S>(rt, alloc, &[(&[0], 0)], &[0], 2, 0, &[])?;
-    let pair: [(&[u16], u64); 3] = [(&[0], 3 * UNIT), (&[1], 4 * UNIT), (&[0, 1], 7 * UNIT)];
-    expect_value::<S>(rt, alloc, &pair, &[0, 1], 5, 7_000_000, &[2])?;
-    expect_step_limit::<S>(rt, alloc, &pair, &[0, 1], 4)?;
-    expect_value::<S>(rt, alloc, &pair, &[], 1, 0, &[])?;
-    let triple: [(&[u16], u64); 4] = [(&[0], 1), (&[1], 1), (&[2], 1), (&[0, 1, 2], 4)];
-    expect_step_limit::<S>(rt, alloc, &triple, &[0, 1, 2], 8)?;
-    expect_value::<S>(rt, alloc, &triple, &[0, 1, 2], 9, 4, &[3])?;
-    let decimals: [(&[u16], u64); 3] = [(&[0], 1_500_000), (&[1], 2_250_000), (&[0, 1], 3_750_000)];
-    expect_value::<S>(rt, alloc, &decimals, &[0, 1], 5, 3_750_000, &[2])
+    let pair: &[(&[u16], u64)] = &[(&[0], 3 * UNIT), (&[1], 4 * UNIT), (&[0, 1], 7 * UNIT)];
+    let triple: &[(&[u16], u64)] = &[(&[0], 1), (&[1], 1), (&[2], 1), (&[0, 1, 2], 4)];
+    let decimals: &[(&[u16], u64)] = &[(&[0], 1_500_000), (&[1], 2_250_000), (&[0, 1], 3_750_000)];
+    let rows: &[(&[(&[u16], u64)], &[u16], u64, Found)] = &[
+        (&[], &[], 0, None),
+        (&[], &[], 1, Some((0, &[]))),
+        (&[(&[0], 0)], &[0], 2, Some((0, &[]))),
+        (pair, &[0, 1], 5, Some((7_000_000, &[2]))),
+        (pair, &[0, 1], 4, None),
+        (pair, &[], 1, Some((0, &[]))),
+        (triple, &[0, 1, 2], 8, None),
+        (triple, &[0, 1, 2], 9, Some((4, &[3]))),
+        (decimals, &[0, 1], 5, Some((3_750_000, &[2]))),
+    ];
+    for (offers, goods, limit, found) in rows {
+        let atoms = atoms_on::<S>(rt, alloc, offers)?;
+        let bundle = bundle_of::<S>(rt, alloc, goods)?;
+        expect_found(rt, alloc, &atoms, &bundle, *limit, *found)?;
+    }
+    Ok(())
 }
 
 #[test]

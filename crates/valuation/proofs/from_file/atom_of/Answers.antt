@@ -1,6 +1,6 @@
 use Rattle.std.proofs.Common.{ap, ◌∙◌}
 use Rattle.goods_set.specs.Bundles.{with_good}
-use Rattle.valuation.specs.AuctionLemmas.{with_good-take, below_at}
+use Rattle.goods_set.specs.GoodByGood.{with_good-take, below_at}
 use Rattle.valuation.proofs.from_file.atom_of.Goals as goal
 
 pub put-requires : goal.put-requires
