@@ -3,7 +3,8 @@
     inputs.py PROGRAM [WORD]
 
 With a word, only inputs whose name has it. Times are processor seconds. The growth is how often the time of a byte is that of the
-size before, left out where it took less than 50 ms: near 1 for a time that is linear in the bytes.
+size before, left out where that took less than 50 ms: near 1 for a time that is linear in the bytes. What a run held is told as at
+least some 15 MiB, which this script holds itself.
 """
 import os
 import random
@@ -12,6 +13,7 @@ import sys
 import tempfile
 from functools import partial
 from itertools import combinations, islice
+from multiprocessing import Process, set_start_method
 from typing import Callable, NamedTuple
 
 PROGRAM = sys.argv[1]
@@ -84,12 +86,12 @@ def one_bid(count):
     return [header(GOODS, 1, 0), bid(0, 1, range(count))]
 
 
-def whole_bids(count):
-    """Bids on all goods."""
-    rest = "\t" + "\t".join(map(str, range(GOODS))) + "\t#\n"
-    yield header(GOODS, count, 0)
+def whole_bids(are_xor, count):
+    """Bids on all goods: of one OR bidder, or each of an XOR bidder of its own."""
+    goods = "\t" + "\t".join(map(str, range(GOODS)))
+    yield header(GOODS, count, count * are_xor)
     for number in range(count):
-        yield f"{number}\t{number}{rest}"
+        yield f"{number}\t{number}{goods}" + f"\t{GOODS + number}" * are_xor + "\t#\n"
 
 
 def dummies(count):
@@ -160,7 +162,8 @@ def bomb(count):
     return [header(count, count + 2, 0), *singles, *both]
 
 
-CHECK, SHOW, NORMALISE, VALUE, COMPARE = ("check", FILE), ("show", FILE), ("normalise", FILE), ("value", FILE), ("compare", FILE, FILE)
+CHECK, SHOW, NORMALISE, VALUE = ("check", FILE), ("show", FILE), ("normalise", FILE), ("value", FILE)
+COMPARE = ("compare", FILE, FILE)
 MOST_STEPS = ("--steps", "1000000000")
 BOMB = 60
 BOMB_GOODS = tuple(map(str, range(BOMB)))
@@ -202,7 +205,8 @@ INPUTS = [
     Input("bidders of one bid", single_bidders, BY_BIDS, ALL),
     Input("like bidders of 256 bids", like_bidders, (SIDE // 4, SIDE // 2, SIDE), ALL),
     Input("packing bomb", bomb, (BOMB,), BOMBS),
-    Input("bids on all goods", whole_bids, BY_BIDS, (*ALL, COMPARE)),
+    Input("bids on all goods", partial(whole_bids, False), BY_BIDS, (*ALL, COMPARE)),
+    Input("bidders for all goods", partial(whole_bids, True), BY_BIDS, (*ALL, COMPARE)),
 ]
 
 
@@ -224,16 +228,18 @@ def growth(before, now):
     return f"{now[1] / before[1] * before[0] / now[0]:5.2f}"
 
 
+def write_file(path, pieces, size):
+    with open(path, "w", encoding="ascii") as file:
+        file.writelines(pieces(size))
+
+
 def row(name, size, command, path, before):
     """Measures a command on a file, and answers the file's bytes and the seconds."""
     took = measure([path if word == FILE else word for word in command])
     now = (os.path.getsize(path), took.seconds)
     words = " ".join(command[: command.index(FILE)])
-    print(
-        f"{name:28} {words:28} {size:6} {now[0] / MEBIBYTE:8.1f} MiB {took.seconds:7.2f} s {growth(before, now)}"
-        f" {took.held / MEBIBYTE:8.0f} MiB  {took.told}",
-        flush=True,
-    )
+    figures = f"{now[0]:14,} {took.seconds:9.3f} s {growth(before, now)} {took.held / MEBIBYTE:6.0f} MiB"
+    print(f"{name:24} {words:28} {size:6} {figures}  {took.told}", flush=True)
     return now
 
 
@@ -242,13 +248,16 @@ def rows(given, folder):
     path = os.path.join(folder, "input")
     took = {}
     for size in given.sizes:
-        with open(path, "w", encoding="ascii") as file:
-            file.writelines(given.pieces(size))
+        # in a process of its own, since what this one holds is counted for those that it starts
+        writer = Process(target=write_file, args=(path, given.pieces, size))
+        writer.start()
+        writer.join()
         took = {it: row(given.name, size, it, path, took.get(it)) for it in given.commands}
 
 
 def main():
-    print(f"{'input':28} {'command':28} {'size':>6} {'file':>12} {'time':>9} {'grew':>5} {'held':>12}  told")
+    set_start_method("fork")
+    print(f"{'input':24} {'command':28} {'size':>6} {'bytes':>14} {'time':>11} {'grew':>5} {'held':>10}  told")
     with tempfile.TemporaryDirectory() as folder:
         for given in INPUTS:
             if WORD in given.name:

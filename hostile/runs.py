@@ -152,7 +152,6 @@ FAULTY = header(2, 2, 2) + "0 1 0 2 #\n1 1 1 2 3 #\n"
 FAULT_AT = 43
 
 
-
 def write_file(folder, name, text):
     path = os.path.join(folder, name)
     with open(path, "w", encoding="ascii") as file:
@@ -223,7 +222,8 @@ def reads_of(one, piece):
 
 def reads(one, piece, counts=None):
     """Each read fails, of so many bytes each. Of each file there are as many as given, or else up to its end."""
-    failing = [which for which, reads in zip(prefixes(one), counts or reads_of(one, piece)) for _ in range(reads)]
+    each = zip(prefixes(one), counts or reads_of(one, piece))
+    failing = [which for which, many in each for _ in range(many)]
     for number, which in enumerate(failing, 1):
         answer = run(one.words(), call="read", number=number, piece=piece)
         wanted = Answer(DEVICE_FAILED, b"", which + b"Device\n", 1)
