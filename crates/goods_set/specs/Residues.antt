@@ -1,7 +1,10 @@
--- The goods of a list modulo 64, as bits of a word: those of members are set, and others may be.
-use Rattle.std.specs.Prelude.{ℕ, ◌%◌, ◌==◌, List, IsTrue}
-use Rattle.std.specs.Int.{bit_at}
-use Rattle.std.specs.List.{list_all}
+-- The goods of a list modulo 64, as the bits of a word.
+use Rattle.std.specs.Prelude.{ℕ, ◌%◌, ◌^◌, List, [], ◌∷◌, bit_or}
 
-abbrev pub HasResidues : ℕ → List ℕ → Type 0
-HasResidues bits xs = IsTrue (list_all (λ g. bit_at bits (g % 64) == 1) xs)
+-- the bits of a word and those of the goods
+unfoldable pub residues_from : ℕ → List ℕ → ℕ
+residues_from bits [] = bits
+residues_from bits (x ∷ xs) = residues_from (bit_or bits (2 ^ (x % 64))) xs
+
+abbrev pub residues_of : List ℕ → ℕ
+residues_of xs = residues_from 0 xs

@@ -3,9 +3,9 @@ mod summary;
 
 ghost use Rattle.std.specs.Prelude.{◌≡◌, ℕ, ◌<◌, ◌≤◌, length, not, true, false, MatchResult};
 ghost use Rattle.std.specs.List.{insert};
-ghost use Rattle.goods_set.specs.Bundles.{IsBundle, IsBundle-prop, has_good, with_good};
+ghost use Rattle.goods_set.specs.Bundles.{IsBundle, IsBundle-prop, IsInside, has_good, with_good};
 ghost use Rattle.goods_set.specs.Fronts.{front_of};
-ghost use Rattle.goods_set.specs.Residues.{HasResidues};
+ghost use Rattle.goods_set.specs.Residues.{residues_of};
 
 use crate::set::GoodsSet;
 use std::alloc::{AllocError, Global};
@@ -20,7 +20,7 @@ pub struct ListSet {
     /// The goods modulo 64, as bits, which tell most goods that are not there.
     residues: u64,
     ghost fronts: { front ≡ front_of goods.items },
-    ghost marked: { HasResidues residues goods.items },
+    ghost marked: { residues ≡ residues_of goods.items },
     ghost bundle: { IsBundle 65536 goods.items } by { IsBundle-prop 65536 goods.items },
 }
 
@@ -44,6 +44,13 @@ impl ListSet {
         ensures { has_good self.now.goods.items good ≡ true → result ≡ true }
     {
         (self.residues >> (good % 64)) & 1 == 1
+    }
+
+    // Whether the goods have no residue that those of `other` lack.
+    fn may_be_inside(&self, other: &ListSet) -> bool
+        ensures { IsInside self.now.goods.items other.now.goods.items → result ≡ true }
+    {
+        self.residues & !other.residues == 0
     }
 
     // Where the good stands, or else where it goes.
@@ -114,7 +121,7 @@ impl GoodsSet for ListSet {
     }
 
     fn is_inside(&self, other: &ListSet) -> bool {
-        self.goods.iter().all(|good| other.has(*good))
+        self.may_be_inside(other) && self.goods.iter().all(|good| other.has(*good))
     }
 
     fn is_apart(&self, other: &ListSet) -> bool {

@@ -1,7 +1,7 @@
 //! What is kept beside the vector of a set, so that most sets are told apart without it.
 ghost use Rattle.std.specs.Prelude.{◌≡◌, ◌≤◌, get_or};
 ghost use Rattle.goods_set.specs.Fronts.{front_of};
-ghost use Rattle.goods_set.specs.Residues.{HasResidues};
+ghost use Rattle.goods_set.specs.Residues.{residues_of};
 
 /// The good at a place, or 0 behind the last.
 fn good_at(goods: &[u16], place: usize) -> u64
@@ -26,7 +26,7 @@ pub(crate) fn front(goods: &[u16]) -> u64
 
 /// The goods modulo 64, as the bits of a word.
 pub(crate) fn residues(goods: &[u16]) -> u64
-    ensures { HasResidues result goods.now }
+    ensures { result ≡ residues_of goods.now }
 {
     let mut bits = 0;
     for good in goods {
