@@ -6,12 +6,12 @@ use Rattle.cats_text.specs.Lines.{Word, is_blank, begins_word, with_letter, word
 use Rattle.cats_text.specs.Faults.{fault_at}
 use Rattle.cats_text.specs.Progress.{Progress}
 use Rattle.cats_text.specs.Parsing.{Reading, word_read}
-use Rattle.cats_text.specs.Machine.{word_from}
+use Rattle.cats_text.specs.Machine.{word_from, summary}
 use Rattle.cats_text.specs.Scanning.{State, Scan, and_then, run, byte_step, blank_step, with_reading, letter_mode, blank_step_at}
 use Rattle.cats_text.specs.declared.word.Word.{Word as Kept}
 use Rattle.cats_text.specs.declared.scanner.Mode.{Mode}
 use Rattle.cats_text.specs.declared.scanner.Mode.TheVariants.{Start, Blank, Comment, Between, Inside}
-use Rattle.cats_text.proofs.Summary.{summary, summary-push}
+use Rattle.cats_text.proofs.Summary.{summary-push}
 use Rattle.cats_text.proofs.WholeLines.{words_read, reading_then}
 
 -- ---- steps one after another

@@ -42,3 +42,5 @@ pub mod TextFaults
 pub mod Pieces
 pub mod BidLines
 pub mod Runs
+pub mod Kept
+pub mod Words

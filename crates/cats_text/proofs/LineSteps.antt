@@ -15,7 +15,8 @@ use Rattle.cats_text.specs.declared.parser.Stage.{Stage}
 use Rattle.cats_text.specs.declared.parser.Stage.TheVariants.{Goods, Bids, Dummy, Bid}
 use Rattle.cats_text.specs.declared.parser.Place.{Place}
 use Rattle.cats_text.specs.declared.parser.Place.TheVariants.{First, Second, Later, Ended}
-use Rattle.cats_text.proofs.Summary.{summary, tells}
+use Rattle.cats_text.specs.Machine.{summary}
+use Rattle.cats_text.proofs.Summary.{tells}
 use Rattle.cats_text.proofs.Told.{told}
 use Rattle.cats_text.proofs.Standing.{IsAt, IsDraft, WordFollows, LineFollows, ended_place}
 use Rattle.cats_text.proofs.HeaderSteps.{read_there, goods_word, bids_word, dummy_word}

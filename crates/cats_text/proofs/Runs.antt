@@ -1,5 +1,5 @@
--- Several bytes at once: the digits of a number, and the bytes of a comment.
-use Rattle.std.proofs.Common.{◌≡◌, ◌≢◌, ℕ, zero, suc, ◌+◌, ◌-◌, ◌*◌, ◌<◌, ◌≤◌, Bool, true, false, not, ◌&&◌, ◌||◌, cond, eqb, ltb, List, [], ◌∷◌, ◌++◌, length, get_or, take, drop, fold, refl, sym, ap, ◌∙◌, subst, arith, Ok, add-one}
+-- Several bytes at once: the digits of a number, whole words, and the bytes of a comment.
+use Rattle.std.proofs.Common.{◌≡◌, ◌≢◌, ℕ, suc, ◌+◌, ◌-◌, ◌*◌, ◌<◌, ◌≤◌, Bool, true, false, not, ◌&&◌, ◌||◌, cond, eqb, ltb, List, [], ◌∷◌, ◌++◌, length, get_or, take, drop, fold, refl, sym, ap, ◌∙◌, subst, arith, Ok, add-one}
 use Rattle.std.proofs.lemmas.Bool.{and_parts, and_from, ltb-false, ne_eqb}
 use Rattle.std.proofs.lemmas.List.Sums.{fold_push}
 use Rattle.std.proofs.Math.Seq.{take-suc}
@@ -7,14 +7,14 @@ use Rattle.std.specs.List.{AllByRecursion}
 use Rattle.std.proofs.lemmas.Bool.{eq-eqb}
 use Rattle.std.proofs.lemmas.List.{take-append-drop, length-drop, length-take}
 use Rattle.std.proofs.lemmas.List.Folds.{length-prefix_len}
-use Rattle.std.proofs.Math.Seq.{take-length, drop-nil}
-use Rattle.std.proofs.Common.{zero-add, append-nil, Some, None, min}
+use Rattle.std.proofs.Math.Seq.{take-length}
+use Rattle.std.proofs.Common.{append-nil, Some, None, min}
 use Rattle.std.specs.List.{prefix_len, position_or_len, position}
 use Rattle.std.specs.Option.{unwrap_or}
 use Rattle.cats_text.specs.Lines.{is_blank}
 use Rattle.cats_text.specs.Returns.{settled, waits, return_byte}
 use Rattle.cats_text.specs.Progress.{Progress}
-use Rattle.cats_text.specs.Scanning.{State, run, and_then, letter_mode, MeetsBidLine, IsScanned}
+use Rattle.cats_text.specs.Scanning.{State, run, and_then, letter_mode, is_before_word, MeetsBidLine, IsScanned}
 use Rattle.cats_text.specs.declared.scanner.Mode.{Mode}
 use Rattle.cats_text.specs.declared.scanner.Mode.TheVariants.{Start, Blank, Comment, Between, Inside}
 use Rattle.cats_text.proofs.Places.{digit_bounds}
@@ -22,9 +22,11 @@ use Rattle.cats_text.proofs.Scanned.{settled-other}
 use Rattle.cats_text.proofs.PieceRuns.{meets_behind}
 use Rattle.cats_text.proofs.ByteLines.{IsNoEnd, standing, run-append, in_comment, byte_letter}
 use Rattle.cats_text.specs.Numbers.{is_digit, digits_alone}
-use Rattle.cats_text.specs.Machine.{word_from, word_with}
+use Rattle.cats_text.specs.Machine.{word_from, word_with, decimal_with, summary}
+use Rattle.cats_text.specs.Front.{IsPlain, IsKept}
 use Rattle.cats_text.specs.declared.word.Word.{Word}
-use Rattle.cats_text.specs.declared.word.Word.TheVariants.{Number}
+use Rattle.cats_text.specs.declared.word.Word.TheVariants.{Number, Decimal as Fraction}
+use Rattle.cats_text.specs.declared.word.Decimal.{Decimal}
 use Rattle.cats_text.specs.declared.word.TheConstants.{HELD}
 
 pub record IsNumberSoFar (first : ℕ) (bytes : List ℕ) (count sum : ℕ) : Type 0 where
@@ -50,6 +52,24 @@ number_more first bytes i sum next l d so e = record {
       ∙ ap (λ w. word_with w (get_or bytes i 0)) so.value
       ∙ sym (fold_push word_with (Number first) (take i bytes) (get_or bytes i 0))
       ∙ ap (fold word_with (Number first)) (sym (take_push bytes i l));
+}
+
+pub record IsDecimalSoFar (first : Decimal) (bytes : List ℕ) (count : ℕ) (sum : Decimal) : Type 0 where
+  pub digits : digits_alone (take count bytes) ≡ true
+  pub value : Fraction sum ≡ fold word_with (Fraction first) (take count bytes)
+
+decimal_digit : (d : Decimal) (b : ℕ) → is_digit b ≡ true → word_with (Fraction d) b ≡ Fraction (decimal_with d (b - 48))
+decimal_digit d b h = rw h refl
+
+-- one more digit behind the point
+pub decimal_more : (first : Decimal) (bytes : List ℕ) (i : ℕ) (sum next : Decimal) → i < length bytes → is_digit (get_or bytes i 0) ≡ true → IsDecimalSoFar first bytes i sum
+    → next ≡ decimal_with sum (get_or bytes i 0 - 48) → IsDecimalSoFar first bytes (i + 1) next
+decimal_more first bytes i sum next l d so e = record {
+  digits = ap digits_alone (take_push bytes i l) ∙ digits_push (take i bytes) (get_or bytes i 0) so.digits d;
+  value = ap (λ n. Fraction n) e ∙ sym (decimal_digit sum (get_or bytes i 0) d)
+      ∙ ap (λ w. word_with w (get_or bytes i 0)) so.value
+      ∙ sym (fold_push word_with (Fraction first) (take i bytes) (get_or bytes i 0))
+      ∙ ap (fold word_with (Fraction first)) (sym (take_push bytes i l));
 }
 
 -- ---- over several bytes at once
@@ -113,6 +133,12 @@ feed_at bytes = elim (ltb (position_or_len (λ b. eqb b 10) bytes) (length bytes
       let short : length (take (prefix_len (λ b. not (eqb b 10)) bytes) bytes) ≤ length bytes = min_le_right _ _ _ (length-take (prefix_len (λ b. not (eqb b 10)) bytes) bytes) in omega arith
 ] refl
 
+pub comment_within : (rest : List ℕ) (count : ℕ) → count ≡ unwrap_or (position (λ b. eqb b 10) rest) (length rest) → count ≤ length rest
+comment_within rest count feed =
+    let most : length (take (prefix_len (λ b. not (eqb b 10)) rest) rest) ≡ prefix_len (λ b. not (eqb b 10)) rest = length-prefix_len (λ b. not (eqb b 10)) rest in
+    let short : length (take (prefix_len (λ b. not (eqb b 10)) rest) rest) ≤ length rest = min_le_right _ _ _ (length-take (prefix_len (λ b. not (eqb b 10)) rest) rest) in
+    let at : count ≡ prefix_len (λ b. not (eqb b 10)) rest = feed ∙ feed_at rest in omega arith
+
 -- the rest of a comment in these bytes
 pub comment_scanned : (s : State) (rest : List ℕ) (count : ℕ) (w : Bool) → s.mode ≡ Comment → 0 < length rest → count ≡ unwrap_or (position (λ b. eqb b 10) rest) (length rest)
     → w ≡ (eqb count (length rest) && eqb (get_or rest (count - 1) 0) 13) → IsScanned s s w rest (drop count rest)
@@ -122,8 +148,7 @@ comment_scanned s rest count w mode some feed e =
     let front : AllByRecursion IsNoEnd (take count rest) = subst (λ k. AllByRecursion IsNoEnd (take k rest)) (sym (feed ∙ feed_at rest)) (no_feed_front rest) in
     let both = comment_run s.line s.progress (take count rest) (drop count rest) front in
     let left : length (drop count rest) ≡ length rest - count = length-drop count rest in
-    let within : count ≤ length rest = (let most : length (take (prefix_len (λ b. not (eqb b 10)) rest) rest) ≡ prefix_len (λ b. not (eqb b 10)) rest = length-prefix_len (λ b. not (eqb b 10)) rest in
-    let short : length (take (prefix_len (λ b. not (eqb b 10)) rest) rest) ≤ length rest = min_le_right _ _ _ (length-take (prefix_len (λ b. not (eqb b 10)) rest) rest) in let at : count ≡ prefix_len (λ b. not (eqb b 10)) rest = feed ∙ feed_at rest in omega arith) in
+    let within : count ≤ length rest = comment_within rest count feed in
     record {
       steps = ap (λ t. run t (settled (drop count rest))) is ∙ both.0 ∙ ap (λ ds. run (standing Comment s.line s.progress) (settled ds)) parts ∙ ap (λ t. run t (settled rest)) (sym is);
       asks = λ m. subst (λ t. MeetsBidLine t (settled rest)) (sym is) (subst (λ ds. MeetsBidLine (standing Comment s.line s.progress) (settled ds)) parts (both.1 (subst (λ t. MeetsBidLine t (settled (drop count rest))) is m)));
@@ -133,130 +158,90 @@ comment_scanned s rest count w mode some feed e =
           e ∙ ap (λ t. t && eqb (get_or rest (count - 1) 0) 13) (eq-eqb count (length rest) all) ∙ ap (λ k. eqb (get_or rest (k - 1) 0) 13) all ∙ sym (waits_last rest some);
     }
 
--- ---- the digits of a number
+-- ---- the bytes of a word
 
-digit_no_return : (b : ℕ) → is_digit b ≡ true → b ≢ 13
-digit_no_return b d e = let low : 48 ≤ b = (digit_bounds b d).0 in absurd (omega arith)
+plain_no_return : (b : ℕ) → IsPlain b → b ≢ 13
+plain_no_return b p e = let low : 32 < b = p.0 in absurd (omega arith)
 
-settled_digits : (front back : List ℕ) → digits_alone front ≡ true → settled (front ++ back) ≡ front ++ settled back
-settled_digits [] back h = refl
-settled_digits (b ∷ front) back h = let p = and_parts (is_digit b) (digits_alone front) h in settled-other b (front ++ back) (digit_no_return b p.0) ∙ ap (λ ds. b ∷ ds) (settled_digits front back p.1)
+settled_plain : (front back : List ℕ) → AllByRecursion IsPlain front → settled (front ++ back) ≡ front ++ settled back
+settled_plain [] back h = refl
+settled_plain (b ∷ front) back h = settled-other b (front ++ back) (plain_no_return b h.0) ∙ ap (λ ds. b ∷ ds) (settled_plain front back h.1)
 
-waits_digits : (xs : List ℕ) → digits_alone xs ≡ true → waits xs ≡ false
-waits_digits [] h = refl
-waits_digits (b ∷ []) h = let p = and_parts (is_digit b) true h in ne_eqb b 13 (digit_no_return b p.0)
-waits_digits (b ∷ c ∷ xs) h = let p = and_parts (is_digit b) (digits_alone (c ∷ xs)) h in waits_digits (c ∷ xs) p.1
+waits_plain : (xs : List ℕ) → AllByRecursion IsPlain xs → waits xs ≡ false
+waits_plain [] h = refl
+waits_plain (b ∷ []) h = ne_eqb b 13 (plain_no_return b h.0)
+waits_plain (b ∷ c ∷ xs) h = waits_plain (c ∷ xs) h.1
 
-no_comment : (b : ℕ) → is_digit b ≡ true → eqb b 37 ≡ false
-no_comment b d = let low : 48 ≤ b = (digit_bounds b d).0 in ne_eqb b 37 (λ e. absurd (omega arith))
-
-digit_letter : (b : ℕ) → is_digit b ≡ true → (eqb b 10 ≡ false) × (is_blank b ≡ false)
-digit_letter b d = let low : 48 ≤ b = (digit_bounds b d).0 in
+plain_letter : (b : ℕ) → IsPlain b → (eqb b 10 ≡ false) × (is_blank b ≡ false)
+plain_letter b p = let low : 32 < b = p.0 in
     (ne_eqb b 10 (λ e. absurd (omega arith)), neither (eqb b 32) (eqb b 9) (ne_eqb b 32 (λ e. absurd (omega arith))) (ne_eqb b 9 (λ e. absurd (omega arith))))
   where
     neither : (x y : Bool) → x ≡ false → y ≡ false → (x || y) ≡ false
     neither x y e f = rw (e, f) refl
 
-digits_run : (w : Word) (n : ℕ) (p : Progress) (ds : List ℕ) → digits_alone ds ≡ true → run (standing (Inside w) n p) ds ≡ Ok (standing (Inside (fold word_with w ds)) n p)
-digits_run w n p [] h = refl
-digits_run w n p (b ∷ ds) h = let parts = and_parts (is_digit b) (digits_alone ds) h in let letter = digit_letter b parts.0 in
-    ap (λ r. and_then r (λ t. run t ds)) (byte_letter (standing (Inside w) n p) b letter.0 letter.1) ∙ digits_run (word_with w b) n p ds parts.1
+plain_run : (w : Word) (n : ℕ) (p : Progress) (ds : List ℕ) → AllByRecursion IsPlain ds → run (standing (Inside w) n p) ds ≡ Ok (standing (Inside (fold word_with w ds)) n p)
+plain_run w n p [] h = refl
+plain_run w n p (b ∷ ds) h = let letter = plain_letter b h.0 in
+    ap (λ r. and_then r (λ t. run t ds)) (byte_letter (standing (Inside w) n p) b letter.0 letter.1) ∙ plain_run (word_with w b) n p ds h.1
 
--- digits in front, which lead from one state to another
-digits_scanned : (s t : State) (rest : List ℕ) (count : ℕ) (w : Bool) → digits_alone (take count rest) ≡ true → run s (take count rest) ≡ Ok t → w ≡ false → IsScanned s t w rest (drop count rest)
-digits_scanned s t rest count w digits ran e =
+plain_begins : (m : Mode) (b : ℕ) → is_before_word m ≡ true → IsPlain b → letter_mode m b ≡ Inside (word_from b)
+plain_begins Start b e h = ap (λ t. cond t Comment (Inside (word_from b))) h.1
+plain_begins Blank b e h = ap (λ t. cond t Comment (Inside (word_from b))) h.1
+plain_begins Comment b e h = cc
+plain_begins Between b e h = refl
+plain_begins (Inside w) b e h = cc
+
+word_run : (m : Mode) (n : ℕ) (p : Progress) (ds : List ℕ) → is_before_word m ≡ true → 0 < length ds → AllByRecursion IsPlain ds → run (standing m n p) ds ≡ Ok (standing (Inside (summary ds)) n p)
+word_run m n p [] before l h = absurd (let no : 0 < 0 = l in omega arith)
+word_run m n p (b ∷ ds) before l h = let letter = plain_letter b h.0 in
+    ap (λ r. and_then r (λ t. run t ds)) (byte_letter (standing m n p) b letter.0 letter.1 ∙ ap (λ k. Ok (standing k n p)) (plain_begins m b before h.0))
+    ∙ plain_run (word_from b) n p ds h.1
+
+-- bytes of a word in front, which lead from one state to another
+plain_scanned : (s t : State) (rest : List ℕ) (count : ℕ) (w : Bool) → AllByRecursion IsPlain (take count rest) → run s (take count rest) ≡ Ok t → w ≡ false → IsScanned s t w rest (drop count rest)
+plain_scanned s t rest count w plain ran e =
     let parts : take count rest ++ drop count rest ≡ rest = take-append-drop count rest in
-    let split : settled rest ≡ take count rest ++ settled (drop count rest) = ap settled (sym parts) ∙ settled_digits (take count rest) (drop count rest) digits in
+    let split : settled rest ≡ take count rest ++ settled (drop count rest) = ap settled (sym parts) ∙ settled_plain (take count rest) (drop count rest) plain in
     record {
       steps = sym (ap (run s) split ∙ run-append s (take count rest) (settled (drop count rest)) ∙ ap (λ r. and_then r (λ t. run t (settled (drop count rest)))) ran);
       asks = λ m. subst (MeetsBidLine s) (sym split) (meets_behind s t (take count rest) (settled (drop count rest)) ran m);
       last = λ l. sym (waits_behind (take count rest) (drop count rest) l) ∙ ap waits parts;
       going = λ l. e;
-      ended = λ q. e ∙ sym (ap waits (sym parts ∙ ap (λ ds. take count rest ++ ds) q ∙ append-nil (take count rest)) ∙ waits_digits (take count rest) digits);
+      ended = λ q. e ∙ sym (ap waits (sym parts ∙ ap (λ ds. take count rest ++ ds) q ∙ append-nil (take count rest)) ∙ waits_plain (take count rest) plain);
     }
 
+-- ---- the digits of a number
+
+digit_plain : (b : ℕ) → is_digit b ≡ true → IsPlain b
+digit_plain b d = let low : 48 ≤ b = (digit_bounds b d).0 in (omega arith, ne_eqb b 37 (λ e. absurd (omega arith)))
+
+pub digits_plain : (ds : List ℕ) → digits_alone ds ≡ true → AllByRecursion IsPlain ds
+digits_plain [] h = tt
+digits_plain (b ∷ ds) h = let p = and_parts (is_digit b) (digits_alone ds) h in (digit_plain b p.0, digits_plain ds p.1)
+
 -- the rest of a number's digits in these bytes
-pub number_scanned : (n : ℕ) (p : Progress) (first sum : ℕ) (rest : List ℕ) (count : ℕ) (w : Bool) → digits_alone (take count rest) ≡ true → Number sum ≡ fold word_with (Number first) (take count rest) → w ≡ false
-    → IsScanned (standing (Inside (Number first)) n p) (standing (Inside (Number sum)) n p) w rest (drop count rest)
-number_scanned n p first sum rest count w digits value e =
-    digits_scanned (standing (Inside (Number first)) n p) (standing (Inside (Number sum)) n p) rest count w digits
-    (digits_run (Number first) n p (take count rest) digits ∙ ap (λ k. Ok (standing (Inside k) n p)) (sym value)) e
+pub number_scanned : (s : State) (first sum : ℕ) (rest : List ℕ) (count : ℕ) (w : Bool) → s.mode ≡ Inside (Number first) → digits_alone (take count rest) ≡ true → Number sum ≡ fold word_with (Number first) (take count rest) → w ≡ false
+    → IsScanned s (record s { mode = Inside (Number sum) }) w rest (drop count rest)
+number_scanned s first sum rest count w mode digits value e =
+    let is : s ≡ standing (Inside (Number first)) s.line s.progress = ap (λ (m : Mode). standing m s.line s.progress) mode in
+    let plain : AllByRecursion IsPlain (take count rest) = digits_plain (take count rest) digits in
+    plain_scanned s (record s { mode = Inside (Number sum) }) rest count w plain
+    (ap (λ t. run t (take count rest)) is ∙ plain_run (Number first) s.line s.progress (take count rest) plain ∙ ap (λ k. Ok (standing (Inside k) s.line s.progress)) (sym value)) e
 
--- ---- a number that begins
+-- ---- a whole word
 
--- no word has begun, and no comment
-abbrev pub is_before_word : Mode → Bool
-is_before_word Start = true
-is_before_word Blank = true
-is_before_word Comment = false
-is_before_word Between = true
-is_before_word (Inside w) = false
+-- the word has come
+pub word_scanned : (s : State) (rest : List ℕ) (kept : Word) (count : ℕ) (w : Bool) → is_before_word s.mode ≡ true → IsKept rest kept count → w ≡ false
+    → IsScanned s (record s { mode = Inside kept }) w rest (drop count rest)
+word_scanned s rest kept count w before is e =
+    let some : 0 < count = is.some in
+    let within : count ≤ length rest = is.within in
+    let long : length (take count rest) ≡ min count (length rest) = length-take count rest in
+    plain_scanned s (record s { mode = Inside kept }) rest count w is.plain
+    (word_run s.mode s.line s.progress (take count rest) before (omega arith) is.plain ∙ ap (λ k. Ok (standing (Inside k) s.line s.progress)) (sym is.word)) e
 
-first_digit : (b : ℕ) → is_digit b ≡ true → Inside (word_from b) ≡ Inside (word_with (Number 0) b)
-first_digit b d = rw d (ap (λ n. Inside (Number n)) (sym (zero-add (b - 48))))
-
-digit_begins : (m : Mode) (b : ℕ) → is_before_word m ≡ true → is_digit b ≡ true → letter_mode m b ≡ Inside (word_with (Number 0) b)
-digit_begins Start b e d = ap (λ t. cond t Comment (Inside (word_from b))) (no_comment b d) ∙ first_digit b d
-digit_begins Blank b e d = ap (λ t. cond t Comment (Inside (word_from b))) (no_comment b d) ∙ first_digit b d
-digit_begins Comment b e d = cc
-digit_begins Between b e d = first_digit b d
-digit_begins (Inside w) b e d = cc
-
--- the mode behind so many digits, which make this number
-abbrev pub begun_mode : Mode → ℕ → ℕ → Mode
-begun_mode m sum zero = m
-begun_mode m sum (suc count) = Inside (Number sum)
-
-begun_run : (m : Mode) (n : ℕ) (p : Progress) (sum count : ℕ) (rest : List ℕ) → is_before_word m ≡ true → count ≤ length rest → digits_alone (take count rest) ≡ true → Number sum ≡ fold word_with (Number 0) (take count rest)
-    → run (standing m n p) (take count rest) ≡ Ok (standing (begun_mode m sum count) n p)
-begun_run m n p sum zero rest before l digits value = refl
-begun_run m n p sum (suc count) [] before l digits value = absurd (omega arith)
-begun_run m n p sum (suc count) (b ∷ rest) before l digits value =
-    let parts = and_parts (is_digit b) (digits_alone (take count rest)) digits in
-    let letter = digit_letter b parts.0 in
-    ap (λ r. and_then r (λ t. run t (take count rest))) (byte_letter (standing m n p) b letter.0 letter.1 ∙ ap (λ k. Ok (standing k n p)) (digit_begins m b before parts.0))
-    ∙ digits_run (word_with (Number 0) b) n p (take count rest) parts.1 ∙ ap (λ k. Ok (standing (Inside k) n p)) (sym value)
-
--- ---- the same from a place on
+-- ---- from a place on
 
 -- the slice from a place on
 pub rest_is : (bytes : List ℕ) (place : ℕ) → take (length bytes - place) (drop place bytes) ≡ drop place bytes
 rest_is bytes place = ap (λ k. take k (drop place bytes)) (sym (length-drop place bytes)) ∙ take-length (drop place bytes)
-
-behind_count : (bytes : List ℕ) (place count : ℕ) → drop count (drop place bytes) ≡ drop (place + count) bytes
-behind_count bytes zero count = ap (λ k. drop k bytes) (sym (zero-add count))
-behind_count [] (suc place) count = drop-nil count ∙ sym (drop-nil (suc place + count))
-behind_count (b ∷ bs) (suc place) count = let e : suc place + count ≡ suc (place + count) = omega arith in behind_count bs place count ∙ sym (ap (λ k. drop k (b ∷ bs)) e)
-
-pub comment_at : (s : State) (bytes : List ℕ) (place count : ℕ) (w : Bool) → s.mode ≡ Comment → place < length bytes
-    → count ≡ unwrap_or (position (λ b. eqb b 10) (take (length bytes - place) (drop place bytes))) (length (take (length bytes - place) (drop place bytes)))
-    → w ≡ (eqb count (length (take (length bytes - place) (drop place bytes))) && eqb (get_or (take (length bytes - place) (drop place bytes)) (count - 1) 0) 13)
-    → IsScanned s s w (drop place bytes) (drop (place + count) bytes)
-comment_at s bytes place count w mode l feed e =
-    let left : length (drop place bytes) ≡ length bytes - place = length-drop place bytes in
-    subst (IsScanned s s w (drop place bytes)) (behind_count bytes place count)
-    (comment_scanned s (drop place bytes) count w mode (omega arith)
-    (feed ∙ ap (λ ds. unwrap_or (position (λ b. eqb b 10) ds) (length ds)) (rest_is bytes place))
-    (e ∙ ap (λ ds. eqb count (length ds) && eqb (get_or ds (count - 1) 0) 13) (rest_is bytes place)))
-
-pub number_at : (s : State) (bytes : List ℕ) (place : ℕ) (first sum count : ℕ) (w : Bool) → s.mode ≡ Inside (Number first)
-    → digits_alone (take count (take (length bytes - place) (drop place bytes))) ≡ true → Number sum ≡ fold word_with (Number first) (take count (take (length bytes - place) (drop place bytes))) → w ≡ false
-    → IsScanned s (record s { mode = Inside (Number sum) }) w (drop place bytes) (drop (place + count) bytes)
-number_at s bytes place first sum count w mode digits value e =
-    let is : s ≡ standing (Inside (Number first)) s.line s.progress = ap (λ (m : Mode). standing m s.line s.progress) mode in
-    subst (λ (t : State). IsScanned t (record s { mode = Inside (Number sum) }) w (drop place bytes) (drop (place + count) bytes)) (sym is)
-    (subst (IsScanned (standing (Inside (Number first)) s.line s.progress) (record s { mode = Inside (Number sum) }) w (drop place bytes)) (behind_count bytes place count)
-    (number_scanned s.line s.progress first sum (drop place bytes) count w
-    (sym (ap (λ ds. digits_alone (take count ds)) (rest_is bytes place)) ∙ digits) (value ∙ ap (λ ds. fold word_with (Number first) (take count ds)) (rest_is bytes place)) e))
-
-pub number_begun_at : (s : State) (bytes : List ℕ) (place : ℕ) (m : Mode) (sum count : ℕ) (w : Bool) → is_before_word s.mode ≡ true
-    → count ≤ length (take (length bytes - place) (drop place bytes)) → digits_alone (take count (take (length bytes - place) (drop place bytes))) ≡ true
-    → Number sum ≡ fold word_with (Number 0) (take count (take (length bytes - place) (drop place bytes))) → m ≡ begun_mode s.mode sum count → w ≡ false
-    → IsScanned s (record s { mode = m }) w (drop place bytes) (drop (place + count) bytes)
-number_begun_at s bytes place m sum count w before within digits value mode e =
-    let within' : count ≤ length (drop place bytes) = subst (λ ds. count ≤ length ds) (rest_is bytes place) within in
-    let digits' : digits_alone (take count (drop place bytes)) ≡ true = sym (ap (λ ds. digits_alone (take count ds)) (rest_is bytes place)) ∙ digits in
-    let value' : Number sum ≡ fold word_with (Number 0) (take count (drop place bytes)) = value ∙ ap (λ ds. fold word_with (Number 0) (take count ds)) (rest_is bytes place) in
-    subst (IsScanned s (record s { mode = m }) w (drop place bytes)) (behind_count bytes place count)
-    (digits_scanned s (record s { mode = m }) (drop place bytes) count w digits'
-    (begun_run s.mode s.line s.progress sum count (drop place bytes) before within' digits' value' ∙ ap (λ k. Ok (standing k s.line s.progress)) (sym mode)) e)

@@ -62,7 +62,7 @@ scan_return s0 s t w bytes b c cs e p step = let both : (run t (settled (c ∷ c
 
 -- ---- the same at a place of the list
 
-at_place : (bytes : List ℕ) (place : ℕ) → place < length bytes → drop place bytes ≡ get_or bytes place 0 ∷ drop (place + 1) bytes
+pub at_place : (bytes : List ℕ) (place : ℕ) → place < length bytes → drop place bytes ≡ get_or bytes place 0 ∷ drop (place + 1) bytes
 at_place bytes place l = rw add-one (drop-cons bytes place 0 l)
 
 pub scan_byte_at : (s0 s t : State) (w v : Bool) (bytes : List ℕ) (place : ℕ) → place < length bytes → get_or bytes place 0 ≢ 13

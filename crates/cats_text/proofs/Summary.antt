@@ -13,7 +13,7 @@ use Rattle.std.specs.Str.{bytes_eq}
 use Rattle.cats_text.specs.Numbers.{is_digit, digits_alone, is_number, number_of, is_price, whole_part, has_point, places, has_place_from}
 use Rattle.cats_text.specs.Faults.{is_end}
 use Rattle.cats_text.specs.Keywords.{keyword_text, place_value_of}
-use Rattle.cats_text.specs.Machine.{word_from, word_with, decimal_with}
+use Rattle.cats_text.specs.Machine.{word_from, word_with, decimal_with, summary}
 use Rattle.cats_text.specs.declared.word.Keyword.{Keyword as Key}
 use Rattle.cats_text.specs.declared.word.Keyword.TheVariants.{Goods, Bids, Dummy}
 use Rattle.cats_text.specs.declared.word.Word.{Word}
@@ -21,11 +21,6 @@ use Rattle.cats_text.specs.declared.word.Decimal.{Decimal}
 use Rattle.cats_text.specs.declared.word.Word.TheVariants.{Keyword, Number, Decimal as Fraction, End, Other}
 use Rattle.cats_text.specs.declared.word.TheConstants.{HELD}
 use Rattle.cats_text.proofs.Places.{places_from, places-push, place_value_late, digit_bounds, places_below_one}
-
--- what the reader keeps of a word, which is not empty
-abbrev pub summary : List ℕ → Word
-summary [] = Other
-summary (b ∷ bs) = fold word_with (word_from b) bs
 
 pub summary-push : (a : ℕ) (w : List ℕ) (b : ℕ) → summary ((a ∷ w) ++ b ∷ []) ≡ word_with (summary (a ∷ w)) b
 summary-push a w b = fold-append word_with (word_from a) w (b ∷ [])

@@ -9,7 +9,7 @@ use Rattle.cats_text.specs.Progress.{Progress}
 use Rattle.cats_text.specs.Parsing.{Reading, word_read, line_read, is_due}
 use Rattle.cats_text.specs.declared.fault.Kind.TheVariants.{Missing}
 use Rattle.cats_text.specs.declared.fault.ReadFault.{ReadFault}
-use Rattle.cats_text.proofs.Summary.{summary}
+use Rattle.cats_text.specs.Machine.{summary}
 use Rattle.cats_text.proofs.Standing.{IsAt, WordFollows, LineFollows}
 use Rattle.cats_text.proofs.LineSteps.{word_step, line_step, due_step}
 

@@ -10,6 +10,7 @@ pub mod Streams
 pub mod Keywords
 pub mod Marks
 pub mod Machine
+pub mod Front
 pub mod Progress
 pub mod Parsing
 pub mod Returns

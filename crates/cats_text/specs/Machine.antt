@@ -1,6 +1,6 @@
 -- The reader as a machine over bytes: what each call of it does to what it keeps. Private to the reader: its contracts speak of
 -- the definitions over whole texts, to which the proofs tie it.
-use Rattle.std.specs.Prelude.{ℕ, ◌+◌, ◌-◌, ◌*◌, ◌^◌, ◌==◌, nat_lt, min, false, not, ◌&&◌, ◌||◌, if◌then◌else◌, length, get_or}
+use Rattle.std.specs.Prelude.{ℕ, ◌+◌, ◌-◌, ◌*◌, ◌^◌, ◌==◌, nat_lt, min, false, not, ◌&&◌, ◌||◌, if◌then◌else◌, List, [], ◌∷◌, fold, length, get_or}
 use Rattle.cats_text.specs.Numbers.{is_digit}
 use Rattle.cats_text.specs.Keywords.{keyword_text, place_value_of}
 use Rattle.cats_text.specs.declared.word.Keyword.TheVariants.{Goods, Bids, Dummy}
@@ -27,3 +27,8 @@ word_with (Fraction d) b = if is_digit b then Fraction (decimal_with d (b - 48))
 word_with (Keyword k n) b = if nat_lt n (length (keyword_text k)) && (get_or (keyword_text k) n 0 == b) then Keyword k (n + 1) else Other
 word_with End b = Other
 word_with Other b = Other
+
+-- what the reader keeps of a word, which is not empty
+abbrev pub summary : List ℕ → Word
+summary [] = Other
+summary (b ∷ bs) = fold word_with (word_from b) bs

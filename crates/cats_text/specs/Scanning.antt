@@ -1,5 +1,5 @@
 -- What a byte and the input's end do to what the scanner keeps.
-use Rattle.std.specs.Prelude.{◌≡◌, ℕ, suc, ◌==◌, Bool, true, false, if◌then◌else◌, List, [], ◌∷◌, ◌⊎◌, IsOkAnd, Result, Ok, Err, length, ◌<◌}
+use Rattle.std.specs.Prelude.{◌≡◌, ℕ, suc, ◌==◌, Bool, true, false, if◌then◌else◌, List, [], ◌∷◌, ◌⊎◌, IsOkAnd, Result, Ok, Err, length, ◌<◌, ◌≤◌, drop}
 use Rattle.cats_text.specs.Lines.{is_blank}
 use Rattle.cats_text.specs.Returns.{settled, waits}
 use Rattle.cats_text.specs.Faults.{fault_at}
@@ -42,6 +42,14 @@ and_then (Ok s) f = f s
 and_then (Err e) f = Err e
 
 -- ---- a byte
+
+-- no word has begun, and no comment
+abbrev pub is_before_word : Mode → Bool
+is_before_word Start = true
+is_before_word Blank = true
+is_before_word Comment = false
+is_before_word Between = true
+is_before_word (Inside w) = false
 
 abbrev pub letter_mode : Mode → ℕ → Mode
 letter_mode Start b = if b == 37 then Comment else Inside (word_from b)
@@ -168,3 +176,9 @@ pub record IsScanned (s0 s : State) (waiting : Bool) (bytes rest : List ℕ) : T
   pub last : 0 < length rest → waits rest ≡ waits bytes
   pub going : 0 < length rest → waiting ≡ false
   pub ended : rest ≡ [] → waiting ≡ waits bytes
+
+-- a call scanned so many of the bytes, or stopped at what the machine says of them
+abbrev pub ScansTo : State → State → Bool → List ℕ → Result ℕ Halt → Type 0
+ScansTo s0 s waiting bytes (Ok count) = IsScanned s0 s waiting bytes (drop count bytes) × (count ≤ length bytes)
+ScansTo s0 s waiting bytes (Err (Fault e)) = run s0 (settled bytes) ≡ Err e
+ScansTo s0 s waiting bytes (Err Memory) = MeetsBidLine s0 (settled bytes)

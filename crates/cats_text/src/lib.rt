@@ -3,6 +3,7 @@
 
 mod bid;
 mod fault;
+mod front;
 mod goods;
 mod history;
 pub mod laws;

@@ -1,17 +1,16 @@
 //! From bytes to words and line ends.
 
 ghost use Rattle.std.specs.Prelude.{◌≡◌, ◌+◌, ◌-◌, ◌<◌, ◌≤◌, ◌^◌, ◌==◌, true, take, drop, fold, position, unwrap_or, length, false, OnOk, IfOk};
-ghost use Rattle.cats_text.specs.Numbers.{digits_alone};
-ghost use Rattle.cats_text.specs.Machine.{word_with};
 ghost use Rattle.cats_text.specs.Files.{IsPlainFile};
 ghost use Rattle.cats_text.specs.Parsing.{file_from};
 ghost use Rattle.cats_text.specs.Returns.{settled, waits, carried, return_byte};
-ghost use Rattle.cats_text.specs.Scanning.{halt_of, letter_mode, state, first_state, blank_step, words_step, byte_step, run, end_of, IsScanned, Steps, AsksHere, Asks, Finishes, AsksAtEnd, IsInLine};
+ghost use Rattle.cats_text.specs.Scanning.{halt_of, letter_mode, state, first_state, blank_step, words_step, byte_step, run, end_of, is_before_word, ScansTo, Steps, AsksHere, Asks, Finishes, AsksAtEnd, IsInLine};
 
 use crate::bid::BidFile;
 use crate::fault::{Kind, ReadFault};
 use crate::parser::{Parser, Stop};
-use crate::word::{HELD, Word};
+use crate::front::{front, with_digits};
+use crate::word::Word;
 use std::alloc::Global;
 
 /// Why scanning stops.
@@ -86,26 +85,6 @@ fn line_feed(bytes: &[u8]) -> Option<usize>
     ensures { result ≡ position (λ b. b == 10) bytes.now }
 {
     bytes.iter().position(|byte| *byte == b'\n')
-}
-
-/// A number with the digits that stand in front, and how many they are.
-fn with_digits(value: u64, bytes: &[u8]) -> (u64, usize)
-    ensures bound { result.1 ≤ length bytes.now }
-    ensures digits { digits_alone (take result.1 bytes.now) ≡ true }
-    ensures value { Word.Number result.0 ≡ fold word_with (Word.Number value) (take result.1 bytes.now) }
-{
-    let mut value = value;
-    for (count, byte) in bytes.iter().enumerate() {
-        match *byte {
-            digit @ b'0'..=b'9' => {
-                if value < HELD {
-                    value = value * 10 + u64::from(digit - b'0');
-                }
-            }
-            _ => return (value, count),
-        }
-    }
-    (value, bytes.len())
 }
 
 /// The text so far. A CR waits until the byte after it says whether a line ends there.
@@ -193,35 +172,47 @@ impl Scanner {
         }
     }
 
-    /// Goes on with a comment or a number as far as it goes, or begins a number, and tells the place behind that.
-    fn go_on(&mut self, bytes: &[u8], place: usize) -> usize
+    /// Whole words in front; tells how many bytes they and the blanks behind them have.
+    fn words(&mut self, bytes: &[u8]) -> Result<usize, Halt>
         requires waits { self.old.waiting ≡ false }
-        requires within { place < length bytes.now }
-        ensures scanned { IsScanned (state self.old) (state self.new) self.new.waiting (drop place bytes.now) (drop result bytes.now) }
-        ensures forward { place ≤ result }
-        ensures bound { result ≤ length bytes.now }
+        requires before { is_before_word self.old.mode ≡ true }
+        ensures scanned { ScansTo (state self.old) (state self.new) self.new.waiting bytes.now result }
         ensures line { self.new.line ≡ self.old.line }
     {
-        let rest = &bytes[place..];
+        let mut place = 0;
+        while let Some((word, count)) = front(&bytes[place..]) {
+            if let Err(stop) = self.parser.word(word) {
+                return Err(Halt::at(self.line, stop));
+            }
+            self.mode = Mode::Between;
+            place += count;
+            if bytes[place] != b'\n' {
+                place += 1;
+            }
+        }
+        Ok(place)
+    }
+
+    /// Goes on with a comment or a number as far as it goes, or reads whole words; tells how many bytes these have.
+    fn go_on(&mut self, bytes: &[u8]) -> Result<usize, Halt>
+        requires waits { self.old.waiting ≡ false }
+        requires some { 0 < length bytes.now }
+        ensures scanned { ScansTo (state self.old) (state self.new) self.new.waiting bytes.now result }
+        ensures line { self.new.line ≡ self.old.line }
+    {
         match self.mode {
             Mode::Comment => {
-                let count = line_feed(rest).unwrap_or(rest.len());
-                self.waiting = count == rest.len() && rest[count - 1] == b'\r';
-                place + count
+                let count = line_feed(bytes).unwrap_or(bytes.len());
+                self.waiting = count == bytes.len() && bytes[count - 1] == b'\r';
+                Ok(count)
             }
             Mode::Inside(Word::Number(value)) => {
-                let (value, count) = with_digits(value, rest);
+                let (value, count) = with_digits(value, bytes);
                 self.mode = Mode::Inside(Word::Number(value));
-                place + count
+                Ok(count)
             }
-            Mode::Start | Mode::Blank | Mode::Between => {
-                let (begun, digits) = with_digits(0, rest);
-                if digits > 0 {
-                    self.mode = Mode::Inside(Word::Number(begun));
-                }
-                place + digits
-            }
-            _ => place,
+            Mode::Start | Mode::Blank | Mode::Between => self.words(bytes),
+            Mode::Inside(_) => Ok(0),
         }
     }
 
@@ -236,7 +227,7 @@ impl Scanner {
     {
         let mut place = 0;
         while place < bytes.len() {
-            place = self.go_on(bytes, place);
+            place += self.go_on(&bytes[place..])?;
             if place == bytes.len() {
                 break;
             }

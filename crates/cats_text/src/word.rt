@@ -58,7 +58,8 @@ fn place_value(places: u8) -> u64
 impl Decimal {
     ghost use Rattle.cats_text.specs.Machine.{decimal_with};
 
-    fn with(self, digit: u8) -> Decimal
+    /// The decimal with one more digit.
+    pub fn with(self, digit: u8) -> Decimal
         requires { digit ≤ 9 }
         ensures { result ≡ decimal_with self digit }
     {

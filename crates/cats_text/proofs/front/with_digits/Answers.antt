@@ -3,8 +3,8 @@ use Rattle.std.proofs.lemmas.Bool.{lt-ltb, le-ltb, le-leb, and_from}
 use Rattle.cats_text.specs.Numbers.{is_digit}
 use Rattle.cats_text.specs.declared.word.TheConstants.{HELD}
 use Rattle.cats_text.proofs.Runs.{number_more}
-use Rattle.cats_text.proofs.scanner.with_digits.Goals as goal
-use Rattle.cats_text.proofs.scanner.with_digits.Goals.{then-value-lt-HELD, else-value-lt-HELD}
+use Rattle.cats_text.proofs.front.with_digits.Goals as goal
+use Rattle.cats_text.proofs.front.with_digits.Goals.{then-value-lt-HELD, else-value-lt-HELD}
 
 pub loop-count-preserved : goal.loop-count-preserved
 loop-count-preserved c =

@@ -1,5 +1,5 @@
 use Rattle.cats_text.proofs.Runs.{IsNumberSoFar}
-use Rattle.cats_text.proofs.scanner.with_digits.Given as goal
+use Rattle.cats_text.proofs.front.with_digits.Given as goal
 
 abbrev pub invariant-loop-count : goal.invariant-loop-count
 invariant-loop-count l = IsNumberSoFar l.fn.value l.bytes l.count l.value

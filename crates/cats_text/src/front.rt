@@ -1,0 +1,77 @@
+//! The word at the front of bytes, where it stands there whole.
+
+ghost use Rattle.std.specs.Prelude.{◌≡◌, ◌≤◌, true, fold, length, take, IfSome};
+ghost use Rattle.cats_text.specs.Front.{IsFront, IsKept, ends_word};
+ghost use Rattle.cats_text.specs.Machine.{word_with};
+ghost use Rattle.cats_text.specs.Numbers.{digits_alone};
+
+use crate::word::{Decimal, HELD, Word};
+
+/// A number with the digits that stand in front, and how many they are.
+pub fn with_digits(value: u64, bytes: &[u8]) -> (u64, usize)
+    ensures bound { result.1 ≤ length bytes.now }
+    ensures digits { digits_alone (take result.1 bytes.now) ≡ true }
+    ensures value { Word.Number result.0 ≡ fold word_with (Word.Number value) (take result.1 bytes.now) }
+{
+    let mut value = value;
+    for (count, byte) in bytes.iter().enumerate() {
+        match *byte {
+            digit @ b'0'..=b'9' => {
+                if value < HELD {
+                    value = value * 10 + u64::from(digit - b'0');
+                }
+            }
+            _ => return (value, count),
+        }
+    }
+    (value, bytes.len())
+}
+
+/// A decimal with the digits that stand in front, and how many they are.
+fn with_places(decimal: Decimal, bytes: &[u8]) -> (Decimal, usize)
+    ensures bound { result.1 ≤ length bytes.now }
+    ensures digits { digits_alone (take result.1 bytes.now) ≡ true }
+    ensures value { Word.Decimal result.0 ≡ fold word_with (Word.Decimal decimal) (take result.1 bytes.now) }
+{
+    let mut decimal = decimal;
+    for (count, byte) in bytes.iter().enumerate() {
+        match *byte {
+            digit @ b'0'..=b'9' => decimal = decimal.with(digit - b'0'),
+            _ => return (decimal, count),
+        }
+    }
+    (decimal, bytes.len())
+}
+
+/// The number in front, with a point and more digits or without, or `#`, and how many bytes it has.
+fn kept(bytes: &[u8]) -> Option<(Word, usize)>
+    ensures { IfSome result (λ r. IsKept bytes.now r.0 r.1) }
+{
+    let (value, digits) = with_digits(0, bytes);
+    match *bytes.get(digits)? {
+        b'#' if digits == 0 => Some((Word::End, 1)),
+        _ if digits == 0 => None,
+        b'.' => {
+            let whole = Decimal {
+                whole: value,
+                millionths: 0,
+                places: 0,
+                fine: false,
+            };
+            let (decimal, places) = with_places(whole, &bytes[digits + 1..]);
+            Some((Word::Decimal(decimal), digits + 1 + places))
+        }
+        _ => Some((Word::Number(value), digits)),
+    }
+}
+
+/// The number, price or `#` in front, where a blank or a line's end stands behind it, and how many bytes it has.
+pub fn front(bytes: &[u8]) -> Option<(Word, usize)>
+    ensures { IfSome result (λ r. IsFront bytes.now r.0 r.1) }
+{
+    let (word, count) = kept(bytes)?;
+    match *bytes.get(count)? {
+        b' ' | b'\t' | b'\n' => Some((word, count)),
+        _ => None,
+    }
+}
