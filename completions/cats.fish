@@ -19,6 +19,7 @@ end
 
 complete -c cats -f
 complete -c cats -s h -l help -d 'Print help'
+complete -c cats -n __fish_use_subcommand -s V -l version -d 'Print the version'
 complete -c cats -n __fish_use_subcommand -a check -d 'Print how many goods, bids and dummy goods a bid file has'
 complete -c cats -n __fish_use_subcommand -a show -d 'Print a bid file in its one layout'
 complete -c cats -n __fish_use_subcommand -a value -d 'Print what the bidders of a bid file offer for a bundle'
