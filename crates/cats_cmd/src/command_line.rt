@@ -1,5 +1,6 @@
 //! What a command line asks for.
 
+use crate::help;
 use clap::{Arg, ArgMatches, Command, Error, value_parser};
 use std::alloc::{AllocError, Global};
 
@@ -106,6 +107,8 @@ fn find_compare_request<'a>(given: &ArgMatches<'a>, first: &'a str) -> Option<Re
 fn cats_command<'a>(alloc: Global) -> Result<Command<'a>, AllocError> {
     Command::new(alloc, "cats")
         .about("Reads auction bid files in the format of CATS 2.0")
+        .version(help::VERSION)
+        .after_help(help::CATS)
         .subcommand_required(true)
         .subcommand(check_command(alloc)?)?
         .subcommand(show_command(alloc)?)?
@@ -117,18 +120,21 @@ fn cats_command<'a>(alloc: Global) -> Result<Command<'a>, AllocError> {
 fn check_command<'a>(alloc: Global) -> Result<Command<'a>, AllocError> {
     Command::new(alloc, "check")
         .about("Reads a bid file and prints how many goods, bids and dummy goods it has")
+        .after_help(help::CHECK)
         .arg(file_argument(alloc, FILE))
 }
 
 fn show_command<'a>(alloc: Global) -> Result<Command<'a>, AllocError> {
     Command::new(alloc, "show")
         .about("Prints a bid file in its one layout, with its bids in order of number")
+        .after_help(help::SHOW)
         .arg(file_argument(alloc, FILE))
 }
 
 fn value_command<'a>(alloc: Global) -> Result<Command<'a>, AllocError> {
     Command::new(alloc, "value")
         .about("Prints what the bidders of a bid file offer for a bundle of goods")
+        .after_help(help::VALUE)
         .arg(steps_option(alloc, "The most packings that a search may enter"))?
         .arg(file_argument(alloc, FILE))?
         .arg(goods_argument(alloc))
@@ -137,6 +143,7 @@ fn value_command<'a>(alloc: Global) -> Result<Command<'a>, AllocError> {
 fn normalise_command<'a>(alloc: Global) -> Result<Command<'a>, AllocError> {
     Command::new(alloc, "normalise")
         .about("Prints the one canonical text of a bid file's auction")
+        .after_help(help::NORMALISE)
         .arg(steps_option(alloc, "The most steps that the search on a bundle may take"))?
         .arg(file_argument(alloc, FILE))
 }
@@ -144,6 +151,7 @@ fn normalise_command<'a>(alloc: Global) -> Result<Command<'a>, AllocError> {
 fn compare_command<'a>(alloc: Global) -> Result<Command<'a>, AllocError> {
     Command::new(alloc, "compare")
         .about("Tells whether two bid files are the same auction, and else where they part first")
+        .after_help(help::COMPARE)
         .arg(steps_option(alloc, "The most steps that the search on a bundle may take"))?
         .arg(file_argument(alloc, FILE))?
         .arg(file_argument(alloc, SECOND_FILE).value_name(FILE))

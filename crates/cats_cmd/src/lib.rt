@@ -4,6 +4,7 @@
 mod check;
 mod command_line;
 mod compare;
+mod help;
 mod normalise;
 mod program;
 mod report;

@@ -106,10 +106,23 @@ static HELP_LINES: [&str; 9] = [
 fn help(rt: HostRuntime) -> Result<(), Fail> {
     for line in &HELP_LINES {
         let answer = run(&rt, line, "", "", ROOM, ROOM)?;
-        let told = answer.sent.as_str().contains("Usage: cats") && answer.line.is_empty();
+        let text = answer.sent.as_str();
+        let told = text.contains("Usage: cats") && answer.line.is_empty();
         assert!(rt; told && answer.status == 0, "of {line:?}: {answer:?}");
+        assert!(rt; text.contains("Statuses:"), "of {line:?}: {answer:?}");
         let cut_off = run(&rt, line, "", "", 3, ROOM)?;
         assert!(rt; cut_off.status == 5, "of {line:?}: {cut_off:?}");
+    }
+    Ok(())
+}
+
+#[test]
+fn version(rt: HostRuntime) -> Result<(), Fail> {
+    for line in &["cats --version", "cats -V"] {
+        let answer = run(&rt, line, "", "", ROOM, ROOM)?;
+        expect(&rt, &answer, 0, "cats 0.1.0\n", "");
+        let cut_off = run(&rt, line, "", "", 3, ROOM)?;
+        expect(&rt, &cut_off, 5, "cat", "");
     }
     Ok(())
 }

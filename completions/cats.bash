@@ -1,0 +1,41 @@
+# Completion of `cats` for bash: subcommands, options and paths.
+
+_cats() {
+    local word=${COMP_WORDS[COMP_CWORD]} command=
+    COMPREPLY=()
+    if ((COMP_CWORD > 1)); then command=${COMP_WORDS[1]}; fi
+    case $command in
+        '') _cats_words "check show value normalise compare help -h --help -V --version" ;;
+        help) if ((COMP_CWORD == 2)); then _cats_words "check show value normalise compare help"; fi ;;
+        check | show) _cats_operands 1 "-h --help" ;;
+        value | normalise) _cats_operands 1 "--steps -h --help" ;;
+        compare) _cats_operands 2 "--steps -h --help" ;;
+    esac
+}
+
+# WORDS: offers those that begin as the word before the cursor does.
+_cats_words() {
+    mapfile -t COMPREPLY < <(compgen -W "$1" -- "$word")
+}
+
+# FILES OPTIONS: offers options to a word with a hyphen, and paths while fewer than FILES operands stand before the cursor. What follows
+# `--steps` is a number, and so is a good, and neither is offered.
+_cats_operands() {
+    local at operands=0 is_value=
+    for ((at = 2; at < COMP_CWORD; at++)); do
+        case ${COMP_WORDS[at]} in
+            --steps | =) is_value=1 ;;
+            -*) ;;
+            *) if [[ $is_value ]]; then is_value=; else ((operands += 1)); fi ;;
+        esac
+    done
+    if [[ $is_value || $word == = ]]; then return; fi
+    if [[ $word == -* ]]; then
+        _cats_words "$2"
+    elif ((operands < $1)); then
+        compopt -o filenames 2> /dev/null
+        mapfile -t COMPREPLY < <(compgen -f -- "$word")
+    fi
+}
+
+complete -F _cats cats

@@ -1,0 +1,31 @@
+# Completion of `cats` for fish: subcommands, options and paths.
+
+# Whether a path is due: fewer of them stand on the command line than its subcommand takes.
+function __cats_takes_path
+    set -l words (commandline -opc)
+    set -l operands (string match -v -- '-*' $words[3..-1])
+    # The word after --steps is its number.
+    set -l numbers (string match -- --steps $words)
+    set -l many (math (count $operands) - (count $numbers))
+    switch "$words[2]"
+        case check show value normalise
+            test $many -lt 1
+        case compare
+            test $many -lt 2
+        case '*'
+            false
+    end
+end
+
+complete -c cats -f
+complete -c cats -s h -l help -d 'Print help'
+complete -c cats -n __fish_use_subcommand -s V -l version -d 'Print the version'
+complete -c cats -n __fish_use_subcommand -a check -d 'Print how many goods, bids and dummy goods a bid file has'
+complete -c cats -n __fish_use_subcommand -a show -d 'Print a bid file in its one layout'
+complete -c cats -n __fish_use_subcommand -a value -d 'Print what the bidders of a bid file offer for a bundle'
+complete -c cats -n __fish_use_subcommand -a normalise -d 'Print the canonical text of an auction'
+complete -c cats -n __fish_use_subcommand -a compare -d 'Tell whether two bid files are the same auction'
+complete -c cats -n __fish_use_subcommand -a help -d 'Print help'
+complete -c cats -n '__fish_seen_subcommand_from help' -a 'check show value normalise compare'
+complete -c cats -n __cats_takes_path -F
+complete -c cats -n '__fish_seen_subcommand_from value normalise compare' -x -l steps -d 'The most steps of a search'

@@ -1,0 +1,82 @@
+//! The version, and what the help of each subcommand has below its options: what is printed, an example, and the statuses.
+
+/// What `cats --version` prints after the program's name.
+pub(crate) const VERSION: &str = "0.1.0";
+
+pub(crate) const CATS: &str = "\
+A fault is one line on standard error. Statuses:
+   0  done; of compare: the same auction
+   1  of compare: different auctions
+   2  a file is no bid file, or longer than is read
+   3  a search takes more steps than its limit
+   4  memory was refused
+   5  a file cannot be opened, a read failed, or the output failed
+  64  the command line is wrong, or asks for a good that the file does not have
+
+The first fault of a file is told as 'line L: KIND':
+  Header          not the line that is due: 'goods N', 'bids N' and 'dummy N', in this order
+  NotANumber      a word that is no number; a price has digits and at most one point, and no exponent
+  TooLarge        a number above its limit
+  ExtraBid        more bids than the header says
+  BidNumber       a bid's number is not below the number of bids; they count from 0
+  RepeatedNumber  two bids have one number
+  TooFine         a price has more than six places behind the point
+  GoodRange       a good is not below goods + dummy; they count from 0
+  RepeatedGood    a good stands twice in a bid
+  TwoDummies      two dummy goods stand in a bid
+  EmptyBundle     a bid has no good that is no dummy good
+  NoEnd           a bid's line does not end with '#'
+  AfterEnd        something stands after '#'
+  Missing         the file ends before its header and all of its bids have come
+Told without a line: TooLong, the file is longer than is read; Device, a read failed, as of a folder.";
+
+pub(crate) const CHECK: &str = "\
+Prints one line. For example:
+  $ cats check examples/two_bids.cats
+  goods 3 bids 2 dummy 1
+
+The path /dev/stdin is standard input:
+  $ zcat auction.txt.gz | cats check /dev/stdin
+
+Statuses: 0; 2 for a file that is no bid file, 4, 5 and 64 as 'cats --help' tells";
+
+pub(crate) const SHOW: &str = "\
+Prints the three lines of the header and a line for each bid, without comments. For example:
+  $ cats show examples/two_bids.cats
+
+Statuses: 0; 2 for a file that is no bid file, 4, 5 and 64 as 'cats --help' tells";
+
+pub(crate) const VALUE: &str = "\
+Prints 'or', the greatest sum of prices of bids without a dummy good that lie in the bundle and share no good, and the
+numbers of these bids; then for each dummy good 'xor', the dummy good, the greatest price of its bids that lie in the
+bundle, and the number of the first that has it. For example, for all goods of a file with 40:
+  $ cats value auction.txt $(seq 0 39)
+
+A step is one packing: one family of the bids without a dummy good that lie in the bundle and share no good. Each
+packing takes one step, mostly of 5 to 20 nanoseconds. Where there are more than N, 'step limit at GOODS' is told, with
+status 3, and a greater N lets the search go on:
+  $ cats value --steps 1000000000 auction.txt $(seq 0 39)
+
+Statuses: 0; 2 for a file that is no bid file; 3 for the step limit; 64 for a good that the file does not have; 4 and 5
+as 'cats --help' tells";
+
+pub(crate) const NORMALISE: &str = "\
+Prints the header and the bids that remain: those that the bidders' values ask for, in one order. Two files give the
+same text exactly if they are the same auction. For example:
+  $ cats normalise examples/ladder.cats
+
+A step is one family of bids below a bundle that the search on this bundle enters; each bundle has N of them. Where one
+takes more, 'step limit at GOODS' is told with it, with status 3, and a greater N lets the search go on.
+
+Statuses: 0; 2 for a file that is no bid file; 3 for the step limit; 4, 5 and 64 as 'cats --help' tells";
+
+pub(crate) const COMPARE: &str = "\
+Prints 'same', or 'different' and where the two part first: in their goods, in the OR value of a bundle, or in how often
+they have an XOR bidder. For example:
+  $ cats compare examples/ladder.cats examples/ladder_rewritten.cats
+  same
+
+A step is that of 'cats normalise', to which each file is put first. A fault's line begins with 'first: ' or 'second: '.
+
+Statuses: 0 for the same auction, 1 for different ones; 2 for a file that is no bid file; 3 for the step limit; 4, 5 and
+64 as 'cats --help' tells";
