@@ -95,8 +95,8 @@ pub order_by_front : (xs ys : List ℕ) → AreBelow 65536 xs → AreBelow 65536
     → ordering_then (ordering_then (nat_cmp (length xs) (length ys)) (nat_cmp (front_of xs) (front_of ys))) (slice_cmp nat_cmp xs ys) ≡ bundle_cmp xs ys
 order_by_front xs ys a b =
     ⊎_elim (λ (e : length xs ≡ length ys).
-      let z : nat_cmp (length xs) (length ys) ≡ Equal = ap (nat_cmp (length xs)) (sym e) ∙ nat_cmp-refl (length xs) in
-      ap (λ o. ordering_then (ordering_then o (nat_cmp (front_of xs) (front_of ys))) (slice_cmp nat_cmp xs ys)) z ∙ same_length xs ys e a b ∙ sym (same_size xs ys e))
+    let z : nat_cmp (length xs) (length ys) ≡ Equal = ap (nat_cmp (length xs)) (sym e) ∙ nat_cmp-refl (length xs) in
+    ap (λ o. ordering_then (ordering_then o (nat_cmp (front_of xs) (front_of ys))) (slice_cmp nat_cmp xs ys)) z ∙ same_length xs ys e a b ∙ sym (same_size xs ys e))
     (⊎_elim (λ (l : length xs < length ys). ap (λ o. ordering_then (ordering_then o (nat_cmp (front_of xs) (front_of ys))) (slice_cmp nat_cmp xs ys)) (nat_cmp-lt (length xs) (length ys) l) ∙ sym (smaller_first xs ys l))
     (λ (l : length ys < length xs). ap (λ o. ordering_then (ordering_then o (nat_cmp (front_of xs) (front_of ys))) (slice_cmp nat_cmp xs ys)) (nat_cmp-gt (length xs) (length ys) l) ∙ sym (larger_last xs ys l)))
     (cases_order (length xs) (length ys))

@@ -37,9 +37,9 @@ unfolding residues_from
 marked_from bits [] g h = absurd (cc)
 marked_from bits (x ∷ xs) g h =
     ⊎_elim (λ (e : eqb x g ≡ true).
-      let same : x ≡ g = eqb-true x g e in
-      subst (λ y. bit_at (residues_from (bit_or bits (2 ^ (x % 64))) xs) (y % 64) ≡ 1) same
-      (kept (bit_or bits (2 ^ (x % 64))) xs (x % 64) (omega (arith, bit_at_or bits (2 ^ (x % 64)) (x % 64), bit_at-pow_same (x % 64), bit_at-lt bits (x % 64)))))
+    let same : x ≡ g = eqb-true x g e in
+    subst (λ y. bit_at (residues_from (bit_or bits (2 ^ (x % 64))) xs) (y % 64) ≡ 1) same
+    (kept (bit_or bits (2 ^ (x % 64))) xs (x % 64) (omega (arith, bit_at_or bits (2 ^ (x % 64)) (x % 64), bit_at-pow_same (x % 64), bit_at-lt bits (x % 64)))))
     (λ (m : has_good xs g ≡ true). marked_from (bit_or bits (2 ^ (x % 64))) xs g m) (or_cases (eqb x g) (has_good xs g) h)
 
 -- a bit of goods that are inside others is one of theirs

@@ -37,6 +37,9 @@ fn put_and_ask<S: GoodsSet>(rt: &impl Abort, alloc: Global) -> Result<(), Fail> 
     let mut listed = [7].to_vec(alloc)?;
     copy.list_into(&mut listed)?;
     assert_eq!(rt; listed.as_slice(), [7, 3, 5].as_slice());
+    let given = S::from_rising(alloc, [3, 5].to_vec(alloc)?)?;
+    assert_eq!(rt; given.order(&set), Ordering::Equal);
+    assert_eq!(rt; given.into_list(alloc)?.as_slice(), [3, 5].as_slice());
     Ok(())
 }
 
@@ -50,7 +53,14 @@ fn compare_sets<S: GoodsSet>(rt: &impl Abort, alloc: Global) -> Result<(), Fail>
         (&[1, 3], &[1, 2], false, false, Ordering::Greater, &[3]),
         (&[1, 3], &[2], false, true, Ordering::Greater, &[1, 3]),
         (&[0, 9], &[1, 2], false, true, Ordering::Less, &[0, 9]),
-        (&[1, 3, 5], &[3, 4], false, false, Ordering::Greater, &[1, 5]),
+        (
+            &[1, 3, 5],
+            &[3, 4],
+            false,
+            false,
+            Ordering::Greater,
+            &[1, 5],
+        ),
     ];
     for (goods, others, inside, apart, order, left) in rows {
         let mut set = set_of::<S>(rt, alloc, goods)?;

@@ -84,8 +84,14 @@ fn xor_points<S: GoodsSet>(rt: &impl Abort, alloc: Global) -> Result<(), Fail> {
         (&[(&[0], 3), (&[0], 5)], &[(&[0], 5)]),
         (&[(&[0], 5), (&[0], 3)], &[(&[0], 5)]),
         (&[(&[0], 5), (&[0], 5)], &[(&[0], 5)]),
-        (&[(&[0, 1], 1), (&[1], 1), (&[0], 1)], &[(&[0], 1), (&[1], 1)]),
-        (&[(&[0, 1, 2], 2), (&[0, 1], 2), (&[0], 1)], &[(&[0], 1), (&[0, 1], 2)]),
+        (
+            &[(&[0, 1], 1), (&[1], 1), (&[0], 1)],
+            &[(&[0], 1), (&[1], 1)],
+        ),
+        (
+            &[(&[0, 1, 2], 2), (&[0, 1], 2), (&[0], 1)],
+            &[(&[0], 1), (&[0, 1], 2)],
+        ),
         (ladder, &[(&[0], 5_000_000), (&[0, 1], 6_000_000)]),
     ];
     for (offers, points) in rows {
@@ -157,10 +163,22 @@ fn or_points<S: GoodsSet>(rt: &impl Abort, alloc: Global) -> Result<(), Fail> {
         &[
             (&[], 0, Pruned::To(&[])),
             (&[(&[0], 0)], 0, Pruned::To(&[])),
-            (&[(&[0], 1), (&[0], 2), (&[0, 1, 2], 0)], 1, Pruned::To(&[(&[0], 2)])),
-            (reached, 4, Pruned::To(&[(&[0], 3_000_000), (&[1], 4_000_000)])),
+            (
+                &[(&[0], 1), (&[0], 2), (&[0, 1, 2], 0)],
+                1,
+                Pruned::To(&[(&[0], 2)]),
+            ),
+            (
+                reached,
+                4,
+                Pruned::To(&[(&[0], 3_000_000), (&[1], 4_000_000)]),
+            ),
             (synergy, AMPLE, kept),
-            (repeated, 4, Pruned::To(&[(&[0], 1), (&[1], 1), (&[0, 1], 3)])),
+            (
+                repeated,
+                4,
+                Pruned::To(&[(&[0], 1), (&[1], 1), (&[0, 1], 3)]),
+            ),
         ],
     )
 }
@@ -174,7 +192,12 @@ fn or_points_on_both_sets(rt: HostRuntime) -> Result<(), Fail> {
 
 // The search is cut where the prices left do not suffice, and ends where the price is reached.
 fn or_steps<S: GoodsSet>(rt: &impl Abort, alloc: Global) -> Result<(), Fail> {
-    let triple: &'static [(&'static [u16], u64)] = &[(&[0], 1), (&[1], 1), (&[2], 1), (&[0, 1, 2], 4)];
+    let triple: &'static [(&'static [u16], u64)] = &[
+        (&[0], 1),
+        (&[1], 1),
+        (&[2], 1),
+        (&[0, 1, 2], 4),
+    ];
     let pairs: &[(&[u16], u64)] = &[(&[0], 2), (&[1], 2), (&[2], 2), (&[0, 1, 2], 5)];
     let reached: &[(&[u16], u64)] = &[(&[0], 3), (&[1], 4), (&[0, 1], 7)];
     each_or_row::<S>(

@@ -5,8 +5,8 @@ ghost use Rattle.valuation.specs.Auctions.{IsAtom};
 ghost use Rattle.valuation.specs.Values.{atoms_of};
 
 use crate::{
-    Atom, Auction, ValueFault, auction_of, compare_atoms, compare_bidders, or_value, plain,
-    xor_value,
+    Atom, Auction, ValueFault, auction_of, compare_atoms, compare_bidders, into_auction, or_value,
+    plain, xor_value,
 };
 use cats_text::{Bid, BidFile, MAX_GOODS, MAX_PRICE};
 use goods_set::{GoodsSet, ListSet, WordSet};
@@ -348,7 +348,12 @@ fn auction_of_small_file<S: GoodsSet>(rt: &impl Abort, alloc: Global) -> Result<
     let (goods, or_atoms, xor_bidders) = auction.into_parts();
     let again = Auction::new(goods, or_atoms, xor_bidders);
     assert_eq!(rt; again.goods(), 3);
-    expect_atom(rt, alloc, again.or_atoms(), &[1], 7 * UNIT)
+    expect_atom(rt, alloc, again.or_atoms(), &[1], 7 * UNIT)?;
+    let given = into_auction::<S>(alloc, file)?;
+    assert_eq!(rt; given.goods(), 3);
+    expect_atom(rt, alloc, given.or_atoms(), &[1], 7 * UNIT)?;
+    assert_eq!(rt; given.xor_bidders().len(), 2);
+    expect_atom(rt, alloc, &given.xor_bidders()[0], &[0, 2], 20 * UNIT)
 }
 
 #[test]

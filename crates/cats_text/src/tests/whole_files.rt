@@ -133,7 +133,7 @@ fn each_call_succeeds_with_memory(rt: HostRuntime) -> Result<(), Fail> {
     assert_eq!(rt; written(rt.alloc(), LENIENT)?.len(), 33);
     let mut reader = Reader::new(rt.alloc(), MAX_STREAM);
     reader.feed(CATS)?;
-    assert_eq!(rt; reader.finish()?.bids().len(), 2);
+    assert_eq!(rt; reader.finish()?.into_bids().len(), 2);
     let mut input = Watched::new(CATS);
     assert_eq!(rt; read_from(rt.alloc(), &mut input)?.bids().len(), 2);
     assert!(rt; input.ended());

@@ -34,6 +34,6 @@ loop-good-preserved g c =
     let within : c.from-place.result < length words = omega (arith, place, fits, c.loop-good.invariant.long) in
     record {
       goods = rw e (with_bit (word_cap g.row.N) words (get_or items i 0) c.from-place.result place within fits
-        ∙ ap (with_good (get_or items i 0)) c.loop-good.invariant.goods ∙ with_good-take items i 0 c.requires.rising there);
+          ∙ ap (with_good (get_or items i 0)) c.loop-good.invariant.goods ∙ with_good-take items i 0 c.requires.rising there);
       long = length-set words c.from-place.result _ ∙ c.loop-good.invariant.long;
     }
