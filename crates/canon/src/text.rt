@@ -77,7 +77,7 @@ fn is_sparse(file: &BidFile) -> bool {
     for bid in file.bids() {
         listed = listed.saturating_add(bid.goods.len());
     }
-    listed < file.bids().len().saturating_mul(words)
+    listed < file.bids().len().saturating_mul(words / 4)
 }
 
 fn normal_file_on<S: GoodsSet>(

@@ -12,6 +12,9 @@ use goods_set::GoodsSet;
 use std::alloc::{AllocError, Global};
 use valuation::{Atom, Auction};
 
+/// As many bytes as the line of a bid of few goods has, so that the text seldom grows.
+const LINE: usize = 40;
+
 /// The text of the file of an auction, canonical or not. The goods of one bid at a time are listed, in one buffer.
 pub(crate) fn text_of<S: GoodsSet>(
     alloc: Global,
@@ -22,9 +25,10 @@ pub(crate) fn text_of<S: GoodsSet>(
     let goods = auction.goods();
     let or_atoms = auction.or_atoms();
     let bidders = auction.xor_bidders();
-    let mut out = Vec::new(alloc);
+    let bids = count_bids(auction);
+    let mut out = Vec::with_capacity(alloc, bids.saturating_mul(LINE))?;
     let mut bundle = Vec::new(alloc);
-    push_header(&mut out, goods, count_bids(auction), bidders.len())?;
+    push_header(&mut out, goods, bids, bidders.len())?;
     push_atoms(&mut out, &mut bundle, goods, 0, or_atoms, None)?;
     let mut number = or_atoms.len();
     for (dummy, bidder) in bidders.iter().enumerate() {

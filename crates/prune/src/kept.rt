@@ -41,15 +41,15 @@ pub struct Kept<S> {
 }
 
 impl<S: GoodsSet> Kept<S> {
-    /// No atoms.
-    pub fn new(alloc: Global) -> Kept<S>
-        ensures atoms { result.atoms.items ≡ [] }
-        ensures listed { AreListed (lists_of result.lists.items) (atoms_of S.goods result.atoms.items) }
+    /// No atoms, with room for so many.
+    pub fn with_room(alloc: Global, room: usize) -> Result<Kept<S>, AllocError>
+        ensures atoms { IfOk result (λ kept. kept.atoms.items ≡ []) }
+        ensures listed { IfOk result (λ kept. AreListed (lists_of kept.lists.items) (atoms_of S.goods kept.atoms.items)) }
     {
-        Kept {
-            atoms: Vec::new(alloc),
+        Ok(Kept {
+            atoms: Vec::with_capacity(alloc, room)?,
             lists: Vec::new(alloc),
-        }
+        })
     }
 
     /// The atoms.

@@ -60,7 +60,7 @@ pub fn prune_xor<S: GoodsSet>(
 {
     keep_best_bids(&mut atoms);
     let few = atoms.len() <= FEW;
-    let mut kept = Kept::new(alloc);
+    let mut kept = Kept::with_room(alloc, atoms.len())?;
     for bid in atoms {
         if !is_covered(&kept, &bid, few) {
             if few {

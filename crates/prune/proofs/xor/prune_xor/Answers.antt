@@ -18,8 +18,8 @@ push-requires-else-few-clause-some g c =
     let turn = next_turn goods (λ s. (g.met.S.GoodsSet.is_bundle s).0) _ c.loop-bid.yielded _ _ c.in-Some.bid c.loop-bid.invariant.best c.in-Some.ensures.steps.0 in
     (All-contains (IsAtom MAX_GOODS) (atoms_of goods c.args.atoms.items) _ c.requires (turn_among _ _ _ _ turn)).nonempty
 
-pub loop-bid-preserved-in-Continue-1 : goal.loop-bid-preserved-in-Continue-1
-loop-bid-preserved-in-Continue-1 g c =
+pub loop-bid-preserved-in-Continue-branch-2 : goal.loop-bid-preserved-in-Continue-branch-2
+loop-bid-preserved-in-Continue-branch-2 g c =
     let goods = g.S.GoodsSet.goods in
     let h = c.loop-bid.invariant in
     let bids = atoms_of goods c.args.atoms.items in
@@ -39,8 +39,8 @@ loop-bid-preserved-in-Continue-1 g c =
       fewer = omega (arith, h.fewer, c.loop-bid.kept.atoms.ok.0, c.push.new.self.ok.0, ap length c.in_ok-push.ensures.items, length_push kept bid, length_push yielded bid);
     }
 
-pub loop-bid-preserved-in-Continue-branch-2 : goal.loop-bid-preserved-in-Continue-branch-2
-loop-bid-preserved-in-Continue-branch-2 g c =
+pub loop-bid-preserved-in-Continue-branch-3 : goal.loop-bid-preserved-in-Continue-branch-3
+loop-bid-preserved-in-Continue-branch-3 g c =
     let goods = g.S.GoodsSet.goods in
     let h = c.loop-bid.invariant in
     let bids = atoms_of goods c.args.atoms.items in
