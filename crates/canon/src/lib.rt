@@ -1,7 +1,9 @@
 //! The one text of an auction: the canonical auction, its file and its bytes, and whether two files ask for the same things.
 #![tactic(auto)]
 
+mod added_files;
 mod auction;
+mod auction_index;
 mod bid_order;
 mod bundles;
 mod comparison;
@@ -20,6 +22,7 @@ pub mod worked_differences;
 mod writing;
 
 pub use auction::canonical;
+pub use auction_index::AuctionIndex;
 pub use comparison::{compare, compare_files};
 pub use difference_laws::{
     difference_is_a_point, difference_is_the_least_bidder, differences_exchanged,
