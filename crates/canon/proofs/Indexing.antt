@@ -1,5 +1,5 @@
 -- One more file in an index.
-use Rattle.std.proofs.Common.{◌≡◌, ◌⊎◌, ℕ, zero, suc, ◌+◌, Bool, true, false, cond, unwrap_or, bytes_eq, List, [], ◌∷◌, ◌++◌, length, Option, Some, None, slice_get, refl, sym, ap, ◌∙◌, subst, inl, inr, ⊎_elim, arith, length-append, Global}
+use Rattle.std.proofs.Common.{◌≡◌, ◌⊎◌, ℕ, zero, suc, ◌+◌, Bool, true, false, cond, unwrap_or, bytes_eq, List, [], ◌∷◌, ◌++◌, length, get_or, All, Option, Some, None, slice_get, refl, sym, ap, ◌∙◌, subst, inl, inr, ⊎_elim, arith, length-append, Global}
 use Rattle.std.specs.Prelude.{Vec, Result, Ok, Err, IfOk, IfErr, OnOk, OnErr}
 use Rattle.std.specs.Io.KnownBytes.{Consumes}
 use Rattle.std.specs.Cmp.Lexicographic.{bytes_decides}
@@ -7,13 +7,14 @@ use Rattle.std.specs.HashMap.{HashMap, UpdatesBy}
 use Rattle.std.specs.Map.{IsKeyTest, AreApart, KeepsOthers, lookup}
 use Rattle.std.proofs.lemmas.Bool.{cases_Bool, cond-true, cond-false}
 use Rattle.std.proofs.lemmas.Cmp.{nat_list_eq_equiv}
-use Rattle.std.proofs.lemmas.Option.{none-some, same_Some, slice_get_within}
+use Rattle.std.proofs.lemmas.List.Quantifiers.{position-Some}
+use Rattle.std.proofs.lemmas.Option.{none-some, same_Some, slice_get_within, slice_get-get_or, get_or_from_slice_get}
 use Rattle.cats_text.specs.Files.{PlainFile, IsPlainFile}
 use Rattle.cats_text.specs.Streams.{inner_of, ReadsFile}
 use Rattle.cats_text.specs.declared.stream.Watched.{Watched}
 use Rattle.canon.specs.Answers.{RefusesAs}
 use Rattle.canon.specs.Canonical.{canonical_text}
-use Rattle.canon.specs.FirstPlaces.{AddsStream, IsFirstPlace}
+use Rattle.canon.specs.FirstPlaces.{AddsStream, IsFirstPlace, first_place}
 use Rattle.canon.specs.Normalising.{IsText, normalised_file}
 use Rattle.canon.specs.declared.fault.CanonFault.{CanonFault}
 use Rattle.canon.specs.TextPlaces.{place_of, IsFirstText, LacksText, PlacesText, IsIndex}
@@ -220,3 +221,19 @@ first_place_stays files more given place h = record {
       (λ (e : (k ≡ length files) × (other ≡ more)). let within = slice_get_within files place h.file h.there in let last = e.0 in absurd (omega arith))
       (pushed files more other k at);
 }
+
+-- the first file with the text of a file
+pub first_place_is : (files : List PlainFile) (given : PlainFile) (place : ℕ) → All IsPlainFile files → IsPlainFile given → first_place files given ≡ Some place → IsFirstPlace files given place
+first_place_is files given place each facts e =
+    let found = position-Some (λ file. bytes_eq (canonical_text file) (canonical_text given)) files place given e in
+    record {
+      file = get_or files place given;
+      there = slice_get-get_or files place given found.0;
+      same = same_from_text (get_or files place given) given (each place given found.0) facts ((bytes_decides (canonical_text (get_or files place given)) (canonical_text given)).0 found.1);
+      first = λ k other l at same.
+          let is : get_or files k given ≡ other = get_or_from_slice_get files k other given at in
+          let plain : IsPlainFile other = subst IsPlainFile is (each k given (slice_get_within files k other at)) in
+          let equal : bytes_eq (canonical_text other) (canonical_text given) ≡ true = (bytes_decides (canonical_text other) (canonical_text given)).1 (same_text other given plain facts same) in
+          let apart : bytes_eq (canonical_text other) (canonical_text given) ≡ false = subst (λ (file : PlainFile). bytes_eq (canonical_text file) (canonical_text given) ≡ false) is (found.2 k l) in
+          absurd (cc);
+    }

@@ -1,5 +1,5 @@
 -- The first file of an auction, among files that were added one by one.
-use Rattle.std.specs.Prelude.{◌≡◌, ◌⊎◌, ℕ, ◌<◌, List, [], ◌∷◌, ◌++◌, Option, Some, slice_get, Result, Ok, Err}
+use Rattle.std.specs.Prelude.{◌≡◌, ◌⊎◌, ℕ, ◌<◌, List, [], ◌∷◌, ◌++◌, position, Option, Some, slice_get, bytes_eq, Result, Ok, Err}
 use Rattle.std.specs.Io.KnownBytes.{Consumes}
 use Rattle.cats_text.specs.Files.{PlainFile}
 use Rattle.cats_text.specs.Streams.{inner_of, ReadsAs, ReadsFile}
@@ -18,6 +18,10 @@ pub record IsFirstPlace (files : List PlainFile) (given : PlainFile) (place : �
   pub there : slice_get files place ≡ Some file
   pub same : AreSameFiles file given
   pub first : (k : ℕ) (other : PlainFile) → k < place → slice_get files k ≡ Some other → AreSameFiles other given → ⊥
+
+-- the place of the first of the files that has the canonical text of the given one
+abbrev pub first_place : List PlainFile → PlainFile → Option ℕ
+first_place files given = position (λ file. bytes_eq (canonical_text file) (canonical_text given)) files
 
 -- ---- a file that is read from a stream first
 

@@ -12,6 +12,7 @@ mod fault;
 mod file;
 pub mod laws;
 mod parting;
+mod place_laws;
 #[cfg(test)]
 mod tests;
 mod text;
@@ -19,6 +20,7 @@ mod verdict;
 mod which;
 pub mod worked;
 pub mod worked_differences;
+pub mod worked_places;
 mod writing;
 
 pub use auction::canonical;
@@ -30,6 +32,7 @@ pub use difference_laws::{
 };
 pub use fault::CanonFault;
 pub use file::file_of;
+pub use place_laws::first_place_by_text;
 pub use text::{into_normal_file, normal_file, normal_text, normalise};
 pub use verdict::{Side, Verdict};
 pub use which::Which;
