@@ -131,7 +131,7 @@ rest_scanned s0 s t w v bytes place count l so_far next =
     let left : length (drop place bytes) ≡ length bytes - place = length-drop place bytes in
     let most : count ≤ length (drop place bytes) = subst (λ ds. count ≤ length ds) (rest_is bytes place) next.1 in (
       subst (IsScanned s0 t v bytes) (drop-drop count place bytes)
-      (scanned_then s0 s t w v bytes (drop place bytes) (drop count (drop place bytes)) so_far here (λ k. omega arith) (λ q k. absurd (let none : length (drop place bytes) ≡ 0 = ap length q in omega arith))),
+          (scanned_then s0 s t w v bytes (drop place bytes) (drop count (drop place bytes)) so_far here (λ k. omega arith) (λ q k. absurd (let none : length (drop place bytes) ≡ 0 = ap length q in omega arith))),
       omega arith,
     )
 

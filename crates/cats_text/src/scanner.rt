@@ -8,8 +8,8 @@ ghost use Rattle.cats_text.specs.Scanning.{halt_of, letter_mode, state, first_st
 
 use crate::bid::BidFile;
 use crate::fault::{Kind, ReadFault};
-use crate::parser::{Parser, Stop};
 use crate::front::{front, with_digits};
+use crate::parser::{Parser, Stop};
 use crate::word::Word;
 use std::alloc::Global;
 
