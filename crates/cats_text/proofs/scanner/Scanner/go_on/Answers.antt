@@ -14,10 +14,10 @@ returns-after-count-bytes-clause-scanned c =
     let count = c.unwrap_or-count.result in
     let feed = c.unwrap_or-count.ensures ∙ ap (λ o. unwrap_or o (length c.args.bytes.now)) c.line_feed.ensures in (
       comment_scanned (state c.args.self.now) bytes count c.if-count-bytes.self c.in-Comment.is c.requires.some feed
-      (elim c.if-count-bytes.branch [
-        | then-count-bytes w ↦ w.self-is ∙ sym (ap (λ t. t && eqb (get_or c.args.bytes.now (c.unwrap_or-count.result - 1) 0) 13) (eq-eqb _ _ w.if-count-bytes.true))
-        | else-count-bytes w ↦ w.self-is ∙ ne_eqb _ _ w.if-count-bytes.false ∙ sym (ap (λ t. t && eqb (get_or c.args.bytes.now (c.unwrap_or-count.result - 1) 0) 13) (ne_eqb _ _ w.if-count-bytes.false))
-      ]),
+          (elim c.if-count-bytes.branch [
+            | then-count-bytes w ↦ w.self-is ∙ sym (ap (λ t. t && eqb (get_or c.args.bytes.now (c.unwrap_or-count.result - 1) 0) 13) (eq-eqb _ _ w.if-count-bytes.true))
+            | else-count-bytes w ↦ w.self-is ∙ ne_eqb _ _ w.if-count-bytes.false ∙ sym (ap (λ t. t && eqb (get_or c.args.bytes.now (c.unwrap_or-count.result - 1) 0) 13) (ne_eqb _ _ w.if-count-bytes.false))
+          ]),
       comment_within bytes count feed,
     )
 
