@@ -1,12 +1,14 @@
 -- What is kept of the word at the front of bytes: of digits, of digits and a point, and of `#`.
-use Rattle.std.proofs.Common.{◌≡◌, ℕ, ◌+◌, ◌-◌, ◌<◌, ◌≤◌, min, true, false, List, [], ◌∷◌, ◌++◌, length, get_or, take, drop, fold, refl, sym, ap, ◌∙◌, subst, arith, zero, suc, zero-add}
-use Rattle.std.proofs.lemmas.Bool.{and_parts}
+use Rattle.std.proofs.Common.{◌≡◌, ℕ, ◌+◌, ◌-◌, ◌<◌, ◌≤◌, min, true, false, List, [], ◌∷◌, ◌++◌, length, get_or, take, drop, fold, refl, sym, ap, ◌∙◌, subst, arith, zero, suc, zero-add, cond, eqb}
+use Rattle.std.proofs.lemmas.Bool.{and_parts, both_ways, eqb-true, eq-eqb, or_left, or_right}
 use Rattle.std.proofs.lemmas.List.{length-take, length-drop}
 use Rattle.std.proofs.lemmas.List.Sums.{fold-append}
 use Rattle.std.specs.List.{AllByRecursion}
+use Rattle.cats_text.specs.Lines.{is_blank}
 use Rattle.cats_text.specs.Numbers.{is_digit, digits_alone}
 use Rattle.cats_text.specs.Machine.{word_from, word_with, summary}
-use Rattle.cats_text.specs.Front.{IsPlain, IsKept}
+use Rattle.cats_text.specs.Front.{IsPlain, IsKept, IsFront}
+use Rattle.cats_text.specs.declared.word.Word.{Word}
 use Rattle.cats_text.specs.declared.word.Decimal.{Decimal}
 use Rattle.cats_text.specs.declared.word.Word.TheVariants.{Number, Decimal as Fraction, End}
 use Rattle.cats_text.proofs.Runs.{digits_plain}
@@ -65,3 +67,29 @@ decimal_kept bytes count v d places some within point digits value room more fra
       plain = subst (AllByRecursion IsPlain) (sym parts) (plain-append front (46 ∷ back) (digits_plain front digits) ((omega arith, refl), digits_plain back more));
       word = fraction ∙ sym (ap summary parts ∙ summary-append front (46 ∷ back) (omega arith) ∙ ap (λ w. fold word_with w (46 ∷ back)) (sym (digits_summary front v (omega arith) digits value)));
     }
+
+-- ---- the word and what stands behind it
+
+blank_no_feed : (b : ℕ) → is_blank b ≡ true → eqb b 10 ≡ false
+blank_no_feed b h = elim (eqb b 10) as (λ t. eqb b 10 ≡ t → t ≡ false) [
+  | true ↦ λ (e : eqb b 10 ≡ true). absurd (both_ways (is_blank 10) refl (subst (λ c. is_blank c ≡ true) (eqb-true b 10 e) h))
+  | false ↦ λ e. refl
+] refl
+
+pub front_blank : (bytes : List ℕ) (w : Word) (count : ℕ) → IsKept bytes w count → count < length bytes → is_blank (get_or bytes count 0) ≡ true → IsFront bytes w (count + 1)
+front_blank bytes w count kept within blank = record {
+  count = count;
+  kept = kept;
+  within = within;
+  ends = or_left (is_blank (get_or bytes count 0)) (eqb (get_or bytes count 0) 10) blank;
+  is = sym (ap (λ t. count + cond t 0 1) (blank_no_feed (get_or bytes count 0) blank));
+}
+
+pub front_feed : (bytes : List ℕ) (w : Word) (count : ℕ) → IsKept bytes w count → count < length bytes → get_or bytes count 0 ≡ 10 → IsFront bytes w count
+front_feed bytes w count kept within feed = let is : eqb (get_or bytes count 0) 10 ≡ true = eq-eqb (get_or bytes count 0) 10 feed in record {
+  count = count;
+  kept = kept;
+  within = within;
+  ends = or_right (is_blank (get_or bytes count 0)) (eqb (get_or bytes count 0) 10) is;
+  is = sym (ap (λ t. count + cond t 0 1) is ∙ omega arith);
+}

@@ -44,3 +44,4 @@ pub mod BidLines
 pub mod Runs
 pub mod Kept
 pub mod Words
+pub mod GoodRuns

@@ -1,6 +1,6 @@
 -- Whole words in front of bytes, each read before the byte that ends it.
-use Rattle.std.proofs.Common.{◌≡◌, ◌≢◌, ℕ, ◌+◌, ◌-◌, ◌<◌, ◌≤◌, Bool, true, false, ◌||◌, eqb, ⊎_elim, inl, inr, List, ◌∷◌, length, get_or, take, drop, refl, sym, ap, ◌∙◌, subst, arith, Result, Ok, Err, IsOkAnd, IsErr, IsErrAnd}
-use Rattle.std.proofs.lemmas.Bool.{both_ways, ne_eqb}
+use Rattle.std.proofs.Common.{◌≡◌, ◌≢◌, ℕ, ◌+◌, ◌-◌, ◌<◌, ◌≤◌, Bool, true, false, ◌||◌, cond, eqb, ⊎_elim, inl, inr, List, [], ◌∷◌, length, get_or, take, drop, refl, sym, ap, ◌∙◌, subst, arith, Result, Ok, Err, IsOkAnd, IsErr, IsErrAnd}
+use Rattle.std.proofs.lemmas.Bool.{both_ways}
 use Rattle.std.proofs.lemmas.List.{length-drop, drop-drop}
 use Rattle.cats_text.specs.Lines.{is_blank}
 use Rattle.cats_text.specs.Returns.{settled}
@@ -67,16 +67,18 @@ blank_stays s p b e h = rw (e, h) refl
 -- ---- the word in front
 
 -- the byte that ends the word, and what is decided behind it
-settled_end : (bytes : List ℕ) (w : Word) (count : ℕ) → IsFront bytes w count → settled (drop count bytes) ≡ get_or bytes count 0 ∷ settled (drop (count + 1) bytes)
-settled_end bytes w count front = ap settled (at_place bytes count front.within) ∙ settled-other (get_or bytes count 0) (drop (count + 1) bytes) (ends_no_return (get_or bytes count 0) front.ends)
+settled_end : (bytes : List ℕ) (count : ℕ) → count < length bytes → ends_word (get_or bytes count 0) ≡ true → settled (drop count bytes) ≡ get_or bytes count 0 ∷ settled (drop (count + 1) bytes)
+settled_end bytes count within ends = ap settled (at_place bytes count within) ∙ settled-other (get_or bytes count 0) (drop (count + 1) bytes) (ends_no_return (get_or bytes count 0) ends)
 
-read_scanned : (s : State) (p : Progress) (bytes : List ℕ) (w : Word) (count : ℕ) (v : Bool) → is_before_word s.mode ≡ true → IsFront bytes w count → word_read s.progress w ≡ Ok p
-    → p.stage ≡ s.progress.stage → v ≡ false → IsScanned s (behind_word s p) v bytes (drop count bytes)
-read_scanned s p bytes w count v before front read stage e =
-    let b : ℕ = get_or bytes count 0 in
-    let later : List ℕ = settled (drop (count + 1) bytes) in
-    let come : IsScanned s (in_word s w) v bytes (drop count bytes) = word_scanned s bytes w count v before front.kept e in
-    let split : settled (drop count bytes) ≡ b ∷ later = settled_end bytes w count front in
+-- the word is read before the byte that ends it
+read_scanned : (s : State) (p : Progress) (bytes : List ℕ) (w : Word) (taken : ℕ) (v : Bool) → is_before_word s.mode ≡ true → (front : IsFront bytes w taken) → word_read s.progress w ≡ Ok p
+    → p.stage ≡ s.progress.stage → v ≡ false → IsScanned s (behind_word s p) v bytes (drop front.count bytes)
+read_scanned s p bytes w taken v before front read stage e =
+    let count : ℕ = front.count in
+    let b : ℕ = get_or bytes front.count 0 in
+    let later : List ℕ = settled (drop (front.count + 1) bytes) in
+    let come : IsScanned s (in_word s w) v bytes (drop front.count bytes) = word_scanned s bytes w count v before front.kept e in
+    let split : settled (drop front.count bytes) ≡ b ∷ later = settled_end bytes count front.within front.ends in
     let same : byte_step (in_word s w) b ≡ byte_step (behind_word s p) b = byte_ends s w p b front.ends read in
     let again : MeetsBidLine (behind_word s p) (b ∷ later) → MeetsBidLine (in_word s w) (b ∷ later) =
     ⊎_elim (λ (m : IsInBidLine (behind_word s p)). inl (sym stage ∙ m.0, tt)) (λ (m : IsOkAnd (byte_step (behind_word s p) b) (λ t. MeetsBidLine t later)). inr (subst (λ r. IsOkAnd r (λ t. MeetsBidLine t later)) (sym same) m)) in
@@ -88,52 +90,84 @@ read_scanned s p bytes w count v before front read stage e =
       ended = come.ended;
     }
 
-front_faults : (s : State) (bytes : List ℕ) (w : Word) (count : ℕ) (kind : Kind) → is_before_word s.mode ≡ true → IsFront bytes w count → word_read s.progress w ≡ Err kind → run s (settled bytes) ≡ Err (fault_at s.line kind)
-front_faults s bytes w count kind before front read =
-    let come : IsScanned s (in_word s w) false bytes (drop count bytes) = word_scanned s bytes w count false before front.kept refl in
-    sym come.steps ∙ ap (run (in_word s w)) (settled_end bytes w count front)
-    ∙ ap (λ r. and_then r (λ t. run t (settled (drop (count + 1) bytes)))) (byte_faults s w kind (get_or bytes count 0) front.ends read)
+front_faults : (s : State) (bytes : List ℕ) (w : Word) (taken : ℕ) (kind : Kind) → is_before_word s.mode ≡ true → IsFront bytes w taken → word_read s.progress w ≡ Err kind → run s (settled bytes) ≡ Err (fault_at s.line kind)
+front_faults s bytes w taken kind before front read =
+    let come : IsScanned s (in_word s w) false bytes (drop front.count bytes) = word_scanned s bytes w front.count false before front.kept refl in
+    sym come.steps ∙ ap (run (in_word s w)) (settled_end bytes front.count front.within front.ends)
+    ∙ ap (λ r. and_then r (λ t. run t (settled (drop (front.count + 1) bytes)))) (byte_faults s w kind (get_or bytes front.count 0) front.ends read)
 
-front_asks : (s : State) (bytes : List ℕ) (w : Word) (count : ℕ) → is_before_word s.mode ≡ true → IsFront bytes w count → s.progress.stage ≡ Bid → MeetsBidLine s (settled bytes)
-front_asks s bytes w count before front stage =
-    let come : IsScanned s (in_word s w) false bytes (drop count bytes) = word_scanned s bytes w count false before front.kept refl in
-    come.asks (subst (MeetsBidLine (in_word s w)) (sym (settled_end bytes w count front)) (inl (stage, tt)))
+front_asks : (s : State) (bytes : List ℕ) (w : Word) (taken : ℕ) → is_before_word s.mode ≡ true → IsFront bytes w taken → s.progress.stage ≡ Bid → MeetsBidLine s (settled bytes)
+front_asks s bytes w taken before front stage =
+    let come : IsScanned s (in_word s w) false bytes (drop front.count bytes) = word_scanned s bytes w front.count false before front.kept refl in
+    come.asks (subst (MeetsBidLine (in_word s w)) (sym (settled_end bytes front.count front.within front.ends)) (inl (stage, tt)))
+
+-- and its blank, if it has one
+front_taken : (s : State) (p : Progress) (v : Bool) (bytes : List ℕ) (count taken : ℕ) → count < length bytes → ends_word (get_or bytes count 0) ≡ true → taken ≡ count + cond (eqb (get_or bytes count 0) 10) 0 1
+    → IsScanned s (behind_word s p) v bytes (drop count bytes) → IsScanned s (behind_word s p) v bytes (drop taken bytes) × (taken ≤ length bytes)
+front_taken s p v bytes count taken within ends is so_far = elim (eqb (get_or bytes count 0) 10) as (λ t. eqb (get_or bytes count 0) 10 ≡ t → IsScanned s (behind_word s p) v bytes (drop taken bytes) × (taken ≤ length bytes)) [
+  | true ↦ λ (e : eqb (get_or bytes count 0) 10 ≡ true). let at : count ≡ taken = sym (is ∙ ap (λ t. count + cond t 0 1) e ∙ omega arith) in
+      (subst (λ k. IsScanned s (behind_word s p) v bytes (drop k bytes)) at so_far, omega arith)
+  | false ↦ λ (e : eqb (get_or bytes count 0) 10 ≡ false). let at : count + 1 ≡ taken = sym (is ∙ ap (λ t. count + cond t 0 1) e) in (
+    subst (λ k. IsScanned s (behind_word s p) v bytes (drop k bytes)) at
+        (scan_byte_at s (behind_word s p) (behind_word s p) v v bytes count within (ends_no_return (get_or bytes count 0) ends) so_far
+        (blank_stays s p (get_or bytes count 0) e (blank_from (is_blank (get_or bytes count 0)) (eqb (get_or bytes count 0) 10) ends e)) refl),
+    omega arith,
+  )
+] refl
 
 -- ---- one word after another
 
-pub word_more : (s0 s : State) (p : Progress) (w v : Bool) (bytes : List ℕ) (place : ℕ) (word : Word) (count : ℕ) → IsScanned s0 s w bytes (drop place bytes) → is_before_word s.mode ≡ true → IsFront (drop place bytes) word count
-    → word_read s.progress word ≡ Ok p → p.stage ≡ s.progress.stage → v ≡ false → IsScanned s0 (behind_word s p) v bytes (drop (place + count) bytes)
-word_more s0 s p w v bytes place word count so_far before front read stage e =
-    let within : count < length (drop place bytes) = front.within in
-    subst (IsScanned s0 (behind_word s p) v bytes) (drop-drop count place bytes)
-    (scanned_then s0 s (behind_word s p) w v bytes (drop place bytes) (drop count (drop place bytes)) so_far
-    (read_scanned s p (drop place bytes) word count v before front read stage e) (λ l. omega arith) (λ q l. absurd (let none : length (drop place bytes) ≡ 0 = ap length q in omega arith)))
+front_some : (bytes : List ℕ) (w : Word) (taken : ℕ) → IsFront bytes w taken → (0 < taken) × (0 < length bytes)
+front_some bytes w taken front =
+    let some : 0 < front.count = front.kept.some in
+    let within : front.count < length bytes = front.within in
+    let is : taken ≡ front.count + cond (eqb (get_or bytes front.count 0) 10) 0 1 = front.is in
+    (omega arith, omega arith)
 
--- the blank behind a word
-pub blank_more : (s0 s : State) (p : Progress) (w v : Bool) (bytes : List ℕ) (place : ℕ) → place < length bytes → ends_word (get_or bytes place 0) ≡ true → get_or bytes place 0 ≢ 10
-    → IsScanned s0 (behind_word s p) w bytes (drop place bytes) → v ≡ w → IsScanned s0 (behind_word s p) v bytes (drop (place + 1) bytes)
-blank_more s0 s p w v bytes place l ends ne so_far e = let no_feed : eqb (get_or bytes place 0) 10 ≡ false = ne_eqb (get_or bytes place 0) 10 ne in
-    scan_byte_at s0 (behind_word s p) (behind_word s p) w v bytes place l (ends_no_return (get_or bytes place 0) ends) so_far
-    (blank_stays s p (get_or bytes place 0) no_feed (blank_from (is_blank (get_or bytes place 0)) (eqb (get_or bytes place 0) 10) ends no_feed)) e
+pub word_more : (s0 s : State) (p : Progress) (w v : Bool) (bytes : List ℕ) (place : ℕ) (word : Word) (taken : ℕ) → IsScanned s0 s w bytes (drop place bytes) → is_before_word s.mode ≡ true → IsFront (drop place bytes) word taken
+    → word_read s.progress word ≡ Ok p → p.stage ≡ s.progress.stage → v ≡ false → IsScanned s0 (behind_word s p) v bytes (drop (place + taken) bytes) × (place + taken ≤ length bytes) × (0 < taken)
+word_more s0 s p w v bytes place word taken so_far before front read stage e =
+    let some = front_some (drop place bytes) word taken front in
+    let long : 0 < length (drop place bytes) = some.1 in
+    let left : length (drop place bytes) ≡ length bytes - place = length-drop place bytes in
+    let here : IsScanned s (behind_word s p) v (drop place bytes) (drop taken (drop place bytes)) × (taken ≤ length (drop place bytes)) =
+    front_taken s p v (drop place bytes) front.count taken front.within front.ends front.is (read_scanned s p (drop place bytes) word taken v before front read stage e) in
+    let most : taken ≤ length (drop place bytes) = here.1 in (
+      subst (IsScanned s0 (behind_word s p) v bytes) (drop-drop taken place bytes)
+          (scanned_then s0 s (behind_word s p) w v bytes (drop place bytes) (drop taken (drop place bytes)) so_far here.0 (λ l. omega arith) (λ q l. absurd (let none : length (drop place bytes) ≡ 0 = ap length q in omega arith))),
+      omega arith,
+      some.0,
+    )
 
 -- the parser stopped at the word in front
-pub word_stops : (s0 s t : State) (u : Progress) (w v : Bool) (bytes : List ℕ) (place : ℕ) (word : Word) (count : ℕ) (stop : Stop) (halt : Halt) → IsScanned s0 s w bytes (drop place bytes) → is_before_word s.mode ≡ true
-    → IsFront (drop place bytes) word count → Gives {A = Unit {0}} u (Err stop) (word_read s.progress word) → AsksOnBidLines {A = Unit {0}} s.progress (Err stop) → halt ≡ halt_of s.line stop → ScansTo s0 t v bytes (Err halt)
-word_stops s0 s t u w v bytes place word count (Fault kind) halt so_far before front read asks e = subst (λ (h : Halt). ScansTo s0 t v bytes (Err h)) (sym e) (sym so_far.steps ∙ front_faults s (drop place bytes) word count kind before front read)
-word_stops s0 s t u w v bytes place word count Memory halt so_far before front read asks e = subst (λ (h : Halt). ScansTo s0 t v bytes (Err h)) (sym e) (so_far.asks (front_asks s (drop place bytes) word count before front asks))
+pub word_stops : (s0 s t : State) (u : Progress) (w v : Bool) (bytes : List ℕ) (place : ℕ) (word : Word) (taken : ℕ) (stop : Stop) (halt : Halt) → IsScanned s0 s w bytes (drop place bytes) → is_before_word s.mode ≡ true
+    → IsFront (drop place bytes) word taken → Gives {A = Unit {0}} u (Err stop) (word_read s.progress word) → AsksOnBidLines {A = Unit {0}} s.progress (Err stop) → halt ≡ halt_of s.line stop → ScansTo s0 t v bytes (Err halt)
+word_stops s0 s t u w v bytes place word taken (Fault kind) halt so_far before front read asks e = subst (λ (h : Halt). ScansTo s0 t v bytes (Err h)) (sym e) (sym so_far.steps ∙ front_faults s (drop place bytes) word taken kind before front read)
+word_stops s0 s t u w v bytes place word taken Memory halt so_far before front read asks e = subst (λ (h : Halt). ScansTo s0 t v bytes (Err h)) (sym e) (so_far.asks (front_asks s (drop place bytes) word taken before front asks))
 
 -- ---- a call on the rest of the bytes
+
+-- (where none is left, whether a CR waits stays)
+pub rest_then : (s0 s t : State) (w v : Bool) (bytes : List ℕ) (place count : ℕ) → place ≤ length bytes → (drop place bytes ≡ [] → v ≡ w) → IsScanned s0 s w bytes (drop place bytes)
+    → ScansTo s t v (take (length bytes - place) (drop place bytes)) (Ok count) → IsScanned s0 t v bytes (drop (place + count) bytes) × (place + count ≤ length bytes)
+rest_then s0 s t w v bytes place count l same so_far next =
+    let here : IsScanned s t v (drop place bytes) (drop count (drop place bytes)) = subst (λ ds. IsScanned s t v ds (drop count ds)) (rest_is bytes place) next.0 in
+    let left : length (drop place bytes) ≡ length bytes - place = length-drop place bytes in
+    let behind : length (drop count (drop place bytes)) ≡ length (drop place bytes) - count = length-drop count (drop place bytes) in
+    let most : count ≤ length (drop place bytes) = subst (λ ds. count ≤ length ds) (rest_is bytes place) next.1 in (
+      subst (IsScanned s0 t v bytes) (drop-drop count place bytes) (scanned_then s0 s t w v bytes (drop place bytes) (drop count (drop place bytes)) so_far here (λ k. omega arith) (λ q k. same q)),
+      omega arith,
+    )
 
 pub rest_scanned : (s0 s t : State) (w v : Bool) (bytes : List ℕ) (place count : ℕ) → place < length bytes → IsScanned s0 s w bytes (drop place bytes) → ScansTo s t v (take (length bytes - place) (drop place bytes)) (Ok count)
     → IsScanned s0 t v bytes (drop (place + count) bytes) × (place + count ≤ length bytes)
 rest_scanned s0 s t w v bytes place count l so_far next =
-    let here : IsScanned s t v (drop place bytes) (drop count (drop place bytes)) = subst (λ ds. IsScanned s t v ds (drop count ds)) (rest_is bytes place) next.0 in
     let left : length (drop place bytes) ≡ length bytes - place = length-drop place bytes in
-    let most : count ≤ length (drop place bytes) = subst (λ ds. count ≤ length ds) (rest_is bytes place) next.1 in (
-      subst (IsScanned s0 t v bytes) (drop-drop count place bytes)
-          (scanned_then s0 s t w v bytes (drop place bytes) (drop count (drop place bytes)) so_far here (λ k. omega arith) (λ q k. absurd (let none : length (drop place bytes) ≡ 0 = ap length q in omega arith))),
-      omega arith,
-    )
+    rest_then s0 s t w v bytes place count (omega arith) (λ q. absurd (let none : length (drop place bytes) ≡ 0 = ap length q in omega arith)) so_far next
+
+pub rest_stops_to : (s0 s t u : State) (w v x : Bool) (bytes : List ℕ) (place : ℕ) (halt : Halt) → IsScanned s0 s w bytes (drop place bytes) → ScansTo s t v (take (length bytes - place) (drop place bytes)) (Err halt) → ScansTo s0 u x bytes (Err halt)
+rest_stops_to s0 s t u w v x bytes place (halts.Fault e) so_far stop = sym so_far.steps ∙ subst (λ ds. run s (settled ds) ≡ Err e) (rest_is bytes place) stop
+rest_stops_to s0 s t u w v x bytes place halts.Memory so_far stop = so_far.asks (subst (λ ds. MeetsBidLine s (settled ds)) (rest_is bytes place) stop)
 
 pub rest_stops : (s0 s t u : State) (w v : Bool) (bytes : List ℕ) (place : ℕ) (halt : Halt) → IsScanned s0 s w bytes (drop place bytes) → ScansTo s t v (take (length bytes - place) (drop place bytes)) (Err halt)
     → Steps {A = Unit {0}} u (Err halt) (run s0 (settled bytes)) × Asks {A = Unit {0}} s0 (settled bytes) (Err halt)
@@ -156,6 +190,6 @@ byte_stops s0 s t u w v bytes place count halt l so_far next here ne steps asks 
     at_byte s0 t u v bytes rest b later halts.Memory so_far split steps asks = (tt, so_far.asks (subst (MeetsBidLine t) (sym split) (inl asks)))
 
 -- what a `?` answers
-pub residual_is : (r : Result (Unit {0}) Halt) (halt : Halt) (P : Result (Unit {0}) Halt → Type 0) → IsErr r → IsErrAnd r (λ h. h ≡ halt) → P (Err halt) → P r
+pub residual_is : {A : Type 0} (r : Result A Halt) (halt : Halt) (P : Result A Halt → Type 0) → IsErr r → IsErrAnd r (λ h. h ≡ halt) → P (Err halt) → P r
 residual_is (Ok x) halt P err is p = cc
 residual_is (Err h) halt P err is p = subst (λ (k : Halt). P (Err k)) (sym is) p

@@ -1,7 +1,7 @@
 //! The word at the front of bytes, where it stands there whole.
 
 ghost use Rattle.std.specs.Prelude.{◌≡◌, ◌≤◌, true, fold, length, take, IfSome};
-ghost use Rattle.cats_text.specs.Front.{IsFront, IsKept, ends_word};
+ghost use Rattle.cats_text.specs.Front.{IsFront, IsKept};
 ghost use Rattle.cats_text.specs.Machine.{word_with};
 ghost use Rattle.cats_text.specs.Numbers.{digits_alone};
 
@@ -65,13 +65,28 @@ fn kept(bytes: &[u8]) -> Option<(Word, usize)>
     }
 }
 
-/// The number, price or `#` in front, where a blank or a line's end stands behind it, and how many bytes it has.
+/// The number in front, where a blank stands behind it, and how many bytes they have.
+pub fn number(bytes: &[u8]) -> Option<(u64, usize)>
+    ensures { IfSome result (λ r. IsFront bytes.now (Word.Number r.0) r.1) }
+{
+    let (value, count) = with_digits(0, bytes);
+    if count == 0 {
+        return None;
+    }
+    match *bytes.get(count)? {
+        b' ' | b'\t' => Some((value, count + 1)),
+        _ => None,
+    }
+}
+
+/// The number, price or `#` in front, where a blank or a line's end stands behind it, and how many bytes it and the blank have.
 pub fn front(bytes: &[u8]) -> Option<(Word, usize)>
     ensures { IfSome result (λ r. IsFront bytes.now r.0 r.1) }
 {
     let (word, count) = kept(bytes)?;
     match *bytes.get(count)? {
-        b' ' | b'\t' | b'\n' => Some((word, count)),
+        b' ' | b'\t' => Some((word, count + 1)),
+        b'\n' => Some((word, count)),
         _ => None,
     }
 }

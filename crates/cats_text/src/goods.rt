@@ -1,6 +1,6 @@
 //! The goods of the bid that is being read.
 
-ghost use Rattle.std.specs.Prelude.{◌≡◌, ◌<◌, ◌==◌, length, ℕ, [], ◌∷◌, ◌++◌, false, OnOk, IfOk, slice_index, vec_len};
+ghost use Rattle.std.specs.Prelude.{◌≡◌, ◌<◌, ◌==◌, length, ℕ, [], ◌∷◌, ◌++◌, not, if◌then◌else◌, OnOk, IfOk, slice_index, vec_len};
 ghost use Rattle.cats_text.specs.Files.{IsRising};
 ghost use Rattle.cats_text.specs.Grammar.{has_number};
 
@@ -57,23 +57,19 @@ impl GoodList {
         self.goods.is_empty()
     }
 
-    /// Whether the good has come.
-    pub fn has(&self, good: u16) -> bool
-        ensures { result ≡ has_number self.now good }
-    {
-        self.marks.get(usize::from(good)) == Some(&self.bid_mark)
-    }
-
-    /// One more good, which has not come.
-    pub fn push(&mut self, good: u16) -> Result<(), AllocError>
-        requires { has_number self.old good ≡ false }
-        ensures { OnOk result (self.new ≡ self.old ++ good ∷ []) }
+    /// Puts a good behind the others unless it has come, and tells whether it was new.
+    pub fn put(&mut self, good: u16) -> Result<bool, AllocError>
+        ensures new { IfOk result (λ is_new. is_new ≡ not (has_number self.old good)) }
+        ensures goods { IfOk result (λ is_new. self.new ≡ (if is_new then self.old ++ good ∷ [] else self.old)) }
     {
         let place = usize::from(good);
         cover(&mut self.marks, place)?;
+        if self.marks[place] == self.bid_mark {
+            return Ok(false);
+        }
         self.goods.push(good)?;
         self.marks[place] = self.bid_mark;
-        Ok(())
+        Ok(true)
     }
 
     /// The goods in rising order; there are none afterwards.

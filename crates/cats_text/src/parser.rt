@@ -1,6 +1,7 @@
 //! From words to bids: what is due, and what has come.
 
 ghost use Rattle.std.specs.Prelude.{◌≡◌, ◌<◌, length, IfOk, OnOk, OnErr};
+ghost use Rattle.std.specs.Bool.{OnTrue};
 ghost use Rattle.cats_text.specs.Files.{IsPlainFile, plain_bid};
 ghost use Rattle.cats_text.specs.Views.{plain_file};
 ghost use Rattle.cats_text.specs.Progress.{progress, plain_slots, Gives, Answers, AsksOnBidLines};
@@ -236,11 +237,11 @@ impl Parser {
         }
         if value < goods {
             let good = value as u16;
-            if self.goods.has(good) {
-                return Err(Stop::Fault(Kind::RepeatedGood));
-            }
-            self.goods.push(good)?;
-            return Ok(());
+            return if self.goods.put(good)? {
+                Ok(())
+            } else {
+                Err(Stop::Fault(Kind::RepeatedGood))
+            };
         }
         let dummy = (value - goods) as u32;
         match self.draft.dummy {
@@ -269,7 +270,15 @@ impl Parser {
         }
     }
 
+    /// Whether goods of a bid are due.
+    pub fn takes_goods(&self) -> bool
+        ensures { OnTrue result ((self.now.stage ≡ Stage.Bid) × (self.now.place ≡ Place.Later)) }
+    {
+        self.stage == Stage::Bid && self.place == Place::Later
+    }
+
     /// The next word of a line.
+    #[inline(always)]
     pub fn word(&mut self, word: Word) -> Result<(), Stop>
         ensures reads { Gives (progress self.new) result (word_read (progress self.old) word) }
         ensures memory { AsksOnBidLines (progress self.old) result }

@@ -8,7 +8,7 @@ ghost use Rattle.cats_text.specs.Scanning.{halt_of, letter_mode, state, first_st
 
 use crate::bid::BidFile;
 use crate::fault::{Kind, ReadFault};
-use crate::front::{front, with_digits};
+use crate::front::{front, number, with_digits};
 use crate::parser::{Parser, Stop};
 use crate::word::Word;
 use std::alloc::Global;
@@ -172,7 +172,34 @@ impl Scanner {
         }
     }
 
-    /// Whole words in front; tells how many bytes they and the blanks behind them have.
+    /// Real goods in front that have not come, where goods are due; tells how many bytes they and their blanks have.
+    fn goods(&mut self, bytes: &[u8]) -> Result<usize, Halt>
+        requires waits { self.old.waiting ≡ false }
+        requires mode { self.old.mode ≡ Mode.Between }
+        ensures scanned { ScansTo (state self.old) (state self.new) self.new.waiting bytes.now result }
+        ensures mode { self.new.mode ≡ Mode.Between }
+        ensures line { self.new.line ≡ self.old.line }
+        ensures waiting { self.new.waiting ≡ self.old.waiting }
+    {
+        if !self.parser.takes_goods() {
+            return Ok(0);
+        }
+        let goods = u64::from(self.parser.header.goods);
+        let mut place = 0;
+        while let Some((good, taken)) = number(&bytes[place..]) {
+            if good >= goods {
+                break;
+            }
+            match self.parser.goods.put(good as u16) {
+                Ok(true) => place += taken,
+                Ok(false) => break,
+                Err(_) => return Err(Halt::Memory),
+            }
+        }
+        Ok(place)
+    }
+
+    /// Whole words in front; tells how many bytes they and their blanks have.
     fn words(&mut self, bytes: &[u8]) -> Result<usize, Halt>
         requires waits { self.old.waiting ≡ false }
         requires before { is_before_word self.old.mode ≡ true }
@@ -180,15 +207,13 @@ impl Scanner {
         ensures line { self.new.line ≡ self.old.line }
     {
         let mut place = 0;
-        while let Some((word, count)) = front(&bytes[place..]) {
+        while let Some((word, taken)) = front(&bytes[place..]) {
             if let Err(stop) = self.parser.word(word) {
                 return Err(Halt::at(self.line, stop));
             }
             self.mode = Mode::Between;
-            place += count;
-            if bytes[place] != b'\n' {
-                place += 1;
-            }
+            place += taken;
+            place += self.goods(&bytes[place..])?;
         }
         Ok(place)
     }
