@@ -2,6 +2,7 @@
 
 mod check;
 mod compare;
+mod devices;
 mod normalise;
 mod program;
 mod show;

@@ -1,4 +1,4 @@
-use super::streams::{Told, answer_of, expect, expect_cut_off, reader, writer};
+use super::streams::{Told, answer_of, expect, reader, writer};
 use cats_cmd::run_normalise;
 use std::alloc::{AllocError, Global};
 use std::ops::Range;
@@ -9,10 +9,10 @@ const STEPS: u64 = 1_000_000;
 
 const ROOM: usize = 8_388_608;
 
-/// What `normalise` answers of a text under a step limit, with a writer that has this room in all.
-fn normal(alloc: Global, text: &[u8], fails: bool, limit: u64, room: usize) -> Result<Told, Fail> {
+/// What `normalise` answers of a text under a step limit.
+fn normal(alloc: Global, text: &[u8], fails: bool, limit: u64) -> Result<Told, Fail> {
     let mut input = reader(text, fails);
-    let mut out = writer(alloc, 4096, room);
+    let mut out = writer(alloc, 4096, ROOM);
     let answer = run_normalise(alloc, &mut input, limit, &mut out);
     answer_of(alloc, answer, out)
 }
@@ -20,9 +20,9 @@ fn normal(alloc: Global, text: &[u8], fails: bool, limit: u64, room: usize) -> R
 /// Each text under its limit, its canonical text, and that this stays itself.
 fn gives(rt: &(impl Abort + AllocGlobal), rows: &[(&str, u64, &str)]) -> Result<(), Fail> {
     for (text, limit, canonical) in rows {
-        let answer = normal(rt.alloc(), text.as_bytes(), false, *limit, ROOM)?;
+        let answer = normal(rt.alloc(), text.as_bytes(), false, *limit)?;
         expect(rt, &answer, 0, canonical, "");
-        let again = normal(rt.alloc(), canonical.as_bytes(), false, *limit, ROOM)?;
+        let again = normal(rt.alloc(), canonical.as_bytes(), false, *limit)?;
         expect(rt, &again, 0, canonical, "");
     }
     Ok(())
@@ -171,7 +171,7 @@ fn refusals(rt: HostRuntime) -> Result<(), Fail> {
         ("Goods 0\n", true, 1, 2, "line 1: Header\n"),
         ("", false, 1, 2, "line 1: Missing\n"),
     ] {
-        let answer = normal(rt.alloc(), text.as_bytes(), *fails, *limit, ROOM)?;
+        let answer = normal(rt.alloc(), text.as_bytes(), *fails, *limit)?;
         expect(&rt, &answer, *status, "", line);
     }
     Ok(())
@@ -214,11 +214,11 @@ fn searches_stop_at_their_limit(rt: HostRuntime) -> Result<(), Fail> {
     gives(&rt, &[(twenty.as_str(), 1_048_575, twenty.as_str())])?;
     let line = "step limit at 0,1,2,3,4,5,6,7,8,9,10,11,12,13,14,15,16,17,18,19\n";
     for limit in [STEPS, 1_048_574] {
-        let answer = normal(rt.alloc(), twenty.as_bytes(), false, limit, ROOM)?;
+        let answer = normal(rt.alloc(), twenty.as_bytes(), false, limit)?;
         expect(&rt, &answer, 3, "", line);
     }
     let sixty = step_bomb(rt.alloc(), 60)?;
-    let answer = normal(rt.alloc(), sixty.as_bytes(), false, STEPS, ROOM)?;
+    let answer = normal(rt.alloc(), sixty.as_bytes(), false, STEPS)?;
     assert_eq!(rt; answer.status, 3);
     assert!(rt; answer.line.as_str().ends_with(",57,58,59\n"));
     Ok(())
@@ -264,14 +264,4 @@ fn many_bids(rt: HostRuntime) -> Result<(), Fail> {
             (bidders.as_str(), STEPS, bidders.as_str()),
         ],
     )
-}
-
-#[test]
-fn output_fails(rt: HostRuntime) -> Result<(), Fail> {
-    let canonical = "goods 2\nbids 2\ndummy 0\n0\t3\t0\t#\n1\t4\t1\t#\n";
-    for room in 0..canonical.len() {
-        let answer = normal(rt.alloc(), LARGER_BID.as_bytes(), false, STEPS, room)?;
-        expect_cut_off(&rt, &answer, canonical, room)?;
-    }
-    Ok(())
 }

@@ -1,25 +1,23 @@
-use super::streams::{Told, answer_of, expect, expect_cut_off, reader, writer};
+use super::streams::{Told, answer_of, expect, reader, writer};
 use cats_cmd::run_show;
 use std::alloc::Global;
 use std::process::Abort;
 use std::test::Fail;
 
-/// What `show` answers of a text, with a writer that takes 7 bytes a call and this room in all.
-fn shown(alloc: Global, text: &[u8], fails: bool, room: usize) -> Result<Told, Fail> {
+/// What `show` answers of a text, with a writer that takes 7 bytes a call.
+fn shown(alloc: Global, text: &[u8], fails: bool) -> Result<Told, Fail> {
     let mut input = reader(text, fails);
-    let mut out = writer(alloc, 7, room);
+    let mut out = writer(alloc, 7, 65_536);
     let answer = run_show(alloc, &mut input, &mut out);
     answer_of(alloc, answer, out)
 }
 
-const ROOM: usize = 65_536;
-
 /// Each text, and what `show` sends of it, and of what it sent.
 fn shows(rt: &(impl Abort + AllocGlobal), rows: &[(&[u8], &str)]) -> Result<(), Fail> {
     for (text, layout) in rows {
-        let answer = shown(rt.alloc(), text, false, ROOM)?;
+        let answer = shown(rt.alloc(), text, false)?;
         expect(rt, &answer, 0, layout, "");
-        let again = shown(rt.alloc(), answer.sent.as_bytes(), false, ROOM)?;
+        let again = shown(rt.alloc(), answer.sent.as_bytes(), false)?;
         expect(rt, &again, 0, layout, "");
     }
     Ok(())
@@ -71,18 +69,8 @@ fn refusals(rt: HostRuntime) -> Result<(), Fail> {
         ),
         ("goods 0\nbids 0\ndummy 0\n", true, 5, "Device\n"),
     ] {
-        let answer = shown(rt.alloc(), text.as_bytes(), *fails, ROOM)?;
+        let answer = shown(rt.alloc(), text.as_bytes(), *fails)?;
         expect(&rt, &answer, *status, "", line);
-    }
-    Ok(())
-}
-
-#[test]
-fn output_fails(rt: HostRuntime) -> Result<(), Fail> {
-    let text = "goods 2\nbids 1\ndummy 0\n0\t5\t0\t#\n";
-    for room in 0..text.len() {
-        let answer = shown(rt.alloc(), text.as_bytes(), false, room)?;
-        expect_cut_off(&rt, &answer, text, room)?;
     }
     Ok(())
 }

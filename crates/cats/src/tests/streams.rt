@@ -11,19 +11,19 @@ use std::io::{ErrorKind, Read, Write};
 use std::process::Abort;
 use std::test::Fail;
 
-/// Gives at most `step` bytes of its text a call, and where it is to it fails in place of its end.
+/// Gives at most `step` bytes of its text a call, and in place of its end it fails, where it is to.
 #[derive(Drop)]
 pub struct StepReader<'a> {
     text: &'a [u8],
     step: usize,
-    fails: bool,
+    failure: Option<ErrorKind>,
 }
 
 impl Read for StepReader<'_> {
     fn read(&mut self, piece: &mut [u8]) -> io::Result<usize> {
         let count = self.text.len().min(self.step).min(piece.len());
-        if count == 0 && self.fails && !piece.is_empty() {
-            return Err(io::Error::from(ErrorKind::BrokenPipe));
+        if let (0, false, Some(kind)) = (count, piece.is_empty(), self.failure) {
+            return Err(io::Error::from(kind));
         }
         piece[..count].copy_from_slice(&self.text[..count]);
         self.text = &self.text[count..];
@@ -36,8 +36,26 @@ pub fn reader(text: &[u8], fails: bool) -> Watched<StepReader<'_>>
     ensures works { has_failed result ≡ false }
     ensures fresh { has_ended result ≡ false }
 {
-    let step = if fails { 1 } else { 4096 };
-    Watched::new(StepReader { text, step, fails })
+    if fails {
+        return byte_reader(text, Some(ErrorKind::BrokenPipe));
+    }
+    Watched::new(StepReader {
+        text,
+        step: 4096,
+        failure: None,
+    })
+}
+
+/// Gives the text byte by byte, and then fails, or ends.
+pub fn byte_reader(text: &[u8], failure: Option<ErrorKind>) -> Watched<StepReader<'_>>
+    ensures works { has_failed result ≡ false }
+    ensures fresh { has_ended result ≡ false }
+{
+    Watched::new(StepReader {
+        text,
+        step: 1,
+        failure,
+    })
 }
 
 /// Gives comment lines and never ends.
@@ -54,18 +72,20 @@ impl Read for Comments {
     }
 }
 
-/// Takes at most `step` bytes a call and `room` in all, and then fails; or, with no step, fails at its flush alone.
+/// Takes at most `step` bytes a call and `room` in all, and then fails, or stalls: it takes nothing more. With no step it
+/// fails at its flush alone.
 #[derive(Drop)]
 pub struct StepWriter {
     pub taken: Vec<u8>,
     step: usize,
     room: usize,
+    stalls: bool,
 }
 
 impl Write for StepWriter {
     fn write(&mut self, piece: &[u8]) -> io::Result<usize> {
         let count = piece.len().min(self.step.max(1)).min(self.room);
-        if count == 0 && !piece.is_empty() {
+        if count == 0 && !piece.is_empty() && !self.stalls {
             return Err(io::Error::from(ErrorKind::BrokenPipe));
         }
         self.room -= count;
@@ -88,6 +108,19 @@ pub fn writer(alloc: Global, step: usize, room: usize) -> Watched<StepWriter>
         taken: Vec::new(alloc),
         step,
         room,
+        stalls: false,
+    })
+}
+
+/// Takes so many bytes, and then nothing of any piece.
+pub fn stalling_writer(alloc: Global, room: usize) -> Watched<StepWriter>
+    ensures { has_failed result ≡ false }
+{
+    Watched::new(StepWriter {
+        taken: Vec::new(alloc),
+        step: 4096,
+        room,
+        stalls: true,
     })
 }
 

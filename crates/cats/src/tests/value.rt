@@ -1,4 +1,4 @@
-use super::streams::{Told, answer_of, expect, expect_cut_off, reader, writer};
+use super::streams::{Told, answer_of, expect, reader, writer};
 use cats_cmd::run_value;
 use std::alloc::Global;
 use std::process::Abort;
@@ -6,17 +6,16 @@ use std::test::Fail;
 
 const STEPS: u64 = 1_000_000;
 
-/// The values of these goods in a text, with a writer of this room.
+/// The values of these goods in a text.
 fn valued(
     alloc: Global,
     text: &[u8],
     fails: bool,
     goods: &[u16],
     limit: u64,
-    room: usize,
 ) -> Result<Told, Fail> {
     let mut input = reader(text, fails);
-    let mut out = writer(alloc, 4096, room);
+    let mut out = writer(alloc, 4096, 4096);
     let answer = run_value(alloc, &mut input, goods, limit, &mut out);
     answer_of(alloc, answer, out)
 }
@@ -28,7 +27,7 @@ fn values(
     rows: &[(&str, &[u16], &str)],
 ) -> Result<(), Fail> {
     for (text, goods, lines) in rows {
-        let answer = valued(rt.alloc(), text.as_bytes(), false, goods, limit, 4096)?;
+        let answer = valued(rt.alloc(), text.as_bytes(), false, goods, limit)?;
         expect(rt, &answer, 0, lines, "");
     }
     Ok(())
@@ -144,7 +143,7 @@ fn refuses(
     rows: &[(&str, &[u16], u64, u8, &str)],
 ) -> Result<(), Fail> {
     for (text, goods, limit, status, line) in rows {
-        let answer = valued(rt.alloc(), text.as_bytes(), false, goods, *limit, 4096)?;
+        let answer = valued(rt.alloc(), text.as_bytes(), false, goods, *limit)?;
         expect(rt, &answer, *status, "", line);
     }
     Ok(())
@@ -222,14 +221,8 @@ fn sum_of_the_greatest_prices(rt: HostRuntime) -> Result<(), Fail> {
 }
 
 #[test]
-fn streams_fail(rt: HostRuntime) -> Result<(), Fail> {
-    let text = LARGER_BID.as_bytes();
-    let answer = valued(rt.alloc(), text, true, &[9, 9], STEPS, 4096)?;
+fn input_fails_before_goods_are_tested(rt: HostRuntime) -> Result<(), Fail> {
+    let answer = valued(rt.alloc(), LARGER_BID.as_bytes(), true, &[9, 9], STEPS)?;
     expect(&rt, &answer, 5, "", "Device\n");
-    let lines = "or 7 2\n";
-    for room in 0..lines.len() {
-        let answer = valued(rt.alloc(), text, false, &[0, 1], STEPS, room)?;
-        expect_cut_off(&rt, &answer, lines, room)?;
-    }
     Ok(())
 }

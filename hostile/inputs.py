@@ -1,0 +1,268 @@
+"""Measures the program on inputs that are made to hurt, each at several sizes, so that growth is seen.
+
+    inputs.py PROGRAM [WORD]
+
+With a word, only inputs whose name has it. Times are processor seconds. The growth is how often the time of a byte is that of the
+size before, left out where that took less than 50 ms: near 1 for a time that is linear in the bytes. What a run held is told as at
+least some 15 MiB, which this script holds itself.
+"""
+import os
+import random
+import subprocess
+import sys
+import tempfile
+from functools import partial
+from itertools import combinations, islice
+from multiprocessing import Process, set_start_method
+from typing import Callable, NamedTuple
+
+PROGRAM = sys.argv[1]
+WORD = sys.argv[2] if len(sys.argv) > 2 else ""
+
+GOODS, BIDS = 4096, 65_536
+
+# So many bidders of so many bids each are the most bids of a file.
+SIDE = 256
+
+# What stands for the file's path in a command.
+FILE = "FILE"
+
+
+class Input(NamedTuple):
+    """What makes the pieces of a file of a size, the sizes, and the commands that are measured on it."""
+
+    name: str
+    pieces: Callable
+    sizes: tuple
+    commands: tuple
+
+
+class Measure(NamedTuple):
+    """What a run took: processor seconds, and the most bytes that it held."""
+
+    seconds: float
+    held: int
+    told: str
+
+
+def header(goods, bids, dummy):
+    return f"goods {goods}\nbids {bids}\ndummy {dummy}\n"
+
+
+def bid(number, price, goods):
+    return f"{number}\t{price}\t" + "\t".join(map(str, goods)) + "\t#\n"
+
+
+# Files for the reader: where one thing is in another order, or as large as can be.
+
+
+def bundles_of(count, many):
+    """Random bundles of so many goods."""
+    chosen = random.Random(1)
+    return [sorted(chosen.sample(range(GOODS), many)) for _ in range(count)]
+
+
+def reverse(items):
+    return items[::-1]
+
+
+def shuffled(items):
+    return random.Random(2).sample(items, len(items))
+
+
+def by_number(order, count):
+    """Bids of five goods, in an order of their numbers."""
+    lines = [bid(number, 1 + number % 1000, goods) for number, goods in enumerate(bundles_of(count, 5))]
+    return [header(GOODS, count, 0), *order(lines)]
+
+
+def by_goods(order, count):
+    """Bids of 300 goods, which stand in an order."""
+    lines = (bid(number, 1 + number % 1000, order(goods)) for number, goods in enumerate(bundles_of(count, 300)))
+    return [header(GOODS, count, 0), *lines]
+
+
+def one_bid(count):
+    return [header(GOODS, 1, 0), bid(0, 1, range(count))]
+
+
+def whole_bids(are_xor, count):
+    """Bids on all goods: of one OR bidder, or each of an XOR bidder of its own."""
+    goods = "\t" + "\t".join(map(str, range(GOODS)))
+    yield header(GOODS, count, count * are_xor)
+    for number in range(count):
+        yield f"{number}\t{number}{goods}" + f"\t{GOODS + number}" * are_xor + "\t#\n"
+
+
+def dummies(count):
+    """So many dummy goods, of which the last is used."""
+    return [header(1, 1, count), bid(0, 1, [0, count])]
+
+
+def repeated(piece, count):
+    """A piece of a mebibyte, so many times."""
+    return (piece for _ in range(count))
+
+
+# Bundles with their prices, for one OR bidder or one XOR bidder.
+
+
+def on_one_bundle(count):
+    return ((price, range(5)) for price in range(count))
+
+
+def on_one_good(count):
+    return ((price, [0]) for price in range(count))
+
+
+def nested(count):
+    """Bundles each of which is inside the next, dearer one."""
+    return ((1 + size, range(size + 1)) for size in range(count))
+
+
+def apart(count):
+    """Bundles of which no two share a good, as many as there are goods; each has more than one bid where there are more bids."""
+    return ((1 + at // GOODS, [at % GOODS]) for at in range(count))
+
+
+def sharing_a_good(count):
+    """Different bundles that all hold one good, at one price."""
+    return ((7, [0, *pair]) for pair in islice(combinations(range(1, GOODS), 2), count))
+
+
+def halves(count):
+    """Different bundles of 10 of 20 goods, at one price: none is inside another, and each shares goods with nearly all."""
+    return ((7, half) for half in shuffled(list(combinations(range(20), 10)))[:count])
+
+
+def one_bidder(family, is_xor, count):
+    """A file of the bids of a family."""
+    dummy = [GOODS] * is_xor
+    lines = (bid(number, price, [*goods, *dummy]) for number, (price, goods) in enumerate(family(count)))
+    return [header(GOODS, count, len(dummy)), *lines]
+
+
+def single_bidders(count):
+    """Bidders that have one bid each, and these alike."""
+    return [header(1, count, count), *(bid(number, 1, [0, 1 + number]) for number in range(count))]
+
+
+def like_bidders(count):
+    """Bidders with 256 bids each, and these alike."""
+    yield header(SIDE, count * SIDE, count)
+    for number in range(count * SIDE):
+        yield bid(number, 1 + number % SIDE, [number % SIDE, SIDE + number // SIDE])
+
+
+def bomb(count):
+    """Bids on single goods, one on all but the last good that they just do not reach, and one on all goods: the searches on the two
+    enter nearly every family of the single bids."""
+    singles = [bid(number, 1, [number]) for number in range(count)]
+    both = [bid(count, count, range(count - 1)), bid(count + 1, count + 2, range(count))]
+    return [header(count, count + 2, 0), *singles, *both]
+
+
+CHECK, SHOW, NORMALISE, VALUE = ("check", FILE), ("show", FILE), ("normalise", FILE), ("value", FILE)
+COMPARE = ("compare", FILE, FILE)
+MOST_STEPS = ("--steps", "1000000000")
+BOMB = 60
+BOMB_GOODS = tuple(map(str, range(BOMB)))
+BOMBS = (NORMALISE, ("normalise", *MOST_STEPS, FILE), (*VALUE, *BOMB_GOODS), ("value", *MOST_STEPS, FILE, *BOMB_GOODS))
+READING = (CHECK, SHOW)
+ALL = (CHECK, SHOW, NORMALISE)
+BY_BIDS = (BIDS // 4, BIDS // 2, BIDS)
+BY_GOODS = (GOODS // 4, GOODS // 2, GOODS)
+BY_MEBIBYTES = (64, 128, 256)
+MEBIBYTE = 1_048_576
+
+FAMILIES = {
+    "on one bundle": (on_one_bundle, BY_BIDS),
+    "on one good": (on_one_good, BY_BIDS),
+    "nested": (nested, BY_GOODS),
+    "pairwise apart": (apart, BY_BIDS),
+    "sharing one good": (sharing_a_good, BY_BIDS),
+    "10 of 20 goods": (halves, BY_BIDS),
+}
+
+INPUTS = [
+    Input("bids in order", partial(by_number, list), BY_BIDS, READING),
+    Input("bids reversed", partial(by_number, reverse), BY_BIDS, READING),
+    Input("bids shuffled", partial(by_number, shuffled), BY_BIDS, READING),
+    Input("goods rising", partial(by_goods, list), BY_GOODS, READING),
+    Input("goods falling", partial(by_goods, reverse), BY_GOODS, READING),
+    Input("goods shuffled", partial(by_goods, shuffled), BY_GOODS, READING),
+    Input("one bid of many goods", one_bid, BY_GOODS, ALL),
+    Input("a word of zeros", partial(repeated, "0" * MEBIBYTE), BY_MEBIBYTES, (CHECK,)),
+    Input("a line of CRs", partial(repeated, "\r" * MEBIBYTE), BY_MEBIBYTES, (CHECK,)),
+    Input("empty lines", partial(repeated, "\n" * MEBIBYTE), BY_MEBIBYTES, (CHECK,)),
+    Input("short comments", partial(repeated, "%\n" * (MEBIBYTE // 2)), BY_MEBIBYTES, (CHECK,)),
+    Input("dummy goods, one used", dummies, BY_BIDS, (*ALL, VALUE)),
+    *(
+        Input(f"{'XOR' if is_xor else 'OR'} bids {name}", partial(one_bidder, family, is_xor), sizes, (CHECK, NORMALISE))
+        for name, (family, sizes) in FAMILIES.items()
+        for is_xor in (False, True)
+    ),
+    Input("bidders of one bid", single_bidders, BY_BIDS, ALL),
+    Input("like bidders of 256 bids", like_bidders, (SIDE // 4, SIDE // 2, SIDE), ALL),
+    Input("packing bomb", bomb, (BOMB,), BOMBS),
+    Input("bids on all goods", partial(whole_bids, False), BY_BIDS, (*ALL, COMPARE)),
+    Input("bidders for all goods", partial(whole_bids, True), BY_BIDS, (*ALL, COMPARE)),
+]
+
+
+def measure(words):
+    """Runs the program, and waits for its end."""
+    with tempfile.TemporaryFile() as err:
+        process = subprocess.Popen([PROGRAM, *words], stdout=subprocess.DEVNULL, stderr=err)
+        _, status, used = os.wait4(process.pid, 0)
+        process.returncode = os.waitstatus_to_exitcode(status)
+        err.seek(0)
+        told = err.read(30).decode(errors="replace").strip()
+    return Measure(used.ru_utime + used.ru_stime, used.ru_maxrss * 1024, told or f"status {process.returncode}")
+
+
+def growth(before, now):
+    """By what the seconds of a byte are multiplied, of two sizes and seconds."""
+    if before is None or before[1] < 0.05:
+        return "     "
+    return f"{now[1] / before[1] * before[0] / now[0]:5.2f}"
+
+
+def write_file(path, pieces, size):
+    with open(path, "w", encoding="ascii") as file:
+        file.writelines(pieces(size))
+
+
+def row(name, size, command, path, before):
+    """Measures a command on a file, and answers the file's bytes and the seconds."""
+    took = measure([path if word == FILE else word for word in command])
+    now = (os.path.getsize(path), took.seconds)
+    words = " ".join(command[: command.index(FILE)])
+    figures = f"{now[0]:14,} {took.seconds:9.3f} s {growth(before, now)} {took.held / MEBIBYTE:6.0f} MiB"
+    print(f"{name:24} {words:28} {size:6} {figures}  {took.told}", flush=True)
+    return now
+
+
+def rows(given, folder):
+    """Measures the commands on an input at each of its sizes."""
+    path = os.path.join(folder, "input")
+    took = {}
+    for size in given.sizes:
+        # in a process of its own, since what this one holds is counted for those that it starts
+        writer = Process(target=write_file, args=(path, given.pieces, size))
+        writer.start()
+        writer.join()
+        took = {it: row(given.name, size, it, path, took.get(it)) for it in given.commands}
+
+
+def main():
+    set_start_method("fork")
+    print(f"{'input':24} {'command':28} {'size':>6} {'bytes':>14} {'time':>11} {'grew':>5} {'held':>10}  told")
+    with tempfile.TemporaryDirectory() as folder:
+        for given in INPUTS:
+            if WORD in given.name:
+                rows(given, folder)
+
+
+if __name__ == "__main__":
+    main()
