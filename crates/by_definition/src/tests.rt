@@ -1,7 +1,7 @@
 //! The program's answers on families of small auctions, each compared with what the definitions give.
 
 use crate::{are_same_files, canonical_text, first_difference, first_heavy};
-use canon::{CanonFault, Verdict, Which, compare, normalise};
+use canon::{AuctionIndex, CanonFault, Verdict, Which, compare, normalise};
 use cats_text::{BidFile, read};
 use std::alloc::{AllocError, Global};
 use std::process::Abort;
@@ -169,6 +169,30 @@ fn equal_text_exactly_for_the_same_auction(rt: HostRuntime) -> Result<(), Fail> 
         }
     }
     assert_eq!(rt; equal, EQUAL_PAIRS);
+    Ok(())
+}
+
+/// The place of the first member that the tables of values say is the same auction as this one.
+fn first_same(alloc: Global, members: &[Member], one: &Member) -> Result<usize, Fail> {
+    for (place, other) in members.iter().enumerate() {
+        if are_same_files(alloc, &other.file, &one.file)? {
+            return Ok(place);
+        }
+    }
+    Ok(members.len())
+}
+
+/// Files that are added one by one have the place of the first of their auction.
+#[test]
+fn places_are_by_definition(rt: HostRuntime) -> Result<(), Fail> {
+    let members = first_members(rt.alloc(), 300)?;
+    let mut index = AuctionIndex::new(rt.alloc());
+    for member in &members {
+        let expected = first_same(rt.alloc(), members.as_slice(), member)?;
+        let file = read(rt.alloc(), member.text.as_bytes())?;
+        let place = index.add(rt.alloc(), file, AMPLE)?;
+        assert_eq!(rt; place, expected);
+    }
     Ok(())
 }
 

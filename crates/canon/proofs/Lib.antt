@@ -18,3 +18,4 @@ pub mod BidderWalks
 pub mod SameDifferences
 pub mod OrWalks
 pub mod Comparisons
+pub mod Indexing

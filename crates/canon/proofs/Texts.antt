@@ -64,7 +64,7 @@ pub record IsNormalText (limit : ℕ) (text out : List ℕ) : Type 0 where
   pub light : first_heavy file.goods limit (or_atoms_of file.bids) ≡ None
   pub is : out ≡ canonical_text file
 
-text_of_file : (limit : ℕ) (f : PlainFile) (out : List ℕ) → normalised_file limit f ≡ IsText out → (first_heavy f.goods limit (or_atoms_of f.bids) ≡ None) × (out ≡ canonical_text f)
+pub text_of_file : (limit : ℕ) (f : PlainFile) (out : List ℕ) → normalised_file limit f ≡ IsText out → (first_heavy f.goods limit (or_atoms_of f.bids) ≡ None) × (out ≡ canonical_text f)
 text_of_file limit f out = by (first_heavy f.goods limit (or_atoms_of f.bids)) refl
   where
     by : (o : Option (List ℕ)) → first_heavy f.goods limit (or_atoms_of f.bids) ≡ o → unless_heavy f o ≡ IsText out → (first_heavy f.goods limit (or_atoms_of f.bids) ≡ None) × (out ≡ canonical_text f)

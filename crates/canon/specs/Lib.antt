@@ -11,3 +11,5 @@ pub mod Verdicts
 pub mod BidderBids
 pub mod Comparing
 pub mod OrBids
+pub mod FirstPlaces
+pub mod TextPlaces

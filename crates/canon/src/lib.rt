@@ -1,7 +1,9 @@
 //! The one text of an auction: the canonical auction, its file and its bytes, and whether two files ask for the same things.
 #![tactic(auto)]
 
+mod added_files;
 mod auction;
+mod auction_index;
 mod bid_order;
 mod bundles;
 mod comparison;
@@ -10,6 +12,7 @@ mod fault;
 mod file;
 pub mod laws;
 mod parting;
+mod place_laws;
 #[cfg(test)]
 mod tests;
 mod text;
@@ -17,9 +20,11 @@ mod verdict;
 mod which;
 pub mod worked;
 pub mod worked_differences;
+pub mod worked_places;
 mod writing;
 
 pub use auction::canonical;
+pub use auction_index::AuctionIndex;
 pub use comparison::{compare, compare_files};
 pub use difference_laws::{
     difference_is_a_point, difference_is_the_least_bidder, differences_exchanged,
@@ -27,6 +32,7 @@ pub use difference_laws::{
 };
 pub use fault::CanonFault;
 pub use file::file_of;
+pub use place_laws::first_place_by_text;
 pub use text::{into_normal_file, normal_file, normal_text, normalise};
 pub use verdict::{Side, Verdict};
 pub use which::Which;

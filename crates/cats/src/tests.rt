@@ -3,6 +3,7 @@
 mod check;
 mod compare;
 mod devices;
+mod duplicates;
 mod normalise;
 mod program;
 mod show;

@@ -7,3 +7,5 @@ mod BestPlaces
 mod Printing
 mod Stopping
 mod Comparing
+mod Grouping
+mod FindingPlaces

@@ -11,3 +11,5 @@ pub mod Examples
 pub mod Stops
 pub mod Runs
 pub mod Comparisons
+pub mod DuplicateTexts
+pub mod Duplicates

@@ -1,19 +1,31 @@
 -- With which statuses the program answers, why it stops without an answer of its own, and how it tells that.
-use Rattle.std.specs.Prelude.{◌≡◌, ◌≤◌, ◌++◌, ℕ, List, Option, take, codes}
+use Rattle.std.specs.Prelude.{◌≡◌, ◌≤◌, ◌++◌, ℕ, Bool, true, false, List, ◌∷◌, Option, take, codes, bytes_eq}
+use Rattle.std.specs.Borrow.{Bor}
 use Rattle.std.specs.Io.KnownBytes.{Appends}
 use Rattle.cats_text.specs.Streams.{inner_of}
 use Rattle.cats_text.specs.declared.stream.Watched.{Watched}
 use Rattle.cats_cmd.specs.FaultLines.{line_of_fault, prefix_of}
 use Rattle.cats_cmd.specs.Statuses.{status_of_fault}
 use Rattle.cats_cmd.specs.declared.command_line.Request.{Request}
-use Rattle.cats_cmd.specs.declared.command_line.Request.TheVariants.{Compare}
+use Rattle.cats_cmd.specs.declared.command_line.Request.TheVariants.{Compare, Duplicates}
 use Rattle.cats_cmd.specs.declared.program.Stop.{Stop}
 use Rattle.cats_cmd.specs.declared.program.Stop.TheVariants.{CannotOpen, Run}
 use Rattle.cats_cmd.specs.declared.report.RunFault.TheVariants.{Refused, GoodRange, Sent}
 
+-- whether each of a request's files may be refused, and the others go on
+abbrev pub is_for_many_files : Request → Bool
+is_for_many_files (Duplicates files limit progress) = true
+is_for_many_files request = false
+
+-- whether a command line's subcommand is `duplicates`
+abbrev pub names_duplicates : List (Bor (List ℕ)) → Bool
+names_duplicates (name ∷ (word ∷ words)) = bytes_eq word.now (codes "duplicates")
+names_duplicates words = false
+
 -- the statuses with which a request may be answered
 abbrev pub IsAnswer : Request → ℕ → Type 0
 IsAnswer (Compare first second limit) status = status ≤ 1
+IsAnswer (Duplicates files limit progress) status = Unit {0}
 IsAnswer request status = status ≡ 0
 
 abbrev pub status_of_stop : Stop → ℕ

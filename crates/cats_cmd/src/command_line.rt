@@ -1,7 +1,7 @@
 //! What a command line asks for.
 
 use crate::help;
-use clap::{Arg, ArgMatches, Command, Error, value_parser};
+use clap::{Arg, ArgAction, ArgMatches, Command, Error, value_parser};
 use std::alloc::{AllocError, Global};
 
 /// What a command line asks for.
@@ -27,6 +27,23 @@ pub(crate) enum Request<'a> {
         second: &'a str,
         limit: u64,
     },
+    Duplicates {
+        files: Vec<&'a str>,
+        limit: u64,
+        progress: bool,
+    },
+}
+
+impl Request<'_> {
+    ghost use Rattle.std.specs.Prelude.{◌≡◌};
+    ghost use Rattle.cats_cmd.specs.Stops.{is_for_many_files};
+
+    /// Whether each of its files may be refused, and the others go on.
+    pub(crate) fn is_for_many_files(&self) -> bool
+        ensures { result ≡ is_for_many_files self.now }
+    {
+        matches!(self, Request::Duplicates { .. })
+    }
 }
 
 const FILE: &str = "FILE";
@@ -37,6 +54,8 @@ const SECOND_FILE: &str = "SECOND_FILE";
 const GOOD: &str = "GOOD";
 
 const STEPS: &str = "steps";
+
+const PROGRESS: &str = "progress";
 
 /// The most steps that a command line may allow a search.
 const MAX_STEPS: i64 = 1_000_000_000;
@@ -67,6 +86,7 @@ fn find_request<'a>(
         "value" => find_value_request(alloc, given, file),
         "normalise" => Ok(find_normalise_request(given, file)),
         "compare" => Ok(find_compare_request(given, file)),
+        "duplicates" => find_duplicates_request(alloc, given),
         _ => Ok(None),
     }
 }
@@ -104,6 +124,20 @@ fn find_compare_request<'a>(given: &ArgMatches<'a>, first: &'a str) -> Option<Re
     })
 }
 
+fn find_duplicates_request<'a>(
+    alloc: Global,
+    given: &ArgMatches<'a>,
+) -> Result<Option<Request<'a>>, AllocError> {
+    let (Some(limit), Some(files)) = (given.get_one::<u64>(STEPS), given.get_strs(FILE)) else {
+        return Ok(None);
+    };
+    Ok(Some(Request::Duplicates {
+        files: Vec::from_slice(alloc, files)?,
+        limit,
+        progress: given.get_flag(PROGRESS),
+    }))
+}
+
 fn cats_command<'a>(alloc: Global) -> Result<Command<'a>, AllocError> {
     Command::new(alloc, "cats")
         .about("Reads auction bid files in the format of CATS 2.0")
@@ -114,7 +148,8 @@ fn cats_command<'a>(alloc: Global) -> Result<Command<'a>, AllocError> {
         .subcommand(show_command(alloc)?)?
         .subcommand(value_command(alloc)?)?
         .subcommand(normalise_command(alloc)?)?
-        .subcommand(compare_command(alloc)?)
+        .subcommand(compare_command(alloc)?)?
+        .subcommand(duplicates_command(alloc)?)
 }
 
 fn check_command<'a>(alloc: Global) -> Result<Command<'a>, AllocError> {
@@ -155,6 +190,26 @@ fn compare_command<'a>(alloc: Global) -> Result<Command<'a>, AllocError> {
         .arg(steps_option(alloc, "The most steps that the search on a bundle may take"))?
         .arg(file_argument(alloc, FILE))?
         .arg(file_argument(alloc, SECOND_FILE).value_name(FILE))
+}
+
+fn duplicates_command<'a>(alloc: Global) -> Result<Command<'a>, AllocError> {
+    Command::new(alloc, "duplicates")
+        .about("Prints which of many bid files are the same auction")
+        .after_help(help::DUPLICATES)
+        .arg(steps_option(alloc, "The most steps that the search on a bundle may take"))?
+        .arg(progress_flag(alloc))?
+        .arg(
+            file_argument(alloc, FILE)
+                .num_args(2..)
+                .help("The paths of two or more bid files"),
+        )
+}
+
+fn progress_flag<'a>(alloc: Global) -> Arg<'a> {
+    Arg::new(alloc, PROGRESS)
+        .long(PROGRESS)
+        .action(ArgAction::SetTrue)
+        .help("Tells on standard error how many files were read, after each")
 }
 
 fn steps_option<'a>(alloc: Global, help: &'a str) -> Arg<'a> {

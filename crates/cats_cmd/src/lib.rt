@@ -4,6 +4,7 @@
 mod check;
 mod command_line;
 mod compare;
+mod duplicates;
 mod help;
 mod normalise;
 mod program;
@@ -16,6 +17,7 @@ pub mod worked;
 pub use canon::{CanonFault, Which};
 pub use check::run_check;
 pub use compare::run_compare;
+pub use duplicates::run_duplicates;
 pub use normalise::run_normalise;
 pub use program::run_cats;
 pub use report::{NO_MEMORY, RunFault, WRONG_USAGE, fault_line, status};

@@ -2,12 +2,13 @@
 
 ghost use Rattle.std.specs.Prelude.{◌≡◌, ◌≢◌, ◌≤◌, IfErr, IfOk, false};
 ghost use Rattle.cats_text.specs.Streams.{has_ended, has_failed};
-ghost use Rattle.cats_cmd.specs.Stops.{IsAnswer, IsSilent, SendsBeginning, line_of_stop, status_of_stop};
+ghost use Rattle.cats_cmd.specs.Stops.{IsAnswer, IsSilent, SendsBeginning, is_for_many_files, line_of_stop, names_duplicates, status_of_stop};
 
 use crate::check::run_check;
 use crate::command_line;
 use crate::command_line::Request;
 use crate::compare::run_compare;
+use crate::duplicates::run_duplicates;
 use crate::normalise::run_normalise;
 use crate::report::{DEVICE_FAILED, NO_MEMORY, RunFault, WRONG_USAGE, fault_line, status};
 use crate::show::run_show;
@@ -23,7 +24,7 @@ use std::rt::Files;
 
 /// Why a request has no answer.
 #[derive(Drop)]
-enum Stop {
+pub(crate) enum Stop {
     CannotOpen(Which),
     Run(RunFault),
 }
@@ -51,8 +52,8 @@ pub fn run_cats<F: Files + AllocGlobal, W: Write, E: Write>(
 ) -> u8
     requires out_works { has_failed out.old ≡ false }
     requires err_works { has_failed err.old ≡ false }
-    ensures silent { result ≢ 0 → result ≢ 1 → result ≢ 5 → out.new ≡ out.old }
-    ensures done { result ≤ 1 → err.new ≡ err.old }
+    ensures silent { names_duplicates words.now ≡ false → result ≢ 0 → result ≢ 1 → result ≢ 5 → out.new ≡ out.old }
+    ensures done { names_duplicates words.now ≡ false → result ≤ 1 → err.new ≡ err.old }
 {
     let alloc = rt.alloc();
     let request = match command_line::parse(alloc, words) {
@@ -60,20 +61,37 @@ pub fn run_cats<F: Files + AllocGlobal, W: Write, E: Write>(
         Ok(None) => return WRONG_USAGE,
         Err(error) => return answer_usage(alloc, &error, out, err),
     };
-    match carry_out(rt, &request, out) {
+    if request.is_for_many_files() && !asks_duplicates(words) {
+        return WRONG_USAGE;
+    }
+    match carry_out(rt, &request, out, err) {
         Ok(status) => status,
+        Err(stop) if err.failed() => status_of(&stop),
         Err(stop) => tell(alloc, &stop, err),
     }
 }
 
-fn carry_out<F: Files + AllocGlobal, W: Write>(
+/// Whether the subcommand is `duplicates`.
+fn asks_duplicates(words: &[&str]) -> bool
+    ensures { result ≡ names_duplicates words.now }
+{
+    match words.get(1) {
+        Some(word) => *word == "duplicates",
+        None => false,
+    }
+}
+
+/// `err` is for requests that tell faults and go on.
+fn carry_out<F: Files + AllocGlobal, W: Write, E: Write>(
     rt: &F,
     request: &Request<'_>,
     out: &mut Watched<W>,
+    err: &mut Watched<E>,
 ) -> Result<u8, Stop>
     requires { has_failed out.old ≡ false }
     ensures done { IfOk result (λ status. IsAnswer request.now status) }
     ensures stopped { IfErr result (λ stop. IsSilent stop out.old out.new) }
+    ensures quiet { is_for_many_files request.now ≡ false → err.new ≡ err.old }
 {
     match request {
         Request::Check { file } => {
@@ -102,10 +120,18 @@ fn carry_out<F: Files + AllocGlobal, W: Write>(
             let mut right = open(rt, second, Which::Second)?;
             Ok(run_compare(rt.alloc(), &mut left, &mut right, *limit, out)?)
         }
+        Request::Duplicates {
+            files,
+            limit,
+            progress,
+        } => {
+            let files = files.as_slice();
+            Ok(run_duplicates(rt, files, *limit, *progress, out, err)?)
+        }
     }
 }
 
-fn open<F: Files>(rt: &F, path: &str, which: Which) -> Result<Watched<F::File>, Stop>
+pub(crate) fn open<F: Files>(rt: &F, path: &str, which: Which) -> Result<Watched<F::File>, Stop>
     ensures works { IfOk result (λ file. has_failed file ≡ false) }
     ensures fresh { IfOk result (λ file. has_ended file ≡ false) }
     ensures refused { IfErr result (λ stop. stop ≡ Stop.CannotOpen which) }
@@ -164,6 +190,26 @@ fn tell<E: Write>(alloc: Global, stop: &Stop, err: &mut Watched<E>) -> u8
             }
             status(why)
         }
+    }
+}
+
+/// The exit status that tells why a request has no answer.
+pub(crate) fn status_of(stop: &Stop) -> u8
+    ensures { result ≡ status_of_stop stop.now }
+{
+    match stop {
+        Stop::CannotOpen(_) => DEVICE_FAILED,
+        Stop::Run(why) => status(why),
+    }
+}
+
+/// The line that tells it, with its LF.
+pub(crate) fn stop_line(alloc: Global, stop: &Stop) -> Result<Vec<u8>, AllocError>
+    ensures { IfOk result (λ line. line.items ≡ line_of_stop stop.now) }
+{
+    match stop {
+        Stop::CannotOpen(which) => Vec::from_slice(alloc, unopened(*which).as_bytes()),
+        Stop::Run(why) => fault_line(alloc, why),
     }
 }
 

@@ -46,7 +46,7 @@ fn run(
 const ROOM: usize = 65_536;
 
 /// Command lines that ask for nothing that the program does.
-static WRONG_LINES: [&str; 27] = [
+static WRONG_LINES: [&str; 31] = [
     "cats",
     "cats check",
     "cats show",
@@ -74,6 +74,10 @@ static WRONG_LINES: [&str; 27] = [
     "cats compare a",
     "cats compare a b c",
     "cats compare --steps 0 a b",
+    "cats duplicates",
+    "cats duplicates a",
+    "cats duplicates --steps 0 a b",
+    "cats duplicates --progress=yes a b",
 ];
 
 #[test]
@@ -90,7 +94,7 @@ fn usage_faults(rt: HostRuntime) -> Result<(), Fail> {
 }
 
 /// Command lines that ask for help.
-static HELP_LINES: [&str; 9] = [
+static HELP_LINES: [&str; 10] = [
     "cats --help",
     "cats -h",
     "cats help",
@@ -100,6 +104,7 @@ static HELP_LINES: [&str; 9] = [
     "cats value --help",
     "cats normalise --help",
     "cats compare --help",
+    "cats duplicates --help",
 ];
 
 #[test]

@@ -1,0 +1,239 @@
+-- One more file in an index.
+use Rattle.std.proofs.Common.{◌≡◌, ◌⊎◌, ℕ, zero, suc, ◌+◌, Bool, true, false, cond, unwrap_or, bytes_eq, List, [], ◌∷◌, ◌++◌, length, get_or, All, Option, Some, None, slice_get, refl, sym, ap, ◌∙◌, subst, inl, inr, ⊎_elim, arith, length-append, Global}
+use Rattle.std.specs.Prelude.{Vec, Result, Ok, Err, IfOk, IfErr, OnOk, OnErr}
+use Rattle.std.specs.Io.KnownBytes.{Consumes}
+use Rattle.std.specs.Cmp.Lexicographic.{bytes_decides}
+use Rattle.std.specs.HashMap.{HashMap, UpdatesBy}
+use Rattle.std.specs.Map.{IsKeyTest, AreApart, KeepsOthers, lookup}
+use Rattle.std.proofs.lemmas.Bool.{cases_Bool, cond-true, cond-false}
+use Rattle.std.proofs.lemmas.Cmp.{nat_list_eq_equiv}
+use Rattle.std.proofs.lemmas.List.Quantifiers.{position-Some}
+use Rattle.std.proofs.lemmas.Option.{none-some, same_Some, slice_get_within, slice_get-get_or, get_or_from_slice_get}
+use Rattle.cats_text.specs.Files.{PlainFile, IsPlainFile}
+use Rattle.cats_text.specs.Streams.{inner_of, ReadsFile}
+use Rattle.cats_text.specs.declared.stream.Watched.{Watched}
+use Rattle.canon.specs.Answers.{RefusesAs}
+use Rattle.canon.specs.Canonical.{canonical_text}
+use Rattle.canon.specs.FirstPlaces.{AddsStream, IsFirstPlace, first_place}
+use Rattle.canon.specs.Normalising.{IsText, normalised_file}
+use Rattle.canon.specs.declared.fault.CanonFault.{CanonFault}
+use Rattle.canon.specs.TextPlaces.{place_of, IsFirstText, LacksText, PlacesText, IsIndex}
+use Rattle.canon.proofs.Texts.{same_text, same_from_text}
+
+-- ---- a list with one more element
+
+pushed_before : {X : Type 0} (xs : List X) (y x : X) (k : ℕ) → slice_get xs k ≡ Some x → slice_get (xs ++ y ∷ []) k ≡ Some x
+pushed_before [] y x k e = absurd (none-some x e)
+pushed_before (z ∷ xs) y x zero e = e
+pushed_before (z ∷ xs) y x (suc k) e = pushed_before xs y x k e
+
+pushed_last : {X : Type 0} (xs : List X) (y : X) → slice_get (xs ++ y ∷ []) (length xs) ≡ Some y
+pushed_last [] y = refl
+pushed_last (z ∷ xs) y = pushed_last xs y
+
+-- an element is one of those before, or the last
+pushed : {X : Type 0} (xs : List X) (y x : X) (k : ℕ) → slice_get (xs ++ y ∷ []) k ≡ Some x → (slice_get xs k ≡ Some x) ⊎ ((k ≡ length xs) × (x ≡ y))
+pushed [] y x zero e = inr (refl, sym (same_Some y x e))
+pushed [] y x (suc k) e = absurd (none-some x e)
+pushed (z ∷ xs) y x zero e = inl e
+pushed (z ∷ xs) y x (suc k) e = ⊎_elim (λ (f : slice_get xs k ≡ Some x). inl f) (λ (f : (k ≡ length xs) × (x ≡ y)). inr (ap suc f.0, f.1)) (pushed xs y x k e)
+
+-- ---- texts
+
+module _ (files : List PlainFile) (f : PlainFile) where
+  abbrev more : List PlainFile
+  more = files ++ f ∷ []
+
+  -- the file that was first stays it
+  stays_first : (text : List ℕ) (place : ℕ) → IsFirstText files text place → IsFirstText more text place
+  stays_first text place h = record {
+    file = h.file;
+    there = pushed_before files f h.file place h.there;
+    has = h.has;
+    first = λ k other l at is.
+        ⊎_elim
+        (λ (e : slice_get files k ≡ Some other). h.first k other l e is)
+        (λ (e : (k ≡ length files) × (other ≡ f)). let within = slice_get_within files place h.file h.there in let last = e.0 in absurd (omega arith))
+        (pushed files f other k at);
+  }
+
+  -- a text that no file had has its first file now
+  comes_first : LacksText files (canonical_text f) → IsFirstText more (canonical_text f) (length files)
+  comes_first h = record {
+    file = f;
+    there = pushed_last files f;
+    has = refl;
+    first = λ k other l at is.
+        ⊎_elim
+        (λ (e : slice_get files k ≡ Some other). h k other e is)
+        (λ (e : (k ≡ length files) × (other ≡ f)). let last = e.0 in absurd (omega arith))
+        (pushed files f other k at);
+  }
+
+  -- another text has the place that it had
+  stays_placed : (text : List ℕ) → bytes_eq (canonical_text f) text ≡ false → (o : Option ℕ) → PlacesText files text o → PlacesText more text o
+  stays_placed text apart None h = λ k other at is.
+      ⊎_elim
+      (λ (e : slice_get files k ≡ Some other). h k other e is)
+      (λ (e : (k ≡ length files) × (other ≡ f)).
+      let same : canonical_text f ≡ text = ap canonical_text (sym e.1) ∙ is in
+      let equal : bytes_eq (canonical_text f) text ≡ true = (bytes_decides (canonical_text f) text).1 same in
+      absurd (cc))
+      (pushed files f other k at)
+  stays_placed text apart (Some place) h = stays_first text place h
+
+  -- the place that is answered
+  first_text : (o : Option ℕ) (count place : ℕ) → count ≡ length files → place ≡ unwrap_or o count → PlacesText files (canonical_text f) o → IsFirstText more (canonical_text f) place
+  first_text None count place c e h = subst (λ (p : ℕ). IsFirstText more (canonical_text f) p) (sym (e ∙ c)) (comes_first h)
+  first_text (Some first) count place c e h = subst (λ (p : ℕ). IsFirstText more (canonical_text f) p) (sym e) (stays_first (canonical_text f) first h)
+
+  all_plain : IsPlainFile f → ((k : ℕ) (g : PlainFile) → slice_get files k ≡ Some g → IsPlainFile g) → (k : ℕ) (g : PlainFile) → slice_get more k ≡ Some g → IsPlainFile g
+  all_plain facts each k g at =
+      ⊎_elim (λ (e : slice_get files k ≡ Some g). each k g e) (λ (e : (k ≡ length files) × (g ≡ f)). subst IsPlainFile (sym e.1) facts) (pushed files f g k at)
+
+-- the first file with the text is the first of the auction
+first_of_auction : (files : List PlainFile) (f : PlainFile) (place : ℕ) → IsPlainFile f → ((k : ℕ) (g : PlainFile) → slice_get files k ≡ Some g → IsPlainFile g)
+    → IsFirstText files (canonical_text f) place → IsFirstPlace files f place
+first_of_auction files f place facts each h = record {
+  file = h.file;
+  there = h.there;
+  same = same_from_text h.file f (each place h.file h.there) facts h.has;
+  first = λ k other l at same. h.first k other l at (same_text other f (each k other at) facts same);
+}
+
+-- ---- the index
+
+module _ {S : Type 0} (old new : HashMap (Vec ℕ Global) ℕ S) (count place : ℕ) (files : List PlainFile) (f : PlainFile) where
+  -- the text was put at the place where it had none
+  abbrev pub Puts : List ℕ → Type 0
+  Puts text = (other : List ℕ) → place_of new other ≡ cond (bytes_eq text other) (Some place) (place_of old other)
+
+  index_with : IsIndex old count files → IsPlainFile f → place ≡ unwrap_or (place_of old (canonical_text f)) count → Puts (canonical_text f) → IsIndex new (count + 1) (files ++ f ∷ [])
+  index_with h facts answer puts = record {
+    count = let all = length-append files (f ∷ []) in let before = h.count in omega arith;
+    facts = all_plain files f facts h.facts;
+    texts = λ text. ⊎_elim (put text) (kept text) (cases_Bool (bytes_eq (canonical_text f) text));
+  }
+    where
+      first : IsFirstText (files ++ f ∷ []) (canonical_text f) place
+      first = first_text files f (place_of old (canonical_text f)) count place h.count answer (h.texts (canonical_text f))
+
+      put : (text : List ℕ) → bytes_eq (canonical_text f) text ≡ true → PlacesText (files ++ f ∷ []) text (place_of new text)
+      put text equal =
+          let at : place_of new text ≡ Some place = puts text ∙ cond-true (bytes_eq (canonical_text f) text) (Some place) (place_of old text) equal in
+          subst (λ (o : Option ℕ). PlacesText (files ++ f ∷ []) text o) (sym at)
+          (subst (λ (t : List ℕ). IsFirstText (files ++ f ∷ []) t place) ((bytes_decides (canonical_text f) text).0 equal) first)
+
+      kept : (text : List ℕ) → bytes_eq (canonical_text f) text ≡ false → PlacesText (files ++ f ∷ []) text (place_of new text)
+      kept text apart =
+          let at : place_of new text ≡ place_of old text = puts text ∙ cond-false (bytes_eq (canonical_text f) text) (Some place) (place_of old text) apart in
+          subst (λ (o : Option ℕ). PlacesText (files ++ f ∷ []) text o) (sym at) (stays_placed files f text apart (place_of old text) (h.texts text))
+
+  place_in_index : IsIndex old count files → IsPlainFile f → place ≡ unwrap_or (place_of old (canonical_text f)) count → IsFirstPlace (files ++ f ∷ []) f place
+  place_in_index h facts answer =
+      first_of_auction (files ++ f ∷ []) f place facts (all_plain files f facts h.facts)
+      (first_text files f (place_of old (canonical_text f)) count place h.count answer (h.texts (canonical_text f)))
+
+  -- the same of the text that was made
+  pub index_with_text : (text : List ℕ) → text ≡ canonical_text f → IsIndex old count files → IsPlainFile f → place ≡ unwrap_or (place_of old text) count → Puts text → IsIndex new (count + 1) (files ++ f ∷ [])
+  index_with_text text is h facts answer puts = index_with h facts (subst (λ (t : List ℕ). place ≡ unwrap_or (place_of old t) count) is answer) (subst Puts is puts)
+
+  pub place_of_text : (text : List ℕ) → text ≡ canonical_text f → IsIndex old count files → IsPlainFile f → place ≡ unwrap_or (place_of old text) count → IsFirstPlace (files ++ f ∷ []) f place
+  place_of_text text is h facts answer = place_in_index h facts (subst (λ (t : List ℕ). place ≡ unwrap_or (place_of old t) count) is answer)
+
+-- an index of no files
+pub empty_index : {S : Type 0} (places : HashMap (Vec ℕ Global) ℕ S) → places.entries ≡ [] → IsIndex places 0 []
+empty_index places none = record {
+  count = refl;
+  facts = λ k file at. absurd (none-some file at);
+  texts = λ text. subst (λ (o : Option ℕ). PlacesText [] text o) (sym (ap (lookup (λ key. bytes_eq text key.items)) none)) (λ k other at is. absurd (none-some other at));
+}
+
+-- an index whose map has the entries that it had
+pub index_kept : {S : Type 0} (old new : HashMap (Vec ℕ Global) ℕ S) (count : ℕ) (files : List PlainFile) → new.entries ≡ old.entries → IsIndex old count files → IsIndex new count files
+index_kept old new count files same h = record {
+  count = h.count;
+  facts = h.facts;
+  texts = λ text. subst (λ (o : Option ℕ). PlacesText files text o) (sym (ap (lookup (λ key. bytes_eq text key.items)) same)) (h.texts text);
+}
+
+-- ---- the map
+
+abbrev key_eq : Vec ℕ Global → Vec ℕ Global → Bool
+key_eq one other = bytes_eq one.items other.items
+
+other_entries : {X : Type 0} (test : Vec ℕ Global → Bool) (old new : List (Vec ℕ Global × X)) → KeepsOthers key_eq test old new → (other : Vec ℕ Global → Bool) → IsKeyTest key_eq other → AreApart test other
+    → lookup other new ≡ lookup other old
+unfolding KeepsOthers
+other_entries test old new h = h
+
+apart_texts : (one other key : List ℕ) → bytes_eq one other ≡ false → bytes_eq one key ≡ true → bytes_eq other key ≡ false
+apart_texts one other key n y = nat_list_eq_equiv.symm other key ∙ sym (nat_list_eq_equiv.congr one key other y) ∙ n
+
+-- what a map has for a text, after one was put there
+pub updated : {S : Type 0} (old new : HashMap (Vec ℕ Global) ℕ S) (text : List ℕ) (place : ℕ) → UpdatesBy key_eq (λ key. bytes_eq text key.items) old new (Some place)
+    → (other : List ℕ) → place_of new other ≡ cond (bytes_eq text other) (Some place) (place_of old other)
+updated old new text place h other =
+    ⊎_elim
+    (λ (y : bytes_eq text other ≡ true). subst (λ (t : List ℕ). place_of new t ≡ Some place) ((bytes_decides text other).0 y) h.1 ∙ sym (cond-true (bytes_eq text other) (Some place) (place_of old other) y))
+    (λ (n : bytes_eq text other ≡ false).
+    other_entries (λ key. bytes_eq text key.items) old.entries new.entries h.3 (λ key. bytes_eq other key.items) (λ x y. nat_list_eq_equiv.congr other x.items y.items) (λ key. apart_texts text other key.items n)
+    ∙ sym (cond-false (bytes_eq text other) (Some place) (place_of old other) n))
+    (cases_Bool (bytes_eq text other))
+
+-- a text that has its place already
+pub unmoved : {S : Type 0} (places : HashMap (Vec ℕ Global) ℕ S) (text : List ℕ) (place : ℕ) → place_of places text ≡ Some place
+    → (other : List ℕ) → place_of places other ≡ cond (bytes_eq text other) (Some place) (place_of places other)
+unmoved places text place at other =
+    ⊎_elim
+    (λ (y : bytes_eq text other ≡ true). subst (λ (t : List ℕ). place_of places t ≡ Some place) ((bytes_decides text other).0 y) at ∙ sym (cond-true (bytes_eq text other) (Some place) (place_of places other) y))
+    (λ (n : bytes_eq text other ≡ false). sym (cond-false (bytes_eq text other) (Some place) (place_of places other) n))
+    (cases_Bool (bytes_eq text other))
+
+-- ---- a file that was read first
+
+pub stream_added : {R : Type 0} (remaining : R → Option (List ℕ)) (limit : ℕ) (old new : List PlainFile) (before after : Watched R) (bytes : List ℕ) (file : PlainFile)
+    → Consumes (remaining (inner_of before)) (remaining (inner_of after)) bytes → ReadsFile remaining bytes after file
+    → (answer : Result ℕ CanonFault) → IfOk answer (IsFirstPlace new file) → OnOk answer (new ≡ old ++ file ∷ []) → OnOk answer (normalised_file limit file ≡ IsText (canonical_text file))
+    → IfErr answer (RefusesAs (normalised_file limit file)) → OnErr answer (new ≡ old) → AddsStream remaining limit old new before after answer
+stream_added remaining limit old new before after bytes file consumes reads (Ok place) first added light refused unchanged = record {
+  bytes = bytes;
+  consumes = consumes;
+  adds = record { file = file; reads = reads; light = light; added = added; first = first };
+}
+stream_added remaining limit old new before after bytes file consumes reads (Err fault) first added light refused unchanged = record {
+  bytes = bytes;
+  consumes = consumes;
+  adds = (unchanged, inr (record { file = file; reads = reads; refused = refused }));
+}
+
+-- ---- later files
+
+-- the first file of an auction stays it
+pub first_place_stays : (files : List PlainFile) (more given : PlainFile) (place : ℕ) → IsFirstPlace files given place → IsFirstPlace (files ++ more ∷ []) given place
+first_place_stays files more given place h = record {
+  file = h.file;
+  there = pushed_before files more h.file place h.there;
+  same = h.same;
+  first = λ k other l at same.
+      ⊎_elim
+      (λ (e : slice_get files k ≡ Some other). h.first k other l e same)
+      (λ (e : (k ≡ length files) × (other ≡ more)). let within = slice_get_within files place h.file h.there in let last = e.0 in absurd (omega arith))
+      (pushed files more other k at);
+}
+
+-- the first file with the text of a file
+pub first_place_is : (files : List PlainFile) (given : PlainFile) (place : ℕ) → All IsPlainFile files → IsPlainFile given → first_place files given ≡ Some place → IsFirstPlace files given place
+first_place_is files given place each facts e =
+    let found = position-Some (λ file. bytes_eq (canonical_text file) (canonical_text given)) files place given e in
+    record {
+      file = get_or files place given;
+      there = slice_get-get_or files place given found.0;
+      same = same_from_text (get_or files place given) given (each place given found.0) facts ((bytes_decides (canonical_text (get_or files place given)) (canonical_text given)).0 found.1);
+      first = λ k other l at same.
+          let is : get_or files k given ≡ other = get_or_from_slice_get files k other given at in
+          let plain : IsPlainFile other = subst IsPlainFile is (each k given (slice_get_within files k other at)) in
+          let equal : bytes_eq (canonical_text other) (canonical_text given) ≡ true = (bytes_decides (canonical_text other) (canonical_text given)).1 (same_text other given plain facts same) in
+          let apart : bytes_eq (canonical_text other) (canonical_text given) ≡ false = subst (λ (file : PlainFile). bytes_eq (canonical_text file) (canonical_text given) ≡ false) is (found.2 k l) in
+          absurd (cc);
+    }

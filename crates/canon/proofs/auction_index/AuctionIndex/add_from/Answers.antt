@@ -1,0 +1,10 @@
+use Rattle.cats_text.specs.Views.{plain_file}
+use Rattle.canon.proofs.Indexing.{stream_added}
+use Rattle.canon.proofs.auction_index.AuctionIndex.add_from.Goals as goal
+
+pub returns : goal.returns
+returns g c =
+    let read = c.in_ok-file.ensures in
+    let added = c.add.ensures in
+    stream_added g.R.Read.remaining c.args.limit c.args.self.now c.add.new.self c.args.input.now c.read_from.new.input read.0 (plain_file c.in_ok-file.file) read.1 read.2 c.add.result added.place added.added added.light
+    added.refused added.unchanged

@@ -1,0 +1,9 @@
+use Rattle.std.proofs.Common.{refl}
+use Rattle.std.specs.Fmt.{digits}
+use Rattle.prune.specs.Points.{points_where, is_xor_point, is_or_point}
+use Rattle.valuation.specs.Values.{xor_value, or_value}
+use Rattle.canon.proofs.worked_places.first_places.Goals as goal
+
+pub returns : goal.returns
+unfolding digits points_where is_xor_point is_or_point xor_value or_value
+returns c = record { larger_bid_dominated = refl; bidders_in_any_order = refl; equal_bidders_counted = refl; prices_and_goods = refl }

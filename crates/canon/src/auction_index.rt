@@ -1,0 +1,116 @@
+//! Which auctions came among files that are added one by one, and which file of each came first.
+
+ghost use Rattle.std.specs.Prelude.{◌≡◌, ◌++◌, ℕ, List, [], ◌∷◌, cond, unwrap_or, bytes_eq, Some, IfOk, IfErr, OnOk, OnErr, false};
+ghost use Rattle.cats_text.specs.Files.{PlainFile};
+ghost use Rattle.cats_text.specs.Streams.{has_ended, has_failed};
+ghost use Rattle.cats_text.specs.Views.{plain_file};
+ghost use Rattle.canon.specs.Answers.{RefusesAs};
+ghost use Rattle.canon.specs.Canonical.{canonical_text};
+ghost use Rattle.canon.specs.FirstPlaces.{AddsStream, IsFirstPlace};
+ghost use Rattle.canon.specs.Normalising.{IsText, normalised_file};
+ghost use Rattle.canon.specs.TextPlaces.{place_of};
+
+use crate::added_files::AddedFiles;
+use crate::fault::CanonFault;
+use crate::text::normal_text;
+use cats_text::{BidFile, Watched, read_from};
+use std::alloc::{AllocError, Global};
+use std::collections::HashMap;
+use std::io::Read;
+use std::marker::Model;
+
+#[cfg(test)]
+mod tests;
+
+/// The auctions of the files that were added. It keeps one canonical text for each auction, and finds one by its hash; whether two
+/// are equal is decided on the whole texts. The files themselves are given up.
+#[derive(Drop)]
+pub struct AuctionIndex {
+    /// Each canonical text, with the place of the first file that has it.
+    places: HashMap<Vec<u8>, usize>,
+    /// How many files were added.
+    count: usize,
+    added: AddedFiles,
+}
+
+impl Model for AuctionIndex {
+    ghost use Rattle.std.specs.Prelude.{List};
+    ghost use Rattle.cats_text.specs.Files.{PlainFile};
+    ghost use Rattle.canon.specs.TextPlaces.{IsIndex};
+
+    ghost Value = { List PlainFile };
+
+    ghost view = { λ index. index.added.files };
+
+    ghost invariant = { λ index. IsIndex index.places index.count index.added.files };
+}
+
+impl AuctionIndex {
+    /// An index that no file was added to.
+    pub fn new(alloc: Global) -> AuctionIndex
+        ensures { result ≡ [] }
+    {
+        AuctionIndex {
+            places: HashMap::new(alloc),
+            count: 0,
+            added: AddedFiles::none(),
+        }
+    }
+
+    /// Adds a file, and answers the place, counted from 0, of the first file added that is the same auction; that is its own place
+    /// where there is none. `limit` bounds each search that decides on a bundle of the OR bidder.
+    ///
+    /// An index to which `usize::MAX` files were added takes no more, and tells want of memory.
+    pub fn add(&mut self, alloc: Global, file: BidFile, limit: u64) -> Result<usize, CanonFault>
+        ensures place { IfOk result (IsFirstPlace self.new (plain_file file)) }
+        ensures added { OnOk result (self.new ≡ self.old ++ plain_file file ∷ []) }
+        ensures light { OnOk result (normalised_file limit (plain_file file) ≡ IsText (canonical_text (plain_file file))) }
+        ensures refused { IfErr result (RefusesAs (normalised_file limit (plain_file file))) }
+        ensures unchanged { OnErr result (self.new ≡ self.old) }
+    {
+        let Some(count) = self.count.checked_add(1) else {
+            return Err(CanonFault::Memory);
+        };
+        let added = AddedFiles::with(&self.added, &file);
+        let text = normal_text(alloc, file, limit)?;
+        let place = place_text(&mut self.places, text, self.count)?;
+        self.count = count;
+        self.added = added;
+        Ok(place)
+    }
+
+    /// Reads a bid file and adds it, as `add`.
+    pub fn add_from<R: Read>(
+        &mut self,
+        alloc: Global,
+        input: &mut Watched<R>,
+        limit: u64,
+    ) -> Result<usize, CanonFault>
+        requires works { has_failed input.old ≡ false }
+        requires fresh { has_ended input.old ≡ false }
+        ensures { AddsStream R.remaining limit self.old self.new input.old input.new result }
+    {
+        let file = read_from(alloc, input)?;
+        self.add(alloc, file, limit)
+    }
+}
+
+/// The place of a text, which is put at this place where it has none yet. No more memory is kept than the text needs.
+fn place_text(
+    places: &mut HashMap<Vec<u8>, usize>,
+    text: Vec<u8>,
+    place: usize,
+) -> Result<usize, AllocError>
+    ensures answer { IfOk result (λ first. first ≡ unwrap_or (place_of places.old text.items) place) }
+    ensures placed { IfOk result (λ first. (other : List ℕ)
+        → place_of places.new other ≡ cond (bytes_eq text.items other) (Some first) (place_of places.old other)) }
+    ensures unchanged { OnErr result (places.new.entries ≡ places.old.entries) }
+{
+    if let Some(first) = places.get(text.as_slice()) {
+        return Ok(*first);
+    }
+    let mut text = text;
+    text.shrink_to_fit();
+    places.insert(text, place)?;
+    Ok(place)
+}

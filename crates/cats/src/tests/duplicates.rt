@@ -1,0 +1,204 @@
+//! `cats duplicates` on new files, whose paths begin with what `@` stands for.
+
+use super::streams::{Told, expect, writer};
+use cats_cmd::run_cats;
+use std::alloc::{AllocError, Global};
+use std::process::Abort;
+use std::test::Fail;
+use std::{fs, process};
+
+/// The files, each with its name.
+static FILES: [(&str, &str); 12] = [
+    (
+        "a",
+        "goods 2\nbids 3\ndummy 0\n0\t3\t0\t#\n1\t4\t1\t#\n2\t7\t0\t1\t#\n",
+    ),
+    // another layout, and no dominated bid
+    (
+        "a2",
+        "% a\ngoods 2\nbids 2\ndummy 0\n\n1 3.0 0 #\n0 04 1 #\n",
+    ),
+    (
+        "b",
+        "goods 2\nbids 3\ndummy 2\n0\t1\t0\t2\t#\n1\t1\t0\t3\t#\n2\t2\t1\t3\t#\n",
+    ),
+    // other dummy goods
+    (
+        "b2",
+        "goods 2\nbids 3\ndummy 3\n0\t2\t1\t2\t#\n1\t1\t0\t2\t#\n2\t1\t0\t4\t#\n",
+    ),
+    ("c", "goods 2\nbids 0\ndummy 0\n"),
+    ("c2", "goods 2\nbids 0\ndummy 7\n"),
+    // a price, a good, a bidder and the number of goods changed
+    (
+        "price",
+        "goods 2\nbids 2\ndummy 0\n0\t3.5\t0\t#\n1\t4\t1\t#\n",
+    ),
+    (
+        "good",
+        "goods 2\nbids 2\ndummy 0\n0\t3\t0\t#\n1\t4\t0\t1\t#\n",
+    ),
+    (
+        "bidder",
+        "goods 2\nbids 2\ndummy 1\n0\t3\t0\t2\t#\n1\t4\t1\t#\n",
+    ),
+    (
+        "goods",
+        "goods 3\nbids 2\ndummy 0\n0\t3\t0\t#\n1\t4\t1\t#\n",
+    ),
+    ("bad", "goods 2\n"),
+    ("empty", ""),
+];
+
+const ROOM: usize = 65_536;
+
+/// A command line with its room for output and faults, and what it answers: its status, its output and its faults' lines.
+type Row = (&'static str, usize, usize, u8, &'static str, &'static str);
+
+static ROWS: [Row; 16] = [
+    ("cats duplicates @a @b", ROOM, ROOM, 0, "", ""),
+    ("cats duplicates @a @a2", ROOM, ROOM, 0, "@a\n@a2\n", ""),
+    ("cats duplicates @a @a", ROOM, ROOM, 0, "@a\n@a\n", ""),
+    // three auctions, one after the other
+    (
+        "cats duplicates @a @b @c @c2 @a2 @b2",
+        ROOM,
+        ROOM,
+        0,
+        "@a\n@a2\n\n@b\n@b2\n\n@c\n@c2\n",
+        "",
+    ),
+    (
+        "cats duplicates @price @good @bidder @goods @a @c @a2",
+        ROOM,
+        ROOM,
+        0,
+        "@a\n@a2\n",
+        "",
+    ),
+    // a refused file between two equal ones
+    (
+        "cats duplicates @a @bad @a2",
+        ROOM,
+        ROOM,
+        2,
+        "@a\n@a2\n",
+        "@bad: line 2: Missing\n",
+    ),
+    (
+        "cats duplicates @none @b @empty @b2",
+        ROOM,
+        ROOM,
+        5,
+        "@b\n@b2\n",
+        "@none: cannot open\n@empty: line 1: Missing\n",
+    ),
+    (
+        "cats duplicates --steps 2 @a2 @a @bad @a2",
+        ROOM,
+        ROOM,
+        3,
+        "@a2\n@a2\n",
+        "@a: step limit at 0,1\n@bad: line 2: Missing\n",
+    ),
+    (
+        "cats duplicates @none @bad",
+        ROOM,
+        ROOM,
+        5,
+        "",
+        "@none: cannot open\n@bad: line 2: Missing\n",
+    ),
+    (
+        "cats duplicates @bad @a @a2 @empty",
+        ROOM,
+        0,
+        2,
+        "@a\n@a2\n",
+        "",
+    ),
+    (
+        "cats duplicates --progress @a @bad @a2",
+        ROOM,
+        ROOM,
+        2,
+        "@a\n@a2\n",
+        "1 of 3 @a\n@bad: line 2: Missing\n2 of 3 @bad\n3 of 3 @a2\n",
+    ),
+    (
+        "cats duplicates @c @c2",
+        4,
+        ROOM,
+        5,
+        "/tmp",
+        "output failed after 4 bytes\n",
+    ),
+    ("cats duplicates @c @c2", 4, 0, 5, "/tmp", ""),
+    ("cats duplicates @c @bad @c2", 4, 0, 5, "/tmp", ""),
+    (
+        "cats duplicates @a @a2 --steps=3",
+        ROOM,
+        ROOM,
+        0,
+        "@a\n@a2\n",
+        "",
+    ),
+    (
+        "cats duplicates @c @a @c2 --progress",
+        ROOM,
+        ROOM,
+        0,
+        "@c\n@c2\n",
+        "1 of 3 @c\n2 of 3 @a\n3 of 3 @c2\n",
+    ),
+];
+
+/// A text in which the beginning of the paths stands for each `@`.
+fn with_start(alloc: Global, start: &str, text: &str) -> Result<String, AllocError> {
+    let mut told = String::new(alloc);
+    for (number, part) in text.split('@').enumerate() {
+        if number > 0 {
+            told.push_str(start)?;
+        }
+        told.push_str(part)?;
+    }
+    Ok(told)
+}
+
+/// What a command line answers, whose words have a blank between each two.
+fn run(rt: &HostRuntime, line: &str, out_room: usize, err_room: usize) -> Result<Told, Fail> {
+    let mut words = Vec::new(rt.alloc());
+    for word in line.split(' ') {
+        words.push(word)?;
+    }
+    let mut out = writer(rt.alloc(), 4096, out_room);
+    let mut err = writer(rt.alloc(), 4096, err_room);
+    let status = run_cats(rt, words.as_slice(), &mut out, &mut err);
+    Ok(Told {
+        status,
+        sent: String::from_utf8(out.into_inner().taken)?,
+        line: String::from_utf8(err.into_inner().taken)?,
+    })
+}
+
+#[test]
+fn duplicates(rt: HostRuntime) -> Result<(), Fail> {
+    let id = process::id(rt.process());
+    let start = format!(in rt.alloc(); "/tmp/cats_duplicates_{id}_")?;
+    for (name, text) in &FILES {
+        let path = format!(in rt.alloc(); "{start}{name}")?;
+        fs::write(&rt, path.as_str(), text)?;
+    }
+    for (line, out_room, err_room, status, sent, told) in &ROWS {
+        let line = with_start(rt.alloc(), start.as_str(), line)?;
+        let sent = with_start(rt.alloc(), start.as_str(), sent)?;
+        let told = with_start(rt.alloc(), start.as_str(), told)?;
+        let answer = run(&rt, line.as_str(), *out_room, *err_room)?;
+        expect(&rt, &answer, *status, sent.as_str(), told.as_str());
+    }
+    for (name, _) in &FILES {
+        let path = format!(in rt.alloc(); "{start}{name}")?;
+        fs::remove_file(&rt, path.as_str())?;
+    }
+    Ok(())
+}

@@ -1,0 +1,71 @@
+//! The text that `cats duplicates` prints.
+
+ghost use Rattle.std.specs.Prelude.{◌≡◌, ◌<◌, ◌++◌, [], length, map, replicate, All, IfOk, OnOk};
+ghost use Rattle.cats_cmd.specs.DuplicateTexts.{duplicates_text, found_paths, groups_of, lines_of, plain_groups, with_group};
+
+use std::alloc::{AllocError, Global};
+
+/// For each auction that two or more of the files are, their paths, each on a line, and an empty line between two auctions. With
+/// each path is given the place of the first file of its auction.
+pub(super) fn duplicates_text(alloc: Global, found: &[(&str, usize)]) -> Result<Vec<u8>, AllocError>
+    requires { All (λ f. f.1 < length found.now) found.now }
+    ensures { IfOk result (λ text. text.items ≡ duplicates_text (found_paths found.now)) }
+{
+    let groups = group_by_place(alloc, found)?;
+    let mut text = Vec::new(alloc);
+    for group in &groups {
+        push_group(&mut text, group.as_slice())?;
+    }
+    Ok(text)
+}
+
+/// Puts the lines of a group of two or more behind the text, with an empty line between them.
+fn push_group(text: &mut Vec<u8>, paths: &[&str]) -> Result<(), AllocError>
+    ensures { OnOk result (text.new.items ≡ with_group text.old.items (map (λ path. path.now) paths.now)) }
+{
+    if paths.len() < 2 {
+        return Ok(());
+    }
+    if !text.is_empty() {
+        text.push(b'\n')?;
+    }
+    push_lines(text, paths)
+}
+
+/// The paths of the files for each place.
+fn group_by_place<'a>(
+    alloc: Global,
+    found: &[(&'a str, usize)],
+) -> Result<Vec<Vec<&'a str>>, AllocError>
+    requires { All (λ f. f.1 < length found.now) found.now }
+    ensures { IfOk result (λ groups. plain_groups groups.items ≡ groups_of (found_paths found.now)) }
+{
+    let mut groups = empty_groups(alloc, found.len())?;
+    for (path, place) in found {
+        let group = &mut groups[*place];
+        group.push(*path)?;
+    }
+    Ok(groups)
+}
+
+/// So many groups without a path.
+fn empty_groups<'a>(alloc: Global, count: usize) -> Result<Vec<Vec<&'a str>>, AllocError>
+    ensures { IfOk result (λ groups. plain_groups groups.items ≡ replicate count []) }
+{
+    let mut groups = Vec::new(alloc);
+    for _ in 0..count {
+        groups.push(Vec::new(alloc))?;
+    }
+    Ok(groups)
+}
+
+/// Puts each path on a line.
+fn push_lines(text: &mut Vec<u8>, paths: &[&str]) -> Result<(), AllocError>
+    ensures { OnOk result (text.new.items ≡ text.old.items ++ lines_of (map (λ path. path.now) paths.now)) }
+{
+    for path in paths {
+        text.extend_from_slice(path.as_bytes())?;
+        text.push(b'\n')?;
+    }
+    Ok(())
+}
