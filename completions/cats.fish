@@ -12,6 +12,8 @@ function __cats_takes_path
             test $many -lt 1
         case compare
             test $many -lt 2
+        case duplicates
+            true
         case '*'
             false
     end
@@ -25,7 +27,9 @@ complete -c cats -n __fish_use_subcommand -a show -d 'Print a bid file in its on
 complete -c cats -n __fish_use_subcommand -a value -d 'Print what the bidders of a bid file offer for a bundle'
 complete -c cats -n __fish_use_subcommand -a normalise -d 'Print the canonical text of an auction'
 complete -c cats -n __fish_use_subcommand -a compare -d 'Tell whether two bid files are the same auction'
+complete -c cats -n __fish_use_subcommand -a duplicates -d 'Print which of many bid files are the same auction'
 complete -c cats -n __fish_use_subcommand -a help -d 'Print help'
-complete -c cats -n '__fish_seen_subcommand_from help' -a 'check show value normalise compare'
+complete -c cats -n '__fish_seen_subcommand_from help' -a 'check show value normalise compare duplicates'
 complete -c cats -n __cats_takes_path -F
-complete -c cats -n '__fish_seen_subcommand_from value normalise compare' -x -l steps -d 'The most steps of a search'
+complete -c cats -n '__fish_seen_subcommand_from value normalise compare duplicates' -x -l steps -d 'The most steps of a search'
+complete -c cats -n '__fish_seen_subcommand_from duplicates' -l progress -d 'Tell how many files were read'
