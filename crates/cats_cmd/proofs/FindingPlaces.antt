@@ -91,11 +91,12 @@ module _ (paths : List (Bor (List ℕ))) (i : ℕ) (d : Bor (List ℕ)) (found :
       (subst (λ (fs : List (List ℕ × ℕ)). FindsPlaces (map (λ p. p.now) (take i paths) ++ path.now ∷ []) fs more greatest) (sym told)
       (judged_more (map (λ p. p.now) (take i paths)) (found_paths found) greatest path.now files more place h j)))
 
-  pub not_found : (status greater : ℕ) → more ≡ files → status ≢ 0 → greater ≡ max greatest status → FindsPlaces (map (λ p. p.now) (take (i + 1) paths)) (found_paths found) more greater
-  not_found status greater e refused g =
-      subst (λ (fs : List PlainFile). FindsPlaces (map (λ p. p.now) (take (i + 1) paths)) (found_paths found) fs greater) (sym e)
-      (subst (λ (ps : List (List ℕ)). FindsPlaces ps (found_paths found) files greater) (sym (one_more_path paths i d l))
-      (refused_more (map (λ p. p.now) (take i paths)) (found_paths found) greatest (get_or paths i d).now files status greater h refused g))
+  pub not_found : (status told greater last : ℕ) → more ≡ files → status ≢ 0 → last ≡ greater → greater ≡ max greatest told → told ≡ status
+      → FindsPlaces (map (λ p. p.now) (take (i + 1) paths)) (found_paths found) more last
+  not_found status told greater last e refused is g t =
+      subst (λ (fs : List PlainFile). FindsPlaces (map (λ p. p.now) (take (i + 1) paths)) (found_paths found) fs last) (sym e)
+      (subst (λ (ps : List (List ℕ)). FindsPlaces ps (found_paths found) files last) (sym (one_more_path paths i d l))
+      (refused_more (map (λ p. p.now) (take i paths)) (found_paths found) greatest (get_or paths i d).now files status last h refused (is ∙ g ∙ ap (max greatest) t)))
 
 -- ---- what was found
 

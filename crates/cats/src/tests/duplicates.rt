@@ -187,7 +187,7 @@ fn duplicates(rt: HostRuntime) -> Result<(), Fail> {
     let start = format!(in rt.alloc(); "/tmp/cats_duplicates_{id}_")?;
     for (name, text) in &FILES {
         let path = format!(in rt.alloc(); "{start}{name}")?;
-        fs::write(&rt, path.as_str(), text)?;
+        fs::write(&rt, path.as_str(), *text)?;
     }
     for (line, out_room, err_room, status, sent, told) in &ROWS {
         let line = with_start(rt.alloc(), start.as_str(), line)?;

@@ -1,4 +1,4 @@
-use Rattle.std.proofs.Common.{ℕ, List, [], max, ap, ◌∙◌}
+use Rattle.std.proofs.Common.{ℕ, List, []}
 use Rattle.std.specs.Borrow.{Bor}
 use Rattle.cats_cmd.specs.Stops.{status_of_stop}
 use Rattle.cats_cmd.proofs.FindingPlaces.{nothing_found, found_more, not_found}
@@ -19,10 +19,10 @@ loop-number-preserved g c =
     elim c.match-judge.branch [
       | in-Ok+in_ok-push-in-Ok w ↦
           rw w.found-is
-          (found_more paths i nowhere c.loop-number.found.items greatest c.loop-number.index c.judge.new.index c.loop-number-test.true c.loop-number.invariant _ w.in-Ok.place _ w.in-Ok.ensures.judged
+          (found_more paths i nowhere c.loop-number.found.items greatest c.loop-number.index c.judge.new.index c.loop-number-test.true c.loop-number.invariant w.push.new.self.items w.in-Ok.place c.match-judge.greatest w.in-Ok.ensures.judged
           w.in_ok-push-in-Ok.ensures.items w.greatest-is)
       | in-Err w ↦
           rw w.found-is
-          (not_found paths i nowhere c.loop-number.found.items greatest c.loop-number.index c.judge.new.index c.loop-number-test.true c.loop-number.invariant (status_of_stop w.in-Err.stop) _ w.in-Err.ensures.unchanged
-          w.in-Err.ensures.status (w.greatest-is ∙ w.max-greatest.ensures ∙ ap (max greatest) w.tell_refusal.ensures))
+          (not_found paths i nowhere c.loop-number.found.items greatest c.loop-number.index c.judge.new.index c.loop-number-test.true c.loop-number.invariant (status_of_stop w.in-Err.stop) w.tell_refusal.result
+          w.max-greatest.result c.match-judge.greatest w.in-Err.ensures.unchanged w.in-Err.ensures.status w.greatest-is w.max-greatest.ensures w.tell_refusal.ensures)
     ]
