@@ -10,7 +10,7 @@ _cats() {
         check | show) _cats_operands 1 "-h --help" ;;
         value | normalise) _cats_operands 1 "--steps -h --help" ;;
         compare) _cats_operands 2 "--steps -h --help" ;;
-        duplicates) _cats_operands "$COMP_CWORD" "--steps --progress -h --help" ;;
+        duplicates) _cats_operands COMP_CWORD "--steps --progress -h --help" ;;
     esac
 }
 

@@ -82,15 +82,14 @@ Statuses: 0 for the same auction, 1 for different ones; 2 for a file that is no 
 64 as 'cats --help' tells";
 
 pub(crate) const DUPLICATES: &str = "\
-Prints, for each auction that two or more of the files are, their paths, one on a line; an empty line stands between two
-auctions. For example:
+Prints the paths of the files that are one auction, each on a line, for each auction that two or more of them are, with an
+empty line between two auctions. For example:
   $ cats duplicates examples/ladder.cats examples/packing.cats examples/ladder_rewritten.cats
   examples/ladder.cats
   examples/ladder_rewritten.cats
 
-A step is that of 'cats normalise', to which each file is put. A file that is refused is told as 'PATH: ' and its fault,
-and the others go on. Of a whole folder:
-  $ find FOLDER -name '*.cats' -print0 | xargs -0 cats duplicates
+A file that is refused is told at once, with its path before the fault, and the others go on. A step is that of
+'cats normalise', to which each file is put.
 
-Statuses: 0 where every file was judged; else the greatest of those of the files that were not: 2 for one that is no bid
-file; 3 for the step limit; 4 and 5 as 'cats --help' tells. 5 where the output failed, 64 for fewer than two files";
+Statuses: 0 where every file was judged, whether or not some are one auction; else the greatest status of those that were
+not: 2 for a file that is no bid file, 3 for the step limit, 4, 5 and 64 as 'cats --help' tells";
