@@ -1,10 +1,9 @@
 //! The definitions as a program, slow and plain, which the tests compare the program's answers with. Bundles are lists of goods,
-//! bidders are gone through bundle by bundle, and each function's contract is the definition that it computes. All of it is for
-//! these tests: as a library the crate offers nothing.
+//! bidders are gone through bundle by bundle, and each function's contract is the definition that it computes. All but the
+//! auction of a file is for these tests alone.
 #![tactic(auto)]
 
-#[cfg(test)]
-mod auction;
+pub mod auction;
 #[cfg(test)]
 mod bundle;
 #[cfg(test)]
@@ -15,7 +14,6 @@ mod difference;
 mod fault;
 #[cfg(test)]
 mod file;
-#[cfg(test)]
 mod list;
 #[cfg(test)]
 mod order;
