@@ -16,7 +16,7 @@ pub mod Prices
 pub mod LayoutLines
 pub mod LayoutSpells
 pub mod Marks
-pub mod Slots
+pub mod BidPlaces
 pub mod Rising
 pub mod Steps
 pub mod Scanned

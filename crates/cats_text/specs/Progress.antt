@@ -1,5 +1,5 @@
 -- What the parser keeps of the lines so far, without where it lies in memory.
-use Rattle.std.specs.Prelude.{◌≡◌, ℕ, List, map, Option, option_map, Result, Ok, Err}
+use Rattle.std.specs.Prelude.{◌≡◌, ℕ, List, ◌++◌, map, Option, Some, option_map, Result, Ok, Err}
 use Rattle.cats_text.specs.Files.{PlainBid, plain_bid}
 use Rattle.cats_text.specs.declared.bid.Bid.{Bid as FileBid}
 use Rattle.cats_text.specs.declared.fault.Kind.{Kind}
@@ -11,6 +11,7 @@ use Rattle.cats_text.specs.declared.parser.Place.{Place}
 use Rattle.cats_text.specs.declared.parser.Header.{Header}
 use Rattle.cats_text.specs.declared.parser.Draft.{Draft}
 use Rattle.cats_text.specs.declared.parser.Parser.{Parser}
+use Rattle.cats_text.specs.declared.slots.Slots.{Slots}
 
 pub record Progress : Type 0 where
   pub stage : Stage
@@ -27,8 +28,12 @@ plain_slot slot = option_map plain_bid slot
 abbrev pub plain_slots : List (Option FileBid) → List (Option PlainBid)
 plain_slots slots = map plain_slot slots
 
+-- each place's bid, with those in front
+abbrev pub slot_list : Slots → List (Option FileBid)
+slot_list s = map (λ b. Some b) s.front.items ++ s.rest.items
+
 abbrev pub progress : Parser → Progress
-progress p = record { stage = p.stage; place = p.place; header = p.header; due = p.due; slots = plain_slots p.slots.items; draft = p.draft; goods = p.goods }
+progress p = record { stage = p.stage; place = p.place; header = p.header; due = p.due; slots = plain_slots (slot_list p.slots); draft = p.draft; goods = p.goods }
 
 -- a call gave what the machine gives, unless memory was refused
 abbrev pub Gives : {A B : Type 0} → B → Result A Stop → Result B Kind → Type 0

@@ -12,6 +12,7 @@ mod limits;
 mod parser;
 mod reader;
 mod scanner;
+mod slots;
 mod stream;
 #[cfg(test)]
 mod tests;

@@ -2,16 +2,16 @@
 
 ghost use Rattle.std.specs.Prelude.{◌≡◌, ◌<◌, length, IfOk, OnOk, OnErr};
 ghost use Rattle.std.specs.Bool.{OnTrue};
-ghost use Rattle.cats_text.specs.Files.{IsPlainFile, plain_bid};
+ghost use Rattle.cats_text.specs.Files.{IsPlainFile};
 ghost use Rattle.cats_text.specs.Views.{plain_file};
-ghost use Rattle.cats_text.specs.Progress.{progress, plain_slots, Gives, Answers, AsksOnBidLines};
-ghost use Rattle.cats_text.specs.FileLines.{put_slot};
+ghost use Rattle.cats_text.specs.Progress.{progress, Gives, Answers, AsksOnBidLines};
 ghost use Rattle.cats_text.specs.Parsing.{start, keyword_read, header_number_read, number_read, price_parts, price_read, good_read, good_or_end_read, word_read, bid_read, header_line_read, line_read, is_due, file_from};
 
 use crate::bid::{Bid, BidFile};
 use crate::fault::Kind;
 use crate::goods::GoodList;
 use crate::limits::{MAX_BIDS, MAX_DUMMY, MAX_GOODS, MAX_PRICE};
+use crate::slots::Slots;
 use crate::word::{Keyword, Word};
 use std::alloc::{AllocError, AllocFailed, Global};
 
@@ -90,8 +90,7 @@ pub struct Parser {
     pub header: Header,
     /// How many bid lines are still due.
     pub due: u32,
-    /// At each number the bid that has come, up to the greatest number that has.
-    pub slots: Vec<Option<Bid>>,
+    pub slots: Slots,
     pub draft: Draft,
     pub goods: GoodList,
 }
@@ -113,17 +112,6 @@ fn price_of(whole: u64, millionths: u64, fine: bool) -> Result<u64, Stop>
     Ok((whole * MILLIONTHS).saturating_add(millionths))
 }
 
-/// Puts a bid at its number.
-fn put(slots: &mut Vec<Option<Bid>>, number: usize, bid: Bid) -> Result<(), AllocError>
-    ensures { OnOk result (plain_slots slots.new.items ≡ put_slot (plain_slots slots.old.items) number (plain_bid bid)) }
-{
-    while slots.len() <= number {
-        slots.push(None)?;
-    }
-    slots[number] = Some(bid);
-    Ok(())
-}
-
 impl Parser {
     /// Before the first line.
     pub fn new(alloc: Global) -> Parser
@@ -139,7 +127,7 @@ impl Parser {
                 dummy: 0,
             },
             due: 0,
-            slots: Vec::new(alloc),
+            slots: Slots::new(alloc),
             draft: Draft {
                 number: 0,
                 price: 0,
@@ -198,7 +186,7 @@ impl Parser {
         if value >= u64::from(self.header.bids) {
             return Err(Stop::Fault(Kind::BidNumber));
         }
-        if let Some(Some(_)) = self.slots.get(value as usize) {
+        if self.slots.has(value as usize) {
             return Err(Stop::Fault(Kind::RepeatedNumber));
         }
         self.draft = Draft {
@@ -309,7 +297,7 @@ impl Parser {
             goods: self.goods.take_rising(self.alloc)?,
             dummy: self.draft.dummy,
         };
-        put(&mut self.slots, self.draft.number as usize, bid)?;
+        self.slots.put(self.draft.number as usize, bid)?;
         self.due = self.due.saturating_sub(1);
         self.place = Place::First;
         Ok(())
@@ -353,12 +341,7 @@ impl Parser {
         ensures file { IfOk result (λ f. plain_file f ≡ file_from (progress self)) }
         ensures memory { OnErr result (0 < length (progress self).slots) }
     {
-        let mut bids = Vec::new(self.alloc);
-        for slot in self.slots {
-            if let Some(bid) = slot {
-                bids.push(bid)?;
-            }
-        }
+        let bids = self.slots.into_bids()?;
         Ok(BidFile::new(self.header.goods, self.header.dummy, bids))
     }
 }
