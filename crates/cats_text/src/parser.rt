@@ -1,6 +1,6 @@
 //! From words to bids: what is due, and what has come.
 
-ghost use Rattle.std.specs.Prelude.{◌≡◌, ◌<◌, length, IfOk, OnOk, OnErr};
+ghost use Rattle.std.specs.Prelude.{◌≡◌, ◌<◌, length, IfOk, OnErr};
 ghost use Rattle.std.specs.Bool.{OnTrue};
 ghost use Rattle.cats_text.specs.Files.{IsPlainFile};
 ghost use Rattle.cats_text.specs.Views.{plain_file};

@@ -1,6 +1,6 @@
 //! From bytes to words and line ends.
 
-ghost use Rattle.std.specs.Prelude.{◌≡◌, ◌+◌, ◌-◌, ◌<◌, ◌≤◌, ◌^◌, ◌==◌, true, take, drop, fold, position, unwrap_or, length, false, OnOk, IfOk};
+ghost use Rattle.std.specs.Prelude.{◌≡◌, ◌+◌, ◌-◌, ◌<◌, ◌≤◌, ◌^◌, ◌==◌, true, position, unwrap_or, length, false, OnOk, IfOk};
 ghost use Rattle.cats_text.specs.Files.{IsPlainFile};
 ghost use Rattle.cats_text.specs.Parsing.{file_from};
 ghost use Rattle.cats_text.specs.Returns.{settled, waits, carried, return_byte};

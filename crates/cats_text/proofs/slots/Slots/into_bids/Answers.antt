@@ -1,4 +1,4 @@
-use Rattle.std.proofs.Common.{◌≡◌, ◌∙◌, ◌++◌, ◌∷◌, [], List, Option, Some, map, sym, ap, append-nil}
+use Rattle.std.proofs.Common.{◌∙◌, ◌++◌, ◌∷◌, [], List, Option, Some, map, sym, ap, append-nil}
 use Rattle.std.proofs.lemmas.List.{map-append}
 use Rattle.cats_text.specs.declared.bid.Bid.{Bid}
 use Rattle.cats_text.specs.Files.{PlainBid, plain_bid, plain_bids}
