@@ -109,6 +109,7 @@ fn xor_points_on_both_sets(rt: HostRuntime) -> Result<(), Fail> {
 }
 
 // The OR bids are pruned to these, or their search is stopped at these goods.
+#[derive(Drop)]
 enum Pruned {
     To(&'static [(&'static [u16], u64)]),
     StoppedAt(&'static [u16]),
