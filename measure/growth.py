@@ -1,6 +1,6 @@
 """Measures the program on inputs that are made to hurt, each at several sizes, so that growth is seen.
 
-    inputs.py PROGRAM [WORD]
+    growth.py PROGRAM [WORD]
 
 With a word, only inputs whose name has it. Times are processor seconds. The growth is how often the time of a byte is that of the
 size before, left out where that took less than 50 ms: near 1 for a time that is linear in the bytes. What a run held is told as at
@@ -8,13 +8,14 @@ least some 15 MiB, which this script holds itself.
 """
 import os
 import random
-import subprocess
 import sys
 import tempfile
 from functools import partial
 from itertools import combinations, islice
 from multiprocessing import Process, set_start_method
 from typing import Callable, NamedTuple
+
+from process import MEBIBYTE, measure
 
 PROGRAM = sys.argv[1]
 WORD = sys.argv[2] if len(sys.argv) > 2 else ""
@@ -35,14 +36,6 @@ class Input(NamedTuple):
     pieces: Callable
     sizes: tuple
     commands: tuple
-
-
-class Measure(NamedTuple):
-    """What a run took: processor seconds, and the most bytes that it held."""
-
-    seconds: float
-    held: int
-    told: str
 
 
 def header(goods, bids, dummy):
@@ -173,7 +166,6 @@ ALL = (CHECK, SHOW, NORMALISE)
 BY_BIDS = (BIDS // 4, BIDS // 2, BIDS)
 BY_GOODS = (GOODS // 4, GOODS // 2, GOODS)
 BY_MEBIBYTES = (64, 128, 256)
-MEBIBYTE = 1_048_576
 
 FAMILIES = {
     "on one bundle": (on_one_bundle, BY_BIDS),
@@ -210,17 +202,6 @@ INPUTS = [
 ]
 
 
-def measure(words):
-    """Runs the program, and waits for its end."""
-    with tempfile.TemporaryFile() as err:
-        process = subprocess.Popen([PROGRAM, *words], stdout=subprocess.DEVNULL, stderr=err)
-        _, status, used = os.wait4(process.pid, 0)
-        process.returncode = os.waitstatus_to_exitcode(status)
-        err.seek(0)
-        told = err.read(30).decode(errors="replace").strip()
-    return Measure(used.ru_utime + used.ru_stime, used.ru_maxrss * 1024, told or f"status {process.returncode}")
-
-
 def growth(before, now):
     """By what the seconds of a byte are multiplied, of two sizes and seconds."""
     if before is None or before[1] < 0.05:
@@ -235,7 +216,7 @@ def write_file(path, pieces, size):
 
 def row(name, size, command, path, before):
     """Measures a command on a file, and answers the file's bytes and the seconds."""
-    took = measure([path if word == FILE else word for word in command])
+    took = measure([PROGRAM, *(path if word == FILE else word for word in command)])
     now = (os.path.getsize(path), took.seconds)
     words = " ".join(command[: command.index(FILE)])
     figures = f"{now[0]:14,} {took.seconds:9.3f} s {growth(before, now)} {took.held / MEBIBYTE:6.0f} MiB"
