@@ -1,6 +1,6 @@
 -- What comparing answers: of two canonical files, by their OR bids and their XOR bids, and of two texts, by the files that they spell.
 use Rattle.std.proofs.Common.{◌≡◌, ℕ, zero, suc, ◌+◌, ◌≤◌, Bool, true, cond, List, [], ◌∷◌, ◌++◌, length, map, take, drop, Option, Some, None, is_none, Result, Ok, Err, refl, sym, ap, ap₂, ◌∙◌, subst, arith}
-use Rattle.std.specs.Prelude.{◌↔◌, IfOk, MatchOption}
+use Rattle.std.specs.Prelude.{◌↔◌, IfOk, OnErr, MatchOption}
 use Rattle.std.specs.List.{prefix_len}
 use Rattle.std.proofs.lemmas.Bool.{cond-true}
 use Rattle.std.proofs.lemmas.List.{length-map}
@@ -20,11 +20,11 @@ use Rattle.canon.specs.Answers.{RefusesAs, NormalisesFileAs}
 use Rattle.canon.specs.BidderBids.{HasBidders}
 use Rattle.canon.specs.Canonical.{IsCanonical, IsCanonicalFile, bid_from, canonical_auction, canonical_text, dummy_bids, file_from}
 use Rattle.canon.specs.Comparing.{Compared, ComparedBy, IsNormalFileOf, ReadsNormalAs, RefusesOf, compared, unless_first_refused, unless_second_refused}
-use Rattle.canon.specs.Difference.{NoDifference, first_difference, first_unequal_bundle, least_unequal_bidder, or_difference, xor_difference}
+use Rattle.canon.specs.Difference.{Difference, NoDifference, first_difference, first_unequal_bundle, least_unequal_bidder, or_difference, xor_difference}
 use Rattle.canon.specs.Normalising.{Normalised, IsNoFile, ExceedsSteps, IsText, normalised}
 use Rattle.canon.specs.OrBids.{HasOrBids}
 use Rattle.canon.specs.Sameness.{AreSameFiles, AreSameTexts, IsSameAuction}
-use Rattle.canon.specs.Verdicts.{plain_verdict}
+use Rattle.canon.specs.Verdicts.{NamesGoods, plain_verdict}
 use Rattle.canon.specs.declared.fault.CanonFault.{CanonFault}
 use Rattle.canon.specs.declared.fault.CanonFault.TheVariants.{Read, StepLimit, Memory}
 use Rattle.canon.specs.declared.verdict.Verdict.{Verdict}
@@ -222,6 +222,16 @@ module _ (a b : PlainAuction) (e : a.goods ≡ b.goods) where
       let none = MatchOption-at_none (first_unequal_bundle a b ≡ None) (λ verdict. plain_verdict verdict ≡ or_difference a b (first_unequal_bundle a b)) is h in
       IfOk-weaker r (λ verdict. plain_verdict verdict ≡ xor_difference a b (least_unequal_bidder a b)) (λ verdict. plain_verdict verdict ≡ first_difference a b)
       (λ verdict d. d ∙ sym (ap (or_difference a b) none) ∙ sym (at_same_goods a b e)) k
+
+  -- memory is wanted for the goods of the difference alone
+  pub or_named : NamesGoods (or_difference a b (first_unequal_bundle a b)) → NamesGoods (first_difference a b)
+  or_named h = subst NamesGoods (sym (at_same_goods a b e)) h
+
+  pub xor_named : {E : Type 0} (told : Option Verdict) → told ≡ None → MatchOption told (first_unequal_bundle a b ≡ None) (λ verdict. plain_verdict verdict ≡ or_difference a b (first_unequal_bundle a b))
+      → (r : Result Verdict E) → OnErr r (NamesGoods (xor_difference a b (least_unequal_bidder a b))) → OnErr r (NamesGoods (first_difference a b))
+  xor_named told is h r k =
+      let none = MatchOption-at_none (first_unequal_bundle a b ≡ None) (λ verdict. plain_verdict verdict ≡ or_difference a b (first_unequal_bundle a b)) is h in
+      subst (λ (d : Difference). OnErr r (NamesGoods d)) (sym (at_same_goods a b e ∙ ap (or_difference a b) none)) k
 
 pub bids_count : (f : PlainFile) → IsPlainFile f → (bids : List Bid) → plain_bids bids ≡ f.bids → length bids ≤ MAX_BIDS
 bids_count f h bids e = let long = length-map bids plain_bid in let same = ap (λ (zs : List PlainBid). length zs) e in omega (arith, h.count)

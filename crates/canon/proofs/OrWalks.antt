@@ -1,6 +1,6 @@
 -- Two lists of points are walked place by place. Where they part, the lesser bundle is the first on which the values differ.
 use Rattle.std.proofs.Common.{◌≡◌, ℕ, ◌+◌, ◌<◌, ◌≤◌, cond, ⊎_elim, List, [], ◌∷◌, ◌++◌, length, map, take, drop, get_or, refl, sym, ap, ap₂, ◌∙◌, subst, arith, Some, None, Less, Equal, Greater}
-use Rattle.std.specs.Prelude.{Contains}
+use Rattle.std.specs.Prelude.{Contains, OnErr, Result, Ok, Err}
 use Rattle.std.specs.List.{find}
 use Rattle.std.specs.Ordering.{ordering_reverse}
 use Rattle.std.proofs.lemmas.Bool.{cond-true, cond-false}
@@ -25,6 +25,11 @@ use Rattle.canon.specs.declared.verdict.Side.{Side}
 use Rattle.canon.specs.declared.verdict.Side.TheVariants.{Exactly, Below}
 use Rattle.canon.proofs.Atoms.{on_bundles}
 use Rattle.canon.proofs.OrDifferences.{ArePoints, are_unequal, equal_test, unequal_swap, in_order, suffix_in_order, parts_at_left, both_at}
+
+-- a fact that holds in any case
+pub on_err : {T E P : Type 0} (r : Result T E) → P → OnErr r P
+on_err (Ok x) p = tt
+on_err (Err y) p = p
 
 -- what is told of the first list's value on the bundle
 abbrev pub or_side : ℕ → List (Atom (List ℕ)) → List (Atom (List ℕ)) → List ℕ → Side

@@ -15,3 +15,10 @@ plain_verdict Same = NoDifference
 plain_verdict (Goods left right) = InGoods left right
 plain_verdict (Or bundle left right) = InOr bundle.items left right
 plain_verdict (Xor bidder left right) = InXor (told_atoms bidder.items) left right
+
+-- a difference in a bundle or in a bidder: its verdict has their goods, and so takes memory
+abbrev pub NamesGoods : Difference → Type 0
+NamesGoods NoDifference = ⊥
+NamesGoods (InGoods left right) = ⊥
+NamesGoods (InOr bundle left right) = Unit {0}
+NamesGoods (InXor bidder left right) = Unit {0}

@@ -3,12 +3,12 @@
 //! In a canonical file the OR bids are the points of their bidder, in the order of their bundles. So the two files are walked side
 //! by side up to the first place where they part, and the lesser of the two bundles there is the one.
 
-ghost use Rattle.std.specs.Prelude.{◌≡◌, ℕ, IfOk, MatchOption, None};
+ghost use Rattle.std.specs.Prelude.{◌≡◌, ℕ, IfOk, OnErr, MatchOption, None};
 ghost use Rattle.cats_text.specs.Files.{plain_bids};
 ghost use Rattle.valuation.specs.Auctions.{PlainAuction};
 ghost use Rattle.canon.specs.Difference.{InOr, first_unequal_bundle, or_difference};
 ghost use Rattle.canon.specs.OrBids.{HasOrBids};
-ghost use Rattle.canon.specs.Verdicts.{plain_verdict};
+ghost use Rattle.canon.specs.Verdicts.{NamesGoods, plain_verdict};
 ghost use Rattle.canon.specs.declared.verdict.Side.TheVariants.{Exactly, Below};
 
 use crate::bid_order::order_of_bundles;
@@ -31,9 +31,11 @@ pub(crate) fn bundle_verdict(
     left: &[Bid],
     right: &[Bid],
 ) -> Result<Option<Verdict>, AllocError>
-    ensures { (cap : ℕ) (a b : PlainAuction) → HasOrBids cap a (plain_bids left.now) → HasOrBids cap b (plain_bids right.now)
+    ensures verdict { (cap : ℕ) (a b : PlainAuction) → HasOrBids cap a (plain_bids left.now) → HasOrBids cap b (plain_bids right.now)
         → a.goods ≡ b.goods → IfOk result (λ told. MatchOption told (first_unequal_bundle a b ≡ None)
         (λ verdict. plain_verdict verdict ≡ or_difference a b (first_unequal_bundle a b))) }
+    ensures memory { (cap : ℕ) (a b : PlainAuction) → HasOrBids cap a (plain_bids left.now) → HasOrBids cap b (plain_bids right.now)
+        → a.goods ≡ b.goods → OnErr result (NamesGoods (or_difference a b (first_unequal_bundle a b))) }
 {
     match first_parting(left, right) {
         None => Ok(None),

@@ -1,6 +1,6 @@
 //! Where two files part first, and whether two texts ask for the same things.
 
-ghost use Rattle.std.specs.Prelude.{◌≡◌, ◌↔◌, ◌≤◌, length, map, None, IfOk};
+ghost use Rattle.std.specs.Prelude.{◌≡◌, ◌↔◌, ◌≤◌, length, map, None, IfOk, OnErr};
 ghost use Rattle.std.specs.List.{prefix_len};
 ghost use Rattle.std.specs.Option.{is_none};
 ghost use Rattle.cats_text.specs.Files.{plain_bids};
@@ -10,7 +10,7 @@ ghost use Rattle.canon.specs.Canonical.{IsCanonicalFile, bid_from, dummy_bids, f
 ghost use Rattle.canon.specs.Comparing.{ComparesAs, ReadsNormalAs, compared};
 ghost use Rattle.canon.specs.Difference.{first_difference};
 ghost use Rattle.canon.specs.Sameness.{AreSameFiles, AreSameTexts};
-ghost use Rattle.canon.specs.Verdicts.{plain_verdict};
+ghost use Rattle.canon.specs.Verdicts.{NamesGoods, plain_verdict};
 ghost use Rattle.canon.specs.declared.verdict.Verdict.TheVariants.{Same};
 
 use crate::bundles::bundle_verdict;
@@ -50,21 +50,26 @@ pub fn compare(
     }
 }
 
-/// Where the auctions of two canonical files part first. Nothing of the files is copied but what the verdict names.
+/// Where the auctions of two canonical files part first. Nothing of the files is copied but what the verdict names, so that
+/// memory is wanted for a bundle or a bidder alone.
 pub fn compare_files(alloc: Global, left: &BidFile, right: &BidFile) -> Result<Verdict, AllocError>
     requires left_canonical { IsCanonicalFile (plain_file left.now) }
     requires right_canonical { IsCanonicalFile (plain_file right.now) }
     ensures difference { IfOk result (λ verdict. plain_verdict verdict
         ≡ first_difference (auction_from (plain_file left.now)) (auction_from (plain_file right.now))) }
     ensures same { IfOk result (λ verdict. verdict ≡ Same ↔ AreSameFiles (plain_file left.now) (plain_file right.now)) }
+    ensures memory { let difference = first_difference (auction_from (plain_file left.now)) (auction_from (plain_file right.now)) in
+        OnErr result (NamesGoods difference) }
 {
     walk_files(alloc, left, right)
 }
 
 /// The walk over the bids of two files, from the first number on. Of canonical files it finds where their auctions part.
 fn walk_files(alloc: Global, left: &BidFile, right: &BidFile) -> Result<Verdict, AllocError>
-    ensures { IsCanonicalFile (plain_file left.now) → IsCanonicalFile (plain_file right.now) → IfOk result (λ verdict. plain_verdict verdict
+    ensures difference { IsCanonicalFile (plain_file left.now) → IsCanonicalFile (plain_file right.now) → IfOk result (λ verdict. plain_verdict verdict
         ≡ first_difference (auction_from (plain_file left.now)) (auction_from (plain_file right.now))) }
+    ensures memory { IsCanonicalFile (plain_file left.now) → IsCanonicalFile (plain_file right.now)
+        → OnErr result (NamesGoods (first_difference (auction_from (plain_file left.now)) (auction_from (plain_file right.now)))) }
 {
     if left.goods() != right.goods() {
         return Ok(Verdict::Goods(left.goods(), right.goods()));

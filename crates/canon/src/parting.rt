@@ -3,7 +3,7 @@
 //! In a canonical file the bids of a bidder stand together, under a dummy good of their own, and the bidders never fall. So the two
 //! files are walked side by side, bidder by bidder, up to the first place where they part. The lesser bidder there is the one.
 
-ghost use Rattle.std.specs.Prelude.{◌≡◌, ℕ, ◌≤◌, length, List, IfOk, MatchOption};
+ghost use Rattle.std.specs.Prelude.{◌≡◌, ℕ, ◌≤◌, length, List, IfOk, OnErr, MatchOption};
 ghost use Rattle.cats_text.specs.Files.{plain_bids};
 ghost use Rattle.cats_text.specs.declared.limits.TheConstants.{MAX_BIDS};
 ghost use Rattle.valuation.specs.declared.atom.Atom.{Atom};
@@ -12,7 +12,7 @@ ghost use Rattle.valuation.specs.Orders.{bidder_cmp};
 ghost use Rattle.valuation.specs.Sorting.{count_of};
 ghost use Rattle.canon.specs.BidderBids.{offers, AreBidsOf, HasBidders, IsFirstBidder};
 ghost use Rattle.canon.specs.Difference.{least_unequal_bidder, xor_difference};
-ghost use Rattle.canon.specs.Verdicts.{plain_verdict, told_atoms};
+ghost use Rattle.canon.specs.Verdicts.{NamesGoods, plain_verdict, told_atoms};
 
 #[cfg(test)]
 mod tests;
@@ -31,8 +31,10 @@ pub(crate) fn bidder_verdict(
 ) -> Result<Verdict, AllocError>
     requires left_size { length left.now ≤ MAX_BIDS }
     requires right_size { length right.now ≤ MAX_BIDS }
-    ensures { (cap : ℕ) (a b : PlainAuction) → HasBidders cap a (plain_bids left.now) → HasBidders cap b (plain_bids right.now)
+    ensures verdict { (cap : ℕ) (a b : PlainAuction) → HasBidders cap a (plain_bids left.now) → HasBidders cap b (plain_bids right.now)
         → IfOk result (λ verdict. plain_verdict verdict ≡ xor_difference a b (least_unequal_bidder a b)) }
+    ensures memory { (cap : ℕ) (a b : PlainAuction) → HasBidders cap a (plain_bids left.now) → HasBidders cap b (plain_bids right.now)
+        → OnErr result (NamesGoods (xor_difference a b (least_unequal_bidder a b))) }
 {
     match least_unequal(left, right) {
         None => Ok(Verdict::Same),

@@ -79,7 +79,7 @@ answer_is_small (Duplicates files limit progress) status few is = absurd (cc)
 answer_is_small request status few is = omega (arith, is)
 
 -- a run of many files that stopped has written nothing, unless its output failed
-pub silent_paths : {W : Type 0} (contents : W → Option (List ℕ)) (paths : List (List ℕ)) (old new : Watched W) (fault : RunFault) → RunsOnPaths contents paths old new (Err fault) → IsSilent (Run fault) old new
-silent_paths contents paths old new (Refused which fault) ran = ran.2
-silent_paths contents paths old new (GoodRange good) ran = ran.tells.1
-silent_paths contents paths old new (Sent fault) ran = tt
+pub silent_paths : {W : Type 0} (contents : W → Option (List ℕ)) (limit : ℕ) (paths : List (List ℕ)) (old new : Watched W) (fault : RunFault) → RunsOnPaths contents limit paths old new (Err fault) → IsSilent (Run fault) old new
+silent_paths contents limit paths old new (Refused which fault) ran = ran.2
+silent_paths contents limit paths old new (GoodRange good) ran = ran.tells.1
+silent_paths contents limit paths old new (Sent fault) ran = tt

@@ -41,7 +41,7 @@ pub fn run_duplicates<F: Files + AllocGlobal, W: Write, E: Write>(
     err: &mut Watched<E>,
 ) -> Result<u8, RunFault>
     requires { has_failed out.old ≡ false }
-    ensures { RunsOnPaths W.contents (map (λ path. path.now) paths.now) out.old out.new result }
+    ensures { RunsOnPaths W.contents limit (map (λ path. path.now) paths.now) out.old out.new result }
 {
     let alloc = rt.alloc();
     let findings = find_places(rt, paths, limit, progress, err)?;
@@ -56,7 +56,7 @@ fn find_places<'a, F: Files + AllocGlobal, E: Write>(
     progress: bool,
     err: &mut Watched<E>,
 ) -> Result<Findings<'a>, AllocError>
-    ensures { IfOk result (λ f. FindsSome (map (λ path. path.now) paths.now) (found_paths f.found.items) f.greatest) }
+    ensures { IfOk result (λ f. FindsSome limit (map (λ path. path.now) paths.now) (found_paths f.found.items) f.greatest) }
 {
     let alloc = rt.alloc();
     let mut index = AuctionIndex::new(alloc);
@@ -81,7 +81,7 @@ fn judge<F: Files + AllocGlobal>(
     path: &str,
     limit: u64,
 ) -> Result<usize, Stop>
-    ensures judged { IfOk result (λ place. Judges index.old index.new place) }
+    ensures judged { IfOk result (λ place. Judges limit index.old index.new place) }
     ensures status { IfErr result (λ stop. status_of_stop stop ≢ 0) }
     ensures unchanged { OnErr result (index.new ≡ index.old) }
 {

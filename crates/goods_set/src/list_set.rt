@@ -1,9 +1,9 @@
 //! A set of goods as a sorted vector.
 mod summary;
 
-ghost use Rattle.std.specs.Prelude.{◌≡◌, ℕ, ◌<◌, ◌≤◌, length, not, true, false, MatchResult};
+ghost use Rattle.std.specs.Prelude.{◌≡◌, ℕ, ◌<◌, ◌≤◌, [], length, not, true, false, IsOk, IfOk, MatchResult};
 ghost use Rattle.std.specs.List.{insert};
-ghost use Rattle.goods_set.specs.Bundles.{IsBundle, IsBundle-prop, IsInside, has_good, with_good};
+ghost use Rattle.goods_set.specs.Bundles.{IsBundle, IsBundle-prop, IsInside, IsRising, AreBelow, has_good, with_good};
 ghost use Rattle.goods_set.specs.Fronts.{front_of};
 ghost use Rattle.goods_set.specs.Residues.{residues_of};
 
@@ -74,11 +74,19 @@ impl GoodsSet for ListSet {
         65_536
     }
 
-    fn empty(alloc: Global) -> Result<ListSet, AllocError> {
+    fn empty(alloc: Global) -> Result<ListSet, AllocError>
+        ensures goods { IfOk result (λ s. s.goods.items ≡ []) }
+        ensures ok { IsOk result }
+    {
         Ok(ListSet::new(Vec::new(alloc)))
     }
 
-    fn from_rising(_alloc: Global, rising: Vec<u16>) -> Result<ListSet, AllocError> {
+    fn from_rising(_alloc: Global, rising: Vec<u16>) -> Result<ListSet, AllocError>
+        requires rising { IsRising rising.items }
+        requires below { AreBelow 65536 rising.items }
+        ensures goods { IfOk result (λ s. s.goods.items ≡ rising.items) }
+        ensures ok { IsOk result }
+    {
         Ok(ListSet::new(rising))
     }
 
@@ -111,7 +119,10 @@ impl GoodsSet for ListSet {
         out.extend_from_slice(self.goods.as_slice())
     }
 
-    fn into_list(self, _alloc: Global) -> Result<Vec<u16>, AllocError> {
+    fn into_list(self, _alloc: Global) -> Result<Vec<u16>, AllocError>
+        ensures goods { IfOk result (λ list. list.items ≡ self.goods.items) }
+        ensures ok { IsOk result }
+    {
         let ListSet {
             goods,
             front: _,

@@ -3,7 +3,7 @@ mod lanes;
 mod scans;
 
 ghost use Rattle.std.specs.Prelude.{◌≡◌, ℕ, ◌*◌, ◌<◌, ◌≤◌, min, [], not, length, take, IsOk, IfOk, OnErr};
-ghost use Rattle.goods_set.specs.Bundles.{has_good, with_good};
+ghost use Rattle.goods_set.specs.Bundles.{IsRising, AreBelow, has_good, with_good};
 ghost use Rattle.goods_set.specs.Words.{word_goods, word_goods_bundle, word_cap, word_cap_fits};
 
 use crate::set::GoodsSet;
@@ -11,7 +11,7 @@ use std::alloc::{AllocError, Global};
 use std::cmp::Ordering;
 
 /// A set of goods below the lesser of 64 times `N` and 65,536: a good is in it where its bit of the
-/// words is set. None of its calls takes memory, but for the vector that `list_into` appends to.
+/// words is set. None of its calls takes memory, but for the vectors of `list_into` and `into_list`.
 #[derive(Debug, Drop)]
 pub struct WordSet<const N: usize> {
     words: [u64; N],
@@ -46,7 +46,12 @@ impl<const N: usize> GoodsSet for WordSet<N> {
         Ok(WordSet { words: [0; N] })
     }
 
-    fn from_rising(_alloc: Global, rising: Vec<u16>) -> Result<WordSet<N>, AllocError> {
+    fn from_rising(_alloc: Global, rising: Vec<u16>) -> Result<WordSet<N>, AllocError>
+        requires rising { IsRising rising.items }
+        requires below { AreBelow (word_cap N) rising.items }
+        ensures goods { IfOk result (λ s. word_goods (word_cap N) s.words ≡ rising.items) }
+        ensures ok { IsOk result }
+    {
         let mut set = WordSet { words: [0; N] };
         for good in &rising {
             let place = usize::from(*good / 64);

@@ -1,7 +1,12 @@
-use Rattle.std.proofs.Common.{ℕ, List, sym, ap, ◌∙◌}
+use Rattle.std.proofs.Common.{ℕ, List, sym, ap, ◌∙◌, subst}
 use Rattle.canon.specs.Difference.{InOr}
+use Rattle.canon.specs.Verdicts.{NamesGoods}
+use Rattle.canon.proofs.OrWalks.{on_err}
 use Rattle.canon.proofs.bundles.bundle_verdict.Goals as goal
 
-pub returns-in_ok-from_slice-in-Some : goal.returns-in_ok-from_slice-in-Some
-returns-in_ok-from_slice-in-Some c = λ cap a b h k e.
+pub returns-in_ok-from_slice-in-Some-clause-verdict : goal.returns-in_ok-from_slice-in-Some-clause-verdict
+returns-in_ok-from_slice-in-Some-clause-verdict c = λ cap a b h k e.
     ap (λ (goods : List ℕ). InOr goods c.in-Some.parting.left c.in-Some.parting.right) c.in_ok-from_slice-in-Some.ensures.items ∙ sym (c.in-Some.ensures cap a b h k e)
+
+pub returns-in_err-from_slice-in-Some-clause-memory : goal.returns-in_err-from_slice-in-Some-clause-memory
+returns-in_err-from_slice-in-Some-clause-memory c = λ cap a b h k e. on_err _ (subst NamesGoods (sym (c.in-Some.ensures cap a b h k e)) tt)
