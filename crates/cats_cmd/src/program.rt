@@ -2,7 +2,7 @@
 
 ghost use Rattle.std.specs.Prelude.{◌≡◌, ◌≢◌, ◌≤◌, IfErr, IfOk, false};
 ghost use Rattle.cats_text.specs.Streams.{has_ended, has_failed};
-ghost use Rattle.cats_cmd.specs.Stops.{IsAnswer, IsSilent, SendsBeginning, is_for_many_files, line_of_stop, names_duplicates, status_of_stop};
+ghost use Rattle.cats_cmd.specs.Stops.{IsAnswer, IsAnswerToNoRequest, IsSilent, SendsBeginning, is_for_many_files, line_of_stop, names_duplicates, status_of_stop};
 
 use crate::check::run_check;
 use crate::compare::run_compare;
@@ -41,6 +41,7 @@ impl From<RunFault> for Stop {
 /// `err` stand for the standard streams.
 ///
 /// A fault's line goes to `err`. Where that line cannot be made or written, the status stays what it is.
+#[tactic(auto, using(crate::proofs::Stopping::few_files))]
 pub fn run_cats<F: Files + AllocGlobal, W: Write, E: Write>(
     rt: &F,
     words: &[&str],
@@ -52,11 +53,24 @@ pub fn run_cats<F: Files + AllocGlobal, W: Write, E: Write>(
     ensures silent { names_duplicates words.now ≡ false → result ≢ 0 → result ≢ 1 → result ≢ 5 → out.new ≡ out.old }
     ensures done { names_duplicates words.now ≡ false → result ≤ 1 → err.new ≡ err.old }
 {
-    let request = match parse(rt.alloc(), words) {
-        Ok(request) => request,
-        Err(no_request) => return answer_no_request(&no_request, out, err),
-    };
-    match carry_out(rt, &request, out, err) {
+    match parse(rt.alloc(), words) {
+        Ok(request) => answer_request(rt, &request, out, err),
+        Err(no_request) => answer_no_request(&no_request, out, err),
+    }
+}
+
+fn answer_request<F: Files + AllocGlobal, W: Write, E: Write>(
+    rt: &F,
+    request: &Request<'_>,
+    out: &mut Watched<W>,
+    err: &mut Watched<E>,
+) -> u8
+    requires out_works { has_failed out.old ≡ false }
+    requires err_works { has_failed err.old ≡ false }
+    ensures silent { is_for_many_files request.now ≡ false → result ≢ 0 → result ≢ 1 → result ≢ 5 → out.new ≡ out.old }
+    ensures done { is_for_many_files request.now ≡ false → result ≤ 1 → err.new ≡ err.old }
+{
+    match carry_out(rt, request, out, err) {
         Ok(status) => status,
         Err(stop) if err.failed() => status_of(&stop),
         Err(stop) => tell(rt.alloc(), &stop, err),
@@ -123,6 +137,7 @@ fn answer_no_request<W: Write, E: Write>(
 ) -> u8
     requires out_works { has_failed out.old ≡ false }
     requires err_works { has_failed err.old ≡ false }
+    ensures status { IsAnswerToNoRequest no_request.now result }
     ensures silent { result ≢ 0 → result ≢ 5 → out.new ≡ out.old }
     ensures done { result ≤ 1 → err.new ≡ err.old }
 {
