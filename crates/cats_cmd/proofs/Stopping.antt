@@ -1,8 +1,9 @@
 -- The statuses that the runs answer, and what of a line goes out where sending it may fail.
-use Rattle.std.proofs.Common.{◌≡◌, ℕ, List, length, Option, None, Some, Result, Ok, Err, Bool, true, false, cond, sym, subst, arith, ◌≤◌}
+use Rattle.std.proofs.Common.{◌≡◌, ℕ, List, [], ◌∷◌, refl, length, Option, None, Some, Result, Ok, Err, Bool, true, false, cond, sym, subst, arith, ◌≤◌}
 use Rattle.std.proofs.Math.Seq.{take-length}
 use Rattle.std.specs.Io.KnownBytes.{Appends}
-use Rattle.std.specs.Prelude.{nat_lt, OnOk, IfErr}
+use Rattle.std.specs.Borrow.{Bor}
+use Rattle.std.specs.Prelude.{nat_lt, bytes_eq, codes, OnOk, IfErr}
 use Rattle.cats_text.specs.Files.{PlainFile}
 use Rattle.cats_text.specs.Streams.{inner_of, SendsWhole, SendsPart}
 use Rattle.cats_text.specs.declared.fault.SendFault.{SendFault}
@@ -16,9 +17,10 @@ use Rattle.cats_cmd.specs.Outcomes.{Outcome, Tells, ExceedsSteps, normalise_outc
 use Rattle.cats_cmd.specs.ValueTexts.{bundle_from, value_text}
 use Rattle.cats_cmd.specs.Runs.{RunsOnFile}
 use Rattle.cats_cmd.specs.Duplicates.{RunsOnPaths}
-use Rattle.cats_cmd.specs.Stops.{IsAnswer, IsSilent, SendsBeginning, is_for_many_files}
-use Rattle.cats_cmd.specs.declared.command_line.Request.{Request}
-use Rattle.cats_cmd.specs.declared.command_line.Request.TheVariants.{Compare, Duplicates}
+use Rattle.cats_cmd.specs.Stops.{IsAnswer, IsSilent, SendsBeginning, is_for_many_files, names_duplicates}
+use Rattle.command_line.specs.Requests.{IsNamedIn}
+use Rattle.command_line.specs.declared.request.Request.{Request}
+use Rattle.command_line.specs.declared.request.Request.TheVariants.{Compare, Duplicates}
 use Rattle.cats_cmd.specs.declared.program.Stop.TheVariants.{Run}
 use Rattle.cats_cmd.specs.declared.report.RunFault.{RunFault}
 use Rattle.cats_cmd.specs.declared.report.RunFault.TheVariants.{Refused, GoodRange, Sent}
@@ -77,6 +79,13 @@ pub answer_is_small : (request : Request) (status : ℕ) → is_for_many_files r
 answer_is_small (Compare first second limit) status few is = is
 answer_is_small (Duplicates files limit progress) status few is = absurd (cc)
 answer_is_small request status few is = omega (arith, is)
+
+-- only `duplicates` names a request for many files
+pub few_files : (words : List (Bor (List ℕ))) (request : Request) → IsNamedIn words request → names_duplicates words ≡ false → is_for_many_files request ≡ false
+few_files (program ∷ (word ∷ words)) (Duplicates files limit progress) named few = subst (λ (name : List ℕ). bytes_eq name (codes "duplicates") ≡ false) named few
+few_files (program ∷ []) (Duplicates files limit progress) named few = absurd (named)
+few_files [] (Duplicates files limit progress) named few = absurd (named)
+few_files words request named few = refl
 
 -- a run of many files that stopped has written nothing, unless its output failed
 pub silent_paths : {W : Type 0} (contents : W → Option (List ℕ)) (limit : ℕ) (paths : List (List ℕ)) (old new : Watched W) (fault : RunFault) → RunsOnPaths contents limit paths old new (Err fault) → IsSilent (Run fault) old new

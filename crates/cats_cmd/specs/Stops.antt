@@ -1,13 +1,15 @@
 -- With which statuses the program answers, why it stops without an answer of its own, and how it tells that.
-use Rattle.std.specs.Prelude.{◌≡◌, ◌≤◌, ◌++◌, ℕ, Bool, true, false, List, ◌∷◌, Option, take, codes, bytes_eq}
+use Rattle.std.specs.Prelude.{◌≡◌, ◌≤◌, ◌⊎◌, ◌++◌, ℕ, Bool, true, false, List, ◌∷◌, Option, take, codes, bytes_eq}
 use Rattle.std.specs.Borrow.{Bor}
 use Rattle.std.specs.Io.KnownBytes.{Appends}
 use Rattle.cats_text.specs.Streams.{inner_of}
 use Rattle.cats_text.specs.declared.stream.Watched.{Watched}
 use Rattle.cats_cmd.specs.FaultLines.{line_of_fault, prefix_of}
 use Rattle.cats_cmd.specs.Statuses.{status_of_fault}
-use Rattle.cats_cmd.specs.declared.command_line.Request.{Request}
-use Rattle.cats_cmd.specs.declared.command_line.Request.TheVariants.{Compare, Duplicates}
+use Rattle.command_line.specs.declared.request.NoRequest.{NoRequest}
+use Rattle.command_line.specs.declared.request.NoRequest.TheVariants.{Help, WrongUsage, NoMemory}
+use Rattle.command_line.specs.declared.request.Request.{Request}
+use Rattle.command_line.specs.declared.request.Request.TheVariants.{Compare, Duplicates}
 use Rattle.cats_cmd.specs.declared.program.Stop.{Stop}
 use Rattle.cats_cmd.specs.declared.program.Stop.TheVariants.{CannotOpen, Run}
 use Rattle.cats_cmd.specs.declared.report.RunFault.TheVariants.{Refused, GoodRange, Sent}
@@ -27,6 +29,12 @@ abbrev pub IsAnswer : Request → ℕ → Type 0
 IsAnswer (Compare first second limit) status = status ≤ 1
 IsAnswer (Duplicates files limit progress) status = Unit {0}
 IsAnswer request status = status ≡ 0
+
+-- the statuses with which a command line is answered that asks for no run
+abbrev pub IsAnswerToNoRequest : NoRequest → ℕ → Type 0
+IsAnswerToNoRequest (Help text) status = (status ≡ 0) ⊎ (status ≡ 5)
+IsAnswerToNoRequest (WrongUsage text) status = status ≡ 64
+IsAnswerToNoRequest (NoMemory text) status = status ≡ 4
 
 abbrev pub status_of_stop : Stop → ℕ
 status_of_stop (CannotOpen which) = 5

@@ -2,10 +2,8 @@
 #![tactic(auto)]
 
 mod check;
-mod command_line;
 mod compare;
 mod duplicates;
-mod help;
 mod normalise;
 mod program;
 mod report;

@@ -2,21 +2,18 @@
 
 ghost use Rattle.std.specs.Prelude.{◌≡◌, ◌≢◌, ◌≤◌, IfErr, IfOk, false};
 ghost use Rattle.cats_text.specs.Streams.{has_ended, has_failed};
-ghost use Rattle.cats_cmd.specs.Stops.{IsAnswer, IsSilent, SendsBeginning, is_for_many_files, line_of_stop, names_duplicates, status_of_stop};
+ghost use Rattle.cats_cmd.specs.Stops.{IsAnswer, IsAnswerToNoRequest, IsSilent, SendsBeginning, is_for_many_files, line_of_stop, names_duplicates, status_of_stop};
 
 use crate::check::run_check;
-use crate::command_line;
-use crate::command_line::Request;
 use crate::compare::run_compare;
 use crate::duplicates::run_duplicates;
 use crate::normalise::run_normalise;
-use crate::report::{DEVICE_FAILED, NO_MEMORY, RunFault, WRONG_USAGE, fault_line, status};
+use crate::report::{DEVICE_FAILED, DONE, NO_MEMORY, RunFault, WRONG_USAGE, fault_line, status};
 use crate::show::run_show;
 use crate::value::run_value;
 use canon::Which;
 use cats_text::{Watched, send};
-use clap::Error;
-use clap::error::ErrorKind;
+use command_line::{NoRequest, Request, parse};
 use std::alloc::{AllocError, Global};
 use std::fs;
 use std::io::Write;
@@ -44,6 +41,7 @@ impl From<RunFault> for Stop {
 /// `err` stand for the standard streams.
 ///
 /// A fault's line goes to `err`. Where that line cannot be made or written, the status stays what it is.
+#[tactic(auto, using(crate::proofs::Stopping::few_files))]
 pub fn run_cats<F: Files + AllocGlobal, W: Write, E: Write>(
     rt: &F,
     words: &[&str],
@@ -55,29 +53,27 @@ pub fn run_cats<F: Files + AllocGlobal, W: Write, E: Write>(
     ensures silent { names_duplicates words.now ≡ false → result ≢ 0 → result ≢ 1 → result ≢ 5 → out.new ≡ out.old }
     ensures done { names_duplicates words.now ≡ false → result ≤ 1 → err.new ≡ err.old }
 {
-    let alloc = rt.alloc();
-    let request = match command_line::parse(alloc, words) {
-        Ok(Some(request)) => request,
-        Ok(None) => return WRONG_USAGE,
-        Err(error) => return answer_usage(alloc, &error, out, err),
-    };
-    if request.is_for_many_files() && !asks_duplicates(words) {
-        return WRONG_USAGE;
-    }
-    match carry_out(rt, &request, out, err) {
-        Ok(status) => status,
-        Err(stop) if err.failed() => status_of(&stop),
-        Err(stop) => tell(alloc, &stop, err),
+    match parse(rt.alloc(), words) {
+        Ok(request) => answer_request(rt, &request, out, err),
+        Err(no_request) => answer_no_request(&no_request, out, err),
     }
 }
 
-/// Whether the subcommand is `duplicates`.
-fn asks_duplicates(words: &[&str]) -> bool
-    ensures { result ≡ names_duplicates words.now }
+fn answer_request<F: Files + AllocGlobal, W: Write, E: Write>(
+    rt: &F,
+    request: &Request<'_>,
+    out: &mut Watched<W>,
+    err: &mut Watched<E>,
+) -> u8
+    requires out_works { has_failed out.old ≡ false }
+    requires err_works { has_failed err.old ≡ false }
+    ensures silent { is_for_many_files request.now ≡ false → result ≢ 0 → result ≢ 1 → result ≢ 5 → out.new ≡ out.old }
+    ensures done { is_for_many_files request.now ≡ false → result ≤ 1 → err.new ≡ err.old }
 {
-    match words.get(1) {
-        Some(word) => *word == "duplicates",
-        None => false,
+    match carry_out(rt, request, out, err) {
+        Ok(status) => status,
+        Err(stop) if err.failed() => status_of(&stop),
+        Err(stop) => tell(rt.alloc(), &stop, err),
     }
 }
 
@@ -93,23 +89,17 @@ fn carry_out<F: Files + AllocGlobal, W: Write, E: Write>(
     ensures stopped { IfErr result (λ stop. IsSilent stop out.old out.new) }
     ensures quiet { is_for_many_files request.now ≡ false → err.new ≡ err.old }
 {
+    let alloc = rt.alloc();
     match request {
-        Request::Check { file } => {
-            let mut input = open(rt, file, Which::Only)?;
-            Ok(run_check(rt.alloc(), &mut input, out)?)
-        }
-        Request::Show { file } => {
-            let mut input = open(rt, file, Which::Only)?;
-            Ok(run_show(rt.alloc(), &mut input, out)?)
-        }
+        Request::Check { file } => Ok(run_check(alloc, &mut open(rt, file, Which::Only)?, out)?),
+        Request::Show { file } => Ok(run_show(alloc, &mut open(rt, file, Which::Only)?, out)?),
         Request::Value { file, goods, limit } => {
             let mut input = open(rt, file, Which::Only)?;
-            let goods = goods.as_slice();
-            Ok(run_value(rt.alloc(), &mut input, goods, *limit, out)?)
+            Ok(run_value(alloc, &mut input, goods.as_slice(), *limit, out)?)
         }
         Request::Normalise { file, limit } => {
             let mut input = open(rt, file, Which::Only)?;
-            Ok(run_normalise(rt.alloc(), &mut input, *limit, out)?)
+            Ok(run_normalise(alloc, &mut input, *limit, out)?)
         }
         Request::Compare {
             first,
@@ -118,16 +108,13 @@ fn carry_out<F: Files + AllocGlobal, W: Write, E: Write>(
         } => {
             let mut left = open(rt, first, Which::First)?;
             let mut right = open(rt, second, Which::Second)?;
-            Ok(run_compare(rt.alloc(), &mut left, &mut right, *limit, out)?)
+            Ok(run_compare(alloc, &mut left, &mut right, *limit, out)?)
         }
         Request::Duplicates {
             files,
             limit,
             progress,
-        } => {
-            let files = files.as_slice();
-            Ok(run_duplicates(rt, files, *limit, *progress, out, err)?)
-        }
+        } => Ok(run_duplicates(rt, files.as_slice(), *limit, *progress, out, err)?),
     }
 }
 
@@ -143,34 +130,30 @@ pub(crate) fn open<F: Files>(rt: &F, path: &str, which: Which) -> Result<Watched
 }
 
 /// Help goes to `out`, and what is wrong with a command line to `err`.
-fn answer_usage<W: Write, E: Write>(
-    alloc: Global,
-    error: &Error,
+fn answer_no_request<W: Write, E: Write>(
+    no_request: &NoRequest,
     out: &mut Watched<W>,
     err: &mut Watched<E>,
 ) -> u8
     requires out_works { has_failed out.old ≡ false }
     requires err_works { has_failed err.old ≡ false }
+    ensures status { IsAnswerToNoRequest no_request.now result }
     ensures silent { result ≢ 0 → result ≢ 5 → out.new ≡ out.old }
     ensures done { result ≤ 1 → err.new ≡ err.old }
 {
-    let text = error.to_string(alloc);
-    if !error.use_stderr() {
-        return match text {
-            Err(AllocError) => NO_MEMORY,
-            Ok(help) => match send(out, help.as_bytes()) {
-                Ok(()) => 0,
-                Err(_) => DEVICE_FAILED,
-            },
-        };
-    }
-    if let Ok(message) = text {
-        let _ = send(err, message.as_bytes());
-    }
-    if error.kind() == ErrorKind::OutOfMemory {
-        NO_MEMORY
-    } else {
-        WRONG_USAGE
+    match no_request {
+        NoRequest::Help(text) => match send(out, text.as_bytes()) {
+            Ok(()) => DONE,
+            Err(_) => DEVICE_FAILED,
+        },
+        NoRequest::WrongUsage(text) => {
+            let _ = send(err, text.as_bytes());
+            WRONG_USAGE
+        }
+        NoRequest::NoMemory(text) => {
+            let _ = send(err, text.as_bytes());
+            NO_MEMORY
+        }
     }
 }
 

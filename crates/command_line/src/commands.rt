@@ -1,61 +1,19 @@
-//! What a command line asks for.
+//! The commands as `clap` takes them: their arguments, options and help.
 
 use crate::help;
-use clap::{Arg, ArgAction, ArgMatches, Command, Error, value_parser};
+use clap::{Arg, ArgAction, Command, value_parser};
 use std::alloc::{AllocError, Global};
 
-/// What a command line asks for.
-#[derive(Drop)]
-pub(crate) enum Request<'a> {
-    Check {
-        file: &'a str,
-    },
-    Show {
-        file: &'a str,
-    },
-    Value {
-        file: &'a str,
-        goods: Vec<u16>,
-        limit: u64,
-    },
-    Normalise {
-        file: &'a str,
-        limit: u64,
-    },
-    Compare {
-        first: &'a str,
-        second: &'a str,
-        limit: u64,
-    },
-    Duplicates {
-        files: Vec<&'a str>,
-        limit: u64,
-        progress: bool,
-    },
-}
-
-impl Request<'_> {
-    ghost use Rattle.std.specs.Prelude.{◌≡◌};
-    ghost use Rattle.cats_cmd.specs.Stops.{is_for_many_files};
-
-    /// Whether each of its files may be refused, and the others go on.
-    pub(crate) fn is_for_many_files(&self) -> bool
-        ensures { result ≡ is_for_many_files self.now }
-    {
-        matches!(self, Request::Duplicates { .. })
-    }
-}
-
-const FILE: &str = "FILE";
+pub(crate) const FILE: &str = "FILE";
 
 /// The second of two files, whose first is `FILE`.
-const SECOND_FILE: &str = "SECOND_FILE";
+pub(crate) const SECOND_FILE: &str = "SECOND_FILE";
 
-const GOOD: &str = "GOOD";
+pub(crate) const GOOD: &str = "GOOD";
 
-const STEPS: &str = "steps";
+pub(crate) const STEPS: &str = "steps";
 
-const PROGRESS: &str = "progress";
+pub(crate) const PROGRESS: &str = "progress";
 
 /// The most steps that a command line may allow a search.
 const MAX_STEPS: i64 = 1_000_000_000;
@@ -63,82 +21,7 @@ const MAX_STEPS: i64 = 1_000_000_000;
 /// The steps that a search may make where the command line says nothing.
 const DEFAULT_STEPS: &str = "1000000";
 
-/// Reads a command line, whose first word is the program's name. `None` is for a line that `clap` takes and that names no
-/// subcommand or no file: it takes none such.
-pub(crate) fn parse<'a>(alloc: Global, words: &'a [&'a str]) -> Result<Option<Request<'a>>, Error> {
-    let matches = cats_command(alloc)?.try_get_matches_from(words)?;
-    Ok(find_request(alloc, &matches)?)
-}
-
-fn find_request<'a>(
-    alloc: Global,
-    matches: &ArgMatches<'a>,
-) -> Result<Option<Request<'a>>, AllocError> {
-    let Some((name, given)) = matches.subcommand() else {
-        return Ok(None);
-    };
-    let Some(file) = given.get_str(FILE) else {
-        return Ok(None);
-    };
-    match name {
-        "check" => Ok(Some(Request::Check { file })),
-        "show" => Ok(Some(Request::Show { file })),
-        "value" => find_value_request(alloc, given, file),
-        "normalise" => Ok(find_normalise_request(given, file)),
-        "compare" => Ok(find_compare_request(given, file)),
-        "duplicates" => find_duplicates_request(alloc, given),
-        _ => Ok(None),
-    }
-}
-
-fn find_value_request<'a>(
-    alloc: Global,
-    given: &ArgMatches<'a>,
-    file: &'a str,
-) -> Result<Option<Request<'a>>, AllocError> {
-    let Some(limit) = given.get_one::<u64>(STEPS) else {
-        return Ok(None);
-    };
-    let mut goods = Vec::new(alloc);
-    if let Some(words) = given.get_many::<u16>(GOOD) {
-        for good in words {
-            let Ok(good) = good else { return Ok(None) };
-            goods.push(good)?;
-        }
-    }
-    Ok(Some(Request::Value { file, goods, limit }))
-}
-
-fn find_normalise_request<'a>(given: &ArgMatches<'a>, file: &'a str) -> Option<Request<'a>> {
-    let limit = given.get_one::<u64>(STEPS)?;
-    Some(Request::Normalise { file, limit })
-}
-
-fn find_compare_request<'a>(given: &ArgMatches<'a>, first: &'a str) -> Option<Request<'a>> {
-    let limit = given.get_one::<u64>(STEPS)?;
-    let second = given.get_str(SECOND_FILE)?;
-    Some(Request::Compare {
-        first,
-        second,
-        limit,
-    })
-}
-
-fn find_duplicates_request<'a>(
-    alloc: Global,
-    given: &ArgMatches<'a>,
-) -> Result<Option<Request<'a>>, AllocError> {
-    let (Some(limit), Some(files)) = (given.get_one::<u64>(STEPS), given.get_strs(FILE)) else {
-        return Ok(None);
-    };
-    Ok(Some(Request::Duplicates {
-        files: Vec::from_slice(alloc, files)?,
-        limit,
-        progress: given.get_flag(PROGRESS),
-    }))
-}
-
-fn cats_command<'a>(alloc: Global) -> Result<Command<'a>, AllocError> {
+pub(crate) fn cats_command<'a>(alloc: Global) -> Result<Command<'a>, AllocError> {
     Command::new(alloc, "cats")
         .about("Reads auction bid files in the format of CATS 2.0")
         .version(help::VERSION)

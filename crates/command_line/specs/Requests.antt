@@ -1,0 +1,29 @@
+-- The subcommand of a request, where it stands in the command line, and the kinds of an answer that is no request.
+use Rattle.std.specs.Prelude.{◌≡◌, ℕ, Bool, true, false, List, ◌∷◌, codes}
+use Rattle.std.specs.Borrow.{Bor}
+use Rattle.command_line.specs.declared.request.NoRequest.{NoRequest}
+use Rattle.command_line.specs.declared.request.NoRequest.TheVariants.{WrongUsage, NoMemory}
+use Rattle.command_line.specs.declared.request.Request.{Request}
+use Rattle.command_line.specs.declared.request.Request.TheVariants.{Check, Show, Value, Normalise, Compare, Duplicates}
+
+-- the word for which a request stands
+abbrev pub name_of : Request → List ℕ
+name_of (Check file) = codes "check"
+name_of (Show file) = codes "show"
+name_of (Value file goods limit) = codes "value"
+name_of (Normalise file limit) = codes "normalise"
+name_of (Compare first second limit) = codes "compare"
+name_of (Duplicates files limit progress) = codes "duplicates"
+
+-- the word behind the program's name is the request's
+abbrev pub IsNamedIn : List (Bor (List ℕ)) → Request → Type 0
+IsNamedIn (program ∷ (word ∷ words)) request = word.now ≡ name_of request
+IsNamedIn words request = ⊥
+
+abbrev pub is_wrong_usage : NoRequest → Bool
+is_wrong_usage (WrongUsage text) = true
+is_wrong_usage told = false
+
+abbrev pub is_no_memory : NoRequest → Bool
+is_no_memory (NoMemory text) = true
+is_no_memory told = false

@@ -1,0 +1,12 @@
+//! What a command line of `cats` asks for. `clap` reads it; no type and no clause that a caller sees names it.
+#![tactic(auto)]
+
+mod commands;
+mod help;
+mod parser;
+mod request;
+#[cfg(test)]
+mod tests;
+
+pub use parser::parse;
+pub use request::{NoRequest, Request};

@@ -1,0 +1,42 @@
+//! What a command line asks for, or why it asks for nothing.
+
+/// What a command line asks for: its subcommand, with the words and numbers behind it.
+#[derive(Debug, Drop)]
+pub enum Request<'a> {
+    Check {
+        file: &'a str,
+    },
+    Show {
+        file: &'a str,
+    },
+    Value {
+        file: &'a str,
+        goods: Vec<u16>,
+        limit: u64,
+    },
+    Normalise {
+        file: &'a str,
+        limit: u64,
+    },
+    Compare {
+        first: &'a str,
+        second: &'a str,
+        limit: u64,
+    },
+    Duplicates {
+        files: Vec<&'a str>,
+        limit: u64,
+        progress: bool,
+    },
+}
+
+/// Why a command line asks for no run. Each has its text, which is empty where memory for it was refused.
+#[derive(Debug, Drop)]
+pub enum NoRequest {
+    /// It asks for help or the version: this text, for standard output.
+    Help(String),
+    /// It is wrong: this says where, for standard error.
+    WrongUsage(String),
+    /// Memory was refused: this says so, for standard error.
+    NoMemory(String),
+}

@@ -1,0 +1,84 @@
+//! What no clause says of command lines: the files, goods and limits that they ask for, and what `clap` tells.
+
+use crate::{NoRequest, parse};
+use std::test::Fail;
+
+/// Command lines, and what they ask for.
+static REQUESTS: [(&[&str], &str); 10] = [
+    (&["cats", "check", "a"], "Check { file: \"a\" }"),
+    (&["cats", "show", "a"], "Show { file: \"a\" }"),
+    (
+        &["cats", "value", "a"],
+        "Value { file: \"a\", goods: [], limit: 1000000 }",
+    ),
+    (
+        &["cats", "value", "a", "3", "+4", "--steps", "7"],
+        "Value { file: \"a\", goods: [3, 4], limit: 7 }",
+    ),
+    (
+        &["cats", "normalise", "a"],
+        "Normalise { file: \"a\", limit: 1000000 }",
+    ),
+    (
+        &["cats", "normalise", "--steps=1000000000", "a"],
+        "Normalise { file: \"a\", limit: 1000000000 }",
+    ),
+    (
+        &["cats", "compare", "a", "b"],
+        "Compare { first: \"a\", second: \"b\", limit: 1000000 }",
+    ),
+    (
+        &["cats", "compare", "--steps", "1", "a", "b"],
+        "Compare { first: \"a\", second: \"b\", limit: 1 }",
+    ),
+    (
+        &["cats", "duplicates", "a", "b", "a"],
+        "Duplicates { files: [\"a\", \"b\", \"a\"], limit: 1000000, progress: false }",
+    ),
+    (
+        &["cats", "duplicates", "--progress", "a", "b", "--steps=9"],
+        "Duplicates { files: [\"a\", \"b\"], limit: 9, progress: true }",
+    ),
+];
+
+#[test]
+fn requests(rt: HostRuntime) -> Result<(), Fail> {
+    for (words, asked) in &REQUESTS {
+        let request = parse(rt.alloc(), words)?;
+        let text = format!(in rt.alloc(); "{request:?}")?;
+        assert!(rt; text.as_str() == *asked, "of {words:?}: {request:?}");
+    }
+    Ok(())
+}
+
+#[test]
+fn help_and_version(rt: HostRuntime) {
+    let alloc = rt.alloc();
+    let help = parse(alloc, &["cats", "help", "check"]);
+    let is_help = matches!(&help, Err(NoRequest::Help(text)) if text.contains("Usage: cats check"));
+    assert!(rt; is_help, "{help:?}");
+    let version = parse(alloc, &["cats", "--version"]);
+    let is_version =
+        matches!(&version, Err(NoRequest::Help(text)) if text.as_str() == "cats 0.1.0\n");
+    assert!(rt; is_version, "{version:?}");
+}
+
+/// Command lines that ask for nothing that the program does.
+static WRONG_LINES: [&[&str]; 7] = [
+    &[],
+    &["cats"],
+    &["cats", "check"],
+    &["cats", "Check", "a"],
+    &["cats", "value", "--steps", "0", "a"],
+    &["cats", "value", "a", "65536"],
+    &["cats", "duplicates", "a"],
+];
+
+#[test]
+fn wrong_usage(rt: HostRuntime) {
+    for words in &WRONG_LINES {
+        let answer = parse(rt.alloc(), words);
+        let is_wrong = matches!(&answer, Err(NoRequest::WrongUsage(text)) if !text.is_empty());
+        assert!(rt; is_wrong, "of {words:?}: {answer:?}");
+    }
+}
