@@ -10,9 +10,6 @@ use crate::bid::{Bid, BidFile};
 use itoa::{Buffer, Integer};
 use std::alloc::{AllocError, Global};
 
-#[cfg(test)]
-mod tests;
-
 /// Millionths in a whole.
 const MILLION: u32 = 1_000_000;
 

@@ -14,8 +14,6 @@ mod reader;
 mod scanner;
 mod slots;
 mod stream;
-#[cfg(test)]
-mod tests;
 mod word;
 pub mod worked;
 

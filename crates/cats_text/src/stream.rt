@@ -15,9 +15,6 @@ use std::alloc::Global;
 use std::io;
 use std::io::{ErrorKind, Read, Write};
 
-#[cfg(test)]
-mod tests;
-
 /// A reader, or a writer, that remembers whether it failed and whether it ended.
 ///
 /// It fails with the first call that answers an error of any kind, `Interrupted` too, and with the first write that

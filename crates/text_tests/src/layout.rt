@@ -3,8 +3,7 @@
 ghost use Rattle.std.specs.Prelude.{◌≡◌, ◌≤◌, List, [], ◌∷◌, IfOk, None};
 ghost use Rattle.cats_text.specs.Files.{PlainBid, IsBidFile, plain_bid, plain_bids};
 
-use super::{push_bid, push_header, push_price, write};
-use crate::bid::{Bid, BidFile};
+use cats_text::{Bid, BidFile, push_bid, push_header, push_price, write};
 use std::alloc::{AllocError, Global};
 use std::test::Fail;
 
@@ -22,6 +21,7 @@ fn bid(alloc: Global, price: u64, goods: &[u16], dummy: Option<u32>) -> Result<B
 #[test]
 fn minimal_file(rt: HostRuntime) -> Result<(), Fail> {
     let file = BidFile::new(0, 0, Vec::new(rt.alloc()));
+    assert_eq!(rt; (file.goods(), file.bids().len(), file.dummy()), (0, 0, 0));
     let text = write(rt.alloc(), &file)?;
     assert_eq!(rt; text.as_slice(), b"goods 0\nbids 0\ndummy 0\n".as_slice());
     Ok(())

@@ -1,7 +1,7 @@
 //! Words of a million bytes.
 
 use super::{fault, fault_of, many, written};
-use crate::fault::Kind;
+use cats_text::Kind;
 use std::alloc::{AllocError, Global};
 use std::test::Fail;
 

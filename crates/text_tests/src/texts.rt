@@ -7,11 +7,7 @@ mod long_words;
 mod pieces;
 mod whole_files;
 
-use crate::bid::BidFile;
-use crate::fault::{Kind, ReadFault};
-use crate::layout::write;
-use crate::limits::MAX_STREAM;
-use crate::reader::{Reader, read};
+use cats_text::{BidFile, Kind, MAX_STREAM, ReadFault, Reader, read, write};
 use std::alloc::{AllocError, Global};
 use std::process::Abort;
 use std::test::Fail;

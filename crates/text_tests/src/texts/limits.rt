@@ -1,7 +1,7 @@
 //! The greatest sizes, and files of many bids.
 
 use super::{fault, fault_of, joined, sizes, written};
-use crate::fault::Kind;
+use cats_text::Kind;
 use std::alloc::{AllocError, Global};
 use std::process::Abort;
 use std::test::Fail;

@@ -1,10 +1,7 @@
 ghost use Rattle.std.specs.Prelude.{◌≡◌, false};
 ghost use Rattle.cats_text.specs.Streams.{has_ended, has_failed};
 
-use super::{Watched, read_from, send};
-use crate::bid::BidFile;
-use crate::fault::{Kind, ReadFault, SendFault};
-use crate::limits::MAX_STREAM;
+use cats_text::{BidFile, Kind, MAX_STREAM, ReadFault, SendFault, Watched, read_from, send};
 use std::alloc::Global;
 use std::io;
 use std::io::{ErrorKind, Read, Write};

@@ -1,7 +1,7 @@
 //! Texts that are refused, and their first faults.
 
 use super::{assert_faults, assert_outcome, joined};
-use crate::fault::{Kind, ReadFault, SendFault};
+use cats_text::{Kind, ReadFault, SendFault};
 use std::alloc::{AllocError, Global};
 use std::process::Abort;
 use std::test::Fail;

@@ -4,9 +4,7 @@ ghost use Rattle.std.specs.Prelude.{◌<◌, ◌^◌};
 
 use super::whole_files::CATS;
 use super::{fault, fault_of, many, outcome_of_bytes};
-use crate::fault::{Kind, ReadFault};
-use crate::limits::MAX_STREAM;
-use crate::reader::Reader;
+use cats_text::{Kind, MAX_STREAM, ReadFault, Reader};
 use std::alloc::{AllocError, Global};
 use std::test::Fail;
 
@@ -33,7 +31,10 @@ fn first_bytes_of_a_file(rt: HostRuntime) -> Result<(), Fail> {
     for (least, greatest, want) in &FIRST_BYTES {
         for count in *least..=*greatest {
             let text = CATS.get(..count).ok_or("too short")?;
-            let want = want.and_then(|(line, kind)| fault(line, kind));
+            let want = match want {
+                Some((line, kind)) => fault(*line, *kind),
+                None => None,
+            };
             assert_eq!(rt; fault_of(rt.alloc(), text), want, "{count} bytes");
             let told = outcome_of_bytes(rt.alloc(), text)?.err();
             assert_eq!(rt; told, want, "{count} bytes");

@@ -1,11 +1,7 @@
 //! Files that are accepted, and what is written of them.
 
-use super::{assert_written, sizes, written};
-use crate::bid::BidFile;
-use crate::layout::write;
-use crate::limits::MAX_STREAM;
-use crate::reader::{Reader, read};
-use crate::stream::{Watched, read_from, send};
+use super::{assert_written, sizes};
+use cats_text::{MAX_STREAM, Reader, Watched, read, read_from, send};
 use std::test::Fail;
 
 /// Another text of the file "goods 2, bids 1, dummy 0, bid 0 of price 5 on the goods 0 and 1".
@@ -110,37 +106,44 @@ fn sizes_of_accepted_texts(rt: HostRuntime) -> Result<(), Fail> {
     Ok(())
 }
 
+/// The bids of `CATS`: their prices, goods and dummy goods.
+static BIDS: [(u64, &[u16], Option<u32>); 2] = [
+    (20_000_000, &[0, 2], Some(0)),
+    (7_000_000, &[1], None),
+];
+
 #[test]
 fn bids_as_values(rt: HostRuntime) -> Result<(), Fail> {
     let file = read(rt.alloc(), CATS)?;
-    let bids = file.bids();
-    assert_eq!(rt; bids.len(), 2);
-    assert_eq!(rt; bids[0].price, 20_000_000);
-    assert_eq!(rt; bids[0].goods.as_slice(), [0, 2].as_slice());
-    assert_eq!(rt; bids[0].dummy, Some(0));
-    assert_eq!(rt; bids[1].price, 7_000_000);
-    assert_eq!(rt; bids[1].goods.as_slice(), [1].as_slice());
-    assert_eq!(rt; bids[1].dummy, None);
+    assert_eq!(rt; file.bids().len(), BIDS.len());
+    for (bid, want) in file.bids().iter().zip(&BIDS) {
+        assert_eq!(rt; (bid.price, bid.goods.as_slice(), bid.dummy), *want);
+    }
     Ok(())
 }
 
 #[test]
-fn each_call_succeeds_with_memory(rt: HostRuntime) -> Result<(), Fail> {
-    let minimal = b"goods 0\nbids 0\ndummy 0\n";
-    let file = BidFile::new(0, 0, Vec::new(rt.alloc()));
-    assert_eq!(rt; (file.goods(), file.bids().len(), file.dummy()), (0, 0, 0));
-    assert_eq!(rt; write(rt.alloc(), &file)?.as_slice(), minimal.as_slice());
-    assert_eq!(rt; written(rt.alloc(), LENIENT)?.len(), 33);
+fn pieces_are_read(rt: HostRuntime) -> Result<(), Fail> {
     let mut reader = Reader::new(rt.alloc(), MAX_STREAM);
     reader.feed(CATS)?;
     assert_eq!(rt; reader.finish()?.into_bids().len(), 2);
+    Ok(())
+}
+
+#[test]
+fn bytes_are_read(rt: HostRuntime) -> Result<(), Fail> {
     let mut input = Watched::new(CATS);
-    assert_eq!(rt; read_from(rt.alloc(), &mut input)?.bids().len(), 2);
-    assert!(rt; input.ended());
-    assert!(rt; !input.failed());
+    let file = read_from(rt.alloc(), &mut input)?;
+    let told = (file.bids().len(), input.ended(), input.failed());
+    assert_eq!(rt; told, (2, true, false));
     assert!(rt; input.into_inner().is_empty());
+    Ok(())
+}
+
+#[test]
+fn bytes_are_sent(rt: HostRuntime) -> Result<(), Fail> {
     let mut out = Watched::new(Vec::new(rt.alloc()));
-    send(&mut out, minimal)?;
-    assert_eq!(rt; out.into_inner().as_slice(), minimal.as_slice());
+    send(&mut out, CATS)?;
+    assert_eq!(rt; out.into_inner().as_slice(), CATS);
     Ok(())
 }
