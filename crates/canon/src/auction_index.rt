@@ -19,9 +19,6 @@ use std::collections::HashMap;
 use std::io::Read;
 use std::marker::Model;
 
-#[cfg(test)]
-mod tests;
-
 /// The auctions of the files that were added. It keeps one canonical text for each auction, and finds one by its hash; whether two
 /// are equal is decided on the whole texts. The files themselves are given up.
 #[derive(Drop)]

@@ -22,9 +22,6 @@ use crate::which::Which;
 use cats_text::{Bid, BidFile, read};
 use std::alloc::{AllocError, Global};
 
-#[cfg(test)]
-mod tests;
-
 /// Where the auctions of two texts' files part first. The first text is read and made canonical, and what was read of it given up,
 /// before the second is read; `limit` bounds each search that decides on a bundle of an OR bidder.
 pub fn compare(

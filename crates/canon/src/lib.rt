@@ -13,8 +13,6 @@ mod file;
 pub mod laws;
 mod parting;
 mod place_laws;
-#[cfg(test)]
-mod tests;
 mod text;
 mod verdict;
 mod which;

@@ -14,9 +14,6 @@ ghost use Rattle.canon.specs.BidderBids.{offers, AreBidsOf, HasBidders, IsFirstB
 ghost use Rattle.canon.specs.Difference.{least_unequal_bidder, xor_difference};
 ghost use Rattle.canon.specs.Verdicts.{NamesGoods, plain_verdict, told_atoms};
 
-#[cfg(test)]
-mod tests;
-
 use crate::bid_order::order_of_bids;
 use crate::verdict::Verdict;
 use cats_text::Bid;

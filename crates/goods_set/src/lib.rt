@@ -14,6 +14,3 @@ pub use list_set::ListSet;
 pub use listing::goods_of;
 pub use set::GoodsSet;
 pub use word_set::WordSet;
-
-#[cfg(test)]
-mod tests;

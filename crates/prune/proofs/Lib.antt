@@ -5,4 +5,3 @@ pub mod CodeLevels
 pub mod Listed
 pub mod Results
 pub mod Turns
-pub mod PlainPoints

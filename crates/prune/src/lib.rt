@@ -6,11 +6,7 @@ mod fault;
 mod kept;
 mod laws;
 mod or;
-#[cfg(test)]
-mod plain;
 mod search;
-#[cfg(test)]
-mod tests;
 mod worked;
 mod xor;
 

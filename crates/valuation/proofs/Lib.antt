@@ -3,5 +3,4 @@ pub mod PlaceMarks
 pub mod MarkedLevels
 pub mod Scans
 pub mod Placing
-pub mod Choosing
 mod Comparing

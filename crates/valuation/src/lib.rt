@@ -11,11 +11,7 @@ mod marked;
 mod marks;
 mod order;
 mod packing;
-#[cfg(test)]
-mod plain;
 mod search;
-#[cfg(test)]
-mod tests;
 pub mod worked;
 mod xor;
 

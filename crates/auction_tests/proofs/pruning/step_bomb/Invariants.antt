@@ -1,0 +1,11 @@
+use Rattle.std.proofs.Common.{All}
+use Rattle.cats_text.specs.declared.limits.TheConstants.{MAX_GOODS}
+use Rattle.valuation.specs.Auctions.{IsAtom}
+use Rattle.valuation.specs.Values.{atoms_of}
+use Rattle.auction_tests.proofs.pruning.step_bomb.Given as goal
+
+abbrev pub invariant-loop-good : goal.invariant-loop-good
+invariant-loop-good g l = All (IsAtom MAX_GOODS) (atoms_of g.S.GoodsSet.goods l.bids.items)
+
+abbrev pub invariant-loop-good-2 : goal.invariant-loop-good-2
+invariant-loop-good-2 g l = All (IsAtom MAX_GOODS) (atoms_of g.S.GoodsSet.goods l.bids.items)

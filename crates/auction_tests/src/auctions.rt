@@ -1,0 +1,115 @@
+//! Auctions of files, and the orders of atoms and bidders, on both kinds of sets.
+
+use crate::bids::{Offer, UNIT, atoms_on, bundle_of};
+use cats_text::{Bid, BidFile};
+use goods_set::{GoodsSet, ListSet, WordSet};
+use std::alloc::Global;
+use std::cmp::Ordering;
+use std::process::Abort;
+use std::test::Fail;
+use valuation::{Atom, Auction, auction_of, compare_atoms, compare_bidders, into_auction};
+
+// Three goods and two dummy goods: a bid with the first dummy good, then one without.
+fn small_file(alloc: Global) -> Result<BidFile, Fail> {
+    let pair = vec![in alloc; 0, 2]?;
+    let single = vec![in alloc; 1]?;
+    let mut bids = Vec::new(alloc);
+    bids.push(Bid {
+        price: 20 * UNIT,
+        goods: pair,
+        dummy: Some(0),
+    })?;
+    bids.push(Bid {
+        price: 7 * UNIT,
+        goods: single,
+        dummy: None,
+    })?;
+    Ok(BidFile::new(3, 2, bids))
+}
+
+fn expect_atom<S: GoodsSet>(
+    rt: &impl Abort,
+    alloc: Global,
+    atoms: &[Atom<S>],
+    goods: &[u16],
+    price: u64,
+) -> Result<(), Fail> {
+    let bundle = bundle_of::<S>(rt, alloc, goods)?;
+    assert_eq!(rt; atoms.len(), 1);
+    assert_eq!(rt; atoms[0].price, price);
+    assert_eq!(rt; atoms[0].bundle.order(&bundle), Ordering::Equal);
+    Ok(())
+}
+
+fn expect_small_auction<S: GoodsSet>(
+    rt: &impl Abort,
+    alloc: Global,
+    auction: &Auction<S>,
+) -> Result<(), Fail> {
+    assert_eq!(rt; auction.goods(), 3);
+    expect_atom(rt, alloc, auction.or_atoms(), &[1], 7 * UNIT)?;
+    let [one, unused] = auction.xor_bidders() else {
+        panic!(rt; "two dummy goods");
+    };
+    expect_atom(rt, alloc, one, &[0, 2], 20 * UNIT)?;
+    assert!(rt; unused.is_empty());
+    Ok(())
+}
+
+// The bids without a dummy good are the OR bidder's, those with one its bidder's, and an unused one is a bidder without an atom.
+fn auction_of_small_file<S: GoodsSet>(rt: &impl Abort, alloc: Global) -> Result<(), Fail> {
+    let file = small_file(alloc)?;
+    assert!(rt; u32::from(file.goods()) <= S::cap());
+    let auction = auction_of::<S>(alloc, &file)?;
+    expect_small_auction(rt, alloc, &auction)?;
+    let (goods, or_atoms, xor_bidders) = auction.into_parts();
+    expect_small_auction(rt, alloc, &Auction::new(goods, or_atoms, xor_bidders))?;
+    expect_small_auction(rt, alloc, &into_auction::<S>(alloc, file)?)
+}
+
+#[test]
+fn auctions_of_files(rt: HostRuntime) -> Result<(), Fail> {
+    auction_of_small_file::<ListSet>(&rt, rt.alloc())?;
+    auction_of_small_file::<WordSet<64>>(&rt, rt.alloc())
+}
+
+// Each bidder comes before those that stand behind it.
+static BIDDERS: [&[Offer]; 5] = [
+    &[],
+    &[(&[0], 9)],
+    &[(&[0], 9), (&[1], 8)],
+    &[(&[1], 8)],
+    &[(&[0, 1], 1)],
+];
+
+fn bidders_in_order<S: GoodsSet>(rt: &impl Abort, alloc: Global) -> Result<(), Fail> {
+    for (i, some) in BIDDERS.iter().enumerate() {
+        let one = atoms_on::<S>(rt, alloc, some)?;
+        for (j, others) in BIDDERS.iter().enumerate() {
+            let other = atoms_on::<S>(rt, alloc, others)?;
+            assert_eq!(rt; compare_bidders(&one, &other), i.cmp(&j), "{i} and {j}");
+        }
+    }
+    Ok(())
+}
+
+// So does each atom.
+static ATOMS: [Offer; 3] = [(&[1], 8), (&[1], 9), (&[0, 1], 1)];
+
+fn atoms_in_order<S: GoodsSet>(rt: &impl Abort, alloc: Global) -> Result<(), Fail> {
+    let atoms = atoms_on::<S>(rt, alloc, &ATOMS)?;
+    for (i, one) in atoms.iter().enumerate() {
+        for (j, other) in atoms.iter().enumerate() {
+            assert_eq!(rt; compare_atoms(one, other), i.cmp(&j), "{i} and {j}");
+        }
+    }
+    Ok(())
+}
+
+#[test]
+fn orders_on_both_sets(rt: HostRuntime) -> Result<(), Fail> {
+    bidders_in_order::<ListSet>(&rt, rt.alloc())?;
+    bidders_in_order::<WordSet<16>>(&rt, rt.alloc())?;
+    atoms_in_order::<ListSet>(&rt, rt.alloc())?;
+    atoms_in_order::<WordSet<16>>(&rt, rt.alloc())
+}

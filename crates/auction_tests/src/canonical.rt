@@ -1,0 +1,108 @@
+//! Each public call once, with ample memory, on worked rows.
+
+use canon::{
+    CanonFault, canonical, file_of, into_normal_file, normal_file, normal_text, normalise,
+};
+use cats_text::{BidFile, read, write};
+use goods_set::{GoodsSet, ListSet, WordSet};
+use std::alloc::Global;
+use std::process::Abort;
+use std::test::Fail;
+use valuation::{Auction, auction_of};
+
+const EQUAL_BIDDERS: &str =
+    "goods 2\nbids 5\ndummy 2\n0\t1\t0\t2\t#\n1\t2\t0\t1\t2\t#\n2\t1\t0\t3\t#\n3\t1\t0\t1\t3\t#\n4\t2\t0\t1\t3\t#\n";
+
+const EQUAL_BIDDERS_TEXT: &str =
+    "goods 2\nbids 4\ndummy 2\n0\t1\t0\t2\t#\n1\t2\t0\t1\t2\t#\n2\t1\t0\t3\t#\n3\t2\t0\t1\t3\t#\n";
+
+const LARGER_BID: &str = "goods 2\nbids 3\ndummy 0\n0\t3\t0\t#\n1\t4\t1\t#\n2\t7\t0\t1\t#\n";
+
+const LARGER_BID_TEXT: &str = "goods 2\nbids 2\ndummy 0\n0\t3\t0\t#\n1\t4\t1\t#\n";
+
+/// The bytes of a file, as a text.
+fn text_of(alloc: Global, file: &BidFile) -> Result<String, Fail> {
+    Ok(String::from_utf8(write(alloc, file)?)?)
+}
+
+/// The canonical auction of a file's auction, on this kind of sets.
+fn canonical_on<S: GoodsSet>(alloc: Global, auction: Auction<S>) -> Result<String, Fail> {
+    match canonical(alloc, auction, 100) {
+        Ok(auction) => text_of(alloc, &file_of(alloc, &auction)?),
+        Err(_) => Ok(String::from_str(alloc, "refused")?),
+    }
+}
+
+#[test]
+fn canonical_auctions(rt: HostRuntime) -> Result<(), Fail> {
+    for (text, expected) in &[
+        (EQUAL_BIDDERS, EQUAL_BIDDERS_TEXT),
+        (LARGER_BID, LARGER_BID_TEXT),
+    ] {
+        let file = read(rt.alloc(), text.as_bytes())?;
+        assert!(rt; file.goods() <= 64);
+        let words: Auction<WordSet<1>> = auction_of(rt.alloc(), &file)?;
+        let lists: Auction<ListSet> = auction_of(rt.alloc(), &file)?;
+        assert_eq!(rt; canonical_on(rt.alloc(), words)?.as_str(), *expected);
+        assert_eq!(rt; canonical_on(rt.alloc(), lists)?.as_str(), *expected);
+    }
+    Ok(())
+}
+
+#[test]
+fn files_of_auctions(rt: HostRuntime) -> Result<(), Fail> {
+    for text in &[EQUAL_BIDDERS_TEXT, LARGER_BID] {
+        let file = read(rt.alloc(), text.as_bytes())?;
+        assert!(rt; file.goods() <= 1024);
+        let auction: Auction<WordSet<16>> = auction_of(rt.alloc(), &file)?;
+        let again = file_of(rt.alloc(), &auction)?;
+        assert_eq!(rt; text_of(rt.alloc(), &again)?.as_str(), *text);
+    }
+    Ok(())
+}
+
+/// What a call answered, as a line.
+fn told(alloc: Global, answer: Result<Vec<u8>, CanonFault>) -> Result<String, Fail> {
+    match answer {
+        Ok(text) => Ok(String::from_utf8(text)?),
+        Err(CanonFault::Read(fault)) => Ok(format!(in alloc; "{fault}")?),
+        Err(CanonFault::StepLimit { goods }) => Ok(format!(in alloc; "steps {goods:?}")?),
+        Err(CanonFault::Memory) => Ok(String::from_str(alloc, "memory")?),
+    }
+}
+
+#[test]
+fn canonical_texts(rt: HostRuntime) -> Result<(), Fail> {
+    for (text, limit, expected) in &[
+        (EQUAL_BIDDERS, 1, EQUAL_BIDDERS_TEXT),
+        (LARGER_BID, 3, LARGER_BID_TEXT),
+        (LARGER_BID, 2, "steps [0, 1]"),
+        ("goods 2\n", 2, "line 2: Missing"),
+    ] {
+        let answer = normalise(rt.alloc(), text.as_bytes(), *limit);
+        assert_eq!(rt; told(rt.alloc(), answer)?.as_str(), *expected);
+    }
+    Ok(())
+}
+
+#[test]
+fn canonical_files(rt: HostRuntime) -> Result<(), Fail> {
+    let file = read(rt.alloc(), LARGER_BID.as_bytes())?;
+    match normal_file(rt.alloc(), &file, 3) {
+        Ok(normal) => {
+            assert_eq!(rt; text_of(rt.alloc(), &normal)?.as_str(), LARGER_BID_TEXT);
+        }
+        Err(_) => assert!(rt; false),
+    }
+    assert_eq!(rt; normal_file(rt.alloc(), &file, 2).is_err(), true);
+    let answer = normal_text(rt.alloc(), file, 3);
+    assert_eq!(rt; told(rt.alloc(), answer)?.as_str(), LARGER_BID_TEXT);
+    let given_up = read(rt.alloc(), LARGER_BID.as_bytes())?;
+    match into_normal_file(rt.alloc(), given_up, 3) {
+        Ok(normal) => {
+            assert_eq!(rt; text_of(rt.alloc(), &normal)?.as_str(), LARGER_BID_TEXT);
+        }
+        Err(_) => assert!(rt; false),
+    }
+    Ok(())
+}

@@ -1,0 +1,156 @@
+//! Comparisons on worked rows. Texts have prices in units, verdicts in millionths.
+
+use canon::{CanonFault, Verdict, Which, compare, compare_files, normal_file};
+use cats_text::read;
+use std::alloc::Global;
+use std::test::Fail;
+
+const TWICE: &str =
+    "goods 2\nbids 4\ndummy 2\n0\t1\t0\t2\t#\n1\t2\t0\t1\t2\t#\n2\t1\t0\t3\t#\n3\t2\t0\t1\t3\t#\n";
+
+const ONCE: &str = "goods 2\nbids 2\ndummy 1\n0\t1\t0\t2\t#\n1\t2\t0\t1\t2\t#\n";
+
+const SINGLES: &str = "goods 2\nbids 2\ndummy 0\n0\t3\t0\t#\n1\t4\t1\t#\n";
+
+const SINGLES_OF_XOR: &str = "goods 2\nbids 2\ndummy 1\n0\t3\t0\t2\t#\n1\t4\t1\t2\t#\n";
+
+const PAIR_AT_7: &str = "goods 2\nbids 3\ndummy 0\n0\t3\t0\t#\n1\t4\t1\t#\n2\t7\t0\t1\t#\n";
+
+const PAIR_AT_8: &str = "goods 2\nbids 3\ndummy 0\n0\t3\t0\t#\n1\t4\t1\t#\n2\t8\t0\t1\t#\n";
+
+const ONE_EACH: &str = "goods 2\nbids 2\ndummy 0\n0\t1\t0\t#\n1\t1\t1\t#\n";
+
+const ONE_AND_PAIR: &str = "goods 2\nbids 2\ndummy 0\n0\t1\t0\t#\n1\t9\t0\t1\t#\n";
+
+/// One bidder: 1 for the good 0.
+const ONE: &str = "goods 2\nbids 1\ndummy 1\n0\t1\t0\t2\t#\n";
+
+/// The same bidder, and one that bids 2 for the good 1.
+const ONE_OTHER: &str = "goods 2\nbids 2\ndummy 2\n0\t1\t0\t2\t#\n1\t2\t1\t3\t#\n";
+
+const ONE_ONE_OTHER: &str =
+    "goods 2\nbids 3\ndummy 3\n0\t1\t0\t2\t#\n1\t1\t0\t3\t#\n2\t2\t1\t4\t#\n";
+
+const ONE_OTHER_OTHER: &str =
+    "goods 2\nbids 3\ndummy 3\n0\t1\t0\t2\t#\n1\t2\t1\t3\t#\n2\t2\t1\t4\t#\n";
+
+/// Pairs of texts, and how they part.
+static ROWS: [(&str, &str, &str); 13] = [
+    (TWICE, TWICE, "Same"),
+    (
+        TWICE,
+        ONCE,
+        "Xor { bidder: [([0], 1000000), ([0, 1], 2000000)], left: 2, right: 1 }",
+    ),
+    (
+        SINGLES,
+        SINGLES_OF_XOR,
+        "Or { bundle: [0], left: Exactly(3000000), right: Below(3000000) }",
+    ),
+    (
+        SINGLES_OF_XOR,
+        SINGLES,
+        "Or { bundle: [0], left: Below(3000000), right: Exactly(3000000) }",
+    ),
+    (PAIR_AT_7, SINGLES, "Same"),
+    (
+        PAIR_AT_8,
+        SINGLES,
+        "Or { bundle: [0, 1], left: Exactly(8000000), right: Below(8000000) }",
+    ),
+    (
+        ONE_EACH,
+        ONE_AND_PAIR,
+        "Or { bundle: [1], left: Exactly(1000000), right: Below(1000000) }",
+    ),
+    (
+        "goods 1\nbids 1\ndummy 0\n0\t0.5\t0\t#\n",
+        "goods 1\nbids 1\ndummy 0\n0\t0.500000\t0\t#\n",
+        "Same",
+    ),
+    (ONCE, "goods 3\nbids 0\ndummy 0\n", "Goods(2, 3)"),
+    (ONE_OTHER, ONE_OTHER, "Same"),
+    (
+        ONE_ONE_OTHER,
+        ONE_OTHER_OTHER,
+        "Xor { bidder: [([0], 1000000)], left: 2, right: 1 }",
+    ),
+    (
+        ONE,
+        ONE_OTHER_OTHER,
+        "Xor { bidder: [([1], 2000000)], left: 0, right: 2 }",
+    ),
+    (
+        ONE_OTHER,
+        ONE,
+        "Xor { bidder: [([1], 2000000)], left: 1, right: 0 }",
+    ),
+];
+
+/// What comparing answered, as a line.
+fn told(alloc: Global, answer: Result<Verdict, (Which, CanonFault)>) -> Result<String, Fail> {
+    match answer {
+        Ok(verdict) => Ok(format!(in alloc; "{verdict:?}")?),
+        Err((which, CanonFault::Read(fault))) => Ok(format!(in alloc; "{which:?} {fault}")?),
+        Err((which, CanonFault::StepLimit { goods })) => {
+            Ok(format!(in alloc; "{which:?} steps {goods:?}")?)
+        }
+        Err((which, CanonFault::Memory)) => Ok(format!(in alloc; "{which:?} memory")?),
+    }
+}
+
+#[test]
+fn texts_part(rt: HostRuntime) -> Result<(), Fail> {
+    for (left, right, expected) in &ROWS {
+        let answer = compare(rt.alloc(), left.as_bytes(), right.as_bytes(), 100);
+        assert_eq!(rt; told(rt.alloc(), answer)?.as_str(), *expected);
+    }
+    Ok(())
+}
+
+#[test]
+fn canonical_files_part(rt: HostRuntime) -> Result<(), Fail> {
+    for (left, right, expected) in &ROWS {
+        let one = read(rt.alloc(), left.as_bytes())?;
+        let one = normal_file(rt.alloc(), &one, 100)?;
+        let other = read(rt.alloc(), right.as_bytes())?;
+        let other = normal_file(rt.alloc(), &other, 100)?;
+        let verdict = compare_files(rt.alloc(), &one, &other)?;
+        let line = format!(in rt.alloc(); "{verdict:?}")?;
+        assert_eq!(rt; line.as_str(), *expected);
+    }
+    Ok(())
+}
+
+#[test]
+fn the_first_refusal_is_told(rt: HostRuntime) -> Result<(), Fail> {
+    let fault = "goods 2\n";
+    let heavy = PAIR_AT_7;
+    for (left, right, expected) in &[
+        (fault, "goods x\n", "First line 2: Missing"),
+        (fault, heavy, "First line 2: Missing"),
+        (fault, SINGLES, "First line 2: Missing"),
+        (heavy, fault, "First steps [0, 1]"),
+        (heavy, PAIR_AT_8, "First steps [0, 1]"),
+        (heavy, SINGLES, "First steps [0, 1]"),
+        (SINGLES, fault, "Second line 2: Missing"),
+        (SINGLES, heavy, "Second steps [0, 1]"),
+        (SINGLES, SINGLES, "Same"),
+    ] {
+        let answer = compare(rt.alloc(), left.as_bytes(), right.as_bytes(), 2);
+        assert_eq!(rt; told(rt.alloc(), answer)?.as_str(), *expected);
+    }
+    Ok(())
+}
+
+/// Goods that differ are told only of files that both have a canonical file.
+#[test]
+fn a_heavy_bundle_comes_before_goods(rt: HostRuntime) -> Result<(), Fail> {
+    let few = "goods 1024\nbids 3\ndummy 0\n0\t3\t0\t#\n1\t4\t1\t#\n2\t7\t0\t1\t#\n";
+    let many = "goods 4096\nbids 0\ndummy 0\n";
+    for (limit, expected) in &[(2, "First steps [0, 1]"), (3, "Goods(1024, 4096)")] {
+        let answer = compare(rt.alloc(), few.as_bytes(), many.as_bytes(), *limit);
+        assert_eq!(rt; told(rt.alloc(), answer)?.as_str(), *expected);
+    }
+    Ok(())
+}

@@ -1,0 +1,24 @@
+//! Tests of `goods_set`, `valuation`, `prune` and `canon`, on worked rows and beside slow programs. They stand in a crate
+//! of their own, since a crate's functions are proved with its tests once more.
+#![tactic(auto)]
+
+#[cfg(test)]
+mod auctions;
+#[cfg(test)]
+mod bids;
+#[cfg(test)]
+mod bundles;
+#[cfg(test)]
+mod canonical;
+#[cfg(test)]
+mod comparisons;
+#[cfg(test)]
+mod places;
+#[cfg(test)]
+mod plain_points;
+#[cfg(test)]
+mod plain_values;
+#[cfg(test)]
+mod pruning;
+#[cfg(test)]
+mod values;

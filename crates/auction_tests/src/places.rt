@@ -1,0 +1,101 @@
+//! Files that are added one by one.
+
+use canon::{AuctionIndex, CanonFault};
+use cats_text::{Watched, read};
+use std::alloc::Global;
+use std::test::Fail;
+
+/// Texts that are added in this order, the steps that a search may take, and what is told: a place, or why there is none.
+static ROWS: [(&str, u64, &str); 14] = [
+    (
+        "goods 2\nbids 3\ndummy 0\n0\t3\t0\t#\n1\t4\t1\t#\n2\t7\t0\t1\t#\n",
+        3,
+        "0",
+    ),
+    ("goods 2\n", 3, "line 2: Missing"),
+    ("goods 2\nbids 0\ndummy 0\n", 3, "1"),
+    (
+        "goods 2\nbids 3\ndummy 0\n0\t3\t0\t#\n1\t4\t1\t#\n2\t7\t0\t1\t#\n",
+        2,
+        "steps [0, 1]",
+    ),
+    // other bids, the same values
+    ("goods 2\nbids 2\ndummy 0\n0\t4\t1\t#\n1\t3\t0\t#\n", 3, "0"),
+    ("% no bids\ngoods 2\nbids 0\ndummy 5\n", 3, "1"),
+    // equal and unequal bidders, and other dummy goods
+    (
+        "goods 2\nbids 3\ndummy 2\n0\t1\t0\t2\t#\n1\t1\t0\t3\t#\n2\t2\t1\t3\t#\n",
+        3,
+        "4",
+    ),
+    (
+        "goods 2\nbids 3\ndummy 3\n0\t2\t1\t2\t#\n1\t1\t0\t2\t#\n2\t1\t0\t4\t#\n",
+        3,
+        "4",
+    ),
+    (
+        "goods 2\nbids 2\ndummy 2\n0\t1\t0\t2\t#\n1\t1\t0\t3\t#\n",
+        3,
+        "6",
+    ),
+    // one price, one good and the number of goods changed
+    (
+        "goods 2\nbids 2\ndummy 0\n0\t4\t1\t#\n1\t3.5\t0\t#\n",
+        3,
+        "7",
+    ),
+    (
+        "goods 2\nbids 2\ndummy 0\n0\t4\t1\t#\n1\t3\t0\t1\t#\n",
+        3,
+        "8",
+    ),
+    ("goods 3\nbids 2\ndummy 0\n0\t4\t1\t#\n1\t3\t0\t#\n", 3, "9"),
+    ("goods 2\nbids 0\ndummy 1\n", 3, "1"),
+    (
+        "goods 2\nbids 2\ndummy 0\n1\t4.0\t1\t#\n0\t3\t0\t#\n",
+        3,
+        "0",
+    ),
+];
+
+/// What was told of a file.
+fn told(alloc: Global, answer: Result<usize, CanonFault>) -> Result<String, Fail> {
+    match answer {
+        Ok(place) => Ok(format!(in alloc; "{place}")?),
+        Err(CanonFault::Read(fault)) => Ok(format!(in alloc; "{fault}")?),
+        Err(CanonFault::StepLimit { goods }) => Ok(format!(in alloc; "steps {goods:?}")?),
+        Err(CanonFault::Memory) => Ok(String::from_str(alloc, "memory")?),
+    }
+}
+
+#[test]
+fn places_of_files(rt: HostRuntime) -> Result<(), Fail> {
+    let mut index = AuctionIndex::new(rt.alloc());
+    for (text, limit, expected) in &ROWS {
+        let answer = match read(rt.alloc(), text.as_bytes()) {
+            Ok(file) => index.add(rt.alloc(), file, *limit),
+            Err(fault) => Err(CanonFault::from(fault)),
+        };
+        assert_eq!(rt;
+            told(rt.alloc(), answer)?.as_str(),
+            *expected,
+            "of {text:?}"
+        );
+    }
+    Ok(())
+}
+
+#[test]
+fn places_of_streams(rt: HostRuntime) -> Result<(), Fail> {
+    let mut index = AuctionIndex::new(rt.alloc());
+    for (text, limit, expected) in &ROWS {
+        let mut input = Watched::new(text.as_bytes());
+        let answer = index.add_from(rt.alloc(), &mut input, *limit);
+        assert_eq!(rt;
+            told(rt.alloc(), answer)?.as_str(),
+            *expected,
+            "of {text:?}"
+        );
+    }
+    Ok(())
+}

@@ -1,0 +1,369 @@
+//! Pruning, on both kinds of sets. Each call is made with ample memory, so that it has to succeed.
+ghost use Rattle.std.specs.Prelude.{All, IfOk};
+ghost use Rattle.cats_text.specs.declared.limits.TheConstants.{MAX_GOODS};
+ghost use Rattle.valuation.specs.Auctions.{IsAtom};
+ghost use Rattle.valuation.specs.Values.{atoms_of};
+
+use crate::bids::{Offer, UNIT, add_atom, atoms_on, bundle_of, next_number};
+use crate::plain_points as plain;
+use cats_text::MAX_GOODS;
+use goods_set::{GoodsSet, ListSet, WordSet};
+use prune::{PruneFault, prune_or, prune_xor};
+use std::alloc::Global;
+use std::cmp::Ordering;
+use std::process::Abort;
+use std::test::Fail;
+use valuation::{Atom, or_value, xor_value};
+
+// A limit that no search of a small example reaches.
+const AMPLE: u64 = 1_000_000;
+
+fn expect_bids<S: GoodsSet>(
+    rt: &impl Abort,
+    alloc: Global,
+    bids: &[Atom<S>],
+    offers: &[Offer],
+) -> Result<(), Fail> {
+    assert_eq!(rt; bids.len(), offers.len());
+    for (bid, (goods, price)) in bids.iter().zip(offers) {
+        let bundle = bundle_of::<S>(rt, alloc, goods)?;
+        assert_eq!(rt; bid.bundle.order(&bundle), Ordering::Equal);
+        assert_eq!(rt; bid.price, *price);
+    }
+    Ok(())
+}
+
+const LADDER: &[Offer] = &[
+    (&[0], 5_000_000),
+    (&[0, 1], 5_000_000),
+    (&[0, 1], 6_000_000),
+];
+
+// Offers, and the points of their XOR bidder.
+static XOR_ROWS: [(&[Offer], &[Offer]); 9] = [
+    (&[], &[]),
+    (&[(&[0], 0)], &[]),
+    (&[(&[0, 1], 5), (&[0], 5)], &[(&[0], 5)]),
+    (&[(&[0], 3), (&[0], 5)], &[(&[0], 5)]),
+    (&[(&[0], 5), (&[0], 3)], &[(&[0], 5)]),
+    (&[(&[0], 5), (&[0], 5)], &[(&[0], 5)]),
+    (
+        &[(&[0, 1], 1), (&[1], 1), (&[0], 1)],
+        &[(&[0], 1), (&[1], 1)],
+    ),
+    (
+        &[(&[0, 1, 2], 2), (&[0, 1], 2), (&[0], 1)],
+        &[(&[0], 1), (&[0, 1], 2)],
+    ),
+    (LADDER, &[(&[0], 5_000_000), (&[0, 1], 6_000_000)]),
+];
+
+fn xor_points<S: GoodsSet>(rt: &impl Abort, alloc: Global) -> Result<(), Fail> {
+    for (offers, points) in &XOR_ROWS {
+        let bids = atoms_on::<S>(rt, alloc, offers)?;
+        expect_bids(rt, alloc, &prune_xor(alloc, bids)?, points)?;
+    }
+    Ok(())
+}
+
+#[test]
+fn xor_points_on_both_sets(rt: HostRuntime) -> Result<(), Fail> {
+    xor_points::<ListSet>(&rt, rt.alloc())?;
+    xor_points::<WordSet<16>>(&rt, rt.alloc())?;
+    xor_points::<WordSet<64>>(&rt, rt.alloc())
+}
+
+// The OR bids are pruned to these, or their search is stopped at these goods.
+#[derive(Drop)]
+enum Pruned {
+    To(&'static [Offer]),
+    StoppedAt(&'static [u16]),
+}
+
+fn expect_or<S: GoodsSet>(
+    rt: &impl Abort,
+    alloc: Global,
+    bids: Vec<Atom<S>>,
+    limit: u64,
+    pruned: &Pruned,
+) -> Result<(), Fail>
+    requires { All (IsAtom MAX_GOODS) (atoms_of S.goods bids.items) }
+{
+    match (prune_or(alloc, bids, limit), pruned) {
+        (Ok(kept), Pruned::To(points)) => expect_bids(rt, alloc, &kept, points),
+        (Err(PruneFault::StepLimit { bundle }), Pruned::StoppedAt(goods)) => {
+            let expected = bundle_of::<S>(rt, alloc, goods)?;
+            assert_eq!(rt; bundle.order(&expected), Ordering::Equal);
+            Ok(())
+        }
+        _ => panic!(rt; "the other answer, or no memory"),
+    }
+}
+
+// Offers and a limit, and what they are pruned to.
+type OrRow = (&'static [Offer], u64, Pruned);
+
+fn each_or_row<S: GoodsSet>(rt: &impl Abort, alloc: Global, rows: &[OrRow]) -> Result<(), Fail> {
+    for (offers, limit, pruned) in rows {
+        let bids = atoms_on::<S>(rt, alloc, offers)?;
+        expect_or(rt, alloc, bids, *limit, pruned)?;
+    }
+    Ok(())
+}
+
+// A bid that others reach goes, one above them stays.
+static OR_ROWS: [OrRow; 6] = [
+    (&[], 0, Pruned::To(&[])),
+    (&[(&[0], 0)], 0, Pruned::To(&[])),
+    (
+        &[(&[0], 1), (&[0], 2), (&[0, 1, 2], 0)],
+        1,
+        Pruned::To(&[(&[0], 2)]),
+    ),
+    (
+        &[(&[0], 3_000_000), (&[1], 4_000_000), (&[0, 1], 7_000_000)],
+        4,
+        Pruned::To(&[(&[0], 3_000_000), (&[1], 4_000_000)]),
+    ),
+    (
+        &[
+            (&[0, 1], 8_000_000),
+            (&[0], 3_000_000),
+            (&[1], 4_000_000),
+            (&[0, 1], 8_000_000),
+        ],
+        AMPLE,
+        Pruned::To(&[(&[0], 3_000_000), (&[1], 4_000_000), (&[0, 1], 8_000_000)]),
+    ),
+    (
+        &[(&[0], 1), (&[0], 1), (&[1], 1), (&[0, 1], 3)],
+        4,
+        Pruned::To(&[(&[0], 1), (&[1], 1), (&[0, 1], 3)]),
+    ),
+];
+
+#[test]
+fn or_points_on_both_sets(rt: HostRuntime) -> Result<(), Fail> {
+    each_or_row::<ListSet>(&rt, rt.alloc(), &OR_ROWS)?;
+    each_or_row::<WordSet<16>>(&rt, rt.alloc(), &OR_ROWS)?;
+    each_or_row::<WordSet<64>>(&rt, rt.alloc(), &OR_ROWS)
+}
+
+const TRIPLE: &[Offer] = &[(&[0], 1), (&[1], 1), (&[2], 1), (&[0, 1, 2], 4)];
+
+const PAIRS: &[Offer] = &[(&[0], 2), (&[1], 2), (&[2], 2), (&[0, 1, 2], 5)];
+
+const REACHED: &[Offer] = &[(&[0], 3), (&[1], 4), (&[0, 1], 7)];
+
+// The search is cut where the prices left do not suffice, and ends where the price is reached.
+static STEP_ROWS: [OrRow; 8] = [
+    (&[(&[0], 1)], 0, Pruned::StoppedAt(&[0])),
+    (&[(&[1], 1), (&[0], 1)], 0, Pruned::StoppedAt(&[0])),
+    (TRIPLE, 1, Pruned::To(TRIPLE)),
+    (TRIPLE, 7, Pruned::To(TRIPLE)),
+    (PAIRS, 3, Pruned::StoppedAt(&[0, 1, 2])),
+    (PAIRS, 4, Pruned::To(&[(&[0], 2), (&[1], 2), (&[2], 2)])),
+    (REACHED, 2, Pruned::StoppedAt(&[0, 1])),
+    (REACHED, 3, Pruned::To(&[(&[0], 3), (&[1], 4)])),
+];
+
+#[test]
+fn or_steps_on_both_sets(rt: HostRuntime) -> Result<(), Fail> {
+    each_or_row::<ListSet>(&rt, rt.alloc(), &STEP_ROWS)?;
+    each_or_row::<WordSet<16>>(&rt, rt.alloc(), &STEP_ROWS)?;
+    each_or_row::<WordSet<64>>(&rt, rt.alloc(), &STEP_ROWS)
+}
+
+// The bids 0:1 to (n-1):1, then n on all goods but the last, then n + 2 on all.
+fn step_bomb<S: GoodsSet>(
+    rt: &impl Abort,
+    alloc: Global,
+    n: u16,
+) -> Result<(Vec<Atom<S>>, Vec<u16>), Fail>
+    ensures { IfOk result (λ r. All (IsAtom MAX_GOODS) (atoms_of S.goods r.0.items)) }
+{
+    assert!(rt; 0 < n && n < 1000);
+    let mut bids = Vec::new(alloc);
+    let mut goods = Vec::new(alloc);
+    for good in 0..n {
+        if good + 1 == n {
+            add_atom(rt, alloc, &mut bids, &goods, u64::from(n))?;
+        }
+        goods.push(good)?;
+    }
+    add_atom(rt, alloc, &mut bids, &goods, u64::from(n) + 2)?;
+    for good in 0..n {
+        add_atom(rt, alloc, &mut bids, &[good], 1)?;
+    }
+    Ok((bids, goods))
+}
+
+fn bombs<S: GoodsSet>(rt: &impl Abort, alloc: Global) -> Result<(), Fail> {
+    let (bids, goods) = step_bomb::<S>(rt, alloc, 20)?;
+    let Err(PruneFault::StepLimit { bundle }) = prune_or(alloc, bids, 1_000_000) else {
+        panic!(rt; "the step limit is told");
+    };
+    assert_eq!(rt;
+        bundle.order(&bundle_of(rt, alloc, &goods)?),
+        Ordering::Equal
+    );
+    let (bids, _) = step_bomb::<S>(rt, alloc, 20)?;
+    let Ok(kept) = prune_or(alloc, bids, 1_048_575) else {
+        panic!(rt; "the bids are pruned");
+    };
+    assert_eq!(rt; kept.len(), 22);
+    for (place, bid) in kept.iter().enumerate() {
+        let price = match place {
+            20 => 20,
+            21 => 22,
+            _ => 1,
+        };
+        assert_eq!(rt; bid.price, price);
+    }
+    let (bids, _) = step_bomb::<S>(rt, alloc, 20)?;
+    assert!(rt; prune_or(alloc, bids, 1_048_574).is_err());
+    Ok(())
+}
+
+#[test]
+fn many_steps_on_both_sets(rt: HostRuntime) -> Result<(), Fail> {
+    bombs::<ListSet>(&rt, rt.alloc())?;
+    bombs::<WordSet<64>>(&rt, rt.alloc())
+}
+
+fn endless<S: GoodsSet>(rt: &impl Abort, alloc: Global) -> Result<(), Fail> {
+    let (bids, goods) = step_bomb::<S>(rt, alloc, 60)?;
+    let Err(PruneFault::StepLimit { bundle }) = prune_or(alloc, bids, 1_000_000) else {
+        panic!(rt; "the step limit is told");
+    };
+    assert_eq!(rt;
+        bundle.order(&bundle_of(rt, alloc, &goods)?),
+        Ordering::Equal
+    );
+    Ok(())
+}
+
+// A search that goes on behind its limit would not end here in anybody's lifetime.
+#[test]
+fn search_stops_at_its_limit(rt: HostRuntime) -> Result<(), Fail> {
+    endless::<ListSet>(&rt, rt.alloc())?;
+    endless::<WordSet<64>>(&rt, rt.alloc())
+}
+
+// The bids 0:0, 0:1, and so on, in units.
+fn bids_on_one_bundle<S: GoodsSet>(rt: &impl Abort, alloc: Global) -> Result<Vec<Atom<S>>, Fail>
+    ensures { IfOk result (λ bids. All (IsAtom MAX_GOODS) (atoms_of S.goods bids.items)) }
+{
+    let mut bids = Vec::new(alloc);
+    for price in 0..65_536 {
+        add_atom(rt, alloc, &mut bids, &[0], price * UNIT)?;
+    }
+    Ok(bids)
+}
+
+fn one_bundle<S: GoodsSet>(rt: &impl Abort, alloc: Global) -> Result<(), Fail> {
+    let bids = bids_on_one_bundle::<S>(rt, alloc)?;
+    expect_bids(
+        rt,
+        alloc,
+        &prune_xor(alloc, bids)?,
+        &[(&[0], 65_535_000_000)],
+    )?;
+    let bids = bids_on_one_bundle::<S>(rt, alloc)?;
+    let Ok(kept) = prune_or(alloc, bids, 1) else {
+        panic!(rt; "the bids are pruned");
+    };
+    expect_bids(rt, alloc, &kept, &[(&[0], 65_535_000_000)])
+}
+
+#[test]
+fn many_bids_on_one_bundle(rt: HostRuntime) -> Result<(), Fail> {
+    one_bundle::<ListSet>(&rt, rt.alloc())?;
+    one_bundle::<WordSet<64>>(&rt, rt.alloc())
+}
+
+// All bundles over three goods, in order.
+static SMALL_BUNDLES: [&[u16]; 8] = [&[], &[0], &[1], &[2], &[0, 1], &[0, 2], &[1, 2], &[0, 1, 2]];
+
+fn small_bundles<S: GoodsSet>(rt: &impl Abort, alloc: Global) -> Result<Vec<S>, Fail> {
+    let mut bundles = Vec::new(alloc);
+    for goods in &SMALL_BUNDLES {
+        bundles.push(bundle_of(rt, alloc, goods)?)?;
+    }
+    Ok(bundles)
+}
+
+// The bids of one auction of the family: up to eight, on nonempty bundles over three goods, at prices below 6.
+fn family_bids<S: GoodsSet>(rt: &impl Abort, alloc: Global, seed: u64) -> Result<Vec<Atom<S>>, Fail>
+    ensures { IfOk result (λ bids. All (IsAtom MAX_GOODS) (atoms_of S.goods bids.items)) }
+{
+    let mut state = seed;
+    let mut bids = Vec::new(alloc);
+    for _i in 0..next_number(&mut state) % 9 {
+        let place = next_number(&mut state) % 7 + 1;
+        let goods = SMALL_BUNDLES.get(place as usize).ok_or("no bundle")?;
+        let price = next_number(&mut state) % 6;
+        add_atom(rt, alloc, &mut bids, goods, price)?;
+    }
+    Ok(bids)
+}
+
+// The pruned OR bids are exactly the points that the plain test finds, in order.
+fn or_agrees<S: GoodsSet>(
+    rt: &impl Abort,
+    alloc: Global,
+    bundles: &[S],
+    seed: u64,
+) -> Result<(), Fail> {
+    let all = family_bids::<S>(rt, alloc, seed)?;
+    let Ok(kept) = prune_or(alloc, family_bids::<S>(rt, alloc, seed)?, AMPLE) else {
+        panic!(rt; "the bids are pruned");
+    };
+    let mut found = kept.iter();
+    for bundle in bundles {
+        if plain::is_or_point(alloc, bundles, &all, bundle)? {
+            let point = found.next().expect(rt, "a point");
+            let value = or_value(alloc, &all, bundle, AMPLE)?.value;
+            assert_eq!(rt; point.bundle.order(bundle), Ordering::Equal);
+            assert_eq!(rt; u128::from(point.price), value);
+        }
+    }
+    assert!(rt; found.next().is_none());
+    Ok(())
+}
+
+// So are the pruned XOR bids.
+fn xor_agrees<S: GoodsSet>(
+    rt: &impl Abort,
+    alloc: Global,
+    bundles: &[S],
+    seed: u64,
+) -> Result<(), Fail> {
+    let all = family_bids::<S>(rt, alloc, seed)?;
+    let kept = prune_xor(alloc, family_bids::<S>(rt, alloc, seed)?)?;
+    let mut found = kept.iter();
+    for bundle in bundles {
+        if plain::is_xor_point(bundles, &all, bundle)? {
+            let point = found.next().expect(rt, "a point");
+            assert_eq!(rt; point.bundle.order(bundle), Ordering::Equal);
+            assert_eq!(rt; point.price, xor_value(&all, bundle).0);
+        }
+    }
+    assert!(rt; found.next().is_none());
+    Ok(())
+}
+
+fn family_agrees<S: GoodsSet>(rt: &impl Abort, alloc: Global) -> Result<(), Fail> {
+    let bundles = small_bundles::<S>(rt, alloc)?;
+    for seed in 0..300 {
+        or_agrees(rt, alloc, &bundles, seed)?;
+        xor_agrees(rt, alloc, &bundles, seed)?;
+    }
+    Ok(())
+}
+
+#[test]
+fn pruning_agrees_with_the_definition(rt: HostRuntime) -> Result<(), Fail> {
+    family_agrees::<ListSet>(&rt, rt.alloc())?;
+    family_agrees::<WordSet<16>>(&rt, rt.alloc())
+}
