@@ -1,7 +1,8 @@
 //! Each public call once, with ample memory, on worked rows.
 
 use canon::{
-    CanonFault, canonical, file_of, into_normal_file, normal_file, normal_text, normalise,
+    CanonFault, canonical, file_of, into_file, into_normal_file, last_normal_text, normal_file,
+    normal_text, normalise,
 };
 use cats_text::{BidFile, read, write};
 use goods_set::{GoodsSet, ListSet, WordSet};
@@ -57,6 +58,8 @@ fn files_of_auctions(rt: HostRuntime) -> Result<(), Fail> {
         let auction: Auction<WordSet<16>> = auction_of(rt.alloc(), &file)?;
         let again = file_of(rt.alloc(), &auction)?;
         assert_eq!(rt; text_of(rt.alloc(), &again)?.as_str(), *text);
+        let given_up = into_file(rt.alloc(), auction)?;
+        assert_eq!(rt; text_of(rt.alloc(), &given_up)?.as_str(), *text);
     }
     Ok(())
 }
@@ -104,5 +107,8 @@ fn canonical_files(rt: HostRuntime) -> Result<(), Fail> {
         }
         Err(_) => assert!(rt; false),
     }
+    let last = read(rt.alloc(), LARGER_BID.as_bytes())?;
+    let answer = last_normal_text(rt.alloc(), last, 3);
+    assert_eq!(rt; told(rt.alloc(), answer)?.as_str(), LARGER_BID_TEXT);
     Ok(())
 }

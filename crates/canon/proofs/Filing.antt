@@ -1,5 +1,5 @@
 -- The file of an auction is made bid by bid: one more atom of a bidder, and one more bidder.
-use Rattle.std.proofs.Common.{◌≡◌, ℕ, ◌+◌, ◌<◌, ◌≤◌, List, [], ◌∷◌, ◌++◌, length, map, drop, get_or, Option, Some, sym, ap, ap₂, ◌∙◌, subst, append_assoc, Global}
+use Rattle.std.proofs.Common.{◌≡◌, ℕ, ◌+◌, ◌<◌, ◌≤◌, List, [], ◌∷◌, ◌++◌, length, map, drop, get_or, Option, Some, None, sym, ap, ap₂, ◌∙◌, subst, append_assoc, Global}
 use Rattle.std.specs.Prelude.{Vec}
 use Rattle.std.proofs.lemmas.List.{map_push, drop-map, drop_more, append-nil, drop_all, length-map}
 use Rattle.cats_text.specs.Files.{PlainBid, PlainFile, IsBidFile, IsPlainFile, plain_bid, plain_bids}
@@ -7,7 +7,7 @@ use Rattle.cats_text.specs.declared.bid.Bid.{Bid}
 use Rattle.valuation.specs.declared.atom.Atom.{Atom}
 use Rattle.valuation.specs.Auctions.{PlainAuction, IsAuction}
 use Rattle.valuation.specs.AtomLemmas.{drop-atoms_of}
-use Rattle.valuation.specs.Bidders.{bidders_of}
+use Rattle.valuation.specs.Bidders.{bidders_of, plain_auction_of}
 use Rattle.valuation.specs.Values.{atoms_of}
 use Rattle.canon.specs.Canonical.{bid_from, dummy_bids, file_from}
 use Rattle.canon.proofs.Files.{IsPlainFile-file_from}
@@ -26,6 +26,24 @@ one_more_bid goods dummy old new b atoms i a l e more price items its =
     ∙ append_assoc (plain_bids old) (plain_bid b ∷ []) rest
     ∙ ap (λ (x : PlainBid). plain_bids old ++ x ∷ rest) same
     ∙ ap (λ (zs : List (Atom (List ℕ))). plain_bids old ++ map (bid_from dummy) zs) (sym (drop-atoms_of goods atoms i a l e))
+
+-- the atoms of the OR bidder are given up
+pub or_moved : {S : Type 0} (goods : S → List ℕ) (a : PlainAuction) (n : ℕ) (or_atoms : List (Atom S)) (bidders left : List (Vec (Atom S) Global)) (none bids : List Bid)
+    → a ≡ plain_auction_of goods n or_atoms bidders → none ≡ [] → plain_bids bids ≡ plain_bids none ++ map (bid_from None) (atoms_of goods or_atoms) → left ≡ bidders
+    → plain_bids bids ++ dummy_bids 0 (bidders_of goods left) ≡ (file_from a).bids
+or_moved {S} goods a n or_atoms bidders left none bids parts e h all =
+    ap₂ (λ (xs : List PlainBid) (zs : List (Vec (Atom S) Global)). xs ++ dummy_bids 0 (bidders_of goods zs))
+    (h ∙ ap (λ (zs : List Bid). plain_bids zs ++ map (bid_from None) (atoms_of goods or_atoms)) e) all
+    ∙ ap (λ (x : PlainAuction). (file_from x).bids) (sym parts)
+
+-- one more bidder, whose atoms are given up
+pub one_moved_bidder : {S : Type 0} (goods : S → List ℕ) (old new : List PlainBid) (left rest : List (Vec (Atom S) Global)) (i : ℕ) (b : Vec (Atom S) Global)
+    → left ≡ b ∷ rest → new ≡ old ++ map (bid_from (Some i)) (atoms_of goods b.items)
+    → new ++ dummy_bids (i + 1) (bidders_of goods rest) ≡ old ++ dummy_bids i (bidders_of goods left)
+one_moved_bidder {S} goods old new left rest i b e more =
+    ap (λ (zs : List PlainBid). zs ++ dummy_bids (i + 1) (bidders_of goods rest)) more
+    ∙ append_assoc old (map (bid_from (Some i)) (atoms_of goods b.items)) (dummy_bids (i + 1) (bidders_of goods rest))
+    ∙ ap (λ (zs : List (Vec (Atom S) Global)). old ++ dummy_bids i (bidders_of goods zs)) (sym e)
 
 -- none is to come
 pub all_bids : {X Y : Type 0} (done : List Y) (f : X → Y) (xs : List X) (i : ℕ) (all : List Y) → length xs ≤ i → done ++ map f (drop i xs) ≡ all → done ≡ all
@@ -53,6 +71,10 @@ one_more_bidder {S} goods old new bidders i b l e more =
 pub all_bidders : (done all : List PlainBid) (i : ℕ) (bidders : List (List (Atom (List ℕ)))) → length bidders ≤ i → done ++ dummy_bids i (drop i bidders) ≡ all → done ≡ all
 all_bidders done all i bidders l h =
     sym (append-nil done) ∙ ap (λ (zs : List (List (Atom (List ℕ)))). done ++ dummy_bids i zs) (sym (drop_all i bidders l)) ∙ h
+
+pub all_moved : {S : Type 0} (goods : S → List ℕ) (done all : List PlainBid) (i : ℕ) (left : List (Vec (Atom S) Global)) → left ≡ [] → done ++ dummy_bids i (bidders_of goods left) ≡ all → done ≡ all
+all_moved {S} goods done all i left none h =
+    sym (append-nil done) ∙ ap (λ (zs : List (Vec (Atom S) Global)). done ++ dummy_bids i (bidders_of goods zs)) (sym none) ∙ h
 
 -- ---- the parts of the file
 

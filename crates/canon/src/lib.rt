@@ -29,8 +29,8 @@ pub use difference_laws::{
     no_difference_of_the_same, same_auctions_have_one_difference,
 };
 pub use fault::CanonFault;
-pub use file::file_of;
+pub use file::{file_of, into_file};
 pub use place_laws::first_place_by_text;
-pub use text::{into_normal_file, normal_file, normal_text, normalise};
+pub use text::{into_normal_file, last_normal_text, normal_file, normal_text, normalise};
 pub use verdict::{Side, Verdict};
 pub use which::Which;

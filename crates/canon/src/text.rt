@@ -14,12 +14,13 @@ ghost use Rattle.canon.specs.Sameness.{AreSameFiles};
 
 use crate::auction::canonical;
 use crate::fault::CanonFault;
-use crate::file::file_of;
+use crate::file::into_file;
 use crate::writing::text_of;
 use cats_text::{BidFile, read};
 use goods_set::{GoodsSet, ListSet, goods_of, on_least_set};
 use prune::PruneFault;
 use std::alloc::Global;
+use std::mem;
 use valuation::{Auction, auction_of, into_auction};
 
 /// The canonical file of a file: the file of its canonical auction. `limit` bounds each search that decides on a bundle of the OR
@@ -58,6 +59,17 @@ pub fn normal_text(alloc: Global, file: BidFile, limit: u64) -> Result<Vec<u8>, 
     on_least_set!(file.goods(), normal_text_on(alloc, file, limit))
 }
 
+/// The canonical text of a file, as `normal_text`, in a process that ends soon. The memory of the auction is left to the process's
+/// end, which takes less time than to free one bid after another.
+pub fn last_normal_text(alloc: Global, file: BidFile, limit: u64) -> Result<Vec<u8>, CanonFault>
+    ensures { NormalisesAs (normalised_file limit (plain_file file)) result }
+{
+    if is_sparse(&file) {
+        return last_text_on::<ListSet>(alloc, file, limit);
+    }
+    on_least_set!(file.goods(), last_text_on(alloc, file, limit))
+}
+
 /// The canonical text of the file that a text spells: the one text of its auction.
 pub fn normalise(alloc: Global, text: &[u8], limit: u64) -> Result<Vec<u8>, CanonFault>
     ensures answer { NormalisesAs (normalised limit text.now) result }
@@ -70,14 +82,22 @@ pub fn normalise(alloc: Global, text: &[u8], limit: u64) -> Result<Vec<u8>, Cano
     normal_text(alloc, file, limit)
 }
 
-/// Whether the bids have so few goods that lists of them take less memory than words with a bit for each good.
+/// Whether the bids have so few goods that lists of them take less memory than words with a bit for each good. Where most bids are
+/// the OR bidder's, whose searches ask sets the most and words answer faster, they have to be fewer still.
 fn is_sparse(file: &BidFile) -> bool {
+    let bids = file.bids();
     let words = usize::from(file.goods() / 64);
+    let or_bids = bids.iter().filter(|bid| bid.dummy.is_none()).count();
+    let most = if or_bids > bids.len() / 2 {
+        words / 4
+    } else {
+        words
+    };
     let mut listed: usize = 0;
-    for bid in file.bids() {
+    for bid in bids {
         listed = listed.saturating_add(bid.goods.len());
     }
-    listed < file.bids().len().saturating_mul(words / 4)
+    listed < bids.len().saturating_mul(most)
 }
 
 fn normal_file_on<S: GoodsSet>(
@@ -121,6 +141,21 @@ fn normal_text_on<S: GoodsSet>(
     Ok(text_of(alloc, &canonical)?)
 }
 
+fn last_text_on<S: GoodsSet>(
+    alloc: Global,
+    file: BidFile,
+    limit: u64,
+) -> Result<Vec<u8>, CanonFault>
+    requires { (plain_file file).goods ≤ S.CAP }
+    ensures { NormalisesAs (normalised_file limit (plain_file file)) result }
+{
+    let auction: Auction<S> = into_auction(alloc, file)?;
+    let canonical = light_canonical(alloc, auction, limit)?;
+    let text = text_of(alloc, &canonical)?;
+    mem::forget(canonical);
+    Ok(text)
+}
+
 /// The file of the canonical auction.
 fn file_of_canonical<S: GoodsSet>(
     alloc: Global,
@@ -130,7 +165,7 @@ fn file_of_canonical<S: GoodsSet>(
     ensures { NormalisesAuctionAs limit (plain_auction auction) result }
 {
     let canonical = light_canonical(alloc, auction, limit)?;
-    Ok(file_of(alloc, &canonical)?)
+    Ok(into_file(alloc, canonical)?)
 }
 
 /// The canonical auction, where no bundle is heavy.

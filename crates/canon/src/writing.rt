@@ -47,7 +47,7 @@ pub(crate) fn text_of<S: GoodsSet>(
 }
 
 /// How many bids the file of an auction has.
-fn count_bids<S: GoodsSet>(auction: &Auction<S>) -> usize
+pub(crate) fn count_bids<S: GoodsSet>(auction: &Auction<S>) -> usize
     ensures { result ≡ length (file_from (plain_auction auction.now)).bids }
 {
     let bidders = auction.xor_bidders();

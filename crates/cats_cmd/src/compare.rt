@@ -17,10 +17,13 @@ use canon::{CanonFault, Verdict, Which, compare_files, into_normal_file};
 use cats_text::{BidFile, Watched};
 use std::alloc::{AllocError, Global};
 use std::io::{Read, Write};
+use std::mem;
 use text::verdict_text;
 
 /// Reads and normalises the first file, and then the second, and sends whether they are the same auction, or where they part first.
 /// `limit` bounds the steps of each search that decides on a bundle of an OR bidder.
+///
+/// The memory of the two auctions is left to the process's end.
 ///
 /// The status is 0 for the same auction, and 1 for a difference. A fault of a file tells which of the two it belongs to; want of
 /// memory that is met while the two are compared belongs to both.
@@ -47,7 +50,12 @@ pub fn run_compare<R: Read, S: Read, W: Write>(
         Err(fault) => return Err(RunFault::Refused(Which::Second, fault)),
     };
     match told(alloc, &left, &right) {
-        Ok((status, text)) => send_text(out, status, text.as_slice()),
+        Ok((status, text)) => {
+            // To free one bid after another takes longer than the process's end.
+            mem::forget(left);
+            mem::forget(right);
+            send_text(out, status, text.as_slice())
+        }
         Err(AllocError) => Err(RunFault::Refused(Which::Both, CanonFault::Memory)),
     }
 }

@@ -7,13 +7,13 @@ ghost use Rattle.cats_cmd.specs.Runs.{RunsOnFile};
 
 use crate::report::{DONE, RunFault};
 use crate::run::{read_file, send_text};
-use canon::normal_text;
+use canon::last_normal_text;
 use cats_text::Watched;
 use std::alloc::Global;
 use std::io::{Read, Write};
 
 /// Reads a bid file, and sends the canonical text of its auction. `limit` bounds the steps of each search that decides on a bundle
-/// of the OR bidder.
+/// of the OR bidder. The memory of the auction is left to the process's end.
 pub fn run_normalise<R: Read, W: Write>(
     alloc: Global,
     input: &mut Watched<R>,
@@ -26,6 +26,6 @@ pub fn run_normalise<R: Read, W: Write>(
     ensures { RunsOnFile R.remaining W.contents (normalise_outcome limit) input.old input.new out.old out.new result }
 {
     let file = read_file(alloc, input)?;
-    let text = normal_text(alloc, file, limit)?;
+    let text = last_normal_text(alloc, file, limit)?;
     send_text(out, DONE, text.as_slice())
 }

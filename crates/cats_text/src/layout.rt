@@ -1,6 +1,6 @@
 //! Bid files as text.
 
-ghost use Rattle.std.specs.Prelude.{◌≡◌, ◌++◌, ◌∷◌, ◌<◌, IfOk, OnOk, decimal};
+ghost use Rattle.std.specs.Prelude.{◌≡◌, ◌+◌, ◌%◌, ◌++◌, [], ◌∷◌, ◌<◌, IfOk, OnOk, decimal};
 ghost use Rattle.cats_text.specs.Files.{PlainBid, plain_bids};
 ghost use Rattle.cats_text.specs.Views.{plain_file};
 ghost use Rattle.cats_text.specs.Grammar.{Spells};
@@ -58,7 +58,7 @@ pub fn push_price(out: &mut Vec<u8>, millionths: u128) -> Result<(), AllocError>
 fn push_small_price(out: &mut Vec<u8>, millionths: u64) -> Result<(), AllocError>
     ensures { OnOk result (out.new.items ≡ out.old.items ++ price_text millionths) }
 {
-    push_number(out, millionths / u64::from(MILLION))?;
+    push_small(out, millionths / u64::from(MILLION))?;
     push_places(out, (millionths % u64::from(MILLION)) as u32)
 }
 
@@ -131,7 +131,56 @@ fn push_good(out: &mut Vec<u8>, good: u64) -> Result<(), AllocError>
     ensures { OnOk result (out.new.items ≡ out.old.items ++ 9 ∷ decimal good) }
 {
     out.push(b'\t')?;
-    push_number(out, good)
+    push_small(out, good)
+}
+
+/// A number with at most four digits is below it.
+const SHORT: u64 = 10_000;
+
+/// As `push_number`. Most numbers of a file are short.
+fn push_small(out: &mut Vec<u8>, number: u64) -> Result<(), AllocError>
+    ensures { OnOk result (out.new.items ≡ out.old.items ++ decimal number) }
+{
+    if number < SHORT {
+        return push_short(out, number);
+    }
+    push_number(out, number)
+}
+
+/// Appends the digits of a short number one by one, which takes less time than to gather them first.
+fn push_short(out: &mut Vec<u8>, number: u64) -> Result<(), AllocError>
+    requires { number < 10000 }
+    ensures { OnOk result (out.new.items ≡ out.old.items ++ decimal number) }
+{
+    if number < 100 {
+        return push_pair(out, number);
+    }
+    push_pair(out, number / 100)?;
+    push_last_digit(out, number / 10)?;
+    push_last_digit(out, number)?;
+    Ok(())
+}
+
+/// Appends the digits of a number that has one or two.
+#[tactic(auto, using(crate::proofs::SixDigits::one_digit))]
+fn push_pair(out: &mut Vec<u8>, number: u64) -> Result<(), AllocError>
+    requires { number < 100 }
+    ensures { OnOk result (out.new.items ≡ out.old.items ++ decimal number) }
+{
+    if number < 10 {
+        out.push(b'0' + number as u8)?;
+        return Ok(());
+    }
+    push_last_digit(out, number / 10)?;
+    push_last_digit(out, number)?;
+    Ok(())
+}
+
+fn push_last_digit(out: &mut Vec<u8>, number: u64) -> Result<(), AllocError>
+    ensures { OnOk result (out.new.items ≡ out.old.items ++ (48 + number % 10) ∷ []) }
+{
+    out.push(b'0' + (number % 10) as u8)?;
+    Ok(())
 }
 
 fn push_number<I: Integer>(out: &mut Vec<u8>, number: I) -> Result<(), AllocError>

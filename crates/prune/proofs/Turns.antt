@@ -1,24 +1,26 @@
 -- The turns of a pruning's loop, by what the code knows of its variables.
-use Rattle.std.proofs.Common.{◌≡◌, ℕ, ◌<◌, ◌≤◌, Bool, true, ◌||◌, leb, ⊎_elim, List, [], ◌∷◌, ◌++◌, length, map, max, sym, ap, ◌∙◌, subst, arith, append_assoc, append-nil, Bor, ltb, None}
+use Rattle.std.proofs.Common.{◌≡◌, ℕ, zero, suc, ◌+◌, ◌<◌, ◌≤◌, Bool, true, false, ◌||◌, leb, ⊎_elim, List, [], ◌∷◌, ◌++◌, length, map, take, drop, max, get_or, sym, ap, ap₂, ◌∙◌, subst, arith, append_assoc, append-nil, Bor, ltb, None}
 use Rattle.std.specs.Prelude.{All, Contains}
 use Rattle.std.specs.List.{filter, list_any}
 use Rattle.std.proofs.lemmas.Bool.{cases_lt, le-leb, lt-leb, and_parts, ltb-true}
-use Rattle.std.proofs.lemmas.List.{map-append}
+use Rattle.std.proofs.lemmas.List.{map-append, drop_more, take_all, take_more, take-append-drop, take-map}
 use Rattle.std.proofs.lemmas.List.Elements.{All-nil, All-cons, All-head, All-tail, All-contains, All-filter, All-weaker, Contains-append_left, filter_passes}
 use Rattle.goods_set.specs.Bundles.{IsRising, is_inside, IsInside}
 use Rattle.valuation.specs.declared.atom.Atom.{Atom}
+use Rattle.valuation.specs.AtomLemmas.{get_or-atoms_of}
 use Rattle.valuation.specs.Auctions.{IsAtom}
 use Rattle.valuation.specs.Values.{atoms_of, xor_value}
 use Rattle.valuation.specs.XorLemmas.{xor_value-nil, xor_value-inside}
 use Rattle.prune.specs.Steps.{greatest_price, search_steps, steps_at_most, is_heavy, first_heavy}
 use Rattle.prune.specs.StepLemmas.{search_within_bound}
+use Rattle.prune.specs.ValueLemmas.{xor_value-member}
 use Rattle.prune.specs.Lists.{list_any_filter}
-use Rattle.prune.specs.Listings.{covers, atoms_inside}
+use Rattle.prune.specs.Listings.{covers, atom_at, atoms_inside, AreUncovered}
 use Rattle.prune.specs.Points.{IsOnBundle}
 use Rattle.prune.specs.BestBids.{AreBestBids}
 use Rattle.prune.proofs.BestBids.{seen_of}
-use Rattle.prune.proofs.Pruning.{HasRisingBundle}
-use Rattle.prune.proofs.Results.{IsTurn, IsXorKept, IsOrKept, AreXorPoints, AreOrPoints, xor_done, or_done, Within, none_heavy}
+use Rattle.prune.proofs.Pruning.{HasRisingBundle, IsKept-none}
+use Rattle.prune.proofs.Results.{IsTurn, IsXorKept, IsOrKept, AreXorPoints, AreOrPoints, turn_positive, xor_done, xor_missed, xor_more, xor_fewer, or_done, Within, none_heavy}
 
 -- ---- atoms of the code
 
@@ -93,6 +95,46 @@ kept_nonempty {S} goods n bids yielded all kept b are among =
 
 pub all_some : (n : ℕ) (bids : List (Atom (List ℕ))) → All (IsAtom n) bids → All (λ a. 0 < length a.bundle) bids
 all_some n bids are = All-weaker (IsAtom n) (λ a. 0 < length a.bundle) (λ a i. i.nonempty) bids are
+
+-- ---- no bid is covered by one before it
+
+-- the first bids are kept as they are
+first_uncovered : (bids best : List (Atom (List ℕ))) → AreBestBids bids best → All HasRisingBundle best → AreUncovered best → (i : ℕ) → i ≤ length best → IsXorKept (take i best) (take i best)
+first_uncovered bids best b rising free zero l = IsKept-none xor_value xor_value-member xor_more xor_fewer
+first_uncovered bids best b rising free (suc i) l =
+    let x = atom_at best i in
+    let done = take i best in
+    let within : i < length best = omega arith in
+    let parts : best ≡ done ++ x ∷ drop (i + 1) best = sym (take-append-drop i best) ∙ ap (λ zs. done ++ zs) (drop_more best i (record { bundle = []; price = 0 }) within) in
+    let turn : IsTurn bids done x (drop (i + 1) best) = record {
+      best = subst (λ (zs : List (Atom (List ℕ))). AreBestBids bids zs) parts b;
+      rising = subst (λ (zs : List (Atom (List ℕ))). All HasRisingBundle zs) parts rising;
+    } in
+    let missed = sym (free i within) ∙ covers_is x.price x.bundle done (turn_positive _ _ _ _ turn) in
+    let on : suc i ≡ i + 1 = omega arith in
+    let front : take (suc i) best ≡ done ++ x ∷ [] = ap (λ n. take n best) on ∙ take_more best i (record { bundle = []; price = 0 }) within in
+    rw front (xor_missed _ _ _ _ done turn (first_uncovered bids best b rising free i (omega arith)) missed)
+
+-- one more bid
+pub one_more_uncovered : {S : Type 0} (goods : S → List ℕ) (atoms before : List (Atom S)) (i : ℕ) (bid : Atom S)
+    → i < length atoms → bid ≡ get_or atoms i bid → before ≡ take i atoms → list_any (covers (goods bid.bundle) bid.price) (atoms_of goods before) ≡ false
+    → ((k : ℕ) → k < i → list_any (covers (atom_at (atoms_of goods atoms) k).bundle (atom_at (atoms_of goods atoms) k).price) (take k (atoms_of goods atoms)) ≡ false)
+    → (k : ℕ) → k < i + 1 → list_any (covers (atom_at (atoms_of goods atoms) k).bundle (atom_at (atoms_of goods atoms) k).price) (take k (atoms_of goods atoms)) ≡ false
+one_more_uncovered {S} goods atoms before i bid l is front free h k within =
+    let seen = atoms_of goods atoms in
+    let at : atom_at seen i ≡ seen_of goods bid = get_or-atoms_of goods atoms i bid (record { bundle = []; price = 0 }) l is in
+    let those : take i seen ≡ atoms_of goods before = take-map (seen_of goods) i atoms ∙ ap (atoms_of goods) (sym front) in
+    let here : list_any (covers (atom_at seen i).bundle (atom_at seen i).price) (take i seen) ≡ false =
+    ap₂ (λ (x : Atom (List ℕ)) (zs : List (Atom (List ℕ))). list_any (covers x.bundle x.price) zs) at those ∙ free in
+    ⊎_elim (λ (lt : k < i). h k lt)
+    (λ (le : i ≤ k). let e : i ≡ k = omega arith in subst (λ n. list_any (covers (atom_at seen n).bundle (atom_at seen n).price) (take n seen) ≡ false) e here)
+    (cases_lt k i)
+
+pub xor_uncovered : {S : Type 0} (goods : S → List ℕ) (rising : (s : S) → IsRising (goods s)) (bids : List (Atom (List ℕ))) (atoms : List (Atom S)) → AreBestBids bids (atoms_of goods atoms) → AreUncovered (atoms_of goods atoms) → AreXorPoints bids (atoms_of goods atoms)
+xor_uncovered goods rising bids atoms b free =
+    let best = atoms_of goods atoms in
+    let whole : take (length best) best ≡ best = take_all (length best) best (omega arith) in
+    xor_done bids best best b (rw whole at (first_uncovered bids best b (all_rising goods rising atoms) free (length best) (omega arith)))
 
 -- nothing is heavy, and the first heavy bundle
 pub none_heavy_end : {S : Type 0} (goods : S → List ℕ) (n limit : ℕ) (bids : List (Atom (List ℕ))) (yielded all kept : List (Atom S)) → All (IsOnBundle n) bids → AreBestBids bids (atoms_of goods (yielded ++ all)) → IsOrKept (atoms_of goods yielded) (atoms_of goods kept) → Within limit (atoms_of goods kept) (atoms_of goods yielded) → all ≡ [] → first_heavy n limit bids ≡ None

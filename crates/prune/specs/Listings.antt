@@ -1,7 +1,7 @@
 -- Atoms listed by their goods, so that those inside a bundle are found through the goods of the bundle.
-use Rattle.std.specs.Prelude.{◌≡◌, ◌≢◌, ℕ, ◌<◌, Bool, ◌&&◌, true, nat_le, map, slice_index_or, List, [], length, AllPairs, Contains}
+use Rattle.std.specs.Prelude.{◌≡◌, ◌≢◌, ℕ, ◌<◌, Bool, ◌&&◌, true, false, nat_le, map, slice_index_or, List, [], length, take, AllPairs, Contains}
 use Rattle.std.specs.Global.{Vec}
-use Rattle.std.specs.List.{filter}
+use Rattle.std.specs.List.{filter, list_any}
 use Rattle.valuation.specs.declared.atom.Atom.{Atom}
 use Rattle.goods_set.specs.Bundles.{has_good, is_inside}
 use Rattle.prune.specs.declared.kept.Listing.{Listing}
@@ -29,6 +29,11 @@ is_inside_at atoms bundle place = is_inside (atom_at atoms place).bundle bundle
 -- whether the atom is inside the bundle and has at least the price
 abbrev pub covers : List ℕ → ℕ → Atom (List ℕ) → Bool
 covers bundle price a = nat_le price a.price && is_inside a.bundle bundle
+
+-- none of the atoms is covered by one before it
+abbrev pub AreUncovered : List (Atom (List ℕ)) → Type 0
+AreUncovered atoms = (place : ℕ) → place < length atoms
+    → list_any (covers (atom_at atoms place).bundle (atom_at atoms place).price) (take place atoms) ≡ false
 
 -- whether the atom at the place does
 abbrev pub covers_at : List (Atom (List ℕ)) → List ℕ → ℕ → ℕ → Bool

@@ -1,11 +1,11 @@
 //! Pruning the bids of an XOR bidder.
-ghost use Rattle.std.specs.Prelude.{◌≡◌, ℕ, ◌≤◌, false, List, All, Contains, IfOk, vec_len};
+ghost use Rattle.std.specs.Prelude.{◌≡◌, ℕ, ◌≤◌, true, false, List, All, Contains, IfOk, vec_len};
 ghost use Rattle.std.specs.List.{list_any};
 ghost use Rattle.cats_text.specs.declared.limits.TheConstants.{MAX_GOODS};
 ghost use Rattle.valuation.specs.Auctions.{IsAtom};
 ghost use Rattle.valuation.specs.Values.{atoms_of, plain_atom, xor_value};
 ghost use Rattle.prune.specs.InOrder.{IsInOrder};
-ghost use Rattle.prune.specs.Listings.{lists_of, covers, AreListed};
+ghost use Rattle.prune.specs.Listings.{lists_of, covers, AreListed, AreUncovered};
 ghost use Rattle.prune.specs.Points.{xor_points};
 
 use crate::best::keep_best_bids;
@@ -24,6 +24,33 @@ fn is_covered_by<S: GoodsSet>(bid: &Atom<S>, atom: &Atom<S>) -> bool
     bid.price <= atom.price && atom.bundle.is_inside(&bid.bundle)
 }
 
+/// Whether one of the atoms is inside the bid's bundle and has at least its price.
+fn is_covered_by_any<S: GoodsSet>(bid: &Atom<S>, atoms: &[Atom<S>]) -> bool
+    ensures { result ≡ list_any (covers (S.goods bid.now.bundle) bid.now.price) (atoms_of S.goods atoms.now) }
+{
+    for atom in atoms {
+        if is_covered_by(bid, atom) {
+            return true;
+        }
+    }
+    false
+}
+
+/// Whether the bids are few, and none is covered by one before it, so that all of them stay.
+fn are_few_and_uncovered<S: GoodsSet>(bids: &[Atom<S>]) -> bool
+    ensures { result ≡ true → AreUncovered (atoms_of S.goods bids.now) }
+{
+    if bids.len() > FEW {
+        return false;
+    }
+    for (place, bid) in bids.iter().enumerate() {
+        if is_covered_by_any(bid, &bids[..place]) {
+            return false;
+        }
+    }
+    true
+}
+
 /// Whether a kept atom inside the bid's bundle has at least its price. Few atoms need not be listed.
 fn is_covered<S: GoodsSet>(kept: &Kept<S>, bid: &Atom<S>, few: bool) -> bool
     requires { few ≡ false → AreListed (lists_of kept.now.lists.items) (atoms_of S.goods kept.now.atoms.items) }
@@ -32,12 +59,7 @@ fn is_covered<S: GoodsSet>(kept: &Kept<S>, bid: &Atom<S>, few: bool) -> bool
     if !few {
         return kept.has_inside(&bid.bundle, bid.price);
     }
-    for atom in &kept.atoms {
-        if is_covered_by(bid, atom) {
-            return true;
-        }
-    }
-    false
+    is_covered_by_any(bid, kept.atoms.as_slice())
 }
 
 /// The bids that the bidder's values alone ask for, in order: a bid stays where no kept bid inside its bundle has its price.
@@ -59,6 +81,9 @@ pub fn prune_xor<S: GoodsSet>(
     ensures no_longer { IfOk result (λ points. vec_len points ≤ vec_len atoms) }
 {
     keep_best_bids(&mut atoms);
+    if are_few_and_uncovered(atoms.as_slice()) {
+        return Ok(atoms);
+    }
     let few = atoms.len() <= FEW;
     let mut kept = Kept::with_room(alloc, atoms.len())?;
     for bid in atoms {

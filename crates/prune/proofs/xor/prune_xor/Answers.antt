@@ -1,4 +1,4 @@
-use Rattle.std.proofs.Common.{arith, ◌≡◌, length, sym, ap, ◌∙◌, []}
+use Rattle.std.proofs.Common.{arith, ◌≡◌, length, sym, ap, ◌∙◌, subst, []}
 use Rattle.std.proofs.lemmas.Bool.{both_ways, le-leb}
 use Rattle.std.proofs.lemmas.List.{map_push, nil_from_length, length_push}
 use Rattle.std.proofs.lemmas.List.Elements.{All-contains}
@@ -9,7 +9,8 @@ use Rattle.valuation.specs.Values.{atoms_of}
 use Rattle.prune.proofs.BestBids.{seen_of}
 use Rattle.prune.proofs.Results.{turn_positive, turn_among, xor_reached, xor_missed}
 use Rattle.prune.specs.KeptLemmas.{on_bundles, just_bundles}
-use Rattle.prune.proofs.Turns.{xor_end, next_turn, taken, covers_is}
+use Rattle.prune.specs.Listings.{AreUncovered}
+use Rattle.prune.proofs.Turns.{xor_end, xor_uncovered, next_turn, taken, covers_is}
 use Rattle.prune.proofs.xor.prune_xor.Goals as goal
 
 pub push-requires-else-few-clause-some : goal.push-requires-else-few-clause-some
@@ -79,6 +80,27 @@ loop-bid-preserved g c =
       kept = rw (map_push (seen_of goods) yielded bid) reached;
       fewer = omega (arith, h.fewer, length_push yielded bid);
     }
+
+pub returns-then-are_few_and_uncovered-clause-points : goal.returns-then-are_few_and_uncovered-clause-points
+returns-then-are_few_and_uncovered-clause-points g c =
+    let bids = atoms_of g.S.GoodsSet.goods c.args.atoms.items in
+    λ n are. (xor_uncovered g.S.GoodsSet.goods (λ s. (g.met.S.GoodsSet.is_bundle s).0) _ c.keep_best_bids.new.bids.items c.keep_best_bids.ensures.best
+    (subst (λ zs. AreUncovered (atoms_of g.S.GoodsSet.goods zs)) c.as_slice.ensures.value (c.are_few_and_uncovered.ensures c.if-are_few_and_uncovered.true))).points n (just_bundles n bids (on_bundles n bids are))
+
+pub returns-then-are_few_and_uncovered-clause-values : goal.returns-then-are_few_and_uncovered-clause-values
+returns-then-are_few_and_uncovered-clause-values g c =
+    (xor_uncovered g.S.GoodsSet.goods (λ s. (g.met.S.GoodsSet.is_bundle s).0) _ c.keep_best_bids.new.bids.items c.keep_best_bids.ensures.best
+    (subst (λ zs. AreUncovered (atoms_of g.S.GoodsSet.goods zs)) c.as_slice.ensures.value (c.are_few_and_uncovered.ensures c.if-are_few_and_uncovered.true))).values
+
+pub returns-then-are_few_and_uncovered-clause-bids : goal.returns-then-are_few_and_uncovered-clause-bids
+returns-then-are_few_and_uncovered-clause-bids g c =
+    (xor_uncovered g.S.GoodsSet.goods (λ s. (g.met.S.GoodsSet.is_bundle s).0) _ c.keep_best_bids.new.bids.items c.keep_best_bids.ensures.best
+    (subst (λ zs. AreUncovered (atoms_of g.S.GoodsSet.goods zs)) c.as_slice.ensures.value (c.are_few_and_uncovered.ensures c.if-are_few_and_uncovered.true))).among
+
+pub returns-then-are_few_and_uncovered-clause-in_order : goal.returns-then-are_few_and_uncovered-clause-in_order
+returns-then-are_few_and_uncovered-clause-in_order g c =
+    (xor_uncovered g.S.GoodsSet.goods (λ s. (g.met.S.GoodsSet.is_bundle s).0) _ c.keep_best_bids.new.bids.items c.keep_best_bids.ensures.best
+    (subst (λ zs. AreUncovered (atoms_of g.S.GoodsSet.goods zs)) c.as_slice.ensures.value (c.are_few_and_uncovered.ensures c.if-are_few_and_uncovered.true))).in_order
 
 pub returns-clause-points : goal.returns-clause-points
 returns-clause-points g c =
