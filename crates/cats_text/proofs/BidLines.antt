@@ -13,6 +13,7 @@ use Rattle.cats_text.specs.declared.fault.Kind.TheVariants as kinds
 use Rattle.cats_text.specs.declared.word.Keyword.{Keyword as Key}
 use Rattle.cats_text.specs.declared.word.Keyword.TheVariants as keywords
 use Rattle.cats_text.specs.declared.word.Word.TheVariants.{Keyword, Number, Decimal as Fraction, End, Other}
+use Rattle.cats_text.specs.declared.parser.Keeping.{Keeping}
 use Rattle.cats_text.specs.declared.parser.Place.{Place}
 use Rattle.cats_text.specs.declared.parser.Place.TheVariants.{First, Second, Later, Ended}
 use Rattle.cats_text.specs.declared.limits.TheConstants.{MAX_GOODS, MAX_BIDS, MAX_DUMMY}
@@ -167,18 +168,22 @@ ok_of p = Ok p
 abbrev err_of : Kind → Reading
 err_of kind = Err kind
 
--- what is read is of the same line
-record Keeps (p : Progress) (r : Reading) : Type 0 where
-  same : (q : Progress) → r ≡ Ok q → q.stage ≡ p.stage
+-- what is read is of the same line, and as much is kept of its bid
+pub record Keeps (p : Progress) (r : Reading) : Type 0 where
+  pub same : (q : Progress) → r ≡ Ok q → q.stage ≡ p.stage
+  pub keeping : (q : Progress) → r ≡ Ok q → q.keeping ≡ p.keeping
 
-keeps_ok : (p q : Progress) → q.stage ≡ p.stage → Keeps p (Ok q)
-keeps_ok p q e = record { same = λ t h. subst (λ (u : Progress). u.stage ≡ p.stage) (progress_ok q t h) e }
+keeps_ok : (p q : Progress) → q.stage ≡ p.stage → q.keeping ≡ p.keeping → Keeps p (Ok q)
+keeps_ok p q e f = record {
+  same = λ t h. subst (λ (u : Progress). u.stage ≡ p.stage) (progress_ok q t h) e;
+  keeping = λ t h. subst (λ (u : Progress). u.keeping ≡ p.keeping) (progress_ok q t h) f;
+}
   where
     progress_ok : (x y : Progress) → ok_of x ≡ ok_of y → x ≡ y
     progress_ok x y h = cc
 
 keeps_err : (p : Progress) (kind : Kind) → Keeps p (Err kind)
-keeps_err p kind = record { same = λ t h. absurd (no kind t h) }
+keeps_err p kind = record { same = λ t h. absurd (no kind t h); keeping = λ t h. absurd (no kind t h) }
   where
     no : (k : Kind) (t : Progress) → err_of k ≡ ok_of t → ⊥
     no k t h = cc
@@ -188,7 +193,7 @@ keeps_cond p true x y h k = h
 keeps_cond p false x y h k = k
 
 keeps_keyword : (p : Progress) (k : Key) (w : Kept) → Keeps p (keyword_read p k w)
-keeps_keyword p k (Keyword j n) = keeps_cond p _ _ _ (keeps_ok p _ refl) (keeps_err p _)
+keeps_keyword p k (Keyword j n) = keeps_cond p _ _ _ (keeps_ok p _ refl refl) (keeps_err p _)
 keeps_keyword p k (Number v) = keeps_err p _
 keeps_keyword p k (Fraction d) = keeps_err p _
 keeps_keyword p k End = keeps_err p _
@@ -200,9 +205,9 @@ keeps_header_number : (p : Progress) (stage : Stage) (v : ℕ) → Keeps p (elim
   | Dummy ↦ cond (ltb MAX_DUMMY v) (Err kinds.TooLarge) (Ok (record p { place = Later; header = record p.header { dummy = v } }))
   | Bid ↦ Err kinds.Header
 ])
-keeps_header_number p Goods v = keeps_cond p _ _ _ (keeps_err p _) (keeps_ok p _ refl)
-keeps_header_number p Bids v = keeps_cond p _ _ _ (keeps_err p _) (keeps_ok p _ refl)
-keeps_header_number p Dummy v = keeps_cond p _ _ _ (keeps_err p _) (keeps_ok p _ refl)
+keeps_header_number p Goods v = keeps_cond p _ _ _ (keeps_err p _) (keeps_ok p _ refl refl)
+keeps_header_number p Bids v = keeps_cond p _ _ _ (keeps_err p _) (keeps_ok p _ refl refl)
+keeps_header_number p Dummy v = keeps_cond p _ _ _ (keeps_err p _) (keeps_ok p _ refl refl)
 keeps_header_number p Bid v = keeps_err p _
 
 keeps_second : (p : Progress) (w : Kept) → Keeps p (header_number_read p w)
@@ -220,13 +225,13 @@ keeps_number p (Number v) =
     let low : Reading = cond (leb p.header.bids v) (Err kinds.BidNumber) new in
     keeps_cond p (eqb p.due 0) (Err kinds.ExtraBid) low (keeps_err p kinds.ExtraBid)
     (keeps_cond p (leb p.header.bids v) (Err kinds.BidNumber) new (keeps_err p kinds.BidNumber)
-    (keeps_cond p (is_some_bid (slice_get p.slots v)) (Err kinds.RepeatedNumber) last (keeps_err p kinds.RepeatedNumber) (keeps_ok p (record p { place = Second; draft = record { number = v; price = 0; dummy = None } }) refl)))
+    (keeps_cond p (is_some_bid (slice_get p.slots v)) (Err kinds.RepeatedNumber) last (keeps_err p kinds.RepeatedNumber) (keeps_ok p (record p { place = Second; draft = record { number = v; price = 0; dummy = None } }) refl refl)))
 keeps_number p (Fraction d) = keeps_err p _
 keeps_number p End = keeps_err p _
 keeps_number p Other = keeps_err p _
 
 keeps_with_price : (p : Progress) (r : Result ℕ Kind) → Keeps p (with_price p r)
-keeps_with_price p (Ok m) = keeps_ok p _ refl
+keeps_with_price p (Ok m) = keeps_ok p _ refl refl
 keeps_with_price p (Err kind) = keeps_err p _
 
 keeps_price : (p : Progress) (w : Kept) → Keeps p (price_read p w)
@@ -237,7 +242,7 @@ keeps_price p End = keeps_err p _
 keeps_price p Other = keeps_err p _
 
 keeps_dummy : (p : Progress) (o : Option ℕ) (d : ℕ) → Keeps p (dummy_read p o d)
-keeps_dummy p None d = keeps_ok p _ refl
+keeps_dummy p None d = keeps_ok p _ refl refl
 keeps_dummy p (Some e) d = keeps_cond p _ _ _ (keeps_err p _) (keeps_err p _)
 
 keeps_good : (p : Progress) (w : Kept) → Keeps p (good_or_end_read p w)
@@ -247,10 +252,10 @@ keeps_good p (Number v) =
     let good : Reading = cond (ltb v p.header.goods) real (dummy_read p p.draft.dummy (v - p.header.goods)) in
     keeps_cond p (leb (p.header.goods + p.header.dummy) v) (Err kinds.GoodRange) good (keeps_err p kinds.GoodRange)
     (keeps_cond p (ltb v p.header.goods) real (dummy_read p p.draft.dummy (v - p.header.goods))
-    (keeps_cond p (has_number p.goods v) (Err kinds.RepeatedGood) (Ok (record p { goods = p.goods ++ v ∷ [] })) (keeps_err p kinds.RepeatedGood) (keeps_ok p (record p { goods = p.goods ++ v ∷ [] }) refl))
+    (keeps_cond p (has_number p.goods v) (Err kinds.RepeatedGood) (Ok (record p { goods = p.goods ++ v ∷ [] })) (keeps_err p kinds.RepeatedGood) (keeps_ok p (record p { goods = p.goods ++ v ∷ [] }) refl refl))
     (keeps_dummy p p.draft.dummy (v - p.header.goods)))
 keeps_good p (Fraction d) = keeps_err p _
-keeps_good p End = keeps_cond p _ _ _ (keeps_err p _) (keeps_ok p _ refl)
+keeps_good p End = keeps_cond p _ _ _ (keeps_err p _) (keeps_ok p _ refl refl)
 keeps_good p Other = keeps_err p _
 
 keeps_at : (place : Place) (stage : Stage) (p : Progress) (w : Kept) → Keeps p (read_at place stage p w)
@@ -272,7 +277,7 @@ keeps_at Ended Dummy p w = keeps_err p _
 keeps_at Ended Bid p w = keeps_err p _
 
 -- a word keeps the line
-keeps_word : (p : Progress) (w : Kept) → Keeps p (word_read p w)
+pub keeps_word : (p : Progress) (w : Kept) → Keeps p (word_read p w)
 keeps_word p w = keeps_at p.place p.stage p w
 
 abbrev ranked : ℕ → Reading → Type 0
@@ -405,9 +410,9 @@ four_begin (b ∷ bs) s c l m = ⊎_elim
     step (Err e) g n again = absurd n
 
 -- a bid line met in the bytes that are decided stands in the text
-pub bid_line_met : (text front back : List ℕ) → blank_returns text ≡ front ++ back → MeetsBidLine first_state front → has_bid_line text ≡ true
-bid_line_met text front back e m =
-    let four : 4 ≤ 0 + begins_after false front = four_begin front first_state 0 (omega arith) m in
+pub bid_line_met : (k : Keeping) (text front back : List ℕ) → blank_returns text ≡ front ++ back → MeetsBidLine (first_state k) front → has_bid_line text ≡ true
+bid_line_met k text front back e m =
+    let four : 4 ≤ 0 + begins_after false front = four_begin front (first_state k) 0 (omega arith) m in
     let more : begins_after false front ≤ begins_after false (front ++ back) = begins_more false front back in
     let all : begins_after false (front ++ back) ≡ length (significant_lines text) = ap (begins_after false) (sym e) ∙ (begins_are (blank_returns text)).fresh in
     lt-ltb 3 (length (significant_lines text)) (omega arith)

@@ -5,8 +5,9 @@ use Rattle.std.specs.List.{list_any, slice_get}
 use Rattle.cats_text.specs.Numbers.{is_number, number_of, is_too_large, is_too_fine, price_of, whole_part, places, has_place_from, six_places, is_digit, digits_alone, GREATEST_PRICE}
 use Rattle.cats_text.specs.Grammar.{line_number}
 use Rattle.cats_text.specs.Faults.{header_value, word_fault, when}
+use Rattle.cats_text.specs.FileLines.{bid_of}
 use Rattle.cats_text.specs.Progress.{Progress}
-use Rattle.cats_text.specs.Parsing.{Reading, number_read, price_read, price_parts, with_price, is_some_bid}
+use Rattle.cats_text.specs.Parsing.{Reading, number_read, price_read, price_parts, with_price, kept_of, is_some_bid}
 use Rattle.cats_text.specs.declared.fault.Kind.{Kind}
 use Rattle.cats_text.specs.declared.fault.Kind.TheVariants as kinds
 use Rattle.cats_text.specs.declared.word.Word.{Word}
@@ -63,7 +64,7 @@ number_follows g b d lines w v p t at =
     follow_test (g ∷ b ∷ d ∷ lines) [] w _ _ kinds.ExtraBid _ _ is (ap (λ x. eqb x 0) at.due ∙ none_due p.header.bids (length lines) ∙ ap (λ x. leb x (length lines)) bids)
     (λ _ is. follow_test (g ∷ b ∷ d ∷ lines) [] w _ _ kinds.BidNumber _ _ is (holds_le p.header.bids v (number_of w) (omega arith) t.1 ∙ ap (λ x. leb x (number_of w)) bids)
     (λ below is. let l : v < p.header.bids = leb-false p.header.bids v below in let same : v ≡ number_of w = holds_same v (number_of w) (omega arith) t.1 in
-    follow_test (g ∷ b ∷ d ∷ lines) [] w _ _ kinds.RepeatedNumber _ _ is (ap (λ s. is_some_bid (slice_get s v)) at.slots ∙ taken p.header.goods lines v ∙ ap (λ x. list_any (λ l. eqb (line_number l) x) lines) same)
+    follow_test (g ∷ b ∷ d ∷ lines) [] w _ _ kinds.RepeatedNumber _ _ is (ap (λ s. is_some_bid (slice_get s v)) at.slots ∙ taken (λ l. kept_of p.keeping (bid_of p.header.goods l)) lines v ∙ ap (λ x. list_any (λ l. eqb (line_number l) x) lines) same)
     (λ _ is. (is, record { stage = at.stage; place = refl; header = at.header; due = at.due; slots = at.slots; draft = (same, refl, at.draft); goods = at.goods; bids = at.bids; dummy = at.dummy }))))
 
 pub bid_first : (g b d : List (List ℕ)) (lines : List (List (List ℕ))) (w : List ℕ) (s : Word) (p : Progress) → IsTold w s → Tells w s → IsAt (g ∷ b ∷ d ∷ lines) [] p → WordFollows (g ∷ b ∷ d ∷ lines) [] w (number_read p s)

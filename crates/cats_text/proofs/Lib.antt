@@ -23,6 +23,7 @@ pub mod Scanned
 pub mod FaultKinds
 pub mod StreamReading
 pub mod PieceRuns
+pub mod Keeping
 pub mod Bridge
 pub mod Feeding
 pub mod Places

@@ -5,10 +5,10 @@ use Rattle.std.proofs.lemmas.List.Sums.{fold_push}
 use Rattle.cats_text.specs.Numbers.{number_of, price_of}
 use Rattle.cats_text.specs.Grammar.{line_number}
 use Rattle.cats_text.specs.Faults.{is_line_due, when, has_end}
-use Rattle.cats_text.specs.FileLines.{rising_of, put_slot, before_end, real_goods, bid_of, slots_of}
+use Rattle.cats_text.specs.FileLines.{rising_of, put_slot, before_end, real_goods, bid_of}
 use Rattle.cats_text.specs.Files.{PlainBid}
 use Rattle.cats_text.specs.Progress.{Progress}
-use Rattle.cats_text.specs.Parsing.{Reading, word_read, line_read, with_bid, drafted, is_due}
+use Rattle.cats_text.specs.Parsing.{Reading, word_read, line_read, with_bid, drafted, kept_of, is_due}
 use Rattle.cats_text.specs.declared.fault.Kind.TheVariants as kinds
 use Rattle.cats_text.specs.declared.parser.Header.{Header}
 use Rattle.cats_text.specs.declared.parser.Stage.{Stage}
@@ -18,7 +18,7 @@ use Rattle.cats_text.specs.declared.parser.Place.TheVariants.{First, Second, Lat
 use Rattle.cats_text.specs.Machine.{summary}
 use Rattle.cats_text.proofs.Summary.{tells}
 use Rattle.cats_text.proofs.Told.{told}
-use Rattle.cats_text.proofs.Standing.{IsAt, IsDraft, WordFollows, LineFollows, ended_place}
+use Rattle.cats_text.proofs.Standing.{IsAt, IsDraft, WordFollows, LineFollows, ended_place, kept_slots}
 use Rattle.cats_text.proofs.HeaderSteps.{read_there, goods_word, bids_word, dummy_word}
 use Rattle.cats_text.proofs.BidSteps.{fault_named, bid_first, bid_second}
 use Rattle.cats_text.proofs.GoodSteps.{bid_later}
@@ -75,8 +75,9 @@ bid_line_step g b d lines (n ∷ x ∷ gs) p l at = elim (has_end gs) as (λ t. 
       place = refl;
       header = at.header;
       due = (let due : p.due ≡ p.header.bids - length lines = at.due in let more : length (lines ++ (n ∷ x ∷ gs) ∷ []) ≡ length lines + 1 = length-append lines ((n ∷ x ∷ gs) ∷ []) in omega arith);
-      slots = ap₂ (λ (s : List (Option PlainBid)) (k : ℕ). put_slot s k (drafted p)) at.slots at.draft.number ∙ ap (put_slot (slots_of p.header.goods lines) (number_of n)) (drafted_is p.header.goods n x gs p at.draft)
-          ∙ sym (fold_push (λ s m. put_slot s (line_number m) (bid_of p.header.goods m)) [] lines (n ∷ x ∷ gs));
+      slots = ap₂ (λ (s : List (Option PlainBid)) (k : ℕ). put_slot s k (kept_of p.keeping (drafted p))) at.slots at.draft.number
+          ∙ ap (λ (b : PlainBid). put_slot (kept_slots p.keeping p.header.goods lines) (number_of n) (kept_of p.keeping b)) (drafted_is p.header.goods n x gs p at.draft)
+          ∙ sym (fold_push (λ s m. put_slot s (line_number m) (kept_of p.keeping (bid_of p.header.goods m))) [] lines (n ∷ x ∷ gs));
       draft = refl;
       goods = at.goods;
       bids = at.bids;

@@ -6,6 +6,7 @@ use Rattle.cats_text.specs.Lines.{is_blank, line_byte, blank_returns}
 use Rattle.cats_text.specs.Faults.{is_final, keep_final, up_to_final, complete_fault}
 use Rattle.cats_text.specs.Returns.{return_byte, settled, waits, carried}
 use Rattle.cats_text.specs.Scanning.{State, Scan, first_state, and_then, run, byte_step, end_step, end_of, letter_mode}
+use Rattle.cats_text.specs.declared.parser.Keeping.{Keeping}
 use Rattle.cats_text.proofs.ByteLines.{run-append, byte_letter}
 use Rattle.cats_text.proofs.WholeLines.{Scanned}
 use Rattle.cats_text.proofs.AllBytes.{outcome}
@@ -57,10 +58,10 @@ end_waiting true s = ap (λ r. and_then r end_step) (sym (and_then_ok (byte_step
 end_waiting false s = refl
 
 -- the end of the input behind the bytes that are decided
-pub end_of_text : (text : List ℕ) (s : State) → run first_state (settled text) ≡ Ok s → end_of (waits text) s ≡ and_then (run first_state (blank_returns text)) end_step
-end_of_text text s e = end_waiting (waits text) s
+pub end_of_text : (k : Keeping) (text : List ℕ) (s : State) → run (first_state k) (settled text) ≡ Ok s → end_of (waits text) s ≡ and_then (run (first_state k) (blank_returns text)) end_step
+end_of_text k text s e = end_waiting (waits text) s
     ∙ ap (λ (r : Scan). and_then (and_then r (λ t. run t (waiting (waits text)))) end_step) (sym e)
-    ∙ ap (λ (r : Scan). and_then r end_step) (sym (ap (run first_state) (blank_returns-settled text) ∙ run-append first_state (settled text) (waiting (waits text))))
+    ∙ ap (λ (r : Scan). and_then r end_step) (sym (ap (run (first_state k)) (blank_returns-settled text) ∙ run-append (first_state k) (settled text) (waiting (waits text))))
 
 -- ---- what is complete
 
@@ -136,14 +137,14 @@ abbrev pub CompleteIs : List ℕ → Scanned → Type 0
 CompleteIs bytes (Ok q) = complete_fault bytes ≡ None
 CompleteIs bytes (Err e) = complete_fault bytes ≡ Some e
 
-pub complete_is : (text : List ℕ) → CompleteIs text (outcome (run first_state (settled text)))
-complete_is text =
+pub complete_is : (k : Keeping) (text : List ℕ) → CompleteIs text (outcome (run (first_state k) (settled text)))
+complete_is k text =
     let cut = cut_of text in
-    subst (CompleteIs text) (sym (ap (λ bs. outcome (run first_state (settled bs))) cut.1.is
-    ∙ ap (λ bs. outcome (run first_state bs)) (settled-final (up_to_final text) cut.0 cut.1.ends)
-    ∙ ap outcome (run-append first_state (blank_returns (up_to_final text)) (settled cut.0))
-    ∙ open_behind (run first_state (blank_returns (up_to_final text))) (settled cut.0) (open_settled cut.0 cut.1.open_rest)))
-    (answer (outcome (run first_state (blank_returns (up_to_final text)))) (open_fault (up_to_final text) (ends_returns (up_to_final text) cut.1.ends)))
+    subst (CompleteIs text) (sym (ap (λ bs. outcome (run (first_state k) (settled bs))) cut.1.is
+    ∙ ap (λ bs. outcome (run (first_state k) bs)) (settled-final (up_to_final text) cut.0 cut.1.ends)
+    ∙ ap outcome (run-append (first_state k) (blank_returns (up_to_final text)) (settled cut.0))
+    ∙ open_behind (run (first_state k) (blank_returns (up_to_final text))) (settled cut.0) (open_settled cut.0 cut.1.open_rest)))
+    (answer (outcome (run (first_state k) (blank_returns (up_to_final text)))) (open_fault k (up_to_final text) (ends_returns (up_to_final text) cut.1.ends)))
   where
     answer : (r : Scanned) → OpenIs (up_to_final text) r → CompleteIs text r
     answer (Ok q) h = h

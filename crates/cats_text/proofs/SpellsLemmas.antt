@@ -72,7 +72,7 @@ each_bid f lines p a = all_same (SpellsBid f) (λ l. slice_get f.bids (line_numb
 spelled_header : (keyword : Word) (limit : ℕ) (w : Word) (n : ℕ) → SpellsNumber w n → n ≤ limit → IsHeader keyword limit (keyword ∷ w ∷ [])
 spelled_header keyword limit w n s l = record { number = w; words_are = refl; spelled = s.number; within = subst (λ m. m ≤ limit) (sym s.value) l }
 
-spelled_value : (keyword w : Word) (n : ℕ) → SpellsNumber w n → header_value (keyword ∷ w ∷ []) ≡ n
+pub spelled_value : (keyword w : Word) (n : ℕ) → SpellsNumber w n → header_value (keyword ∷ w ∷ []) ≡ n
 spelled_value keyword w n s = ap (λ b. cond b (number_of w) 0) s.number ∙ s.value
 
 file_bid_lines : (text : List ℕ) (f : PlainFile) → (s : Spells text f) → AreBidLines (file_bounds f) s.bid_lines

@@ -1,13 +1,15 @@
 -- What the parser keeps, as a function of the lines before and the words before in a line.
-use Rattle.std.proofs.Common.{◌≡◌, ℕ, ◌-◌, ◌≤◌, Bool, true, false, leb, List, [], ◌∷◌, ◌++◌, length, drop, map, Some, None, Ok, Err}
+use Rattle.std.proofs.Common.{◌≡◌, ℕ, ◌-◌, ◌≤◌, Bool, true, false, leb, List, [], ◌∷◌, ◌++◌, length, drop, map, fold, Option, Some, None, Ok, Err}
 use Rattle.std.specs.List.{find}
 use Rattle.cats_text.specs.Lines.{Word}
 use Rattle.cats_text.specs.Numbers.{number_of, price_of}
-use Rattle.cats_text.specs.Grammar.{has_number}
+use Rattle.cats_text.specs.Grammar.{has_number, line_number}
 use Rattle.cats_text.specs.Faults.{header_value, has_end, word_fault, end_fault}
-use Rattle.cats_text.specs.FileLines.{before_end, real_goods, dummy_in, slots_of}
+use Rattle.cats_text.specs.FileLines.{before_end, real_goods, dummy_in, bid_of, put_slot}
+use Rattle.cats_text.specs.Files.{PlainBid}
 use Rattle.cats_text.specs.Progress.{Progress}
-use Rattle.cats_text.specs.Parsing.{Reading}
+use Rattle.cats_text.specs.Parsing.{Reading, kept_of}
+use Rattle.cats_text.specs.declared.parser.Keeping.{Keeping}
 use Rattle.cats_text.specs.declared.parser.Stage.{Stage}
 use Rattle.cats_text.specs.declared.parser.Stage.TheVariants.{Goods, Bids, Dummy, Bid}
 use Rattle.cats_text.specs.declared.parser.Place.{Place}
@@ -69,13 +71,17 @@ DraftAt (_ ∷ []) words p = p.goods ≡ []
 DraftAt (_ ∷ _ ∷ []) words p = p.goods ≡ []
 DraftAt (_ ∷ _ ∷ _ ∷ _) words p = BidDraft p.header.goods words p
 
+-- what is kept of the bids of lines, each at its number
+abbrev pub kept_slots : Keeping → ℕ → List (List Word) → List (Option PlainBid)
+kept_slots keeping G lines = fold (λ slots l. put_slot slots (line_number l) (kept_of keeping (bid_of G l))) [] lines
+
 -- p is what the parser keeps behind these lines and, in the next, these words
 pub record IsAt (lines : List (List Word)) (words : List Word) (p : Progress) : Type 0 where
   pub stage : p.stage ≡ stage_of lines
   pub place : p.place ≡ place_of lines words
   pub header : p.header ≡ values_of lines words
   pub due : p.due ≡ p.header.bids - length (drop 3 lines)
-  pub slots : p.slots ≡ slots_of p.header.goods (drop 3 lines)
+  pub slots : p.slots ≡ kept_slots p.keeping p.header.goods (drop 3 lines)
   pub draft : DraftAt lines words p
   pub goods : p.header.goods ≤ MAX_GOODS
   pub bids : p.header.bids ≤ MAX_BIDS

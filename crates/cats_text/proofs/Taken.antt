@@ -7,7 +7,7 @@ use Rattle.cats_text.specs.Lines.{Word}
 use Rattle.cats_text.specs.Files.{PlainBid}
 use Rattle.cats_text.specs.Grammar.{line_number}
 use Rattle.cats_text.specs.Parsing.{is_some_bid}
-use Rattle.cats_text.specs.FileLines.{put_slot, bid_of, slots_of}
+use Rattle.cats_text.specs.FileLines.{put_slot}
 
 taken_set : (xs : List (Option PlainBid)) (n : ℕ) (b : PlainBid) (k : ℕ) → n < length xs → is_some_bid (slice_get (set xs n (Some b)) k) ≡ (eqb n k || is_some_bid (slice_get xs k))
 taken_set [] n b k l = absurd (let no : n < 0 = l in omega arith)
@@ -37,14 +37,14 @@ taken_put xs n b k =
     let long : length (xs ++ replicate (n + 1 - length xs) None) ≡ length xs + (n + 1 - length xs) = length-append xs (replicate (n + 1 - length xs) None) ∙ ap (λ m. length xs + m) (length-replicate (n + 1 - length xs) None) in
     taken_set (xs ++ replicate (n + 1 - length xs) None) n b k (omega arith) ∙ ap (λ t. eqb n k || t) (taken_padded xs (n + 1 - length xs) k)
 
-taken_fold : (G : ℕ) (lines : List (List Word)) (slots : List (Option PlainBid)) (k : ℕ)
-    → is_some_bid (slice_get (fold (λ s l. put_slot s (line_number l) (bid_of G l)) slots lines) k) ≡ (is_some_bid (slice_get slots k) || list_any (λ l. eqb (line_number l) k) lines)
-taken_fold G [] slots k = sym (or_false (is_some_bid (slice_get slots k)))
+taken_fold : (bid : List Word → PlainBid) (lines : List (List Word)) (slots : List (Option PlainBid)) (k : ℕ)
+    → is_some_bid (slice_get (fold (λ s l. put_slot s (line_number l) (bid l)) slots lines) k) ≡ (is_some_bid (slice_get slots k) || list_any (λ l. eqb (line_number l) k) lines)
+taken_fold bid [] slots k = sym (or_false (is_some_bid (slice_get slots k)))
   where
     or_false : (b : Bool) → (b || false) ≡ b
     or_false true = refl
     or_false false = refl
-taken_fold G (l ∷ lines) slots k = taken_fold G lines (put_slot slots (line_number l) (bid_of G l)) k ∙ ap (λ t. t || list_any (λ m. eqb (line_number m) k) lines) (taken_put slots (line_number l) (bid_of G l) k)
+taken_fold bid (l ∷ lines) slots k = taken_fold bid lines (put_slot slots (line_number l) (bid l)) k ∙ ap (λ t. t || list_any (λ m. eqb (line_number m) k) lines) (taken_put slots (line_number l) (bid l) k)
     ∙ or_swap (eqb (line_number l) k) (is_some_bid (slice_get slots k)) (list_any (λ m. eqb (line_number m) k) lines)
   where
     or_swap : (a b c : Bool) → ((a || b) || c) ≡ (b || (a || c))
@@ -53,5 +53,5 @@ taken_fold G (l ∷ lines) slots k = taken_fold G lines (put_slot slots (line_nu
     or_swap false true c = refl
     or_swap false false c = refl
 
-pub taken : (G : ℕ) (lines : List (List Word)) (k : ℕ) → is_some_bid (slice_get (slots_of G lines) k) ≡ list_any (λ l. eqb (line_number l) k) lines
-taken G lines k = taken_fold G lines [] k
+pub taken : (bid : List Word → PlainBid) (lines : List (List Word)) (k : ℕ) → is_some_bid (slice_get (fold (λ s l. put_slot s (line_number l) (bid l)) [] lines) k) ≡ list_any (λ l. eqb (line_number l) k) lines
+taken bid lines k = taken_fold bid lines [] k

@@ -8,6 +8,7 @@ use Rattle.cats_text.specs.Faults.{fault_at, lines_fault, first_fault, is_line_d
 use Rattle.cats_text.specs.Progress.{Progress}
 use Rattle.cats_text.specs.Parsing.{Reading, start, is_due, line_read}
 use Rattle.cats_text.specs.Scanning.{Scan, first_state, and_then, run, byte_step, blank_step, end_step}
+use Rattle.cats_text.specs.declared.parser.Keeping.{Keeping}
 use Rattle.cats_text.specs.declared.fault.Kind.TheVariants.{Missing}
 use Rattle.cats_text.specs.declared.scanner.Mode.TheVariants.{Start, Between}
 use Rattle.cats_text.proofs.ByteLines.{run-append, IsNoEnd, standing, fresh_outcome, lifted, quiet, from_start, byte_blank, words_blank}
@@ -101,21 +102,21 @@ kept_ends n (l ∷ ls) r = elim (is_significant (line_words l.bytes)) as (λ t. 
 
 -- ---- before the first line
 
-pub at_start : IsAt [] [] start
-at_start = record { stage = refl; place = refl; header = refl; due = refl; slots = refl; draft = refl; goods = omega arith; bids = omega arith; dummy = omega arith }
+pub at_start : (k : Keeping) → IsAt [] [] (start k)
+at_start k = record { stage = refl; place = refl; header = refl; due = refl; slots = refl; draft = refl; goods = omega arith; bids = omega arith; dummy = omega arith }
 
 -- the answer for a whole text
 abbrev pub WholeIs : List ℕ → Scanned → Type 0
 WholeIs text (Ok q) = (first_fault text ≡ None) × IsAt (significant_words text) [] q × (is_line_due (significant_words text) ≡ false)
 WholeIs text (Err e) = first_fault text ≡ Some e
 
-pub whole_fault : (text : List ℕ) → WholeIs text (outcome (and_then (run first_state (blank_returns text)) end_step))
-whole_fault text =
-    subst (WholeIs text) (sym (ap (λ bs. outcome (and_then (run first_state bs) end_step)) (sym (text_of-lines (blank_returns text)))
-    ∙ whole_text 1 start (raw_lines (blank_returns text)) (AreRaw-lines (blank_returns text))
-    ∙ raw_scan-lines true 1 (raw_lines (blank_returns text)) start (line_count text) (AreRaw-lines (blank_returns text)) (λ e. omega arith)))
-    (answer (lines_scan true (line_count text) (significant_lines text) start)
-    (lines_step true (line_count text) [] (significant_lines text) start (kept_are 1 (raw_lines (blank_returns text))) (kept_ends 1 (raw_lines (blank_returns text)) (AreRaw-lines (blank_returns text))) at_start))
+pub whole_fault : (k : Keeping) (text : List ℕ) → WholeIs text (outcome (and_then (run (first_state k) (blank_returns text)) end_step))
+whole_fault k text =
+    subst (WholeIs text) (sym (ap (λ bs. outcome (and_then (run (first_state k) bs) end_step)) (sym (text_of-lines (blank_returns text)))
+    ∙ whole_text 1 (start k) (raw_lines (blank_returns text)) (AreRaw-lines (blank_returns text))
+    ∙ raw_scan-lines true 1 (raw_lines (blank_returns text)) (start k) (line_count text) (AreRaw-lines (blank_returns text)) (λ e. omega arith)))
+    (answer (lines_scan true (line_count text) (significant_lines text) (start k))
+    (lines_step true (line_count text) [] (significant_lines text) (start k) (kept_are 1 (raw_lines (blank_returns text))) (kept_ends 1 (raw_lines (blank_returns text)) (AreRaw-lines (blank_returns text))) (at_start k)))
   where
     answer : (r : Scanned) → LinesAre true (line_count text) [] (significant_lines text) r → WholeIs text r
     answer (Ok q) h = (h.0, (h.1 refl).0, (h.1 refl).1)
@@ -244,13 +245,13 @@ abbrev pub OpenIs : List ℕ → Scanned → Type 0
 OpenIs text (Ok q) = lines_fault false 0 [] (significant_lines text) ≡ None
 OpenIs text (Err e) = lines_fault false 0 [] (significant_lines text) ≡ Some e
 
-pub open_fault : (text : List ℕ) → EndsFinal (blank_returns text) → OpenIs text (outcome (run first_state (blank_returns text)))
-open_fault text f =
-    subst (OpenIs text) (sym (ap (λ bs. outcome (run first_state bs)) (sym (text_of-lines (blank_returns text)))
-    ∙ open_text 1 start (raw_lines (blank_returns text)) (AreRaw-lines (blank_returns text)) (EndsBlank-lines (blank_returns text) f)
-    ∙ raw_scan-lines false 1 (raw_lines (blank_returns text)) start 0 (AreRaw-lines (blank_returns text)) (λ e. absurd (both_ways false refl e))))
-    (answer (lines_scan false 0 (significant_lines text) start)
-    (lines_step false 0 [] (significant_lines text) start (kept_are 1 (raw_lines (blank_returns text))) (kept_ends 1 (raw_lines (blank_returns text)) (AreRaw-lines (blank_returns text))) at_start))
+pub open_fault : (k : Keeping) (text : List ℕ) → EndsFinal (blank_returns text) → OpenIs text (outcome (run (first_state k) (blank_returns text)))
+open_fault k text f =
+    subst (OpenIs text) (sym (ap (λ bs. outcome (run (first_state k) bs)) (sym (text_of-lines (blank_returns text)))
+    ∙ open_text 1 (start k) (raw_lines (blank_returns text)) (AreRaw-lines (blank_returns text)) (EndsBlank-lines (blank_returns text) f)
+    ∙ raw_scan-lines false 1 (raw_lines (blank_returns text)) (start k) 0 (AreRaw-lines (blank_returns text)) (λ e. absurd (both_ways false refl e))))
+    (answer (lines_scan false 0 (significant_lines text) (start k))
+    (lines_step false 0 [] (significant_lines text) (start k) (kept_are 1 (raw_lines (blank_returns text))) (kept_ends 1 (raw_lines (blank_returns text)) (AreRaw-lines (blank_returns text))) (at_start k)))
   where
     answer : (r : Scanned) → LinesAre false 0 [] (significant_lines text) r → OpenIs text r
     answer (Ok q) h = h.0

@@ -8,6 +8,8 @@ use Rattle.cats_text.specs.Keywords.{keyword_text}
 use Rattle.cats_text.specs.Progress.{Progress}
 use Rattle.cats_text.specs.declared.fault.Kind.{Kind}
 use Rattle.cats_text.specs.declared.fault.Kind.TheVariants as kinds
+use Rattle.cats_text.specs.declared.parser.Keeping.{Keeping}
+use Rattle.cats_text.specs.declared.parser.Keeping.TheVariants as keepings
 use Rattle.cats_text.specs.declared.word.Keyword.{Keyword}
 use Rattle.cats_text.specs.declared.word.Keyword.TheVariants as keywords
 use Rattle.cats_text.specs.declared.word.Word.{Word}
@@ -20,8 +22,10 @@ use Rattle.cats_text.specs.declared.limits.TheConstants.{MAX_GOODS, MAX_BIDS, MA
 abbrev pub Reading : Type 0
 Reading = Result Progress Kind
 
-abbrev pub start : Progress
-start = record {
+-- before the first line, where this is kept of each bid
+abbrev pub start : Keeping → Progress
+start keeping = record {
+  keeping = keeping;
   stage = Goods;
   place = First;
   header = record { goods = 0; bids = 0; dummy = 0 };
@@ -112,11 +116,20 @@ word_read p w = elim p.place [
 
 -- ---- the end of a line
 
+-- a bid of which only its number is kept
+abbrev pub number_alone : PlainBid
+number_alone = record { price = 0; goods = []; dummy = None }
+
+-- what is kept of a bid
+abbrev pub kept_of : Keeping → PlainBid → PlainBid
+kept_of keepings.Bids b = b
+kept_of keepings.Numbers b = number_alone
+
 abbrev pub drafted : Progress → PlainBid
 drafted p = record { price = p.draft.price; goods = rising_of p.goods; dummy = p.draft.dummy }
 
 abbrev pub with_bid : Progress → Progress
-with_bid p = record p { place = First; due = p.due - 1; slots = put_slot p.slots p.draft.number (drafted p); goods = [] }
+with_bid p = record p { place = First; due = p.due - 1; slots = put_slot p.slots p.draft.number (kept_of p.keeping (drafted p)); goods = [] }
 
 abbrev pub header_line_read : Progress → Stage → Reading
 header_line_read p next = elim p.place [ First ↦ Err kinds.Header | Second ↦ Err kinds.Header | Later ↦ Ok (record p { place = First; stage = next }) | Ended ↦ Err kinds.Header ]

@@ -3,6 +3,7 @@ use Rattle.std.specs.Prelude.{◌≡◌, ℕ, List, ◌++◌, map, Option, Some,
 use Rattle.cats_text.specs.Files.{PlainBid, plain_bid}
 use Rattle.cats_text.specs.declared.bid.Bid.{Bid as FileBid}
 use Rattle.cats_text.specs.declared.fault.Kind.{Kind}
+use Rattle.cats_text.specs.declared.parser.Keeping.{Keeping}
 use Rattle.cats_text.specs.declared.parser.Stop.{Stop}
 use Rattle.cats_text.specs.declared.parser.Stop.TheVariants.{Fault, Memory}
 use Rattle.cats_text.specs.declared.parser.Stage.{Stage}
@@ -14,6 +15,7 @@ use Rattle.cats_text.specs.declared.parser.Parser.{Parser}
 use Rattle.cats_text.specs.declared.slots.Slots.{Slots}
 
 pub record Progress : Type 0 where
+  pub keeping : Keeping
   pub stage : Stage
   pub place : Place
   pub header : Header
@@ -33,7 +35,7 @@ abbrev pub slot_list : Slots → List (Option FileBid)
 slot_list s = map (λ b. Some b) s.front.items ++ s.rest.items
 
 abbrev pub progress : Parser → Progress
-progress p = record { stage = p.stage; place = p.place; header = p.header; due = p.due; slots = plain_slots (slot_list p.slots); draft = p.draft; goods = p.goods }
+progress p = record { keeping = p.keeping; stage = p.stage; place = p.place; header = p.header; due = p.due; slots = plain_slots (slot_list p.slots); draft = p.draft; goods = p.goods }
 
 -- a call gave what the machine gives, unless memory was refused
 abbrev pub Gives : {A B : Type 0} → B → Result A Stop → Result B Kind → Type 0

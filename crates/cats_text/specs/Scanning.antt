@@ -10,6 +10,8 @@ use Rattle.cats_text.specs.Parsing.{Reading, start, word_read, line_read, is_due
 use Rattle.cats_text.specs.declared.bid.BidFile.{BidFile}
 use Rattle.cats_text.specs.declared.fault.Kind.TheVariants.{Missing}
 use Rattle.cats_text.specs.declared.fault.ReadFault.{ReadFault}
+use Rattle.cats_text.specs.declared.parser.Header.{Header}
+use Rattle.cats_text.specs.declared.parser.Keeping.{Keeping}
 use Rattle.cats_text.specs.declared.parser.Stop.{Stop}
 use Rattle.cats_text.specs.declared.parser.Stop.TheVariants as stops
 use Rattle.cats_text.specs.declared.parser.Stage.TheVariants.{Bid}
@@ -27,8 +29,8 @@ pub record State : Type 0 where
 abbrev pub state : Scanner → State
 state s = record { mode = s.mode; line = s.line; progress = progress s.parser }
 
-abbrev pub first_state : State
-first_state = record { mode = Start; line = 1; progress = start }
+abbrev pub first_state : Keeping → State
+first_state keeping = record { mode = Start; line = 1; progress = start keeping }
 
 abbrev pub Scan : Type 0
 Scan = Result State ReadFault
@@ -154,10 +156,16 @@ abbrev pub IsFileOf : BidFile → Scan → Type 0
 IsFileOf f (Ok s) = plain_file f ≡ file_from s.progress
 IsFileOf f (Err e) = ⊥
 
-abbrev pub Finishes : Result BidFile Halt → Scan → Type 0
-Finishes (Ok f) read = IsFileOf f read
-Finishes (Err (Fault e)) read = read ≡ Err e
-Finishes (Err Memory) read = Unit {0}
+-- the header lines at the end of the input
+abbrev pub IsHeaderOf : Header → Scan → Type 0
+IsHeaderOf h (Ok s) = h ≡ s.progress.header
+IsHeaderOf h (Err e) = ⊥
+
+-- a call at the end of the input gave what is asked for of it, or what the machine gives
+abbrev pub Finishes : {A : Type 0} → (A → Scan → Type 0) → Result A Halt → Scan → Type 0
+Finishes IsOf (Ok x) read = IsOf x read
+Finishes IsOf (Err (Fault e)) read = read ≡ Err e
+Finishes IsOf (Err Memory) read = Unit {0}
 
 -- memory was refused in a bid line, or for bids that came
 abbrev pub HasBids : Scan → Type 0

@@ -4,14 +4,15 @@ use Rattle.std.specs.Prelude.{◌≡◌, ◌⊎◌, ◌≤◌, ℕ, Bool, true, 
 use Rattle.std.specs.Io.KnownBytes.{Appends, IsAtEnd}
 use Rattle.std.specs.declared.io.Error.{Error}
 use Rattle.cats_text.specs.Files.{PlainFile}
-use Rattle.cats_text.specs.Views.{plain_file}
+use Rattle.cats_text.specs.Views.{plain_file, HasSizes}
 use Rattle.cats_text.specs.Grammar.{Spells}
 use Rattle.cats_text.specs.Faults.{first_fault, has_bid_line, fault_at}
-use Rattle.cats_text.specs.Fed.{fed_fault}
+use Rattle.cats_text.specs.Fed.{Fed, fed_fault}
 use Rattle.cats_text.specs.declared.bid.BidFile.{BidFile}
 use Rattle.cats_text.specs.declared.fault.Kind.{Kind}
 use Rattle.cats_text.specs.declared.fault.Kind.TheVariants.{Device, Memory}
 use Rattle.cats_text.specs.declared.fault.ReadFault.{ReadFault}
+use Rattle.cats_text.specs.declared.parser.Header.{Header}
 use Rattle.cats_text.specs.declared.limits.TheConstants.{MAX_STREAM}
 use Rattle.cats_text.specs.declared.stream.Watched.{Watched}
 
@@ -73,6 +74,21 @@ module _ {R : Type 0} (remaining : R → Option (List ℕ)) where
   FaultsAt bytes input line Device = (line ≡ 0) × (has_failed input ≡ true) × (fed_fault MAX_STREAM bytes ≡ None)
   FaultsAt bytes input line Memory = (line ≡ 0) × (has_failed input ≡ false) × (has_bid_line (take MAX_STREAM bytes) ≡ true)
   FaultsAt bytes input line kind = (has_failed input ≡ false) × IsTextFault bytes input (fault_at line kind)
+
+  -- the bytes spell a file whose header lines say this
+  pub record ReadsSizes (bytes : List ℕ) (input : Watched R) (header : Header) : Type 0 where
+    pub file : PlainFile
+    pub reads : ReadsFile bytes input file
+    pub sizes : HasSizes header file
+
+  abbrev pub ChecksAs : List ℕ → Watched R → Result Header ReadFault → Type 0
+  ChecksAs bytes input (Ok header) = ReadsSizes bytes input header
+  ChecksAs bytes input (Err fault) = FaultsAt bytes input fault.line fault.kind
+
+  -- what feeding a whole stream answers, of which these bytes came
+  abbrev pub FeedsFrom : Fed → Watched R → Result (Unit {0}) ReadFault → Type 0
+  FeedsFrom fed input (Ok u) = (fed.failed ≡ None) × (has_failed input ≡ false) × IsWhole fed.bytes input
+  FeedsFrom fed input (Err fault) = FaultsAt fed.bytes input fault.line fault.kind
 
   abbrev pub ReadsAs : List ℕ → Watched R → Result BidFile ReadFault → Type 0
   ReadsAs bytes input (Ok file) = ReadsFile bytes input (plain_file file)

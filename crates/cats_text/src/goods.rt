@@ -82,6 +82,14 @@ impl GoodList {
         if !goods.as_slice().is_sorted() {
             goods.sort_unstable();
         }
+        self.clear();
+        Ok(goods)
+    }
+
+    /// Forgets the goods.
+    pub fn clear(&mut self)
+        ensures { self.new ≡ [] }
+    {
         self.goods.clear();
         if self.bid_mark == u32::MAX {
             self.marks.clear();
@@ -89,6 +97,5 @@ impl GoodList {
         } else {
             self.bid_mark += 1;
         }
-        Ok(goods)
     }
 }

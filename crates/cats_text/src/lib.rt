@@ -3,6 +3,7 @@
 
 mod bid;
 mod fault;
+mod feeder;
 mod front;
 mod goods;
 mod history;
@@ -21,5 +22,6 @@ pub use bid::{Bid, BidFile};
 pub use fault::{Kind, ReadFault, SendFault};
 pub use layout::{push_bid, push_header, push_price, write};
 pub use limits::{MAX_BIDS, MAX_DUMMY, MAX_GOODS, MAX_PRICE, MAX_STREAM};
+pub use parser::Header;
 pub use reader::{Reader, read};
-pub use stream::{Watched, answers_of_devices, read_from, send};
+pub use stream::{Watched, answers_of_devices, check_from, read_from, send};

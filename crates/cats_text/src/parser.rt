@@ -1,11 +1,11 @@
 //! From words to bids: what is due, and what has come.
 
-ghost use Rattle.std.specs.Prelude.{◌≡◌, ◌<◌, length, IfOk, OnErr};
+ghost use Rattle.std.specs.Prelude.{◌≡◌, ◌<◌, [], length, IfOk, OnOk, OnErr};
 ghost use Rattle.std.specs.Bool.{OnTrue};
-ghost use Rattle.cats_text.specs.Files.{IsPlainFile};
+ghost use Rattle.cats_text.specs.Files.{IsPlainFile, plain_bid};
 ghost use Rattle.cats_text.specs.Views.{plain_file};
 ghost use Rattle.cats_text.specs.Progress.{progress, Gives, Answers, AsksOnBidLines};
-ghost use Rattle.cats_text.specs.Parsing.{start, keyword_read, header_number_read, number_read, price_parts, price_read, good_read, good_or_end_read, word_read, bid_read, header_line_read, line_read, is_due, file_from};
+ghost use Rattle.cats_text.specs.Parsing.{start, keyword_read, header_number_read, number_read, price_parts, price_read, good_read, good_or_end_read, word_read, drafted, kept_of, bid_read, header_line_read, line_read, is_due, file_from};
 
 use crate::bid::{Bid, BidFile};
 use crate::fault::Kind;
@@ -46,6 +46,15 @@ impl<T: Drop> From<AllocFailed<T>> for Stop {
     }
 }
 
+/// What is kept of the bids that come.
+#[derive(Clone, Copy, PartialEq, Eq, Debug)]
+pub enum Keeping {
+    /// The bids.
+    Bids,
+    /// That their numbers came.
+    Numbers,
+}
+
 /// Which significant line it is.
 #[derive(Clone, Copy, PartialEq, Eq, Debug)]
 pub enum Stage {
@@ -65,7 +74,7 @@ pub enum Place {
     Ended,
 }
 
-/// What the header lines said.
+/// What the header lines say: how many goods, bids and dummy goods there are.
 #[derive(Clone, Copy, PartialEq, Eq, Debug)]
 pub struct Header {
     pub goods: u16,
@@ -85,6 +94,7 @@ pub struct Draft {
 #[derive(Drop)]
 pub struct Parser {
     alloc: Global,
+    pub keeping: Keeping,
     pub stage: Stage,
     pub place: Place,
     pub header: Header,
@@ -114,11 +124,12 @@ fn price_of(whole: u64, millionths: u64, fine: bool) -> Result<u64, Stop>
 
 impl Parser {
     /// Before the first line.
-    pub fn new(alloc: Global) -> Parser
-        ensures { progress result ≡ start }
+    pub fn new(alloc: Global, keeping: Keeping) -> Parser
+        ensures { progress result ≡ start keeping }
     {
         Parser {
             alloc,
+            keeping,
             stage: Stage::Goods,
             place: Place::First,
             header: Header {
@@ -285,6 +296,28 @@ impl Parser {
         }
     }
 
+    /// What is kept of the bid that has been read; its goods are gone.
+    fn kept_bid(&mut self) -> Result<Bid, AllocError>
+        ensures bid { IfOk result (λ bid. plain_bid bid ≡ kept_of self.old.keeping (drafted (progress self.old))) }
+        ensures goods { OnOk result (progress self.new ≡ record (progress self.old) { goods = [] }) }
+    {
+        match self.keeping {
+            Keeping::Bids => Ok(Bid {
+                price: self.draft.price,
+                goods: self.goods.take_rising(self.alloc)?,
+                dummy: self.draft.dummy,
+            }),
+            Keeping::Numbers => {
+                self.goods.clear();
+                Ok(Bid {
+                    price: 0,
+                    goods: Vec::new(self.alloc),
+                    dummy: None,
+                })
+            }
+        }
+    }
+
     fn bid(&mut self) -> Result<(), Stop>
         ensures reads { Gives (progress self.new) result (bid_read (progress self.old)) }
         ensures memory { (progress self.old).stage ≡ Stage.Bid → AsksOnBidLines (progress self.old) result }
@@ -292,11 +325,7 @@ impl Parser {
         if self.place != Place::Ended {
             return Err(Stop::Fault(Kind::NoEnd));
         }
-        let bid = Bid {
-            price: self.draft.price,
-            goods: self.goods.take_rising(self.alloc)?,
-            dummy: self.draft.dummy,
-        };
+        let bid = self.kept_bid()?;
         self.slots.put(self.draft.number as usize, bid)?;
         self.due = self.due.saturating_sub(1);
         self.place = Place::First;
@@ -335,7 +364,7 @@ impl Parser {
         self.stage != Stage::Bid || self.due > 0
     }
 
-    /// The file, where no line is due.
+    /// The file, where no line is due and the bids are kept.
     pub fn file(self) -> Result<BidFile, AllocError>
         requires { IsPlainFile (file_from (progress self)) }
         ensures file { IfOk result (λ f. plain_file f ≡ file_from (progress self)) }

@@ -4,12 +4,12 @@ ghost use Rattle.std.specs.Prelude.{◌≡◌, ◌+◌, ◌-◌, ◌<◌, ◌≤
 ghost use Rattle.cats_text.specs.Files.{IsPlainFile};
 ghost use Rattle.cats_text.specs.Parsing.{file_from};
 ghost use Rattle.cats_text.specs.Returns.{settled, waits, carried, return_byte};
-ghost use Rattle.cats_text.specs.Scanning.{halt_of, letter_mode, state, first_state, blank_step, words_step, byte_step, run, end_of, is_before_word, ScansTo, Steps, AsksHere, Asks, Finishes, AsksAtEnd, IsInLine};
+ghost use Rattle.cats_text.specs.Scanning.{halt_of, letter_mode, state, first_state, blank_step, words_step, byte_step, run, end_of, is_before_word, ScansTo, Steps, AsksHere, Asks, IsFileOf, IsHeaderOf, Finishes, AsksAtEnd, IsInLine};
 
 use crate::bid::BidFile;
 use crate::fault::{Kind, ReadFault};
 use crate::front::{front, number, with_digits};
-use crate::parser::{Parser, Stop};
+use crate::parser::{Header, Keeping, Parser, Stop};
 use crate::word::Word;
 use std::alloc::Global;
 
@@ -99,15 +99,15 @@ pub struct Scanner {
 
 impl Scanner {
     /// Before the first byte.
-    pub fn new(alloc: Global) -> Scanner
-        ensures state { state result ≡ first_state }
+    pub fn new(alloc: Global, keeping: Keeping) -> Scanner
+        ensures state { state result ≡ first_state keeping }
         ensures waiting { result.waiting ≡ false }
     {
         Scanner {
             waiting: false,
             mode: Mode::Start,
             line: 1,
-            parser: Parser::new(alloc),
+            parser: Parser::new(alloc, keeping),
         }
     }
 
@@ -286,12 +286,11 @@ impl Scanner {
         self.bytes(bytes)
     }
 
-    /// The end of the input, and the file.
-    pub fn finish(mut self) -> Result<BidFile, Halt>
-        requires line { self.line < 2 ^ 64 - 2 }
-        requires file { IfOk (end_of self.waiting (state self)) (λ t. IsPlainFile (file_from t.progress)) }
-        ensures steps { Finishes result (end_of self.waiting (state self)) }
-        ensures memory { AsksAtEnd self.waiting (state self) result }
+    /// The end of the input.
+    fn end(&mut self) -> Result<(), Halt>
+        requires { self.old.line < 2 ^ 64 - 2 }
+        ensures steps { Steps (state self.new) result (end_of self.old.waiting (state self.old)) }
+        ensures memory { AsksHere (state self.old) result }
     {
         if self.waiting {
             self.byte(b' ')?;
@@ -309,9 +308,30 @@ impl Scanner {
                 kind: Kind::Missing,
             }));
         }
+        Ok(())
+    }
+
+    /// The end of the input, and the file, of a scanner that keeps the bids.
+    pub fn finish(mut self) -> Result<BidFile, Halt>
+        requires line { self.line < 2 ^ 64 - 2 }
+        requires file { IfOk (end_of self.waiting (state self)) (λ t. IsPlainFile (file_from t.progress)) }
+        ensures steps { Finishes IsFileOf result (end_of self.waiting (state self)) }
+        ensures memory { AsksAtEnd self.waiting (state self) result }
+    {
+        self.end()?;
         match self.parser.file() {
             Ok(file) => Ok(file),
             Err(_) => Err(Halt::Memory),
         }
+    }
+
+    /// The end of the input, and what the header lines said.
+    pub fn header(mut self) -> Result<Header, Halt>
+        requires { self.line < 2 ^ 64 - 2 }
+        ensures steps { Finishes IsHeaderOf result (end_of self.waiting (state self)) }
+        ensures memory { AsksAtEnd self.waiting (state self) result }
+    {
+        self.end()?;
+        Ok(self.parser.header)
     }
 }

@@ -1,16 +1,17 @@
 //! Readers and writers that are watched for failures, and sending a text.
 
-ghost use Rattle.std.specs.Prelude.{◌≡◌, ℕ, List, ◌≢◌, ◌≤◌, ◌||◌, length, take, false, true, IsTrue, IsErr, is_err, OnOk, IfErr, [], Ok, codes};
+ghost use Rattle.std.specs.Prelude.{◌≡◌, ℕ, List, ◌≢◌, ◌≤◌, ◌||◌, length, take, false, true, IsTrue, IsErr, is_err, OnOk, IfErr, [], None, Ok, codes};
 ghost use Rattle.std.specs.Io.{ReadsAtMost, WritesAtMost};
 ghost use Rattle.std.specs.Io.KnownBytes.{Appends, Consumes, Keeps, ReadConsumes, WriteAppends};
 ghost use Rattle.std.specs.IoError.{error_kind};
 ghost use Rattle.cats_text.specs.Faults.{fault_at};
-ghost use Rattle.cats_text.specs.Streams.{inner_of, has_failed, has_ended, moved_nothing, failed_to_write, ReadsAs, SendsPart, SendsWhole};
+ghost use Rattle.cats_text.specs.Streams.{inner_of, has_failed, has_ended, moved_nothing, failed_to_write, ReadsAs, ChecksAs, FeedsFrom, SendsPart, SendsWhole};
 
 use crate::bid::BidFile;
 use crate::fault::{Kind, ReadFault, SendFault};
+use crate::feeder::Feeder;
 use crate::limits::MAX_STREAM;
-use crate::reader::Reader;
+use crate::parser::{Header, Keeping};
 use std::alloc::Global;
 use std::io;
 use std::io::{ErrorKind, Read, Write};
@@ -145,12 +146,38 @@ pub fn read_from<R: Read>(alloc: Global, input: &mut Watched<R>) -> Result<BidFi
     ensures { (bytes : List ℕ) × Consumes (R.remaining (inner_of input.old)) (R.remaining (inner_of input.new)) bytes
         × ReadsAs R.remaining bytes input.new result }
 {
-    let mut reader = Reader::new(alloc, MAX_STREAM);
+    let mut feeder = Feeder::new(alloc, MAX_STREAM, Keeping::Bids);
+    feed_from(&mut feeder, input)?;
+    feeder.finish()
+}
+
+/// Judges the whole stream as `read_from` does, and answers what the header lines of its file say: how many goods, bids and dummy
+/// goods there are. No bid's goods are kept.
+pub fn check_from<R: Read>(alloc: Global, input: &mut Watched<R>) -> Result<Header, ReadFault>
+    requires works { has_failed input.old ≡ false }
+    requires fresh { has_ended input.old ≡ false }
+    ensures { (bytes : List ℕ) × Consumes (R.remaining (inner_of input.old)) (R.remaining (inner_of input.new)) bytes
+        × ChecksAs R.remaining bytes input.new result }
+{
+    let mut feeder = Feeder::new(alloc, MAX_STREAM, Keeping::Numbers);
+    feed_from(&mut feeder, input)?;
+    feeder.header()
+}
+
+/// Feeds the whole stream, a piece at a time.
+fn feed_from<R: Read>(feeder: &mut Feeder, input: &mut Watched<R>) -> Result<(), ReadFault>
+    requires works { has_failed input.old ≡ false }
+    requires fresh { has_ended input.old ≡ false }
+    requires new { feeder.old.fed ≡ record { limit = MAX_STREAM; bytes = []; failed = None } }
+    ensures keeping { feeder.new.keeping ≡ feeder.old.keeping }
+    ensures bytes { Consumes (R.remaining (inner_of input.old)) (R.remaining (inner_of input.new)) feeder.new.fed.bytes }
+    ensures answer { FeedsFrom R.remaining feeder.new.fed input.new result }
+{
     let mut piece = [0; PIECE];
     loop {
         match input.read(&mut piece) {
-            Ok(0) => return reader.finish(),
-            Ok(count) => reader.feed(&piece[..count])?,
+            Ok(0) => return Ok(()),
+            Ok(count) => feeder.feed(&piece[..count])?,
             Err(_) => return Err(device_failed()),
         }
     }

@@ -1,7 +1,9 @@
 ghost use Rattle.std.specs.Prelude.{◌≡◌, false};
 ghost use Rattle.cats_text.specs.Streams.{has_ended, has_failed};
 
-use cats_text::{BidFile, Kind, MAX_STREAM, ReadFault, SendFault, Watched, read_from, send};
+use cats_text::{
+    BidFile, Header, Kind, MAX_STREAM, ReadFault, SendFault, Watched, check_from, read_from, send,
+};
 use std::alloc::Global;
 use std::io;
 use std::io::{ErrorKind, Read, Write};
@@ -313,7 +315,30 @@ const HEADER: ReadFault = ReadFault {
     kind: Kind::Header,
 };
 
-static STREAMS: [Stream; 5] = [
+const REPEATED: ReadFault = ReadFault {
+    line: 5,
+    kind: Kind::RepeatedNumber,
+};
+
+static STREAMS: [Stream; 7] = [
+    (
+        b"goods 3\nbids 2\ndummy 1\n1 1 0 2 #\n0 2.5 1 0 3 #\n",
+        None,
+        ErrorKind::Other,
+        Ok((3, 2, 1)),
+        true,
+        false,
+        48,
+    ),
+    (
+        b"goods 3\nbids 2\ndummy 0\n1 1 0 #\n1 2 1 #\n",
+        None,
+        ErrorKind::Other,
+        Err(REPEATED),
+        false,
+        false,
+        33,
+    ),
     (
         b"goods 3\nbids 0\ndummy 1\n",
         None,
@@ -364,6 +389,24 @@ fn reads_until_a_fault_or_the_end(rt: HostRuntime) -> Result<(), Fail> {
     for (text, cut, kind, want, ended, failed, calls) in &STREAMS {
         let mut input = reader(text, *cut, *kind);
         let answer = sizes(read_from(rt.alloc(), &mut input));
+        let told = (answer, input.ended(), input.failed());
+        assert_eq!(rt; told, (*want, *ended, *failed));
+        assert_eq!(rt; input.into_inner().calls, *calls);
+    }
+    Ok(())
+}
+
+/// What the header lines said, or the fault.
+fn header_sizes(answer: Result<Header, ReadFault>) -> Result<(u16, usize, u32), ReadFault> {
+    let header = answer?;
+    Ok((header.goods, header.bids as usize, header.dummy))
+}
+
+#[test]
+fn checks_as_it_reads(rt: HostRuntime) -> Result<(), Fail> {
+    for (text, cut, kind, want, ended, failed, calls) in &STREAMS {
+        let mut input = reader(text, *cut, *kind);
+        let answer = header_sizes(check_from(rt.alloc(), &mut input));
         let told = (answer, input.ended(), input.failed());
         assert_eq!(rt; told, (*want, *ended, *failed));
         assert_eq!(rt; input.into_inner().calls, *calls);

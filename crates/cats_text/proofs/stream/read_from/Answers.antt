@@ -1,86 +1,25 @@
--- The bytes that came are those that the reader was fed.
-use Rattle.std.proofs.Common.{arith, ◌≡◌, ◌<◌, ◌++◌, ℕ, Bool, true, List, [], ◌∷◌, ◌||◌, length, take, refl, ◌∙◌, append-nil, Ok, Option, length-append, ◌≢◌}
+-- The file of all bytes that were fed, or the fault that feeding them told.
+use Rattle.std.proofs.Common.{ap, ◌∙◌}
+use Rattle.cats_text.specs.Reading.{Feeding}
 use Rattle.std.proofs.lemmas.Result.{err_from_is_err_and}
-use Rattle.cats_text.specs.declared.limits.TheConstants.{MAX_STREAM}
-use Rattle.std.proofs.KnownBytes.{Consumes-trans, Consumes-kept}
-use Rattle.std.specs.Io.KnownBytes.{Consumes}
-use Rattle.cats_text.specs.Streams.{moved_nothing}
-use Rattle.cats_text.proofs.FaultKinds.{fed_within}
-use Rattle.cats_text.proofs.StreamReading.{fed_told, finished_told}
+use Rattle.cats_text.proofs.StreamReading.{finished_told}
 use Rattle.cats_text.proofs.stream.read_from.Goals as goal
 
--- a read that gave nothing
-no_more : (a b c : Option (List ℕ)) (bytes piece : List ℕ) (n : ℕ) → n ≡ 0 → Consumes a b bytes → Consumes b c (take n piece) → Consumes a c bytes
-no_more a b c bytes piece n none came gave =
-    let joined = Consumes-trans a b c bytes [] came (rw none at gave) in rw append-nil at joined
+pub feed_from-requires-clause-new : goal.feed_from-requires-clause-new
+feed_from-requires-clause-new g c = ap (λ (f : Feeding). f.fed) c.new-feeder.ensures
 
-at_the_end : (before : Bool) (n : ℕ) (piece : List ℕ) → n ≡ 0 → 0 < length piece → (before || moved_nothing (Ok n) piece) ≡ true
-at_the_end before n [] none room = absurd (omega arith)
-at_the_end before n (byte ∷ piece) none room = grind arith
+pub finish-requires : goal.finish-requires
+finish-requires g c = c.in_ok-feed_from.ensures.keeping ∙ ap (λ (f : Feeding). f.keeping) c.new-feeder.ensures
 
-pub returns-in-Ok-eq0 : goal.returns-in-Ok-eq0
-returns-in-Ok-eq0 g c =
-    let none = c.in-Ok-eq0.field-0-test in
-    let kept = c.loop-reader.invariant in
-    let gave = c.in-Ok-eq0.ensures in
-    let room : 0 < length c.read.new.piece = rw c.read.auto.piece kept.room in
-    let answer = rw kept.working at c.finish.ensures in (
-      c.loop-reader.reader.bytes,
-      no_more _ _ _ c.loop-reader.reader.bytes c.read.new.piece c.in-Ok-eq0.field-0 none kept.came gave.bytes.0,
-      finished_told g.R.Read.remaining c.loop-reader.reader.bytes c.read.new.self c.finish.result gave.failed
-          (record {
-            ended = gave.ended ∙ at_the_end _ c.in-Ok-eq0.field-0 c.read.new.piece none room;
-            at_end = gave.bytes.1 none room;
-            no_fault = kept.no_fault;
-          }) answer,
-    )
-
--- a read that gave a piece
-came_more : (a b c : Option (List ℕ)) (bytes piece all : List ℕ) → Consumes a b bytes → Consumes b c piece → all ≡ bytes ++ piece → Consumes a c all
-came_more a b c bytes piece all came gave joined = rw joined (Consumes-trans a b c bytes piece came gave)
-
--- some bytes came, so there are more
-more_bytes : (bytes piece all : List ℕ) (n : ℕ) → n ≢ 0 → n ≡ length piece → all ≡ bytes ++ piece → length bytes < length all
-more_bytes bytes piece all n some count joined = rw (joined, length-append bytes piece) (omega arith)
-
-pub loop-reader-smaller : goal.loop-reader-smaller
-loop-reader-smaller g c =
-    let kept = c.loop-reader.invariant in
-    let fed = rw kept.working at c.in_ok-feed-in-Ok.ensures in
-    let before = fed_within MAX_STREAM c.loop-reader.reader.bytes kept.no_fault in
-    let grown = more_bytes c.loop-reader.reader.bytes _ c.feed.new.self.bytes c.in-Ok.count c.in-Ok.count-test.1 c.in-Ok.ensures.bound.1 fed.bytes in
-    omega arith
-
-pub loop-reader-preserved : goal.loop-reader-preserved
-loop-reader-preserved g c =
-    let kept = c.loop-reader.invariant in
-    let fed = rw kept.working at c.in_ok-feed-in-Ok.ensures in
-    let limit = fed.limit ∙ kept.limit in
-    record {
-      limit = limit;
-      working = fed.answer.1;
-      no_fault = rw limit at fed.answer.0;
-      came = came_more _ _ _ c.loop-reader.reader.bytes _ c.feed.new.self.bytes kept.came c.in-Ok.ensures.bytes.0 fed.bytes;
-      device = c.in-Ok.ensures.failed;
-      room = rw c.read.auto.piece kept.room;
-    }
-
-pub returns-in_err-feed-in-Ok : goal.returns-in_err-feed-in-Ok
-returns-in_err-feed-in-Ok g c =
-    let kept = c.loop-reader.invariant in
-    let fed = rw kept.working at c.in_err-feed-in-Ok.ensures in
+pub returns-in_err-feed_from : goal.returns-in_err-feed_from
+returns-in_err-feed_from g c =
     let told = err_from_is_err_and c.from_residual.result c.from_residual.ensures.1 in
-    let limit = fed.limit ∙ kept.limit in (
-      c.feed.new.self.bytes,
-      came_more _ _ _ c.loop-reader.reader.bytes _ c.feed.new.self.bytes kept.came c.in-Ok.ensures.bytes.0 fed.bytes,
-      rw (told.1, told.2)
-          (fed_told g.R.Read.remaining c.feed.new.self.bytes c.read.new.self c.in_err-feed-in-Ok.field-0.0 c.in-Ok.ensures.failed (rw limit at fed.answer.0)),
-    )
+    (c.feed_from.new.feeder.fed.bytes, c.in_err-feed_from.ensures.bytes, rw (told.1, told.2) c.in_err-feed_from.ensures.answer)
 
-pub returns-in-Err : goal.returns-in-Err
-returns-in-Err g c =
-    let kept = c.loop-reader.invariant in (
-      c.loop-reader.reader.bytes,
-      Consumes-kept _ _ _ c.loop-reader.reader.bytes kept.came c.in-Err.ensures.bytes,
-      rw c.device_failed.ensures (refl, c.in-Err.ensures.failed, kept.no_fault),
+pub returns : goal.returns
+returns g c =
+    let fed = c.in_ok-feed_from.ensures.answer in (
+      c.feed_from.new.feeder.fed.bytes,
+      c.in_ok-feed_from.ensures.bytes,
+      finished_told g.R.Read.remaining c.feed_from.new.feeder.fed.bytes c.feed_from.new.input c.finish.result fed.1 fed.2 (rw fed.0 at c.finish.ensures),
     )

@@ -1,9 +1,9 @@
--- It has taken no bytes.
-use Rattle.cats_text.proofs.Feeding.{nothing_taken}
+use Rattle.std.proofs.Common.{ap}
+use Rattle.cats_text.specs.Reading.{Feeding}
 use Rattle.cats_text.proofs.reader.Reader.new.Goals as goal
 
 pub invariant_of-result : goal.invariant_of-result
-invariant_of-result c = record {
-  limit = c.requires;
-  taken = λ none. nothing_taken c.args.limit c.new.result c.new-2.result.bytes c.new.ensures.state c.new.ensures.waiting c.new-2.ensures;
-}
+invariant_of-result c = ap (λ (f : Feeding). f.keeping) c.new.ensures
+
+pub returns : goal.returns
+returns c = ap (λ (f : Feeding). f.fed) c.new.ensures

@@ -1,0 +1,104 @@
+-- What is kept of the bids stays what it was at the first byte.
+use Rattle.std.proofs.Common.{◌≡◌, ℕ, ◌==◌, Bool, true, false, List, [], ◌∷◌, refl, subst, Ok, Err, if◌then◌else◌}
+use Rattle.cats_text.specs.Lines.{is_blank}
+use Rattle.cats_text.specs.Faults.{fault_at}
+use Rattle.cats_text.specs.Progress.{Progress}
+use Rattle.cats_text.specs.Parsing.{Reading, word_read, line_read, is_due}
+use Rattle.cats_text.specs.Scanning.{State, Scan, and_then, with_reading, blank_step_at, blank_step, words_step_at, words_step, missing_step, line_behind, line_step, byte_step, run, end_step, end_of}
+use Rattle.cats_text.specs.declared.fault.Kind.TheVariants.{Missing}
+use Rattle.cats_text.specs.declared.parser.Keeping.{Keeping}
+use Rattle.cats_text.specs.declared.parser.Place.{Place}
+use Rattle.cats_text.specs.declared.parser.Place.TheVariants.{First, Second, Later, Ended}
+use Rattle.cats_text.specs.declared.parser.Stage.{Stage}
+use Rattle.cats_text.specs.declared.parser.Stage.TheVariants.{Goods, Bids, Dummy, Bid}
+use Rattle.cats_text.specs.declared.scanner.Mode.{Mode}
+use Rattle.cats_text.specs.declared.scanner.Mode.TheVariants.{Start, Blank, Comment, Between, Inside}
+use Rattle.cats_text.proofs.LineSteps.{line_at}
+use Rattle.cats_text.proofs.BidLines.{Keeps, keeps_word}
+
+abbrev ReadKeeps : Keeping → Reading → Type 0
+ReadKeeps k (Ok p) = p.keeping ≡ k
+ReadKeeps k (Err kind) = Unit {0}
+
+abbrev ScanKeeps : Keeping → Scan → Type 0
+ScanKeeps k (Ok s) = s.progress.keeping ≡ k
+ScanKeeps k (Err e) = Unit {0}
+
+word_keeps : (p : Progress) (r : Reading) → Keeps p r → ReadKeeps p.keeping r
+word_keeps p (Ok q) h = h.keeping q refl
+word_keeps p (Err kind) h = tt
+
+line_keeps : (place : Place) (stage : Stage) (p : Progress) → ReadKeeps p.keeping (line_at place stage p)
+line_keeps First Goods p = tt
+line_keeps Second Goods p = tt
+line_keeps Later Goods p = refl
+line_keeps Ended Goods p = tt
+line_keeps First Bids p = tt
+line_keeps Second Bids p = tt
+line_keeps Later Bids p = refl
+line_keeps Ended Bids p = tt
+line_keeps First Dummy p = tt
+line_keeps Second Dummy p = tt
+line_keeps Later Dummy p = refl
+line_keeps Ended Dummy p = tt
+line_keeps First Bid p = tt
+line_keeps Second Bid p = tt
+line_keeps Later Bid p = tt
+line_keeps Ended Bid p = refl
+
+reading_keeps : (s : State) (m : Mode) (r : Reading) → ReadKeeps s.progress.keeping r → ScanKeeps s.progress.keeping (with_reading s m r)
+reading_keeps s m (Ok p) h = h
+reading_keeps s m (Err kind) h = tt
+
+blank_keeps : (m : Mode) (s : State) → ScanKeeps s.progress.keeping (blank_step_at m s)
+blank_keeps Start s = refl
+blank_keeps Blank s = refl
+blank_keeps Comment s = refl
+blank_keeps Between s = refl
+blank_keeps (Inside w) s = reading_keeps s Between (word_read s.progress w) (word_keeps s.progress (word_read s.progress w) (keeps_word s.progress w))
+
+words_keep : (m : Mode) (s : State) → ScanKeeps s.progress.keeping (words_step_at m s)
+words_keep Start s = refl
+words_keep Blank s = refl
+words_keep Comment s = refl
+words_keep Between s = reading_keeps s Between (line_read s.progress) (line_keeps s.progress.place s.progress.stage s.progress)
+words_keep (Inside w) s = refl
+
+either_keeps : (k : Keeping) (test : Bool) (a b : Scan) → ScanKeeps k a → ScanKeeps k b → ScanKeeps k (if test then a else b)
+either_keeps k true a b h g = h
+either_keeps k false a b h g = g
+
+missing_keeps : (behind : ℕ) (s : State) → ScanKeeps s.progress.keeping (missing_step behind s)
+missing_keeps behind s = either_keeps s.progress.keeping (is_due s.progress) (Err (fault_at behind Missing)) (Ok s) tt refl
+
+then_keeps : (k : Keeping) (r : Scan) (f : State → Scan) → ScanKeeps k r → ((s : State) → ScanKeeps s.progress.keeping (f s)) → ScanKeeps k (and_then r f)
+then_keeps k (Ok s) f h g = subst (λ (j : Keeping). ScanKeeps j (f s)) h (g s)
+then_keeps k (Err e) f h g = tt
+
+line_step_keeps : (s : State) → ScanKeeps s.progress.keeping (line_step s)
+line_step_keeps s =
+    then_keeps s.progress.keeping (and_then (blank_step s) words_step) _
+    (then_keeps s.progress.keeping (blank_step s) words_step (blank_keeps s.mode s) (λ t. words_keep t.mode t)) (λ t. refl)
+
+byte_keeps : (s : State) (b : ℕ) → ScanKeeps s.progress.keeping (byte_step s b)
+byte_keeps s b = either_keeps s.progress.keeping (b == 10) (line_step s) _ (line_step_keeps s) (either_keeps s.progress.keeping (is_blank b) (blank_step s) _ (blank_keeps s.mode s) refl)
+
+run_keeps : (s : State) (bytes : List ℕ) → ScanKeeps s.progress.keeping (run s bytes)
+run_keeps s [] = refl
+run_keeps s (b ∷ bytes) = then_keeps s.progress.keeping (byte_step s b) (λ t. run t bytes) (byte_keeps s b) (λ t. run_keeps t bytes)
+
+end_step_keeps : (s : State) → ScanKeeps s.progress.keeping (end_step s)
+end_step_keeps s =
+    then_keeps s.progress.keeping (and_then (blank_step s) words_step) (missing_step (line_behind s))
+    (then_keeps s.progress.keeping (blank_step s) words_step (blank_keeps s.mode s) (λ t. words_keep t.mode t)) (missing_keeps (line_behind s))
+
+end_keeps : (waiting : Bool) (s : State) → ScanKeeps s.progress.keeping (end_of waiting s)
+end_keeps true s = then_keeps s.progress.keeping (byte_step s 32) end_step (byte_keeps s 32) end_step_keeps
+end_keeps false s = end_step_keeps s
+
+-- the bytes and the end of the input keep it
+pub run_keeping : (s t : State) (bytes : List ℕ) → run s bytes ≡ Ok t → t.progress.keeping ≡ s.progress.keeping
+run_keeping s t bytes e = subst (ScanKeeps s.progress.keeping) e (run_keeps s bytes)
+
+pub end_keeping : (waiting : Bool) (s t : State) → end_of waiting s ≡ Ok t → t.progress.keeping ≡ s.progress.keeping
+end_keeping waiting s t e = subst (ScanKeeps s.progress.keeping) e (end_keeps waiting s)

@@ -1,0 +1,92 @@
+-- The bytes that came are those that were fed.
+use Rattle.std.proofs.Common.{arith, ◌≡◌, ◌<◌, ◌++◌, ℕ, Bool, true, List, [], ◌∷◌, ◌||◌, length, take, refl, ◌∙◌, append-nil, Ok, Option, length-append, ◌≢◌}
+use Rattle.std.proofs.lemmas.Result.{err_from_is_err_and}
+use Rattle.cats_text.specs.declared.limits.TheConstants.{MAX_STREAM}
+use Rattle.std.proofs.KnownBytes.{Consumes-trans, Consumes-kept}
+use Rattle.std.specs.Io.KnownBytes.{Consumes}
+use Rattle.cats_text.specs.Streams.{moved_nothing}
+use Rattle.cats_text.proofs.FaultKinds.{fed_within}
+use Rattle.cats_text.proofs.StreamReading.{fed_told}
+use Rattle.cats_text.proofs.stream.feed_from.Goals as goal
+
+-- a read that gave nothing
+no_more : (a b c : Option (List ℕ)) (bytes piece : List ℕ) (n : ℕ) → n ≡ 0 → Consumes a b bytes → Consumes b c (take n piece) → Consumes a c bytes
+no_more a b c bytes piece n none came gave =
+    let joined = Consumes-trans a b c bytes [] came (rw none at gave) in rw append-nil at joined
+
+at_the_end : (before : Bool) (n : ℕ) (piece : List ℕ) → n ≡ 0 → 0 < length piece → (before || moved_nothing (Ok n) piece) ≡ true
+at_the_end before n [] none room = absurd (omega arith)
+at_the_end before n (byte ∷ piece) none room = grind arith
+
+pub returns-in-Ok-eq0 : goal.returns-in-Ok-eq0
+returns-in-Ok-eq0 g c =
+    let none = c.in-Ok-eq0.field-0-test in
+    let kept = c.loop-count.invariant in
+    let gave = c.in-Ok-eq0.ensures in
+    let room : 0 < length c.read.new.piece = rw c.read.auto.piece kept.room in
+    record {
+      keeping = kept.keeping;
+      bytes = no_more _ _ _ c.loop-count.feeder.fed.bytes c.read.new.piece c.in-Ok-eq0.field-0 none kept.came gave.bytes.0;
+      answer = (
+        kept.working,
+        gave.failed,
+        record {
+          ended = gave.ended ∙ at_the_end _ c.in-Ok-eq0.field-0 c.read.new.piece none room;
+          at_end = gave.bytes.1 none room;
+          no_fault = kept.no_fault;
+        },
+      );
+    }
+
+-- a read that gave a piece
+came_more : (a b c : Option (List ℕ)) (bytes piece all : List ℕ) → Consumes a b bytes → Consumes b c piece → all ≡ bytes ++ piece → Consumes a c all
+came_more a b c bytes piece all came gave joined = rw joined (Consumes-trans a b c bytes piece came gave)
+
+-- some bytes came, so there are more
+more_bytes : (bytes piece all : List ℕ) (n : ℕ) → n ≢ 0 → n ≡ length piece → all ≡ bytes ++ piece → length bytes < length all
+more_bytes bytes piece all n some count joined = rw (joined, length-append bytes piece) (omega arith)
+
+pub loop-count-smaller : goal.loop-count-smaller
+loop-count-smaller g c =
+    let kept = c.loop-count.invariant in
+    let fed = rw kept.working at c.in_ok-feed-in-Ok.ensures.feeds in
+    let before = fed_within MAX_STREAM c.loop-count.feeder.fed.bytes kept.no_fault in
+    let grown = more_bytes c.loop-count.feeder.fed.bytes _ c.feed.new.self.fed.bytes c.in-Ok.count c.in-Ok.count-test.1 c.in-Ok.ensures.bound.1 fed.bytes in
+    omega arith
+
+pub loop-count-preserved : goal.loop-count-preserved
+loop-count-preserved g c =
+    let kept = c.loop-count.invariant in
+    let fed = rw kept.working at c.in_ok-feed-in-Ok.ensures.feeds in
+    let limit = fed.limit ∙ kept.limit in
+    record {
+      limit = limit;
+      working = fed.answer.1;
+      no_fault = rw limit at fed.answer.0;
+      came = came_more _ _ _ c.loop-count.feeder.fed.bytes _ c.feed.new.self.fed.bytes kept.came c.in-Ok.ensures.bytes.0 fed.bytes;
+      device = c.in-Ok.ensures.failed;
+      room = rw c.read.auto.piece kept.room;
+      keeping = c.in_ok-feed-in-Ok.ensures.keeping ∙ kept.keeping;
+    }
+
+pub returns-in_err-feed-in-Ok : goal.returns-in_err-feed-in-Ok
+returns-in_err-feed-in-Ok g c =
+    let kept = c.loop-count.invariant in
+    let fed = rw kept.working at c.in_err-feed-in-Ok.ensures.feeds in
+    let told = err_from_is_err_and c.from_residual.result c.from_residual.ensures.1 in
+    let limit = fed.limit ∙ kept.limit in
+    record {
+      keeping = c.in_err-feed-in-Ok.ensures.keeping ∙ kept.keeping;
+      bytes = came_more _ _ _ c.loop-count.feeder.fed.bytes _ c.feed.new.self.fed.bytes kept.came c.in-Ok.ensures.bytes.0 fed.bytes;
+      answer = rw (told.1, told.2)
+          (fed_told g.R.Read.remaining c.feed.new.self.fed.bytes c.read.new.self c.in_err-feed-in-Ok.field-0.0 c.in-Ok.ensures.failed (rw limit at fed.answer.0));
+    }
+
+pub returns-in-Err : goal.returns-in-Err
+returns-in-Err g c =
+    let kept = c.loop-count.invariant in
+    record {
+      keeping = kept.keeping;
+      bytes = Consumes-kept _ _ _ c.loop-count.feeder.fed.bytes kept.came c.in-Err.ensures.bytes;
+      answer = rw c.device_failed.ensures (refl, c.in-Err.ensures.failed, kept.no_fault);
+    }
