@@ -1,6 +1,7 @@
 pub mod Normalised
 -- Proofs that several functions of this crate cite.
 mod Tellings
+mod Checking
 mod Numbering
 mod Bundling
 mod BestPlaces

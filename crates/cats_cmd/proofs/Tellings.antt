@@ -30,14 +30,14 @@ module _ {R : Type 0} (remaining : R → Option (List ℕ)) (outcome : PlainFile
   refused_in_reading bytes input (StepLimit goods) refused = absurd refused
   refused_in_reading bytes input Memory refused = inl refused
 
-  refused_in_making : (bytes : List ℕ) (input : Watched R) (file : PlainFile) → ReadsFile remaining bytes input file
+  pub refused_in_making : (bytes : List ℕ) (input : Watched R) (file : PlainFile) → ReadsFile remaining bytes input file
       → (fault : CanonFault) → MakesAs (outcome file) (Err fault) → IsRefusedFile remaining outcome bytes input fault
   refused_in_making bytes input file reads (Read why) made = absurd made
   refused_in_making bytes input file reads (StepLimit goods) made = record { file = file; reads = reads; made = made }
   refused_in_making bytes input file reads Memory made = inr (record { file = file; reads = reads })
 
 module _ {R W : Type 0} (remaining : R → Option (List ℕ)) (contents : W → Option (List ℕ)) (outcome : PlainFile → Outcome) where
-  runs_by_telling : (bytes : List ℕ) (input : Watched R) (file : PlainFile) → ReadsFile remaining bytes input file
+  pub runs_by_telling : (bytes : List ℕ) (input : Watched R) (file : PlainFile) → ReadsFile remaining bytes input file
       → (old new : Watched W) (answer : Result ℕ RunFault) → TellsAs contents (outcome file) old new answer → RunsAs remaining contents outcome bytes input old new answer
   runs_by_telling bytes input file reads old new (Ok status) tells = record { file = file; reads = reads; tells = tells }
   runs_by_telling bytes input file reads old new (Err (Refused which fault)) tells = absurd tells
@@ -45,7 +45,7 @@ module _ {R W : Type 0} (remaining : R → Option (List ℕ)) (contents : W → 
   runs_by_telling bytes input file reads old new (Err (Sent fault)) tells = record { file = file; reads = reads; tells = tells }
 
   -- nothing was written, and this fault of the file is told
-  runs_by_refusing : (bytes : List ℕ) (input : Watched R) (out : Watched W) (fault : CanonFault) → IsRefusedFile remaining outcome bytes input fault
+  pub runs_by_refusing : (bytes : List ℕ) (input : Watched R) (out : Watched W) (fault : CanonFault) → IsRefusedFile remaining outcome bytes input fault
       → (answer : Result ℕ RunFault) → IsErrAnd answer (λ told. told ≡ Refused Only fault) → RunsAs remaining contents outcome bytes input out out answer
   runs_by_refusing bytes input out fault refused answer is =
       let told = err_from_is_err_and answer is in

@@ -10,6 +10,7 @@ pub mod Searches
 pub mod Examples
 pub mod Stops
 pub mod Runs
+pub mod Checks
 pub mod Comparisons
 pub mod DuplicateTexts
 pub mod Duplicates

@@ -2,18 +2,19 @@
 
 ghost use Rattle.std.specs.Prelude.{◌≡◌, IfOk, false, string_bytes};
 ghost use Rattle.cats_text.specs.Streams.{has_ended, has_failed};
-ghost use Rattle.cats_text.specs.Views.{plain_file};
+ghost use Rattle.cats_cmd.specs.Checks.{ChecksInput};
 ghost use Rattle.cats_cmd.specs.Outcomes.{check_outcome};
-ghost use Rattle.cats_cmd.specs.Outputs.{check_text, sizes_text};
+ghost use Rattle.cats_cmd.specs.Outputs.{sizes_text};
 ghost use Rattle.cats_cmd.specs.Runs.{RunsOnFile};
 
 use crate::report::{DONE, RunFault};
-use crate::run::{read_file, send_text};
-use cats_text::{BidFile, Watched};
+use crate::run::send_text;
+use canon::CanonFault;
+use cats_text::{Header, Watched, check_from};
 use std::alloc::{AllocError, Global};
 use std::io::{Read, Write};
 
-/// Reads a bid file, and sends how many goods, bids and dummy goods it has.
+/// Judges a bid file, and sends how many goods, bids and dummy goods it has. No bid is kept.
 pub fn run_check<R: Read, W: Write>(
     alloc: Global,
     input: &mut Watched<R>,
@@ -24,19 +25,26 @@ pub fn run_check<R: Read, W: Write>(
     requires out_works { has_failed out.old ≡ false }
     ensures { RunsOnFile R.remaining W.contents check_outcome input.old input.new out.old out.new result }
 {
-    let file = read_file(alloc, input)?;
-    let text = sizes(alloc, &file)?;
+    let header = check_file(alloc, input)?;
+    let text = sizes_line(alloc, header)?;
     send_text(out, DONE, text.as_bytes())
 }
 
-fn sizes(alloc: Global, file: &BidFile) -> Result<String, AllocError>
-    ensures { IfOk result (λ text. string_bytes text ≡ check_text (plain_file file.now)) }
+/// Judges a bid file. What the judging is refused in memory is the run's want of memory.
+fn check_file<R: Read>(alloc: Global, input: &mut Watched<R>) -> Result<Header, CanonFault>
+    requires works { has_failed input.old ≡ false }
+    requires fresh { has_ended input.old ≡ false }
+    ensures { ChecksInput R.remaining input.old input.new result }
 {
-    sizes_line(alloc, file.goods(), file.bids().len(), file.dummy())
+    match check_from(alloc, input) {
+        Ok(header) => Ok(header),
+        Err(fault) => Err(CanonFault::from(fault)),
+    }
 }
 
-fn sizes_line(alloc: Global, goods: u16, bids: usize, dummy: u32) -> Result<String, AllocError>
-    ensures { IfOk result (λ text. string_bytes text ≡ sizes_text goods bids dummy) }
+fn sizes_line(alloc: Global, header: Header) -> Result<String, AllocError>
+    ensures { IfOk result (λ text. string_bytes text ≡ sizes_text header.goods header.bids header.dummy) }
 {
+    let Header { goods, bids, dummy } = header;
     format!(in alloc; "goods {goods} bids {bids} dummy {dummy}\n")
 }

@@ -1,14 +1,12 @@
-use Rattle.std.proofs.Common.{sym, ap, ◌∙◌}
-use Rattle.cats_cmd.specs.Outcomes.{check_outcome, Tells}
-use Rattle.canon.specs.declared.fault.CanonFault.TheVariants.{Memory}
-use Rattle.cats_cmd.proofs.Tellings.{run_unread, run_unmade, run_told}
+use Rattle.std.proofs.Common.{◌∙◌}
+use Rattle.cats_cmd.proofs.Checking.{check_unread, check_unmade, check_told}
 use Rattle.cats_cmd.proofs.check.run_check.Goals as goal
 
-pub returns-in_err-file : goal.returns-in_err-file
-returns-in_err-file g c = run_unread _ _ check_outcome _ _ _ _ c.in_err-file.ensures _ c.from_residual.ensures.1
+pub returns-in_err-header : goal.returns-in_err-header
+returns-in_err-header g c = check_unread _ _ _ _ _ _ c.in_err-header.ensures _ c.from_residual.ensures.1
 
 pub returns-in_err-text : goal.returns-in_err-text
-returns-in_err-text g c = run_unmade _ _ check_outcome _ _ _ _ c.in_ok-file.ensures Memory tt _ c.from_residual-in_err-text.ensures.1
+returns-in_err-text g c = check_unmade _ _ _ _ _ _ c.in_ok-header.ensures _ c.from_residual-in_err-text.ensures.1
 
 pub returns : goal.returns
-returns g c = run_told _ _ check_outcome _ _ _ _ _ c.in_ok-file.ensures 0 _ (ap (λ text. Tells 0 text) (sym (c.as_bytes.ensures.value ∙ c.in_ok-text.ensures))) _ c.send_text.ensures
+returns g c = check_told _ _ _ _ _ _ _ c.in_ok-header.ensures _ (c.as_bytes.ensures.value ∙ c.in_ok-text.ensures) _ c.send_text.ensures
