@@ -1,7 +1,8 @@
 use Rattle.std.proofs.Common.{◌+◌, drop, sym, ◌∙◌, arith}
 use Rattle.valuation.specs.Orders.{atom_cmp, bidder_cmp}
 use Rattle.canon.specs.BidderBids.{offers}
-use Rattle.canon.proofs.BidOrders.{then-decided, then-left, slice_cmp-ended, bidder_cmp-drop, length-offers}
+use Rattle.valuation.specs.OrderLemmas.{then-decided, then-left, slice_cmp-ended}
+use Rattle.canon.proofs.BidOrders.{bidder_cmp-drop, length-offers}
 use Rattle.canon.proofs.parting.order_of_bidders.Goals as goal
 
 pub returns-then-is_ne : goal.returns-then-is_ne

@@ -2,7 +2,8 @@ use Rattle.std.proofs.Common.{◌+◌, drop, sym, ◌∙◌, arith}
 use Rattle.valuation.specs.Values.{atoms_of}
 use Rattle.valuation.specs.Orders.{atom_cmp, bidder_cmp}
 use Rattle.valuation.specs.AtomLemmas.{length-atoms_of}
-use Rattle.valuation.proofs.Comparing.{then-decided, then-left, slice_cmp-ended, bidder_cmp-drop}
+use Rattle.valuation.specs.OrderLemmas.{then-decided, then-left, slice_cmp-ended}
+use Rattle.valuation.proofs.Comparing.{bidder_cmp-drop}
 use Rattle.valuation.proofs.order.compare_bidders.Goals as goal
 
 pub returns-then-is_ne : goal.returns-then-is_ne
