@@ -225,6 +225,7 @@ impl Parser {
         Ok(())
     }
 
+    #[inline(always)]
     fn good(&mut self, value: u64) -> Result<(), Stop>
         ensures reads { Gives (progress self.new) result (good_read (progress self.old) value) }
         ensures memory { (progress self.old).stage ≡ Stage.Bid → AsksOnBidLines (progress self.old) result }
@@ -253,6 +254,7 @@ impl Parser {
         }
     }
 
+    #[inline(always)]
     fn good_or_end(&mut self, word: Word) -> Result<(), Stop>
         ensures reads { Gives (progress self.new) result (good_or_end_read (progress self.old) word) }
         ensures memory { (progress self.old).stage ≡ Stage.Bid → AsksOnBidLines (progress self.old) result }
@@ -318,6 +320,7 @@ impl Parser {
         }
     }
 
+    #[inline(always)]
     fn bid(&mut self) -> Result<(), Stop>
         ensures reads { Gives (progress self.new) result (bid_read (progress self.old)) }
         ensures memory { (progress self.old).stage ≡ Stage.Bid → AsksOnBidLines (progress self.old) result }
@@ -345,6 +348,7 @@ impl Parser {
     }
 
     /// The end of a line that has words.
+    #[inline(always)]
     pub fn line(&mut self) -> Result<(), Stop>
         ensures reads { Gives (progress self.new) result (line_read (progress self.old)) }
         ensures memory { AsksOnBidLines (progress self.old) result }

@@ -112,6 +112,7 @@ impl Scanner {
     }
 
     /// A blank, or the end of a line, after which no word goes on.
+    #[inline(always)]
     fn end_word(&mut self) -> Result<(), Halt>
         ensures steps { Steps (state self.new) result (blank_step (state self.old)) }
         ensures memory { AsksHere (state self.old) result }
@@ -134,6 +135,7 @@ impl Scanner {
     }
 
     /// The end of the words of a line.
+    #[inline(always)]
     fn end_words(&mut self) -> Result<(), Halt>
         ensures steps { Steps (state self.new) result (words_step (state self.old)) }
         ensures memory { AsksHere (state self.old) result }
@@ -149,6 +151,7 @@ impl Scanner {
     }
 
     /// The next byte, no CR that ends a line.
+    #[inline(always)]
     fn byte(&mut self, byte: u8) -> Result<(), Halt>
         requires { self.old.line < 2 ^ 64 - 1 }
         ensures steps { Steps (state self.new) result (byte_step (state self.old) byte) }
