@@ -6,9 +6,11 @@ mod fault;
 mod kept;
 mod laws;
 mod or;
+mod places;
 #[cfg(test)]
 mod plain;
 mod search;
+mod shared;
 #[cfg(test)]
 mod tests;
 mod worked;
