@@ -231,8 +231,8 @@ fn many_steps_on_both_sets(rt: HostRuntime) -> Result<(), Fail> {
     bombs::<WordSet<64>>(&rt, rt.alloc())
 }
 
-fn endless<S: GoodsSet>(rt: &impl Abort, alloc: Global) -> Result<(), Fail> {
-    let (bids, goods) = step_bomb::<S>(rt, alloc, 60)?;
+fn endless<S: GoodsSet>(rt: &impl Abort, alloc: Global, n: u16) -> Result<(), Fail> {
+    let (bids, goods) = step_bomb::<S>(rt, alloc, n)?;
     let Err(PruneFault::StepLimit { bundle }) = prune_or(alloc, bids, 1_000_000) else {
         panic!(rt; "the step limit is told");
     };
@@ -243,11 +243,46 @@ fn endless<S: GoodsSet>(rt: &impl Abort, alloc: Global) -> Result<(), Fail> {
     Ok(())
 }
 
-// A search that goes on behind its limit would not end here in anybody's lifetime.
+// A search that goes on behind its limit would not end here in anybody's lifetime, on few goods or on many.
 #[test]
 fn search_stops_at_its_limit(rt: HostRuntime) -> Result<(), Fail> {
-    endless::<ListSet>(&rt, rt.alloc())?;
-    endless::<WordSet<64>>(&rt, rt.alloc())
+    endless::<ListSet>(&rt, rt.alloc(), 60)?;
+    endless::<ListSet>(&rt, rt.alloc(), 100)?;
+    endless::<WordSet<64>>(&rt, rt.alloc(), 60)?;
+    endless::<WordSet<64>>(&rt, rt.alloc(), 100)
+}
+
+// The bids 1:{0}, 2:{0,1}, 3:{0,1,2} and so on, each inside the next.
+fn nested_bids<S: GoodsSet>(rt: &impl Abort, alloc: Global, n: u16) -> Result<Vec<Atom<S>>, Fail>
+    ensures { IfOk result (λ bids. All (IsAtom MAX_GOODS) (atoms_of S.goods bids.items)) }
+{
+    let mut bids = Vec::new(alloc);
+    let mut goods = Vec::new(alloc);
+    for good in 0..n {
+        goods.push(good)?;
+        add_atom(rt, alloc, &mut bids, &goods, u64::from(good) + 1)?;
+    }
+    Ok(bids)
+}
+
+// The search in the greatest bundle enters the empty family and each bid alone but the last, whose price does not suffice.
+fn nested<S: GoodsSet>(rt: &impl Abort, alloc: Global) -> Result<(), Fail> {
+    for n in [60, 80] {
+        let bids = nested_bids::<S>(rt, alloc, n)?;
+        let Ok(kept) = prune_or(alloc, bids, u64::from(n) - 1) else {
+            panic!(rt; "the bids are pruned");
+        };
+        assert_eq!(rt; kept.len(), usize::from(n));
+        let bids = nested_bids::<S>(rt, alloc, n)?;
+        assert!(rt; prune_or(alloc, bids, u64::from(n) - 2).is_err());
+    }
+    Ok(())
+}
+
+#[test]
+fn nested_bids_on_both_sets(rt: HostRuntime) -> Result<(), Fail> {
+    nested::<ListSet>(&rt, rt.alloc())?;
+    nested::<WordSet<16>>(&rt, rt.alloc())
 }
 
 // The bids 0:0, 0:1, and so on, in units.

@@ -3,5 +3,7 @@ pub mod BestBids
 pub mod Levels
 pub mod CodeLevels
 pub mod Listed
+pub mod SharedGoods
+pub mod ByPlaces
 pub mod Results
 pub mod Turns

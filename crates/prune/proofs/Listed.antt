@@ -61,17 +61,17 @@ rising_from_pairs (x ∷ xs) s =
 
 -- ---- the numbers from a on
 
-has_range : (a n g : ℕ) → has_good (range_with_len a n) g ≡ true → (a ≤ g) × (g < a + n)
+pub has_range : (a n g : ℕ) → has_good (range_with_len a n) g ≡ true → (a ≤ g) × (g < a + n)
 has_range a zero g h = absurd (both_ways false refl h)
 has_range a (suc n) g h =
     ⊎_elim (λ (e : a ≡ g). (omega arith, omega arith)) (λ (k : has_good (range_with_len (a + 1) n) g ≡ true). let r = has_range (a + 1) n g k in (omega (arith, r.0), omega (arith, r.1))) (has_cases a (range_with_len (a + 1) n) g h)
 
-range_has : (a n g : ℕ) → a ≤ g → g < a + n → has_good (range_with_len a n) g ≡ true
+pub range_has : (a n g : ℕ) → a ≤ g → g < a + n → has_good (range_with_len a n) g ≡ true
 range_has a zero g l m = absurd (omega arith)
 range_has a (suc n) g l m =
     ⊎_elim (λ (e : a ≡ g). subst (λ x. has_good (range_with_len a (suc n)) x ≡ true) e (has_head a (range_with_len (a + 1) n))) (λ (d : a ≡ g → ⊥). has_tail a (range_with_len (a + 1) n) g (range_has (a + 1) n g (omega arith) (omega arith))) (cases_eq a g)
 
-range_rising : (a n : ℕ) → IsRising (range_with_len a n)
+pub range_rising : (a n : ℕ) → IsRising (range_with_len a n)
 range_rising a zero = tt
 range_rising a (suc n) = (AreAbove-from_has a (range_with_len (a + 1) n) (λ g h. let r = has_range (a + 1) n g h in omega (arith, r.0)), range_rising (a + 1) n)
 

@@ -85,6 +85,10 @@ covers_is price bundle kept l =
 pub nonempty_inside : {S : Type 0} (goods : S → List ℕ) (inside seen : List (Bor (Atom S))) (p : Atom (List ℕ) → Bool) (kept : List (Atom (List ℕ))) → seen ≡ inside → atoms_of goods (map (λ a. a.now) inside) ≡ filter p kept → All (λ a. 0 < length a.bundle) kept → All (λ a. 0 < length a.bundle) (atoms_of goods (map (λ a. a.now) seen))
 nonempty_inside goods inside seen p kept d e some = rw (d, e) (All-filter p (λ a. 0 < length a.bundle) kept some)
 
+-- and are inside it
+pub inside_bundle : {S : Type 0} (goods : S → List ℕ) (inside seen : List (Bor (Atom S))) (bundle : List ℕ) (kept : List (Atom (List ℕ))) → seen ≡ inside → atoms_of goods (map (λ a. a.now) inside) ≡ atoms_inside kept bundle → All (λ a. IsInside a.bundle bundle) (atoms_of goods (map (λ a. a.now) seen))
+inside_bundle goods inside seen bundle kept d e = rw (d, e) (filter_passes (λ a. is_inside a.bundle bundle) kept)
+
 pub kept_nonempty : {S : Type 0} (goods : S → List ℕ) (n : ℕ) (bids : List (Atom (List ℕ))) (yielded all kept : List (Atom S)) → AreBestBids bids (atoms_of goods (yielded ++ all)) → All (IsAtom n) bids → All (Contains (atoms_of goods yielded)) (atoms_of goods kept) → All (λ a. 0 < length a.bundle) (atoms_of goods kept)
 kept_nonempty {S} goods n bids yielded all kept b are among =
     All-weaker (Contains (atoms_of goods yielded)) (λ a. 0 < length a.bundle)

@@ -9,4 +9,5 @@ pub mod StepLemmas
 pub mod TableLemmas
 pub mod BestBids
 pub mod Listings
+pub mod Places
 pub mod Faults

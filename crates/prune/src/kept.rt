@@ -175,7 +175,7 @@ impl<S: GoodsSet> Kept<S> {
             ≡ atoms_inside atoms (S.goods bundle.now)) }
     {
         let places = self.places_inside(alloc, bundle)?;
-        let mut inside = Vec::new(alloc);
+        let mut inside = Vec::with_capacity(alloc, places.len())?;
         for place in &places {
             inside.push(&self.atoms[*place])?;
         }

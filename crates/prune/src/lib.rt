@@ -6,7 +6,9 @@ mod fault;
 mod kept;
 mod laws;
 mod or;
+mod places;
 mod search;
+mod shared;
 mod worked;
 mod xor;
 
