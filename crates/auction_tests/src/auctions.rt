@@ -56,7 +56,8 @@ fn expect_small_auction<S: GoodsSet>(
     Ok(())
 }
 
-// The bids without a dummy good are the OR bidder's, those with one its bidder's, and an unused one is a bidder without an atom.
+// The bids without a dummy good are the OR bidder's, those with one its bidder's, and an unused one is a bidder without
+// an atom.
 fn auction_of_small_file<S: GoodsSet>(rt: &impl Abort, alloc: Global) -> Result<(), Fail> {
     let file = small_file(alloc)?;
     assert!(rt; u32::from(file.goods()) <= S::cap());

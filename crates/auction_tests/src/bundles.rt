@@ -43,7 +43,8 @@ fn put_and_ask<S: GoodsSet>(rt: &impl Abort, alloc: Global) -> Result<(), Fail> 
     Ok(())
 }
 
-// Two sets: whether the first is inside the second, whether they are apart, their order, and what the second leaves of the first.
+// Two sets: whether the first is inside the second, whether they are apart, their order, and what the second leaves of
+// the first.
 type Pair = (
     &'static [u16],
     &'static [u16],

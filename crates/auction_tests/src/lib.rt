@@ -1,5 +1,5 @@
-//! Tests of `goods_set`, `valuation`, `prune` and `canon`, on worked rows and beside slow programs. They stand in a crate
-//! of their own, since a crate's functions are proved with its tests once more.
+//! Tests of `goods_set`, `valuation`, `prune` and `canon`, on worked rows and beside slow programs. They stand in a
+//! crate of their own, since a crate's functions are proved with its tests once more.
 #![tactic(auto)]
 
 #[cfg(test)]

@@ -5,7 +5,8 @@ use cats_text::{Watched, read};
 use std::alloc::Global;
 use std::test::Fail;
 
-/// Texts that are added in this order, the steps that a search may take, and what is told: a place, or why there is none.
+/// Texts that are added in this order, the steps that a search may take, and what is told: a place, or why there is
+/// none.
 static ROWS: [(&str, u64, &str); 14] = [
     (
         "goods 2\nbids 3\ndummy 0\n0\t3\t0\t#\n1\t4\t1\t#\n2\t7\t0\t1\t#\n",

@@ -34,7 +34,8 @@ pub fn is_or_point<S: GoodsSet>(
     bundle: &S,
 ) -> Result<bool, ValueFault>
     requires { All (IsAtom MAX_GOODS) (atoms_of S.goods atoms.now) }
-    ensures { IfOk result (λ is_point. (goods : ℕ) → map S.goods bundles.now ≡ all_bundles goods → IsBundle goods (S.goods bundle.now)
+    ensures { IfOk result (λ is_point. (goods : ℕ) → map S.goods bundles.now ≡ all_bundles goods
+        → IsBundle goods (S.goods bundle.now)
         → is_point ≡ is_or_point goods (atoms_of S.goods atoms.now) (S.goods bundle.now)) }
 {
     let value = or_value(alloc, atoms, bundle, u64::MAX)?.value;
@@ -60,7 +61,8 @@ pub fn is_xor_point<S: GoodsSet>(
     atoms: &[Atom<S>],
     bundle: &S,
 ) -> Result<bool, AllocError>
-    ensures { IfOk result (λ is_point. (goods : ℕ) → map S.goods bundles.now ≡ all_bundles goods → IsBundle goods (S.goods bundle.now)
+    ensures { IfOk result (λ is_point. (goods : ℕ) → map S.goods bundles.now ≡ all_bundles goods
+        → IsBundle goods (S.goods bundle.now)
         → is_point ≡ is_xor_point (atoms_of S.goods atoms.now) (S.goods bundle.now)) }
 {
     let (value, _) = xor_value(atoms, bundle);

@@ -265,7 +265,8 @@ fn nested_bids<S: GoodsSet>(rt: &impl Abort, alloc: Global, n: u16) -> Result<Ve
     Ok(bids)
 }
 
-// The search in the greatest bundle enters the empty family and each bid alone but the last, whose price does not suffice.
+// The search in the greatest bundle enters the empty family and each bid alone but the last, whose price does not
+// suffice.
 fn nested<S: GoodsSet>(rt: &impl Abort, alloc: Global) -> Result<(), Fail> {
     for n in [60, 80] {
         let bids = nested_bids::<S>(rt, alloc, n)?;

@@ -13,7 +13,7 @@ use Rattle.valuation.specs.declared.atom.Atom.{Atom}
 use Rattle.valuation.specs.Auctions.{PlainAuction}
 use Rattle.valuation.specs.Tables.{xor_table, or_table, is_nonzero}
 use Rattle.canon.specs.Sameness.{has_table, or_values, IsSameAuction}
-use Rattle.by_definition.specs.Tables.{is_as_frequent}
+use Rattle.by_definition.specs.Internal.Tables.{is_as_frequent}
 
 from_is_eq : (o : Ordering) → is_eq o ≡ true → o ≡ Equal
 from_is_eq Less e = absurd (cc)
@@ -31,7 +31,8 @@ count_by-none : {X : Type 0} (p : X → Bool) (x : X) (xs : List X) → p x ≡ 
 count_by-none p x xs e = let one : cond {A = ℕ} (p x) 1 0 ≡ 0 = ap (λ b. cond {A = ℕ} b 1 0) e in omega (arith, count_by-cons p x xs)
 
 module _ (goods : ℕ) (one other : List (List (Atom (List ℕ)))) where
-  at_bidder : (bidder : List (Atom (List ℕ))) → is_as_frequent goods one other bidder ≡ true → is_nonzero (xor_table bidder goods) ≡ true → count_by (has_table goods (xor_table bidder goods)) one ≡ count_by (has_table goods (xor_table bidder goods)) other
+  at_bidder : (bidder : List (Atom (List ℕ))) → is_as_frequent goods one other bidder ≡ true → is_nonzero (xor_table bidder goods) ≡ true
+      → count_by (has_table goods (xor_table bidder goods)) one ≡ count_by (has_table goods (xor_table bidder goods)) other
   unfolding is_as_frequent
   at_bidder bidder h n =
       ⊎_elim
@@ -68,7 +69,9 @@ module _ (goods : ℕ) (one other : List (List (Atom (List ℕ)))) where
       (λ (s : count_by (has_table goods table) one ≡ count_by (has_table goods table) other). s)
       (found table n one h)
 
-  test_at : (bidder : List (Atom (List ℕ))) → (is_nonzero (xor_table bidder goods) ≡ true → count_by (has_table goods (xor_table bidder goods)) one ≡ count_by (has_table goods (xor_table bidder goods)) other)
+  test_at : (bidder : List (Atom (List ℕ)))
+      → (is_nonzero (xor_table bidder goods) ≡ true → count_by (has_table goods (xor_table bidder goods)) one
+      ≡ count_by (has_table goods (xor_table bidder goods)) other)
       → is_as_frequent goods one other bidder ≡ true
   unfolding is_as_frequent
   test_at bidder s =
@@ -88,7 +91,8 @@ module _ (goods : ℕ) (one other : List (List (Atom (List ℕ)))) where
 
 module _ (a b : PlainAuction) where
   module _ (goods : a.goods ≡ b.goods) where
-    as_often_in_both : IsSameAuction a b → (table : List ℕ) → is_nonzero table ≡ true → count_by (has_table a.goods table) a.xor_bidders ≡ count_by (has_table a.goods table) b.xor_bidders
+    as_often_in_both : IsSameAuction a b → (table : List ℕ) → is_nonzero table ≡ true → count_by (has_table a.goods table) a.xor_bidders
+        ≡ count_by (has_table a.goods table) b.xor_bidders
     as_often_in_both s table n = s.xor_bidders table n ∙ ap (λ (g : ℕ). count_by (has_table g table) b.xor_bidders) (sym goods)
 
     pub unlike_values : is_eq (slice_cmp nat_cmp (or_values a) (or_table b.or_atoms a.goods)) ≡ false → IsSameAuction a b → ⊥
@@ -96,21 +100,25 @@ module _ (a b : PlainAuction) where
         let e : or_values a ≡ or_table b.or_atoms a.goods = s.or_values ∙ ap (or_table b.or_atoms) (sym goods) in
         both_ways _ f (subst (λ (xs : List ℕ). is_eq (slice_cmp nat_cmp (or_values a) xs) ≡ true) e (ap is_eq (tied_itself nat_list_cmp_total (or_values a))))
 
-    pub unlike_bidders : (bidders : List (List (Atom (List ℕ)))) → list_all (is_as_frequent a.goods a.xor_bidders b.xor_bidders) bidders ≡ false → IsSameAuction a b → ⊥
+    pub unlike_bidders : (bidders : List (List (Atom (List ℕ)))) → list_all (is_as_frequent a.goods a.xor_bidders b.xor_bidders) bidders ≡ false
+        → IsSameAuction a b → ⊥
     unlike_bidders bidders f s = both_ways _ f (test_from_as_often a.goods a.xor_bidders b.xor_bidders (as_often_in_both s) bidders)
 
     pub alike : is_eq (slice_cmp nat_cmp (or_values a) (or_table b.or_atoms a.goods)) ≡ true
-        → list_all (is_as_frequent a.goods a.xor_bidders b.xor_bidders) a.xor_bidders ≡ true → list_all (is_as_frequent a.goods a.xor_bidders b.xor_bidders) b.xor_bidders ≡ true → IsSameAuction a b
+        → list_all (is_as_frequent a.goods a.xor_bidders b.xor_bidders) a.xor_bidders ≡ true
+        → list_all (is_as_frequent a.goods a.xor_bidders b.xor_bidders) b.xor_bidders ≡ true → IsSameAuction a b
     alike v h k = record {
       goods = goods;
       or_values = same_list (or_values a) (or_table b.or_atoms a.goods) v ∙ ap (or_table b.or_atoms) goods;
-      xor_bidders = λ table n. as_often_from_test a.goods a.xor_bidders b.xor_bidders h k table n ∙ ap (λ (g : ℕ). count_by (has_table g table) b.xor_bidders) goods;
+      xor_bidders = λ table n. as_often_from_test a.goods a.xor_bidders b.xor_bidders h k table n
+          ∙ ap (λ (g : ℕ). count_by (has_table g table) b.xor_bidders) goods;
     }
 
     pub alike_by_test : is_eq (slice_cmp nat_cmp (or_values a) (or_table b.or_atoms a.goods)) ≡ true
         → list_all (is_as_frequent a.goods a.xor_bidders b.xor_bidders) a.xor_bidders ≡ true
         → (test : Bool) → test ≡ list_all (is_as_frequent a.goods a.xor_bidders b.xor_bidders) b.xor_bidders → (test ≡ true) ↔ IsSameAuction a b
-    alike_by_test v h test e = ((λ k. alike v h (sym e ∙ k)), (λ s. e ∙ test_from_as_often a.goods a.xor_bidders b.xor_bidders (as_often_in_both s) b.xor_bidders))
+    alike_by_test v h test e =
+        ((λ k. alike v h (sym e ∙ k)), (λ s. e ∙ test_from_as_often a.goods a.xor_bidders b.xor_bidders (as_often_in_both s) b.xor_bidders))
 
 -- a test that says no, and a fact that does not hold
 pub no_and_not : (P : Type 0) → (P → ⊥) → (false ≡ true) ↔ P

@@ -8,14 +8,16 @@ use Rattle.valuation.specs.Orders.{bidder_cmp}
 use Rattle.valuation.specs.Sorting.{sort_by}
 use Rattle.canon.specs.Canonical.{canonical_auction}
 use Rattle.canon.specs.Difference.{first_difference, first_unequal_bundle, or_difference, xor_difference, least_unequal_bidder}
-use Rattle.by_definition.specs.Differences.{bidder_difference, is_unequal}
+use Rattle.by_definition.specs.Internal.Differences.{bidder_difference, is_unequal}
 
 module _ (a b : PlainAuction) where
-  at_bidder : (bidder : Option (List (Atom (List ℕ)))) → bidder_difference (canonical_auction a).xor_bidders (canonical_auction b).xor_bidders bidder ≡ xor_difference a b bidder
+  at_bidder : (bidder : Option (List (Atom (List ℕ)))) → bidder_difference (canonical_auction a).xor_bidders (canonical_auction b).xor_bidders bidder
+      ≡ xor_difference a b bidder
   at_bidder None = refl
   at_bidder (Some bidder) = refl
 
-  least : find (is_unequal (canonical_auction a).xor_bidders (canonical_auction b).xor_bidders) (sort_by bidder_cmp ((canonical_auction a).xor_bidders ++ (canonical_auction b).xor_bidders)) ≡ least_unequal_bidder a b
+  least : find (is_unequal (canonical_auction a).xor_bidders (canonical_auction b).xor_bidders)
+      (sort_by bidder_cmp ((canonical_auction a).xor_bidders ++ (canonical_auction b).xor_bidders)) ≡ least_unequal_bidder a b
   unfolding is_unequal
   least = refl
 
@@ -24,7 +26,8 @@ module _ (a b : PlainAuction) where
       → bidder_difference ones others (find (is_unequal ones others) both) ≡ xor_difference a b (least_unequal_bidder a b)
   bidders_differ ones others both d e f =
       ap₂ (λ (xs ys : List (List (Atom (List ℕ)))). bidder_difference xs ys (find (is_unequal xs ys) both)) d e
-      ∙ ap (λ (zs : List (List (Atom (List ℕ)))). bidder_difference (canonical_auction a).xor_bidders (canonical_auction b).xor_bidders (find (is_unequal (canonical_auction a).xor_bidders (canonical_auction b).xor_bidders) zs)) f
+      ∙ ap (λ (zs : List (List (Atom (List ℕ)))). bidder_difference (canonical_auction a).xor_bidders (canonical_auction b).xor_bidders
+      (find (is_unequal (canonical_auction a).xor_bidders (canonical_auction b).xor_bidders) zs)) f
       ∙ ap (bidder_difference (canonical_auction a).xor_bidders (canonical_auction b).xor_bidders) least
       ∙ at_bidder (least_unequal_bidder a b)
 

@@ -8,7 +8,8 @@ range_step start zero h = absurd (h refl)
 range_step start (suc n) h = let e : suc n - 1 ≡ n = omega arith in rw e refl
 
 pub bundles_step : (count least size : ℕ) → (size ≡ 0 → ⊥) → (count ≡ 0 → ⊥)
-    → bundles_from count least size ≡ map (λ bundle. least ∷ bundle) (bundles_from (count - 1) (least + 1) (size - 1)) ++ bundles_from (count - 1) (least + 1) size
+    → bundles_from count least size ≡ map (λ bundle. least ∷ bundle) (bundles_from (count - 1) (least + 1) (size - 1))
+    ++ bundles_from (count - 1) (least + 1) size
 bundles_step count least zero h k = absurd (h refl)
 bundles_step zero least (suc size) h k = absurd (k refl)
 bundles_step (suc count) least (suc size) h k =

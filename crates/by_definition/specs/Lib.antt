@@ -1,4 +1,3 @@
 -- What the contracts of this crate cite.
 pub mod Lists
-pub mod Tables
-pub mod Differences
+pub mod Internal

@@ -29,4 +29,5 @@ auction_in a = plain_auction_of goods_in a.goods a.or_atoms.items a.xor_bidders.
 
 -- the bundles that pass the test, in order, each as an atom at its value
 abbrev pub points_among : (List ℕ → Bool) → (List ℕ → ℕ) → List (List ℕ) → List (Atom (List ℕ))
-points_among passes value bundles = map (λ bundle. record { bundle = bundle; price = value bundle }) (filter passes bundles)
+points_among passes value bundles = map (λ bundle. record { bundle = bundle; price = value bundle })
+    (filter passes bundles)

@@ -86,7 +86,8 @@ fn bidders_from(
     count: u32,
 ) -> Result<Vec<Bidder>, AllocError>
     requires { dummy + count < 2 ^ 32 }
-    ensures { IfOk result (λ bidders. bidders_in bidders.items ≡ map (xor_atoms_of (plain_bids bids.now)) (range_with_len dummy count)) }
+    ensures { IfOk result (λ bidders. bidders_in bidders.items ≡ map (xor_atoms_of (plain_bids bids.now))
+        (range_with_len dummy count)) }
 {
     if count == 0 {
         return Ok(Vec::new(alloc));

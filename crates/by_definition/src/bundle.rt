@@ -75,7 +75,8 @@ fn bundles_of_sizes(
     count: u16,
 ) -> Result<Vec<Vec<u16>>, AllocError>
     requires { size + count < 2 ^ 16 }
-    ensures { IfOk result (λ bundles. bundles_in bundles.items ≡ flat_map (λ size. bundles_from goods 0 size) (range_with_len size count)) }
+    ensures { IfOk result (λ bundles. bundles_in bundles.items ≡ flat_map (λ size. bundles_from goods 0 size)
+        (range_with_len size count)) }
 {
     if count == 0 {
         return Ok(Vec::new(alloc));

@@ -11,7 +11,7 @@ ghost use Rattle.valuation.specs.Values.{or_value};
 ghost use Rattle.canon.specs.Difference.{first_difference, side_of, xor_difference, least_unequal_bidder};
 ghost use Rattle.canon.specs.Verdicts.{plain_verdict, told_atoms};
 ghost use Rattle.by_definition.specs.Lists.{atoms_in, auction_in, bidders_in, bundles_in, goods_in};
-ghost use Rattle.by_definition.specs.Differences.{bidder_difference, is_unequal};
+ghost use Rattle.by_definition.specs.Internal.Differences.{bidder_difference, is_unequal};
 
 use crate::auction::{Bidder, ListAtom, ListedAuction, auction_from};
 use crate::bundle::all_bundles;
@@ -32,8 +32,10 @@ fn first_unequal_bundle(
     other: &ListedAuction,
     bundles: &[Vec<u16>],
 ) -> Result<Option<Vec<u16>>, NoAnswer>
-    ensures { let value = or_value (auction_in one.now).or_atoms in let other_value = or_value (auction_in other.now).or_atoms in
-        IfOk result (λ first. option_map goods_in first ≡ find (λ bundle. not (value bundle == other_value bundle)) (bundles_in bundles.now)) }
+    ensures { let value = or_value (auction_in one.now).or_atoms in
+        let other_value = or_value (auction_in other.now).or_atoms in
+        IfOk result (λ first. option_map goods_in first ≡ find (λ bundle. not (value bundle == other_value bundle))
+        (bundles_in bundles.now)) }
 {
     let [bundle, rest @ ..] = bundles else {
         return Ok(None);
@@ -96,7 +98,7 @@ fn told(alloc: Global, atoms: &[ListAtom]) -> Result<Vec<(Vec<u16>, u64)>, Alloc
 }
 
 /// Whether one of the lists has the bidder more often.
-#[tactic(auto, unfolding(crate::specs::Differences::is_unequal))]
+#[tactic(auto, unfolding(crate::specs::Internal::Differences::is_unequal))]
 fn is_unequal(one: &[Bidder], other: &[Bidder], bidder: &[ListAtom]) -> Result<bool, NoAnswer>
     ensures { IfOk result (λ is. is ≡ is_unequal (bidders_in one.now) (bidders_in other.now) (atoms_in bidder.now)) }
 {
@@ -111,7 +113,8 @@ fn first_unequal_bidder(
     bidders: &[Bidder],
 ) -> Result<Verdict, NoAnswer>
     ensures { let ones = bidders_in one.now in let others = bidders_in other.now in
-        IfOk result (λ verdict. plain_verdict verdict ≡ bidder_difference ones others (find (is_unequal ones others) (bidders_in bidders.now))) }
+        IfOk result (λ verdict. plain_verdict verdict ≡ bidder_difference ones others
+        (find (is_unequal ones others) (bidders_in bidders.now))) }
 {
     let [bidder, rest @ ..] = bidders else {
         return Ok(Verdict::Same);
@@ -154,7 +157,8 @@ fn difference_of_auctions(
 ) -> Result<Verdict, NoAnswer>
     requires one_goods { one.now.goods + 1 < 2 ^ 16 }
     requires other_goods { other.now.goods + 1 < 2 ^ 16 }
-    ensures { IfOk result (λ verdict. plain_verdict verdict ≡ first_difference (auction_in one.now) (auction_in other.now)) }
+    ensures { IfOk result (λ verdict. plain_verdict verdict ≡ first_difference (auction_in one.now)
+        (auction_in other.now)) }
 {
     if one.goods != other.goods {
         return Ok(Verdict::Goods(one.goods, other.goods));
@@ -172,7 +176,8 @@ fn difference_of_auctions(
 
 /// The first difference of two files.
 pub fn first_difference(alloc: Global, one: &BidFile, other: &BidFile) -> Result<Verdict, NoAnswer>
-    ensures { IfOk result (λ verdict. plain_verdict verdict ≡ first_difference (auction_from (plain_file one.now)) (auction_from (plain_file other.now))) }
+    ensures { IfOk result (λ verdict. plain_verdict verdict ≡ first_difference (auction_from (plain_file one.now))
+        (auction_from (plain_file other.now))) }
 {
     let auction = auction_from(alloc, one)?;
     let other_auction = auction_from(alloc, other)?;

@@ -1,6 +1,6 @@
-//! The definitions as a program, slow and plain, which the tests compare the program's answers with. Bundles are lists of goods,
-//! bidders are gone through bundle by bundle, and each function's contract is the definition that it computes. All but the
-//! auction of a file is for these tests alone.
+//! The definitions as a program, slow and plain, which the tests compare the program's answers with. Bundles are lists
+//! of goods, bidders are gone through bundle by bundle, and each function's contract is the definition that it
+//! computes. All but the auction of a file is for these tests alone.
 #![tactic(auto)]
 
 pub mod auction;

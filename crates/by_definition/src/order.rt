@@ -50,7 +50,8 @@ fn insert_bidder(
     bidder: Bidder,
     bidders: Vec<Bidder>,
 ) -> Result<Vec<Bidder>, AllocError>
-    ensures { IfOk result (λ all. bidders_in all.items ≡ insert_by bidder_cmp (atoms_in bidder.items) (bidders_in bidders.items)) }
+    ensures { IfOk result (λ all. bidders_in all.items ≡ insert_by bidder_cmp (atoms_in bidder.items)
+        (bidders_in bidders.items)) }
 {
     let Some((first, rest)) = split_first(bidders) else {
         return prepend(bidder, Vec::new(alloc));

@@ -33,7 +33,8 @@ fn each_is_missed(
     goods: &[u16],
 ) -> Result<bool, AllocError>
     ensures { let value = xor_value (atoms_in atoms.now) in
-        IfOk result (λ all. all ≡ list_all (λ good. nat_lt (value (without bundle.now (good ∷ []))) (value bundle.now)) goods.now) }
+        IfOk result (λ all. all ≡ list_all (λ good. nat_lt (value (without bundle.now (good ∷ []))) (value bundle.now))
+        goods.now) }
 {
     let [good, rest @ ..] = goods else {
         return Ok(true);
@@ -64,7 +65,8 @@ fn xor_points_among(
     bundles: &[Vec<u16>],
 ) -> Result<Bidder, AllocError>
     ensures { let a = atoms_in atoms.now in
-        IfOk result (λ points. atoms_in points.items ≡ points_among (is_xor_point a) (xor_value a) (bundles_in bundles.now)) }
+        IfOk result (λ points. atoms_in points.items ≡ points_among (is_xor_point a) (xor_value a)
+        (bundles_in bundles.now)) }
 {
     let [bundle, rest @ ..] = bundles else {
         return Ok(Vec::new(alloc));
@@ -102,7 +104,9 @@ fn each_split_is_less(
     parts: &[Vec<u16>],
 ) -> Result<bool, NoAnswer>
     ensures { let value = or_value (atoms_in atoms.now) in
-        IfOk result (λ all. all ≡ list_all (λ part. nat_lt (value part + value (without bundle.now part)) (value bundle.now)) (filter (λ part. is_part part bundle.now) (bundles_in parts.now))) }
+        IfOk result (λ all. all
+        ≡ list_all (λ part. nat_lt (value part + value (without bundle.now part)) (value bundle.now))
+        (filter (λ part. is_part part bundle.now) (bundles_in parts.now))) }
 {
     let [part, rest @ ..] = parts else {
         return Ok(true);
@@ -149,7 +153,8 @@ fn or_points_among(
 ) -> Result<Bidder, NoAnswer>
     requires { bundles_in all.now ≡ all_bundles goods }
     ensures { let a = atoms_in atoms.now in
-        IfOk result (λ points. atoms_in points.items ≡ points_among (is_or_point goods a) (or_value a) (bundles_in bundles.now)) }
+        IfOk result (λ points. atoms_in points.items ≡ points_among (is_or_point goods a) (or_value a)
+        (bundles_in bundles.now)) }
 {
     let [bundle, rest @ ..] = bundles else {
         return Ok(Vec::new(alloc));

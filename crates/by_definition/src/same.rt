@@ -7,7 +7,7 @@ ghost use Rattle.std.specs.Ordering.{nat_cmp, is_eq};
 ghost use Rattle.cats_text.specs.Views.{plain_file};
 ghost use Rattle.canon.specs.Sameness.{has_table, AreSameFiles, IsSameAuction};
 ghost use Rattle.by_definition.specs.Lists.{atoms_in, auction_in, bidders_in};
-ghost use Rattle.by_definition.specs.Tables.{is_as_frequent};
+ghost use Rattle.by_definition.specs.Internal.Tables.{is_as_frequent};
 
 use crate::auction::{Bidder, ListAtom, ListedAuction, auction_from};
 use crate::fault::{NoAnswer, sum};
@@ -45,7 +45,7 @@ fn bidders_with(
 }
 
 /// Whether the bidder's table is zero, or as many of the one bidders have it as of the others.
-#[tactic(auto, unfolding(crate::specs::Tables::is_as_frequent))]
+#[tactic(auto, unfolding(crate::specs::Internal::Tables::is_as_frequent))]
 fn is_as_frequent(
     alloc: Global,
     goods: u16,
@@ -54,7 +54,8 @@ fn is_as_frequent(
     bidder: &[ListAtom],
 ) -> Result<bool, NoAnswer>
     requires { goods + 1 < 2 ^ 16 }
-    ensures { IfOk result (λ is. is ≡ is_as_frequent goods (bidders_in one.now) (bidders_in other.now) (atoms_in bidder.now)) }
+    ensures { IfOk result (λ is. is ≡ is_as_frequent goods (bidders_in one.now) (bidders_in other.now)
+        (atoms_in bidder.now)) }
 {
     let table = xor_table(alloc, bidder, goods)?;
     let count = bidders_with(alloc, goods, table.as_slice(), one)?;
@@ -71,7 +72,8 @@ fn are_as_frequent(
     bidders: &[Bidder],
 ) -> Result<bool, NoAnswer>
     requires { goods + 1 < 2 ^ 16 }
-    ensures { IfOk result (λ are. are ≡ list_all (is_as_frequent goods (bidders_in one.now) (bidders_in other.now)) (bidders_in bidders.now)) }
+    ensures { IfOk result (λ are. are ≡ list_all (is_as_frequent goods (bidders_in one.now) (bidders_in other.now))
+        (bidders_in bidders.now)) }
 {
     let [bidder, rest @ ..] = bidders else {
         return Ok(true);
@@ -83,8 +85,8 @@ fn are_as_frequent(
     }
 }
 
-/// Whether the auctions are the same: the same number of goods, the same OR values, and as many XOR bidders of each valuation that
-/// is not zero.
+/// Whether the auctions are the same: the same number of goods, the same OR values, and as many XOR bidders of each
+/// valuation that is not zero.
 fn is_same_auction(
     alloc: Global,
     one: &ListedAuction,

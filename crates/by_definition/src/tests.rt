@@ -43,7 +43,8 @@ const SMALL: Sizes = Sizes {
     price: 2,
 };
 
-/// The next auction of a family, as a text: up to so many goods, bids and dummy goods, at prices of up to so many units.
+/// The next auction of a family, as a text: up to so many goods, bids and dummy goods, at prices of up to so many
+/// units.
 fn next_text(alloc: Global, state: &mut u64, sizes: Sizes) -> Result<String, AllocError> {
     let goods = up_to(state, sizes.goods.saturating_sub(1)).saturating_add(1);
     let bids = up_to(state, sizes.bids);
@@ -83,8 +84,8 @@ fn push_goods(
     Ok(())
 }
 
-/// The text is what the definition gives, normalising it gives it back, and under the limit the first heavy bundle is told. Answers
-/// whether there is one.
+/// The text is what the definition gives, normalising it gives it back, and under the limit the first heavy bundle is
+/// told. Answers whether there is one.
 fn expect_text(rt: &impl Abort, alloc: Global, text: &str, limit: u64) -> Result<bool, Fail> {
     let file = read(alloc, text.as_bytes())?;
     let expected = canonical_text(alloc, &file)?;
@@ -151,7 +152,8 @@ fn first_members(alloc: Global, count: u64) -> Result<Vec<Member>, Fail> {
     Ok(members)
 }
 
-/// How many pairs of the first 1,000 members are the same auction, as a program in another language counted by tables of values alone.
+/// How many pairs of the first 1,000 members are the same auction, as a program in another language counted by tables
+/// of values alone.
 const EQUAL_PAIRS: u64 = 68_380;
 
 /// Two texts are equal exactly where the tables of values say that the auctions are the same.

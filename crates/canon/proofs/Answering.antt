@@ -11,7 +11,7 @@ use Rattle.cats_text.specs.declared.bid.BidFile.{BidFile}
 use Rattle.cats_text.specs.declared.fault.Kind.{Kind}
 use Rattle.cats_text.specs.declared.fault.Kind.TheVariants.{Memory as NoMemory}
 use Rattle.cats_text.specs.declared.fault.ReadFault.{ReadFault}
-use Rattle.cats_text.proofs.SpellsLemmas.{spells_one}
+use Rattle.cats_text.proofs.Spelling.Files.{spells_one}
 use Rattle.valuation.specs.Auctions.{PlainAuction, auction_from}
 use Rattle.canon.specs.Answers.{RefusesAs, NormalisesAs, RefusesAuction, IsNormalFile, NormalisesAuctionAs, NormalisesFileAs}
 use Rattle.canon.specs.Canonical.{IsCanonicalFile, canonical_text}
@@ -30,7 +30,8 @@ told_by_kind : (expected : Normalised) (fault : ReadFault) → expected ≡ IsNo
 told_by_kind expected fault e NoMemory = tt
 told_by_kind expected fault e kind = e
 
-pub refused_by_reading : (limit : ℕ) (text : List ℕ) (fault : ReadFault) → (first_fault text ≡ Some fault) ⊎ WantsMemory text fault → RefusesAs (normalised limit text) (refusal_of fault)
+pub refused_by_reading : (limit : ℕ) (text : List ℕ) (fault : ReadFault) → (first_fault text ≡ Some fault) ⊎ WantsMemory text fault
+    → RefusesAs (normalised limit text) (refusal_of fault)
 refused_by_reading limit text fault (inl e) = told_by_kind (normalised limit text) fault (ap (unless_fault limit text) e) fault.kind
 refused_by_reading limit text fault (inr w) = subst (λ (f : ReadFault). RefusesAs (normalised limit text) (refusal_of f)) (sym w.0) tt
 
@@ -43,43 +44,53 @@ refused_file limit f Memory r = tt
 
 -- ---- the text
 
-pub text_of_normal_file : (limit : ℕ) (f h : PlainFile) → IsNormalFile limit (auction_from f) h → (text : List ℕ) → text ≡ layout h → normalised_file limit f ≡ IsText text
+pub text_of_normal_file : (limit : ℕ) (f h : PlainFile) → IsNormalFile limit (auction_from f) h → (text : List ℕ) → text ≡ layout h
+    → normalised_file limit f ≡ IsText text
 text_of_normal_file limit f h n text e = ap (unless_heavy f) n.light ∙ ap IsText (sym (e ∙ ap layout n.canonical))
 
 -- a text that spells a file is answered as the file is
-pub answered_as_file : (limit : ℕ) (text : List ℕ) (f : PlainFile) → Spells text f → (r : Result (Vec ℕ Global) CanonFault) → NormalisesAs (normalised_file limit f) r → NormalisesAs (normalised limit text) r
+pub answered_as_file : (limit : ℕ) (text : List ℕ) (f : PlainFile) → Spells text f → (r : Result (Vec ℕ Global) CanonFault)
+    → NormalisesAs (normalised_file limit f) r → NormalisesAs (normalised limit text) r
 answered_as_file limit text f s r h = subst (λ (n : Normalised). NormalisesAs n r) (sym (normalised_spelled limit text f s)) h
 
 -- equal texts come of files of the same auction, and of these alone
-pub same_exactly : (limit : ℕ) (text out : List ℕ) → normalised limit text ≡ IsText out → (f g : PlainFile) → Spells text f → IsPlainFile g → (out ≡ canonical_text g ↔ AreSameFiles f g)
+pub same_exactly : (limit : ℕ) (text out : List ℕ) → normalised limit text ≡ IsText out → (f g : PlainFile) → Spells text f → IsPlainFile g
+    → (out ≡ canonical_text g ↔ AreSameFiles f g)
 same_exactly limit text out e f g s facts =
     let n = text_from_normalised limit text out e in
     let d : n.file ≡ f = spells_one text n.file f n.spelled s in
     let is : out ≡ canonical_text f = n.is ∙ ap canonical_text d in
     (λ q. same_from_text f g s.facts facts (sym is ∙ q), λ q. is ∙ same_text f g s.facts facts q)
 
-pub same_if_text : (limit : ℕ) (text : List ℕ) (r : Result (Vec ℕ Global) CanonFault) → NormalisesAs (normalised limit text) r → IfOk r (λ out. (f g : PlainFile) → Spells text f → IsPlainFile g → (out.items ≡ canonical_text g ↔ AreSameFiles f g))
+pub same_if_text : (limit : ℕ) (text : List ℕ) (r : Result (Vec ℕ Global) CanonFault) → NormalisesAs (normalised limit text) r
+    → IfOk r (λ out. (f g : PlainFile) → Spells text f → IsPlainFile g → (out.items ≡ canonical_text g ↔ AreSameFiles f g))
 same_if_text limit text (Ok out) h = same_exactly limit text out.items h
 same_if_text limit text (Err fault) h = tt
 
-pub again_if_text : (limit : ℕ) (text : List ℕ) (r : Result (Vec ℕ Global) CanonFault) → NormalisesAs (normalised limit text) r → IfOk r (λ out. normalised limit out.items ≡ IsText out.items)
-again_if_text limit text (Ok out) h = normalised_from_text limit out.items out.items (normalised_again limit text out.items (text_from_normalised limit text out.items h))
+pub again_if_text : (limit : ℕ) (text : List ℕ) (r : Result (Vec ℕ Global) CanonFault) → NormalisesAs (normalised limit text) r
+    → IfOk r (λ out. normalised limit out.items ≡ IsText out.items)
+again_if_text limit text (Ok out) h =
+    normalised_from_text limit out.items out.items (normalised_again limit text out.items (text_from_normalised limit text out.items h))
 again_if_text limit text (Err fault) h = tt
 
 -- ---- the file
 
-pub same_if_file : (limit : ℕ) (f : PlainFile) → IsPlainFile f → (r : Result BidFile CanonFault) → NormalisesFileAs limit f r → IfOk r (λ h. AreSameFiles f (plain_file h))
+pub same_if_file : (limit : ℕ) (f : PlainFile) → IsPlainFile f → (r : Result BidFile CanonFault) → NormalisesFileAs limit f r
+    → IfOk r (λ h. AreSameFiles f (plain_file h))
 same_if_file limit f facts (Ok h) n = subst (λ (x : PlainFile). AreSameFiles f x) (sym n.canonical) (canonical_file_is_same f facts)
 same_if_file limit f facts (Err fault) n = tt
 
-pub canonical_if_file : (limit : ℕ) (f : PlainFile) → IsPlainFile f → (r : Result BidFile CanonFault) → NormalisesFileAs limit f r → IfOk r (λ h. IsCanonicalFile (plain_file h))
+pub canonical_if_file : (limit : ℕ) (f : PlainFile) → IsPlainFile f → (r : Result BidFile CanonFault) → NormalisesFileAs limit f r
+    → IfOk r (λ h. IsCanonicalFile (plain_file h))
 canonical_if_file limit f facts (Ok h) n = subst (λ (x : PlainFile). IsCanonicalFile x) (sym n.canonical) (canonical_file_is_fixed f facts)
 canonical_if_file limit f facts (Err fault) n = tt
 
-pub least_if_file : (limit : ℕ) (f : PlainFile) → IsPlainFile f → (r : Result BidFile CanonFault) → NormalisesFileAs limit f r → IfOk r (λ h. IsLeastFor f (plain_file h))
+pub least_if_file : (limit : ℕ) (f : PlainFile) → IsPlainFile f → (r : Result BidFile CanonFault) → NormalisesFileAs limit f r
+    → IfOk r (λ h. IsLeastFor f (plain_file h))
 least_if_file limit f facts (Ok h) n = subst (λ (x : PlainFile). IsLeastFor f x) (sym n.canonical) (canonical_is_least f facts)
 least_if_file limit f facts (Err fault) n = tt
 
 -- an answer for the auction of a file is one for the file
-pub answered_as_auction : (limit : ℕ) (f : PlainFile) (a : PlainAuction) → a ≡ auction_from f → (r : Result BidFile CanonFault) → NormalisesAuctionAs limit a r → NormalisesFileAs limit f r
+pub answered_as_auction : (limit : ℕ) (f : PlainFile) (a : PlainAuction) → a ≡ auction_from f → (r : Result BidFile CanonFault) → NormalisesAuctionAs limit a r
+    → NormalisesFileAs limit f r
 answered_as_auction limit f a e r h = subst (λ (x : PlainAuction). NormalisesAuctionAs limit x r) e h

@@ -7,8 +7,9 @@ use Rattle.std.specs.Cmp.{IsTotalOrder}
 use Rattle.std.proofs.lemmas.Bool.{cases_Bool, both_ways, eqb-true, eq-eqb, ne_eqb, not_from_true, not_from_false}
 use Rattle.std.proofs.lemmas.Cmp.{tied_itself}
 use Rattle.std.proofs.lemmas.List.Sums.{sum_by-cons, sum_by-append}
-use Rattle.valuation.specs.Sorting.{sort_by, sum_by-sort_by, ordered-sort_by, sort_by-same, IsOrdered, count_of}
-use Rattle.prune.specs.Lists.{zero_or_more, filter_same_on, find_alike, All-from_Contains, found_none}
+use Rattle.valuation.specs.Sorting.{sort_by, count_of}
+use Rattle.valuation.specs.Lemmas.Sorting.{sum_by-sort_by, ordered-sort_by, sort_by-same, IsOrdered}
+use Rattle.prune.specs.Lemmas.Lists.{zero_or_more, filter_same_on, find_alike, All-from_Contains, found_none}
 use Rattle.canon.proofs.Finding.{find_least, found_least, counted_is_there}
 use Rattle.canon.proofs.OrDifferences.{eqb_swap}
 
@@ -26,7 +27,8 @@ module _ {X : Type 0} (cmp : X → X → Ordering) where
   even_from_test : (one other : List X) (x : X) → is_uneven one other x ≡ false → count_of cmp x one ≡ count_of cmp x other
   even_from_test one other x e =
       ⊎_elim (λ (t : eqb (count_of cmp x one) (count_of cmp x other) ≡ true). eqb-true (count_of cmp x one) (count_of cmp x other) t)
-      (λ (t : eqb (count_of cmp x one) (count_of cmp x other) ≡ false). absurd (both_ways (is_uneven one other x) e (not_from_false (eqb (count_of cmp x one) (count_of cmp x other)) t)))
+      (λ (t : eqb (count_of cmp x one) (count_of cmp x other) ≡ false). absurd
+      (both_ways (is_uneven one other x) e (not_from_false (eqb (count_of cmp x one) (count_of cmp x other)) t)))
       (cases_Bool (eqb (count_of cmp x one) (count_of cmp x other)))
 
   pub count_of-append : (x : X) (xs ys : List X) → count_of cmp x (xs ++ ys) ≡ count_of cmp x xs + count_of cmp x ys
@@ -52,21 +54,27 @@ module _ {X : Type 0} (cmp : X → X → Ordering) (total : IsTotalOrder cmp) (e
   -- it does not matter which list comes first
   pub least_uneven_swap : (one other : List X) → least_uneven one other ≡ least_uneven other one
   least_uneven_swap one other =
-      let lists : both_in_order one other ≡ both_in_order other one = sort_by-same cmp total exact (one ++ other) (other ++ one) (λ x. let a = count_of-append cmp x one other in let b = count_of-append cmp x other one in omega arith) in
+      let lists : both_in_order one other ≡ both_in_order other one =
+      sort_by-same cmp total exact (one ++ other) (other ++ one) (λ x. let a = count_of-append cmp x one other in let b = count_of-append cmp x other one in
+      omega arith) in
       find_alike (is_uneven cmp one other) (is_uneven cmp other one) (both_in_order one other) (both_in_order one other)
-      (filter_same_on (is_uneven cmp one other) (is_uneven cmp other one) (both_in_order one other) (All-from_Contains (λ x. is_uneven cmp one other x ≡ is_uneven cmp other one x) (both_in_order one other) (λ x c. ap not (eqb_swap (count_of cmp x one) (count_of cmp x other)))))
+      (filter_same_on (is_uneven cmp one other) (is_uneven cmp other one) (both_in_order one other)
+      (All-from_Contains (λ x. is_uneven cmp one other x ≡ is_uneven cmp other one x) (both_in_order one other)
+      (λ x c. ap not (eqb_swap (count_of cmp x one) (count_of cmp x other)))))
       ∙ ap (find (is_uneven cmp other one)) lists
 
   -- an element that either list has is among both
   there_in_both : (one other : List X) (x : X) → 0 < count_of cmp x one + count_of cmp x other → Contains (both_in_order one other) x
   there_in_both one other x l =
-      counted_is_there cmp total exact x (both_in_order one other) (let a = count_of-append cmp x one other in let b = count_of-sort_by cmp x (one ++ other) in omega arith)
+      counted_is_there cmp total exact x (both_in_order one other) (let a = count_of-append cmp x one other in let b = count_of-sort_by cmp x (one ++ other) in
+      omega arith)
 
   -- where there is none, all are counted alike
   pub all_even : (one other : List X) → least_uneven one other ≡ None → (x : X) → count_of cmp x one ≡ count_of cmp x other
   all_even one other e x =
       ⊎_elim (λ (z : count_of cmp x one + count_of cmp x other ≡ 0). omega arith)
-      (λ (l : 0 < count_of cmp x one + count_of cmp x other). even_from_test cmp one other x (found_none (is_uneven cmp one other) (both_in_order one other) e x (there_in_both one other x l)))
+      (λ (l : 0 < count_of cmp x one + count_of cmp x other). even_from_test cmp one other x (found_none (is_uneven cmp one other) (both_in_order one other) e x
+      (there_in_both one other x l)))
       (zero_or_more (count_of cmp x one + count_of cmp x other))
 
   -- a list has none that itself has not
@@ -96,7 +104,8 @@ module _ {X : Type 0} (cmp : X → X → Ordering) (total : IsTotalOrder cmp) (e
   pub least_uneven_found : (one other : List X) (x : X) → IsLeastUneven one other x → least_uneven one other ≡ Some x
   least_uneven_found one other x h =
       find_least cmp total exact (is_uneven cmp one other) (both_in_order one other) (ordered-sort_by cmp total (one ++ other)) x
-      (there_in_both one other x (⊎_elim (λ (z : count_of cmp x one + count_of cmp x other ≡ 0). absurd (h.differ (omega arith))) (λ (p : 0 < count_of cmp x one + count_of cmp x other). p) (zero_or_more (count_of cmp x one + count_of cmp x other))))
+      (there_in_both one other x (⊎_elim (λ (z : count_of cmp x one + count_of cmp x other ≡ 0). absurd (h.differ (omega arith)))
+      (λ (p : 0 < count_of cmp x one + count_of cmp x other). p) (zero_or_more (count_of cmp x one + count_of cmp x other))))
       (uneven_test cmp one other x h.differ)
       (λ y l. even_test cmp one other y (h.earlier y l))
 
@@ -120,7 +129,8 @@ module _ {X : Type 0} (cmp : X → X → Ordering) (total : IsTotalOrder cmp) (e
   behind_further w x (y ∷ ys) l h = (total.trans w x y l h.0, behind_further w x ys l h.1)
 
   -- the first list goes on with x, the second behind x or not at all
-  pub parts_at_left : (front : List X) (x : X) (xs ys : List X) → IsOrdered cmp (x ∷ xs) → AllByRecursion (λ y. cmp x y ≡ Less) ys → least_uneven (front ++ (x ∷ xs)) (front ++ ys) ≡ Some x
+  pub parts_at_left : (front : List X) (x : X) (xs ys : List X) → IsOrdered cmp (x ∷ xs) → AllByRecursion (λ y. cmp x y ≡ Less) ys
+      → least_uneven (front ++ (x ∷ xs)) (front ++ ys) ≡ Some x
   parts_at_left front x xs ys s h =
       least_uneven_found (front ++ (x ∷ xs)) (front ++ ys) x (record {
         differ = λ e.

@@ -9,20 +9,21 @@ use Rattle.std.proofs.lemmas.List.{map-append, map_push, append-nil, length-map,
 use Rattle.std.proofs.lemmas.List.Elements.{All-contains, All-weaker, Contains-append_right, filter-append}
 use Rattle.std.proofs.lemmas.List.Sorted.{IsPermutation-map}
 use Rattle.cats_text.specs.declared.limits.TheConstants.{MAX_GOODS}
-use Rattle.goods_set.specs.Members.{AreBelow-higher}
+use Rattle.goods_set.specs.Lemmas.Members.{AreBelow-higher}
 use Rattle.valuation.specs.declared.atom.Atom.{Atom}
 use Rattle.valuation.specs.Auctions.{PlainAuction, IsAtom, IsAuction}
-use Rattle.valuation.specs.AtomLemmas.{length-atoms_of}
+use Rattle.valuation.specs.Lemmas.Atoms.{length-atoms_of}
 use Rattle.valuation.specs.Bidders.{bidders_of}
 use Rattle.valuation.specs.Orders.{bidder_cmp}
-use Rattle.valuation.specs.OrderLemmas.{bidder_cmp_total, bidder_cmp_equal}
-use Rattle.valuation.specs.Sorting.{sort_by, sorted_is_sort_by}
+use Rattle.valuation.specs.Lemmas.Orders.{bidder_cmp_total, bidder_cmp_equal}
+use Rattle.valuation.specs.Sorting.{sort_by}
+use Rattle.valuation.specs.Lemmas.Sorting.{sorted_is_sort_by}
 use Rattle.valuation.specs.Tables.{xor_table, is_nonzero}
 use Rattle.valuation.specs.Values.{atoms_of}
-use Rattle.prune.specs.Lists.{Contains-head, zero_or_more}
+use Rattle.prune.specs.Lemmas.Lists.{Contains-head, zero_or_more}
 use Rattle.prune.specs.Points.{xor_points, or_points}
 use Rattle.prune.specs.Steps.{first_heavy}
-use Rattle.prune.specs.TableLemmas.{no_xor_points}
+use Rattle.prune.specs.Lemmas.Tables.{no_xor_points}
 use Rattle.canon.specs.Canonical.{canonical_auction, points_of_bidders}
 use Rattle.canon.proofs.Atoms.{on_bundles}
 use Rattle.canon.proofs.Counting.{points_more, points_without}
@@ -30,9 +31,14 @@ use Rattle.canon.proofs.Counting.{points_more, points_without}
 -- atoms over fewer goods are atoms over more
 pub atoms_within : (fewer more : ℕ) (atoms : List (Atom (List ℕ))) → fewer ≤ more → All (IsAtom fewer) atoms → All (IsAtom more) atoms
 atoms_within fewer more atoms l h =
-    All-weaker (IsAtom fewer) (IsAtom more) (λ a p. record { nonempty = p.nonempty; bundle = (p.bundle.0, AreBelow-higher fewer more a.bundle l p.bundle.1); price = p.price }) atoms h
+    All-weaker (IsAtom fewer) (IsAtom more) (λ a p. record {
+      nonempty = p.nonempty;
+      bundle = (p.bundle.0, AreBelow-higher fewer more a.bundle l p.bundle.1);
+      price = p.price;
+    }) atoms h
 
-pub bidders_within : (fewer more : ℕ) (bidders : List (List (Atom (List ℕ)))) → fewer ≤ more → All (All (IsAtom fewer)) bidders → All (All (IsAtom more)) bidders
+pub bidders_within : (fewer more : ℕ) (bidders : List (List (Atom (List ℕ)))) → fewer ≤ more → All (All (IsAtom fewer)) bidders
+    → All (All (IsAtom more)) bidders
 bidders_within fewer more bidders l h = All-weaker (All (IsAtom fewer)) (All (IsAtom more)) (λ b p. atoms_within fewer more b l p) bidders h
 
 pub positive : (n : ℕ) → (n ≡ 0 → ⊥) → 0 < n
@@ -42,17 +48,20 @@ positive n h = ⊎_elim (λ (z : n ≡ 0). absurd (h z)) (λ (l : 0 < n). l) (ze
 pub all_middle : {X Y : Type 0} (seen : X → Y) (P : Y → Type 0) (all done rest : List X) (x : X) → all ≡ done ++ x ∷ rest → All P (map seen all) → P (seen x)
 all_middle {X} {Y} seen P all done rest x e h =
     let parts : map seen all ≡ map seen done ++ seen x ∷ map seen rest = ap (map seen) e ∙ map-append seen done (x ∷ rest) in
-    All-contains P (map seen done ++ seen x ∷ map seen rest) (seen x) (subst (λ (ys : List Y). All P ys) parts h) (Contains-append_right (map seen done) (seen x ∷ map seen rest) (seen x) (Contains-head (seen x) (map seen rest)))
+    All-contains P (map seen done ++ seen x ∷ map seen rest) (seen x) (subst (λ (ys : List Y). All P ys) parts h)
+    (Contains-append_right (map seen done) (seen x ∷ map seen rest) (seen x) (Contains-head (seen x) (map seen rest)))
 
 -- ---- one more bidder at the end
 
-points_append : (goods : ℕ) (xs ys : List (List (Atom (List ℕ)))) → points_of_bidders goods (xs ++ ys) ≡ points_of_bidders goods xs ++ points_of_bidders goods ys
+points_append : (goods : ℕ) (xs ys : List (List (Atom (List ℕ)))) → points_of_bidders goods (xs ++ ys) ≡ points_of_bidders goods xs
+    ++ points_of_bidders goods ys
 points_append goods xs ys =
     let p = λ (b : List (Atom (List ℕ))). is_nonzero (xor_table b goods) in
     ap (map (xor_points goods)) (filter-append p xs ys) ∙ map-append (xor_points goods) (filter p xs) (filter p ys)
 
 -- a bidder with points adds them
-pub points_push : (goods : ℕ) (done : List (List (Atom (List ℕ)))) (bidder points : List (Atom (List ℕ))) → All (IsAtom goods) bidder → points ≡ xor_points goods bidder → (points ≡ [] → ⊥) → points_of_bidders goods (done ++ bidder ∷ []) ≡ points_of_bidders goods done ++ points ∷ []
+pub points_push : (goods : ℕ) (done : List (List (Atom (List ℕ)))) (bidder points : List (Atom (List ℕ))) → All (IsAtom goods) bidder
+    → points ≡ xor_points goods bidder → (points ≡ [] → ⊥) → points_of_bidders goods (done ++ bidder ∷ []) ≡ points_of_bidders goods done ++ points ∷ []
 points_push goods done bidder points h e some =
     points_append goods done (bidder ∷ [])
     ∙ ap (λ (zs : List (List (Atom (List ℕ)))). points_of_bidders goods done ++ zs)
@@ -62,10 +71,12 @@ points_push goods done bidder points h e some =
     (cases_Bool (is_nonzero (xor_table bidder goods))))
 
 -- one without points adds nothing
-pub points_skip : (goods : ℕ) (done : List (List (Atom (List ℕ)))) (bidder points : List (Atom (List ℕ))) → All (IsAtom goods) bidder → points ≡ xor_points goods bidder → points ≡ [] → points_of_bidders goods (done ++ bidder ∷ []) ≡ points_of_bidders goods done
+pub points_skip : (goods : ℕ) (done : List (List (Atom (List ℕ)))) (bidder points : List (Atom (List ℕ))) → All (IsAtom goods) bidder
+    → points ≡ xor_points goods bidder → points ≡ [] → points_of_bidders goods (done ++ bidder ∷ []) ≡ points_of_bidders goods done
 points_skip goods done bidder points h e none =
     points_append goods done (bidder ∷ [])
-    ∙ ap (λ (zs : List (List (Atom (List ℕ)))). points_of_bidders goods done ++ zs) (points_without goods bidder [] ((no_xor_points goods bidder (on_bundles goods bidder h)).0 (sym e ∙ none)))
+    ∙ ap (λ (zs : List (List (Atom (List ℕ)))). points_of_bidders goods done ++ zs)
+    (points_without goods bidder [] ((no_xor_points goods bidder (on_bundles goods bidder h)).0 (sym e ∙ none)))
     ∙ append-nil (points_of_bidders goods done)
 
 -- ---- in order
@@ -80,7 +91,9 @@ map-sorted {Y = Y} seen lt (x ∷ xs) up k d l m =
     subst (λ (a : Y). lt a (get_or (map seen (x ∷ xs)) k d) ≡ false) (sym (get_or-map seen (x ∷ xs) (k + 1) x d next))
     (subst (λ (b : Y). lt (seen (get_or (x ∷ xs) (k + 1) x)) b ≡ false) (sym (get_or-map seen (x ∷ xs) k x d here)) (up k x l next))
 
-pub bidders_sorted : {S : Type 0} (goods : S → List ℕ) (old new : List (Vec (Atom S) Global)) → IsPermutation old new → IsSortedBy (λ a b. is_lt (bidder_cmp (atoms_of goods a.items) (atoms_of goods b.items))) new → bidders_of goods new ≡ sort_by bidder_cmp (bidders_of goods old)
+pub bidders_sorted : {S : Type 0} (goods : S → List ℕ) (old new : List (Vec (Atom S) Global)) → IsPermutation old new
+    → IsSortedBy (λ a b. is_lt (bidder_cmp (atoms_of goods a.items) (atoms_of goods b.items))) new
+    → bidders_of goods new ≡ sort_by bidder_cmp (bidders_of goods old)
 bidders_sorted {S} goods old new p up =
     let seen : Vec (Atom S) Global → List (Atom (List ℕ)) = λ v. atoms_of goods v.items in
     sorted_is_sort_by bidder_cmp bidder_cmp_total bidder_cmp_equal (bidders_of goods old) (bidders_of goods new) (IsPermutation-map seen old new p)
@@ -90,7 +103,8 @@ bidders_sorted {S} goods old new p up =
 
 module _ {S : Type 0} (goods : S → List ℕ) (all done left rest : List (Vec (Atom S) Global)) (b : Vec (Atom S) Global) (parts : all ≡ done ++ left) (next : left ≡ b ∷ rest) where
   pub bidder_next : (P : List (Atom (List ℕ)) → Type 0) → All P (bidders_of goods all) → P (atoms_of goods b.items)
-  bidder_next P h = all_middle (λ (v : Vec (Atom S) Global). atoms_of goods v.items) P all done rest b (parts ∙ ap (λ (zs : List (Vec (Atom S) Global)). done ++ zs) next) h
+  bidder_next P h = all_middle (λ (v : Vec (Atom S) Global). atoms_of goods v.items) P all done rest b (parts
+      ∙ ap (λ (zs : List (Vec (Atom S) Global)). done ++ zs) next) h
 
   pub bidder_taken : all ≡ (done ++ b ∷ []) ++ rest
   bidder_taken = parts ∙ ap (λ (zs : List (Vec (Atom S) Global)). done ++ zs) next ∙ sym (append_assoc done (b ∷ []) rest)
@@ -101,7 +115,8 @@ module _ {S : Type 0} (goods : S → List ℕ) (all done left rest : List (Vec (
     own_atoms : All (IsAtom n) (atoms_of goods b.items)
     own_atoms = bidder_next (All (IsAtom n)) atoms
 
-    pub points_pushed : (more : List (Vec (Atom S) Global)) → more ≡ points ++ own ∷ [] → 0 < length own.items → bidders_of goods more ≡ points_of_bidders n (bidders_of goods (done ++ b ∷ []))
+    pub points_pushed : (more : List (Vec (Atom S) Global)) → more ≡ points ++ own ∷ [] → 0 < length own.items
+        → bidders_of goods more ≡ points_of_bidders n (bidders_of goods (done ++ b ∷ []))
     points_pushed more e some =
         ap (bidders_of goods) e ∙ map_push (λ (v : Vec (Atom S) Global). atoms_of goods v.items) points own
         ∙ ap (λ (zs : List (List (Atom (List ℕ)))). zs ++ atoms_of goods own.items ∷ []) so_far
@@ -117,9 +132,11 @@ module _ {S : Type 0} (goods : S → List ℕ) (all done left rest : List (Vec (
         ∙ points_skip n (bidders_of goods done) (atoms_of goods b.items) (atoms_of goods own.items) own_atoms (are own_atoms) none)
 
 -- no bidder is left
-pub points_done : {S : Type 0} (goods : S → List ℕ) (n : ℕ) (all done left points : List (Vec (Atom S) Global)) → all ≡ done ++ left → left ≡ [] → bidders_of goods points ≡ points_of_bidders n (bidders_of goods done) → bidders_of goods points ≡ points_of_bidders n (bidders_of goods all)
+pub points_done : {S : Type 0} (goods : S → List ℕ) (n : ℕ) (all done left points : List (Vec (Atom S) Global)) → all ≡ done ++ left → left ≡ []
+    → bidders_of goods points ≡ points_of_bidders n (bidders_of goods done) → bidders_of goods points ≡ points_of_bidders n (bidders_of goods all)
 points_done {S} goods n all done left points parts none h =
-    h ∙ ap (λ (zs : List (Vec (Atom S) Global)). points_of_bidders n (bidders_of goods zs)) (sym (parts ∙ ap (λ (zs : List (Vec (Atom S) Global)). done ++ zs) none ∙ append-nil done))
+    h ∙ ap (λ (zs : List (Vec (Atom S) Global)). points_of_bidders n (bidders_of goods zs))
+    (sym (parts ∙ ap (λ (zs : List (Vec (Atom S) Global)). done ++ zs) none ∙ append-nil done))
 
 -- ---- the parts of an auction
 
@@ -135,15 +152,22 @@ module _ (cap : ℕ) (a : PlainAuction) (facts : IsAuction cap a) (n : ℕ) (ors
   xor_part = bidders_within n MAX_GOODS xors made.goods made.xor_atoms
 
   -- the parts of the canonical auction
-  pub canonical_parts : (points : List (Atom (List ℕ))) (unsorted sorted : List (List (Atom (List ℕ)))) → ((m : ℕ) → All (IsAtom m) ors → points ≡ or_points m ors) → ((m : ℕ) → All (All (IsAtom m)) xors → unsorted ≡ points_of_bidders m xors) → sorted ≡ sort_by bidder_cmp unsorted
+  pub canonical_parts : (points : List (Atom (List ℕ))) (unsorted sorted : List (List (Atom (List ℕ))))
+      → ((m : ℕ) → All (IsAtom m) ors → points ≡ or_points m ors) → ((m : ℕ) → All (All (IsAtom m)) xors → unsorted ≡ points_of_bidders m xors)
+      → sorted ≡ sort_by bidder_cmp unsorted
       → ◌≡◌ {A = PlainAuction} (record { goods = n; or_atoms = points; xor_bidders = sorted }) (canonical_auction a)
   canonical_parts points unsorted sorted h k e =
-      ap₂ (λ (or_atoms : List (Atom (List ℕ))) (xor_bidders : List (List (Atom (List ℕ)))). record { goods = n; or_atoms = or_atoms; xor_bidders = xor_bidders })
+      ap₂ (λ (or_atoms : List (Atom (List ℕ))) (xor_bidders : List (List (Atom (List ℕ)))). record {
+        goods = n;
+        or_atoms = or_atoms;
+        xor_bidders = xor_bidders;
+      })
       (h n made.or_atoms) (e ∙ ap (sort_by bidder_cmp) (k n made.xor_atoms))
       ∙ ap canonical_auction (sym parts)
 
   pub light_parts : (limit : ℕ) → ((m : ℕ) → All (IsAtom m) ors → first_heavy m limit ors ≡ None) → first_heavy a.goods limit a.or_atoms ≡ None
   light_parts limit h = ap (λ (x : PlainAuction). first_heavy x.goods limit x.or_atoms) parts ∙ h n made.or_atoms
 
-  pub heavy_parts : (limit : ℕ) (bundle : List ℕ) → ((m : ℕ) → All (IsAtom m) ors → first_heavy m limit ors ≡ Some bundle) → first_heavy a.goods limit a.or_atoms ≡ Some bundle
+  pub heavy_parts : (limit : ℕ) (bundle : List ℕ) → ((m : ℕ) → All (IsAtom m) ors → first_heavy m limit ors ≡ Some bundle)
+      → first_heavy a.goods limit a.or_atoms ≡ Some bundle
   heavy_parts limit bundle h = ap (λ (x : PlainAuction). first_heavy x.goods limit x.or_atoms) parts ∙ h n made.or_atoms

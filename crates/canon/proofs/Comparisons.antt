@@ -12,17 +12,17 @@ use Rattle.cats_text.specs.declared.bid.BidFile.{BidFile}
 use Rattle.cats_text.specs.declared.limits.TheConstants.{MAX_BIDS, MAX_GOODS}
 use Rattle.cats_text.specs.Files.{PlainBid, PlainFile, IsPlainFile, plain_bid, plain_bids}
 use Rattle.cats_text.specs.Grammar.{Spells}
-use Rattle.cats_text.proofs.SpellsLemmas.{says_spelled, spells_one}
+use Rattle.cats_text.proofs.Spelling.Files.{says_spelled, spells_one}
 use Rattle.valuation.specs.declared.atom.Atom.{Atom}
-use Rattle.valuation.specs.AuctionLemmas.{IsAuction-auction_from}
+use Rattle.valuation.specs.Lemmas.AuctionsOfFiles.{IsAuction-auction_from}
 use Rattle.valuation.specs.Auctions.{PlainAuction, IsAuction, auction_from}
 use Rattle.canon.specs.Answers.{RefusesAs, NormalisesFileAs}
-use Rattle.canon.specs.BidderBids.{HasBidders}
+use Rattle.canon.specs.Internal.BidderBids.{HasBidders}
 use Rattle.canon.specs.Canonical.{IsCanonical, IsCanonicalFile, bid_from, canonical_auction, canonical_text, dummy_bids, file_from}
 use Rattle.canon.specs.Comparing.{Compared, ComparedBy, IsNormalFileOf, ReadsNormalAs, RefusesOf, compared, unless_first_refused, unless_second_refused}
 use Rattle.canon.specs.Difference.{Difference, NoDifference, first_difference, first_unequal_bundle, least_unequal_bidder, or_difference, xor_difference}
 use Rattle.canon.specs.Normalising.{Normalised, IsNoFile, ExceedsSteps, IsText, normalised}
-use Rattle.canon.specs.OrBids.{HasOrBids}
+use Rattle.canon.specs.Internal.OrBids.{HasOrBids}
 use Rattle.canon.specs.Sameness.{AreSameFiles, AreSameTexts, IsSameAuction}
 use Rattle.canon.specs.Verdicts.{NamesGoods, plain_verdict}
 use Rattle.canon.specs.declared.fault.CanonFault.{CanonFault}
@@ -41,7 +41,8 @@ use Rattle.canon.proofs.Texts.{IsPlainFile-canonical, canonical_file_is_same, ca
 -- ---- the bids of a canonical file
 
 -- how many bids pass, of the OR bidder's and then of the XOR bidders'
-or_bids_pass : (p : PlainBid → Bool) → ((a : Atom (List ℕ)) → p (bid_from None a) ≡ true) → (atoms : List (Atom (List ℕ))) (rest : List PlainBid) → prefix_len p rest ≡ 0 → prefix_len p (map (bid_from None) atoms ++ rest) ≡ length (map (bid_from None) atoms)
+or_bids_pass : (p : PlainBid → Bool) → ((a : Atom (List ℕ)) → p (bid_from None a) ≡ true) → (atoms : List (Atom (List ℕ))) (rest : List PlainBid)
+    → prefix_len p rest ≡ 0 → prefix_len p (map (bid_from None) atoms ++ rest) ≡ length (map (bid_from None) atoms)
 or_bids_pass p h [] rest e = e
 or_bids_pass p h (a ∷ atoms) rest e =
     let here = h a in
@@ -100,10 +101,12 @@ stands_for f h c =
       are = ap (λ (g : PlainFile). g.bids) (sym c ∙ ap file_from (sym same));
     }
 
-pub or_bids_of : (f : PlainFile) → StandsFor f → (bids : List PlainBid) → bids ≡ map (bid_from None) (auction_from f).or_atoms → HasOrBids MAX_GOODS (auction_from f) bids
+pub or_bids_of : (f : PlainFile) → StandsFor f → (bids : List PlainBid) → bids ≡ map (bid_from None) (auction_from f).or_atoms
+    → HasOrBids MAX_GOODS (auction_from f) bids
 or_bids_of f s bids e = record { facts = s.facts; canonical = s.canonical; are = e }
 
-pub xor_bids_of : (f : PlainFile) → StandsFor f → (bids : List PlainBid) → bids ≡ dummy_bids 0 (auction_from f).xor_bidders → HasBidders MAX_GOODS (auction_from f) bids
+pub xor_bids_of : (f : PlainFile) → StandsFor f → (bids : List PlainBid) → bids ≡ dummy_bids 0 (auction_from f).xor_bidders
+    → HasBidders MAX_GOODS (auction_from f) bids
 xor_bids_of f s bids e = record { facts = s.facts; canonical = s.canonical; are = e }
 
 -- ---- the verdict that there is no difference
@@ -114,7 +117,8 @@ is_same (Goods left right) e = absurd (cc)
 is_same (Or bundle left right) e = absurd (cc)
 is_same (Xor bidder left right) e = absurd (cc)
 
-pub same_exactly_by_difference : (a b : PlainAuction) → HasAtoms a → HasAtoms b → (v : Verdict) → plain_verdict v ≡ first_difference a b → (v ≡ Same ↔ IsSameAuction a b)
+pub same_exactly_by_difference : (a b : PlainAuction) → HasAtoms a → HasAtoms b → (v : Verdict) → plain_verdict v ≡ first_difference a b
+    → (v ≡ Same ↔ IsSameAuction a b)
 same_exactly_by_difference a b h k v d = (
   λ e. same_from_no_difference a b h k (sym d ∙ ap plain_verdict e),
   λ s. is_same v (d ∙ no_difference_from_same a b h k s),
@@ -122,7 +126,8 @@ same_exactly_by_difference a b h k v d = (
 
 -- ---- the first step: a text is read and made canonical
 
-pub normal_from_file : (limit : ℕ) (text : List ℕ) (f : PlainFile) → Spells text f → (r : Result BidFile CanonFault) → NormalisesFileAs limit f r → ReadsNormalAs limit text r
+pub normal_from_file : (limit : ℕ) (text : List ℕ) (f : PlainFile) → Spells text f → (r : Result BidFile CanonFault) → NormalisesFileAs limit f r
+    → ReadsNormalAs limit text r
 normal_from_file limit text f s (Ok h) n = record { file = f; spelled = s; normal = n }
 normal_from_file limit text f s (Err fault) n =
     subst (λ (e : Normalised). RefusesAs e fault) (sym (normalised_spelled limit text f s)) (refused_file limit f fault n)
@@ -148,8 +153,10 @@ module _ (limit : ℕ) (one other : List ℕ) (h k : PlainFile) (n : IsNormalFil
       ap (unless_first_refused limit one other) (text_is limit one h n)
       ∙ ap (unless_second_refused one other) (text_is limit other k m)
       ∙ ap ComparedBy
-      (ap₂ (λ (f g : PlainFile). first_difference (auction_from f) (auction_from g)) (sym (says_spelled one n.file n.spelled)) (sym (says_spelled other m.file m.spelled))
-      ∙ difference_of_same_files n.file h m.file k n.spelled.facts (plain_of_text limit one h n) m.spelled.facts (plain_of_text limit other k m) (same_of_text limit one h n) (same_of_text limit other k m))
+      (ap₂ (λ (f g : PlainFile). first_difference (auction_from f) (auction_from g)) (sym (says_spelled one n.file n.spelled))
+      (sym (says_spelled other m.file m.spelled))
+      ∙ difference_of_same_files n.file h m.file k n.spelled.facts (plain_of_text limit one h n) m.spelled.facts (plain_of_text limit other k m)
+      (same_of_text limit one h n) (same_of_text limit other k m))
 
   same_texts : AreSameFiles h k → AreSameTexts one other
   same_texts s = record {
@@ -165,7 +172,8 @@ module _ (limit : ℕ) (one other : List ℕ) (h k : PlainFile) (n : IsNormalFil
   same_files t =
       let f = spells_one one t.first n.file t.first_spelled n.spelled in
       let g = spells_one other t.second m.file t.second_spelled m.spelled in
-      let files : AreSameFiles n.file m.file = subst (λ (x : PlainFile). AreSameFiles x m.file) f (subst (λ (x : PlainFile). AreSameFiles t.first x) g t.same) in
+      let files : AreSameFiles n.file m.file =
+      subst (λ (x : PlainFile). AreSameFiles x m.file) f (subst (λ (x : PlainFile). AreSameFiles t.first x) g t.same) in
       same_trans (auction_from h) (auction_from n.file) (auction_from k) (same_sym (auction_from n.file) (auction_from h) (same_of_text limit one h n))
       (same_trans (auction_from n.file) (auction_from m.file) (auction_from k) files (same_of_text limit other k m))
 
@@ -183,7 +191,8 @@ module _ (limit : ℕ) (one other : List ℕ) where
   memory_first (IsNoFile fault) = refl
   memory_first (ExceedsSteps goods) = refl
 
-  first_in_place : (text : List ℕ) (fault : CanonFault) → RefusesAs (IsText text) fault → RefusesOf First (unless_second_refused one other (normalised limit other)) fault
+  first_in_place : (text : List ℕ) (fault : CanonFault) → RefusesAs (IsText text) fault
+      → RefusesOf First (unless_second_refused one other (normalised limit other)) fault
   first_in_place text (Read fault) r = absurd (cc)
   first_in_place text (StepLimit goods) r = absurd (cc)
   first_in_place text Memory r = memory_first (normalised limit other)
@@ -196,7 +205,8 @@ module _ (limit : ℕ) (one other : List ℕ) where
   pub first_refused : (fault : CanonFault) → RefusesAs (normalised limit one) fault → RefusesOf First (compared limit one other) fault
   first_refused fault r = first_by fault (normalised limit one) r
 
-  second_in_place : (text : List ℕ) (fault : CanonFault) → RefusesAs (IsText text) fault → RefusesOf Second (unless_second_refused one other (IsText text)) fault
+  second_in_place : (text : List ℕ) (fault : CanonFault) → RefusesAs (IsText text) fault
+      → RefusesOf Second (unless_second_refused one other (IsText text)) fault
   second_in_place text (Read fault) r = absurd (cc)
   second_in_place text (StepLimit goods) r = absurd (cc)
   second_in_place text Memory r = refl
@@ -206,18 +216,25 @@ module _ (limit : ℕ) (one other : List ℕ) where
   second_by fault (IsNoFile why) r = r
   second_by fault (ExceedsSteps goods) r = r
 
-  pub second_refused : (h : PlainFile) → IsNormalFileOf limit one h → (fault : CanonFault) → RefusesAs (normalised limit other) fault → RefusesOf Second (compared limit one other) fault
+  pub second_refused : (h : PlainFile) → IsNormalFileOf limit one h → (fault : CanonFault) → RefusesAs (normalised limit other) fault
+      → RefusesOf Second (compared limit one other) fault
   second_refused h n fault r =
-      subst (λ (c : Compared). RefusesOf Second c fault) (sym (ap (unless_first_refused limit one other) (text_is limit one h n))) (second_by fault (normalised limit other) r)
+      subst (λ (c : Compared). RefusesOf Second c fault) (sym (ap (unless_first_refused limit one other) (text_is limit one h n)))
+      (second_by fault (normalised limit other) r)
 
 -- ---- the walk over two files
 
 module _ (a b : PlainAuction) (e : a.goods ≡ b.goods) where
-  pub or_told : (told : Option Verdict) (v : Verdict) → told ≡ Some v → MatchOption told (first_unequal_bundle a b ≡ None) (λ verdict. plain_verdict verdict ≡ or_difference a b (first_unequal_bundle a b)) → plain_verdict v ≡ first_difference a b
-  or_told told v is h = MatchOption-at_some (first_unequal_bundle a b ≡ None) (λ verdict. plain_verdict verdict ≡ or_difference a b (first_unequal_bundle a b)) v is h ∙ sym (at_same_goods a b e)
+  pub or_told : (told : Option Verdict) (v : Verdict) → told ≡ Some v
+      → MatchOption told (first_unequal_bundle a b ≡ None) (λ verdict. plain_verdict verdict ≡ or_difference a b (first_unequal_bundle a b))
+      → plain_verdict v ≡ first_difference a b
+  or_told told v is h = MatchOption-at_some (first_unequal_bundle a b ≡ None) (λ verdict. plain_verdict verdict ≡ or_difference a b (first_unequal_bundle a b))
+      v is h ∙ sym (at_same_goods a b e)
 
-  pub xor_told : {E : Type 0} (told : Option Verdict) → told ≡ None → MatchOption told (first_unequal_bundle a b ≡ None) (λ verdict. plain_verdict verdict ≡ or_difference a b (first_unequal_bundle a b))
-      → (r : Result Verdict E) → IfOk r (λ verdict. plain_verdict verdict ≡ xor_difference a b (least_unequal_bidder a b)) → IfOk r (λ verdict. plain_verdict verdict ≡ first_difference a b)
+  pub xor_told : {E : Type 0} (told : Option Verdict) → told ≡ None
+      → MatchOption told (first_unequal_bundle a b ≡ None) (λ verdict. plain_verdict verdict ≡ or_difference a b (first_unequal_bundle a b))
+      → (r : Result Verdict E) → IfOk r (λ verdict. plain_verdict verdict ≡ xor_difference a b (least_unequal_bidder a b))
+      → IfOk r (λ verdict. plain_verdict verdict ≡ first_difference a b)
   xor_told told is h r k =
       let none = MatchOption-at_none (first_unequal_bundle a b ≡ None) (λ verdict. plain_verdict verdict ≡ or_difference a b (first_unequal_bundle a b)) is h in
       IfOk-weaker r (λ verdict. plain_verdict verdict ≡ xor_difference a b (least_unequal_bidder a b)) (λ verdict. plain_verdict verdict ≡ first_difference a b)
@@ -227,7 +244,8 @@ module _ (a b : PlainAuction) (e : a.goods ≡ b.goods) where
   pub or_named : NamesGoods (or_difference a b (first_unequal_bundle a b)) → NamesGoods (first_difference a b)
   or_named h = subst NamesGoods (sym (at_same_goods a b e)) h
 
-  pub xor_named : {E : Type 0} (told : Option Verdict) → told ≡ None → MatchOption told (first_unequal_bundle a b ≡ None) (λ verdict. plain_verdict verdict ≡ or_difference a b (first_unequal_bundle a b))
+  pub xor_named : {E : Type 0} (told : Option Verdict) → told ≡ None
+      → MatchOption told (first_unequal_bundle a b ≡ None) (λ verdict. plain_verdict verdict ≡ or_difference a b (first_unequal_bundle a b))
       → (r : Result Verdict E) → OnErr r (NamesGoods (xor_difference a b (least_unequal_bidder a b))) → OnErr r (NamesGoods (first_difference a b))
   xor_named told is h r k =
       let none = MatchOption-at_none (first_unequal_bundle a b ≡ None) (λ verdict. plain_verdict verdict ≡ or_difference a b (first_unequal_bundle a b)) is h in

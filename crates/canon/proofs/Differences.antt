@@ -8,13 +8,14 @@ use Rattle.goods_set.specs.Bundles.{all_bundles}
 use Rattle.valuation.specs.declared.atom.Atom.{Atom}
 use Rattle.valuation.specs.Auctions.{PlainAuction, IsAtom}
 use Rattle.valuation.specs.Orders.{bidder_cmp}
-use Rattle.valuation.specs.OrderLemmas.{bidder_cmp_total, bidder_cmp_equal}
-use Rattle.valuation.specs.Sorting.{sort_by, ordered-sort_by, ordered_from_counts, sum_by-sort_by, count_of}
+use Rattle.valuation.specs.Lemmas.Orders.{bidder_cmp_total, bidder_cmp_equal}
+use Rattle.valuation.specs.Sorting.{sort_by, count_of}
+use Rattle.valuation.specs.Lemmas.Sorting.{ordered-sort_by, ordered_from_counts, sum_by-sort_by}
 use Rattle.valuation.specs.Tables.{or_table, xor_table}
 use Rattle.valuation.specs.Values.{or_value}
-use Rattle.prune.specs.Lists.{find_none, found_none, map_same_on, map_same_at, All-from_Contains, zero_or_more}
+use Rattle.prune.specs.Lemmas.Lists.{find_none, found_none, map_same_on, map_same_at, All-from_Contains, zero_or_more}
 use Rattle.prune.specs.Points.{is_or_point, or_points}
-use Rattle.prune.specs.TableLemmas.{same_or_points}
+use Rattle.prune.specs.Lemmas.Tables.{same_or_points}
 use Rattle.canon.specs.Sameness.{IsSameAuction, has_table, bidders_with}
 use Rattle.canon.specs.Canonical.{canonical_auction, points_of_bidders}
 use Rattle.canon.specs.Difference.{NoDifference, InGoods, first_difference, first_unequal_bundle, least_unequal_bidder, or_difference, xor_difference, copies_of, exchanged}
@@ -36,7 +37,8 @@ xor_swap a b (Some bidder) = refl
 
 or_swap : (a b : PlainAuction) (o : Option (List ℕ)) → or_difference b a o ≡ exchanged (or_difference a b o)
 or_swap a b None =
-    ap (xor_difference b a) (least_uneven_swap bidder_cmp bidder_cmp_total bidder_cmp_equal (canonical_auction b).xor_bidders (canonical_auction a).xor_bidders) ∙ xor_swap a b (least_unequal_bidder a b)
+    ap (xor_difference b a) (least_uneven_swap bidder_cmp bidder_cmp_total bidder_cmp_equal (canonical_auction b).xor_bidders (canonical_auction a).xor_bidders)
+    ∙ xor_swap a b (least_unequal_bidder a b)
 or_swap a b (Some bundle) = refl
 
 -- of auctions with as many goods
@@ -51,7 +53,8 @@ differences_swap a b =
     ⊎_elim
     (λ (t : eqb a.goods b.goods ≡ true).
     let e = eqb-true a.goods b.goods t in
-    at_same_goods b a (sym e) ∙ ap (or_difference b a) (unequal_bundle_swap a b e) ∙ or_swap a b (first_unequal_bundle a b) ∙ sym (ap exchanged (at_same_goods a b e)))
+    at_same_goods b a (sym e) ∙ ap (or_difference b a) (unequal_bundle_swap a b e) ∙ or_swap a b (first_unequal_bundle a b)
+    ∙ sym (ap exchanged (at_same_goods a b e)))
     (λ (t : eqb a.goods b.goods ≡ false).
     let n = eqb-false a.goods b.goods t in
     at_other_goods b a (λ d. n (sym d)) ∙ sym (ap exchanged (at_other_goods a b n)))
@@ -60,17 +63,25 @@ differences_swap a b =
 -- ---- the same auction
 
 -- no bundle, and no bidder
-same_from_none : (a b : PlainAuction) → HasAtoms a → HasAtoms b → a.goods ≡ b.goods → first_unequal_bundle a b ≡ None → least_unequal_bidder a b ≡ None → IsSameAuction a b
+same_from_none : (a b : PlainAuction) → HasAtoms a → HasAtoms b → a.goods ≡ b.goods → first_unequal_bundle a b ≡ None → least_unequal_bidder a b ≡ None
+    → IsSameAuction a b
 same_from_none a b h k e values counts =
     same_from_canonical a b h k
-    (over e (λ (n : ℕ) (or_atoms : List (Atom (List ℕ))) (xor_bidders : List (List (Atom (List ℕ)))). record { goods = n; or_atoms = or_atoms; xor_bidders = xor_bidders }) points all)
+    (over e (λ (n : ℕ) (or_atoms : List (Atom (List ℕ))) (xor_bidders : List (List (Atom (List ℕ)))). record {
+      goods = n;
+      or_atoms = or_atoms;
+      xor_bidders = xor_bidders;
+    }) points all)
   where
-    over : {x y : ℕ} → x ≡ y → (f : ℕ → List (Atom (List ℕ)) → List (List (Atom (List ℕ))) → PlainAuction) → {p q : List (Atom (List ℕ))} → p ≡ q → {r s : List (List (Atom (List ℕ)))} → r ≡ s → f x p r ≡ f y q s
-    over {x} {y} d f {p} {q} u {r} {s} v = ap (λ (n : ℕ). f n p r) d ∙ ap₂ (λ (or_atoms : List (Atom (List ℕ))) (xor_bidders : List (List (Atom (List ℕ)))). f y or_atoms xor_bidders) u v
+    over : {x y : ℕ} → x ≡ y → (f : ℕ → List (Atom (List ℕ)) → List (List (Atom (List ℕ))) → PlainAuction) → {p q : List (Atom (List ℕ))} → p ≡ q
+        → {r s : List (List (Atom (List ℕ)))} → r ≡ s → f x p r ≡ f y q s
+    over {x} {y} d f {p} {q} u {r} {s} v = ap (λ (n : ℕ). f n p r) d
+        ∙ ap₂ (λ (or_atoms : List (Atom (List ℕ))) (xor_bidders : List (List (Atom (List ℕ)))). f y or_atoms xor_bidders) u v
 
     tables : or_table a.or_atoms a.goods ≡ or_table b.or_atoms a.goods
     tables = map_same_on (or_value a.or_atoms) (or_value b.or_atoms) (all_bundles a.goods)
-        (All-from_Contains (λ bundle. or_value a.or_atoms bundle ≡ or_value b.or_atoms bundle) (all_bundles a.goods) (λ bundle c. equal_from_test a.or_atoms b.or_atoms bundle (found_none (are_unequal a.or_atoms b.or_atoms) (all_bundles a.goods) values bundle c)))
+        (All-from_Contains (λ bundle. or_value a.or_atoms bundle ≡ or_value b.or_atoms bundle) (all_bundles a.goods)
+        (λ bundle c. equal_from_test a.or_atoms b.or_atoms bundle (found_none (are_unequal a.or_atoms b.or_atoms) (all_bundles a.goods) values bundle c)))
 
     points : or_points a.goods a.or_atoms ≡ or_points b.goods b.or_atoms
     points =
@@ -84,11 +95,13 @@ same_from_none a b h k e values counts =
         (ordered-sort_by bidder_cmp bidder_cmp_total (points_of_bidders b.goods b.xor_bidders))
         (all_even bidder_cmp bidder_cmp_total bidder_cmp_equal (canonical_auction a).xor_bidders (canonical_auction b).xor_bidders counts)
 
-same_from_bidder : (a b : PlainAuction) → HasAtoms a → HasAtoms b → a.goods ≡ b.goods → first_unequal_bundle a b ≡ None → (o : Option (List (Atom (List ℕ)))) → least_unequal_bidder a b ≡ o → xor_difference a b o ≡ NoDifference → IsSameAuction a b
+same_from_bidder : (a b : PlainAuction) → HasAtoms a → HasAtoms b → a.goods ≡ b.goods → first_unequal_bundle a b ≡ None → (o : Option (List (Atom (List ℕ))))
+    → least_unequal_bidder a b ≡ o → xor_difference a b o ≡ NoDifference → IsSameAuction a b
 same_from_bidder a b h k e values None f d = same_from_none a b h k e values f
 same_from_bidder a b h k e values (Some bidder) f d = absurd (cc)
 
-same_from_bundle : (a b : PlainAuction) → HasAtoms a → HasAtoms b → a.goods ≡ b.goods → (o : Option (List ℕ)) → first_unequal_bundle a b ≡ o → or_difference a b o ≡ NoDifference → IsSameAuction a b
+same_from_bundle : (a b : PlainAuction) → HasAtoms a → HasAtoms b → a.goods ≡ b.goods → (o : Option (List ℕ)) → first_unequal_bundle a b ≡ o
+    → or_difference a b o ≡ NoDifference → IsSameAuction a b
 same_from_bundle a b h k e None f d = same_from_bidder a b h k e f (least_unequal_bidder a b) refl d
 same_from_bundle a b h k e (Some bundle) f d = absurd (cc)
 
@@ -111,7 +124,8 @@ no_difference_from_same a b h k s =
     no_bundle =
         let tables : or_table a.or_atoms a.goods ≡ or_table b.or_atoms a.goods = s.or_values ∙ ap (or_table b.or_atoms) (sym s.goods) in
         find_none (are_unequal a.or_atoms b.or_atoms) (all_bundles a.goods) (λ bundle c.
-        not_from_true (eqb (or_value a.or_atoms bundle) (or_value b.or_atoms bundle)) (eq-eqb (or_value a.or_atoms bundle) (or_value b.or_atoms bundle) (map_same_at (or_value a.or_atoms) (or_value b.or_atoms) (all_bundles a.goods) tables bundle c)))
+        not_from_true (eqb (or_value a.or_atoms bundle) (or_value b.or_atoms bundle)) (eq-eqb (or_value a.or_atoms bundle) (or_value b.or_atoms bundle)
+        (map_same_at (or_value a.or_atoms) (or_value b.or_atoms) (all_bundles a.goods) tables bundle c)))
 
     no_bidder : least_unequal_bidder a b ≡ None
     no_bidder =
@@ -127,7 +141,8 @@ no_difference_same a b h k = (same_from_no_difference a b h k, no_difference_fro
 pub unequal_bundle_is : (a b : PlainAuction) (bundle : List ℕ) → first_unequal_bundle a b ≡ Some bundle → IsFirstUnequal a.goods a.or_atoms b.or_atoms bundle
 unequal_bundle_is a b bundle e = first_unequal a.goods a.or_atoms b.or_atoms bundle e
 
-pub greater_has_point : (a b : PlainAuction) → HasAtoms b → a.goods ≡ b.goods → (bundle : List ℕ) → first_unequal_bundle a b ≡ Some bundle → or_value b.or_atoms bundle < or_value a.or_atoms bundle → is_or_point a.goods a.or_atoms bundle ≡ true
+pub greater_has_point : (a b : PlainAuction) → HasAtoms b → a.goods ≡ b.goods → (bundle : List ℕ) → first_unequal_bundle a b ≡ Some bundle
+    → or_value b.or_atoms bundle < or_value a.or_atoms bundle → is_or_point a.goods a.or_atoms bundle ≡ true
 greater_has_point a b k same bundle e l =
     let f = unequal_bundle_is a b bundle e in
     let there : All (IsAtom a.goods) b.or_atoms = subst (λ n. All (IsAtom n) b.or_atoms) (sym same) k.or_atoms in
@@ -135,21 +150,29 @@ greater_has_point a b k same bundle e l =
 
 -- ---- the least bidder
 
-pub unequal_bidder_is : (a b : PlainAuction) (bidder : List (Atom (List ℕ))) → least_unequal_bidder a b ≡ Some bidder → IsLeastUneven bidder_cmp bidder_cmp_total bidder_cmp_equal (canonical_auction a).xor_bidders (canonical_auction b).xor_bidders bidder
-unequal_bidder_is a b bidder e = least_uneven_is bidder_cmp bidder_cmp_total bidder_cmp_equal (canonical_auction a).xor_bidders (canonical_auction b).xor_bidders bidder e
+pub unequal_bidder_is : (a b : PlainAuction) (bidder : List (Atom (List ℕ))) → least_unequal_bidder a b ≡ Some bidder
+    → IsLeastUneven bidder_cmp bidder_cmp_total bidder_cmp_equal (canonical_auction a).xor_bidders (canonical_auction b).xor_bidders bidder
+unequal_bidder_is a b bidder e = least_uneven_is bidder_cmp bidder_cmp_total bidder_cmp_equal (canonical_auction a).xor_bidders
+    (canonical_auction b).xor_bidders bidder e
 
-copies_in : (goods : ℕ) (bidder : List (Atom (List ℕ))) (bidders : List (List (Atom (List ℕ)))) → count_of bidder_cmp bidder (sort_by bidder_cmp (points_of_bidders goods bidders)) ≡ count_of bidder_cmp bidder (points_of_bidders goods bidders)
+copies_in : (goods : ℕ) (bidder : List (Atom (List ℕ))) (bidders : List (List (Atom (List ℕ))))
+    → count_of bidder_cmp bidder (sort_by bidder_cmp (points_of_bidders goods bidders)) ≡ count_of bidder_cmp bidder (points_of_bidders goods bidders)
 copies_in goods bidder bidders = sum_by-sort_by bidder_cmp (λ b. cond (is_eq (bidder_cmp bidder b)) 1 0) (points_of_bidders goods bidders)
 
 -- the points of some bidder are counted as its table is
-copies_by_table : (goods : ℕ) (bidder model : List (Atom (List ℕ))) → IsPointsOf goods bidder model → (bidders : List (List (Atom (List ℕ)))) → All (All (IsAtom goods)) bidders → count_of bidder_cmp bidder (sort_by bidder_cmp (points_of_bidders goods bidders)) ≡ count_by (has_table goods (xor_table bidder goods)) bidders
+copies_by_table : (goods : ℕ) (bidder model : List (Atom (List ℕ))) → IsPointsOf goods bidder model → (bidders : List (List (Atom (List ℕ))))
+    → All (All (IsAtom goods)) bidders → count_of bidder_cmp bidder (sort_by bidder_cmp (points_of_bidders goods bidders))
+    ≡ count_by (has_table goods (xor_table bidder goods)) bidders
 copies_by_table goods bidder model p bidders h =
     copies_in goods bidder bidders
     ∙ ap (λ (b : List (Atom (List ℕ))). count_of bidder_cmp b (points_of_bidders goods bidders)) p.are
     ∙ points_as_tables goods model p.atoms p.nonzero bidders h
-    ∙ ap (λ (table : List ℕ). count_by (has_table goods table) bidders) (sym (ap (λ (b : List (Atom (List ℕ))). xor_table b goods) p.are ∙ xor_points_table goods model p.atoms))
+    ∙ ap (λ (table : List ℕ). count_by (has_table goods table) bidders) (sym (ap (λ (b : List (Atom (List ℕ))). xor_table b goods) p.are
+    ∙ xor_points_table goods model p.atoms))
 
-pub numbers_by_table : (a b : PlainAuction) → HasAtoms a → HasAtoms b → a.goods ≡ b.goods → (bidder : List (Atom (List ℕ))) → least_unequal_bidder a b ≡ Some bidder → (copies_of bidder a ≡ bidders_with (xor_table bidder a.goods) a) × (copies_of bidder b ≡ bidders_with (xor_table bidder b.goods) b)
+pub numbers_by_table : (a b : PlainAuction) → HasAtoms a → HasAtoms b → a.goods ≡ b.goods → (bidder : List (Atom (List ℕ)))
+    → least_unequal_bidder a b ≡ Some bidder → (copies_of bidder a ≡ bidders_with (xor_table bidder a.goods) a)
+    × (copies_of bidder b ≡ bidders_with (xor_table bidder b.goods) b)
 numbers_by_table a b h k same bidder e =
     let least = unequal_bidder_is a b bidder e in
     let one = copies_in a.goods bidder a.xor_bidders in
@@ -157,7 +180,8 @@ numbers_by_table a b h k same bidder e =
     ⊎_elim
     (λ (z : copies_of bidder a ≡ 0).
     let some : 0 < count_of bidder_cmp bidder (points_of_bidders b.goods b.xor_bidders) =
-    ⊎_elim (λ (y : copies_of bidder b ≡ 0). absurd (least.differ (z ∙ sym y))) (λ (l : 0 < copies_of bidder b). omega arith) (zero_or_more (copies_of bidder b)) in
+    ⊎_elim (λ (y : copies_of bidder b ≡ 0). absurd (least.differ (z ∙ sym y))) (λ (l : 0 < copies_of bidder b). omega arith)
+    (zero_or_more (copies_of bidder b)) in
     let r = occurring b.goods bidder b.xor_bidders k.xor_atoms some in
     by r.0 (subst (λ n. IsPointsOf n bidder r.0) (sym same) r.1) r.1)
     (λ (l : 0 < copies_of bidder a).
@@ -165,5 +189,6 @@ numbers_by_table a b h k same bidder e =
     by r.0 r.1 (subst (λ n. IsPointsOf n bidder r.0) same r.1))
     (zero_or_more (copies_of bidder a))
   where
-    by : (model : List (Atom (List ℕ))) → IsPointsOf a.goods bidder model → IsPointsOf b.goods bidder model → (copies_of bidder a ≡ bidders_with (xor_table bidder a.goods) a) × (copies_of bidder b ≡ bidders_with (xor_table bidder b.goods) b)
+    by : (model : List (Atom (List ℕ))) → IsPointsOf a.goods bidder model → IsPointsOf b.goods bidder model
+        → (copies_of bidder a ≡ bidders_with (xor_table bidder a.goods) a) × (copies_of bidder b ≡ bidders_with (xor_table bidder b.goods) b)
     by model p q = (copies_by_table a.goods bidder model p a.xor_bidders h.xor_atoms, copies_by_table b.goods bidder model q b.xor_bidders k.xor_atoms)

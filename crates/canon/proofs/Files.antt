@@ -11,16 +11,18 @@ use Rattle.cats_text.specs.Files as files
 use Rattle.cats_text.specs.Files.{PlainBid, PlainFile, IsBid, IsPlainFile}
 use Rattle.valuation.specs.declared.atom.Atom.{Atom}
 use Rattle.valuation.specs.Auctions.{PlainAuction, IsAtom, IsAuction, atom_of, is_dummy, or_atoms_of, xor_atoms_of, auction_from}
-use Rattle.prune.specs.Lists.{filter-kept, filter-lost}
+use Rattle.prune.specs.Lemmas.Lists.{filter-kept, filter-lost}
 use Rattle.canon.specs.Canonical.{bid_from, dummy_bids, file_from}
 
 -- ---- the bids of a bidder, among those of a list
 
 or_atoms_of-append : (xs ys : List PlainBid) → or_atoms_of (xs ++ ys) ≡ or_atoms_of xs ++ or_atoms_of ys
-or_atoms_of-append xs ys = ap (map atom_of) (filter-append (λ b. is_none b.dummy) xs ys) ∙ map-append atom_of (filter (λ b. is_none b.dummy) xs) (filter (λ b. is_none b.dummy) ys)
+or_atoms_of-append xs ys = ap (map atom_of) (filter-append (λ b. is_none b.dummy) xs ys)
+    ∙ map-append atom_of (filter (λ b. is_none b.dummy) xs) (filter (λ b. is_none b.dummy) ys)
 
 xor_atoms_of-append : (xs ys : List PlainBid) (d : ℕ) → xor_atoms_of (xs ++ ys) d ≡ xor_atoms_of xs d ++ xor_atoms_of ys d
-xor_atoms_of-append xs ys d = ap (map atom_of) (filter-append (λ b. is_dummy d b.dummy) xs ys) ∙ map-append atom_of (filter (λ b. is_dummy d b.dummy) xs) (filter (λ b. is_dummy d b.dummy) ys)
+xor_atoms_of-append xs ys d = ap (map atom_of) (filter-append (λ b. is_dummy d b.dummy) xs ys)
+    ∙ map-append atom_of (filter (λ b. is_dummy d b.dummy) xs) (filter (λ b. is_dummy d b.dummy) ys)
 
 or_of_or : (atoms : List (Atom (List ℕ))) → or_atoms_of (map (bid_from None) atoms) ≡ atoms
 or_of_or [] = refl
@@ -70,7 +72,8 @@ bidders_again d (bidder ∷ bidders) =
     let bids = map (bid_from (Some d)) bidder in
     let rest = dummy_bids (d + 1) bidders in
     ap₂ (λ (x : List (Atom (List ℕ))) (xs : List (List (Atom (List ℕ)))). x ∷ xs)
-    (xor_atoms_of-append bids rest d ∙ ap₂ (λ (xs ys : List (Atom (List ℕ))). xs ++ ys) (xor_of_itself d bidder) (xor_of_later (d + 1) bidders d (omega arith)) ∙ append-nil bidder)
+    (xor_atoms_of-append bids rest d ∙ ap₂ (λ (xs ys : List (Atom (List ℕ))). xs ++ ys) (xor_of_itself d bidder) (xor_of_later (d + 1) bidders d (omega arith))
+    ∙ append-nil bidder)
     (map_range_same (xor_atoms_of (bids ++ rest)) (xor_atoms_of rest) (d + 1) (length bidders)
     (λ k l. xor_atoms_of-append bids rest k ∙ ap (λ (xs : List (Atom (List ℕ))). xs ++ xor_atoms_of rest k) (xor_of_other d k (λ e. omega arith) bidder))
     ∙ bidders_again (d + 1) bidders)
@@ -79,8 +82,13 @@ pub auction_from-file_from : (a : PlainAuction) → auction_from (file_from a) �
 auction_from-file_from a =
     let ors = map (bid_from None) a.or_atoms in
     let dummies = dummy_bids 0 a.xor_bidders in
-    ap₂ (λ (or_atoms : List (Atom (List ℕ))) (xor_bidders : List (List (Atom (List ℕ)))). record { goods = a.goods; or_atoms = or_atoms; xor_bidders = xor_bidders })
-    (or_atoms_of-append ors dummies ∙ ap₂ (λ (xs ys : List (Atom (List ℕ))). xs ++ ys) (or_of_or a.or_atoms) (or_of_bidders 0 a.xor_bidders) ∙ append-nil a.or_atoms)
+    ap₂ (λ (or_atoms : List (Atom (List ℕ))) (xor_bidders : List (List (Atom (List ℕ)))). record {
+      goods = a.goods;
+      or_atoms = or_atoms;
+      xor_bidders = xor_bidders;
+    })
+    (or_atoms_of-append ors dummies ∙ ap₂ (λ (xs ys : List (Atom (List ℕ))). xs ++ ys) (or_of_or a.or_atoms) (or_of_bidders 0 a.xor_bidders)
+    ∙ append-nil a.or_atoms)
     (map_range_same (xor_atoms_of (ors ++ dummies)) (xor_atoms_of dummies) 0 (length a.xor_bidders)
     (λ k l. xor_atoms_of-append ors dummies k ∙ ap (λ (xs : List (Atom (List ℕ))). xs ++ xor_atoms_of dummies k) (xor_of_or a.or_atoms k))
     ∙ bidders_again 0 a.xor_bidders)
@@ -100,17 +108,25 @@ below-into G [] h = tt
 below-into G (x ∷ xs) h = (h.0, below-into G xs h.1)
 
 IsBid-from : (G D : ℕ) (dummy : Option ℕ) (a : Atom (List ℕ)) → files.IsDummyBelow D dummy → IsAtom G a → IsBid G D (bid_from dummy a)
-IsBid-from G D dummy a d h = record { price = h.price; goods = h.nonempty; rising = rising-into a.bundle h.bundle.0; below = below-into G a.bundle h.bundle.1; dummy = d }
+IsBid-from G D dummy a d h = record {
+  price = h.price;
+  goods = h.nonempty;
+  rising = rising-into a.bundle h.bundle.0;
+  below = below-into G a.bundle h.bundle.1;
+  dummy = d;
+}
 
 each_append : (P : PlainBid → Type 0) (xs ys : List PlainBid) → AllByRecursion P xs → AllByRecursion P ys → AllByRecursion P (xs ++ ys)
 each_append P [] ys h k = k
 each_append P (x ∷ xs) ys h k = (h.0, each_append P xs ys h.1 k)
 
-each_from : (G D : ℕ) (dummy : Option ℕ) → files.IsDummyBelow D dummy → (atoms : List (Atom (List ℕ))) → All (IsAtom G) atoms → AllByRecursion (IsBid G D) (map (bid_from dummy) atoms)
+each_from : (G D : ℕ) (dummy : Option ℕ) → files.IsDummyBelow D dummy → (atoms : List (Atom (List ℕ))) → All (IsAtom G) atoms
+    → AllByRecursion (IsBid G D) (map (bid_from dummy) atoms)
 each_from G D dummy d [] h = tt
 each_from G D dummy d (a ∷ rest) h = (IsBid-from G D dummy a d (All-head (IsAtom G) a rest h), each_from G D dummy d rest (All-tail (IsAtom G) a rest h))
 
-each_of_bidders : (G D d : ℕ) (bidders : List (List (Atom (List ℕ)))) → d + length bidders ≤ D → All (All (IsAtom G)) bidders → AllByRecursion (IsBid G D) (dummy_bids d bidders)
+each_of_bidders : (G D d : ℕ) (bidders : List (List (Atom (List ℕ)))) → d + length bidders ≤ D → All (All (IsAtom G)) bidders
+    → AllByRecursion (IsBid G D) (dummy_bids d bidders)
 each_of_bidders G D d [] l h = tt
 each_of_bidders G D d (bidder ∷ bidders) l h =
     each_append (IsBid G D) (map (bid_from (Some d)) bidder) (dummy_bids (d + 1) bidders)

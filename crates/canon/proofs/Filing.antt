@@ -6,7 +6,7 @@ use Rattle.cats_text.specs.Files.{PlainBid, PlainFile, IsBidFile, IsPlainFile, p
 use Rattle.cats_text.specs.declared.bid.Bid.{Bid}
 use Rattle.valuation.specs.declared.atom.Atom.{Atom}
 use Rattle.valuation.specs.Auctions.{PlainAuction, IsAuction}
-use Rattle.valuation.specs.AtomLemmas.{drop-atoms_of}
+use Rattle.valuation.specs.Lemmas.Atoms.{drop-atoms_of}
 use Rattle.valuation.specs.Bidders.{bidders_of, plain_auction_of}
 use Rattle.valuation.specs.Values.{atoms_of}
 use Rattle.canon.specs.Canonical.{bid_from, dummy_bids, file_from}
@@ -28,8 +28,10 @@ one_more_bid goods dummy old new b atoms i a l e more price items its =
     ∙ ap (λ (zs : List (Atom (List ℕ))). plain_bids old ++ map (bid_from dummy) zs) (sym (drop-atoms_of goods atoms i a l e))
 
 -- the atoms of the OR bidder are given up
-pub or_moved : {S : Type 0} (goods : S → List ℕ) (a : PlainAuction) (n : ℕ) (or_atoms : List (Atom S)) (bidders left : List (Vec (Atom S) Global)) (none bids : List Bid)
-    → a ≡ plain_auction_of goods n or_atoms bidders → none ≡ [] → plain_bids bids ≡ plain_bids none ++ map (bid_from None) (atoms_of goods or_atoms) → left ≡ bidders
+pub or_moved : {S : Type 0} (goods : S → List ℕ) (a : PlainAuction) (n : ℕ) (or_atoms : List (Atom S)) (bidders left : List (Vec (Atom S) Global))
+    (none bids : List Bid)
+    → a ≡ plain_auction_of goods n or_atoms bidders → none ≡ [] → plain_bids bids ≡ plain_bids none ++ map (bid_from None) (atoms_of goods or_atoms)
+    → left ≡ bidders
     → plain_bids bids ++ dummy_bids 0 (bidders_of goods left) ≡ (file_from a).bids
 or_moved {S} goods a n or_atoms bidders left none bids parts e h all =
     ap₂ (λ (xs : List PlainBid) (zs : List (Vec (Atom S) Global)). xs ++ dummy_bids 0 (bidders_of goods zs))
@@ -68,24 +70,29 @@ one_more_bidder {S} goods old new bidders i b l e more =
     ∙ append_assoc old (map (bid_from (Some i)) (atoms_of goods b.items)) rest
     ∙ ap (λ (zs : List (List (Atom (List ℕ)))). old ++ dummy_bids i zs) (sym (next_bidder goods bidders i b l e))
 
-pub all_bidders : (done all : List PlainBid) (i : ℕ) (bidders : List (List (Atom (List ℕ)))) → length bidders ≤ i → done ++ dummy_bids i (drop i bidders) ≡ all → done ≡ all
+pub all_bidders : (done all : List PlainBid) (i : ℕ) (bidders : List (List (Atom (List ℕ)))) → length bidders ≤ i → done ++ dummy_bids i (drop i bidders) ≡ all
+    → done ≡ all
 all_bidders done all i bidders l h =
     sym (append-nil done) ∙ ap (λ (zs : List (List (Atom (List ℕ)))). done ++ dummy_bids i zs) (sym (drop_all i bidders l)) ∙ h
 
-pub all_moved : {S : Type 0} (goods : S → List ℕ) (done all : List PlainBid) (i : ℕ) (left : List (Vec (Atom S) Global)) → left ≡ [] → done ++ dummy_bids i (bidders_of goods left) ≡ all → done ≡ all
+pub all_moved : {S : Type 0} (goods : S → List ℕ) (done all : List PlainBid) (i : ℕ) (left : List (Vec (Atom S) Global)) → left ≡ []
+    → done ++ dummy_bids i (bidders_of goods left) ≡ all → done ≡ all
 all_moved {S} goods done all i left none h =
     sym (append-nil done) ∙ ap (λ (zs : List (Vec (Atom S) Global)). done ++ dummy_bids i (bidders_of goods zs)) (sym none) ∙ h
 
 -- ---- the parts of the file
 
-pub file_parts : (a : PlainAuction) (goods dummy : ℕ) (bids : List PlainBid) → goods ≡ a.goods → dummy ≡ length a.xor_bidders → bids ≡ (file_from a).bids → ◌≡◌ {A = PlainFile} (record { goods = goods; dummy = dummy; bids = bids }) (file_from a)
+pub file_parts : (a : PlainAuction) (goods dummy : ℕ) (bids : List PlainBid) → goods ≡ a.goods → dummy ≡ length a.xor_bidders → bids ≡ (file_from a).bids
+    → ◌≡◌ {A = PlainFile} (record { goods = goods; dummy = dummy; bids = bids }) (file_from a)
 file_parts a goods dummy bids e f h =
     ap (λ n. record { goods = n; dummy = dummy; bids = bids }) e
     ∙ ap₂ (λ (n : ℕ) (bs : List PlainBid). record { goods = a.goods; dummy = n; bids = bs }) f h
 
-pub file_limits : (cap : ℕ) (a : PlainAuction) → IsAuction cap a → (goods dummy : ℕ) (bids : List PlainBid) → goods ≡ a.goods → dummy ≡ length a.xor_bidders → bids ≡ (file_from a).bids → IsBidFile goods dummy bids
+pub file_limits : (cap : ℕ) (a : PlainAuction) → IsAuction cap a → (goods dummy : ℕ) (bids : List PlainBid) → goods ≡ a.goods → dummy ≡ length a.xor_bidders
+    → bids ≡ (file_from a).bids → IsBidFile goods dummy bids
 file_limits cap a facts goods dummy bids e f h =
     subst (λ (x : PlainFile). IsPlainFile x) (sym (file_parts a goods dummy bids e f h)) (IsPlainFile-file_from cap a facts)
 
-pub length-bidders : {S : Type 0} (goods : S → List ℕ) (bidders : List (Vec (Atom S) Global)) (all : List (List (Atom (List ℕ)))) → bidders_of goods bidders ≡ all → length bidders ≡ length all
+pub length-bidders : {S : Type 0} (goods : S → List ℕ) (bidders : List (Vec (Atom S) Global)) (all : List (List (Atom (List ℕ))))
+    → bidders_of goods bidders ≡ all → length bidders ≡ length all
 length-bidders {S} goods bidders all e = sym (length-map bidders (λ (v : Vec (Atom S) Global). atoms_of goods v.items)) ∙ ap length e

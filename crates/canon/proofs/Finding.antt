@@ -8,9 +8,10 @@ use Rattle.std.proofs.lemmas.Bool.{cases_Bool, both_ways}
 use Rattle.std.proofs.lemmas.Cmp.{tied_itself}
 use Rattle.std.proofs.lemmas.List.Elements.{All-contains}
 use Rattle.std.proofs.lemmas.List.Sums.{sum_by-cons}
-use Rattle.valuation.specs.ListLemmas.{Contains-cons_cases, AllPairs-head, AllPairs-tail}
-use Rattle.valuation.specs.Sorting.{IsOrdered, count_of}
-use Rattle.prune.specs.Lists.{Contains-nil, Contains-head, Contains-tail}
+use Rattle.valuation.specs.Lemmas.Lists.{Contains-cons_cases, AllPairs-head, AllPairs-tail}
+use Rattle.valuation.specs.Lemmas.Sorting.{IsOrdered}
+use Rattle.valuation.specs.Sorting.{count_of}
+use Rattle.prune.specs.Lemmas.Lists.{Contains-nil, Contains-head, Contains-tail}
 
 -- what is found passes, and nothing before it does
 pub record IsFirst {X : Type 0} (R : X → X → Type 0) (p : X → Bool) (xs : List X) (x : X) : Type 0 where
@@ -18,7 +19,8 @@ pub record IsFirst {X : Type 0} (R : X → X → Type 0) (p : X → Bool) (xs : 
   pub passes : p x ≡ true
   pub first : (y : X) → Contains xs y → R y x → p y ≡ false
 
-pub found_first : {X : Type 0} (R : X → X → Type 0) → ((x y : X) → R x y → R y x → ⊥) → (p : X → Bool) (xs : List X) → AllPairs R xs → (x : X) → find p xs ≡ Some x → IsFirst R p xs x
+pub found_first : {X : Type 0} (R : X → X → Type 0) → ((x y : X) → R x y → R y x → ⊥) → (p : X → Bool) (xs : List X) → AllPairs R xs → (x : X)
+    → find p xs ≡ Some x → IsFirst R p xs x
 found_first R apart p [] s x e = absurd (cc)
 found_first {X} R apart p (z ∷ zs) s x e = ⊎_elim here (later (found_first R apart p zs (AllPairs-tail R z zs s) x)) (cases_Bool (p z))
   where
@@ -29,7 +31,8 @@ found_first {X} R apart p (z ∷ zs) s x e = ⊎_elim here (later (found_first R
           there = subst (λ y. Contains (z ∷ zs) y) same (Contains-head z zs);
           passes = ap p (sym same) ∙ t;
           first = λ y c r. let q : R y z = subst (λ w. R y w) (sym same) r in
-              ⊎_elim (λ (d : z ≡ y). absurd (let w : R z z = subst (λ v. R v z) (sym d) q in apart z z w w)) (λ (d : Contains zs y). absurd (apart z y (All-contains (R z) zs y (AllPairs-head R z zs s) d) q)) (Contains-cons_cases z zs y c);
+              ⊎_elim (λ (d : z ≡ y). absurd (let w : R z z = subst (λ v. R v z) (sym d) q in apart z z w w))
+              (λ (d : Contains zs y). absurd (apart z y (All-contains (R z) zs y (AllPairs-head R z zs s) d) q)) (Contains-cons_cases z zs y c);
         }
 
     later : (find p zs ≡ Some x → IsFirst R p zs x) → p z ≡ false → IsFirst R p (z ∷ zs) x
@@ -48,7 +51,8 @@ find_it R p (z ∷ zs) s x f =
     ⊎_elim (λ (d : z ≡ x). let t : p z ≡ true = ap p d ∙ f.passes in ap (λ b. cond b (Some z) (find p zs)) t ∙ ap Some d)
     (λ (d : Contains zs x).
     let t : p z ≡ false = f.first z (Contains-head z zs) (All-contains (R z) zs x (AllPairs-head R z zs s) d) in
-    ap (λ b. cond b (Some z) (find p zs)) t ∙ find_it R p zs (AllPairs-tail R z zs s) x (record { there = d; passes = f.passes; first = λ y c r. f.first y (Contains-tail z zs y c) r }))
+    ap (λ b. cond b (Some z) (find p zs)) t
+    ∙ find_it R p zs (AllPairs-tail R z zs s) x (record { there = d; passes = f.passes; first = λ y c r. f.first y (Contains-tail z zs y c) r }))
     (Contains-cons_cases z zs x f.there)
 
 -- ---- lists in an order, in which elements may stand more than once
@@ -59,7 +63,8 @@ module _ {X : Type 0} (cmp : X → X → Ordering) (total : IsTotalOrder cmp) (e
   each_at P (y ∷ ys) x h c = ⊎_elim (λ (d : y ≡ x). subst P d h.0) (λ (d : Contains ys x). each_at P ys x h.1 d) (Contains-cons_cases y ys x c)
 
   -- the least element that passes is found
-  pub find_least : (p : X → Bool) (xs : List X) → IsOrdered cmp xs → (x : X) → Contains xs x → p x ≡ true → ((y : X) → cmp y x ≡ Less → p y ≡ false) → find p xs ≡ Some x
+  pub find_least : (p : X → Bool) (xs : List X) → IsOrdered cmp xs → (x : X) → Contains xs x → p x ≡ true → ((y : X) → cmp y x ≡ Less → p y ≡ false)
+      → find p xs ≡ Some x
   find_least p [] s x c t f = absurd (Contains-nil x c)
   find_least p (z ∷ zs) s x c t f =
       ⊎_elim (λ (d : z ≡ x). let u : p z ≡ true = ap p d ∙ t in ap (λ b. cond b (Some z) (find p zs)) u ∙ ap Some d)
@@ -91,7 +96,8 @@ module _ {X : Type 0} (cmp : X → X → Ordering) (total : IsTotalOrder cmp) (e
             there = subst (λ y. Contains (z ∷ zs) y) same (Contains-head z zs);
             passes = ap p (sym same) ∙ t;
             least = λ y c l. let m : cmp y z ≡ Less = subst (λ w. cmp y w ≡ Less) (sym same) l in
-                ⊎_elim (λ (d : z ≡ y). absurd (let q : cmp z z ≡ Less = subst (λ v. cmp v z ≡ Less) (sym d) m in let r : cmp z z ≡ Equal = tied_itself total z in cc))
+                ⊎_elim (λ (d : z ≡ y). absurd (let q : cmp z z ≡ Less = subst (λ v. cmp v z ≡ Less) (sym d) m in
+                let r : cmp z z ≡ Equal = tied_itself total z in cc))
                 (λ (d : Contains zs y). absurd (not_less y (each_at (λ w. is_gt (cmp z w) ≡ false) zs y s.0 d) m)) (Contains-cons_cases z zs y c);
           }
 

@@ -17,7 +17,7 @@ use Rattle.canon.specs.Canonical.{canonical_text}
 use Rattle.canon.specs.FirstPlaces.{AddsStream, IsFirstPlace, first_place}
 use Rattle.canon.specs.Normalising.{IsText, normalised_file}
 use Rattle.canon.specs.declared.fault.CanonFault.{CanonFault}
-use Rattle.canon.specs.TextPlaces.{place_of, IsFirstText, LacksText, PlacesText, IsIndex}
+use Rattle.canon.specs.Internal.TextPlaces.{place_of, IsFirstText, LacksText, PlacesText, IsIndex}
 use Rattle.canon.proofs.Texts.{same_text, same_from_text}
 
 -- ---- a list with one more element
@@ -83,11 +83,13 @@ module _ (files : List PlainFile) (f : PlainFile) where
   stays_placed text apart (Some place) h = stays_first text place h
 
   -- the place that is answered
-  first_text : (o : Option ℕ) (count place : ℕ) → count ≡ length files → place ≡ unwrap_or o count → PlacesText files (canonical_text f) o → IsFirstText more (canonical_text f) place
+  first_text : (o : Option ℕ) (count place : ℕ) → count ≡ length files → place ≡ unwrap_or o count → PlacesText files (canonical_text f) o
+      → IsFirstText more (canonical_text f) place
   first_text None count place c e h = subst (λ (p : ℕ). IsFirstText more (canonical_text f) p) (sym (e ∙ c)) (comes_first h)
   first_text (Some first) count place c e h = subst (λ (p : ℕ). IsFirstText more (canonical_text f) p) (sym e) (stays_first (canonical_text f) first h)
 
-  all_plain : IsPlainFile f → ((k : ℕ) (g : PlainFile) → slice_get files k ≡ Some g → IsPlainFile g) → (k : ℕ) (g : PlainFile) → slice_get more k ≡ Some g → IsPlainFile g
+  all_plain : IsPlainFile f → ((k : ℕ) (g : PlainFile) → slice_get files k ≡ Some g → IsPlainFile g) → (k : ℕ) (g : PlainFile) → slice_get more k ≡ Some g
+      → IsPlainFile g
   all_plain facts each k g at =
       ⊎_elim (λ (e : slice_get files k ≡ Some g). each k g e) (λ (e : (k ≡ length files) × (g ≡ f)). subst IsPlainFile (sym e.1) facts) (pushed files f g k at)
 
@@ -108,7 +110,8 @@ module _ {S : Type 0} (old new : HashMap (Vec ℕ Global) ℕ S) (count place : 
   abbrev pub Puts : List ℕ → Type 0
   Puts text = (other : List ℕ) → place_of new other ≡ cond (bytes_eq text other) (Some place) (place_of old other)
 
-  index_with : IsIndex old count files → IsPlainFile f → place ≡ unwrap_or (place_of old (canonical_text f)) count → Puts (canonical_text f) → IsIndex new (count + 1) (files ++ f ∷ [])
+  index_with : IsIndex old count files → IsPlainFile f → place ≡ unwrap_or (place_of old (canonical_text f)) count → Puts (canonical_text f)
+      → IsIndex new (count + 1) (files ++ f ∷ [])
   index_with h facts answer puts = record {
     count = let all = length-append files (f ∷ []) in let before = h.count in omega arith;
     facts = all_plain files f facts h.facts;
@@ -135,10 +138,13 @@ module _ {S : Type 0} (old new : HashMap (Vec ℕ Global) ℕ S) (count place : 
       (first_text files f (place_of old (canonical_text f)) count place h.count answer (h.texts (canonical_text f)))
 
   -- the same of the text that was made
-  pub index_with_text : (text : List ℕ) → text ≡ canonical_text f → IsIndex old count files → IsPlainFile f → place ≡ unwrap_or (place_of old text) count → Puts text → IsIndex new (count + 1) (files ++ f ∷ [])
-  index_with_text text is h facts answer puts = index_with h facts (subst (λ (t : List ℕ). place ≡ unwrap_or (place_of old t) count) is answer) (subst Puts is puts)
+  pub index_with_text : (text : List ℕ) → text ≡ canonical_text f → IsIndex old count files → IsPlainFile f → place ≡ unwrap_or (place_of old text) count
+      → Puts text → IsIndex new (count + 1) (files ++ f ∷ [])
+  index_with_text text is h facts answer puts = index_with h facts (subst (λ (t : List ℕ). place ≡ unwrap_or (place_of old t) count) is answer)
+      (subst Puts is puts)
 
-  pub place_of_text : (text : List ℕ) → text ≡ canonical_text f → IsIndex old count files → IsPlainFile f → place ≡ unwrap_or (place_of old text) count → IsFirstPlace (files ++ f ∷ []) f place
+  pub place_of_text : (text : List ℕ) → text ≡ canonical_text f → IsIndex old count files → IsPlainFile f → place ≡ unwrap_or (place_of old text) count
+      → IsFirstPlace (files ++ f ∷ []) f place
   place_of_text text is h facts answer = place_in_index h facts (subst (λ (t : List ℕ). place ≡ unwrap_or (place_of old t) count) is answer)
 
 -- an index of no files
@@ -146,11 +152,13 @@ pub empty_index : {S : Type 0} (places : HashMap (Vec ℕ Global) ℕ S) → pla
 empty_index places none = record {
   count = refl;
   facts = λ k file at. absurd (none-some file at);
-  texts = λ text. subst (λ (o : Option ℕ). PlacesText [] text o) (sym (ap (lookup (λ key. bytes_eq text key.items)) none)) (λ k other at is. absurd (none-some other at));
+  texts = λ text. subst (λ (o : Option ℕ). PlacesText [] text o) (sym (ap (lookup (λ key. bytes_eq text key.items)) none))
+      (λ k other at is. absurd (none-some other at));
 }
 
 -- an index whose map has the entries that it had
-pub index_kept : {S : Type 0} (old new : HashMap (Vec ℕ Global) ℕ S) (count : ℕ) (files : List PlainFile) → new.entries ≡ old.entries → IsIndex old count files → IsIndex new count files
+pub index_kept : {S : Type 0} (old new : HashMap (Vec ℕ Global) ℕ S) (count : ℕ) (files : List PlainFile) → new.entries ≡ old.entries → IsIndex old count files
+    → IsIndex new count files
 index_kept old new count files same h = record {
   count = h.count;
   facts = h.facts;
@@ -162,7 +170,8 @@ index_kept old new count files same h = record {
 abbrev key_eq : Vec ℕ Global → Vec ℕ Global → Bool
 key_eq one other = bytes_eq one.items other.items
 
-other_entries : {X : Type 0} (test : Vec ℕ Global → Bool) (old new : List (Vec ℕ Global × X)) → KeepsOthers key_eq test old new → (other : Vec ℕ Global → Bool) → IsKeyTest key_eq other → AreApart test other
+other_entries : {X : Type 0} (test : Vec ℕ Global → Bool) (old new : List (Vec ℕ Global × X)) → KeepsOthers key_eq test old new → (other : Vec ℕ Global → Bool)
+    → IsKeyTest key_eq other → AreApart test other
     → lookup other new ≡ lookup other old
 unfolding KeepsOthers
 other_entries test old new h = h
@@ -171,13 +180,16 @@ apart_texts : (one other key : List ℕ) → bytes_eq one other ≡ false → by
 apart_texts one other key n y = nat_list_eq_equiv.symm other key ∙ sym (nat_list_eq_equiv.congr one key other y) ∙ n
 
 -- what a map has for a text, after one was put there
-pub updated : {S : Type 0} (old new : HashMap (Vec ℕ Global) ℕ S) (text : List ℕ) (place : ℕ) → UpdatesBy key_eq (λ key. bytes_eq text key.items) old new (Some place)
+pub updated : {S : Type 0} (old new : HashMap (Vec ℕ Global) ℕ S) (text : List ℕ) (place : ℕ)
+    → UpdatesBy key_eq (λ key. bytes_eq text key.items) old new (Some place)
     → (other : List ℕ) → place_of new other ≡ cond (bytes_eq text other) (Some place) (place_of old other)
 updated old new text place h other =
     ⊎_elim
-    (λ (y : bytes_eq text other ≡ true). subst (λ (t : List ℕ). place_of new t ≡ Some place) ((bytes_decides text other).0 y) h.1 ∙ sym (cond-true (bytes_eq text other) (Some place) (place_of old other) y))
+    (λ (y : bytes_eq text other ≡ true). subst (λ (t : List ℕ). place_of new t ≡ Some place) ((bytes_decides text other).0 y) h.1
+    ∙ sym (cond-true (bytes_eq text other) (Some place) (place_of old other) y))
     (λ (n : bytes_eq text other ≡ false).
-    other_entries (λ key. bytes_eq text key.items) old.entries new.entries h.3 (λ key. bytes_eq other key.items) (λ x y. nat_list_eq_equiv.congr other x.items y.items) (λ key. apart_texts text other key.items n)
+    other_entries (λ key. bytes_eq text key.items) old.entries new.entries h.3 (λ key. bytes_eq other key.items)
+    (λ x y. nat_list_eq_equiv.congr other x.items y.items) (λ key. apart_texts text other key.items n)
     ∙ sym (cond-false (bytes_eq text other) (Some place) (place_of old other) n))
     (cases_Bool (bytes_eq text other))
 
@@ -186,15 +198,18 @@ pub unmoved : {S : Type 0} (places : HashMap (Vec ℕ Global) ℕ S) (text : Lis
     → (other : List ℕ) → place_of places other ≡ cond (bytes_eq text other) (Some place) (place_of places other)
 unmoved places text place at other =
     ⊎_elim
-    (λ (y : bytes_eq text other ≡ true). subst (λ (t : List ℕ). place_of places t ≡ Some place) ((bytes_decides text other).0 y) at ∙ sym (cond-true (bytes_eq text other) (Some place) (place_of places other) y))
+    (λ (y : bytes_eq text other ≡ true). subst (λ (t : List ℕ). place_of places t ≡ Some place) ((bytes_decides text other).0 y) at
+    ∙ sym (cond-true (bytes_eq text other) (Some place) (place_of places other) y))
     (λ (n : bytes_eq text other ≡ false). sym (cond-false (bytes_eq text other) (Some place) (place_of places other) n))
     (cases_Bool (bytes_eq text other))
 
 -- ---- a file that was read first
 
-pub stream_added : {R : Type 0} (remaining : R → Option (List ℕ)) (limit : ℕ) (old new : List PlainFile) (before after : Watched R) (bytes : List ℕ) (file : PlainFile)
+pub stream_added : {R : Type 0} (remaining : R → Option (List ℕ)) (limit : ℕ) (old new : List PlainFile) (before after : Watched R) (bytes : List ℕ)
+    (file : PlainFile)
     → Consumes (remaining (inner_of before)) (remaining (inner_of after)) bytes → ReadsFile remaining bytes after file
-    → (answer : Result ℕ CanonFault) → IfOk answer (IsFirstPlace new file) → OnOk answer (new ≡ old ++ file ∷ []) → OnOk answer (normalised_file limit file ≡ IsText (canonical_text file))
+    → (answer : Result ℕ CanonFault) → IfOk answer (IsFirstPlace new file) → OnOk answer (new ≡ old ++ file ∷ [])
+    → OnOk answer (normalised_file limit file ≡ IsText (canonical_text file))
     → IfErr answer (RefusesAs (normalised_file limit file)) → OnErr answer (new ≡ old) → AddsStream remaining limit old new before after answer
 stream_added remaining limit old new before after bytes file consumes reads (Ok place) first added light refused unchanged = record {
   bytes = bytes;
@@ -210,7 +225,8 @@ stream_added remaining limit old new before after bytes file consumes reads (Err
 -- ---- later files
 
 -- the first file of an auction stays it
-pub first_place_stays : (files : List PlainFile) (more given : PlainFile) (place : ℕ) → IsFirstPlace files given place → IsFirstPlace (files ++ more ∷ []) given place
+pub first_place_stays : (files : List PlainFile) (more given : PlainFile) (place : ℕ) → IsFirstPlace files given place
+    → IsFirstPlace (files ++ more ∷ []) given place
 first_place_stays files more given place h = record {
   file = h.file;
   there = pushed_before files more h.file place h.there;
@@ -223,17 +239,21 @@ first_place_stays files more given place h = record {
 }
 
 -- the first file with the text of a file
-pub first_place_is : (files : List PlainFile) (given : PlainFile) (place : ℕ) → All IsPlainFile files → IsPlainFile given → first_place files given ≡ Some place → IsFirstPlace files given place
+pub first_place_is : (files : List PlainFile) (given : PlainFile) (place : ℕ) → All IsPlainFile files → IsPlainFile given → first_place files given ≡ Some place
+    → IsFirstPlace files given place
 first_place_is files given place each facts e =
     let found = position-Some (λ file. bytes_eq (canonical_text file) (canonical_text given)) files place given e in
     record {
       file = get_or files place given;
       there = slice_get-get_or files place given found.0;
-      same = same_from_text (get_or files place given) given (each place given found.0) facts ((bytes_decides (canonical_text (get_or files place given)) (canonical_text given)).0 found.1);
+      same = same_from_text (get_or files place given) given (each place given found.0) facts
+          ((bytes_decides (canonical_text (get_or files place given)) (canonical_text given)).0 found.1);
       first = λ k other l at same.
           let is : get_or files k given ≡ other = get_or_from_slice_get files k other given at in
           let plain : IsPlainFile other = subst IsPlainFile is (each k given (slice_get_within files k other at)) in
-          let equal : bytes_eq (canonical_text other) (canonical_text given) ≡ true = (bytes_decides (canonical_text other) (canonical_text given)).1 (same_text other given plain facts same) in
-          let apart : bytes_eq (canonical_text other) (canonical_text given) ≡ false = subst (λ (file : PlainFile). bytes_eq (canonical_text file) (canonical_text given) ≡ false) is (found.2 k l) in
+          let equal : bytes_eq (canonical_text other) (canonical_text given) ≡ true =
+          (bytes_decides (canonical_text other) (canonical_text given)).1 (same_text other given plain facts same) in
+          let apart : bytes_eq (canonical_text other) (canonical_text given) ≡ false =
+          subst (λ (file : PlainFile). bytes_eq (canonical_text file) (canonical_text given) ≡ false) is (found.2 k l) in
           absurd (cc);
     }

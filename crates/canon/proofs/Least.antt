@@ -9,13 +9,14 @@ use Rattle.std.proofs.lemmas.List.Elements.{All-head, All-tail, All-weaker}
 use Rattle.cats_text.specs.Files.{PlainFile, IsPlainFile}
 use Rattle.valuation.specs.declared.atom.Atom.{Atom}
 use Rattle.valuation.specs.Auctions.{PlainAuction, IsAtom, auction_from, xor_atoms_of}
-use Rattle.valuation.specs.AuctionLemmas.{count_atoms}
+use Rattle.valuation.specs.Lemmas.AuctionsOfFiles.{count_atoms}
 use Rattle.valuation.specs.Orders.{bidder_cmp}
-use Rattle.valuation.specs.Sorting.{count_of, sum_by-sort_by}
+use Rattle.valuation.specs.Sorting.{count_of}
+use Rattle.valuation.specs.Lemmas.Sorting.{sum_by-sort_by}
 use Rattle.valuation.specs.Tables.{xor_table, is_nonzero}
 use Rattle.prune.specs.Points.{xor_points}
-use Rattle.prune.specs.KeptLemmas.{just_bundles, or_points_are_atoms, xor_points_are_atoms}
-use Rattle.prune.specs.TableLemmas.{no_xor_points}
+use Rattle.prune.specs.Lemmas.KeptBids.{just_bundles, or_points_are_atoms, xor_points_are_atoms}
+use Rattle.prune.specs.Lemmas.Tables.{no_xor_points}
 use Rattle.canon.specs.Sameness.{AreSameFiles}
 use Rattle.canon.specs.Canonical.{canonical_auction, canonical_file, points_of_bidders, bid_from, dummy_bids, file_from}
 use Rattle.canon.specs.Least.{IsHeldBy}
@@ -27,17 +28,20 @@ use Rattle.canon.proofs.Smaller.{length-or_points, no_more_canonical_bidders, no
 use Rattle.canon.proofs.Texts.{HasAtoms-file}
 
 -- bidders of value zero have no points, so others are counted alike with them and without
-points_with_zero : (goods : ℕ) (point : Atom (List ℕ)) (rest : List (Atom (List ℕ))) (bidders : List (List (Atom (List ℕ)))) → All (All (IsAtom goods)) bidders → count_of bidder_cmp (point ∷ rest) (map (xor_points goods) bidders) ≡ count_of bidder_cmp (point ∷ rest) (points_of_bidders goods bidders)
+points_with_zero : (goods : ℕ) (point : Atom (List ℕ)) (rest : List (Atom (List ℕ))) (bidders : List (List (Atom (List ℕ)))) → All (All (IsAtom goods)) bidders
+    → count_of bidder_cmp (point ∷ rest) (map (xor_points goods) bidders) ≡ count_of bidder_cmp (point ∷ rest) (points_of_bidders goods bidders)
 points_with_zero goods point rest [] h = refl
 points_with_zero goods point rest (b ∷ bs) h =
     let later = points_with_zero goods point rest bs (All-tail (All (IsAtom goods)) b bs h) in
     let test = λ (p : List (Atom (List ℕ))). is_eq (bidder_cmp (point ∷ rest) p) in
     ⊎_elim
     (λ (e : is_nonzero (xor_table b goods) ≡ true).
-    alike test test (xor_points goods b) (map (xor_points goods) bs) (xor_points goods b) (points_of_bidders goods bs) refl later ∙ sym (ap (count_of bidder_cmp (point ∷ rest)) (points_more goods b bs e)))
+    alike test test (xor_points goods b) (map (xor_points goods) bs) (xor_points goods b) (points_of_bidders goods bs) refl later
+    ∙ sym (ap (count_of bidder_cmp (point ∷ rest)) (points_more goods b bs e)))
     (λ (e : is_nonzero (xor_table b goods) ≡ false).
     let none : xor_points goods b ≡ [] = (no_xor_points goods b (on_bundles goods b (All-head (All (IsAtom goods)) b bs h))).1 e in
-    skips test (xor_points goods b) (map (xor_points goods) bs) (ap test none) ∙ later ∙ sym (ap (count_of bidder_cmp (point ∷ rest)) (points_without goods b bs e)))
+    skips test (xor_points goods b) (map (xor_points goods) bs) (ap test none) ∙ later
+    ∙ sym (ap (count_of bidder_cmp (point ∷ rest)) (points_without goods b bs e)))
     (cases_Bool (is_nonzero (xor_table b goods)))
 
 module _ (g : PlainFile) (facts : IsPlainFile g) where
@@ -47,7 +51,8 @@ module _ (g : PlainFile) (facts : IsPlainFile g) where
   same_auction : auction_from (canonical_file g) ≡ canonical_auction (auction_from g)
   same_auction = auction_from-file_from (canonical_auction (auction_from g))
 
-  bidders_held : (points : List (Atom (List ℕ))) → 0 < length points → count_of bidder_cmp points (map (xor_points g.goods) (auction_from g).xor_bidders) ≡ count_of bidder_cmp points (canonical_auction (auction_from g)).xor_bidders
+  bidders_held : (points : List (Atom (List ℕ))) → 0 < length points → count_of bidder_cmp points (map (xor_points g.goods) (auction_from g).xor_bidders)
+      ≡ count_of bidder_cmp points (canonical_auction (auction_from g)).xor_bidders
   bidders_held [] l = absurd (omega arith)
   bidders_held (point ∷ rest) l =
       points_with_zero g.goods point rest (auction_from g).xor_bidders atoms.xor_atoms
@@ -63,14 +68,19 @@ module _ (g : PlainFile) (facts : IsPlainFile g) where
 
   pub canonical_is_held : IsHeldBy (canonical_file g) g
   canonical_is_held = record {
-    or_bids = subst (λ (a : PlainAuction). All (Contains (auction_from g).or_atoms) a.or_atoms) (sym same_auction) (or_points_are_atoms g.goods (auction_from g).or_atoms (on_bundles g.goods (auction_from g).or_atoms atoms.or_atoms));
+    or_bids = subst (λ (a : PlainAuction). All (Contains (auction_from g).or_atoms) a.or_atoms) (sym same_auction)
+        (or_points_are_atoms g.goods (auction_from g).or_atoms (on_bundles g.goods (auction_from g).or_atoms atoms.or_atoms));
     bidders = λ points l. bidders_held points l ∙ ap (λ (a : PlainAuction). count_of bidder_cmp points a.xor_bidders) (sym same_auction);
-    bids = All-weaker (All (IsAtom g.goods)) (λ b. All (Contains b) (xor_points g.goods b)) (λ b h. xor_points_are_atoms g.goods b (just_bundles g.goods b (on_bundles g.goods b h))) (auction_from g).xor_bidders atoms.xor_atoms;
+    bids = All-weaker (All (IsAtom g.goods)) (λ b. All (Contains b) (xor_points g.goods b))
+        (λ b h. xor_points_are_atoms g.goods b (just_bundles g.goods b (on_bundles g.goods b h))) (auction_from g).xor_bidders atoms.xor_atoms;
     no_more_bids = bids_fewer;
-    no_more_or_bids = subst (λ (a : PlainAuction). length a.or_atoms ≤ length (auction_from g).or_atoms) (sym same_auction) (length-or_points g.goods (auction_from g).or_atoms atoms.or_atoms);
+    no_more_or_bids = subst (λ (a : PlainAuction). length a.or_atoms ≤ length (auction_from g).or_atoms) (sym same_auction)
+        (length-or_points g.goods (auction_from g).or_atoms atoms.or_atoms);
     no_more_dummies = omega (arith, no_more_canonical_bidders (auction_from g) atoms, length-map-range_with_len (xor_atoms_of g.bids) 0 g.dummy);
   }
 
 pub canonical_is_least : (f : PlainFile) → IsPlainFile f → (other : PlainFile) → IsPlainFile other → AreSameFiles f other → IsHeldBy (canonical_file f) other
 canonical_is_least f facts other k s =
-    subst (λ (h : PlainFile). IsHeldBy h other) (sym (ap file_from (same_canonical (auction_from f) (auction_from other) (HasAtoms-file f facts) (HasAtoms-file other k) s))) (canonical_is_held other k)
+    subst (λ (h : PlainFile). IsHeldBy h other)
+    (sym (ap file_from (same_canonical (auction_from f) (auction_from other) (HasAtoms-file f facts) (HasAtoms-file other k) s)))
+    (canonical_is_held other k)

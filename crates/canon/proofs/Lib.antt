@@ -1,3 +1,4 @@
+-- Proofs that several functions of this crate cite.
 pub mod Atoms
 pub mod Counting
 pub mod Sames

@@ -7,20 +7,21 @@ use Rattle.std.proofs.lemmas.Bool.{cond-true, cond-false}
 use Rattle.std.proofs.lemmas.List.{take-append-drop, take_more, drop_more, take_all, append-nil, get_or-map, length-map}
 use Rattle.std.proofs.lemmas.List.Elements.{All-contains}
 use Rattle.goods_set.specs.Bundles.{all_bundles}
-use Rattle.goods_set.specs.Orders.{bundle_cmp, bundle_cmp_total, bundle_cmp_equal}
+use Rattle.goods_set.specs.Orders.{bundle_cmp}
+use Rattle.goods_set.specs.Lemmas.Orders.{bundle_cmp_total, bundle_cmp_equal}
 use Rattle.cats_text.specs.declared.bid.Bid.{Bid}
 use Rattle.cats_text.specs.Files.{plain_bid, plain_bids}
 use Rattle.valuation.specs.declared.atom.Atom.{Atom}
 use Rattle.valuation.specs.Auctions.{PlainAuction, atom_of}
-use Rattle.valuation.specs.ListLemmas.{Contains-cons_cases, AllPairs-head}
+use Rattle.valuation.specs.Lemmas.Lists.{Contains-cons_cases, AllPairs-head}
 use Rattle.valuation.specs.Values.{or_value}
 use Rattle.prune.specs.InOrder.{IsBefore}
-use Rattle.prune.specs.Lists.{Contains-nil, find_none}
+use Rattle.prune.specs.Lemmas.Lists.{Contains-nil, find_none}
 use Rattle.prune.specs.Points.{is_or_point}
-use Rattle.canon.specs.BidderBids.{offers}
+use Rattle.canon.specs.Internal.BidderBids.{offers}
 use Rattle.canon.specs.Canonical.{bid_from}
 use Rattle.canon.specs.Difference.{InOr, first_unequal_bundle, or_difference}
-use Rattle.canon.specs.OrBids.{HasOrBids}
+use Rattle.canon.specs.Internal.OrBids.{HasOrBids}
 use Rattle.canon.specs.declared.verdict.Side.{Side}
 use Rattle.canon.specs.declared.verdict.Side.TheVariants.{Exactly, Below}
 use Rattle.canon.proofs.Atoms.{on_bundles}
@@ -42,7 +43,8 @@ pub record PartsAs (goods : ℕ) (one other : List (Atom (List ℕ))) (bundle : 
   pub on_right : or_side goods other one bundle ≡ right
 
 module _ (goods : ℕ) where
-  parts_swap : (one other : List (Atom (List ℕ))) (bundle : List ℕ) (left right : Side) → PartsAs goods one other bundle left right → PartsAs goods other one bundle right left
+  parts_swap : (one other : List (Atom (List ℕ))) (bundle : List ℕ) (left right : Side) → PartsAs goods one other bundle left right
+      → PartsAs goods other one bundle right left
   parts_swap one other bundle left right h = record {
     found = unequal_swap other one (all_bundles goods) ∙ h.found;
     on_left = h.on_right;
@@ -51,7 +53,9 @@ module _ (goods : ℕ) where
 
   -- ---- behind a common front
 
-  parts_left : (front : List (Atom (List ℕ))) (x : Atom (List ℕ)) (xs ys : List (Atom (List ℕ))) → ArePoints goods (front ++ (x ∷ xs)) → ArePoints goods (front ++ ys) → ((y : Atom (List ℕ)) → Contains ys y → IsBefore x y) → PartsAs goods (front ++ (x ∷ xs)) (front ++ ys) x.bundle (Exactly x.price) (Below x.price)
+  parts_left : (front : List (Atom (List ℕ))) (x : Atom (List ℕ)) (xs ys : List (Atom (List ℕ))) → ArePoints goods (front ++ (x ∷ xs))
+      → ArePoints goods (front ++ ys) → ((y : Atom (List ℕ)) → Contains ys y → IsBefore x y)
+      → PartsAs goods (front ++ (x ∷ xs)) (front ++ ys) x.bundle (Exactly x.price) (Below x.price)
   parts_left front x xs ys p q later =
       let one = front ++ (x ∷ xs) in
       let other = front ++ ys in
@@ -59,22 +63,28 @@ module _ (goods : ℕ) where
       record {
         found = k.found;
         on_left = cond-true (is_or_point goods one x.bundle) (Exactly (or_value one x.bundle)) (Below (or_value other x.bundle)) k.point ∙ ap Exactly k.price;
-        on_right = cond-false (is_or_point goods other x.bundle) (Exactly (or_value other x.bundle)) (Below (or_value one x.bundle)) k.no_point ∙ ap Below k.price;
+        on_right = cond-false (is_or_point goods other x.bundle) (Exactly (or_value other x.bundle)) (Below (or_value one x.bundle)) k.no_point
+            ∙ ap Below k.price;
       }
 
-  parts_both : (front : List (Atom (List ℕ))) (x y : Atom (List ℕ)) (xs ys : List (Atom (List ℕ))) → ArePoints goods (front ++ (x ∷ xs)) → ArePoints goods (front ++ (y ∷ ys)) → x.bundle ≡ y.bundle → (x.price ≡ y.price → ⊥) → PartsAs goods (front ++ (x ∷ xs)) (front ++ (y ∷ ys)) x.bundle (Exactly x.price) (Exactly y.price)
+  parts_both : (front : List (Atom (List ℕ))) (x y : Atom (List ℕ)) (xs ys : List (Atom (List ℕ))) → ArePoints goods (front ++ (x ∷ xs))
+      → ArePoints goods (front ++ (y ∷ ys)) → x.bundle ≡ y.bundle → (x.price ≡ y.price → ⊥)
+      → PartsAs goods (front ++ (x ∷ xs)) (front ++ (y ∷ ys)) x.bundle (Exactly x.price) (Exactly y.price)
   parts_both front x y xs ys p q same differ =
       let one = front ++ (x ∷ xs) in
       let other = front ++ (y ∷ ys) in
       let k = both_at goods front x xs p y ys q same differ in
       record {
         found = k.found;
-        on_left = cond-true (is_or_point goods one x.bundle) (Exactly (or_value one x.bundle)) (Below (or_value other x.bundle)) k.left_point ∙ ap Exactly k.left_price;
-        on_right = cond-true (is_or_point goods other x.bundle) (Exactly (or_value other x.bundle)) (Below (or_value one x.bundle)) k.right_point ∙ ap Exactly k.right_price;
+        on_left = cond-true (is_or_point goods one x.bundle) (Exactly (or_value one x.bundle)) (Below (or_value other x.bundle)) k.left_point
+            ∙ ap Exactly k.left_price;
+        on_right = cond-true (is_or_point goods other x.bundle) (Exactly (or_value other x.bundle)) (Below (or_value one x.bundle)) k.right_point
+            ∙ ap Exactly k.right_price;
       }
 
   -- what stands from y on is behind x, where y is
-  all_later : (front : List (Atom (List ℕ))) (x y : Atom (List ℕ)) (ys : List (Atom (List ℕ))) → ArePoints goods (front ++ (y ∷ ys)) → IsBefore x y → (z : Atom (List ℕ)) → Contains (y ∷ ys) z → IsBefore x z
+  all_later : (front : List (Atom (List ℕ))) (x y : Atom (List ℕ)) (ys : List (Atom (List ℕ))) → ArePoints goods (front ++ (y ∷ ys)) → IsBefore x y
+      → (z : Atom (List ℕ)) → Contains (y ∷ ys) z → IsBefore x z
   all_later front x y ys q l z c =
       let rest = suffix_in_order goods front (y ∷ ys) (in_order goods (front ++ (y ∷ ys)) q) in
       ⊎_elim (λ (e : y ≡ z). subst (λ (w : Atom (List ℕ)). IsBefore x w) e l)
@@ -94,11 +104,13 @@ module _ (goods : ℕ) where
 
     -- by what the second list is behind the common front
     over : (rest : List (Atom (List ℕ))) → other ≡ take i one ++ rest → (bundle : List ℕ) (left right : Side)
-        → (ArePoints goods (take i one ++ (x ∷ drop (i + 1) one)) → ArePoints goods (take i one ++ rest) → PartsAs goods (take i one ++ (x ∷ drop (i + 1) one)) (take i one ++ rest) bundle left right)
+        → (ArePoints goods (take i one ++ (x ∷ drop (i + 1) one)) → ArePoints goods (take i one ++ rest)
+        → PartsAs goods (take i one ++ (x ∷ drop (i + 1) one)) (take i one ++ rest) bundle left right)
         → PartsAs goods one other bundle left right
     over rest e bundle left right h =
         let k = h (subst (λ (zs : List (Atom (List ℕ))). ArePoints goods zs) left_is p) (subst (λ (zs : List (Atom (List ℕ))). ArePoints goods zs) e q) in
-        let again : PartsAs goods one (take i one ++ rest) bundle left right = subst (λ (zs : List (Atom (List ℕ))). PartsAs goods zs (take i one ++ rest) bundle left right) (sym left_is) k in
+        let again : PartsAs goods one (take i one ++ rest) bundle left right =
+        subst (λ (zs : List (Atom (List ℕ))). PartsAs goods zs (take i one ++ rest) bundle left right) (sym left_is) k in
         subst (λ (zs : List (Atom (List ℕ))). PartsAs goods one zs bundle left right) (sym e) again
 
     pub parted_at_end : length other ≤ i → PartsAs goods one other x.bundle (Exactly x.price) (Below x.price)
@@ -125,8 +137,10 @@ module _ (goods : ℕ) where
     pub parted_at_end_right : length one ≤ i → PartsAs goods one other y.bundle (Below y.price) (Exactly y.price)
     parted_at_end_right l = parts_swap other one y.bundle (Exactly y.price) (Below y.price) (parted_at_end other one q p i (sym shared) y there so l)
 
-    pub parted_after : (x : Atom (List ℕ)) → i < length one → x ≡ get_or one i x → bundle_cmp y.bundle x.bundle ≡ Less → PartsAs goods one other y.bundle (Below y.price) (Exactly y.price)
-    parted_after x here is l = parts_swap other one y.bundle (Exactly y.price) (Below y.price) (parted_before other one q p i (sym shared) y there so x here is l)
+    pub parted_after : (x : Atom (List ℕ)) → i < length one → x ≡ get_or one i x → bundle_cmp y.bundle x.bundle ≡ Less
+        → PartsAs goods one other y.bundle (Below y.price) (Exactly y.price)
+    parted_after x here is l =
+        parts_swap other one y.bundle (Exactly y.price) (Below y.price) (parted_before other one q p i (sym shared) y there so x here is l)
 
 -- ---- of the bids of two auctions
 
@@ -143,29 +157,36 @@ offers_points cap a bids h =
     (record { on = on_bundles a.goods a.or_atoms h.facts.or_atoms; points = ap (λ (c : PlainAuction). c.or_atoms) h.canonical })
 
 -- what is told of the bids is told of the auctions
-pub told_of_auctions : (left right : List Bid) (bundle : List ℕ) (one other : Side) → ((goods : ℕ) → ArePoints goods (offers left) → ArePoints goods (offers right) → PartsAs goods (offers left) (offers right) bundle one other)
-    → (cap : ℕ) (a b : PlainAuction) → HasOrBids cap a (plain_bids left) → HasOrBids cap b (plain_bids right) → a.goods ≡ b.goods → or_difference a b (first_unequal_bundle a b) ≡ InOr bundle one other
+pub told_of_auctions : (left right : List Bid) (bundle : List ℕ) (one other : Side)
+    → ((goods : ℕ) → ArePoints goods (offers left) → ArePoints goods (offers right) → PartsAs goods (offers left) (offers right) bundle one other)
+    → (cap : ℕ) (a b : PlainAuction) → HasOrBids cap a (plain_bids left) → HasOrBids cap b (plain_bids right) → a.goods ≡ b.goods
+    → or_difference a b (first_unequal_bundle a b) ≡ InOr bundle one other
 told_of_auctions left right bundle one other parts cap a b h k e =
     let points = subst (λ n. ArePoints n (offers right)) (sym e) (offers_points cap b right k) in
     let there : PartsAs a.goods a.or_atoms (offers right) bundle one other =
-    subst (λ (zs : List (Atom (List ℕ))). PartsAs a.goods zs (offers right) bundle one other) (offers_are cap a left h) (parts a.goods (offers_points cap a left h) points) in
+    subst (λ (zs : List (Atom (List ℕ))). PartsAs a.goods zs (offers right) bundle one other) (offers_are cap a left h)
+    (parts a.goods (offers_points cap a left h) points) in
     let here : PartsAs a.goods a.or_atoms b.or_atoms bundle one other =
     subst (λ (zs : List (Atom (List ℕ))). PartsAs a.goods a.or_atoms zs bundle one other) (offers_are cap b right k) there in
     ap (or_difference a b) here.found
     ∙ ap₂ (λ (x y : Side). InOr bundle x y) here.on_left (ap (λ n. or_side n b.or_atoms a.or_atoms bundle) (sym e) ∙ here.on_right)
 
 -- nowhere
-pub none_of_auctions : (left right : List Bid) → offers left ≡ offers right → (cap : ℕ) (a b : PlainAuction) → HasOrBids cap a (plain_bids left) → HasOrBids cap b (plain_bids right) → first_unequal_bundle a b ≡ None
+pub none_of_auctions : (left right : List Bid) → offers left ≡ offers right → (cap : ℕ) (a b : PlainAuction) → HasOrBids cap a (plain_bids left)
+    → HasOrBids cap b (plain_bids right) → first_unequal_bundle a b ≡ None
 none_of_auctions left right same cap a b h k =
     let atoms : a.or_atoms ≡ b.or_atoms = sym (offers_are cap a left h) ∙ same ∙ offers_are cap b right k in
-    find_none (are_unequal a.or_atoms b.or_atoms) (all_bundles a.goods) (λ bundle c. equal_test a.or_atoms b.or_atoms bundle (ap (λ (zs : List (Atom (List ℕ))). or_value zs bundle) atoms))
+    find_none (are_unequal a.or_atoms b.or_atoms) (all_bundles a.goods)
+    (λ bundle c. equal_test a.or_atoms b.or_atoms bundle (ap (λ (zs : List (Atom (List ℕ))). or_value zs bundle) atoms))
 
 -- ---- the bid at a place
 
-pub offer_at : (bids : List Bid) (i : ℕ) (b : Bid) → i < length bids → b ≡ get_or bids i b → atom_of (plain_bid b) ≡ get_or (offers bids) i (atom_of (plain_bid b))
+pub offer_at : (bids : List Bid) (i : ℕ) (b : Bid) → i < length bids → b ≡ get_or bids i b
+    → atom_of (plain_bid b) ≡ get_or (offers bids) i (atom_of (plain_bid b))
 offer_at bids i b l e =
     let long = length-map bids plain_bid in
-    sym (get_or-map atom_of (plain_bids bids) i (plain_bid b) (atom_of (plain_bid b)) (omega arith) ∙ ap atom_of (get_or-map plain_bid bids i b (plain_bid b) l ∙ ap plain_bid (sym e)))
+    sym (get_or-map atom_of (plain_bids bids) i (plain_bid b) (atom_of (plain_bid b)) (omega arith)
+    ∙ ap atom_of (get_or-map plain_bid bids i b (plain_bid b) l ∙ ap plain_bid (sym e)))
 
 pub length-offers : (bids : List Bid) → length (offers bids) ≡ length bids
 length-offers bids = length-map (plain_bids bids) atom_of ∙ length-map bids plain_bid
@@ -175,9 +196,11 @@ length-offers bids = length-map (plain_bids bids) atom_of ∙ length-map bids pl
 -- this is the first difference of all auctions that have these bids
 abbrev pub IsTold : List Bid → List Bid → List ℕ → Side → Side → Type 0
 IsTold left right bundle one other =
-    (cap : ℕ) (a b : PlainAuction) → HasOrBids cap a (plain_bids left) → HasOrBids cap b (plain_bids right) → a.goods ≡ b.goods → or_difference a b (first_unequal_bundle a b) ≡ InOr bundle one other
+    (cap : ℕ) (a b : PlainAuction) → HasOrBids cap a (plain_bids left) → HasOrBids cap b (plain_bids right) → a.goods ≡ b.goods
+    → or_difference a b (first_unequal_bundle a b) ≡ InOr bundle one other
 
-told_alike : (left right : List Bid) (bundle told : List ℕ) (one other told_one told_other : Side) → told ≡ bundle → told_one ≡ one → told_other ≡ other → IsTold left right bundle one other → IsTold left right told told_one told_other
+told_alike : (left right : List Bid) (bundle told : List ℕ) (one other told_one told_other : Side) → told ≡ bundle → told_one ≡ one → told_other ≡ other
+    → IsTold left right bundle one other → IsTold left right told told_one told_other
 told_alike left right bundle told one other told_one told_other e f g t = λ cap a b h k same. let u = t cap a b h k same in cc
 
 module _ (left right : List Bid) (i : ℕ) (shared : take i (offers left) ≡ take i (offers right)) (told : List ℕ) (one other : Side) where
@@ -187,30 +210,40 @@ module _ (left right : List Bid) (i : ℕ) (shared : take i (offers left) ≡ ta
         let long = length-offers left in
         let short = length-offers right in
         told_alike left right x.goods.items told (Exactly x.price) (Below x.price) one other e f g
-        (told_of_auctions left right x.goods.items (Exactly x.price) (Below x.price) (λ goods p q. parted_at_end goods (offers left) (offers right) p q i shared (atom_of (plain_bid x)) (omega arith) (offer_at left i x here is) (omega arith)))
+        (told_of_auctions left right x.goods.items (Exactly x.price) (Below x.price) (λ goods p q. parted_at_end goods (offers left) (offers right) p q i shared
+        (atom_of (plain_bid x)) (omega arith) (offer_at left i x here is) (omega arith)))
 
     module _ (y : Bid) (there : i < length right) (so : y ≡ get_or right i y) where
-      pub told_left : bundle_cmp x.goods.items y.goods.items ≡ Less → told ≡ x.goods.items → one ≡ Exactly x.price → other ≡ Below x.price → IsTold left right told one other
+      pub told_left : bundle_cmp x.goods.items y.goods.items ≡ Less → told ≡ x.goods.items → one ≡ Exactly x.price → other ≡ Below x.price
+          → IsTold left right told one other
       told_left less e f g =
           let long = length-offers left in
           let short = length-offers right in
           told_alike left right x.goods.items told (Exactly x.price) (Below x.price) one other e f g
-          (told_of_auctions left right x.goods.items (Exactly x.price) (Below x.price) (λ goods p q. parted_before goods (offers left) (offers right) p q i shared (atom_of (plain_bid x)) (omega arith) (offer_at left i x here is) (atom_of (plain_bid y)) (omega arith) (offer_at right i y there so) less))
+          (told_of_auctions left right x.goods.items (Exactly x.price) (Below x.price)
+          (λ goods p q. parted_before goods (offers left) (offers right) p q i shared (atom_of (plain_bid x)) (omega arith) (offer_at left i x here is)
+          (atom_of (plain_bid y)) (omega arith) (offer_at right i y there so) less))
 
-      pub told_right : bundle_cmp x.goods.items y.goods.items ≡ Greater → told ≡ y.goods.items → one ≡ Below y.price → other ≡ Exactly y.price → IsTold left right told one other
+      pub told_right : bundle_cmp x.goods.items y.goods.items ≡ Greater → told ≡ y.goods.items → one ≡ Below y.price → other ≡ Exactly y.price
+          → IsTold left right told one other
       told_right greater e f g =
           let long = length-offers left in
           let short = length-offers right in
           let less : bundle_cmp y.goods.items x.goods.items ≡ Less = bundle_cmp_total.antisymm y.goods.items x.goods.items ∙ ap ordering_reverse greater in
           told_alike left right y.goods.items told (Below y.price) (Exactly y.price) one other e f g
-          (told_of_auctions left right y.goods.items (Below y.price) (Exactly y.price) (λ goods p q. parted_after goods (offers left) (offers right) p q i shared (atom_of (plain_bid y)) (omega arith) (offer_at right i y there so) (atom_of (plain_bid x)) (omega arith) (offer_at left i x here is) less))
+          (told_of_auctions left right y.goods.items (Below y.price) (Exactly y.price)
+          (λ goods p q. parted_after goods (offers left) (offers right) p q i shared (atom_of (plain_bid y)) (omega arith) (offer_at right i y there so)
+          (atom_of (plain_bid x)) (omega arith) (offer_at left i x here is) less))
 
-      pub told_both : bundle_cmp x.goods.items y.goods.items ≡ Equal → (x.price ≡ y.price → ⊥) → told ≡ x.goods.items → one ≡ Exactly x.price → other ≡ Exactly y.price → IsTold left right told one other
+      pub told_both : bundle_cmp x.goods.items y.goods.items ≡ Equal → (x.price ≡ y.price → ⊥) → told ≡ x.goods.items → one ≡ Exactly x.price
+          → other ≡ Exactly y.price → IsTold left right told one other
       told_both equal differ e f g =
           let long = length-offers left in
           let short = length-offers right in
           told_alike left right x.goods.items told (Exactly x.price) (Exactly y.price) one other e f g
-          (told_of_auctions left right x.goods.items (Exactly x.price) (Exactly y.price) (λ goods p q. parted_by_price goods (offers left) (offers right) p q i shared (atom_of (plain_bid x)) (omega arith) (offer_at left i x here is) (atom_of (plain_bid y)) (omega arith) (offer_at right i y there so) (bundle_cmp_equal x.goods.items y.goods.items equal) differ))
+          (told_of_auctions left right x.goods.items (Exactly x.price) (Exactly y.price)
+          (λ goods p q. parted_by_price goods (offers left) (offers right) p q i shared (atom_of (plain_bid x)) (omega arith) (offer_at left i x here is)
+          (atom_of (plain_bid y)) (omega arith) (offer_at right i y there so) (bundle_cmp_equal x.goods.items y.goods.items equal) differ))
 
   module _ (y : Bid) (there : i < length right) (so : y ≡ get_or right i y) where
     pub told_right_longer : length left ≤ i → told ≡ y.goods.items → one ≡ Below y.price → other ≡ Exactly y.price → IsTold left right told one other
@@ -218,22 +251,27 @@ module _ (left right : List Bid) (i : ℕ) (shared : take i (offers left) ≡ ta
         let long = length-offers left in
         let short = length-offers right in
         told_alike left right y.goods.items told (Below y.price) (Exactly y.price) one other e f g
-        (told_of_auctions left right y.goods.items (Below y.price) (Exactly y.price) (λ goods p q. parted_at_end_right goods (offers left) (offers right) p q i shared (atom_of (plain_bid y)) (omega arith) (offer_at right i y there so) (omega arith)))
+        (told_of_auctions left right y.goods.items (Below y.price) (Exactly y.price)
+        (λ goods p q. parted_at_end_right goods (offers left) (offers right) p q i shared (atom_of (plain_bid y)) (omega arith)
+        (offer_at right i y there so) (omega arith)))
 
 -- one more place that is the same
-pub shared_more : (left right : List Bid) (i : ℕ) → take i (offers left) ≡ take i (offers right) → (x y : Bid) → i < length left → x ≡ get_or left i x → i < length right → y ≡ get_or right i y
+pub shared_more : (left right : List Bid) (i : ℕ) → take i (offers left) ≡ take i (offers right) → (x y : Bid) → i < length left → x ≡ get_or left i x
+    → i < length right → y ≡ get_or right i y
     → bundle_cmp x.goods.items y.goods.items ≡ Equal → x.price ≡ y.price → take (i + 1) (offers left) ≡ take (i + 1) (offers right)
 shared_more left right i shared x y here is there so equal price =
     let long = length-offers left in
     let short = length-offers right in
-    let atom : atom_of (plain_bid x) ≡ atom_of (plain_bid y) = ap₂ (λ (b : List ℕ) (p : ℕ). record { bundle = b; price = p }) (bundle_cmp_equal x.goods.items y.goods.items equal) price in
+    let atom : atom_of (plain_bid x) ≡ atom_of (plain_bid y) =
+    ap₂ (λ (b : List ℕ) (p : ℕ). record { bundle = b; price = p }) (bundle_cmp_equal x.goods.items y.goods.items equal) price in
     take_more (offers left) i (atom_of (plain_bid x)) (omega arith)
     ∙ ap₂ (λ (zs : List (Atom (List ℕ))) (a : Atom (List ℕ)). zs ++ a ∷ []) shared (sym (offer_at left i x here is) ∙ atom ∙ offer_at right i y there so)
     ∙ sym (take_more (offers right) i (atom_of (plain_bid y)) (omega arith))
 
 -- all places are the same
 pub shared_all : (left right : List Bid) (i : ℕ) → take i (offers left) ≡ take i (offers right) → length left ≤ i → length right ≤ i
-    → (cap : ℕ) (a b : PlainAuction) → HasOrBids cap a (plain_bids left) → HasOrBids cap b (plain_bids right) → a.goods ≡ b.goods → first_unequal_bundle a b ≡ None
+    → (cap : ℕ) (a b : PlainAuction) → HasOrBids cap a (plain_bids left) → HasOrBids cap b (plain_bids right) → a.goods ≡ b.goods
+    → first_unequal_bundle a b ≡ None
 shared_all left right i shared l m cap a b h k e =
     let long = length-offers left in
     let short = length-offers right in

@@ -8,14 +8,16 @@ use Rattle.std.proofs.lemmas.List.Sorted.{IsPermutation-remove, Contains-permuta
 use Rattle.std.proofs.lemmas.List.Sums.{sum_by-cons}
 use Rattle.valuation.specs.declared.atom.Atom.{Atom}
 use Rattle.valuation.specs.Auctions.{PlainAuction, IsAtom, IsAuction}
-use Rattle.valuation.specs.ListLemmas.{Contains-cons_cases, AllPairs-head, AllPairs-tail}
+use Rattle.valuation.specs.Lemmas.Lists.{Contains-cons_cases, AllPairs-head, AllPairs-tail}
 use Rattle.valuation.specs.Orders.{bidder_cmp}
-use Rattle.valuation.specs.Sorting.{sort_by, sum_by-sort_by}
+use Rattle.valuation.specs.Sorting.{sort_by}
+use Rattle.valuation.specs.Lemmas.Sorting.{sum_by-sort_by}
 use Rattle.valuation.specs.Tables.{xor_table, is_nonzero}
-use Rattle.prune.specs.InOrder.{IsBefore, IsInOrder, before_itself}
-use Rattle.prune.specs.Lists.{All-from_Contains, Contains-tail}
-use Rattle.prune.specs.KeptLemmas.{just_bundles, or_points_are_atoms, xor_points_are_atoms}
-use Rattle.prune.specs.PointLemmas.{points_where-in_order}
+use Rattle.prune.specs.InOrder.{IsBefore, IsInOrder}
+use Rattle.prune.specs.Lemmas.InOrder.{before_itself}
+use Rattle.prune.specs.Lemmas.Lists.{All-from_Contains, Contains-tail}
+use Rattle.prune.specs.Lemmas.KeptBids.{just_bundles, or_points_are_atoms, xor_points_are_atoms}
+use Rattle.prune.specs.Lemmas.Points.{points_where-in_order}
 use Rattle.prune.specs.Points.{or_points, xor_points, is_or_point, is_xor_point}
 use Rattle.valuation.specs.Values.{or_value, xor_value}
 use Rattle.canon.specs.Canonical.{canonical_auction, points_of_bidders}
@@ -32,22 +34,27 @@ no_more (x ∷ rest) atoms s h =
     let later = no_more rest (remove atoms c.0) (AllPairs-tail IsBefore x rest s)
     (All-from_Contains (Contains (remove atoms c.0)) rest (λ y d.
     ⊎_elim
-    (λ (e : x ≡ y). absurd (before_itself y.bundle (subst (λ (z : Atom (List ℕ)). IsBefore z y) e (All-contains (IsBefore x) rest y (AllPairs-head IsBefore x rest s) d))))
+    (λ (e : x ≡ y). absurd (before_itself y.bundle
+    (subst (λ (z : Atom (List ℕ)). IsBefore z y) e (All-contains (IsBefore x) rest y (AllPairs-head IsBefore x rest s) d))))
     (λ (k : Contains (remove atoms c.0) y). k)
-    (Contains-cons_cases x (remove atoms c.0) y (Contains-permutation atoms (x ∷ remove atoms c.0) y p (All-contains (Contains atoms) (x ∷ rest) y h (Contains-tail x rest y d)))))) in
+    (Contains-cons_cases x (remove atoms c.0) y
+    (Contains-permutation atoms (x ∷ remove atoms c.0) y p (All-contains (Contains atoms) (x ∷ rest) y h (Contains-tail x rest y d)))))) in
     let long = length_permutation atoms (x ∷ remove atoms c.0) p in
     omega arith
 
 pub length-or_points : (goods : ℕ) (atoms : List (Atom (List ℕ))) → All (IsAtom goods) atoms → length (or_points goods atoms) ≤ length atoms
 length-or_points goods atoms h =
-    no_more (or_points goods atoms) atoms (points_where-in_order (is_or_point goods atoms) (or_value atoms) goods) (or_points_are_atoms goods atoms (on_bundles goods atoms h))
+    no_more (or_points goods atoms) atoms (points_where-in_order (is_or_point goods atoms) (or_value atoms) goods)
+    (or_points_are_atoms goods atoms (on_bundles goods atoms h))
 
 pub length-xor_points : (goods : ℕ) (atoms : List (Atom (List ℕ))) → All (IsAtom goods) atoms → length (xor_points goods atoms) ≤ length atoms
 length-xor_points goods atoms h =
-    no_more (xor_points goods atoms) atoms (points_where-in_order (is_xor_point atoms) (xor_value atoms) goods) (xor_points_are_atoms goods atoms (just_bundles goods atoms (on_bundles goods atoms h)))
+    no_more (xor_points goods atoms) atoms (points_where-in_order (is_xor_point atoms) (xor_value atoms) goods)
+    (xor_points_are_atoms goods atoms (just_bundles goods atoms (on_bundles goods atoms h)))
 
 -- so many in all, by what each counts
-no_more_bidders : (goods : ℕ) (f : List (Atom (List ℕ)) → ℕ) → ((b : List (Atom (List ℕ))) → All (IsAtom goods) b → f (xor_points goods b) ≤ f b) → (bidders : List (List (Atom (List ℕ)))) → All (All (IsAtom goods)) bidders → sum_by f (points_of_bidders goods bidders) ≤ sum_by f bidders
+no_more_bidders : (goods : ℕ) (f : List (Atom (List ℕ)) → ℕ) → ((b : List (Atom (List ℕ))) → All (IsAtom goods) b → f (xor_points goods b) ≤ f b)
+    → (bidders : List (List (Atom (List ℕ)))) → All (All (IsAtom goods)) bidders → sum_by f (points_of_bidders goods bidders) ≤ sum_by f bidders
 no_more_bidders goods f less [] h = omega arith
 no_more_bidders goods f less (b ∷ bs) h =
     let later = no_more_bidders goods f less bs (All-tail (All (IsAtom goods)) b bs h) in
@@ -70,14 +77,16 @@ pub no_more_canonical_bidders : (a : PlainAuction) → HasAtoms a → length (ca
 no_more_canonical_bidders a h =
     let sorted = sort_by bidder_cmp (points_of_bidders a.goods a.xor_bidders) in
     let one : List (Atom (List ℕ)) → ℕ = λ b. 1 in
-    let same : sum_by one sorted ≡ sum_by one (points_of_bidders a.goods a.xor_bidders) = sum_by-sort_by bidder_cmp one (points_of_bidders a.goods a.xor_bidders) in
+    let same : sum_by one sorted ≡ sum_by one (points_of_bidders a.goods a.xor_bidders) =
+    sum_by-sort_by bidder_cmp one (points_of_bidders a.goods a.xor_bidders) in
     let fewer = no_more_bidders a.goods one (λ b k. omega arith) a.xor_bidders h.xor_atoms in
     let long : sum_by one sorted ≡ length sorted = count_is_length sorted in
     let all : sum_by one a.xor_bidders ≡ length a.xor_bidders = count_is_length a.xor_bidders in
     omega arith
 
 -- and no more atoms
-pub no_more_canonical_atoms : (a : PlainAuction) → HasAtoms a → length (canonical_auction a).or_atoms + sum_by length (canonical_auction a).xor_bidders ≤ length a.or_atoms + sum_by length a.xor_bidders
+pub no_more_canonical_atoms : (a : PlainAuction) → HasAtoms a → length (canonical_auction a).or_atoms + sum_by length (canonical_auction a).xor_bidders
+    ≤ length a.or_atoms + sum_by length a.xor_bidders
 no_more_canonical_atoms a h =
     let same = sum_by-sort_by bidder_cmp (length {A = Atom (List ℕ)}) (points_of_bidders a.goods a.xor_bidders) in
     let fewer = no_more_bidders a.goods length (λ b k. length-xor_points a.goods b k) a.xor_bidders h.xor_atoms in

@@ -7,13 +7,13 @@ use Rattle.cats_text.specs.Faults.{first_fault}
 use Rattle.cats_text.specs.FileLines.{spelled_file}
 use Rattle.cats_text.specs.Layout.{layout}
 use Rattle.cats_text.specs.declared.fault.ReadFault.{ReadFault}
-use Rattle.cats_text.proofs.LayoutSpells as laid_out
-use Rattle.cats_text.proofs.SpellsLemmas.{spells_from_no_fault, no_fault_from_spells, says_spelled, spells_one}
+use Rattle.cats_text.proofs.Writing.Spells as laid_out
+use Rattle.cats_text.proofs.Spelling.Files.{spells_from_no_fault, no_fault_from_spells, says_spelled, spells_one}
 use Rattle.valuation.specs.Auctions.{PlainAuction, IsAuction, or_atoms_of, auction_from}
-use Rattle.valuation.specs.AuctionLemmas.{IsAuction-auction_from}
+use Rattle.valuation.specs.Lemmas.AuctionsOfFiles.{IsAuction-auction_from}
 use Rattle.prune.specs.Points.{or_points}
 use Rattle.prune.specs.Steps.{first_heavy}
-use Rattle.prune.specs.StepLemmas.{no_heavy_point}
+use Rattle.prune.specs.Lemmas.Steps.{no_heavy_point}
 use Rattle.canon.specs.Sameness.{IsSameAuction, AreSameFiles, AreSameTexts}
 use Rattle.canon.specs.Canonical.{canonical_auction, file_from, canonical_file, canonical_text}
 use Rattle.canon.specs.Normalising.{IsText, unless_heavy, normalised_file, unless_fault, normalised}
@@ -31,11 +31,13 @@ pub HasAtoms-file : (f : PlainFile) → IsPlainFile f → HasAtoms (auction_from
 HasAtoms-file f h = HasAtoms-auction f.goods (auction_from f) (IsAuction-file f h)
 
 pub IsPlainFile-canonical : (f : PlainFile) → IsPlainFile f → IsPlainFile (canonical_file f)
-IsPlainFile-canonical f h = IsPlainFile-file_from f.goods (canonical_auction (auction_from f)) (IsAuction-canonical f.goods (auction_from f) (IsAuction-file f h))
+IsPlainFile-canonical f h =
+    IsPlainFile-file_from f.goods (canonical_auction (auction_from f)) (IsAuction-canonical f.goods (auction_from f) (IsAuction-file f h))
 
 pub canonical_file_is_same : (f : PlainFile) → IsPlainFile f → AreSameFiles f (canonical_file f)
 canonical_file_is_same f h =
-    subst (λ (a : PlainAuction). IsSameAuction (auction_from f) a) (sym (auction_from-file_from (canonical_auction (auction_from f)))) (canonical_is_same (auction_from f) (HasAtoms-file f h))
+    subst (λ (a : PlainAuction). IsSameAuction (auction_from f) a) (sym (auction_from-file_from (canonical_auction (auction_from f))))
+    (canonical_is_same (auction_from f) (HasAtoms-file f h))
 
 pub canonical_file_is_fixed : (f : PlainFile) → IsPlainFile f → canonical_file (canonical_file f) ≡ canonical_file f
 canonical_file_is_fixed f h =
@@ -45,11 +47,13 @@ canonical_file_is_fixed f h =
 -- ---- one text for each auction
 
 pub same_text : (f g : PlainFile) → IsPlainFile f → IsPlainFile g → AreSameFiles f g → canonical_text f ≡ canonical_text g
-same_text f g h k s = ap (λ (a : PlainAuction). layout (file_from a)) (same_canonical (auction_from f) (auction_from g) (HasAtoms-file f h) (HasAtoms-file g k) s)
+same_text f g h k s = ap (λ (a : PlainAuction). layout (file_from a)) (same_canonical (auction_from f) (auction_from g) (HasAtoms-file f h) (HasAtoms-file g k)
+    s)
 
 pub same_from_text : (f g : PlainFile) → IsPlainFile f → IsPlainFile g → canonical_text f ≡ canonical_text g → AreSameFiles f g
 same_from_text f g h k e =
-    let one : Spells (canonical_text g) (canonical_file f) = subst (λ (text : List ℕ). Spells text (canonical_file f)) e (laid_out.layout_spells (canonical_file f) (IsPlainFile-canonical f h)) in
+    let one : Spells (canonical_text g) (canonical_file f) =
+    subst (λ (text : List ℕ). Spells text (canonical_file f)) e (laid_out.layout_spells (canonical_file f) (IsPlainFile-canonical f h)) in
     let other : Spells (canonical_text g) (canonical_file g) = laid_out.layout_spells (canonical_file g) (IsPlainFile-canonical g k) in
     let files : canonical_file f ≡ canonical_file g = spells_one (canonical_text g) (canonical_file f) (canonical_file g) one other in
     same_from_canonical (auction_from f) (auction_from g) (HasAtoms-file f h) (HasAtoms-file g k)
@@ -64,10 +68,12 @@ pub record IsNormalText (limit : ℕ) (text out : List ℕ) : Type 0 where
   pub light : first_heavy file.goods limit (or_atoms_of file.bids) ≡ None
   pub is : out ≡ canonical_text file
 
-pub text_of_file : (limit : ℕ) (f : PlainFile) (out : List ℕ) → normalised_file limit f ≡ IsText out → (first_heavy f.goods limit (or_atoms_of f.bids) ≡ None) × (out ≡ canonical_text f)
+pub text_of_file : (limit : ℕ) (f : PlainFile) (out : List ℕ) → normalised_file limit f ≡ IsText out → (first_heavy f.goods limit (or_atoms_of f.bids) ≡ None)
+    × (out ≡ canonical_text f)
 text_of_file limit f out = by (first_heavy f.goods limit (or_atoms_of f.bids)) refl
   where
-    by : (o : Option (List ℕ)) → first_heavy f.goods limit (or_atoms_of f.bids) ≡ o → unless_heavy f o ≡ IsText out → (first_heavy f.goods limit (or_atoms_of f.bids) ≡ None) × (out ≡ canonical_text f)
+    by : (o : Option (List ℕ)) → first_heavy f.goods limit (or_atoms_of f.bids) ≡ o → unless_heavy f o ≡ IsText out
+        → (first_heavy f.goods limit (or_atoms_of f.bids) ≡ None) × (out ≡ canonical_text f)
     by None e q = (e, cc)
     by (Some goods) e q = absurd (cc)
 
@@ -75,7 +81,12 @@ pub text_from_normalised : (limit : ℕ) (text out : List ℕ) → normalised li
 text_from_normalised limit text out = by (first_fault text) refl
   where
     by : (o : Option ReadFault) → first_fault text ≡ o → unless_fault limit text o ≡ IsText out → IsNormalText limit text out
-    by None e q = let r = text_of_file limit (spelled_file text) out q in record { file = spelled_file text; spelled = spells_from_no_fault text e; light = r.0; is = r.1 }
+    by None e q = let r = text_of_file limit (spelled_file text) out q in record {
+      file = spelled_file text;
+      spelled = spells_from_no_fault text e;
+      light = r.0;
+      is = r.1;
+    }
     by (Some fault) e q = absurd (cc)
 
 -- the answer for a text that spells a file
@@ -93,11 +104,13 @@ normalised_again limit text out n =
     let f = n.file in
     let facts : IsPlainFile f = n.spelled.facts in
     let atoms = HasAtoms-file f facts in
-    let ors : or_atoms_of (canonical_file f).bids ≡ or_points f.goods (or_atoms_of f.bids) = ap (λ (a : PlainAuction). a.or_atoms) (auction_from-file_from (canonical_auction (auction_from f))) in
+    let ors : or_atoms_of (canonical_file f).bids ≡ or_points f.goods (or_atoms_of f.bids) =
+    ap (λ (a : PlainAuction). a.or_atoms) (auction_from-file_from (canonical_auction (auction_from f))) in
     record {
       file = canonical_file f;
       spelled = subst (λ (t : List ℕ). Spells t (canonical_file f)) (sym n.is) (laid_out.layout_spells (canonical_file f) (IsPlainFile-canonical f facts));
-      light = ap (first_heavy f.goods limit) ors ∙ no_heavy_point f.goods limit (or_atoms_of f.bids) (on_bundles f.goods (or_atoms_of f.bids) atoms.or_atoms) n.light;
+      light = ap (first_heavy f.goods limit) ors ∙ no_heavy_point f.goods limit (or_atoms_of f.bids) (on_bundles f.goods (or_atoms_of f.bids) atoms.or_atoms)
+          n.light;
       is = n.is ∙ ap layout (sym (canonical_file_is_fixed f facts));
     }
 
@@ -115,7 +128,8 @@ pub texts_equal : (m n : ℕ) (one other s t : List ℕ) → IsNormalText m one 
 texts_equal m n one other s t p q same =
     let f = spells_one one same.first p.file same.first_spelled p.spelled in
     let g = spells_one other same.second q.file same.second_spelled q.spelled in
-    let files : AreSameFiles p.file q.file = subst (λ (x : PlainFile). AreSameFiles x q.file) f (subst (λ (x : PlainFile). AreSameFiles same.first x) g same.same) in
+    let files : AreSameFiles p.file q.file =
+    subst (λ (x : PlainFile). AreSameFiles x q.file) f (subst (λ (x : PlainFile). AreSameFiles same.first x) g same.same) in
     p.is ∙ same_text p.file q.file p.spelled.facts q.spelled.facts files ∙ sym q.is
 
 -- the text that normalising gives spells a file of the same auction

@@ -1,4 +1,5 @@
--- What the calls answer, by what normalising a file or a text gives. Want of memory may come in the place of each answer.
+-- What the calls answer, by what normalising a file or a text gives. Want of memory may come in the place of each
+-- answer.
 use Rattle.std.specs.Prelude.{◌≡◌, ℕ, Result, Ok, Err, Some, None, Vec}
 use Rattle.std.specs.Global.{Global}
 use Rattle.cats_text.specs.Files.{PlainFile}

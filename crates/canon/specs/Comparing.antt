@@ -1,4 +1,5 @@
--- What comparing two texts answers. The first text comes first: of two texts that both have no canonical text, the first is told.
+-- What comparing two texts answers. The first text comes first: of two texts that both have no canonical text, the
+-- first is told.
 use Rattle.std.specs.Prelude.{◌≡◌, ℕ, List, Result, Ok, Err}
 use Rattle.cats_text.specs.FileLines.{spelled_file}
 use Rattle.cats_text.specs.Files.{PlainFile}
@@ -25,7 +26,8 @@ pub data Compared : Type 0 where
   ComparedBy : Difference → Compared
 
 abbrev pub unless_second_refused : List ℕ → List ℕ → Normalised → Compared
-unless_second_refused one other (IsText text) = ComparedBy (first_difference (auction_from (spelled_file one)) (auction_from (spelled_file other)))
+unless_second_refused one other (IsText text) =
+    ComparedBy (first_difference (auction_from (spelled_file one)) (auction_from (spelled_file other)))
 unless_second_refused one other refusal = SecondRefused refusal
 
 abbrev pub unless_first_refused : ℕ → List ℕ → List ℕ → Normalised → Compared
@@ -35,8 +37,8 @@ unless_first_refused limit one other refusal = FirstRefused refusal
 abbrev pub compared : ℕ → List ℕ → List ℕ → Compared
 compared limit one other = unless_first_refused limit one other (normalised limit one)
 
--- which text a refusal may be told of, and why. Want of memory may come in the place of any answer, of the first text, then of the
--- second, then of neither alone.
+-- which text a refusal may be told of, and why. Want of memory may come in the place of any answer, of the first text,
+-- then of the second, then of neither alone.
 abbrev pub RefusesOf : Which → Compared → CanonFault → Type 0
 RefusesOf Only expected fault = ⊥
 RefusesOf First (FirstRefused refusal) fault = RefusesAs refusal fault

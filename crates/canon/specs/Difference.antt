@@ -1,5 +1,6 @@
--- Where two auctions part first. The number of goods comes first, then the OR values on the bundles in order, and then the XOR
--- bidders, each as its points, in order. Values are those of Nisan ("Bidding and allocation in combinatorial auctions", 2000).
+-- Where two auctions part first. The number of goods comes first, then the OR values on the bundles in order, and then
+-- the XOR bidders, each as its points, in order. Values are those of Nisan ("Bidding and allocation in combinatorial
+-- auctions", 2000).
 use Rattle.std.specs.Prelude.{ℕ, not, ◌==◌, if◌then◌else◌, Option, Some, None, List, ◌++◌}
 use Rattle.std.specs.List.{find}
 use Rattle.goods_set.specs.Bundles.{all_bundles}
@@ -26,12 +27,15 @@ pub data Difference : Type 0 where
 
 -- the first bundle on which the OR values differ
 abbrev pub first_unequal_bundle : PlainAuction → PlainAuction → Option (List ℕ)
-first_unequal_bundle a b = find (λ bundle. not (or_value a.or_atoms bundle == or_value b.or_atoms bundle)) (all_bundles a.goods)
+first_unequal_bundle a b = find (λ bundle. not (or_value a.or_atoms bundle == or_value b.or_atoms bundle))
+    (all_bundles a.goods)
 
--- what is told of the first auction: its value, where it has an OR point on the bundle, and else that it is below the other's
+-- what is told of the first auction: its value, where it has an OR point on the bundle, and else that it is below the
+-- other's
 abbrev pub side_of : PlainAuction → PlainAuction → List ℕ → Side
 side_of a other bundle =
-    if is_or_point a.goods a.or_atoms bundle then Exactly (or_value a.or_atoms bundle) else Below (or_value other.or_atoms bundle)
+    if is_or_point a.goods a.or_atoms bundle then Exactly (or_value a.or_atoms bundle)
+    else Below (or_value other.or_atoms bundle)
 
 -- ---- the XOR bidders
 

@@ -27,12 +27,13 @@ first_place files given = position (λ file. bytes_eq (canonical_text file) (can
 
 module _ {R : Type 0} (remaining : R → Option (List ℕ)) where
   -- the bytes spell a file, which is behind the others now, and this is its place
-  pub record AddsFile (limit : ℕ) (old new : List PlainFile) (bytes : List ℕ) (input : Watched R) (place : ℕ) : Type 0 where
-    pub file : PlainFile
-    pub reads : ReadsFile remaining bytes input file
-    pub light : normalised_file limit file ≡ IsText (canonical_text file)
-    pub added : new ≡ old ++ file ∷ []
-    pub first : IsFirstPlace new file place
+  pub record AddsFile (limit : ℕ) (old new : List PlainFile) (bytes : List ℕ) (input : Watched R) (place : ℕ) : Type 0
+    where
+      pub file : PlainFile
+      pub reads : ReadsFile remaining bytes input file
+      pub light : normalised_file limit file ≡ IsText (canonical_text file)
+      pub added : new ≡ old ++ file ∷ []
+      pub first : IsFirstPlace new file place
 
   -- the bytes spell no file, or no more came
   pub record IsUnread (bytes : List ℕ) (input : Watched R) (fault : CanonFault) : Type 0 where
@@ -48,10 +49,12 @@ module _ {R : Type 0} (remaining : R → Option (List ℕ)) where
 
   abbrev pub AddsOrRefuses : ℕ → List PlainFile → List PlainFile → List ℕ → Watched R → Result ℕ CanonFault → Type 0
   AddsOrRefuses limit old new bytes input (Ok place) = AddsFile limit old new bytes input place
-  AddsOrRefuses limit old new bytes input (Err fault) = (new ≡ old) × (IsUnread bytes input fault ⊎ IsUnmade limit bytes input fault)
+  AddsOrRefuses limit old new bytes input (Err fault) =
+      (new ≡ old) × (IsUnread bytes input fault ⊎ IsUnmade limit bytes input fault)
 
   -- reading a file and adding it
-  pub record AddsStream (limit : ℕ) (old new : List PlainFile) (before after : Watched R) (answer : Result ℕ CanonFault) : Type 0 where
+  pub record AddsStream (limit : ℕ) (old new : List PlainFile) (before after : Watched R)
+      (answer : Result ℕ CanonFault) : Type 0 where
     pub bytes : List ℕ
     pub consumes : Consumes (remaining (inner_of before)) (remaining (inner_of after)) bytes
     pub adds : AddsOrRefuses limit old new bytes after answer

@@ -12,7 +12,8 @@ use Rattle.canon.specs.Sameness.{AreSameFiles}
 pub record IsHeldBy (file other : PlainFile) : Type 0 where
   pub or_bids : All (Contains (auction_from other).or_atoms) (auction_from file).or_atoms
   pub bidders : (points : List (Atom (List ℕ))) → 0 < length points
-      → count_of bidder_cmp points (map (xor_points other.goods) (auction_from other).xor_bidders) ≡ count_of bidder_cmp points (auction_from file).xor_bidders
+      → count_of bidder_cmp points (map (xor_points other.goods) (auction_from other).xor_bidders)
+      ≡ count_of bidder_cmp points (auction_from file).xor_bidders
   pub bids : All (λ bidder. All (Contains bidder) (xor_points other.goods bidder)) (auction_from other).xor_bidders
   -- so it has as many bids, bids without a dummy good, and dummy goods, or more
   pub no_more_bids : length file.bids ≤ length other.bids

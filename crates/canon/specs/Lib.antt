@@ -8,8 +8,6 @@ pub mod Refusals
 pub mod Examples
 pub mod Difference
 pub mod Verdicts
-pub mod BidderBids
 pub mod Comparing
-pub mod OrBids
 pub mod FirstPlaces
-pub mod TextPlaces
+pub mod Internal

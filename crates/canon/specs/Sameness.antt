@@ -1,6 +1,6 @@
--- When two auctions ask for the same things. Values are those of Nisan ("Bidding and allocation in combinatorial auctions", 2000);
--- a table has them on all bundles. XOR bidders have no names, so they are counted, each valuation by itself; one that is 0 on every
--- bundle asks for nothing and does not count.
+-- When two auctions ask for the same things. Values are those of Nisan ("Bidding and allocation in combinatorial
+-- auctions", 2000); a table has them on all bundles. XOR bidders have no names, so they are counted, each valuation by
+-- itself; one that is 0 on every bundle asks for nothing and does not count.
 use Rattle.std.specs.Prelude.{◌≡◌, ℕ, Bool, true, List}
 use Rattle.std.specs.List.{count_by}
 use Rattle.std.specs.Ordering.{nat_cmp, is_eq}
@@ -23,7 +23,8 @@ has_table goods table bidder = is_eq (slice_cmp nat_cmp (xor_table bidder goods)
 abbrev pub bidders_with : List ℕ → PlainAuction → ℕ
 bidders_with table a = count_by (has_table a.goods table) a.xor_bidders
 
--- the same number of goods, the same OR value on every bundle, and as many XOR bidders of each valuation that is not zero
+-- the same number of goods, the same OR value on every bundle, and as many XOR bidders of each valuation that is not
+-- zero
 pub record IsSameAuction (a b : PlainAuction) : Type 0 where
   pub goods : a.goods ≡ b.goods
   pub or_values : or_values a ≡ or_values b

@@ -17,8 +17,8 @@ use prune::{PruneFault, prune_or, prune_xor};
 use std::alloc::{AllocError, Global};
 use valuation::{Atom, Auction, compare_bidders};
 
-/// The canonical auction of an auction: of each bidder the points, without the XOR bidders of value zero, and the others in order.
-/// It uses the auction up, and copies none of its atoms.
+/// The canonical auction of an auction: of each bidder the points, without the XOR bidders of value zero, and the
+/// others in order. It uses the auction up, and copies none of its atoms.
 pub fn canonical<S: GoodsSet>(
     alloc: Global,
     auction: Auction<S>,
@@ -30,7 +30,8 @@ pub fn canonical<S: GoodsSet>(
     ensures none_heavy { let a = plain_auction auction in
         OnOk result (first_heavy a.goods limit a.or_atoms ≡ None) }
     ensures step_limit { let a = plain_auction auction in
-        IfErr result (λ fault. IfStepLimit fault (λ bundle. first_heavy a.goods limit a.or_atoms ≡ Some (S.goods bundle))) }
+        IfErr result (λ fault. IfStepLimit fault (λ bundle. first_heavy a.goods limit a.or_atoms
+        ≡ Some (S.goods bundle))) }
 {
     let (goods, or_atoms, xor_bidders) = auction.into_parts();
     let or_points = prune_or(alloc, or_atoms, limit)?;

@@ -1,6 +1,22 @@
 //! Which auctions came among files that are added one by one, and which file of each came first.
 
-ghost use Rattle.std.specs.Prelude.{◌≡◌, ◌++◌, ℕ, List, [], ◌∷◌, cond, unwrap_or, bytes_eq, Some, IfOk, IfErr, OnOk, OnErr, false};
+ghost use Rattle.std.specs.Prelude.{
+  ◌≡◌,
+  ◌++◌,
+  ℕ,
+  List,
+  [],
+  ◌∷◌,
+  cond,
+  unwrap_or,
+  bytes_eq,
+  Some,
+  IfOk,
+  IfErr,
+  OnOk,
+  OnErr,
+  false,
+};
 ghost use Rattle.cats_text.specs.Files.{PlainFile};
 ghost use Rattle.cats_text.specs.Streams.{has_ended, has_failed};
 ghost use Rattle.cats_text.specs.Views.{plain_file};
@@ -8,7 +24,7 @@ ghost use Rattle.canon.specs.Answers.{RefusesAs};
 ghost use Rattle.canon.specs.Canonical.{canonical_text};
 ghost use Rattle.canon.specs.FirstPlaces.{AddsStream, IsFirstPlace};
 ghost use Rattle.canon.specs.Normalising.{IsText, normalised_file};
-ghost use Rattle.canon.specs.TextPlaces.{place_of};
+ghost use Rattle.canon.specs.Internal.TextPlaces.{place_of};
 
 use crate::added_files::AddedFiles;
 use crate::fault::CanonFault;
@@ -19,8 +35,8 @@ use std::collections::HashMap;
 use std::io::Read;
 use std::marker::Model;
 
-/// The auctions of the files that were added. It keeps one canonical text for each auction, and finds one by its hash; whether two
-/// are equal is decided on the whole texts. The files themselves are given up.
+/// The auctions of the files that were added. It keeps one canonical text for each auction, and finds one by its hash;
+/// whether two are equal is decided on the whole texts. The files themselves are given up.
 #[derive(Drop)]
 pub struct AuctionIndex {
     /// Each canonical text, with the place of the first file that has it.
@@ -33,7 +49,7 @@ pub struct AuctionIndex {
 impl Model for AuctionIndex {
     ghost use Rattle.std.specs.Prelude.{List};
     ghost use Rattle.cats_text.specs.Files.{PlainFile};
-    ghost use Rattle.canon.specs.TextPlaces.{IsIndex};
+    ghost use Rattle.canon.specs.Internal.TextPlaces.{IsIndex};
 
     ghost Value = { List PlainFile };
 
@@ -54,14 +70,15 @@ impl AuctionIndex {
         }
     }
 
-    /// Adds a file, and answers the place, counted from 0, of the first file added that is the same auction; that is its own place
-    /// where there is none. `limit` bounds each search that decides on a bundle of the OR bidder.
+    /// Adds a file, and answers the place, counted from 0, of the first file added that is the same auction; that is
+    /// its own place where there is none. `limit` bounds each search that decides on a bundle of the OR bidder.
     ///
     /// An index to which `usize::MAX` files were added takes no more, and tells want of memory.
     pub fn add(&mut self, alloc: Global, file: BidFile, limit: u64) -> Result<usize, CanonFault>
         ensures place { IfOk result (IsFirstPlace self.new (plain_file file)) }
         ensures added { OnOk result (self.new ≡ self.old ++ plain_file file ∷ []) }
-        ensures light { OnOk result (normalised_file limit (plain_file file) ≡ IsText (canonical_text (plain_file file))) }
+        ensures light { OnOk result (normalised_file limit (plain_file file)
+            ≡ IsText (canonical_text (plain_file file))) }
         ensures refused { IfErr result (RefusesAs (normalised_file limit (plain_file file))) }
         ensures unchanged { OnErr result (self.new ≡ self.old) }
     {

@@ -1,13 +1,13 @@
 //! The first bundle on which the OR values of two canonical files differ.
 //!
-//! In a canonical file the OR bids are the points of their bidder, in the order of their bundles. So the two files are walked side
-//! by side up to the first place where they part, and the lesser of the two bundles there is the one.
+//! In a canonical file the OR bids are the points of their bidder, in the order of their bundles. So the two files are
+//! walked side by side up to the first place where they part, and the lesser of the two bundles there is the one.
 
 ghost use Rattle.std.specs.Prelude.{◌≡◌, ℕ, IfOk, OnErr, MatchOption, None};
 ghost use Rattle.cats_text.specs.Files.{plain_bids};
 ghost use Rattle.valuation.specs.Auctions.{PlainAuction};
 ghost use Rattle.canon.specs.Difference.{InOr, first_unequal_bundle, or_difference};
-ghost use Rattle.canon.specs.OrBids.{HasOrBids};
+ghost use Rattle.canon.specs.Internal.OrBids.{HasOrBids};
 ghost use Rattle.canon.specs.Verdicts.{NamesGoods, plain_verdict};
 ghost use Rattle.canon.specs.declared.verdict.Side.TheVariants.{Exactly, Below};
 
@@ -25,16 +25,19 @@ struct Parting<'a> {
     right: Side,
 }
 
-/// Where the OR bidders of two canonical files part: their bids are given, those without a dummy good. None if they nowhere do.
+/// Where the OR bidders of two canonical files part: their bids are given, those without a dummy good. None if they
+/// nowhere do.
 pub(crate) fn bundle_verdict(
     alloc: Global,
     left: &[Bid],
     right: &[Bid],
 ) -> Result<Option<Verdict>, AllocError>
-    ensures verdict { (cap : ℕ) (a b : PlainAuction) → HasOrBids cap a (plain_bids left.now) → HasOrBids cap b (plain_bids right.now)
+    ensures verdict { (cap : ℕ) (a b : PlainAuction) → HasOrBids cap a (plain_bids left.now)
+        → HasOrBids cap b (plain_bids right.now)
         → a.goods ≡ b.goods → IfOk result (λ told. MatchOption told (first_unequal_bundle a b ≡ None)
         (λ verdict. plain_verdict verdict ≡ or_difference a b (first_unequal_bundle a b))) }
-    ensures memory { (cap : ℕ) (a b : PlainAuction) → HasOrBids cap a (plain_bids left.now) → HasOrBids cap b (plain_bids right.now)
+    ensures memory { (cap : ℕ) (a b : PlainAuction) → HasOrBids cap a (plain_bids left.now)
+        → HasOrBids cap b (plain_bids right.now)
         → a.goods ≡ b.goods → OnErr result (NamesGoods (or_difference a b (first_unequal_bundle a b))) }
 {
     match first_parting(left, right) {
@@ -49,7 +52,8 @@ pub(crate) fn bundle_verdict(
 
 /// The first place where two lists of bids part, and what is told of it.
 fn first_parting<'a>(left: &'a [Bid], right: &'a [Bid]) -> Option<Parting<'a>>
-    ensures { (cap : ℕ) (a b : PlainAuction) → HasOrBids cap a (plain_bids left.now) → HasOrBids cap b (plain_bids right.now)
+    ensures { (cap : ℕ) (a b : PlainAuction) → HasOrBids cap a (plain_bids left.now)
+        → HasOrBids cap b (plain_bids right.now)
         → a.goods ≡ b.goods → MatchOption result (first_unequal_bundle a b ≡ None)
         (λ parting. or_difference a b (first_unequal_bundle a b) ≡ InOr parting.goods.now parting.left parting.right) }
 {

@@ -22,8 +22,8 @@ use crate::which::Which;
 use cats_text::{Bid, BidFile, read};
 use std::alloc::{AllocError, Global};
 
-/// Where the auctions of two texts' files part first. The first text is read and made canonical, and what was read of it given up,
-/// before the second is read; `limit` bounds each search that decides on a bundle of an OR bidder.
+/// Where the auctions of two texts' files part first. The first text is read and made canonical, and what was read of
+/// it given up, before the second is read; `limit` bounds each search that decides on a bundle of an OR bidder.
 pub fn compare(
     alloc: Global,
     left: &[u8],
@@ -47,26 +47,30 @@ pub fn compare(
     }
 }
 
-/// Where the auctions of two canonical files part first. Nothing of the files is copied but what the verdict names, so that
-/// memory is wanted for a bundle or a bidder alone.
+/// Where the auctions of two canonical files part first. Nothing of the files is copied but what the verdict names, so
+/// that memory is wanted for a bundle or a bidder alone.
 pub fn compare_files(alloc: Global, left: &BidFile, right: &BidFile) -> Result<Verdict, AllocError>
     requires left_canonical { IsCanonicalFile (plain_file left.now) }
     requires right_canonical { IsCanonicalFile (plain_file right.now) }
     ensures difference { IfOk result (λ verdict. plain_verdict verdict
         ≡ first_difference (auction_from (plain_file left.now)) (auction_from (plain_file right.now))) }
     ensures same { IfOk result (λ verdict. verdict ≡ Same ↔ AreSameFiles (plain_file left.now) (plain_file right.now)) }
-    ensures memory { let difference = first_difference (auction_from (plain_file left.now)) (auction_from (plain_file right.now)) in
+    ensures memory { let difference = first_difference (auction_from (plain_file left.now))
+        (auction_from (plain_file right.now)) in
         OnErr result (NamesGoods difference) }
 {
     walk_files(alloc, left, right)
 }
 
-/// The walk over the bids of two files, from the first number on. Of canonical files it finds where their auctions part.
+/// The walk over the bids of two files, from the first number on. Of canonical files it finds where their auctions
+/// part.
 fn walk_files(alloc: Global, left: &BidFile, right: &BidFile) -> Result<Verdict, AllocError>
-    ensures difference { IsCanonicalFile (plain_file left.now) → IsCanonicalFile (plain_file right.now) → IfOk result (λ verdict. plain_verdict verdict
+    ensures difference { IsCanonicalFile (plain_file left.now) → IsCanonicalFile (plain_file right.now)
+        → IfOk result (λ verdict. plain_verdict verdict
         ≡ first_difference (auction_from (plain_file left.now)) (auction_from (plain_file right.now))) }
     ensures memory { IsCanonicalFile (plain_file left.now) → IsCanonicalFile (plain_file right.now)
-        → OnErr result (NamesGoods (first_difference (auction_from (plain_file left.now)) (auction_from (plain_file right.now)))) }
+        → OnErr result (NamesGoods (first_difference (auction_from (plain_file left.now))
+        (auction_from (plain_file right.now)))) }
 {
     if left.goods() != right.goods() {
         return Ok(Verdict::Goods(left.goods(), right.goods()));
@@ -89,8 +93,10 @@ fn read_normal(alloc: Global, text: &[u8], limit: u64) -> Result<BidFile, CanonF
 
 /// The bids of a canonical file without a dummy good, and behind them those with one.
 fn split_bids(bids: &[Bid]) -> (&[Bid], &[Bid])
-    ensures or_bids { (a : PlainAuction) → plain_bids bids.now ≡ (file_from a).bids → plain_bids result.0.now ≡ map (bid_from None) a.or_atoms }
-    ensures xor_bids { (a : PlainAuction) → plain_bids bids.now ≡ (file_from a).bids → plain_bids result.1.now ≡ dummy_bids 0 a.xor_bidders }
+    ensures or_bids { (a : PlainAuction) → plain_bids bids.now ≡ (file_from a).bids
+        → plain_bids result.0.now ≡ map (bid_from None) a.or_atoms }
+    ensures xor_bids { (a : PlainAuction) → plain_bids bids.now ≡ (file_from a).bids
+        → plain_bids result.1.now ≡ dummy_bids 0 a.xor_bidders }
     ensures fewer { length result.1.now ≤ length bids.now }
 {
     bids.split_at(count_or_bids(bids))

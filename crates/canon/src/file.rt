@@ -13,8 +13,8 @@ use goods_set::{GoodsSet, goods_of};
 use std::alloc::{AllocError, Global};
 use valuation::{Atom, Auction};
 
-/// The file of any auction, canonical or not: the OR bidder's atoms are bids without a dummy good, and those of the XOR bidders
-/// have the dummy goods 0, 1, and so on.
+/// The file of any auction, canonical or not: the OR bidder's atoms are bids without a dummy good, and those of the XOR
+/// bidders have the dummy goods 0, 1, and so on.
 pub fn file_of<S: GoodsSet>(alloc: Global, auction: &Auction<S>) -> Result<BidFile, AllocError>
     ensures { IfOk result (λ file. plain_file file ≡ file_from (plain_auction auction.now)) }
 {
@@ -49,7 +49,8 @@ fn push_bids<S: GoodsSet>(
     atoms: &[Atom<S>],
     dummy: Option<u32>,
 ) -> Result<(), AllocError>
-    ensures { OnOk result (plain_bids bids.new.items ≡ plain_bids bids.old.items ++ map (bid_from dummy) (atoms_of S.goods atoms.now)) }
+    ensures { OnOk result (plain_bids bids.new.items ≡ plain_bids bids.old.items ++ map (bid_from dummy)
+        (atoms_of S.goods atoms.now)) }
 {
     for atom in atoms {
         bids.push(Bid {
@@ -68,7 +69,8 @@ fn move_bids<S: GoodsSet>(
     atoms: Vec<Atom<S>>,
     dummy: Option<u32>,
 ) -> Result<(), AllocError>
-    ensures { OnOk result (plain_bids bids.new.items ≡ plain_bids bids.old.items ++ map (bid_from dummy) (atoms_of S.goods atoms.items)) }
+    ensures { OnOk result (plain_bids bids.new.items ≡ plain_bids bids.old.items ++ map (bid_from dummy)
+        (atoms_of S.goods atoms.items)) }
 {
     for atom in atoms {
         let Atom { bundle, price } = atom;

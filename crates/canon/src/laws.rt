@@ -8,26 +8,30 @@ ghost use Rattle.canon.specs.Canonical.{canonical_auction, canonical_text, file_
 ghost use Rattle.canon.specs.Normalising.{normalised, IsText};
 ghost use Rattle.canon.specs.Sameness.{AreSameFiles, AreSameTexts, IsSameAuction};
 
-/// The headline. Where neither of two texts is refused, each under a limit of its own, their canonical texts are equal exactly if
-/// their files have the same number of goods, the same OR value on every bundle and the same multiset of nonzero XOR valuations.
-/// The canonical text spells a file with these same three, and normalising it under the same limit gives it back.
+/// The headline. Where neither of two texts is refused, each under a limit of its own, their canonical texts are equal
+/// exactly if their files have the same number of goods, the same OR value on every bundle and the same multiset of
+/// nonzero XOR valuations. The canonical text spells a file with these same three, and normalising it under the same
+/// limit gives it back.
 pub fn equal_text_exactly_for_the_same_auction()
     ensures equal { (m n : ℕ) (one other s t : List ℕ) → normalised m one ≡ IsText s → normalised n other ≡ IsText t
         → (s ≡ t ↔ AreSameTexts one other) }
     ensures spelled { (limit : ℕ) (text out : List ℕ) → normalised limit text ≡ IsText out → AreSameTexts text out }
-    ensures again { (limit : ℕ) (text out : List ℕ) → normalised limit text ≡ IsText out → normalised limit out ≡ IsText out }
+    ensures again { (limit : ℕ) (text out : List ℕ) → normalised limit text ≡ IsText out
+        → normalised limit out ≡ IsText out }
 {}
 
 /// Files of the same auction have one canonical text, and no others have it.
 pub fn same_auction_same_text()
-    ensures { (f g : PlainFile) → IsPlainFile f → IsPlainFile g → (canonical_text f ≡ canonical_text g ↔ AreSameFiles f g) }
+    ensures { (f g : PlainFile) → IsPlainFile f → IsPlainFile g
+        → (canonical_text f ≡ canonical_text g ↔ AreSameFiles f g) }
 {}
 
 /// The canonical auction is the same auction, and stays itself.
 pub fn canonical_is_same()
     ensures auction { (cap : ℕ) (a : PlainAuction) → IsAuction cap a → IsAuction cap (canonical_auction a) }
     ensures same { (cap : ℕ) (a : PlainAuction) → IsAuction cap a → IsSameAuction a (canonical_auction a) }
-    ensures fixed { (cap : ℕ) (a : PlainAuction) → IsAuction cap a → canonical_auction (canonical_auction a) ≡ canonical_auction a }
+    ensures fixed { (cap : ℕ) (a : PlainAuction) → IsAuction cap a → canonical_auction (canonical_auction a)
+        ≡ canonical_auction a }
 {}
 
 /// The file of an auction keeps the limits of files, and the auction is read back from it.
@@ -43,10 +47,12 @@ pub fn sameness_is_an_equivalence()
     ensures transitive { (a b c : PlainAuction) → IsSameAuction a b → IsSameAuction b c → IsSameAuction a c }
 {}
 
-/// A bundle that is heavy in the canonical auction is heavy in the auction, and where none is heavy there, none is here.
+/// A bundle that is heavy in the canonical auction is heavy in the auction, and where none is heavy there, none is
+/// here.
 pub fn no_new_heavy_bundle()
     ensures heavy { (cap limit : ℕ) (a : PlainAuction) → IsAuction cap a → (bundle : List ℕ)
-        → is_heavy a.goods limit (canonical_auction a).or_atoms bundle ≡ true → is_heavy a.goods limit a.or_atoms bundle ≡ true }
+        → is_heavy a.goods limit (canonical_auction a).or_atoms bundle ≡ true → is_heavy a.goods limit a.or_atoms bundle
+        ≡ true }
     ensures none { (cap limit : ℕ) (a : PlainAuction) → IsAuction cap a → first_heavy a.goods limit a.or_atoms ≡ None
         → first_heavy a.goods limit (canonical_auction a).or_atoms ≡ None }
 {}

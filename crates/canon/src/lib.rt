@@ -1,4 +1,5 @@
-//! The one text of an auction: the canonical auction, its file and its bytes, and whether two files ask for the same things.
+//! The one text of an auction: the canonical auction, its file and its bytes, and whether two files ask for the same
+//! things.
 #![tactic(auto)]
 
 mod added_files;

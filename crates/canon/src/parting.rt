@@ -1,7 +1,8 @@
 //! The least XOR bidder that two canonical files do not have equally often.
 //!
-//! In a canonical file the bids of a bidder stand together, under a dummy good of their own, and the bidders never fall. So the two
-//! files are walked side by side, bidder by bidder, up to the first place where they part. The lesser bidder there is the one.
+//! In a canonical file the bids of a bidder stand together, under a dummy good of their own, and the bidders never
+//! fall. So the two files are walked side by side, bidder by bidder, up to the first place where they part. The lesser
+//! bidder there is the one.
 
 ghost use Rattle.std.specs.Prelude.{◌≡◌, ℕ, ◌≤◌, length, List, IfOk, OnErr, MatchOption};
 ghost use Rattle.cats_text.specs.Files.{plain_bids};
@@ -10,7 +11,7 @@ ghost use Rattle.valuation.specs.declared.atom.Atom.{Atom};
 ghost use Rattle.valuation.specs.Auctions.{PlainAuction};
 ghost use Rattle.valuation.specs.Orders.{bidder_cmp};
 ghost use Rattle.valuation.specs.Sorting.{count_of};
-ghost use Rattle.canon.specs.BidderBids.{offers, AreBidsOf, HasBidders, IsFirstBidder};
+ghost use Rattle.canon.specs.Internal.BidderBids.{offers, AreBidsOf, HasBidders, IsFirstBidder};
 ghost use Rattle.canon.specs.Difference.{least_unequal_bidder, xor_difference};
 ghost use Rattle.canon.specs.Verdicts.{NamesGoods, plain_verdict, told_atoms};
 
@@ -28,9 +29,11 @@ pub(crate) fn bidder_verdict(
 ) -> Result<Verdict, AllocError>
     requires left_size { length left.now ≤ MAX_BIDS }
     requires right_size { length right.now ≤ MAX_BIDS }
-    ensures verdict { (cap : ℕ) (a b : PlainAuction) → HasBidders cap a (plain_bids left.now) → HasBidders cap b (plain_bids right.now)
+    ensures verdict { (cap : ℕ) (a b : PlainAuction) → HasBidders cap a (plain_bids left.now)
+        → HasBidders cap b (plain_bids right.now)
         → IfOk result (λ verdict. plain_verdict verdict ≡ xor_difference a b (least_unequal_bidder a b)) }
-    ensures memory { (cap : ℕ) (a b : PlainAuction) → HasBidders cap a (plain_bids left.now) → HasBidders cap b (plain_bids right.now)
+    ensures memory { (cap : ℕ) (a b : PlainAuction) → HasBidders cap a (plain_bids left.now)
+        → HasBidders cap b (plain_bids right.now)
         → OnErr result (NamesGoods (xor_difference a b (least_unequal_bidder a b))) }
 {
     match least_unequal(left, right) {
@@ -45,8 +48,10 @@ pub(crate) fn bidder_verdict(
 
 /// The bids of the least bidder that the two do not have equally often.
 fn least_unequal<'a>(left: &'a [Bid], right: &'a [Bid]) -> Option<&'a [Bid]>
-    ensures { (cap : ℕ) (a b : PlainAuction) → HasBidders cap a (plain_bids left.now) → HasBidders cap b (plain_bids right.now)
-        → MatchOption result (least_unequal_bidder a b ≡ None) (λ bidder. least_unequal_bidder a b ≡ Some (offers bidder.now)) }
+    ensures { (cap : ℕ) (a b : PlainAuction) → HasBidders cap a (plain_bids left.now)
+        → HasBidders cap b (plain_bids right.now)
+        → MatchOption result (least_unequal_bidder a b ≡ None) (λ bidder. least_unequal_bidder a b
+        ≡ Some (offers bidder.now)) }
 {
     let mut left_rest = left;
     let mut right_rest = right;
@@ -66,7 +71,8 @@ fn least_unequal<'a>(left: &'a [Bid], right: &'a [Bid]) -> Option<&'a [Bid]>
 /// How many bidders have these bids.
 fn count_copies(bidder: &[Bid], bids: &[Bid]) -> u32
     requires { length bids.now ≤ MAX_BIDS }
-    ensures { (bidders : List (List (Atom (List ℕ)))) → AreBidsOf 0 bidders (plain_bids bids.now) → result ≡ count_of bidder_cmp (offers bidder.now) bidders }
+    ensures { (bidders : List (List (Atom (List ℕ)))) → AreBidsOf 0 bidders (plain_bids bids.now)
+        → result ≡ count_of bidder_cmp (offers bidder.now) bidders }
 {
     let mut copies = 0;
     let mut rest = bids;

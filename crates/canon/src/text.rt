@@ -23,8 +23,8 @@ use std::alloc::Global;
 use std::mem;
 use valuation::{Auction, auction_of, into_auction};
 
-/// The canonical file of a file: the file of its canonical auction. `limit` bounds each search that decides on a bundle of the OR
-/// bidder.
+/// The canonical file of a file: the file of its canonical auction. `limit` bounds each search that decides on a bundle
+/// of the OR bidder.
 pub fn normal_file(alloc: Global, file: &BidFile, limit: u64) -> Result<BidFile, CanonFault>
     ensures answer { NormalisesFileAs limit (plain_file file.now) result }
     ensures same { IfOk result (λ h. AreSameFiles (plain_file file.now) (plain_file h)) }
@@ -37,8 +37,8 @@ pub fn normal_file(alloc: Global, file: &BidFile, limit: u64) -> Result<BidFile,
     on_least_set!(file.goods(), normal_file_on(alloc, file, limit))
 }
 
-/// The canonical file of a file, as `normal_file`. The file is given up before its auction is made canonical, so the two are never
-/// held at once.
+/// The canonical file of a file, as `normal_file`. The file is given up before its auction is made canonical, so the
+/// two are never held at once.
 pub fn into_normal_file(alloc: Global, file: BidFile, limit: u64) -> Result<BidFile, CanonFault>
     ensures answer { NormalisesFileAs limit (plain_file file) result }
     ensures canonical { IfOk result (λ h. IsCanonicalFile (plain_file h)) }
@@ -59,8 +59,8 @@ pub fn normal_text(alloc: Global, file: BidFile, limit: u64) -> Result<Vec<u8>, 
     on_least_set!(file.goods(), normal_text_on(alloc, file, limit))
 }
 
-/// The canonical text of a file, as `normal_text`, in a process that ends soon. The memory of the auction is left to the process's
-/// end, which takes less time than to free one bid after another.
+/// The canonical text of a file, as `normal_text`, in a process that ends soon. The memory of the auction is left to
+/// the process's end, which takes less time than to free one bid after another.
 pub fn last_normal_text(alloc: Global, file: BidFile, limit: u64) -> Result<Vec<u8>, CanonFault>
     ensures { NormalisesAs (normalised_file limit (plain_file file)) result }
 {
@@ -82,8 +82,9 @@ pub fn normalise(alloc: Global, text: &[u8], limit: u64) -> Result<Vec<u8>, Cano
     normal_text(alloc, file, limit)
 }
 
-/// Whether the bids have so few goods that lists of them take less memory than words with a bit for each good. Where most bids are
-/// the OR bidder's, whose searches ask sets the most and words answer faster, they have to be fewer still.
+/// Whether the bids have so few goods that lists of them take less memory than words with a bit for each good. Where
+/// most bids are the OR bidder's, whose searches ask sets the most and words answer faster, they have to be fewer
+/// still.
 fn is_sparse(file: &BidFile) -> bool {
     let bids = file.bids();
     let words = usize::from(file.goods() / 64);

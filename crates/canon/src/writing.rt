@@ -68,7 +68,8 @@ fn push_atoms<S: GoodsSet>(
     dummy: Option<u32>,
 ) -> Result<(), AllocError>
     requires { first + length atoms.now ≤ MAX_BIDS }
-    ensures { OnOk result (out.new.items ≡ out.old.items ++ bids_text goods first (map (bid_from dummy) (atoms_of S.goods atoms.now))) }
+    ensures { OnOk result (out.new.items ≡ out.old.items ++ bids_text goods first
+        (map (bid_from dummy) (atoms_of S.goods atoms.now))) }
 {
     for (place, atom) in atoms.iter().enumerate() {
         bundle.clear();

@@ -37,7 +37,8 @@ nowhere atoms bundle none =
     let d : Atom (List ℕ) = record { bundle = []; price = 0 } in
     let e : position_or_len (is_best value bundle) atoms ≡ length atoms =
     position_or_len_is (is_best value bundle) atoms (length atoms) d (omega arith) (λ k l. and_left _ _ (none k d l)) (λ l. absurd (omega arith)) in
-    ap (λ (n : ℕ). cond (nat_lt n (length atoms)) (Some n) None) e ∙ ap (λ (b : Bool). cond b (Some (length atoms)) None) (le-ltb (length atoms) (length atoms) (omega arith))
+    ap (λ (n : ℕ). cond (nat_lt n (length atoms)) (Some n) None) e
+    ∙ ap (λ (b : Bool). cond b (Some (length atoms)) None) (le-ltb (length atoms) (length atoms) (omega arith))
 
 pub place_of_best : (atoms : List (Atom (List ℕ))) (bundle : List ℕ) (place : Option ℕ) → IfSome place (λ i. IsFirstBest atoms bundle i)
     → (IsNone place → All (λ a. is_inside a.bundle bundle ≡ false) atoms) → best_place atoms bundle ≡ place

@@ -11,8 +11,13 @@ below_by_recursion : (count : ℕ) (goods : List ℕ) → missing_good count goo
 below_by_recursion count [] h = tt
 below_by_recursion count (g ∷ goods) h =
     ⊎_elim
-    (λ (t : nat_le count g ≡ true). let some : Some g ≡ None = ap (λ (b : Bool). cond b (Some g) (missing_good count goods)) (sym t) ∙ h in absurd (none_is_some g some))
-    (λ (t : nat_le count g ≡ false). (leb-false count g t, below_by_recursion count goods (ap (λ (b : Bool). cond b (Some g) (missing_good count goods)) (sym t) ∙ h)))
+    (λ (t : nat_le count g ≡ true). let some : Some g ≡ None = ap (λ (b : Bool). cond b (Some g) (missing_good count goods)) (sym t) ∙ h in
+    absurd (none_is_some g some))
+    (λ (t : nat_le count g ≡ false). (
+      leb-false count g t,
+      below_by_recursion count goods (ap (λ (b : Bool). cond b (Some g) (missing_good count goods)) (sym t)
+          ∙ h),
+    ))
     (cases_Bool (nat_le count g))
   where
     none_is_some : (g : ℕ) → Some g ≡ None → ⊥

@@ -10,11 +10,11 @@ use Rattle.canon.specs.declared.fault.CanonFault.TheVariants.{Memory}
 use Rattle.canon.specs.declared.which.Which.TheVariants.{Only}
 use Rattle.cats_cmd.specs.declared.report.RunFault.{RunFault}
 use Rattle.cats_cmd.specs.declared.report.RunFault.TheVariants.{Refused}
-use Rattle.cats_cmd.specs.Checks.{ChecksInput}
+use Rattle.cats_cmd.specs.Internal.Checks.{ChecksInput}
 use Rattle.cats_cmd.specs.Outcomes.{check_outcome, Tells}
 use Rattle.cats_cmd.specs.Outputs.{check_text, sizes_text}
 use Rattle.cats_cmd.specs.Runs.{RunsOnFile, SendsAs}
-use Rattle.cats_cmd.proofs.Tellings.{refused_in_reading, refused_in_making, runs_by_refusing, runs_by_telling, told_by_sending}
+use Rattle.cats_cmd.proofs.RunsOfOneFile.{refused_in_reading, refused_in_making, runs_by_refusing, runs_by_telling, told_by_sending}
 
 -- the text of the header lines is that of the file
 text_of_sizes : (header : Header) (file : PlainFile) → HasSizes header file → check_text file ≡ sizes_text header.goods header.bids header.dummy
@@ -24,7 +24,8 @@ text_of_sizes header file is =
 
 module _ {R W : Type 0} (remaining : R → Option (List ℕ)) (contents : W → Option (List ℕ)) where
   pub check_unread : (input read : Watched R) (out : Watched W) (fault : CanonFault) → ChecksInput remaining input read (Err fault)
-      → (answer : Result ℕ RunFault) → IsErrAnd answer (λ told. told ≡ Refused Only fault) → RunsOnFile remaining contents check_outcome input read out out answer
+      → (answer : Result ℕ RunFault) → IsErrAnd answer (λ told. told ≡ Refused Only fault)
+      → RunsOnFile remaining contents check_outcome input read out out answer
   check_unread input read out fault judged answer is = record {
     bytes = judged.bytes;
     consumes = judged.consumes;
@@ -33,7 +34,8 @@ module _ {R W : Type 0} (remaining : R → Option (List ℕ)) (contents : W → 
   }
 
   pub check_unmade : (input read : Watched R) (out : Watched W) (header : Header) → ChecksInput remaining input read (Ok header)
-      → (answer : Result ℕ RunFault) → IsErrAnd answer (λ told. told ≡ Refused Only Memory) → RunsOnFile remaining contents check_outcome input read out out answer
+      → (answer : Result ℕ RunFault) → IsErrAnd answer (λ told. told ≡ Refused Only Memory)
+      → RunsOnFile remaining contents check_outcome input read out out answer
   check_unmade input read out header judged answer is = record {
     bytes = judged.bytes;
     consumes = judged.consumes;

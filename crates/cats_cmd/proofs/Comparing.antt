@@ -19,7 +19,7 @@ use Rattle.cats_cmd.specs.Outcomes.{Outcome, Tells, normalise_outcome, text_unle
 use Rattle.cats_cmd.specs.Runs.{ReadsInput, SendsAs}
 use Rattle.cats_cmd.specs.declared.report.RunFault.{RunFault}
 use Rattle.cats_cmd.specs.declared.report.RunFault.TheVariants.{Refused, GoodRange, Sent}
-use Rattle.cats_cmd.proofs.Tellings.{refused_in_reading, told_by_sending}
+use Rattle.cats_cmd.proofs.RunsOfOneFile.{refused_in_reading, told_by_sending}
 
 -- ---- one of the files
 
@@ -59,7 +59,8 @@ module _ {R : Type 0} (remaining : R → Option (List ℕ)) (limit : ℕ) where
 pub canonical_outcome : (f g : PlainFile) → IsPlainFile f → IsPlainFile g → compare_outcome (canonical_file f) (canonical_file g) ≡ compare_outcome f g
 canonical_outcome f g h k =
     ap outcome_of_difference (difference_of_same_files (canonical_file f) f (canonical_file g) g (IsPlainFile-canonical f h) h (IsPlainFile-canonical g k) k
-    (same_sym (auction_from f) (auction_from (canonical_file f)) (canonical_file_is_same f h)) (same_sym (auction_from g) (auction_from (canonical_file g)) (canonical_file_is_same g k)))
+    (same_sym (auction_from f) (auction_from (canonical_file f)) (canonical_file_is_same f h))
+    (same_sym (auction_from g) (auction_from (canonical_file g)) (canonical_file_is_same g k)))
 
 module _ {R S W : Type 0} (remaining_first : R → Option (List ℕ)) (remaining_second : S → Option (List ℕ)) (contents : W → Option (List ℕ)) (limit : ℕ) where
   files_told : (outcome : PlainFile → PlainFile → Outcome) (first first_after : Watched R) (second second_after : Watched S) (out out_after : Watched W)
@@ -82,7 +83,8 @@ module _ {R S W : Type 0} (remaining_first : R → Option (List ℕ)) (remaining
 
   -- a run that sent what the canonical files tell
   pub run_compared : (first first_after : Watched R) (second second_after : Watched S) (out out_after : Watched W) (left right : BidFile)
-      → ReadsCanonicalFile remaining_first limit first first_after (plain_file left) → ReadsCanonicalFile remaining_second limit second second_after (plain_file right)
+      → ReadsCanonicalFile remaining_first limit first first_after (plain_file left)
+      → ReadsCanonicalFile remaining_second limit second second_after (plain_file right)
       → (status : ℕ) (text : List ℕ) → compare_outcome (plain_file left) (plain_file right) ≡ Tells status text
       → (answer : Result ℕ RunFault) → SendsAs contents status text out out_after answer
       → RunsOnFiles remaining_first remaining_second contents limit compare_outcome first first_after second second_after out out_after answer

@@ -22,35 +22,42 @@ Group = Vec (Bor (List ℕ)) Global
 module _ (found : List Found) (i : ℕ) (b : Found) (l : i < length found) (here : get_or found i b ≡ b) where
   more : (k : ℕ) → paths_at (take (i + 1) found) k ≡ paths_at (take i found) k ++ map (λ f. f.0) (cond (b.1 == k) (b ∷ []) [])
   more k =
-      ap (map (λ f. f.0)) (filter_more (λ f. f.1 == k) found i b l ∙ ap (λ (c : Found). filter (λ f. f.1 == k) (take i found) ++ cond (c.1 == k) (c ∷ []) []) here)
+      ap (map (λ f. f.0)) (filter_more (λ f. f.1 == k) found i b l ∙ ap (λ (c : Found). filter (λ f. f.1 == k) (take i found) ++ cond (c.1 == k) (c ∷ []) [])
+      here)
       ∙ map-append (λ f. f.0) (filter (λ f. f.1 == k) (take i found)) (cond (b.1 == k) (b ∷ []) [])
 
   put : (k : ℕ) → k ≡ b.1 → paths_at (take (i + 1) found) k ≡ paths_at (take i found) k ++ b.0 ∷ []
   put k same = more k ∙ ap (λ (t : Bool). paths_at (take i found) k ++ map (λ f. f.0) (cond t (b ∷ []) [])) (eq-eqb b.1 k (sym same))
 
   left_out : (k : ℕ) → (k ≡ b.1 → ⊥) → paths_at (take (i + 1) found) k ≡ paths_at (take i found) k
-  left_out k differ = more k ∙ ap (λ (t : Bool). paths_at (take i found) k ++ map (λ f. f.0) (cond t (b ∷ []) [])) (ne_eqb b.1 k (λ f. differ (sym f))) ∙ append-nil (paths_at (take i found) k)
+  left_out k differ = more k ∙ ap (λ (t : Bool). paths_at (take i found) k ++ map (λ f. f.0) (cond t (b ∷ []) [])) (ne_eqb b.1 k (λ f. differ (sym f)))
+      ∙ append-nil (paths_at (take i found) k)
 
-  groups_more : (n : ℕ) → b.1 < n → set (map (paths_at (take i found)) (range_with_len 0 n)) b.1 (paths_at (take i found) b.1 ++ b.0 ∷ []) ≡ map (paths_at (take (i + 1) found)) (range_with_len 0 n)
+  groups_more : (n : ℕ) → b.1 < n → set (map (paths_at (take i found)) (range_with_len 0 n)) b.1 (paths_at (take i found) b.1 ++ b.0 ∷ [])
+      ≡ map (paths_at (take (i + 1) found)) (range_with_len 0 n)
   groups_more n m =
       let old : List (List (List ℕ)) = map (paths_at (take i found)) (range_with_len 0 n) in
       let long : length old ≡ n = length-map-range_with_len (paths_at (take i found)) 0 n in
       fill_by_all (paths_at (take (i + 1) found)) (set old b.1 (paths_at (take i found) b.1 ++ b.0 ∷ [])) n [] (length-set old b.1 _ ∙ long)
       (λ k l. ⊎_elim
       (λ (same : k ≡ b.1). rw (same, put b.1 refl) (get_or-set_same old b.1 _ [] (omega arith)))
-      (λ (differ : k ≡ b.1 → ⊥). get_or-set_other old b.1 k _ [] differ ∙ get_or-map-range_with_len (paths_at (take i found)) 0 n k k [] l (zero-add k) ∙ sym (left_out k differ))
+      (λ (differ : k ≡ b.1 → ⊥). get_or-set_other old b.1 k _ [] differ ∙ get_or-map-range_with_len (paths_at (take i found)) 0 n k k [] l (zero-add k)
+      ∙ sym (left_out k differ))
       (cases_eq k b.1))
 
   pub put_path : (groups changed : List Group) (old new : Group) (path : Bor (List ℕ)) (n : ℕ) → path.now ≡ b.0 → b.1 < n
-      → plain_groups groups ≡ map (paths_at (take i found)) (range_with_len 0 n) → old ≡ get_or groups b.1 old → new.items ≡ old.items ++ path ∷ [] → changed ≡ set groups b.1 new
+      → plain_groups groups ≡ map (paths_at (take i found)) (range_with_len 0 n) → old ≡ get_or groups b.1 old → new.items ≡ old.items ++ path ∷ []
+      → changed ≡ set groups b.1 new
       → plain_groups changed ≡ map (paths_at (take (i + 1) found)) (range_with_len 0 n)
   put_path groups changed old new path n p m h is e c =
-      let long : length groups ≡ n = sym (length-map groups plain_group) ∙ ap (length {A = List (List ℕ)}) h ∙ length-map-range_with_len (paths_at (take i found)) 0 n in
+      let long : length groups ≡ n = sym (length-map groups plain_group) ∙ ap (length {A = List (List ℕ)}) h
+      ∙ length-map-range_with_len (paths_at (take i found)) 0 n in
       let before : plain_group old ≡ paths_at (take i found) b.1 =
       ap plain_group is ∙ sym (get_or-map plain_group groups b.1 old [] (omega arith)) ∙ ap (λ (xs : List (List (List ℕ))). get_or xs b.1 []) h
       ∙ get_or-map-range_with_len (paths_at (take i found)) 0 n b.1 b.1 [] m (zero-add b.1) in
       let after : plain_group new ≡ paths_at (take i found) b.1 ++ b.0 ∷ [] =
-      ap (map (λ (q : Bor (List ℕ)). q.now)) e ∙ map-append (λ (q : Bor (List ℕ)). q.now) old.items (path ∷ []) ∙ ap₂ (λ (xs : List (List ℕ)) (x : List ℕ). xs ++ x ∷ []) before p in
+      ap (map (λ (q : Bor (List ℕ)). q.now)) e ∙ map-append (λ (q : Bor (List ℕ)). q.now) old.items (path ∷ [])
+      ∙ ap₂ (λ (xs : List (List ℕ)) (x : List ℕ). xs ++ x ∷ []) before p in
       ap plain_groups c ∙ map-set plain_group groups b.1 new ∙ ap₂ (λ (xs : List (List (List ℕ))) (x : List (List ℕ)). set xs b.1 x) h after ∙ groups_more n m
 
 -- no group has a path before the first file
@@ -58,7 +65,8 @@ pub no_paths : (low n : ℕ) → replicate n [] ≡ map (paths_at []) (range_wit
 no_paths low zero = refl
 no_paths low (suc n) = ap (λ (xs : List (List (List ℕ))). [] ∷ xs) (no_paths (low + 1) n)
 
-pub length-plain_groups : (groups : List Group) (found : List Found) (n : ℕ) → plain_groups groups ≡ map (paths_at found) (range_with_len 0 n) → length groups ≡ n
+pub length-plain_groups : (groups : List Group) (found : List Found) (n : ℕ) → plain_groups groups ≡ map (paths_at found) (range_with_len 0 n)
+    → length groups ≡ n
 length-plain_groups groups found n h = sym (length-map groups plain_group) ∙ ap (length {A = List (List ℕ)}) h ∙ length-map-range_with_len (paths_at found) 0 n
 
 -- ---- the text of the groups of two or more
@@ -74,7 +82,8 @@ has_lines (path ∷ paths) e =
 behind_long : (text lines : List ℕ) → 0 < length text → behind text lines ≡ text ++ codes "\n" ++ lines
 behind_long text lines l = cond-false (length text == 0) lines (text ++ codes "\n" ++ lines) (ne_eqb (length text) 0 (λ e. absurd (omega (arith, l))))
 
-behind_groups : (groups : List (List (List ℕ))) (paths : List (List ℕ)) → AllByRecursion (λ g. is_repeated g ≡ true) groups → behind (groups_text groups) (lines_of paths) ≡ groups_text (groups ++ paths ∷ [])
+behind_groups : (groups : List (List (List ℕ))) (paths : List (List ℕ)) → AllByRecursion (λ g. is_repeated g ≡ true) groups
+    → behind (groups_text groups) (lines_of paths) ≡ groups_text (groups ++ paths ∷ [])
 behind_groups [] paths h = sym (append-nil (lines_of paths))
 behind_groups (group ∷ groups) paths h =
     let whole = length-append (lines_of group) (after_empty_lines groups) in
@@ -83,9 +92,11 @@ behind_groups (group ∷ groups) paths h =
     ∙ append_assoc (groups_text (group ∷ groups)) (codes "\n") (lines_of paths)
     ∙ append_assoc (lines_of group) (after_empty_lines groups) (codes "\n" ++ lines_of paths)
     ∙ ap (λ (text : List ℕ). lines_of group ++ text)
-    (sym (flat_map-append (λ ps. codes "\n" ++ lines_of ps) groups (paths ∷ []) ∙ ap (λ (text : List ℕ). after_empty_lines groups ++ text) (append-nil (codes "\n" ++ lines_of paths))))
+    (sym (flat_map-append (λ ps. codes "\n" ++ lines_of ps) groups (paths ∷ [])
+    ∙ ap (λ (text : List ℕ). after_empty_lines groups ++ text) (append-nil (codes "\n" ++ lines_of paths))))
 
-repeated_push : (groups : List (List (List ℕ))) (paths : List (List ℕ)) → AllByRecursion (λ g. is_repeated g ≡ true) groups → is_repeated paths ≡ true → AllByRecursion (λ g. is_repeated g ≡ true) (groups ++ paths ∷ [])
+repeated_push : (groups : List (List (List ℕ))) (paths : List (List ℕ)) → AllByRecursion (λ g. is_repeated g ≡ true) groups → is_repeated paths ≡ true
+    → AllByRecursion (λ g. is_repeated g ≡ true) (groups ++ paths ∷ [])
 repeated_push [] paths h e = (e, tt)
 repeated_push (group ∷ groups) paths h e = (h.0, repeated_push groups paths h.1 e)
 
@@ -97,13 +108,17 @@ told_next : (told : List (List (List ℕ))) (paths : List (List ℕ)) (groups : 
 told_next told paths groups h others =
     ⊎_elim
     (λ (e : is_repeated paths ≡ true).
-    ap (λ (text : List ℕ). fold with_group text groups) (cond-true (is_repeated paths) (behind (groups_text told) (lines_of paths)) (groups_text told) e ∙ behind_groups told paths h)
+    ap (λ (text : List ℕ). fold with_group text groups) (cond-true (is_repeated paths) (behind (groups_text told) (lines_of paths)) (groups_text told) e
+    ∙ behind_groups told paths h)
     ∙ others (told ++ paths ∷ []) (repeated_push told paths h e)
-    ∙ ap groups_text (append_assoc told (paths ∷ []) (filter is_repeated groups) ∙ ap (λ (gs : List (List (List ℕ))). told ++ gs) (sym (cond-true (is_repeated paths) (paths ∷ filter is_repeated groups) (filter is_repeated groups) e))))
+    ∙ ap groups_text (append_assoc told (paths ∷ []) (filter is_repeated groups)
+    ∙ ap (λ (gs : List (List (List ℕ))). told ++ gs)
+    (sym (cond-true (is_repeated paths) (paths ∷ filter is_repeated groups) (filter is_repeated groups) e))))
     (λ (e : is_repeated paths ≡ false).
     ap (λ (text : List ℕ). fold with_group text groups) (cond-false (is_repeated paths) (behind (groups_text told) (lines_of paths)) (groups_text told) e)
     ∙ others told h
-    ∙ ap (λ (gs : List (List (List ℕ))). groups_text (told ++ gs)) (sym (cond-false (is_repeated paths) (paths ∷ filter is_repeated groups) (filter is_repeated groups) e)))
+    ∙ ap (λ (gs : List (List (List ℕ))). groups_text (told ++ gs))
+    (sym (cond-false (is_repeated paths) (paths ∷ filter is_repeated groups) (filter is_repeated groups) e)))
     (cases_Bool (is_repeated paths))
 
 told_behind : (told groups : List (List (List ℕ))) → AllByRecursion (λ g. is_repeated g ≡ true) told → AreTold groups told
@@ -116,14 +131,18 @@ groups_told groups = told_behind [] groups tt
 
 -- one more group
 pub group_told : (groups : List Group) (i : ℕ) (group : Group) (before after : List ℕ) → i < length groups → group ≡ get_or groups i group
-    → before ≡ fold with_group [] (plain_groups (take i groups)) → after ≡ with_group before (plain_group group) → after ≡ fold with_group [] (plain_groups (take (i + 1) groups))
+    → before ≡ fold with_group [] (plain_groups (take i groups)) → after ≡ with_group before (plain_group group)
+    → after ≡ fold with_group [] (plain_groups (take (i + 1) groups))
 group_told groups i group before after l e b a =
     a ∙ ap (λ (text : List ℕ). with_group text (plain_group group)) b
     ∙ sym (ap (λ (gs : List Group). fold with_group [] (plain_groups gs)) (take_more groups i group l ∙ ap (λ (g : Group). take i groups ++ g ∷ []) (sym e))
-    ∙ ap (fold with_group []) (map-append plain_group (take i groups) (group ∷ [])) ∙ fold_push with_group [] (plain_groups (take i groups)) (plain_group group))
+    ∙ ap (fold with_group []) (map-append plain_group (take i groups) (group ∷ []))
+    ∙ fold_push with_group [] (plain_groups (take i groups)) (plain_group group))
 
 -- all groups
-pub text_told : (items groups : List Group) (i : ℕ) (text : List ℕ) (found : List Found) → text ≡ fold with_group [] (plain_groups (take i items)) → length items ≤ i → items ≡ groups → plain_groups groups ≡ groups_of found
+pub text_told : (items groups : List Group) (i : ℕ) (text : List ℕ) (found : List Found) → text ≡ fold with_group [] (plain_groups (take i items))
+    → length items ≤ i → items ≡ groups → plain_groups groups ≡ groups_of found
     → text ≡ duplicates_text found
 text_told items groups i text found told l same of =
-    told ∙ ap (λ (gs : List Group). fold with_group [] (plain_groups gs)) (take_all i items l ∙ same) ∙ groups_told (plain_groups groups) ∙ ap (λ (gs : List (List (List ℕ))). groups_text (filter is_repeated gs)) of
+    told ∙ ap (λ (gs : List Group). fold with_group [] (plain_groups gs)) (take_all i items l ∙ same) ∙ groups_told (plain_groups groups)
+    ∙ ap (λ (gs : List (List (List ℕ))). groups_text (filter is_repeated gs)) of

@@ -1,6 +1,5 @@
-pub mod Normalised
 -- Proofs that several functions of this crate cite.
-mod Tellings
+pub mod Normalised
 mod Checking
 mod Numbering
 mod Bundling
@@ -10,3 +9,4 @@ mod Stopping
 mod Comparing
 mod Grouping
 mod FindingPlaces
+pub mod RunsOfOneFile

@@ -22,5 +22,6 @@ made_by f (Some goods) (Err (Read fault)) h = absurd (cc)
 made_by f (Some goods) (Err (StepLimit told)) h = let same : goods ≡ told.items = cc in ap ExceedsSteps same
 made_by f (Some goods) (Err Memory) h = tt
 
-pub made_by_normalising : (limit : ℕ) (f : PlainFile) (r : Result (Vec ℕ Global) CanonFault) → NormalisesAs (normalised_file limit f) r → MakesAs (normalise_outcome limit f) r
+pub made_by_normalising : (limit : ℕ) (f : PlainFile) (r : Result (Vec ℕ Global) CanonFault) → NormalisesAs (normalised_file limit f) r
+    → MakesAs (normalise_outcome limit f) r
 made_by_normalising limit f r h = made_by f (first_heavy f.goods limit (or_atoms_of f.bids)) r h

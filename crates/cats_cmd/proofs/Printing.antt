@@ -12,7 +12,7 @@ use Rattle.valuation.specs.declared.atom.Atom.{Atom}
 use Rattle.valuation.specs.Auctions.{or_atoms_of, xor_atoms_of}
 use Rattle.valuation.specs.Bidders.{bidders_of}
 use Rattle.valuation.specs.Values.{atoms_of, chosen_places, xor_value}
-use Rattle.valuation.specs.PackingLemmas.{chosen_places-packing}
+use Rattle.valuation.specs.Lemmas.Packings.{chosen_places-packing}
 use Rattle.valuation.proofs.Placing.{length-bidders_of}
 use Rattle.cats_cmd.specs.ValueTexts.{best_place, dummy_line, numbers_text, option_places, or_numbers, xor_line, xor_numbers}
 use Rattle.cats_cmd.proofs.Numbering.{length-or_numbers}
@@ -38,7 +38,8 @@ pub bidder_at : {S : Type 0} (goods : S → List ℕ) (bidders : List (Vec (Atom
 bidder_at {S} goods bidders bids n d v h m is =
     let listed : Vec (Atom S) Global → List (Atom (List ℕ)) = λ w. atoms_of goods w.items in
     let long = length-bidders_of goods bidders bids n h in
-    ap listed is ∙ sym (get_or-map listed bidders d v [] (omega arith)) ∙ ap (λ (xs : List (List (Atom (List ℕ)))). get_or xs d []) h ∙ get_or-map-range_with_len (xor_atoms_of bids) 0 n d d [] m (zero-add d)
+    ap listed is ∙ sym (get_or-map listed bidders d v [] (omega arith)) ∙ ap (λ (xs : List (List (Atom (List ℕ)))). get_or xs d []) h
+    ∙ get_or-map-range_with_len (xor_atoms_of bids) 0 n d d [] m (zero-add d)
 
 -- the line of a bidder is added
 pub line_added : (file : PlainFile) (bundle old before after : List ℕ) (d good : ℕ) (atoms : List (Atom (List ℕ))) (numbers : List ℕ)
@@ -66,7 +67,8 @@ xor_line_made good value place atoms numbers bundle old keyword named spaced pri
     let told_best : told ≡ priced ++ rest = t ∙ ap (λ (o : Option ℕ). priced ++ numbers_text numbers (option_places o)) (sym p) in
     let priced_value : priced ≡ spaced ++ price_text (xor_value atoms bundle) = c ∙ ap (λ (m : ℕ). spaced ++ price_text m) v in
     a ∙ ap (λ (xs : List ℕ). xs ++ codes "\n") (told_best ∙ ap (λ (xs : List ℕ). xs ++ rest) (priced_value
-    ∙ ap (λ (xs : List ℕ). xs ++ price_text (xor_value atoms bundle)) (s ∙ ap (λ (xs : List ℕ). xs ++ codes " ") (n ∙ ap (λ (xs : List ℕ). xs ++ 32 ∷ decimal good) k))))
+    ∙ ap (λ (xs : List ℕ). xs ++ price_text (xor_value atoms bundle)) (s
+    ∙ ap (λ (xs : List ℕ). xs ++ codes " ") (n ∙ ap (λ (xs : List ℕ). xs ++ 32 ∷ decimal good) k))))
     ∙ joined old (codes "xor") (32 ∷ decimal good) (codes " ") (price_text (xor_value atoms bundle)) rest (codes "\n")
   where
     joined : (a b c d e f g : List ℕ) → a ++ b ++ c ++ d ++ e ++ f ++ g ≡ a ++ (b ++ c ++ d ++ e ++ f ++ g)
@@ -77,4 +79,5 @@ pub places_within : (atoms : List (Atom (List ℕ))) (bids : List PlainBid) (bun
     → places ≡ chosen_places atoms bundle → atoms ≡ or_atoms_of bids → numbers ≡ or_numbers bids → All (λ place. place < length numbers) places
 places_within atoms bids bundle places numbers p a n =
     let long : length numbers ≡ length atoms = ap (length {A = ℕ}) n ∙ length-or_numbers bids ∙ ap (length {A = Atom (List ℕ)}) (sym a) in
-    rw p (All-weaker (λ i. i < length atoms) (λ i. i < length numbers) (λ i below. omega arith) (chosen_places atoms bundle) (chosen_places-packing atoms bundle).within)
+    rw p (All-weaker (λ i. i < length atoms) (λ i. i < length numbers) (λ i below. omega arith) (chosen_places atoms bundle)
+    (chosen_places-packing atoms bundle).within)

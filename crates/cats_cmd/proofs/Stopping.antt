@@ -31,11 +31,13 @@ pub told_run : {R W : Type 0} (remaining : R → Option (List ℕ)) (contents : 
     → (before after : Watched R) (old new : Watched W) (status : ℕ) → RunsOnFile remaining contents outcome before after old new (Ok status) → status ≡ 0
 told_run remaining contents outcome only before after old new status ran = only ran.runs.file status ran.runs.tells.text ran.runs.tells.is_made
 
-within_tells : (exceeds : Bool) (bundle told : List ℕ) (status : ℕ) (text : List ℕ) → cond exceeds (ExceedsSteps bundle) (Tells 0 told) ≡ Tells status text → status ≡ 0
+within_tells : (exceeds : Bool) (bundle told : List ℕ) (status : ℕ) (text : List ℕ) → cond exceeds (ExceedsSteps bundle) (Tells 0 told) ≡ Tells status text
+    → status ≡ 0
 within_tells true bundle told status text is = cc
 within_tells false bundle told status text is = cc
 
-unless_tells : (missing : Option ℕ) (outcome : Outcome) (status : ℕ) (text : List ℕ) → (outcome ≡ Tells status text → status ≡ 0) → outcome_unless missing outcome ≡ Tells status text → status ≡ 0
+unless_tells : (missing : Option ℕ) (outcome : Outcome) (status : ℕ) (text : List ℕ) → (outcome ≡ Tells status text → status ≡ 0)
+    → outcome_unless missing outcome ≡ Tells status text → status ≡ 0
 unless_tells None outcome status text only is = only is
 unless_tells (Some good) outcome status text only is = cc
 
@@ -49,11 +51,13 @@ normalise_tells limit file status text is = normal_tells (first_heavy file.goods
 pub value_tells : (goods : List ℕ) (limit : ℕ) (file : PlainFile) (status : ℕ) (text : List ℕ) → value_outcome goods limit file ≡ Tells status text → status ≡ 0
 value_tells goods limit file status text is =
     unless_tells (missing_good file.goods goods) (values_within limit (bundle_from goods) file) status text
-    (λ e. within_tells (nat_lt limit (count_packings (or_atoms_of file.bids) (bundle_from goods))) (bundle_from goods) (value_text file (bundle_from goods)) status text e) is
+    (λ e. within_tells (nat_lt limit (count_packings (or_atoms_of file.bids) (bundle_from goods))) (bundle_from goods) (value_text file (bundle_from goods))
+    status text e) is
 
 -- sending sends a beginning, or all
 pub sends_beginning : {W : Type 0} (contents : W → Option (List ℕ)) (old new : Watched W) (text : List ℕ) (answer : Result (Unit {0}) SendFault)
-    → OnOk answer (SendsWhole contents old new text) → IfErr answer (λ fault. SendsPart contents old new text fault.written) → SendsBeginning contents old new text
+    → OnOk answer (SendsWhole contents old new text) → IfErr answer (λ fault. SendsPart contents old new text fault.written)
+    → SendsBeginning contents old new text
 sends_beginning contents old new text (Ok done) whole part = record {
   sent = length text;
   appended = subst (Appends (contents (inner_of old)) (contents (inner_of new))) (sym (take-length text)) whole.appended;
@@ -69,7 +73,8 @@ differs_or_same (InOr bundle left right) status text is = let same : 1 ≡ statu
 differs_or_same (InXor bidder left right) status text is = let same : 1 ≡ status = cc in omega arith
 
 -- a comparison that answered has the status 0 or 1
-pub told_comparison : {R S W : Type 0} (remaining_first : R → Option (List ℕ)) (remaining_second : S → Option (List ℕ)) (contents : W → Option (List ℕ)) (limit : ℕ)
+pub told_comparison : {R S W : Type 0} (remaining_first : R → Option (List ℕ)) (remaining_second : S → Option (List ℕ)) (contents : W → Option (List ℕ))
+    (limit : ℕ)
     → (first first_after : Watched R) (second second_after : Watched S) (old new : Watched W) (status : ℕ)
     → RunsOnFiles remaining_first remaining_second contents limit compare_outcome first first_after second second_after old new (Ok status) → status ≤ 1
 told_comparison remaining_first remaining_second contents limit first first_after second second_after old new status ran =
@@ -82,13 +87,15 @@ answer_is_small request status few is = omega (arith, is)
 
 -- only `duplicates` names a request for many files
 pub few_files : (words : List (Bor (List ℕ))) (request : Request) → IsNamedIn words request → names_duplicates words ≡ false → is_for_many_files request ≡ false
-few_files (program ∷ (word ∷ words)) (Duplicates files limit progress) named few = subst (λ (name : List ℕ). bytes_eq name (codes "duplicates") ≡ false) named few
+few_files (program ∷ (word ∷ words)) (Duplicates files limit progress) named few =
+    subst (λ (name : List ℕ). bytes_eq name (codes "duplicates") ≡ false) named few
 few_files (program ∷ []) (Duplicates files limit progress) named few = absurd (named)
 few_files [] (Duplicates files limit progress) named few = absurd (named)
 few_files words request named few = refl
 
 -- a run of many files that stopped has written nothing, unless its output failed
-pub silent_paths : {W : Type 0} (contents : W → Option (List ℕ)) (limit : ℕ) (paths : List (List ℕ)) (old new : Watched W) (fault : RunFault) → RunsOnPaths contents limit paths old new (Err fault) → IsSilent (Run fault) old new
+pub silent_paths : {W : Type 0} (contents : W → Option (List ℕ)) (limit : ℕ) (paths : List (List ℕ)) (old new : Watched W) (fault : RunFault)
+    → RunsOnPaths contents limit paths old new (Err fault) → IsSilent (Run fault) old new
 silent_paths contents limit paths old new (Refused which fault) ran = ran.2
 silent_paths contents limit paths old new (GoodRange good) ran = ran.tells.1
 silent_paths contents limit paths old new (Sent fault) ran = tt

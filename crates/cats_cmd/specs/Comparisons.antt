@@ -49,35 +49,45 @@ module _ {R : Type 0} (remaining : R → Option (List ℕ)) (limit : ℕ) where
 module _ {R S W : Type 0} (remaining_first : R → Option (List ℕ)) (remaining_second : S → Option (List ℕ)) (contents : W → Option (List ℕ))
     (limit : ℕ) (outcome : PlainFile → PlainFile → Outcome) where
   -- the first file was refused; the second was not read, and nothing was written
-  pub record RefusesFirst (first first_after : Watched R) (second second_after : Watched S) (out out_after : Watched W) (fault : CanonFault) : Type 0 where
+  pub record RefusesFirst (first first_after : Watched R) (second second_after : Watched S) (out out_after : Watched W)
+      (fault : CanonFault) : Type 0 where
     pub refused : ReadsRefusedFile remaining_first limit first first_after fault
     pub unread : second_after ≡ second
     pub silent : out_after ≡ out
 
   -- the second file was refused, and the first was not
-  pub record RefusesSecond (first first_after : Watched R) (second second_after : Watched S) (out out_after : Watched W) (fault : CanonFault) : Type 0 where
+  pub record RefusesSecond (first first_after : Watched R) (second second_after : Watched S) (out out_after : Watched W)
+      (fault : CanonFault) : Type 0 where
     pub left : ReadsLightFile remaining_first limit first first_after
     pub refused : ReadsRefusedFile remaining_second limit second second_after fault
     pub silent : out_after ≡ out
 
   -- neither file was refused, but memory to compare them
-  pub record RefusesBoth (first first_after : Watched R) (second second_after : Watched S) (out out_after : Watched W) (fault : CanonFault) : Type 0 where
+  pub record RefusesBoth (first first_after : Watched R) (second second_after : Watched S) (out out_after : Watched W)
+      (fault : CanonFault) : Type 0 where
     pub left : ReadsLightFile remaining_first limit first first_after
     pub right : ReadsLightFile remaining_second limit second second_after
     pub memory : fault ≡ Memory
     pub silent : out_after ≡ out
 
   -- neither was refused, and what is made of them is told
-  pub record TellsFiles (first first_after : Watched R) (second second_after : Watched S) (out out_after : Watched W) (answer : Result ℕ RunFault) : Type 0 where
+  pub record TellsFiles (first first_after : Watched R) (second second_after : Watched S) (out out_after : Watched W)
+      (answer : Result ℕ RunFault) : Type 0 where
     pub left : ReadsLightFile remaining_first limit first first_after
     pub right : ReadsLightFile remaining_second limit second second_after
     pub tells : TellsAs contents (outcome left.file right.file) out out_after answer
 
-  -- The contract of such a run, from its inputs and its output before to those after it. No fault is told of an only file.
-  abbrev pub RunsOnFiles : Watched R → Watched R → Watched S → Watched S → Watched W → Watched W → Result ℕ RunFault → Type 0
-  RunsOnFiles first first_after second second_after out out_after (Err (Refused First fault)) = RefusesFirst first first_after second second_after out out_after fault
-  RunsOnFiles first first_after second second_after out out_after (Err (Refused Second fault)) = RefusesSecond first first_after second second_after out out_after fault
-  RunsOnFiles first first_after second second_after out out_after (Err (Refused Both fault)) = RefusesBoth first first_after second second_after out out_after fault
+  -- The contract of such a run, from its inputs and its output before to those after it. No fault is told of an only
+  -- file.
+  abbrev pub RunsOnFiles : Watched R → Watched R → Watched S → Watched S → Watched W → Watched W → Result ℕ RunFault
+      → Type 0
+  RunsOnFiles first first_after second second_after out out_after (Err (Refused First fault)) =
+      RefusesFirst first first_after second second_after out out_after fault
+  RunsOnFiles first first_after second second_after out out_after (Err (Refused Second fault)) =
+      RefusesSecond first first_after second second_after out out_after fault
+  RunsOnFiles first first_after second second_after out out_after (Err (Refused Both fault)) =
+      RefusesBoth first first_after second second_after out out_after fault
   RunsOnFiles first first_after second second_after out out_after (Err (Refused Only fault)) = ⊥
   RunsOnFiles first first_after second second_after out out_after (Err (GoodRange good)) = ⊥
-  RunsOnFiles first first_after second second_after out out_after answer = TellsFiles first first_after second second_after out out_after answer
+  RunsOnFiles first first_after second second_after out out_after answer =
+      TellsFiles first first_after second second_after out out_after answer

@@ -22,10 +22,13 @@ bidder_text bidder = flat_map (λ a. 32 ∷ atom_text a) bidder
 
 -- where two auctions part, and what is told of each
 abbrev pub parted_text : List ℕ → List ℕ → List ℕ → List ℕ
-parted_text place left right = codes "different\n" ++ place ++ codes "\nleft " ++ left ++ codes "\nright " ++ right ++ codes "\n"
+parted_text place left right = codes "different\n" ++ place ++ codes "\nleft " ++ left ++ codes "\nright " ++ right
+    ++ codes "\n"
 
 abbrev pub difference_text : Difference → List ℕ
 difference_text NoDifference = codes "same\n"
 difference_text (InGoods left right) = parted_text (codes "goods") (decimal left) (decimal right)
-difference_text (InOr bundle left right) = parted_text (codes "or " ++ bundle_text bundle) (side_text left) (side_text right)
-difference_text (InXor bidder left right) = parted_text (codes "xor" ++ bidder_text bidder) (decimal left) (decimal right)
+difference_text (InOr bundle left right) = parted_text (codes "or " ++ bundle_text bundle) (side_text left)
+    (side_text right)
+difference_text (InXor bidder left right) = parted_text (codes "xor" ++ bidder_text bidder) (decimal left)
+    (decimal right)

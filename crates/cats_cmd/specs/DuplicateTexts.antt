@@ -1,4 +1,5 @@
--- What `cats duplicates` prints: of the files that were found to be auctions, those that are not the only one of theirs.
+-- What `cats duplicates` prints: of the files that were found to be auctions, those that are not the only one of
+-- theirs.
 use Rattle.std.specs.Prelude.{ℕ, ◌==◌, nat_lt, if◌then◌else◌, Bool, List, [], ◌∷◌, ◌++◌, length, map, filter, codes, Vec}
 use Rattle.std.specs.Borrow.{Bor}
 use Rattle.std.specs.Global.{Global}

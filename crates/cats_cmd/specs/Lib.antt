@@ -6,11 +6,10 @@ pub mod Statuses
 pub mod ValueTexts
 pub mod DifferenceTexts
 pub mod Outcomes
-pub mod Searches
 pub mod Examples
 pub mod Stops
 pub mod Runs
-pub mod Checks
 pub mod Comparisons
 pub mod DuplicateTexts
 pub mod Duplicates
+pub mod Internal

@@ -39,11 +39,13 @@ outcome_unless (Some good) outcome = LacksGood good
 -- the values of the bundle, unless it has more packings than the limit
 abbrev pub values_within : ℕ → List ℕ → PlainFile → Outcome
 values_within limit bundle file =
-    if nat_lt limit (count_packings (or_atoms_of file.bids) bundle) then ExceedsSteps bundle else Tells 0 (value_text file bundle)
+    if nat_lt limit (count_packings (or_atoms_of file.bids) bundle) then ExceedsSteps bundle
+    else Tells 0 (value_text file bundle)
 
 -- of `cats value` on these goods
 abbrev pub value_outcome : List ℕ → ℕ → PlainFile → Outcome
-value_outcome goods limit file = outcome_unless (missing_good file.goods goods) (values_within limit (bundle_from goods) file)
+value_outcome goods limit file =
+    outcome_unless (missing_good file.goods goods) (values_within limit (bundle_from goods) file)
 
 abbrev pub text_unless_heavy : PlainFile → Option (List ℕ) → Outcome
 text_unless_heavy file None = Tells 0 (canonical_text file)

@@ -13,7 +13,8 @@ bundle_text [] = []
 bundle_text (g ∷ goods) = decimal g ++ after_commas goods
 
 abbrev pub sizes_text : ℕ → ℕ → ℕ → List ℕ
-sizes_text goods bids dummy = codes "goods " ++ decimal goods ++ codes " bids " ++ decimal bids ++ codes " dummy " ++ decimal dummy ++ codes "\n"
+sizes_text goods bids dummy = codes "goods " ++ decimal goods ++ codes " bids " ++ decimal bids ++ codes " dummy "
+    ++ decimal dummy ++ codes "\n"
 
 -- what `cats check` prints of a file
 abbrev pub check_text : PlainFile → List ℕ

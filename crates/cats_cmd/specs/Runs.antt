@@ -21,7 +21,8 @@ use Rattle.cats_cmd.specs.Outcomes.{Outcome, Tells, LacksGood, ExceedsSteps}
 module _ {R : Type 0} (remaining : R → Option (List ℕ)) where
   -- Reading the bytes refused the file. Memory that a reader was refused is told as the run's own.
   abbrev pub IsRefusedByReading : List ℕ → Watched R → CanonFault → Type 0
-  IsRefusedByReading bytes input (Read fault) = (fault.kind ≢ NoMemory) × FaultsAt remaining bytes input fault.line fault.kind
+  IsRefusedByReading bytes input (Read fault) = (fault.kind ≢ NoMemory)
+      × FaultsAt remaining bytes input fault.line fault.kind
   IsRefusedByReading bytes input (StepLimit goods) = ⊥
   IsRefusedByReading bytes input Memory = FaultsAt remaining bytes input 0 NoMemory
 
@@ -57,11 +58,13 @@ module _ {R : Type 0} (remaining : R → Option (List ℕ)) (outcome : PlainFile
     pub reads : ReadsFile remaining bytes input file
     pub made : outcome file ≡ expected
 
-  -- Reading or making refused the file. Memory is refused where reading may tell it, or, with a file, in what is made of it.
+  -- Reading or making refused the file. Memory is refused where reading may tell it, or, with a file, in what is made
+  -- of it.
   abbrev pub IsRefusedFile : List ℕ → Watched R → CanonFault → Type 0
   IsRefusedFile bytes input (Read fault) = IsRefusedByReading remaining bytes input (Read fault)
   IsRefusedFile bytes input (StepLimit goods) = HasOutcome bytes input (ExceedsSteps goods.items)
-  IsRefusedFile bytes input Memory = IsRefusedByReading remaining bytes input Memory ⊎ ReadsSomeFile remaining bytes input
+  IsRefusedFile bytes input Memory = IsRefusedByReading remaining bytes input Memory
+      ⊎ ReadsSomeFile remaining bytes input
 
 -- ---- the output
 
@@ -86,7 +89,8 @@ module _ {W : Type 0} (contents : W → Option (List ℕ)) where
     pub is_made : made ≡ Tells status text
     pub sends : SendsPart contents old new text written
 
-  -- What a run that was not refused its files answers, where this is made of them. Nothing is written of a good that is missing.
+  -- What a run that was not refused its files answers, where this is made of them. Nothing is written of a good that is
+  -- missing.
   abbrev pub TellsAs : Outcome → Watched W → Watched W → Result ℕ RunFault → Type 0
   TellsAs made old new (Ok status) = TellsText made old new status
   TellsAs made old new (Err (Refused which fault)) = ⊥
@@ -97,16 +101,18 @@ module _ {W : Type 0} (contents : W → Option (List ℕ)) where
 
 module _ {R W : Type 0} (remaining : R → Option (List ℕ)) (contents : W → Option (List ℕ)) (outcome : PlainFile → Outcome) where
   -- the file was refused, and nothing was written
-  pub record RefusesFile (bytes : List ℕ) (input : Watched R) (old new : Watched W) (which : Which) (fault : CanonFault) : Type 0 where
+  pub record RefusesFile (bytes : List ℕ) (input : Watched R) (old new : Watched W) (which : Which)
+      (fault : CanonFault) : Type 0 where
     pub only : which ≡ Only
     pub refused : IsRefusedFile remaining outcome bytes input fault
     pub silent : new ≡ old
 
   -- the bytes spell a file, and what is made of it is told
-  pub record TellsFile (bytes : List ℕ) (input : Watched R) (old new : Watched W) (answer : Result ℕ RunFault) : Type 0 where
-    pub file : PlainFile
-    pub reads : ReadsFile remaining bytes input file
-    pub tells : TellsAs contents (outcome file) old new answer
+  pub record TellsFile (bytes : List ℕ) (input : Watched R) (old new : Watched W) (answer : Result ℕ RunFault) : Type 0
+    where
+      pub file : PlainFile
+      pub reads : ReadsFile remaining bytes input file
+      pub tells : TellsAs contents (outcome file) old new answer
 
   abbrev pub RunsAs : List ℕ → Watched R → Watched W → Watched W → Result ℕ RunFault → Type 0
   RunsAs bytes input old new (Err (Refused which fault)) = RefusesFile bytes input old new which fault

@@ -1,4 +1,5 @@
--- The exit statuses that tell the faults of a run and the answer of a comparison, as users know them: they are written out here, and the code's constants are proved to be these.
+-- The exit statuses that tell the faults of a run and the answer of a comparison, as users know them: they are written
+-- out here, and the code's constants are proved to be these.
 use Rattle.std.specs.Prelude.{ℕ}
 use Rattle.cats_text.specs.declared.fault.Kind.{Kind}
 use Rattle.cats_text.specs.declared.fault.Kind.TheVariants.{Device, Memory as NoMemory}

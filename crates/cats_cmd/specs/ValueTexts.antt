@@ -44,11 +44,14 @@ option_places (Some place) = place ∷ []
 
 -- the OR value, and the numbers of the bids of one best packing
 abbrev pub or_line : List (Atom (List ℕ)) → List ℕ → List ℕ → List ℕ
-or_line atoms numbers bundle = codes "or " ++ price_text (or_value atoms bundle) ++ numbers_text numbers (chosen_places atoms bundle) ++ codes "\n"
+or_line atoms numbers bundle = codes "or " ++ price_text (or_value atoms bundle) ++ numbers_text numbers
+    (chosen_places atoms bundle) ++ codes "\n"
 
 -- a dummy good, the value of its XOR bidder, and the number of the first bid that gives it
 abbrev pub xor_line : ℕ → List (Atom (List ℕ)) → List ℕ → List ℕ → List ℕ
-xor_line good atoms numbers bundle = codes "xor" ++ 32 ∷ decimal good ++ codes " " ++ price_text (xor_value atoms bundle) ++ numbers_text numbers (option_places (best_place atoms bundle)) ++ codes "\n"
+xor_line good atoms numbers bundle = codes "xor" ++ 32 ∷ decimal good ++ codes " "
+    ++ price_text (xor_value atoms bundle) ++ numbers_text numbers (option_places (best_place atoms bundle))
+    ++ codes "\n"
 
 -- the line of the dummy good d
 abbrev pub dummy_line : PlainFile → List ℕ → ℕ → List ℕ
@@ -56,4 +59,5 @@ dummy_line file bundle d = xor_line (file.goods + d) (xor_atoms_of file.bids d) 
 
 -- what `cats value` prints of a file and a bundle
 abbrev pub value_text : PlainFile → List ℕ → List ℕ
-value_text file bundle = or_line (or_atoms_of file.bids) (or_numbers file.bids) bundle ++ flat_map (dummy_line file bundle) (range_with_len 0 file.dummy)
+value_text file bundle = or_line (or_atoms_of file.bids) (or_numbers file.bids) bundle
+    ++ flat_map (dummy_line file bundle) (range_with_len 0 file.dummy)

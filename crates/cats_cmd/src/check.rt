@@ -2,7 +2,7 @@
 
 ghost use Rattle.std.specs.Prelude.{◌≡◌, IfOk, false, string_bytes};
 ghost use Rattle.cats_text.specs.Streams.{has_ended, has_failed};
-ghost use Rattle.cats_cmd.specs.Checks.{ChecksInput};
+ghost use Rattle.cats_cmd.specs.Internal.Checks.{ChecksInput};
 ghost use Rattle.cats_cmd.specs.Outcomes.{check_outcome};
 ghost use Rattle.cats_cmd.specs.Outputs.{sizes_text};
 ghost use Rattle.cats_cmd.specs.Runs.{RunsOnFile};

@@ -20,13 +20,13 @@ use std::io::{Read, Write};
 use std::mem;
 use text::verdict_text;
 
-/// Reads and normalises the first file, and then the second, and sends whether they are the same auction, or where they part first.
-/// `limit` bounds the steps of each search that decides on a bundle of an OR bidder.
+/// Reads and normalises the first file, and then the second, and sends whether they are the same auction, or where they
+/// part first. `limit` bounds the steps of each search that decides on a bundle of an OR bidder.
 ///
 /// The memory of the two auctions is left to the process's end.
 ///
-/// The status is 0 for the same auction, and 1 for a difference. A fault of a file tells which of the two it belongs to; want of
-/// memory that is met while the two are compared belongs to both.
+/// The status is 0 for the same auction, and 1 for a difference. A fault of a file tells which of the two it belongs
+/// to; want of memory that is met while the two are compared belongs to both.
 pub fn run_compare<R: Read, S: Read, W: Write>(
     alloc: Global,
     first: &mut Watched<R>,
@@ -39,7 +39,8 @@ pub fn run_compare<R: Read, S: Read, W: Write>(
     requires second_works { has_failed second.old ≡ false }
     requires second_fresh { has_ended second.old ≡ false }
     requires out_works { has_failed out.old ≡ false }
-    ensures { RunsOnFiles R.remaining S.remaining W.contents limit compare_outcome first.old first.new second.old second.new out.old out.new result }
+    ensures { RunsOnFiles R.remaining S.remaining W.contents limit compare_outcome first.old first.new second.old
+        second.new out.old out.new result }
 {
     let left = match read_canonical(alloc, first, limit) {
         Ok(file) => file,

@@ -27,11 +27,12 @@ struct Findings<'a> {
     greatest: u8,
 }
 
-/// Reads the files at these paths, one after the other, and sends the paths of those that are the same auction. `limit` bounds the
-/// steps of each search that decides on a bundle of an OR bidder.
+/// Reads the files at these paths, one after the other, and sends the paths of those that are the same auction. `limit`
+/// bounds the steps of each search that decides on a bundle of an OR bidder.
 ///
-/// A file that cannot be judged is told on `err` at once, and the others go on; with `progress`, each file is told there once it was
-/// read. The status is 0 where every file was judged, and else the greatest of the statuses of those that were not.
+/// A file that cannot be judged is told on `err` at once, and the others go on; with `progress`, each file is told
+/// there once it was read. The status is 0 where every file was judged, and else the greatest of the statuses of those
+/// that were not.
 pub fn run_duplicates<F: Files + AllocGlobal, W: Write, E: Write>(
     rt: &F,
     paths: &[&str],
@@ -56,7 +57,8 @@ fn find_places<'a, F: Files + AllocGlobal, E: Write>(
     progress: bool,
     err: &mut Watched<E>,
 ) -> Result<Findings<'a>, AllocError>
-    ensures { IfOk result (λ f. FindsSome limit (map (λ path. path.now) paths.now) (found_paths f.found.items) f.greatest) }
+    ensures { IfOk result (λ f. FindsSome limit (map (λ path. path.now) paths.now) (found_paths f.found.items)
+        f.greatest) }
 {
     let alloc = rt.alloc();
     let mut index = AuctionIndex::new(alloc);
@@ -126,7 +128,8 @@ fn progress_line(
     count: usize,
     path: &str,
 ) -> Result<Vec<u8>, AllocError>
-    ensures { IfOk result (λ line. line.items ≡ decimal number ++ codes " of " ++ decimal count ++ codes " " ++ path.now ++ codes "\n") }
+    ensures { IfOk result (λ line. line.items ≡ decimal number ++ codes " of " ++ decimal count ++ codes " " ++ path.now
+        ++ codes "\n") }
 {
     let line = format!(in alloc; "{number} of {count} {path}\n")?;
     Ok(line.into_bytes())

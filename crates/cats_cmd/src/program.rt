@@ -2,7 +2,16 @@
 
 ghost use Rattle.std.specs.Prelude.{◌≡◌, ◌≢◌, ◌≤◌, IfErr, IfOk, false};
 ghost use Rattle.cats_text.specs.Streams.{has_ended, has_failed};
-ghost use Rattle.cats_cmd.specs.Stops.{IsAnswer, IsAnswerToNoRequest, IsSilent, SendsBeginning, is_for_many_files, line_of_stop, names_duplicates, status_of_stop};
+ghost use Rattle.cats_cmd.specs.Stops.{
+  IsAnswer,
+  IsAnswerToNoRequest,
+  IsSilent,
+  SendsBeginning,
+  is_for_many_files,
+  line_of_stop,
+  names_duplicates,
+  status_of_stop,
+};
 
 use crate::check::run_check;
 use crate::compare::run_compare;
@@ -37,8 +46,8 @@ impl From<RunFault> for Stop {
     }
 }
 
-/// Does what a command line asks for and answers its exit status. The line's first word is the program's name; `out` and
-/// `err` stand for the standard streams.
+/// Does what a command line asks for and answers its exit status. The line's first word is the program's name; `out`
+/// and `err` stand for the standard streams.
 ///
 /// A fault's line goes to `err`. Where that line cannot be made or written, the status stays what it is.
 #[tactic(auto, using(crate::proofs::Stopping::few_files))]

@@ -10,7 +10,7 @@ ghost use Rattle.cats_text.specs.Views.{plain_file};
 ghost use Rattle.valuation.specs.Views.{plain_auction};
 ghost use Rattle.cats_cmd.specs.Outcomes.{missing_good, value_outcome, values_within};
 ghost use Rattle.cats_cmd.specs.Runs.{MakesAs, RunsOnFile};
-ghost use Rattle.cats_cmd.specs.Searches.{SearchesAs};
+ghost use Rattle.cats_cmd.specs.Internal.Searches.{SearchesAs};
 ghost use Rattle.cats_cmd.specs.ValueTexts.{bundle_from};
 
 use crate::report::{DONE, RunFault};
@@ -25,8 +25,9 @@ use std::alloc::Global;
 use std::io::{Read, Write};
 use valuation::{Auction, Packing, ValueFault, auction_of, or_value};
 
-/// Reads a bid file, and sends what its bidders offer for the bundle of these goods: the OR value with the bids of one best
-/// packing, and each XOR bidder's value with the bid that gives it. `limit` bounds the packings that the search may enter.
+/// Reads a bid file, and sends what its bidders offer for the bundle of these goods: the OR value with the bids of one
+/// best packing, and each XOR bidder's value with the bid that gives it. `limit` bounds the packings that the search
+/// may enter.
 ///
 /// The first of the goods that the file does not have is refused once the file was read.
 pub fn run_value<R: Read, W: Write>(
@@ -39,7 +40,8 @@ pub fn run_value<R: Read, W: Write>(
     requires input_works { has_failed input.old ≡ false }
     requires input_fresh { has_ended input.old ≡ false }
     requires out_works { has_failed out.old ≡ false }
-    ensures { RunsOnFile R.remaining W.contents (value_outcome goods.now limit) input.old input.new out.old out.new result }
+    ensures { RunsOnFile R.remaining W.contents (value_outcome goods.now limit) input.old input.new out.old out.new
+        result }
 {
     let file = read_file(alloc, input)?;
     if let Some(good) = first_missing(goods, file.goods()) {

@@ -2,7 +2,13 @@
 
 ghost use Rattle.std.specs.Prelude.{◌≡◌, ℕ, List, [], ◌∷◌, map, codes, Vec};
 ghost use Rattle.std.specs.Global.{Global};
-ghost use Rattle.cats_text.specs.declared.fault.Kind.TheVariants.{TwoDummies, NoEnd, TooLong, Device, Memory as NoMemory};
+ghost use Rattle.cats_text.specs.declared.fault.Kind.TheVariants.{
+  TwoDummies,
+  NoEnd,
+  TooLong,
+  Device,
+  Memory as NoMemory,
+};
 ghost use Rattle.canon.specs.Difference.{NoDifference, InGoods, InOr, InXor};
 ghost use Rattle.canon.specs.declared.verdict.Side.TheVariants.{Exactly, Below};
 ghost use Rattle.valuation.specs.Examples.{atom};
@@ -20,30 +26,39 @@ ghost use Rattle.cats_cmd.specs.declared.report.RunFault.TheVariants.{Refused, G
 /// How faults are told.
 pub fn fault_lines()
     ensures { map line_of_fault
-        (Refused Only (Read (record { line = 5; kind = TwoDummies })) ∷ Refused First (Read (record { line = 5; kind = TwoDummies }))
-        ∷ Refused Second (Read (record { line = 12; kind = NoEnd })) ∷ Refused Only (Read (record { line = 0; kind = TooLong }))
-        ∷ Refused Second (Read (record { line = 0; kind = Device })) ∷ Refused First (Read (record { line = 0; kind = NoMemory }))
+        (Refused Only (Read (record { line = 5; kind = TwoDummies }))
+        ∷ Refused First (Read (record { line = 5; kind = TwoDummies }))
+        ∷ Refused Second (Read (record { line = 12; kind = NoEnd }))
+        ∷ Refused Only (Read (record { line = 0; kind = TooLong }))
+        ∷ Refused Second (Read (record { line = 0; kind = Device }))
+        ∷ Refused First (Read (record { line = 0; kind = NoMemory }))
         ∷ Refused Both Memory ∷ Refused Only Memory ∷ GoodRange 2 ∷ Sent (record { written = 5 }) ∷ []) ≡
         codes "line 5: TwoDummies\n" ∷ codes "first: line 5: TwoDummies\n"
         ∷ codes "second: line 12: NoEnd\n" ∷ codes "TooLong\n"
         ∷ codes "second: Device\n" ∷ codes "first: want of memory\n"
-        ∷ codes "want of memory\n" ∷ codes "want of memory\n" ∷ codes "good 2 out of range\n" ∷ codes "output failed after 5 bytes\n" ∷ [] }
+        ∷ codes "want of memory\n" ∷ codes "want of memory\n" ∷ codes "good 2 out of range\n"
+        ∷ codes "output failed after 5 bytes\n" ∷ [] }
 {}
 
 /// The statuses of these faults.
 pub fn fault_statuses()
     ensures { map status_of_fault
-        (Refused Only (Read (record { line = 5; kind = TwoDummies })) ∷ Refused Only (Read (record { line = 0; kind = TooLong }))
-        ∷ Refused Second (Read (record { line = 0; kind = Device })) ∷ Refused First (Read (record { line = 0; kind = NoMemory }))
+        (Refused Only (Read (record { line = 5; kind = TwoDummies }))
+        ∷ Refused Only (Read (record { line = 0; kind = TooLong }))
+        ∷ Refused Second (Read (record { line = 0; kind = Device }))
+        ∷ Refused First (Read (record { line = 0; kind = NoMemory }))
         ∷ Refused Both Memory ∷ Refused Only Memory ∷ GoodRange 2 ∷ Sent (record { written = 5 }) ∷ []) ≡
         2 ∷ 2 ∷ 5 ∷ 4 ∷ 4 ∷ 4 ∷ 64 ∷ 5 ∷ [] }
 {}
 
 /// How a step limit is told, whatever vector holds the goods, and its status.
 pub fn step_limits()
-    ensures bundle { (goods : Vec ℕ Global) → goods.items ≡ 0 ∷ 1 ∷ 2 ∷ [] → line_of_fault (Refused Only (StepLimit goods)) ≡ codes "step limit at 0,1,2\n" }
-    ensures no_goods { (goods : Vec ℕ Global) → goods.items ≡ [] → line_of_fault (Refused Only (StepLimit goods)) ≡ codes "step limit at \n" }
-    ensures first_file { (goods : Vec ℕ Global) → goods.items ≡ 4095 ∷ [] → line_of_fault (Refused First (StepLimit goods)) ≡ codes "first: step limit at 4095\n" }
+    ensures bundle { (goods : Vec ℕ Global) → goods.items ≡ 0 ∷ 1 ∷ 2 ∷ []
+        → line_of_fault (Refused Only (StepLimit goods)) ≡ codes "step limit at 0,1,2\n" }
+    ensures no_goods { (goods : Vec ℕ Global) → goods.items ≡ [] → line_of_fault (Refused Only (StepLimit goods))
+        ≡ codes "step limit at \n" }
+    ensures first_file { (goods : Vec ℕ Global) → goods.items ≡ 4095 ∷ []
+        → line_of_fault (Refused First (StepLimit goods)) ≡ codes "first: step limit at 4095\n" }
     ensures status { (goods : Vec ℕ Global) → status_of_fault (Refused Only (StepLimit goods)) ≡ 3 }
 {}
 
@@ -56,7 +71,8 @@ pub fn bundles()
 pub fn sizes_and_layouts()
     ensures sizes { sizes_text 3 2 1 ≡ codes "goods 3 bids 2 dummy 1\n" }
     ensures check { check_outcome xor_ladder ≡ Tells 0 (codes "goods 2 bids 3 dummy 1\n") }
-    ensures show { show_outcome xor_ladder ≡ Tells 0 (codes "goods 2\nbids 3\ndummy 1\n0\t5\t0\t2\t#\n1\t1.5\t1\t#\n2\t6\t0\t1\t2\t#\n") }
+    ensures show { show_outcome xor_ladder
+        ≡ Tells 0 (codes "goods 2\nbids 3\ndummy 1\n0\t5\t0\t2\t#\n1\t1.5\t1\t#\n2\t6\t0\t1\t2\t#\n") }
 {}
 
 /// What `cats value` makes of two files.
@@ -75,8 +91,12 @@ pub fn values()
 pub fn differences()
     ensures same { difference_text NoDifference ≡ codes "same\n" }
     ensures goods { difference_text (InGoods 1 2) ≡ codes "different\ngoods\nleft 1\nright 2\n" }
-    ensures below { difference_text (InOr (0 ∷ []) (Exactly 4000000) (Below 4500000)) ≡ codes "different\nor 0\nleft 4\nright below 4.5\n" }
-    ensures pair { difference_text (InOr (0 ∷ 12 ∷ []) (Below 8000000) (Exactly 8000000)) ≡ codes "different\nor 0,12\nleft below 8\nright 8\n" }
-    ensures bidder { difference_text (InXor (atom (0 ∷ []) 1000000 ∷ atom (0 ∷ 1 ∷ []) 2000000 ∷ []) 2 1) ≡ codes "different\nxor 0:1 0,1:2\nleft 2\nright 1\n" }
-    ensures statuses { map status_of_difference (NoDifference ∷ InGoods 1 2 ∷ InOr [] (Exactly 1) (Exactly 2) ∷ InXor [] 0 1 ∷ []) ≡ 0 ∷ 1 ∷ 1 ∷ 1 ∷ [] }
+    ensures below { difference_text (InOr (0 ∷ []) (Exactly 4000000) (Below 4500000))
+        ≡ codes "different\nor 0\nleft 4\nright below 4.5\n" }
+    ensures pair { difference_text (InOr (0 ∷ 12 ∷ []) (Below 8000000) (Exactly 8000000))
+        ≡ codes "different\nor 0,12\nleft below 8\nright 8\n" }
+    ensures bidder { difference_text (InXor (atom (0 ∷ []) 1000000 ∷ atom (0 ∷ 1 ∷ []) 2000000 ∷ []) 2 1)
+        ≡ codes "different\nxor 0:1 0,1:2\nleft 2\nright 1\n" }
+    ensures statuses { map status_of_difference (NoDifference ∷ InGoods 1 2 ∷ InOr [] (Exactly 1) (Exactly 2)
+        ∷ InXor [] 0 1 ∷ []) ≡ 0 ∷ 1 ∷ 1 ∷ 1 ∷ [] }
 {}

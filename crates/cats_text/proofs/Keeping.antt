@@ -2,9 +2,9 @@
 use Rattle.std.proofs.Common.{◌≡◌, ℕ, ◌==◌, Bool, true, false, List, [], ◌∷◌, refl, subst, Ok, Err, if◌then◌else◌}
 use Rattle.cats_text.specs.Lines.{is_blank}
 use Rattle.cats_text.specs.Faults.{fault_at}
-use Rattle.cats_text.specs.Progress.{Progress}
-use Rattle.cats_text.specs.Parsing.{Reading, word_read, line_read, is_due}
-use Rattle.cats_text.specs.Scanning.{State, Scan, and_then, with_reading, blank_step_at, blank_step, words_step_at, words_step, missing_step, line_behind, line_step, byte_step, run, end_step, end_of}
+use Rattle.cats_text.specs.Internal.Progress.{Progress}
+use Rattle.cats_text.specs.Internal.Parsing.{Reading, word_read, line_read, is_due}
+use Rattle.cats_text.specs.Internal.Scanning.{State, Scan, and_then, with_reading, blank_step_at, blank_step, words_step_at, words_step, missing_step, line_behind, line_step, byte_step, run, end_step, end_of}
 use Rattle.cats_text.specs.declared.fault.Kind.TheVariants.{Missing}
 use Rattle.cats_text.specs.declared.parser.Keeping.{Keeping}
 use Rattle.cats_text.specs.declared.parser.Place.{Place}
@@ -13,8 +13,8 @@ use Rattle.cats_text.specs.declared.parser.Stage.{Stage}
 use Rattle.cats_text.specs.declared.parser.Stage.TheVariants.{Goods, Bids, Dummy, Bid}
 use Rattle.cats_text.specs.declared.scanner.Mode.{Mode}
 use Rattle.cats_text.specs.declared.scanner.Mode.TheVariants.{Start, Blank, Comment, Between, Inside}
-use Rattle.cats_text.proofs.LineSteps.{line_at}
-use Rattle.cats_text.proofs.BidLines.{Keeps, keeps_word}
+use Rattle.cats_text.proofs.Parsing.Lines.{line_at}
+use Rattle.cats_text.proofs.Scanning.BidLines.{Keeps, keeps_word}
 
 abbrev ReadKeeps : Keeping → Reading → Type 0
 ReadKeeps k (Ok p) = p.keeping ≡ k
@@ -81,7 +81,8 @@ line_step_keeps s =
     (then_keeps s.progress.keeping (blank_step s) words_step (blank_keeps s.mode s) (λ t. words_keep t.mode t)) (λ t. refl)
 
 byte_keeps : (s : State) (b : ℕ) → ScanKeeps s.progress.keeping (byte_step s b)
-byte_keeps s b = either_keeps s.progress.keeping (b == 10) (line_step s) _ (line_step_keeps s) (either_keeps s.progress.keeping (is_blank b) (blank_step s) _ (blank_keeps s.mode s) refl)
+byte_keeps s b = either_keeps s.progress.keeping (b == 10) (line_step s) _ (line_step_keeps s)
+    (either_keeps s.progress.keeping (is_blank b) (blank_step s) _ (blank_keeps s.mode s) refl)
 
 run_keeps : (s : State) (bytes : List ℕ) → ScanKeeps s.progress.keeping (run s bytes)
 run_keeps s [] = refl

@@ -1,5 +1,5 @@
--- The first fault of a text. Its places are, line by line, the words of its significant lines from the left and after them
--- the line's end; last comes the end of the input. At each place the first test that holds is the fault there.
+-- The first fault of a text. Its places are, line by line, the words of its significant lines from the left and after
+-- them the line's end; last comes the end of the input. At each place the first test that holds is the fault there.
 use Rattle.std.specs.Prelude.{◌≡◌, ℕ, suc, ◌+◌, ◌<◌, ◌==◌, nat_lt, nat_le, Bool, true, false, not, ◌&&◌, ◌||◌, if◌then◌else◌, List, [], ◌∷◌, ◌++◌, length, drop, Option, Some, None, option_map, codes}
 use Rattle.std.specs.Option.{option_or}
 use Rattle.std.specs.List.{list_any}
@@ -22,7 +22,8 @@ when false kind later = later
 -- the words before it in its line, and the word
 abbrev pub header_word : Word → ℕ → List Word → Word → Option Kind
 header_word keyword limit [] w = when (not (bytes_eq w keyword)) Header None
-header_word keyword limit (_ ∷ []) w = when (not (is_number w)) NotANumber (when (nat_lt limit (number_of w)) TooLarge None)
+header_word keyword limit (_ ∷ []) w =
+    when (not (is_number w)) NotANumber (when (nat_lt limit (number_of w)) TooLarge None)
 header_word keyword limit (_ ∷ _ ∷ _) w = Some Header
 
 abbrev pub header_end : List Word → Option Kind
@@ -130,10 +131,12 @@ line_fault whole lines l =
     option_map (fault_at l.number)
     (option_or (words_fault lines [] l.words) (if l.ended || whole then end_fault lines l.words else None))
 
--- The places from a line on, the last line's number being known; the end of the input is judged where the input is whole.
+-- The places from a line on, the last line's number being known; the end of the input is judged where the input is
+-- whole.
 abbrev pub lines_fault : Bool → ℕ → List (List Word) → List Line → Option ReadFault
 lines_fault whole count lines [] = if whole && is_line_due lines then Some (fault_at (suc count) Missing) else None
-lines_fault whole count lines (l ∷ ls) = option_or (line_fault whole lines l) (lines_fault whole count (lines ++ l.words ∷ []) ls)
+lines_fault whole count lines (l ∷ ls) =
+    option_or (line_fault whole lines l) (lines_fault whole count (lines ++ l.words ∷ []) ls)
 
 -- the first fault of a text
 abbrev pub first_fault : List ℕ → Option ReadFault
@@ -154,8 +157,8 @@ abbrev pub up_to_final : List ℕ → List ℕ
 up_to_final [] = []
 up_to_final (b ∷ bs) = keep_final b (up_to_final bs)
 
--- The fault that is complete in the bytes so far, whatever follows them: the first one up to their last space, tab or LF, but
--- not at the end of a line without LF, nor at the end of the input.
+-- The fault that is complete in the bytes so far, whatever follows them: the first one up to their last space, tab or
+-- LF, but not at the end of a line without LF, nor at the end of the input.
 abbrev pub complete_fault : List ℕ → Option ReadFault
 complete_fault bytes = lines_fault false 0 [] (significant_lines (up_to_final bytes))
 

@@ -33,7 +33,11 @@ dummy_in G ws = option_map (λ v. v - G) (find (λ v. nat_le G v) (map number_of
 abbrev pub bid_of : ℕ → List Word → PlainBid
 bid_of G [] = record { price = 0; goods = []; dummy = None }
 bid_of G (_ ∷ []) = record { price = 0; goods = []; dummy = None }
-bid_of G (_ ∷ p ∷ gs) = record { price = price_of p; goods = rising_of (real_goods G (before_end gs)); dummy = dummy_in G (before_end gs) }
+bid_of G (_ ∷ p ∷ gs) = record {
+  price = price_of p;
+  goods = rising_of (real_goods G (before_end gs));
+  dummy = dummy_in G (before_end gs);
+}
 
 -- ---- bids by number
 
@@ -50,7 +54,11 @@ abbrev pub slots_of : ℕ → List (List Word) → List (Option PlainBid)
 slots_of G lines = fold (λ slots l. put_slot slots (line_number l) (bid_of G l)) [] lines
 
 abbrev pub file_of_lines : List (List Word) → PlainFile
-file_of_lines (g ∷ b ∷ d ∷ lines) = record { goods = header_value g; dummy = header_value d; bids = filled (slots_of (header_value g) lines) }
+file_of_lines (g ∷ b ∷ d ∷ lines) = record {
+  goods = header_value g;
+  dummy = header_value d;
+  bids = filled (slots_of (header_value g) lines);
+}
 file_of_lines _ = record { goods = 0; dummy = 0; bids = [] }
 
 -- the file that a text without a fault says

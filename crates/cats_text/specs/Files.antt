@@ -1,8 +1,7 @@
--- A bid file without where it lies in memory, and what holds of each. By the README of CATS 2.0: bids are numbered from 0,
--- and with G goods and D dummies the real goods are 0 to G - 1 and the dummy goods G to G + D - 1.
+-- A bid file without where it lies in memory, and what holds of each. By the README of CATS 2.0: bids are numbered from
+-- 0, and with G goods and D dummies the real goods are 0 to G - 1 and the dummy goods G to G + D - 1.
 use Rattle.std.specs.Prelude.{ℕ, ◌+◌, ◌<◌, ◌≤◌, List, [], ◌∷◌, ◌++◌, map, length, Option, Some, None}
-use Rattle.std.specs.List.{AllByRecursion, AllByRecursion-prop}
-use Rattle.std.specs.Coded.{×_prop, Unit-prop, le_prop}
+use Rattle.std.specs.List.{AllByRecursion}
 use Rattle.cats_text.specs.declared.bid.Bid.{Bid}
 use Rattle.cats_text.specs.declared.limits.TheConstants.{MAX_GOODS, MAX_BIDS, MAX_DUMMY, MAX_PRICE}
 
@@ -52,24 +51,6 @@ pub record IsBidFile (G D : ℕ) (bids : List PlainBid) : Type 0 where
   pub dummy : D ≤ MAX_DUMMY
   pub count : length bids ≤ MAX_BIDS
   pub each : AllByRecursion (IsBid G D) bids
-
--- these facts have one proof at most, as a fact that a struct keeps has to
-pub IsRising-prop : (xs : List ℕ) → IsProp (IsRising xs)
-IsRising-prop [] = Unit-prop
-IsRising-prop (x ∷ xs) = ×_prop (AllByRecursion-prop (λ y. x < y) (λ y. le_prop) xs) (IsRising-prop xs)
-
-pub IsDummyBelow-prop : (D : ℕ) (d : Option ℕ) → IsProp (IsDummyBelow D d)
-IsDummyBelow-prop D None = Unit-prop
-IsDummyBelow-prop D (Some d) = le_prop
-
-pub AreBelow-prop : (G : ℕ) (xs : List ℕ) → IsProp (AllByRecursion (λ g. g < G) xs)
-AreBelow-prop G xs = AllByRecursion-prop (λ g. g < G) (λ g. le_prop) xs
-
-pub IsBid-prop : (G D : ℕ) (b : PlainBid) → IsProp (IsBid G D b)
-IsBid-prop G D b = hlevel (le_prop, IsRising-prop b.goods, AreBelow-prop G b.goods, IsDummyBelow-prop D b.dummy)
-
-pub IsBidFile-prop : (G D : ℕ) (bids : List PlainBid) → IsProp (IsBidFile G D bids)
-IsBidFile-prop G D bids = hlevel (le_prop, AllByRecursion-prop (IsBid G D) (IsBid-prop G D) bids)
 
 abbrev pub IsPlainFile : PlainFile → Type 0
 IsPlainFile f = IsBidFile f.goods f.dummy f.bids

@@ -1,5 +1,5 @@
--- When a text spells a bid file (README of CATS 2.0: three header lines, then one line for each bid, "its number, its price,
--- the numbers of its goods, then `#`"; this project's profile says which spellings of them are taken).
+-- When a text spells a bid file (README of CATS 2.0: three header lines, then one line for each bid, "its number, its
+-- price, the numbers of its goods, then `#`"; this project's profile says which spellings of them are taken).
 use Rattle.std.specs.Prelude.{◌≡◌, ◌≢◌, ℕ, ◌==◌, Bool, true, false, List, [], ◌∷◌, ◌++◌, map, length, slice_get, Some, codes}
 use Rattle.std.specs.List.{AllByRecursion, list_any}
 use Rattle.cats_text.specs.Lines.{Word, significant_lines}
@@ -54,7 +54,8 @@ pub record Spells (text : List ℕ) (f : PlainFile) : Type 0 where
   pub bids : Word
   pub dummy : Word
   pub bid_lines : List (List Word)
-  pub lines_are : significant_words text ≡ (codes "goods" ∷ goods ∷ []) ∷ (codes "bids" ∷ bids ∷ []) ∷ (codes "dummy" ∷ dummy ∷ []) ∷ bid_lines
+  pub lines_are : significant_words text ≡ (codes "goods" ∷ goods ∷ []) ∷ (codes "bids" ∷ bids ∷ [])
+      ∷ (codes "dummy" ∷ dummy ∷ []) ∷ bid_lines
   pub goods_spelled : SpellsNumber goods f.goods
   pub bids_spelled : SpellsNumber bids (length f.bids)
   pub dummy_spelled : SpellsNumber dummy f.dummy

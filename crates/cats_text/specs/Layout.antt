@@ -25,7 +25,8 @@ behind_point (b ∷ bs) = 46 ∷ b ∷ bs
 abbrev pub places_text : ℕ → Word
 places_text n = behind_point (without_zeros (six_digits n))
 
--- a number of millionths: the whole part, then, where millionths are left, a point and their digits without zeros at the end
+-- a number of millionths: the whole part, then, where millionths are left, a point and their digits without zeros at
+-- the end
 abbrev pub price_text : ℕ → Word
 price_text millionths = decimal (millionths / 1000000) ++ places_text (millionths % 1000000)
 
@@ -33,7 +34,8 @@ abbrev pub header_text : List ℕ → ℕ → List ℕ
 header_text keyword n = keyword ++ 32 ∷ decimal n ++ 10 ∷ []
 
 abbrev pub headers_text : ℕ → ℕ → ℕ → List ℕ
-headers_text goods bids dummy = header_text (codes "goods") goods ++ header_text (codes "bids") bids ++ header_text (codes "dummy") dummy
+headers_text goods bids dummy = header_text (codes "goods") goods ++ header_text (codes "bids") bids
+    ++ header_text (codes "dummy") dummy
 
 -- each number after a tab
 abbrev pub tabbed : List ℕ → List ℕ

@@ -7,14 +7,8 @@ pub mod Grammar
 pub mod Faults
 pub mod Layout
 pub mod Streams
-pub mod Keywords
-pub mod Marks
-pub mod Machine
-pub mod Front
-pub mod Progress
-pub mod Parsing
-pub mod Returns
-pub mod Scanning
 pub mod FileLines
 pub mod Fed
 pub mod Reading
+pub mod Lemmas
+pub mod Internal

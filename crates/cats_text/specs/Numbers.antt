@@ -44,7 +44,8 @@ GREATEST_PRICE = 1000000000000
 
 -- the exact value is above the greatest price
 abbrev pub is_too_large : Word → Bool
-is_too_large w = nat_lt GREATEST_PRICE (number_of (whole_part w)) || ((number_of (whole_part w) == GREATEST_PRICE) && has_place_from 0 (places w))
+is_too_large w = nat_lt GREATEST_PRICE (number_of (whole_part w))
+    || ((number_of (whole_part w) == GREATEST_PRICE) && has_place_from 0 (places w))
 
 -- there are more than six places, not counting zeros at the end
 abbrev pub is_too_fine : Word → Bool

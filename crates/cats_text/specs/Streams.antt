@@ -1,5 +1,5 @@
--- What a contract sees of a `Watched` reader or writer, which answers of a call make it failed or ended, and what reading a
--- stream answers.
+-- What a contract sees of a `Watched` reader or writer, which answers of a call make it failed or ended, and what
+-- reading a stream answers.
 use Rattle.std.specs.Prelude.{◌≡◌, ◌⊎◌, ◌≤◌, ℕ, Bool, true, false, ◌==◌, ◌||◌, List, [], ◌∷◌, length, take, Option, Some, None, Result, Ok, Err, is_err}
 use Rattle.std.specs.Io.KnownBytes.{Appends, IsAtEnd}
 use Rattle.std.specs.declared.io.Error.{Error}
@@ -68,11 +68,13 @@ module _ {R : Type 0} (remaining : R → Option (List ℕ)) where
 
   -- a fault of the bytes themselves, found while they came or at their end
   abbrev pub IsTextFault : List ℕ → Watched R → ReadFault → Type 0
-  IsTextFault bytes input fault = (fed_fault MAX_STREAM bytes ≡ Some fault) ⊎ (IsWhole bytes input × (first_fault bytes ≡ Some fault))
+  IsTextFault bytes input fault = (fed_fault MAX_STREAM bytes ≡ Some fault)
+      ⊎ (IsWhole bytes input × (first_fault bytes ≡ Some fault))
 
   abbrev pub FaultsAt : List ℕ → Watched R → ℕ → Kind → Type 0
   FaultsAt bytes input line Device = (line ≡ 0) × (has_failed input ≡ true) × (fed_fault MAX_STREAM bytes ≡ None)
-  FaultsAt bytes input line Memory = (line ≡ 0) × (has_failed input ≡ false) × (has_bid_line (take MAX_STREAM bytes) ≡ true)
+  FaultsAt bytes input line Memory = (line ≡ 0) × (has_failed input ≡ false)
+      × (has_bid_line (take MAX_STREAM bytes) ≡ true)
   FaultsAt bytes input line kind = (has_failed input ≡ false) × IsTextFault bytes input (fault_at line kind)
 
   -- the bytes spell a file whose header lines say this

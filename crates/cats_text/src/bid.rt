@@ -1,7 +1,8 @@
 //! A bid file as a value.
 
 ghost use Rattle.std.specs.Prelude.{◌≡◌};
-ghost use Rattle.cats_text.specs.Files.{IsBidFile, IsBidFile-prop, plain_bids};
+ghost use Rattle.cats_text.specs.Files.{IsBidFile, plain_bids};
+ghost use Rattle.cats_text.specs.Lemmas.FileFacts.{IsBidFile-prop};
 
 /// One bid: a price for a bundle of goods.
 #[derive(Debug, Drop)]

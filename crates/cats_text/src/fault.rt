@@ -2,8 +2,8 @@
 
 use thiserror::Error;
 
-/// What is wrong. The first fourteen kinds are faults of the text itself; a text's fault is the first of its places that
-/// has one, and there the first test that holds. The last three come from outside the text.
+/// What is wrong. The first fourteen kinds are faults of the text itself; a text's fault is the first of its places
+/// that has one, and there the first test that holds. The last three come from outside the text.
 #[derive(Clone, Copy, PartialEq, Eq, Debug, Drop)]
 pub enum Kind {
     /// A header line is not its keyword and one number.

@@ -2,7 +2,7 @@
 
 ghost use Rattle.std.specs.Prelude.{◌≡◌, ◌^◌, ◌<◌, [], None};
 ghost use Rattle.cats_text.specs.Faults.{fault_at};
-ghost use Rattle.cats_text.specs.Reading.{fault_told};
+ghost use Rattle.cats_text.specs.Internal.Reading.{fault_told};
 
 use crate::bid::BidFile;
 use crate::fault::{Kind, ReadFault};
@@ -25,17 +25,21 @@ pub struct Feeder {
 }
 
 impl Model for Feeder {
-    ghost use Rattle.cats_text.specs.Reading.{Feeding, IsReading};
+    ghost use Rattle.cats_text.specs.Internal.Reading.{Feeding, IsReading};
 
     ghost Value = { Feeding };
 
-    ghost view = { λ r. record { fed = record { limit = r.limit; bytes = r.history.bytes; failed = r.failed }; keeping = r.keeping } };
+    ghost view = { λ r. record {
+      fed = record { limit = r.limit; bytes = r.history.bytes; failed = r.failed };
+      keeping = r.keeping;
+    } };
 
     ghost invariant = { λ r. IsReading r.keeping r.limit r.count r.scanner r.failed r.history.bytes };
 }
 
 impl Feeder {
-    ghost use Rattle.cats_text.specs.Reading.{FeedsAs, FinishesAs, SizesAs};
+    ghost use Rattle.cats_text.specs.Reading.{FeedsAs, FinishesAs};
+    ghost use Rattle.cats_text.specs.Internal.Reading.{SizesAs};
     ghost use Rattle.cats_text.specs.declared.parser.Keeping.TheVariants.{Bids};
 
     /// Takes at most `limit` bytes.

@@ -1,8 +1,8 @@
 //! The word at the front of bytes, where it stands there whole.
 
 ghost use Rattle.std.specs.Prelude.{◌≡◌, ◌≤◌, true, fold, length, take, IfSome};
-ghost use Rattle.cats_text.specs.Front.{IsFront, IsKept};
-ghost use Rattle.cats_text.specs.Machine.{word_with};
+ghost use Rattle.cats_text.specs.Internal.Front.{IsFront, IsKept};
+ghost use Rattle.cats_text.specs.Internal.Machine.{word_with};
 ghost use Rattle.cats_text.specs.Numbers.{digits_alone};
 
 use crate::word::{Decimal, HELD, Word};
@@ -79,7 +79,8 @@ pub fn number(bytes: &[u8]) -> Option<(u64, usize)>
     }
 }
 
-/// The number, price or `#` in front, where a blank or a line's end stands behind it, and how many bytes it and the blank have.
+/// The number, price or `#` in front, where a blank or a line's end stands behind it, and how many bytes it and the
+/// blank have.
 pub fn front(bytes: &[u8]) -> Option<(Word, usize)>
     ensures { IfSome result (λ r. IsFront bytes.now r.0 r.1) }
 {

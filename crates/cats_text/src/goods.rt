@@ -1,14 +1,29 @@
 //! The goods of the bid that is being read.
 
-ghost use Rattle.std.specs.Prelude.{◌≡◌, ◌<◌, ◌==◌, length, ℕ, [], ◌∷◌, ◌++◌, not, if◌then◌else◌, OnOk, IfOk, slice_index, vec_len};
+ghost use Rattle.std.specs.Prelude.{
+  ◌≡◌,
+  ◌<◌,
+  ◌==◌,
+  length,
+  ℕ,
+  [],
+  ◌∷◌,
+  ◌++◌,
+  not,
+  if◌then◌else◌,
+  OnOk,
+  IfOk,
+  slice_index,
+  vec_len,
+};
 ghost use Rattle.cats_text.specs.Files.{IsRising};
 ghost use Rattle.cats_text.specs.Grammar.{has_number};
 
 use std::alloc::{AllocError, Global};
 use std::marker::Model;
 
-/// Goods in the order in which they came, none twice. A good that came is found at once, whatever their number: its mark is
-/// that of the bid, and so the marks of an earlier bid need not be taken away.
+/// Goods in the order in which they came, none twice. A good that came is found at once, whatever their number: its
+/// mark is that of the bid, and so the marks of an earlier bid need not be taken away.
 #[derive(Drop)]
 pub struct GoodList {
     goods: Vec<u16>,
@@ -18,7 +33,7 @@ pub struct GoodList {
 
 impl Model for GoodList {
     ghost use Rattle.std.specs.Prelude.{ℕ, List};
-    ghost use Rattle.cats_text.specs.Marks.{IsMarked};
+    ghost use Rattle.cats_text.specs.Internal.Marks.{IsMarked};
 
     ghost Value = { List ℕ };
 

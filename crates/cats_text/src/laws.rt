@@ -1,5 +1,5 @@
-//! Laws of the definitions: the grammar of texts and their faults leave nothing open, and what is written spells what it
-//! was written from.
+//! Laws of the definitions: the grammar of texts and their faults leave nothing open, and what is written spells what
+//! it was written from.
 
 ghost use Rattle.std.specs.Prelude.{◌≡◌, ◌≢◌, ◌⊎◌, ◌++◌, ℕ, List, Some, None};
 ghost use Rattle.cats_text.specs.Files.{PlainFile, IsPlainFile};
@@ -18,8 +18,10 @@ pub fn layout_spells()
 
 /// Each text either spells exactly one bid file or has a first fault, never both.
 pub fn spells_one_or_faults()
-    ensures one_or_fault { (text : List ℕ) → ((f : PlainFile) × Spells text f) ⊎ ((e : ReadFault) × (first_fault text ≡ Some e)) }
-    ensures never_both { (text : List ℕ) (f : PlainFile) (e : ReadFault) → Spells text f → first_fault text ≡ Some e → ⊥ }
+    ensures one_or_fault { (text : List ℕ) → ((f : PlainFile) × Spells text f)
+        ⊎ ((e : ReadFault) × (first_fault text ≡ Some e)) }
+    ensures never_both { (text : List ℕ) (f : PlainFile) (e : ReadFault) → Spells text f → first_fault text ≡ Some e
+        → ⊥ }
     ensures only_one { (text : List ℕ) (f g : PlainFile) → Spells text f → Spells text g → f ≡ g }
 {}
 
@@ -29,8 +31,8 @@ pub fn faultless_text_spells()
     ensures same { (text : List ℕ) (f : PlainFile) → Spells text f → spelled_file text ≡ f }
 {}
 
-/// A fault of a text has one of the kinds that belong to a text, at one of its lines or behind the last. A fault that is
-/// complete is never that the input ends too early.
+/// A fault of a text has one of the kinds that belong to a text, at one of its lines or behind the last. A fault that
+/// is complete is never that the input ends too early.
 pub fn faults_of_texts()
     ensures first { (text : List ℕ) (e : ReadFault) → first_fault text ≡ Some e → IsOfText e }
     ensures complete { (bytes : List ℕ) (e : ReadFault) → complete_fault bytes ≡ Some e → IsOfText e }
@@ -39,5 +41,6 @@ pub fn faults_of_texts()
 
 /// A fault that is complete in the bytes so far is the first fault of every text that begins with them.
 pub fn complete_fault_stays()
-    ensures { (bytes rest : List ℕ) (e : ReadFault) → complete_fault bytes ≡ Some e → first_fault (bytes ++ rest) ≡ Some e }
+    ensures { (bytes rest : List ℕ) (e : ReadFault) → complete_fault bytes ≡ Some e
+        → first_fault (bytes ++ rest) ≡ Some e }
 {}

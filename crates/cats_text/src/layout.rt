@@ -4,7 +4,16 @@ ghost use Rattle.std.specs.Prelude.{◌≡◌, ◌+◌, ◌%◌, ◌++◌, [], �
 ghost use Rattle.cats_text.specs.Files.{PlainBid, plain_bids};
 ghost use Rattle.cats_text.specs.Views.{plain_file};
 ghost use Rattle.cats_text.specs.Grammar.{Spells};
-ghost use Rattle.cats_text.specs.Layout.{layout, header_text, headers_text, bid_text, bids_text, price_text, places_text, without_zeros};
+ghost use Rattle.cats_text.specs.Layout.{
+  layout,
+  header_text,
+  headers_text,
+  bid_text,
+  bids_text,
+  price_text,
+  places_text,
+  without_zeros,
+};
 
 use crate::bid::{Bid, BidFile};
 use itoa::{Buffer, Integer};
@@ -13,8 +22,8 @@ use std::alloc::{AllocError, Global};
 /// Millionths in a whole.
 const MILLION: u32 = 1_000_000;
 
-/// The text of a file: its header, then its bids in order of number, each with its goods rising and its dummy good last.
-/// Words are joined by single tabs in a bid line and by a space in a header line; nothing else stands there.
+/// The text of a file: its header, then its bids in order of number, each with its goods rising and its dummy good
+/// last. Words are joined by single tabs in a bid line and by a space in a header line; nothing else stands there.
 pub fn write(alloc: Global, file: &BidFile) -> Result<Vec<u8>, AllocError>
     ensures layout { IfOk result (λ out. out.items ≡ layout (plain_file file.now)) }
     ensures spells { IfOk result (λ out. Spells out.items (plain_file file.now)) }
@@ -45,8 +54,8 @@ fn room_for(bids: &[Bid]) -> usize {
     room
 }
 
-/// Appends a price, given in millionths: its whole part, then, where millionths are left, a point and their digits without
-/// zeros at the end. Where memory is refused, some of it may stand there.
+/// Appends a price, given in millionths: its whole part, then, where millionths are left, a point and their digits
+/// without zeros at the end. Where memory is refused, some of it may stand there.
 pub fn push_price(out: &mut Vec<u8>, millionths: u128) -> Result<(), AllocError>
     ensures { OnOk result (out.new.items ≡ out.old.items ++ price_text millionths) }
 {
@@ -62,7 +71,8 @@ fn push_small_price(out: &mut Vec<u8>, millionths: u64) -> Result<(), AllocError
     push_places(out, (millionths % u64::from(MILLION)) as u32)
 }
 
-/// Appends the header of a file with so many goods, bids and dummy goods. Where memory is refused, some of it may stand there.
+/// Appends the header of a file with so many goods, bids and dummy goods. Where memory is refused, some of it may stand
+/// there.
 pub fn push_header(
     out: &mut Vec<u8>,
     goods: u16,
@@ -102,8 +112,9 @@ fn push_bids(out: &mut Vec<u8>, goods: u16, bids: &[Bid]) -> Result<(), AllocErr
     Ok(())
 }
 
-/// Appends the line of a bid in a file of so many `goods`: its number, its price in millionths, the goods of its `bundle`, and its
-/// dummy good, counted from 0 behind the real goods. Where memory is refused, some of it may stand there.
+/// Appends the line of a bid in a file of so many `goods`: its number, its price in millionths, the goods of its
+/// `bundle`, and its dummy good, counted from 0 behind the real goods. Where memory is refused, some of it may stand
+/// there.
 pub fn push_bid(
     out: &mut Vec<u8>,
     goods: u16,
@@ -162,7 +173,7 @@ fn push_short(out: &mut Vec<u8>, number: u64) -> Result<(), AllocError>
 }
 
 /// Appends the digits of a number that has one or two.
-#[tactic(auto, using(crate::proofs::SixDigits::one_digit))]
+#[tactic(auto, using(crate::proofs::Writing::SixDigits::one_digit))]
 fn push_pair(out: &mut Vec<u8>, number: u64) -> Result<(), AllocError>
     requires { number < 100 }
     ensures { OnOk result (out.new.items ≡ out.old.items ++ decimal number) }
@@ -204,7 +215,7 @@ fn push_places(out: &mut Vec<u8>, millionths: u32) -> Result<(), AllocError>
 }
 
 /// The digits without the zeros at their end.
-#[tactic(auto, using(crate::proofs::Zeros::without_zeros_front, crate::proofs::Zeros::without_zeros_whole))]
+#[tactic(auto, using(crate::proofs::Writing::Zeros::without_zeros_front, crate::proofs::Writing::Zeros::without_zeros_whole))]
 fn without_zeros(digits: &[u8]) -> &[u8]
     ensures { result.now ≡ without_zeros digits.now }
 {

@@ -4,8 +4,25 @@ ghost use Rattle.std.specs.Prelude.{◌≡◌, ◌<◌, [], length, IfOk, OnOk, 
 ghost use Rattle.std.specs.Bool.{OnTrue};
 ghost use Rattle.cats_text.specs.Files.{IsPlainFile, plain_bid};
 ghost use Rattle.cats_text.specs.Views.{plain_file};
-ghost use Rattle.cats_text.specs.Progress.{progress, Gives, Answers, AsksOnBidLines};
-ghost use Rattle.cats_text.specs.Parsing.{start, keyword_read, header_number_read, number_read, price_parts, price_read, good_read, good_or_end_read, word_read, drafted, kept_of, bid_read, header_line_read, line_read, is_due, file_from};
+ghost use Rattle.cats_text.specs.Internal.Progress.{progress, Gives, Answers, AsksOnBidLines};
+ghost use Rattle.cats_text.specs.Internal.Parsing.{
+  start,
+  keyword_read,
+  header_number_read,
+  number_read,
+  price_parts,
+  price_read,
+  good_read,
+  good_or_end_read,
+  word_read,
+  drafted,
+  kept_of,
+  bid_read,
+  header_line_read,
+  line_read,
+  is_due,
+  file_from,
+};
 
 use crate::bid::{Bid, BidFile};
 use crate::fault::Kind;

@@ -10,8 +10,8 @@ use crate::parser::Keeping;
 use std::alloc::Global;
 use std::marker::Model;
 
-/// Reads a bid file that comes in pieces. It keeps the bids that came, and of the piece's bytes nothing: a word and a line are
-/// small states, however long they are.
+/// Reads a bid file that comes in pieces. It keeps the bids that came, and of the piece's bytes nothing: a word and a
+/// line are small states, however long they are.
 #[derive(Drop)]
 pub struct Reader {
     feeder: Feeder,

@@ -1,10 +1,45 @@
 //! From bytes to words and line ends.
 
-ghost use Rattle.std.specs.Prelude.{◌≡◌, ◌+◌, ◌-◌, ◌<◌, ◌≤◌, ◌^◌, ◌==◌, true, position, unwrap_or, length, false, OnOk, IfOk};
+ghost use Rattle.std.specs.Prelude.{
+  ◌≡◌,
+  ◌+◌,
+  ◌-◌,
+  ◌<◌,
+  ◌≤◌,
+  ◌^◌,
+  ◌==◌,
+  true,
+  position,
+  unwrap_or,
+  length,
+  false,
+  OnOk,
+  IfOk,
+};
 ghost use Rattle.cats_text.specs.Files.{IsPlainFile};
-ghost use Rattle.cats_text.specs.Parsing.{file_from};
-ghost use Rattle.cats_text.specs.Returns.{settled, waits, carried, return_byte};
-ghost use Rattle.cats_text.specs.Scanning.{halt_of, letter_mode, state, first_state, blank_step, words_step, byte_step, run, end_of, is_before_word, ScansTo, Steps, AsksHere, Asks, IsFileOf, IsHeaderOf, Finishes, AsksAtEnd, IsInLine};
+ghost use Rattle.cats_text.specs.Internal.Parsing.{file_from};
+ghost use Rattle.cats_text.specs.Internal.Returns.{settled, waits, carried, return_byte};
+ghost use Rattle.cats_text.specs.Internal.Scanning.{
+  halt_of,
+  letter_mode,
+  state,
+  first_state,
+  blank_step,
+  words_step,
+  byte_step,
+  run,
+  end_of,
+  is_before_word,
+  ScansTo,
+  Steps,
+  AsksHere,
+  Asks,
+  IsFileOf,
+  IsHeaderOf,
+  Finishes,
+  AsksAtEnd,
+  IsInLine,
+};
 
 use crate::bid::BidFile;
 use crate::fault::{Kind, ReadFault};
@@ -274,7 +309,8 @@ impl Scanner {
     /// The next bytes.
     pub fn take(&mut self, bytes: &[u8]) -> Result<(), Halt>
         requires { self.old.line + length bytes.now < 2 ^ 64 - 1 }
-        ensures steps { Steps (state self.new) result (run (state self.old) (settled (carried self.old.waiting bytes.now))) }
+        ensures steps { Steps (state self.new) result
+            (run (state self.old) (settled (carried self.old.waiting bytes.now))) }
         ensures memory { Asks (state self.old) (settled (carried self.old.waiting bytes.now)) result }
         ensures waiting { OnOk result (self.new.waiting ≡ waits (carried self.old.waiting bytes.now)) }
         ensures line { self.new.line ≤ self.old.line + length bytes.now + 1 }

@@ -3,14 +3,14 @@
 ghost use Rattle.std.specs.Prelude.{◌≡◌, ◌<◌, [], length, slice_get, IfOk, OnOk, OnErr};
 ghost use Rattle.cats_text.specs.Files.{plain_bid, plain_bids};
 ghost use Rattle.cats_text.specs.FileLines.{put_slot, filled};
-ghost use Rattle.cats_text.specs.Parsing.{is_some_bid};
-ghost use Rattle.cats_text.specs.Progress.{plain_slots, slot_list};
+ghost use Rattle.cats_text.specs.Internal.Parsing.{is_some_bid};
+ghost use Rattle.cats_text.specs.Internal.Progress.{plain_slots, slot_list};
 
 use crate::bid::Bid;
 use std::alloc::{AllocError, Global};
 
-/// Bids by number. As long as they come in order, from 0 on, they stand in the vector that becomes the file's; from the first that
-/// does not, a place may still be empty.
+/// Bids by number. As long as they come in order, from 0 on, they stand in the vector that becomes the file's; from the
+/// first that does not, a place may still be empty.
 #[derive(Drop)]
 pub struct Slots {
     pub front: Vec<Bid>,
@@ -59,7 +59,8 @@ impl Slots {
 
     /// Puts a bid at its number.
     pub fn put(&mut self, number: usize, bid: Bid) -> Result<(), AllocError>
-        ensures { OnOk result (plain_slots (slot_list self.new) ≡ put_slot (plain_slots (slot_list self.old)) number (plain_bid bid)) }
+        ensures { OnOk result (plain_slots (slot_list self.new) ≡ put_slot (plain_slots (slot_list self.old)) number
+            (plain_bid bid)) }
     {
         if number < self.front.len() {
             self.front[number] = bid;

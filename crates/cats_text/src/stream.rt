@@ -1,11 +1,42 @@
 //! Readers and writers that are watched for failures, and sending a text.
 
-ghost use Rattle.std.specs.Prelude.{◌≡◌, ℕ, List, ◌≢◌, ◌≤◌, ◌||◌, length, take, false, true, IsTrue, IsErr, is_err, OnOk, IfErr, [], None, Ok, codes};
+ghost use Rattle.std.specs.Prelude.{
+  ◌≡◌,
+  ℕ,
+  List,
+  ◌≢◌,
+  ◌≤◌,
+  ◌||◌,
+  length,
+  take,
+  false,
+  true,
+  IsTrue,
+  IsErr,
+  is_err,
+  OnOk,
+  IfErr,
+  [],
+  None,
+  Ok,
+  codes,
+};
 ghost use Rattle.std.specs.Io.{ReadsAtMost, WritesAtMost};
 ghost use Rattle.std.specs.Io.KnownBytes.{Appends, Consumes, Keeps, ReadConsumes, WriteAppends};
 ghost use Rattle.std.specs.IoError.{error_kind};
 ghost use Rattle.cats_text.specs.Faults.{fault_at};
-ghost use Rattle.cats_text.specs.Streams.{inner_of, has_failed, has_ended, moved_nothing, failed_to_write, ReadsAs, ChecksAs, FeedsFrom, SendsPart, SendsWhole};
+ghost use Rattle.cats_text.specs.Streams.{
+  inner_of,
+  has_failed,
+  has_ended,
+  moved_nothing,
+  failed_to_write,
+  ReadsAs,
+  ChecksAs,
+  FeedsFrom,
+  SendsPart,
+  SendsWhole,
+};
 
 use crate::bid::BidFile;
 use crate::fault::{Kind, ReadFault, SendFault};
@@ -20,8 +51,8 @@ use std::io::{ErrorKind, Read, Write};
 ///
 /// It fails with the first call that answers an error of any kind, `Interrupted` too, and with the first write that
 /// takes nothing of a piece that is not empty. That call's answer is passed on as it is; from then on every read, write
-/// and flush answers an error, and what is inside is not called again. It has ended once a read into a piece that is not
-/// empty gave no byte.
+/// and flush answers an error, and what is inside is not called again. It has ended once a read into a piece that is
+/// not empty gave no byte.
 #[derive(Drop)]
 pub struct Watched<T> {
     inner: T,
@@ -74,7 +105,8 @@ impl<R: Read> Read for Watched<R> {
 
     fn read(&mut self, piece: &mut [u8]) -> io::Result<usize>
         ensures bound { ReadsAtMost result piece.new }
-        ensures bytes { ReadConsumes (R.remaining (inner_of self.old)) (R.remaining (inner_of self.new)) result piece.new }
+        ensures bytes { ReadConsumes (R.remaining (inner_of self.old)) (R.remaining (inner_of self.new)) result
+            piece.new }
 
         ensures failed { has_failed self.new ≡ is_err result }
         ensures ended { has_ended self.new ≡ (has_ended self.old || moved_nothing result piece.new) }
@@ -100,7 +132,8 @@ impl<W: Write> Write for Watched<W> {
 
     fn write(&mut self, piece: &[u8]) -> io::Result<usize>
         ensures bound { WritesAtMost result piece.now }
-        ensures bytes { WriteAppends (W.contents (inner_of self.old)) (W.contents (inner_of self.new)) result piece.now }
+        ensures bytes { WriteAppends (W.contents (inner_of self.old)) (W.contents (inner_of self.new)) result
+            piece.now }
 
         ensures failed { has_failed self.new ≡ failed_to_write result piece.now }
         ensures ended { has_ended self.new ≡ has_ended self.old }
@@ -138,8 +171,8 @@ impl<W: Write> Write for Watched<W> {
     }
 }
 
-/// Reads the whole stream as a bid file. It makes no further read once a fault is complete in the bytes that came, and reads no
-/// more than `MAX_STREAM` bytes and one piece.
+/// Reads the whole stream as a bid file. It makes no further read once a fault is complete in the bytes that came, and
+/// reads no more than `MAX_STREAM` bytes and one piece.
 pub fn read_from<R: Read>(alloc: Global, input: &mut Watched<R>) -> Result<BidFile, ReadFault>
     requires works { has_failed input.old ≡ false }
     requires fresh { has_ended input.old ≡ false }
@@ -151,8 +184,8 @@ pub fn read_from<R: Read>(alloc: Global, input: &mut Watched<R>) -> Result<BidFi
     feeder.finish()
 }
 
-/// Judges the whole stream as `read_from` does, and answers what the header lines of its file say: how many goods, bids and dummy
-/// goods there are. No bid's goods are kept.
+/// Judges the whole stream as `read_from` does, and answers what the header lines of its file say: how many goods, bids
+/// and dummy goods there are. No bid's goods are kept.
 pub fn check_from<R: Read>(alloc: Global, input: &mut Watched<R>) -> Result<Header, ReadFault>
     requires works { has_failed input.old ≡ false }
     requires fresh { has_ended input.old ≡ false }
@@ -170,7 +203,8 @@ fn feed_from<R: Read>(feeder: &mut Feeder, input: &mut Watched<R>) -> Result<(),
     requires fresh { has_ended input.old ≡ false }
     requires new { feeder.old.fed ≡ record { limit = MAX_STREAM; bytes = []; failed = None } }
     ensures keeping { feeder.new.keeping ≡ feeder.old.keeping }
-    ensures bytes { Consumes (R.remaining (inner_of input.old)) (R.remaining (inner_of input.new)) feeder.new.fed.bytes }
+    ensures bytes { Consumes (R.remaining (inner_of input.old)) (R.remaining (inner_of input.new))
+        feeder.new.fed.bytes }
     ensures answer { FeedsFrom R.remaining feeder.new.fed input.new result }
 {
     let mut piece = [0; PIECE];

@@ -1,7 +1,7 @@
 //! What the reader keeps of a word: enough for every test that the grammar makes of it, whatever the word's length.
 
 ghost use Rattle.std.specs.Prelude.{◌≡◌, ◌≤◌};
-ghost use Rattle.cats_text.specs.Keywords.{keyword_text, place_value_of};
+ghost use Rattle.cats_text.specs.Internal.Keywords.{keyword_text, place_value_of};
 
 /// The words that begin the header lines.
 #[derive(Clone, Copy, PartialEq, Eq, Debug)]
@@ -56,7 +56,7 @@ fn place_value(places: u8) -> u64
 }
 
 impl Decimal {
-    ghost use Rattle.cats_text.specs.Machine.{decimal_with};
+    ghost use Rattle.cats_text.specs.Internal.Machine.{decimal_with};
 
     /// The decimal with one more digit.
     pub fn with(self, digit: u8) -> Decimal
@@ -95,7 +95,7 @@ pub enum Word {
 }
 
 impl Word {
-    ghost use Rattle.cats_text.specs.Machine.{word_from, word_with};
+    ghost use Rattle.cats_text.specs.Internal.Machine.{word_from, word_with};
 
     /// The word of one byte.
     pub fn new(byte: u8) -> Word

@@ -1,4 +1,5 @@
-//! The version, and what the help of each subcommand has below its options: what is printed, an example, and the statuses.
+//! The version, and what the help of each subcommand has below its options: what is printed, an example, and the
+//! statuses.
 
 /// What `cats --version` prints after the program's name.
 pub(crate) const VERSION: &str = "0.1.0";

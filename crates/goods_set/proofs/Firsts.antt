@@ -9,9 +9,10 @@ use Rattle.std.proofs.lemmas.Bool.{both_ways, cases_lt, cases_eq, cases_order, e
 use Rattle.std.proofs.lemmas.Cmp.{nat_list_cmp_total, tied_itself}
 use Rattle.std.proofs.lemmas.Nat.Bits.{bit_at-lt, bit_at-zero, bit_at_xor, bit_at-trailing_zeros, shr_and_one, same_from_bits_below}
 use Rattle.goods_set.specs.Bundles.{AreAbove, IsRising, has_good}
-use Rattle.goods_set.specs.Members.{has_head, has_cases, has_above, has_not_head}
-use Rattle.goods_set.specs.Orders.{nat_cmp-lt, nat_cmp-refl}
-use Rattle.goods_set.specs.Words.{word_bit, word_bit_at, word_goods, word_goods_bundle, word_goods_has, word_goods_lacks, word_goods_same}
+use Rattle.goods_set.specs.Lemmas.Members.{has_head, has_cases, has_above, has_not_head}
+use Rattle.goods_set.specs.Lemmas.Orders.{nat_cmp-lt, nat_cmp-refl}
+use Rattle.goods_set.specs.Words.{word_bit, word_goods}
+use Rattle.goods_set.specs.Lemmas.Words.{word_bit_at, word_goods_bundle, word_goods_has, word_goods_lacks, word_goods_same}
 use Rattle.goods_set.proofs.Bits.{has-word_goods}
 
 -- ---- over lists
@@ -32,13 +33,15 @@ heads_in_order x xs y ys g a f = by (cases_lt y x)
     by (inr l) = l
     by (inl l) = let m : x ≤ g = least g f.here in least y (f.alike y (omega arith) ∙ has_head y ys)
 
-tails : (x : ℕ) (xs : List ℕ) (y : ℕ) (ys : List ℕ) (g : ℕ) → x ≡ y → AreAbove x xs → AreAbove y ys → IsFirstUnshared (x ∷ xs) (y ∷ ys) g → IsFirstUnshared xs ys g
+tails : (x : ℕ) (xs : List ℕ) (y : ℕ) (ys : List ℕ) (g : ℕ) → x ≡ y → AreAbove x xs → AreAbove y ys → IsFirstUnshared (x ∷ xs) (y ∷ ys) g
+    → IsFirstUnshared xs ys g
 tails x xs y ys g e a b f =
     let p : (eqb y g ≡ false) × (has_good ys g ≡ false) = or_parts (eqb y g) (has_good ys g) f.missing in
     record {
       here = ⊎_elim (λ (d : x ≡ g). absurd (eqb-false y g p.0 (sym e ∙ d))) (λ (m : has_good xs g ≡ true). m) (has_cases x xs g f.here);
       missing = p.1;
-      alike = λ k l. ⊎_elim (λ (d : x ≡ k). subst (λ n. has_good xs n ≡ has_good ys n) d (has_not_head x xs a ∙ sym (subst (λ n. has_good ys n ≡ false) (sym e) (has_not_head y ys b)))) (λ (d : x ≡ k → ⊥). without_head k d l) (cases_eq x k);
+      alike = λ k l. ⊎_elim (λ (d : x ≡ k). subst (λ n. has_good xs n ≡ has_good ys n) d (has_not_head x xs a
+          ∙ sym (subst (λ n. has_good ys n ≡ false) (sym e) (has_not_head y ys b)))) (λ (d : x ≡ k → ⊥). without_head k d l) (cases_eq x k);
     }
   where
     without_head : (k : ℕ) → (x ≡ k → ⊥) → k < g → has_good xs k ≡ has_good ys k
@@ -49,11 +52,15 @@ pub less_from_first : (xs ys : List ℕ) (g : ℕ) → IsRising xs → IsRising 
 less_from_first [] ys g r s l f = absurd (both_ways false refl f.here)
 less_from_first (x ∷ xs) [] g r s l f = absurd (omega arith)
 less_from_first (x ∷ xs) (y ∷ ys) g r s l f =
-    ⊎_elim (λ (e : x ≡ y). subst (λ n. nat_cmp x n ≡ Equal → slice_cmp nat_cmp xs ys ≡ Less → slice_cmp nat_cmp (x ∷ xs) (n ∷ ys) ≡ Less) e (λ q h. ap (λ o. ordering_then o (slice_cmp nat_cmp xs ys)) q ∙ h) (subst (λ n. nat_cmp x n ≡ Equal) e (nat_cmp-refl x)) (less_from_first xs ys g r.1 s.1 (omega arith) (tails x xs y ys g e r.0 s.0 f)))
-    (⊎_elim (λ (m : x < y). ap (λ o. ordering_then o (slice_cmp nat_cmp xs ys)) (nat_cmp-lt x y m)) (λ (m : y < x). let h : x ≤ y = heads_in_order x xs y ys g r.0 f in absurd (omega arith)))
+    ⊎_elim (λ (e : x ≡ y). subst (λ n. nat_cmp x n ≡ Equal → slice_cmp nat_cmp xs ys ≡ Less → slice_cmp nat_cmp (x ∷ xs) (n ∷ ys) ≡ Less) e
+    (λ q h. ap (λ o. ordering_then o (slice_cmp nat_cmp xs ys)) q ∙ h) (subst (λ n. nat_cmp x n ≡ Equal) e (nat_cmp-refl x))
+    (less_from_first xs ys g r.1 s.1 (omega arith) (tails x xs y ys g e r.0 s.0 f)))
+    (⊎_elim (λ (m : x < y). ap (λ o. ordering_then o (slice_cmp nat_cmp xs ys)) (nat_cmp-lt x y m))
+    (λ (m : y < x). let h : x ≤ y = heads_in_order x xs y ys g r.0 f in absurd (omega arith)))
     (cases_order x y)
 
-pub greater_from_first : (xs ys : List ℕ) (g : ℕ) → IsRising xs → IsRising ys → length xs ≡ length ys → IsFirstUnshared ys xs g → slice_cmp nat_cmp xs ys ≡ Greater
+pub greater_from_first : (xs ys : List ℕ) (g : ℕ) → IsRising xs → IsRising ys → length xs ≡ length ys → IsFirstUnshared ys xs g
+    → slice_cmp nat_cmp xs ys ≡ Greater
 greater_from_first xs ys g r s l f = nat_list_cmp_total.antisymm xs ys ∙ ap ordering_reverse (less_from_first ys xs g s r (sym l) f)
 
 -- ---- over words
@@ -67,7 +74,8 @@ same_bits us vs k g h l = ap (λ w. bit_at w (g % 64)) (h (g / 64) (omega arith)
 
 -- all words are the same
 pub equal_words : (n : ℕ) (us vs : List ℕ) → AreSameWords us vs n → slice_cmp nat_cmp (word_goods (64 * n) us) (word_goods (64 * n) vs) ≡ Equal
-equal_words n us vs h = subst (λ xs. slice_cmp nat_cmp (word_goods (64 * n) us) xs ≡ Equal) (word_goods_same (64 * n) us vs (λ g l. same_bits us vs n g h l)) (tied_itself nat_list_cmp_total (word_goods (64 * n) us))
+equal_words n us vs h = subst (λ xs. slice_cmp nat_cmp (word_goods (64 * n) us) xs ≡ Equal) (word_goods_same (64 * n) us vs (λ g l. same_bits us vs n g h l))
+    (tied_itself nat_list_cmp_total (word_goods (64 * n) us))
 
 -- what the lowest one of `x ^ y` tells
 pub record DiffersFirst (x y i : ℕ) : Type 0 where
@@ -77,7 +85,8 @@ pub record DiffersFirst (x y i : ℕ) : Type 0 where
 
 pub differs_first : (x y : ℕ) → bit_xor x y < 2 ^ 64 → bit_xor x y ≢ 0 → DiffersFirst x y (trailing_zeros w64 (bit_xor x y))
 differs_first x y l n =
-    let t : (trailing_zeros w64 (bit_xor x y) < 64) × (bit_at (bit_xor x y) (trailing_zeros w64 (bit_xor x y)) ≡ 1) × ((i : ℕ) → i < trailing_zeros w64 (bit_xor x y) → bit_at (bit_xor x y) i ≡ 0) = bit_at-trailing_zeros w64 (bit_xor x y) (omega arith) l in
+    let t : (trailing_zeros w64 (bit_xor x y) < 64) × (bit_at (bit_xor x y) (trailing_zeros w64 (bit_xor x y)) ≡ 1)
+    × ((i : ℕ) → i < trailing_zeros w64 (bit_xor x y) → bit_at (bit_xor x y) i ≡ 0) = bit_at-trailing_zeros w64 (bit_xor x y) (omega arith) l in
     record {
       within = t.0;
       differs = one (trailing_zeros w64 (bit_xor x y)) t.1;
@@ -98,14 +107,16 @@ differs_first x y l n =
         let r : bit_at y i < 2 = bit_at-lt y i in
         omega arith
 
-first_of_words : (n : ℕ) (us vs : List ℕ) (k i : ℕ) → k < n → AreSameWords us vs k → DiffersFirst (get_or us k 0) (get_or vs k 0) i → bit_at (get_or us k 0) i ≡ 1 → IsFirstUnshared (word_goods (64 * n) us) (word_goods (64 * n) vs) (64 * k + i)
+first_of_words : (n : ℕ) (us vs : List ℕ) (k i : ℕ) → k < n → AreSameWords us vs k → DiffersFirst (get_or us k 0) (get_or vs k 0) i
+    → bit_at (get_or us k 0) i ≡ 1 → IsFirstUnshared (word_goods (64 * n) us) (word_goods (64 * n) vs) (64 * k + i)
 first_of_words n us vs k i l h d e =
     let w : i < 64 = d.within in
     let b : bit_at (get_or vs k 0) i ≡ 0 = omega (arith, d.differs) in
     record {
       here = word_goods_has (64 * n) us (64 * k + i) (omega arith) (word_bit_at us k i w ∙ e);
       missing = word_goods_lacks (64 * n) vs (64 * k + i) (word_bit_at vs k i w ∙ b);
-      alike = λ g m. has-word_goods (64 * n) us g (omega arith) ∙ ap (λ x. eqb x 1) (before g m (cases_lt g (64 * k))) ∙ sym (has-word_goods (64 * n) vs g (omega arith));
+      alike = λ g m. has-word_goods (64 * n) us g (omega arith) ∙ ap (λ x. eqb x 1) (before g m (cases_lt g (64 * k)))
+          ∙ sym (has-word_goods (64 * n) vs g (omega arith));
     }
   where
     before : (g : ℕ) → g < 64 * k + i → (g < 64 * k) ⊎ (64 * k ≤ g) → word_bit us g ≡ word_bit vs g
@@ -113,29 +124,39 @@ first_of_words n us vs k i l h d e =
     before g m (inr a) =
         let w : i < 64 = d.within in
         let q : 64 * k + (g - 64 * k) ≡ g = omega arith in
-        subst (λ x. word_bit us x ≡ word_bit vs x) q (word_bit_at us k (g - 64 * k) (omega arith) ∙ d.alike (g - 64 * k) (omega arith) ∙ sym (word_bit_at vs k (g - 64 * k) (omega arith)))
+        subst (λ x. word_bit us x ≡ word_bit vs x) q (word_bit_at us k (g - 64 * k) (omega arith) ∙ d.alike (g - 64 * k) (omega arith)
+        ∙ sym (word_bit_at vs k (g - 64 * k) (omega arith)))
 
 differs_back : (x y i : ℕ) → DiffersFirst x y i → DiffersFirst y x i
 differs_back x y i d = record { within = d.within; differs = omega (arith, d.differs); alike = λ j m. sym (d.alike j m) }
 
 -- the word of us has the bit, or that of vs
-pub less_by_words : (n : ℕ) (us vs : List ℕ) (k i : ℕ) → k < n → AreSameWords us vs k → DiffersFirst (get_or us k 0) (get_or vs k 0) i → length (word_goods (64 * n) us) ≡ length (word_goods (64 * n) vs) → bit_and (get_or us k 0 / 2 ^ i) 1 ≡ 1 → slice_cmp nat_cmp (word_goods (64 * n) us) (word_goods (64 * n) vs) ≡ Less
+pub less_by_words : (n : ℕ) (us vs : List ℕ) (k i : ℕ) → k < n → AreSameWords us vs k → DiffersFirst (get_or us k 0) (get_or vs k 0) i
+    → length (word_goods (64 * n) us) ≡ length (word_goods (64 * n) vs) → bit_and (get_or us k 0 / 2 ^ i) 1 ≡ 1
+    → slice_cmp nat_cmp (word_goods (64 * n) us) (word_goods (64 * n) vs) ≡ Less
 less_by_words n us vs k i l h d e b =
-    less_from_first (word_goods (64 * n) us) (word_goods (64 * n) vs) (64 * k + i) (word_goods_bundle (64 * n) us).0 (word_goods_bundle (64 * n) vs).0 e (first_of_words n us vs k i l h d (sym (shr_and_one (get_or us k 0) i) ∙ b))
+    less_from_first (word_goods (64 * n) us) (word_goods (64 * n) vs) (64 * k + i) (word_goods_bundle (64 * n) us).0 (word_goods_bundle (64 * n) vs).0 e
+    (first_of_words n us vs k i l h d (sym (shr_and_one (get_or us k 0) i) ∙ b))
 
-pub greater_by_words : (n : ℕ) (us vs : List ℕ) (k i : ℕ) → k < n → AreSameWords us vs k → DiffersFirst (get_or us k 0) (get_or vs k 0) i → length (word_goods (64 * n) us) ≡ length (word_goods (64 * n) vs) → bit_and (get_or us k 0 / 2 ^ i) 1 ≢ 1 → slice_cmp nat_cmp (word_goods (64 * n) us) (word_goods (64 * n) vs) ≡ Greater
+pub greater_by_words : (n : ℕ) (us vs : List ℕ) (k i : ℕ) → k < n → AreSameWords us vs k → DiffersFirst (get_or us k 0) (get_or vs k 0) i
+    → length (word_goods (64 * n) us) ≡ length (word_goods (64 * n) vs) → bit_and (get_or us k 0 / 2 ^ i) 1 ≢ 1
+    → slice_cmp nat_cmp (word_goods (64 * n) us) (word_goods (64 * n) vs) ≡ Greater
 greater_by_words n us vs k i l h d e b =
     let s : bit_at (get_or us k 0) i < 2 = bit_at-lt (get_or us k 0) i in
     let z : bit_at (get_or us k 0) i ≢ 1 = λ q. b (shr_and_one (get_or us k 0) i ∙ q) in
-    greater_from_first (word_goods (64 * n) us) (word_goods (64 * n) vs) (64 * k + i) (word_goods_bundle (64 * n) us).0 (word_goods_bundle (64 * n) vs).0 e (first_of_words n vs us k i l (λ j m. sym (h j m)) (differs_back (get_or us k 0) (get_or vs k 0) i d) (omega (arith, d.differs)))
+    greater_from_first (word_goods (64 * n) us) (word_goods (64 * n) vs) (64 * k + i) (word_goods_bundle (64 * n) us).0 (word_goods_bundle (64 * n) vs).0 e
+    (first_of_words n vs us k i l (λ j m. sym (h j m)) (differs_back (get_or us k 0) (get_or vs k 0) i d) (omega (arith, d.differs)))
 
 -- the step of a loop that has found no difference
-pub same_more : (us vs : List ℕ) (k : ℕ) → AreSameWords us vs k → get_or us k 0 < 2 ^ 64 → get_or vs k 0 < 2 ^ 64 → bit_xor (get_or us k 0) (get_or vs k 0) ≡ 0 → AreSameWords us vs (k + 1)
-same_more us vs k h a b e j l = ⊎_elim (λ (m : j < k). h j m) (λ (m : k ≤ j). let d : k ≡ j = omega arith in subst (λ n. get_or us n 0 ≡ get_or vs n 0) d (same_from_bits_below 64 (get_or us k 0) (get_or vs k 0) a b (λ i _. bits i))) (cases_lt j k)
+pub same_more : (us vs : List ℕ) (k : ℕ) → AreSameWords us vs k → get_or us k 0 < 2 ^ 64 → get_or vs k 0 < 2 ^ 64 → bit_xor (get_or us k 0) (get_or vs k 0) ≡ 0
+    → AreSameWords us vs (k + 1)
+same_more us vs k h a b e j l = ⊎_elim (λ (m : j < k). h j m) (λ (m : k ≤ j). let d : k ≡ j = omega arith in
+    subst (λ n. get_or us n 0 ≡ get_or vs n 0) d (same_from_bits_below 64 (get_or us k 0) (get_or vs k 0) a b (λ i _. bits i))) (cases_lt j k)
   where
     bits : (i : ℕ) → bit_at (get_or us k 0) i ≡ bit_at (get_or vs k 0) i
     bits i =
-        let z : (bit_at (get_or us k 0) i + bit_at (get_or vs k 0) i) % 2 ≡ 0 = sym (bit_at_xor (get_or us k 0) (get_or vs k 0) i) ∙ ap (λ x. bit_at x i) e ∙ bit_at-zero i in
+        let z : (bit_at (get_or us k 0) i + bit_at (get_or vs k 0) i) % 2 ≡ 0 = sym (bit_at_xor (get_or us k 0) (get_or vs k 0) i) ∙ ap (λ x. bit_at x i) e
+        ∙ bit_at-zero i in
         let s : bit_at (get_or us k 0) i < 2 = bit_at-lt (get_or us k 0) i in
         let r : bit_at (get_or vs k 0) i < 2 = bit_at-lt (get_or vs k 0) i in
         omega arith

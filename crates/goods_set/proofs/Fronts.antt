@@ -5,8 +5,9 @@ use Rattle.std.specs.Ordering.{ordering_then}
 use Rattle.std.specs.Cmp.Lexicographic.{slice_cmp}
 use Rattle.std.proofs.lemmas.Bool.{cases_order}
 use Rattle.goods_set.specs.Bundles.{AreBelow}
-use Rattle.goods_set.specs.Orders.{bundle_cmp, nat_cmp-lt, nat_cmp-gt, nat_cmp-refl, smaller_first, larger_last, same_size}
-use Rattle.goods_set.specs.Fronts.{front_of}
+use Rattle.goods_set.specs.Orders.{bundle_cmp}
+use Rattle.goods_set.specs.Lemmas.Orders.{nat_cmp-lt, nat_cmp-gt, nat_cmp-refl, smaller_first, larger_last, same_size}
+use Rattle.goods_set.specs.Internal.Fronts.{front_of}
 
 -- ---- members
 
@@ -79,15 +80,23 @@ greater_from [] [] h = absurd (cc)
 greater_from [] (y ∷ ys) h = absurd (cc)
 greater_from (x ∷ xs) [] h = refl
 greater_from (x ∷ xs) (y ∷ ys) h =
-    ⊎_elim (λ (s : x ≡ y). rw (s, nat_cmp-refl y) (greater_from xs ys (sym (ap (λ o. ordering_then o (slice_cmp nat_cmp ys xs)) (ap (nat_cmp y) s ∙ nat_cmp-refl y)) ∙ h)))
-    (⊎_elim (λ (s : x < y). let g : nat_cmp y x ≡ Greater = nat_cmp-gt y x s in let k : slice_cmp nat_cmp (y ∷ ys) (x ∷ xs) ≡ Greater = ap (λ o. ordering_then o (slice_cmp nat_cmp ys xs)) g in absurd (cc))
+    ⊎_elim (λ (s : x ≡ y). rw (
+      s,
+      nat_cmp-refl y,
+    ) (greater_from xs ys (sym (ap (λ o. ordering_then o (slice_cmp nat_cmp ys xs)) (ap (nat_cmp y) s ∙ nat_cmp-refl y)) ∙ h)))
+    (⊎_elim (λ (s : x < y). let g : nat_cmp y x ≡ Greater = nat_cmp-gt y x s in
+    let k : slice_cmp nat_cmp (y ∷ ys) (x ∷ xs) ≡ Greater = ap (λ o. ordering_then o (slice_cmp nat_cmp ys xs)) g in absurd (cc))
     (λ (s : y < x). ap (λ o. ordering_then o (slice_cmp nat_cmp xs ys)) (nat_cmp-gt x y s))) (cases_order x y)
 
-same_length : (xs ys : List ℕ) → length xs ≡ length ys → AreBelow 65536 xs → AreBelow 65536 ys → ordering_then (nat_cmp (front_of xs) (front_of ys)) (slice_cmp nat_cmp xs ys) ≡ slice_cmp nat_cmp xs ys
+same_length : (xs ys : List ℕ) → length xs ≡ length ys → AreBelow 65536 xs → AreBelow 65536 ys
+    → ordering_then (nat_cmp (front_of xs) (front_of ys)) (slice_cmp nat_cmp xs ys) ≡ slice_cmp nat_cmp xs ys
 same_length xs ys e a b =
-    ⊎_elim (λ (s : front_of xs ≡ front_of ys). ap (λ o. ordering_then o (slice_cmp nat_cmp xs ys)) (ap (nat_cmp (front_of xs)) (sym s) ∙ nat_cmp-refl (front_of xs)))
-    (⊎_elim (λ (s : front_of xs < front_of ys). ap (λ o. ordering_then o (slice_cmp nat_cmp xs ys)) (nat_cmp-lt (front_of xs) (front_of ys) s) ∙ sym (less_4 xs ys e a b s))
-    (λ (s : front_of ys < front_of xs). ap (λ o. ordering_then o (slice_cmp nat_cmp xs ys)) (nat_cmp-gt (front_of xs) (front_of ys) s) ∙ sym (greater_from xs ys (less_4 ys xs (sym e) b a s))))
+    ⊎_elim (λ (s : front_of xs ≡ front_of ys). ap (λ o. ordering_then o (slice_cmp nat_cmp xs ys)) (ap (nat_cmp (front_of xs)) (sym s)
+    ∙ nat_cmp-refl (front_of xs)))
+    (⊎_elim (λ (s : front_of xs < front_of ys). ap (λ o. ordering_then o (slice_cmp nat_cmp xs ys)) (nat_cmp-lt (front_of xs) (front_of ys) s)
+    ∙ sym (less_4 xs ys e a b s))
+    (λ (s : front_of ys < front_of xs). ap (λ o. ordering_then o (slice_cmp nat_cmp xs ys)) (nat_cmp-gt (front_of xs) (front_of ys) s)
+    ∙ sym (greater_from xs ys (less_4 ys xs (sym e) b a s))))
     (cases_order (front_of xs) (front_of ys))
 
 -- the order by sizes, then fronts, then lists
@@ -96,9 +105,12 @@ pub order_by_front : (xs ys : List ℕ) → AreBelow 65536 xs → AreBelow 65536
 order_by_front xs ys a b =
     ⊎_elim (λ (e : length xs ≡ length ys).
     let z : nat_cmp (length xs) (length ys) ≡ Equal = ap (nat_cmp (length xs)) (sym e) ∙ nat_cmp-refl (length xs) in
-    ap (λ o. ordering_then (ordering_then o (nat_cmp (front_of xs) (front_of ys))) (slice_cmp nat_cmp xs ys)) z ∙ same_length xs ys e a b ∙ sym (same_size xs ys e))
-    (⊎_elim (λ (l : length xs < length ys). ap (λ o. ordering_then (ordering_then o (nat_cmp (front_of xs) (front_of ys))) (slice_cmp nat_cmp xs ys)) (nat_cmp-lt (length xs) (length ys) l) ∙ sym (smaller_first xs ys l))
-    (λ (l : length ys < length xs). ap (λ o. ordering_then (ordering_then o (nat_cmp (front_of xs) (front_of ys))) (slice_cmp nat_cmp xs ys)) (nat_cmp-gt (length xs) (length ys) l) ∙ sym (larger_last xs ys l)))
+    ap (λ o. ordering_then (ordering_then o (nat_cmp (front_of xs) (front_of ys))) (slice_cmp nat_cmp xs ys)) z ∙ same_length xs ys e a b
+    ∙ sym (same_size xs ys e))
+    (⊎_elim (λ (l : length xs < length ys). ap (λ o. ordering_then (ordering_then o (nat_cmp (front_of xs) (front_of ys))) (slice_cmp nat_cmp xs ys))
+    (nat_cmp-lt (length xs) (length ys) l) ∙ sym (smaller_first xs ys l))
+    (λ (l : length ys < length xs). ap (λ o. ordering_then (ordering_then o (nat_cmp (front_of xs) (front_of ys))) (slice_cmp nat_cmp xs ys))
+    (nat_cmp-gt (length xs) (length ys) l) ∙ sym (larger_last xs ys l)))
     (cases_order (length xs) (length ys))
 
 -- an order of two steps: the second counts where the first is Equal

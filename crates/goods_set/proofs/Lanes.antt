@@ -49,7 +49,8 @@ pub record AreLanes (f : ℕ → ℕ → ℕ) (xs ys : List ℕ) (i : ℕ) (vs :
   pub many : length vs ≡ 8
   pub lane : (k : ℕ) → k < 8 → get_or vs k 0 ≡ f (get_or xs (i + k) 0) (get_or ys (i + k) 0)
 
-pub lanes_outside : (xs ys : List ℕ) (i : ℕ) → i + 8 ≤ length xs → length xs ≡ length ys → AreLanes (λ x y. bit_and x (bit_not w64 y)) xs ys i (zip2 bit_and (chunk i 8 xs) (map (bit_not w64) (chunk i 8 ys)))
+pub lanes_outside : (xs ys : List ℕ) (i : ℕ) → i + 8 ≤ length xs → length xs ≡ length ys
+    → AreLanes (λ x y. bit_and x (bit_not w64 y)) xs ys i (zip2 bit_and (chunk i 8 xs) (map (bit_not w64) (chunk i 8 ys)))
 lanes_outside xs ys i l e =
     let m : length (chunk i 8 xs) ≡ 8 = length-chunk i 8 xs l in
     let n : length (chunk i 8 ys) ≡ 8 = length-chunk i 8 ys (omega arith) in
@@ -57,7 +58,8 @@ lanes_outside xs ys i l e =
     record {
       many = length-zip2 bit_and (chunk i 8 xs) (map (bit_not w64) (chunk i 8 ys)) (m ∙ sym o) ∙ m;
       lane = λ k b. get_or-zip2 bit_and (chunk i 8 xs) (map (bit_not w64) (chunk i 8 ys)) k 0 0 0 (omega arith) (omega arith)
-          ∙ ap₂ (λ (x y : ℕ). bit_and x y) (get_or-chunk i 8 xs k 0 b) (get_or-map (bit_not w64) (chunk i 8 ys) k 0 0 (omega arith) ∙ ap (bit_not w64) (get_or-chunk i 8 ys k 0 b));
+          ∙ ap₂ (λ (x y : ℕ). bit_and x y) (get_or-chunk i 8 xs k 0 b) (get_or-map (bit_not w64) (chunk i 8 ys) k 0 0 (omega arith)
+          ∙ ap (bit_not w64) (get_or-chunk i 8 ys k 0 b));
     }
 
 pub lanes_shared : (xs ys : List ℕ) (i : ℕ) → i + 8 ≤ length xs → length xs ≡ length ys → AreLanes bit_and xs ys i (zip2 bit_and (chunk i 8 xs) (chunk i 8 ys))
@@ -66,11 +68,13 @@ lanes_shared xs ys i l e =
     let n : length (chunk i 8 ys) ≡ 8 = length-chunk i 8 ys (omega arith) in
     record {
       many = length-zip2 bit_and (chunk i 8 xs) (chunk i 8 ys) (m ∙ sym n) ∙ m;
-      lane = λ k b. get_or-zip2 bit_and (chunk i 8 xs) (chunk i 8 ys) k 0 0 0 (omega arith) (omega arith) ∙ ap₂ (λ (x y : ℕ). bit_and x y) (get_or-chunk i 8 xs k 0 b) (get_or-chunk i 8 ys k 0 b);
+      lane = λ k b. get_or-zip2 bit_and (chunk i 8 xs) (chunk i 8 ys) k 0 0 0 (omega arith) (omega arith)
+          ∙ ap₂ (λ (x y : ℕ). bit_and x y) (get_or-chunk i 8 xs k 0 b) (get_or-chunk i 8 ys k 0 b);
     }
 
 -- the step of a loop that has found no word at which f is not 0
-pub none_more : (f : ℕ → ℕ → ℕ) (xs ys : List ℕ) (i : ℕ) (vs : List ℕ) → AreLanes f xs ys i vs → fold_l bit_or 0 vs ≡ 0 → ((k : ℕ) → k < i → f (get_or xs k 0) (get_or ys k 0) ≡ 0) → (k : ℕ) → k < i + 8 → f (get_or xs k 0) (get_or ys k 0) ≡ 0
+pub none_more : (f : ℕ → ℕ → ℕ) (xs ys : List ℕ) (i : ℕ) (vs : List ℕ) → AreLanes f xs ys i vs → fold_l bit_or 0 vs ≡ 0
+    → ((k : ℕ) → k < i → f (get_or xs k 0) (get_or ys k 0) ≡ 0) → (k : ℕ) → k < i + 8 → f (get_or xs k 0) (get_or ys k 0) ≡ 0
 none_more f xs ys i vs v e h k l = ⊎_elim (λ (b : k < i). h k b) (λ (b : i ≤ k). here b) (cases_lt k i)
   where
     here : i ≤ k → f (get_or xs k 0) (get_or ys k 0) ≡ 0
@@ -81,7 +85,8 @@ none_more f xs ys i vs v e h k l = ⊎_elim (λ (b : k < i). h k b) (λ (b : i �
         subst (λ j. f (get_or xs j 0) (get_or ys j 0) ≡ 0) d (sym (v.lane (k - i) (omega arith)) ∙ z)
 
 -- and its end where there is one
-pub some_here : (f : ℕ → ℕ → ℕ) (xs ys : List ℕ) (i : ℕ) (vs : List ℕ) → AreLanes f xs ys i vs → i + 8 ≤ length xs → fold_l bit_or 0 vs ≢ 0 → Somewhere (λ k. f (get_or xs k 0) (get_or ys k 0) ≢ 0) (length xs)
+pub some_here : (f : ℕ → ℕ → ℕ) (xs ys : List ℕ) (i : ℕ) (vs : List ℕ) → AreLanes f xs ys i vs → i + 8 ≤ length xs → fold_l bit_or 0 vs ≢ 0
+    → Somewhere (λ k. f (get_or xs k 0) (get_or ys k 0) ≢ 0) (length xs)
 some_here f xs ys i vs v l n =
     let s : Somewhere (λ k. get_or vs k 0 ≢ 0) (length vs) = fold_some vs 0 refl n in
     let m : length vs ≡ 8 = v.many in
@@ -89,15 +94,19 @@ some_here f xs ys i vs v l n =
     record { place = i + s.place; within = omega arith; holds = λ e. s.holds (v.lane s.place (omega arith) ∙ e) }
 
 -- the step of a loop that writes f of each word: what is written, and what is not yet
-pub written_more : (f : ℕ → ℕ → ℕ) (first xs ys : List ℕ) (i : ℕ) (vs : List ℕ) → AreLanes f xs ys i vs → i + 8 ≤ length xs → ((k : ℕ) → k < i → get_or xs k 0 ≡ f (get_or first k 0) (get_or ys k 0)) → ((k : ℕ) → i ≤ k → get_or xs k 0 ≡ get_or first k 0) → (k : ℕ) → k < i + 8 → get_or (put_chunk i xs vs) k 0 ≡ f (get_or first k 0) (get_or ys k 0)
+pub written_more : (f : ℕ → ℕ → ℕ) (first xs ys : List ℕ) (i : ℕ) (vs : List ℕ) → AreLanes f xs ys i vs → i + 8 ≤ length xs
+    → ((k : ℕ) → k < i → get_or xs k 0 ≡ f (get_or first k 0) (get_or ys k 0)) → ((k : ℕ) → i ≤ k → get_or xs k 0 ≡ get_or first k 0) → (k : ℕ) → k < i + 8
+    → get_or (put_chunk i xs vs) k 0 ≡ f (get_or first k 0) (get_or ys k 0)
 written_more f first xs ys i vs v l h r k b = ⊎_elim (λ (c : k < i). get_or-put_chunk_below i xs vs k 0 c ∙ h k c) (λ (c : i ≤ k). here c) (cases_lt k i)
   where
     here : i ≤ k → get_or (put_chunk i xs vs) k 0 ≡ f (get_or first k 0) (get_or ys k 0)
     here c =
         let m : length vs ≡ 8 = v.many in
         let d : i + (k - i) ≡ k = omega arith in
-        let z : get_or (put_chunk i xs vs) (i + (k - i)) 0 ≡ f (get_or xs (i + (k - i)) 0) (get_or ys (i + (k - i)) 0) = get_or-put_chunk_at i xs vs (k - i) 0 (omega arith) (omega arith) ∙ v.lane (k - i) (omega arith) in
+        let z : get_or (put_chunk i xs vs) (i + (k - i)) 0 ≡ f (get_or xs (i + (k - i)) 0) (get_or ys (i + (k - i)) 0) =
+        get_or-put_chunk_at i xs vs (k - i) 0 (omega arith) (omega arith) ∙ v.lane (k - i) (omega arith) in
         subst (λ j. get_or (put_chunk i xs vs) j 0 ≡ f (get_or xs j 0) (get_or ys j 0)) d z ∙ ap (λ x. f x (get_or ys k 0)) (r k c)
 
-pub unwritten_more : (f : ℕ → ℕ → ℕ) (first xs ys : List ℕ) (i : ℕ) (vs : List ℕ) → AreLanes f xs ys i vs → ((k : ℕ) → i ≤ k → get_or xs k 0 ≡ get_or first k 0) → (k : ℕ) → i + 8 ≤ k → get_or (put_chunk i xs vs) k 0 ≡ get_or first k 0
+pub unwritten_more : (f : ℕ → ℕ → ℕ) (first xs ys : List ℕ) (i : ℕ) (vs : List ℕ) → AreLanes f xs ys i vs → ((k : ℕ) → i ≤ k → get_or xs k 0 ≡ get_or first k 0)
+    → (k : ℕ) → i + 8 ≤ k → get_or (put_chunk i xs vs) k 0 ≡ get_or first k 0
 unwritten_more f first xs ys i vs v r k b = let m : length vs ≡ 8 = v.many in get_or-put_chunk_above i xs vs k 0 (omega arith) ∙ r k (omega arith)

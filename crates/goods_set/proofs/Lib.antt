@@ -1,3 +1,4 @@
+-- Proofs that several functions of this crate cite.
 pub mod Bits
 pub mod Firsts
 pub mod Fronts

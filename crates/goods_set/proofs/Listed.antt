@@ -8,8 +8,9 @@ use Rattle.std.proofs.lemmas.Bool.{cases_eq, cases_lt, eq-eqb, or_left, or_right
 use Rattle.std.proofs.lemmas.List.{append-nil}
 use Rattle.std.proofs.lemmas.Nat.Bits.{bit_at-trailing_zeros, bit_at_clear_same, bit_at_clear_other}
 use Rattle.goods_set.specs.Bundles.{AreAbove, has_good}
-use Rattle.goods_set.specs.Members.{AreAbove-from_has, has_cases, same_from_has}
-use Rattle.goods_set.specs.Words.{word_bit, word_bit_at, word_goods, word_goods_bundle, word_goods_has, word_goods_parts}
+use Rattle.goods_set.specs.Lemmas.Members.{AreAbove-from_has, has_cases, same_from_has}
+use Rattle.goods_set.specs.Words.{word_bit, word_goods}
+use Rattle.goods_set.specs.Lemmas.Words.{word_bit_at, word_goods_bundle, word_goods_has, word_goods_parts}
 use Rattle.goods_set.proofs.Bits.{no_bits}
 
 -- ---- one word
@@ -34,12 +35,16 @@ without_bit w t = bit_and w (bit_not w64 (1 * 2 ^ t % 2 ^ 64))
 
 lowest_first : (w t : ℕ) → t < 64 → bit_at w t ≡ 1 → ((i : ℕ) → i < t → bit_at w i ≡ 0) → word_goods 64 (w ∷ []) ≡ t ∷ word_goods 64 (without_bit w t ∷ [])
 lowest_first w t l here low =
-    same_from_has (word_goods 64 (w ∷ [])) (t ∷ word_goods 64 (without_bit w t ∷ [])) (word_goods_bundle 64 (w ∷ [])).0 (above, (word_goods_bundle 64 (without_bit w t ∷ [])).0)
+    same_from_has (word_goods 64 (w ∷ [])) (t ∷ word_goods 64 (without_bit w t ∷ [])) (word_goods_bundle 64 (w ∷ [])).0 (
+      above,
+      (word_goods_bundle 64 (without_bit w t ∷ [])).0,
+    )
     (λ g h. let p : (g < 64) × (bit_at w g ≡ 1) = one_word_parts w g h in
     ⊎_elim (λ (e : t ≡ g). or_left (eqb t g) (has_good (word_goods 64 (without_bit w t ∷ [])) g) (eq-eqb t g e))
     (λ (n : t ≡ g → ⊥). or_right (eqb t g) (has_good (word_goods 64 (without_bit w t ∷ [])) g) (one_word_has (without_bit w t) g p.0 (other g p.0 n ∙ p.1)))
     (cases_eq t g))
-    (λ g h. ⊎_elim (λ (e : t ≡ g). one_word_has w g (omega arith) (ap (bit_at w) (sym e) ∙ here)) (λ (k : has_good (word_goods 64 (without_bit w t ∷ [])) g ≡ true). (left g k).1) (has_cases t (word_goods 64 (without_bit w t ∷ [])) g h))
+    (λ g h. ⊎_elim (λ (e : t ≡ g). one_word_has w g (omega arith) (ap (bit_at w) (sym e) ∙ here))
+    (λ (k : has_good (word_goods 64 (without_bit w t ∷ [])) g ≡ true). (left g k).1) (has_cases t (word_goods 64 (without_bit w t ∷ [])) g h))
   where
     other : (g : ℕ) → g < 64 → (t ≡ g → ⊥) → bit_at (without_bit w t) g ≡ bit_at w g
     other g m n = bit_at_clear_other w64 w t l g m (λ e. n (sym e))
@@ -50,18 +55,23 @@ lowest_first w t l here low =
         let p : (g < 64) × (bit_at (without_bit w t) g ≡ 1) = one_word_parts (without_bit w t) g k in
         let gone : bit_at (without_bit w t) t ≡ 0 = bit_at_clear_same w64 w t l in
         let n : t ≢ g = λ e. (let z : bit_at (without_bit w t) g ≡ 0 = ap (bit_at (without_bit w t)) (sym e) ∙ gone in omega arith) in
-        let b : bit_at w g ≡ 1 = sym (other g p.0 n) ∙ p.1 in
-        (⊎_elim (λ (m : g < t). let z : bit_at w g ≡ 0 = low g m in absurd (omega arith)) (λ (m : t ≤ g). let r : t < g = omega arith in r) (cases_lt g t), one_word_has w g p.0 b)
+        let b : bit_at w g ≡ 1 = sym (other g p.0 n) ∙ p.1 in (
+          ⊎_elim (λ (m : g < t). let z : bit_at w g ≡ 0 = low g m in absurd (omega arith)) (λ (m : t ≤ g). let r : t < g = omega arith in r) (cases_lt g t),
+          one_word_has w g p.0 b,
+        )
 
     above : AreAbove t (word_goods 64 (without_bit w t ∷ []))
     above = AreAbove-from_has t (word_goods 64 (without_bit w t ∷ [])) (λ g k. (left g k).0)
 
 -- the step of a loop over the bits of a word
-pub bits_more : (w t first : ℕ) (out new all : List ℕ) → w ≢ 0 → w < 2 ^ 64 → t ≡ trailing_zeros w64 w → new ≡ out ++ (first + t) ∷ [] → out ++ map (λ place. first + place) (word_goods 64 (w ∷ [])) ≡ all
+pub bits_more : (w t first : ℕ) (out new all : List ℕ) → w ≢ 0 → w < 2 ^ 64 → t ≡ trailing_zeros w64 w → new ≡ out ++ (first + t) ∷ []
+    → out ++ map (λ place. first + place) (word_goods 64 (w ∷ [])) ≡ all
     → new ++ map (λ place. first + place) (word_goods 64 (bit_and w (bit_not w64 (1 * 2 ^ t % 2 ^ 64)) ∷ [])) ≡ all
 bits_more w t first out new all some fits is more before =
-    let low : (trailing_zeros w64 w < 64) × (bit_at w (trailing_zeros w64 w) ≡ 1) × ((i : ℕ) → i < trailing_zeros w64 w → bit_at w i ≡ 0) = bit_at-trailing_zeros w64 w (omega arith) fits in
-    let next : word_goods 64 (w ∷ []) ≡ t ∷ word_goods 64 (without_bit w t ∷ []) = lowest_first w t (omega arith) (ap (bit_at w) is ∙ low.1) (λ i l. low.2 i (omega arith)) in
+    let low : (trailing_zeros w64 w < 64) × (bit_at w (trailing_zeros w64 w) ≡ 1) × ((i : ℕ) → i < trailing_zeros w64 w → bit_at w i ≡ 0) =
+    bit_at-trailing_zeros w64 w (omega arith) fits in
+    let next : word_goods 64 (w ∷ []) ≡ t ∷ word_goods 64 (without_bit w t ∷ []) =
+    lowest_first w t (omega arith) (ap (bit_at w) is ∙ low.1) (λ i l. low.2 i (omega arith)) in
     let rest : List ℕ = map (λ place. first + place) (word_goods 64 (without_bit w t ∷ [])) in
     ap (λ (xs : List ℕ). xs ++ rest) more ∙ append_assoc out ((first + t) ∷ []) rest
     ∙ ap (λ (xs : List ℕ). out ++ map (λ place. first + place) xs) (sym next) ∙ before
@@ -73,10 +83,13 @@ bits_all first out all w none before =
     sym (append-nil out) ∙ ap (λ (xs : List ℕ). out ++ map (λ place. first + place) xs) (sym empty) ∙ before
 
 -- how many bits are left falls
-pub fewer_bits : (w t : ℕ) → w ≢ 0 → w < 2 ^ 64 → t ≡ trailing_zeros w64 w → length (word_goods 64 (bit_and w (bit_not w64 (1 * 2 ^ t % 2 ^ 64)) ∷ [])) < length (word_goods 64 (w ∷ []))
+pub fewer_bits : (w t : ℕ) → w ≢ 0 → w < 2 ^ 64 → t ≡ trailing_zeros w64 w → length (word_goods 64 (bit_and w (bit_not w64 (1 * 2 ^ t % 2 ^ 64)) ∷ []))
+    < length (word_goods 64 (w ∷ []))
 fewer_bits w t some fits is =
-    let low : (trailing_zeros w64 w < 64) × (bit_at w (trailing_zeros w64 w) ≡ 1) × ((i : ℕ) → i < trailing_zeros w64 w → bit_at w i ≡ 0) = bit_at-trailing_zeros w64 w (omega arith) fits in
-    let next : word_goods 64 (w ∷ []) ≡ t ∷ word_goods 64 (without_bit w t ∷ []) = lowest_first w t (omega arith) (ap (bit_at w) is ∙ low.1) (λ i l. low.2 i (omega arith)) in
+    let low : (trailing_zeros w64 w < 64) × (bit_at w (trailing_zeros w64 w) ≡ 1) × ((i : ℕ) → i < trailing_zeros w64 w → bit_at w i ≡ 0) =
+    bit_at-trailing_zeros w64 w (omega arith) fits in
+    let next : word_goods 64 (w ∷ []) ≡ t ∷ word_goods 64 (without_bit w t ∷ []) =
+    lowest_first w t (omega arith) (ap (bit_at w) is ∙ low.1) (λ i l. low.2 i (omega arith)) in
     omega (arith, ap length next)
 
 -- ---- one word after another
@@ -89,29 +102,35 @@ filter_split p a zero n =
 filter_split p a (suc m) n =
     let z : suc m + n ≡ suc (m + n) = omega arith in
     let y : a + suc m ≡ a + 1 + m = omega arith in
-    ap (λ k. filter p (range_with_len a k)) z ∙ one (p a) (filter_split p (a + 1) m n) ∙ ap (λ b. filter p (range_with_len a (suc m)) ++ filter p (range_with_len b n)) (sym y)
+    ap (λ k. filter p (range_with_len a k)) z ∙ one (p a) (filter_split p (a + 1) m n)
+    ∙ ap (λ b. filter p (range_with_len a (suc m)) ++ filter p (range_with_len b n)) (sym y)
   where
     one : (c : Bool) → filter p (range_with_len (a + 1) (m + n)) ≡ filter p (range_with_len (a + 1) m) ++ filter p (range_with_len (a + 1 + m) n)
-        → cond c (a ∷ filter p (range_with_len (a + 1) (m + n))) (filter p (range_with_len (a + 1) (m + n))) ≡ cond c (a ∷ filter p (range_with_len (a + 1) m)) (filter p (range_with_len (a + 1) m)) ++ filter p (range_with_len (a + 1 + m) n)
+        → cond c (a ∷ filter p (range_with_len (a + 1) (m + n))) (filter p (range_with_len (a + 1) (m + n))) ≡ cond c (a ∷ filter p (range_with_len (a + 1) m))
+        (filter p (range_with_len (a + 1) m)) ++ filter p (range_with_len (a + 1 + m) n)
     one true h = ap (λ (xs : List ℕ). a ∷ xs) h
     one false h = h
 
 -- the goods from the one at bit i of word k on, by the bits of the word
 shifted : (ws : List ℕ) (k j i n : ℕ) → j ≡ 64 * k + i → i + n ≤ 64
-    → filter (λ g. eqb (word_bit ws g) 1) (range_with_len j n) ≡ map (λ place. 64 * k + place) (filter (λ g. eqb (word_bit (get_or ws k 0 ∷ []) g) 1) (range_with_len i n))
+    → filter (λ g. eqb (word_bit ws g) 1) (range_with_len j n)
+    ≡ map (λ place. 64 * k + place) (filter (λ g. eqb (word_bit (get_or ws k 0 ∷ []) g) 1) (range_with_len i n))
 shifted ws k j i zero e l = refl
 shifted ws k j i (suc n) e l =
     let h = shifted ws k (j + 1) (i + 1) n (omega arith) (omega arith) in
-    let b : word_bit ws j ≡ word_bit (get_or ws k 0 ∷ []) i = ap (word_bit ws) e ∙ word_bit_at ws k i (omega arith) ∙ sym (one_word (get_or ws k 0) i (omega arith)) in
+    let b : word_bit ws j ≡ word_bit (get_or ws k 0 ∷ []) i = ap (word_bit ws) e ∙ word_bit_at ws k i (omega arith)
+    ∙ sym (one_word (get_or ws k 0) i (omega arith)) in
     one (eqb (word_bit ws j) 1) (eqb (word_bit (get_or ws k 0 ∷ []) i) 1) _ _ (ap (λ x. eqb x 1) b) h
   where
-    one : (c d : Bool) (xs ys : List ℕ) → c ≡ d → xs ≡ map (λ place. 64 * k + place) ys → cond c (j ∷ xs) xs ≡ map (λ place. 64 * k + place) (cond d (i ∷ ys) ys)
+    one : (c d : Bool) (xs ys : List ℕ) → c ≡ d → xs ≡ map (λ place. 64 * k + place) ys
+        → cond c (j ∷ xs) xs ≡ map (λ place. 64 * k + place) (cond d (i ∷ ys) ys)
     one true true xs ys q h = ap₂ (λ (x : ℕ) (zs : List ℕ). x ∷ zs) e h
     one true false xs ys q h = absurd (cc)
     one false true xs ys q h = absurd (cc)
     one false false xs ys q h = h
 
-one_word_more : (ws : List ℕ) (k : ℕ) → word_goods (64 * (k + 1)) ws ≡ word_goods (64 * k) ws ++ map (λ place. 64 * k + place) (word_goods 64 (get_or ws k 0 ∷ []))
+one_word_more : (ws : List ℕ) (k : ℕ) → word_goods (64 * (k + 1)) ws ≡ word_goods (64 * k) ws ++ map (λ place. 64 * k + place)
+    (word_goods 64 (get_or ws k 0 ∷ []))
 unfolding word_goods
 one_word_more ws k =
     let d : 64 * (k + 1) ≡ 64 * k + 64 = omega arith in
@@ -121,7 +140,8 @@ one_word_more ws k =
     ∙ ap (λ (xs : List ℕ). filter (λ g. eqb (word_bit ws g) 1) (range_with_len 0 (64 * k)) ++ xs) (shifted ws k (0 + 64 * k) 0 64 z (omega arith))
 
 -- the step of a loop over words
-pub words_more : (ws : List ℕ) (k first word : ℕ) (before out new : List ℕ) → first ≡ 64 * k → word ≡ get_or ws k 0 → out ≡ before ++ word_goods (64 * k) ws → new ≡ out ++ map (λ place. first + place) (word_goods 64 (word ∷ [])) → new ≡ before ++ word_goods (64 * (k + 1)) ws
+pub words_more : (ws : List ℕ) (k first word : ℕ) (before out new : List ℕ) → first ≡ 64 * k → word ≡ get_or ws k 0 → out ≡ before ++ word_goods (64 * k) ws
+    → new ≡ out ++ map (λ place. first + place) (word_goods 64 (word ∷ [])) → new ≡ before ++ word_goods (64 * (k + 1)) ws
 words_more ws k first word before out new f w so more =
     more ∙ ap₂ (λ (n v : ℕ). out ++ map (λ place. n + place) (word_goods 64 (v ∷ []))) f w
     ∙ ap (λ (xs : List ℕ). xs ++ map (λ place. 64 * k + place) (word_goods 64 (get_or ws k 0 ∷ []))) so

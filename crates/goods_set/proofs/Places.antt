@@ -1,5 +1,5 @@
 -- Where a good stands in a rising list, or where it goes: what a binary search and a partition point tell.
-use Rattle.std.proofs.Common.{◌≡◌, ℕ, zero, suc, ◌^◌, ◌<◌, ◌≤◌, Bool, true, false, cond, eqb, ltb, List, [], ◌∷◌, length, get_or, refl, sym, ap, ◌∙◌, subst, arith, MatchResult}
+use Rattle.std.proofs.Common.{◌≡◌, ℕ, zero, suc, ◌^◌, ◌<◌, ◌≤◌, Bool, true, false, cond, eqb, ltb, List, [], ◌∷◌, length, get_or, refl, sym, ap, ◌∙◌, subst, arith, MatchResult, Bor}
 use Rattle.std.specs.Prelude.{Result, Ok, Err, Option, Some, None}
 use Rattle.std.proofs.lemmas.Bool.{or_left, or_right, or_from, eq-eqb, ne_eqb, ltb-true, ltb-false, lt-ltb, le-ltb, le-leb, lt-leb}
 use Rattle.std.proofs.lemmas.List.Sorted.{searched}
@@ -8,10 +8,9 @@ use Rattle.std.specs.List.Sorted.{IsBinarySearchResult, IsPartitionPoint, IsPart
 use Rattle.std.specs.Ordering.{nat_cmp}
 use Rattle.std.specs.Option.{option_copied}
 use Rattle.std.specs.Slice.{IsItemAt}
-use Rattle.std.proofs.Common.{Bor}
 use Rattle.std.proofs.lemmas.Option.{slice_get-get_or, slice_get_past}
 use Rattle.goods_set.specs.Bundles.{AreAbove, IsRising, IsBundle, has_good, with_good, good_from}
-use Rattle.goods_set.specs.Sizes.{IsBundle-with_good}
+use Rattle.goods_set.specs.Lemmas.Sizes.{IsBundle-with_good}
 
 AreAbove-get_or : (x : ℕ) (xs : List ℕ) (k d : ℕ) → AreAbove x xs → k < length xs → x < get_or xs k d
 AreAbove-get_or x [] k d a l = absurd (omega arith)
@@ -31,29 +30,38 @@ has_at (x ∷ xs) zero g l e = or_left (eqb x g) (has_good xs g) (eq-eqb x g e)
 has_at (x ∷ xs) (suc i) g l e = or_right (eqb x g) (has_good xs g) (has_at xs i g (omega arith) e)
 
 -- a good that is between its neighbours at i is not there, and goes there
-pub missing_at : (xs : List ℕ) (i g : ℕ) → i ≤ length xs → ((k : ℕ) → k < i → get_or xs k 0 < g) → ((k : ℕ) → i ≤ k → k < length xs → g < get_or xs k 0) → (has_good xs g ≡ false) × (insert xs i g ≡ with_good g xs)
+pub missing_at : (xs : List ℕ) (i g : ℕ) → i ≤ length xs → ((k : ℕ) → k < i → get_or xs k 0 < g) → ((k : ℕ) → i ≤ k → k < length xs → g < get_or xs k 0)
+    → (has_good xs g ≡ false) × (insert xs i g ≡ with_good g xs)
 missing_at [] zero g l a b = (refl, refl)
 missing_at [] (suc i) g l a b = absurd (omega arith)
 missing_at (x ∷ xs) zero g l a b =
     let h : g < x = b 0 (omega arith) (omega arith) in
-    let r : (has_good xs g ≡ false) × (insert xs 0 g ≡ with_good g xs) = missing_at xs zero g (omega arith) (λ k m. absurd (omega arith)) (λ k m n. b (suc k) (omega arith) (omega arith)) in
+    let r : (has_good xs g ≡ false) × (insert xs 0 g ≡ with_good g xs) =
+    missing_at xs zero g (omega arith) (λ k m. absurd (omega arith)) (λ k m n. b (suc k) (omega arith) (omega arith)) in
     (or_from (eqb x g) (has_good xs g) (ne_eqb x g (λ e. omega arith)) r.0, rw (lt-ltb g x h) refl)
 missing_at (x ∷ xs) (suc i) g l a b =
     let h : x < g = a 0 (omega arith) in
-    let r : (has_good xs g ≡ false) × (insert xs i g ≡ with_good g xs) = missing_at xs i g (omega arith) (λ k m. a (suc k) (omega arith)) (λ k m n. b (suc k) (omega arith) (omega arith)) in
-    (or_from (eqb x g) (has_good xs g) (ne_eqb x g (λ e. omega arith)) r.0, rw (le-ltb g x (omega arith), ne_eqb g x (λ e. omega arith)) (ap (λ (zs : List ℕ). x ∷ zs) r.1))
+    let r : (has_good xs g ≡ false) × (insert xs i g ≡ with_good g xs) =
+    missing_at xs i g (omega arith) (λ k m. a (suc k) (omega arith)) (λ k m n. b (suc k) (omega arith) (omega arith)) in (
+      or_from (eqb x g) (has_good xs g) (ne_eqb x g (λ e. omega arith)) r.0,
+      rw (le-ltb g x (omega arith), ne_eqb g x (λ e. omega arith)) (ap (λ (zs : List ℕ). x ∷ zs) r.1),
+    )
 
 -- what a binary search for g answers of a rising list
-pub placed : (xs : List ℕ) (g : ℕ) (r : Result ℕ ℕ) → IsRising xs → IsBinarySearchResult (λ y. nat_cmp y g) xs r → MatchResult r (λ i. has_good xs g ≡ true) (λ i. (i ≤ length xs) × (has_good xs g ≡ false) × (insert xs i g ≡ with_good g xs))
+pub placed : (xs : List ℕ) (g : ℕ) (r : Result ℕ ℕ) → IsRising xs → IsBinarySearchResult (λ y. nat_cmp y g) xs r
+    → MatchResult r (λ i. has_good xs g ≡ true) (λ i. (i ≤ length xs) × (has_good xs g ≡ false) × (insert xs i g ≡ with_good g xs))
 placed xs g r s h = by r (searched xs g r h (λ i j l m. rising_get_or xs i j 0 s l m))
   where
-    by : (r : Result ℕ ℕ) → MatchResult r (λ i. (i < length xs) × (get_or xs i 0 ≡ g)) (λ i. (i ≤ length xs) × ((k : ℕ) → k < i → get_or xs k 0 < g) × ((k : ℕ) → i ≤ k → k < length xs → g < get_or xs k 0)) → MatchResult r (λ i. has_good xs g ≡ true) (λ i. (i ≤ length xs) × (has_good xs g ≡ false) × (insert xs i g ≡ with_good g xs))
+    by : (r : Result ℕ ℕ) → MatchResult r (λ i. (i < length xs) × (get_or xs i 0 ≡ g)) (λ i. (i ≤ length xs) × ((k : ℕ) → k < i → get_or xs k 0 < g)
+        × ((k : ℕ) → i ≤ k → k < length xs → g < get_or xs k 0)) → MatchResult r (λ i. has_good xs g ≡ true) (λ i. (i ≤ length xs) × (has_good xs g ≡ false)
+        × (insert xs i g ≡ with_good g xs))
     by (Ok i) h = has_at xs i g h.0 h.1
     by (Err i) h = let m : (has_good xs g ≡ false) × (insert xs i g ≡ with_good g xs) = missing_at xs i g h.0 h.1 h.2 in (h.0, m.0, m.1)
 
 -- a rising list is parted by the goods below a bound
 pub parted : (xs : List ℕ) (g : ℕ) → IsRising xs → IsPartitionedBy (λ y. ltb y g) xs
-parted xs g r i j d l k h = let m : get_or xs i d ≤ get_or xs j d = rising_get_or xs i j d r l k in let n : get_or xs j d < g = ltb-true (get_or xs j d) g h in lt-ltb (get_or xs i d) g (omega arith)
+parted xs g r i j d l k h = let m : get_or xs i d ≤ get_or xs j d = rising_get_or xs i j d r l k in let n : get_or xs j d < g = ltb-true (get_or xs j d) g h in
+    lt-ltb (get_or xs i d) g (omega arith)
 
 -- the first good that is not below the bound is the next one
 pub next_at : (xs : List ℕ) (g i : ℕ) → i ≤ length xs → IsPartitionPoint (λ y. ltb y g ≡ true) (λ y. ltb y g ≡ false) xs i → slice_get xs i ≡ good_from xs g
@@ -61,7 +69,10 @@ next_at [] g i l p = refl
 next_at (x ∷ xs) g zero l p = let m : g ≤ x = ltb-false x g (p.1 0 0 (omega arith) (omega arith)) in rw (le-leb g x m) refl
 next_at (x ∷ xs) g (suc i) l p =
     let m : x < g = ltb-true x g (p.0 0 0 (omega arith) (omega arith)) in
-    rw (lt-leb g x m) (next_at xs g i (omega arith) (λ k d a b. p.0 (suc k) d (omega arith) (omega arith), λ k d a b. p.1 (suc k) d (omega arith) (omega arith)))
+    rw (lt-leb g x m) (next_at xs g i (omega arith) (
+      λ k d a b. p.0 (suc k) d (omega arith) (omega arith),
+      λ k d a b. p.1 (suc k) d (omega arith) (omega arith),
+    ))
 
 -- what `get` lends, copied
 pub got : (xs : List ℕ) (i : ℕ) (r : Option (Bor ℕ)) → IsItemAt xs i r → option_copied r ≡ slice_get xs i
@@ -69,6 +80,7 @@ got xs i None h = sym (slice_get_past xs i h.3)
 got xs i (Some x) h = sym (slice_get-get_or xs i x.now h.3.0 ∙ ap Some (sym (h.3.1 x.now)))
 
 -- the good that was put, or not put for want of memory, leaves a bundle
-pub kept_bundle : (xs : List ℕ) (g i : ℕ) (done : Bool) → IsBundle 65536 xs → g < 2 ^ 16 → insert xs i g ≡ with_good g xs → (ys : List ℕ) → ys ≡ cond done (insert xs i g) xs → IsBundle 65536 ys
+pub kept_bundle : (xs : List ℕ) (g i : ℕ) (done : Bool) → IsBundle 65536 xs → g < 2 ^ 16 → insert xs i g ≡ with_good g xs → (ys : List ℕ)
+    → ys ≡ cond done (insert xs i g) xs → IsBundle 65536 ys
 kept_bundle xs g i true b l e ys is = subst (λ (zs : List ℕ). IsBundle 65536 zs) (sym (is ∙ e)) (IsBundle-with_good 65536 g xs l b)
 kept_bundle xs g i false b l e ys is = subst (λ (zs : List ℕ). IsBundle 65536 zs) (sym is) b

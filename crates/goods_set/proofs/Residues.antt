@@ -7,7 +7,7 @@ use Rattle.std.proofs.lemmas.List.{take_more}
 use Rattle.std.proofs.lemmas.Nat.{and_le_l}
 use Rattle.std.proofs.lemmas.Nat.Bits.{bit_at-lt, bit_at_or, bit_at_and, bit_at_not, bit_at-pow_same, bit_at-pow_other, bit_at-trailing_zeros, bit_at-zero, shr_and_one}
 use Rattle.goods_set.specs.Bundles.{IsInside, has_good, is_inside}
-use Rattle.goods_set.specs.Residues.{residues_from, residues_of}
+use Rattle.goods_set.specs.Internal.Residues.{residues_from, residues_of}
 
 -- ---- one bit more
 
@@ -20,10 +20,12 @@ one_shifted : (k : ℕ) → k < 64 → 1 * 2 ^ k % 2 ^ 64 ≡ 2 ^ k
 one_shifted k l = shl_exact {a = 1} 1 (k) 64 (omega arith) (omega arith) ∙ (let e : 1 * 2 ^ k ≡ 2 ^ k = omega arith in e)
 
 -- the turn of the loop that sets the bit of a good
-pub residues_more : (bits : ℕ) (xs : List ℕ) (i : ℕ) → i < length xs → bits ≡ residues_of (take i xs) → bit_or bits (1 * 2 ^ (get_or xs i 0 % 64) % 2 ^ 64) ≡ residues_of (take (i + 1) xs)
+pub residues_more : (bits : ℕ) (xs : List ℕ) (i : ℕ) → i < length xs → bits ≡ residues_of (take i xs) → bit_or bits (1 * 2 ^ (get_or xs i 0 % 64) % 2 ^ 64)
+    ≡ residues_of (take (i + 1) xs)
 residues_more bits xs i l e =
     let x : ℕ = get_or xs i 0 in
-    ap (bit_or bits) (one_shifted (x % 64) (omega arith)) ∙ ap (λ b. bit_or b (2 ^ (x % 64))) e ∙ sym (push 0 (take i xs) x) ∙ ap residues_of (sym (take_more xs i 0 l))
+    ap (bit_or bits) (one_shifted (x % 64) (omega arith)) ∙ ap (λ b. bit_or b (2 ^ (x % 64))) e ∙ sym (push 0 (take i xs) x)
+    ∙ ap residues_of (sym (take_more xs i 0 l))
 
 -- ---- which bits are set
 
@@ -49,7 +51,8 @@ inside_from bits [] ys k z e i = absurd (omega (arith, z, e))
 inside_from bits (x ∷ xs) ys k z e i =
     let p = and_parts (has_good ys x) (is_inside xs ys) i in
     ⊎_elim (λ (same : k ≡ x % 64). ap (bit_at (residues_of ys)) same ∙ marked_from 0 ys x p.0)
-    (λ (apart : k ≡ x % 64 → ⊥). inside_from (bit_or bits (2 ^ (x % 64))) xs ys k (omega (arith, bit_at_or bits (2 ^ (x % 64)) k, bit_at-pow_other (x % 64) k apart, z)) e p.1)
+    (λ (apart : k ≡ x % 64 → ⊥). inside_from (bit_or bits (2 ^ (x % 64))) xs ys k
+    (omega (arith, bit_at_or bits (2 ^ (x % 64)) k, bit_at-pow_other (x % 64) k apart, z)) e p.1)
     (cases_eq k (x % 64))
 
 -- ---- the two tests
@@ -59,9 +62,11 @@ pub may_have : (bits : ℕ) (xs : List ℕ) (g : ℕ) → bits ≡ residues_of x
 may_have bits xs g is h = eq-eqb _ 1 (shr_and_one bits (g % 64) ∙ ap (λ b. bit_at b (g % 64)) is ∙ marked_from 0 xs g h)
 
 -- the test `bits & !others == 0`
-pub may_be_inside : (bits others : ℕ) (xs ys : List ℕ) → bits < 2 ^ 64 → others < 2 ^ 64 → bits ≡ residues_of xs → others ≡ residues_of ys → IsInside xs ys → eqb (bit_and bits (bit_not w64 others)) 0 ≡ true
+pub may_be_inside : (bits others : ℕ) (xs ys : List ℕ) → bits < 2 ^ 64 → others < 2 ^ 64 → bits ≡ residues_of xs → others ≡ residues_of ys → IsInside xs ys
+    → eqb (bit_and bits (bit_not w64 others)) 0 ≡ true
 may_be_inside bits others xs ys fits fit is are i =
-    ⊎_elim (λ (none : bit_and bits (bit_not w64 others) ≡ 0). eq-eqb _ 0 none) (λ (some : bit_and bits (bit_not w64 others) ≡ 0 → ⊥). absurd (clash some)) (cases_eq (bit_and bits (bit_not w64 others)) 0)
+    ⊎_elim (λ (none : bit_and bits (bit_not w64 others) ≡ 0). eq-eqb _ 0 none) (λ (some : bit_and bits (bit_not w64 others) ≡ 0 → ⊥). absurd (clash some))
+    (cases_eq (bit_and bits (bit_not w64 others)) 0)
   where
     clash : (bit_and bits (bit_not w64 others) ≡ 0 → ⊥) → ⊥
     clash some =

@@ -14,8 +14,9 @@ use Rattle.std.proofs.lemmas.Nat.Bits.{bit_at-lt, bit_at-zero, bit_at_and, bit_a
 use Rattle.std.proofs.lemmas.Nat.{and_le_l}
 use Rattle.std.proofs.lemmas.Simd.{mask_l-lt, bit_mask_l, ones-mask_l}
 use Rattle.goods_set.specs.Bundles.{good_from}
-use Rattle.goods_set.specs.Sizes.{good_from_next, good_from_none}
-use Rattle.goods_set.specs.Words.{word_bit, word_bit_at, word_goods, word_goods_bundle, word_goods_has, word_goods_lacks, word_goods_past}
+use Rattle.goods_set.specs.Lemmas.Sizes.{good_from_next, good_from_none}
+use Rattle.goods_set.specs.Words.{word_bit, word_goods}
+use Rattle.goods_set.specs.Lemmas.Words.{word_bit_at, word_goods_bundle, word_goods_has, word_goods_lacks, word_goods_past}
 
 -- ---- how many
 
@@ -23,8 +24,10 @@ use Rattle.goods_set.specs.Words.{word_bit, word_bit_at, word_goods, word_goods_
 word_from_bits : (w : ℕ) → w < 2 ^ 64 → mask_l (map (λ i. eqb (bit_at w i) 1) (range_with_len 0 64)) ≡ w
 word_from_bits w l =
     let f : ℕ → Bool = λ i. eqb (bit_at w i) 1 in
-    let n : length (map (λ i. eqb (bit_at w i) 1) (range_with_len 0 64)) ≡ 64 = length-map (range_with_len 0 64) (λ i. eqb (bit_at w i) 1) ∙ length-range_with_len 0 64 in
-    let m : mask_l (map (λ i. eqb (bit_at w i) 1) (range_with_len 0 64)) < 2 ^ 64 = subst (λ k. mask_l (map (λ i. eqb (bit_at w i) 1) (range_with_len 0 64)) < 2 ^ k) n (mask_l-lt (map (λ i. eqb (bit_at w i) 1) (range_with_len 0 64))) in
+    let n : length (map (λ i. eqb (bit_at w i) 1) (range_with_len 0 64)) ≡ 64 = length-map (range_with_len 0 64) (λ i. eqb (bit_at w i) 1)
+    ∙ length-range_with_len 0 64 in
+    let m : mask_l (map (λ i. eqb (bit_at w i) 1) (range_with_len 0 64)) < 2 ^ 64 =
+    subst (λ k. mask_l (map (λ i. eqb (bit_at w i) 1) (range_with_len 0 64)) < 2 ^ k) n (mask_l-lt (map (λ i. eqb (bit_at w i) 1) (range_with_len 0 64))) in
     same_from_bits_below 64 (mask_l (map (λ i. eqb (bit_at w i) 1) (range_with_len 0 64))) w m l (λ i k.
     bit_mask_l (map (λ j. eqb (bit_at w j) 1) (range_with_len 0 64)) i
     ∙ ap (λ b. cond b 1 0) (get_or-map-range_with_len (λ j. eqb (bit_at w j) 1) 0 64 i i false k (omega arith))
@@ -34,15 +37,20 @@ word_from_bits w l =
     bit b l = ⊎_elim (λ (e : b ≡ 1). rw (eq-eqb b 1 e) (sym e)) (λ (n : b ≡ 1 → ⊥). let z : b ≡ 0 = omega arith in rw (ne_eqb b 1 n) (sym z)) (cases_eq b 1)
 
 ones_are : (w : ℕ) → w < 2 ^ 64 → length (filter (λ i. eqb (bit_at w i) 1) (range_with_len 0 64)) ≡ count_ones w
-ones_are w l = length-filter (λ i. eqb (bit_at w i) 1) (range_with_len 0 64) ∙ sym (ones-mask_l (λ i. eqb (bit_at w i) 1) (range_with_len 0 64)) ∙ ap count_ones (word_from_bits w l)
+ones_are w l = length-filter (λ i. eqb (bit_at w i) 1) (range_with_len 0 64) ∙ sym (ones-mask_l (λ i. eqb (bit_at w i) 1) (range_with_len 0 64))
+    ∙ ap count_ones (word_from_bits w l)
 
 -- the bits of one word among the goods
-bits_of_word : (ws : List ℕ) (k j i n : ℕ) → j ≡ 64 * k + i → i + n ≤ 64 → length (filter (λ g. eqb (word_bit ws g) 1) (range_with_len j n)) ≡ length (filter (λ b. eqb (bit_at (get_or ws k 0) b) 1) (range_with_len i n))
+bits_of_word : (ws : List ℕ) (k j i n : ℕ) → j ≡ 64 * k + i → i + n ≤ 64 → length (filter (λ g. eqb (word_bit ws g) 1) (range_with_len j n))
+    ≡ length (filter (λ b. eqb (bit_at (get_or ws k 0) b) 1) (range_with_len i n))
 bits_of_word ws k j i zero e l = refl
 bits_of_word ws k j i (suc n) e l =
-    let h : length (filter (λ g. eqb (word_bit ws g) 1) (range_with_len (j + 1) n)) ≡ length (filter (λ b. eqb (bit_at (get_or ws k 0) b) 1) (range_with_len (i + 1) n)) = bits_of_word ws k (j + 1) (i + 1) n (omega arith) (omega arith) in
+    let h : length (filter (λ g. eqb (word_bit ws g) 1) (range_with_len (j + 1) n))
+    ≡ length (filter (λ b. eqb (bit_at (get_or ws k 0) b) 1) (range_with_len (i + 1) n)) =
+    bits_of_word ws k (j + 1) (i + 1) n (omega arith) (omega arith) in
     let b : word_bit ws j ≡ bit_at (get_or ws k 0) i = ap (word_bit ws) e ∙ word_bit_at ws k i (omega arith) in
-    one (eqb (word_bit ws j) 1) (eqb (bit_at (get_or ws k 0) i) 1) j i (filter (λ g. eqb (word_bit ws g) 1) (range_with_len (j + 1) n)) (filter (λ b. eqb (bit_at (get_or ws k 0) b) 1) (range_with_len (i + 1) n)) (ap (λ x. eqb x 1) b) h
+    one (eqb (word_bit ws j) 1) (eqb (bit_at (get_or ws k 0) i) 1) j i (filter (λ g. eqb (word_bit ws g) 1) (range_with_len (j + 1) n))
+    (filter (λ b. eqb (bit_at (get_or ws k 0) b) 1) (range_with_len (i + 1) n)) (ap (λ x. eqb x 1) b) h
   where
     one : (c d : Bool) (x y : ℕ) (xs ys : List ℕ) → c ≡ d → length xs ≡ length ys → length (cond c (x ∷ xs) xs) ≡ length (cond d (y ∷ ys) ys)
     one true true x y xs ys e h = ap suc h
@@ -50,29 +58,37 @@ bits_of_word ws k j i (suc n) e l =
     one false true x y xs ys e h = absurd (cc)
     one false false x y xs ys e h = h
 
-filter_range : (p : ℕ → Bool) (a m n : ℕ) → length (filter p (range_with_len a (m + n))) ≡ length (filter p (range_with_len a m)) + length (filter p (range_with_len (a + m) n))
+filter_range : (p : ℕ → Bool) (a m n : ℕ) → length (filter p (range_with_len a (m + n))) ≡ length (filter p (range_with_len a m))
+    + length (filter p (range_with_len (a + m) n))
 filter_range p a zero n =
     let z : 0 + n ≡ n = omega arith in
     let y : a ≡ a + 0 = omega arith in
-    ap₂ (λ (k b : ℕ). length (filter p (range_with_len b k))) z y ∙ (let e : length (filter p (range_with_len (a + 0) n)) ≡ 0 + length (filter p (range_with_len (a + 0) n)) = omega arith in e)
+    ap₂ (λ (k b : ℕ). length (filter p (range_with_len b k))) z y
+    ∙ (let e : length (filter p (range_with_len (a + 0) n)) ≡ 0 + length (filter p (range_with_len (a + 0) n)) = omega arith in e)
 filter_range p a (suc m) n =
     let z : suc m + n ≡ suc (m + n) = omega arith in
     let y : a + suc m ≡ a + 1 + m = omega arith in
-    ap (λ k. length (filter p (range_with_len a k))) z ∙ one (p a) (filter_range p (a + 1) m n) ∙ ap (λ b. length (filter p (range_with_len a (suc m))) + length (filter p (range_with_len b n))) (sym y)
+    ap (λ k. length (filter p (range_with_len a k))) z ∙ one (p a) (filter_range p (a + 1) m n)
+    ∙ ap (λ b. length (filter p (range_with_len a (suc m))) + length (filter p (range_with_len b n))) (sym y)
   where
-    one : (c : Bool) → length (filter p (range_with_len (a + 1) (m + n))) ≡ length (filter p (range_with_len (a + 1) m)) + length (filter p (range_with_len (a + 1 + m) n)) → length (cond c (a ∷ filter p (range_with_len (a + 1) (m + n))) (filter p (range_with_len (a + 1) (m + n)))) ≡ length (cond c (a ∷ filter p (range_with_len (a + 1) m)) (filter p (range_with_len (a + 1) m))) + length (filter p (range_with_len (a + 1 + m) n))
+    one : (c : Bool) → length (filter p (range_with_len (a + 1) (m + n))) ≡ length (filter p (range_with_len (a + 1) m))
+        + length (filter p (range_with_len (a + 1 + m) n))
+        → length (cond c (a ∷ filter p (range_with_len (a + 1) (m + n))) (filter p (range_with_len (a + 1) (m + n))))
+        ≡ length (cond c (a ∷ filter p (range_with_len (a + 1) m)) (filter p (range_with_len (a + 1) m))) + length (filter p (range_with_len (a + 1 + m) n))
     one true h = omega arith
     one false h = h
 
 -- the step of a loop that counts
-pub count_more : (ws : List ℕ) (k : ℕ) → get_or ws k 0 < 2 ^ 64 → length (word_goods (64 * (k + 1)) ws) ≡ length (word_goods (64 * k) ws) + count_ones (get_or ws k 0)
+pub count_more : (ws : List ℕ) (k : ℕ) → get_or ws k 0 < 2 ^ 64 → length (word_goods (64 * (k + 1)) ws) ≡ length (word_goods (64 * k) ws)
+    + count_ones (get_or ws k 0)
 unfolding word_goods
 count_more ws k l =
     let d : 64 * (k + 1) ≡ 64 * k + 64 = omega arith in
     let z : 0 + 64 * k ≡ 64 * k + 0 = omega arith in
     ap (λ n. length (filter (λ g. eqb (word_bit ws g) 1) (range_with_len 0 n))) d
     ∙ filter_range (λ g. eqb (word_bit ws g) 1) 0 (64 * k) 64
-    ∙ ap (λ n. length (filter (λ g. eqb (word_bit ws g) 1) (range_with_len 0 (64 * k))) + n) (bits_of_word ws k (0 + 64 * k) 0 64 z (omega arith) ∙ ones_are (get_or ws k 0) l)
+    ∙ ap (λ n. length (filter (λ g. eqb (word_bit ws g) 1) (range_with_len 0 (64 * k))) + n) (bits_of_word ws k (0 + 64 * k) 0 64 z (omega arith)
+    ∙ ones_are (get_or ws k 0) l)
 
 pub count_none : (ws : List ℕ) → length (word_goods (64 * 0) ws) ≡ 0
 unfolding word_goods
@@ -82,7 +98,8 @@ length_filter : (p : ℕ → Bool) (a n : ℕ) → length (filter p (range_with_
 length_filter p a zero = omega arith
 length_filter p a (suc n) = one (p a) (length_filter p (a + 1) n)
   where
-    one : (c : Bool) → length (filter p (range_with_len (a + 1) n)) ≤ n → length (cond c (a ∷ filter p (range_with_len (a + 1) n)) (filter p (range_with_len (a + 1) n))) ≤ suc n
+    one : (c : Bool) → length (filter p (range_with_len (a + 1) n)) ≤ n
+        → length (cond c (a ∷ filter p (range_with_len (a + 1) n)) (filter p (range_with_len (a + 1) n))) ≤ suc n
     one true h = omega arith
     one false h = omega arith
 
@@ -101,7 +118,8 @@ pub record IsScan (ws : List ℕ) (from place rest : ℕ) : Type 0 where
   pub below : (i : ℕ) → i < 64 → 64 * place + i < from → bit_at rest i ≡ 0
 
 scan_masked : (w k rest i : ℕ) → k < 64 → rest ≡ bit_and w ((2 ^ 64 - 1) * 2 ^ k % 2 ^ 64) → bit_at rest i ≡ min (bit_at w i) (bit_at (2 ^ 64 - 2 ^ k) i)
-scan_masked w k rest i l is = ap (λ r. bit_at r i) is ∙ bit_at_and w ((2 ^ 64 - 1) * 2 ^ k % 2 ^ 64) i ∙ ap (λ m. min (bit_at w i) (bit_at m i)) (ones_shl 64 k (omega arith))
+scan_masked w k rest i l is = ap (λ r. bit_at r i) is ∙ bit_at_and w ((2 ^ 64 - 1) * 2 ^ k % 2 ^ 64) i
+    ∙ ap (λ m. min (bit_at w i) (bit_at m i)) (ones_shl 64 k (omega arith))
 
 scan_kept : (w k rest i : ℕ) → k < 64 → rest ≡ bit_and w ((2 ^ 64 - 1) * 2 ^ k % 2 ^ 64) → k ≤ i → i < 64 → bit_at rest i ≡ bit_at w i
 scan_kept w k rest i l is a b =
@@ -116,9 +134,11 @@ scan_left_out w k rest i l is a =
     let m : bit_at (2 ^ 64 - 2 ^ k) i ≡ 0 = bit_at_mask_below k 64 i a in
     omega arith
 
-pub scan_begun : (ws : List ℕ) (from place rest : ℕ) → place ≡ from / 64 → get_or ws place 0 < 2 ^ 64 → rest ≡ bit_and (get_or ws place 0) ((2 ^ 64 - 1) * 2 ^ (from % 64) % 2 ^ 64) → IsScan ws from place rest
+pub scan_begun : (ws : List ℕ) (from place rest : ℕ) → place ≡ from / 64 → get_or ws place 0 < 2 ^ 64
+    → rest ≡ bit_and (get_or ws place 0) ((2 ^ 64 - 1) * 2 ^ (from % 64) % 2 ^ 64) → IsScan ws from place rest
 scan_begun ws from place rest e l is =
-    let m : bit_and (get_or ws place 0) ((2 ^ 64 - 1) * 2 ^ (from % 64) % 2 ^ 64) ≤ get_or ws place 0 = and_le_l (get_or ws place 0) ((2 ^ 64 - 1) * 2 ^ (from % 64) % 2 ^ 64) in
+    let m : bit_and (get_or ws place 0) ((2 ^ 64 - 1) * 2 ^ (from % 64) % 2 ^ 64) ≤ get_or ws place 0 =
+    and_le_l (get_or ws place 0) ((2 ^ 64 - 1) * 2 ^ (from % 64) % 2 ^ 64) in
     record {
       reached = omega arith;
       passed = λ g a b. absurd (omega arith);
@@ -134,10 +154,12 @@ scan_passed ws from place rest s z g a b = ⊎_elim (λ (l : g < 64 * place). s.
     here : 64 * place ≤ g → word_bit ws g ≡ 0
     here l =
         let d : 64 * place + (g - 64 * place) ≡ g = omega arith in
-        let e : word_bit ws (64 * place + (g - 64 * place)) ≡ 0 = word_bit_at ws place (g - 64 * place) (omega arith) ∙ sym (s.above (g - 64 * place) (omega arith) (omega arith)) ∙ ap (λ x. bit_at x (g - 64 * place)) z ∙ bit_at-zero (g - 64 * place) in
+        let e : word_bit ws (64 * place + (g - 64 * place)) ≡ 0 = word_bit_at ws place (g - 64 * place) (omega arith)
+        ∙ sym (s.above (g - 64 * place) (omega arith) (omega arith)) ∙ ap (λ x. bit_at x (g - 64 * place)) z ∙ bit_at-zero (g - 64 * place) in
         subst (λ x. word_bit ws x ≡ 0) d e
 
-pub scan_more : (ws : List ℕ) (from place rest next word : ℕ) → IsScan ws from place rest → rest ≡ 0 → next ≡ place + 1 → word ≡ get_or ws next 0 → word < 2 ^ 64 → IsScan ws from next word
+pub scan_more : (ws : List ℕ) (from place rest next word : ℕ) → IsScan ws from place rest → rest ≡ 0 → next ≡ place + 1 → word ≡ get_or ws next 0
+    → word < 2 ^ 64 → IsScan ws from next word
 scan_more ws from place rest next word s z n w l =
     let r : from < 64 * (place + 1) = s.reached in
     record {
@@ -149,26 +171,33 @@ scan_more ws from place rest next word s z n w l =
     }
 
 -- every word is passed
-pub scan_ended : (n : ℕ) (ws : List ℕ) (from place rest : ℕ) → IsScan ws from place rest → rest ≡ 0 → n ≤ place + 1 → good_from (word_goods (64 * n) ws) from ≡ None
+pub scan_ended : (n : ℕ) (ws : List ℕ) (from place rest : ℕ) → IsScan ws from place rest → rest ≡ 0 → n ≤ place + 1
+    → good_from (word_goods (64 * n) ws) from ≡ None
 scan_ended n ws from place rest s z l =
-    good_from_none (word_goods (64 * n) ws) from (word_goods_bundle (64 * n) ws).0 (λ g a. ⊎_elim (λ (b : g < 64 * n). word_goods_lacks (64 * n) ws g (scan_passed ws from place rest s z g a (omega arith))) (λ (b : 64 * n ≤ g). word_goods_past (64 * n) ws g b) (cases_lt g (64 * n)))
+    good_from_none (word_goods (64 * n) ws) from (word_goods_bundle (64 * n) ws).0
+    (λ g a. ⊎_elim (λ (b : g < 64 * n). word_goods_lacks (64 * n) ws g (scan_passed ws from place rest s z g a (omega arith)))
+    (λ (b : 64 * n ≤ g). word_goods_past (64 * n) ws g b) (cases_lt g (64 * n)))
 
 pub scan_outside : (n : ℕ) (ws : List ℕ) (from : ℕ) → n ≤ from / 64 → good_from (word_goods (64 * n) ws) from ≡ None
 scan_outside n ws from l = good_from_none (word_goods (64 * n) ws) from (word_goods_bundle (64 * n) ws).0 (λ g a. word_goods_past (64 * n) ws g (omega arith))
 
 -- the lowest one of the rest is the next good
-pub scan_found : (n : ℕ) (ws : List ℕ) (from place rest : ℕ) → IsScan ws from place rest → rest ≢ 0 → place < n → good_from (word_goods (64 * n) ws) from ≡ Some (64 * place + trailing_zeros w64 rest)
+pub scan_found : (n : ℕ) (ws : List ℕ) (from place rest : ℕ) → IsScan ws from place rest → rest ≢ 0 → place < n
+    → good_from (word_goods (64 * n) ws) from ≡ Some (64 * place + trailing_zeros w64 rest)
 scan_found n ws from place rest s z l =
-    let t : (trailing_zeros w64 rest < 64) × (bit_at rest (trailing_zeros w64 rest) ≡ 1) × ((i : ℕ) → i < trailing_zeros w64 rest → bit_at rest i ≡ 0) = bit_at-trailing_zeros w64 rest (omega arith) s.fits in
+    let t : (trailing_zeros w64 rest < 64) × (bit_at rest (trailing_zeros w64 rest) ≡ 1) × ((i : ℕ) → i < trailing_zeros w64 rest → bit_at rest i ≡ 0) =
+    bit_at-trailing_zeros w64 rest (omega arith) s.fits in
     found (trailing_zeros w64 rest) t.0 t.1 t.2 (cases_lt (64 * place + trailing_zeros w64 rest) from)
   where
-    found : (i : ℕ) → i < 64 → bit_at rest i ≡ 1 → ((j : ℕ) → j < i → bit_at rest j ≡ 0) → (64 * place + i < from) ⊎ (from ≤ 64 * place + i) → good_from (word_goods (64 * n) ws) from ≡ Some (64 * place + i)
+    found : (i : ℕ) → i < 64 → bit_at rest i ≡ 1 → ((j : ℕ) → j < i → bit_at rest j ≡ 0) → (64 * place + i < from) ⊎ (from ≤ 64 * place + i)
+        → good_from (word_goods (64 * n) ws) from ≡ Some (64 * place + i)
     found i k b low (inl c) = let e : bit_at rest i ≡ 0 = s.below i k c in absurd (omega arith)
     found i k b low (inr c) = good_from_next (word_goods (64 * n) ws) from (64 * place + i) (word_goods_bundle (64 * n) ws).0 (record {
       there = word_goods_has (64 * n) ws (64 * place + i) (omega arith) (word_bit_at ws place i k ∙ sym (s.above i k c) ∙ b);
       from = c;
       least = λ g d f. word_goods_lacks (64 * n) ws g (⊎_elim (λ (q : g < 64 * place). s.passed g d q) (λ (q : 64 * place ≤ g).
           let m : 64 * place + (g - 64 * place) ≡ g = omega arith in
-          let e : word_bit ws (64 * place + (g - 64 * place)) ≡ 0 = word_bit_at ws place (g - 64 * place) (omega arith) ∙ sym (s.above (g - 64 * place) (omega arith) (omega arith)) ∙ low (g - 64 * place) (omega arith) in
+          let e : word_bit ws (64 * place + (g - 64 * place)) ≡ 0 = word_bit_at ws place (g - 64 * place) (omega arith)
+          ∙ sym (s.above (g - 64 * place) (omega arith) (omega arith)) ∙ low (g - 64 * place) (omega arith) in
           subst (λ x. word_bit ws x ≡ 0) m e) (cases_lt g (64 * place)));
     })

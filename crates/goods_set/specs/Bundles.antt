@@ -1,7 +1,6 @@
--- Bundles of goods (Nisan, "Bidding and allocation in combinatorial auctions", 2000): a bundle over G goods is a strictly
--- rising list of numbers below G. Inside, apart and without are those of sets.
+-- Bundles of goods (Nisan, "Bidding and allocation in combinatorial auctions", 2000): a bundle over G goods is a
+-- strictly rising list of numbers below G. Inside, apart and without are those of sets.
 use Rattle.std.specs.Prelude.{ℕ, ◌<◌, zero, suc, ◌+◌, ◌==◌, nat_lt, nat_le, Bool, not, IsTrue, cond, List, [], ◌∷◌, ◌++◌, map, Option}
-use Rattle.std.specs.Coded.{×_prop, Unit-prop, le_prop}
 use Rattle.std.specs.List.{list_any, list_all, filter, find, flat_map, range_with_len}
 
 -- each member of the list is above g
@@ -22,22 +21,6 @@ IsRising (x ∷ xs) = AreAbove x xs × IsRising xs
 -- a bundle over G goods
 abbrev pub IsBundle : ℕ → List ℕ → Type 0
 IsBundle G xs = IsRising xs × AreBelow G xs
-
--- each fact holds in one way at most, so that a struct may keep it
-AreAbove-prop : (g : ℕ) (xs : List ℕ) → IsProp (AreAbove g xs)
-AreAbove-prop g [] = Unit-prop
-AreAbove-prop g (x ∷ xs) = ×_prop le_prop (AreAbove-prop g xs)
-
-AreBelow-prop : (g : ℕ) (xs : List ℕ) → IsProp (AreBelow g xs)
-AreBelow-prop g [] = Unit-prop
-AreBelow-prop g (x ∷ xs) = ×_prop le_prop (AreBelow-prop g xs)
-
-IsRising-prop : (xs : List ℕ) → IsProp (IsRising xs)
-IsRising-prop [] = Unit-prop
-IsRising-prop (x ∷ xs) = ×_prop (AreAbove-prop x xs) (IsRising-prop xs)
-
-pub IsBundle-prop : (G : ℕ) (xs : List ℕ) → IsProp (IsBundle G xs)
-IsBundle-prop G xs = ×_prop (IsRising-prop xs) (AreBelow-prop G xs)
 
 -- whether the good g is in the list
 abbrev pub has_good : List ℕ → ℕ → Bool
@@ -76,7 +59,8 @@ good_from xs g = find (λ x. nat_le g x) xs
 abbrev pub bundles_from : (n : ℕ) → ℕ → ℕ → List (List ℕ)
 bundles_from n g zero = [] ∷ []
 bundles_from zero g (suc size) = []
-bundles_from (suc n) g (suc size) = map (λ xs. g ∷ xs) (bundles_from n (g + 1) size) ++ bundles_from n (g + 1) (suc size)
+bundles_from (suc n) g (suc size) = map (λ xs. g ∷ xs) (bundles_from n (g + 1) size) ++ bundles_from n (g + 1)
+    (suc size)
 
 -- all bundles over G goods, in order: by size, then lexicographically
 abbrev pub all_bundles : ℕ → List (List ℕ)

@@ -1,11 +1,6 @@
-pub mod AllBundles
+-- What the contracts of this crate cite.
 pub mod Bundles
-pub mod Fronts
-pub mod GoodByGood
-pub mod Laws
-pub mod Members
 pub mod Orders
-pub mod Residues
-pub mod Sizes
-pub mod Sorted
 pub mod Words
+pub mod Lemmas
+pub mod Internal

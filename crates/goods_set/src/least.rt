@@ -1,7 +1,7 @@
 //! The least set that holds so many goods.
 
-/// Calls a function that is generic over sets of goods on the least of a few sets that hold so many goods, the greatest of which
-/// holds 4,096. The fewer words a set has, the less memory it takes and the faster its calls are.
+/// Calls a function that is generic over sets of goods on the least of a few sets that hold so many goods, the greatest
+/// of which holds 4,096. The fewer words a set has, the less memory it takes and the faster its calls are.
 #[macro_export]
 macro_rules! on_least_set {
     ($goods:expr, $call:ident($($argument:expr),*)) => {

@@ -3,9 +3,10 @@ mod summary;
 
 ghost use Rattle.std.specs.Prelude.{◌≡◌, ℕ, ◌<◌, ◌≤◌, [], length, not, true, false, IsOk, IfOk, MatchResult};
 ghost use Rattle.std.specs.List.{insert};
-ghost use Rattle.goods_set.specs.Bundles.{IsBundle, IsBundle-prop, IsInside, IsRising, AreBelow, has_good, with_good};
-ghost use Rattle.goods_set.specs.Fronts.{front_of};
-ghost use Rattle.goods_set.specs.Residues.{residues_of};
+ghost use Rattle.goods_set.specs.Bundles.{IsBundle, IsInside, IsRising, AreBelow, has_good, with_good};
+ghost use Rattle.goods_set.specs.Lemmas.BundleFacts.{IsBundle-prop};
+ghost use Rattle.goods_set.specs.Internal.Fronts.{front_of};
+ghost use Rattle.goods_set.specs.Internal.Residues.{residues_of};
 
 use crate::set::GoodsSet;
 use std::alloc::{AllocError, Global};
@@ -163,7 +164,7 @@ impl GoodsSet for ListSet {
 
     ghost is_bundle = { λ s. s.bundle };
 
-    ghost use Rattle.goods_set.specs.Laws.{list_cap_fits};
+    ghost use Rattle.goods_set.specs.Lemmas.Laws.{list_cap_fits};
 
     ghost cap_fits = { list_cap_fits };
 }

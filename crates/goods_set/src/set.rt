@@ -2,10 +2,22 @@
 ghost use Rattle.std.specs.Prelude.{◌≡◌, ◌⊎◌, ℕ, ◌<◌, ◌≤◌, List, [], ◌++◌, not, length, IfOk, OnOk, OnErr};
 ghost use Rattle.std.specs.Cmp.{IsTotalOrder};
 ghost use Rattle.std.specs.declared.cmp.Ordering.TheVariants.{Less, Equal};
-ghost use Rattle.goods_set.specs.Bundles.{IsBundle, IsInside, IsRising, AreBelow, has_good, is_inside, are_apart, without, with_good, good_from};
-ghost use Rattle.goods_set.specs.Members.{inside_refl, inside_trans};
-ghost use Rattle.goods_set.specs.Orders.{bundle_cmp, bundle_cmp_total, bundle_cmp_equal};
-ghost use Rattle.goods_set.specs.Laws.{inside_antisymm_law, inside_ordered_law};
+ghost use Rattle.goods_set.specs.Bundles.{
+  IsBundle,
+  IsInside,
+  IsRising,
+  AreBelow,
+  has_good,
+  is_inside,
+  are_apart,
+  without,
+  with_good,
+  good_from,
+};
+ghost use Rattle.goods_set.specs.Lemmas.Members.{inside_refl, inside_trans};
+ghost use Rattle.goods_set.specs.Orders.{bundle_cmp};
+ghost use Rattle.goods_set.specs.Lemmas.Orders.{bundle_cmp_total, bundle_cmp_equal};
+ghost use Rattle.goods_set.specs.Lemmas.Laws.{inside_antisymm_law, inside_ordered_law};
 
 use std::alloc::{AllocError, Global};
 use std::cmp::Ordering;

@@ -4,7 +4,8 @@ mod scans;
 
 ghost use Rattle.std.specs.Prelude.{◌≡◌, ℕ, ◌*◌, ◌<◌, ◌≤◌, min, [], not, length, take, IsOk, IfOk, OnErr};
 ghost use Rattle.goods_set.specs.Bundles.{IsRising, AreBelow, has_good, with_good};
-ghost use Rattle.goods_set.specs.Words.{word_goods, word_goods_bundle, word_cap, word_cap_fits};
+ghost use Rattle.goods_set.specs.Words.{word_goods, word_cap};
+ghost use Rattle.goods_set.specs.Lemmas.Words.{word_goods_bundle, word_cap_fits};
 
 use crate::set::GoodsSet;
 use std::alloc::{AllocError, Global};

@@ -11,12 +11,13 @@ use Rattle.std.proofs.lemmas.List.{length-map, get_or-map}
 use Rattle.std.proofs.lemmas.List.Elements.{All-tail, All-from_recursion}
 use Rattle.std.proofs.lemmas.List.Kept.{IsStrictlySortedBy-dedup, Contains-from_dedup}
 use Rattle.std.proofs.lemmas.List.Sorted.{sorted_far, ranks_by, Contains-permutation, IsPermutation-sym, IsPermutation-map}
-use Rattle.goods_set.specs.Orders.{bundle_cmp, bundle_cmp_total, bundle_cmp_equal, nat_cmp-lt}
+use Rattle.goods_set.specs.Orders.{bundle_cmp}
+use Rattle.goods_set.specs.Lemmas.Orders.{bundle_cmp_total, bundle_cmp_equal, nat_cmp-lt}
 use Rattle.valuation.specs.declared.atom.Atom.{Atom}
-use Rattle.valuation.specs.ListLemmas.{Contains-cons_cases, AllPairs-nil, AllPairs-cons, AllPairs-head, AllPairs-tail}
-use Rattle.prune.specs.Lists.{Contains-nil, Contains-head, Contains-tail, Contains-filter, Contains-filter_parts, All-from_Contains}
+use Rattle.valuation.specs.Lemmas.Lists.{Contains-cons_cases, AllPairs-nil, AllPairs-cons, AllPairs-head, AllPairs-tail}
+use Rattle.prune.specs.Lemmas.Lists.{Contains-nil, Contains-head, Contains-tail, Contains-filter, Contains-filter_parts, All-from_Contains}
 use Rattle.prune.specs.InOrder.{IsBefore, IsInOrder}
-use Rattle.prune.specs.BestBids.{bid_cmp, AreBestBids}
+use Rattle.prune.specs.Internal.BestBids.{bid_cmp, AreBestBids}
 
 abbrev pub is_bid_before : Atom (List ℕ) → Atom (List ℕ) → Bool
 is_bid_before a b = is_lt (bid_cmp a b)
@@ -43,7 +44,9 @@ bundle_first Greater p e = refl
 -- of two bids on one bundle the one that does not come first has no greater price
 not_before_price : (a b : Atom (List ℕ)) → bundle_cmp a.bundle b.bundle ≡ Equal → is_bid_before a b ≡ false → a.price ≤ b.price
 not_before_price a b e n =
-    ⊎_elim (λ (l : b.price < a.price). let f : is_lt (ordering_then (bundle_cmp a.bundle b.bundle) (nat_cmp b.price a.price)) ≡ true = ap₂ (λ o p. is_lt (ordering_then o p)) e (nat_cmp-lt b.price a.price l) in absurd (both_ways (is_bid_before a b) n f)) (λ (l : a.price ≤ b.price). l) (cases_lt b.price a.price)
+    ⊎_elim (λ (l : b.price < a.price). let f : is_lt (ordering_then (bundle_cmp a.bundle b.bundle) (nat_cmp b.price a.price))
+    ≡ true = ap₂ (λ o p. is_lt (ordering_then o p)) e (nat_cmp-lt b.price a.price l) in absurd (both_ways (is_bid_before a b) n f))
+    (λ (l : a.price ≤ b.price). l) (cases_lt b.price a.price)
 
 equal_from_test : (a b : Atom (List ℕ)) → is_same_bundle a b ≡ true → bundle_cmp a.bundle b.bundle ≡ Equal
 equal_from_test a b t = at (bundle_cmp a.bundle b.bundle) t
@@ -61,33 +64,46 @@ NotBefore earlier later = is_bid_before later earlier ≡ false
 first_kept : (k : Atom (List ℕ)) (xs : List (Atom (List ℕ))) → Contains (dedup_from is_same_bundle k xs) k
 first_kept k [] = Contains-head k []
 first_kept k (x ∷ xs) =
-    elim (is_same_bundle x k) as (λ b. Contains (cond b (dedup_from is_same_bundle k xs) (k ∷ dedup_from is_same_bundle x xs)) k) [ true ↦ first_kept k xs | false ↦ Contains-head k (dedup_from is_same_bundle x xs) ]
+    elim (is_same_bundle x k) as (λ b. Contains (cond b (dedup_from is_same_bundle k xs) (k ∷ dedup_from is_same_bundle x xs)) k) [
+      | true ↦ first_kept k xs
+      | false ↦ Contains-head k (dedup_from is_same_bundle x xs)
+    ]
 
 abbrev Covered : List (Atom (List ℕ)) → Atom (List ℕ) → Type 0
 Covered best a = (b : Atom (List ℕ)) × Contains best b × (b.bundle ≡ a.bundle) × (a.price ≤ b.price)
 
-covered_from : (k : Atom (List ℕ)) (xs : List (Atom (List ℕ))) → AllPairs NotBefore (k ∷ xs) → (x : Atom (List ℕ)) → (k ≡ x) ⊎ Contains xs x → Covered (dedup_from is_same_bundle k xs) x
-covered_from k xs s x (inl e) = (k, first_kept k xs, ap (λ (z : Atom (List ℕ)). z.bundle) e, subst (λ (z : Atom (List ℕ)). z.price ≤ k.price) e (le_refl k.price))
+covered_from : (k : Atom (List ℕ)) (xs : List (Atom (List ℕ))) → AllPairs NotBefore (k ∷ xs) → (x : Atom (List ℕ)) → (k ≡ x) ⊎ Contains xs x
+    → Covered (dedup_from is_same_bundle k xs) x
+covered_from k xs s x (inl e) =
+    (k, first_kept k xs, ap (λ (z : Atom (List ℕ)). z.bundle) e, subst (λ (z : Atom (List ℕ)). z.price ≤ k.price) e (le_refl k.price))
 covered_from k [] s x (inr c) = absurd (Contains-nil x c)
 covered_from k (y ∷ ys) s x (inr c) =
     elim (cases_Bool (is_same_bundle y k)) [
       | inl t ↦
-          subst (λ (zs : List (Atom (List ℕ))). Covered zs x) (sym (cond-true (is_same_bundle y k) (dedup_from is_same_bundle k ys) (k ∷ dedup_from is_same_bundle y ys) t))
+          subst (λ (zs : List (Atom (List ℕ))). Covered zs x)
+          (sym (cond-true (is_same_bundle y k) (dedup_from is_same_bundle k ys) (k ∷ dedup_from is_same_bundle y ys) t))
           (⊎_elim
           (λ (e : y ≡ x).
           let same : bundle_cmp y.bundle k.bundle ≡ Equal = equal_from_test y k t in
           let price : y.price ≤ k.price = not_before_price y k same (AllPairs-head NotBefore k (y ∷ ys) s 0 y (omega arith)) in
-          subst (λ (z : Atom (List ℕ)). Covered (dedup_from is_same_bundle k ys) z) e (k, first_kept k ys, sym (bundle_cmp_equal y.bundle k.bundle same), price))
+          subst (λ (z : Atom (List ℕ)). Covered (dedup_from is_same_bundle k ys) z) e (
+            k,
+            first_kept k ys,
+            sym (bundle_cmp_equal y.bundle k.bundle same),
+            price,
+          ))
           (λ (d : Contains ys x). covered_from k ys (skip_second s) x (inr d))
           (Contains-cons_cases y ys x c))
       | inr t ↦
-          subst (λ (zs : List (Atom (List ℕ))). Covered zs x) (sym (cond-false (is_same_bundle y k) (dedup_from is_same_bundle k ys) (k ∷ dedup_from is_same_bundle y ys) t))
+          subst (λ (zs : List (Atom (List ℕ))). Covered zs x)
+          (sym (cond-false (is_same_bundle y k) (dedup_from is_same_bundle k ys) (k ∷ dedup_from is_same_bundle y ys) t))
           (let r = covered_from y ys (AllPairs-tail NotBefore k (y ∷ ys) s) x (Contains-cons_cases y ys x c) in
           (r.0, Contains-tail k (dedup_from is_same_bundle y ys) r.0 r.1, r.2, r.3))
     ]
   where
     skip_second : AllPairs NotBefore (k ∷ (y ∷ ys)) → AllPairs NotBefore (k ∷ ys)
-    skip_second h = AllPairs-cons NotBefore k ys (All-tail (NotBefore k) y ys (AllPairs-head NotBefore k (y ∷ ys) h)) (AllPairs-tail NotBefore y ys (AllPairs-tail NotBefore k (y ∷ ys) h))
+    skip_second h = AllPairs-cons NotBefore k ys (All-tail (NotBefore k) y ys (AllPairs-head NotBefore k (y ∷ ys) h))
+        (AllPairs-tail NotBefore y ys (AllPairs-tail NotBefore k (y ∷ ys) h))
 
 covered : (xs : List (Atom (List ℕ))) → AllPairs NotBefore xs → (x : Atom (List ℕ)) → Contains xs x → Covered (dedup is_same_bundle xs) x
 covered [] s x c = absurd (Contains-nil x c)
@@ -100,15 +116,22 @@ pairs_from_sorted (x ∷ xs) s = AllPairs-cons IsBefore x xs (All-from_recursion
 
 -- ---- the best bids
 
-pub best_from_sorted : (bids sorted : List (Atom (List ℕ))) → IsPermutation (filter has_price bids) sorted → IsSortedBy is_bid_before sorted → AreBestBids bids (dedup is_same_bundle sorted)
+pub best_from_sorted : (bids sorted : List (Atom (List ℕ))) → IsPermutation (filter has_price bids) sorted → IsSortedBy is_bid_before sorted
+    → AreBestBids bids (dedup is_same_bundle sorted)
 best_from_sorted bids sorted p up =
-    let back : (b : Atom (List ℕ)) → Contains (dedup is_same_bundle sorted) b → Contains bids b × (has_price b ≡ true) = λ b c. Contains-filter_parts has_price bids b (Contains-permutation sorted (filter has_price bids) b (IsPermutation-sym (filter has_price bids) sorted p) (Contains-from_dedup is_same_bundle sorted b c)) in
-    let pairs : AllPairs NotBefore sorted = λ i j d l m. sorted_far is_bid_before (ranks_by bid_cmp_total (λ (a : Atom (List ℕ)). a)) sorted up i j d (omega arith) m in
+    let back : (b : Atom (List ℕ)) → Contains (dedup is_same_bundle sorted) b → Contains bids b × (has_price b ≡ true) =
+    λ b c. Contains-filter_parts has_price bids b
+    (Contains-permutation sorted (filter has_price bids) b (IsPermutation-sym (filter has_price bids) sorted p)
+    (Contains-from_dedup is_same_bundle sorted b c)) in
+    let pairs : AllPairs NotBefore sorted = λ i j d l m. sorted_far is_bid_before (ranks_by bid_cmp_total (λ (a : Atom (List ℕ)). a)) sorted up i j d
+    (omega arith) m in
     record {
-      in_order = pairs_from_sorted (dedup is_same_bundle sorted) (IsStrictlySortedBy-dedup on_bundles_total (λ a b. refl) sorted (λ k d l m. bundle_first _ _ (up k d l m)));
+      in_order = pairs_from_sorted (dedup is_same_bundle sorted)
+          (IsStrictlySortedBy-dedup on_bundles_total (λ a b. refl) sorted (λ k d l m. bundle_first _ _ (up k d l m)));
       among = All-from_Contains (Contains bids) (dedup is_same_bundle sorted) (λ b c. (back b c).0);
       positive = All-from_Contains (λ b. 0 < b.price) (dedup is_same_bundle sorted) (λ b c. ltb-true 0 b.price (back b c).1);
-      covers = All-from_Contains (λ a. 0 < a.price → Covered (dedup is_same_bundle sorted) a) bids (λ a c l. covered sorted pairs a (Contains-permutation (filter has_price bids) sorted a p (Contains-filter has_price bids a c (lt-ltb 0 a.price l))));
+      covers = All-from_Contains (λ a. 0 < a.price → Covered (dedup is_same_bundle sorted) a) bids
+          (λ a c l. covered sorted pairs a (Contains-permutation (filter has_price bids) sorted a p (Contains-filter has_price bids a c (lt-ltb 0 a.price l))));
     }
 
 -- ---- bids of the code, seen by the goods of their sets
@@ -117,16 +140,19 @@ module _ {X : Type 0} (seen : X → Atom (List ℕ)) where
   pub map-filter : (p : Atom (List ℕ) → Bool) (xs : List X) → map seen (filter (λ x. p (seen x)) xs) ≡ filter p (map seen xs)
   map-filter p [] = refl
   map-filter p (x ∷ xs) =
-      elim (p (seen x)) as (λ b. map seen (cond b (x ∷ filter (λ x. p (seen x)) xs) (filter (λ x. p (seen x)) xs)) ≡ cond b (seen x ∷ filter p (map seen xs)) (filter p (map seen xs))) [
+      elim (p (seen x)) as (λ b. map seen (cond b (x ∷ filter (λ x. p (seen x)) xs) (filter (λ x. p (seen x)) xs)) ≡ cond b (seen x ∷ filter p (map seen xs))
+      (filter p (map seen xs))) [
         | true ↦ ap (λ (zs : List (Atom (List ℕ))). seen x ∷ zs) (map-filter p xs)
         | false ↦ map-filter p xs
       ]
 
-  map-dedup_from : (same : Atom (List ℕ) → Atom (List ℕ) → Bool) (k : X) (xs : List X) → map seen (dedup_from (λ x y. same (seen x) (seen y)) k xs) ≡ dedup_from same (seen k) (map seen xs)
+  map-dedup_from : (same : Atom (List ℕ) → Atom (List ℕ) → Bool) (k : X) (xs : List X) → map seen (dedup_from (λ x y. same (seen x) (seen y)) k xs)
+      ≡ dedup_from same (seen k) (map seen xs)
   map-dedup_from same k [] = refl
   map-dedup_from same k (x ∷ xs) =
       let same_seen : X → X → Bool = λ x y. same (seen x) (seen y) in
-      elim (same (seen x) (seen k)) as (λ b. map seen (cond b (dedup_from same_seen k xs) (k ∷ dedup_from same_seen x xs)) ≡ cond b (dedup_from same (seen k) (map seen xs)) (seen k ∷ dedup_from same (seen x) (map seen xs))) [
+      elim (same (seen x) (seen k)) as (λ b. map seen (cond b (dedup_from same_seen k xs) (k ∷ dedup_from same_seen x xs))
+      ≡ cond b (dedup_from same (seen k) (map seen xs)) (seen k ∷ dedup_from same (seen x) (map seen xs))) [
         | true ↦ map-dedup_from same k xs
         | false ↦ ap (λ (zs : List (Atom (List ℕ))). seen k ∷ zs) (map-dedup_from same x xs)
       ]
@@ -144,10 +170,15 @@ module _ {X : Type 0} (seen : X → Atom (List ℕ)) where
       subst (λ (a : Atom (List ℕ)). lt a (get_or (map seen (x ∷ xs)) k d) ≡ false) (sym (get_or-map seen (x ∷ xs) (k + 1) x d next))
       (subst (λ (b : Atom (List ℕ)). lt (seen (get_or (x ∷ xs) (k + 1) x)) b ≡ false) (sym (get_or-map seen (x ∷ xs) k x d here)) (up k x l next))
 
-  pub best_from_steps : (bids priced sorted best : List X) → priced ≡ filter (λ x. has_price (seen x)) bids → IsPermutation priced sorted → IsSortedBy (λ x y. is_bid_before (seen x) (seen y)) sorted → best ≡ dedup (λ x y. is_same_bundle (seen x) (seen y)) sorted → AreBestBids (map seen bids) (map seen best)
+  pub best_from_steps : (bids priced sorted best : List X) → priced ≡ filter (λ x. has_price (seen x)) bids → IsPermutation priced sorted
+      → IsSortedBy (λ x y. is_bid_before (seen x) (seen y)) sorted → best ≡ dedup (λ x y. is_same_bundle (seen x) (seen y)) sorted
+      → AreBestBids (map seen bids) (map seen best)
   best_from_steps bids priced sorted best e p up d =
-      let moved : IsPermutation (filter has_price (map seen bids)) (map seen sorted) = subst (λ (zs : List (Atom (List ℕ))). IsPermutation zs (map seen sorted)) (ap (map seen) e ∙ map-filter has_price bids) (IsPermutation-map seen priced sorted p) in
-      subst (λ (zs : List (Atom (List ℕ))). AreBestBids (map seen bids) zs) (sym (ap (map seen) d ∙ map-dedup is_same_bundle sorted)) (best_from_sorted (map seen bids) (map seen sorted) moved (map-sorted is_bid_before sorted up))
+      let moved : IsPermutation (filter has_price (map seen bids)) (map seen sorted) =
+      subst (λ (zs : List (Atom (List ℕ))). IsPermutation zs (map seen sorted)) (ap (map seen) e ∙ map-filter has_price bids)
+      (IsPermutation-map seen priced sorted p) in
+      subst (λ (zs : List (Atom (List ℕ))). AreBestBids (map seen bids) zs) (sym (ap (map seen) d ∙ map-dedup is_same_bundle sorted))
+      (best_from_sorted (map seen bids) (map seen sorted) moved (map-sorted is_bid_before sorted up))
 
 -- a bid of the code
 abbrev pub seen_of : {S : Type 0} → (S → List ℕ) → Atom S → Atom (List ℕ)

@@ -1,9 +1,10 @@
+-- Proofs that several functions of this crate cite.
 pub mod Pruning
 pub mod BestBids
-pub mod Levels
-pub mod CodeLevels
 pub mod Listed
 pub mod SharedGoods
 pub mod ByPlaces
 pub mod Results
-pub mod Turns
+pub mod PruningLoop
+pub mod ReachingLevels
+pub mod ReachingLevelsOfCode

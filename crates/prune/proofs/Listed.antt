@@ -18,31 +18,34 @@ use Rattle.std.proofs.lemmas.List.Sorted.{Contains-permutation, IsPermutation-sy
 use Rattle.std.proofs.lemmas.Map.Keys.{IsDistinct-IsPermutation, IsStrictlyIncreasing-from_distinct}
 use Rattle.std.proofs.lemmas.Map.Made.{IsDistinct-from_AllPairs}
 use Rattle.goods_set.specs.Bundles.{IsRising, has_good, is_inside, good_from}
-use Rattle.goods_set.specs.Members.{has_head, has_tail, has_cases, has-filter, AreAbove-from_has, IsRising-filter, same_from_has, inside_at}
-use Rattle.goods_set.specs.Sizes.{IsNextGood, good_from-Some, good_from-None}
+use Rattle.goods_set.specs.Lemmas.Members.{has_head, has_tail, has_cases, has-filter, AreAbove-from_has, IsRising-filter, same_from_has, inside_at}
+use Rattle.goods_set.specs.Lemmas.Sizes.{IsNextGood, good_from-Some, good_from-None}
 use Rattle.valuation.specs.declared.atom.Atom.{Atom}
 use Rattle.valuation.specs.Values.{atoms_of}
-use Rattle.valuation.specs.AtomLemmas.{get_or-atoms_of}
-use Rattle.valuation.specs.ListLemmas.{AllPairs-head, AllPairs-tail, AllPairs-append, Contains-map, Contains-unmap}
+use Rattle.valuation.specs.Lemmas.Atoms.{get_or-atoms_of}
+use Rattle.valuation.specs.Lemmas.Lists.{AllPairs-head, AllPairs-tail, AllPairs-append, Contains-map, Contains-unmap}
 use Rattle.prune.specs.declared.kept.Listing.{Listing}
-use Rattle.prune.specs.Listings.{lists_of, listed_at, places_at, atom_at, is_inside_at, covers, covers_at, IsListed, IsListing, AreListed}
-use Rattle.prune.specs.Lists.{Contains-head, Contains-tail, Contains-filter, Contains-filter_parts, All-from_Contains, list_any_found, list_any_has, list_any_fails}
-use Rattle.prune.specs.KeptLemmas.{has_from_Contains}
+use Rattle.prune.specs.Internal.Listings.{lists_of, listed_at, places_at, atom_at, is_inside_at, covers, covers_at, IsListed, IsListing, AreListed}
+use Rattle.prune.specs.Lemmas.Lists.{Contains-head, Contains-tail, Contains-filter, Contains-filter_parts, All-from_Contains, list_any_found, list_any_has, list_any_fails}
+use Rattle.prune.specs.Lemmas.KeptBids.{has_from_Contains}
 use Rattle.prune.proofs.BestBids.{map-filter}
 
 -- ---- lists of places
 
-pub listed_there : (vectors : List (Vec Listing)) (good : ℕ) (v : Vec Listing) → good < length vectors → v ≡ get_or vectors good v → listed_at (lists_of vectors) good ≡ v.items
+pub listed_there : (vectors : List (Vec Listing)) (good : ℕ) (v : Vec Listing) → good < length vectors → v ≡ get_or vectors good v
+    → listed_at (lists_of vectors) good ≡ v.items
 listed_there vectors good v l e = get_or-map (λ (v : Vec Listing). v.items) vectors good v [] l ∙ ap (λ (v : Vec Listing). v.items) (sym e)
 
 abbrev pub place_of : Listing → ℕ
 place_of listing = listing.place
 
 -- what is listed at the place is right
-pub listing_at : (lists : List (List Listing)) (atoms : List (Atom (List ℕ))) (good place : ℕ) → AreListed lists atoms → Contains (places_at lists good) place → (listing : Listing) × IsListing atoms listing × (place ≡ listing.place)
+pub listing_at : (lists : List (List Listing)) (atoms : List (Atom (List ℕ))) (good place : ℕ) → AreListed lists atoms → Contains (places_at lists good) place
+    → (listing : Listing) × IsListing atoms listing × (place ≡ listing.place)
 listing_at lists atoms good place a c = let r = Contains-unmap place_of (listed_at lists good) place c in (r.0, a.right good r.0 r.1, r.2)
 
-pub place_within : (lists : List (List Listing)) (atoms : List (Atom (List ℕ))) (good place : ℕ) → AreListed lists atoms → Contains (places_at lists good) place → place < length atoms
+pub place_within : (lists : List (List Listing)) (atoms : List (Atom (List ℕ))) (good place : ℕ) → AreListed lists atoms → Contains (places_at lists good) place
+    → place < length atoms
 place_within lists atoms good place a c = let r = listing_at lists atoms good place a c in let l = r.1.within in omega (arith, r.2)
 
 -- an atom with a good that the bundle lacks is not inside it
@@ -52,24 +55,29 @@ lacks_outside xs bundle g h n = false_from_ne_true (is_inside xs bundle) (λ i. 
 pub Contains_from_has : (xs : List ℕ) (g : ℕ) → has_good xs g ≡ true → Contains xs g
 Contains_from_has [] g h = absurd (both_ways false refl h)
 Contains_from_has (x ∷ xs) g h =
-    ⊎_elim (λ (e : x ≡ g). subst (λ n. Contains (x ∷ xs) n) e (Contains-head x xs)) (λ (k : has_good xs g ≡ true). Contains-tail x xs g (Contains_from_has xs g k)) (has_cases x xs g h)
+    ⊎_elim (λ (e : x ≡ g). subst (λ n. Contains (x ∷ xs) n) e (Contains-head x xs))
+    (λ (k : has_good xs g ≡ true). Contains-tail x xs g (Contains_from_has xs g k)) (has_cases x xs g h)
 
 rising_from_pairs : (xs : List ℕ) → AllPairs (λ i j. i < j) xs → IsRising xs
 rising_from_pairs [] s = tt
-rising_from_pairs (x ∷ xs) s =
-    (AreAbove-from_has x xs (λ g h. All-contains (λ j. x < j) xs g (AllPairs-head (λ i j. i < j) x xs s) (Contains_from_has xs g h)), rising_from_pairs xs (AllPairs-tail (λ i j. i < j) x xs s))
+rising_from_pairs (x ∷ xs) s = (
+  AreAbove-from_has x xs (λ g h. All-contains (λ j. x < j) xs g (AllPairs-head (λ i j. i < j) x xs s) (Contains_from_has xs g h)),
+  rising_from_pairs xs (AllPairs-tail (λ i j. i < j) x xs s),
+)
 
 -- ---- the numbers from a on
 
 pub has_range : (a n g : ℕ) → has_good (range_with_len a n) g ≡ true → (a ≤ g) × (g < a + n)
 has_range a zero g h = absurd (both_ways false refl h)
 has_range a (suc n) g h =
-    ⊎_elim (λ (e : a ≡ g). (omega arith, omega arith)) (λ (k : has_good (range_with_len (a + 1) n) g ≡ true). let r = has_range (a + 1) n g k in (omega (arith, r.0), omega (arith, r.1))) (has_cases a (range_with_len (a + 1) n) g h)
+    ⊎_elim (λ (e : a ≡ g). (omega arith, omega arith)) (λ (k : has_good (range_with_len (a + 1) n) g ≡ true). let r = has_range (a + 1) n g k in
+    (omega (arith, r.0), omega (arith, r.1))) (has_cases a (range_with_len (a + 1) n) g h)
 
 pub range_has : (a n g : ℕ) → a ≤ g → g < a + n → has_good (range_with_len a n) g ≡ true
 range_has a zero g l m = absurd (omega arith)
 range_has a (suc n) g l m =
-    ⊎_elim (λ (e : a ≡ g). subst (λ x. has_good (range_with_len a (suc n)) x ≡ true) e (has_head a (range_with_len (a + 1) n))) (λ (d : a ≡ g → ⊥). has_tail a (range_with_len (a + 1) n) g (range_has (a + 1) n g (omega arith) (omega arith))) (cases_eq a g)
+    ⊎_elim (λ (e : a ≡ g). subst (λ x. has_good (range_with_len a (suc n)) x ≡ true) e (has_head a (range_with_len (a + 1) n)))
+    (λ (d : a ≡ g → ⊥). has_tail a (range_with_len (a + 1) n) g (range_has (a + 1) n g (omega arith) (omega arith))) (cases_eq a g)
 
 pub range_rising : (a n : ℕ) → IsRising (range_with_len a n)
 range_rising a zero = tt
@@ -80,11 +88,14 @@ range_rising a (suc n) = (AreAbove-from_has a (range_with_len (a + 1) n) (λ g h
 -- what was found at the goods below `from`
 pub record IsFinding (lists : List (List Listing)) (atoms : List (Atom (List ℕ))) (bundle : List ℕ) (from : ℕ) (found : List ℕ) : Type 0 where
   pub sound : All (λ place. (is_inside_at atoms bundle place ≡ true) × (place < length atoms)) found
-  pub complete : (good place : ℕ) → has_good bundle good ≡ true → good < from → Contains (places_at lists good) place → is_inside_at atoms bundle place ≡ true → Contains found place
+  pub complete : (good place : ℕ) → has_good bundle good ≡ true → good < from → Contains (places_at lists good) place → is_inside_at atoms bundle place ≡ true
+      → Contains found place
   pub earlier : All (λ place. (good : ℕ) × (good < from) × Contains (places_at lists good) place) found
   pub once : AllPairs (λ one other. one ≢ other) found
 
-pub IsFinding-more : (lists : List (List Listing)) (atoms : List (Atom (List ℕ))) (bundle : List ℕ) (from good : ℕ) (found more : List ℕ) → AreListed lists atoms → IsRising bundle → good_from bundle from ≡ Some good → more ≡ found ++ filter (is_inside_at atoms bundle) (places_at lists good) → IsFinding lists atoms bundle from found → IsFinding lists atoms bundle (good + 1) more
+pub IsFinding-more : (lists : List (List Listing)) (atoms : List (Atom (List ℕ))) (bundle : List ℕ) (from good : ℕ) (found more : List ℕ)
+    → AreListed lists atoms → IsRising bundle → good_from bundle from ≡ Some good → more ≡ found ++ filter (is_inside_at atoms bundle) (places_at lists good)
+    → IsFinding lists atoms bundle from found → IsFinding lists atoms bundle (good + 1) more
 IsFinding-more lists atoms bundle from good found more a r next e f =
     let p = is_inside_at atoms bundle in
     let new = filter p (places_at lists good) in
@@ -92,21 +103,26 @@ IsFinding-more lists atoms bundle from good found more a r next e f =
     let further : from ≤ good = n.from in
     rw e (record {
       sound = All-append (λ place. (p place ≡ true) × (place < length atoms)) found new f.sound
-          (All-from_Contains (λ place. (p place ≡ true) × (place < length atoms)) new (λ place c. let t = Contains-filter_parts p (places_at lists good) place c in (t.1, place_within lists atoms good place a t.0)));
+          (All-from_Contains (λ place. (p place ≡ true) × (place < length atoms)) new
+          (λ place c. let t = Contains-filter_parts p (places_at lists good) place c in (t.1, place_within lists atoms good place a t.0)));
       complete = λ g place h l c t.
-          ⊎_elim (λ (q : g ≡ good). Contains-append_right found new place (Contains-filter p (places_at lists good) place (subst (λ m. Contains (places_at lists m) place) q c) t))
+          ⊎_elim (λ (q : g ≡ good). Contains-append_right found new place
+          (Contains-filter p (places_at lists good) place (subst (λ m. Contains (places_at lists m) place) q c) t))
           (λ (d : g ≡ good → ⊥). ⊎_elim
           (λ (m : g < from). Contains-append_left found new place (f.complete g place h m c t))
           (λ (m : from ≤ g). let none = n.least g m (omega arith) in absurd (both_ways (has_good bundle g) none h))
           (cases_lt g from))
           (cases_eq g good);
       earlier = All-append (λ place. (other : ℕ) × (other < good + 1) × Contains (places_at lists other) place) found new
-          (All-weaker (λ place. (other : ℕ) × (other < from) × Contains (places_at lists other) place) (λ place. (other : ℕ) × (other < good + 1) × Contains (places_at lists other) place) (λ place h. let l : h.0 < from = h.1 in (h.0, omega arith, h.2)) found f.earlier)
-          (All-from_Contains (λ place. (other : ℕ) × (other < good + 1) × Contains (places_at lists other) place) new (λ place c. (good, omega arith, (Contains-filter_parts p (places_at lists good) place c).0)));
+          (All-weaker (λ place. (other : ℕ) × (other < from) × Contains (places_at lists other) place) (λ place. (other : ℕ) × (other < good + 1)
+          × Contains (places_at lists other) place) (λ place h. let l : h.0 < from = h.1 in (h.0, omega arith, h.2)) found f.earlier)
+          (All-from_Contains (λ place. (other : ℕ) × (other < good + 1) × Contains (places_at lists other) place) new
+          (λ place c. (good, omega arith, (Contains-filter_parts p (places_at lists good) place c).0)));
       once = AllPairs-append (λ one other. one ≢ other) found new f.once (AllPairs-filter (λ one other. one ≢ other) p (places_at lists good) (a.once good))
           (All-from_Contains (λ one. All (λ other. one ≢ other) new) found (λ one c. All-from_Contains (λ other. one ≢ other) new (λ other d q.
           let h = All-contains (λ place. (other : ℕ) × (other < from) × Contains (places_at lists other) place) found one f.earlier c in
-          let there : Contains (places_at lists good) one = subst (λ place. Contains (places_at lists good) place) (sym q) (Contains-filter_parts p (places_at lists good) other d).0 in
+          let there : Contains (places_at lists good) one =
+          subst (λ place. Contains (places_at lists good) place) (sym q) (Contains-filter_parts p (places_at lists good) other d).0 in
           let same : h.0 ≡ good = a.one_good h.0 good one h.2 there in
           let l : h.0 < from = h.1 in
           absurd (omega arith))));
@@ -123,13 +139,16 @@ some_from_zero [] l e = omega arith
 some_from_zero (x ∷ xs) l e = both_ways (has_good (x ∷ xs) x) (good_from-None (x ∷ xs) 0 x e (omega arith)) (has_head x xs)
 
 -- the good at which an atom inside the bundle is listed has been gone through
-listed_before : (lists : List (List Listing)) (atoms : List (Atom (List ℕ))) (bundle : List ℕ) (from place : ℕ) → AreListed lists atoms → good_from bundle from ≡ None → place < length atoms → is_inside_at atoms bundle place ≡ true → (good : ℕ) × (has_good bundle good ≡ true) × (good < from) × Contains (places_at lists good) place
+listed_before : (lists : List (List Listing)) (atoms : List (Atom (List ℕ))) (bundle : List ℕ) (from place : ℕ) → AreListed lists atoms
+    → good_from bundle from ≡ None → place < length atoms → is_inside_at atoms bundle place ≡ true → (good : ℕ) × (has_good bundle good ≡ true) × (good < from)
+    × Contains (places_at lists good) place
 listed_before lists atoms bundle from place a none l t =
     let at = a.each place l in
     let of_bundle = inside_at (atom_at atoms place).bundle bundle at.good t at.has in (
       at.good,
       of_bundle,
-      ⊎_elim (λ (m : at.good < from). m) (λ (m : from ≤ at.good). absurd (both_ways (has_good bundle at.good) (good_from-None bundle from at.good none m) of_bundle)) (cases_lt at.good from),
+      ⊎_elim (λ (m : at.good < from). m)
+          (λ (m : from ≤ at.good). absurd (both_ways (has_good bundle at.good) (good_from-None bundle from at.good none m) of_bundle)) (cases_lt at.good from),
       at.listed,
     )
 
@@ -137,14 +156,16 @@ eqb_flips : (x y : ℕ) → eqb x y ≡ eqb y x
 eqb_flips x y = same_test (eqb x y) (eqb y x) (λ t. eq-eqb y x (sym (eqb-true x y t))) (λ t. eq-eqb x y (sym (eqb-true y x t)))
 
 -- all goods are done: the places found are those of the atoms inside the bundle
-pub IsFinding-all : (lists : List (List Listing)) (atoms : List (Atom (List ℕ))) (bundle : List ℕ) (from : ℕ) (found sorted : List ℕ) → AreListed lists atoms → good_from bundle from ≡ None → IsFinding lists atoms bundle from found
+pub IsFinding-all : (lists : List (List Listing)) (atoms : List (Atom (List ℕ))) (bundle : List ℕ) (from : ℕ) (found sorted : List ℕ) → AreListed lists atoms
+    → good_from bundle from ≡ None → IsFinding lists atoms bundle from found
     → IsPermutation found sorted → IsSorted nat_cmp sorted → sorted ≡ filter (is_inside_at atoms bundle) (range_with_len 0 (length atoms))
 IsFinding-all lists atoms bundle from found sorted a none f p up =
     let test = is_inside_at atoms bundle in
     let all = range_with_len 0 (length atoms) in
     let distinct = IsDistinct-IsPermutation eqb eqb_flips found sorted p (IsDistinct-from_AllPairs Decides-eqb found f.once) in
     same_from_has sorted (filter test all)
-    (rising_from_pairs sorted (AllPairs-from_increasing sorted (IsStrictlyIncreasing-from_distinct sorted (IsNonDecreasingBy-from_sort (λ n. n) sorted up) distinct)))
+    (rising_from_pairs sorted
+    (AllPairs-from_increasing sorted (IsStrictlyIncreasing-from_distinct sorted (IsNonDecreasingBy-from_sort (λ n. n) sorted up) distinct)))
     (IsRising-filter test all (range_rising 0 (length atoms)))
     (λ g h.
     let there = Contains-permutation sorted found g (IsPermutation-sym found sorted p) (Contains_from_has sorted g h) in
@@ -160,72 +181,95 @@ IsFinding-all lists atoms bundle from found sorted a none f p up =
 
 -- none is listed at the goods below `from`
 abbrev pub NoneCovers : List (List Listing) → List (Atom (List ℕ)) → List ℕ → ℕ → ℕ → Type 0
-NoneCovers lists atoms bundle price from = (good place : ℕ) → has_good bundle good ≡ true → good < from → Contains (places_at lists good) place → covers_at atoms bundle price place ≡ false
+NoneCovers lists atoms bundle price from = (good place : ℕ) → has_good bundle good ≡ true → good < from → Contains (places_at lists good) place
+    → covers_at atoms bundle price place ≡ false
 
-pub NoneCovers-more : (lists : List (List Listing)) (atoms : List (Atom (List ℕ))) (bundle : List ℕ) (price from good : ℕ) → IsRising bundle → good_from bundle from ≡ Some good → list_any (covers_at atoms bundle price) (places_at lists good) ≡ false → NoneCovers lists atoms bundle price from → NoneCovers lists atoms bundle price (good + 1)
+pub NoneCovers-more : (lists : List (List Listing)) (atoms : List (Atom (List ℕ))) (bundle : List ℕ) (price from good : ℕ) → IsRising bundle
+    → good_from bundle from ≡ Some good → list_any (covers_at atoms bundle price) (places_at lists good) ≡ false → NoneCovers lists atoms bundle price from
+    → NoneCovers lists atoms bundle price (good + 1)
 NoneCovers-more lists atoms bundle price from good r next e h g place has l c =
     let n : IsNextGood bundle from good = good_from-Some bundle from good r next in
-    ⊎_elim (λ (q : g ≡ good). list_any_fails (covers_at atoms bundle price) (places_at lists good) e place (subst (λ m. Contains (places_at lists m) place) q c))
-    (λ (d : g ≡ good → ⊥). ⊎_elim (λ (m : g < from). h g place has m c) (λ (m : from ≤ g). absurd (both_ways (has_good bundle g) (n.least g m (omega arith)) has)) (cases_lt g from))
+    ⊎_elim (λ (q : g ≡ good). list_any_fails (covers_at atoms bundle price) (places_at lists good) e place
+    (subst (λ m. Contains (places_at lists m) place) q c))
+    (λ (d : g ≡ good → ⊥). ⊎_elim (λ (m : g < from). h g place has m c)
+    (λ (m : from ≤ g). absurd (both_ways (has_good bundle g) (n.least g m (omega arith)) has)) (cases_lt g from))
     (cases_eq g good)
 
 -- all goods are done: none is there
-pub NoneCovers-all : (lists : List (List Listing)) (atoms : List (Atom (List ℕ))) (bundle : List ℕ) (price from : ℕ) → AreListed lists atoms → good_from bundle from ≡ None → NoneCovers lists atoms bundle price from → list_any (covers bundle price) atoms ≡ false
+pub NoneCovers-all : (lists : List (List Listing)) (atoms : List (Atom (List ℕ))) (bundle : List ℕ) (price from : ℕ) → AreListed lists atoms
+    → good_from bundle from ≡ None → NoneCovers lists atoms bundle price from → list_any (covers bundle price) atoms ≡ false
 NoneCovers-all lists atoms bundle price from a none h =
     list_any_none (covers bundle price) atoms (λ place d l.
     false_from_ne_true (covers bundle price (get_or atoms place d)) (λ t.
     let here : covers_at atoms bundle price place ≡ true = ap (covers bundle price) (get_or_default atoms place (record { bundle = []; price = 0 }) d l) ∙ t in
-    let at = listed_before lists atoms bundle from place a none l (and_parts (leb price (atom_at atoms place).price) (is_inside_at atoms bundle place) here).1 in
+    let at = listed_before lists atoms bundle from place a none l (and_parts (leb price (atom_at atoms place).price) (is_inside_at atoms bundle place)
+    here).1 in
     both_ways (covers_at atoms bundle price place) (h at.0 place at.1 at.2 at.3) here))
 
 -- one is listed at a good
-pub one_covers : (lists : List (List Listing)) (atoms : List (Atom (List ℕ))) (bundle : List ℕ) (price good : ℕ) → AreListed lists atoms → list_any (covers_at atoms bundle price) (places_at lists good) ≡ true → list_any (covers bundle price) atoms ≡ true
+pub one_covers : (lists : List (List Listing)) (atoms : List (Atom (List ℕ))) (bundle : List ℕ) (price good : ℕ) → AreListed lists atoms
+    → list_any (covers_at atoms bundle price) (places_at lists good) ≡ true → list_any (covers bundle price) atoms ≡ true
 one_covers lists atoms bundle price good a e =
     let r = list_any_found (covers_at atoms bundle price) (places_at lists good) e in
-    list_any_has (covers bundle price) atoms (atom_at atoms r.0) (Contains-get_or atoms r.0 (record { bundle = []; price = 0 }) (place_within lists atoms good r.0 a r.1)) r.2
+    list_any_has (covers bundle price) atoms (atom_at atoms r.0)
+    (Contains-get_or atoms r.0 (record { bundle = []; price = 0 }) (place_within lists atoms good r.0 a r.1)) r.2
 
 -- ---- the atoms at the places found
 
-pub places_in_list : (atoms : List (Atom (List ℕ))) (bundle places : List ℕ) → places ≡ filter (is_inside_at atoms bundle) (range_with_len 0 (length atoms)) → All (λ place. place < length atoms) places
+pub places_in_list : (atoms : List (Atom (List ℕ))) (bundle places : List ℕ) → places ≡ filter (is_inside_at atoms bundle) (range_with_len 0 (length atoms))
+    → All (λ place. place < length atoms) places
 places_in_list atoms bundle places e =
-    rw e (All-filter (is_inside_at atoms bundle) (λ place. place < length atoms) (range_with_len 0 (length atoms)) (All-from_Contains (λ place. place < length atoms) (range_with_len 0 (length atoms)) (λ g c. let r = has_range 0 (length atoms) g (has_from_Contains (range_with_len 0 (length atoms)) g c) in omega (arith, r.1))))
+    rw e (All-filter (is_inside_at atoms bundle) (λ place. place < length atoms) (range_with_len 0 (length atoms))
+    (All-from_Contains (λ place. place < length atoms) (range_with_len 0 (length atoms))
+    (λ g c. let r = has_range 0 (length atoms) g (has_from_Contains (range_with_len 0 (length atoms)) g c) in omega (arith, r.1))))
 
-pub atoms_at_places : (atoms : List (Atom (List ℕ))) (bundle places : List ℕ) → places ≡ filter (is_inside_at atoms bundle) (range_with_len 0 (length atoms)) → map (atom_at atoms) places ≡ filter (λ a. is_inside a.bundle bundle) atoms
+pub atoms_at_places : (atoms : List (Atom (List ℕ))) (bundle places : List ℕ) → places ≡ filter (is_inside_at atoms bundle) (range_with_len 0 (length atoms))
+    → map (atom_at atoms) places ≡ filter (λ a. is_inside a.bundle bundle) atoms
 atoms_at_places atoms bundle places e =
     ap (map (atom_at atoms)) e ∙ map-filter (atom_at atoms) (λ a. is_inside a.bundle bundle) (range_with_len 0 (length atoms))
-    ∙ ap (filter (λ a. is_inside a.bundle bundle)) (sym (fill_by_all (atom_at atoms) atoms (length atoms) (record { bundle = []; price = 0 }) refl (λ k l. refl)))
+    ∙ ap (filter (λ a. is_inside a.bundle bundle))
+    (sym (fill_by_all (atom_at atoms) atoms (length atoms) (record { bundle = []; price = 0 }) refl (λ k l. refl)))
 
 -- ---- one more atom
 
 module _ (lists more : List (List Listing)) (atoms : List (Atom (List ℕ))) (a : Atom (List ℕ)) (good : ℕ) (new : Listing) (h : AreListed lists atoms)
-    (others : (g : ℕ) → (g ≡ good → ⊥) → listed_at more g ≡ listed_at lists g) (there : listed_at more good ≡ listed_at lists good ++ new ∷ []) (place : new.place ≡ length atoms)
+    (others : (g : ℕ) → (g ≡ good → ⊥) → listed_at more g ≡ listed_at lists g) (there : listed_at more good ≡ listed_at lists good ++ new ∷ [])
+    (place : new.place ≡ length atoms)
   where
     -- what is listed now was listed before, or is new
     listing_cases : (g : ℕ) (listing : Listing) → Contains (listed_at more g) listing → Contains (listed_at lists g) listing ⊎ ((g ≡ good) × (new ≡ listing))
     listing_cases g listing c =
         ⊎_elim
-        (λ (e : g ≡ good). ⊎_elim (λ (k : Contains (listed_at lists good) listing). inl (subst (λ m. Contains (listed_at lists m) listing) (sym e) k)) (λ (k : new ≡ listing). inr (e, k)) (Contains-push_cases (listed_at lists good) new listing (subst (λ (zs : List Listing). Contains zs listing) (ap (listed_at more) e ∙ there) c)))
+        (λ (e : g ≡ good). ⊎_elim (λ (k : Contains (listed_at lists good) listing). inl (subst (λ m. Contains (listed_at lists m) listing) (sym e) k))
+        (λ (k : new ≡ listing). inr (e, k))
+        (Contains-push_cases (listed_at lists good) new listing (subst (λ (zs : List Listing). Contains zs listing) (ap (listed_at more) e ∙ there) c)))
         (λ (n : g ≡ good → ⊥). inl (subst (λ (zs : List Listing). Contains zs listing) (others g n) c))
         (cases_eq g good)
 
     place_cases : (g spot : ℕ) → Contains (places_at more g) spot → Contains (places_at lists g) spot ⊎ ((g ≡ good) × (spot ≡ length atoms))
     place_cases g spot c =
         let r = Contains-unmap place_of (listed_at more g) spot c in
-        ⊎_elim (λ (k : Contains (listed_at lists g) r.0). inl (subst (λ n. Contains (places_at lists g) n) (sym r.2) (Contains-map place_of (listed_at lists g) r.0 k))) (λ (k : (g ≡ good) × (new ≡ r.0)). inr (k.0, r.2 ∙ ap place_of (sym k.1) ∙ place)) (listing_cases g r.0 r.1)
+        ⊎_elim (λ (k : Contains (listed_at lists g) r.0). inl
+        (subst (λ n. Contains (places_at lists g) n) (sym r.2) (Contains-map place_of (listed_at lists g) r.0 k)))
+        (λ (k : (g ≡ good) × (new ≡ r.0)). inr (k.0, r.2 ∙ ap place_of (sym k.1) ∙ place)) (listing_cases g r.0 r.1)
 
     still : (g spot : ℕ) → Contains (places_at lists g) spot → Contains (places_at more g) spot
     still g spot c =
-        ⊎_elim (λ (e : g ≡ good). subst (λ (zs : List Listing). Contains (map place_of zs) spot) (sym (ap (listed_at more) e ∙ there)) (subst (λ (zs : List ℕ). Contains zs spot) (sym (map_push place_of (listed_at lists good) new)) (Contains-append_left (places_at lists good) (new.place ∷ []) spot (subst (λ m. Contains (places_at lists m) spot) e c))))
+        ⊎_elim (λ (e : g ≡ good). subst (λ (zs : List Listing). Contains (map place_of zs) spot) (sym (ap (listed_at more) e ∙ there))
+        (subst (λ (zs : List ℕ). Contains zs spot) (sym (map_push place_of (listed_at lists good) new))
+        (Contains-append_left (places_at lists good) (new.place ∷ []) spot (subst (λ m. Contains (places_at lists m) spot) e c))))
         (λ (n : g ≡ good → ⊥). subst (λ (zs : List Listing). Contains (map place_of zs) spot) (sym (others g n)) c)
         (cases_eq g good)
 
     here : Contains (places_at more good) (length atoms)
-    here = subst (λ n. Contains (places_at more good) n) place (subst (λ (zs : List Listing). Contains (map place_of zs) new.place) (sym there) (subst (λ (zs : List ℕ). Contains zs new.place) (sym (map_push place_of (listed_at lists good) new)) (Contains-push (places_at lists good) new.place)))
+    here = subst (λ n. Contains (places_at more good) n) place (subst (λ (zs : List Listing). Contains (map place_of zs) new.place) (sym there)
+        (subst (λ (zs : List ℕ). Contains zs new.place) (sym (map_push place_of (listed_at lists good) new)) (Contains-push (places_at lists good) new.place)))
 
     old_right : (listing : Listing) → IsListing atoms listing → IsListing (atoms ++ a ∷ []) listing
     old_right listing r =
         let l : listing.place < length atoms = r.within in
-        let e : atom_at (atoms ++ a ∷ []) listing.place ≡ atom_at atoms listing.place = get_or_append_left atoms (a ∷ []) (record { bundle = []; price = 0 }) listing.place l in
+        let e : atom_at (atoms ++ a ∷ []) listing.place ≡ atom_at atoms listing.place =
+        get_or_append_left atoms (a ∷ []) (record { bundle = []; price = 0 }) listing.place l in
         let long = length_push atoms a in
         record {
           within = omega arith;
@@ -234,7 +278,8 @@ module _ (lists more : List (List Listing)) (atoms : List (Atom (List ℕ))) (a 
           second = ap (λ (b : Atom (List ℕ)). has_good b.bundle listing.second) e ∙ r.second;
         }
 
-    pub AreListed-push : has_good a.bundle good ≡ true → new.price ≡ a.price → has_good a.bundle new.witness ≡ true → has_good a.bundle new.second ≡ true → AreListed more (atoms ++ a ∷ [])
+    pub AreListed-push : has_good a.bundle good ≡ true → new.price ≡ a.price → has_good a.bundle new.witness ≡ true → has_good a.bundle new.second ≡ true
+        → AreListed more (atoms ++ a ∷ [])
     AreListed-push has price witness second =
         let d : Atom (List ℕ) = record { bundle = []; price = 0 } in
         let long = length_push atoms a in
@@ -244,10 +289,12 @@ module _ (lists more : List (List Listing)) (atoms : List (Atom (List ℕ))) (a 
               ⊎_elim
               (λ (m : spot < length atoms).
               let at : IsListed lists (atom_at atoms spot).bundle spot = h.each spot m in
-              subst (λ (b : Atom (List ℕ)). IsListed more b.bundle spot) (sym (get_or_append_left atoms (a ∷ []) d spot m)) (record { good = at.good; has = at.has; listed = still at.good spot at.listed }))
+              subst (λ (b : Atom (List ℕ)). IsListed more b.bundle spot) (sym (get_or_append_left atoms (a ∷ []) d spot m))
+              (record { good = at.good; has = at.has; listed = still at.good spot at.listed }))
               (λ (m : length atoms ≤ spot).
               let e : length atoms ≡ spot = omega arith in
-              subst (λ (b : Atom (List ℕ)). IsListed more b.bundle spot) (sym (get_or_push atoms a d spot e)) (record { good = good; has = has; listed = subst (λ n. Contains (places_at more good) n) e here }))
+              subst (λ (b : Atom (List ℕ)). IsListed more b.bundle spot) (sym (get_or_push atoms a d spot e))
+              (record { good = good; has = has; listed = subst (λ n. Contains (places_at more good) n) e here }))
               (cases_lt spot (length atoms));
           right = λ g listing c.
               ⊎_elim (λ (k : Contains (listed_at lists g) listing). old_right listing (h.right g listing k))
@@ -260,7 +307,8 @@ module _ (lists more : List (List Listing)) (atoms : List (Atom (List ℕ))) (a 
               (listing_cases g listing c);
           once = λ g.
               ⊎_elim
-              (λ (e : g ≡ good). subst (λ (zs : List ℕ). AllPairs (λ one other. one ≢ other) zs) (sym (ap (λ m. places_at more m) e ∙ ap (map place_of) there ∙ map_push place_of (listed_at lists good) new))
+              (λ (e : g ≡ good). subst (λ (zs : List ℕ). AllPairs (λ one other. one ≢ other) zs) (sym (ap (λ m. places_at more m) e ∙ ap (map place_of) there
+              ∙ map_push place_of (listed_at lists good) new))
               (all_pairs_push (λ one other. one ≢ other) (places_at lists good) new.place (h.once good) (λ k d l q.
               let w = place_within lists atoms good (get_or (places_at lists good) k d) h (Contains-get_or (places_at lists good) k d l) in
               omega arith)))
@@ -269,7 +317,8 @@ module _ (lists more : List (List Listing)) (atoms : List (Atom (List ℕ))) (a 
           one_good = λ g o spot c k. both g o spot (place_cases g spot c) (place_cases o spot k);
         }
       where
-        both : (g o spot : ℕ) → Contains (places_at lists g) spot ⊎ ((g ≡ good) × (spot ≡ length atoms)) → Contains (places_at lists o) spot ⊎ ((o ≡ good) × (spot ≡ length atoms)) → g ≡ o
+        both : (g o spot : ℕ) → Contains (places_at lists g) spot ⊎ ((g ≡ good) × (spot ≡ length atoms)) → Contains (places_at lists o) spot
+            ⊎ ((o ≡ good) × (spot ≡ length atoms)) → g ≡ o
         both g o spot (inl c) (inl k) = h.one_good g o spot c k
         both g o spot (inl c) (inr k) = let l = place_within lists atoms g spot h c in let e : spot ≡ length atoms = k.1 in absurd (omega arith)
         both g o spot (inr c) (inl k) = let l = place_within lists atoms o spot h k in let e : spot ≡ length atoms = c.1 in absurd (omega arith)
@@ -277,58 +326,81 @@ module _ (lists more : List (List Listing)) (atoms : List (Atom (List ℕ))) (a 
 
 -- ---- the places found so far at one good
 
-pub found_more : (p : ℕ → Bool) (old found more xs : List ℕ) (i place : ℕ) → i < length xs → get_or xs i 0 ≡ place → found ≡ old ++ filter p (take i xs) → more ≡ found ++ cond (p place) (place ∷ []) [] → more ≡ old ++ filter p (take (i + 1) xs)
+pub found_more : (p : ℕ → Bool) (old found more xs : List ℕ) (i place : ℕ) → i < length xs → get_or xs i 0 ≡ place → found ≡ old ++ filter p (take i xs)
+    → more ≡ found ++ cond (p place) (place ∷ []) [] → more ≡ old ++ filter p (take (i + 1) xs)
 found_more p old found more xs i place l is e f =
-    f ∙ ap (λ n. found ++ cond (p n) (n ∷ []) []) (sym is) ∙ ap (λ (zs : List ℕ). zs ++ cond (p (get_or xs i 0)) (get_or xs i 0 ∷ []) []) e ∙ append_assoc old (filter p (take i xs)) (cond (p (get_or xs i 0)) (get_or xs i 0 ∷ []) [])
+    f ∙ ap (λ n. found ++ cond (p n) (n ∷ []) []) (sym is) ∙ ap (λ (zs : List ℕ). zs ++ cond (p (get_or xs i 0)) (get_or xs i 0 ∷ []) []) e
+    ∙ append_assoc old (filter p (take i xs)) (cond (p (get_or xs i 0)) (get_or xs i 0 ∷ []) [])
     ∙ ap (λ (zs : List ℕ). old ++ zs) (sym (filter_more p xs i 0 l))
 
 -- the place at an index, and what is listed there
-pub places_get : (listed : List Listing) (i : ℕ) (d : Listing) → i < length listed → (i < length (map place_of listed)) × (get_or (map place_of listed) i 0 ≡ (get_or listed i d).place)
+pub places_get : (listed : List Listing) (i : ℕ) (d : Listing) → i < length listed → (i < length (map place_of listed))
+    × (get_or (map place_of listed) i 0 ≡ (get_or listed i d).place)
 places_get listed i d l = let long = length-map listed place_of in (omega arith, get_or-map place_of listed i d 0 l)
 
-pub listing_index : (lists : List (List Listing)) (atoms : List (Atom (List ℕ))) (good : ℕ) (listed : List Listing) (i : ℕ) (d : Listing) → AreListed lists atoms → listed_at lists good ≡ listed → i < length listed → IsListing atoms (get_or listed i d)
+pub listing_index : (lists : List (List Listing)) (atoms : List (Atom (List ℕ))) (good : ℕ) (listed : List Listing) (i : ℕ) (d : Listing)
+    → AreListed lists atoms → listed_at lists good ≡ listed → i < length listed → IsListing atoms (get_or listed i d)
 listing_index lists atoms good listed i d a e l =
     a.right good (get_or listed i d) (subst (λ (zs : List Listing). Contains zs (get_or listed i d)) (sym e) (Contains-get_or listed i d l))
 
 -- whether the atom that is listed covers the bundle at the price
-pub covers_listed : (atoms : List (Atom (List ℕ))) (bundle : List ℕ) (price : ℕ) (listing : Listing) → IsListing atoms listing → price ≤ listing.price → is_inside_at atoms bundle listing.place ≡ true → covers_at atoms bundle price listing.place ≡ true
-covers_listed atoms bundle price listing r l t = let e = r.price in and_from (leb price (atom_at atoms listing.place).price) (is_inside_at atoms bundle listing.place) (le-leb price (atom_at atoms listing.place).price (omega arith)) t
+pub covers_listed : (atoms : List (Atom (List ℕ))) (bundle : List ℕ) (price : ℕ) (listing : Listing) → IsListing atoms listing → price ≤ listing.price
+    → is_inside_at atoms bundle listing.place ≡ true → covers_at atoms bundle price listing.place ≡ true
+covers_listed atoms bundle price listing r l t = let e = r.price in
+    and_from (leb price (atom_at atoms listing.place).price) (is_inside_at atoms bundle listing.place)
+    (le-leb price (atom_at atoms listing.place).price (omega arith)) t
 
-pub too_cheap : (atoms : List (Atom (List ℕ))) (bundle : List ℕ) (price : ℕ) (listing : Listing) → IsListing atoms listing → listing.price < price → covers_at atoms bundle price listing.place ≡ false
-too_cheap atoms bundle price listing r l = let e = r.price in and_left (leb price (atom_at atoms listing.place).price) (is_inside_at atoms bundle listing.place) (lt-leb price (atom_at atoms listing.place).price (omega arith))
+pub too_cheap : (atoms : List (Atom (List ℕ))) (bundle : List ℕ) (price : ℕ) (listing : Listing) → IsListing atoms listing → listing.price < price
+    → covers_at atoms bundle price listing.place ≡ false
+too_cheap atoms bundle price listing r l = let e = r.price in and_left (leb price (atom_at atoms listing.place).price) (is_inside_at atoms bundle listing.place)
+    (lt-leb price (atom_at atoms listing.place).price (omega arith))
 
-pub not_inside : (atoms : List (Atom (List ℕ))) (bundle : List ℕ) (price : ℕ) (listing : Listing) → is_inside_at atoms bundle listing.place ≡ false → covers_at atoms bundle price listing.place ≡ false
+pub not_inside : (atoms : List (Atom (List ℕ))) (bundle : List ℕ) (price : ℕ) (listing : Listing) → is_inside_at atoms bundle listing.place ≡ false
+    → covers_at atoms bundle price listing.place ≡ false
 not_inside atoms bundle price listing t = and_right (leb price (atom_at atoms listing.place).price) (is_inside_at atoms bundle listing.place) t
 
-pub one_listed : (lists : List (List Listing)) (good : ℕ) (listed : List Listing) (i : ℕ) (d : Listing) (p : ℕ → Bool) → listed_at lists good ≡ listed → i < length listed → p (get_or listed i d).place ≡ true → list_any p (places_at lists good) ≡ true
+pub one_listed : (lists : List (List Listing)) (good : ℕ) (listed : List Listing) (i : ℕ) (d : Listing) (p : ℕ → Bool) → listed_at lists good ≡ listed
+    → i < length listed → p (get_or listed i d).place ≡ true → list_any p (places_at lists good) ≡ true
 one_listed lists good listed i d p e l t =
-    list_any_has p (places_at lists good) (get_or listed i d).place (Contains-map place_of (listed_at lists good) (get_or listed i d) (subst (λ (zs : List Listing). Contains zs (get_or listed i d)) (sym e) (Contains-get_or listed i d l))) t
+    list_any_has p (places_at lists good) (get_or listed i d).place (Contains-map place_of (listed_at lists good) (get_or listed i d)
+    (subst (λ (zs : List Listing). Contains zs (get_or listed i d)) (sym e) (Contains-get_or listed i d l))) t
 
-pub none_more : (p : ℕ → Bool) (xs : List ℕ) (i place : ℕ) → i < length xs → get_or xs i 0 ≡ place → list_any p (take i xs) ≡ false → p place ≡ false → list_any p (take (i + 1) xs) ≡ false
+pub none_more : (p : ℕ → Bool) (xs : List ℕ) (i place : ℕ) → i < length xs → get_or xs i 0 ≡ place → list_any p (take i xs) ≡ false → p place ≡ false
+    → list_any p (take (i + 1) xs) ≡ false
 none_more p xs i place l is h t = list_any_more p xs i 0 l ∙ or_from (list_any p (take i xs)) (p (get_or xs i 0)) h (ap p is ∙ t)
 
 -- ---- the atoms at the places found so far
 
-pub seen_more : {S : Type 0} (goods : S → List ℕ) (atoms : List (Atom S)) (inside more : List (Bor (Atom S))) (places : List ℕ) (i : ℕ) (a : Bor (Atom S)) → i < length places → get_or places i 0 < length atoms → a.now ≡ get_or atoms (get_or places i 0) a.now
-    → atoms_of goods (map (λ a. a.now) inside) ≡ map (atom_at (atoms_of goods atoms)) (take i places) → more ≡ inside ++ a ∷ [] → atoms_of goods (map (λ a. a.now) more) ≡ map (atom_at (atoms_of goods atoms)) (take (i + 1) places)
+pub seen_more : {S : Type 0} (goods : S → List ℕ) (atoms : List (Atom S)) (inside more : List (Bor (Atom S))) (places : List ℕ) (i : ℕ) (a : Bor (Atom S))
+    → i < length places → get_or places i 0 < length atoms → a.now ≡ get_or atoms (get_or places i 0) a.now
+    → atoms_of goods (map (λ a. a.now) inside) ≡ map (atom_at (atoms_of goods atoms)) (take i places) → more ≡ inside ++ a ∷ []
+    → atoms_of goods (map (λ a. a.now) more) ≡ map (atom_at (atoms_of goods atoms)) (take (i + 1) places)
 seen_more {S} goods atoms inside more places i a l m e h f =
     let seen : Bor (Atom S) → Atom (List ℕ) = λ a. record { bundle = goods a.now.bundle; price = a.now.price } in
     let all : Atom S → Atom (List ℕ) = λ a. record { bundle = goods a.bundle; price = a.price } in
     let pushed : atoms_of goods (map (λ a. a.now) more) ≡ atoms_of goods (map (λ a. a.now) inside) ++ seen a ∷ [] =
-    ap (λ (zs : List (Bor (Atom S))). atoms_of goods (map (λ a. a.now) zs)) f ∙ ap (map all) (map_push (λ (a : Bor (Atom S)). a.now) inside a) ∙ map_push all (map (λ (a : Bor (Atom S)). a.now) inside) a.now in
-    let taken : map (atom_at (atoms_of goods atoms)) (take (i + 1) places) ≡ map (atom_at (atoms_of goods atoms)) (take i places) ++ atom_at (atoms_of goods atoms) (get_or places i 0) ∷ [] =
+    ap (λ (zs : List (Bor (Atom S))). atoms_of goods (map (λ a. a.now) zs)) f ∙ ap (map all) (map_push (λ (a : Bor (Atom S)). a.now) inside a)
+    ∙ map_push all (map (λ (a : Bor (Atom S)). a.now) inside) a.now in
+    let taken : map (atom_at (atoms_of goods atoms)) (take (i + 1) places) ≡ map (atom_at (atoms_of goods atoms)) (take i places)
+    ++ atom_at (atoms_of goods atoms) (get_or places i 0) ∷ [] =
     ap (map (atom_at (atoms_of goods atoms))) (take_more places i 0 l) ∙ map_push (atom_at (atoms_of goods atoms)) (take i places) (get_or places i 0) in
-    let here : atom_at (atoms_of goods atoms) (get_or places i 0) ≡ seen a = get_or-atoms_of goods atoms (get_or places i 0) a.now (record { bundle = []; price = 0 }) m e in
-    pushed ∙ ap (λ (zs : List (Atom (List ℕ))). zs ++ seen a ∷ []) h ∙ sym (taken ∙ ap (λ (b : Atom (List ℕ)). map (atom_at (atoms_of goods atoms)) (take i places) ++ b ∷ []) here)
+    let here : atom_at (atoms_of goods atoms) (get_or places i 0) ≡ seen a =
+    get_or-atoms_of goods atoms (get_or places i 0) a.now (record { bundle = []; price = 0 }) m e in
+    pushed ∙ ap (λ (zs : List (Atom (List ℕ))). zs ++ seen a ∷ []) h
+    ∙ sym (taken ∙ ap (λ (b : Atom (List ℕ)). map (atom_at (atoms_of goods atoms)) (take i places) ++ b ∷ []) here)
 
 -- ---- the list at one good is written
 
-pub listed-set_same : (vectors : List (Vec Listing)) (good : ℕ) (v : Vec Listing) → good < length vectors → listed_at (lists_of (set vectors good v)) good ≡ v.items
+pub listed-set_same : (vectors : List (Vec Listing)) (good : ℕ) (v : Vec Listing) → good < length vectors → listed_at (lists_of (set vectors good v)) good
+    ≡ v.items
 listed-set_same vectors good v l =
     let long = length-map vectors (λ (v : Vec Listing). v.items) in
     let m : good < length (lists_of vectors) = omega arith in
-    ap (λ (zs : List (List Listing)). get_or zs good []) (map-set (λ (v : Vec Listing). v.items) vectors good v) ∙ get_or-set_same (lists_of vectors) good v.items [] m
+    ap (λ (zs : List (List Listing)). get_or zs good []) (map-set (λ (v : Vec Listing). v.items) vectors good v)
+    ∙ get_or-set_same (lists_of vectors) good v.items [] m
 
-pub listed-set_other : (vectors : List (Vec Listing)) (good : ℕ) (v : Vec Listing) (g : ℕ) → (g ≡ good → ⊥) → listed_at (lists_of (set vectors good v)) g ≡ listed_at (lists_of vectors) g
+pub listed-set_other : (vectors : List (Vec Listing)) (good : ℕ) (v : Vec Listing) (g : ℕ) → (g ≡ good → ⊥) → listed_at (lists_of (set vectors good v)) g
+    ≡ listed_at (lists_of vectors) g
 listed-set_other vectors good v g n =
-    ap (λ (zs : List (List Listing)). get_or zs g []) (map-set (λ (v : Vec Listing). v.items) vectors good v) ∙ get_or-set_other (lists_of vectors) good g v.items [] n
+    ap (λ (zs : List (List Listing)). get_or zs g []) (map-set (λ (v : Vec Listing). v.items) vectors good v)
+    ∙ get_or-set_other (lists_of vectors) good g v.items [] n

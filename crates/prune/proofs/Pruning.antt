@@ -8,12 +8,13 @@ use Rattle.std.proofs.lemmas.Bool.{cases_lt, and_left, and_right, false_from_ne_
 use Rattle.std.proofs.lemmas.List.Elements.{All-nil, All-cons, All-head, All-tail, All-push, All-contains, All-weaker, filter-append, Contains-append_left, Contains-append_right, Contains-push}
 use Rattle.std.proofs.lemmas.List.Quantifiers.{all_pairs_push}
 use Rattle.goods_set.specs.Bundles.{IsRising, is_inside, IsInside}
-use Rattle.goods_set.specs.Members.{inside_refl}
+use Rattle.goods_set.specs.Lemmas.Members.{inside_refl}
 use Rattle.valuation.specs.declared.atom.Atom.{Atom}
-use Rattle.valuation.specs.ListLemmas.{AllPairs-nil, AllPairs-head, AllPairs-tail}
+use Rattle.valuation.specs.Lemmas.Lists.{AllPairs-nil, AllPairs-head, AllPairs-tail}
 use Rattle.prune.specs.Steps.{is_below, atoms_below}
-use Rattle.prune.specs.Lists.{filter-lost, filter_same_on, All-from_Contains, Contains-head}
-use Rattle.prune.specs.InOrder.{IsBefore, IsInOrder, before_not_inside}
+use Rattle.prune.specs.Lemmas.Lists.{filter-lost, filter_same_on, All-from_Contains, Contains-head}
+use Rattle.prune.specs.InOrder.{IsBefore, IsInOrder}
+use Rattle.prune.specs.Lemmas.InOrder.{before_not_inside}
 
 abbrev pub HasRisingBundle : Atom (List ℕ) → Type 0
 HasRisingBundle a = IsRising a.bundle
@@ -25,14 +26,17 @@ append_nil [] = refl
 append_nil (z ∷ zs) = ap (λ (ys : List (Atom (List ℕ))). z ∷ ys) (append_nil zs)
 
 pub rising_front : (front back : List (Atom (List ℕ))) → All HasRisingBundle (front ++ back) → All HasRisingBundle front
-rising_front front back h = All-from_Contains HasRisingBundle front (λ a c. All-contains HasRisingBundle (front ++ back) a h (Contains-append_left front back a c))
+rising_front front back h =
+    All-from_Contains HasRisingBundle front (λ a c. All-contains HasRisingBundle (front ++ back) a h (Contains-append_left front back a c))
 
 -- in a list in order the atoms in front of one are before it, and those behind it are not
-pub before_next : (front : List (Atom (List ℕ))) (x : Atom (List ℕ)) (back : List (Atom (List ℕ))) → IsInOrder (front ++ x ∷ back) → All (λ a. IsBefore a x) front
+pub before_next : (front : List (Atom (List ℕ))) (x : Atom (List ℕ)) (back : List (Atom (List ℕ))) → IsInOrder (front ++ x ∷ back)
+    → All (λ a. IsBefore a x) front
 before_next [] x back order = All-nil (λ a. IsBefore a x)
 before_next (y ∷ front) x back order =
     All-cons (λ a. IsBefore a x) y front
-    (All-contains (IsBefore y) (front ++ x ∷ back) x (AllPairs-head IsBefore y (front ++ x ∷ back) order) (Contains-append_right front (x ∷ back) x (Contains-head x back)))
+    (All-contains (IsBefore y) (front ++ x ∷ back) x (AllPairs-head IsBefore y (front ++ x ∷ back) order)
+    (Contains-append_right front (x ∷ back) x (Contains-head x back)))
     (before_next front x back (AllPairs-tail IsBefore y (front ++ x ∷ back) order))
 
 pub behind_next : (front : List (Atom (List ℕ))) (x : Atom (List ℕ)) (back : List (Atom (List ℕ))) → IsInOrder (front ++ x ∷ back) → All (IsBefore x) back
@@ -45,19 +49,28 @@ behind_next (y ∷ front) x back order = behind_next front x back (AllPairs-tail
 pub not_below_itself : (xs : List ℕ) → is_below xs xs ≡ false
 not_below_itself xs = and_right (is_inside xs xs) (not (is_inside xs xs)) (not_from_true (is_inside xs xs) (inside_refl xs))
 
-pub later_not_below : (earlier later : Atom (List ℕ)) → HasRisingBundle earlier → HasRisingBundle later → IsBefore earlier later → is_below later.bundle earlier.bundle ≡ false
-later_not_below earlier later r s l = and_left (is_inside later.bundle earlier.bundle) (not (is_inside earlier.bundle later.bundle)) (false_from_ne_true (is_inside later.bundle earlier.bundle) (λ i. before_not_inside earlier.bundle later.bundle r s l i))
+pub later_not_below : (earlier later : Atom (List ℕ)) → HasRisingBundle earlier → HasRisingBundle later → IsBefore earlier later
+    → is_below later.bundle earlier.bundle ≡ false
+later_not_below earlier later r s l = and_left (is_inside later.bundle earlier.bundle) (not (is_inside earlier.bundle later.bundle))
+    (false_from_ne_true (is_inside later.bundle earlier.bundle) (λ i. before_not_inside earlier.bundle later.bundle r s l i))
 
 -- an atom that is not below the bundle does not matter there
-pub below_push : (kept : List (Atom (List ℕ))) (x : Atom (List ℕ)) (bundle : List ℕ) → is_below x.bundle bundle ≡ false → atoms_below (kept ++ x ∷ []) bundle ≡ atoms_below kept bundle
+pub below_push : (kept : List (Atom (List ℕ))) (x : Atom (List ℕ)) (bundle : List ℕ) → is_below x.bundle bundle ≡ false
+    → atoms_below (kept ++ x ∷ []) bundle ≡ atoms_below kept bundle
 below_push kept x bundle n =
-    filter-append (λ a. is_below a.bundle bundle) kept (x ∷ []) ∙ ap (λ (zs : List (Atom (List ℕ))). atoms_below kept bundle ++ zs) (filter-lost (λ (a : Atom (List ℕ)). is_below a.bundle bundle) x [] n) ∙ append_nil (atoms_below kept bundle)
+    filter-append (λ a. is_below a.bundle bundle) kept (x ∷ [])
+    ∙ ap (λ (zs : List (Atom (List ℕ))). atoms_below kept bundle ++ zs) (filter-lost (λ (a : Atom (List ℕ)). is_below a.bundle bundle) x [] n)
+    ∙ append_nil (atoms_below kept bundle)
 
 -- of earlier atoms those inside the bundle are those below it
-pub inside_is_below : (kept : List (Atom (List ℕ))) (x : Atom (List ℕ)) → All HasRisingBundle kept → HasRisingBundle x → All (λ a. IsBefore a x) kept → filter (λ a. is_inside a.bundle x.bundle) kept ≡ atoms_below kept x.bundle
+pub inside_is_below : (kept : List (Atom (List ℕ))) (x : Atom (List ℕ)) → All HasRisingBundle kept → HasRisingBundle x → All (λ a. IsBefore a x) kept
+    → filter (λ a. is_inside a.bundle x.bundle) kept ≡ atoms_below kept x.bundle
 inside_is_below kept x rising r before =
-    filter_same_on (λ a. is_inside a.bundle x.bundle) (λ a. is_below a.bundle x.bundle) kept (All-from_Contains (λ a. is_inside a.bundle x.bundle ≡ is_below a.bundle x.bundle) kept (λ a c.
-    same (is_inside a.bundle x.bundle) (is_inside x.bundle a.bundle) (false_from_ne_true (is_inside x.bundle a.bundle) (λ i. before_not_inside a.bundle x.bundle (All-contains HasRisingBundle kept a rising c) r (All-contains (λ a. IsBefore a x) kept a before c) i))))
+    filter_same_on (λ a. is_inside a.bundle x.bundle) (λ a. is_below a.bundle x.bundle) kept
+    (All-from_Contains (λ a. is_inside a.bundle x.bundle ≡ is_below a.bundle x.bundle) kept (λ a c.
+    same (is_inside a.bundle x.bundle) (is_inside x.bundle a.bundle)
+    (false_from_ne_true (is_inside x.bundle a.bundle) (λ i. before_not_inside a.bundle x.bundle (All-contains HasRisingBundle kept a rising c) r
+    (All-contains (λ a. IsBefore a x) kept a before c) i))))
   where
     same : (b c : Bool) → c ≡ false → b ≡ (b && not c)
     same true c e = sym (simp e)
@@ -66,7 +79,8 @@ inside_is_below kept x rising r before =
 -- ---- the pruning by a value
 
 module _ (value : List (Atom (List ℕ)) → List ℕ → ℕ)
-    (member : (atoms : List (Atom (List ℕ))) (a : Atom (List ℕ)) → Contains atoms a → (bundle : List ℕ) → IsInside a.bundle bundle → a.price ≤ value atoms bundle)
+    (member : (atoms : List (Atom (List ℕ))) (a : Atom (List ℕ)) → Contains atoms a → (bundle : List ℕ) → IsInside a.bundle bundle
+    → a.price ≤ value atoms bundle)
     (more : (atoms : List (Atom (List ℕ))) (a : Atom (List ℕ)) (bundle : List ℕ) → value atoms bundle ≤ value (atoms ++ a ∷ []) bundle)
     (fewer : (p : Atom (List ℕ) → Bool) (atoms : List (Atom (List ℕ))) (bundle : List ℕ) → value (filter p atoms) bundle ≤ value atoms bundle)
   where
@@ -78,10 +92,16 @@ module _ (value : List (Atom (List ℕ)) → List ℕ → ℕ)
       pub outbid : All (λ a. a.price ≤ value kept a.bundle) done
 
     pub IsKept-none : IsKept [] []
-    IsKept-none = record { in_order = AllPairs-nil IsBefore; among = All-nil (Contains []); short = All-nil (λ b. value (atoms_below [] b.bundle) b.bundle < b.price); outbid = All-nil (λ a. a.price ≤ value [] a.bundle) }
+    IsKept-none = record {
+      in_order = AllPairs-nil IsBefore;
+      among = All-nil (Contains []);
+      short = All-nil (λ b. value (atoms_below [] b.bundle) b.bundle < b.price);
+      outbid = All-nil (λ a. a.price ≤ value [] a.bundle);
+    }
 
     -- the price is reached, and the bid goes
-    pub IsKept-reached : (done kept : List (Atom (List ℕ))) (x : Atom (List ℕ)) → IsKept done kept → x.price ≤ value (atoms_below kept x.bundle) x.bundle → IsKept (done ++ x ∷ []) kept
+    pub IsKept-reached : (done kept : List (Atom (List ℕ))) (x : Atom (List ℕ)) → IsKept done kept → x.price ≤ value (atoms_below kept x.bundle) x.bundle
+        → IsKept (done ++ x ∷ []) kept
     IsKept-reached done kept x k l = record {
       in_order = k.in_order;
       among = All-weaker (Contains done) (Contains (done ++ x ∷ [])) (λ a c. Contains-append_left done (x ∷ []) a c) kept k.among;
@@ -90,18 +110,23 @@ module _ (value : List (Atom (List ℕ)) → List ℕ → ℕ)
     }
 
     -- it is not, and the bid stays
-    pub IsKept-missed : (done kept : List (Atom (List ℕ))) (x : Atom (List ℕ)) → All HasRisingBundle done → HasRisingBundle x → All (λ a. IsBefore a x) done → IsKept done kept → value (atoms_below kept x.bundle) x.bundle < x.price → IsKept (done ++ x ∷ []) (kept ++ x ∷ [])
+    pub IsKept-missed : (done kept : List (Atom (List ℕ))) (x : Atom (List ℕ)) → All HasRisingBundle done → HasRisingBundle x → All (λ a. IsBefore a x) done
+        → IsKept done kept → value (atoms_below kept x.bundle) x.bundle < x.price → IsKept (done ++ x ∷ []) (kept ++ x ∷ [])
     IsKept-missed done kept x rising r before k l = record {
       in_order = all_pairs_push IsBefore kept x k.in_order (λ i d m. All-contains (λ a. IsBefore a x) done _ before (k.among i d m));
-      among = All-push (Contains (done ++ x ∷ [])) kept x (All-weaker (Contains done) (Contains (done ++ x ∷ [])) (λ a c. Contains-append_left done (x ∷ []) a c) kept k.among) (Contains-push done x);
+      among = All-push (Contains (done ++ x ∷ [])) kept x
+          (All-weaker (Contains done) (Contains (done ++ x ∷ [])) (λ a c. Contains-append_left done (x ∷ []) a c) kept k.among) (Contains-push done x);
       short = All-push (λ b. value (atoms_below (kept ++ x ∷ []) b.bundle) b.bundle < b.price) kept x
           (All-from_Contains (λ b. value (atoms_below (kept ++ x ∷ []) b.bundle) b.bundle < b.price) kept (λ b c.
           let there = All-contains (Contains done) kept b k.among c in
-          let same = below_push kept x b.bundle (later_not_below b x (All-contains HasRisingBundle done b rising there) r (All-contains (λ a. IsBefore a x) done b before there)) in
-          subst (λ (zs : List (Atom (List ℕ))). value zs b.bundle < b.price) (sym same) (All-contains (λ b. value (atoms_below kept b.bundle) b.bundle < b.price) kept b k.short c)))
+          let same = below_push kept x b.bundle (later_not_below b x (All-contains HasRisingBundle done b rising there) r
+          (All-contains (λ a. IsBefore a x) done b before there)) in
+          subst (λ (zs : List (Atom (List ℕ))). value zs b.bundle < b.price) (sym same)
+          (All-contains (λ b. value (atoms_below kept b.bundle) b.bundle < b.price) kept b k.short c)))
           (subst (λ (zs : List (Atom (List ℕ))). value zs x.bundle < x.price) (sym (below_push kept x x.bundle (not_below_itself x.bundle))) l);
       outbid = All-push (λ a. a.price ≤ value (kept ++ x ∷ []) a.bundle) done x
-          (All-weaker (λ a. a.price ≤ value kept a.bundle) (λ a. a.price ≤ value (kept ++ x ∷ []) a.bundle) (λ a h. le_trans h (more kept x a.bundle)) done k.outbid)
+          (All-weaker (λ a. a.price ≤ value kept a.bundle) (λ a. a.price ≤ value (kept ++ x ∷ []) a.bundle) (λ a h. le_trans h (more kept x a.bundle)) done
+          k.outbid)
           (member (kept ++ x ∷ []) x (Contains-push kept x) x.bundle (inside_refl x.bundle));
     }
 
@@ -110,8 +135,10 @@ module _ (value : List (Atom (List ℕ)) → List ℕ → ℕ)
       pub kept : IsKept (done ++ rest) final
       pub below : (bundle : List ℕ) → All (λ a. is_below a.bundle bundle ≡ false) rest → atoms_below final bundle ≡ atoms_below so_far bundle
 
-    pub completion : (rest done kept : List (Atom (List ℕ))) → IsInOrder (done ++ rest) → All HasRisingBundle (done ++ rest) → IsKept done kept → (final : List (Atom (List ℕ))) × IsCompleted done rest kept final
-    completion [] done kept order rising k = (kept, record { kept = subst (λ (zs : List (Atom (List ℕ))). IsKept zs kept) (sym (append_nil done)) k; below = λ bundle h. refl })
+    pub completion : (rest done kept : List (Atom (List ℕ))) → IsInOrder (done ++ rest) → All HasRisingBundle (done ++ rest) → IsKept done kept
+        → (final : List (Atom (List ℕ))) × IsCompleted done rest kept final
+    completion [] done kept order rising k =
+        (kept, record { kept = subst (λ (zs : List (Atom (List ℕ))). IsKept zs kept) (sym (append_nil done)) k; below = λ bundle h. refl })
     completion (x ∷ rest) done kept order rising k =
         let e : (done ++ x ∷ []) ++ rest ≡ done ++ x ∷ rest = append_assoc done (x ∷ []) rest in
         let order' = subst (λ (zs : List (Atom (List ℕ))). IsInOrder zs) (sym e) order in
@@ -125,7 +152,8 @@ module _ (value : List (Atom (List ℕ)) → List ℕ → ℕ)
           c.0,
           record {
             kept = subst (λ (zs : List (Atom (List ℕ))). IsKept zs c.0) e c.1.kept;
-            below = λ bundle h. c.1.below bundle (All-tail (λ a. is_below a.bundle bundle ≡ false) x rest h) ∙ below_push kept x bundle (All-head (λ a. is_below a.bundle bundle ≡ false) x rest h);
+            below = λ bundle h. c.1.below bundle (All-tail (λ a. is_below a.bundle bundle ≡ false) x rest h)
+                ∙ below_push kept x bundle (All-head (λ a. is_below a.bundle bundle ≡ false) x rest h);
           },
         ))
         (λ (l : x.price ≤ value (atoms_below kept x.bundle) x.bundle).

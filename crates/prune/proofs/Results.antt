@@ -5,33 +5,38 @@ use Rattle.std.specs.List.{filter}
 use Rattle.std.proofs.lemmas.Bool.{and_left, and_right, and_from, leb-true, leb-false, lt-ltb, le-ltb}
 use Rattle.std.proofs.lemmas.List.Elements.{All-contains, All-weaker, All-push, Contains-append_left, Contains-append_right, Contains-append_cases}
 use Rattle.goods_set.specs.Bundles.{IsBundle, is_inside, IsInside, without, all_bundles}
-use Rattle.goods_set.specs.Members.{inside_refl}
-use Rattle.goods_set.specs.Orders.{bundle_cmp, bundle_cmp_total}
-use Rattle.goods_set.specs.AllBundles.{all_bundles_has, all_bundles_rise}
+use Rattle.goods_set.specs.Lemmas.Members.{inside_refl}
+use Rattle.goods_set.specs.Orders.{bundle_cmp}
+use Rattle.goods_set.specs.Lemmas.Orders.{bundle_cmp_total}
+use Rattle.goods_set.specs.Lemmas.AllBundles.{all_bundles_has, all_bundles_rise}
 use Rattle.valuation.specs.declared.atom.Atom.{Atom}
 use Rattle.valuation.specs.Values.{xor_value, or_value}
-use Rattle.valuation.specs.ListLemmas.{Contains-cons_cases}
-use Rattle.valuation.specs.OrLemmas.{or_value-nil, or_value-rest, or_value-least, or_value-taken, or_value-price, or_value-filter_le}
+use Rattle.valuation.specs.Lemmas.Lists.{Contains-cons_cases}
+use Rattle.valuation.specs.Lemmas.OrValues.{or_value-nil, or_value-rest, or_value-least, or_value-taken, or_value-price, or_value-filter_le}
 use Rattle.prune.specs.Points.{xor_points, or_points}
+use Rattle.prune.specs.Lemmas.OnBundles.{IsOnBundle}
 use Rattle.prune.specs.Steps.{is_below, atoms_below, greatest_price, cut_steps, search_steps, is_heavy, first_heavy}
-use Rattle.prune.specs.Lists.{zero_or_more, Contains-head, Contains-tail, Contains-filter_parts, All-from_Contains, find_first, find_none}
-use Rattle.prune.specs.InOrder.{IsBefore, IsInOrder, before_both, before_itself, same_bundle_same_atom}
-use Rattle.prune.specs.ValueLemmas.{xor_value-member, xor_value-bound, xor_value-outbid, or_value-outbid}
-use Rattle.prune.specs.Points.{IsOnBundle}
-use Rattle.prune.specs.KeptLemmas.{all_nonempty, xor_kept_are_points, xor_points_same, or_kept_are_points, or_points_same}
-use Rattle.prune.specs.StepLemmas.{greatest_price-member, greatest_price-reached}
-use Rattle.prune.specs.BestBids.{AreBestBids}
+use Rattle.prune.specs.Lemmas.Lists.{zero_or_more, Contains-head, Contains-tail, Contains-filter_parts, All-from_Contains, find_first, find_none}
+use Rattle.prune.specs.InOrder.{IsBefore, IsInOrder}
+use Rattle.prune.specs.Lemmas.InOrder.{before_both, before_itself, same_bundle_same_atom}
+use Rattle.prune.specs.Lemmas.Values.{xor_value-member, xor_value-bound, xor_value-outbid, or_value-outbid}
+use Rattle.prune.specs.Lemmas.KeptBids.{all_nonempty, xor_kept_are_points, xor_points_same, or_kept_are_points, or_points_same}
+use Rattle.prune.specs.Lemmas.Steps.{greatest_price-member, greatest_price-reached}
+use Rattle.prune.specs.Internal.BestBids.{AreBestBids}
 use Rattle.prune.proofs.Pruning.{HasRisingBundle, IsKept, IsKept-reached, IsKept-missed, IsCompleted, completion, inside_is_below, below_push, later_not_below, not_below_itself, before_next, behind_next, rising_front}
 
 -- ---- values grow with the list
 
 pub xor_more : (atoms : List (Atom (List ℕ))) (a : Atom (List ℕ)) (bundle : List ℕ) → xor_value atoms bundle ≤ xor_value (atoms ++ a ∷ []) bundle
 xor_more atoms a bundle =
-    xor_value-bound atoms bundle (xor_value (atoms ++ a ∷ []) bundle) (All-from_Contains (λ b. IsInside b.bundle bundle → b.price ≤ xor_value (atoms ++ a ∷ []) bundle) atoms (λ b c i. xor_value-member (atoms ++ a ∷ []) b (Contains-append_left atoms (a ∷ []) b c) bundle i))
+    xor_value-bound atoms bundle (xor_value (atoms ++ a ∷ []) bundle) (All-from_Contains (λ b. IsInside b.bundle bundle
+    → b.price ≤ xor_value (atoms ++ a ∷ []) bundle) atoms (λ b c i. xor_value-member (atoms ++ a ∷ []) b (Contains-append_left atoms (a ∷ []) b c) bundle
+    i))
 
 pub xor_fewer : (p : Atom (List ℕ) → Bool) (atoms : List (Atom (List ℕ))) (bundle : List ℕ) → xor_value (filter p atoms) bundle ≤ xor_value atoms bundle
 xor_fewer p atoms bundle =
-    xor_value-bound (filter p atoms) bundle (xor_value atoms bundle) (All-from_Contains (λ b. IsInside b.bundle bundle → b.price ≤ xor_value atoms bundle) (filter p atoms) (λ b c i. xor_value-member atoms b (Contains-filter_parts p atoms b c).0 bundle i))
+    xor_value-bound (filter p atoms) bundle (xor_value atoms bundle) (All-from_Contains (λ b. IsInside b.bundle bundle → b.price ≤ xor_value atoms bundle)
+    (filter p atoms) (λ b c i. xor_value-member atoms b (Contains-filter_parts p atoms b c).0 bundle i))
 
 pub or_more : (atoms : List (Atom (List ℕ))) (a : Atom (List ℕ)) (bundle : List ℕ) → or_value atoms bundle ≤ or_value (atoms ++ a ∷ []) bundle
 or_more [] a bundle = omega (arith, or_value-nil bundle)
@@ -63,10 +68,12 @@ pub turn_among : (bids done : List (Atom (List ℕ))) (x : Atom (List ℕ)) (res
 turn_among bids done x rest t = All-contains (Contains bids) (done ++ x ∷ rest) x t.best.among (Contains-append_right done (x ∷ rest) x (Contains-head x rest))
 
 pub turn_positive : (bids done : List (Atom (List ℕ))) (x : Atom (List ℕ)) (rest : List (Atom (List ℕ))) → IsTurn bids done x rest → 0 < x.price
-turn_positive bids done x rest t = All-contains (λ b. 0 < b.price) (done ++ x ∷ rest) x t.best.positive (Contains-append_right done (x ∷ rest) x (Contains-head x rest))
+turn_positive bids done x rest t =
+    All-contains (λ b. 0 < b.price) (done ++ x ∷ rest) x t.best.positive (Contains-append_right done (x ∷ rest) x (Contains-head x rest))
 
 -- the kept atoms inside the bundle are those below it
-turn_below : (bids done : List (Atom (List ℕ))) (x : Atom (List ℕ)) (rest kept : List (Atom (List ℕ))) → IsTurn bids done x rest → All (Contains done) kept → filter (λ a. is_inside a.bundle x.bundle) kept ≡ atoms_below kept x.bundle
+turn_below : (bids done : List (Atom (List ℕ))) (x : Atom (List ℕ)) (rest kept : List (Atom (List ℕ))) → IsTurn bids done x rest → All (Contains done) kept
+    → filter (λ a. is_inside a.bundle x.bundle) kept ≡ atoms_below kept x.bundle
 turn_below bids done x rest kept t among =
     let first = rising_front done (x ∷ rest) t.rising in
     inside_is_below kept x
@@ -74,22 +81,30 @@ turn_below bids done x rest kept t among =
     (turn_rising bids done x rest t)
     (All-weaker (Contains done) (λ a. IsBefore a x) (λ a c. All-contains (λ a. IsBefore a x) done a (turn_before bids done x rest t) c) kept among)
 
-pub xor_reached : (bids done : List (Atom (List ℕ))) (x : Atom (List ℕ)) (rest kept : List (Atom (List ℕ))) → IsTurn bids done x rest → IsXorKept done kept → true ≡ leb x.price (xor_value (filter (λ a. is_inside a.bundle x.bundle) kept) x.bundle) → IsXorKept (done ++ x ∷ []) kept
+pub xor_reached : (bids done : List (Atom (List ℕ))) (x : Atom (List ℕ)) (rest kept : List (Atom (List ℕ))) → IsTurn bids done x rest → IsXorKept done kept
+    → true ≡ leb x.price (xor_value (filter (λ a. is_inside a.bundle x.bundle) kept) x.bundle) → IsXorKept (done ++ x ∷ []) kept
 xor_reached bids done x rest kept t k e =
-    IsKept-reached xor_value xor_value-member xor_more xor_fewer done kept x k (subst (λ (zs : List (Atom (List ℕ))). x.price ≤ xor_value zs x.bundle) (turn_below bids done x rest kept t k.among) (leb-true _ _ (sym e)))
+    IsKept-reached xor_value xor_value-member xor_more xor_fewer done kept x k (subst (λ (zs : List (Atom (List ℕ))). x.price ≤ xor_value zs x.bundle)
+    (turn_below bids done x rest kept t k.among) (leb-true _ _ (sym e)))
 
-pub xor_missed : (bids done : List (Atom (List ℕ))) (x : Atom (List ℕ)) (rest kept : List (Atom (List ℕ))) → IsTurn bids done x rest → IsXorKept done kept → false ≡ leb x.price (xor_value (filter (λ a. is_inside a.bundle x.bundle) kept) x.bundle) → IsXorKept (done ++ x ∷ []) (kept ++ x ∷ [])
+pub xor_missed : (bids done : List (Atom (List ℕ))) (x : Atom (List ℕ)) (rest kept : List (Atom (List ℕ))) → IsTurn bids done x rest → IsXorKept done kept
+    → false ≡ leb x.price (xor_value (filter (λ a. is_inside a.bundle x.bundle) kept) x.bundle) → IsXorKept (done ++ x ∷ []) (kept ++ x ∷ [])
 xor_missed bids done x rest kept t k e =
-    IsKept-missed xor_value xor_value-member xor_more xor_fewer done kept x (rising_front done (x ∷ rest) t.rising) (turn_rising bids done x rest t) (turn_before bids done x rest t) k
+    IsKept-missed xor_value xor_value-member xor_more xor_fewer done kept x (rising_front done (x ∷ rest) t.rising) (turn_rising bids done x rest t)
+    (turn_before bids done x rest t) k
     (subst (λ (zs : List (Atom (List ℕ))). xor_value zs x.bundle < x.price) (turn_below bids done x rest kept t k.among) (leb-false _ _ (sym e)))
 
-pub or_reached : (bids done : List (Atom (List ℕ))) (x : Atom (List ℕ)) (rest kept : List (Atom (List ℕ))) → IsTurn bids done x rest → IsOrKept done kept → true ≡ leb x.price (or_value (filter (λ a. is_inside a.bundle x.bundle) kept) x.bundle) → IsOrKept (done ++ x ∷ []) kept
+pub or_reached : (bids done : List (Atom (List ℕ))) (x : Atom (List ℕ)) (rest kept : List (Atom (List ℕ))) → IsTurn bids done x rest → IsOrKept done kept
+    → true ≡ leb x.price (or_value (filter (λ a. is_inside a.bundle x.bundle) kept) x.bundle) → IsOrKept (done ++ x ∷ []) kept
 or_reached bids done x rest kept t k e =
-    IsKept-reached or_value or_value-price or_more or_value-filter_le done kept x k (subst (λ (zs : List (Atom (List ℕ))). x.price ≤ or_value zs x.bundle) (turn_below bids done x rest kept t k.among) (leb-true _ _ (sym e)))
+    IsKept-reached or_value or_value-price or_more or_value-filter_le done kept x k (subst (λ (zs : List (Atom (List ℕ))). x.price ≤ or_value zs x.bundle)
+    (turn_below bids done x rest kept t k.among) (leb-true _ _ (sym e)))
 
-pub or_missed : (bids done : List (Atom (List ℕ))) (x : Atom (List ℕ)) (rest kept : List (Atom (List ℕ))) → IsTurn bids done x rest → IsOrKept done kept → false ≡ leb x.price (or_value (filter (λ a. is_inside a.bundle x.bundle) kept) x.bundle) → IsOrKept (done ++ x ∷ []) (kept ++ x ∷ [])
+pub or_missed : (bids done : List (Atom (List ℕ))) (x : Atom (List ℕ)) (rest kept : List (Atom (List ℕ))) → IsTurn bids done x rest → IsOrKept done kept
+    → false ≡ leb x.price (or_value (filter (λ a. is_inside a.bundle x.bundle) kept) x.bundle) → IsOrKept (done ++ x ∷ []) (kept ++ x ∷ [])
 or_missed bids done x rest kept t k e =
-    IsKept-missed or_value or_value-price or_more or_value-filter_le done kept x (rising_front done (x ∷ rest) t.rising) (turn_rising bids done x rest t) (turn_before bids done x rest t) k
+    IsKept-missed or_value or_value-price or_more or_value-filter_le done kept x (rising_front done (x ∷ rest) t.rising) (turn_rising bids done x rest t)
+    (turn_before bids done x rest t) k
     (subst (λ (zs : List (Atom (List ℕ))). or_value zs x.bundle < x.price) (turn_below bids done x rest kept t k.among) (leb-false _ _ (sym e)))
 
 -- ---- all bids are done
@@ -98,7 +113,8 @@ kept_among : (bids best kept : List (Atom (List ℕ))) → AreBestBids bids best
 kept_among bids best kept b among = All-weaker (Contains best) (Contains bids) (λ a c. All-contains (Contains bids) best a b.among c) kept among
 
 -- each bid is outbid by what is kept
-all_outbid : (value : List ℕ → ℕ) (bids best : List (Atom (List ℕ))) → AreBestBids bids best → All (λ a. a.price ≤ value a.bundle) best → All (λ a. a.price ≤ value a.bundle) bids
+all_outbid : (value : List ℕ → ℕ) (bids best : List (Atom (List ℕ))) → AreBestBids bids best → All (λ a. a.price ≤ value a.bundle) best
+    → All (λ a. a.price ≤ value a.bundle) bids
 all_outbid value bids best b outbid =
     All-from_Contains (λ a. a.price ≤ value a.bundle) bids (λ a c.
     ⊎_elim (λ (z : a.price ≡ 0). omega arith)
@@ -120,14 +136,16 @@ pub xor_done : (bids best kept : List (Atom (List ℕ))) → AreBestBids bids be
 xor_done bids best kept b k =
     let among = kept_among bids best kept b k.among in
     let values : (bundle : List ℕ) → xor_value kept bundle ≡ xor_value bids bundle = λ bundle. le_antisymm
-    (xor_value-outbid bids kept (All-weaker (Contains bids) (λ a. a.price ≤ xor_value bids a.bundle) (λ a c. xor_value-member bids a c a.bundle (inside_refl a.bundle)) kept among) bundle)
+    (xor_value-outbid bids kept (All-weaker (Contains bids) (λ a. a.price ≤ xor_value bids a.bundle)
+    (λ a c. xor_value-member bids a c a.bundle (inside_refl a.bundle)) kept among) bundle)
     (xor_value-outbid kept bids (all_outbid (xor_value kept) bids best b k.outbid) bundle) in
     record {
       in_order = k.in_order;
       among = among;
       values = values;
       points = λ goods on.
-          xor_kept_are_points goods kept k.in_order (All-weaker (Contains bids) (λ a. IsBundle goods a.bundle) (λ a c. All-contains (λ a. IsBundle goods a.bundle) bids a on c) kept among) k.short
+          xor_kept_are_points goods kept k.in_order
+          (All-weaker (Contains bids) (λ a. IsBundle goods a.bundle) (λ a c. All-contains (λ a. IsBundle goods a.bundle) bids a on c) kept among) k.short
           ∙ xor_points_same goods kept bids (λ bundle _. values bundle);
     }
 
@@ -142,14 +160,16 @@ or_done bids best kept some b k =
     let among = kept_among bids best kept b k.among in
     let some_kept = All-weaker (Contains bids) (λ a. 0 < length a.bundle) (λ a c. All-contains (λ a. 0 < length a.bundle) bids a some c) kept among in
     let values : (bundle : List ℕ) → or_value kept bundle ≡ or_value bids bundle = λ bundle. le_antisymm
-    (or_value-outbid bids some kept (All-weaker (Contains bids) (λ a. a.price ≤ or_value bids a.bundle) (λ a c. or_value-price bids a c a.bundle (inside_refl a.bundle)) kept among) bundle)
+    (or_value-outbid bids some kept (All-weaker (Contains bids) (λ a. a.price ≤ or_value bids a.bundle)
+    (λ a c. or_value-price bids a c a.bundle (inside_refl a.bundle)) kept among) bundle)
     (or_value-outbid kept some_kept bids (all_outbid (or_value kept) bids best b k.outbid) bundle) in
     record {
       in_order = k.in_order;
       among = among;
       values = values;
       points = λ goods on.
-          or_kept_are_points goods kept k.in_order (All-weaker (Contains bids) (IsOnBundle goods) (λ a c. All-contains (IsOnBundle goods) bids a on c) kept among) k.short
+          or_kept_are_points goods kept k.in_order (All-weaker (Contains bids) (IsOnBundle goods) (λ a c. All-contains (IsOnBundle goods) bids a on c) kept
+          among) k.short
           ∙ or_points_same goods kept bids (λ bundle _. values bundle);
     }
 
@@ -159,29 +179,39 @@ or_done bids best kept some b k =
 abbrev pub Within : ℕ → List (Atom (List ℕ)) → List (Atom (List ℕ)) → Type 0
 Within limit kept done = All (λ a. 1 + cut_steps (atoms_below kept a.bundle) a.bundle a.price ≤ limit) done
 
-pub within_reached : (limit : ℕ) (bids done : List (Atom (List ℕ))) (x : Atom (List ℕ)) (rest kept : List (Atom (List ℕ))) → IsTurn bids done x rest → IsOrKept done kept → Within limit kept done → 1 + cut_steps (filter (λ a. is_inside a.bundle x.bundle) kept) x.bundle x.price ≤ limit → Within limit kept (done ++ x ∷ [])
+pub within_reached : (limit : ℕ) (bids done : List (Atom (List ℕ))) (x : Atom (List ℕ)) (rest kept : List (Atom (List ℕ))) → IsTurn bids done x rest
+    → IsOrKept done kept → Within limit kept done → 1 + cut_steps (filter (λ a. is_inside a.bundle x.bundle) kept) x.bundle x.price ≤ limit
+    → Within limit kept (done ++ x ∷ [])
 within_reached limit bids done x rest kept t k w l =
-    All-push (λ a. 1 + cut_steps (atoms_below kept a.bundle) a.bundle a.price ≤ limit) done x w (subst (λ (zs : List (Atom (List ℕ))). 1 + cut_steps zs x.bundle x.price ≤ limit) (turn_below bids done x rest kept t k.among) l)
+    All-push (λ a. 1 + cut_steps (atoms_below kept a.bundle) a.bundle a.price ≤ limit) done x w
+    (subst (λ (zs : List (Atom (List ℕ))). 1 + cut_steps zs x.bundle x.price ≤ limit) (turn_below bids done x rest kept t k.among) l)
 
-pub within_missed : (limit : ℕ) (bids done : List (Atom (List ℕ))) (x : Atom (List ℕ)) (rest kept : List (Atom (List ℕ))) → IsTurn bids done x rest → IsOrKept done kept → Within limit kept done → 1 + cut_steps (filter (λ a. is_inside a.bundle x.bundle) kept) x.bundle x.price ≤ limit → Within limit (kept ++ x ∷ []) (done ++ x ∷ [])
+pub within_missed : (limit : ℕ) (bids done : List (Atom (List ℕ))) (x : Atom (List ℕ)) (rest kept : List (Atom (List ℕ))) → IsTurn bids done x rest
+    → IsOrKept done kept → Within limit kept done → 1 + cut_steps (filter (λ a. is_inside a.bundle x.bundle) kept) x.bundle x.price ≤ limit
+    → Within limit (kept ++ x ∷ []) (done ++ x ∷ [])
 within_missed limit bids done x rest kept t k w l =
     let first = rising_front done (x ∷ rest) t.rising in
     All-push (λ a. 1 + cut_steps (atoms_below (kept ++ x ∷ []) a.bundle) a.bundle a.price ≤ limit) done x
     (All-from_Contains (λ a. 1 + cut_steps (atoms_below (kept ++ x ∷ []) a.bundle) a.bundle a.price ≤ limit) done (λ a c.
-    let same = below_push kept x a.bundle (later_not_below a x (All-contains HasRisingBundle done a first c) (turn_rising bids done x rest t) (All-contains (λ a. IsBefore a x) done a (turn_before bids done x rest t) c)) in
-    subst (λ (zs : List (Atom (List ℕ))). 1 + cut_steps zs a.bundle a.price ≤ limit) (sym same) (All-contains (λ a. 1 + cut_steps (atoms_below kept a.bundle) a.bundle a.price ≤ limit) done a w c)))
+    let same = below_push kept x a.bundle (later_not_below a x (All-contains HasRisingBundle done a first c) (turn_rising bids done x rest t)
+    (All-contains (λ a. IsBefore a x) done a (turn_before bids done x rest t) c)) in
+    subst (λ (zs : List (Atom (List ℕ))). 1 + cut_steps zs a.bundle a.price ≤ limit) (sym same)
+    (All-contains (λ a. 1 + cut_steps (atoms_below kept a.bundle) a.bundle a.price ≤ limit) done a w c)))
     (subst (λ (zs : List (Atom (List ℕ))). 1 + cut_steps zs x.bundle x.price ≤ limit) (sym (below_push kept x x.bundle (not_below_itself x.bundle)))
     (subst (λ (zs : List (Atom (List ℕ))). 1 + cut_steps zs x.bundle x.price ≤ limit) (turn_below bids done x rest kept t k.among) l))
 
 -- on a bundle with a price above 0 stands the best bid, of the greatest price
-best_on : (bids best : List (Atom (List ℕ))) → AreBestBids bids best → (bundle : List ℕ) → 0 < greatest_price bids bundle → (b : Atom (List ℕ)) × Contains best b × (b.bundle ≡ bundle) × (b.price ≡ greatest_price bids bundle)
+best_on : (bids best : List (Atom (List ℕ))) → AreBestBids bids best → (bundle : List ℕ) → 0 < greatest_price bids bundle → (b : Atom (List ℕ))
+    × Contains best b × (b.bundle ≡ bundle) × (b.price ≡ greatest_price bids bundle)
 best_on bids best b bundle l =
     let r = greatest_price-reached bids bundle l in
     let price : r.0.price ≡ greatest_price bids bundle = r.3 in
-    let c = All-contains (λ a. 0 < a.price → (b : Atom (List ℕ)) × Contains best b × (b.bundle ≡ a.bundle) × (a.price ≤ b.price)) bids r.0 b.covers r.1 (omega arith) in
+    let c = All-contains (λ a. 0 < a.price → (b : Atom (List ℕ)) × Contains best b × (b.bundle ≡ a.bundle) × (a.price ≤ b.price)) bids r.0 b.covers r.1
+    (omega arith) in
     let e : c.0.bundle ≡ bundle = c.2 ∙ r.2 in
     let low : r.0.price ≤ c.0.price = c.3 in
-    let high : c.0.price ≤ greatest_price bids bundle = subst (λ (xs : List ℕ). c.0.price ≤ greatest_price bids xs) e (greatest_price-member bids c.0 (All-contains (Contains bids) best c.0 b.among c.1)) in
+    let high : c.0.price ≤ greatest_price bids bundle =
+    subst (λ (xs : List ℕ). c.0.price ≤ greatest_price bids xs) e (greatest_price-member bids c.0 (All-contains (Contains bids) best c.0 b.among c.1)) in
     (c.0, c.1, e, omega arith)
 
 best_price : (bids best : List (Atom (List ℕ))) → AreBestBids bids best → (b : Atom (List ℕ)) → Contains best b → greatest_price bids b.bundle ≡ b.price
@@ -193,20 +223,25 @@ best_price bids best m b c =
     sym r.3 ∙ ap (λ (z : Atom (List ℕ)). z.price) e
 
 -- whether a bundle is heavy, told by the points and the greatest price
-heavy_is : (goods limit : ℕ) (bids points : List (Atom (List ℕ))) (bundle : List ℕ) (price : ℕ) → points ≡ or_points goods bids → greatest_price bids bundle ≡ price → is_heavy goods limit bids bundle ≡ (ltb 0 price && ltb limit (1 + cut_steps (atoms_below points bundle) bundle price))
+heavy_is : (goods limit : ℕ) (bids points : List (Atom (List ℕ))) (bundle : List ℕ) (price : ℕ) → points ≡ or_points goods bids
+    → greatest_price bids bundle ≡ price
+    → is_heavy goods limit bids bundle ≡ (ltb 0 price && ltb limit (1 + cut_steps (atoms_below points bundle) bundle price))
 unfolding is_heavy search_steps
 heavy_is goods limit bids points bundle price e f =
     ap (λ n. ltb 0 n && ltb limit (1 + cut_steps (atoms_below (or_points goods bids) bundle) bundle n)) f
     ∙ ap (λ (zs : List (Atom (List ℕ))). ltb 0 price && ltb limit (1 + cut_steps (atoms_below zs bundle) bundle price)) (sym e)
 
-not_heavy : (goods limit : ℕ) (bids points : List (Atom (List ℕ))) (bundle : List ℕ) (price : ℕ) → points ≡ or_points goods bids → greatest_price bids bundle ≡ price → (0 < price → 1 + cut_steps (atoms_below points bundle) bundle price ≤ limit) → is_heavy goods limit bids bundle ≡ false
+not_heavy : (goods limit : ℕ) (bids points : List (Atom (List ℕ))) (bundle : List ℕ) (price : ℕ) → points ≡ or_points goods bids
+    → greatest_price bids bundle ≡ price → (0 < price → 1 + cut_steps (atoms_below points bundle) bundle price ≤ limit)
+    → is_heavy goods limit bids bundle ≡ false
 not_heavy goods limit bids points bundle price e f h =
     heavy_is goods limit bids points bundle price e f
     ∙ ⊎_elim (λ (z : price ≡ 0). and_left (ltb 0 price) (ltb limit (1 + cut_steps (atoms_below points bundle) bundle price)) (le-ltb 0 price (omega arith)))
     (λ (l : 0 < price). and_right (ltb 0 price) (ltb limit (1 + cut_steps (atoms_below points bundle) bundle price)) (le-ltb limit _ (h l)))
     (zero_or_more price)
 
-pub none_heavy : (goods limit : ℕ) (bids best kept : List (Atom (List ℕ))) → All (IsOnBundle goods) bids → AreBestBids bids best → IsOrKept best kept → Within limit kept best → first_heavy goods limit bids ≡ None
+pub none_heavy : (goods limit : ℕ) (bids best kept : List (Atom (List ℕ))) → All (IsOnBundle goods) bids → AreBestBids bids best → IsOrKept best kept
+    → Within limit kept best → first_heavy goods limit bids ≡ None
 unfolding first_heavy
 none_heavy goods limit bids best kept on b k w =
     let done = or_done bids best kept (all_nonempty goods bids on) b k in
@@ -214,9 +249,12 @@ none_heavy goods limit bids best kept on b k w =
     not_heavy goods limit bids kept bundle (greatest_price bids bundle) (done.points goods on) refl (λ l.
     let r = best_on bids best b bundle l in
     subst (λ (xs : List ℕ). 1 + cut_steps (atoms_below kept xs) xs (greatest_price bids bundle) ≤ limit) r.2
-    (subst (λ n. 1 + cut_steps (atoms_below kept r.0.bundle) r.0.bundle n ≤ limit) r.3 (All-contains (λ a. 1 + cut_steps (atoms_below kept a.bundle) a.bundle a.price ≤ limit) best r.0 w r.1))))
+    (subst (λ n. 1 + cut_steps (atoms_below kept r.0.bundle) r.0.bundle n ≤ limit) r.3
+    (All-contains (λ a. 1 + cut_steps (atoms_below kept a.bundle) a.bundle a.price ≤ limit) best r.0 w r.1))))
 
-pub heavy_found : (goods limit : ℕ) (bids done : List (Atom (List ℕ))) (x : Atom (List ℕ)) (rest kept : List (Atom (List ℕ))) → All (IsOnBundle goods) bids → IsTurn bids done x rest → IsOrKept done kept → Within limit kept done → limit < 1 + cut_steps (filter (λ a. is_inside a.bundle x.bundle) kept) x.bundle x.price
+pub heavy_found : (goods limit : ℕ) (bids done : List (Atom (List ℕ))) (x : Atom (List ℕ)) (rest kept : List (Atom (List ℕ))) → All (IsOnBundle goods) bids
+    → IsTurn bids done x rest → IsOrKept done kept → Within limit kept done
+    → limit < 1 + cut_steps (filter (λ a. is_inside a.bundle x.bundle) kept) x.bundle x.price
     → (first_heavy goods limit bids ≡ Some x.bundle) × (is_heavy goods limit bids x.bundle ≡ true)
 unfolding first_heavy
 heavy_found goods limit bids done x rest kept on t k w l =
@@ -230,31 +268,43 @@ heavy_found goods limit bids done x rest kept on t k w l =
     let below : atoms_below f.0 x.bundle ≡ filter (λ a. is_inside a.bundle x.bundle) kept =
     f.1.below x.bundle (All-from_Contains (λ a. is_below a.bundle x.bundle ≡ false) (x ∷ rest) (λ a c. ⊎_elim
     (λ (e : x ≡ a). subst (λ (z : Atom (List ℕ)). is_below z.bundle x.bundle ≡ false) e (not_below_itself x.bundle))
-    (λ (d : Contains rest a). later_not_below x a (rising x here) (rising a (Contains-append_right done (x ∷ rest) a (Contains-tail x rest a d))) (All-contains (IsBefore x) rest a later d))
+    (λ (d : Contains rest a). later_not_below x a (rising x here) (rising a (Contains-append_right done (x ∷ rest) a (Contains-tail x rest a d)))
+    (All-contains (IsBefore x) rest a later d))
     (Contains-cons_cases x rest a c)))
     ∙ sym (turn_below bids done x rest kept t k.among) in
     let heavy : is_heavy goods limit bids x.bundle ≡ true =
     heavy_is goods limit bids f.0 x.bundle x.price points price
-    ∙ and_from (ltb 0 x.price) (ltb limit (1 + cut_steps (atoms_below f.0 x.bundle) x.bundle x.price)) (lt-ltb 0 x.price (turn_positive bids done x rest t)) (lt-ltb limit _ (subst (λ (zs : List (Atom (List ℕ))). limit < 1 + cut_steps zs x.bundle x.price) (sym below) l)) in (
-      find_first (λ xs ys. bundle_cmp xs ys ≡ Less) (is_heavy goods limit bids) (all_bundles goods) (all_bundles_rise goods) x.bundle (all_bundles_has goods x.bundle (All-contains (IsOnBundle goods) bids x on (turn_among bids done x rest t)).bundle) heavy
+    ∙ and_from (ltb 0 x.price) (ltb limit (1 + cut_steps (atoms_below f.0 x.bundle) x.bundle x.price)) (lt-ltb 0 x.price (turn_positive bids done x rest t))
+    (lt-ltb limit _ (subst (λ (zs : List (Atom (List ℕ))). limit < 1 + cut_steps zs x.bundle x.price) (sym below) l)) in (
+      find_first (λ xs ys. bundle_cmp xs ys ≡ Less) (is_heavy goods limit bids) (all_bundles goods) (all_bundles_rise goods) x.bundle
+          (all_bundles_has goods x.bundle (All-contains (IsOnBundle goods) bids x on (turn_among bids done x rest t)).bundle) heavy
           (λ bundle before. not_heavy goods limit bids f.0 bundle (greatest_price bids bundle) points refl (λ m. let r = best_on bids best t.best bundle m in
           earlier f.0 f.1 bundle (greatest_price bids bundle) r.0 r.1 r.2 r.3 before later)),
       heavy,
     )
   where
-    earlier : (final : List (Atom (List ℕ))) → IsCompleted or_value or_value-price or_more or_value-filter_le done (x ∷ rest) kept final → (bundle : List ℕ) (price : ℕ) (b : Atom (List ℕ)) → Contains (done ++ x ∷ rest) b → b.bundle ≡ bundle → b.price ≡ price → bundle_cmp bundle x.bundle ≡ Less → All (IsBefore x) rest → 1 + cut_steps (atoms_below final bundle) bundle price ≤ limit
+    earlier : (final : List (Atom (List ℕ))) → IsCompleted or_value or_value-price or_more or_value-filter_le done (x ∷ rest) kept final
+        → (bundle : List ℕ) (price : ℕ) (b : Atom (List ℕ)) → Contains (done ++ x ∷ rest) b → b.bundle ≡ bundle → b.price ≡ price
+        → bundle_cmp bundle x.bundle ≡ Less → All (IsBefore x) rest → 1 + cut_steps (atoms_below final bundle) bundle price ≤ limit
     earlier final f bundle price b c e p before later =
         ⊎_elim
         (λ (d : Contains done b).
         let b_first : IsBefore b x = All-contains (λ a. IsBefore a x) done b (turn_before bids done x rest t) d in
-        let same : atoms_below final b.bundle ≡ atoms_below kept b.bundle = f.below b.bundle (All-from_Contains (λ a. is_below a.bundle b.bundle ≡ false) (x ∷ rest) (λ a g.
-        later_not_below b a (All-contains HasRisingBundle (done ++ x ∷ rest) b t.rising c) (All-contains HasRisingBundle (done ++ x ∷ rest) a t.rising (Contains-append_right done (x ∷ rest) a g))
-        (⊎_elim (λ (q : x ≡ a). subst (λ (z : Atom (List ℕ)). IsBefore b z) q b_first) (λ (q : Contains rest a). bundle_cmp_total.trans b.bundle x.bundle a.bundle b_first (All-contains (IsBefore x) rest a later q)) (Contains-cons_cases x rest a g)))) in
+        let same : atoms_below final b.bundle ≡ atoms_below kept b.bundle =
+        f.below b.bundle (All-from_Contains (λ a. is_below a.bundle b.bundle ≡ false) (x ∷ rest) (λ a g.
+        later_not_below b a (All-contains HasRisingBundle (done ++ x ∷ rest) b t.rising c)
+        (All-contains HasRisingBundle (done ++ x ∷ rest) a t.rising (Contains-append_right done (x ∷ rest) a g))
+        (⊎_elim (λ (q : x ≡ a). subst (λ (z : Atom (List ℕ)). IsBefore b z) q b_first)
+        (λ (q : Contains rest a). bundle_cmp_total.trans b.bundle x.bundle a.bundle b_first (All-contains (IsBefore x) rest a later q))
+        (Contains-cons_cases x rest a g)))) in
         subst (λ (xs : List ℕ). 1 + cut_steps (atoms_below final xs) xs price ≤ limit) e
         (subst (λ n. 1 + cut_steps (atoms_below final b.bundle) b.bundle n ≤ limit) p
-        (subst (λ (zs : List (Atom (List ℕ))). 1 + cut_steps zs b.bundle b.price ≤ limit) (sym same) (All-contains (λ a. 1 + cut_steps (atoms_below kept a.bundle) a.bundle a.price ≤ limit) done b w d))))
+        (subst (λ (zs : List (Atom (List ℕ))). 1 + cut_steps zs b.bundle b.price ≤ limit) (sym same)
+        (All-contains (λ a. 1 + cut_steps (atoms_below kept a.bundle) a.bundle a.price ≤ limit) done b w d))))
         (λ (d : Contains (x ∷ rest) b). absurd (⊎_elim
-        (λ (q : x ≡ b). before_itself x.bundle (subst (λ (xs : List ℕ). bundle_cmp xs x.bundle ≡ Less) (sym e ∙ ap (λ (z : Atom (List ℕ)). z.bundle) (sym q)) before))
-        (λ (q : Contains rest b). before_both b.bundle x.bundle (subst (λ (xs : List ℕ). bundle_cmp xs x.bundle ≡ Less) (sym e) before) (All-contains (IsBefore x) rest b later q))
+        (λ (q : x ≡ b). before_itself x.bundle (subst (λ (xs : List ℕ). bundle_cmp xs x.bundle ≡ Less) (sym e ∙ ap (λ (z : Atom (List ℕ)). z.bundle) (sym q))
+        before))
+        (λ (q : Contains rest b). before_both b.bundle x.bundle (subst (λ (xs : List ℕ). bundle_cmp xs x.bundle ≡ Less) (sym e) before)
+        (All-contains (IsBefore x) rest b later q))
         (Contains-cons_cases x rest b d)))
         (Contains-append_cases done (x ∷ rest) b c)

@@ -1,13 +1,7 @@
+-- What the contracts of this crate cite.
 pub mod Points
 pub mod Steps
-pub mod Lists
 pub mod InOrder
-pub mod ValueLemmas
-pub mod PointLemmas
-pub mod KeptLemmas
-pub mod StepLemmas
-pub mod TableLemmas
-pub mod BestBids
-pub mod Listings
-pub mod Places
 pub mod Faults
+pub mod Lemmas
+pub mod Internal

@@ -1,25 +1,23 @@
--- Points: the atoms that a bidder's values alone ask for (Nisan, "Bidding and allocation in combinatorial auctions", 2000, gives
--- the values). They are chosen by values over the list of all bundles; the code drops bids by containment and by a search over
--- the bids that it kept.
-use Rattle.std.specs.Prelude.{ℕ, ◌+◌, ◌<◌, Bool, ◌&&◌, not, nat_lt, map, List, [], ◌∷◌, length}
+-- Points: the atoms that a bidder's values alone ask for (Nisan, "Bidding and allocation in combinatorial auctions",
+-- 2000, gives the values). They are chosen by values over the list of all bundles; the code drops bids by containment
+-- and by a search over the bids that it kept.
+use Rattle.std.specs.Prelude.{ℕ, ◌+◌, ◌<◌, Bool, ◌&&◌, not, nat_lt, map, List, [], ◌∷◌, length, Contains}
 use Rattle.std.specs.List.{list_all, filter}
 use Rattle.valuation.specs.declared.atom.Atom.{Atom}
 use Rattle.valuation.specs.Values.{xor_value, or_value}
-use Rattle.goods_set.specs.Bundles.{IsBundle, is_inside, without, all_bundles}
-
--- an atom on a nonempty bundle over so many goods
-pub record IsOnBundle (goods : ℕ) (a : Atom (List ℕ)) : Type 0 where
-  pub nonempty : 0 < length a.bundle
-  pub bundle : IsBundle goods a.bundle
+use Rattle.goods_set.specs.Bundles.{is_inside, without, all_bundles, IsRising, IsInside}
+use Rattle.std.proofs.Common.{◌≡◌, false}
 
 -- the bundles over so many goods that pass the test, in order, each as an atom at its value
 unfoldable pub points_where : (List ℕ → Bool) → (List ℕ → ℕ) → ℕ → List (Atom (List ℕ))
-points_where passes value goods = map (λ bundle. record { bundle = bundle; price = value bundle }) (filter passes (all_bundles goods))
+points_where passes value goods = map (λ bundle. record { bundle = bundle; price = value bundle })
+    (filter passes (all_bundles goods))
 
 -- whether the value is above 0, and taking any one good out of the bundle gives a smaller value
 unfoldable pub is_xor_point : List (Atom (List ℕ)) → List ℕ → Bool
 is_xor_point atoms bundle =
-    nat_lt 0 (xor_value atoms bundle) && list_all (λ good. nat_lt (xor_value atoms (without bundle (good ∷ []))) (xor_value atoms bundle)) bundle
+    nat_lt 0 (xor_value atoms bundle)
+    && list_all (λ good. nat_lt (xor_value atoms (without bundle (good ∷ []))) (xor_value atoms bundle)) bundle
 
 -- the XOR points of a bidder, in order
 abbrev pub xor_points : ℕ → List (Atom (List ℕ)) → List (Atom (List ℕ))
@@ -32,8 +30,32 @@ is_part part bundle = nat_lt 0 (length part) && (is_inside part bundle && not (i
 -- whether the value is above 0, and splitting the bundle into any two nonempty parts gives values that add up to less
 unfoldable pub is_or_point : ℕ → List (Atom (List ℕ)) → List ℕ → Bool
 is_or_point goods atoms bundle =
-    nat_lt 0 (or_value atoms bundle) && list_all (λ part. nat_lt (or_value atoms part + or_value atoms (without bundle part)) (or_value atoms bundle)) (filter (λ part. is_part part bundle) (all_bundles goods))
+    nat_lt 0 (or_value atoms bundle)
+    && list_all (λ part. nat_lt (or_value atoms part + or_value atoms (without bundle part))
+    (or_value atoms bundle)) (filter (λ part. is_part part bundle) (all_bundles goods))
 
 -- the OR points of a bidder, in order
 abbrev pub or_points : ℕ → List (Atom (List ℕ)) → List (Atom (List ℕ))
 or_points goods atoms = points_where (is_or_point goods atoms) (or_value atoms) goods
+
+-- ---- the XOR test
+
+-- the value is above 0, and each good less makes it smaller
+pub record IsXorPoint (atoms : List (Atom (List ℕ))) (bundle : List ℕ) : Type 0 where
+  pub positive : 0 < xor_value atoms bundle
+  pub less : (good : ℕ) → Contains bundle good → xor_value atoms (without bundle (good ∷ [])) < xor_value atoms bundle
+
+-- ---- the OR test
+
+-- one part of a split of the bundle into two nonempty parts
+pub record IsPart (part bundle : List ℕ) : Type 0 where
+  pub rising : IsRising part
+  pub nonempty : 0 < length part
+  pub inside : IsInside part bundle
+  pub proper : is_inside bundle part ≡ false
+
+-- the value is above 0, and each split into two nonempty parts gives less
+pub record IsOrPoint (atoms : List (Atom (List ℕ))) (bundle : List ℕ) : Type 0 where
+  pub positive : 0 < or_value atoms bundle
+  pub split : (part : List ℕ) → IsPart part bundle → or_value atoms part + or_value atoms (without bundle part)
+      < or_value atoms bundle

@@ -1,7 +1,7 @@
 //! The best bid of each bundle.
 ghost use Rattle.std.specs.Prelude.{◌≤◌, vec_len};
 ghost use Rattle.valuation.specs.Values.{atoms_of};
-ghost use Rattle.prune.specs.BestBids.{AreBestBids};
+ghost use Rattle.prune.specs.Internal.BestBids.{AreBestBids};
 
 use goods_set::GoodsSet;
 use std::cmp::Ordering;

@@ -3,7 +3,7 @@ ghost use Rattle.std.specs.Prelude.{◌≡◌, ℕ, ◌<◌, true, map, length, 
 ghost use Rattle.std.specs.List.{filter, list_any, range_with_len};
 ghost use Rattle.goods_set.specs.Bundles.{has_good};
 ghost use Rattle.valuation.specs.Values.{atoms_of};
-ghost use Rattle.prune.specs.Listings.{
+ghost use Rattle.prune.specs.Internal.Listings.{
   lists_of,
   places_at,
   is_inside_at,
@@ -44,7 +44,8 @@ impl<S: GoodsSet> Kept<S> {
     /// No atoms, with room for so many.
     pub fn with_room(alloc: Global, room: usize) -> Result<Kept<S>, AllocError>
         ensures atoms { IfOk result (λ kept. kept.atoms.items ≡ []) }
-        ensures listed { IfOk result (λ kept. AreListed (lists_of kept.lists.items) (atoms_of S.goods kept.atoms.items)) }
+        ensures listed { IfOk result
+            (λ kept. AreListed (lists_of kept.lists.items) (atoms_of S.goods kept.atoms.items)) }
     {
         Ok(Kept {
             atoms: Vec::with_capacity(alloc, room)?,
@@ -65,7 +66,8 @@ impl<S: GoodsSet> Kept<S> {
         requires some { 0 < length (S.goods atom.bundle) }
         requires listed { AreListed (lists_of self.old.lists.items) (atoms_of S.goods self.old.atoms.items) }
         ensures atoms { OnOk result (self.new.atoms.items ≡ self.old.atoms.items ++ atom ∷ []) }
-        ensures listed { OnOk result (AreListed (lists_of self.new.lists.items) (atoms_of S.goods self.new.atoms.items)) }
+        ensures listed { OnOk result
+            (AreListed (lists_of self.new.lists.items) (atoms_of S.goods self.new.atoms.items)) }
     {
         let (least, listing) = self.listing_of(&atom);
         let good = usize::from(least);

@@ -6,72 +6,98 @@ ghost use Rattle.valuation.specs.declared.atom.Atom.{Atom};
 ghost use Rattle.valuation.specs.Packings.{count_packings};
 ghost use Rattle.valuation.specs.Tables.{xor_table, or_table, is_nonzero};
 ghost use Rattle.valuation.specs.Values.{xor_value, or_value};
-ghost use Rattle.prune.specs.PointLemmas.{IsXorPoint, IsOrPoint};
-ghost use Rattle.prune.specs.Points.{xor_points, or_points};
+ghost use Rattle.prune.specs.Points.{IsXorPoint, IsOrPoint, xor_points, or_points};
 ghost use Rattle.prune.specs.Steps.{atoms_below, steps_at_most, search_steps, is_heavy, first_heavy};
 
-/// Which atoms are points. An XOR point is on a bundle of a value above 0, which each good less makes smaller; an OR point on one
-/// of a value above 0, which each split into two nonempty parts makes smaller. Either has the value for its price.
+/// Which atoms are points. An XOR point is on a bundle of a value above 0, which each good less makes smaller; an OR
+/// point on one of a value above 0, which each split into two nonempty parts makes smaller. Either has the value for
+/// its price.
 pub fn points_are()
-    ensures xor { (goods : ℕ) (atoms : List (Atom (List ℕ))) (a : Atom (List ℕ)) → (Contains (xor_points goods atoms) a ↔ (IsBundle goods a.bundle × IsXorPoint atoms a.bundle × (a.price ≡ xor_value atoms a.bundle))) }
-    ensures or { (goods : ℕ) (atoms : List (Atom (List ℕ))) (a : Atom (List ℕ)) → (Contains (or_points goods atoms) a ↔ (IsBundle goods a.bundle × IsOrPoint atoms a.bundle × (a.price ≡ or_value atoms a.bundle))) }
+    ensures xor { (goods : ℕ) (atoms : List (Atom (List ℕ))) (a : Atom (List ℕ))
+        → (Contains (xor_points goods atoms) a ↔ (IsBundle goods a.bundle × IsXorPoint atoms a.bundle
+        × (a.price ≡ xor_value atoms a.bundle))) }
+    ensures or { (goods : ℕ) (atoms : List (Atom (List ℕ))) (a : Atom (List ℕ))
+        → (Contains (or_points goods atoms) a ↔ (IsBundle goods a.bundle × IsOrPoint atoms a.bundle
+        × (a.price ≡ or_value atoms a.bundle))) }
 {}
 
 /// Each point of a list of bids is one of these bids.
 pub fn points_are_bids()
-    ensures xor { (goods : ℕ) (atoms : List (Atom (List ℕ))) → All (IsAtom goods) atoms → All (Contains atoms) (xor_points goods atoms) }
-    ensures or { (goods : ℕ) (atoms : List (Atom (List ℕ))) → All (IsAtom goods) atoms → All (Contains atoms) (or_points goods atoms) }
+    ensures xor { (goods : ℕ) (atoms : List (Atom (List ℕ))) → All (IsAtom goods) atoms
+        → All (Contains atoms) (xor_points goods atoms) }
+    ensures or { (goods : ℕ) (atoms : List (Atom (List ℕ))) → All (IsAtom goods) atoms
+        → All (Contains atoms) (or_points goods atoms) }
 {}
 
 /// The points have the values of all bids, on every bundle over the goods.
 pub fn points_keep_values()
-    ensures xor { (goods : ℕ) (atoms : List (Atom (List ℕ))) → All (IsAtom goods) atoms → (bundle : List ℕ) → IsBundle goods bundle → xor_value (xor_points goods atoms) bundle ≡ xor_value atoms bundle }
-    ensures or { (goods : ℕ) (atoms : List (Atom (List ℕ))) → All (IsAtom goods) atoms → (bundle : List ℕ) → IsBundle goods bundle → or_value (or_points goods atoms) bundle ≡ or_value atoms bundle }
+    ensures xor { (goods : ℕ) (atoms : List (Atom (List ℕ))) → All (IsAtom goods) atoms → (bundle : List ℕ)
+        → IsBundle goods bundle → xor_value (xor_points goods atoms) bundle ≡ xor_value atoms bundle }
+    ensures or { (goods : ℕ) (atoms : List (Atom (List ℕ))) → All (IsAtom goods) atoms → (bundle : List ℕ)
+        → IsBundle goods bundle → or_value (or_points goods atoms) bundle ≡ or_value atoms bundle }
 {}
 
 /// Lists of bids with the same values on every bundle over the goods have the same points.
 pub fn same_values_same_points()
-    ensures xor { (goods : ℕ) (one other : List (Atom (List ℕ))) → ((bundle : List ℕ) → IsBundle goods bundle → xor_value one bundle ≡ xor_value other bundle) → xor_points goods one ≡ xor_points goods other }
-    ensures or { (goods : ℕ) (one other : List (Atom (List ℕ))) → ((bundle : List ℕ) → IsBundle goods bundle → or_value one bundle ≡ or_value other bundle) → or_points goods one ≡ or_points goods other }
+    ensures xor { (goods : ℕ) (one other : List (Atom (List ℕ)))
+        → ((bundle : List ℕ) → IsBundle goods bundle → xor_value one bundle ≡ xor_value other bundle)
+        → xor_points goods one ≡ xor_points goods other }
+    ensures or { (goods : ℕ) (one other : List (Atom (List ℕ)))
+        → ((bundle : List ℕ) → IsBundle goods bundle → or_value one bundle ≡ or_value other bundle)
+        → or_points goods one ≡ or_points goods other }
 {}
 
 /// The points of points are these points.
 pub fn points_of_points()
-    ensures xor { (goods : ℕ) (atoms : List (Atom (List ℕ))) → All (IsAtom goods) atoms → xor_points goods (xor_points goods atoms) ≡ xor_points goods atoms }
-    ensures or { (goods : ℕ) (atoms : List (Atom (List ℕ))) → All (IsAtom goods) atoms → or_points goods (or_points goods atoms) ≡ or_points goods atoms }
+    ensures xor { (goods : ℕ) (atoms : List (Atom (List ℕ))) → All (IsAtom goods) atoms
+        → xor_points goods (xor_points goods atoms) ≡ xor_points goods atoms }
+    ensures or { (goods : ℕ) (atoms : List (Atom (List ℕ))) → All (IsAtom goods) atoms
+        → or_points goods (or_points goods atoms) ≡ or_points goods atoms }
 {}
 
-/// A search takes no more steps than the bundle has packings by the points below it, nor than it has by all bids below it.
+/// A search takes no more steps than the bundle has packings by the points below it, nor than it has by all bids below
+/// it.
 pub fn steps_are_bounded()
-    ensures cut { (goods : ℕ) (atoms : List (Atom (List ℕ))) (bundle : List ℕ) → search_steps goods atoms bundle ≤ count_packings (atoms_below (or_points goods atoms) bundle) bundle }
-    ensures load { (goods : ℕ) (atoms : List (Atom (List ℕ))) → All (IsAtom goods) atoms → (bundle : List ℕ) → search_steps goods atoms bundle ≤ steps_at_most atoms bundle }
+    ensures cut { (goods : ℕ) (atoms : List (Atom (List ℕ))) (bundle : List ℕ) → search_steps goods atoms bundle
+        ≤ count_packings (atoms_below (or_points goods atoms) bundle) bundle }
+    ensures load { (goods : ℕ) (atoms : List (Atom (List ℕ))) → All (IsAtom goods) atoms → (bundle : List ℕ)
+        → search_steps goods atoms bundle ≤ steps_at_most atoms bundle }
 {}
 
 /// A bundle that is heavy for the points is heavy for all bids.
 pub fn no_new_heavy_bundle()
-    ensures { (goods limit : ℕ) (atoms : List (Atom (List ℕ))) → All (IsAtom goods) atoms → (bundle : List ℕ) → is_heavy goods limit (or_points goods atoms) bundle ≡ true → is_heavy goods limit atoms bundle ≡ true }
+    ensures { (goods limit : ℕ) (atoms : List (Atom (List ℕ))) → All (IsAtom goods) atoms → (bundle : List ℕ)
+        → is_heavy goods limit (or_points goods atoms) bundle ≡ true → is_heavy goods limit atoms bundle ≡ true }
 {}
 
 /// There are no points exactly where the table of values is all zeros.
 pub fn no_points_no_values()
-    ensures xor { (goods : ℕ) (atoms : List (Atom (List ℕ))) → All (IsAtom goods) atoms → (xor_points goods atoms ≡ [] ↔ is_nonzero (xor_table atoms goods) ≡ false) }
-    ensures or { (goods : ℕ) (atoms : List (Atom (List ℕ))) → All (IsAtom goods) atoms → (or_points goods atoms ≡ [] ↔ is_nonzero (or_table atoms goods) ≡ false) }
+    ensures xor { (goods : ℕ) (atoms : List (Atom (List ℕ))) → All (IsAtom goods) atoms
+        → (xor_points goods atoms ≡ [] ↔ is_nonzero (xor_table atoms goods) ≡ false) }
+    ensures or { (goods : ℕ) (atoms : List (Atom (List ℕ))) → All (IsAtom goods) atoms
+        → (or_points goods atoms ≡ [] ↔ is_nonzero (or_table atoms goods) ≡ false) }
 {}
 
 /// Lists of bids have the same points exactly where their tables of values are equal.
 pub fn same_tables_same_points()
-    ensures xor { (goods : ℕ) (one other : List (Atom (List ℕ))) → All (IsAtom goods) one → All (IsAtom goods) other → (xor_table one goods ≡ xor_table other goods ↔ xor_points goods one ≡ xor_points goods other) }
-    ensures or { (goods : ℕ) (one other : List (Atom (List ℕ))) → All (IsAtom goods) one → All (IsAtom goods) other → (or_table one goods ≡ or_table other goods ↔ or_points goods one ≡ or_points goods other) }
+    ensures xor { (goods : ℕ) (one other : List (Atom (List ℕ))) → All (IsAtom goods) one → All (IsAtom goods) other
+        → (xor_table one goods ≡ xor_table other goods ↔ xor_points goods one ≡ xor_points goods other) }
+    ensures or { (goods : ℕ) (one other : List (Atom (List ℕ))) → All (IsAtom goods) one → All (IsAtom goods) other
+        → (or_table one goods ≡ or_table other goods ↔ or_points goods one ≡ or_points goods other) }
 {}
 
 /// Where no bundle is heavy for the bids, none is heavy for their points.
 pub fn none_heavy_for_points()
-    ensures { (goods limit : ℕ) (atoms : List (Atom (List ℕ))) → All (IsAtom goods) atoms → first_heavy goods limit atoms ≡ None → first_heavy goods limit (or_points goods atoms) ≡ None }
+    ensures { (goods limit : ℕ) (atoms : List (Atom (List ℕ))) → All (IsAtom goods) atoms
+        → first_heavy goods limit atoms ≡ None → first_heavy goods limit (or_points goods atoms) ≡ None }
 {}
 
 /// The points, and the first heavy bundle, are the same for each number of goods that all bids are within.
 pub fn goods_without_bids()
-    ensures xor { (fewer more : ℕ) (atoms : List (Atom (List ℕ))) → All (IsAtom fewer) atoms → All (IsAtom more) atoms → xor_points fewer atoms ≡ xor_points more atoms }
-    ensures or { (fewer more : ℕ) (atoms : List (Atom (List ℕ))) → All (IsAtom fewer) atoms → All (IsAtom more) atoms → or_points fewer atoms ≡ or_points more atoms }
-    ensures heavy { (fewer more limit : ℕ) (atoms : List (Atom (List ℕ))) → All (IsAtom fewer) atoms → All (IsAtom more) atoms → first_heavy fewer limit atoms ≡ first_heavy more limit atoms }
+    ensures xor { (fewer more : ℕ) (atoms : List (Atom (List ℕ))) → All (IsAtom fewer) atoms → All (IsAtom more) atoms
+        → xor_points fewer atoms ≡ xor_points more atoms }
+    ensures or { (fewer more : ℕ) (atoms : List (Atom (List ℕ))) → All (IsAtom fewer) atoms → All (IsAtom more) atoms
+        → or_points fewer atoms ≡ or_points more atoms }
+    ensures heavy { (fewer more limit : ℕ) (atoms : List (Atom (List ℕ))) → All (IsAtom fewer) atoms
+        → All (IsAtom more) atoms → first_heavy fewer limit atoms ≡ first_heavy more limit atoms }
 {}

@@ -7,7 +7,8 @@ use goods_set::GoodsSet;
 use std::alloc::AllocError;
 use valuation::Atom;
 
-/// Goods that each atom from a place of a list on asks for: inside a set that lacks one of them there is none of these atoms.
+/// Goods that each atom from a place of a list on asks for: inside a set that lacks one of them there is none of these
+/// atoms.
 #[derive(Drop)]
 pub struct Shared<S> {
     /// The place.

@@ -2,7 +2,15 @@
 ghost use Rattle.std.specs.Prelude.{◌≡◌, List, [], ◌∷◌, true, false, Some, None};
 ghost use Rattle.valuation.specs.Examples.{atom};
 ghost use Rattle.prune.specs.Points.{xor_points, or_points};
-ghost use Rattle.prune.specs.Steps.{atoms_below, greatest_price, cut_steps, steps_at_most, search_steps, is_heavy, first_heavy};
+ghost use Rattle.prune.specs.Steps.{
+  atoms_below,
+  greatest_price,
+  cut_steps,
+  steps_at_most,
+  search_steps,
+  is_heavy,
+  first_heavy,
+};
 
 /// The XOR points: a bid stays where no bid inside its bundle has its price.
 #[tactic(auto, unfolding(crate::specs::Points::points_where, crate::specs::Points::is_xor_point, valuation::specs::Values::xor_value))]
@@ -11,10 +19,14 @@ pub fn xor_points_worked()
     ensures worthless { xor_points 1 (atom (0 ∷ []) 0 ∷ []) ≡ [] }
     ensures larger_dominated { xor_points 2 (atom (0 ∷ 1 ∷ []) 5 ∷ atom (0 ∷ []) 5 ∷ []) ≡ atom (0 ∷ []) 5 ∷ [] }
     ensures equal { xor_points 1 (atom (0 ∷ []) 3 ∷ atom (0 ∷ []) 5 ∷ []) ≡ atom (0 ∷ []) 5 ∷ [] }
-    ensures cheaper_larger { xor_points 2 (atom (0 ∷ 1 ∷ []) 1 ∷ atom (1 ∷ []) 1 ∷ atom (0 ∷ []) 1 ∷ []) ≡ atom (0 ∷ []) 1 ∷ atom (1 ∷ []) 1 ∷ [] }
-    ensures ladder { xor_points 2 (atom (0 ∷ []) 5 ∷ atom (0 ∷ 1 ∷ []) 5 ∷ atom (0 ∷ 1 ∷ []) 6 ∷ []) ≡ atom (0 ∷ []) 5 ∷ atom (0 ∷ 1 ∷ []) 6 ∷ [] }
-    ensures long_ladder { xor_points 3 (atom (0 ∷ 1 ∷ 2 ∷ []) 2 ∷ atom (0 ∷ 1 ∷ []) 2 ∷ atom (0 ∷ []) 1 ∷ []) ≡ atom (0 ∷ []) 1 ∷ atom (0 ∷ 1 ∷ []) 2 ∷ [] }
-    ensures more_goods { xor_points 3 (atom (0 ∷ []) 5 ∷ atom (0 ∷ 1 ∷ []) 6 ∷ []) ≡ atom (0 ∷ []) 5 ∷ atom (0 ∷ 1 ∷ []) 6 ∷ [] }
+    ensures cheaper_larger { xor_points 2 (atom (0 ∷ 1 ∷ []) 1 ∷ atom (1 ∷ []) 1 ∷ atom (0 ∷ []) 1 ∷ [])
+        ≡ atom (0 ∷ []) 1 ∷ atom (1 ∷ []) 1 ∷ [] }
+    ensures ladder { xor_points 2 (atom (0 ∷ []) 5 ∷ atom (0 ∷ 1 ∷ []) 5 ∷ atom (0 ∷ 1 ∷ []) 6 ∷ []) ≡ atom (0 ∷ []) 5
+        ∷ atom (0 ∷ 1 ∷ []) 6 ∷ [] }
+    ensures long_ladder { xor_points 3 (atom (0 ∷ 1 ∷ 2 ∷ []) 2 ∷ atom (0 ∷ 1 ∷ []) 2 ∷ atom (0 ∷ []) 1 ∷ [])
+        ≡ atom (0 ∷ []) 1 ∷ atom (0 ∷ 1 ∷ []) 2 ∷ [] }
+    ensures more_goods { xor_points 3 (atom (0 ∷ []) 5 ∷ atom (0 ∷ 1 ∷ []) 6 ∷ []) ≡ atom (0 ∷ []) 5
+        ∷ atom (0 ∷ 1 ∷ []) 6 ∷ [] }
 {}
 
 /// The OR points: a bid stays where no bids that share no good and are inside its bundle add up to its price.
@@ -22,27 +34,39 @@ pub fn xor_points_worked()
 pub fn or_points_worked()
     ensures none { or_points 1 [] ≡ [] }
     ensures worthless { or_points 1 (atom (0 ∷ []) 0 ∷ []) ≡ [] }
-    ensures larger_dominated { or_points 2 (atom (0 ∷ []) 3 ∷ atom (1 ∷ []) 4 ∷ atom (0 ∷ 1 ∷ []) 7 ∷ []) ≡ atom (0 ∷ []) 3 ∷ atom (1 ∷ []) 4 ∷ [] }
-    ensures synergy { or_points 2 (atom (0 ∷ 1 ∷ []) 8 ∷ atom (0 ∷ []) 3 ∷ atom (1 ∷ []) 4 ∷ atom (0 ∷ 1 ∷ []) 8 ∷ []) ≡ atom (0 ∷ []) 3 ∷ atom (1 ∷ []) 4 ∷ atom (0 ∷ 1 ∷ []) 8 ∷ [] }
-    ensures greatest { or_points 3 (atom (0 ∷ []) 1 ∷ atom (0 ∷ []) 2 ∷ atom (0 ∷ 1 ∷ 2 ∷ []) 0 ∷ []) ≡ atom (0 ∷ []) 2 ∷ [] }
-    ensures singles_below_triple { let a = atom (0 ∷ []) 1 ∷ atom (1 ∷ []) 1 ∷ atom (2 ∷ []) 1 ∷ atom (0 ∷ 1 ∷ 2 ∷ []) 4 ∷ [] in or_points 3 a ≡ a }
-    ensures three_reach { let a = atom (0 ∷ []) 2 ∷ atom (1 ∷ []) 2 ∷ atom (2 ∷ []) 2 ∷ [] in or_points 3 (atom (0 ∷ 1 ∷ 2 ∷ []) 5 ∷ a) ≡ a }
+    ensures larger_dominated { or_points 2 (atom (0 ∷ []) 3 ∷ atom (1 ∷ []) 4 ∷ atom (0 ∷ 1 ∷ []) 7 ∷ [])
+        ≡ atom (0 ∷ []) 3 ∷ atom (1 ∷ []) 4 ∷ [] }
+    ensures synergy { or_points 2 (atom (0 ∷ 1 ∷ []) 8 ∷ atom (0 ∷ []) 3 ∷ atom (1 ∷ []) 4 ∷ atom (0 ∷ 1 ∷ []) 8 ∷ [])
+        ≡ atom (0 ∷ []) 3 ∷ atom (1 ∷ []) 4 ∷ atom (0 ∷ 1 ∷ []) 8 ∷ [] }
+    ensures greatest { or_points 3 (atom (0 ∷ []) 1 ∷ atom (0 ∷ []) 2 ∷ atom (0 ∷ 1 ∷ 2 ∷ []) 0 ∷ [])
+        ≡ atom (0 ∷ []) 2 ∷ [] }
+    ensures singles_below_triple { let a = atom (0 ∷ []) 1 ∷ atom (1 ∷ []) 1 ∷ atom (2 ∷ []) 1
+        ∷ atom (0 ∷ 1 ∷ 2 ∷ []) 4 ∷ [] in or_points 3 a ≡ a }
+    ensures three_reach { let a = atom (0 ∷ []) 2 ∷ atom (1 ∷ []) 2 ∷ atom (2 ∷ []) 2 ∷ [] in
+        or_points 3 (atom (0 ∷ 1 ∷ 2 ∷ []) 5 ∷ a) ≡ a }
 {}
 
 /// The steps of the searches, and the heavy bundles.
 #[tactic(auto, unfolding(crate::specs::Points::points_where, crate::specs::Points::is_or_point, crate::specs::Steps::cut_steps, crate::specs::Steps::steps_at_most, crate::specs::Steps::search_steps, crate::specs::Steps::is_heavy, crate::specs::Steps::first_heavy, valuation::specs::Values::or_value, valuation::specs::Packings::count_packings))]
 pub fn steps_worked()
-    ensures below { atoms_below (atom (0 ∷ []) 3 ∷ atom (0 ∷ 1 ∷ []) 7 ∷ atom (2 ∷ []) 1 ∷ []) (0 ∷ 1 ∷ []) ≡ atom (0 ∷ []) 3 ∷ [] }
+    ensures below { atoms_below (atom (0 ∷ []) 3 ∷ atom (0 ∷ 1 ∷ []) 7 ∷ atom (2 ∷ []) 1 ∷ []) (0 ∷ 1 ∷ [])
+        ≡ atom (0 ∷ []) 3 ∷ [] }
     ensures greatest { greatest_price (atom (0 ∷ []) 3 ∷ atom (0 ∷ 1 ∷ []) 7 ∷ atom (0 ∷ []) 5 ∷ []) (0 ∷ []) ≡ 5 }
-    ensures prices_too_low { search_steps 3 (atom (0 ∷ []) 1 ∷ atom (1 ∷ []) 1 ∷ atom (2 ∷ []) 1 ∷ atom (0 ∷ 1 ∷ 2 ∷ []) 4 ∷ []) (0 ∷ 1 ∷ 2 ∷ []) ≡ 1 }
-    ensures all_packings { steps_at_most (atom (0 ∷ []) 1 ∷ atom (1 ∷ []) 1 ∷ atom (2 ∷ []) 1 ∷ atom (0 ∷ 1 ∷ 2 ∷ []) 4 ∷ []) (0 ∷ 1 ∷ 2 ∷ []) ≡ 8 }
-    ensures three_reach { search_steps 3 (atom (0 ∷ []) 2 ∷ atom (1 ∷ []) 2 ∷ atom (2 ∷ []) 2 ∷ atom (0 ∷ 1 ∷ 2 ∷ []) 5 ∷ []) (0 ∷ 1 ∷ 2 ∷ []) ≡ 4 }
+    ensures prices_too_low { search_steps 3 (atom (0 ∷ []) 1 ∷ atom (1 ∷ []) 1 ∷ atom (2 ∷ []) 1
+        ∷ atom (0 ∷ 1 ∷ 2 ∷ []) 4 ∷ []) (0 ∷ 1 ∷ 2 ∷ []) ≡ 1 }
+    ensures all_packings { steps_at_most (atom (0 ∷ []) 1 ∷ atom (1 ∷ []) 1 ∷ atom (2 ∷ []) 1
+        ∷ atom (0 ∷ 1 ∷ 2 ∷ []) 4 ∷ []) (0 ∷ 1 ∷ 2 ∷ []) ≡ 8 }
+    ensures three_reach { search_steps 3 (atom (0 ∷ []) 2 ∷ atom (1 ∷ []) 2 ∷ atom (2 ∷ []) 2
+        ∷ atom (0 ∷ 1 ∷ 2 ∷ []) 5 ∷ []) (0 ∷ 1 ∷ 2 ∷ []) ≡ 4 }
     ensures two_reach { search_steps 2 (atom (0 ∷ []) 3 ∷ atom (1 ∷ []) 4 ∷ atom (0 ∷ 1 ∷ []) 7 ∷ []) (0 ∷ 1 ∷ []) ≡ 3 }
     ensures nothing_below { search_steps 1 (atom (0 ∷ []) 1 ∷ []) (0 ∷ []) ≡ 1 }
-    ensures many_steps { cut_steps (atom (0 ∷ []) 1 ∷ atom (1 ∷ []) 1 ∷ atom (2 ∷ []) 1 ∷ atom (3 ∷ []) 1 ∷ atom (0 ∷ 1 ∷ 2 ∷ []) 4 ∷ []) (0 ∷ 1 ∷ 2 ∷ 3 ∷ []) 6 ≡ 14 }
-    ensures heavy_at { first_heavy 2 2 (atom (0 ∷ []) 3 ∷ atom (1 ∷ []) 4 ∷ atom (0 ∷ 1 ∷ []) 7 ∷ []) ≡ Some (0 ∷ 1 ∷ []) }
+    ensures many_steps { cut_steps (atom (0 ∷ []) 1 ∷ atom (1 ∷ []) 1 ∷ atom (2 ∷ []) 1 ∷ atom (3 ∷ []) 1
+        ∷ atom (0 ∷ 1 ∷ 2 ∷ []) 4 ∷ []) (0 ∷ 1 ∷ 2 ∷ 3 ∷ []) 6 ≡ 14 }
+    ensures heavy_at { first_heavy 2 2 (atom (0 ∷ []) 3 ∷ atom (1 ∷ []) 4 ∷ atom (0 ∷ 1 ∷ []) 7 ∷ [])
+        ≡ Some (0 ∷ 1 ∷ []) }
     ensures not_heavy { first_heavy 2 3 (atom (0 ∷ []) 3 ∷ atom (1 ∷ []) 4 ∷ atom (0 ∷ 1 ∷ []) 7 ∷ []) ≡ None }
     ensures first_in_order { first_heavy 2 0 (atom (1 ∷ []) 4 ∷ atom (0 ∷ []) 3 ∷ []) ≡ Some (0 ∷ []) }
     ensures worthless { first_heavy 1 0 (atom (0 ∷ []) 0 ∷ []) ≡ None }
-    ensures limit_one { is_heavy 3 1 (atom (0 ∷ []) 1 ∷ atom (1 ∷ []) 1 ∷ atom (2 ∷ []) 1 ∷ atom (0 ∷ 1 ∷ 2 ∷ []) 4 ∷ []) (0 ∷ 1 ∷ 2 ∷ []) ≡ false }
+    ensures limit_one { is_heavy 3 1 (atom (0 ∷ []) 1 ∷ atom (1 ∷ []) 1 ∷ atom (2 ∷ []) 1
+        ∷ atom (0 ∷ 1 ∷ 2 ∷ []) 4 ∷ []) (0 ∷ 1 ∷ 2 ∷ []) ≡ false }
 {}

@@ -5,7 +5,7 @@ ghost use Rattle.cats_text.specs.declared.limits.TheConstants.{MAX_GOODS};
 ghost use Rattle.valuation.specs.Auctions.{IsAtom};
 ghost use Rattle.valuation.specs.Values.{atoms_of, plain_atom, xor_value};
 ghost use Rattle.prune.specs.InOrder.{IsInOrder};
-ghost use Rattle.prune.specs.Listings.{lists_of, covers, AreListed, AreUncovered};
+ghost use Rattle.prune.specs.Internal.Listings.{lists_of, covers, AreListed, AreUncovered};
 ghost use Rattle.prune.specs.Points.{xor_points};
 
 use crate::best::keep_best_bids;
@@ -54,7 +54,8 @@ fn are_few_and_uncovered<S: GoodsSet>(bids: &[Atom<S>]) -> bool
 /// Whether a kept atom inside the bid's bundle has at least its price. Few atoms need not be listed.
 fn is_covered<S: GoodsSet>(kept: &Kept<S>, bid: &Atom<S>, few: bool) -> bool
     requires { few ≡ false → AreListed (lists_of kept.now.lists.items) (atoms_of S.goods kept.now.atoms.items) }
-    ensures { result ≡ list_any (covers (S.goods bid.now.bundle) bid.now.price) (atoms_of S.goods kept.now.atoms.items) }
+    ensures { result ≡ list_any (covers (S.goods bid.now.bundle) bid.now.price)
+        (atoms_of S.goods kept.now.atoms.items) }
 {
     if !few {
         return kept.has_inside(&bid.bundle, bid.price);
@@ -62,7 +63,8 @@ fn is_covered<S: GoodsSet>(kept: &Kept<S>, bid: &Atom<S>, few: bool) -> bool
     is_covered_by_any(bid, kept.atoms.as_slice())
 }
 
-/// The bids that the bidder's values alone ask for, in order: a bid stays where no kept bid inside its bundle has its price.
+/// The bids that the bidder's values alone ask for, in order: a bid stays where no kept bid inside its bundle has its
+/// price.
 pub fn prune_xor<S: GoodsSet>(
     alloc: Global,
     mut atoms: Vec<Atom<S>>,

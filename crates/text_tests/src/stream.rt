@@ -172,8 +172,8 @@ fn kind_of(answer: io::Result<usize>) -> Result<usize, ErrorKind> {
 /// A write of a piece, or else a flush; what it answers, a flush with 0; whether the writer has failed afterwards.
 type WriteStep = (Option<&'static [u8]>, Result<usize, ErrorKind>, bool);
 
-/// What a writer of three bytes a call does that has room for so many, and whose flush may fail; what it takes, and how many
-/// writes and flushes reach it.
+/// What a writer of three bytes a call does that has room for so many, and whose flush may fail; what it takes, and how
+/// many writes and flushes reach it.
 type Writes = (
     usize,
     Full,
@@ -243,8 +243,8 @@ fn writes_pass_through_until_one_fails(rt: HostRuntime) -> Result<(), Fail> {
     Ok(())
 }
 
-/// Asserts what a writer that takes so many bytes a call and so many in all makes of a text that is sent: how much goes out,
-/// and whether a flush reaches it.
+/// Asserts what a writer that takes so many bytes a call and so many in all makes of a text that is sent: how much goes
+/// out, and whether a flush reaches it.
 fn assert_sends(
     rt: &impl Abort,
     mut out: Watched<StepWriter>,
@@ -293,8 +293,8 @@ fn counts_what_went_out(rt: HostRuntime) {
     assert_sends(&rt, out, b"goods 0", Err(SendFault { written: 7 }), 1);
 }
 
-/// A text, where and how its reader fails, and what reading it answers: the sizes of the file, or the fault. Whether the
-/// reader has ended and has failed afterwards, and how many reads reach it.
+/// A text, where and how its reader fails, and what reading it answers: the sizes of the file, or the fault. Whether
+/// the reader has ended and has failed afterwards, and how many reads reach it.
 type Stream = (
     &'static [u8],
     Option<usize>,

@@ -1,6 +1,6 @@
-pub mod Levels
+-- Proofs that several functions of this crate cite.
 pub mod PlaceMarks
-pub mod MarkedLevels
 pub mod Scans
 pub mod Placing
-mod Comparing
+pub mod BestPackingLevels
+pub mod MarkedPackingLevels

@@ -1,10 +1,10 @@
--- Auctions: a number of goods, the atoms of the OR bidder, and the atoms of each XOR bidder. The bids of a file without a dummy
--- good are the OR bidder's, and those that share a dummy good are one XOR bidder's (README of CATS 2.0, and Nisan's phantom goods).
+-- Auctions: a number of goods, the atoms of the OR bidder, and the atoms of each XOR bidder. The bids of a file without
+-- a dummy good are the OR bidder's, and those that share a dummy good are one XOR bidder's (README of CATS 2.0, and
+-- Nisan's phantom goods).
 use Rattle.std.specs.Prelude.{ℕ, ◌+◌, ◌<◌, ◌≤◌, ◌==◌, Bool, false, Option, Some, None, is_none, List, length, map, filter, All, sum_by}
 use Rattle.std.specs.List.{range_with_len}
-use Rattle.std.specs.Coded.{le_prop}
 use Rattle.valuation.specs.declared.atom.Atom.{Atom}
-use Rattle.goods_set.specs.Bundles.{IsBundle, IsBundle-prop}
+use Rattle.goods_set.specs.Bundles.{IsBundle}
 use Rattle.cats_text.specs.Files.{PlainBid, PlainFile}
 use Rattle.cats_text.specs.declared.limits.TheConstants.{MAX_GOODS, MAX_BIDS, MAX_DUMMY, MAX_PRICE}
 
@@ -55,14 +55,3 @@ auction_from f = record {
   or_atoms = or_atoms_of f.bids;
   xor_bidders = map (xor_atoms_of f.bids) (range_with_len 0 f.dummy);
 }
-
--- ---- these facts have one proof at most, as a fact that a struct keeps has to
-
-pub IsAtom-prop : (goods : ℕ) (a : Atom (List ℕ)) → IsProp (IsAtom goods a)
-IsAtom-prop goods a = hlevel (le_prop, IsBundle-prop goods a.bundle)
-
-IsAtoms-prop : (goods : ℕ) (atoms : List (Atom (List ℕ))) → IsProp (All (IsAtom goods) atoms)
-IsAtoms-prop goods atoms = hlevel (IsAtom-prop goods)
-
-pub IsAuction-prop : (cap : ℕ) (a : PlainAuction) → IsProp (IsAuction cap a)
-IsAuction-prop cap a = hlevel (le_prop, IsAtoms-prop a.goods)

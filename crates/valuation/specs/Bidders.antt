@@ -10,5 +10,10 @@ abbrev pub bidders_of : {S : Type 0} → (S → List ℕ) → List (Vec (Atom S)
 bidders_of goods bidders = map (λ b. atoms_of goods b.items) bidders
 
 -- the auction with these lists
-abbrev pub plain_auction_of : {S : Type 0} → (S → List ℕ) → ℕ → List (Atom S) → List (Vec (Atom S) Global) → PlainAuction
-plain_auction_of goods count atoms bidders = record { goods = count; or_atoms = atoms_of goods atoms; xor_bidders = bidders_of goods bidders }
+abbrev pub plain_auction_of : {S : Type 0} → (S → List ℕ) → ℕ → List (Atom S) → List (Vec (Atom S) Global)
+    → PlainAuction
+plain_auction_of goods count atoms bidders = record {
+  goods = count;
+  or_atoms = atoms_of goods atoms;
+  xor_bidders = bidders_of goods bidders;
+}

@@ -1,19 +1,12 @@
+-- What the contracts of this crate cite.
 pub mod Values
 pub mod Packings
 pub mod Tables
 pub mod Orders
-pub mod OrderLemmas
 pub mod Auctions
 pub mod Bidders
 pub mod Views
-pub mod AuctionLemmas
-pub mod AtomLemmas
 pub mod Examples
-pub mod Permutations
 pub mod Sorting
-pub mod XorLemmas
-pub mod OrLemmas
-pub mod ListLemmas
-pub mod PackingLemmas
-pub mod CountLemmas
-pub mod PlaceMarks
+pub mod Lemmas
+pub mod Internal

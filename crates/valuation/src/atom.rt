@@ -16,8 +16,8 @@ pub struct Atom<S> {
 }
 
 impl<S: GoodsSet> Atom<S> {
-    /// Whether it may stand in an auction with that many goods: it asks for some goods, all of the auction, at a price within the
-    /// limit.
+    /// Whether it may stand in an auction with that many goods: it asks for some goods, all of the auction, at a price
+    /// within the limit.
     pub fn keeps_limits(&self, goods: u16) -> bool
         ensures { IsTrue result ↔ IsAtom goods (plain_atom S.goods self.now) }
     {

@@ -1,5 +1,6 @@
 //! Auctions.
-ghost use Rattle.valuation.specs.Auctions.{IsAuction, IsAuction-prop};
+ghost use Rattle.valuation.specs.Auctions.{IsAuction};
+ghost use Rattle.valuation.specs.Lemmas.Limits.{IsAuction-prop};
 ghost use Rattle.valuation.specs.Bidders.{plain_auction_of};
 
 use crate::atom::Atom;

@@ -63,9 +63,9 @@ pub(crate) fn empty_bidders<S: GoodsSet>(
     Ok(bidders)
 }
 
-/// The auction that a file stands for. The bids without a dummy good are the OR bidder's; those that share a dummy good are one
-/// XOR bidder's, even where there is only one, and a dummy good that no bid has is a bidder without an atom. The atoms are in the
-/// order of the bids' numbers.
+/// The auction that a file stands for. The bids without a dummy good are the OR bidder's; those that share a dummy good
+/// are one XOR bidder's, even where there is only one, and a dummy good that no bid has is a bidder without an atom.
+/// The atoms are in the order of the bids' numbers.
 pub fn auction_of<S: GoodsSet>(alloc: Global, file: &BidFile) -> Result<Auction<S>, AllocError>
     requires { (plain_file file.now).goods ≤ S.CAP }
     ensures { IfOk result (λ a. plain_auction a ≡ auction_from (plain_file file.now)) }

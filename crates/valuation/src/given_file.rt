@@ -28,7 +28,8 @@ fn into_atom<S: GoodsSet>(alloc: Global, bid: Bid) -> Result<Atom<S>, AllocError
     Ok(Atom { bundle, price })
 }
 
-/// The auction of a file that is given up, as `auction_of`. The goods of its bids go into the atoms, by sets that can as they stand.
+/// The auction of a file that is given up, as `auction_of`. The goods of its bids go into the atoms, by sets that can
+/// as they stand.
 pub fn into_auction<S: GoodsSet>(alloc: Global, file: BidFile) -> Result<Auction<S>, AllocError>
     requires { (plain_file file).goods ≤ S.CAP }
     ensures { IfOk result (λ a. plain_auction a ≡ auction_from (plain_file file)) }

@@ -11,32 +11,43 @@ ghost use Rattle.valuation.specs.Orders.{atom_cmp, bidder_cmp};
 ghost use Rattle.valuation.specs.Sorting.{sort_by};
 ghost use Rattle.valuation.specs.Auctions.{IsAuction, auction_from};
 
-/// The OR value is the price sum of the atoms at the chosen places. These are pairwise apart and inside the bundle, and no
-/// other such family has a greater price sum.
+/// The OR value is the price sum of the atoms at the chosen places. These are pairwise apart and inside the bundle, and
+/// no other such family has a greater price sum.
 pub fn or_value_is_best_packing()
-    ensures value { (atoms : List (Atom (List ℕ))) (bundle : List ℕ) → or_value atoms bundle ≡ price_sum (atoms_at atoms (chosen_places atoms bundle)) }
-    ensures best { (atoms : List (Atom (List ℕ))) (bundle : List ℕ) → IsBestPacking atoms bundle (chosen_places atoms bundle) }
+    ensures value { (atoms : List (Atom (List ℕ))) (bundle : List ℕ)
+        → or_value atoms bundle ≡ price_sum (atoms_at atoms (chosen_places atoms bundle)) }
+    ensures best { (atoms : List (Atom (List ℕ))) (bundle : List ℕ)
+        → IsBestPacking atoms bundle (chosen_places atoms bundle) }
 {}
 
 /// The number of packings counts them: there is a list of so many, which has each packing once and nothing else.
 pub fn packings_are_counted()
-    ensures { (atoms : List (Atom (List ℕ))) (bundle : List ℕ) → ((families : List (List ℕ)) × AreThePackings atoms bundle families × (length families ≡ count_packings atoms bundle)) }
+    ensures { (atoms : List (Atom (List ℕ))) (bundle : List ℕ)
+        → ((families : List (List ℕ)) × AreThePackings atoms bundle families
+        × (length families ≡ count_packings atoms bundle)) }
 {}
 
 /// The XOR value grows with the bundle, and does not depend on the order of the atoms.
 pub fn xor_value_laws()
-    ensures grows { (atoms : List (Atom (List ℕ))) (small large : List ℕ) → IsInside small large → xor_value atoms small ≤ xor_value atoms large }
-    ensures any_order { (some other : List (Atom (List ℕ))) → IsPermutation some other → (bundle : List ℕ) → xor_value some bundle ≡ xor_value other bundle }
+    ensures grows { (atoms : List (Atom (List ℕ))) (small large : List ℕ) → IsInside small large
+        → xor_value atoms small ≤ xor_value atoms large }
+    ensures any_order { (some other : List (Atom (List ℕ))) → IsPermutation some other → (bundle : List ℕ)
+        → xor_value some bundle ≡ xor_value other bundle }
 {}
 
-/// The OR value grows with the bundle, and does not depend on the order of the atoms. Where each atom asks for some good, the
-/// values of two parts of a bundle together are at most its own, and an atom that the others outbid on its own bundle changes no
-/// value.
+/// The OR value grows with the bundle, and does not depend on the order of the atoms. Where each atom asks for some
+/// good, the values of two parts of a bundle together are at most its own, and an atom that the others outbid on its
+/// own bundle changes no value.
 pub fn or_value_laws()
-    ensures grows { (atoms : List (Atom (List ℕ))) (small large : List ℕ) → IsInside small large → or_value atoms small ≤ or_value atoms large }
-    ensures any_order { (some other : List (Atom (List ℕ))) → IsPermutation some other → (bundle : List ℕ) → or_value some bundle ≡ or_value other bundle }
-    ensures parts { (atoms : List (Atom (List ℕ))) → All (λ a. 0 < length a.bundle) atoms → (one other whole : List ℕ) → IsInside one whole → IsInside other whole → AreApart one other → or_value atoms one + or_value atoms other ≤ or_value atoms whole }
-    ensures outbid { (a : Atom (List ℕ)) (rest : List (Atom (List ℕ))) → All (λ a. 0 < length a.bundle) rest → a.price ≤ or_value rest a.bundle → (bundle : List ℕ) → or_value (a ∷ rest) bundle ≡ or_value rest bundle }
+    ensures grows { (atoms : List (Atom (List ℕ))) (small large : List ℕ) → IsInside small large
+        → or_value atoms small ≤ or_value atoms large }
+    ensures any_order { (some other : List (Atom (List ℕ))) → IsPermutation some other → (bundle : List ℕ)
+        → or_value some bundle ≡ or_value other bundle }
+    ensures parts { (atoms : List (Atom (List ℕ))) → All (λ a. 0 < length a.bundle) atoms → (one other whole : List ℕ)
+        → IsInside one whole → IsInside other whole → AreApart one other → or_value atoms one + or_value atoms other
+        ≤ or_value atoms whole }
+    ensures outbid { (a : Atom (List ℕ)) (rest : List (Atom (List ℕ))) → All (λ a. 0 < length a.bundle) rest
+        → a.price ≤ or_value rest a.bundle → (bundle : List ℕ) → or_value (a ∷ rest) bundle ≡ or_value rest bundle }
 {}
 
 /// The orders of atoms and of bidders are total, and answer Equal only for equal ones.
@@ -51,7 +62,8 @@ pub fn order_laws()
 pub fn sorting_laws()
     ensures permutation { (bidders : List (List (Atom (List ℕ)))) → IsPermutation bidders (sort_by bidder_cmp bidders) }
     ensures in_order { (bidders : List (List (Atom (List ℕ)))) → IsSorted bidder_cmp (sort_by bidder_cmp bidders) }
-    ensures only { (some other : List (List (Atom (List ℕ)))) → IsPermutation some other → IsSorted bidder_cmp some → IsSorted bidder_cmp other → some ≡ other }
+    ensures only { (some other : List (List (Atom (List ℕ)))) → IsPermutation some other → IsSorted bidder_cmp some
+        → IsSorted bidder_cmp other → some ≡ other }
 {}
 
 /// The auction that a file stands for keeps the limits of auctions, where its goods fit the sets.

@@ -25,9 +25,12 @@ pub fn or_worked()
     ensures overlapping { let a = atom (0 ∷ 1 ∷ []) 6 ∷ atom (1 ∷ 2 ∷ []) 5 ∷ [] in or_value a (0 ∷ 1 ∷ 2 ∷ []) ≡ 6 }
     ensures apart { let a = atom (0 ∷ []) 6 ∷ atom (1 ∷ 2 ∷ []) 5 ∷ [] in or_value a (0 ∷ 1 ∷ 2 ∷ []) ≡ 11 }
     ensures not_inside { let a = atom (0 ∷ []) 6 ∷ atom (1 ∷ 2 ∷ []) 5 ∷ [] in or_value a (0 ∷ 1 ∷ []) ≡ 6 }
-    ensures equal { let a = atom (0 ∷ []) 3 ∷ atom (1 ∷ []) 4 ∷ atom (0 ∷ 1 ∷ []) 7 ∷ [] in or_value a (0 ∷ 1 ∷ []) ≡ 7 }
-    ensures later_first { let a = atom (0 ∷ []) 3 ∷ atom (1 ∷ []) 4 ∷ atom (0 ∷ 1 ∷ []) 7 ∷ [] in chosen_places a (0 ∷ 1 ∷ []) ≡ 2 ∷ [] }
-    ensures both { let a = atom (0 ∷ []) 3 ∷ atom (1 ∷ []) 5 ∷ atom (0 ∷ 1 ∷ []) 7 ∷ [] in chosen_places a (0 ∷ 1 ∷ []) ≡ 0 ∷ 1 ∷ [] }
+    ensures equal { let a = atom (0 ∷ []) 3 ∷ atom (1 ∷ []) 4 ∷ atom (0 ∷ 1 ∷ []) 7 ∷ [] in
+        or_value a (0 ∷ 1 ∷ []) ≡ 7 }
+    ensures later_first { let a = atom (0 ∷ []) 3 ∷ atom (1 ∷ []) 4 ∷ atom (0 ∷ 1 ∷ []) 7 ∷ [] in
+        chosen_places a (0 ∷ 1 ∷ []) ≡ 2 ∷ [] }
+    ensures both { let a = atom (0 ∷ []) 3 ∷ atom (1 ∷ []) 5 ∷ atom (0 ∷ 1 ∷ []) 7 ∷ [] in
+        chosen_places a (0 ∷ 1 ∷ []) ≡ 0 ∷ 1 ∷ [] }
     ensures worthless { chosen_places (atom (0 ∷ []) 0 ∷ []) (0 ∷ []) ≡ [] }
 {}
 
@@ -35,10 +38,14 @@ pub fn or_worked()
 #[tactic(auto, unfolding(crate::specs::Packings::count_packings))]
 pub fn packings_worked()
     ensures no_atoms { count_packings [] [] ≡ 1 }
-    ensures pairs { let a = atom (0 ∷ []) 3 ∷ atom (1 ∷ []) 4 ∷ atom (0 ∷ 1 ∷ []) 7 ∷ [] in count_packings a (0 ∷ 1 ∷ []) ≡ 5 }
-    ensures none_inside { let a = atom (0 ∷ []) 3 ∷ atom (1 ∷ []) 4 ∷ atom (0 ∷ 1 ∷ []) 7 ∷ [] in count_packings a [] ≡ 1 }
-    ensures triple { let a = atom (0 ∷ []) 1 ∷ atom (1 ∷ []) 1 ∷ atom (2 ∷ []) 1 ∷ atom (0 ∷ 1 ∷ 2 ∷ []) 4 ∷ [] in count_packings a (0 ∷ 1 ∷ 2 ∷ []) ≡ 9 }
-    ensures same_bundle { let a = atom (0 ∷ []) 1 ∷ atom (0 ∷ []) 1 ∷ atom (1 ∷ []) 1 ∷ [] in count_packings a (0 ∷ 1 ∷ []) ≡ 6 }
+    ensures pairs { let a = atom (0 ∷ []) 3 ∷ atom (1 ∷ []) 4 ∷ atom (0 ∷ 1 ∷ []) 7 ∷ [] in
+        count_packings a (0 ∷ 1 ∷ []) ≡ 5 }
+    ensures none_inside { let a = atom (0 ∷ []) 3 ∷ atom (1 ∷ []) 4 ∷ atom (0 ∷ 1 ∷ []) 7 ∷ [] in
+        count_packings a [] ≡ 1 }
+    ensures triple { let a = atom (0 ∷ []) 1 ∷ atom (1 ∷ []) 1 ∷ atom (2 ∷ []) 1 ∷ atom (0 ∷ 1 ∷ 2 ∷ []) 4 ∷ [] in
+        count_packings a (0 ∷ 1 ∷ 2 ∷ []) ≡ 9 }
+    ensures same_bundle { let a = atom (0 ∷ []) 1 ∷ atom (0 ∷ []) 1 ∷ atom (1 ∷ []) 1 ∷ [] in
+        count_packings a (0 ∷ 1 ∷ []) ≡ 6 }
 {}
 
 /// A table has the values on all bundles, in order.
@@ -63,6 +70,7 @@ pub fn orders_worked()
 /// Bidders are sorted with the equal ones kept.
 pub fn sorting_worked()
     ensures none { sort_by bidder_cmp [] ≡ [] }
-    ensures all { let one = atom (0 ∷ []) 9 ∷ [] in let two = atom (1 ∷ []) 8 ∷ [] in let both = atom (0 ∷ []) 9 ∷ atom (1 ∷ []) 8 ∷ [] in
+    ensures all { let one = atom (0 ∷ []) 9 ∷ [] in let two = atom (1 ∷ []) 8 ∷ [] in
+        let both = atom (0 ∷ []) 9 ∷ atom (1 ∷ []) 8 ∷ [] in
         sort_by bidder_cmp (two ∷ both ∷ one ∷ two ∷ []) ≡ one ∷ both ∷ two ∷ two ∷ [] }
 {}

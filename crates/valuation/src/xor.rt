@@ -10,7 +10,8 @@ use goods_set::GoodsSet;
 pub fn xor_value<S: GoodsSet>(atoms: &[Atom<S>], bundle: &S) -> (u64, Option<usize>)
     ensures value { result.0 ≡ xor_value (atoms_of S.goods atoms.now) (S.goods bundle.now) }
     ensures place { IfSome result.1 (λ i. IsFirstBest (atoms_of S.goods atoms.now) (S.goods bundle.now) i) }
-    ensures none { IsNone result.1 ↔ All (λ a. is_inside a.bundle (S.goods bundle.now) ≡ false) (atoms_of S.goods atoms.now) }
+    ensures none { IsNone result.1 ↔ All (λ a. is_inside a.bundle (S.goods bundle.now) ≡ false)
+        (atoms_of S.goods atoms.now) }
 {
     let mut value = 0;
     let mut place = None;

@@ -70,7 +70,8 @@ static RUNS: [(Run, &str, &str); 6] = [
     (Run::CompareSecond, "same\n", "second: "),
 ];
 
-/// What a run tells of an input that fails after each number of bytes of a text: its fault from so many bytes on, and else the failure.
+/// What a run tells of an input that fails after each number of bytes of a text: its fault from so many bytes on, and
+/// else the failure.
 fn fails_in(
     rt: &(impl Abort + AllocGlobal),
     run: Run,

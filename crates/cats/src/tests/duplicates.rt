@@ -52,7 +52,8 @@ static FILES: [(&str, &str); 12] = [
 
 const ROOM: usize = 65_536;
 
-/// A command line with its room for output and faults, and what it answers: its status, its output and its faults' lines.
+/// A command line with its room for output and faults, and what it answers: its status, its output and its faults'
+/// lines.
 type Row = (&'static str, usize, usize, u8, &'static str, &'static str);
 
 static ROWS: [Row; 16] = [

@@ -22,8 +22,8 @@ fn run_words(
     })
 }
 
-/// What a command line answers, whose words have a blank between each two, and in which FILE stands for a path, and OTHER for
-/// another.
+/// What a command line answers, whose words have a blank between each two, and in which FILE stands for a path, and
+/// OTHER for another.
 fn run(
     rt: &HostRuntime,
     line: &str,
@@ -148,7 +148,8 @@ fn cannot_open(rt: HostRuntime) -> Result<(), Fail> {
     Ok(())
 }
 
-/// A command line with its room for output and faults, and what it answers: its status, its output and its fault's line.
+/// A command line with its room for output and faults, and what it answers: its status, its output and its fault's
+/// line.
 type Row<'a> = (&'a str, usize, usize, u8, &'a str, &'a str);
 
 /// The path of a new file with this text.

@@ -72,8 +72,8 @@ impl Read for Comments {
     }
 }
 
-/// Takes at most `step` bytes a call and `room` in all, and then fails, or stalls: it takes nothing more. With no step it
-/// fails at its flush alone.
+/// Takes at most `step` bytes a call and `room` in all, and then fails, or stalls: it takes nothing more. With no step
+/// it fails at its flush alone.
 #[derive(Drop)]
 pub struct StepWriter {
     pub taken: Vec<u8>,

@@ -1,12 +1,19 @@
 //! The text that `cats duplicates` prints.
 
 ghost use Rattle.std.specs.Prelude.{◌≡◌, ◌<◌, ◌++◌, [], length, map, replicate, All, IfOk, OnOk};
-ghost use Rattle.cats_cmd.specs.DuplicateTexts.{duplicates_text, found_paths, groups_of, lines_of, plain_groups, with_group};
+ghost use Rattle.cats_cmd.specs.DuplicateTexts.{
+  duplicates_text,
+  found_paths,
+  groups_of,
+  lines_of,
+  plain_groups,
+  with_group,
+};
 
 use std::alloc::{AllocError, Global};
 
-/// For each auction that two or more of the files are, their paths, each on a line, and an empty line between two auctions. With
-/// each path is given the place of the first file of its auction.
+/// For each auction that two or more of the files are, their paths, each on a line, and an empty line between two
+/// auctions. With each path is given the place of the first file of its auction.
 pub(super) fn duplicates_text(alloc: Global, found: &[(&str, usize)]) -> Result<Vec<u8>, AllocError>
     requires { All (λ f. f.1 < length found.now) found.now }
     ensures { IfOk result (λ text. text.items ≡ duplicates_text (found_paths found.now)) }

@@ -22,7 +22,9 @@ pub(super) fn push_or_line(
     numbers: &[usize],
 ) -> Result<(), AllocError>
     requires { All (λ place. place < length numbers.now) packing.now.members.items }
-    ensures { OnOk result (text.new.items ≡ text.old.items ++ (codes "or " ++ price_text packing.now.value ++ numbers_text numbers.now packing.now.members.items ++ codes "\n")) }
+    ensures { OnOk result (text.new.items ≡ text.old.items
+        ++ (codes "or " ++ price_text packing.now.value ++ numbers_text numbers.now packing.now.members.items
+        ++ codes "\n")) }
 {
     text.extend_from_slice(b"or ")?;
     push_price(text, packing.value)?;
@@ -38,9 +40,13 @@ pub(super) fn push_xor_lines<S: GoodsSet>(
     numbers: &[Vec<usize>],
     bundle: &S,
 ) -> Result<(), AllocError>
-    requires bidders { bidders_of S.goods bidders.now ≡ map (xor_atoms_of (plain_file file.now).bids) (range_with_len 0 (plain_file file.now).dummy) }
-    requires numbers { lists_of numbers.now ≡ map (xor_numbers (plain_file file.now).bids) (range_with_len 0 (plain_file file.now).dummy) }
-    ensures { OnOk result (text.new.items ≡ text.old.items ++ flat_map (dummy_line (plain_file file.now) (S.goods bundle.now)) (range_with_len 0 (plain_file file.now).dummy)) }
+    requires bidders { bidders_of S.goods bidders.now ≡ map (xor_atoms_of (plain_file file.now).bids)
+        (range_with_len 0 (plain_file file.now).dummy) }
+    requires numbers { lists_of numbers.now ≡ map (xor_numbers (plain_file file.now).bids)
+        (range_with_len 0 (plain_file file.now).dummy) }
+    ensures { OnOk result (text.new.items ≡ text.old.items
+        ++ flat_map (dummy_line (plain_file file.now) (S.goods bundle.now))
+        (range_with_len 0 (plain_file file.now).dummy)) }
 {
     let goods = u64::from(file.goods());
     for (dummy, atoms) in bidders.iter().enumerate() {
@@ -59,7 +65,8 @@ fn push_xor_line<S: GoodsSet>(
     bundle: &S,
 ) -> Result<(), AllocError>
     requires { length numbers.now ≡ length atoms.now }
-    ensures { OnOk result (text.new.items ≡ text.old.items ++ xor_line good (atoms_of S.goods atoms.now) numbers.now (S.goods bundle.now)) }
+    ensures { OnOk result (text.new.items ≡ text.old.items ++ xor_line good (atoms_of S.goods atoms.now) numbers.now
+        (S.goods bundle.now)) }
 {
     let (value, place) = xor_value(atoms, bundle);
     text.extend_from_slice(b"xor")?;

@@ -18,7 +18,8 @@ pub(super) struct BidNumbers {
 /// The numbers of a file's bids, by bidder.
 pub(super) fn bid_numbers(alloc: Global, file: &BidFile) -> Result<BidNumbers, AllocError>
     ensures or { IfOk result (λ numbers. numbers.or_bids.items ≡ or_numbers (plain_file file.now).bids) }
-    ensures xor { IfOk result (λ numbers. lists_of numbers.xor_bids.items ≡ map (xor_numbers (plain_file file.now).bids) (range_with_len 0 (plain_file file.now).dummy)) }
+    ensures xor { IfOk result (λ numbers. lists_of numbers.xor_bids.items ≡ map (xor_numbers (plain_file file.now).bids)
+        (range_with_len 0 (plain_file file.now).dummy)) }
 {
     let bids = file.bids();
     let mut or_bids = Vec::new(alloc);

@@ -1,7 +1,7 @@
 //! What is kept beside the vector of a set, so that most sets are told apart without it.
 ghost use Rattle.std.specs.Prelude.{◌≡◌, ◌≤◌, get_or};
-ghost use Rattle.goods_set.specs.Fronts.{front_of};
-ghost use Rattle.goods_set.specs.Residues.{residues_of};
+ghost use Rattle.goods_set.specs.Internal.Fronts.{front_of};
+ghost use Rattle.goods_set.specs.Internal.Residues.{residues_of};
 
 /// The good at a place, or 0 behind the last.
 fn good_at(goods: &[u16], place: usize) -> u64

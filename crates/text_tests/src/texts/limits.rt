@@ -6,8 +6,8 @@ use std::alloc::{AllocError, Global};
 use std::process::Abort;
 use std::test::Fail;
 
-/// The text of as many bids as there may be, each on good 0 and a dummy of its own, with its number as its price. The first
-/// has the number `first`, and from one to the next the number rises by `step`, going round at the end.
+/// The text of as many bids as there may be, each on good 0 and a dummy of its own, with its number as its price. The
+/// first has the number `first`, and from one to the next the number rises by `step`, going round at the end.
 fn many_bids(alloc: Global, first: u32, step: u32) -> Result<Vec<u8>, AllocError> {
     let mut text = joined(alloc, &[b"goods 1\nbids 65536\ndummy 65536\n"])?;
     for place in 0..65_536_u32 {

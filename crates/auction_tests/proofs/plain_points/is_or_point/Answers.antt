@@ -17,10 +17,20 @@ pub returns-then-saturating_sub-second : goal.returns-then-saturating_sub-second
 returns-then-saturating_sub-second g c =
     let goods = g.S.GoodsSet.goods in
     let atoms = atoms_of goods c.args.atoms.now in
-    let left : or_value atoms (goods c.in_ok-left.left) ≡ or_value atoms (without (goods c.args.bundle.now) (goods c.part-item.result)) = ap (or_value atoms) c.in_ok-left.ensures in
-    let more : or_value atoms (goods c.args.bundle.now) ≤ or_value atoms (goods c.part-item.result) + or_value atoms (without (goods c.args.bundle.now) (goods c.part-item.result)) =
-    omega (arith, c.in_ok-value.ensures.value, c.in_ok-first.ensures.value, c.in_ok-second.ensures.value, c.saturating_sub.ensures, c.if-saturating_sub-second.true) in
-    λ n all b. or_splits n atoms (goods c.args.bundle.now) (goods c.part-item.result) b (g.met.S.GoodsSet.is_bundle c.part-item.result).0 (sym c.is_part.ensures ∙ c.if-is_part.true) more
+    let left : or_value atoms (goods c.in_ok-left.left) ≡ or_value atoms (without (goods c.args.bundle.now) (goods c.part-item.result)) =
+    ap (or_value atoms) c.in_ok-left.ensures in
+    let more : or_value atoms (goods c.args.bundle.now) ≤ or_value atoms (goods c.part-item.result) + or_value atoms
+    (without (goods c.args.bundle.now) (goods c.part-item.result)) =
+    omega (
+      arith,
+      c.in_ok-value.ensures.value,
+      c.in_ok-first.ensures.value,
+      c.in_ok-second.ensures.value,
+      c.saturating_sub.ensures,
+      c.if-saturating_sub-second.true,
+    ) in
+    λ n all b. or_splits n atoms (goods c.args.bundle.now) (goods c.part-item.result) b (g.met.S.GoodsSet.is_bundle c.part-item.result).0 (sym c.is_part.ensures
+    ∙ c.if-is_part.true) more
 
 pub loop-part-preserved : goal.loop-part-preserved
 loop-part-preserved g c =
@@ -33,7 +43,14 @@ loop-part-preserved g c =
     (λ t. elim c.if-is_part.branch [
       | then-is_part+in_ok-left+in_ok-first+in_ok-second+else-saturating_sub-second w ↦
           let left : or_value atoms (goods w.in_ok-left.left) ≡ or_value atoms (without bundle part) = ap (or_value atoms) w.in_ok-left.ensures in
-          omega (arith, c.in_ok-value.ensures.value, w.in_ok-first.ensures.value, w.in_ok-second.ensures.value, w.saturating_sub.ensures, w.if-saturating_sub-second.false)
+          omega (
+            arith,
+            c.in_ok-value.ensures.value,
+            w.in_ok-first.ensures.value,
+            w.in_ok-second.ensures.value,
+            w.saturating_sub.ensures,
+            w.if-saturating_sub-second.false,
+          )
       | else-is_part w ↦ absurd (both_ways (is_part part bundle) (sym c.is_part.ensures ∙ w.if-is_part.false) t)
     ])
 
@@ -41,4 +58,5 @@ pub returns : goal.returns
 returns g c =
     let goods = g.S.GoodsSet.goods in
     let long = length-map c.args.bundles.now goods in
-    λ n all b. or_all n (atoms_of goods c.args.atoms.now) (goods c.args.bundle.now) (map goods c.args.bundles.now) c.loop-part.part-index b all (omega (arith, c.loop-part-test.false)) (omega (arith, c.in_ok-value.ensures.value, c.if-value-eq0.false)) c.loop-part.invariant
+    λ n all b. or_all n (atoms_of goods c.args.atoms.now) (goods c.args.bundle.now) (map goods c.args.bundles.now) c.loop-part.part-index b all
+    (omega (arith, c.loop-part-test.false)) (omega (arith, c.in_ok-value.ensures.value, c.if-value-eq0.false)) c.loop-part.invariant

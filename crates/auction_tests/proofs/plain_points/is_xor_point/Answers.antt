@@ -16,8 +16,10 @@ pub returns-then-value-less : goal.returns-then-value-less
 returns-then-value-less g c =
     let goods = g.S.GoodsSet.goods in
     let atoms = atoms_of goods c.args.atoms.now in
-    let left : xor_value atoms (goods c.in_ok-left.left) ≡ xor_value atoms (without (goods c.args.bundle.now) (goods c.good-item.result)) = ap (xor_value atoms) c.in_ok-left.ensures in
-    λ n all b. xor_same atoms (goods c.args.bundle.now) (goods c.good-item.result) (sym c.size.ensures ∙ c.if-size-eq1.true) (sym c.is_inside.ensures ∙ c.if-is_inside.true)
+    let left : xor_value atoms (goods c.in_ok-left.left) ≡ xor_value atoms (without (goods c.args.bundle.now) (goods c.good-item.result)) =
+    ap (xor_value atoms) c.in_ok-left.ensures in
+    λ n all b. xor_same atoms (goods c.args.bundle.now) (goods c.good-item.result) (sym c.size.ensures ∙ c.if-size-eq1.true) (sym c.is_inside.ensures
+    ∙ c.if-is_inside.true)
     (omega (arith, c.xor_value-value.ensures.value, c.xor_value-less.ensures.value, c.if-value-less.true))
 
 pub loop-good-preserved : goal.loop-good-preserved
@@ -42,4 +44,5 @@ pub returns : goal.returns
 returns g c =
     let goods = g.S.GoodsSet.goods in
     let long = length-map c.args.bundles.now goods in
-    λ n all b. xor_all n (atoms_of goods c.args.atoms.now) (goods c.args.bundle.now) (map goods c.args.bundles.now) c.loop-good.good-index b all (omega (arith, c.loop-good-test.false)) (omega (arith, c.xor_value-value.ensures.value, c.if-value-eq0.false)) c.loop-good.invariant
+    λ n all b. xor_all n (atoms_of goods c.args.atoms.now) (goods c.args.bundle.now) (map goods c.args.bundles.now) c.loop-good.good-index b all
+    (omega (arith, c.loop-good-test.false)) (omega (arith, c.xor_value-value.ensures.value, c.if-value-eq0.false)) c.loop-good.invariant

@@ -22,15 +22,18 @@ points_of_each-requires g c =
 pub new-requires : goal.new-requires
 new-requires g c =
     let same = canonical_parts g.S.GoodsSet.CAP (plain_auction c.args.auction) c.args.auction.facts _ _ _ c.into_parts-goods.ensures
-    (atoms_of g.S.GoodsSet.goods c.in_ok-or_points.or_points.items) (bidders_of g.S.GoodsSet.goods c.in_ok-bidders.bidders.items) (bidders_of g.S.GoodsSet.goods c.sort_bidders.new.bidders.items)
+    (atoms_of g.S.GoodsSet.goods c.in_ok-or_points.or_points.items) (bidders_of g.S.GoodsSet.goods c.in_ok-bidders.bidders.items)
+    (bidders_of g.S.GoodsSet.goods c.sort_bidders.new.bidders.items)
     c.in_ok-or_points.ensures.points c.in_ok-bidders.ensures c.sort_bidders.ensures in
-    subst (λ (a : PlainAuction). IsAuction g.S.GoodsSet.CAP a) (sym same) (IsAuction-canonical g.S.GoodsSet.CAP (plain_auction c.args.auction) c.args.auction.facts)
+    subst (λ (a : PlainAuction). IsAuction g.S.GoodsSet.CAP a) (sym same)
+    (IsAuction-canonical g.S.GoodsSet.CAP (plain_auction c.args.auction) c.args.auction.facts)
 
 made : (g : Over) (c : goal.After-new g) → plain_auction c.new.result ≡ canonical_auction (plain_auction c.args.auction)
 made g c =
     c.new.ensures
     ∙ canonical_parts g.S.GoodsSet.CAP (plain_auction c.args.auction) c.args.auction.facts _ _ _ c.into_parts-goods.ensures
-    (atoms_of g.S.GoodsSet.goods c.in_ok-or_points.or_points.items) (bidders_of g.S.GoodsSet.goods c.in_ok-bidders.bidders.items) (bidders_of g.S.GoodsSet.goods c.sort_bidders.new.bidders.items)
+    (atoms_of g.S.GoodsSet.goods c.in_ok-or_points.or_points.items) (bidders_of g.S.GoodsSet.goods c.in_ok-bidders.bidders.items)
+    (bidders_of g.S.GoodsSet.goods c.sort_bidders.new.bidders.items)
     c.in_ok-or_points.ensures.points c.in_ok-bidders.ensures c.sort_bidders.ensures
 
 pub returns-clause-canonical : goal.returns-clause-canonical
@@ -48,4 +51,5 @@ returns-clause-fixed g c =
 
 pub returns-clause-none_heavy : goal.returns-clause-none_heavy
 returns-clause-none_heavy g c =
-    light_parts g.S.GoodsSet.CAP (plain_auction c.args.auction) c.args.auction.facts _ _ _ c.into_parts-goods.ensures c.args.limit c.in_ok-or_points.ensures.none_heavy
+    light_parts g.S.GoodsSet.CAP (plain_auction c.args.auction) c.args.auction.facts _ _ _ c.into_parts-goods.ensures c.args.limit
+    c.in_ok-or_points.ensures.none_heavy

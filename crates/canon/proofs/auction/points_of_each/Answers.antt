@@ -10,7 +10,8 @@ use Rattle.canon.proofs.auction.points_of_each.Goals as goal
 
 pub prune_xor-requires : goal.prune_xor-requires
 prune_xor-requires g c =
-    bidder_next g.S.GoodsSet.goods c.args.bidders.items c.loop-bidder.yielded _ _ c.in-Some.bidder c.loop-bidder.invariant.all c.in-Some.ensures.steps.0 (All (IsAtom MAX_GOODS)) c.requires
+    bidder_next g.S.GoodsSet.goods c.args.bidders.items c.loop-bidder.yielded _ _ c.in-Some.bidder c.loop-bidder.invariant.all c.in-Some.ensures.steps.0
+    (All (IsAtom MAX_GOODS)) c.requires
 
 pub loop-bidder-preserved : goal.loop-bidder-preserved
 loop-bidder-preserved g c =
@@ -19,15 +20,18 @@ loop-bidder-preserved g c =
     record {
       all = bidder_taken g.S.GoodsSet.goods c.args.bidders.items c.loop-bidder.yielded _ _ c.in-Some.bidder h.all step;
       points = λ n atoms.
-          points_skipped g.S.GoodsSet.goods c.args.bidders.items c.loop-bidder.yielded _ _ c.in-Some.bidder h.all step n atoms c.loop-bidder.points.items c.in_ok-own.own
+          points_skipped g.S.GoodsSet.goods c.args.bidders.items c.loop-bidder.yielded _ _ c.in-Some.bidder h.all step n atoms c.loop-bidder.points.items
+          c.in_ok-own.own
           (c.in_ok-own.ensures.points n) (h.points n atoms)
           (omega (arith, eqb-true _ 0 (sym c.is_empty.ensures ∙ c.if-not-is_empty.false), c.in_ok-own.own.ok.0));
     }
 
 pub returns : goal.returns
 returns g c =
-    let none : into_iter_items c.loop-bidder.bidder-iterator ≡ [] = nil_from_length (into_iter_items c.loop-bidder.bidder-iterator) (omega (arith, c.in-None.ensures.steps.0, c.loop-bidder.bidder-iterator.rest.ok.0)) in
-    λ n atoms. points_done g.S.GoodsSet.goods n c.args.bidders.items c.loop-bidder.yielded _ c.loop-bidder.points.items c.loop-bidder.invariant.all none (c.loop-bidder.invariant.points n atoms)
+    let none : into_iter_items c.loop-bidder.bidder-iterator ≡ [] =
+    nil_from_length (into_iter_items c.loop-bidder.bidder-iterator) (omega (arith, c.in-None.ensures.steps.0, c.loop-bidder.bidder-iterator.rest.ok.0)) in
+    λ n atoms. points_done g.S.GoodsSet.goods n c.args.bidders.items c.loop-bidder.yielded _ c.loop-bidder.points.items c.loop-bidder.invariant.all none
+    (c.loop-bidder.invariant.points n atoms)
 
 pub loop-bidder-preserved-in-Continue-branch-2 : goal.loop-bidder-preserved-in-Continue-branch-2
 loop-bidder-preserved-in-Continue-branch-2 g c =
@@ -37,7 +41,8 @@ loop-bidder-preserved-in-Continue-branch-2 g c =
     record {
       all = bidder_taken g.S.GoodsSet.goods c.args.bidders.items c.loop-bidder.yielded _ _ c.in-Some.bidder h.all step;
       points = λ n atoms.
-          points_pushed g.S.GoodsSet.goods c.args.bidders.items c.loop-bidder.yielded _ _ c.in-Some.bidder h.all step n atoms c.loop-bidder.points.items c.in_ok-own.own
+          points_pushed g.S.GoodsSet.goods c.args.bidders.items c.loop-bidder.yielded _ _ c.in-Some.bidder h.all step n atoms c.loop-bidder.points.items
+          c.in_ok-own.own
           (c.in_ok-own.ensures.points n) (h.points n atoms) c.push.new.self.items c.in_ok-push.ensures.items
           (positive (length c.in_ok-own.own.items) (λ e. some (omega (arith, e, c.in_ok-own.own.ok.0))));
     }

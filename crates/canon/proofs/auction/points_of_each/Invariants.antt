@@ -12,5 +12,6 @@ invariant-loop-bidder g l =
     let goods = g.S.GoodsSet.goods in
     record {
       all : l.fn.bidders.items ≡ l.yielded ++ into_iter_items l.bidder-iterator;
-      points : (n : ℕ) → All (All (IsAtom n)) (bidders_of goods l.fn.bidders.items) → bidders_of goods l.points.items ≡ points_of_bidders n (bidders_of goods l.yielded);
+      points : (n : ℕ) → All (All (IsAtom n)) (bidders_of goods l.fn.bidders.items)
+          → bidders_of goods l.points.items ≡ points_of_bidders n (bidders_of goods l.yielded);
     }

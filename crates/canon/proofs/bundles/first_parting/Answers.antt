@@ -1,5 +1,5 @@
 use Rattle.std.proofs.Common.{◌≡◌, take, refl, sym, subst, arith}
-use Rattle.canon.specs.BidderBids.{offers}
+use Rattle.canon.specs.Internal.BidderBids.{offers}
 use Rattle.canon.specs.declared.verdict.Side.TheVariants.{Exactly}
 use Rattle.canon.proofs.OrWalks.{told_left, told_right, told_both, told_left_longer, told_right_longer, shared_more, shared_all}
 use Rattle.canon.proofs.bundles.first_parting.Goals as goal
@@ -18,13 +18,15 @@ returns-in-Greater c =
 
 pub loop-i-preserved : goal.loop-i-preserved
 loop-i-preserved c =
-    shared_more c.args.left.now c.args.right.now c.loop-i.i c.loop-i.invariant c.index-left-i.result c.index-right-i.result (omega arith) c.index-left-i.is (omega arith) c.index-right-i.is
+    shared_more c.args.left.now c.args.right.now c.loop-i.i c.loop-i.invariant c.index-left-i.result c.index-right-i.result (omega arith) c.index-left-i.is
+    (omega arith) c.index-right-i.is
     (sym c.in-Equal.ensures) (omega arith)
 
 pub returns-then-both-left : goal.returns-then-both-left
 returns-then-both-left c =
     let e : c.loop-i.i ≡ c.min-both.result = omega arith in
-    told_left_longer c.args.left.now c.args.right.now c.min-both.result (subst (λ n. take n (offers c.args.left.now) ≡ take n (offers c.args.right.now)) e c.loop-i.invariant)
+    told_left_longer c.args.left.now c.args.right.now c.min-both.result (subst (λ n. take n (offers c.args.left.now) ≡ take n (offers c.args.right.now)) e
+    c.loop-i.invariant)
     c.only_left-then-both-left.result.goods.now c.only_left-then-both-left.result.left c.only_left-then-both-left.result.right
     c.index-left-both.result (omega arith) c.index-left-both.is (omega arith)
     c.only_left-then-both-left.ensures.goods c.only_left-then-both-left.ensures.left c.only_left-then-both-left.ensures.right
@@ -32,7 +34,8 @@ returns-then-both-left c =
 pub returns-then-both-right : goal.returns-then-both-right
 returns-then-both-right c =
     let e : c.loop-i.i ≡ c.min-both.result = omega arith in
-    told_right_longer c.args.left.now c.args.right.now c.min-both.result (subst (λ n. take n (offers c.args.left.now) ≡ take n (offers c.args.right.now)) e c.loop-i.invariant)
+    told_right_longer c.args.left.now c.args.right.now c.min-both.result (subst (λ n. take n (offers c.args.left.now) ≡ take n (offers c.args.right.now)) e
+    c.loop-i.invariant)
     c.only_right-then-both-right.result.goods.now c.only_right-then-both-right.result.left c.only_right-then-both-right.result.right
     c.index-right-both.result (omega arith) c.index-right-both.is (omega arith)
     c.only_right-then-both-right.ensures.goods c.only_right-then-both-right.ensures.left c.only_right-then-both-right.ensures.right
@@ -43,6 +46,7 @@ returns-else-both-right c =
 
 pub returns-then-own-other : goal.returns-then-own-other
 returns-then-own-other c =
-    told_both c.args.left.now c.args.right.now c.loop-i.i c.loop-i.invariant c.as_slice.result.now (Exactly c.index-left-i.result.price) (Exactly c.index-right-i.result.price)
+    told_both c.args.left.now c.args.right.now c.loop-i.i c.loop-i.invariant c.as_slice.result.now (Exactly c.index-left-i.result.price)
+    (Exactly c.index-right-i.result.price)
     c.index-left-i.result (omega arith) c.index-left-i.is c.index-right-i.result (omega arith) c.index-right-i.is
     (sym c.in-Equal.ensures) (λ (e : c.index-left-i.result.price ≡ c.index-right-i.result.price). omega arith) c.as_slice.ensures.value refl refl

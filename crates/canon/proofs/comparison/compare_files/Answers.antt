@@ -16,6 +16,7 @@ pub returns-clause-same : goal.returns-clause-same
 returns-clause-same c =
     let f = plain_file c.args.left.now in
     let g = plain_file c.args.right.now in
-    IfOk-weaker c.walk_files.result (λ (v : Verdict). plain_verdict v ≡ first_difference (auction_from f) (auction_from g)) (λ (v : Verdict). v ≡ Same ↔ AreSameFiles f g)
+    IfOk-weaker c.walk_files.result (λ (v : Verdict). plain_verdict v ≡ first_difference (auction_from f) (auction_from g)) (λ (v : Verdict). v ≡ Same
+    ↔ AreSameFiles f g)
     (λ v d. same_exactly_by_difference (auction_from f) (auction_from g) (HasAtoms-file f c.args.left.now.facts) (HasAtoms-file g c.args.right.now.facts) v d)
     (c.walk_files.ensures.difference c.requires.left_canonical c.requires.right_canonical)

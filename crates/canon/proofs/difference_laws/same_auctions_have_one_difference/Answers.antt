@@ -4,6 +4,7 @@ use Rattle.canon.proofs.difference_laws.same_auctions_have_one_difference.Goals 
 
 pub returns : goal.returns
 returns c = record {
-  auctions = λ cap a d b e h i j k. difference_same a d b e (HasAtoms-auction cap a h) (HasAtoms-auction cap d i) (HasAtoms-auction cap b j) (HasAtoms-auction cap e k);
+  auctions = λ cap a d b e h i j k. difference_same a d b e (HasAtoms-auction cap a h) (HasAtoms-auction cap d i) (HasAtoms-auction cap b j)
+      (HasAtoms-auction cap e k);
   files = difference_of_same_files;
 }

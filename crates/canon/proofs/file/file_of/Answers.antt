@@ -12,15 +12,19 @@ use Rattle.canon.proofs.file.file_of.Goals as goal
 pub loop-dummy-init : goal.loop-dummy-init
 loop-dummy-init g c =
     ap₂ (λ (x : List PlainBid) (y : List (List (Atom (List _)))). x ++ dummy_bids 0 y)
-    (c.in_ok-push_bids.ensures ∙ ap (λ (zs : List Bid). plain_bids zs ++ map (bid_from None) (atoms_of g.S.GoodsSet.goods c.or_atoms.result.now)) c.new-bids.ensures.items
+    (c.in_ok-push_bids.ensures ∙ ap (λ (zs : List Bid). plain_bids zs ++ map (bid_from None) (atoms_of g.S.GoodsSet.goods c.or_atoms.result.now))
+    c.new-bids.ensures.items
     ∙ ap (map (bid_from None)) c.or_atoms.ensures)
     c.xor_bidders-bidders.ensures
 
 pub loop-dummy-preserved : goal.loop-dummy-preserved
 loop-dummy-preserved g c =
-    one_more_bidder g.S.GoodsSet.goods (plain_bids c.loop-dummy.bids.items) (plain_bids c.push_bids-in-loop-dummy.new.bids.items) c.xor_bidders-bidders.result.now c.loop-dummy.dummy c.index-bidders-dummy.result
+    one_more_bidder g.S.GoodsSet.goods (plain_bids c.loop-dummy.bids.items) (plain_bids c.push_bids-in-loop-dummy.new.bids.items)
+    c.xor_bidders-bidders.result.now c.loop-dummy.dummy c.index-bidders-dummy.result
     c.loop-dummy-test.true c.index-bidders-dummy.is
-    (c.in_ok-push_bids-2.ensures ∙ ap (λ (zs : List _). plain_bids c.loop-dummy.bids.items ++ map (bid_from (Some c.loop-dummy.dummy)) (atoms_of g.S.GoodsSet.goods zs)) c.as_slice.ensures.value)
+    (c.in_ok-push_bids-2.ensures
+    ∙ ap (λ (zs : List _). plain_bids c.loop-dummy.bids.items ++ map (bid_from (Some c.loop-dummy.dummy)) (atoms_of g.S.GoodsSet.goods zs))
+    c.as_slice.ensures.value)
     ∙ c.loop-dummy.invariant
 
 pub new-requires : goal.new-requires
@@ -29,7 +33,12 @@ new-requires g c =
     let long = length-bidders g.S.GoodsSet.goods c.xor_bidders-bidders.result.now a.xor_bidders c.xor_bidders-bidders.ensures in
     file_limits g.S.GoodsSet.CAP a c.args.auction.now.facts c.goods.result _ (plain_bids c.loop-dummy.bids.items) c.goods.ensures long
     (all_bidders (plain_bids c.loop-dummy.bids.items) (file_from a).bids c.loop-dummy.dummy (bidders_of g.S.GoodsSet.goods c.xor_bidders-bidders.result.now)
-    (omega (arith, c.loop-dummy-test.false, length-bidders g.S.GoodsSet.goods c.xor_bidders-bidders.result.now (bidders_of g.S.GoodsSet.goods c.xor_bidders-bidders.result.now) refl)) c.loop-dummy.invariant)
+    (omega (
+      arith,
+      c.loop-dummy-test.false,
+      length-bidders g.S.GoodsSet.goods c.xor_bidders-bidders.result.now (bidders_of g.S.GoodsSet.goods c.xor_bidders-bidders.result.now) refl,
+    ))
+    c.loop-dummy.invariant)
 
 pub returns : goal.returns
 returns g c =
@@ -38,4 +47,9 @@ returns g c =
     c.new.ensures
     ∙ file_parts a c.goods.result _ (plain_bids c.loop-dummy.bids.items) c.goods.ensures long
     (all_bidders (plain_bids c.loop-dummy.bids.items) (file_from a).bids c.loop-dummy.dummy (bidders_of g.S.GoodsSet.goods c.xor_bidders-bidders.result.now)
-    (omega (arith, c.loop-dummy-test.false, length-bidders g.S.GoodsSet.goods c.xor_bidders-bidders.result.now (bidders_of g.S.GoodsSet.goods c.xor_bidders-bidders.result.now) refl)) c.loop-dummy.invariant)
+    (omega (
+      arith,
+      c.loop-dummy-test.false,
+      length-bidders g.S.GoodsSet.goods c.xor_bidders-bidders.result.now (bidders_of g.S.GoodsSet.goods c.xor_bidders-bidders.result.now) refl,
+    ))
+    c.loop-dummy.invariant)

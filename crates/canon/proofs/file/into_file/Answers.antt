@@ -14,7 +14,11 @@ loop-bidder-init g c =
     let gives = c.into_iter-bidder-iterator.ensures.into_iter_gives.0 in
     let parts = c.into_parts-goods.ensures in
     record {
-      count = omega (arith, ap length gives, length-bidders goods _ (plain_auction c.args.auction).xor_bidders (ap (λ (a : PlainAuction). a.xor_bidders) (sym parts)));
+      count = omega (
+        arith,
+        ap length gives,
+        length-bidders goods _ (plain_auction c.args.auction).xor_bidders (ap (λ (a : PlainAuction). a.xor_bidders) (sym parts)),
+      );
       bids = or_moved goods _ _ _ _ _ _ c.move_bids.new.bids.items parts c.in_ok-bids.ensures.items c.in_ok-move_bids.ensures gives;
     }
 
@@ -27,13 +31,15 @@ loop-bidder-preserved g c =
     let step = c.in-Some.ensures.steps.0 in
     record {
       count = omega (arith, c.loop-bidder.invariant.count, ap length step);
-      bids = one_moved_bidder g.S.GoodsSet.goods (plain_bids c.loop-bidder.bids.items) _ _ _ c.loop-bidder.dummy c.in-Some.bidder step c.in_ok-move_bids-2.ensures ∙ c.loop-bidder.invariant.bids;
+      bids = one_moved_bidder g.S.GoodsSet.goods (plain_bids c.loop-bidder.bids.items) _ _ _ c.loop-bidder.dummy c.in-Some.bidder step
+          c.in_ok-move_bids-2.ensures ∙ c.loop-bidder.invariant.bids;
     }
 
 pub new-requires : goal.new-requires
 new-requires g c =
     let a = plain_auction c.args.auction in
-    let none : into_iter_items c.loop-bidder.bidder-iterator ≡ [] = nil_from_length (into_iter_items c.loop-bidder.bidder-iterator) (omega (arith, c.in-None.ensures.steps.0, c.loop-bidder.bidder-iterator.rest.ok.0)) in
+    let none : into_iter_items c.loop-bidder.bidder-iterator ≡ [] =
+    nil_from_length (into_iter_items c.loop-bidder.bidder-iterator) (omega (arith, c.in-None.ensures.steps.0, c.loop-bidder.bidder-iterator.rest.ok.0)) in
     file_limits g.S.GoodsSet.CAP a c.args.auction.facts _ c.loop-bidder.dummy (plain_bids c.loop-bidder.bids.items)
     (ap (λ (x : PlainAuction). x.goods) (sym c.into_parts-goods.ensures))
     (omega (arith, c.loop-bidder.invariant.count, ap length none))
@@ -42,7 +48,8 @@ new-requires g c =
 pub returns : goal.returns
 returns g c =
     let a = plain_auction c.args.auction in
-    let none : into_iter_items c.loop-bidder.bidder-iterator ≡ [] = nil_from_length (into_iter_items c.loop-bidder.bidder-iterator) (omega (arith, c.in-None.ensures.steps.0, c.loop-bidder.bidder-iterator.rest.ok.0)) in
+    let none : into_iter_items c.loop-bidder.bidder-iterator ≡ [] =
+    nil_from_length (into_iter_items c.loop-bidder.bidder-iterator) (omega (arith, c.in-None.ensures.steps.0, c.loop-bidder.bidder-iterator.rest.ok.0)) in
     c.new.ensures
     ∙ file_parts a _ c.loop-bidder.dummy (plain_bids c.loop-bidder.bids.items)
     (ap (λ (x : PlainAuction). x.goods) (sym c.into_parts-goods.ensures))

@@ -9,4 +9,5 @@ use Rattle.canon.proofs.file.move_bids.Given as goal
 abbrev pub invariant-loop-atom : goal.invariant-loop-atom
 invariant-loop-atom g l =
     let goods = g.S.GoodsSet.goods in
-    plain_bids l.bids.items ++ map (bid_from l.dummy) (atoms_of goods (into_iter_items l.atom-iterator)) ≡ plain_bids l.fn.bids.items ++ map (bid_from l.dummy) (atoms_of goods l.fn.atoms.items)
+    plain_bids l.bids.items ++ map (bid_from l.dummy) (atoms_of goods (into_iter_items l.atom-iterator)) ≡ plain_bids l.fn.bids.items
+    ++ map (bid_from l.dummy) (atoms_of goods l.fn.atoms.items)

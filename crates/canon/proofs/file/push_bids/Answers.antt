@@ -1,6 +1,6 @@
 use Rattle.std.proofs.Common.{arith, refl, ◌∙◌}
 use Rattle.cats_text.specs.Files.{plain_bids}
-use Rattle.valuation.specs.AtomLemmas.{length-atoms_of}
+use Rattle.valuation.specs.Lemmas.Atoms.{length-atoms_of}
 use Rattle.valuation.specs.Values.{atoms_of}
 use Rattle.canon.specs.Canonical.{bid_from}
 use Rattle.canon.proofs.Filing.{one_more_bid, all_bids}

@@ -1,7 +1,7 @@
 use Rattle.std.proofs.Common.{ℕ, List, Option, sym, ap, subst}
 use Rattle.cats_text.specs.Files.{plain_bids}
 use Rattle.valuation.specs.declared.atom.Atom.{Atom}
-use Rattle.canon.specs.BidderBids.{offers}
+use Rattle.canon.specs.Internal.BidderBids.{offers}
 use Rattle.canon.specs.Difference.{xor_difference}
 use Rattle.canon.specs.Verdicts.{NamesGoods, told_atoms}
 use Rattle.canon.proofs.BidderWalks.{bids_of_canonical, numbers_told}
@@ -15,9 +15,12 @@ pub returns-in_ok-told_bids-in-Some-clause-verdict : goal.returns-in_ok-told_bid
 returns-in_ok-told_bids-in-Some-clause-verdict c = λ cap a b h k.
     let all = plain_bids c.args.left.now in
     let others = plain_bids c.args.right.now in
-    numbers_told cap a b all others h k (told_atoms c.in_ok-told_bids-in-Some.field-0.items) (offers c.in-Some.bidder.now) c.count_copies.result c.count_copies-in-Some.result
-    c.in_ok-told_bids-in-Some.ensures (c.count_copies.ensures a.xor_bidders (bids_of_canonical cap a all h)) (c.count_copies-in-Some.ensures b.xor_bidders (bids_of_canonical cap b others k))
+    numbers_told cap a b all others h k (told_atoms c.in_ok-told_bids-in-Some.field-0.items) (offers c.in-Some.bidder.now) c.count_copies.result
+    c.count_copies-in-Some.result
+    c.in_ok-told_bids-in-Some.ensures (c.count_copies.ensures a.xor_bidders (bids_of_canonical cap a all h))
+    (c.count_copies-in-Some.ensures b.xor_bidders (bids_of_canonical cap b others k))
     (c.in-Some.ensures cap a b h k)
 
 pub returns-in_err-told_bids-in-Some-clause-memory : goal.returns-in_err-told_bids-in-Some-clause-memory
-returns-in_err-told_bids-in-Some-clause-memory c = λ cap a b h k. on_err _ (subst (λ (o : Option (List (Atom (List ℕ)))). NamesGoods (xor_difference a b o)) (sym (c.in-Some.ensures cap a b h k)) tt)
+returns-in_err-told_bids-in-Some-clause-memory c =
+    λ cap a b h k. on_err _ (subst (λ (o : Option (List (Atom (List ℕ)))). NamesGoods (xor_difference a b o)) (sym (c.in-Some.ensures cap a b h k)) tt)

@@ -4,7 +4,7 @@ use Rattle.std.proofs.lemmas.List.{length-drop}
 use Rattle.cats_text.specs.Files.{plain_bids}
 use Rattle.cats_text.specs.declared.bid.Bid.{Bid}
 use Rattle.valuation.specs.Orders.{bidder_cmp}
-use Rattle.canon.specs.BidderBids.{offers}
+use Rattle.canon.specs.Internal.BidderBids.{offers}
 use Rattle.canon.proofs.BidderWalks.{IsCounted, from_place, one_more_counted, all_counted}
 use Rattle.canon.proofs.parting.count_copies.Goals as goal
 use Rattle.canon.proofs.parting.count_copies.Goals.{then-is_eq, else-is_eq}
@@ -19,15 +19,22 @@ loop-first-preserved c =
     let test : c.is_eq.result ≡ is_eq (bidder_cmp bidder (offers first)) = c.is_eq.ensures ∙ ap is_eq c.order_of_bidders.ensures in
     let copies : c.if-is_eq.copies ≡ c.loop-first.copies + cond {A = ℕ} (is_eq (bidder_cmp bidder (offers first))) 1 0 =
     elim c.if-is_eq.branch [
-      | then-is_eq w ↦ let one : cond {A = ℕ} (is_eq (bidder_cmp bidder (offers first))) 1 0 ≡ 1 = ap (λ b. cond {A = ℕ} b 1 0) (sym test ∙ w.if-is_eq.true) in omega (arith, w.copies-is)
-      | else-is_eq w ↦ let none : cond {A = ℕ} (is_eq (bidder_cmp bidder (offers first))) 1 0 ≡ 0 = ap (λ b. cond {A = ℕ} b 1 0) (sym test ∙ w.if-is_eq.false) in omega (arith, w.copies-is)
+      | then-is_eq w ↦ let one : cond {A = ℕ} (is_eq (bidder_cmp bidder (offers first))) 1 0 ≡ 1 = ap (λ b. cond {A = ℕ} b 1 0) (sym test ∙ w.if-is_eq.true) in
+          omega (arith, w.copies-is)
+      | else-is_eq w ↦ let none : cond {A = ℕ} (is_eq (bidder_cmp bidder (offers first))) 1 0 ≡ 0 =
+          ap (λ b. cond {A = ℕ} b 1 0) (sym test ∙ w.if-is_eq.false) in omega (arith, w.copies-is)
     ] in
-    let most : c.if-is_eq.copies ≤ c.loop-first.copies + 1 = elim c.if-is_eq.branch [ then-is_eq w ↦ omega (arith, w.copies-is) | else-is_eq w ↦ omega (arith, w.copies-is) ] in
+    let most : c.if-is_eq.copies ≤ c.loop-first.copies + 1 = elim c.if-is_eq.branch [
+      | then-is_eq w ↦ omega (arith, w.copies-is)
+      | else-is_eq w ↦ omega (arith, w.copies-is)
+    ] in
     record {
-      within = subst (λ (zs : List Bid). c.if-is_eq.copies + length zs ≤ length c.args.bids.now) tail (omega (arith, c.in-Some.ensures.some, c.in-Some.ensures.within, c.loop-first.invariant.within));
+      within = subst (λ (zs : List Bid). c.if-is_eq.copies + length zs ≤ length c.args.bids.now) tail
+          (omega (arith, c.in-Some.ensures.some, c.in-Some.ensures.within, c.loop-first.invariant.within));
       counted = λ bidders h.
           subst (λ (zs : List Bid). IsCounted bidder bidders c.if-is_eq.copies (plain_bids zs)) tail
-          (one_more_counted bidder bidders c.loop-first.copies c.if-is_eq.copies rest first c.in-Some.ensures copies (c.loop-first.invariant.counted bidders h));
+          (one_more_counted bidder bidders c.loop-first.copies c.if-is_eq.copies rest first c.in-Some.ensures copies
+          (c.loop-first.invariant.counted bidders h));
     }
 
 pub returns : goal.returns

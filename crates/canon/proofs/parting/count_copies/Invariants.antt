@@ -1,7 +1,7 @@
 use Rattle.std.proofs.Common.{ℕ, ◌+◌, ◌≤◌, List, length}
 use Rattle.cats_text.specs.Files.{plain_bids}
 use Rattle.valuation.specs.declared.atom.Atom.{Atom}
-use Rattle.canon.specs.BidderBids.{offers, AreBidsOf}
+use Rattle.canon.specs.Internal.BidderBids.{offers, AreBidsOf}
 use Rattle.canon.proofs.BidderWalks.{IsCounted}
 use Rattle.canon.proofs.parting.count_copies.Given as goal
 
@@ -9,7 +9,8 @@ use Rattle.canon.proofs.parting.count_copies.Given as goal
 abbrev pub invariant-loop-first : goal.invariant-loop-first
 invariant-loop-first l = record {
   within : l.copies + length l.rest ≤ length l.bids;
-  counted : (bidders : List (List (Atom (List ℕ)))) → AreBidsOf 0 bidders (plain_bids l.bids) → IsCounted (offers l.bidder) bidders l.copies (plain_bids l.rest);
+  counted : (bidders : List (List (Atom (List ℕ)))) → AreBidsOf 0 bidders (plain_bids l.bids)
+      → IsCounted (offers l.bidder) bidders l.copies (plain_bids l.rest);
 }
 
 abbrev pub decreases-loop-first : goal.decreases-loop-first

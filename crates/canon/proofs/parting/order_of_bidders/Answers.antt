@@ -1,7 +1,7 @@
 use Rattle.std.proofs.Common.{◌+◌, drop, sym, ◌∙◌, arith}
 use Rattle.valuation.specs.Orders.{atom_cmp, bidder_cmp}
-use Rattle.canon.specs.BidderBids.{offers}
-use Rattle.valuation.specs.OrderLemmas.{then-decided, then-left, slice_cmp-ended}
+use Rattle.canon.specs.Internal.BidderBids.{offers}
+use Rattle.valuation.specs.Lemmas.Orders.{then-decided, then-left, slice_cmp-ended}
 use Rattle.canon.proofs.BidOrders.{bidder_cmp-drop, length-offers}
 use Rattle.canon.proofs.parting.order_of_bidders.Goals as goal
 
@@ -29,4 +29,5 @@ pub returns : goal.returns
 returns c =
     let some = length-offers c.args.one.now in
     let other = length-offers c.args.other.now in
-    c.cmp.ensures ∙ sym (rw (some, other) at (slice_cmp-ended atom_cmp c.loop-i.i (offers c.args.one.now) (offers c.args.other.now) (omega arith))) ∙ c.loop-i.invariant
+    c.cmp.ensures ∙ sym (rw (some, other) at (slice_cmp-ended atom_cmp c.loop-i.i (offers c.args.one.now) (offers c.args.other.now) (omega arith)))
+    ∙ c.loop-i.invariant

@@ -7,4 +7,5 @@ use Rattle.canon.proofs.writing.count_bids.Given as goal
 
 abbrev pub invariant-loop-bidder : goal.invariant-loop-bidder
 invariant-loop-bidder g l =
-    l.count + length (dummy_bids l.bidder-index (drop l.bidder-index (bidders_of g.S.GoodsSet.goods l.bidders))) ≡ length (file_from (plain_auction l.auction)).bids
+    l.count + length (dummy_bids l.bidder-index (drop l.bidder-index (bidders_of g.S.GoodsSet.goods l.bidders)))
+    ≡ length (file_from (plain_auction l.auction)).bids

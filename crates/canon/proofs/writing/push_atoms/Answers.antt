@@ -9,10 +9,12 @@ pub loop-place-preserved : goal.loop-place-preserved
 loop-place-preserved g c =
     let goods = g.S.GoodsSet.goods in
     let atom = c.index-atoms-place.result in
-    atoms_text_more goods c.args.goods c.args.first c.loop-place.place c.args.dummy c.args.atoms.now atom c.as_slice.result.now c.loop-place.out.items c.push_bid.new.out.items _
+    atoms_text_more goods c.args.goods c.args.first c.loop-place.place c.args.dummy c.args.atoms.now atom c.as_slice.result.now c.loop-place.out.items
+    c.push_bid.new.out.items _
     c.loop-place-test.true c.index-atoms-place.is
     (c.as_slice.ensures.value ∙ c.in_ok-list_into.ensures ∙ ap (λ (zs : List ℕ). zs ++ goods atom.bundle) c.clear.ensures.items)
     c.in_ok-push_bid.ensures c.loop-place.invariant
 
 pub returns : goal.returns
-returns g c = atoms_text_all g.S.GoodsSet.goods c.args.goods c.args.first c.loop-place.place c.args.dummy c.args.atoms.now c.loop-place.out.items _ (omega (arith, c.loop-place-test.false)) c.loop-place.invariant
+returns g c = atoms_text_all g.S.GoodsSet.goods c.args.goods c.args.first c.loop-place.place c.args.dummy c.args.atoms.now c.loop-place.out.items _
+    (omega (arith, c.loop-place-test.false)) c.loop-place.invariant

@@ -8,4 +8,5 @@ use Rattle.canon.proofs.writing.push_atoms.Given as goal
 abbrev pub invariant-loop-place : goal.invariant-loop-place
 invariant-loop-place g l =
     let atoms = atoms_of g.S.GoodsSet.goods l.atoms in
-    l.out.items ++ bids_text l.goods (l.first + l.place) (map (bid_from l.dummy) (drop l.place atoms)) ≡ l.fn.out.items ++ bids_text l.goods l.first (map (bid_from l.dummy) atoms)
+    l.out.items ++ bids_text l.goods (l.first + l.place) (map (bid_from l.dummy) (drop l.place atoms)) ≡ l.fn.out.items ++ bids_text l.goods l.first
+    (map (bid_from l.dummy) atoms)

@@ -19,10 +19,13 @@ loop-number-preserved g c =
     elim c.match-judge.branch [
       | in-Ok+in_ok-push-in-Ok w ↦
           rw w.found-is
-          (found_more c.args.limit paths i nowhere c.loop-number.found.items greatest c.loop-number.index c.judge.new.index c.loop-number-test.true c.loop-number.invariant w.push.new.self.items w.in-Ok.place c.match-judge.greatest w.in-Ok.ensures.judged
+          (found_more c.args.limit paths i nowhere c.loop-number.found.items greatest c.loop-number.index c.judge.new.index c.loop-number-test.true
+          c.loop-number.invariant w.push.new.self.items w.in-Ok.place c.match-judge.greatest w.in-Ok.ensures.judged
           w.in_ok-push-in-Ok.ensures.items w.greatest-is)
       | in-Err w ↦
           rw w.found-is
-          (not_found c.args.limit paths i nowhere c.loop-number.found.items greatest c.loop-number.index c.judge.new.index c.loop-number-test.true c.loop-number.invariant (status_of_stop w.in-Err.stop) w.tell_refusal.result
-          w.max-greatest.result c.match-judge.greatest w.in-Err.ensures.unchanged w.in-Err.ensures.status w.greatest-is w.max-greatest.ensures w.tell_refusal.ensures)
+          (not_found c.args.limit paths i nowhere c.loop-number.found.items greatest c.loop-number.index c.judge.new.index c.loop-number-test.true
+          c.loop-number.invariant (status_of_stop w.in-Err.stop) w.tell_refusal.result
+          w.max-greatest.result c.match-judge.greatest w.in-Err.ensures.unchanged w.in-Err.ensures.status w.greatest-is w.max-greatest.ensures
+          w.tell_refusal.ensures)
     ]

@@ -1,6 +1,6 @@
 use Rattle.std.proofs.lemmas.List.Elements.{All-weaker}
 use Rattle.cats_text.specs.declared.limits.TheConstants.{MAX_GOODS}
-use Rattle.goods_set.specs.Members.{AreBelow-higher}
+use Rattle.goods_set.specs.Lemmas.Members.{AreBelow-higher}
 use Rattle.valuation.specs.Auctions.{IsAtom}
 use Rattle.cats_cmd.proofs.value.best_packing.Goals as goal
 
@@ -8,4 +8,8 @@ pub or_value-requires : goal.or_value-requires
 or_value-requires g c =
     let facts = c.args.auction.now.facts in
     rw c.or_atoms.ensures (All-weaker (IsAtom c.args.auction.now.goods) (IsAtom MAX_GOODS)
-    (λ a h. record { nonempty = h.nonempty; bundle = (h.bundle.0, AreBelow-higher c.args.auction.now.goods MAX_GOODS a.bundle facts.goods h.bundle.1); price = h.price }) _ facts.or_atoms)
+    (λ a h. record {
+      nonempty = h.nonempty;
+      bundle = (h.bundle.0, AreBelow-higher c.args.auction.now.goods MAX_GOODS a.bundle facts.goods h.bundle.1);
+      price = h.price;
+    }) _ facts.or_atoms)

@@ -4,11 +4,12 @@ use Rattle.cats_text.specs.Views.{plain_file}
 use Rattle.cats_cmd.specs.Outcomes.{Outcome, Tells, missing_good, outcome_unless, value_outcome, values_within}
 use Rattle.cats_cmd.specs.Runs.{MakesAs}
 use Rattle.cats_cmd.specs.ValueTexts.{bundle_from}
-use Rattle.cats_cmd.proofs.Tellings.{run_unread, run_unmade, run_told}
+use Rattle.cats_cmd.proofs.RunsOfOneFile.{run_unread, run_unmade, run_told}
 use Rattle.cats_cmd.proofs.value.run_value.Goals as goal
 
 -- where the file has all of the goods
-with_all_goods : (goods : List ℕ) (limit : ℕ) (file : PlainFile) → missing_good file.goods goods ≡ None → value_outcome goods limit file ≡ values_within limit (bundle_from goods) file
+with_all_goods : (goods : List ℕ) (limit : ℕ) (file : PlainFile) → missing_good file.goods goods ≡ None
+    → value_outcome goods limit file ≡ values_within limit (bundle_from goods) file
 with_all_goods goods limit file none = ap (λ (m : Option ℕ). outcome_unless m (values_within limit (bundle_from goods) file)) none
 
 pub returns-in_err-file : goal.returns-in_err-file
@@ -28,4 +29,5 @@ returns g c =
     let file = plain_file c.in_ok-file.file in
     let none : missing_good file.goods c.args.goods.now ≡ None = search rules in
     run_told _ _ (value_outcome c.args.goods.now c.args.limit) _ _ _ _ _ c.in_ok-file.ensures 0 _
-    (with_all_goods c.args.goods.now c.args.limit file none ∙ c.in_ok-text.ensures ∙ ap (λ text. Tells 0 text) (sym c.as_slice.ensures.value)) _ c.send_text.ensures
+    (with_all_goods c.args.goods.now c.args.limit file none ∙ c.in_ok-text.ensures ∙ ap (λ text. Tells 0 text) (sym c.as_slice.ensures.value)) _
+    c.send_text.ensures

@@ -14,4 +14,5 @@ bundle_of-requires g c =
 
 pub push_or_line-requires : goal.push_or_line-requires
 push_or_line-requires g c =
-    places_within _ (plain_file c.args.file.now).bids _ _ _ c.in_ok-packing.ensures.members (ap (λ (a : PlainAuction). a.or_atoms) c.in_ok-auction.ensures) (c.as_slice.ensures.value ∙ c.in_ok-numbers.ensures.or)
+    places_within _ (plain_file c.args.file.now).bids _ _ _ c.in_ok-packing.ensures.members (ap (λ (a : PlainAuction). a.or_atoms) c.in_ok-auction.ensures)
+    (c.as_slice.ensures.value ∙ c.in_ok-numbers.ensures.or)

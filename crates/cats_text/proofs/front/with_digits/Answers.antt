@@ -2,7 +2,7 @@ use Rattle.std.proofs.Common.{◌≡◌, ◌≤◌, ◌<◌, ◌+◌, ◌-◌, �
 use Rattle.std.proofs.lemmas.Bool.{lt-ltb, le-ltb, le-leb, and_from}
 use Rattle.cats_text.specs.Numbers.{is_digit}
 use Rattle.cats_text.specs.declared.word.TheConstants.{HELD}
-use Rattle.cats_text.proofs.Runs.{number_more}
+use Rattle.cats_text.proofs.Scanning.ManyBytes.{number_more}
 use Rattle.cats_text.proofs.front.with_digits.Goals as goal
 use Rattle.cats_text.proofs.front.with_digits.Goals.{then-value-lt-HELD, else-value-lt-HELD}
 
@@ -15,7 +15,9 @@ loop-count-preserved c =
     (elim c.if-value-lt-HELD.branch [
       | then-value-lt-HELD w ↦ let below : c.loop-count.value < HELD = search rules in
           let is : c.if-value-lt-HELD.value ≡ c.loop-count.value * 10 + (get_or c.args.bytes.now c.loop-count.count 0 - 48) = search rules in
-          is ∙ sym (ap (λ t. cond t (c.loop-count.value * 10 + (get_or c.args.bytes.now c.loop-count.count 0 - 48)) c.loop-count.value) (lt-ltb c.loop-count.value HELD below))
+          is ∙ sym (ap (λ t. cond t (c.loop-count.value * 10 + (get_or c.args.bytes.now c.loop-count.count 0 - 48)) c.loop-count.value)
+          (lt-ltb c.loop-count.value HELD below))
       | else-value-lt-HELD w ↦ let above : HELD ≤ c.loop-count.value = search rules in
-          w.value-is ∙ sym (ap (λ t. cond t (c.loop-count.value * 10 + (get_or c.args.bytes.now c.loop-count.count 0 - 48)) c.loop-count.value) (le-ltb c.loop-count.value HELD above))
+          w.value-is ∙ sym (ap (λ t. cond t (c.loop-count.value * 10 + (get_or c.args.bytes.now c.loop-count.count 0 - 48)) c.loop-count.value)
+          (le-ltb c.loop-count.value HELD above))
     ])

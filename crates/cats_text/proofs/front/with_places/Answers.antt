@@ -1,7 +1,7 @@
 use Rattle.std.proofs.Common.{◌≡◌, ◌≤◌, true, get_or, rules}
 use Rattle.std.proofs.lemmas.Bool.{le-leb, and_from}
 use Rattle.cats_text.specs.Numbers.{is_digit}
-use Rattle.cats_text.proofs.Runs.{decimal_more}
+use Rattle.cats_text.proofs.Scanning.ManyBytes.{decimal_more}
 use Rattle.cats_text.proofs.front.with_places.Goals as goal
 
 pub loop-count-preserved : goal.loop-count-preserved

@@ -1,4 +1,4 @@
-use Rattle.cats_text.proofs.Runs.{IsDecimalSoFar}
+use Rattle.cats_text.proofs.Scanning.ManyBytes.{IsDecimalSoFar}
 use Rattle.cats_text.proofs.front.with_places.Given as goal
 
 abbrev pub invariant-loop-count : goal.invariant-loop-count

@@ -1,4 +1,4 @@
-use Rattle.cats_text.proofs.Bridge as proof
+use Rattle.cats_text.proofs.Texts.MachineAnswers as proof
 use Rattle.cats_text.proofs.laws.complete_fault_stays.Goals as goal
 
 pub returns : goal.returns

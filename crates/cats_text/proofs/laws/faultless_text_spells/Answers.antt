@@ -1,5 +1,5 @@
 use Rattle.std.proofs.Common.{sym}
-use Rattle.cats_text.proofs.SpellsLemmas.{spells_from_no_fault, says_spelled}
+use Rattle.cats_text.proofs.Spelling.Files.{spells_from_no_fault, says_spelled}
 use Rattle.cats_text.proofs.laws.faultless_text_spells.Goals as goal
 
 pub returns-clause-spelled : goal.returns-clause-spelled

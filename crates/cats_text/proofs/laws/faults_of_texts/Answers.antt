@@ -1,5 +1,5 @@
 use Rattle.std.proofs.Common.{true, false, refl, subst, IfSome}
-use Rattle.cats_text.proofs.FaultKinds.{IsFound, first_fault-found, complete_fault-found}
+use Rattle.cats_text.proofs.Texts.FaultKinds.{IsFound, first_fault-found, complete_fault-found}
 use Rattle.cats_text.proofs.laws.faults_of_texts.Goals as goal
 
 pub returns-clause-first : goal.returns-clause-first

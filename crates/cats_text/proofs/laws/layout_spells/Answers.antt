@@ -1,6 +1,6 @@
 use Rattle.cats_text.specs.Layout.{layout}
-use Rattle.cats_text.proofs.SpellsLemmas.{spells_one}
-use Rattle.cats_text.proofs.LayoutSpells as proof
+use Rattle.cats_text.proofs.Spelling.Files.{spells_one}
+use Rattle.cats_text.proofs.Writing.Spells as proof
 use Rattle.cats_text.proofs.laws.layout_spells.Goals as goal
 
 pub returns-clause-spelled : goal.returns-clause-spelled

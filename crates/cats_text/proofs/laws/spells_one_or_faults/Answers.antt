@@ -1,4 +1,4 @@
-use Rattle.cats_text.proofs.SpellsLemmas.{spells_one, spells_or_fault, never_spells_and_faults}
+use Rattle.cats_text.proofs.Spelling.Files.{spells_one, spells_or_fault, never_spells_and_faults}
 use Rattle.cats_text.proofs.laws.spells_one_or_faults.Goals as goal
 
 pub returns-clause-one_or_fault : goal.returns-clause-one_or_fault

@@ -1,5 +1,5 @@
 use Rattle.std.proofs.Common.{arith}
-use Rattle.cats_text.proofs.SixDigits.{two_digits}
+use Rattle.cats_text.proofs.Writing.SixDigits.{two_digits}
 use Rattle.cats_text.proofs.layout.push_pair.Goals as goal
 
 pub returns : goal.returns

@@ -2,7 +2,7 @@ use Rattle.std.proofs.Common.{◌≡◌, ℕ, ◌+◌, ◌<◌, List, [], ◌∷
 use Rattle.std.proofs.lemmas.Fmt.{decimal_nonempty}
 use Rattle.std.proofs.lemmas.List.{append-nil, take_rest}
 use Rattle.cats_text.specs.Layout.{without_zeros, six_digits}
-use Rattle.cats_text.proofs.SixDigits.{places_text_none, places_text_some}
+use Rattle.cats_text.proofs.Writing.SixDigits.{places_text_none, places_text_some}
 use Rattle.cats_text.proofs.layout.push_places.Goals as goal
 
 pub returns-then-millionths-eq0 : goal.returns-then-millionths-eq0
@@ -20,7 +20,8 @@ slice_bounds-without_zeros-start c =
     omega (arith, ap length e, decimal_nonempty (1000000 + c.args.millionths) (omega arith))
 
 -- the point and then the digits
-both_appended : {T E : Type 0} (r : Result T E) (out pointed new digits text : List ℕ) → pointed ≡ out ++ 46 ∷ [] → new ≡ cond (is_ok r) (pointed ++ digits) pointed → text ≡ 46 ∷ digits → OnOk r (new ≡ out ++ text)
+both_appended : {T E : Type 0} (r : Result T E) (out pointed new digits text : List ℕ) → pointed ≡ out ++ 46 ∷ []
+    → new ≡ cond (is_ok r) (pointed ++ digits) pointed → text ≡ 46 ∷ digits → OnOk r (new ≡ out ++ text)
 both_appended (Ok x) out pointed new digits text point all e =
     all ∙ ap (λ xs. xs ++ digits) point ∙ append_assoc out (46 ∷ []) digits ∙ ap (λ xs. out ++ xs) (sym e)
 both_appended (Err x) out pointed new digits text point all e = tt
@@ -32,4 +33,5 @@ returns c =
     let digits : c.without_zeros.result.now ≡ without_zeros (six_digits c.args.millionths) =
     c.without_zeros.ensures ∙ ap without_zeros (take_rest c.as_bytes-digits.result.now 1 ∙ ap (drop 1) seven) in
     let text = places_text_some c.args.millionths some c.requires in
-    both_appended c.extend_from_slice.result c.args.out.now.items c.push.new.self.items c.extend_from_slice.new.self.items _ _ c.in_ok-push.ensures.items c.extend_from_slice.ensures.items (text ∙ ap (λ w. 46 ∷ w) (sym digits))
+    both_appended c.extend_from_slice.result c.args.out.now.items c.push.new.self.items c.extend_from_slice.new.self.items _ _ c.in_ok-push.ensures.items
+    c.extend_from_slice.ensures.items (text ∙ ap (λ w. 46 ∷ w) (sym digits))

@@ -3,7 +3,7 @@ use Rattle.std.proofs.lemmas.Grind.{common_steps}
 use Rattle.cats_text.specs.Views.{plain_file}
 use Rattle.cats_text.specs.Grammar.{Spells}
 use Rattle.cats_text.specs.Layout.{layout}
-use Rattle.cats_text.proofs.LayoutSpells.{layout_spells}
+use Rattle.cats_text.proofs.Writing.Spells.{layout_spells}
 use Rattle.cats_text.proofs.layout.write.Goals as goal
 
 pub returns-clause-spells : goal.returns-clause-spells

@@ -1,6 +1,6 @@
 -- What a reader that was fed the whole text answers.
 use Rattle.std.proofs.lemmas.Result.{err_from_is_err_and}
-use Rattle.cats_text.proofs.Feeding.{whole_told}
+use Rattle.cats_text.proofs.Feeding.Pieces.{whole_told}
 use Rattle.cats_text.proofs.reader.read.Goals as goal
 
 pub returns-in_err-feed : goal.returns-in_err-feed

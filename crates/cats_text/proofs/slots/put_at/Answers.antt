@@ -1,5 +1,5 @@
 use Rattle.std.proofs.Common.{◌≤◌, ◌<◌, length, rules}
-use Rattle.cats_text.proofs.BidPlaces.{padded_more, plain_put}
+use Rattle.cats_text.proofs.Parsing.BidsByNumber.{padded_more, plain_put}
 use Rattle.cats_text.proofs.slots.put_at.Goals as goal
 
 pub loop-slots-preserved : goal.loop-slots-preserved

@@ -1,5 +1,5 @@
 use Rattle.std.proofs.Common.{◌+◌, ◌-◌, vec_len}
-use Rattle.cats_text.proofs.BidPlaces.{IsPadded}
+use Rattle.cats_text.proofs.Parsing.BidsByNumber.{IsPadded}
 use Rattle.cats_text.proofs.slots.put_at.Given as goal
 
 abbrev pub invariant-loop-slots : goal.invariant-loop-slots

@@ -5,8 +5,8 @@ use Rattle.cats_text.specs.declared.limits.TheConstants.{MAX_STREAM}
 use Rattle.std.proofs.KnownBytes.{Consumes-trans, Consumes-kept}
 use Rattle.std.specs.Io.KnownBytes.{Consumes}
 use Rattle.cats_text.specs.Streams.{moved_nothing}
-use Rattle.cats_text.proofs.FaultKinds.{fed_within}
-use Rattle.cats_text.proofs.StreamReading.{fed_told}
+use Rattle.cats_text.proofs.Texts.FaultKinds.{fed_within}
+use Rattle.cats_text.proofs.Feeding.Streams.{fed_told}
 use Rattle.cats_text.proofs.stream.feed_from.Goals as goal
 
 -- a read that gave nothing
@@ -79,7 +79,8 @@ returns-in_err-feed-in-Ok g c =
       keeping = c.in_err-feed-in-Ok.ensures.keeping ∙ kept.keeping;
       bytes = came_more _ _ _ c.loop-count.feeder.fed.bytes _ c.feed.new.self.fed.bytes kept.came c.in-Ok.ensures.bytes.0 fed.bytes;
       answer = rw (told.1, told.2)
-          (fed_told g.R.Read.remaining c.feed.new.self.fed.bytes c.read.new.self c.in_err-feed-in-Ok.field-0.0 c.in-Ok.ensures.failed (rw limit at fed.answer.0));
+          (fed_told g.R.Read.remaining c.feed.new.self.fed.bytes c.read.new.self c.in_err-feed-in-Ok.field-0.0 c.in-Ok.ensures.failed
+          (rw limit at fed.answer.0));
     }
 
 pub returns-in-Err : goal.returns-in-Err

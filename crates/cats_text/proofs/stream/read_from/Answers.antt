@@ -1,8 +1,8 @@
 -- The file of all bytes that were fed, or the fault that feeding them told.
 use Rattle.std.proofs.Common.{ap, ◌∙◌}
-use Rattle.cats_text.specs.Reading.{Feeding}
+use Rattle.cats_text.specs.Internal.Reading.{Feeding}
 use Rattle.std.proofs.lemmas.Result.{err_from_is_err_and}
-use Rattle.cats_text.proofs.StreamReading.{finished_told}
+use Rattle.cats_text.proofs.Feeding.Streams.{finished_told}
 use Rattle.cats_text.proofs.stream.read_from.Goals as goal
 
 pub feed_from-requires-clause-new : goal.feed_from-requires-clause-new

@@ -23,6 +23,7 @@ pub loop-written-preserved : goal.loop-written-preserved
 loop-written-preserved g c = let wrote = c.in-Ok.ensures in let left = all_but c.loop-written.written c.args.text.now in record {
   working = wrote.failed ∙ took_some c.in-Ok.count _ c.if-count-gt0.true;
   ended = wrote.ended ∙ c.loop-written.invariant.ended;
-  within = let bound : c.in-Ok.count ≤ length (drop c.loop-written.written c.args.text.now) = rw left at wrote.bound in omega (arith, length-drop c.loop-written.written c.args.text.now);
+  within = let bound : c.in-Ok.count ≤ length (drop c.loop-written.written c.args.text.now) = rw left at wrote.bound in
+      omega (arith, length-drop c.loop-written.written c.args.text.now);
   sent = one_more_piece _ _ _ c.loop-written.written c.in-Ok.count c.args.text.now c.loop-written.invariant.sent wrote.bytes;
 }

@@ -1,4 +1,4 @@
-use Rattle.goods_set.specs.Orders.{bundle_cmp_total, bundle_cmp_equal}
+use Rattle.goods_set.specs.Lemmas.Orders.{bundle_cmp_total, bundle_cmp_equal}
 use Rattle.goods_set.proofs.laws.order_of_bundles.Goals as goal
 
 pub returns : goal.returns

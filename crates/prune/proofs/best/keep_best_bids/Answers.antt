@@ -8,6 +8,7 @@ pub returns-clause-best : goal.returns-clause-best
 returns-clause-best g c =
     let goods = g.S.GoodsSet.goods in
     let priced = filter_same _ (λ a. has_price (seen_of goods a)) _ (λ x b f k. search rules) _ _ c.retain.ensures.filtered in
-    let sorted = c.sort_unstable_by.ensures.sorted (λ a b. is_bid_before (seen_of goods a) (seen_of goods b)) (ranks_by bid_cmp_total (seen_of goods)) (always_returns_same _ _ _ (λ a r f k. search rules)) in
+    let sorted = c.sort_unstable_by.ensures.sorted (λ a b. is_bid_before (seen_of goods a) (seen_of goods b)) (ranks_by bid_cmp_total (seen_of goods))
+    (always_returns_same _ _ _ (λ a r f k. search rules)) in
     let best = dedup_same _ (λ a b. is_same_bundle (seen_of goods a) (seen_of goods b)) _ (λ x y b f x' y' k. search rules) _ _ c.dedup_by.ensures.filtered in
     best_from_steps (seen_of goods) _ _ _ _ priced c.sort_unstable_by.ensures.permutation sorted best

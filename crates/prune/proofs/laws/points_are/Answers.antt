@@ -1,4 +1,4 @@
-use Rattle.prune.specs.PointLemmas.{xor_points_are, or_points_are}
+use Rattle.prune.specs.Lemmas.Points.{xor_points_are, or_points_are}
 use Rattle.prune.proofs.laws.points_are.Goals as goal
 
 pub returns : goal.returns

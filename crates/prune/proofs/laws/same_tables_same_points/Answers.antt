@@ -1,5 +1,5 @@
-use Rattle.prune.specs.KeptLemmas.{on_bundles}
-use Rattle.prune.specs.TableLemmas.{same_xor_points, same_or_points}
+use Rattle.prune.specs.Lemmas.KeptBids.{on_bundles}
+use Rattle.prune.specs.Lemmas.Tables.{same_xor_points, same_or_points}
 use Rattle.prune.proofs.laws.same_tables_same_points.Goals as goal
 
 pub returns : goal.returns

@@ -1,4 +1,4 @@
-use Rattle.prune.specs.KeptLemmas.{xor_points_same, or_points_same}
+use Rattle.prune.specs.Lemmas.KeptBids.{xor_points_same, or_points_same}
 use Rattle.prune.proofs.laws.same_values_same_points.Goals as goal
 
 pub returns : goal.returns

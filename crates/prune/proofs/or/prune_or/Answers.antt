@@ -7,14 +7,15 @@ use Rattle.valuation.specs.Auctions.{IsAtom}
 use Rattle.valuation.specs.Values.{atoms_of}
 use Rattle.prune.proofs.BestBids.{seen_of}
 use Rattle.prune.proofs.Results.{turn_among, or_reached, or_missed, within_reached, within_missed, heavy_found}
-use Rattle.prune.specs.KeptLemmas.{on_bundles}
-use Rattle.prune.proofs.Turns.{next_turn, taken, or_end, kept_nonempty, all_some, none_heavy_end, heavy_load}
+use Rattle.prune.specs.Lemmas.KeptBids.{on_bundles}
+use Rattle.prune.proofs.PruningLoop.{next_turn, taken, or_end, kept_nonempty, all_some, none_heavy_end, heavy_load}
 use Rattle.prune.proofs.or.prune_or.Goals as goal
 
 pub is_outbid-requires-clause-some : goal.is_outbid-requires-clause-some
 is_outbid-requires-clause-some g c =
     let goods = g.S.GoodsSet.goods in
-    kept_nonempty goods MAX_GOODS (atoms_of goods c.args.atoms.items) c.loop-bid.yielded _ c.loop-bid.kept.atoms.items c.loop-bid.invariant.best c.requires c.loop-bid.invariant.kept.among
+    kept_nonempty goods MAX_GOODS (atoms_of goods c.args.atoms.items) c.loop-bid.yielded _ c.loop-bid.kept.atoms.items c.loop-bid.invariant.best c.requires
+    c.loop-bid.invariant.kept.among
 
 pub loop-bid-preserved-then-is_outbid : goal.loop-bid-preserved-then-is_outbid
 loop-bid-preserved-then-is_outbid g c =
@@ -70,7 +71,15 @@ loop-bid-preserved g c =
       listed = pushed.listed;
       kept = rw (map_push (seen_of goods) yielded bid, pushed.atoms, map_push (seen_of goods) kept bid) missed;
       within = rw (pushed.atoms, map_push (seen_of goods) kept bid, map_push (seen_of goods) yielded bid) within;
-      fewer = omega (arith, h.fewer, c.loop-bid.kept.atoms.ok.0, c.push.new.self.atoms.ok.0, ap length pushed.atoms, length_push kept bid, length_push yielded bid);
+      fewer = omega (
+        arith,
+        h.fewer,
+        c.loop-bid.kept.atoms.ok.0,
+        c.push.new.self.atoms.ok.0,
+        ap length pushed.atoms,
+        length_push kept bid,
+        length_push yielded bid,
+      );
     }
 
 pub returns-in-Err-StepLimit-clause-step_limit : goal.returns-in-Err-StepLimit-clause-step_limit
@@ -84,7 +93,8 @@ returns-in-Err-StepLimit-clause-step_limit g c =
     let step = c.in-Some.ensures.steps.0 in
     let turn = next_turn goods (λ s. (g.met.S.GoodsSet.is_bundle s).0) bids yielded _ _ bid h.best step in
     λ n are.
-    (heavy_found n c.args.limit bids _ _ _ (atoms_of goods kept) (on_bundles n bids are) turn h.kept h.within (c.in-Err-StepLimit.ensures.step_limit (ap Err c.in-Err-StepLimit.field-0-is))).0
+    (heavy_found n c.args.limit bids _ _ _ (atoms_of goods kept) (on_bundles n bids are) turn h.kept h.within
+    (c.in-Err-StepLimit.ensures.step_limit (ap Err c.in-Err-StepLimit.field-0-is))).0
 
 pub returns-in-Err-StepLimit-clause-load : goal.returns-in-Err-StepLimit-clause-load
 returns-in-Err-StepLimit-clause-load g c =
@@ -98,21 +108,25 @@ returns-in-Err-StepLimit-clause-load g c =
     let turn = next_turn goods (λ s. (g.met.S.GoodsSet.is_bundle s).0) bids yielded _ _ bid h.best step in
     let on = on_bundles MAX_GOODS bids c.requires in
     heavy_load MAX_GOODS c.args.limit bids _ on
-    (heavy_found MAX_GOODS c.args.limit bids _ _ _ (atoms_of goods kept) on turn h.kept h.within (c.in-Err-StepLimit.ensures.step_limit (ap Err c.in-Err-StepLimit.field-0-is))).1
+    (heavy_found MAX_GOODS c.args.limit bids _ _ _ (atoms_of goods kept) on turn h.kept h.within
+    (c.in-Err-StepLimit.ensures.step_limit (ap Err c.in-Err-StepLimit.field-0-is))).1
 
 pub returns-clause-points : goal.returns-clause-points
 returns-clause-points g c =
     let goods = g.S.GoodsSet.goods in
     let bids = atoms_of goods c.args.atoms.items in
-    let none : into_iter_items c.loop-bid.bid-iterator ≡ [] = nil_from_length (into_iter_items c.loop-bid.bid-iterator) (omega (arith, c.in-None.ensures.steps.0, c.loop-bid.bid-iterator.rest.ok.0)) in
-    let done = or_end goods bids c.loop-bid.yielded _ c.loop-bid.kept.atoms.items _ (all_some MAX_GOODS bids c.requires) c.loop-bid.invariant.best c.loop-bid.invariant.kept none (ap (λ v. v.items) c.into_atoms.ensures) in
+    let none : into_iter_items c.loop-bid.bid-iterator ≡ [] =
+    nil_from_length (into_iter_items c.loop-bid.bid-iterator) (omega (arith, c.in-None.ensures.steps.0, c.loop-bid.bid-iterator.rest.ok.0)) in
+    let done = or_end goods bids c.loop-bid.yielded _ c.loop-bid.kept.atoms.items _ (all_some MAX_GOODS bids c.requires) c.loop-bid.invariant.best
+    c.loop-bid.invariant.kept none (ap (λ v. v.items) c.into_atoms.ensures) in
     λ n are. done.points n (on_bundles n bids are)
 
 pub returns-clause-none_heavy : goal.returns-clause-none_heavy
 returns-clause-none_heavy g c =
     let goods = g.S.GoodsSet.goods in
     let bids = atoms_of goods c.args.atoms.items in
-    let none : into_iter_items c.loop-bid.bid-iterator ≡ [] = nil_from_length (into_iter_items c.loop-bid.bid-iterator) (omega (arith, c.in-None.ensures.steps.0, c.loop-bid.bid-iterator.rest.ok.0)) in
+    let none : into_iter_items c.loop-bid.bid-iterator ≡ [] =
+    nil_from_length (into_iter_items c.loop-bid.bid-iterator) (omega (arith, c.in-None.ensures.steps.0, c.loop-bid.bid-iterator.rest.ok.0)) in
     λ n are.
     none_heavy_end goods n c.args.limit bids c.loop-bid.yielded _ c.loop-bid.kept.atoms.items (on_bundles n bids are)
     c.loop-bid.invariant.best c.loop-bid.invariant.kept c.loop-bid.invariant.within none
@@ -121,22 +135,28 @@ pub returns-clause-values : goal.returns-clause-values
 returns-clause-values g c =
     let goods = g.S.GoodsSet.goods in
     let bids = atoms_of goods c.args.atoms.items in
-    let none : into_iter_items c.loop-bid.bid-iterator ≡ [] = nil_from_length (into_iter_items c.loop-bid.bid-iterator) (omega (arith, c.in-None.ensures.steps.0, c.loop-bid.bid-iterator.rest.ok.0)) in
-    let done = or_end goods bids c.loop-bid.yielded _ c.loop-bid.kept.atoms.items _ (all_some MAX_GOODS bids c.requires) c.loop-bid.invariant.best c.loop-bid.invariant.kept none (ap (λ v. v.items) c.into_atoms.ensures) in
+    let none : into_iter_items c.loop-bid.bid-iterator ≡ [] =
+    nil_from_length (into_iter_items c.loop-bid.bid-iterator) (omega (arith, c.in-None.ensures.steps.0, c.loop-bid.bid-iterator.rest.ok.0)) in
+    let done = or_end goods bids c.loop-bid.yielded _ c.loop-bid.kept.atoms.items _ (all_some MAX_GOODS bids c.requires) c.loop-bid.invariant.best
+    c.loop-bid.invariant.kept none (ap (λ v. v.items) c.into_atoms.ensures) in
     done.values
 
 pub returns-clause-bids : goal.returns-clause-bids
 returns-clause-bids g c =
     let goods = g.S.GoodsSet.goods in
     let bids = atoms_of goods c.args.atoms.items in
-    let none : into_iter_items c.loop-bid.bid-iterator ≡ [] = nil_from_length (into_iter_items c.loop-bid.bid-iterator) (omega (arith, c.in-None.ensures.steps.0, c.loop-bid.bid-iterator.rest.ok.0)) in
-    let done = or_end goods bids c.loop-bid.yielded _ c.loop-bid.kept.atoms.items _ (all_some MAX_GOODS bids c.requires) c.loop-bid.invariant.best c.loop-bid.invariant.kept none (ap (λ v. v.items) c.into_atoms.ensures) in
+    let none : into_iter_items c.loop-bid.bid-iterator ≡ [] =
+    nil_from_length (into_iter_items c.loop-bid.bid-iterator) (omega (arith, c.in-None.ensures.steps.0, c.loop-bid.bid-iterator.rest.ok.0)) in
+    let done = or_end goods bids c.loop-bid.yielded _ c.loop-bid.kept.atoms.items _ (all_some MAX_GOODS bids c.requires) c.loop-bid.invariant.best
+    c.loop-bid.invariant.kept none (ap (λ v. v.items) c.into_atoms.ensures) in
     done.among
 
 pub returns-clause-in_order : goal.returns-clause-in_order
 returns-clause-in_order g c =
     let goods = g.S.GoodsSet.goods in
     let bids = atoms_of goods c.args.atoms.items in
-    let none : into_iter_items c.loop-bid.bid-iterator ≡ [] = nil_from_length (into_iter_items c.loop-bid.bid-iterator) (omega (arith, c.in-None.ensures.steps.0, c.loop-bid.bid-iterator.rest.ok.0)) in
-    let done = or_end goods bids c.loop-bid.yielded _ c.loop-bid.kept.atoms.items _ (all_some MAX_GOODS bids c.requires) c.loop-bid.invariant.best c.loop-bid.invariant.kept none (ap (λ v. v.items) c.into_atoms.ensures) in
+    let none : into_iter_items c.loop-bid.bid-iterator ≡ [] =
+    nil_from_length (into_iter_items c.loop-bid.bid-iterator) (omega (arith, c.in-None.ensures.steps.0, c.loop-bid.bid-iterator.rest.ok.0)) in
+    let done = or_end goods bids c.loop-bid.yielded _ c.loop-bid.kept.atoms.items _ (all_some MAX_GOODS bids c.requires) c.loop-bid.invariant.best
+    c.loop-bid.invariant.kept none (ap (λ v. v.items) c.into_atoms.ensures) in
     done.in_order

@@ -2,7 +2,7 @@
 use Rattle.std.proofs.Common.{◌≡◌, ℕ, ◌<◌, false, take}
 use Rattle.std.specs.List.{list_any}
 use Rattle.valuation.specs.Values.{atoms_of}
-use Rattle.prune.specs.Listings.{atom_at, covers}
+use Rattle.prune.specs.Internal.Listings.{atom_at, covers}
 use Rattle.prune.proofs.xor.are_few_and_uncovered.Given as goal
 
 abbrev pub invariant-loop-place : goal.invariant-loop-place

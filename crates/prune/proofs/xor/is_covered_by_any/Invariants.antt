@@ -2,7 +2,7 @@
 use Rattle.std.proofs.Common.{◌≡◌, false, take}
 use Rattle.std.specs.List.{list_any}
 use Rattle.valuation.specs.Values.{atoms_of}
-use Rattle.prune.specs.Listings.{covers}
+use Rattle.prune.specs.Internal.Listings.{covers}
 use Rattle.prune.proofs.xor.is_covered_by_any.Given as goal
 
 abbrev pub invariant-loop-atom : goal.invariant-loop-atom

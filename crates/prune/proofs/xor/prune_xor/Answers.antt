@@ -8,15 +8,16 @@ use Rattle.valuation.specs.Auctions.{IsAtom}
 use Rattle.valuation.specs.Values.{atoms_of}
 use Rattle.prune.proofs.BestBids.{seen_of}
 use Rattle.prune.proofs.Results.{turn_positive, turn_among, xor_reached, xor_missed}
-use Rattle.prune.specs.KeptLemmas.{on_bundles, just_bundles}
-use Rattle.prune.specs.Listings.{AreUncovered}
-use Rattle.prune.proofs.Turns.{xor_end, xor_uncovered, next_turn, taken, covers_is}
+use Rattle.prune.specs.Lemmas.KeptBids.{on_bundles, just_bundles}
+use Rattle.prune.specs.Internal.Listings.{AreUncovered}
+use Rattle.prune.proofs.PruningLoop.{xor_end, xor_uncovered, next_turn, taken, covers_is}
 use Rattle.prune.proofs.xor.prune_xor.Goals as goal
 
 pub push-requires-else-few-clause-some : goal.push-requires-else-few-clause-some
 push-requires-else-few-clause-some g c =
     let goods = g.S.GoodsSet.goods in
-    let turn = next_turn goods (λ s. (g.met.S.GoodsSet.is_bundle s).0) _ c.loop-bid.yielded _ _ c.in-Some.bid c.loop-bid.invariant.best c.in-Some.ensures.steps.0 in
+    let turn = next_turn goods (λ s. (g.met.S.GoodsSet.is_bundle s).0) _ c.loop-bid.yielded _ _ c.in-Some.bid c.loop-bid.invariant.best
+    c.in-Some.ensures.steps.0 in
     (All-contains (IsAtom MAX_GOODS) (atoms_of goods c.args.atoms.items) _ c.requires (turn_among _ _ _ _ turn)).nonempty
 
 pub loop-bid-preserved-in-Continue-branch-2 : goal.loop-bid-preserved-in-Continue-branch-2
@@ -37,7 +38,15 @@ loop-bid-preserved-in-Continue-branch-2 g c =
       fits = rw joined at h.fits;
       listed = λ many. absurd (both_ways _ many (le-leb _ _ c.if-few.true));
       kept = rw (map_push (seen_of goods) yielded bid, c.in_ok-push.ensures.items, map_push (seen_of goods) kept bid) missed;
-      fewer = omega (arith, h.fewer, c.loop-bid.kept.atoms.ok.0, c.push.new.self.ok.0, ap length c.in_ok-push.ensures.items, length_push kept bid, length_push yielded bid);
+      fewer = omega (
+        arith,
+        h.fewer,
+        c.loop-bid.kept.atoms.ok.0,
+        c.push.new.self.ok.0,
+        ap length c.in_ok-push.ensures.items,
+        length_push kept bid,
+        length_push yielded bid,
+      );
     }
 
 pub loop-bid-preserved-in-Continue-branch-3 : goal.loop-bid-preserved-in-Continue-branch-3
@@ -58,7 +67,15 @@ loop-bid-preserved-in-Continue-branch-3 g c =
       fits = rw joined at h.fits;
       listed = λ _. c.in_ok-push-2.ensures.listed;
       kept = rw (map_push (seen_of goods) yielded bid, c.in_ok-push-2.ensures.atoms, map_push (seen_of goods) kept bid) missed;
-      fewer = omega (arith, h.fewer, c.loop-bid.kept.atoms.ok.0, c.push-else-few.new.self.atoms.ok.0, ap length c.in_ok-push-2.ensures.atoms, length_push kept bid, length_push yielded bid);
+      fewer = omega (
+        arith,
+        h.fewer,
+        c.loop-bid.kept.atoms.ok.0,
+        c.push-else-few.new.self.atoms.ok.0,
+        ap length c.in_ok-push-2.ensures.atoms,
+        length_push kept bid,
+        length_push yielded bid,
+      );
     }
 
 pub loop-bid-preserved : goal.loop-bid-preserved
@@ -85,45 +102,57 @@ pub returns-then-are_few_and_uncovered-clause-points : goal.returns-then-are_few
 returns-then-are_few_and_uncovered-clause-points g c =
     let bids = atoms_of g.S.GoodsSet.goods c.args.atoms.items in
     λ n are. (xor_uncovered g.S.GoodsSet.goods (λ s. (g.met.S.GoodsSet.is_bundle s).0) _ c.keep_best_bids.new.bids.items c.keep_best_bids.ensures.best
-    (subst (λ zs. AreUncovered (atoms_of g.S.GoodsSet.goods zs)) c.as_slice.ensures.value (c.are_few_and_uncovered.ensures c.if-are_few_and_uncovered.true))).points n (just_bundles n bids (on_bundles n bids are))
+    (subst (λ zs. AreUncovered (atoms_of g.S.GoodsSet.goods zs)) c.as_slice.ensures.value
+    (c.are_few_and_uncovered.ensures c.if-are_few_and_uncovered.true))).points n (just_bundles n bids (on_bundles n bids are))
 
 pub returns-then-are_few_and_uncovered-clause-values : goal.returns-then-are_few_and_uncovered-clause-values
 returns-then-are_few_and_uncovered-clause-values g c =
     (xor_uncovered g.S.GoodsSet.goods (λ s. (g.met.S.GoodsSet.is_bundle s).0) _ c.keep_best_bids.new.bids.items c.keep_best_bids.ensures.best
-    (subst (λ zs. AreUncovered (atoms_of g.S.GoodsSet.goods zs)) c.as_slice.ensures.value (c.are_few_and_uncovered.ensures c.if-are_few_and_uncovered.true))).values
+    (subst (λ zs. AreUncovered (atoms_of g.S.GoodsSet.goods zs)) c.as_slice.ensures.value
+    (c.are_few_and_uncovered.ensures c.if-are_few_and_uncovered.true))).values
 
 pub returns-then-are_few_and_uncovered-clause-bids : goal.returns-then-are_few_and_uncovered-clause-bids
 returns-then-are_few_and_uncovered-clause-bids g c =
     (xor_uncovered g.S.GoodsSet.goods (λ s. (g.met.S.GoodsSet.is_bundle s).0) _ c.keep_best_bids.new.bids.items c.keep_best_bids.ensures.best
-    (subst (λ zs. AreUncovered (atoms_of g.S.GoodsSet.goods zs)) c.as_slice.ensures.value (c.are_few_and_uncovered.ensures c.if-are_few_and_uncovered.true))).among
+    (subst (λ zs. AreUncovered (atoms_of g.S.GoodsSet.goods zs)) c.as_slice.ensures.value
+    (c.are_few_and_uncovered.ensures c.if-are_few_and_uncovered.true))).among
 
 pub returns-then-are_few_and_uncovered-clause-in_order : goal.returns-then-are_few_and_uncovered-clause-in_order
 returns-then-are_few_and_uncovered-clause-in_order g c =
     (xor_uncovered g.S.GoodsSet.goods (λ s. (g.met.S.GoodsSet.is_bundle s).0) _ c.keep_best_bids.new.bids.items c.keep_best_bids.ensures.best
-    (subst (λ zs. AreUncovered (atoms_of g.S.GoodsSet.goods zs)) c.as_slice.ensures.value (c.are_few_and_uncovered.ensures c.if-are_few_and_uncovered.true))).in_order
+    (subst (λ zs. AreUncovered (atoms_of g.S.GoodsSet.goods zs)) c.as_slice.ensures.value
+    (c.are_few_and_uncovered.ensures c.if-are_few_and_uncovered.true))).in_order
 
 pub returns-clause-points : goal.returns-clause-points
 returns-clause-points g c =
     let goods = g.S.GoodsSet.goods in
     let bids = atoms_of goods c.args.atoms.items in
-    let none : into_iter_items c.loop-bid.bid-iterator ≡ [] = nil_from_length (into_iter_items c.loop-bid.bid-iterator) (omega (arith, c.in-None.ensures.steps.0, c.loop-bid.bid-iterator.rest.ok.0)) in
-    let done = xor_end goods bids c.loop-bid.yielded _ c.loop-bid.kept.atoms.items _ c.loop-bid.invariant.best c.loop-bid.invariant.kept none (ap (λ v. v.items) c.into_atoms.ensures) in
+    let none : into_iter_items c.loop-bid.bid-iterator ≡ [] =
+    nil_from_length (into_iter_items c.loop-bid.bid-iterator) (omega (arith, c.in-None.ensures.steps.0, c.loop-bid.bid-iterator.rest.ok.0)) in
+    let done = xor_end goods bids c.loop-bid.yielded _ c.loop-bid.kept.atoms.items _ c.loop-bid.invariant.best c.loop-bid.invariant.kept none
+    (ap (λ v. v.items) c.into_atoms.ensures) in
     λ n are. done.points n (just_bundles n bids (on_bundles n bids are))
 
 pub returns-clause-values : goal.returns-clause-values
 returns-clause-values g c =
     let goods = g.S.GoodsSet.goods in
-    let none : into_iter_items c.loop-bid.bid-iterator ≡ [] = nil_from_length (into_iter_items c.loop-bid.bid-iterator) (omega (arith, c.in-None.ensures.steps.0, c.loop-bid.bid-iterator.rest.ok.0)) in
-    (xor_end goods (atoms_of goods c.args.atoms.items) c.loop-bid.yielded _ c.loop-bid.kept.atoms.items _ c.loop-bid.invariant.best c.loop-bid.invariant.kept none (ap (λ v. v.items) c.into_atoms.ensures)).values
+    let none : into_iter_items c.loop-bid.bid-iterator ≡ [] =
+    nil_from_length (into_iter_items c.loop-bid.bid-iterator) (omega (arith, c.in-None.ensures.steps.0, c.loop-bid.bid-iterator.rest.ok.0)) in
+    (xor_end goods (atoms_of goods c.args.atoms.items) c.loop-bid.yielded _ c.loop-bid.kept.atoms.items _ c.loop-bid.invariant.best c.loop-bid.invariant.kept
+    none (ap (λ v. v.items) c.into_atoms.ensures)).values
 
 pub returns-clause-bids : goal.returns-clause-bids
 returns-clause-bids g c =
     let goods = g.S.GoodsSet.goods in
-    let none : into_iter_items c.loop-bid.bid-iterator ≡ [] = nil_from_length (into_iter_items c.loop-bid.bid-iterator) (omega (arith, c.in-None.ensures.steps.0, c.loop-bid.bid-iterator.rest.ok.0)) in
-    (xor_end goods (atoms_of goods c.args.atoms.items) c.loop-bid.yielded _ c.loop-bid.kept.atoms.items _ c.loop-bid.invariant.best c.loop-bid.invariant.kept none (ap (λ v. v.items) c.into_atoms.ensures)).among
+    let none : into_iter_items c.loop-bid.bid-iterator ≡ [] =
+    nil_from_length (into_iter_items c.loop-bid.bid-iterator) (omega (arith, c.in-None.ensures.steps.0, c.loop-bid.bid-iterator.rest.ok.0)) in
+    (xor_end goods (atoms_of goods c.args.atoms.items) c.loop-bid.yielded _ c.loop-bid.kept.atoms.items _ c.loop-bid.invariant.best c.loop-bid.invariant.kept
+    none (ap (λ v. v.items) c.into_atoms.ensures)).among
 
 pub returns-clause-in_order : goal.returns-clause-in_order
 returns-clause-in_order g c =
     let goods = g.S.GoodsSet.goods in
-    let none : into_iter_items c.loop-bid.bid-iterator ≡ [] = nil_from_length (into_iter_items c.loop-bid.bid-iterator) (omega (arith, c.in-None.ensures.steps.0, c.loop-bid.bid-iterator.rest.ok.0)) in
-    (xor_end goods (atoms_of goods c.args.atoms.items) c.loop-bid.yielded _ c.loop-bid.kept.atoms.items _ c.loop-bid.invariant.best c.loop-bid.invariant.kept none (ap (λ v. v.items) c.into_atoms.ensures)).in_order
+    let none : into_iter_items c.loop-bid.bid-iterator ≡ [] =
+    nil_from_length (into_iter_items c.loop-bid.bid-iterator) (omega (arith, c.in-None.ensures.steps.0, c.loop-bid.bid-iterator.rest.ok.0)) in
+    (xor_end goods (atoms_of goods c.args.atoms.items) c.loop-bid.yielded _ c.loop-bid.kept.atoms.items _ c.loop-bid.invariant.best c.loop-bid.invariant.kept
+    none (ap (λ v. v.items) c.into_atoms.ensures)).in_order

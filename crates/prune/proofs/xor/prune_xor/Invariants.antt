@@ -2,8 +2,8 @@
 use Rattle.std.proofs.Common.{◌≡◌, ◌≤◌, false, ◌++◌, length, vec_len}
 use Rattle.std.specs.Vec.Iter.{into_iter_items}
 use Rattle.valuation.specs.Values.{atoms_of}
-use Rattle.prune.specs.BestBids.{AreBestBids}
-use Rattle.prune.specs.Listings.{lists_of, AreListed}
+use Rattle.prune.specs.Internal.BestBids.{AreBestBids}
+use Rattle.prune.specs.Internal.Listings.{lists_of, AreListed}
 use Rattle.prune.proofs.Results.{IsXorKept}
 use Rattle.prune.proofs.xor.prune_xor.Given as goal
 

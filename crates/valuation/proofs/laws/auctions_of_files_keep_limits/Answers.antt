@@ -1,4 +1,4 @@
-use Rattle.valuation.specs.AuctionLemmas.{IsAuction-auction_from}
+use Rattle.valuation.specs.Lemmas.AuctionsOfFiles.{IsAuction-auction_from}
 use Rattle.valuation.proofs.laws.auctions_of_files_keep_limits.Goals as goal
 
 pub returns : goal.returns

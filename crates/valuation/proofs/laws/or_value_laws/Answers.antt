@@ -1,4 +1,4 @@
-use Rattle.valuation.specs.OrLemmas.{or_value-grows, or_value-permutation, or_value-parts, or_value-dominated}
+use Rattle.valuation.specs.Lemmas.OrValues.{or_value-grows, or_value-permutation, or_value-parts, or_value-dominated}
 use Rattle.valuation.proofs.laws.or_value_laws.Goals as goal
 
 pub returns : goal.returns

@@ -1,4 +1,4 @@
-use Rattle.valuation.specs.OrderLemmas.{atom_cmp_total, atom_cmp_equal, bidder_cmp_total, bidder_cmp_equal}
+use Rattle.valuation.specs.Lemmas.Orders.{atom_cmp_total, atom_cmp_equal, bidder_cmp_total, bidder_cmp_equal}
 use Rattle.valuation.proofs.laws.order_laws.Goals as goal
 
 pub returns : goal.returns

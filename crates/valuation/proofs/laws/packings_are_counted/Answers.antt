@@ -1,4 +1,4 @@
-use Rattle.valuation.specs.CountLemmas.{count_packings-packings}
+use Rattle.valuation.specs.Lemmas.PackingCounts.{count_packings-packings}
 use Rattle.valuation.proofs.laws.packings_are_counted.Goals as goal
 
 pub returns : goal.returns

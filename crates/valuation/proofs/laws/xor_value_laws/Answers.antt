@@ -1,4 +1,4 @@
-use Rattle.valuation.specs.XorLemmas.{xor_value-grows, xor_value-permutation}
+use Rattle.valuation.specs.Lemmas.XorValues.{xor_value-grows, xor_value-permutation}
 use Rattle.valuation.proofs.laws.xor_value_laws.Goals as goal
 
 pub returns : goal.returns

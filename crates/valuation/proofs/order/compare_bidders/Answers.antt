@@ -1,9 +1,9 @@
 use Rattle.std.proofs.Common.{◌+◌, drop, sym, ◌∙◌, arith}
 use Rattle.valuation.specs.Values.{atoms_of}
 use Rattle.valuation.specs.Orders.{atom_cmp, bidder_cmp}
-use Rattle.valuation.specs.AtomLemmas.{length-atoms_of}
-use Rattle.valuation.specs.OrderLemmas.{then-decided, then-left, slice_cmp-ended}
-use Rattle.valuation.proofs.Comparing.{bidder_cmp-drop}
+use Rattle.valuation.specs.Lemmas.Atoms.{length-atoms_of}
+use Rattle.valuation.specs.Lemmas.Orders.{then-decided, then-left, slice_cmp-ended}
+use Rattle.valuation.specs.Lemmas.Comparing.{bidder_cmp-drop}
 use Rattle.valuation.proofs.order.compare_bidders.Goals as goal
 
 pub returns-then-is_ne : goal.returns-then-is_ne
@@ -33,4 +33,5 @@ returns g c =
     let goods = g.S.GoodsSet.goods in
     let some = length-atoms_of goods c.args.one.now in
     let other = length-atoms_of goods c.args.other.now in
-    c.cmp.ensures ∙ sym (rw (some, other) at (slice_cmp-ended atom_cmp c.loop-i.i (atoms_of goods c.args.one.now) (atoms_of goods c.args.other.now) (omega arith))) ∙ c.loop-i.invariant
+    c.cmp.ensures ∙ sym (rw (some, other) at (slice_cmp-ended atom_cmp c.loop-i.i (atoms_of goods c.args.one.now) (atoms_of goods c.args.other.now)
+    (omega arith))) ∙ c.loop-i.invariant

@@ -9,12 +9,14 @@ invariant_of-self-2 c =
     let counted : c.in-Some.count ≡ c.self.inside.count + 1 = grind (arith, c.in-Some.is, c.in-Some.ensures) in
     let is = (text_of_file c.args.limit (plain_file c.args.file) c.in_ok-text.text.items c.in_ok-text.ensures).1 in
     rw (c.with-added.ensures, counted)
-    (index_with_text c.self.inside.places c.place_text.new.places c.self.inside.count c.in_ok-place.place c.self.inside.added.files (plain_file c.args.file) c.in_ok-text.text.items is c.self.invariant
+    (index_with_text c.self.inside.places c.place_text.new.places c.self.inside.count c.in_ok-place.place c.self.inside.added.files (plain_file c.args.file)
+    c.in_ok-text.text.items is c.self.invariant
     c.args.file.facts c.in_ok-place.ensures.answer c.in_ok-place.ensures.placed)
 
 pub returns-clause-place : goal.returns-clause-place
 returns-clause-place c =
     let is = (text_of_file c.args.limit (plain_file c.args.file) c.in_ok-text.text.items c.in_ok-text.ensures).1 in
     rw c.with-added.ensures
-    (place_of_text c.self.inside.places c.place_text.new.places c.self.inside.count c.in_ok-place.place c.self.inside.added.files (plain_file c.args.file) c.in_ok-text.text.items is c.self.invariant
+    (place_of_text c.self.inside.places c.place_text.new.places c.self.inside.count c.in_ok-place.place c.self.inside.added.files (plain_file c.args.file)
+    c.in_ok-text.text.items is c.self.invariant
     c.args.file.facts c.in_ok-place.ensures.answer)

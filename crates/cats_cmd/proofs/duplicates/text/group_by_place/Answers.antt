@@ -25,5 +25,6 @@ loop-path-preserved c =
     let f : Bor (List ℕ) × ℕ = get_or found i nowhere in
     let shown : Bor (List ℕ) × ℕ → List ℕ × ℕ = λ f. (f.0.now, f.1) in
     let in_list : i < length (found_paths found) = omega (arith, length-map found shown, c.loop-path-test.true) in
-    put_path (found_paths found) i (shown f) in_list (get_or-map shown found i nowhere (shown f) c.loop-path-test.true) c.loop-path.groups.items _ c.index_mut-group.result.now c.push.new.self f.0
+    put_path (found_paths found) i (shown f) in_list (get_or-map shown found i nowhere (shown f) c.loop-path-test.true) c.loop-path.groups.items _
+    c.index_mut-group.result.now c.push.new.self f.0
     (length found) refl (c.requires i nowhere c.loop-path-test.true) c.loop-path.invariant c.index_mut-group.ensures.value c.in_ok-push.ensures.items refl

@@ -11,6 +11,8 @@ returns g c =
     let bundle = g.S.GoodsSet.goods c.args.bundle.now in
     let found = c.xor_value-value.ensures in
     on_ok_weaker c.extend_from_slice-3.result
-    (λ last. xor_line_made c.args.good c.from.result _ atoms c.args.numbers.now bundle c.args.text.now.items _ _ _ _ _ _ (c.from.ensures ∙ found.value) (place_of_best atoms bundle _ found.place found.none.0)
-    c.in_ok-extend_from_slice.ensures.items c.in_ok-push_number.ensures c.in_ok-extend_from_slice-2.ensures.items c.in_ok-push_price.ensures c.in_ok-push_bid.ensures last)
+    (λ last. xor_line_made c.args.good c.from.result _ atoms c.args.numbers.now bundle c.args.text.now.items _ _ _ _ _ _ (c.from.ensures ∙ found.value)
+    (place_of_best atoms bundle _ found.place found.none.0)
+    c.in_ok-extend_from_slice.ensures.items c.in_ok-push_number.ensures c.in_ok-extend_from_slice-2.ensures.items c.in_ok-push_price.ensures
+    c.in_ok-push_bid.ensures last)
     (appended c.extend_from_slice-3.result _ _ _ c.extend_from_slice-3.ensures.items)

@@ -2,8 +2,8 @@
 use Rattle.std.proofs.Common.{arith, ◌≡◌, ◌<◌, ◌≤◌, ◌+◌, ◌-◌, ◌++◌, min, ℕ, List, length, take, sym, ap, ◌∙◌, length-append}
 use Rattle.std.proofs.Math.Seq.{take-length}
 use Rattle.std.proofs.lemmas.List.{length-take}
-use Rattle.cats_text.specs.Reading.{Feeding}
-use Rattle.cats_text.proofs.Feeding.{IsJudged, judged_bytes, judged_halted, judged_too_long, judged_ok, few_lines, still_reading, fed_told}
+use Rattle.cats_text.specs.Internal.Reading.{Feeding}
+use Rattle.cats_text.proofs.Feeding.Pieces.{IsJudged, judged_bytes, judged_halted, judged_too_long, judged_ok, few_lines, still_reading, fed_told}
 use Rattle.cats_text.proofs.feeder.Feeder.feed.Goals as goal
 use Rattle.cats_text.proofs.feeder.Feeder.feed.Goals.{in-Err, in-Ok, in-Ok-2}
 
@@ -22,14 +22,16 @@ too_many : (limit count within : ℕ) (bytes piece : List ℕ) → count ≡ len
 too_many limit count within bytes piece c w more = let sum = length-append bytes piece in omega arith
 
 -- the whole piece was judged
-all_judged : (limit count within : ℕ) (bytes piece : List ℕ) → count ≡ length bytes → count ≤ limit → within ≡ min (length piece) (limit - count) → length piece ≤ within
+all_judged : (limit count within : ℕ) (bytes piece : List ℕ) → count ≡ length bytes → count ≤ limit → within ≡ min (length piece) (limit - count)
+    → length piece ≤ within
     → (length (bytes ++ piece) ≤ limit) × (take within piece ≡ piece) × (within ≡ length piece)
 all_judged limit count within bytes piece c room w whole =
     let sum = length-append bytes piece in let same : within ≡ length piece = omega arith in
     (omega arith, rw same (take-length piece), same)
 
 judged : (c : goal.After-self-2-1)
-    → IsJudged c.self.inside.keeping c.self.inside.limit (c.self.inside.count + c.min-within.result) c.take.new.self (c.self.inside.history.bytes ++ c.args.piece.now) c.match-take.judged
+    → IsJudged c.self.inside.keeping c.self.inside.limit (c.self.inside.count + c.min-within.result) c.take.new.self
+    (c.self.inside.history.bytes ++ c.args.piece.now) c.match-take.judged
 judged c =
     let limit = c.self.inside.limit in
     let count = c.self.inside.count in
@@ -44,7 +46,8 @@ judged c =
     elim c.match-take.branch [
       | in-Err w ↦
           rw (w.judged-is, w.told.ensures)
-          (judged_halted c.self.inside.keeping limit (count + within) count old new bytes (take within piece) all w.in-Err.halt kept is w.in-Err.ensures.steps w.in-Err.ensures.memory)
+          (judged_halted c.self.inside.keeping limit (count + within) count old new bytes (take within piece) all w.in-Err.halt kept is w.in-Err.ensures.steps
+          w.in-Err.ensures.memory)
       | in-Ok w ↦
           rw (w.judged-is, w.too_long.ensures)
           (judged_too_long c.self.inside.keeping limit (count + within) count old new bytes (take within piece) all kept is
@@ -52,20 +55,24 @@ judged c =
       | in-Ok-2 w ↦
           let whole = all_judged limit count within bytes piece kept.count kept.within c.min-within.ensures w.if-within-piece.false in
           rw w.judged-is
-          (judged_ok c.self.inside.keeping limit (count + within) count old new bytes (take within piece) all kept (ap (λ l. bytes ++ l) whole.1) whole.0 w.in-Ok-2.ensures.steps w.in-Ok-2.ensures.waiting
-          (ap (λ n. count + n) (whole.2 ∙ ap length (sym whole.1))) (let sum = length-append bytes piece in let counted = kept.count in let more = whole.0 in let same = whole.2 in omega arith))
+          (judged_ok c.self.inside.keeping limit (count + within) count old new bytes (take within piece) all kept (ap (λ l. bytes ++ l) whole.1) whole.0
+          w.in-Ok-2.ensures.steps w.in-Ok-2.ensures.waiting
+          (ap (λ n. count + n) (whole.2 ∙ ap length (sym whole.1))) (let sum = length-append bytes piece in let counted = kept.count in let more = whole.0 in
+          let same = whole.2 in omega arith))
     ]
 
 pub invariant_of-self : goal.invariant_of-self
 invariant_of-self c =
     rw (c.note.ensures, c.err-self-inside.ensures.value)
-    (still_reading c.self.inside.keeping c.self.inside.limit (c.self.inside.count + c.min-within.result) c.take.new.self (c.self.inside.history.bytes ++ c.args.piece.now) c.match-take.judged
+    (still_reading c.self.inside.keeping c.self.inside.limit (c.self.inside.count + c.min-within.result) c.take.new.self
+    (c.self.inside.history.bytes ++ c.args.piece.now) c.match-take.judged
     c.self.invariant.limit (judged c))
 
 pub returns-clause-feeds : goal.returns-clause-feeds
 returns-clause-feeds c =
     rw (← c.self.view_is, c.note.ensures, c.err-self-inside.ensures.value)
-    (fed_told c.self.inside.keeping (record { limit = c.self.inside.limit; bytes = c.self.inside.history.bytes; failed = c.self.inside.failed }) c.args.piece.now
+    (fed_told c.self.inside.keeping (record { limit = c.self.inside.limit; bytes = c.self.inside.history.bytes; failed = c.self.inside.failed })
+    c.args.piece.now
     (c.self.inside.count + c.min-within.result) c.take.new.self c.match-take.judged c.in_default.is (judged c))
 
 pub returns-clause-keeping : goal.returns-clause-keeping

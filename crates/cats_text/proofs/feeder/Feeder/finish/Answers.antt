@@ -1,10 +1,10 @@
 -- The end of the bytes that the scanner took: it has the file.
 use Rattle.std.proofs.Common.{◌≡◌, subst, arith}
-use Rattle.cats_text.specs.Reading.{HasTaken}
-use Rattle.cats_text.specs.Scanning.{IsFileOf}
+use Rattle.cats_text.specs.Internal.Reading.{HasTaken}
+use Rattle.cats_text.specs.Internal.Scanning.{IsFileOf}
 use Rattle.cats_text.specs.declared.parser.Keeping.{Keeping}
 use Rattle.cats_text.specs.declared.parser.Keeping.TheVariants.{Bids}
-use Rattle.cats_text.proofs.Feeding.{ended_fact, ended_file, ended_fault, few_lines}
+use Rattle.cats_text.proofs.Feeding.Pieces.{ended_fact, ended_file, ended_fault, few_lines}
 use Rattle.cats_text.proofs.feeder.Feeder.finish.Goals as goal
 
 pub finish-requires-clause-line : goal.finish-requires-clause-line
@@ -19,17 +19,20 @@ pub finish-requires-clause-file : goal.finish-requires-clause-file
 finish-requires-clause-file c =
     let bids : c.self.inside.keeping ≡ Bids = rw (← c.self.view_is) at c.requires in
     ended_fact c.self.inside.limit c.self.inside.count c.self.inside.scanner c.self.inside.history.bytes
-    (subst (λ (k : Keeping). HasTaken k c.self.inside.limit c.self.inside.count c.self.inside.scanner c.self.inside.history.bytes) bids (c.self.invariant.taken c.in_default.is))
+    (subst (λ (k : Keeping). HasTaken k c.self.inside.limit c.self.inside.count c.self.inside.scanner c.self.inside.history.bytes) bids
+    (c.self.invariant.taken c.in_default.is))
 
 pub returns-in-Ok : goal.returns-in-Ok
 returns-in-Ok c =
     let bids : c.self.inside.keeping ≡ Bids = rw (← c.self.view_is) at c.requires in
     rw (← c.self.view_is, c.in_default.is)
     (ended_file c.self.inside.limit c.self.inside.count c.self.inside.scanner c.self.inside.history.bytes c.in-Ok.file
-    (subst (λ (k : Keeping). HasTaken k c.self.inside.limit c.self.inside.count c.self.inside.scanner c.self.inside.history.bytes) bids (c.self.invariant.taken c.in_default.is)) c.in-Ok.ensures.steps)
+    (subst (λ (k : Keeping). HasTaken k c.self.inside.limit c.self.inside.count c.self.inside.scanner c.self.inside.history.bytes) bids
+    (c.self.invariant.taken c.in_default.is)) c.in-Ok.ensures.steps)
 
 pub returns-in-Err : goal.returns-in-Err
 returns-in-Err c =
     rw (← c.self.view_is, c.in_default.is, c.told.ensures)
-    (ended_fault IsFileOf c.self.inside.keeping c.self.inside.limit c.self.inside.count c.self.inside.scanner c.self.inside.history.bytes c.in-Err.stopped (c.self.invariant.taken c.in_default.is)
+    (ended_fault IsFileOf c.self.inside.keeping c.self.inside.limit c.self.inside.count c.self.inside.scanner c.self.inside.history.bytes c.in-Err.stopped
+    (c.self.invariant.taken c.in_default.is)
     c.in-Err.ensures.steps c.in-Err.ensures.memory)

@@ -1,5 +1,5 @@
 -- It has taken no bytes.
-use Rattle.cats_text.proofs.Feeding.{nothing_taken}
+use Rattle.cats_text.proofs.Feeding.Pieces.{nothing_taken}
 use Rattle.cats_text.proofs.feeder.Feeder.new.Goals as goal
 
 pub invariant_of-result : goal.invariant_of-result

@@ -2,15 +2,16 @@
 use Rattle.std.proofs.Common.{◌≡◌, ◌∙◌, ℕ, List, None, sym, ap}
 use Rattle.cats_text.specs.Files.{PlainBid}
 use Rattle.cats_text.specs.FileLines.{rising_of}
-use Rattle.cats_text.specs.Parsing.{drafted, kept_of}
-use Rattle.cats_text.specs.Progress.{Progress, progress}
+use Rattle.cats_text.specs.Internal.Parsing.{drafted, kept_of}
+use Rattle.cats_text.specs.Internal.Progress.{Progress, progress}
 use Rattle.cats_text.specs.declared.parser.Keeping.{Keeping}
-use Rattle.cats_text.proofs.Rising.{rising_of_is}
+use Rattle.cats_text.proofs.Spelling.Rising.{rising_of_is}
 use Rattle.cats_text.proofs.parser.Parser.kept_bid.Goals as goal
 
 pub returns-in_ok-take_rising-in-Bids-clause-bid : goal.returns-in_ok-take_rising-in-Bids-clause-bid
 returns-in_ok-take_rising-in-Bids-clause-bid c =
-    let goods : c.in_ok-take_rising-in-Bids.field-0.items ≡ rising_of c.args.self.now.goods = rising_of_is _ _ c.in_ok-take_rising-in-Bids.ensures.rising c.in_ok-take_rising-in-Bids.ensures.same in
+    let goods : c.in_ok-take_rising-in-Bids.field-0.items ≡ rising_of c.args.self.now.goods =
+    rising_of_is _ _ c.in_ok-take_rising-in-Bids.ensures.rising c.in_ok-take_rising-in-Bids.ensures.same in
     let bid : List ℕ → PlainBid = λ gs. record { price = c.args.self.now.draft.price; goods = gs; dummy = c.args.self.now.draft.dummy } in
     ap bid goods ∙ sym (ap (λ (k : Keeping). kept_of k (drafted (progress c.args.self.now))) c.in-Bids.is)
 

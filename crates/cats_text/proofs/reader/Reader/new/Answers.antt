@@ -1,5 +1,5 @@
 use Rattle.std.proofs.Common.{ap}
-use Rattle.cats_text.specs.Reading.{Feeding}
+use Rattle.cats_text.specs.Internal.Reading.{Feeding}
 use Rattle.cats_text.proofs.reader.Reader.new.Goals as goal
 
 pub invariant_of-result : goal.invariant_of-result

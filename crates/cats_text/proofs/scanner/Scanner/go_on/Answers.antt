@@ -1,10 +1,10 @@
 use Rattle.std.proofs.Common.{◌≡◌, ◌-◌, ◌&&◌, eqb, length, get_or, sym, ap, ◌∙◌, rules}
 use Rattle.std.proofs.lemmas.Bool.{eq-eqb, ne_eqb}
 use Rattle.std.specs.Option.{unwrap_or}
-use Rattle.cats_text.specs.Scanning.{state}
+use Rattle.cats_text.specs.Internal.Scanning.{state}
 use Rattle.cats_text.specs.declared.scanner.Mode.TheVariants.{Inside}
 use Rattle.cats_text.specs.declared.word.Word.TheVariants.{Number}
-use Rattle.cats_text.proofs.Runs.{comment_scanned, comment_within, number_scanned}
+use Rattle.cats_text.proofs.Scanning.ManyBytes.{comment_scanned, comment_within, number_scanned}
 use Rattle.cats_text.proofs.scanner.Scanner.go_on.Goals as goal
 use Rattle.cats_text.proofs.scanner.Scanner.go_on.Goals.{then-count-bytes, else-count-bytes}
 
@@ -15,8 +15,10 @@ returns-after-count-bytes-clause-scanned c =
     let feed = c.unwrap_or-count.ensures ∙ ap (λ o. unwrap_or o (length c.args.bytes.now)) c.line_feed.ensures in (
       comment_scanned (state c.args.self.now) bytes count c.if-count-bytes.self c.in-Comment.is c.requires.some feed
           (elim c.if-count-bytes.branch [
-            | then-count-bytes w ↦ w.self-is ∙ sym (ap (λ t. t && eqb (get_or c.args.bytes.now (c.unwrap_or-count.result - 1) 0) 13) (eq-eqb _ _ w.if-count-bytes.true))
-            | else-count-bytes w ↦ w.self-is ∙ ne_eqb _ _ w.if-count-bytes.false ∙ sym (ap (λ t. t && eqb (get_or c.args.bytes.now (c.unwrap_or-count.result - 1) 0) 13) (ne_eqb _ _ w.if-count-bytes.false))
+            | then-count-bytes w ↦ w.self-is
+                ∙ sym (ap (λ t. t && eqb (get_or c.args.bytes.now (c.unwrap_or-count.result - 1) 0) 13) (eq-eqb _ _ w.if-count-bytes.true))
+            | else-count-bytes w ↦ w.self-is ∙ ne_eqb _ _ w.if-count-bytes.false
+                ∙ sym (ap (λ t. t && eqb (get_or c.args.bytes.now (c.unwrap_or-count.result - 1) 0) 13) (ne_eqb _ _ w.if-count-bytes.false))
           ]),
       comment_within bytes count feed,
     )
@@ -25,6 +27,7 @@ pub returns-in-Inside-Number-clause-scanned : goal.returns-in-Inside-Number-clau
 returns-in-Inside-Number-clause-scanned c =
     let mode : c.args.self.now.mode ≡ Inside (Number c.in-Inside-Number.value) = search rules in
     let number = c.with_digits-value.ensures in (
-      number_scanned (state c.args.self.now) c.in-Inside-Number.value c.with_digits-value.result.0 c.args.bytes.now c.with_digits-value.result.1 c.args.self.now.waiting mode number.digits number.value c.requires.waits,
+      number_scanned (state c.args.self.now) c.in-Inside-Number.value c.with_digits-value.result.0 c.args.bytes.now c.with_digits-value.result.1
+          c.args.self.now.waiting mode number.digits number.value c.requires.waits,
       number.bound,
     )

@@ -1,5 +1,5 @@
 use Rattle.std.proofs.Common.{◌≡◌, ◌≤◌, ◌-◌, false, drop, length}
-use Rattle.cats_text.specs.Scanning.{state, IsScanned}
+use Rattle.cats_text.specs.Internal.Scanning.{state, IsScanned}
 use Rattle.cats_text.specs.declared.parser.Stage.TheVariants.{Bid}
 use Rattle.cats_text.specs.declared.parser.Place.TheVariants.{Later}
 use Rattle.cats_text.specs.declared.scanner.Mode.TheVariants.{Between}

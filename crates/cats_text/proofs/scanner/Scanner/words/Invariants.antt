@@ -1,5 +1,5 @@
 use Rattle.std.proofs.Common.{◌≡◌, ◌≤◌, ◌-◌, true, false, drop, length}
-use Rattle.cats_text.specs.Scanning.{state, is_before_word, IsScanned}
+use Rattle.cats_text.specs.Internal.Scanning.{state, is_before_word, IsScanned}
 use Rattle.cats_text.proofs.scanner.Scanner.words.Given as goal
 
 abbrev pub invariant-loop-word : goal.invariant-loop-word

@@ -1,9 +1,9 @@
 use Rattle.std.proofs.Common.{◌≡◌, ◌∙◌, ◌-◌, ◌<◌, ◌≤◌, List, Option, length, sym, ap, rules}
 use Rattle.std.specs.List.{slice_get}
-use Rattle.cats_text.specs.Parsing.{is_some_bid}
-use Rattle.cats_text.specs.Progress.{plain_slots}
+use Rattle.cats_text.specs.Internal.Parsing.{is_some_bid}
+use Rattle.cats_text.specs.Internal.Progress.{plain_slots}
 use Rattle.cats_text.specs.declared.bid.Bid.{Bid}
-use Rattle.cats_text.proofs.BidPlaces.{has_front, has_rest}
+use Rattle.cats_text.proofs.Parsing.BidsByNumber.{has_front, has_rest}
 use Rattle.cats_text.proofs.slots.Slots.has.Goals as goal
 
 pub returns-then-number-len : goal.returns-then-number-len

@@ -11,5 +11,13 @@ returns-in_default c =
     let s = c.args.self.now in
     let t = c.args.other.now in
     let both : ordering_then c.then.result (slice_cmp nat_cmp s.goods.items t.goods.items) ≡ bundle_cmp s.goods.items t.goods.items =
-    rw (c.then.ensures, c.cmp-sizes.ensures, c.size.ensures, c.size-2.ensures, c.cmp.ensures, s.fronts, t.fronts) (order_by_front s.goods.items t.goods.items s.bundle.1 t.bundle.1) in
+    rw (
+      c.then.ensures,
+      c.cmp-sizes.ensures,
+      c.size.ensures,
+      c.size-2.ensures,
+      c.cmp.ensures,
+      s.fronts,
+      t.fronts,
+    ) (order_by_front s.goods.items t.goods.items s.bundle.1 t.bundle.1) in
     first_step c.then.result (slice_cmp nat_cmp s.goods.items t.goods.items) (bundle_cmp s.goods.items t.goods.items) c.in_default.not-Equal both

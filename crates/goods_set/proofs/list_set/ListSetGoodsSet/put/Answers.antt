@@ -1,5 +1,5 @@
 use Rattle.std.proofs.Common.{is_ok, sym}
-use Rattle.goods_set.specs.Sizes.{with_good_there}
+use Rattle.goods_set.specs.Lemmas.Sizes.{with_good_there}
 use Rattle.goods_set.proofs.Places.{kept_bundle}
 use Rattle.goods_set.proofs.list_set.ListSetGoodsSet.put.Goals as goal
 
@@ -9,7 +9,8 @@ invariant_of-self-in-Err c =
     record {
       fronts = rw c.deref.ensures.value at c.front-self.ensures;
       marked = rw c.deref-in-Err.ensures.value at c.residues-self.ensures;
-      bundle = kept_bundle s.goods.items c.args.good c.in-Err.place (is_ok c.insert.result) s.bundle c.ranges.good.fits c.in-Err.ensures.2 _ c.insert.ensures.items;
+      bundle = kept_bundle s.goods.items c.args.good c.in-Err.place (is_ok c.insert.result) s.bundle c.ranges.good.fits c.in-Err.ensures.2 _
+          c.insert.ensures.items;
     }
 
 pub returns-in-Ok-clause-goods : goal.returns-in-Ok-clause-goods

@@ -1,7 +1,7 @@
 use Rattle.std.proofs.Common.{◌≡◌, List, ℕ, rules, not, sym, subst}
 use Rattle.std.proofs.lemmas.Fn.{filter_same}
 use Rattle.goods_set.specs.Bundles.{IsBundle, without, has_good}
-use Rattle.goods_set.specs.Members.{IsBundle-without}
+use Rattle.goods_set.specs.Lemmas.Members.{IsBundle-without}
 use Rattle.goods_set.proofs.list_set.ListSetGoodsSet.take_out.Goals as goal
 
 pub returns : goal.returns

@@ -1,5 +1,5 @@
 use Rattle.std.proofs.Common.{refl}
-use Rattle.goods_set.specs.Residues.{residues_from}
+use Rattle.goods_set.specs.Internal.Residues.{residues_from}
 use Rattle.goods_set.proofs.Residues.{residues_more}
 use Rattle.goods_set.proofs.list_set.summary.residues.Goals as goal
 

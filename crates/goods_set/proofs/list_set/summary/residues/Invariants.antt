@@ -1,5 +1,5 @@
 use Rattle.std.proofs.Common.{◌≡◌, take}
-use Rattle.goods_set.specs.Residues.{residues_of}
+use Rattle.goods_set.specs.Internal.Residues.{residues_of}
 use Rattle.goods_set.proofs.list_set.summary.residues.Given as goal
 
 -- the goods so far are marked

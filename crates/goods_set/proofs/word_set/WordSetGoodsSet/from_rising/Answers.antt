@@ -2,7 +2,7 @@ use Rattle.std.proofs.Common.{◌≡◌, ◌/◌, ◌<◌, get_or, length, ap, �
 use Rattle.std.proofs.lemmas.List.{length-set}
 use Rattle.std.proofs.lemmas.Simd.{length-replicate}
 use Rattle.goods_set.specs.Bundles.{with_good}
-use Rattle.goods_set.specs.GoodByGood.{with_good-take, below_at}
+use Rattle.goods_set.specs.Lemmas.GoodByGood.{with_good-take, below_at}
 use Rattle.goods_set.specs.Words.{word_cap}
 use Rattle.goods_set.proofs.Bits.{no_bits, with_bit}
 use Rattle.goods_set.proofs.word_set.WordSetGoodsSet.from_rising.Goals as goal
@@ -13,13 +13,15 @@ loop-good-init g c = record { goods = no_bits (word_cap g.row.N) g.row.N; long =
 pub bounds-set-place : goal.bounds-set-place
 bounds-set-place g c =
     let e = c.deref-good-items.ensures.value in
-    let fits : get_or c.args.rising.items c.loop-good.good-index 0 < word_cap g.row.N = below_at (word_cap g.row.N) c.args.rising.items c.loop-good.good-index 0 c.requires.below (rw e at c.loop-good-test.true) in
+    let fits : get_or c.args.rising.items c.loop-good.good-index 0 < word_cap g.row.N =
+    below_at (word_cap g.row.N) c.args.rising.items c.loop-good.good-index 0 c.requires.below (rw e at c.loop-good-test.true) in
     omega (arith, rw e at c.from-place.ensures)
 
 pub bounds-set-place-in-loop-good : goal.bounds-set-place-in-loop-good
 bounds-set-place-in-loop-good g c =
     let e = c.deref-good-items.ensures.value in
-    let fits : get_or c.args.rising.items c.loop-good.good-index 0 < word_cap g.row.N = below_at (word_cap g.row.N) c.args.rising.items c.loop-good.good-index 0 c.requires.below (rw e at c.loop-good-test.true) in
+    let fits : get_or c.args.rising.items c.loop-good.good-index 0 < word_cap g.row.N =
+    below_at (word_cap g.row.N) c.args.rising.items c.loop-good.good-index 0 c.requires.below (rw e at c.loop-good-test.true) in
     omega (arith, rw e at c.from-place.ensures)
 
 pub loop-good-preserved : goal.loop-good-preserved

@@ -1,7 +1,7 @@
 use Rattle.std.proofs.Common.{ℕ, ◌+◌, ◌≤◌, length, sym, arith, w64}
 use Rattle.std.specs.Int.{bit_not}
 use Rattle.std.specs.Int.RustNames.{bit_and}
-use Rattle.goods_set.specs.Words.{words_inside, words_outside}
+use Rattle.goods_set.specs.Lemmas.Words.{words_inside, words_outside}
 use Rattle.goods_set.proofs.Lanes.{lanes_outside, none_more, some_here}
 use Rattle.goods_set.proofs.word_set.lanes.all_inside.Goals as goal
 
@@ -20,7 +20,11 @@ loop-i-preserved c =
     let ys = c.args.outer.now in
     let i : ℕ = c.loop-i.i in
     let room : i + 8 ≤ length xs = omega arith in
-    record { within = room; none = none_more (λ x y. bit_and x (bit_not w64 y)) xs ys i _ (lanes_outside xs ys i room c.requires) c.if-outside-ne0.false c.loop-i.invariant.none }
+    record {
+      within = room;
+      none = none_more (λ x y. bit_and x (bit_not w64 y)) xs ys i _ (lanes_outside xs ys i room c.requires) c.if-outside-ne0.false
+          c.loop-i.invariant.none;
+    }
 
 pub returns-then-inner-k-ne0 : goal.returns-then-inner-k-ne0
 returns-then-inner-k-ne0 c =

@@ -2,7 +2,7 @@ use Rattle.std.proofs.Common.{ℕ, ◌+◌, ◌≤◌, length, arith, w64}
 use Rattle.std.specs.Int.{bit_not}
 use Rattle.std.specs.Int.RustNames.{bit_and}
 use Rattle.std.proofs.lemmas.Simd.{length-put_chunk}
-use Rattle.goods_set.specs.Words.{words_without}
+use Rattle.goods_set.specs.Lemmas.Words.{words_without}
 use Rattle.goods_set.proofs.Lanes.{lanes_outside, written_more, unwritten_more}
 use Rattle.goods_set.proofs.word_set.lanes.remove_all.Goals as goal
 
@@ -20,4 +20,5 @@ loop-words-preserved c =
     }
 
 pub returns : goal.returns
-returns c = λ cap l. words_without cap c.args.words.now c.args.taken.now c.loop-k.words (λ k. (c.type_inv.taken k).fits) (λ k m. c.loop-k.invariant.done k (omega arith))
+returns c = λ cap l. words_without cap c.args.words.now c.args.taken.now c.loop-k.words (λ k. (c.type_inv.taken k).fits)
+    (λ k m. c.loop-k.invariant.done k (omega arith))

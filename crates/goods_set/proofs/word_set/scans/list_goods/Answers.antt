@@ -7,4 +7,5 @@ loop-k-init c = words_none c.args.words.now c.args.out.now.items
 
 pub loop-k-preserved : goal.loop-k-preserved
 loop-k-preserved c =
-    words_more c.args.words.now c.loop-k.k _ _ c.args.out.now.items c.loop-k.out.items c.list_bits.new.out.items refl refl c.loop-k.invariant c.in_ok-list_bits.ensures
+    words_more c.args.words.now c.loop-k.k _ _ c.args.out.now.items c.loop-k.out.items c.list_bits.new.out.items refl refl c.loop-k.invariant
+    c.in_ok-list_bits.ensures

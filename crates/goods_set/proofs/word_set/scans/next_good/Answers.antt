@@ -18,4 +18,5 @@ returns-then-place-words-2 c =
 pub returns : goal.returns
 returns c =
     let ws = c.args.words.now in
-    sym (scan_found (length ws) ws c.args.from c.loop-rest.place c.loop-rest.rest c.loop-rest.invariant.scan c.loop-rest-test.false c.loop-rest.invariant.within)
+    sym (scan_found (length ws) ws c.args.from c.loop-rest.place c.loop-rest.rest c.loop-rest.invariant.scan c.loop-rest-test.false
+    c.loop-rest.invariant.within)

@@ -1,7 +1,7 @@
 use Rattle.std.proofs.Common.{arith, ◌≡◌, ◌++◌, map, get_or, sym, ap, ◌∙◌, true, false, cond, [], ◌∷◌, append-nil}
 use Rattle.valuation.specs.Values.{atoms_of}
 use Rattle.prune.specs.declared.kept.Listing.{Listing}
-use Rattle.prune.specs.Listings.{lists_of, is_inside_at}
+use Rattle.prune.specs.Internal.Listings.{lists_of, is_inside_at}
 use Rattle.prune.proofs.Listed.{place_of, listed_there, places_get, listing_index, found_more}
 use Rattle.prune.proofs.kept.Kept.find_listed.Goals as goal
 use Rattle.prune.proofs.kept.Kept.find_listed.Goals.{then-is_inside+in_ok-push, else-is_inside}
@@ -10,8 +10,10 @@ pub is_inside-requires : goal.is_inside-requires
 is_inside-requires g c =
     let goods = g.S.GoodsSet.goods in
     let kept = c.args.self.now in
-    let there = listed_there kept.lists.items c.from-good.result c.index.result.now (omega (arith, c.if-good-len.true, c.len.ensures, kept.lists.ok.0)) c.index.ensures in
-    listing_index (lists_of kept.lists.items) (atoms_of goods kept.atoms.items) c.from-good.result c.deref-listing-items.result.now c.loop-listing.listing-index _ c.requires (there ∙ sym c.deref-listing-items.ensures.value) c.loop-listing-test.true
+    let there = listed_there kept.lists.items c.from-good.result c.index.result.now (omega (arith, c.if-good-len.true, c.len.ensures, kept.lists.ok.0))
+    c.index.ensures in
+    listing_index (lists_of kept.lists.items) (atoms_of goods kept.atoms.items) c.from-good.result c.deref-listing-items.result.now c.loop-listing.listing-index
+    _ c.requires (there ∙ sym c.deref-listing-items.ensures.value) c.loop-listing-test.true
 
 pub loop-listing-preserved : goal.loop-listing-preserved
 loop-listing-preserved g c =
@@ -23,7 +25,9 @@ loop-listing-preserved g c =
     let at = places_get listed c.loop-listing.listing-index d c.loop-listing-test.true in
     elim c.if-is_inside.branch [
       | then-is_inside+in_ok-push w ↦ let t : p place ≡ true = sym c.is_inside.ensures ∙ w.if-is_inside.true in
-          found_more p _ _ _ (map place_of listed) _ place at.0 at.1 c.loop-listing.invariant (ap (λ v. v.items) w.found-is ∙ w.in_ok-push.ensures.items ∙ ap (λ b. c.loop-listing.found.items ++ cond b (place ∷ []) []) (sym t))
+          found_more p _ _ _ (map place_of listed) _ place at.0 at.1 c.loop-listing.invariant (ap (λ v. v.items) w.found-is ∙ w.in_ok-push.ensures.items
+          ∙ ap (λ b. c.loop-listing.found.items ++ cond b (place ∷ []) []) (sym t))
       | else-is_inside w ↦ let t : p place ≡ false = sym c.is_inside.ensures ∙ w.if-is_inside.false in
-          found_more p _ _ _ (map place_of listed) _ place at.0 at.1 c.loop-listing.invariant (ap (λ v. v.items) w.found-is ∙ sym (append-nil c.loop-listing.found.items) ∙ ap (λ b. c.loop-listing.found.items ++ cond b (place ∷ []) []) (sym t))
+          found_more p _ _ _ (map place_of listed) _ place at.0 at.1 c.loop-listing.invariant (ap (λ v. v.items) w.found-is
+          ∙ sym (append-nil c.loop-listing.found.items) ∙ ap (λ b. c.loop-listing.found.items ++ cond b (place ∷ []) []) (sym t))
     ]

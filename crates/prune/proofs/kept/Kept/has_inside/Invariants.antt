@@ -1,6 +1,6 @@
 use Rattle.std.proofs.Common.{◌-◌}
 use Rattle.valuation.specs.Values.{atoms_of}
-use Rattle.prune.specs.Listings.{lists_of}
+use Rattle.prune.specs.Internal.Listings.{lists_of}
 use Rattle.prune.proofs.Listed.{NoneCovers}
 use Rattle.prune.proofs.kept.Kept.has_inside.Given as goal
 

@@ -2,8 +2,8 @@ use Rattle.std.proofs.Common.{arith, map, sym, ap, ◌∙◌}
 use Rattle.std.specs.List.{filter, range_with_len}
 use Rattle.std.proofs.lemmas.List.{take_all}
 use Rattle.valuation.specs.Values.{atoms_of}
-use Rattle.valuation.specs.AtomLemmas.{length-atoms_of}
-use Rattle.prune.specs.Listings.{atom_at, is_inside_at}
+use Rattle.valuation.specs.Lemmas.Atoms.{length-atoms_of}
+use Rattle.prune.specs.Internal.Listings.{atom_at, is_inside_at}
 use Rattle.prune.proofs.Listed.{places_in_list, atoms_at_places, seen_more}
 use Rattle.prune.proofs.kept.Kept.inside.Goals as goal
 
@@ -12,8 +12,10 @@ index-requires g c =
     let goods = g.S.GoodsSet.goods in
     let atoms = c.args.self.now.atoms.items in
     let long = length-atoms_of goods atoms in
-    let is = c.deref-place-items.ensures.value ∙ c.in_ok-places.ensures ∙ ap (λ n. filter (is_inside_at (atoms_of goods atoms) (goods c.args.bundle.now)) (range_with_len 0 n)) (sym long) in
-    let in_list = places_in_list (atoms_of goods atoms) (goods c.args.bundle.now) c.deref-place-items.result.now is c.loop-place.place-index 0 c.loop-place-test.true in
+    let is = c.deref-place-items.ensures.value ∙ c.in_ok-places.ensures
+    ∙ ap (λ n. filter (is_inside_at (atoms_of goods atoms) (goods c.args.bundle.now)) (range_with_len 0 n)) (sym long) in
+    let in_list = places_in_list (atoms_of goods atoms) (goods c.args.bundle.now) c.deref-place-items.result.now is c.loop-place.place-index 0
+    c.loop-place-test.true in
     omega (arith, c.args.self.now.atoms.ok.0)
 
 pub loop-place-preserved : goal.loop-place-preserved
@@ -21,14 +23,20 @@ loop-place-preserved g c =
     let goods = g.S.GoodsSet.goods in
     let atoms = c.args.self.now.atoms.items in
     let long = length-atoms_of goods atoms in
-    let is = c.deref-place-items.ensures.value ∙ c.in_ok-places.ensures ∙ ap (λ n. filter (is_inside_at (atoms_of goods atoms) (goods c.args.bundle.now)) (range_with_len 0 n)) (sym long) in
-    let in_list = places_in_list (atoms_of goods atoms) (goods c.args.bundle.now) c.deref-place-items.result.now is c.loop-place.place-index 0 c.loop-place-test.true in
-    seen_more goods atoms c.loop-place.inside.items c.push.new.self.items c.deref-place-items.result.now c.loop-place.place-index c.index.result c.loop-place-test.true (omega arith) c.index.ensures c.loop-place.invariant c.in_ok-push.ensures.items
+    let is = c.deref-place-items.ensures.value ∙ c.in_ok-places.ensures
+    ∙ ap (λ n. filter (is_inside_at (atoms_of goods atoms) (goods c.args.bundle.now)) (range_with_len 0 n)) (sym long) in
+    let in_list = places_in_list (atoms_of goods atoms) (goods c.args.bundle.now) c.deref-place-items.result.now is c.loop-place.place-index 0
+    c.loop-place-test.true in
+    seen_more goods atoms c.loop-place.inside.items c.push.new.self.items c.deref-place-items.result.now c.loop-place.place-index c.index.result
+    c.loop-place-test.true (omega arith) c.index.ensures c.loop-place.invariant c.in_ok-push.ensures.items
 
 pub returns : goal.returns
 returns g c =
     let goods = g.S.GoodsSet.goods in
     let atoms = c.args.self.now.atoms.items in
     let long = length-atoms_of goods atoms in
-    let is = c.deref-place-items.ensures.value ∙ c.in_ok-places.ensures ∙ ap (λ n. filter (is_inside_at (atoms_of goods atoms) (goods c.args.bundle.now)) (range_with_len 0 n)) (sym long) in
-    c.loop-place.invariant ∙ ap (map (atom_at (atoms_of goods atoms))) (take_all c.loop-place.place-index c.deref-place-items.result.now c.loop-place-test.false) ∙ atoms_at_places (atoms_of goods atoms) (goods c.args.bundle.now) c.deref-place-items.result.now is
+    let is = c.deref-place-items.ensures.value ∙ c.in_ok-places.ensures
+    ∙ ap (λ n. filter (is_inside_at (atoms_of goods atoms) (goods c.args.bundle.now)) (range_with_len 0 n)) (sym long) in
+    c.loop-place.invariant ∙ ap (map (atom_at (atoms_of goods atoms)))
+    (take_all c.loop-place.place-index c.deref-place-items.result.now c.loop-place-test.false)
+    ∙ atoms_at_places (atoms_of goods atoms) (goods c.args.bundle.now) c.deref-place-items.result.now is

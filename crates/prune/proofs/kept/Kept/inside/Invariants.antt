@@ -1,6 +1,6 @@
 use Rattle.std.proofs.Common.{◌≡◌, map, take}
 use Rattle.valuation.specs.Values.{atoms_of}
-use Rattle.prune.specs.Listings.{atom_at}
+use Rattle.prune.specs.Internal.Listings.{atom_at}
 use Rattle.prune.proofs.kept.Kept.inside.Given as goal
 
 abbrev pub invariant-loop-place : goal.invariant-loop-place

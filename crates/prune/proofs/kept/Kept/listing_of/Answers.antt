@@ -8,7 +8,8 @@ use Rattle.prune.proofs.kept.Kept.listing_of.Goals.{then-from-eq0, else-from-eq0
 pub loop-good-smaller : goal.loop-good-smaller
 loop-good-smaller g c =
     let goods = g.S.GoodsSet.goods in
-    let further = next_is_further (goods c.args.atom.now.bundle) c.loop-good.from c.in-Some.good (g.met.S.GoodsSet.is_bundle c.args.atom.now.bundle).0 (sym c.in-Some.ensures) in
+    let further = next_is_further (goods c.args.atom.now.bundle) c.loop-good.from c.in-Some.good (g.met.S.GoodsSet.is_bundle c.args.atom.now.bundle).0
+    (sym c.in-Some.ensures) in
     omega arith
 
 pub loop-good-preserved : goal.loop-good-preserved
@@ -16,38 +17,64 @@ loop-good-preserved g c =
     let goods = g.S.GoodsSet.goods in
     let bundle = goods c.args.atom.now.bundle in
     let h = c.loop-good.invariant in
-    let had : has_good bundle c.in-Some.good ≡ true = next_is_had bundle c.loop-good.from c.in-Some.good (g.met.S.GoodsSet.is_bundle c.args.atom.now.bundle).0 (sym c.in-Some.ensures) in
-    let first : (has_good bundle c.if-from-eq0.best ≡ true) × (has_good bundle c.if-from-eq0.listing.witness ≡ true) × (c.if-from-eq0.listing.place ≡ c.loop-good.listing.place) × (c.if-from-eq0.listing.price ≡ c.loop-good.listing.price) =
+    let had : has_good bundle c.in-Some.good ≡ true = next_is_had bundle c.loop-good.from c.in-Some.good (g.met.S.GoodsSet.is_bundle c.args.atom.now.bundle).0
+    (sym c.in-Some.ensures) in
+    let first : (has_good bundle c.if-from-eq0.best ≡ true) × (has_good bundle c.if-from-eq0.listing.witness ≡ true)
+    × (c.if-from-eq0.listing.place ≡ c.loop-good.listing.place) × (c.if-from-eq0.listing.price ≡ c.loop-good.listing.price) =
     elim c.if-from-eq0.branch [
-      | then-from-eq0 w ↦ (ap (has_good bundle) w.best-is ∙ had, ap (λ (z : Listing). has_good bundle z.witness) w.listing-is ∙ had, ap (λ (z : Listing). z.place) w.listing-is, ap (λ (z : Listing). z.price) w.listing-is)
+      | then-from-eq0 w ↦ (
+        ap (has_good bundle) w.best-is ∙ had,
+        ap (λ (z : Listing). has_good bundle z.witness) w.listing-is ∙ had,
+        ap (λ (z : Listing). z.place) w.listing-is,
+        ap (λ (z : Listing). z.price) w.listing-is,
+      )
       | else-from-eq0 w ↦
-          let before : (has_good bundle c.loop-good.best ≡ true) × (has_good bundle c.loop-good.listing.witness ≡ true) × (has_good bundle c.loop-good.listing.second ≡ true) = ⊎_elim (λ (e : c.loop-good.from ≡ 0). absurd (w.if-from-eq0.false e)) (λ k. k) h.chosen in
-          (ap (has_good bundle) w.best-is ∙ before.0, ap (λ (z : Listing). has_good bundle z.witness) w.listing-is ∙ before.1, ap (λ (z : Listing). z.place) w.listing-is, ap (λ (z : Listing). z.price) w.listing-is)
+          let before : (has_good bundle c.loop-good.best ≡ true) × (has_good bundle c.loop-good.listing.witness ≡ true)
+          × (has_good bundle c.loop-good.listing.second ≡ true) = ⊎_elim (λ (e : c.loop-good.from ≡ 0). absurd (w.if-from-eq0.false e)) (λ k. k) h.chosen in (
+            ap (has_good bundle) w.best-is ∙ before.0,
+            ap (λ (z : Listing). has_good bundle z.witness) w.listing-is ∙ before.1,
+            ap (λ (z : Listing). z.place) w.listing-is,
+            ap (λ (z : Listing). z.price) w.listing-is,
+          )
     ] in
     elim c.if-count-fewest.branch [
       | then-count-fewest w ↦ record {
         place = ap (λ (z : Listing). z.place) w.listing-is ∙ first.2 ∙ h.place;
         price = ap (λ (z : Listing). z.price) w.listing-is ∙ first.3 ∙ h.price;
-        chosen = inr (ap (has_good bundle) w.best-is ∙ had, ap (λ (z : Listing). has_good bundle z.witness) w.listing-is ∙ first.0, ap (λ (z : Listing). has_good bundle z.second) w.listing-is ∙ first.1);
+        chosen = inr (
+          ap (has_good bundle) w.best-is ∙ had,
+          ap (λ (z : Listing). has_good bundle z.witness) w.listing-is ∙ first.0,
+          ap (λ (z : Listing). has_good bundle z.second) w.listing-is ∙ first.1,
+        );
       }
       | else-count-fewest w ↦ record {
         place = ap (λ (z : Listing). z.place) w.listing-is ∙ first.2 ∙ h.place;
         price = ap (λ (z : Listing). z.price) w.listing-is ∙ first.3 ∙ h.price;
-        chosen = inr (ap (has_good bundle) w.best-is ∙ first.0, ap (λ (z : Listing). has_good bundle z.witness) w.listing-is ∙ had, ap (λ (z : Listing). has_good bundle z.second) w.listing-is ∙ first.1);
+        chosen = inr (
+          ap (has_good bundle) w.best-is ∙ first.0,
+          ap (λ (z : Listing). has_good bundle z.witness) w.listing-is ∙ had,
+          ap (λ (z : Listing). has_good bundle z.second) w.listing-is ∙ first.1,
+        );
       }
     ]
 
 pub returns-clause-good : goal.returns-clause-good
 returns-clause-good g c =
     let goods = g.S.GoodsSet.goods in
-    ⊎_elim (λ (e : c.loop-good.from ≡ 0). absurd (some_from_zero (goods c.args.atom.now.bundle) c.requires (subst (λ n. good_from (goods c.args.atom.now.bundle) n ≡ None) e (sym c.in_default.ensures)))) (λ h. h.0) c.loop-good.invariant.chosen
+    ⊎_elim (λ (e : c.loop-good.from ≡ 0). absurd
+    (some_from_zero (goods c.args.atom.now.bundle) c.requires (subst (λ n. good_from (goods c.args.atom.now.bundle) n ≡ None) e
+    (sym c.in_default.ensures)))) (λ h. h.0) c.loop-good.invariant.chosen
 
 pub returns-clause-witness : goal.returns-clause-witness
 returns-clause-witness g c =
     let goods = g.S.GoodsSet.goods in
-    ⊎_elim (λ (e : c.loop-good.from ≡ 0). absurd (some_from_zero (goods c.args.atom.now.bundle) c.requires (subst (λ n. good_from (goods c.args.atom.now.bundle) n ≡ None) e (sym c.in_default.ensures)))) (λ h. h.1) c.loop-good.invariant.chosen
+    ⊎_elim (λ (e : c.loop-good.from ≡ 0). absurd
+    (some_from_zero (goods c.args.atom.now.bundle) c.requires (subst (λ n. good_from (goods c.args.atom.now.bundle) n ≡ None) e
+    (sym c.in_default.ensures)))) (λ h. h.1) c.loop-good.invariant.chosen
 
 pub returns-clause-second : goal.returns-clause-second
 returns-clause-second g c =
     let goods = g.S.GoodsSet.goods in
-    ⊎_elim (λ (e : c.loop-good.from ≡ 0). absurd (some_from_zero (goods c.args.atom.now.bundle) c.requires (subst (λ n. good_from (goods c.args.atom.now.bundle) n ≡ None) e (sym c.in_default.ensures)))) (λ h. h.2) c.loop-good.invariant.chosen
+    ⊎_elim (λ (e : c.loop-good.from ≡ 0). absurd
+    (some_from_zero (goods c.args.atom.now.bundle) c.requires (subst (λ n. good_from (goods c.args.atom.now.bundle) n ≡ None) e
+    (sym c.in_default.ensures)))) (λ h. h.2) c.loop-good.invariant.chosen

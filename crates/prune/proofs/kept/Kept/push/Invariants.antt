@@ -1,6 +1,6 @@
 -- The lists that are added are empty.
 use Rattle.std.proofs.Common.{◌≡◌, ℕ, ◌+◌, ◌-◌, vec_len}
-use Rattle.prune.specs.Listings.{lists_of, listed_at}
+use Rattle.prune.specs.Internal.Listings.{lists_of, listed_at}
 use Rattle.prune.proofs.kept.Kept.push.Given as goal
 
 abbrev pub invariant-loop-alloc : goal.invariant-loop-alloc

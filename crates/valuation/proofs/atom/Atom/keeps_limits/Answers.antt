@@ -1,14 +1,15 @@
 use Rattle.std.proofs.Common.{arith, ◌≡◌, ℕ, ◌<◌, ◌≤◌, List, Some, None, ⊎_elim, sym, ap, ◌∙◌}
 use Rattle.std.proofs.lemmas.Bool.{both_ways, cases_lt, ltb-true, lt-ltb}
 use Rattle.goods_set.specs.Bundles.{IsRising, AreBelow, has_good, good_from}
-use Rattle.goods_set.specs.Members.{has_below, AreBelow-from_has}
-use Rattle.goods_set.specs.Sizes.{good_from-Some, good_from-None}
+use Rattle.goods_set.specs.Lemmas.Members.{has_below, AreBelow-from_has}
+use Rattle.goods_set.specs.Lemmas.Sizes.{good_from-Some, good_from-None}
 use Rattle.valuation.proofs.atom.Atom.keeps_limits.Goals as goal
 
 -- no good is at least the number of goods
 below : (goods : ℕ) (xs : List ℕ) → good_from xs goods ≡ None → AreBelow goods xs
 below goods xs e =
-    AreBelow-from_has goods xs (λ g h. ⊎_elim (λ (l : g < goods). l) (λ (l : goods ≤ g). absurd (both_ways (has_good xs g) (good_from-None xs goods g e l) h)) (cases_lt g goods))
+    AreBelow-from_has goods xs (λ g h. ⊎_elim (λ (l : g < goods). l) (λ (l : goods ≤ g). absurd (both_ways (has_good xs g) (good_from-None xs goods g e l) h))
+    (cases_lt g goods))
 
 not_below : (goods : ℕ) (xs : List ℕ) (m : ℕ) → IsRising xs → good_from xs goods ≡ Some m → AreBelow goods xs → ⊥
 not_below goods xs m r e b =
@@ -19,8 +20,11 @@ not_below goods xs m r e b =
 
 pub returns-in-Some : goal.returns-in-Some
 returns-in-Some g c =
-    let xs = g.S.GoodsSet.goods c.args.self.now.bundle in
-    (λ t. cc, λ a. absurd (not_below c.args.goods xs _ (g.met.S.GoodsSet.is_bundle _).0 (ap (good_from xs) (sym c.from.ensures) ∙ sym c.in-Some.ensures) a.bundle.1))
+    let xs = g.S.GoodsSet.goods c.args.self.now.bundle in (
+      λ t. cc,
+      λ a. absurd (not_below c.args.goods xs _ (g.met.S.GoodsSet.is_bundle _).0 (ap (good_from xs) (sym c.from.ensures)
+          ∙ sym c.in-Some.ensures) a.bundle.1),
+    )
 
 pub returns-in-None : goal.returns-in-None
 returns-in-None g c =
@@ -28,6 +32,11 @@ returns-in-None g c =
     let size = c.size.ensures in (
       λ t.
           let some = ltb-true 0 c.size.result t in
-          record { nonempty = omega arith; bundle = ((g.met.S.GoodsSet.is_bundle _).0, below c.args.goods xs (ap (good_from xs) (sym c.from.ensures) ∙ sym c.in-None.ensures)); price = c.if-self-gt-MAX_PRICE.false },
+          record {
+            nonempty = omega arith;
+            bundle = ((g.met.S.GoodsSet.is_bundle _).0, below c.args.goods xs (ap (good_from xs) (sym c.from.ensures) ∙ sym c.in-None.ensures));
+            price =
+                c.if-self-gt-MAX_PRICE.false;
+          },
       λ a. let some = a.nonempty in lt-ltb 0 c.size.result (omega arith),
     )

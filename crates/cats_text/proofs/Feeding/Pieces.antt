@@ -1,0 +1,222 @@
+-- What a reader answers to one more piece.
+use Rattle.std.proofs.Common.{◌≡◌, ℕ, suc, zero, ◌+◌, ◌-◌, ◌<◌, ◌≤◌, min, Bool, false, List, [], ◌∷◌, ◌++◌, length, take, Some, None, refl, sym, ap, ◌∙◌, arith, inl, inr, ◌⊎◌, Result, Ok, Err, IfOk, length-append, ◌^◌}
+use Rattle.std.specs.Option.{option_or}
+use Rattle.std.specs.Result.{result_err}
+use Rattle.std.proofs.lemmas.Bool.{le-leb, lt-leb}
+use Rattle.std.proofs.lemmas.Bool.Decides.{leb_tells}
+use Rattle.cats_text.specs.Faults.{complete_fault, first_fault, has_bid_line, fault_at}
+use Rattle.cats_text.specs.Fed.{Fed, fed_fault}
+use Rattle.cats_text.specs.Files.{IsPlainFile}
+use Rattle.cats_text.specs.Grammar.{Spells}
+use Rattle.cats_text.specs.Internal.Parsing.{file_from}
+use Rattle.cats_text.specs.Views.{plain_file}
+use Rattle.cats_text.specs.declared.bid.BidFile.{BidFile}
+use Rattle.cats_text.specs.Internal.Reading.{HasTaken, IsReading, SpellsSizes, fault_told}
+use Rattle.cats_text.specs.Reading.{WantsMemory, FeedsAs}
+use Rattle.cats_text.specs.Internal.Returns.{settled, waits, carried}
+use Rattle.cats_text.specs.Internal.Scanning.{State, state, first_state, Scan, run, and_then, Steps, Asks, MeetsBidLine, end_of, IsFileOf, IsHeaderOf, Finishes, AsksAtEnd, IsInBidLine, HasBids}
+use Rattle.cats_text.specs.declared.fault.ReadFault.{ReadFault}
+use Rattle.cats_text.specs.declared.fault.Kind.TheVariants.{TooLong}
+use Rattle.cats_text.specs.declared.parser.Header.{Header}
+use Rattle.cats_text.specs.declared.parser.Keeping.{Keeping}
+use Rattle.cats_text.specs.declared.parser.Keeping.TheVariants as keepings
+use Rattle.cats_text.specs.declared.scanner.Halt.{Halt}
+use Rattle.cats_text.specs.declared.scanner.Halt.TheVariants.{Fault, Memory}
+use Rattle.cats_text.specs.declared.scanner.Scanner.{Scanner}
+use Rattle.cats_text.proofs.Scanning.Lines.{run-append}
+use Rattle.cats_text.proofs.Texts.MachineAnswers.{stops_at_complete_fault, goes_on_without_fault, meets_bid_line, complete_fault_is_first, ends_at_file, ends_at_sizes, ends_at_first_fault, ends_in_bid_line}
+use Rattle.cats_text.proofs.Scanning.Pieces.{settled-append, waits-append}
+use Rattle.cats_text.proofs.Feeding.Streams.{take-within}
+use Rattle.cats_text.proofs.Scanning.Appends.{meets_behind, run-line, settled-length}
+
+-- ---- the bytes that are judged
+
+take-behind : (n : ℕ) (xs ys : List ℕ) → length xs ≤ n → take n (xs ++ ys) ≡ xs ++ take (n - length xs) ys
+take-behind n [] ys h = let whole : n - 0 ≡ n = omega arith in rw whole refl
+take-behind zero (x ∷ xs) ys h = absurd (omega arith)
+take-behind (suc n) (x ∷ xs) ys h =
+    let less : suc n - suc (length xs) ≡ n - length xs = omega arith in
+    ap (λ l. x ∷ l) (take-behind n xs ys (omega arith) ∙ ap (λ k. xs ++ take k ys) (sym less))
+
+take-min : (n : ℕ) (xs : List ℕ) → take (min (length xs) n) xs ≡ take n xs
+take-min zero [] = refl
+take-min (suc n) [] = let none : min zero (suc n) ≡ zero = omega arith in rw none refl
+take-min zero (x ∷ xs) = let none : min (suc (length xs)) zero ≡ zero = omega arith in rw none refl
+take-min (suc n) (x ∷ xs) = let more : min (suc (length xs)) (suc n) ≡ suc (min (length xs) n) = omega arith in rw more (ap (λ l. x ∷ l) (take-min n xs))
+
+-- the scanner is given what is left of the limit
+pub judged_bytes : (limit count : ℕ) (bytes piece : List ℕ) → count ≡ length bytes → count ≤ limit
+    → bytes ++ take (min (length piece) (limit - count)) piece ≡ take limit (bytes ++ piece)
+judged_bytes limit count bytes piece c within =
+    ap (λ l. bytes ++ l) (take-min (limit - count) piece ∙ ap (λ n. take (limit - n) piece) c) ∙ sym (take-behind limit bytes piece (omega arith))
+
+-- ---- the machine on them
+
+run_on : (k : Keeping) (bytes taken : List ℕ) (s : State) (waiting : Bool) → run (first_state k) (settled bytes) ≡ Ok s → waiting ≡ waits bytes
+    → run (first_state k) (settled (bytes ++ taken)) ≡ run s (settled (carried waiting taken))
+run_on k bytes taken s waiting runs w =
+    ap (run (first_state k)) (settled-append bytes taken) ∙ run-append (first_state k) (settled bytes) (settled (carried (waits bytes) taken))
+    ∙ ap (λ r. and_then r (λ t. run t (settled (carried (waits bytes) taken)))) runs ∙ ap (λ v. run s (settled (carried v taken))) (sym w)
+
+-- no fault in bytes within the limit
+pub fed-within : (limit : ℕ) (bytes : List ℕ) → length bytes ≤ limit → fed_fault limit bytes ≡ complete_fault bytes
+fed-within limit bytes h = rw (le-leb (length bytes) limit h) refl
+
+fed-beyond : (limit : ℕ) (bytes : List ℕ) → limit < length bytes
+    → fed_fault limit bytes ≡ option_or (complete_fault (take limit bytes)) (Some (fault_at 0 TooLong))
+fed-beyond limit bytes h = rw (lt-leb (length bytes) limit h) refl
+
+-- a fault that is complete in what is judged
+pub fed-judged : (limit : ℕ) (bytes : List ℕ) (e : ReadFault) → complete_fault (take limit bytes) ≡ Some e → fed_fault limit bytes ≡ Some e
+fed-judged limit bytes e h = elim (leb_tells (length bytes) limit) [
+  | inl within ↦ fed-within limit bytes within.1 ∙ ap complete_fault (sym (take-within limit bytes within.1)) ∙ h
+  | inr beyond ↦ fed-beyond limit bytes beyond.1 ∙ ap (λ f. option_or f (Some (fault_at 0 TooLong))) h
+]
+
+-- none, and there are too many
+pub fed-too_long : (limit : ℕ) (bytes : List ℕ) → limit < length bytes → complete_fault (take limit bytes) ≡ None
+    → fed_fault limit bytes ≡ Some (fault_at 0 TooLong)
+fed-too_long limit bytes beyond h = fed-beyond limit bytes beyond ∙ ap (λ f. option_or f (Some (fault_at 0 TooLong))) h
+
+pub nothing_taken : (k : Keeping) (limit : ℕ) (scanner : Scanner) (bytes : List ℕ) → state scanner ≡ first_state k → scanner.waiting ≡ false → bytes ≡ []
+    → HasTaken k limit 0 scanner bytes
+nothing_taken k limit scanner bytes first waiting none = record {
+  count = rw none refl;
+  within = omega arith;
+  runs = rw none (ap (λ s. Ok s) (sym first));
+  waiting = rw none waiting;
+}
+
+-- ---- the answers
+
+-- the scanner stopped in the bytes that are judged
+pub halted : (k : Keeping) (limit taken : ℕ) (scanner : Scanner) (bytes judged all : List ℕ) (new : State) (halt : Halt) → HasTaken k limit taken scanner bytes
+    → bytes ++ judged ≡ take limit all
+    → Steps {A = Unit {0}} new (Err halt) (run (state scanner) (settled (carried scanner.waiting judged)))
+    → Asks {A = Unit {0}} (state scanner) (settled (carried scanner.waiting judged)) (Err halt)
+    → (fed_fault limit all ≡ Some (fault_told halt)) ⊎ WantsMemory (take limit all) (fault_told halt)
+halted k limit taken scanner bytes judged all new (Fault e) kept is steps asks =
+    inl (fed-judged limit all e (ap complete_fault (sym is) ∙
+    stops_at_complete_fault k (bytes ++ judged) e (run_on k bytes judged (state scanner) scanner.waiting kept.runs kept.waiting ∙ steps)))
+halted k limit taken scanner bytes judged all new Memory kept is steps asks =
+    let behind = meets_behind (first_state k) (state scanner) (settled bytes) (settled (carried scanner.waiting judged)) kept.runs asks in
+    let met : MeetsBidLine (first_state k) (settled (bytes ++ judged)) = rw (settled-append bytes judged, ← kept.waiting) behind in
+    inr (refl, ap has_bid_line (sym is) ∙ meets_bid_line k (bytes ++ judged) met)
+
+-- the scanner took them
+pub went_on : (k : Keeping) (limit taken : ℕ) (old new : Scanner) (bytes judged : List ℕ) → HasTaken k limit taken old bytes
+    → run (state old) (settled (carried old.waiting judged)) ≡ Ok (state new)
+    → complete_fault (bytes ++ judged) ≡ None
+went_on k limit taken old new bytes judged kept steps =
+    goes_on_without_fault k (bytes ++ judged) (state new) (run_on k bytes judged (state old) old.waiting kept.runs kept.waiting ∙ steps)
+
+-- and has taken them then
+pub took : (k : Keeping) (limit before count : ℕ) (old new : Scanner) (bytes judged : List ℕ) → HasTaken k limit before old bytes
+    → run (state old) (settled (carried old.waiting judged)) ≡ Ok (state new)
+    → new.waiting ≡ waits (carried old.waiting judged) → count ≡ before + length judged → count ≤ limit
+    → HasTaken k limit count new (bytes ++ judged)
+took k limit before count old new bytes judged kept steps waiting sum within = record {
+  count = rw (length-append bytes judged, ← kept.count) sum;
+  within = within;
+  runs = run_on k bytes judged (state old) old.waiting kept.runs kept.waiting ∙ steps;
+  waiting = waiting ∙ ap (λ w. waits (carried w judged)) kept.waiting ∙ sym (waits-append bytes judged);
+}
+
+-- the number of the line stays small
+pub few_lines : (k : Keeping) (limit taken : ℕ) (scanner : Scanner) (bytes : List ℕ) → HasTaken k limit taken scanner bytes → scanner.line ≤ suc taken
+few_lines k limit taken scanner bytes kept =
+    let lines = run-line (first_state k) (settled bytes) in
+    let line : (state scanner).line ≤ 1 + length (settled bytes) = rw kept.runs at lines in
+    let count = kept.count in
+    let decided = settled-length bytes in
+    omega arith
+
+-- what judging a piece answers, all bytes so far being these
+abbrev pub IsJudged : Keeping → ℕ → ℕ → Scanner → List ℕ → Result (Unit {0}) ReadFault → Type 0
+IsJudged k limit count scanner all (Ok u) = (fed_fault limit all ≡ None) × HasTaken k limit count scanner all
+IsJudged k limit count scanner all (Err e) = (fed_fault limit all ≡ Some e) ⊎ WantsMemory (take limit all) e
+
+pub judged_halted : (k : Keeping) (limit count taken : ℕ) (old new : Scanner) (bytes judged all : List ℕ) (halt : Halt) → HasTaken k limit taken old bytes
+    → bytes ++ judged ≡ take limit all
+    → Steps {A = Unit {0}} (state new) (Err halt) (run (state old) (settled (carried old.waiting judged)))
+    → Asks {A = Unit {0}} (state old) (settled (carried old.waiting judged)) (Err halt)
+    → IsJudged k limit count new all (Err (fault_told halt))
+judged_halted k limit count taken old new bytes judged all halt kept is steps asks =
+    halted k limit taken old bytes judged all (state new) halt kept is steps asks
+
+pub judged_too_long : (k : Keeping) (limit count taken : ℕ) (old new : Scanner) (bytes judged all : List ℕ) → HasTaken k limit taken old bytes
+    → bytes ++ judged ≡ take limit all → limit < length all
+    → run (state old) (settled (carried old.waiting judged)) ≡ Ok (state new)
+    → IsJudged k limit count new all (Err (fault_at 0 TooLong))
+judged_too_long k limit count taken old new bytes judged all kept is beyond steps =
+    inl (fed-too_long limit all beyond (ap complete_fault (sym is) ∙ went_on k limit taken old new bytes judged kept steps))
+
+pub judged_ok : (k : Keeping) (limit count before : ℕ) (old new : Scanner) (bytes judged all : List ℕ) → HasTaken k limit before old bytes
+    → bytes ++ judged ≡ all → length all ≤ limit
+    → run (state old) (settled (carried old.waiting judged)) ≡ Ok (state new)
+    → new.waiting ≡ waits (carried old.waiting judged) → count ≡ before + length judged → count ≤ limit
+    → IsJudged k limit count new all (Ok tt)
+judged_ok k limit count before old new bytes judged all kept is within steps waiting sum most =
+    let none : complete_fault all ≡ None = ap complete_fault (sym is) ∙ went_on k limit before old new bytes judged kept steps in
+    let now : HasTaken k limit count new all = rw (← is) (took k limit before count old new bytes judged kept steps waiting sum most) in
+    (fed-within limit all within ∙ none, now)
+
+-- the reader keeps what it has to
+pub still_reading : (k : Keeping) (limit count : ℕ) (scanner : Scanner) (all : List ℕ) (judged : Result (Unit {0}) ReadFault) → limit < 2 ^ 63
+    → IsJudged k limit count scanner all judged → IsReading k limit count scanner (result_err judged) all
+still_reading k limit count scanner all (Ok u) small told = record { limit = small; taken = λ none. told.1 }
+still_reading k limit count scanner all (Err e) small told = record { limit = small; taken = λ none. cc }
+
+pub fed_told : (k : Keeping) (old : Fed) (piece : List ℕ) (count : ℕ) (scanner : Scanner) (judged : Result (Unit {0}) ReadFault) → old.failed ≡ None
+    → IsJudged k old.limit count scanner (old.bytes ++ piece) judged
+    → FeedsAs old piece (record { limit = old.limit; bytes = old.bytes ++ piece; failed = result_err judged }) judged
+fed_told k old piece count scanner (Ok u) none told = rw none (record { limit = refl; bytes = refl; answer = (told.0, refl) })
+fed_told k old piece count scanner (Err e) none told = rw none (record { limit = refl; bytes = refl; answer = (told, refl) })
+
+-- ---- the end of the input
+
+pub ended_fact : (limit taken : ℕ) (scanner : Scanner) (bytes : List ℕ) → HasTaken keepings.Bids limit taken scanner bytes
+    → IfOk (end_of scanner.waiting (state scanner)) (λ t. IsPlainFile (file_from t.progress))
+ended_fact limit taken scanner bytes kept = at_end (end_of scanner.waiting (state scanner)) refl
+  where
+    at_end : (r : Scan) → end_of scanner.waiting (state scanner) ≡ r → IfOk r (λ t. IsPlainFile (file_from t.progress))
+    at_end (Ok t) e = (ends_at_file bytes (state scanner) t kept.runs (ap (λ w. end_of w (state scanner)) (sym kept.waiting) ∙ e)).facts
+    at_end (Err fault) e = tt
+
+pub ended_file : (limit taken : ℕ) (scanner : Scanner) (bytes : List ℕ) (file : BidFile) → HasTaken keepings.Bids limit taken scanner bytes
+    → IsFileOf file (end_of scanner.waiting (state scanner)) → Spells bytes (plain_file file)
+ended_file limit taken scanner bytes file kept is = at_end (end_of scanner.waiting (state scanner)) refl is
+  where
+    at_end : (r : Scan) → end_of scanner.waiting (state scanner) ≡ r → IsFileOf file r → Spells bytes (plain_file file)
+    at_end (Ok t) e same = rw same (ends_at_file bytes (state scanner) t kept.runs (ap (λ w. end_of w (state scanner)) (sym kept.waiting) ∙ e))
+    at_end (Err fault) e same = absurd same
+
+pub ended_sizes : (k : Keeping) (limit taken : ℕ) (scanner : Scanner) (bytes : List ℕ) (header : Header) → HasTaken k limit taken scanner bytes
+    → IsHeaderOf header (end_of scanner.waiting (state scanner)) → SpellsSizes bytes header
+ended_sizes k limit taken scanner bytes header kept is = at_end (end_of scanner.waiting (state scanner)) refl is
+  where
+    at_end : (r : Scan) → end_of scanner.waiting (state scanner) ≡ r → IsHeaderOf header r → SpellsSizes bytes header
+    at_end (Ok t) e same = rw same (ends_at_sizes k bytes (state scanner) t kept.runs (ap (λ w. end_of w (state scanner)) (sym kept.waiting) ∙ e))
+    at_end (Err fault) e same = absurd same
+
+pub ended_fault : {A : Type 0} (IsOf : A → Scan → Type 0) (k : Keeping) (limit taken : ℕ) (scanner : Scanner) (bytes : List ℕ) (halt : Halt)
+    → HasTaken k limit taken scanner bytes
+    → Finishes IsOf (Err halt) (end_of scanner.waiting (state scanner)) → AsksAtEnd {A = A} scanner.waiting (state scanner) (Err halt)
+    → (first_fault bytes ≡ Some (fault_told halt)) ⊎ WantsMemory bytes (fault_told halt)
+ended_fault IsOf k limit taken scanner bytes (Fault e) kept ends asks =
+    inl (ends_at_first_fault k bytes (state scanner) e kept.runs (ap (λ w. end_of w (state scanner)) (sym kept.waiting) ∙ ends))
+ended_fault IsOf k limit taken scanner bytes Memory kept ends asks =
+    let memory : IsInBidLine (state scanner) ⊎ HasBids (end_of (waits bytes) (state scanner)) = rw (← kept.waiting) asks in
+    inr (refl, ends_in_bid_line k bytes (state scanner) kept.runs memory)
+
+-- a whole text that was fed at once
+pub whole_told : (text bytes : List ℕ) (limit : ℕ) (e : ReadFault) → limit ≡ length text → bytes ≡ text
+    → (fed_fault limit bytes ≡ Some e) ⊎ WantsMemory (take limit bytes) e → (first_fault text ≡ Some e) ⊎ WantsMemory text e
+whole_told text bytes limit e most same (inl fault) =
+    let within : length text ≤ limit = omega arith in
+    let told : fed_fault limit text ≡ Some e = rw (← same) fault in
+    inl (complete_fault_is_first text e (sym (fed-within limit text within) ∙ told))
+whole_told text bytes limit e most same (inr want) =
+    let within : length bytes ≤ limit = rw same (omega arith) in
+    let all : take limit bytes ≡ text = take-within limit bytes within ∙ same in
+    inr (rw (← all) want)

@@ -1,0 +1,62 @@
+-- Reading a stream answers as the reader that was fed the bytes.
+use Rattle.std.proofs.Common.{◌≡◌, ◌≤◌, ℕ, zero, suc, false, List, [], ◌∷◌, length, take, Option, Some, IfSome, Result, Ok, Err, ◌⊎◌, inl, inr, refl, ap, arith}
+use Rattle.cats_text.specs.Faults.{first_fault, fault_at}
+use Rattle.cats_text.specs.Fed.{fed_fault}
+use Rattle.cats_text.specs.Reading.{WantsMemory, FinishAnswer}
+use Rattle.cats_text.specs.Internal.Reading.{SizesAnswer}
+use Rattle.cats_text.specs.Streams.{has_failed, IsWhole, IsTextFault, FaultsAt, ReadsAs, ChecksAs}
+use Rattle.cats_text.specs.declared.bid.BidFile.{BidFile}
+use Rattle.cats_text.specs.declared.fault.Kind.{Kind}
+use Rattle.cats_text.specs.declared.fault.Kind.TheVariants.{Device, Memory}
+use Rattle.cats_text.specs.declared.fault.ReadFault.{ReadFault}
+use Rattle.cats_text.specs.declared.parser.Header.{Header}
+use Rattle.cats_text.specs.declared.limits.TheConstants.{MAX_STREAM}
+use Rattle.cats_text.specs.declared.stream.Watched.{Watched}
+use Rattle.cats_text.proofs.Texts.FaultKinds.{IsFaultOfBytes, first_fault-of_bytes, fed_fault-of_bytes, fed_within}
+
+found : (fault : Option ReadFault) (e : ReadFault) → IfSome fault IsFaultOfBytes → fault ≡ Some e → IsFaultOfBytes e
+found fault e h is = rw is at h
+
+pub take-within : (n : ℕ) (xs : List ℕ) → length xs ≤ n → take n xs ≡ xs
+take-within zero [] h = refl
+take-within (suc n) [] h = refl
+take-within zero (x ∷ xs) h = absurd (omega arith)
+take-within (suc n) (x ∷ xs) h = ap (λ l. x ∷ l) (take-within n xs (omega arith))
+
+module _ {R : Type 0} (remaining : R → Option (List ℕ)) where
+  fault_told : (bytes : List ℕ) (input : Watched R) (line : ℕ) (kind : Kind) → has_failed input ≡ false → IsFaultOfBytes (fault_at line kind)
+      → IsTextFault remaining bytes input (fault_at line kind) → FaultsAt remaining bytes input line kind
+  fault_told bytes input line Device works free text = absurd (free.0 refl)
+  fault_told bytes input line Memory works free text = absurd (free.1 refl)
+  fault_told bytes input line kind works free text = (works, text)
+
+  memory_told : (bytes : List ℕ) (input : Watched R) (e : ReadFault) → has_failed input ≡ false → WantsMemory (take MAX_STREAM bytes) e
+      → FaultsAt remaining bytes input e.line e.kind
+  memory_told bytes input e works want = rw (want.0) (refl, works, want.1)
+
+  -- the fault of feeding the bytes that came
+  pub fed_told : (bytes : List ℕ) (input : Watched R) (e : ReadFault) → has_failed input ≡ false
+      → (fed_fault MAX_STREAM bytes ≡ Some e) ⊎ WantsMemory (take MAX_STREAM bytes) e → FaultsAt remaining bytes input e.line e.kind
+  fed_told bytes input e works (inl is) =
+      fault_told bytes input e.line e.kind works (found (fed_fault MAX_STREAM bytes) e (fed_fault-of_bytes MAX_STREAM bytes) is) (inl is)
+  fed_told bytes input e works (inr want) = memory_told bytes input e works want
+
+  -- the fault at the end of the bytes
+  ended_told : (bytes : List ℕ) (input : Watched R) (e : ReadFault) → has_failed input ≡ false → IsWhole remaining bytes input
+      → (first_fault bytes ≡ Some e) ⊎ WantsMemory bytes e → FaultsAt remaining bytes input e.line e.kind
+  ended_told bytes input e works whole (inl is) =
+      fault_told bytes input e.line e.kind works (found (first_fault bytes) e (first_fault-of_bytes bytes) is) (inr (whole, is))
+  ended_told bytes input e works whole (inr want) =
+      memory_told bytes input e works (rw (take-within MAX_STREAM bytes (fed_within MAX_STREAM bytes whole.no_fault)) want)
+
+  -- the answers at the end of the bytes
+  pub finished_told : (bytes : List ℕ) (input : Watched R) (answer : Result BidFile ReadFault) → has_failed input ≡ false → IsWhole remaining bytes input
+      → FinishAnswer bytes answer → ReadsAs remaining bytes input answer
+  finished_told bytes input (Ok file) works whole spelled = record { spelled = spelled; whole = whole; works = works }
+  finished_told bytes input (Err e) works whole told = ended_told bytes input e works whole told
+
+  pub checked_told : (bytes : List ℕ) (input : Watched R) (answer : Result Header ReadFault) → has_failed input ≡ false → IsWhole remaining bytes input
+      → SizesAnswer bytes answer → ChecksAs remaining bytes input answer
+  checked_told bytes input (Ok header) works whole says =
+      record { file = says.file; reads = record { spelled = says.spelled; whole = whole; works = works }; sizes = says.sizes }
+  checked_told bytes input (Err e) works whole told = ended_told bytes input e works whole told

@@ -1,0 +1,11 @@
+-- From words to lines: the parser's steps give what the definitions say of the lines and words so far.
+pub mod States
+pub mod NumbersTaken
+pub mod Headers
+pub mod EndedBids
+pub mod Bids
+pub mod GoodsSoFar
+pub mod Goods
+pub mod Lines
+pub mod WholeLines
+pub mod BidsByNumber

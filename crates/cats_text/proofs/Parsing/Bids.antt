@@ -1,0 +1,213 @@
+-- The words of a bid line: the parser and the definitions agree.
+use Rattle.std.proofs.Common.{◌≡◌, ℕ, ◌+◌, ◌-◌, ◌*◌, ◌^◌, ◌<◌, ◌≤◌, min, Bool, true, false, not, ◌&&◌, ◌||◌, cond, eqb, ltb, leb, ⊎_elim, List, [], ◌∷◌, ◌++◌, length, refl, sym, ap, ap₂, ◌∙◌, subst, arith, Option, None, Ok, Err}
+use Rattle.std.proofs.lemmas.Bool.{ltb-false, lt-ltb, leb-true, leb-false, eq-eqb, ne_eqb, both_ways, or_left, and_parts}
+use Rattle.std.specs.List.{list_any, slice_get}
+use Rattle.cats_text.specs.Numbers.{is_number, number_of, is_too_large, is_too_fine, price_of, whole_part, places, has_place_from, six_places, is_digit, digits_alone, GREATEST_PRICE}
+use Rattle.cats_text.specs.Grammar.{line_number}
+use Rattle.cats_text.specs.Faults.{header_value, word_fault, when}
+use Rattle.cats_text.specs.FileLines.{bid_of}
+use Rattle.cats_text.specs.Internal.Progress.{Progress}
+use Rattle.cats_text.specs.Internal.Parsing.{Reading, number_read, price_read, price_parts, with_price, kept_of, is_some_bid}
+use Rattle.cats_text.specs.declared.fault.Kind.{Kind}
+use Rattle.cats_text.specs.declared.fault.Kind.TheVariants as kinds
+use Rattle.cats_text.specs.declared.word.Word.{Word}
+use Rattle.cats_text.specs.declared.word.Decimal.{Decimal}
+use Rattle.cats_text.specs.declared.word.Word.TheVariants.{Keyword, Number, Decimal as Fraction, End, Other}
+use Rattle.cats_text.specs.declared.word.TheConstants.{HELD}
+use Rattle.cats_text.specs.declared.parser.Header.{Header}
+use Rattle.cats_text.specs.declared.parser.Place.TheVariants.{Later}
+use Rattle.cats_text.specs.declared.limits.TheConstants.{MAX_BIDS}
+use Rattle.cats_text.proofs.Words.Places.{digit_bounds, places_from, places-six, places_below_one, place_not_zero}
+use Rattle.cats_text.proofs.Words.Kept.{Tells, Holds, whole-digits, whole-point, places-point}
+use Rattle.cats_text.proofs.Words.Tests.{IsTold, tells_number}
+use Rattle.cats_text.proofs.Parsing.States.{IsAt, WordFollows}
+use Rattle.cats_text.proofs.Parsing.Headers.{holds_le, holds_same}
+use Rattle.cats_text.proofs.Parsing.NumbersTaken.{taken}
+
+-- one test of the definitions against one of the parser
+pub follow_test : (lines : List (List (List ℕ))) (before : List (List ℕ)) (w : List ℕ) (b c : Bool) (kind : Kind) (r : Reading) (rest : Option Kind)
+    → word_fault lines before w ≡ when c kind rest → b ≡ c → (b ≡ false → word_fault lines before w ≡ rest → WordFollows lines before w r)
+    → WordFollows lines before w (cond b (Err kind) r)
+follow_test lines before w b c kind r rest fault same next = elim b as (λ x. b ≡ x → WordFollows lines before w (cond x (Err kind) r)) [
+  | true ↦ λ (e : b ≡ true). fault ∙ ap (λ x. when x kind rest) (sym same ∙ e)
+  | false ↦ λ (e : b ≡ false). next e (fault ∙ ap (λ x. when x kind rest) (sym same ∙ e))
+] refl
+
+-- a fault that the definitions name too
+pub fault_named : (lines : List (List (List ℕ))) (before : List (List ℕ)) (w : List ℕ) (c : Bool) (kind : Kind) (rest : Option Kind)
+    → word_fault lines before w ≡ when c kind rest → c ≡ true → WordFollows lines before w (Err kind)
+fault_named lines before w c kind rest fault e = fault ∙ ap (λ x. when x kind rest) e
+
+-- a test that a word passes
+pub passes : (lines : List (List (List ℕ))) (before : List (List ℕ)) (w : List ℕ) (c : Bool) (kind : Kind) (rest : Option Kind)
+    → word_fault lines before w ≡ when c kind rest → c ≡ false → word_fault lines before w ≡ rest
+passes lines before w c kind rest fault e = fault ∙ ap (λ x. when x kind rest) e
+
+-- ---- the number
+
+none_due : (bids count : ℕ) → eqb (bids - count) 0 ≡ leb bids count
+none_due bids count = elim (leb bids count) as (λ b. leb bids count ≡ b → eqb (bids - count) 0 ≡ b) [
+  | true ↦ λ (h : leb bids count ≡ true). let l : bids ≤ count = leb-true bids count h in eq-eqb (bids - count) 0 (omega arith)
+  | false ↦ λ (h : leb bids count ≡ false). let l : count < bids = leb-false bids count h in ne_eqb (bids - count) 0 (λ e. absurd (omega arith))
+] refl
+
+not_number : (p : Progress) (s : Word) → tells_number s ≡ false → number_read p s ≡ Err kinds.NotANumber
+not_number p (Number v) h = absurd (both_ways true h refl)
+not_number p (Keyword j n) h = refl
+not_number p (Fraction d) h = refl
+not_number p End h = refl
+not_number p Other h = refl
+
+number_follows : (g b d : List (List ℕ)) (lines : List (List (List ℕ))) (w : List ℕ) (v : ℕ) (p : Progress) → Tells w (Number v) → IsAt (g ∷ b ∷ d ∷ lines) [] p
+    → WordFollows (g ∷ b ∷ d ∷ lines) [] w (number_read p (Number v))
+number_follows g b d lines w v p t at =
+    let bids : p.header.bids ≡ header_value b = ap (λ (h : Header). h.bids) at.header in
+    let small : p.header.bids ≤ MAX_BIDS = at.bids in
+    let is : word_fault (g ∷ b ∷ d ∷ lines) [] w ≡ when (leb (header_value b) (length lines)) kinds.ExtraBid
+    (when (leb (header_value b) (number_of w)) kinds.BidNumber (when (list_any (λ l. eqb (line_number l) (number_of w)) lines) kinds.RepeatedNumber None)) =
+    ap (λ x. when (not x) kinds.NotANumber
+    (when (leb (header_value b) (length lines)) kinds.ExtraBid
+    (when (leb (header_value b) (number_of w)) kinds.BidNumber (when (list_any (λ l. eqb (line_number l) (number_of w)) lines) kinds.RepeatedNumber None))))
+    t.0 in
+    follow_test (g ∷ b ∷ d ∷ lines) [] w _ _ kinds.ExtraBid _ _ is (ap (λ x. eqb x 0) at.due ∙ none_due p.header.bids (length lines)
+    ∙ ap (λ x. leb x (length lines)) bids)
+    (λ _ is. follow_test (g ∷ b ∷ d ∷ lines) [] w _ _ kinds.BidNumber _ _ is (holds_le p.header.bids v (number_of w) (omega arith) t.1
+    ∙ ap (λ x. leb x (number_of w)) bids)
+    (λ below is. let l : v < p.header.bids = leb-false p.header.bids v below in let same : v ≡ number_of w = holds_same v (number_of w) (omega arith) t.1 in
+    follow_test (g ∷ b ∷ d ∷ lines) [] w _ _ kinds.RepeatedNumber _ _ is (ap (λ s. is_some_bid (slice_get s v)) at.slots
+    ∙ taken (λ l. kept_of p.keeping (bid_of p.header.goods l)) lines v ∙ ap (λ x. list_any (λ l. eqb (line_number l) x) lines) same)
+    (λ _ is. (
+      is,
+      record {
+        stage = at.stage;
+        place = refl;
+        header = at.header;
+        due = at.due;
+        slots = at.slots;
+        draft = (same, refl, at.draft);
+        goods = at.goods;
+        bids = at.bids;
+        dummy = at.dummy;
+      },
+    ))))
+
+pub bid_first : (g b d : List (List ℕ)) (lines : List (List (List ℕ))) (w : List ℕ) (s : Word) (p : Progress) → IsTold w s → Tells w s
+    → IsAt (g ∷ b ∷ d ∷ lines) [] p → WordFollows (g ∷ b ∷ d ∷ lines) [] w (number_read p s)
+bid_first g b d lines w (Number v) p told t at = number_follows g b d lines w v p t at
+bid_first g b d lines w (Keyword j n) p told t at = fault_named (g ∷ b ∷ d ∷ lines) [] w _ _ _ refl (ap not told.number)
+bid_first g b d lines w (Fraction e) p told t at = fault_named (g ∷ b ∷ d ∷ lines) [] w _ _ _ refl (ap not told.number)
+bid_first g b d lines w End p told t at = fault_named (g ∷ b ∷ d ∷ lines) [] w _ _ _ refl (ap not told.number)
+bid_first g b d lines w Other p told t at = fault_named (g ∷ b ∷ d ∷ lines) [] w _ _ _ refl (ap not told.number)
+
+-- ---- the price
+
+large_same : (v n : ℕ) (x y : Bool) → Holds v n → x ≡ y → (ltb GREATEST_PRICE v || (eqb v GREATEST_PRICE && x))
+    ≡ (ltb GREATEST_PRICE n || (eqb n GREATEST_PRICE && y))
+large_same v n x y h e = ⊎_elim (λ (same : v ≡ n). ap₂ (λ (k : ℕ) (z : Bool). ltb GREATEST_PRICE k || (eqb k GREATEST_PRICE && z)) same e)
+    (λ (above : (HELD ≤ v) × (HELD ≤ n)). let a : HELD ≤ v = above.0 in let b : HELD ≤ n = above.1 in
+    or_left (ltb GREATEST_PRICE v) (eqb v GREATEST_PRICE && x) (lt-ltb GREATEST_PRICE v (omega arith))
+    ∙ sym (or_left (ltb GREATEST_PRICE n) (eqb n GREATEST_PRICE && y) (lt-ltb GREATEST_PRICE n (omega arith)))) h
+
+not_large : (v : ℕ) (x : Bool) → (ltb GREATEST_PRICE v || (eqb v GREATEST_PRICE && x)) ≡ false → v ≤ GREATEST_PRICE
+not_large v x h = ltb-false GREATEST_PRICE v (left (ltb GREATEST_PRICE v) (eqb v GREATEST_PRICE && x) h)
+  where
+    left : (a b : Bool) → (a || b) ≡ false → a ≡ false
+    left true b e = e
+    left false b e = refl
+
+-- the whole part, the millionths and what is finer, as the parser holds them, of a price word
+pub record IsPriced (w : List ℕ) (v m : ℕ) (fine : Bool) : Type 0 where
+  pub whole : Holds v (number_of (whole_part w))
+  pub more : (fine || ltb 0 m) ≡ has_place_from 0 (places w)
+  pub finer : fine ≡ is_too_fine w
+  pub millionths : m ≡ number_of (six_places (places w))
+  pub below : m ≤ 1000000
+
+price_follows : (lines : List (List (List ℕ))) (n w : List ℕ) (p : Progress) (v m : ℕ) (fine : Bool) → IsPriced w v m fine
+    → word_fault lines (n ∷ []) w ≡ when (is_too_large w) kinds.TooLarge (when (is_too_fine w) kinds.TooFine None)
+    → ((x : ℕ) → x ≡ price_of w → IsAt lines (n ∷ w ∷ []) (record p { place = Later; draft = record p.draft { price = x } }))
+    → WordFollows lines (n ∷ []) w (with_price p (price_parts v m fine))
+price_follows lines n w p v m fine i fault next =
+    let large : (ltb GREATEST_PRICE v || (eqb v GREATEST_PRICE && (fine || ltb 0 m))) ≡ is_too_large w =
+    large_same v (number_of (whole_part w)) (fine || ltb 0 m) (has_place_from 0 (places w)) i.whole i.more in
+    elim (ltb GREATEST_PRICE v || (eqb v GREATEST_PRICE && (fine || ltb 0 m))) as (λ b. (ltb GREATEST_PRICE v || (eqb v GREATEST_PRICE && (fine || ltb 0 m)))
+    ≡ b
+    → WordFollows lines (n ∷ []) w (with_price p (cond b (Err kinds.TooLarge) (cond fine (Err kinds.TooFine) (Ok (min (v * 1000000 + m) (2 ^ 64 - 1))))))) [
+      | true ↦ λ (e : (ltb GREATEST_PRICE v || (eqb v GREATEST_PRICE && (fine || ltb 0 m))) ≡ true). fault_named lines (n ∷ []) w _ _ _ fault (sym large ∙ e)
+      | false ↦ λ (e : (ltb GREATEST_PRICE v || (eqb v GREATEST_PRICE && (fine || ltb 0 m))) ≡ false).
+          let later : word_fault lines (n ∷ []) w ≡ when (is_too_fine w) kinds.TooFine None = passes lines (n ∷ []) w _ _ _ fault (sym large ∙ e) in
+          elim fine as (λ b. fine ≡ b → WordFollows lines (n ∷ []) w (with_price p (cond b (Err kinds.TooFine) (Ok (min (v * 1000000 + m) (2 ^ 64 - 1)))))) [
+            | true ↦ λ (f : fine ≡ true). fault_named lines (n ∷ []) w _ _ _ later (sym i.finer ∙ f)
+            | false ↦ λ (f : fine ≡ false).
+                let l : v ≤ GREATEST_PRICE = not_large v (fine || ltb 0 m) e in
+                let same : v ≡ number_of (whole_part w) = holds_same v (number_of (whole_part w)) (omega arith) i.whole in
+                let below : m ≤ 1000000 = i.below in
+                let millionths : m ≡ number_of (six_places (places w)) = i.millionths in
+                (passes lines (n ∷ []) w _ _ _ later (sym i.finer ∙ f), next (min (v * 1000000 + m) (2 ^ 64 - 1)) (omega arith))
+          ] refl
+    ] refl
+
+places-digits : (w : List ℕ) → digits_alone w ≡ true → places w ≡ []
+places-digits [] h = refl
+places-digits (a ∷ w) h = let q = and_parts (is_digit a) (digits_alone w) h in
+    let no : eqb a 46 ≡ false = ne_eqb a 46 (λ e. let low : 48 ≤ a = (digit_bounds a q.0).0 in absurd (omega arith)) in rw no (places-digits w q.1)
+
+priced_number : (w : List ℕ) (v : ℕ) → Tells w (Number v) → IsPriced w v 0 false
+priced_number [] v t = absurd (both_ways false refl t.0)
+priced_number (a ∷ w) v t =
+    let none : places (a ∷ w) ≡ [] = places-digits (a ∷ w) t.0 in record {
+      whole = subst (Holds v) (ap number_of (sym (whole-digits (a ∷ w) t.0))) t.1;
+      more = sym (ap (has_place_from 0) none);
+      finer = sym (ap (has_place_from 6) none);
+      millionths = sym (ap (λ ds. number_of (six_places ds)) none);
+      below = omega arith;
+    }
+
+priced_fraction : (w : List ℕ) (d : Decimal) → Tells w (Fraction d) → IsPriced w d.whole d.millionths d.fine
+priced_fraction w d f = at f.whole f.is f.number f.value
+  where
+    at : (whole : List ℕ) → w ≡ whole ++ 46 ∷ f.behind → is_number whole ≡ true → Holds d.whole (number_of whole) → IsPriced w d.whole d.millionths d.fine
+    at [] e n h = absurd (both_ways false refl n)
+    at (c ∷ cs) e n h =
+        let whole_is : whole_part w ≡ c ∷ cs = ap whole_part e ∙ whole-point (c ∷ cs) f.behind n in
+        let places_is : places w ≡ f.behind = ap places e ∙ places-point (c ∷ cs) f.behind n in
+        let below : places_from 0 f.behind ≤ 1000000 = places_below_one f.behind f.digits in
+        let m : d.millionths ≡ places_from 0 f.behind = f.millionths in record {
+          whole = subst (Holds d.whole) (ap number_of (sym whole_is)) h;
+          more = ap₂ (λ (x : Bool) (k : ℕ). x || ltb 0 k) f.fine m ∙ sym (place_not_zero f.behind f.digits) ∙ sym (ap (has_place_from 0) places_is);
+          finer = f.fine ∙ sym (ap (has_place_from 6) places_is);
+          millionths = m ∙ sym (places-six f.behind) ∙ sym (ap (λ ds. number_of (six_places ds)) places_is);
+          below = omega arith;
+        }
+
+-- nothing but the price has come
+behind_price : (g b d : List (List ℕ)) (lines : List (List (List ℕ))) (n w : List ℕ) (p : Progress) → IsAt (g ∷ b ∷ d ∷ lines) (n ∷ []) p
+    → (x : ℕ) → x ≡ price_of w → IsAt (g ∷ b ∷ d ∷ lines) (n ∷ w ∷ []) (record p { place = Later; draft = record p.draft { price = x } })
+behind_price g b d lines n w p at x e = record {
+  stage = at.stage;
+  place = refl;
+  header = at.header;
+  due = at.due;
+  slots = at.slots;
+  draft = record { number = at.draft.0; price = e; dummy = at.draft.1; goods = at.draft.2; one = λ v _ h. absurd (both_ways false refl h) };
+  goods = at.goods;
+  bids = at.bids;
+  dummy = at.dummy;
+}
+
+pub bid_second : (g b d : List (List ℕ)) (lines : List (List (List ℕ))) (n w : List ℕ) (s : Word) (p : Progress) → IsTold w s → Tells w s
+    → IsAt (g ∷ b ∷ d ∷ lines) (n ∷ []) p
+    → WordFollows (g ∷ b ∷ d ∷ lines) (n ∷ []) w (price_read p s)
+bid_second g b d lines n w (Number v) p told t at =
+    price_follows (g ∷ b ∷ d ∷ lines) n w p v 0 false (priced_number w v t) (passes (g ∷ b ∷ d ∷ lines) (n ∷ []) w _ _ _ refl (ap not told.price))
+    (behind_price g b d lines n w p at)
+bid_second g b d lines n w (Fraction e) p told t at =
+    elim (eqb e.places 0) as (λ x. eqb e.places 0 ≡ x
+    → WordFollows (g ∷ b ∷ d ∷ lines) (n ∷ []) w (cond x (Err kinds.NotANumber) (with_price p (price_parts e.whole e.millionths e.fine)))) [
+      | true ↦ λ (q : eqb e.places 0 ≡ true). fault_named (g ∷ b ∷ d ∷ lines) (n ∷ []) w _ _ _ refl (ap not (told.price ∙ ap not q))
+      | false ↦ λ (q : eqb e.places 0 ≡ false). price_follows (g ∷ b ∷ d ∷ lines) n w p e.whole e.millionths e.fine (priced_fraction w e t)
+          (passes (g ∷ b ∷ d ∷ lines) (n ∷ []) w _ _ _ refl (ap not (told.price ∙ ap not q))) (behind_price g b d lines n w p at)
+    ] refl
+bid_second g b d lines n w (Keyword j k) p told t at = fault_named (g ∷ b ∷ d ∷ lines) (n ∷ []) w _ _ _ refl (ap not told.price)
+bid_second g b d lines n w End p told t at = fault_named (g ∷ b ∷ d ∷ lines) (n ∷ []) w _ _ _ refl (ap not told.price)
+bid_second g b d lines n w Other p told t at = fault_named (g ∷ b ∷ d ∷ lines) (n ∷ []) w _ _ _ refl (ap not told.price)

@@ -1,0 +1,246 @@
+-- The words of the header lines: the parser and the definitions agree.
+use Rattle.std.proofs.Common.{lit<, ◌≡◌, ℕ, ◌<◌, ◌≤◌, true, false, not, cond, ltb, leb, ⊎_elim, List, [], ◌∷◌, ◌++◌, refl, sym, ap, ap₂, ◌∙◌, subst, arith, Option, None, Ok, Err}
+use Rattle.std.proofs.lemmas.Bool.{ltb-false, lt-ltb, le-leb, both_ways}
+use Rattle.cats_text.specs.Numbers.{is_number, number_of}
+use Rattle.cats_text.specs.Faults.{header_word, word_fault, when, header_value}
+use Rattle.cats_text.specs.Internal.Keywords.{keyword_text}
+use Rattle.cats_text.specs.Internal.Progress.{Progress}
+use Rattle.cats_text.specs.Internal.Parsing.{Reading, keyword_read, header_number_read, number_read, price_read, good_or_end_read, word_read}
+use Rattle.cats_text.specs.declared.fault.Kind.{Kind}
+use Rattle.cats_text.specs.declared.fault.Kind.TheVariants as kinds
+use Rattle.cats_text.specs.declared.word.Keyword.{Keyword as Key}
+use Rattle.cats_text.specs.declared.word.Keyword.TheVariants as keywords
+use Rattle.cats_text.specs.declared.word.Word.{Word}
+use Rattle.cats_text.specs.declared.word.Word.TheVariants.{Keyword, Number, Decimal as Fraction, End, Other}
+use Rattle.cats_text.specs.declared.word.TheConstants.{HELD}
+use Rattle.cats_text.specs.declared.parser.Header.{Header}
+use Rattle.cats_text.specs.declared.parser.Stage.{Stage}
+use Rattle.cats_text.specs.declared.parser.Stage.TheVariants.{Goods, Bids, Dummy, Bid}
+use Rattle.cats_text.specs.declared.parser.Place.{Place}
+use Rattle.cats_text.specs.declared.parser.Place.TheVariants.{First, Second, Later, Ended}
+use Rattle.cats_text.specs.declared.limits.TheConstants.{MAX_GOODS, MAX_BIDS, MAX_DUMMY}
+use Rattle.cats_text.proofs.Words.Kept.{Tells, Holds}
+use Rattle.cats_text.proofs.Words.Tests.{IsTold, tells_number, tells_keyword}
+use Rattle.cats_text.proofs.Parsing.States.{IsAt, WordFollows}
+
+-- ---- a word by its place, the place and the line given
+
+abbrev pub read_at : Place → Stage → Progress → Word → Reading
+read_at place stage p w = elim place [
+  | First ↦ elim stage [
+    | Goods ↦ keyword_read p keywords.Goods w
+    | Bids ↦ keyword_read p keywords.Bids w
+    | Dummy ↦ keyword_read p keywords.Dummy w
+    | Bid ↦ number_read p w
+  ]
+  | Second ↦ elim stage [ Goods ↦ header_number_read p w | Bids ↦ header_number_read p w | Dummy ↦ header_number_read p w | Bid ↦ price_read p w ]
+  | Later ↦ elim stage [ Goods ↦ Err kinds.Header | Bids ↦ Err kinds.Header | Dummy ↦ Err kinds.Header | Bid ↦ good_or_end_read p w ]
+  | Ended ↦ Err kinds.AfterEnd
+]
+
+-- ---- numbers that are held
+
+pub holds_lt : (m v n : ℕ) → m < HELD → Holds v n → ltb m v ≡ ltb m n
+holds_lt m v n small h = ⊎_elim (λ (e : v ≡ n). ap (λ k. ltb m k) e) (λ (above : (HELD ≤ v) × (HELD ≤ n)).
+    let a : HELD ≤ v = above.0 in let b : HELD ≤ n = above.1 in lt-ltb m v (omega arith) ∙ sym (lt-ltb m n (omega arith))) h
+
+pub holds_le : (m v n : ℕ) → m ≤ HELD → Holds v n → leb m v ≡ leb m n
+holds_le m v n small h = ⊎_elim (λ (e : v ≡ n). ap (λ k. leb m k) e) (λ (above : (HELD ≤ v) × (HELD ≤ n)).
+    let a : HELD ≤ v = above.0 in let b : HELD ≤ n = above.1 in le-leb m v (omega arith) ∙ sym (le-leb m n (omega arith))) h
+
+pub holds_same : (v n : ℕ) → v < HELD → Holds v n → v ≡ n
+holds_same v n small h = ⊎_elim (λ (e : v ≡ n). e) (λ (above : (HELD ≤ v) × (HELD ≤ n)). let a : HELD ≤ v = above.0 in absurd (omega arith)) h
+
+-- ---- the first word of a header line
+
+pub keyword_good : (p : Progress) (k : Key) (s : Word) → tells_keyword k s ≡ true → keyword_read p k s ≡ Ok (record p { place = Second })
+keyword_good p k (Keyword j n) h = rw h refl
+keyword_good p k (Number v) h = absurd (both_ways false refl h)
+keyword_good p k (Fraction d) h = absurd (both_ways false refl h)
+keyword_good p k End h = absurd (both_ways false refl h)
+keyword_good p k Other h = absurd (both_ways false refl h)
+
+pub keyword_bad : (p : Progress) (k : Key) (s : Word) → tells_keyword k s ≡ false → keyword_read p k s ≡ Err kinds.Header
+keyword_bad p k (Keyword j n) h = rw h refl
+keyword_bad p k (Number v) h = refl
+keyword_bad p k (Fraction d) h = refl
+keyword_bad p k End h = refl
+keyword_bad p k Other h = refl
+
+first_word : (lines : List (List (List ℕ))) (k : Key) (limit : ℕ) (p : Progress) (s : Word) (w : List ℕ) → IsTold w s
+    → word_read p s ≡ keyword_read p k s → word_fault lines [] w ≡ header_word (keyword_text k) limit [] w
+    → IsAt lines (w ∷ []) (record p { place = Second }) → WordFollows lines [] w (word_read p s)
+first_word lines k limit p s w t read fault next = subst (WordFollows lines [] w) (sym read)
+    (elim (tells_keyword k s) as (λ b. tells_keyword k s ≡ b → WordFollows lines [] w (keyword_read p k s)) [
+      | true ↦ λ (h : tells_keyword k s ≡ true). subst (WordFollows lines [] w) (sym (keyword_good p k s h)) (
+        fault
+            ∙ ap (λ b. when (not b) kinds.Header None) (t.keyword k ∙ h),
+        next,
+      )
+      | false ↦ λ (h : tells_keyword k s ≡ false). subst (WordFollows lines [] w) (sym (keyword_bad p k s h)) (fault
+          ∙ ap (λ b. when (not b) kinds.Header None) (t.keyword k ∙ h))
+    ] refl)
+
+-- ---- the second word of a header line
+
+-- a number up to a limit, and else the fault
+abbrev pub limited : ℕ → Progress → ℕ → Reading
+limited limit q v = cond (ltb limit v) (Err kinds.TooLarge) (Ok q)
+
+number_word_none : (w : List ℕ) (limit n : ℕ) → is_number w ≡ true → number_of w ≡ n → ltb limit n ≡ false
+    → when (not (is_number w)) kinds.NotANumber (when (ltb limit (number_of w)) kinds.TooLarge None) ≡ None
+number_word_none w limit n h e l = rw (h, e, l) refl
+
+second_number : (lines : List (List (List ℕ))) (before : List (List ℕ)) (limit : ℕ) (q : Progress) (v : ℕ) (w : List ℕ) → limit < HELD → Tells w (Number v)
+    → word_fault lines before w ≡ when (not (is_number w)) kinds.NotANumber (when (ltb limit (number_of w)) kinds.TooLarge None)
+    → (v ≡ number_of w → v ≤ limit → IsAt lines (before ++ w ∷ []) q) → WordFollows lines before w (limited limit q v)
+second_number lines before limit q v w small t fault next =
+    elim (ltb limit v) as (λ b. ltb limit v ≡ b → WordFollows lines before w (cond b (Err kinds.TooLarge) (Ok q))) [
+      | true ↦ λ (h : ltb limit v ≡ true). fault ∙ ap (λ b. when (not b) kinds.NotANumber (when (ltb limit (number_of w)) kinds.TooLarge None)) t.0
+          ∙ ap (λ b. when b kinds.TooLarge None) (sym (holds_lt limit v (number_of w) small t.1) ∙ h)
+      | false ↦ λ (h : ltb limit v ≡ false). let le : v ≤ limit = ltb-false limit v h in let same : v ≡ number_of w =
+          holds_same v (number_of w) (omega arith) t.1 in
+          (fault ∙ number_word_none w limit v t.0 (sym same) h, next same le)
+    ] refl
+
+-- a word that is no number
+no_number : (lines : List (List (List ℕ))) (before : List (List ℕ)) (w : List ℕ) (rest : Option Kind) → is_number w ≡ false
+    → word_fault lines before w ≡ when (not (is_number w)) kinds.NotANumber rest → WordFollows lines before w (Err kinds.NotANumber)
+no_number lines before w rest h fault = fault ∙ ap (λ b. when (not b) kinds.NotANumber rest) h
+
+header_value_of : (k w : List ℕ) (v : ℕ) → is_number w ≡ true → v ≡ number_of w → v ≡ header_value (k ∷ w ∷ [])
+header_value_of k w v h e = e ∙ sym (ap (λ b. cond b (number_of w) 0) h)
+
+second_word : (lines : List (List (List ℕ))) (k : List ℕ) (limit : ℕ) (p : Progress) (s : Word) (w : List ℕ) → limit < HELD → IsTold w s → Tells w s
+    → (q : ℕ → Progress) → ((v : ℕ) → word_read p (Number v) ≡ limited limit (q v) v)
+    → ((x : Word) → tells_number x ≡ false → word_read p x ≡ Err kinds.NotANumber)
+    → word_fault lines (k ∷ []) w ≡ when (not (is_number w)) kinds.NotANumber (when (ltb limit (number_of w)) kinds.TooLarge None)
+    → ((v : ℕ) → v ≡ header_value (k ∷ w ∷ []) → v ≤ limit → IsAt lines (k ∷ w ∷ []) (q v)) → WordFollows lines (k ∷ []) w (word_read p s)
+second_word lines k limit p (Number v) w small told t q number other fault next =
+    subst (WordFollows lines (k ∷ []) w) (sym (number v))
+    (second_number lines (k ∷ []) limit (q v) v w small t fault (λ e le. next v (header_value_of k w v t.0 e) le))
+second_word lines k limit p (Keyword j n) w small told t q number other fault next =
+    subst (WordFollows lines (k ∷ []) w) (sym (other (Keyword j n) refl)) (no_number lines (k ∷ []) w _ told.number fault)
+second_word lines k limit p (Fraction d) w small told t q number other fault next =
+    subst (WordFollows lines (k ∷ []) w) (sym (other (Fraction d) refl)) (no_number lines (k ∷ []) w _ told.number fault)
+second_word lines k limit p End w small told t q number other fault next =
+    subst (WordFollows lines (k ∷ []) w) (sym (other End refl)) (no_number lines (k ∷ []) w _ told.number fault)
+second_word lines k limit p Other w small told t q number other fault next =
+    subst (WordFollows lines (k ∷ []) w) (sym (other Other refl)) (no_number lines (k ∷ []) w _ told.number fault)
+
+-- ---- a header line, whichever it is
+
+-- reading at a known place of a known line
+pub read_there : (place : Place) (stage : Stage) (p : Progress) (s : Word) → p.place ≡ place → p.stage ≡ stage → word_read p s ≡ read_at place stage p s
+read_there place stage p s e f = ap₂ (λ (x : Place) (y : Stage). read_at x y p s) e f
+
+not_number_read : (p : Progress) (x : Word) → tells_number x ≡ false → header_number_read p x ≡ Err kinds.NotANumber
+not_number_read p (Number v) h = absurd (both_ways true h refl)
+not_number_read p (Keyword j n) h = refl
+not_number_read p (Fraction d) h = refl
+not_number_read p End h = refl
+not_number_read p Other h = refl
+
+abbrev numbers_at : Stage → Progress → ℕ → Reading
+numbers_at stage p v = elim stage [
+  | Goods ↦ limited MAX_GOODS (record p { place = Later; header = record p.header { goods = v } }) v
+  | Bids ↦ limited MAX_BIDS (record p { place = Later; header = record p.header { bids = v }; due = v }) v
+  | Dummy ↦ limited MAX_DUMMY (record p { place = Later; header = record p.header { dummy = v } }) v
+  | Bid ↦ Err kinds.Header
+]
+
+number_there : (stage : Stage) (p : Progress) (v : ℕ) → p.stage ≡ stage → header_number_read p (Number v) ≡ numbers_at stage p v
+number_there stage p v e = ap (λ (x : Stage). numbers_at x p v) e
+
+pub goods_word : (words : List (List ℕ)) (w : List ℕ) (s : Word) (p : Progress) → IsTold w s → Tells w s → IsAt [] words p
+    → WordFollows [] words w (word_read p s)
+goods_word [] w s p told t at = first_word [] keywords.Goods MAX_GOODS p s w told (read_there First Goods p s at.place at.stage) refl
+    (record {
+      stage = at.stage;
+      place = refl;
+      header = at.header;
+      due = at.due;
+      slots = at.slots;
+      draft = at.draft;
+      goods = at.goods;
+      bids = at.bids;
+      dummy = at.dummy;
+    })
+goods_word (k ∷ []) w s p told t at =
+    second_word [] k MAX_GOODS p s w (lit< tt) told t (λ v. record p { place = Later; header = record p.header { goods = v } })
+    (λ v. read_there Second Goods p (Number v) at.place at.stage ∙ number_there Goods p v at.stage)
+    (λ x h. read_there Second Goods p x at.place at.stage ∙ not_number_read p x h) refl
+    (λ v e le. record {
+      stage = at.stage;
+      place = refl;
+      header = ap₂ (λ (x : ℕ) (h : Header). record h { goods = x }) e at.header;
+      due = at.due;
+      slots = at.slots;
+      draft = at.draft;
+      goods = le;
+      bids = at.bids;
+      dummy = at.dummy;
+    })
+goods_word (k ∷ v ∷ words) w s p told t at = subst (WordFollows [] (k ∷ v ∷ words) w) (sym (read_there Later Goods p s at.place at.stage)) refl
+
+pub bids_word : (g : List (List ℕ)) (words : List (List ℕ)) (w : List ℕ) (s : Word) (p : Progress) → IsTold w s → Tells w s → IsAt (g ∷ []) words p
+    → WordFollows (g ∷ []) words w (word_read p s)
+bids_word g [] w s p told t at = first_word (g ∷ []) keywords.Bids MAX_BIDS p s w told (read_there First Bids p s at.place at.stage) refl
+    (record {
+      stage = at.stage;
+      place = refl;
+      header = at.header;
+      due = at.due;
+      slots = at.slots;
+      draft = at.draft;
+      goods = at.goods;
+      bids = at.bids;
+      dummy = at.dummy;
+    })
+bids_word g (k ∷ []) w s p told t at =
+    second_word (g ∷ []) k MAX_BIDS p s w (lit< tt) told t (λ v. record p { place = Later; header = record p.header { bids = v }; due = v })
+    (λ v. read_there Second Bids p (Number v) at.place at.stage ∙ number_there Bids p v at.stage)
+    (λ x h. read_there Second Bids p x at.place at.stage ∙ not_number_read p x h) refl
+    (λ v e le. record {
+      stage = at.stage;
+      place = refl;
+      header = ap₂ (λ (x : ℕ) (h : Header). record h { bids = x }) e at.header;
+      due = omega arith;
+      slots = at.slots;
+      draft = at.draft;
+      goods = at.goods;
+      bids = le;
+      dummy = at.dummy;
+    })
+bids_word g (k ∷ v ∷ words) w s p told t at = subst (WordFollows (g ∷ []) (k ∷ v ∷ words) w) (sym (read_there Later Bids p s at.place at.stage)) refl
+
+pub dummy_word : (g b : List (List ℕ)) (words : List (List ℕ)) (w : List ℕ) (s : Word) (p : Progress) → IsTold w s → Tells w s → IsAt (g ∷ b ∷ []) words p
+    → WordFollows (g ∷ b ∷ []) words w (word_read p s)
+dummy_word g b [] w s p told t at = first_word (g ∷ b ∷ []) keywords.Dummy MAX_DUMMY p s w told (read_there First Dummy p s at.place at.stage) refl
+    (record {
+      stage = at.stage;
+      place = refl;
+      header = at.header;
+      due = at.due;
+      slots = at.slots;
+      draft = at.draft;
+      goods = at.goods;
+      bids = at.bids;
+      dummy = at.dummy;
+    })
+dummy_word g b (k ∷ []) w s p told t at =
+    second_word (g ∷ b ∷ []) k MAX_DUMMY p s w (lit< tt) told t (λ v. record p { place = Later; header = record p.header { dummy = v } })
+    (λ v. read_there Second Dummy p (Number v) at.place at.stage ∙ number_there Dummy p v at.stage)
+    (λ x h. read_there Second Dummy p x at.place at.stage ∙ not_number_read p x h) refl
+    (λ v e le. record {
+      stage = at.stage;
+      place = refl;
+      header = ap₂ (λ (x : ℕ) (h : Header). record h { dummy = x }) e at.header;
+      due = at.due;
+      slots = at.slots;
+      draft = at.draft;
+      goods = at.goods;
+      bids = at.bids;
+      dummy = le;
+    })
+dummy_word g b (k ∷ v ∷ words) w s p told t at = subst (WordFollows (g ∷ b ∷ []) (k ∷ v ∷ words) w) (sym (read_there Later Dummy p s at.place at.stage)) refl

@@ -1,0 +1,98 @@
+-- What the parser keeps, as a function of the lines before and the words before in a line.
+use Rattle.std.proofs.Common.{◌≡◌, ℕ, ◌-◌, ◌≤◌, Bool, true, false, leb, List, [], ◌∷◌, ◌++◌, length, drop, map, fold, Option, Some, None, Ok, Err}
+use Rattle.std.specs.List.{find}
+use Rattle.cats_text.specs.Lines.{Word}
+use Rattle.cats_text.specs.Numbers.{number_of, price_of}
+use Rattle.cats_text.specs.Grammar.{has_number, line_number}
+use Rattle.cats_text.specs.Faults.{header_value, has_end, word_fault, end_fault}
+use Rattle.cats_text.specs.FileLines.{before_end, real_goods, dummy_in, bid_of, put_slot}
+use Rattle.cats_text.specs.Files.{PlainBid}
+use Rattle.cats_text.specs.Internal.Progress.{Progress}
+use Rattle.cats_text.specs.Internal.Parsing.{Reading, kept_of}
+use Rattle.cats_text.specs.declared.parser.Keeping.{Keeping}
+use Rattle.cats_text.specs.declared.parser.Stage.{Stage}
+use Rattle.cats_text.specs.declared.parser.Stage.TheVariants.{Goods, Bids, Dummy, Bid}
+use Rattle.cats_text.specs.declared.parser.Place.{Place}
+use Rattle.cats_text.specs.declared.parser.Place.TheVariants.{First, Second, Later, Ended}
+use Rattle.cats_text.specs.declared.parser.Header.{Header}
+use Rattle.cats_text.specs.declared.limits.TheConstants.{MAX_GOODS, MAX_BIDS, MAX_DUMMY}
+
+abbrev pub stage_of : List (List Word) → Stage
+stage_of [] = Goods
+stage_of (_ ∷ []) = Bids
+stage_of (_ ∷ _ ∷ []) = Dummy
+stage_of (_ ∷ _ ∷ _ ∷ _) = Bid
+
+abbrev pub header_place : List Word → Place
+header_place [] = First
+header_place (_ ∷ []) = Second
+header_place (_ ∷ _ ∷ _) = Later
+
+abbrev pub ended_place : Bool → Place
+ended_place true = Ended
+ended_place false = Later
+
+abbrev pub bid_place : List Word → Place
+bid_place [] = First
+bid_place (_ ∷ []) = Second
+bid_place (_ ∷ _ ∷ gs) = ended_place (has_end gs)
+
+abbrev pub place_of : List (List Word) → List Word → Place
+place_of [] words = header_place words
+place_of (_ ∷ []) words = header_place words
+place_of (_ ∷ _ ∷ []) words = header_place words
+place_of (_ ∷ _ ∷ _ ∷ _) words = bid_place words
+
+abbrev pub values_of : List (List Word) → List Word → Header
+values_of [] words = record { goods = header_value words; bids = 0; dummy = 0 }
+values_of (g ∷ []) words = record { goods = header_value g; bids = header_value words; dummy = 0 }
+values_of (g ∷ b ∷ []) words = record { goods = header_value g; bids = header_value b; dummy = header_value words }
+values_of (g ∷ b ∷ d ∷ _) words = record { goods = header_value g; bids = header_value b; dummy = header_value d }
+
+-- no two of the values are dummies, unless they are equal
+abbrev pub HasOneDummy : ℕ → List ℕ → Type 0
+HasOneDummy G vs = (v : ℕ) → leb G v ≡ true → has_number vs v ≡ true → find (λ x. leb G x) vs ≡ Some v
+
+pub record IsDraft (G : ℕ) (n w : Word) (gs : List Word) (p : Progress) : Type 0 where
+  pub number : p.draft.number ≡ number_of n
+  pub price : p.draft.price ≡ price_of w
+  pub dummy : p.draft.dummy ≡ dummy_in G (before_end gs)
+  pub goods : p.goods ≡ real_goods G (before_end gs)
+  pub one : HasOneDummy G (map number_of (before_end gs))
+
+abbrev pub BidDraft : ℕ → List Word → Progress → Type 0
+BidDraft G [] p = p.goods ≡ []
+BidDraft G (n ∷ []) p = (p.draft.number ≡ number_of n) × (p.draft.dummy ≡ None) × (p.goods ≡ [])
+BidDraft G (n ∷ w ∷ gs) p = IsDraft G n w gs p
+
+abbrev pub DraftAt : List (List Word) → List Word → Progress → Type 0
+DraftAt [] words p = p.goods ≡ []
+DraftAt (_ ∷ []) words p = p.goods ≡ []
+DraftAt (_ ∷ _ ∷ []) words p = p.goods ≡ []
+DraftAt (_ ∷ _ ∷ _ ∷ _) words p = BidDraft p.header.goods words p
+
+-- what is kept of the bids of lines, each at its number
+abbrev pub kept_slots : Keeping → ℕ → List (List Word) → List (Option PlainBid)
+kept_slots keeping G lines = fold (λ slots l. put_slot slots (line_number l) (kept_of keeping (bid_of G l))) [] lines
+
+-- p is what the parser keeps behind these lines and, in the next, these words
+pub record IsAt (lines : List (List Word)) (words : List Word) (p : Progress) : Type 0 where
+  pub stage : p.stage ≡ stage_of lines
+  pub place : p.place ≡ place_of lines words
+  pub header : p.header ≡ values_of lines words
+  pub due : p.due ≡ p.header.bids - length (drop 3 lines)
+  pub slots : p.slots ≡ kept_slots p.keeping p.header.goods (drop 3 lines)
+  pub draft : DraftAt lines words p
+  pub goods : p.header.goods ≤ MAX_GOODS
+  pub bids : p.header.bids ≤ MAX_BIDS
+  pub dummy : p.header.dummy ≤ MAX_DUMMY
+
+-- what a word does: it is a fault, or it is behind the words
+abbrev pub WordFollows : List (List Word) → List Word → Word → Reading → Type 0
+WordFollows lines words w (Ok q) = (word_fault lines words w ≡ None) × IsAt lines (words ++ w ∷ []) q
+WordFollows lines words w (Err kind) = word_fault lines words w ≡ Some kind
+
+-- what a line's end does
+abbrev pub LineFollows : List (List Word) → List Word → Reading → Type 0
+LineFollows lines words (Ok q) = (end_fault lines words ≡ None) × IsAt (lines ++ words ∷ []) [] q
+LineFollows lines words (Err kind) = end_fault lines words ≡ Some kind

@@ -1,0 +1,453 @@
+-- Where the scanner is in a bid line, a fourth significant line has begun. The idea: count the lines that begin, byte by byte,
+-- and the header lines that have ended by the parser's stage.
+use Rattle.std.proofs.Common.{◌≡◌, ℕ, suc, ◌+◌, ◌-◌, ◌≤◌, Option, Some, None, Bool, true, false, not, cond, eqb, ltb, leb, ⊎_elim, List, [], ◌∷◌, ◌++◌, length, filter, refl, sym, ap, ◌∙◌, subst, arith, Result, Ok, Err, IsOkAnd}
+use Rattle.std.proofs.lemmas.Bool.{lt-ltb}
+use Rattle.cats_text.specs.Lines.{Word, RawLine, Line, raw_lines, lines_with, with_byte, line_words, words_with, with_letter, begins_word, is_significant, is_blank, numbered, blank_returns, significant_lines}
+use Rattle.cats_text.specs.Faults.{has_bid_line}
+use Rattle.std.specs.List.{slice_get}
+use Rattle.cats_text.specs.Grammar.{has_number}
+use Rattle.cats_text.specs.Internal.Progress.{Progress}
+use Rattle.cats_text.specs.Internal.Parsing.{Reading, keyword_read, header_number_read, number_read, is_some_bid, price_parts, with_price, price_read, dummy_read, good_or_end_read, word_read, line_read}
+use Rattle.cats_text.specs.declared.fault.Kind.{Kind}
+use Rattle.cats_text.specs.declared.fault.Kind.TheVariants as kinds
+use Rattle.cats_text.specs.declared.word.Keyword.{Keyword as Key}
+use Rattle.cats_text.specs.declared.word.Keyword.TheVariants as keywords
+use Rattle.cats_text.specs.declared.word.Word.TheVariants.{Keyword, Number, Decimal as Fraction, End, Other}
+use Rattle.cats_text.specs.declared.parser.Keeping.{Keeping}
+use Rattle.cats_text.specs.declared.parser.Place.{Place}
+use Rattle.cats_text.specs.declared.parser.Place.TheVariants.{First, Second, Later, Ended}
+use Rattle.cats_text.specs.declared.limits.TheConstants.{MAX_GOODS, MAX_BIDS, MAX_DUMMY}
+use Rattle.cats_text.proofs.Parsing.Headers.{read_at}
+use Rattle.cats_text.proofs.Parsing.Lines.{line_at}
+use Rattle.cats_text.specs.Internal.Scanning.{State, Scan, and_then, byte_step, blank_step, words_step, line_step, next_line, with_reading, letter_mode, MeetsBidLine, IsInBidLine, IsInLine, first_state}
+use Rattle.cats_text.specs.Internal.Machine.{word_from}
+use Rattle.cats_text.specs.declared.word.Word.{Word as Kept}
+use Rattle.cats_text.specs.declared.parser.Stage.{Stage}
+use Rattle.cats_text.specs.declared.parser.Stage.TheVariants.{Goods, Bids, Dummy, Bid}
+use Rattle.cats_text.specs.declared.scanner.Mode.{Mode}
+use Rattle.cats_text.specs.declared.scanner.Mode.TheVariants.{Start, Blank, Comment, Between, Inside}
+use Rattle.cats_text.proofs.Scanning.Lines.{standing, words_blank}
+
+-- ---- how many significant lines begin in the bytes
+
+abbrev next_begin : Bool → ℕ → ℕ → ℕ → ℕ
+next_begin decided b fresh later = cond (eqb b 10) fresh (cond decided later (cond (is_blank b) fresh (cond (eqb b 37) later (suc later))))
+
+-- it is known of the line so far whether it has words or is a comment, or not yet
+begins_after : Bool → List ℕ → ℕ
+begins_after decided [] = 0
+begins_after decided (b ∷ bs) = next_begin decided b (begins_after false bs) (begins_after true bs)
+
+begins-nil : (d : Bool) → begins_after d [] ≡ 0
+unfolding begins_after
+begins-nil d = refl
+
+begins-cons : (d : Bool) (b : ℕ) (bs : List ℕ) → begins_after d (b ∷ bs) ≡ next_begin d b (begins_after false bs) (begins_after true bs)
+unfolding begins_after
+begins-cons d b bs = refl
+
+abbrev one_if : Bool → ℕ
+one_if t = cond t 1 0
+
+abbrev counted : ℕ → List RawLine → ℕ
+counted n ls = length (filter (λ (l : Line). is_significant l.words) (numbered n ls))
+
+counted-cons : (n : ℕ) (l : RawLine) (ls : List RawLine) → counted n (l ∷ ls) ≡ one_if (is_significant (line_words l.bytes)) + counted (suc n) ls
+counted-cons n l ls = elim (is_significant (line_words l.bytes)) as (λ t. length
+    (cond t (record { number = n; words = line_words l.bytes; ended = l.ended } ∷ filter (λ (m : Line). is_significant m.words) (numbered (suc n) ls))
+    (filter (λ (m : Line). is_significant m.words) (numbered (suc n) ls))) ≡ one_if t + counted (suc n) ls) [ true ↦ omega arith | false ↦ omega arith ]
+
+-- the number of the first line does not matter
+counted-from : (m n : ℕ) (ls : List RawLine) → counted m ls ≡ counted n ls
+counted-from m n [] = refl
+counted-from m n (l ∷ ls) = counted-cons m l ls ∙ ap (λ k. one_if (is_significant (line_words l.bytes)) + k) (counted-from (suc m) (suc n) ls)
+    ∙ sym (counted-cons n l ls)
+
+-- the lines behind the first
+abbrev behind_first : List RawLine → List RawLine
+behind_first [] = []
+behind_first (l ∷ ls) = ls
+
+abbrev first_bytes : List RawLine → List ℕ
+first_bytes [] = []
+first_bytes (l ∷ ls) = l.bytes
+
+-- the words of a line that begins with a letter are judged by that letter
+significant_letter : (b : ℕ) (bs : List ℕ) → is_blank b ≡ false → is_significant (line_words (b ∷ bs)) ≡ not (eqb b 37)
+significant_letter b bs e = joined (line_words bs)
+  where
+    front : (ws : List Word) → is_significant (with_letter b ws) ≡ not (eqb b 37)
+    front [] = refl
+    front (w ∷ ws) = refl
+
+    joined : (ws : List Word) → is_significant (words_with b bs ws) ≡ not (eqb b 37)
+    joined ws = ap (λ t. is_significant (cond t ws (cond (begins_word bs) (with_letter b ws) ((b ∷ []) ∷ ws)))) e
+        ∙ (elim (begins_word bs) as (λ t. is_significant (cond t (with_letter b ws) ((b ∷ []) ∷ ws)) ≡ not (eqb b 37)) [ true ↦ front ws | false ↦ refl ])
+
+counted_first : (ls : List RawLine) → counted 1 ls ≡ one_if (is_significant (line_words (first_bytes ls))) + counted 1 (behind_first ls)
+counted_first [] = refl
+counted_first (l ∷ ls) = counted-cons 1 l ls ∙ ap (λ k. one_if (is_significant (line_words l.bytes)) + k) (counted-from 2 1 ls)
+
+-- what the bytes begin, and what begins behind their first line
+record Begins (text : List ℕ) : Type 0 where
+  fresh : begins_after false text ≡ counted 1 (raw_lines text)
+  later : begins_after true text ≡ counted 1 (behind_first (raw_lines text))
+
+begins_lf : (b : ℕ) (bs : List ℕ) → eqb b 10 ≡ true → Begins bs → Begins (b ∷ bs)
+begins_lf b bs e h = record {
+  fresh = begins-cons false b bs
+      ∙ ap (λ t. cond t (begins_after false bs)
+      (cond (is_blank b) (begins_after false bs) (cond (eqb b 37) (begins_after true bs) (suc (begins_after true bs))))) e ∙ h.fresh
+      ∙ sym (counted_first (lines_with b (raw_lines bs))
+      ∙ ap (λ t. one_if (is_significant
+      (line_words (first_bytes (cond t (record { bytes = []; ended = true } ∷ raw_lines bs) (with_byte b (raw_lines bs))))))
+      + counted 1 (behind_first (cond t (record { bytes = []; ended = true } ∷ raw_lines bs) (with_byte b (raw_lines bs))))) e ∙ omega arith);
+  later = begins-cons true b bs ∙ ap (λ t. cond t (begins_after false bs) (begins_after true bs)) e ∙ h.fresh
+      ∙ sym (ap (λ t. counted 1 (behind_first (cond t (record { bytes = []; ended = true } ∷ raw_lines bs) (with_byte b (raw_lines bs))))) e);
+}
+
+first_with : (b : ℕ) (ls : List RawLine) → first_bytes (with_byte b ls) ≡ b ∷ first_bytes ls
+first_with b [] = refl
+first_with b (l ∷ ls) = refl
+
+behind_with : (b : ℕ) (ls : List RawLine) → behind_first (with_byte b ls) ≡ behind_first ls
+behind_with b [] = refl
+behind_with b (l ∷ ls) = refl
+
+lines_other : (b : ℕ) (ls : List RawLine) → eqb b 10 ≡ false → lines_with b ls ≡ with_byte b ls
+lines_other b ls e = ap (λ t. cond t (record { bytes = []; ended = true } ∷ ls) (with_byte b ls)) e
+
+begins_other : (b : ℕ) (bs : List ℕ) → eqb b 10 ≡ false → Begins bs → Begins (b ∷ bs)
+begins_other b bs e h = record {
+  fresh = begins-cons false b bs
+      ∙ ap (λ t. cond t (begins_after false bs)
+      (cond (is_blank b) (begins_after false bs) (cond (eqb b 37) (begins_after true bs) (suc (begins_after true bs))))) e
+      ∙ by_blank ∙ sym whole;
+  later = begins-cons true b bs ∙ ap (λ t. cond t (begins_after false bs) (begins_after true bs)) e ∙ h.later
+      ∙ sym (ap (counted 1) (ap behind_first (lines_other b (raw_lines bs) e) ∙ behind_with b (raw_lines bs)));
+}
+  where
+    whole : counted 1 (raw_lines (b ∷ bs)) ≡ one_if (is_significant (line_words (b ∷ first_bytes (raw_lines bs)))) + counted 1 (behind_first (raw_lines bs))
+    whole = counted_first (raw_lines (b ∷ bs)) ∙ ap (λ (ls : List RawLine). one_if (is_significant (line_words (first_bytes ls))) + counted 1 (behind_first ls))
+        (lines_other b (raw_lines bs) e)
+        ∙ ap (λ (ds : List ℕ). one_if (is_significant (line_words ds)) + counted 1 (behind_first (with_byte b (raw_lines bs)))) (first_with b (raw_lines bs))
+        ∙ ap (λ (ls : List RawLine). one_if (is_significant (line_words (b ∷ first_bytes (raw_lines bs)))) + counted 1 ls) (behind_with b (raw_lines bs))
+
+    by_blank : cond (is_blank b) (begins_after false bs) (cond (eqb b 37) (begins_after true bs) (suc (begins_after true bs)))
+        ≡ one_if (is_significant (line_words (b ∷ first_bytes (raw_lines bs)))) + counted 1 (behind_first (raw_lines bs))
+    by_blank = elim (is_blank b) as (λ t. is_blank b ≡ t → cond t (begins_after false bs) (cond (eqb b 37) (begins_after true bs) (suc (begins_after true bs)))
+        ≡ one_if (is_significant (line_words (b ∷ first_bytes (raw_lines bs)))) + counted 1 (behind_first (raw_lines bs))) [
+          | true ↦ λ (q : is_blank b ≡ true). h.fresh ∙ counted_first (raw_lines bs)
+              ∙ ap (λ ws. one_if (is_significant ws) + counted 1 (behind_first (raw_lines bs))) (sym (words_blank b (first_bytes (raw_lines bs)) q))
+          | false ↦ λ (q : is_blank b ≡ false).
+              (elim (eqb b 37) as (λ t. cond t (begins_after true bs) (suc (begins_after true bs)) ≡ one_if (not t) + counted 1 (behind_first (raw_lines bs))) [
+                | true ↦ h.later ∙ omega arith
+                | false ↦ ap suc h.later ∙ omega arith
+              ]) ∙ ap (λ t. one_if t + counted 1 (behind_first (raw_lines bs))) (sym (significant_letter b (first_bytes (raw_lines bs)) q))
+        ] refl
+
+begins_are : (text : List ℕ) → Begins text
+begins_are [] = record { fresh = begins-nil false; later = begins-nil true }
+begins_are (b ∷ bs) = elim (eqb b 10) as (λ t. eqb b 10 ≡ t → Begins (b ∷ bs)) [
+  | true ↦ λ e. begins_lf b bs e (begins_are bs)
+  | false ↦ λ e. begins_other b bs e (begins_are bs)
+] refl
+
+-- more bytes begin no fewer lines
+begins_more : (d : Bool) (xs ys : List ℕ) → begins_after d xs ≤ begins_after d (xs ++ ys)
+begins_more d [] ys = let none : begins_after d [] ≡ 0 = begins-nil d in omega arith
+begins_more d (x ∷ xs) ys = let first : begins_after d (x ∷ xs) ≡ next_begin d x (begins_after false xs) (begins_after true xs) = begins-cons d x xs in
+    let whole : begins_after d (x ∷ (xs ++ ys)) ≡ next_begin d x (begins_after false (xs ++ ys)) (begins_after true (xs ++ ys)) = begins-cons d x (xs ++ ys) in
+    subst (λ k. k ≤ begins_after d (x ∷ (xs ++ ys))) (sym first) (subst (λ k. next_begin d x (begins_after false xs) (begins_after true xs) ≤ k) (sym whole)
+    (grows (begins_after false xs) (begins_after true xs) (begins_after false (xs ++ ys)) (begins_after true (xs ++ ys)) (begins_more false xs ys)
+    (begins_more true xs ys)))
+  where
+    grows : (a b c e : ℕ) → a ≤ c → b ≤ e → next_begin d x a b ≤ next_begin d x c e
+    grows a b c e l m = elim (eqb x 10) as (λ t. cond t a (cond d b (cond (is_blank x) a (cond (eqb x 37) b (suc b))))
+        ≤ cond t c (cond d e (cond (is_blank x) c (cond (eqb x 37) e (suc e))))) [
+          | true ↦ l
+          | false ↦ elim d as (λ t. cond t b (cond (is_blank x) a (cond (eqb x 37) b (suc b))) ≤ cond t e (cond (is_blank x) c (cond (eqb x 37) e (suc e)))) [
+            | true ↦ m
+            | false ↦ elim (is_blank x) as (λ t. cond t a (cond (eqb x 37) b (suc b)) ≤ cond t c (cond (eqb x 37) e (suc e))) [
+              | true ↦ l
+              | false ↦ elim (eqb x 37) as (λ t. cond t b (suc b) ≤ cond t e (suc e)) [ true ↦ m | false ↦ omega arith ]
+            ]
+          ]
+        ]
+
+-- ---- the header lines that have ended
+
+abbrev rank : Stage → ℕ
+rank Goods = 0
+rank Bids = 1
+rank Dummy = 2
+rank Bid = 3
+
+abbrev ok_of : Progress → Reading
+ok_of p = Ok p
+
+abbrev err_of : Kind → Reading
+err_of kind = Err kind
+
+-- what is read is of the same line, and as much is kept of its bid
+pub record Keeps (p : Progress) (r : Reading) : Type 0 where
+  pub same : (q : Progress) → r ≡ Ok q → q.stage ≡ p.stage
+  pub keeping : (q : Progress) → r ≡ Ok q → q.keeping ≡ p.keeping
+
+keeps_ok : (p q : Progress) → q.stage ≡ p.stage → q.keeping ≡ p.keeping → Keeps p (Ok q)
+keeps_ok p q e f = record {
+  same = λ t h. subst (λ (u : Progress). u.stage ≡ p.stage) (progress_ok q t h) e;
+  keeping = λ t h. subst (λ (u : Progress). u.keeping ≡ p.keeping) (progress_ok q t h) f;
+}
+  where
+    progress_ok : (x y : Progress) → ok_of x ≡ ok_of y → x ≡ y
+    progress_ok x y h = cc
+
+keeps_err : (p : Progress) (kind : Kind) → Keeps p (Err kind)
+keeps_err p kind = record { same = λ t h. absurd (no kind t h); keeping = λ t h. absurd (no kind t h) }
+  where
+    no : (k : Kind) (t : Progress) → err_of k ≡ ok_of t → ⊥
+    no k t h = cc
+
+keeps_cond : (p : Progress) (b : Bool) (x y : Reading) → Keeps p x → Keeps p y → Keeps p (cond b x y)
+keeps_cond p true x y h k = h
+keeps_cond p false x y h k = k
+
+keeps_keyword : (p : Progress) (k : Key) (w : Kept) → Keeps p (keyword_read p k w)
+keeps_keyword p k (Keyword j n) = keeps_cond p _ _ _ (keeps_ok p _ refl refl) (keeps_err p _)
+keeps_keyword p k (Number v) = keeps_err p _
+keeps_keyword p k (Fraction d) = keeps_err p _
+keeps_keyword p k End = keeps_err p _
+keeps_keyword p k Other = keeps_err p _
+
+keeps_header_number : (p : Progress) (stage : Stage) (v : ℕ) → Keeps p (elim stage [
+  | Goods ↦ cond (ltb MAX_GOODS v) (Err kinds.TooLarge) (Ok (record p { place = Later; header = record p.header { goods = v } }))
+  | Bids ↦ cond (ltb MAX_BIDS v) (Err kinds.TooLarge) (Ok (record p { place = Later; header = record p.header { bids = v }; due = v }))
+  | Dummy ↦ cond (ltb MAX_DUMMY v) (Err kinds.TooLarge) (Ok (record p { place = Later; header = record p.header { dummy = v } }))
+  | Bid ↦ Err kinds.Header
+])
+keeps_header_number p Goods v = keeps_cond p _ _ _ (keeps_err p _) (keeps_ok p _ refl refl)
+keeps_header_number p Bids v = keeps_cond p _ _ _ (keeps_err p _) (keeps_ok p _ refl refl)
+keeps_header_number p Dummy v = keeps_cond p _ _ _ (keeps_err p _) (keeps_ok p _ refl refl)
+keeps_header_number p Bid v = keeps_err p _
+
+keeps_second : (p : Progress) (w : Kept) → Keeps p (header_number_read p w)
+keeps_second p (Keyword j n) = keeps_err p _
+keeps_second p (Number v) = keeps_header_number p p.stage v
+keeps_second p (Fraction d) = keeps_err p _
+keeps_second p End = keeps_err p _
+keeps_second p Other = keeps_err p _
+
+keeps_number : (p : Progress) (w : Kept) → Keeps p (number_read p w)
+keeps_number p (Keyword j n) = keeps_err p _
+keeps_number p (Number v) =
+    let last : Reading = Ok (record p { place = Second; draft = record { number = v; price = 0; dummy = None } }) in
+    let new : Reading = cond (is_some_bid (slice_get p.slots v)) (Err kinds.RepeatedNumber) last in
+    let low : Reading = cond (leb p.header.bids v) (Err kinds.BidNumber) new in
+    keeps_cond p (eqb p.due 0) (Err kinds.ExtraBid) low (keeps_err p kinds.ExtraBid)
+    (keeps_cond p (leb p.header.bids v) (Err kinds.BidNumber) new (keeps_err p kinds.BidNumber)
+    (keeps_cond p (is_some_bid (slice_get p.slots v)) (Err kinds.RepeatedNumber) last (keeps_err p kinds.RepeatedNumber)
+    (keeps_ok p (record p { place = Second; draft = record { number = v; price = 0; dummy = None } }) refl refl)))
+keeps_number p (Fraction d) = keeps_err p _
+keeps_number p End = keeps_err p _
+keeps_number p Other = keeps_err p _
+
+keeps_with_price : (p : Progress) (r : Result ℕ Kind) → Keeps p (with_price p r)
+keeps_with_price p (Ok m) = keeps_ok p _ refl refl
+keeps_with_price p (Err kind) = keeps_err p _
+
+keeps_price : (p : Progress) (w : Kept) → Keeps p (price_read p w)
+keeps_price p (Keyword j n) = keeps_err p _
+keeps_price p (Number v) = keeps_with_price p (price_parts v 0 false)
+keeps_price p (Fraction d) = keeps_cond p _ _ _ (keeps_err p _) (keeps_with_price p (price_parts d.whole d.millionths d.fine))
+keeps_price p End = keeps_err p _
+keeps_price p Other = keeps_err p _
+
+keeps_dummy : (p : Progress) (o : Option ℕ) (d : ℕ) → Keeps p (dummy_read p o d)
+keeps_dummy p None d = keeps_ok p _ refl refl
+keeps_dummy p (Some e) d = keeps_cond p _ _ _ (keeps_err p _) (keeps_err p _)
+
+keeps_good : (p : Progress) (w : Kept) → Keeps p (good_or_end_read p w)
+keeps_good p (Keyword j n) = keeps_err p _
+keeps_good p (Number v) =
+    let real : Reading = cond (has_number p.goods v) (Err kinds.RepeatedGood) (Ok (record p { goods = p.goods ++ v ∷ [] })) in
+    let good : Reading = cond (ltb v p.header.goods) real (dummy_read p p.draft.dummy (v - p.header.goods)) in
+    keeps_cond p (leb (p.header.goods + p.header.dummy) v) (Err kinds.GoodRange) good (keeps_err p kinds.GoodRange)
+    (keeps_cond p (ltb v p.header.goods) real (dummy_read p p.draft.dummy (v - p.header.goods))
+    (keeps_cond p (has_number p.goods v) (Err kinds.RepeatedGood) (Ok (record p { goods = p.goods ++ v ∷ [] })) (keeps_err p kinds.RepeatedGood)
+    (keeps_ok p (record p { goods = p.goods ++ v ∷ [] }) refl refl))
+    (keeps_dummy p p.draft.dummy (v - p.header.goods)))
+keeps_good p (Fraction d) = keeps_err p _
+keeps_good p End = keeps_cond p _ _ _ (keeps_err p _) (keeps_ok p _ refl refl)
+keeps_good p Other = keeps_err p _
+
+keeps_at : (place : Place) (stage : Stage) (p : Progress) (w : Kept) → Keeps p (read_at place stage p w)
+keeps_at First Goods p w = keeps_keyword p keywords.Goods w
+keeps_at First Bids p w = keeps_keyword p keywords.Bids w
+keeps_at First Dummy p w = keeps_keyword p keywords.Dummy w
+keeps_at First Bid p w = keeps_number p w
+keeps_at Second Goods p w = keeps_second p w
+keeps_at Second Bids p w = keeps_second p w
+keeps_at Second Dummy p w = keeps_second p w
+keeps_at Second Bid p w = keeps_price p w
+keeps_at Later Goods p w = keeps_err p _
+keeps_at Later Bids p w = keeps_err p _
+keeps_at Later Dummy p w = keeps_err p _
+keeps_at Later Bid p w = keeps_good p w
+keeps_at Ended Goods p w = keeps_err p _
+keeps_at Ended Bids p w = keeps_err p _
+keeps_at Ended Dummy p w = keeps_err p _
+keeps_at Ended Bid p w = keeps_err p _
+
+-- a word keeps the line
+pub keeps_word : (p : Progress) (w : Kept) → Keeps p (word_read p w)
+keeps_word p w = keeps_at p.place p.stage p w
+
+abbrev ranked : ℕ → Reading → Type 0
+ranked k (Ok q) = rank q.stage ≤ suc k
+ranked k (Err kind) = Unit {0}
+
+-- a line's end goes on by one line at most
+ranked_at : (place : Place) (stage : Stage) (p : Progress) → p.stage ≡ stage → ranked (rank stage) (line_at place stage p)
+ranked_at First Goods p e = tt
+ranked_at Second Goods p e = tt
+ranked_at Later Goods p e = omega arith
+ranked_at Ended Goods p e = tt
+ranked_at First Bids p e = tt
+ranked_at Second Bids p e = tt
+ranked_at Later Bids p e = omega arith
+ranked_at Ended Bids p e = tt
+ranked_at First Dummy p e = tt
+ranked_at Second Dummy p e = tt
+ranked_at Later Dummy p e = omega arith
+ranked_at Ended Dummy p e = tt
+ranked_at First Bid p e = tt
+ranked_at Second Bid p e = tt
+ranked_at Later Bid p e = tt
+ranked_at Ended Bid p e = subst (λ (s : Stage). rank s ≤ 4) (sym e) (omega arith)
+
+ranked_line : (p : Progress) → ranked (rank p.stage) (line_read p)
+ranked_line p = ranked_at p.place p.stage p refl
+
+-- ---- lines begun and lines ended
+
+abbrev decided_in : Mode → Bool
+decided_in Start = false
+decided_in Blank = false
+decided_in Comment = true
+decided_in Between = true
+decided_in (Inside w) = true
+
+-- c lines have begun
+abbrev Begun : Mode → Stage → ℕ → Type 0
+Begun Start stage c = rank stage ≤ c
+Begun Blank stage c = rank stage ≤ c
+Begun Comment stage c = rank stage ≤ c
+Begun Between stage c = suc (rank stage) ≤ c
+Begun (Inside w) stage c = suc (rank stage) ≤ c
+
+-- a step keeps the count of the lines that begin from here on
+record Goes (c total : ℕ) (bs : List ℕ) (t : State) : Type 0 where
+  count : ℕ
+  begun : Begun t.mode t.progress.stage count
+  fewer : count + begins_after (decided_in t.mode) bs ≤ c + total
+
+abbrev GoesOn : ℕ → ℕ → List ℕ → Scan → Type 0
+GoesOn c total bs (Ok t) = Goes c total bs t
+GoesOn c total bs (Err e) = Unit {0}
+
+goes_reading : (c : ℕ) (bs : List ℕ) (s : State) (r : Reading) → Keeps s.progress r → suc (rank s.progress.stage) ≤ c
+    → GoesOn c (begins_after true bs) bs (with_reading s Between r)
+goes_reading c bs s (Ok q) k l = record { count = c; begun = subst (λ (x : Stage). suc (rank x) ≤ c) (sym (k.same q refl)) l; fewer = omega arith }
+goes_reading c bs s (Err kind) k l = tt
+
+goes_blank : (c : ℕ) (bs : List ℕ) (m : Mode) (n : ℕ) (p : Progress) → Begun m p.stage c
+    → GoesOn c (begins_after (decided_in m) bs) bs (blank_step (standing m n p))
+goes_blank c bs Start n p l = record { count = c; begun = l; fewer = omega arith }
+goes_blank c bs Blank n p l = record { count = c; begun = l; fewer = omega arith }
+goes_blank c bs Comment n p l = record { count = c; begun = l; fewer = omega arith }
+goes_blank c bs Between n p l = record { count = c; begun = l; fewer = omega arith }
+goes_blank c bs (Inside w) n p l = goes_reading c bs (standing (Inside w) n p) (word_read p w) (keeps_word p w) l
+
+goes_line_read : (c : ℕ) (bs : List ℕ) (n : ℕ) (p : Progress) (r : Reading) → ranked (rank p.stage) r → suc (rank p.stage) ≤ c
+    → GoesOn c (begins_after false bs) bs (and_then (with_reading (standing Between n p) Between r) next_line)
+goes_line_read c bs n p (Ok q) k l = record { count = c; begun = omega arith; fewer = omega arith }
+goes_line_read c bs n p (Err kind) k l = tt
+
+goes_word_line : (c : ℕ) (bs : List ℕ) (n : ℕ) (w : Kept) (p : Progress) (r : Reading) → Keeps p r → suc (rank p.stage) ≤ c
+    → GoesOn c (begins_after false bs) bs (and_then (and_then (with_reading (standing (Inside w) n p) Between r) words_step) next_line)
+goes_word_line c bs n w p (Ok q) k l = goes_line_read c bs n q (line_read q) (ranked_line q) (subst (λ (x : Stage). suc (rank x) ≤ c) (sym (k.same q refl)) l)
+goes_word_line c bs n w p (Err kind) k l = tt
+
+goes_line : (c : ℕ) (bs : List ℕ) (m : Mode) (n : ℕ) (p : Progress) → Begun m p.stage c → GoesOn c (begins_after false bs) bs (line_step (standing m n p))
+goes_line c bs Start n p l = record { count = c; begun = l; fewer = omega arith }
+goes_line c bs Blank n p l = record { count = c; begun = l; fewer = omega arith }
+goes_line c bs Comment n p l = record { count = c; begun = l; fewer = omega arith }
+goes_line c bs Between n p l = goes_line_read c bs n p (line_read p) (ranked_line p) l
+goes_line c bs (Inside w) n p l = goes_word_line c bs n w p (word_read p w) (keeps_word p w) l
+
+goes_first : (c b : ℕ) (bs : List ℕ) (p : Progress) → rank p.stage ≤ c → (t : Bool) → (n : ℕ)
+    → Goes c (cond t (begins_after true bs) (suc (begins_after true bs))) bs (standing (cond t Comment (Inside (word_from b))) n p)
+goes_first c b bs p l true n = record { count = c; begun = l; fewer = omega arith }
+goes_first c b bs p l false n = record { count = suc c; begun = omega arith; fewer = omega arith }
+
+abbrev letter_begins : Bool → ℕ → ℕ → ℕ
+letter_begins decided b later = cond decided later (cond (eqb b 37) later (suc later))
+
+goes_letter : (c b : ℕ) (bs : List ℕ) (m : Mode) (n : ℕ) (p : Progress) → Begun m p.stage c
+    → Goes c (letter_begins (decided_in m) b (begins_after true bs)) bs (standing (letter_mode m b) n p)
+goes_letter c b bs Start n p l = goes_first c b bs p l (eqb b 37) n
+goes_letter c b bs Blank n p l = goes_first c b bs p l (eqb b 37) n
+goes_letter c b bs Comment n p l = record { count = c; begun = l; fewer = omega arith }
+goes_letter c b bs Between n p l = record { count = c; begun = l; fewer = omega arith }
+goes_letter c b bs (Inside w) n p l = record { count = c; begun = l; fewer = omega arith }
+
+goes_byte : (c b : ℕ) (bs : List ℕ) (s : State) → Begun s.mode s.progress.stage c → GoesOn c (begins_after (decided_in s.mode) (b ∷ bs)) bs (byte_step s b)
+goes_byte c b bs s l = subst (λ k. GoesOn c k bs (byte_step s b)) (sym (begins-cons (decided_in s.mode) b bs))
+    (elim (eqb b 10) as (λ t. GoesOn c
+    (cond t (begins_after false bs)
+    (cond (decided_in s.mode) (begins_after true bs)
+    (cond (is_blank b) (begins_after false bs) (cond (eqb b 37) (begins_after true bs) (suc (begins_after true bs)))))) bs
+    (cond t (line_step s) (cond (is_blank b) (blank_step s) (Ok (record s { mode = letter_mode s.mode b }))))) [
+      | true ↦ goes_line c bs s.mode s.line s.progress l
+      | false ↦ elim (is_blank b) as (λ t. GoesOn c
+          (cond (decided_in s.mode) (begins_after true bs)
+          (cond t (begins_after false bs) (cond (eqb b 37) (begins_after true bs) (suc (begins_after true bs))))) bs
+          (cond t (blank_step s) (Ok (record s { mode = letter_mode s.mode b })))) [
+            | true ↦ subst (λ k. GoesOn c k bs (blank_step s)) (by_decided (decided_in s.mode)) (goes_blank c bs s.mode s.line s.progress l)
+            | false ↦ goes_letter c b bs s.mode s.line s.progress l
+          ]
+    ])
+  where
+    by_decided : (d : Bool) → begins_after d bs ≡ cond d (begins_after true bs) (begins_after false bs)
+    by_decided true = refl
+    by_decided false = refl
+
+here_counts : (m : Mode) (stage : Stage) (c : ℕ) → stage ≡ Bid → IsInLine m → Begun m stage c → 4 ≤ c
+here_counts Start stage c e i l = absurd i
+here_counts Blank stage c e i l = absurd i
+here_counts Comment stage c e i l = absurd i
+here_counts Between stage c e i l = subst (λ (s : Stage). suc (rank s) ≤ c) e l
+here_counts (Inside w) stage c e i l = subst (λ (s : Stage). suc (rank s) ≤ c) e l
+
+four_begin : (bytes : List ℕ) (s : State) (c : ℕ) → Begun s.mode s.progress.stage c → MeetsBidLine s bytes → 4 ≤ c + begins_after (decided_in s.mode) bytes
+four_begin [] s c l m = let here : 4 ≤ c = here_counts s.mode s.progress.stage c m.0 m.1 l in omega arith
+four_begin (b ∷ bs) s c l m = ⊎_elim
+    (λ (i : IsInBidLine s). let here : 4 ≤ c = here_counts s.mode s.progress.stage c i.0 i.1 l in omega arith)
+    (λ (later : IsOkAnd (byte_step s b) (λ t. MeetsBidLine t bs)). step (byte_step s b) (goes_byte c b bs s l) later (λ t k g n. four_begin bs t k g n)) m
+  where
+    step : (r : Scan) → GoesOn c (begins_after (decided_in s.mode) (b ∷ bs)) bs r → IsOkAnd r (λ t. MeetsBidLine t bs)
+        → ((t : State) (k : ℕ) → Begun t.mode t.progress.stage k → MeetsBidLine t bs → 4 ≤ k + begins_after (decided_in t.mode) bs)
+        → 4 ≤ c + begins_after (decided_in s.mode) (b ∷ bs)
+    step (Ok t) g n again = let more : 4 ≤ g.count + begins_after (decided_in t.mode) bs = again t g.count g.begun n in
+        let le : g.count + begins_after (decided_in t.mode) bs ≤ c + begins_after (decided_in s.mode) (b ∷ bs) = g.fewer in omega arith
+    step (Err e) g n again = absurd n
+
+-- a bid line met in the bytes that are decided stands in the text
+pub bid_line_met : (k : Keeping) (text front back : List ℕ) → blank_returns text ≡ front ++ back → MeetsBidLine (first_state k) front → has_bid_line text ≡ true
+bid_line_met k text front back e m =
+    let four : 4 ≤ 0 + begins_after false front = four_begin front (first_state k) 0 (omega arith) m in
+    let more : begins_after false front ≤ begins_after false (front ++ back) = begins_more false front back in
+    let all : begins_after false (front ++ back) ≡ length (significant_lines text) = ap (begins_after false) (sym e)
+    ∙ (begins_are (blank_returns text)).fresh in
+    lt-ltb 3 (length (significant_lines text)) (omega arith)

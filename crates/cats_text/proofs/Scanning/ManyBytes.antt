@@ -1,0 +1,283 @@
+-- Several bytes at once: the digits of a number, whole words, and the bytes of a comment.
+use Rattle.std.proofs.Common.{◌≡◌, ◌≢◌, ℕ, suc, ◌+◌, ◌-◌, ◌*◌, ◌<◌, ◌≤◌, Bool, true, false, not, ◌&&◌, ◌||◌, cond, eqb, ltb, List, [], ◌∷◌, ◌++◌, length, get_or, take, drop, fold, refl, sym, ap, ◌∙◌, subst, arith, Ok, add-one, append-nil, Some, None, min}
+use Rattle.std.proofs.lemmas.Bool.{and_parts, and_from, ltb-false, ne_eqb, eq-eqb}
+use Rattle.std.proofs.lemmas.List.Sums.{fold_push}
+use Rattle.std.proofs.Math.Seq.{take-suc, take-length}
+use Rattle.std.specs.List.{AllByRecursion, prefix_len, position_or_len, position}
+use Rattle.std.proofs.lemmas.List.{take-append-drop, length-drop, length-take}
+use Rattle.std.proofs.lemmas.List.Folds.{length-prefix_len}
+use Rattle.std.specs.Option.{unwrap_or}
+use Rattle.cats_text.specs.Lines.{is_blank}
+use Rattle.cats_text.specs.Internal.Returns.{settled, waits, return_byte}
+use Rattle.cats_text.specs.Internal.Progress.{Progress}
+use Rattle.cats_text.specs.Internal.Scanning.{State, run, and_then, letter_mode, is_before_word, MeetsBidLine, IsScanned}
+use Rattle.cats_text.specs.declared.scanner.Mode.{Mode}
+use Rattle.cats_text.specs.declared.scanner.Mode.TheVariants.{Start, Blank, Comment, Between, Inside}
+use Rattle.cats_text.proofs.Words.Places.{digit_bounds}
+use Rattle.cats_text.proofs.Scanning.Rests.{settled-other}
+use Rattle.cats_text.proofs.Scanning.Appends.{meets_behind}
+use Rattle.cats_text.proofs.Scanning.Lines.{IsNoEnd, standing, run-append, in_comment, byte_letter}
+use Rattle.cats_text.specs.Numbers.{is_digit, digits_alone}
+use Rattle.cats_text.specs.Internal.Machine.{word_from, word_with, decimal_with, summary}
+use Rattle.cats_text.specs.Internal.Front.{IsPlain, IsKept}
+use Rattle.cats_text.specs.declared.word.Word.{Word}
+use Rattle.cats_text.specs.declared.word.Word.TheVariants.{Number, Decimal as Fraction}
+use Rattle.cats_text.specs.declared.word.Decimal.{Decimal}
+use Rattle.cats_text.specs.declared.word.TheConstants.{HELD}
+
+pub record IsNumberSoFar (first : ℕ) (bytes : List ℕ) (count sum : ℕ) : Type 0 where
+  pub digits : digits_alone (take count bytes) ≡ true
+  pub value : Number sum ≡ fold word_with (Number first) (take count bytes)
+
+take_push : (bytes : List ℕ) (i : ℕ) → i < length bytes → take (i + 1) bytes ≡ take i bytes ++ get_or bytes i 0 ∷ []
+take_push bytes i l = rw add-one (take-suc bytes i 0 l)
+
+digits_push : (ds : List ℕ) (b : ℕ) → digits_alone ds ≡ true → is_digit b ≡ true → digits_alone (ds ++ b ∷ []) ≡ true
+digits_push [] b h k = rw k refl
+digits_push (a ∷ w) b h k = let p = and_parts (is_digit a) (digits_alone w) h in and_from (is_digit a) (digits_alone (w ++ b ∷ [])) p.0 (digits_push w b p.1 k)
+
+number_with : (v b : ℕ) → is_digit b ≡ true → word_with (Number v) b ≡ Number (cond (ltb v HELD) (v * 10 + (b - 48)) v)
+number_with v b d = rw d refl
+
+-- one more digit
+pub number_more : (first : ℕ) (bytes : List ℕ) (i sum next : ℕ) → i < length bytes → is_digit (get_or bytes i 0) ≡ true → IsNumberSoFar first bytes i sum
+    → next ≡ cond (ltb sum HELD) (sum * 10 + (get_or bytes i 0 - 48)) sum → IsNumberSoFar first bytes (i + 1) next
+number_more first bytes i sum next l d so e = record {
+  digits = ap digits_alone (take_push bytes i l) ∙ digits_push (take i bytes) (get_or bytes i 0) so.digits d;
+  value = ap (λ n. Number n) e ∙ sym (number_with sum (get_or bytes i 0) d)
+      ∙ ap (λ w. word_with w (get_or bytes i 0)) so.value
+      ∙ sym (fold_push word_with (Number first) (take i bytes) (get_or bytes i 0))
+      ∙ ap (fold word_with (Number first)) (sym (take_push bytes i l));
+}
+
+pub record IsDecimalSoFar (first : Decimal) (bytes : List ℕ) (count : ℕ) (sum : Decimal) : Type 0 where
+  pub digits : digits_alone (take count bytes) ≡ true
+  pub value : Fraction sum ≡ fold word_with (Fraction first) (take count bytes)
+
+decimal_digit : (d : Decimal) (b : ℕ) → is_digit b ≡ true → word_with (Fraction d) b ≡ Fraction (decimal_with d (b - 48))
+decimal_digit d b h = rw h refl
+
+-- one more digit behind the point
+pub decimal_more : (first : Decimal) (bytes : List ℕ) (i : ℕ) (sum next : Decimal) → i < length bytes → is_digit (get_or bytes i 0) ≡ true
+    → IsDecimalSoFar first bytes i sum
+    → next ≡ decimal_with sum (get_or bytes i 0 - 48) → IsDecimalSoFar first bytes (i + 1) next
+decimal_more first bytes i sum next l d so e = record {
+  digits = ap digits_alone (take_push bytes i l) ∙ digits_push (take i bytes) (get_or bytes i 0) so.digits d;
+  value = ap (λ n. Fraction n) e ∙ sym (decimal_digit sum (get_or bytes i 0) d)
+      ∙ ap (λ w. word_with w (get_or bytes i 0)) so.value
+      ∙ sym (fold_push word_with (Fraction first) (take i bytes) (get_or bytes i 0))
+      ∙ ap (fold word_with (Fraction first)) (sym (take_push bytes i l));
+}
+
+-- ---- over several bytes at once
+
+waits_behind : (front back : List ℕ) → 0 < length back → waits (front ++ back) ≡ waits back
+waits_behind [] back l = refl
+waits_behind (a ∷ []) [] l = absurd (let no : 0 < 0 = l in omega arith)
+waits_behind (a ∷ []) (c ∷ cs) l = refl
+waits_behind (a ∷ b ∷ front) back l = waits_behind (b ∷ front) back l
+
+waits_last : (xs : List ℕ) → 0 < length xs → waits xs ≡ eqb (get_or xs (length xs - 1) 0) 13
+waits_last [] l = absurd (let no : 0 < 0 = l in omega arith)
+waits_last (a ∷ []) l = refl
+waits_last (a ∷ b ∷ xs) l = waits_last (b ∷ xs) (omega arith) ∙ ap (λ c. eqb c 13) (shift (b ∷ xs) (omega arith))
+  where
+    shift : (ys : List ℕ) → 0 < length ys → get_or ys (length ys - 1) 0 ≡ get_or (a ∷ ys) (length (a ∷ ys) - 1) 0
+    shift ys l = let e : length (a ∷ ys) - 1 ≡ suc (length ys - 1) = omega arith in sym (ap (λ k. get_or (a ∷ ys) k 0) e)
+
+-- ---- the bytes of a comment
+
+-- what is decided of bytes without LF has no LF
+settled_split : (front back : List ℕ) → AllByRecursion IsNoEnd front → (decided : List ℕ) × (settled (front ++ back) ≡ decided ++ settled back)
+    × AllByRecursion IsNoEnd decided
+settled_split [] back h = ([], refl, tt)
+settled_split (b ∷ front) back h = let later = settled_split front back h.1 in joined (front ++ back) refl later.0 later.1 later.2
+  where
+    one : (c : ℕ) → IsNoEnd (cond (eqb b 13) (return_byte c) b)
+    one c = elim (eqb b 13) as (λ t. eqb (cond t (return_byte c) b) 10 ≡ false) [
+      | true ↦ elim (eqb c 10) as (λ t. eqb (cond t 32 13) 10 ≡ false) [
+        | true ↦ refl
+        | false ↦ refl
+      ]
+      | false ↦ h.0
+    ]
+
+    joined : (rest : List ℕ) → front ++ back ≡ rest → (decided : List ℕ) → settled (front ++ back) ≡ decided ++ settled back → AllByRecursion IsNoEnd decided
+        → (all : List ℕ) × (settled (b ∷ (front ++ back)) ≡ all ++ settled back) × AllByRecursion IsNoEnd all
+    joined [] e decided is none = elim (eqb b 13) as (λ t. eqb b 13 ≡ t → (all : List ℕ) × (settled (b ∷ (front ++ back)) ≡ all ++ settled back)
+        × AllByRecursion IsNoEnd all) [
+          | true ↦ λ (q : eqb b 13 ≡ true). (decided, ap (λ ds. settled (b ∷ ds)) e ∙ ap (λ t. cond t [] (b ∷ [])) q ∙ ap settled (sym e) ∙ is, none)
+          | false ↦ λ (q : eqb b 13 ≡ false). (
+            b ∷ decided,
+            ap (λ ds. settled (b ∷ ds)) e ∙ ap (λ t. cond t [] (b ∷ [])) q ∙ ap (λ ds. b ∷ settled ds) (sym e)
+                ∙ ap (λ ds. b ∷ ds) is,
+            (h.0, none),
+          )
+        ] refl
+    joined (c ∷ cs) e decided is none = (
+      cond (eqb b 13) (return_byte c) b ∷ decided,
+      ap (λ ds. settled (b ∷ ds)) e
+          ∙ ap (λ ds. cond (eqb b 13) (return_byte c) b ∷ settled ds) (sym e) ∙ ap (λ ds. cond (eqb b 13) (return_byte c) b ∷ ds) is,
+      (one c, none),
+    )
+
+comment_run : (n : ℕ) (p : Progress) (front back : List ℕ) → AllByRecursion IsNoEnd front
+    → (run (standing Comment n p) (settled back) ≡ run (standing Comment n p) (settled (front ++ back))) × (MeetsBidLine (standing Comment n p) (settled back)
+    → MeetsBidLine (standing Comment n p) (settled (front ++ back)))
+comment_run n p front back h = let split = settled_split front back h in
+    let quiet : run (standing Comment n p) split.0 ≡ Ok (standing Comment n p) = in_comment n p split.0 split.2 in (
+      sym (ap (run (standing Comment n p)) split.1 ∙ run-append (standing Comment n p) split.0 (settled back)
+          ∙ ap (λ r. and_then r (λ t. run t (settled back))) quiet),
+      λ m. subst (MeetsBidLine (standing Comment n p)) (sym split.1) (meets_behind (standing Comment n p) (standing Comment n p) split.0 (settled back) quiet
+          m),
+    )
+
+no_feed_front : (bytes : List ℕ) → AllByRecursion IsNoEnd (take (prefix_len (λ b. not (eqb b 10)) bytes) bytes)
+no_feed_front [] = tt
+no_feed_front (b ∷ bs) =
+    elim (eqb b 10) as (λ t. eqb b 10 ≡ t → AllByRecursion IsNoEnd (take (cond (not t) (1 + prefix_len (λ c. not (eqb c 10)) bs) 0) (b ∷ bs))) [
+      | true ↦ λ e. tt
+      | false ↦ λ (e : eqb b 10 ≡ false). let n : 1 + prefix_len (λ c. not (eqb c 10)) bs ≡ suc (prefix_len (λ c. not (eqb c 10)) bs) = omega arith in
+          subst (λ k. AllByRecursion IsNoEnd (take k (b ∷ bs))) (sym n) (e, no_feed_front bs)
+    ] refl
+
+min_le_right : (k i n : ℕ) → k ≡ min i n → k ≤ n
+min_le_right k i n e = omega arith
+
+feed_at : (bytes : List ℕ) → unwrap_or (position (λ b. eqb b 10) bytes) (length bytes) ≡ prefix_len (λ b. not (eqb b 10)) bytes
+feed_at bytes = elim (ltb (position_or_len (λ b. eqb b 10) bytes) (length bytes)) as (λ t. ltb (position_or_len (λ b. eqb b 10) bytes) (length bytes) ≡ t
+    → unwrap_or (cond t (Some (position_or_len (λ b. eqb b 10) bytes)) None) (length bytes) ≡ position_or_len (λ b. eqb b 10) bytes) [
+      | true ↦ λ e. refl
+      | false ↦ λ (e : ltb (position_or_len (λ b. eqb b 10) bytes) (length bytes) ≡ false). let past : length bytes ≤ position_or_len (λ b. eqb b 10) bytes =
+          ltb-false _ _ e in
+          let most : length (take (prefix_len (λ b. not (eqb b 10)) bytes) bytes) ≡ prefix_len (λ b. not (eqb b 10)) bytes =
+          length-prefix_len (λ b. not (eqb b 10)) bytes in
+          let short : length (take (prefix_len (λ b. not (eqb b 10)) bytes) bytes) ≤ length bytes =
+          min_le_right _ _ _ (length-take (prefix_len (λ b. not (eqb b 10)) bytes) bytes) in omega arith
+    ] refl
+
+pub comment_within : (rest : List ℕ) (count : ℕ) → count ≡ unwrap_or (position (λ b. eqb b 10) rest) (length rest) → count ≤ length rest
+comment_within rest count feed =
+    let most : length (take (prefix_len (λ b. not (eqb b 10)) rest) rest) ≡ prefix_len (λ b. not (eqb b 10)) rest =
+    length-prefix_len (λ b. not (eqb b 10)) rest in
+    let short : length (take (prefix_len (λ b. not (eqb b 10)) rest) rest) ≤ length rest =
+    min_le_right _ _ _ (length-take (prefix_len (λ b. not (eqb b 10)) rest) rest) in
+    let at : count ≡ prefix_len (λ b. not (eqb b 10)) rest = feed ∙ feed_at rest in omega arith
+
+-- the rest of a comment in these bytes
+pub comment_scanned : (s : State) (rest : List ℕ) (count : ℕ) (w : Bool) → s.mode ≡ Comment → 0 < length rest
+    → count ≡ unwrap_or (position (λ b. eqb b 10) rest) (length rest)
+    → w ≡ (eqb count (length rest) && eqb (get_or rest (count - 1) 0) 13) → IsScanned s s w rest (drop count rest)
+comment_scanned s rest count w mode some feed e =
+    let is : s ≡ standing Comment s.line s.progress = ap (λ (m : Mode). standing m s.line s.progress) mode in
+    let parts : take count rest ++ drop count rest ≡ rest = take-append-drop count rest in
+    let front : AllByRecursion IsNoEnd (take count rest) = subst (λ k. AllByRecursion IsNoEnd (take k rest)) (sym (feed ∙ feed_at rest)) (no_feed_front rest) in
+    let both = comment_run s.line s.progress (take count rest) (drop count rest) front in
+    let left : length (drop count rest) ≡ length rest - count = length-drop count rest in
+    let within : count ≤ length rest = comment_within rest count feed in
+    record {
+      steps = ap (λ t. run t (settled (drop count rest))) is ∙ both.0 ∙ ap (λ ds. run (standing Comment s.line s.progress) (settled ds)) parts
+          ∙ ap (λ t. run t (settled rest)) (sym is);
+      asks = λ m. subst (λ t. MeetsBidLine t (settled rest)) (sym is) (subst (λ ds. MeetsBidLine (standing Comment s.line s.progress) (settled ds)) parts
+          (both.1 (subst (λ t. MeetsBidLine t (settled (drop count rest))) is m)));
+      last = λ l. sym (waits_behind (take count rest) (drop count rest) l) ∙ ap waits parts;
+      going = λ l. e ∙ ap (λ t. t && eqb (get_or rest (count - 1) 0) 13) (ne_eqb count (length rest) (λ q. absurd (omega arith)));
+      ended = λ q. let none : length (drop count rest) ≡ 0 = ap length q in let all : count ≡ length rest = omega arith in
+          e ∙ ap (λ t. t && eqb (get_or rest (count - 1) 0) 13) (eq-eqb count (length rest) all) ∙ ap (λ k. eqb (get_or rest (k - 1) 0) 13) all
+          ∙ sym (waits_last rest some);
+    }
+
+-- ---- the bytes of a word
+
+plain_no_return : (b : ℕ) → IsPlain b → b ≢ 13
+plain_no_return b p e = let low : 32 < b = p.0 in absurd (omega arith)
+
+settled_plain : (front back : List ℕ) → AllByRecursion IsPlain front → settled (front ++ back) ≡ front ++ settled back
+settled_plain [] back h = refl
+settled_plain (b ∷ front) back h = settled-other b (front ++ back) (plain_no_return b h.0) ∙ ap (λ ds. b ∷ ds) (settled_plain front back h.1)
+
+waits_plain : (xs : List ℕ) → AllByRecursion IsPlain xs → waits xs ≡ false
+waits_plain [] h = refl
+waits_plain (b ∷ []) h = ne_eqb b 13 (plain_no_return b h.0)
+waits_plain (b ∷ c ∷ xs) h = waits_plain (c ∷ xs) h.1
+
+plain_letter : (b : ℕ) → IsPlain b → (eqb b 10 ≡ false) × (is_blank b ≡ false)
+plain_letter b p = let low : 32 < b = p.0 in
+    (ne_eqb b 10 (λ e. absurd (omega arith)), neither (eqb b 32) (eqb b 9) (ne_eqb b 32 (λ e. absurd (omega arith))) (ne_eqb b 9 (λ e. absurd (omega arith))))
+  where
+    neither : (x y : Bool) → x ≡ false → y ≡ false → (x || y) ≡ false
+    neither x y e f = rw (e, f) refl
+
+plain_run : (w : Word) (n : ℕ) (p : Progress) (ds : List ℕ) → AllByRecursion IsPlain ds
+    → run (standing (Inside w) n p) ds ≡ Ok (standing (Inside (fold word_with w ds)) n p)
+plain_run w n p [] h = refl
+plain_run w n p (b ∷ ds) h = let letter = plain_letter b h.0 in
+    ap (λ r. and_then r (λ t. run t ds)) (byte_letter (standing (Inside w) n p) b letter.0 letter.1) ∙ plain_run (word_with w b) n p ds h.1
+
+plain_begins : (m : Mode) (b : ℕ) → is_before_word m ≡ true → IsPlain b → letter_mode m b ≡ Inside (word_from b)
+plain_begins Start b e h = ap (λ t. cond t Comment (Inside (word_from b))) h.1
+plain_begins Blank b e h = ap (λ t. cond t Comment (Inside (word_from b))) h.1
+plain_begins Comment b e h = cc
+plain_begins Between b e h = refl
+plain_begins (Inside w) b e h = cc
+
+word_run : (m : Mode) (n : ℕ) (p : Progress) (ds : List ℕ) → is_before_word m ≡ true → 0 < length ds → AllByRecursion IsPlain ds
+    → run (standing m n p) ds ≡ Ok (standing (Inside (summary ds)) n p)
+word_run m n p [] before l h = absurd (let no : 0 < 0 = l in omega arith)
+word_run m n p (b ∷ ds) before l h = let letter = plain_letter b h.0 in
+    ap (λ r. and_then r (λ t. run t ds)) (byte_letter (standing m n p) b letter.0 letter.1 ∙ ap (λ k. Ok (standing k n p)) (plain_begins m b before h.0))
+    ∙ plain_run (word_from b) n p ds h.1
+
+-- bytes of a word in front, which lead from one state to another
+plain_scanned : (s t : State) (rest : List ℕ) (count : ℕ) (w : Bool) → AllByRecursion IsPlain (take count rest) → run s (take count rest) ≡ Ok t → w ≡ false
+    → IsScanned s t w rest (drop count rest)
+plain_scanned s t rest count w plain ran e =
+    let parts : take count rest ++ drop count rest ≡ rest = take-append-drop count rest in
+    let split : settled rest ≡ take count rest ++ settled (drop count rest) = ap settled (sym parts)
+    ∙ settled_plain (take count rest) (drop count rest) plain in
+    record {
+      steps = sym (ap (run s) split ∙ run-append s (take count rest) (settled (drop count rest))
+          ∙ ap (λ r. and_then r (λ t. run t (settled (drop count rest)))) ran);
+      asks = λ m. subst (MeetsBidLine s) (sym split) (meets_behind s t (take count rest) (settled (drop count rest)) ran m);
+      last = λ l. sym (waits_behind (take count rest) (drop count rest) l) ∙ ap waits parts;
+      going = λ l. e;
+      ended = λ q. e ∙ sym (ap waits (sym parts ∙ ap (λ ds. take count rest ++ ds) q ∙ append-nil (take count rest)) ∙ waits_plain (take count rest) plain);
+    }
+
+-- ---- the digits of a number
+
+digit_plain : (b : ℕ) → is_digit b ≡ true → IsPlain b
+digit_plain b d = let low : 48 ≤ b = (digit_bounds b d).0 in (omega arith, ne_eqb b 37 (λ e. absurd (omega arith)))
+
+pub digits_plain : (ds : List ℕ) → digits_alone ds ≡ true → AllByRecursion IsPlain ds
+digits_plain [] h = tt
+digits_plain (b ∷ ds) h = let p = and_parts (is_digit b) (digits_alone ds) h in (digit_plain b p.0, digits_plain ds p.1)
+
+-- the rest of a number's digits in these bytes
+pub number_scanned : (s : State) (first sum : ℕ) (rest : List ℕ) (count : ℕ) (w : Bool) → s.mode ≡ Inside (Number first) → digits_alone (take count rest) ≡ true
+    → Number sum ≡ fold word_with (Number first) (take count rest) → w ≡ false
+    → IsScanned s (record s { mode = Inside (Number sum) }) w rest (drop count rest)
+number_scanned s first sum rest count w mode digits value e =
+    let is : s ≡ standing (Inside (Number first)) s.line s.progress = ap (λ (m : Mode). standing m s.line s.progress) mode in
+    let plain : AllByRecursion IsPlain (take count rest) = digits_plain (take count rest) digits in
+    plain_scanned s (record s { mode = Inside (Number sum) }) rest count w plain
+    (ap (λ t. run t (take count rest)) is ∙ plain_run (Number first) s.line s.progress (take count rest) plain
+    ∙ ap (λ k. Ok (standing (Inside k) s.line s.progress)) (sym value)) e
+
+-- ---- a whole word
+
+-- the word has come
+pub word_scanned : (s : State) (rest : List ℕ) (kept : Word) (count : ℕ) (w : Bool) → is_before_word s.mode ≡ true → IsKept rest kept count → w ≡ false
+    → IsScanned s (record s { mode = Inside kept }) w rest (drop count rest)
+word_scanned s rest kept count w before is e =
+    let some : 0 < count = is.some in
+    let within : count ≤ length rest = is.within in
+    let long : length (take count rest) ≡ min count (length rest) = length-take count rest in
+    plain_scanned s (record s { mode = Inside kept }) rest count w is.plain
+    (word_run s.mode s.line s.progress (take count rest) before (omega arith) is.plain ∙ ap (λ k. Ok (standing (Inside k) s.line s.progress)) (sym is.word)) e
+
+-- ---- from a place on
+
+-- the slice from a place on
+pub rest_is : (bytes : List ℕ) (place : ℕ) → take (length bytes - place) (drop place bytes) ≡ drop place bytes
+rest_is bytes place = ap (λ k. take k (drop place bytes)) (sym (length-drop place bytes)) ∙ take-length (drop place bytes)

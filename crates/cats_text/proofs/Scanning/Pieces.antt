@@ -1,0 +1,175 @@
+-- Pieces of a text: what is decided of a CR, what is complete, and what waits.
+use Rattle.std.proofs.Common.{◌≡◌, ℕ, Bool, true, false, ◌&&◌, ◌||◌, cond, eqb, List, [], ◌∷◌, ◌++◌, refl, sym, ap, ap₂, ◌∙◌, subst, Some, None, Ok, Err}
+use Rattle.std.proofs.lemmas.Bool.{both_ways, eqb-true, ne_eqb}
+use Rattle.std.specs.List.{AllByRecursion}
+use Rattle.cats_text.specs.Lines.{is_blank, line_byte, blank_returns}
+use Rattle.cats_text.specs.Faults.{is_final, keep_final, up_to_final, complete_fault}
+use Rattle.cats_text.specs.Internal.Returns.{return_byte, settled, waits, carried}
+use Rattle.cats_text.specs.Internal.Scanning.{State, Scan, first_state, and_then, run, byte_step, end_step, end_of, letter_mode}
+use Rattle.cats_text.specs.declared.parser.Keeping.{Keeping}
+use Rattle.cats_text.proofs.Scanning.Lines.{run-append, byte_letter}
+use Rattle.cats_text.proofs.Parsing.WholeLines.{Scanned}
+use Rattle.cats_text.proofs.Scanning.AllBytes.{outcome}
+use Rattle.cats_text.proofs.Texts.FirstFaults.{EndsFinal, OpenIs, open_fault}
+
+-- ---- one piece behind another
+
+pub settled-append : (x p : List ℕ) → settled (x ++ p) ≡ settled x ++ settled (carried (waits x) p)
+settled-append [] p = refl
+settled-append (b ∷ []) p = elim (eqb b 13) as (λ t. eqb b 13 ≡ t → settled (b ∷ p) ≡ cond t [] (b ∷ []) ++ settled (carried t p)) [
+  | true ↦ λ (e : eqb b 13 ≡ true). ap (λ c. settled (c ∷ p)) (eqb-true b 13 e)
+  | false ↦ λ (e : eqb b 13 ≡ false). other p e
+] refl
+  where
+    other : (p : List ℕ) → eqb b 13 ≡ false → settled (b ∷ p) ≡ b ∷ settled p
+    other [] e = rw e refl
+    other (c ∷ cs) e = ap (λ t. cond t (return_byte c) b ∷ settled (c ∷ cs)) e
+settled-append (b ∷ c ∷ cs) p = ap (λ ds. cond (eqb b 13) (return_byte c) b ∷ ds) (settled-append (c ∷ cs) p)
+
+pub waits-append : (x p : List ℕ) → waits (x ++ p) ≡ waits (carried (waits x) p)
+waits-append [] p = refl
+waits-append (b ∷ []) [] = elim (eqb b 13) as (λ t. t ≡ waits (carried t [])) [ true ↦ refl | false ↦ refl ]
+waits-append (b ∷ []) (c ∷ cs) = elim (eqb b 13) as (λ t. waits (c ∷ cs) ≡ waits (carried t (c ∷ cs))) [ true ↦ refl | false ↦ refl ]
+waits-append (b ∷ c ∷ cs) p = waits-append (c ∷ cs) p
+
+-- ---- at the end a CR that waits is a blank
+
+abbrev pub waiting : Bool → List ℕ
+waiting true = 32 ∷ []
+waiting false = []
+
+line_byte-settle : (b c : ℕ) → line_byte b (c ∷ []) ≡ cond (eqb b 13) (return_byte c) b
+line_byte-settle b c = elim (eqb b 13) as (λ t. eqb b 13 ≡ t → cond (t && eqb c 10) 32 b ≡ cond t (cond (eqb c 10) 32 13) b) [
+  | true ↦ λ (e : eqb b 13 ≡ true). ap (λ k. cond (eqb c 10) 32 k) (eqb-true b 13 e)
+  | false ↦ λ (e : eqb b 13 ≡ false). refl
+] refl
+
+pub blank_returns-settled : (x : List ℕ) → blank_returns x ≡ settled x ++ waiting (waits x)
+blank_returns-settled [] = refl
+blank_returns-settled (b ∷ []) = elim (eqb b 13) as (λ t. cond (t && true) 32 b ∷ [] ≡ cond t [] (b ∷ []) ++ waiting t) [ true ↦ refl | false ↦ refl ]
+blank_returns-settled (b ∷ c ∷ cs) = ap₂ (λ (k : ℕ) (ds : List ℕ). k ∷ ds) (line_byte-settle b c) (blank_returns-settled (c ∷ cs))
+
+end_waiting : (w : Bool) (s : State) → end_of w s ≡ and_then (run s (waiting w)) end_step
+end_waiting true s = ap (λ r. and_then r end_step) (sym (and_then_ok (byte_step s 32)))
+  where
+    and_then_ok : (r : Scan) → and_then r (λ t. Ok t) ≡ r
+    and_then_ok (Ok t) = refl
+    and_then_ok (Err e) = refl
+end_waiting false s = refl
+
+-- the end of the input behind the bytes that are decided
+pub end_of_text : (k : Keeping) (text : List ℕ) (s : State) → run (first_state k) (settled text) ≡ Ok s
+    → end_of (waits text) s ≡ and_then (run (first_state k) (blank_returns text)) end_step
+end_of_text k text s e = end_waiting (waits text) s
+    ∙ ap (λ (r : Scan). and_then (and_then r (λ t. run t (waiting (waits text)))) end_step) (sym e)
+    ∙ ap (λ (r : Scan). and_then r end_step) (sym (ap (run (first_state k)) (blank_returns-settled text)
+    ∙ run-append (first_state k) (settled text) (waiting (waits text))))
+
+-- ---- what is complete
+
+-- no byte is final
+abbrev pub AreOpen : List ℕ → Type 0
+AreOpen bytes = AllByRecursion (λ b. is_final b ≡ false) bytes
+
+-- what stands behind the last final byte
+pub record IsCut (text rest : List ℕ) : Type 0 where
+  pub is : text ≡ up_to_final text ++ rest
+  pub open_rest : AreOpen rest
+  pub ends : EndsFinal (up_to_final text)
+
+pub cut_of : (text : List ℕ) → (rest : List ℕ) × IsCut text rest
+cut_of [] = ([], record { is = refl; open_rest = tt; ends = tt })
+cut_of (b ∷ bs) = let later = cut_of bs in joined (up_to_final bs) refl later.0 later.1
+  where
+    joined : (kept : List ℕ) → up_to_final bs ≡ kept → (rest : List ℕ) → IsCut bs rest → (rest' : List ℕ) × IsCut (b ∷ bs) rest'
+    joined [] e rest c = elim (is_final b) as (λ t. is_final b ≡ t → (rest' : List ℕ) × IsCut (b ∷ bs) rest') [
+      | true ↦ λ (f : is_final b ≡ true). let is : up_to_final (b ∷ bs) ≡ b ∷ [] = ap (keep_final b) e ∙ ap (λ t. cond t (b ∷ []) []) f in (
+        rest,
+        record {
+          is = ap (λ ds. b ∷ ds) (c.is ∙ ap (λ ds. ds ++ rest) e) ∙ ap (λ ds. ds ++ rest) (sym is);
+          open_rest = c.open_rest;
+          ends = subst EndsFinal (sym is) f;
+        },
+      )
+      | false ↦ λ (f : is_final b ≡ false). let is : up_to_final (b ∷ bs) ≡ [] = ap (keep_final b) e ∙ ap (λ t. cond t (b ∷ []) []) f in (
+        b ∷ rest,
+        record {
+          is = ap (λ ds. b ∷ ds) (c.is ∙ ap (λ ds. ds ++ rest) e) ∙ ap (λ ds. ds ++ b ∷ rest) (sym is);
+          open_rest = (f, c.open_rest);
+          ends = subst EndsFinal (sym is) tt;
+        },
+      )
+    ] refl
+    joined (k ∷ ks) e rest c = let is : up_to_final (b ∷ bs) ≡ b ∷ k ∷ ks = ap (keep_final b) e in (
+      rest,
+      record {
+        is = ap (λ ds. b ∷ ds) (c.is ∙ ap (λ ds. ds ++ rest) e) ∙ ap (λ ds. ds ++ rest) (sym is);
+        open_rest = c.open_rest;
+        ends = subst EndsFinal (sym is) (subst EndsFinal e c.ends);
+      },
+    )
+
+final_no_return : (b : ℕ) → is_final b ≡ true → eqb b 13 ≡ false
+final_no_return b f = ne_eqb b 13 (λ e. both_ways (is_final 13) refl (subst (λ n. is_final n ≡ true) e f))
+
+-- the last byte of a text that ends with a final one stays
+ends_returns : (y : List ℕ) → EndsFinal y → EndsFinal (blank_returns y)
+ends_returns [] f = tt
+ends_returns (b ∷ []) f = subst (λ n. is_final n ≡ true) (sym (ap (λ t. cond (t && true) 32 b) (final_no_return b f))) f
+ends_returns (b ∷ c ∷ cs) f = ends_returns (c ∷ cs) f
+
+-- nothing behind a final byte changes what stands before
+settled-final : (y t : List ℕ) → EndsFinal y → settled (y ++ t) ≡ blank_returns y ++ settled t
+settled-final [] t f = refl
+settled-final (b ∷ []) t f = last t
+  where
+    no : eqb b 13 ≡ false
+    no = final_no_return b f
+
+    last : (t : List ℕ) → settled (b ∷ t) ≡ blank_returns (b ∷ []) ++ settled t
+    last [] = rw no refl
+    last (c ∷ cs) = rw no refl
+settled-final (b ∷ c ∷ cs) t f = ap₂ (λ (k : ℕ) (ds : List ℕ). k ∷ ds) (sym (line_byte-settle b c)) (settled-final (c ∷ cs) t f)
+
+open_byte : (b : ℕ) → is_final b ≡ false → (eqb b 10 ≡ false) × (is_blank b ≡ false)
+open_byte b f = parts (is_blank b) (eqb b 10) f
+  where
+    parts : (x y : Bool) → (x || y) ≡ false → (y ≡ false) × (x ≡ false)
+    parts true y h = absurd (both_ways true h refl)
+    parts false y h = (h, refl)
+
+open_settled : (t : List ℕ) → AreOpen t → AreOpen (settled t)
+open_settled [] h = tt
+open_settled (b ∷ []) h = elim (eqb b 13) as (λ q. AreOpen (cond q [] (b ∷ []))) [ true ↦ tt | false ↦ h ]
+open_settled (b ∷ c ∷ cs) h = (
+  elim (eqb b 13) as (λ q. is_final (cond q (return_byte c) b) ≡ false) [ true ↦ ap (λ q. is_final (cond q 32 13)) (open_byte c h.1.0).0 | false ↦ h.0 ],
+  open_settled (c ∷ cs) h.1,
+)
+
+-- bytes of a word are no fault yet
+open_run : (s : State) (t : List ℕ) → AreOpen t → outcome (run s t) ≡ Ok s.progress
+open_run s [] h = refl
+open_run s (b ∷ bs) h = let p = open_byte b h.0 in ap (λ r. outcome (and_then r (λ u. run u bs))) (byte_letter s b p.0 p.1)
+    ∙ open_run (record s { mode = letter_mode s.mode b }) bs h.1
+
+open_behind : (r : Scan) (t : List ℕ) → AreOpen t → outcome (and_then r (λ s. run s t)) ≡ outcome r
+open_behind (Ok s) t h = open_run s t h
+open_behind (Err e) t h = refl
+
+-- the answer for the bytes so far
+abbrev pub CompleteIs : List ℕ → Scanned → Type 0
+CompleteIs bytes (Ok q) = complete_fault bytes ≡ None
+CompleteIs bytes (Err e) = complete_fault bytes ≡ Some e
+
+pub complete_is : (k : Keeping) (text : List ℕ) → CompleteIs text (outcome (run (first_state k) (settled text)))
+complete_is k text =
+    let cut = cut_of text in
+    subst (CompleteIs text) (sym (ap (λ bs. outcome (run (first_state k) (settled bs))) cut.1.is
+    ∙ ap (λ bs. outcome (run (first_state k) bs)) (settled-final (up_to_final text) cut.0 cut.1.ends)
+    ∙ ap outcome (run-append (first_state k) (blank_returns (up_to_final text)) (settled cut.0))
+    ∙ open_behind (run (first_state k) (blank_returns (up_to_final text))) (settled cut.0) (open_settled cut.0 cut.1.open_rest)))
+    (answer (outcome (run (first_state k) (blank_returns (up_to_final text)))) (open_fault k (up_to_final text) (ends_returns (up_to_final text) cut.1.ends)))
+  where
+    answer : (r : Scanned) → OpenIs (up_to_final text) r → CompleteIs text r
+    answer (Ok q) h = h
+    answer (Err e) h = h

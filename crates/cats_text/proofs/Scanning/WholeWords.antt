@@ -1,0 +1,229 @@
+-- Whole words in front of bytes, each read before the byte that ends it.
+use Rattle.std.proofs.Common.{◌≡◌, ◌≢◌, ℕ, ◌+◌, ◌-◌, ◌<◌, ◌≤◌, Bool, true, false, ◌||◌, cond, eqb, ⊎_elim, inl, inr, List, [], ◌∷◌, length, get_or, take, drop, refl, sym, ap, ◌∙◌, subst, arith, Result, Ok, Err, IsOkAnd, IsErr, IsErrAnd}
+use Rattle.std.proofs.lemmas.Bool.{both_ways}
+use Rattle.std.proofs.lemmas.List.{length-drop, drop-drop}
+use Rattle.cats_text.specs.Lines.{is_blank}
+use Rattle.cats_text.specs.Internal.Returns.{settled}
+use Rattle.cats_text.specs.Faults.{fault_at}
+use Rattle.cats_text.specs.Internal.Front.{IsFront, ends_word}
+use Rattle.cats_text.specs.Internal.Progress.{Progress, Gives, AsksOnBidLines}
+use Rattle.cats_text.specs.Internal.Parsing.{word_read}
+use Rattle.cats_text.specs.Internal.Scanning.{State, and_then, run, byte_step, halt_of, is_before_word, AsksHere, IsInBidLine, MeetsBidLine, IsScanned, ScansTo, Steps, Asks}
+use Rattle.cats_text.specs.declared.fault.Kind.{Kind}
+use Rattle.cats_text.specs.declared.parser.Stop.{Stop}
+use Rattle.cats_text.specs.declared.parser.Stop.TheVariants.{Fault, Memory}
+use Rattle.cats_text.specs.declared.parser.Stage.TheVariants.{Bid}
+use Rattle.cats_text.specs.declared.scanner.Halt.{Halt}
+use Rattle.cats_text.specs.declared.scanner.Halt.TheVariants as halts
+use Rattle.cats_text.specs.declared.scanner.Mode.TheVariants.{Between, Inside}
+use Rattle.cats_text.specs.declared.word.Word.{Word}
+use Rattle.cats_text.proofs.Scanning.Rests.{settled-other, at_place, scan_byte_at, scanned_then}
+use Rattle.cats_text.proofs.Scanning.ManyBytes.{word_scanned, rest_is}
+
+-- in a word, and behind it
+abbrev in_word : State → Word → State
+in_word s w = record s { mode = Inside w }
+
+abbrev pub behind_word : State → Progress → State
+behind_word s p = record s { mode = Between; progress = p }
+
+-- ---- the byte that ends a word
+
+blank_from : (x y : Bool) → (x || y) ≡ true → y ≡ false → x ≡ true
+blank_from true y h k = refl
+blank_from false y h k = absurd (both_ways y k h)
+
+ends_no_return : (b : ℕ) → ends_word b ≡ true → b ≢ 13
+ends_no_return b h e = absurd (both_ways (ends_word 13) refl (subst (λ c. ends_word c ≡ true) e h))
+
+line_ends_word : (s : State) (w : Word) (p : Progress) (b : ℕ) → eqb b 10 ≡ true → word_read s.progress w ≡ Ok p
+    → byte_step (in_word s w) b ≡ byte_step (behind_word s p) b
+line_ends_word s w p b e read = rw (e, read) refl
+
+blank_ends_word : (s : State) (w : Word) (p : Progress) (b : ℕ) → eqb b 10 ≡ false → is_blank b ≡ true → word_read s.progress w ≡ Ok p
+    → byte_step (in_word s w) b ≡ byte_step (behind_word s p) b
+blank_ends_word s w p b e h read = rw (e, h, read) refl
+
+-- a word may be read before the byte that ends it
+byte_ends : (s : State) (w : Word) (p : Progress) (b : ℕ) → ends_word b ≡ true → word_read s.progress w ≡ Ok p
+    → byte_step (in_word s w) b ≡ byte_step (behind_word s p) b
+byte_ends s w p b ends read = elim (eqb b 10) as (λ t. eqb b 10 ≡ t → byte_step (in_word s w) b ≡ byte_step (behind_word s p) b) [
+  | true ↦ λ (e : eqb b 10 ≡ true). line_ends_word s w p b e read
+  | false ↦ λ (e : eqb b 10 ≡ false). blank_ends_word s w p b e (blank_from (is_blank b) (eqb b 10) ends e) read
+] refl
+
+line_faults : (s : State) (w : Word) (kind : Kind) (b : ℕ) → eqb b 10 ≡ true → word_read s.progress w ≡ Err kind
+    → byte_step (in_word s w) b ≡ Err (fault_at s.line kind)
+line_faults s w kind b e read = rw (e, read) refl
+
+blank_faults : (s : State) (w : Word) (kind : Kind) (b : ℕ) → eqb b 10 ≡ false → is_blank b ≡ true → word_read s.progress w ≡ Err kind
+    → byte_step (in_word s w) b ≡ Err (fault_at s.line kind)
+blank_faults s w kind b e h read = rw (e, h, read) refl
+
+byte_faults : (s : State) (w : Word) (kind : Kind) (b : ℕ) → ends_word b ≡ true → word_read s.progress w ≡ Err kind
+    → byte_step (in_word s w) b ≡ Err (fault_at s.line kind)
+byte_faults s w kind b ends read = elim (eqb b 10) as (λ t. eqb b 10 ≡ t → byte_step (in_word s w) b ≡ Err (fault_at s.line kind)) [
+  | true ↦ λ (e : eqb b 10 ≡ true). line_faults s w kind b e read
+  | false ↦ λ (e : eqb b 10 ≡ false). blank_faults s w kind b e (blank_from (is_blank b) (eqb b 10) ends e) read
+] refl
+
+blank_stays : (s : State) (p : Progress) (b : ℕ) → eqb b 10 ≡ false → is_blank b ≡ true → byte_step (behind_word s p) b ≡ Ok (behind_word s p)
+blank_stays s p b e h = rw (e, h) refl
+
+-- ---- the word in front
+
+-- the byte that ends the word, and what is decided behind it
+settled_end : (bytes : List ℕ) (count : ℕ) → count < length bytes → ends_word (get_or bytes count 0) ≡ true → settled (drop count bytes) ≡ get_or bytes count 0
+    ∷ settled (drop (count + 1) bytes)
+settled_end bytes count within ends = ap settled (at_place bytes count within)
+    ∙ settled-other (get_or bytes count 0) (drop (count + 1) bytes) (ends_no_return (get_or bytes count 0) ends)
+
+-- the word is read before the byte that ends it
+read_scanned : (s : State) (p : Progress) (bytes : List ℕ) (w : Word) (taken : ℕ) (v : Bool) → is_before_word s.mode ≡ true → (front : IsFront bytes w taken)
+    → word_read s.progress w ≡ Ok p
+    → p.stage ≡ s.progress.stage → v ≡ false → IsScanned s (behind_word s p) v bytes (drop front.count bytes)
+read_scanned s p bytes w taken v before front read stage e =
+    let count : ℕ = front.count in
+    let b : ℕ = get_or bytes front.count 0 in
+    let later : List ℕ = settled (drop (front.count + 1) bytes) in
+    let come : IsScanned s (in_word s w) v bytes (drop front.count bytes) = word_scanned s bytes w count v before front.kept e in
+    let split : settled (drop front.count bytes) ≡ b ∷ later = settled_end bytes count front.within front.ends in
+    let same : byte_step (in_word s w) b ≡ byte_step (behind_word s p) b = byte_ends s w p b front.ends read in
+    let again : MeetsBidLine (behind_word s p) (b ∷ later) → MeetsBidLine (in_word s w) (b ∷ later) =
+    ⊎_elim (λ (m : IsInBidLine (behind_word s p)). inl (sym stage ∙ m.0, tt)) (λ (m : IsOkAnd (byte_step (behind_word s p) b) (λ t. MeetsBidLine t later)). inr
+    (subst (λ r. IsOkAnd r (λ t. MeetsBidLine t later)) (sym same) m)) in
+    record {
+      steps = ap (run (behind_word s p)) split ∙ sym (ap (λ r. and_then r (λ t. run t later)) same) ∙ sym (ap (run (in_word s w)) split) ∙ come.steps;
+      asks = λ m. come.asks (subst (MeetsBidLine (in_word s w)) (sym split) (again (subst (MeetsBidLine (behind_word s p)) split m)));
+      last = come.last;
+      going = come.going;
+      ended = come.ended;
+    }
+
+front_faults : (s : State) (bytes : List ℕ) (w : Word) (taken : ℕ) (kind : Kind) → is_before_word s.mode ≡ true → IsFront bytes w taken
+    → word_read s.progress w ≡ Err kind → run s (settled bytes) ≡ Err (fault_at s.line kind)
+front_faults s bytes w taken kind before front read =
+    let come : IsScanned s (in_word s w) false bytes (drop front.count bytes) = word_scanned s bytes w front.count false before front.kept refl in
+    sym come.steps ∙ ap (run (in_word s w)) (settled_end bytes front.count front.within front.ends)
+    ∙ ap (λ r. and_then r (λ t. run t (settled (drop (front.count + 1) bytes)))) (byte_faults s w kind (get_or bytes front.count 0) front.ends read)
+
+front_asks : (s : State) (bytes : List ℕ) (w : Word) (taken : ℕ) → is_before_word s.mode ≡ true → IsFront bytes w taken → s.progress.stage ≡ Bid
+    → MeetsBidLine s (settled bytes)
+front_asks s bytes w taken before front stage =
+    let come : IsScanned s (in_word s w) false bytes (drop front.count bytes) = word_scanned s bytes w front.count false before front.kept refl in
+    come.asks (subst (MeetsBidLine (in_word s w)) (sym (settled_end bytes front.count front.within front.ends)) (inl (stage, tt)))
+
+-- and its blank, if it has one
+front_taken : (s : State) (p : Progress) (v : Bool) (bytes : List ℕ) (count taken : ℕ) → count < length bytes → ends_word (get_or bytes count 0) ≡ true
+    → taken ≡ count + cond (eqb (get_or bytes count 0) 10) 0 1
+    → IsScanned s (behind_word s p) v bytes (drop count bytes) → IsScanned s (behind_word s p) v bytes (drop taken bytes) × (taken ≤ length bytes)
+front_taken s p v bytes count taken within ends is so_far = elim (eqb (get_or bytes count 0) 10) as (λ t. eqb (get_or bytes count 0) 10 ≡ t
+    → IsScanned s (behind_word s p) v bytes (drop taken bytes) × (taken ≤ length bytes)) [
+      | true ↦ λ (e : eqb (get_or bytes count 0) 10 ≡ true). let at : count ≡ taken = sym (is ∙ ap (λ t. count + cond t 0 1) e ∙ omega arith) in
+          (subst (λ k. IsScanned s (behind_word s p) v bytes (drop k bytes)) at so_far, omega arith)
+      | false ↦ λ (e : eqb (get_or bytes count 0) 10 ≡ false). let at : count + 1 ≡ taken = sym (is ∙ ap (λ t. count + cond t 0 1) e) in (
+        subst (λ k. IsScanned s (behind_word s p) v bytes (drop k bytes)) at
+            (scan_byte_at s (behind_word s p) (behind_word s p) v v bytes count within (ends_no_return (get_or bytes count 0) ends) so_far
+            (blank_stays s p (get_or bytes count 0) e (blank_from (is_blank (get_or bytes count 0)) (eqb (get_or bytes count 0) 10) ends e)) refl),
+        omega arith,
+      )
+    ] refl
+
+-- ---- one word after another
+
+front_some : (bytes : List ℕ) (w : Word) (taken : ℕ) → IsFront bytes w taken → (0 < taken) × (0 < length bytes)
+front_some bytes w taken front =
+    let some : 0 < front.count = front.kept.some in
+    let within : front.count < length bytes = front.within in
+    let is : taken ≡ front.count + cond (eqb (get_or bytes front.count 0) 10) 0 1 = front.is in
+    (omega arith, omega arith)
+
+pub word_more : (s0 s : State) (p : Progress) (w v : Bool) (bytes : List ℕ) (place : ℕ) (word : Word) (taken : ℕ) → IsScanned s0 s w bytes (drop place bytes)
+    → is_before_word s.mode ≡ true → IsFront (drop place bytes) word taken
+    → word_read s.progress word ≡ Ok p → p.stage ≡ s.progress.stage → v ≡ false → IsScanned s0 (behind_word s p) v bytes (drop (place + taken) bytes)
+    × (place + taken ≤ length bytes) × (0 < taken)
+word_more s0 s p w v bytes place word taken so_far before front read stage e =
+    let some = front_some (drop place bytes) word taken front in
+    let long : 0 < length (drop place bytes) = some.1 in
+    let left : length (drop place bytes) ≡ length bytes - place = length-drop place bytes in
+    let here : IsScanned s (behind_word s p) v (drop place bytes) (drop taken (drop place bytes)) × (taken ≤ length (drop place bytes)) =
+    front_taken s p v (drop place bytes) front.count taken front.within front.ends front.is
+    (read_scanned s p (drop place bytes) word taken v before front read stage e) in
+    let most : taken ≤ length (drop place bytes) = here.1 in (
+      subst (IsScanned s0 (behind_word s p) v bytes) (drop-drop taken place bytes)
+          (scanned_then s0 s (behind_word s p) w v bytes (drop place bytes) (drop taken (drop place bytes)) so_far here.0 (λ l. omega arith)
+          (λ q l. absurd (let none : length (drop place bytes) ≡ 0 = ap length q in omega arith))),
+      omega arith,
+      some.0,
+    )
+
+-- the parser stopped at the word in front
+pub word_stops : (s0 s t : State) (u : Progress) (w v : Bool) (bytes : List ℕ) (place : ℕ) (word : Word) (taken : ℕ) (stop : Stop) (halt : Halt)
+    → IsScanned s0 s w bytes (drop place bytes) → is_before_word s.mode ≡ true
+    → IsFront (drop place bytes) word taken → Gives {A = Unit {0}} u (Err stop) (word_read s.progress word)
+    → AsksOnBidLines {A = Unit {0}} s.progress (Err stop) → halt ≡ halt_of s.line stop → ScansTo s0 t v bytes (Err halt)
+word_stops s0 s t u w v bytes place word taken (Fault kind) halt so_far before front read asks e =
+    subst (λ (h : Halt). ScansTo s0 t v bytes (Err h)) (sym e) (sym so_far.steps ∙ front_faults s (drop place bytes) word taken kind before front read)
+word_stops s0 s t u w v bytes place word taken Memory halt so_far before front read asks e =
+    subst (λ (h : Halt). ScansTo s0 t v bytes (Err h)) (sym e) (so_far.asks (front_asks s (drop place bytes) word taken before front asks))
+
+-- ---- a call on the rest of the bytes
+
+-- (where none is left, whether a CR waits stays)
+pub rest_then : (s0 s t : State) (w v : Bool) (bytes : List ℕ) (place count : ℕ) → place ≤ length bytes → (drop place bytes ≡ [] → v ≡ w)
+    → IsScanned s0 s w bytes (drop place bytes)
+    → ScansTo s t v (take (length bytes - place) (drop place bytes)) (Ok count) → IsScanned s0 t v bytes (drop (place + count) bytes)
+    × (place + count ≤ length bytes)
+rest_then s0 s t w v bytes place count l same so_far next =
+    let here : IsScanned s t v (drop place bytes) (drop count (drop place bytes)) =
+    subst (λ ds. IsScanned s t v ds (drop count ds)) (rest_is bytes place) next.0 in
+    let left : length (drop place bytes) ≡ length bytes - place = length-drop place bytes in
+    let behind : length (drop count (drop place bytes)) ≡ length (drop place bytes) - count = length-drop count (drop place bytes) in
+    let most : count ≤ length (drop place bytes) = subst (λ ds. count ≤ length ds) (rest_is bytes place) next.1 in (
+      subst (IsScanned s0 t v bytes) (drop-drop count place bytes) (scanned_then s0 s t w v bytes (drop place bytes) (drop count (drop place bytes)) so_far here
+          (λ k. omega arith) (λ q k. same q)),
+      omega arith,
+    )
+
+pub rest_scanned : (s0 s t : State) (w v : Bool) (bytes : List ℕ) (place count : ℕ) → place < length bytes → IsScanned s0 s w bytes (drop place bytes)
+    → ScansTo s t v (take (length bytes - place) (drop place bytes)) (Ok count)
+    → IsScanned s0 t v bytes (drop (place + count) bytes) × (place + count ≤ length bytes)
+rest_scanned s0 s t w v bytes place count l so_far next =
+    let left : length (drop place bytes) ≡ length bytes - place = length-drop place bytes in
+    rest_then s0 s t w v bytes place count (omega arith) (λ q. absurd (let none : length (drop place bytes) ≡ 0 = ap length q in omega arith)) so_far next
+
+pub rest_stops_to : (s0 s t u : State) (w v x : Bool) (bytes : List ℕ) (place : ℕ) (halt : Halt) → IsScanned s0 s w bytes (drop place bytes)
+    → ScansTo s t v (take (length bytes - place) (drop place bytes)) (Err halt) → ScansTo s0 u x bytes (Err halt)
+rest_stops_to s0 s t u w v x bytes place (halts.Fault e) so_far stop = sym so_far.steps ∙ subst (λ ds. run s (settled ds) ≡ Err e) (rest_is bytes place) stop
+rest_stops_to s0 s t u w v x bytes place halts.Memory so_far stop = so_far.asks (subst (λ ds. MeetsBidLine s (settled ds)) (rest_is bytes place) stop)
+
+pub rest_stops : (s0 s t u : State) (w v : Bool) (bytes : List ℕ) (place : ℕ) (halt : Halt) → IsScanned s0 s w bytes (drop place bytes)
+    → ScansTo s t v (take (length bytes - place) (drop place bytes)) (Err halt)
+    → Steps {A = Unit {0}} u (Err halt) (run s0 (settled bytes)) × Asks {A = Unit {0}} s0 (settled bytes) (Err halt)
+rest_stops s0 s t u w v bytes place (halts.Fault e) so_far stop = (sym so_far.steps ∙ subst (λ ds. run s (settled ds) ≡ Err e) (rest_is bytes place) stop, tt)
+rest_stops s0 s t u w v bytes place halts.Memory so_far stop = (tt, so_far.asks (subst (λ ds. MeetsBidLine s (settled ds)) (rest_is bytes place) stop))
+
+-- behind that call a byte stopped
+pub byte_stops : (s0 s t u : State) (w v : Bool) (bytes : List ℕ) (place count : ℕ) (halt : Halt) → place < length bytes
+    → IsScanned s0 s w bytes (drop place bytes) → ScansTo s t v (take (length bytes - place) (drop place bytes)) (Ok count)
+    → place + count < length bytes → get_or bytes (place + count) 0 ≢ 13 → Steps {A = Unit {0}} u (Err halt) (byte_step t (get_or bytes (place + count) 0))
+    → AsksHere {A = Unit {0}} t (Err halt)
+    → Steps {A = Unit {0}} u (Err halt) (run s0 (settled bytes)) × Asks {A = Unit {0}} s0 (settled bytes) (Err halt)
+byte_stops s0 s t u w v bytes place count halt l so_far next here ne steps asks =
+    let both = rest_scanned s0 s t w v bytes place count l so_far next in
+    let b : ℕ = get_or bytes (place + count) 0 in
+    let split : settled (drop (place + count) bytes) ≡ b ∷ settled (drop (place + count + 1) bytes) = ap settled (at_place bytes (place + count) here)
+    ∙ settled-other b (drop (place + count + 1) bytes) ne in
+    at_byte s0 t u v bytes (drop (place + count) bytes) b (settled (drop (place + count + 1) bytes)) halt both.0 split steps asks
+  where
+    at_byte : (s0 t u : State) (v : Bool) (bytes rest : List ℕ) (b : ℕ) (later : List ℕ) (halt : Halt) → IsScanned s0 t v bytes rest → settled rest ≡ b ∷ later
+        → Steps {A = Unit {0}} u (Err halt) (byte_step t b) → AsksHere {A = Unit {0}} t (Err halt)
+        → Steps {A = Unit {0}} u (Err halt) (run s0 (settled bytes)) × Asks {A = Unit {0}} s0 (settled bytes) (Err halt)
+    at_byte s0 t u v bytes rest b later (halts.Fault e) so_far split steps asks =
+        (sym so_far.steps ∙ ap (run t) split ∙ ap (λ r. and_then r (λ x. run x later)) steps, tt)
+    at_byte s0 t u v bytes rest b later halts.Memory so_far split steps asks = (tt, so_far.asks (subst (MeetsBidLine t) (sym split) (inl asks)))
+
+-- what a `?` answers
+pub residual_is : {A : Type 0} (r : Result A Halt) (halt : Halt) (P : Result A Halt → Type 0) → IsErr r → IsErrAnd r (λ h. h ≡ halt) → P (Err halt) → P r
+residual_is (Ok x) halt P err is p = cc
+residual_is (Err h) halt P err is p = subst (λ (k : Halt). P (Err k)) (sym is) p

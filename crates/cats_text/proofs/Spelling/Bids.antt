@@ -1,0 +1,125 @@
+-- The bid that a line spells, and the bid of a line's words.
+use Rattle.std.proofs.Common.{◌≡◌, ℕ, zero, suc, ◌<◌, ◌≤◌, true, false, not, cond, ltb, ⊎_elim, List, [], ◌∷◌, ◌++◌, length, map, Some, refl, sym, ap, ap₂, ◌∙◌, subst}
+use Rattle.std.proofs.lemmas.Bool.{both_ways, ltb-true, lt-ltb, or_cases, or_left, or_right}
+use Rattle.std.proofs.lemmas.List.Sums.{take_while-cons}
+use Rattle.std.proofs.lemmas.Option.{slice_get_within}
+use Rattle.std.specs.List.{AllByRecursion, list_any, slice_get}
+use Rattle.std.specs.Prelude.{codes}
+use Rattle.cats_text.specs.Lines.{Word}
+use Rattle.cats_text.specs.Numbers.{is_number, number_of, price_of}
+use Rattle.cats_text.specs.Files.{PlainBid, PlainFile, IsBid, IsPlainFile, goods_of}
+use Rattle.cats_text.specs.Grammar.{SpellsBid, has_number, line_number}
+use Rattle.cats_text.specs.Faults.{Bounds, is_end}
+use Rattle.cats_text.specs.FileLines.{before_end, bid_of}
+use Rattle.cats_text.specs.declared.limits.TheConstants.{MAX_PRICE}
+use Rattle.cats_text.proofs.Spelling.Rising.{has_head, has_tail, has_cases, IsRising-of}
+use Rattle.cats_text.proofs.Spelling.Members.{bid_on, bid_on_same, bid_on_below, bid_on_real, bid_on_dummy, goods_are, rising_goods, same_dummy, has_real_good, real, dummy_of}
+use Rattle.cats_text.proofs.Spelling.Prices.{price_below, price_small}
+use Rattle.cats_text.proofs.Spelling.Goods.{IsBidLine, number_no_end}
+
+-- ---- a line of words
+
+before_end_is : (goods : List Word) → AllByRecursion (λ w. is_number w ≡ true) goods → before_end (goods ++ codes "#" ∷ []) ≡ goods
+before_end_is [] a = refl
+before_end_is (w ∷ ws) a =
+    take_while-cons (λ v. not (is_end v)) w (ws ++ codes "#" ∷ [])
+    ∙ ap (λ e. cond (not e) (w ∷ before_end (ws ++ codes "#" ∷ [])) []) (number_no_end w a.0)
+    ∙ ap (λ vs. w ∷ vs) (before_end_is ws a.1)
+
+bid_of_words : (G : ℕ) (number price : Word) (goods : List Word) → AllByRecursion (λ w. is_number w ≡ true) goods
+    → bid_of G (number ∷ price ∷ (goods ++ codes "#" ∷ [])) ≡ bid_on G (price_of price) (map number_of goods)
+bid_of_words G number price goods a = ap (λ ws. bid_on G (price_of price) (map number_of ws)) (before_end_is goods a)
+
+real_any : (G : ℕ) (ws : List Word) → list_any (λ g. ltb (number_of g) G) ws ≡ true → (g : ℕ) × (g < G) × (has_number (map number_of ws) g ≡ true)
+real_any G [] h = absurd (both_ways false refl h)
+real_any G (w ∷ ws) h = ⊎_elim
+    (λ (e : ltb (number_of w) G ≡ true). (number_of w, ltb-true (number_of w) G e, has_head (number_of w) (map number_of ws)))
+    (λ (k : list_any (λ g. ltb (number_of g) G) ws ≡ true). let p : (g : ℕ) × (g < G) × (has_number (map number_of ws) g ≡ true) = real_any G ws k in
+    (p.0, p.1, has_tail (number_of w) (map number_of ws) p.0 p.2))
+    (or_cases (ltb (number_of w) G) (list_any (λ g. ltb (number_of g) G) ws) h)
+
+any_real_from : (G : ℕ) (ws : List Word) (g : ℕ) → g < G → has_number (map number_of ws) g ≡ true → list_any (λ v. ltb (number_of v) G) ws ≡ true
+any_real_from G [] g l h = absurd (both_ways false refl h)
+any_real_from G (w ∷ ws) g l h = ⊎_elim
+    (λ (e : number_of w ≡ g). or_left (ltb (number_of w) G) (list_any (λ v. ltb (number_of v) G) ws) (lt-ltb (number_of w) G (subst (λ n. n < G) (sym e) l)))
+    (λ (k : has_number (map number_of ws) g ≡ true). or_right (ltb (number_of w) G) (list_any (λ v. ltb (number_of v) G) ws) (any_real_from G ws g l k))
+    (has_cases (number_of w) (map number_of ws) g h)
+
+-- the bid of a line without a fault
+pub line_bid : (h : Bounds) (words : List Word) → (q : IsBidLine h words) → bid_of h.goods words ≡ bid_on h.goods (price_of q.price) (map number_of q.goods)
+line_bid h words q = ap (bid_of h.goods) q.words_are ∙ bid_of_words h.goods q.number q.price q.goods q.goods_spelled
+
+pub line_is_bid : (h : Bounds) (words : List Word) → IsBidLine h words → IsBid h.goods h.dummy (bid_of h.goods words)
+line_is_bid h words q =
+    let some : (g : ℕ) × (g < h.goods) × (has_number (map number_of q.goods) g ≡ true) = real_any h.goods q.goods q.real in
+    subst (IsBid h.goods h.dummy) (sym (line_bid h words q)) (record {
+      price = price_below q.price q.price_spelled q.not_large;
+      goods = bid_on_real h.goods (map number_of q.goods) some.0 some.2 some.1;
+      rising = IsRising-of (real h.goods (map number_of q.goods));
+      below = bid_on_below h.goods (map number_of q.goods);
+      dummy = bid_on_dummy h.goods h.dummy (map number_of q.goods) q.goods_are;
+    })
+
+pub line_spells : (h : Bounds) (f : PlainFile) (words : List Word) → f.goods ≡ h.goods → IsBidLine h words
+    → slice_get f.bids (line_number words) ≡ Some (bid_of h.goods words) → SpellsBid f words
+line_spells h f words same q stands = record {
+  number = q.number;
+  price = q.price;
+  goods = q.goods;
+  bid = bid_on h.goods (price_of q.price) (map number_of q.goods);
+  words_are = q.words_are;
+  number_spelled = q.number_spelled;
+  stands = ap (λ ws. slice_get f.bids (line_number ws)) (sym q.words_are) ∙ stands ∙ ap Some (line_bid h words q);
+  price_spelled = record { price = q.price_spelled; exact = q.exact; value = refl };
+  goods_spelled = q.goods_spelled;
+  distinct = q.goods_are.distinct;
+  same_goods = λ g. subst (λ G. has_number (map number_of q.goods) g ≡ has_number (goods_of G (bid_on h.goods (price_of q.price) (map number_of q.goods))) g)
+      (sym same)
+      (bid_on_same h.goods h.dummy (price_of q.price) (map number_of q.goods) q.goods_are g);
+}
+
+-- ---- a bid that a line spells
+
+all_at : (P : PlainBid → Type 0) (bids : List PlainBid) (k : ℕ) (b : PlainBid) → AllByRecursion P bids → slice_get bids k ≡ Some b → P b
+all_at P [] k b a e = absurd (cc)
+all_at P (c ∷ cs) zero b a e = let same : c ≡ b = cc in subst P same a.0
+all_at P (c ∷ cs) (suc k) b a e = all_at P cs k b a.1 e
+
+abbrev pub file_bounds : PlainFile → Bounds
+file_bounds f = record { goods = f.goods; bids = length f.bids; dummy = f.dummy }
+
+pub spelled_is_bid : (f : PlainFile) (words : List Word) → IsPlainFile f → (s : SpellsBid f words) → IsBid f.goods f.dummy s.bid
+spelled_is_bid f words p s = all_at (IsBid f.goods f.dummy) f.bids (number_of s.number) s.bid p.each s.stands
+
+pub spelled_line : (f : PlainFile) (words : List Word) → IsPlainFile f → SpellsBid f words → IsBidLine (file_bounds f) words
+spelled_line f words p s =
+    let is : IsBid f.goods f.dummy s.bid = spelled_is_bid f words p s in
+    let some : (g : ℕ) × (g < f.goods) × (has_number (map number_of s.goods) g ≡ true) =
+    has_real_good f.goods f.dummy s.bid.goods s.bid.dummy (map number_of s.goods) is.rising is.below is.dummy s.same_goods is.goods in
+    record {
+      number = s.number;
+      price = s.price;
+      goods = s.goods;
+      words_are = s.words_are;
+      number_spelled = s.number_spelled;
+      number_below = slice_get_within f.bids (number_of s.number) s.bid s.stands;
+      price_spelled = s.price_spelled.price;
+      not_large = price_small s.price s.price_spelled.price s.price_spelled.exact (subst (λ n. n ≤ MAX_PRICE) (sym s.price_spelled.value) is.price);
+      exact = s.price_spelled.exact;
+      goods_spelled = s.goods_spelled;
+      goods_are = goods_are f.goods f.dummy s.bid.goods s.bid.dummy (map number_of s.goods) is.rising is.below is.dummy s.same_goods s.distinct;
+      real = any_real_from f.goods s.goods some.0 some.1 some.2;
+    }
+
+pub spelled_bid : (f : PlainFile) (words : List Word) → IsPlainFile f → SpellsBid f words → slice_get f.bids (line_number words) ≡ Some (bid_of f.goods words)
+spelled_bid f words p s =
+    let is : IsBid f.goods f.dummy s.bid = spelled_is_bid f words p s in
+    let goods : s.bid.goods ≡ (bid_on f.goods (price_of s.price) (map number_of s.goods)).goods
+    = rising_goods f.goods f.dummy s.bid.goods s.bid.dummy (map number_of s.goods) is.rising is.below is.dummy s.same_goods in
+    let dummy : s.bid.dummy ≡ dummy_of f.goods (map number_of s.goods)
+    = same_dummy f.goods f.dummy s.bid.goods s.bid.dummy (map number_of s.goods) is.rising is.below is.dummy s.same_goods in
+    let bid : s.bid ≡ bid_on f.goods (price_of s.price) (map number_of s.goods)
+    = ap (λ n. record { price = n; goods = s.bid.goods; dummy = s.bid.dummy }) (sym s.price_spelled.value)
+    ∙ ap₂ (λ gs o. record { price = price_of s.price; goods = gs; dummy = o }) goods dummy in
+    ap (λ ws. slice_get f.bids (line_number ws)) s.words_are ∙ s.stands
+    ∙ ap Some (bid ∙ sym (ap (bid_of f.goods) s.words_are ∙ bid_of_words f.goods s.number s.price s.goods s.goods_spelled))

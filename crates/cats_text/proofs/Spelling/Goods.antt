@@ -1,0 +1,294 @@
+-- Bid lines without a fault: a number, a price, and goods up to `#`.
+use Rattle.std.proofs.Common.{◌≡◌, ℕ, ◌+◌, ◌<◌, Bool, true, false, not, cond, eqb, ltb, leb, ◌||◌, ◌&&◌, ⊎_elim, List, [], ◌∷◌, ◌++◌, length, map, Option, None, refl, sym, ap, ap₂, ◌∙◌, subst, append_assoc, append-nil}
+use Rattle.std.proofs.lemmas.Bool.{both_ways, leb-false, lt-leb, not-false, not_from_true, or_left, or_right, or_from, false_from_ne_true, cases_Bool}
+use Rattle.std.proofs.lemmas.List.{map-append}
+use Rattle.std.proofs.lemmas.List.Folds.{list_any-append}
+use Rattle.std.specs.List.{AllByRecursion, list_any}
+use Rattle.std.specs.Prelude.{codes}
+use Rattle.cats_text.specs.Lines.{Word}
+use Rattle.cats_text.specs.Numbers.{is_number, number_of, is_price, is_too_large, is_too_fine}
+use Rattle.cats_text.specs.Grammar.{has_number, line_number}
+use Rattle.cats_text.specs.Faults.{when, Bounds, number_word, price_word, is_end, has_end, good_word, bid_end, bounds_of, words_fault}
+use Rattle.cats_text.specs.declared.fault.Kind.{Kind}
+use Rattle.cats_text.specs.declared.fault.Kind.TheVariants.{NotANumber, TooLarge, ExtraBid, BidNumber, RepeatedNumber, TooFine, GoodRange, RepeatedGood, TwoDummies, EmptyBundle, NoEnd, AfterEnd}
+use Rattle.cats_text.proofs.Spelling.Members.{AreGoods, MayFollow, no_goods, push_goods, may_follow}
+use Rattle.cats_text.proofs.Spelling.Tests.{when_none, none_when, or_none, none_or, equal_words}
+
+abbrev numbers : List Word → List ℕ
+numbers ws = map number_of ws
+
+any_numbers : (p : ℕ → Bool) (ws : List Word) → list_any p (numbers ws) ≡ list_any (λ w. p (number_of w)) ws
+any_numbers p [] = refl
+any_numbers p (w ∷ ws) = ap (λ b. p (number_of w) || b) (any_numbers p ws)
+
+pub number_no_end : (w : Word) → is_number w ≡ true → is_end w ≡ false
+number_no_end w h = false_from_ne_true (is_end w)
+    (λ e. both_ways (is_number (codes "#")) refl (subst (λ v. is_number v ≡ true) (equal_words w (codes "#") e) h))
+
+end_push : (before : List Word) (w : Word) → has_end (before ++ w ∷ []) ≡ (has_end before || (is_end w || false))
+end_push before w = list_any-append is_end before (w ∷ [])
+
+-- ---- one good
+
+abbrev high_test : Bounds → List Word → Word → Bool
+high_test h before w = leb h.goods (number_of w) && list_any (λ g. leb h.goods (number_of g)) before
+
+abbrev good_tests : Bounds → List Word → Word → Option Kind
+good_tests h before w =
+    when (not (is_number w)) NotANumber
+    (when (leb (h.goods + h.dummy) (number_of w)) GoodRange
+    (when (list_any (λ g. eqb (number_of g) (number_of w)) before) RepeatedGood
+    (when (high_test h before w) TwoDummies None)))
+
+abbrev end_tests : Bounds → List Word → Option Kind
+end_tests h before = when (not (list_any (λ g. ltb (number_of g) h.goods) before)) EmptyBundle None
+
+good_from : (h : Bounds) (before : List Word) (w : Word) → good_tests h before w ≡ None → (is_number w ≡ true)
+    × MayFollow h.goods h.dummy (numbers before) (number_of w)
+good_from h before w f =
+    let number : (not (is_number w) ≡ false)
+    × (when (leb (h.goods + h.dummy) (number_of w)) GoodRange (when (list_any (λ g. eqb (number_of g) (number_of w)) before) RepeatedGood
+    (when (high_test h before w) TwoDummies None)) ≡ None)
+    = when_none (not (is_number w)) NotANumber
+    (when (leb (h.goods + h.dummy) (number_of w)) GoodRange (when (list_any (λ g. eqb (number_of g) (number_of w)) before) RepeatedGood
+    (when (high_test h before w) TwoDummies None))) f in
+    let range : (leb (h.goods + h.dummy) (number_of w) ≡ false)
+    × (when (list_any (λ g. eqb (number_of g) (number_of w)) before) RepeatedGood (when (high_test h before w) TwoDummies None) ≡ None)
+    = when_none (leb (h.goods + h.dummy) (number_of w)) GoodRange (when (list_any (λ g. eqb (number_of g) (number_of w)) before) RepeatedGood
+    (when (high_test h before w) TwoDummies None)) number.1 in
+    let new : (list_any (λ g. eqb (number_of g) (number_of w)) before ≡ false) × (when (high_test h before w) TwoDummies None ≡ None)
+    = when_none (list_any (λ g. eqb (number_of g) (number_of w)) before) RepeatedGood (when (high_test h before w) TwoDummies None) range.1 in
+    let one : (high_test h before w ≡ false) × (None ≡ None) = when_none (high_test h before w) TwoDummies None new.1 in (
+      not-false (is_number w) number.0,
+      record {
+        range = range.0;
+        new = any_numbers (λ v. eqb v (number_of w)) before ∙ new.0;
+        one = ap (λ b. leb h.goods (number_of w) && b) (any_numbers (λ v. leb h.goods v) before) ∙ one.0;
+      },
+    )
+
+good_none : (h : Bounds) (before : List Word) (w : Word) → is_number w ≡ true → MayFollow h.goods h.dummy (numbers before) (number_of w)
+    → good_tests h before w ≡ None
+good_none h before w n m =
+    none_when (not (is_number w)) NotANumber
+    (when (leb (h.goods + h.dummy) (number_of w)) GoodRange (when (list_any (λ g. eqb (number_of g) (number_of w)) before) RepeatedGood
+    (when (high_test h before w) TwoDummies None)))
+    (not_from_true (is_number w) n)
+    (none_when (leb (h.goods + h.dummy) (number_of w)) GoodRange (when (list_any (λ g. eqb (number_of g) (number_of w)) before) RepeatedGood
+    (when (high_test h before w) TwoDummies None))
+    m.range
+    (none_when (list_any (λ g. eqb (number_of g) (number_of w)) before) RepeatedGood (when (high_test h before w) TwoDummies None)
+    (sym (any_numbers (λ v. eqb v (number_of w)) before) ∙ m.new)
+    (none_when (high_test h before w) TwoDummies None
+    (ap (λ b. leb h.goods (number_of w) && b) (sym (any_numbers (λ v. leb h.goods v) before)) ∙ m.one) refl)))
+
+-- ---- the goods up to `#`
+
+abbrev any_real : Bounds → List Word → Type 0
+any_real h ws = list_any (λ g. ltb (number_of g) h.goods) ws ≡ true
+
+-- the words behind these are goods, and then `#`
+record EndsGoods (h : Bounds) (before words : List Word) : Type 0 where
+  goods : List Word
+  words_are : words ≡ goods ++ codes "#" ∷ []
+  spelled : AllByRecursion (λ w. is_number w ≡ true) goods
+  are : AreGoods h.goods h.dummy (map number_of (before ++ goods))
+  real : list_any (λ g. ltb (number_of g) h.goods) (before ++ goods) ≡ true
+
+pub record IsBidLine (h : Bounds) (words : List Word) : Type 0 where
+  pub number : Word
+  pub price : Word
+  pub goods : List Word
+  pub words_are : words ≡ number ∷ price ∷ (goods ++ codes "#" ∷ [])
+  pub number_spelled : is_number number ≡ true
+  pub number_below : number_of number < h.bids
+  pub price_spelled : is_price price ≡ true
+  pub not_large : is_too_large price ≡ false
+  pub exact : is_too_fine price ≡ false
+  pub goods_spelled : AllByRecursion (λ w. is_number w ≡ true) goods
+  pub goods_are : AreGoods h.goods h.dummy (map number_of goods)
+  pub real : list_any (λ g. ltb (number_of g) h.goods) goods ≡ true
+
+-- the line has a number of its own, and is not one too many
+pub record IsNewLine (h : Bounds) (lines : List (List Word)) (words : List Word) : Type 0 where
+  pub due : length lines < h.bids
+  pub new : has_number (map line_number lines) (line_number words) ≡ false
+
+any_lines : (n : ℕ) (lines : List (List Word)) → has_number (map line_number lines) n ≡ list_any (λ l. eqb (line_number l) n) lines
+any_lines n [] = refl
+any_lines n (l ∷ ls) = ap (λ b. eqb (line_number l) n || b) (any_lines n ls)
+
+module _ (g b d : List Word) (lines : List (List Word)) where
+  abbrev bounds : Bounds
+  bounds = bounds_of g b d
+
+  abbrev goods_fault : Word → Word → List Word → List Word → Option Kind
+  goods_fault n p before ws = words_fault (g ∷ b ∷ d ∷ lines) (n ∷ p ∷ before) ws
+
+  nothing_after : (n p : Word) (before ws : List Word) → goods_fault n p before ws ≡ None → has_end before ≡ true → ws ≡ []
+  nothing_after n p before [] f e = refl
+  nothing_after n p before (w ∷ ws) f e =
+      let first : (good_word bounds before w ≡ None) × (goods_fault n p (before ++ w ∷ []) ws ≡ None) =
+      or_none (good_word bounds before w) (goods_fault n p (before ++ w ∷ []) ws) f in
+      let no_end : (has_end before ≡ false) × (cond (is_end w) (end_tests bounds before) (good_tests bounds before w) ≡ None)
+      = when_none (has_end before) AfterEnd (cond (is_end w) (end_tests bounds before) (good_tests bounds before w)) first.0 in
+      absurd (both_ways (has_end before) no_end.0 e)
+
+  goods_from : (n p : Word) (before ws : List Word) → AreGoods bounds.goods bounds.dummy (numbers before) → has_end before ≡ false
+      → goods_fault n p before ws ≡ None → has_end (before ++ ws) ≡ true
+      → EndsGoods bounds before ws
+  goods_from n p before [] a e f t = absurd (both_ways (has_end before) e (sym (ap has_end (append-nil before)) ∙ t))
+  goods_from n p before (w ∷ ws) a e f t =
+      let first : (good_word bounds before w ≡ None) × (goods_fault n p (before ++ w ∷ []) ws ≡ None) =
+      or_none (good_word bounds before w) (goods_fault n p (before ++ w ∷ []) ws) f in
+      let tests : (has_end before ≡ false) × (cond (is_end w) (end_tests bounds before) (good_tests bounds before w) ≡ None)
+      = when_none (has_end before) AfterEnd (cond (is_end w) (end_tests bounds before) (good_tests bounds before w)) first.0 in
+      ⊎_elim
+      (λ (q : is_end w ≡ true).
+      let last : end_tests bounds before ≡ None = sym (ap (λ x. cond x (end_tests bounds before) (good_tests bounds before w)) q) ∙ tests.1 in
+      let some : (not (list_any (λ v. ltb (number_of v) bounds.goods) before) ≡ false) × (None ≡ None) =
+      when_none (not (list_any (λ v. ltb (number_of v) bounds.goods) before)) EmptyBundle None last in
+      let nothing : ws ≡ [] =
+      nothing_after n p (before ++ w ∷ []) ws first.1 (end_push before w ∙ or_right (has_end before) (is_end w || false) (or_left (is_end w) false q)) in
+      record {
+        goods = [];
+        words_are = ap₂ (λ v vs. v ∷ vs) (equal_words w (codes "#") q) nothing;
+        spelled = tt;
+        are = subst (λ vs. AreGoods bounds.goods bounds.dummy (numbers vs)) (sym (append-nil before)) a;
+        real = subst (any_real bounds) (sym (append-nil before)) (not-false (list_any (λ v. ltb (number_of v) bounds.goods) before) some.0);
+      })
+      (λ (q : is_end w ≡ false).
+      let good : (is_number w ≡ true) × MayFollow bounds.goods bounds.dummy (numbers before) (number_of w)
+      = good_from bounds before w (sym (ap (λ x. cond x (end_tests bounds before) (good_tests bounds before w)) q) ∙ tests.1) in
+      let more : AreGoods bounds.goods bounds.dummy (numbers (before ++ w ∷ []))
+      = subst (AreGoods bounds.goods bounds.dummy) (sym (map-append number_of before (w ∷ [])))
+      (push_goods bounds.goods bounds.dummy (numbers before) (number_of w) a good.1) in
+      let moved : (before ++ w ∷ []) ++ ws ≡ before ++ w ∷ ws = append_assoc before (w ∷ []) ws in
+      let rest : EndsGoods bounds (before ++ w ∷ []) ws = goods_from n p (before ++ w ∷ []) ws more
+      (end_push before w ∙ or_from (has_end before) (is_end w || false) e (or_from (is_end w) false q refl)) first.1 (ap has_end moved ∙ t) in
+      let all : (before ++ w ∷ []) ++ rest.goods ≡ before ++ w ∷ rest.goods = append_assoc before (w ∷ []) rest.goods in
+      record {
+        goods = w ∷ rest.goods;
+        words_are = ap (λ vs. w ∷ vs) rest.words_are;
+        spelled = (good.0, rest.spelled);
+        are = subst (λ vs. AreGoods bounds.goods bounds.dummy (numbers vs)) all rest.are;
+        real = subst (any_real bounds) all rest.real;
+      })
+      (cases_Bool (is_end w))
+
+  goods_none : (n p : Word) (before goods : List Word) → AllByRecursion (λ w. is_number w ≡ true) goods
+      → AreGoods bounds.goods bounds.dummy (numbers (before ++ goods)) → has_end before ≡ false
+      → any_real bounds (before ++ goods) → goods_fault n p before (goods ++ codes "#" ∷ []) ≡ None
+  goods_none n p before [] s a e r =
+      none_or (good_word bounds before (codes "#")) None
+      (none_when (has_end before) AfterEnd (end_tests bounds before) e
+      (none_when (not (list_any (λ v. ltb (number_of v) bounds.goods) before)) EmptyBundle None
+      (not_from_true (list_any (λ v. ltb (number_of v) bounds.goods) before) (subst (any_real bounds) (append-nil before) r)) refl))
+      refl
+  goods_none n p before (w ∷ ws) s a e r =
+      let q : is_end w ≡ false = number_no_end w s.0 in
+      let may : MayFollow bounds.goods bounds.dummy (numbers before) (number_of w)
+      = may_follow bounds.goods bounds.dummy (numbers before) (number_of w) (numbers ws)
+      (subst (AreGoods bounds.goods bounds.dummy) (map-append number_of before (w ∷ ws)) a) in
+      let all : before ++ w ∷ ws ≡ (before ++ w ∷ []) ++ ws = sym (append_assoc before (w ∷ []) ws) in
+      none_or (good_word bounds before w) (goods_fault n p (before ++ w ∷ []) (ws ++ codes "#" ∷ []))
+      (none_when (has_end before) AfterEnd (cond (is_end w) (end_tests bounds before) (good_tests bounds before w)) e
+      (ap (λ x. cond x (end_tests bounds before) (good_tests bounds before w)) q ∙ good_none bounds before w s.0 may))
+      (goods_none n p (before ++ w ∷ []) ws s.1 (subst (λ vs. AreGoods bounds.goods bounds.dummy (numbers vs)) all a)
+      (end_push before w ∙ or_from (has_end before) (is_end w || false) e (or_from (is_end w) false q refl)) (subst (any_real bounds) all r))
+
+  -- ---- a bid line
+
+  abbrev number_test : Word → Bool
+  number_test w = list_any (λ l. eqb (line_number l) (number_of w)) lines
+
+  number_from : (w : Word) → number_word bounds lines w ≡ None → (is_number w ≡ true) × (length lines < bounds.bids) × (number_of w < bounds.bids)
+      × (has_number (map line_number lines) (number_of w) ≡ false)
+  number_from w f =
+      let number : (not (is_number w) ≡ false)
+      × (when (leb bounds.bids (length lines)) ExtraBid (when (leb bounds.bids (number_of w)) BidNumber (when (number_test w) RepeatedNumber None)) ≡ None)
+      = when_none (not (is_number w)) NotANumber
+      (when (leb bounds.bids (length lines)) ExtraBid (when (leb bounds.bids (number_of w)) BidNumber (when (number_test w) RepeatedNumber None))) f in
+      let extra : (leb bounds.bids (length lines) ≡ false) × (when (leb bounds.bids (number_of w)) BidNumber (when (number_test w) RepeatedNumber None) ≡ None)
+      = when_none (leb bounds.bids (length lines)) ExtraBid (when (leb bounds.bids (number_of w)) BidNumber (when (number_test w) RepeatedNumber None))
+      number.1 in
+      let below : (leb bounds.bids (number_of w) ≡ false) × (when (number_test w) RepeatedNumber None ≡ None)
+      = when_none (leb bounds.bids (number_of w)) BidNumber (when (number_test w) RepeatedNumber None) extra.1 in
+      let new : (number_test w ≡ false) × (None ≡ None) = when_none (number_test w) RepeatedNumber None below.1 in (
+        not-false (is_number w) number.0,
+        leb-false bounds.bids (length lines) extra.0,
+        leb-false bounds.bids (number_of w) below.0,
+        any_lines (number_of w) lines ∙ new.0,
+      )
+
+  number_none : (w : Word) → is_number w ≡ true → length lines < bounds.bids → number_of w < bounds.bids → has_number (map line_number lines) (number_of w)
+      ≡ false → number_word bounds lines w ≡ None
+  number_none w n l k h =
+      none_when (not (is_number w)) NotANumber
+      (when (leb bounds.bids (length lines)) ExtraBid (when (leb bounds.bids (number_of w)) BidNumber (when (number_test w) RepeatedNumber None)))
+      (not_from_true (is_number w) n)
+      (none_when (leb bounds.bids (length lines)) ExtraBid (when (leb bounds.bids (number_of w)) BidNumber (when (number_test w) RepeatedNumber None))
+      (lt-leb bounds.bids (length lines) l)
+      (none_when (leb bounds.bids (number_of w)) BidNumber (when (number_test w) RepeatedNumber None)
+      (lt-leb bounds.bids (number_of w) k)
+      (none_when (number_test w) RepeatedNumber None (sym (any_lines (number_of w) lines) ∙ h) refl)))
+
+  price_from : (w : Word) → price_word w ≡ None → (is_price w ≡ true) × (is_too_large w ≡ false) × (is_too_fine w ≡ false)
+  price_from w f =
+      let price : (not (is_price w) ≡ false) × (when (is_too_large w) TooLarge (when (is_too_fine w) TooFine None) ≡ None) =
+      when_none (not (is_price w)) NotANumber (when (is_too_large w) TooLarge (when (is_too_fine w) TooFine None)) f in
+      let large : (is_too_large w ≡ false) × (when (is_too_fine w) TooFine None ≡ None) =
+      when_none (is_too_large w) TooLarge (when (is_too_fine w) TooFine None) price.1 in
+      let fine : (is_too_fine w ≡ false) × (None ≡ None) = when_none (is_too_fine w) TooFine None large.1 in
+      (not-false (is_price w) price.0, large.0, fine.0)
+
+  price_none : (w : Word) → is_price w ≡ true → is_too_large w ≡ false → is_too_fine w ≡ false → price_word w ≡ None
+  price_none w p l f =
+      none_when (not (is_price w)) NotANumber (when (is_too_large w) TooLarge (when (is_too_fine w) TooFine None)) (not_from_true (is_price w) p)
+      (none_when (is_too_large w) TooLarge (when (is_too_fine w) TooFine None) l (none_when (is_too_fine w) TooFine None f refl))
+
+  pub bid_line_from : (words : List Word) → words_fault (g ∷ b ∷ d ∷ lines) [] words ≡ None → bid_end words ≡ None → IsBidLine bounds words
+      × IsNewLine bounds lines words
+  bid_line_from [] f e = absurd (cc)
+  bid_line_from (n ∷ []) f e = absurd (cc)
+  bid_line_from (n ∷ p ∷ ws) f e =
+      let first : (number_word bounds lines n ≡ None) × (words_fault (g ∷ b ∷ d ∷ lines) (n ∷ []) (p ∷ ws) ≡ None) =
+      or_none (number_word bounds lines n) (words_fault (g ∷ b ∷ d ∷ lines) (n ∷ []) (p ∷ ws)) f in
+      let second : (price_word p ≡ None) × (goods_fault n p [] ws ≡ None) = or_none (price_word p) (goods_fault n p [] ws) first.1 in
+      let ended : (not (has_end ws) ≡ false) × (None ≡ None) = when_none (not (has_end ws)) NoEnd None e in
+      let number : (is_number n ≡ true) × (length lines < bounds.bids) × (number_of n < bounds.bids)
+      × (has_number (map line_number lines) (number_of n) ≡ false) = number_from n first.0 in
+      let price : (is_price p ≡ true) × (is_too_large p ≡ false) × (is_too_fine p ≡ false) = price_from p second.0 in
+      let goods : EndsGoods bounds [] ws = goods_from n p [] ws (no_goods bounds.goods bounds.dummy) refl second.1 (not-false (has_end ws) ended.0) in (
+        record {
+          number = n;
+          price = p;
+          goods = goods.goods;
+          words_are = ap (λ vs. n ∷ p ∷ vs) goods.words_are;
+          number_spelled = number.0;
+          number_below = number.2;
+          price_spelled = price.0;
+          not_large = price.1;
+          exact = price.2;
+          goods_spelled = goods.spelled;
+          goods_are = goods.are;
+          real = goods.real;
+        },
+        record { due = number.1; new = number.3 },
+      )
+
+  has_end_end : (ws : List Word) → has_end (ws ++ codes "#" ∷ []) ≡ true
+  has_end_end ws = list_any-append is_end ws (codes "#" ∷ []) ∙ or_right (has_end ws) true refl
+
+  pub bid_line_none : (words : List Word) → IsBidLine bounds words → IsNewLine bounds lines words → (words_fault (g ∷ b ∷ d ∷ lines) [] words ≡ None)
+      × (bid_end words ≡ None)
+  bid_line_none words q new =
+      let same : line_number words ≡ number_of q.number = ap line_number q.words_are in
+      subst (λ ws. (words_fault (g ∷ b ∷ d ∷ lines) [] ws ≡ None) × (bid_end ws ≡ None)) (sym q.words_are) (
+        none_or (number_word bounds lines q.number) (words_fault (g ∷ b ∷ d ∷ lines) (q.number ∷ []) (q.price ∷ (q.goods ++ codes "#" ∷ [])))
+            (number_none q.number q.number_spelled new.due q.number_below (ap (has_number (map line_number lines)) (sym same) ∙ new.new))
+            (none_or (price_word q.price) (goods_fault q.number q.price [] (q.goods ++ codes "#" ∷ []))
+            (price_none q.price q.price_spelled q.not_large q.exact)
+            (goods_none q.number q.price [] q.goods q.goods_spelled q.goods_are refl q.real)),
+        none_when (not (has_end (q.goods ++ codes "#" ∷ []))) NoEnd None (not_from_true (has_end (q.goods ++ codes "#" ∷ [])) (has_end_end q.goods)) refl,
+      )

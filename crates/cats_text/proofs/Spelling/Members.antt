@@ -1,0 +1,317 @@
+-- The numbers of a bid's goods: its real goods are those below G, and of those from G on it has one at most. Lists of numbers
+-- that are in the same lists of goods are the same, however they are ordered.
+use Rattle.std.proofs.Common.{◌≡◌, ◌≢◌, ℕ, ◌+◌, ◌-◌, ◌<◌, ◌≤◌, Bool, true, false, cond, eqb, ltb, leb, ◌||◌, ◌&&◌, ◌⊎◌, inl, inr, ⊎_elim, List, [], ◌∷◌, ◌++◌, length, Option, Some, None, refl, sym, ap, ◌∙◌, subst, arith}
+use Rattle.std.proofs.lemmas.Bool.{both_ways, eqb-true, ltb-true, ltb-false, leb-true, leb-false, or_cases, or_left, or_right, and_parts, false_from_ne_true, cases_lt, cases_Bool}
+use Rattle.std.proofs.lemmas.List.Folds.{list_any-append}
+use Rattle.std.specs.List.{AllByRecursion, list_any, filter, find}
+use Rattle.std.specs.Option.{option_map}
+use Rattle.cats_text.specs.Files.{PlainBid, IsRising, IsDummyBelow, dummy_good, goods_of}
+use Rattle.cats_text.specs.Grammar.{AreDistinct, has_number}
+use Rattle.cats_text.specs.FileLines.{rising_of}
+use Rattle.cats_text.proofs.Spelling.Rising.{has_head, has_tail, has_cases, has_rising_of, rising_of_is}
+use Rattle.cats_text.proofs.Spelling.Marks.{AreDistinct-push}
+
+-- ---- tests
+
+pub same_test : (a b : Bool) → (a ≡ true → b ≡ true) → (b ≡ true → a ≡ true) → a ≡ b
+same_test true b f g = sym (f refl)
+same_test false b f g = sym (false_from_ne_true b (λ e. both_ways false refl (g e)))
+
+abbrev Has : List ℕ → ℕ → Type 0
+Has xs g = has_number xs g ≡ true
+
+has_nothing : (g : ℕ) → Has [] g → ⊥
+has_nothing g h = both_ways false refl h
+
+pub has_append : (xs ys : List ℕ) (g : ℕ) → Has (xs ++ ys) g → Has xs g ⊎ Has ys g
+has_append xs ys g h = or_cases (has_number xs g) (has_number ys g) (sym (list_any-append (λ x. eqb x g) xs ys) ∙ h)
+
+pub has_before : (xs ys : List ℕ) (g : ℕ) → Has xs g → Has (xs ++ ys) g
+has_before xs ys g h = list_any-append (λ x. eqb x g) xs ys ∙ or_left (has_number xs g) (has_number ys g) h
+
+pub has_behind : (xs ys : List ℕ) (g : ℕ) → Has ys g → Has (xs ++ ys) g
+has_behind xs ys g h = list_any-append (λ x. eqb x g) xs ys ∙ or_right (has_number xs g) (has_number ys g) h
+
+pub has_one : (x g : ℕ) → Has (x ∷ []) g → x ≡ g
+has_one x g h = ⊎_elim (λ (e : x ≡ g). e) (λ (k : Has [] g). absurd (has_nothing g k)) (has_cases x [] g h)
+
+pub all_from_has : (P : ℕ → Type 0) (xs : List ℕ) → ((g : ℕ) → Has xs g → P g) → AllByRecursion P xs
+all_from_has P [] h = tt
+all_from_has P (x ∷ xs) h = (h x (has_head x xs), all_from_has P xs (λ g k. h g (has_tail x xs g k)))
+
+pub has_from_all : (P : ℕ → Type 0) (xs : List ℕ) → AllByRecursion P xs → (g : ℕ) → Has xs g → P g
+has_from_all P [] a g h = absurd (has_nothing g h)
+has_from_all P (x ∷ xs) a g h = ⊎_elim (λ (e : x ≡ g). subst P e a.0) (λ (k : Has xs g). has_from_all P xs a.1 g k) (has_cases x xs g h)
+
+pub length_from_has : (xs : List ℕ) (g : ℕ) → Has xs g → 0 < length xs
+length_from_has [] g h = absurd (has_nothing g h)
+length_from_has (x ∷ xs) g h = omega arith
+
+-- ---- those below G
+
+abbrev pub real : ℕ → List ℕ → List ℕ
+real G ns = filter (λ v. ltb v G) ns
+
+has_real : (G : ℕ) (ns : List ℕ) (g : ℕ) → Has ns g → g < G → Has (real G ns) g
+has_real G [] g h l = absurd (has_nothing g h)
+has_real G (v ∷ vs) g h l = elim (ltb v G) as (λ b. ltb v G ≡ b → Has (cond b (v ∷ real G vs) (real G vs)) g) [
+  | true ↦ λ (e : ltb v G ≡ true). ⊎_elim (λ (q : v ≡ g). subst (λ n. Has (v ∷ real G vs) n) q (has_head v (real G vs)))
+      (λ (k : Has vs g). has_tail v (real G vs) g (has_real G vs g k l)) (has_cases v vs g h)
+  | false ↦ λ (e : ltb v G ≡ false). ⊎_elim (λ (q : v ≡ g). let le : G ≤ v = ltb-false v G e in absurd (omega arith)) (λ (k : Has vs g). has_real G vs g k l)
+      (has_cases v vs g h)
+] refl
+
+real_has : (G : ℕ) (ns : List ℕ) (g : ℕ) → Has (real G ns) g → (g < G) × Has ns g
+real_has G [] g = λ h. absurd (has_nothing g h)
+real_has G (v ∷ vs) g = elim (ltb v G) as (λ b. ltb v G ≡ b → Has (cond b (v ∷ real G vs) (real G vs)) g → (g < G) × Has (v ∷ vs) g) [
+  | true ↦ λ (e : ltb v G ≡ true) (h : Has (v ∷ real G vs) g). ⊎_elim (λ (q : v ≡ g). (
+    subst (λ n. n < G) q (ltb-true v G e),
+    subst (λ n. Has (v ∷ vs) n) q (has_head v vs),
+  ))
+      (λ (k : Has (real G vs) g). let p : (g < G) × Has vs g = real_has G vs g k in (p.0, has_tail v vs g p.1)) (has_cases v (real G vs) g h)
+  | false ↦ λ (e : ltb v G ≡ false) (h : Has (real G vs) g). let p : (g < G) × Has vs g = real_has G vs g h in (p.0, has_tail v vs g p.1)
+] refl
+
+-- ---- the first one from G on
+
+abbrev first_high : ℕ → List ℕ → Option ℕ
+first_high G ns = find (λ v. leb G v) ns
+
+record IsHigh (G : ℕ) (ns : List ℕ) (v : ℕ) : Type 0 where
+  first : first_high G ns ≡ Some v
+  has : has_number ns v ≡ true
+  high : G ≤ v
+
+record NoneHigh (G : ℕ) (ns : List ℕ) : Type 0 where
+  first : first_high G ns ≡ None
+  low : (g : ℕ) → has_number ns g ≡ true → g < G
+
+high_cases : (G : ℕ) (ns : List ℕ) → NoneHigh G ns ⊎ ((v : ℕ) × IsHigh G ns v)
+high_cases G [] = inl (record { first = refl; low = λ g h. absurd (has_nothing g h) })
+high_cases G (v ∷ vs) = ⊎_elim
+    (λ (h : leb G v ≡ true). inr (v, record { first = ap (λ b. cond b (Some v) (first_high G vs)) h; has = has_head v vs; high = leb-true G v h }))
+    (λ (l : leb G v ≡ false). ⊎_elim
+    (λ (n : NoneHigh G vs). inl (record {
+      first = ap (λ b. cond b (Some v) (first_high G vs)) l ∙ n.first;
+      low = λ g k. ⊎_elim (λ (q : v ≡ g). let lt : v < G = leb-false G v l in subst (λ m. m < G) q lt) (λ (m : Has vs g). n.low g m) (has_cases v vs g k);
+    }))
+    (λ (p : (w : ℕ) × IsHigh G vs w). inr (
+      p.0,
+      record {
+        first = ap (λ b. cond b (Some v) (first_high G vs)) l ∙ p.1.first;
+        has = has_tail v vs p.0 p.1.has;
+        high = p.1.high;
+      },
+    ))
+    (high_cases G vs))
+    (cases_Bool (leb G v))
+
+-- ---- the numbers of a bid's goods
+
+-- none twice, each of a file of G goods and D dummies, and of those from G on one at most
+pub record AreGoods (G D : ℕ) (ns : List ℕ) : Type 0 where
+  pub distinct : AreDistinct ns
+  pub below : (g : ℕ) → has_number ns g ≡ true → g < G + D
+  pub one_dummy : (x y : ℕ) → has_number ns x ≡ true → has_number ns y ≡ true → G ≤ x → G ≤ y → x ≡ y
+
+abbrev pub dummy_of : ℕ → List ℕ → Option ℕ
+dummy_of G ns = option_map (λ v. v - G) (first_high G ns)
+
+has_dummy : (G D : ℕ) (ns : List ℕ) → AreGoods G D ns → (g : ℕ) → Has ns g → G ≤ g → Has (dummy_good G (dummy_of G ns)) g
+has_dummy G D ns p g h l = ⊎_elim
+    (λ (n : NoneHigh G ns). let lt : g < G = n.low g h in absurd (omega arith))
+    (λ (q : (v : ℕ) × IsHigh G ns v).
+    let same : q.0 ≡ g = p.one_dummy q.0 g q.1.has h q.1.high l in
+    let le : G ≤ q.0 = q.1.high in
+    let good : G + (q.0 - G) ≡ g = omega arith in
+    subst (λ o. Has (dummy_good G (option_map (λ v. v - G) o)) g) (sym q.1.first)
+    (subst (λ n. Has ((G + (q.0 - G)) ∷ []) n) good (has_head (G + (q.0 - G)) [])))
+    (high_cases G ns)
+
+dummy_has : (G : ℕ) (ns : List ℕ) (g : ℕ) → Has (dummy_good G (dummy_of G ns)) g → (G ≤ g) × Has ns g
+dummy_has G ns g h = ⊎_elim
+    (λ (n : NoneHigh G ns). absurd (has_nothing g (subst (λ o. Has (dummy_good G (option_map (λ v. v - G) o)) g) n.first h)))
+    (λ (q : (v : ℕ) × IsHigh G ns v).
+    let one : G + (q.0 - G) ≡ g = has_one (G + (q.0 - G)) g (subst (λ o. Has (dummy_good G (option_map (λ v. v - G) o)) g) q.1.first h) in
+    let le : G ≤ q.0 = q.1.high in
+    let same : q.0 ≡ g = omega arith in
+    (subst (λ n. G ≤ n) same le, subst (λ n. Has ns n) same q.1.has))
+    (high_cases G ns)
+
+-- a bid on the goods of these numbers
+abbrev pub bid_on : ℕ → ℕ → List ℕ → PlainBid
+bid_on G price ns = record { price = price; goods = rising_of (real G ns); dummy = dummy_of G ns }
+
+rising_has : (G : ℕ) (ns : List ℕ) (g : ℕ) → Has (rising_of (real G ns)) g → (g < G) × Has ns g
+rising_has G ns g h = real_has G ns g (sym (has_rising_of (real G ns) g) ∙ h)
+
+has_rising : (G : ℕ) (ns : List ℕ) (g : ℕ) → Has ns g → g < G → Has (rising_of (real G ns)) g
+has_rising G ns g h l = has_rising_of (real G ns) g ∙ has_real G ns g h l
+
+pub bid_on_same : (G D price : ℕ) (ns : List ℕ) → AreGoods G D ns → (g : ℕ) → has_number ns g ≡ has_number (goods_of G (bid_on G price ns)) g
+bid_on_same G D price ns p g = same_test (has_number ns g) (has_number (goods_of G (bid_on G price ns)) g)
+    (λ h. ⊎_elim (λ (l : g < G). has_before (rising_of (real G ns)) (dummy_good G (dummy_of G ns)) g (has_rising G ns g h l))
+    (λ (l : G ≤ g). has_behind (rising_of (real G ns)) (dummy_good G (dummy_of G ns)) g (has_dummy G D ns p g h l)) (cases_lt g G))
+    (λ h. ⊎_elim (λ (k : Has (rising_of (real G ns)) g). (rising_has G ns g k).1) (λ (k : Has (dummy_good G (dummy_of G ns)) g). (dummy_has G ns g k).1)
+    (has_append (rising_of (real G ns)) (dummy_good G (dummy_of G ns)) g h))
+
+pub bid_on_below : (G : ℕ) (ns : List ℕ) → AllByRecursion (λ g. g < G) (rising_of (real G ns))
+bid_on_below G ns = all_from_has (λ g. g < G) (rising_of (real G ns)) (λ g h. (rising_has G ns g h).0)
+
+pub bid_on_real : (G : ℕ) (ns : List ℕ) (g : ℕ) → Has ns g → g < G → 0 < length (rising_of (real G ns))
+bid_on_real G ns g h l = length_from_has (rising_of (real G ns)) g (has_rising G ns g h l)
+
+pub bid_on_dummy : (G D : ℕ) (ns : List ℕ) → AreGoods G D ns → IsDummyBelow D (dummy_of G ns)
+bid_on_dummy G D ns p = ⊎_elim
+    (λ (n : NoneHigh G ns). subst (λ o. IsDummyBelow D (option_map (λ v. v - G) o)) (sym n.first) tt)
+    (λ (q : (v : ℕ) × IsHigh G ns v).
+    let le : G ≤ q.0 = q.1.high in let lt : q.0 < G + D = p.below q.0 q.1.has in
+    let good : q.0 - G < D = omega arith in
+    subst (λ o. IsDummyBelow D (option_map (λ v. v - G) o)) (sym q.1.first) good)
+    (high_cases G ns)
+
+-- ---- a bid of a file, and a list of the numbers of its goods
+
+dummy_number : (G : ℕ) (d : Option ℕ) (g : ℕ) → Has (dummy_good G d) g → G ≤ g
+dummy_number G None g h = absurd (has_nothing g h)
+dummy_number G (Some d) g h = let e : G + d ≡ g = has_one (G + d) g h in omega arith
+
+dummies_same : (G : ℕ) (d : Option ℕ) (x y : ℕ) → Has (dummy_good G d) x → Has (dummy_good G d) y → x ≡ y
+dummies_same G None x y h k = absurd (has_nothing x h)
+dummies_same G (Some d) x y h k = sym (has_one (G + d) x h) ∙ has_one (G + d) y k
+
+dummy_low : (G D : ℕ) (d : Option ℕ) → IsDummyBelow D d → (g : ℕ) → Has (dummy_good G d) g → g < G + D
+dummy_low G D None l g h = absurd (has_nothing g h)
+dummy_low G D (Some d) l g h = let e : G + d ≡ g = has_one (G + d) g h in let lt : d < D = l in omega arith
+
+module _ (G D : ℕ) (goods : List ℕ) (dummy : Option ℕ) (ns : List ℕ)
+    (rising : IsRising goods) (below : AllByRecursion (λ g. g < G) goods) (low : IsDummyBelow D dummy)
+    (same : (g : ℕ) → has_number ns g ≡ has_number (goods ++ dummy_good G dummy) g) where
+  good_low : (g : ℕ) → Has goods g → g < G
+  good_low g h = has_from_all (λ n. n < G) goods below g h
+
+  parts : (g : ℕ) → Has ns g → Has goods g ⊎ Has (dummy_good G dummy) g
+  parts g h = has_append goods (dummy_good G dummy) g (sym (same g) ∙ h)
+
+  high_part : (g : ℕ) → Has ns g → G ≤ g → Has (dummy_good G dummy) g
+  high_part g h l = ⊎_elim (λ (k : Has goods g). let lt : g < G = good_low g k in absurd (omega arith)) (λ (k : Has (dummy_good G dummy) g). k) (parts g h)
+
+  low_part : (g : ℕ) → Has ns g → g < G → Has goods g
+  low_part g h l = ⊎_elim (λ (k : Has goods g). k) (λ (k : Has (dummy_good G dummy) g). let le : G ≤ g = dummy_number G dummy g k in absurd (omega arith))
+      (parts g h)
+
+  pub goods_are : AreDistinct ns → AreGoods G D ns
+  goods_are d = record {
+    distinct = d;
+    below = λ g h. ⊎_elim (λ (k : Has goods g). let lt : g < G = good_low g k in omega arith) (λ (k : Has (dummy_good G dummy) g). dummy_low G D dummy low g k)
+        (parts g h);
+    one_dummy = λ x y h k l m. dummies_same G dummy x y (high_part x h l) (high_part y k m);
+  }
+
+  pub rising_goods : goods ≡ rising_of (real G ns)
+  rising_goods = rising_of_is goods (real G ns) rising (λ g. same_test (has_number goods g) (has_number (real G ns) g)
+      (λ h. has_real G ns g (same g ∙ has_before goods (dummy_good G dummy) g h) (good_low g h))
+      (λ h. let p : (g < G) × Has ns g = real_has G ns g h in low_part g p.1 p.0))
+
+  dummy_from : (o : Option ℕ) → dummy ≡ o → dummy ≡ dummy_of G ns
+  dummy_from None e = ⊎_elim
+      (λ (n : NoneHigh G ns). e ∙ sym (ap (option_map (λ v. v - G)) n.first))
+      (λ (q : (v : ℕ) × IsHigh G ns v). absurd (has_nothing q.0 (subst (λ o. Has (dummy_good G o) q.0) e (high_part q.0 q.1.has q.1.high))))
+      (high_cases G ns)
+  dummy_from (Some d) e = ⊎_elim
+      (λ (n : NoneHigh G ns).
+      let there : Has (dummy_good G dummy) (G + d) = subst (λ o. Has (dummy_good G o) (G + d)) (sym e) (has_head (G + d) []) in
+      let lt : G + d < G = n.low (G + d) (same (G + d) ∙ has_behind goods (dummy_good G dummy) (G + d) there) in absurd (omega arith))
+      (λ (q : (v : ℕ) × IsHigh G ns v).
+      let one : G + d ≡ q.0 = has_one (G + d) q.0 (subst (λ o. Has (dummy_good G o) q.0) e (high_part q.0 q.1.has q.1.high)) in
+      let value : d ≡ q.0 - G = omega arith in
+      e ∙ ap Some value ∙ sym (ap (option_map (λ v. v - G)) q.1.first))
+      (high_cases G ns)
+
+  pub same_dummy : dummy ≡ dummy_of G ns
+  same_dummy = dummy_from dummy refl
+
+  pub has_real_good : 0 < length goods → (g : ℕ) × (g < G) × (has_number ns g ≡ true)
+  has_real_good l = first goods below (λ g h. same g ∙ has_before goods (dummy_good G dummy) g h) l
+    where
+      first : (xs : List ℕ) → AllByRecursion (λ g. g < G) xs → ((g : ℕ) → Has xs g → Has ns g) → 0 < length xs → (g : ℕ) × (g < G) × (has_number ns g ≡ true)
+      first [] a h l = absurd (omega arith)
+      first (x ∷ xs) a h l = (x, a.0, h x (has_head x xs))
+
+-- ---- one number after another
+
+pub no_goods : (G D : ℕ) → AreGoods G D []
+no_goods G D = record { distinct = tt; below = λ g h. absurd (has_nothing g h); one_dummy = λ x y h k l m. absurd (has_nothing x h) }
+
+any_high : (G : ℕ) (ns : List ℕ) (g : ℕ) → Has ns g → G ≤ g → list_any (λ v. leb G v) ns ≡ true
+any_high G [] g h l = absurd (has_nothing g h)
+any_high G (v ∷ vs) g h l = ⊎_elim
+    (λ (e : v ≡ g). or_left (leb G v) (list_any (λ w. leb G w) vs) (true_from_le v (omega arith)))
+    (λ (k : Has vs g). or_right (leb G v) (list_any (λ w. leb G w) vs) (any_high G vs g k l)) (has_cases v vs g h)
+  where
+    true_from_le : (w : ℕ) → G ≤ w → leb G w ≡ true
+    true_from_le w m = elim (leb G w) as (λ b. leb G w ≡ b → b ≡ true) [
+      | true ↦ λ (e : leb G w ≡ true). refl
+      | false ↦ λ (e : leb G w ≡ false). let lt : w
+          < G = leb-false G w e in absurd (omega arith)
+    ] refl
+
+high_any : (G : ℕ) (ns : List ℕ) → list_any (λ v. leb G v) ns ≡ true → (g : ℕ) × (G ≤ g) × Has ns g
+high_any G [] h = absurd (both_ways false refl h)
+high_any G (v ∷ vs) h = ⊎_elim
+    (λ (e : leb G v ≡ true). (v, leb-true G v e, has_head v vs))
+    (λ (k : list_any (λ w. leb G w) vs ≡ true). let p : (g : ℕ) × (G ≤ g) × Has vs g = high_any G vs k in (p.0, p.1, has_tail v vs p.0 p.2))
+    (or_cases (leb G v) (list_any (λ w. leb G w) vs) h)
+
+-- the tests of one more number
+pub record MayFollow (G D : ℕ) (ns : List ℕ) (v : ℕ) : Type 0 where
+  pub range : leb (G + D) v ≡ false
+  pub new : has_number ns v ≡ false
+  pub one : (leb G v && list_any (λ w. leb G w) ns) ≡ false
+
+no_second : (G D : ℕ) (ns : List ℕ) (v : ℕ) → MayFollow G D ns v → G ≤ v → (g : ℕ) → Has ns g → G ≤ g → ⊥
+no_second G D ns v m l g h k =
+    both_ways (leb G v && list_any (λ w. leb G w) ns) m.one (and_both (leb G v) (list_any (λ w. leb G w) ns) (any_high G (v ∷ []) v (has_head v []) l)
+    (any_high G ns g h k))
+  where
+    and_both : (a b : Bool) → (a || false) ≡ true → b ≡ true → (a && b) ≡ true
+    and_both true b p q = q
+    and_both false b p q = absurd (both_ways false refl p)
+
+pub push_goods : (G D : ℕ) (ns : List ℕ) (v : ℕ) → AreGoods G D ns → MayFollow G D ns v → AreGoods G D (ns ++ v ∷ [])
+push_goods G D ns v p m = record {
+  distinct = AreDistinct-push ns v p.distinct m.new;
+  below = λ g h. ⊎_elim (λ (k : Has ns g). p.below g k) (λ (k : Has (v ∷ []) g). let lt : v < G + D = leb-false (G + D) v m.range in
+      subst (λ n. n < G + D) (has_one v g k) lt) (has_append ns (v ∷ []) g h);
+  one_dummy = λ x y h k l n. ⊎_elim
+      (λ (a : Has ns x). ⊎_elim (λ (b : Has ns y). p.one_dummy x y a b l n)
+      (λ (b : Has (v ∷ []) y). absurd (no_second G D ns v m (subst (λ z. G ≤ z) (sym (has_one v y b)) n) x a l)) (has_append ns (v ∷ []) y k))
+      (λ (a : Has (v ∷ []) x). ⊎_elim (λ (b : Has ns y). absurd (no_second G D ns v m (subst (λ z. G ≤ z) (sym (has_one v x a)) l) y b n))
+      (λ (b : Has (v ∷ []) y). sym (has_one v x a) ∙ has_one v y b) (has_append ns (v ∷ []) y k))
+      (has_append ns (v ∷ []) x h);
+}
+
+-- a number does not stand before its place
+pub new_at : (before : List ℕ) (v : ℕ) (rest : List ℕ) → AreDistinct (before ++ v ∷ rest) → has_number before v ≡ false
+new_at [] v rest d = refl
+new_at (x ∷ xs) v rest d = or_false (eqb x v) (has_number xs v)
+    (false_from_ne_true (eqb x v) (λ e. has_from_all (λ y. x ≢ y) (xs ++ v ∷ rest) d.0 v (has_behind xs (v ∷ rest) v (has_head v rest)) (eqb-true x v e)))
+    (new_at xs v rest d.1)
+  where
+    or_false : (a b : Bool) → a ≡ false → b ≡ false → (a || b) ≡ false
+    or_false true b p q = p
+    or_false false b p q = q
+
+pub may_follow : (G D : ℕ) (before : List ℕ) (v : ℕ) (rest : List ℕ) → AreGoods G D (before ++ v ∷ rest) → MayFollow G D before v
+may_follow G D before v rest p =
+    let there : Has (before ++ v ∷ rest) v = has_behind before (v ∷ rest) v (has_head v rest) in
+    record {
+      range = false_from_ne_true (leb (G + D) v) (λ e. let le : G + D ≤ v = leb-true (G + D) v e in let lt : v < G + D = p.below v there in
+          absurd (omega arith));
+      new = new_at before v rest p.distinct;
+      one = false_from_ne_true (leb G v && list_any (λ w. leb G w) before) (λ e.
+          let both : (leb G v ≡ true) × (list_any (λ w. leb G w) before ≡ true) = and_parts (leb G v) (list_any (λ w. leb G w) before) e in
+          let other : (g : ℕ) × (G ≤ g) × Has before g = high_any G before both.1 in
+          let same : v ≡ other.0 = p.one_dummy v other.0 there (has_before before (v ∷ rest) other.0 other.2) (leb-true G v both.0) other.1 in
+          both_ways (has_number before v) (new_at before v rest p.distinct) (subst (λ n. Has before n) (sym same) other.2));
+    }

@@ -1,0 +1,153 @@
+-- Prices: a price that is neither too large nor too fine is at most the greatest one in millionths, and the other way round.
+use Rattle.std.proofs.Common.{◌≡◌, ℕ, zero, suc, ◌+◌, ◌-◌, ◌*◌, ◌^◌, ◌<◌, ◌≤◌, Bool, true, false, not, eqb, ltb, leb, ◌||◌, ◌&&◌, ⊎_elim, List, [], ◌∷◌, ◌++◌, length, take, drop, refl, sym, ap, ◌∙◌, subst, arith, length-append, length-take}
+use Rattle.std.proofs.lemmas.Bool.{both_ways, eqb-true, eq-eqb, ltb-false, le-ltb, leb-true, or_cases, or_parts, or_from, and_parts, and_from, false_from_ne_true, not-true, not-false, cases_Bool}
+use Rattle.std.proofs.lemmas.List.{take-append-drop}
+use Rattle.std.proofs.lemmas.List.Folds.{list_any-append, list_all-append}
+use Rattle.std.proofs.Math.Nat.{mul-le-mul_left, pow-succ'}
+use Rattle.std.specs.List.{list_any, list_all, fold}
+use Rattle.cats_text.specs.Lines.{Word}
+use Rattle.cats_text.specs.Numbers.{is_digit, digits_alone, is_number, number_of, whole_part, has_point, places, is_price, has_place_from, is_too_large, is_too_fine, six_places, price_of, GREATEST_PRICE}
+use Rattle.cats_text.specs.declared.limits.TheConstants.{MAX_PRICE}
+
+-- ---- what digits are worth
+
+abbrev value : ℕ → Word → ℕ
+value n w = fold (λ m b. 10 * m + (b - 48)) n w
+
+abbrev is_place : ℕ → Bool
+is_place b = not (eqb b 48)
+
+digit_range : (b : ℕ) → is_digit b ≡ true → (48 ≤ b) × (b ≤ 57)
+digit_range b h = let p : (leb 48 b ≡ true) × (leb b 57 ≡ true) = and_parts (leb 48 b) (leb b 57) h in (leb-true 48 b p.0, leb-true b 57 p.1)
+
+one_digit : (power n d v : ℕ) → d ≤ 9 → v < (10 * n + d + 1) * power → v < (n + 1) * (10 * power)
+one_digit power n d v l h = let factor : 10 * n + d + 1 ≤ 10 * n + 10 = omega arith in omega (arith, mul-le-mul_left power factor)
+
+value_below : (n : ℕ) (w : Word) → digits_alone w ≡ true → value n w < (n + 1) * 10 ^ length w
+value_below n [] h = omega arith
+value_below n (b ∷ bs) h =
+    let p : (is_digit b ≡ true) × (digits_alone bs ≡ true) = and_parts (is_digit b) (digits_alone bs) h in
+    let range : (48 ≤ b) × (b ≤ 57) = digit_range b p.0 in
+    let small : b ≤ 57 = range.1 in
+    let rest : value (10 * n + (b - 48)) bs < (10 * n + (b - 48) + 1) * 10 ^ length bs = value_below (10 * n + (b - 48)) bs p.1 in
+    let power : 10 ^ (suc (length bs)) ≡ 10 * 10 ^ length bs = pow-succ' 10 (length bs) in
+    subst (λ k. value n (b ∷ bs) < (n + 1) * k) (sym power) (one_digit (10 ^ length bs) n (b - 48) (value n (b ∷ bs)) (omega arith) rest)
+
+value_least : (n : ℕ) (w : Word) → n ≤ value n w
+value_least n [] = omega arith
+value_least n (b ∷ bs) = let rest : 10 * n + (b - 48) ≤ value (10 * n + (b - 48)) bs = value_least (10 * n + (b - 48)) bs in omega arith
+
+value_zero : (w : Word) → list_any is_place w ≡ false → value 0 w ≡ 0
+value_zero [] h = refl
+value_zero (b ∷ bs) h =
+    let p : (is_place b ≡ false) × (list_any is_place bs ≡ false) = or_parts (is_place b) (list_any is_place bs) h in
+    let zero_digit : b ≡ 48 = eqb-true b 48 (not-false (eqb b 48) p.0) in
+    let none : 10 * 0 + (b - 48) ≡ 0 = omega arith in
+    ap (λ n. value n bs) none ∙ value_zero bs p.1
+
+zero_value : (n : ℕ) (w : Word) → digits_alone w ≡ true → value n w ≡ 0 → list_any is_place w ≡ false
+zero_value n [] h e = refl
+zero_value n (b ∷ bs) h e =
+    let p : (is_digit b ≡ true) × (digits_alone bs ≡ true) = and_parts (is_digit b) (digits_alone bs) h in
+    let range : (48 ≤ b) × (b ≤ 57) = digit_range b p.0 in
+    let large : 48 ≤ b = range.0 in
+    let least : 10 * n + (b - 48) ≤ value (10 * n + (b - 48)) bs = value_least (10 * n + (b - 48)) bs in
+    let all : value (10 * n + (b - 48)) bs ≡ 0 = e in
+    let zero_digit : b ≡ 48 = omega arith in
+    or_from (is_place b) (list_any is_place bs) (ap not (eq-eqb b 48 zero_digit)) (zero_value (10 * n + (b - 48)) bs p.1 e)
+
+-- ---- six places
+
+abbrev zeros : Word
+zeros = 48 ∷ 48 ∷ 48 ∷ 48 ∷ 48 ∷ 48 ∷ []
+
+all_take : (p : ℕ → Bool) (k : ℕ) (xs : List ℕ) → list_all p xs ≡ true → list_all p (take k xs) ≡ true
+all_take p zero xs h = refl
+all_take p (suc k) [] h = refl
+all_take p (suc k) (x ∷ xs) h = let q : (p x ≡ true) × (list_all p xs ≡ true) = and_parts (p x) (list_all p xs) h in
+    and_from (p x) (list_all p (take k xs)) q.0 (all_take p k xs q.1)
+
+none_take : (p : ℕ → Bool) (k : ℕ) (xs : List ℕ) → list_any p xs ≡ false → list_any p (take k xs) ≡ false
+none_take p zero xs h = refl
+none_take p (suc k) [] h = refl
+none_take p (suc k) (x ∷ xs) h = let q : (p x ≡ false) × (list_any p xs ≡ false) = or_parts (p x) (list_any p xs) h in
+    or_from (p x) (list_any p (take k xs)) q.0 (none_take p k xs q.1)
+
+none_front : (p : ℕ → Bool) (k : ℕ) (xs ys : List ℕ) → list_any p (take k (xs ++ ys)) ≡ false → list_any p (take k xs) ≡ false
+none_front p zero xs ys h = refl
+none_front p (suc k) [] ys h = refl
+none_front p (suc k) (x ∷ xs) ys h = let q : (p x ≡ false) × (list_any p (take k (xs ++ ys)) ≡ false) = or_parts (p x) (list_any p (take k (xs ++ ys))) h in
+    or_from (p x) (list_any p (take k xs)) q.0 (none_front p k xs ys q.1)
+
+six_digits_alone : (ds : Word) → digits_alone ds ≡ true → digits_alone (six_places ds) ≡ true
+six_digits_alone ds h = all_take is_digit 6 (ds ++ zeros) (list_all-append is_digit ds zeros ∙ and_from (digits_alone ds) true h refl)
+
+length_six : (ds : Word) → length (six_places ds) ≡ 6
+length_six ds = let all : length (ds ++ zeros) ≡ length ds + 6 = length-append ds zeros in omega (arith, length-take 6 (ds ++ zeros))
+
+six_below : (ds : Word) → digits_alone ds ≡ true → number_of (six_places ds) < 1000000
+six_below ds h =
+    let below : value 0 (six_places ds) < (0 + 1) * 10 ^ length (six_places ds) = value_below 0 (six_places ds) (six_digits_alone ds h) in
+    let power : 10 ^ length (six_places ds) ≡ 1000000 = ap (λ n. 10 ^ n) (length_six ds) in
+    omega arith
+
+six_zero : (ds : Word) → list_any is_place ds ≡ false → number_of (six_places ds) ≡ 0
+six_zero ds h = value_zero (six_places ds) (none_take is_place 6 (ds ++ zeros) (list_any-append is_place ds zeros
+    ∙ or_from (list_any is_place ds) false h refl))
+
+zero_six : (ds : Word) → digits_alone ds ≡ true → has_place_from 6 ds ≡ false → number_of (six_places ds) ≡ 0 → list_any is_place ds ≡ false
+zero_six ds h fine e =
+    sym (ap (list_any is_place) (take-append-drop 6 ds)) ∙ list_any-append is_place (take 6 ds) (drop 6 ds)
+    ∙ or_from (list_any is_place (take 6 ds)) (list_any is_place (drop 6 ds))
+    (none_front is_place 6 ds zeros (zero_value 0 (six_places ds) (six_digits_alone ds h) e)) fine
+
+-- ---- prices
+
+number_digits : (w : Word) → is_number w ≡ true → digits_alone w ≡ true
+number_digits [] h = refl
+number_digits (b ∷ bs) h = h
+
+no_places : (w : Word) → has_point w ≡ false → places w ≡ []
+no_places [] h = refl
+no_places (b ∷ bs) h =
+    let p : (eqb b 46 ≡ false) × (has_point bs ≡ false) = or_parts (eqb b 46) (has_point bs) h in
+    rw p.0 (no_places bs p.1)
+
+places_digits : (w : Word) → is_price w ≡ true → digits_alone (places w) ≡ true
+places_digits w h =
+    let p : (is_number (whole_part w) ≡ true) × ((not (has_point w) || is_number (places w)) ≡ true) =
+    and_parts (is_number (whole_part w)) (not (has_point w) || is_number (places w)) h in
+    ⊎_elim (λ (e : not (has_point w) ≡ true). ap digits_alone (no_places w (not-true (has_point w) e)))
+    (λ (e : is_number (places w) ≡ true). number_digits (places w) e)
+    (or_cases (not (has_point w)) (is_number (places w)) p.1)
+
+pub price_below : (w : Word) → is_price w ≡ true → is_too_large w ≡ false → price_of w ≤ MAX_PRICE
+price_below w h large =
+    let p : (ltb GREATEST_PRICE (number_of (whole_part w)) ≡ false) × ((eqb (number_of (whole_part w)) GREATEST_PRICE && has_place_from 0 (places w)) ≡ false)
+    = or_parts (ltb GREATEST_PRICE (number_of (whole_part w))) (eqb (number_of (whole_part w)) GREATEST_PRICE && has_place_from 0 (places w)) large in
+    let le : number_of (whole_part w) ≤ GREATEST_PRICE = ltb-false GREATEST_PRICE (number_of (whole_part w)) p.0 in
+    let six : number_of (six_places (places w)) < 1000000 = six_below (places w) (places_digits w h) in
+    ⊎_elim
+    (λ (e : has_place_from 0 (places w) ≡ true). greatest e p.1 le six)
+    (λ (e : has_place_from 0 (places w) ≡ false). let none : number_of (six_places (places w)) ≡ 0 = six_zero (places w) e in omega arith)
+    (cases_Bool (has_place_from 0 (places w)))
+  where
+    greatest : has_place_from 0 (places w) ≡ true → (eqb (number_of (whole_part w)) GREATEST_PRICE && has_place_from 0 (places w)) ≡ false
+        → number_of (whole_part w) ≤ GREATEST_PRICE → number_of (six_places (places w)) < 1000000 → price_of w ≤ MAX_PRICE
+    greatest e q le six =
+        let other : number_of (whole_part w) ≡ GREATEST_PRICE → ⊥ =
+        λ same. both_ways (eqb (number_of (whole_part w)) GREATEST_PRICE && has_place_from 0 (places w)) q
+        (and_from (eqb (number_of (whole_part w)) GREATEST_PRICE) (has_place_from 0 (places w)) (eq-eqb (number_of (whole_part w)) GREATEST_PRICE same)
+        e) in
+        omega arith
+
+pub price_small : (w : Word) → is_price w ≡ true → is_too_fine w ≡ false → price_of w ≤ MAX_PRICE → is_too_large w ≡ false
+price_small w h fine le =
+    or_from (ltb GREATEST_PRICE (number_of (whole_part w))) (eqb (number_of (whole_part w)) GREATEST_PRICE && has_place_from 0 (places w))
+    (le-ltb GREATEST_PRICE (number_of (whole_part w)) (omega arith))
+    (false_from_ne_true (eqb (number_of (whole_part w)) GREATEST_PRICE && has_place_from 0 (places w)) (λ e.
+    let p : (eqb (number_of (whole_part w)) GREATEST_PRICE ≡ true) × (has_place_from 0 (places w) ≡ true) =
+    and_parts (eqb (number_of (whole_part w)) GREATEST_PRICE) (has_place_from 0 (places w)) e in
+    let whole : number_of (whole_part w) ≡ GREATEST_PRICE = eqb-true (number_of (whole_part w)) GREATEST_PRICE p.0 in
+    let none : number_of (six_places (places w)) ≡ 0 = omega arith in
+    both_ways (has_place_from 0 (places w)) (zero_six (places w) (places_digits w h) fine none) p.1))

@@ -1,0 +1,103 @@
+-- Tests one after another: no fault is that each of them is false. And header lines.
+use Rattle.std.proofs.Common.{◌≡◌, ℕ, ◌≤◌, Bool, true, false, not, cond, ltb, ◌||◌, List, [], ◌∷◌, Option, Some, None, refl, sym, ap, ◌∙◌, subst}
+use Rattle.std.proofs.lemmas.Bool.{both_ways, ltb-false, le-ltb, not-false, not_from_true}
+use Rattle.std.proofs.lemmas.Slice.Eq.{bytes_eq-Decides}
+use Rattle.std.specs.Option.{option_or, option_map}
+use Rattle.std.specs.Str.{bytes_eq}
+use Rattle.cats_text.specs.Lines.{Word}
+use Rattle.cats_text.specs.Numbers.{is_number, number_of}
+use Rattle.cats_text.specs.Faults.{when, header_word, header_end, header_value, word_fault, words_fault}
+use Rattle.cats_text.specs.declared.fault.Kind.{Kind}
+use Rattle.cats_text.specs.declared.fault.Kind.TheVariants.{Header, NotANumber, TooLarge}
+
+-- ---- tests
+
+pub when_none : (t : Bool) (k : Kind) (r : Option Kind) → when t k r ≡ None → (t ≡ false) × (r ≡ None)
+when_none true k r h = absurd (cc)
+when_none false k r h = (refl, h)
+
+pub none_when : (t : Bool) (k : Kind) (r : Option Kind) → t ≡ false → r ≡ None → when t k r ≡ None
+none_when true k r e h = absurd (both_ways true e refl)
+none_when false k r e h = h
+
+pub or_none : {T : Type 0} (a b : Option T) → option_or a b ≡ None → (a ≡ None) × (b ≡ None)
+or_none None b h = (refl, h)
+or_none (Some x) b h = absurd (cc)
+
+pub none_or : {T : Type 0} (a b : Option T) → a ≡ None → b ≡ None → option_or a b ≡ None
+none_or None b e h = h
+none_or (Some x) b e h = e
+
+pub map_none : {T U : Type 0} (f : T → U) (o : Option T) → option_map f o ≡ None → o ≡ None
+map_none f None h = refl
+map_none f (Some x) h = absurd (cc)
+
+pub cond_none : {T : Type 0} (b : Bool) (x : T) → cond b (Some x) None ≡ None → b ≡ false
+cond_none true x h = absurd (cc)
+cond_none false x h = refl
+
+-- where the input is whole, each line has an end
+pub or_whole : {T : Type 0} (b : Bool) (x y : T) → cond (b || true) x y ≡ x
+or_whole true x y = refl
+or_whole false x y = refl
+
+pub equal_words : (v w : Word) → bytes_eq v w ≡ true → v ≡ w
+equal_words v w h = (bytes_eq-Decides v w).0 h
+
+pub same_word : (w : Word) → bytes_eq w w ≡ true
+same_word w = (bytes_eq-Decides w w).1 refl
+
+-- ---- header lines
+
+-- the words of a header line: its keyword, and a number up to a limit
+pub record IsHeader (keyword : Word) (limit : ℕ) (words : List Word) : Type 0 where
+  pub number : Word
+  pub words_are : words ≡ keyword ∷ number ∷ []
+  pub spelled : is_number number ≡ true
+  pub within : number_of number ≤ limit
+
+module _ (keyword : Word) (limit : ℕ) (lines : List (List Word)) (is_header : (before : List Word) (w : Word) → word_fault lines before w ≡ header_word keyword limit before w) where
+  pub header_from : (words : List Word) → words_fault lines [] words ≡ None → header_end words ≡ None → IsHeader keyword limit words
+  header_from [] f e = absurd (cc)
+  header_from (k ∷ []) f e = absurd (cc)
+  header_from (k ∷ w ∷ []) f e =
+      let first : (word_fault lines [] k ≡ None) × (words_fault lines (k ∷ []) (w ∷ []) ≡ None) =
+      or_none (word_fault lines [] k) (words_fault lines (k ∷ []) (w ∷ [])) f in
+      let second : (word_fault lines (k ∷ []) w ≡ None) × (words_fault lines (k ∷ w ∷ []) [] ≡ None) =
+      or_none (word_fault lines (k ∷ []) w) (words_fault lines (k ∷ w ∷ []) []) first.1 in
+      let same : (not (bytes_eq k keyword) ≡ false) × (None ≡ None) = when_none (not (bytes_eq k keyword)) Header None (sym (is_header [] k) ∙ first.0) in
+      let number : (not (is_number w) ≡ false) × (when (ltb limit (number_of w)) TooLarge None ≡ None)
+      = when_none (not (is_number w)) NotANumber (when (ltb limit (number_of w)) TooLarge None) (sym (is_header (k ∷ []) w) ∙ second.0) in
+      let small : (ltb limit (number_of w) ≡ false) × (None ≡ None) = when_none (ltb limit (number_of w)) TooLarge None number.1 in
+      record {
+        number = w;
+        words_are = ap (λ v. v ∷ w ∷ []) (equal_words k keyword (not-false (bytes_eq k keyword) same.0));
+        spelled = not-false (is_number w) number.0;
+        within = ltb-false limit (number_of w) small.0;
+      }
+  header_from (k ∷ w ∷ x ∷ xs) f e =
+      let first : (word_fault lines [] k ≡ None) × (words_fault lines (k ∷ []) (w ∷ x ∷ xs) ≡ None) =
+      or_none (word_fault lines [] k) (words_fault lines (k ∷ []) (w ∷ x ∷ xs)) f in
+      let second : (word_fault lines (k ∷ []) w ≡ None) × (words_fault lines (k ∷ w ∷ []) (x ∷ xs) ≡ None) =
+      or_none (word_fault lines (k ∷ []) w) (words_fault lines (k ∷ w ∷ []) (x ∷ xs)) first.1 in
+      let third : (word_fault lines (k ∷ w ∷ []) x ≡ None) × (words_fault lines (k ∷ w ∷ x ∷ []) xs ≡ None) =
+      or_none (word_fault lines (k ∷ w ∷ []) x) (words_fault lines (k ∷ w ∷ x ∷ []) xs) second.1 in
+      let fault : Some Header ≡ None = sym (is_header (k ∷ w ∷ []) x) ∙ third.0 in
+      absurd (cc)
+
+  header_words_none : (number : Word) → is_number number ≡ true → number_of number ≤ limit → words_fault lines [] (keyword ∷ number ∷ []) ≡ None
+  header_words_none number spelled small =
+      none_or (word_fault lines [] keyword) (words_fault lines (keyword ∷ []) (number ∷ []))
+      (is_header [] keyword ∙ none_when (not (bytes_eq keyword keyword)) Header None (not_from_true (bytes_eq keyword keyword) (same_word keyword)) refl)
+      (none_or (word_fault lines (keyword ∷ []) number) None
+      (is_header (keyword ∷ []) number ∙ none_when (not (is_number number)) NotANumber (when (ltb limit (number_of number)) TooLarge None)
+      (not_from_true (is_number number) spelled)
+      (none_when (ltb limit (number_of number)) TooLarge None (le-ltb limit (number_of number) small) refl))
+      refl)
+
+  pub header_none : (words : List Word) → IsHeader keyword limit words → (words_fault lines [] words ≡ None) × (header_end words ≡ None)
+  header_none words p = subst (λ ws. (words_fault lines [] ws ≡ None) × (header_end ws ≡ None)) (sym p.words_are)
+      (header_words_none p.number p.spelled p.within, refl)
+
+pub header_number : (keyword : Word) (limit : ℕ) (words : List Word) → (p : IsHeader keyword limit words) → header_value words ≡ number_of p.number
+header_number keyword limit words p = ap header_value p.words_are ∙ ap (λ b. cond b (number_of p.number) 0) p.spelled

@@ -1,0 +1,298 @@
+-- The scanner's answer over a text is the definitions' first fault, and over the bytes so far the fault that is complete.
+use Rattle.std.proofs.Common.{◌≡◌, ℕ, suc, ◌+◌, ◌<◌, Bool, true, false, not, ◌&&◌, ◌||◌, cond, eqb, List, [], ◌∷◌, ◌++◌, length, filter, refl, sym, ap, ◌∙◌, subst, arith, Some, None, Ok, Err, append-nil}
+use Rattle.std.proofs.lemmas.Bool.{both_ways}
+use Rattle.std.specs.List.{AllByRecursion}
+use Rattle.cats_text.specs.Lines.{Word, RawLine, Line, raw_lines, line_words, words_with, with_letter, begins_word, is_significant, is_blank, numbered, significant_lines, blank_returns, line_count, lines_with, with_byte}
+use Rattle.cats_text.specs.Grammar.{significant_words}
+use Rattle.cats_text.specs.Faults.{fault_at, lines_fault, first_fault, is_line_due, is_final}
+use Rattle.cats_text.specs.Internal.Progress.{Progress}
+use Rattle.cats_text.specs.Internal.Parsing.{Reading, start, is_due, line_read}
+use Rattle.cats_text.specs.Internal.Scanning.{Scan, first_state, and_then, run, byte_step, blank_step, end_step}
+use Rattle.cats_text.specs.declared.parser.Keeping.{Keeping}
+use Rattle.cats_text.specs.declared.fault.Kind.TheVariants.{Missing}
+use Rattle.cats_text.specs.declared.scanner.Mode.TheVariants.{Start, Between}
+use Rattle.cats_text.proofs.Scanning.Lines.{run-append, IsNoEnd, standing, fresh_outcome, lifted, quiet, from_start, byte_blank, words_blank}
+use Rattle.cats_text.proofs.Parsing.WholeLines.{words_read, on_line, reading_then, Scanned, scanned_then, lines_scan, lines_step, LinesAre, IsLine, IsWord, AreEndedButLast}
+use Rattle.cats_text.proofs.Parsing.States.{IsAt}
+use Rattle.cats_text.proofs.Scanning.AllBytes.{text_of, text_of-lines, AreRaw, AreRaw-lines, raw_scan, whole_text, outcome, line_outcome, open_outcome, line_and_rest, outcome_from}
+
+-- ---- the significant lines alone
+
+abbrev kept : List Line → List Line
+kept ls = filter (λ l. is_significant l.words) ls
+
+tail_raw : (l : RawLine) (ls : List RawLine) → AreRaw (l ∷ ls) → AreRaw ls
+tail_raw l [] r = tt
+tail_raw l (m ∷ ls) r = r.2
+
+last_raw : (l : RawLine) (ls : List RawLine) → AreRaw (l ∷ ls) → l.ended ≡ false → ls ≡ []
+last_raw l [] r e = refl
+last_raw l (m ∷ ls) r e = absurd (both_ways l.ended e r.1)
+
+scanned_same : (r : Scanned) (f g : Progress → Scanned) → ((q : Progress) → f q ≡ g q) → scanned_then r f ≡ scanned_then r g
+scanned_same (Ok q) f g h = h q
+scanned_same (Err e) f g h = refl
+
+neither : (a b : Bool) → (a || b) ≡ false → (a ≡ false) × (b ≡ false)
+neither true b e = absurd (both_ways true e refl)
+neither false b e = (refl, e)
+
+-- one line and the rest, the rest being known
+raw_line : (whole : Bool) (n : ℕ) (l : RawLine) (ls : List RawLine) (p : Progress) (count : ℕ) → AreRaw (l ∷ ls)
+    → ((q : Progress) → raw_scan whole (suc n) ls q ≡ lines_scan whole count (kept (numbered (suc n) ls)) q)
+    → raw_scan whole n (l ∷ ls) p ≡ lines_scan whole count (kept (numbered n (l ∷ ls))) p
+raw_line whole n l ls p count r again =
+    elim (is_significant (line_words l.bytes)) as (λ t. cond (l.ended || whole)
+    (scanned_then (cond t (on_line n (reading_then (words_read (line_words l.bytes) p) line_read)) (Ok p)) (raw_scan whole (suc n) ls))
+    (cond t (on_line n (words_read (line_words l.bytes) p)) (Ok p))
+    ≡ lines_scan whole count (cond t (record { number = n; words = line_words l.bytes; ended = l.ended } ∷ kept (numbered (suc n) ls))
+    (kept (numbered (suc n) ls))) p) [
+      | true ↦ ap (λ (x : Scanned). cond (l.ended || whole) x (on_line n (words_read (line_words l.bytes) p)))
+          (scanned_same (on_line n (reading_then (words_read (line_words l.bytes) p) line_read)) (raw_scan whole (suc n) ls)
+          (lines_scan whole count (kept (numbered (suc n) ls))) again)
+      | false ↦ elim (l.ended || whole) as (λ t. (l.ended || whole) ≡ t → cond t (raw_scan whole (suc n) ls p) (Ok p)
+          ≡ lines_scan whole count (kept (numbered (suc n) ls)) p) [
+            | true ↦ λ (e : (l.ended || whole) ≡ true). again p
+            | false ↦ λ (e : (l.ended || whole) ≡ false). let both = neither l.ended whole e in
+                sym (ap (λ (ms : List RawLine). lines_scan whole count (kept (numbered (suc n) ms)) p) (last_raw l ls r both.0)
+                ∙ ap (λ t. cond (t && is_due p) (Err (fault_at (suc count) Missing)) (Ok p)) both.1)
+          ] refl
+    ]
+
+-- lines without words to judge do nothing
+pub raw_scan-lines : (whole : Bool) (n : ℕ) (ls : List RawLine) (p : Progress) (count : ℕ) → AreRaw ls → (whole ≡ true → suc count ≡ n + length ls)
+    → raw_scan whole n ls p ≡ lines_scan whole count (kept (numbered n ls)) p
+raw_scan-lines false n [] p count r c = refl
+raw_scan-lines true n [] p count r c = let e : suc count ≡ n + 0 = c refl in let at : n ≡ suc count = omega arith in
+    ap (λ k. cond (is_due p) (Err (fault_at k Missing)) (Ok p)) at
+raw_scan-lines whole n (l ∷ ls) p count r c =
+    raw_line whole n l ls p count r (λ q. raw_scan-lines whole (suc n) ls q count (tail_raw l ls r) (λ w. let e : suc count ≡ n + length (l ∷ ls) = c w in
+    omega arith))
+
+-- ---- they are lines
+
+words_are : (bytes : List ℕ) → AllByRecursion IsWord (line_words bytes)
+words_are [] = tt
+words_are (b ∷ bs) = joined (line_words bs) (words_are bs)
+  where
+    front : (ws : List Word) → AllByRecursion IsWord ws → AllByRecursion IsWord (with_letter b ws)
+    front [] h = (omega arith, tt)
+    front (w ∷ ws) h = (omega arith, h.1)
+
+    joined : (ws : List Word) → AllByRecursion IsWord ws → AllByRecursion IsWord (words_with b bs ws)
+    joined ws h = elim (is_blank b) as (λ t. AllByRecursion IsWord (cond t ws (cond (begins_word bs) (with_letter b ws) ((b ∷ []) ∷ ws)))) [
+      | true ↦ h
+      | false ↦ elim (begins_word bs) as (λ t. AllByRecursion IsWord (cond t (with_letter b ws) ((b ∷ []) ∷ ws))) [
+        | true ↦ front ws h
+        | false ↦ (omega arith, h)
+      ]
+    ]
+
+significant_pos : (ws : List Word) → is_significant ws ≡ true → 0 < length ws
+significant_pos [] e = absurd (both_ways false refl e)
+significant_pos (w ∷ ws) e = omega arith
+
+pub kept_are : (n : ℕ) (ls : List RawLine) → AllByRecursion IsLine (kept (numbered n ls))
+kept_are n [] = tt
+kept_are n (l ∷ ls) = elim (is_significant (line_words l.bytes)) as (λ t. is_significant (line_words l.bytes) ≡ t
+    → AllByRecursion IsLine (cond t (record { number = n; words = line_words l.bytes; ended = l.ended } ∷ kept (numbered (suc n) ls))
+    (kept (numbered (suc n) ls)))) [
+      | true ↦ λ (e : is_significant (line_words l.bytes) ≡ true). ((significant_pos (line_words l.bytes) e, words_are l.bytes), kept_are (suc n) ls)
+      | false ↦ λ (e : is_significant (line_words l.bytes) ≡ false). kept_are (suc n) ls
+    ] refl
+
+-- a line in front that has its LF, or is the last
+ends_front : (l : Line) (ls : List Line) → (0 < length ls → l.ended ≡ true) → AreEndedButLast ls → AreEndedButLast (l ∷ ls)
+ends_front l [] h e = tt
+ends_front l (m ∷ ls) h e = (h (omega arith), e)
+
+ended_or_last : (l : RawLine) (ls : List RawLine) (n : ℕ) → AreRaw (l ∷ ls) → 0 < length (kept (numbered n ls)) → l.ended ≡ true
+ended_or_last l [] n r h = absurd (let no : 0 < 0 = h in omega arith)
+ended_or_last l (m ∷ ls) n r h = r.1
+
+pub kept_ends : (n : ℕ) (ls : List RawLine) → AreRaw ls → AreEndedButLast (kept (numbered n ls))
+kept_ends n [] r = tt
+kept_ends n (l ∷ ls) r =
+    elim (is_significant (line_words l.bytes)) as (λ t. AreEndedButLast
+    (cond t (record { number = n; words = line_words l.bytes; ended = l.ended } ∷ kept (numbered (suc n) ls)) (kept (numbered (suc n) ls)))) [
+      | true ↦ ends_front (record { number = n; words = line_words l.bytes; ended = l.ended }) (kept (numbered (suc n) ls)) (ended_or_last l ls (suc n) r)
+          (kept_ends (suc n) ls (tail_raw l ls r))
+      | false ↦ kept_ends (suc n) ls (tail_raw l ls r)
+    ]
+
+-- ---- before the first line
+
+pub at_start : (k : Keeping) → IsAt [] [] (start k)
+at_start k = record {
+  stage = refl;
+  place = refl;
+  header = refl;
+  due = refl;
+  slots = refl;
+  draft = refl;
+  goods = omega arith;
+  bids = omega arith;
+  dummy = omega arith;
+}
+
+-- the answer for a whole text
+abbrev pub WholeIs : List ℕ → Scanned → Type 0
+WholeIs text (Ok q) = (first_fault text ≡ None) × IsAt (significant_words text) [] q × (is_line_due (significant_words text) ≡ false)
+WholeIs text (Err e) = first_fault text ≡ Some e
+
+pub whole_fault : (k : Keeping) (text : List ℕ) → WholeIs text (outcome (and_then (run (first_state k) (blank_returns text)) end_step))
+whole_fault k text =
+    subst (WholeIs text) (sym (ap (λ bs. outcome (and_then (run (first_state k) bs) end_step)) (sym (text_of-lines (blank_returns text)))
+    ∙ whole_text 1 (start k) (raw_lines (blank_returns text)) (AreRaw-lines (blank_returns text))
+    ∙ raw_scan-lines true 1 (raw_lines (blank_returns text)) (start k) (line_count text) (AreRaw-lines (blank_returns text)) (λ e. omega arith)))
+    (answer (lines_scan true (line_count text) (significant_lines text) (start k))
+    (lines_step true (line_count text) [] (significant_lines text) (start k) (kept_are 1 (raw_lines (blank_returns text)))
+    (kept_ends 1 (raw_lines (blank_returns text)) (AreRaw-lines (blank_returns text))) (at_start k)))
+  where
+    answer : (r : Scanned) → LinesAre true (line_count text) [] (significant_lines text) r → WholeIs text r
+    answer (Ok q) h = (h.0, (h.1 refl).0, (h.1 refl).1)
+    answer (Err e) h = h
+
+-- ---- the bytes so far
+
+-- the last line, where it lacks its LF, ends with a blank
+abbrev EndsBlank : List RawLine → Type 0
+EndsBlank [] = Unit {0}
+EndsBlank (l ∷ []) = l.ended ≡ false → (bs : List ℕ) × (b : ℕ) × (l.bytes ≡ bs ++ b ∷ []) × (is_blank b ≡ true)
+EndsBlank (l ∷ m ∷ ls) = EndsBlank (m ∷ ls)
+
+-- the last byte is final
+abbrev pub EndsFinal : List ℕ → Type 0
+EndsFinal [] = Unit {0}
+EndsFinal (b ∷ []) = is_final b ≡ true
+EndsFinal (b ∷ c ∷ cs) = EndsFinal (c ∷ cs)
+
+tail_final : (b : ℕ) (bs : List ℕ) → EndsFinal (b ∷ bs) → EndsFinal bs
+tail_final b [] h = tt
+tail_final b (c ∷ cs) h = h
+
+blank_front : (l : RawLine) (ls : List RawLine) → l.ended ≡ true → EndsBlank ls → EndsBlank (l ∷ ls)
+blank_front l [] e h = λ f. absurd (both_ways l.ended f e)
+blank_front l (m ∷ ls) e h = h
+
+blank_with : (b : ℕ) (l : RawLine) (ls : List RawLine) → EndsBlank (l ∷ ls) → EndsBlank (record { bytes = b ∷ l.bytes; ended = l.ended } ∷ ls)
+blank_with b l [] h = λ e. let k = h e in (b ∷ k.0, k.1, ap (λ ds. b ∷ ds) k.2, k.3)
+blank_with b l (m ∷ ls) h = h
+
+blank_of_final : (b : ℕ) → is_final b ≡ true → eqb b 10 ≡ false → is_blank b ≡ true
+blank_of_final b f e = right (is_blank b) (eqb b 10) f e
+  where
+    right : (x y : Bool) → (x || y) ≡ true → y ≡ false → x ≡ true
+    right true y h k = refl
+    right false y h k = absurd (both_ways y k h)
+
+some_line : (c : ℕ) (cs : List ℕ) → (l : RawLine) × (ls : List RawLine) × (raw_lines (c ∷ cs) ≡ l ∷ ls)
+some_line c cs = joined (raw_lines cs)
+  where
+    front : (ls : List RawLine) → (l : RawLine) × (ms : List RawLine) × (with_byte c ls ≡ l ∷ ms)
+    front [] = (record { bytes = c ∷ []; ended = false }, [], refl)
+    front (l ∷ ls) = (record { bytes = c ∷ l.bytes; ended = l.ended }, ls, refl)
+
+    joined : (ls : List RawLine) → (l : RawLine) × (ms : List RawLine) × (lines_with c ls ≡ l ∷ ms)
+    joined ls = elim (eqb c 10) as (λ t. (l : RawLine) × (ms : List RawLine) × (cond t (record { bytes = []; ended = true } ∷ ls) (with_byte c ls) ≡ l ∷ ms)) [
+      | true ↦ (record { bytes = []; ended = true }, ls, refl)
+      | false ↦ front ls
+    ]
+
+EndsBlank-lines : (text : List ℕ) → EndsFinal text → EndsBlank (raw_lines text)
+EndsBlank-lines [] f = tt
+EndsBlank-lines (b ∷ []) f =
+    elim (eqb b 10) as (λ t. eqb b 10 ≡ t → EndsBlank (cond t (record { bytes = []; ended = true } ∷ []) (record { bytes = b ∷ []; ended = false } ∷ []))) [
+      | true ↦ λ (e : eqb b 10 ≡ true). λ q. absurd (both_ways true q refl)
+      | false ↦ λ (e : eqb b 10 ≡ false). λ _. ([], b, refl, blank_of_final b f e)
+    ] refl
+EndsBlank-lines (b ∷ c ∷ cs) f =
+    let some = some_line c cs in
+    let later : EndsBlank (some.0 ∷ some.1) = subst EndsBlank some.2 (EndsBlank-lines (c ∷ cs) f) in
+    subst (λ ls. EndsBlank (lines_with b ls)) (sym some.2)
+    (elim (eqb b 10) as (λ t. EndsBlank (cond t (record { bytes = []; ended = true } ∷ (some.0 ∷ some.1)) (with_byte b (some.0 ∷ some.1)))) [
+      | true ↦ blank_front (record { bytes = []; ended = true }) (some.0 ∷ some.1) refl later
+      | false ↦ blank_with b some.0 some.1 later
+    ])
+
+words_trailing : (bs : List ℕ) (b : ℕ) → is_blank b ≡ true → line_words (bs ++ b ∷ []) ≡ line_words bs
+words_trailing [] b e = words_blank b [] e
+words_trailing (c ∷ []) b e =
+    elim (is_blank c) as (λ t. cond t (line_words (b ∷ [])) (cond (begins_word (b ∷ [])) (with_letter c (line_words (b ∷ []))) ((c ∷ []) ∷ line_words (b ∷ [])))
+    ≡ cond t [] ((c ∷ []) ∷ [])) [
+      | true ↦ words_blank b [] e
+      | false ↦ ap (λ t. cond (not t) (with_letter c (line_words (b ∷ []))) ((c ∷ []) ∷ line_words (b ∷ []))) e ∙ ap (λ ws. (c ∷ []) ∷ ws) (words_blank b [] e)
+    ]
+words_trailing (c ∷ d ∷ ds) b e = ap (words_with c (d ∷ ds)) (words_trailing (d ∷ ds) b e)
+
+and_then_ok : (r : Scan) → and_then r (λ t. Ok t) ≡ r
+and_then_ok (Ok t) = refl
+and_then_ok (Err e) = refl
+
+open_is : (n : ℕ) (ws : List Word) (p : Progress) → outcome (fresh_outcome n ws p) ≡ open_outcome n ws p
+open_is n ws p = elim (is_significant ws) as (λ t. outcome (cond t (lifted n Between (words_read ws p)) (Ok (standing (quiet ws) n p)))
+    ≡ cond t (on_line n (words_read ws p)) (Ok p)) [ true ↦ by_words (words_read ws p) | false ↦ refl ]
+  where
+    by_words : (r : Reading) → outcome (lifted n Between r) ≡ on_line n r
+    by_words (Ok q) = refl
+    by_words (Err kind) = refl
+
+-- a last line without its LF, up to a blank
+open_line_end : (n : ℕ) (p : Progress) (bs : List ℕ) (b : ℕ) → AllByRecursion IsNoEnd (bs ++ b ∷ []) → is_blank b ≡ true
+    → outcome (run (standing Start n p) (bs ++ b ∷ [])) ≡ open_outcome n (line_words (bs ++ b ∷ [])) p
+open_line_end n p bs b h e =
+    let parts = all_parts bs h in
+    ap outcome (run-append (standing Start n p) bs (b ∷ []) ∙ at_blank (run (standing Start n p) bs) parts.1 ∙ from_start n p bs parts.0)
+    ∙ open_is n (line_words bs) p ∙ ap (λ ws. open_outcome n ws p) (sym (words_trailing bs b e))
+  where
+    all_parts : (bs : List ℕ) → AllByRecursion IsNoEnd (bs ++ b ∷ []) → AllByRecursion IsNoEnd bs × (eqb b 10 ≡ false)
+    all_parts [] h = (tt, h.0)
+    all_parts (c ∷ cs) h = let k = all_parts cs h.1 in ((h.0, k.0), k.1)
+
+    at_blank : (r : Scan) → eqb b 10 ≡ false → and_then r (λ t. run t (b ∷ [])) ≡ and_then r blank_step
+    at_blank (Ok t) k = and_then_ok (byte_step t b) ∙ byte_blank t b k e
+    at_blank (Err c) k = refl
+
+tail_blank : (l : RawLine) (ls : List RawLine) → EndsBlank (l ∷ ls) → EndsBlank ls
+tail_blank l [] h = tt
+tail_blank l (m ∷ ls) h = h
+
+open_text : (n : ℕ) (p : Progress) (ls : List RawLine) → AreRaw ls → EndsBlank ls → outcome (run (standing Start n p) (text_of ls)) ≡ raw_scan false n ls p
+open_text n p [] r b = refl
+open_text n p (l ∷ ls) r b = elim l.ended as (λ t. l.ended ≡ t → outcome (run (standing Start n p) (l.bytes ++ cond t (10 ∷ text_of ls) (text_of ls)))
+    ≡ cond (t || false) (scanned_then (line_outcome n (line_words l.bytes) p) (raw_scan false (suc n) ls)) (open_outcome n (line_words l.bytes) p)) [
+      | true ↦ λ (e : l.ended ≡ true). ap outcome (line_and_rest n p l.bytes (text_of ls) (head_raw l ls r))
+          ∙ outcome_from (line_outcome n (line_words l.bytes) p) (λ q. run (standing Start (suc n) q) (text_of ls))
+          ∙ scanned_same (line_outcome n (line_words l.bytes) p) (λ q. outcome (run (standing Start (suc n) q) (text_of ls))) (raw_scan false (suc n) ls)
+          (λ q. open_text (suc n) q ls (tail_raw l ls r) (tail_blank l ls b))
+      | false ↦ λ (e : l.ended ≡ false). at_last l ls r b e
+    ] refl
+  where
+    head_raw : (l : RawLine) (ls : List RawLine) → AreRaw (l ∷ ls) → AllByRecursion IsNoEnd l.bytes
+    head_raw l [] r = r.0
+    head_raw l (m ∷ ms) r = r.0
+
+    at_last : (l : RawLine) (ls : List RawLine) → AreRaw (l ∷ ls) → EndsBlank (l ∷ ls) → l.ended ≡ false
+        → outcome (run (standing Start n p) (l.bytes ++ text_of ls)) ≡ open_outcome n (line_words l.bytes) p
+    at_last l [] r b e = let k = b e in
+        ap (λ ds. outcome (run (standing Start n p) ds)) (append-nil l.bytes ∙ k.2) ∙ open_line_end n p k.0 k.1 (subst (AllByRecursion IsNoEnd) k.2 r.0) k.3
+        ∙ ap (λ ds. open_outcome n (line_words ds) p) (sym k.2)
+    at_last l (m ∷ ms) r b e = absurd (both_ways l.ended e r.1)
+
+-- the answer for the bytes up to a final one
+abbrev pub OpenIs : List ℕ → Scanned → Type 0
+OpenIs text (Ok q) = lines_fault false 0 [] (significant_lines text) ≡ None
+OpenIs text (Err e) = lines_fault false 0 [] (significant_lines text) ≡ Some e
+
+pub open_fault : (k : Keeping) (text : List ℕ) → EndsFinal (blank_returns text) → OpenIs text (outcome (run (first_state k) (blank_returns text)))
+open_fault k text f =
+    subst (OpenIs text) (sym (ap (λ bs. outcome (run (first_state k) bs)) (sym (text_of-lines (blank_returns text)))
+    ∙ open_text 1 (start k) (raw_lines (blank_returns text)) (AreRaw-lines (blank_returns text)) (EndsBlank-lines (blank_returns text) f)
+    ∙ raw_scan-lines false 1 (raw_lines (blank_returns text)) (start k) 0 (AreRaw-lines (blank_returns text)) (λ e. absurd (both_ways false refl e))))
+    (answer (lines_scan false 0 (significant_lines text) (start k))
+    (lines_step false 0 [] (significant_lines text) (start k) (kept_are 1 (raw_lines (blank_returns text)))
+    (kept_ends 1 (raw_lines (blank_returns text)) (AreRaw-lines (blank_returns text))) (at_start k)))
+  where
+    answer : (r : Scanned) → LinesAre false 0 [] (significant_lines text) r → OpenIs text r
+    answer (Ok q) h = h.0
+    answer (Err e) h = h

@@ -1,0 +1,414 @@
+-- What the reader keeps of a word tells all that the grammar asks of the word. The idea: `Tells w s` says it of each kind of
+-- summary s, and one more byte keeps it.
+use Rattle.std.proofs.Common.{◌≡◌, ◌≢◌, ℕ, zero, suc, ◌+◌, ◌-◌, ◌*◌, ◌^◌, ◌<◌, ◌≤◌, min, Bool, true, false, not, ◌&&◌, ◌||◌, cond, eqb, ltb, ◌⊎◌, inl, inr, ⊎_elim, List, [], ◌∷◌, ◌++◌, length, get_or, drop, take, fold, refl, sym, ap, ◌∙◌, subst, arith, append_assoc, add-one, length-append, append-nil}
+use Rattle.std.proofs.lemmas.Bool.{and_parts, and_from, eqb-true, eqb-false, eq-eqb, ne_eqb, ltb-true, ltb-false, lt-ltb, le-ltb, or_right, both_ways}
+use Rattle.std.proofs.lemmas.List.Sums.{fold-append}
+use Rattle.std.proofs.Math.ListN.{drop_of_length-le}
+use Rattle.std.proofs.lemmas.List.{drop-append-le}
+use Rattle.std.proofs.Math.Seq.{take-suc}
+use Rattle.std.proofs.lemmas.List.Folds.{list_any-append}
+use Rattle.std.specs.List.{list_any}
+use Rattle.std.specs.Str.{bytes_eq}
+use Rattle.cats_text.specs.Numbers.{is_digit, digits_alone, is_number, number_of, is_price, whole_part, has_point, places, has_place_from}
+use Rattle.cats_text.specs.Faults.{is_end}
+use Rattle.cats_text.specs.Internal.Keywords.{keyword_text, place_value_of}
+use Rattle.cats_text.specs.Internal.Machine.{word_from, word_with, decimal_with, summary}
+use Rattle.cats_text.specs.declared.word.Keyword.{Keyword as Key}
+use Rattle.cats_text.specs.declared.word.Keyword.TheVariants.{Goods, Bids, Dummy}
+use Rattle.cats_text.specs.declared.word.Word.{Word}
+use Rattle.cats_text.specs.declared.word.Decimal.{Decimal}
+use Rattle.cats_text.specs.declared.word.Word.TheVariants.{Keyword, Number, Decimal as Fraction, End, Other}
+use Rattle.cats_text.specs.declared.word.TheConstants.{HELD}
+use Rattle.cats_text.proofs.Words.Places.{places_from, places-push, place_value_late, digit_bounds, places_below_one}
+
+pub summary-push : (a : ℕ) (w : List ℕ) (b : ℕ) → summary ((a ∷ w) ++ b ∷ []) ≡ word_with (summary (a ∷ w)) b
+summary-push a w b = fold-append word_with (word_from a) w (b ∷ [])
+
+-- nothing that the grammar takes
+pub record IsOther (w : List ℕ) : Type 0 where
+  pub number : is_number w ≡ false
+  pub price : is_price w ≡ false
+  pub ended : is_end w ≡ false
+  pub keyword : (k : Key) → bytes_eq w (keyword_text k) ≡ false
+
+-- v is the number n, or both are above every limit
+abbrev pub Holds : ℕ → ℕ → Type 0
+Holds v n = (v ≡ n) ⊎ ((HELD ≤ v) × (HELD ≤ n))
+
+pub record IsFraction (w : List ℕ) (d : Decimal) : Type 0 where
+  pub whole : List ℕ
+  pub behind : List ℕ
+  pub is : w ≡ whole ++ 46 ∷ behind
+  pub number : is_number whole ≡ true
+  pub digits : digits_alone behind ≡ true
+  pub value : Holds d.whole (number_of whole)
+  pub count : d.places ≡ min 6 (length behind)
+  pub millionths : d.millionths ≡ places_from 0 behind
+  pub fine : d.fine ≡ has_place_from 6 behind
+
+abbrev pub Tells : List ℕ → Word → Type 0
+Tells w (Keyword k n) = (w ≡ take n (keyword_text k)) × (0 < n) × (n ≤ length (keyword_text k))
+Tells w (Number v) = (is_number w ≡ true) × Holds v (number_of w)
+Tells w (Fraction d) = IsFraction w d
+Tells w End = w ≡ 35 ∷ []
+Tells w Other = (t : List ℕ) → IsOther (w ++ t)
+
+-- ---- words that nothing can mend
+
+not_digit_first : (a : ℕ) (w : List ℕ) → is_digit a ≡ false → is_number (a ∷ w) ≡ false
+not_digit_first a w h = rw h refl
+
+not_price_first : (a : ℕ) (w : List ℕ) → is_digit a ≡ false → is_price (a ∷ w) ≡ false
+not_price_first a w h = elim (eqb a 46) as (λ t. (is_number (cond t [] (a ∷ whole_part w)) && (not (t || has_point w) || is_number (cond t w (places w))))
+    ≡ false) [
+      | true ↦ refl
+      | false ↦ rw h refl
+    ]
+
+-- the first byte begins neither a number, nor `#`, nor a keyword
+other_first : (a : ℕ) (w : List ℕ) → is_digit a ≡ false → a ≢ 35 → a ≢ 103 → a ≢ 98 → a ≢ 100 → IsOther (a ∷ w)
+other_first a w digit hash g b d = record {
+  number = not_digit_first a w digit;
+  price = not_price_first a w digit;
+  ended = rw (ne_eqb a 35 hash) refl;
+  keyword = elim [ Goods ↦ rw (ne_eqb a 103 g) refl | Bids ↦ rw (ne_eqb a 98 b) refl | Dummy ↦ rw (ne_eqb a 100 d) refl ];
+}
+
+-- the first byte is a digit, so that it is neither `#` nor a keyword
+pub digit_not : (a c : ℕ) (w t : List ℕ) → is_digit a ≡ true → is_digit c ≡ false → bytes_eq (a ∷ w) (c ∷ t) ≡ false
+digit_not a c w t h k = elim (eqb a c) as (λ q. eqb a c ≡ q → (q && bytes_eq w t) ≡ false) [
+  | true ↦ λ (e : eqb a c ≡ true). absurd (both_ways (is_digit c) k (subst (λ n. is_digit n ≡ true) (eqb-true a c e) h))
+  | false ↦ λ (e : eqb a c ≡ false). refl
+] refl
+
+digit_is_other : (a : ℕ) (w : List ℕ) → is_digit a ≡ true → is_number (a ∷ w) ≡ false → is_price (a ∷ w) ≡ false → IsOther (a ∷ w)
+digit_is_other a w h n p = record {
+  number = n;
+  price = p;
+  ended = digit_not a 35 w [] h refl;
+  keyword = elim [ Goods ↦ digit_not a 103 w _ h refl | Bids ↦ digit_not a 98 w _ h refl | Dummy ↦ digit_not a 100 w _ h refl ];
+}
+
+-- ---- parts of a word
+
+digit_no_point : (b : ℕ) → is_digit b ≡ true → eqb b 46 ≡ false
+digit_no_point b h = ne_eqb b 46 (λ e. let low : 48 ≤ b = (digit_bounds b h).0 in absurd (omega arith))
+
+digits_head : (a : ℕ) (w : List ℕ) → digits_alone (a ∷ w) ≡ true → (is_digit a ≡ true) × (digits_alone w ≡ true)
+digits_head a w h = and_parts (is_digit a) (digits_alone w) h
+
+pub whole-digits : (w : List ℕ) → digits_alone w ≡ true → whole_part w ≡ w
+whole-digits [] h = refl
+whole-digits (a ∷ w) h = let p = digits_head a w h in rw (digit_no_point a p.0) (ap (λ ds. a ∷ ds) (whole-digits w p.1))
+
+pub point-digits : (w : List ℕ) → digits_alone w ≡ true → has_point w ≡ false
+point-digits [] h = refl
+point-digits (a ∷ w) h = let p = digits_head a w h in rw (digit_no_point a p.0) (point-digits w p.1)
+
+pub whole-point : (w t : List ℕ) → digits_alone w ≡ true → whole_part (w ++ 46 ∷ t) ≡ w
+whole-point [] t h = refl
+whole-point (a ∷ w) t h = let p = digits_head a w h in rw (digit_no_point a p.0) (ap (λ ds. a ∷ ds) (whole-point w t p.1))
+
+pub places-point : (w t : List ℕ) → digits_alone w ≡ true → places (w ++ 46 ∷ t) ≡ t
+places-point [] t h = refl
+places-point (a ∷ w) t h = let p = digits_head a w h in rw (digit_no_point a p.0) (places-point w t p.1)
+
+pub point-point : (w t : List ℕ) → has_point (w ++ 46 ∷ t) ≡ true
+point-point [] t = refl
+point-point (a ∷ w) t = or_right (eqb a 46) (has_point (w ++ 46 ∷ t)) (point-point w t)
+
+whole-other : (w t : List ℕ) (b : ℕ) → digits_alone w ≡ true → b ≢ 46 → whole_part (w ++ b ∷ t) ≡ w ++ b ∷ whole_part t
+whole-other [] t b h ne = rw (ne_eqb b 46 ne) refl
+whole-other (a ∷ w) t b h ne = let p = digits_head a w h in rw (digit_no_point a p.0) (ap (λ ds. a ∷ ds) (whole-other w t b p.1 ne))
+
+pub digits-not : (w t : List ℕ) (b : ℕ) → is_digit b ≡ false → digits_alone (w ++ b ∷ t) ≡ false
+digits-not [] t b h = rw h refl
+digits-not (a ∷ w) t b h = rw (digits-not w t b h) (and_false (is_digit a))
+  where
+    and_false : (x : Bool) → (x && false) ≡ false
+    and_false true = refl
+    and_false false = refl
+
+digits-more : (w : List ℕ) (b : ℕ) → digits_alone w ≡ true → is_digit b ≡ true → digits_alone (w ++ b ∷ []) ≡ true
+digits-more [] b h k = rw k refl
+digits-more (a ∷ w) b h k = let p = digits_head a w h in and_from (is_digit a) (digits_alone (w ++ b ∷ [])) p.0 (digits-more w b p.1 k)
+
+number_of-push : (w : List ℕ) (b : ℕ) → number_of (w ++ b ∷ []) ≡ 10 * number_of w + (b - 48)
+number_of-push w b = fold-append (λ n c. 10 * n + (c - 48)) 0 w (b ∷ [])
+
+-- a number held, with one more digit
+holds_more : (v n d : ℕ) → Holds v n → Holds (cond (ltb v HELD) (v * 10 + d) v) (10 * n + d)
+holds_more v n d h = elim (ltb v HELD) as (λ t. ltb v HELD ≡ t → Holds (cond t (v * 10 + d) v) (10 * n + d)) [
+  | true ↦ λ (e : ltb v HELD ≡ true). let below : v < HELD = ltb-true v HELD e in
+      ⊎_elim (λ (same : v ≡ n). inl (omega arith)) (λ (above : (HELD ≤ v) × (HELD ≤ n)). let no : HELD ≤ v = above.0 in absurd (omega arith)) h
+  | false ↦ λ (e : ltb v HELD ≡ false). let above : HELD ≤ v = ltb-false v HELD e in
+      inr (above, ⊎_elim (λ (same : v ≡ n). omega arith) (λ (both : (HELD ≤ v) × (HELD ≤ n)). let more : HELD ≤ n = both.1 in omega arith) h)
+] refl
+
+-- ---- the first byte
+
+pub tells_first : (a : ℕ) → Tells (a ∷ []) (word_from a)
+tells_first a = elim (is_digit a) as (λ t. is_digit a ≡ t
+    → Tells (a ∷ []) (cond t (Number (a - 48))
+    (cond (eqb a 35) End (cond (eqb a 103) (Keyword Goods 1) (cond (eqb a 98) (Keyword Bids 1) (cond (eqb a 100) (Keyword Dummy 1) Other)))))) [
+      | true ↦ λ (e : is_digit a ≡ true). (rw e refl, inl (omega arith))
+      | false ↦ λ (digit : is_digit a ≡ false). elim (eqb a 35) as (λ t. eqb a 35 ≡ t
+          → Tells (a ∷ []) (cond t End (cond (eqb a 103) (Keyword Goods 1) (cond (eqb a 98) (Keyword Bids 1) (cond (eqb a 100) (Keyword Dummy 1) Other))))) [
+            | true ↦ λ (e : eqb a 35 ≡ true). ap (λ n. n ∷ []) (eqb-true a 35 e)
+            | false ↦ λ (hash : eqb a 35 ≡ false). elim (eqb a 103) as (λ t. eqb a 103 ≡ t
+                → Tells (a ∷ []) (cond t (Keyword Goods 1) (cond (eqb a 98) (Keyword Bids 1) (cond (eqb a 100) (Keyword Dummy 1) Other)))) [
+                  | true ↦ λ (e : eqb a 103 ≡ true). (ap (λ n. n ∷ []) (eqb-true a 103 e), omega arith, omega arith)
+                  | false ↦ λ (g : eqb a 103 ≡ false). elim (eqb a 98) as (λ t. eqb a 98 ≡ t
+                      → Tells (a ∷ []) (cond t (Keyword Bids 1) (cond (eqb a 100) (Keyword Dummy 1) Other))) [
+                        | true ↦ λ (e : eqb a 98 ≡ true). (ap (λ n. n ∷ []) (eqb-true a 98 e), omega arith, omega arith)
+                        | false ↦ λ (b : eqb a 98 ≡ false). elim (eqb a 100) as (λ t. eqb a 100 ≡ t → Tells (a ∷ []) (cond t (Keyword Dummy 1) Other)) [
+                          | true ↦ λ (e : eqb a 100 ≡ true). (ap (λ n. n ∷ []) (eqb-true a 100 e), omega arith, omega arith)
+                          | false ↦ λ (d : eqb a 100 ≡ false). λ t. other_first a t digit (eqb-false a 35 hash) (eqb-false a 103 g) (eqb-false a 98 b)
+                              (eqb-false a 100 d)
+                        ] refl
+                      ] refl
+                ] refl
+          ] refl
+    ] refl
+
+-- ---- one more byte
+
+-- behind digits, a byte that is neither a digit nor a point
+number_other : (a : ℕ) (w : List ℕ) (b : ℕ) (t : List ℕ) → digits_alone (a ∷ w) ≡ true → is_digit b ≡ false → b ≢ 46 → IsOther ((a ∷ w) ++ b ∷ t)
+number_other a w b t h digit point =
+    let first = digits_head a w h in
+    let whole : whole_part ((a ∷ w) ++ b ∷ t) ≡ (a ∷ w) ++ b ∷ whole_part t = whole-other (a ∷ w) t b h point in
+    let none : is_number (whole_part ((a ∷ w) ++ b ∷ t)) ≡ false = ap is_number whole ∙ digits-not (a ∷ w) (whole_part t) b digit in
+    digit_is_other a (w ++ b ∷ t) first.0 (digits-not (a ∷ w) t b digit)
+    (ap (λ x. x && (not (has_point ((a ∷ w) ++ b ∷ t)) || is_number (places ((a ∷ w) ++ b ∷ t)))) none)
+
+tells_number : (a : ℕ) (w : List ℕ) (b v : ℕ) → Tells (a ∷ w) (Number v) → Tells ((a ∷ w) ++ b ∷ []) (word_with (Number v) b)
+tells_number a w b v h =
+    elim (is_digit b) as (λ t. is_digit b ≡ t
+    → Tells ((a ∷ w) ++ b ∷ [])
+    (cond t (Number (cond (ltb v HELD) (v * 10 + (b - 48)) v)) (cond (eqb b 46) (Fraction (record { whole = v; millionths = 0; places = 0; fine = false }))
+    Other))) [
+      | true ↦ λ (digit : is_digit b ≡ true). (digits-more (a ∷ w) b h.0 digit, rw (number_of-push (a ∷ w) b) (holds_more v (number_of (a ∷ w)) (b - 48) h.1))
+      | false ↦ λ (digit : is_digit b ≡ false). elim (eqb b 46) as (λ t. eqb b 46 ≡ t
+          → Tells ((a ∷ w) ++ b ∷ []) (cond t (Fraction (record { whole = v; millionths = 0; places = 0; fine = false })) Other)) [
+            | true ↦ λ (point : eqb b 46 ≡ true). record {
+              whole = a ∷ w;
+              behind = [];
+              is = ap (λ n. (a ∷ w) ++ n ∷ []) (eqb-true b 46 point);
+              number = h.0;
+              digits = refl;
+              value = h.1;
+              count = refl;
+              millionths = refl;
+              fine = refl;
+            }
+            | false ↦ λ (point : eqb b 46 ≡ false). λ t. subst IsOther (sym (append_assoc (a ∷ w) (b ∷ []) t))
+                (number_other a w b t h.0 digit (eqb-false b 46 point))
+          ] refl
+    ] refl
+
+is_number-not : (w : List ℕ) → digits_alone w ≡ false → is_number w ≡ false
+is_number-not [] h = refl
+is_number-not (a ∷ w) h = h
+
+is_number-digits : (w : List ℕ) → is_number w ≡ true → digits_alone w ≡ true
+is_number-digits [] h = refl
+is_number-digits (a ∷ w) h = h
+
+-- behind digits, a point and digits, a byte that is no digit
+fraction_other : (a : ℕ) (w behind : List ℕ) (b : ℕ) (t : List ℕ) → digits_alone (a ∷ w) ≡ true → is_digit b ≡ false
+    → IsOther ((a ∷ w) ++ 46 ∷ (behind ++ b ∷ t))
+fraction_other a w behind b t h digit =
+    let first = digits_head a w h in
+    let none : is_number (places ((a ∷ w) ++ 46 ∷ (behind ++ b ∷ t))) ≡ false = ap is_number (places-point (a ∷ w) (behind ++ b ∷ t) h)
+    ∙ is_number-not (behind ++ b ∷ t) (digits-not behind t b digit) in
+    let point : has_point ((a ∷ w) ++ 46 ∷ (behind ++ b ∷ t)) ≡ true = point-point (a ∷ w) (behind ++ b ∷ t) in
+    digit_is_other a (w ++ 46 ∷ (behind ++ b ∷ t)) first.0 (digits-not (a ∷ w) (behind ++ b ∷ t) 46 refl)
+    (price_false _ _ _ point none)
+  where
+    price_false : (x y z : Bool) → y ≡ true → z ≡ false → (x && (not y || z)) ≡ false
+    price_false x y z p q = rw (p, q) (and_false x)
+      where
+        and_false : (x : Bool) → (x && false) ≡ false
+        and_false true = refl
+        and_false false = refl
+
+has_place_early : (ds : List ℕ) → length ds ≤ 6 → has_place_from 6 ds ≡ false
+has_place_early ds l = ap (λ (r : List ℕ). list_any (λ c. not (eqb c 48)) r) (drop_of_length-le ds l)
+
+-- a place more, of the first six
+fraction_early : (w : List ℕ) (d : Decimal) (b : ℕ) → IsFraction w d → is_digit b ≡ true → d.places < 6
+    → IsFraction (w ++ b ∷ []) (record d { millionths = min (d.millionths + (b - 48) * place_value_of d.places) (2 ^ 64 - 1); places = d.places + 1 })
+fraction_early w d b f digit early =
+    let count : d.places ≡ min 6 (length f.behind) = f.count in
+    let same : d.places ≡ 0 + length f.behind = omega arith in
+    let more : length (f.behind ++ b ∷ []) ≡ length f.behind + 1 = length-append f.behind (b ∷ []) in
+    let digits : digits_alone (f.behind ++ b ∷ []) ≡ true = digits-more f.behind b f.digits digit in
+    let sum : d.millionths + (b - 48) * place_value_of d.places ≡ places_from 0 (f.behind ++ b ∷ []) =
+    ap (λ v. d.millionths + (b - 48) * place_value_of v) same ∙ ap (λ v. v + (b - 48) * place_value_of (0 + length f.behind)) f.millionths
+    ∙ sym (places-push 0 f.behind b) in
+    let low : places_from 0 (f.behind ++ b ∷ []) ≤ 1000000 = places_below_one (f.behind ++ b ∷ []) digits in
+    record {
+      whole = f.whole;
+      behind = f.behind ++ b ∷ [];
+      is = ap (λ ds. ds ++ b ∷ []) f.is ∙ append_assoc f.whole (46 ∷ f.behind) (b ∷ []);
+      number = f.number;
+      digits = digits;
+      value = f.value;
+      count = omega arith;
+      millionths = omega arith;
+      fine = f.fine ∙ has_place_early f.behind (omega arith) ∙ sym (has_place_early (f.behind ++ b ∷ []) (omega arith));
+    }
+
+zero_digit : (b : ℕ) → is_digit b ≡ true → eqb (b - 48) 0 ≡ eqb b 48
+zero_digit b digit = let low : 48 ≤ b = (digit_bounds b digit).0 in elim (eqb b 48) as (λ t. eqb b 48 ≡ t → eqb (b - 48) 0 ≡ t) [
+  | true ↦ λ (e : eqb b 48 ≡ true). let is : b ≡ 48 = eqb-true b 48 e in eq-eqb (b - 48) 0 (omega arith)
+  | false ↦ λ (e : eqb b 48 ≡ false). let ne : b ≢ 48 = eqb-false b 48 e in ne_eqb (b - 48) 0 (λ z. absurd (omega arith))
+] refl
+
+one_more : (ds : List ℕ) (b : ℕ) → 6 ≤ length ds → (has_place_from 6 ds || not (eqb b 48)) ≡ has_place_from 6 (ds ++ b ∷ [])
+one_more ds b l = sym (ap (λ (r : List ℕ). list_any (λ c. not (eqb c 48)) r) (drop-append-le 6 ds (b ∷ []) l)
+    ∙ list_any-append (λ c. not (eqb c 48)) (drop 6 ds) (b ∷ []) ∙ ap (λ x. has_place_from 6 ds || x) (or_false (not (eqb b 48))))
+  where
+    or_false : (x : Bool) → (x || false) ≡ x
+    or_false true = refl
+    or_false false = refl
+
+-- a place more, behind the first six
+fraction_late : (w : List ℕ) (d : Decimal) (b : ℕ) → IsFraction w d → is_digit b ≡ true → 6 ≤ d.places
+    → IsFraction (w ++ b ∷ []) (record d { fine = d.fine || not (eqb (b - 48) 0) })
+fraction_late w d b f digit late =
+    let count : d.places ≡ min 6 (length f.behind) = f.count in
+    let long : 6 ≤ length f.behind = omega arith in
+    let more : length (f.behind ++ b ∷ []) ≡ length f.behind + 1 = length-append f.behind (b ∷ []) in
+    let none : place_value_of (0 + length f.behind) ≡ 0 = place_value_late (0 + length f.behind) (omega arith) in
+    let product : (b - 48) * place_value_of (0 + length f.behind) ≡ 0 = ap (λ v. (b - 48) * v) none ∙ omega arith in
+    let sum : places_from 0 (f.behind ++ b ∷ []) ≡ places_from 0 f.behind + (b - 48) * place_value_of (0 + length f.behind) = places-push 0 f.behind b in
+    let millionths : d.millionths ≡ places_from 0 f.behind = f.millionths in
+    record {
+      whole = f.whole;
+      behind = f.behind ++ b ∷ [];
+      is = ap (λ ds. ds ++ b ∷ []) f.is ∙ append_assoc f.whole (46 ∷ f.behind) (b ∷ []);
+      number = f.number;
+      digits = digits-more f.behind b f.digits digit;
+      value = f.value;
+      count = omega arith;
+      millionths = omega arith;
+      fine = ap (λ x. x || not (eqb (b - 48) 0)) f.fine ∙ ap (λ x. has_place_from 6 f.behind || not x) (zero_digit b digit) ∙ one_more f.behind b long;
+    }
+
+tells_fraction : (a : ℕ) (w : List ℕ) (b : ℕ) (d : Decimal) → Tells (a ∷ w) (Fraction d) → Tells ((a ∷ w) ++ b ∷ []) (word_with (Fraction d) b)
+tells_fraction a w b d f = elim (is_digit b) as (λ t. is_digit b ≡ t → Tells ((a ∷ w) ++ b ∷ []) (cond t (Fraction (decimal_with d (b - 48))) Other)) [
+  | true ↦ λ (digit : is_digit b ≡ true). elim (ltb d.places 6) as (λ t. ltb d.places 6 ≡ t
+      → IsFraction ((a ∷ w) ++ b ∷ [])
+      (cond t (record d { millionths = min (d.millionths + (b - 48) * place_value_of d.places) (2 ^ 64 - 1); places = d.places + 1 })
+      (record d { fine = d.fine || not (eqb (b - 48) 0) }))) [
+        | true ↦ λ (e : ltb d.places 6 ≡ true). fraction_early (a ∷ w) d b f digit (ltb-true d.places 6 e)
+        | false ↦ λ (e : ltb d.places 6 ≡ false). fraction_late (a ∷ w) d b f digit (ltb-false d.places 6 e)
+      ] refl
+  | false ↦ λ (digit : is_digit b ≡ false). λ t. other f.whole f.behind t f.number digit
+      (append_assoc (a ∷ w) (b ∷ []) t ∙ ap (λ ds. ds ++ b ∷ t) f.is ∙ append_assoc f.whole (46 ∷ f.behind) (b ∷ t))
+] refl
+  where
+    other : (whole behind t : List ℕ) → is_number whole ≡ true → is_digit b ≡ false → ((a ∷ w) ++ b ∷ []) ++ t ≡ whole ++ 46 ∷ (behind ++ b ∷ t)
+        → IsOther (((a ∷ w) ++ b ∷ []) ++ t)
+    other [] behind t n digit e = absurd (both_ways false refl n)
+    other (c ∷ cs) behind t n digit e = subst IsOther (sym e) (fraction_other c cs behind b t n digit)
+
+-- behind the front of a keyword, another byte than its next
+bytes_mismatch : (n : ℕ) (s : List ℕ) (b : ℕ) (t : List ℕ) → n ≤ length s → (ltb n (length s) && eqb (get_or s n 0) b) ≡ false
+    → bytes_eq (take n s ++ b ∷ t) s ≡ false
+bytes_mismatch zero [] b t l h = refl
+bytes_mismatch zero (x ∷ xs) b t l h = elim (eqb b x) as (λ q. eqb b x ≡ q → (q && bytes_eq t xs) ≡ false) [
+  | true ↦ λ (e : eqb b x ≡ true). absurd (both_ways (eqb x b) (ap (λ q. q && eqb x b) (sym (lt-ltb 0 (length (x ∷ xs)) (omega arith)))
+      ∙ h) (eq-eqb x b (sym (eqb-true b x e))))
+  | false ↦ λ (e : eqb b x ≡ false). refl
+] refl
+bytes_mismatch (suc n) [] b t l h = absurd (let no : suc n ≤ 0 = l in omega arith)
+bytes_mismatch (suc n) (x ∷ xs) b t l h = rw (eq-eqb x x refl) (bytes_mismatch n xs b t (omega arith) (shorter ∙ h))
+  where
+    shorter : (ltb n (length xs) && eqb (get_or xs n 0) b) ≡ (ltb (suc n) (length (x ∷ xs)) && eqb (get_or (x ∷ xs) (suc n) 0) b)
+    shorter = elim (ltb n (length xs)) as (λ q. ltb n (length xs) ≡ q
+        → (q && eqb (get_or xs n 0) b) ≡ (ltb (suc n) (suc (length xs)) && eqb (get_or xs n 0) b)) [
+          | true ↦ λ (e : ltb n (length xs) ≡ true). let l : n < length xs = ltb-true n (length xs) e in
+              rw (lt-ltb (suc n) (suc (length xs)) (omega arith)) refl
+          | false ↦ λ (e : ltb n (length xs) ≡ false). let l : length xs ≤ n = ltb-false n (length xs) e in
+              rw (le-ltb (suc n) (suc (length xs)) (omega arith)) refl
+        ] refl
+
+-- the first byte of a keyword's front
+pub first_of_take : (a : ℕ) (w : List ℕ) (x : ℕ) (xs : List ℕ) (n : ℕ) → a ∷ w ≡ take n (x ∷ xs) → a ≡ x
+first_of_take a w x xs zero e = absurd (no e)
+  where
+    no : a ∷ w ≡ [] → ⊥
+    no q = cc
+first_of_take a w x xs (suc n) e = cc
+
+keyword_other : (k : Key) (a : ℕ) (w : List ℕ) (n b : ℕ) (t : List ℕ) → a ∷ w ≡ take n (keyword_text k) → n ≤ length (keyword_text k)
+    → (ltb n (length (keyword_text k)) && eqb (get_or (keyword_text k) n 0) b) ≡ false → IsOther ((a ∷ w) ++ b ∷ t)
+keyword_other Goods a w n b t e l h = let first : a ≡ 103 = first_of_take a w 103 _ n e in record {
+  number = rw first refl;
+  price = rw first (not_price_first 103 (w ++ b ∷ t) refl);
+  ended = rw first refl;
+  keyword = elim [
+    | Goods ↦ ap (λ ds. bytes_eq (ds ++ b ∷ t) (keyword_text Goods)) e ∙ bytes_mismatch n (keyword_text Goods) b t l h
+    | Bids ↦ rw first refl
+    | Dummy ↦ rw first refl
+  ];
+}
+keyword_other Bids a w n b t e l h = let first : a ≡ 98 = first_of_take a w 98 _ n e in record {
+  number = rw first refl;
+  price = rw first (not_price_first 98 (w ++ b ∷ t) refl);
+  ended = rw first refl;
+  keyword = elim [
+    | Goods ↦ rw first refl
+    | Bids ↦ ap (λ ds. bytes_eq (ds ++ b ∷ t) (keyword_text Bids)) e ∙ bytes_mismatch n (keyword_text Bids) b t l h
+    | Dummy ↦ rw first refl
+  ];
+}
+keyword_other Dummy a w n b t e l h = let first : a ≡ 100 = first_of_take a w 100 _ n e in record {
+  number = rw first refl;
+  price = rw first (not_price_first 100 (w ++ b ∷ t) refl);
+  ended = rw first refl;
+  keyword = elim [
+    | Goods ↦ rw first refl
+    | Bids ↦ rw first refl
+    | Dummy ↦ ap (λ ds. bytes_eq (ds ++ b ∷ t) (keyword_text Dummy)) e
+        ∙ bytes_mismatch n (keyword_text Dummy) b t l h
+  ];
+}
+
+tells_keyword : (k : Key) (a : ℕ) (w : List ℕ) (b n : ℕ) → Tells (a ∷ w) (Keyword k n) → Tells ((a ∷ w) ++ b ∷ []) (word_with (Keyword k n) b)
+tells_keyword k a w b n h =
+    elim (ltb n (length (keyword_text k)) && eqb (get_or (keyword_text k) n 0) b) as (λ t. (ltb n (length (keyword_text k))
+    && eqb (get_or (keyword_text k) n 0) b) ≡ t → Tells ((a ∷ w) ++ b ∷ []) (cond t (Keyword k (n + 1)) Other)) [
+      | true ↦ λ (e : (ltb n (length (keyword_text k)) && eqb (get_or (keyword_text k) n 0) b) ≡ true).
+          let both = and_parts (ltb n (length (keyword_text k))) (eqb (get_or (keyword_text k) n 0) b) e in
+          let l : n < length (keyword_text k) = ltb-true n (length (keyword_text k)) both.0 in (
+            ap (λ ds. ds ++ b ∷ []) h.0 ∙ ap (λ c. take n (keyword_text k) ++ c ∷ []) (sym (eqb-true (get_or (keyword_text k) n 0) b both.1))
+                ∙ sym (take-suc (keyword_text k) n 0 l) ∙ ap (λ m. take m (keyword_text k)) (sym (add-one n)),
+            omega arith,
+            omega arith,
+          )
+      | false ↦ λ (e : (ltb n (length (keyword_text k)) && eqb (get_or (keyword_text k) n 0) b) ≡ false).
+          λ t. subst IsOther (sym (append_assoc (a ∷ w) (b ∷ []) t)) (keyword_other k a w n b t h.0 h.2 e)
+    ] refl
+
+hash_other : (b : ℕ) (t : List ℕ) → IsOther (35 ∷ b ∷ t)
+hash_other b t = record { number = refl; price = not_price_first 35 (b ∷ t) refl; ended = refl; keyword = elim [ Goods ↦ refl | Bids ↦ refl | Dummy ↦ refl ] }
+
+tells_more : (a : ℕ) (w : List ℕ) (b : ℕ) (s : Word) → Tells (a ∷ w) s → Tells ((a ∷ w) ++ b ∷ []) (word_with s b)
+tells_more a w b (Keyword k n) h = tells_keyword k a w b n h
+tells_more a w b (Number v) h = tells_number a w b v h
+tells_more a w b (Fraction d) h = tells_fraction a w b d h
+tells_more a w b End h = λ t. subst IsOther (sym (ap (λ ds. (ds ++ b ∷ []) ++ t) h)) (hash_other b t)
+tells_more a w b Other h = λ t. subst IsOther (sym (append_assoc (a ∷ w) (b ∷ []) t)) (h (b ∷ t))
+
+tells_fold : (a : ℕ) (w rest : List ℕ) (s : Word) → Tells (a ∷ w) s → Tells ((a ∷ w) ++ rest) (fold word_with s rest)
+tells_fold a w [] s h = subst (λ ds. Tells ds s) (sym (append-nil (a ∷ w))) h
+tells_fold a w (b ∷ rest) s h = subst (λ ds. Tells ds (fold word_with (word_with s b) rest)) (append_assoc (a ∷ w) (b ∷ []) rest)
+    (tells_fold a (w ++ b ∷ []) rest (word_with s b) (tells_more a w b s h))
+
+-- what is kept of a word tells of the word
+pub tells : (a : ℕ) (w : List ℕ) → Tells (a ∷ w) (summary (a ∷ w))
+tells a w = tells_fold a [] w (word_from a) (tells_first a)

@@ -1,0 +1,152 @@
+-- What is kept of a word answers every test that the grammar makes of the word.
+use Rattle.std.proofs.Common.{◌≡◌, ◌≢◌, ℕ, zero, suc, ◌<◌, ◌≤◌, min, Bool, true, false, not, ◌&&◌, ◌||◌, cond, eqb, List, [], ◌∷◌, ◌++◌, length, take, refl, sym, ap, ◌∙◌, subst, arith, append-nil}
+use Rattle.std.proofs.lemmas.Bool.{and_parts, eqb-true, eqb-false, eq-eqb, ne_eqb, both_ways}
+use Rattle.std.specs.Str.{bytes_eq}
+use Rattle.cats_text.specs.Numbers.{is_digit, digits_alone, is_number, is_price, whole_part, has_point, places}
+use Rattle.cats_text.specs.Faults.{is_end}
+use Rattle.cats_text.specs.Internal.Keywords.{keyword_text}
+use Rattle.cats_text.specs.Internal.Parsing.{is_same_keyword}
+use Rattle.cats_text.specs.declared.word.Keyword.{Keyword as Key}
+use Rattle.cats_text.specs.declared.word.Keyword.TheVariants.{Goods, Bids, Dummy}
+use Rattle.cats_text.specs.declared.word.Word.{Word}
+use Rattle.cats_text.specs.declared.word.Decimal.{Decimal}
+use Rattle.cats_text.specs.declared.word.Word.TheVariants.{Keyword, Number, Decimal as Fraction, End, Other}
+use Rattle.cats_text.proofs.Words.Kept.{Tells, IsOther, digit_not, first_of_take, digits-not, whole-digits, point-digits, whole-point, places-point, point-point}
+
+abbrev pub tells_number : Word → Bool
+tells_number (Number v) = true
+tells_number _ = false
+
+abbrev pub tells_price : Word → Bool
+tells_price (Number v) = true
+tells_price (Fraction d) = not (eqb d.places 0)
+tells_price _ = false
+
+abbrev pub tells_end : Word → Bool
+tells_end End = true
+tells_end _ = false
+
+abbrev pub tells_keyword : Key → Word → Bool
+tells_keyword k (Keyword j n) = is_same_keyword j k && eqb n (length (keyword_text k))
+tells_keyword k _ = false
+
+-- the tests of a word, answered by what is kept of it
+pub record IsTold (w : List ℕ) (s : Word) : Type 0 where
+  pub number : is_number w ≡ tells_number s
+  pub price : is_price w ≡ tells_price s
+  pub ended : is_end w ≡ tells_end s
+  pub keyword : (k : Key) → bytes_eq w (keyword_text k) ≡ tells_keyword k s
+
+first_not_digit : (a : ℕ) (w : List ℕ) → is_digit a ≡ false → (is_number (a ∷ w) ≡ false) × (is_price (a ∷ w) ≡ false)
+first_not_digit a w h = (
+  rw h refl,
+  elim (eqb a 46) as (λ t. (is_number (cond t [] (a ∷ whole_part w)) && (not (t || has_point w) || is_number (cond t w (places w))))
+      ≡ false) [ true ↦ refl | false ↦ rw h refl ],
+)
+
+-- the front of a keyword is the keyword where it is all of it
+same_front : (s : List ℕ) (n : ℕ) → n ≤ length s → bytes_eq (take n s) s ≡ eqb n (length s)
+same_front [] zero l = refl
+same_front [] (suc n) l = absurd (let no : suc n ≤ 0 = l in omega arith)
+same_front (x ∷ xs) zero l = sym (ne_eqb 0 (length (x ∷ xs)) (λ e. absurd (omega arith)))
+same_front (x ∷ xs) (suc n) l = rw (eq-eqb x x refl) (same_front xs n (omega arith) ∙ shift)
+  where
+    shift : eqb n (length xs) ≡ eqb (suc n) (length (x ∷ xs))
+    shift = elim (eqb n (length xs)) as (λ t. eqb n (length xs) ≡ t → t ≡ eqb (suc n) (length (x ∷ xs))) [
+      | true ↦ λ (e : eqb n (length xs) ≡ true). let same : n ≡ length xs = eqb-true n (length xs) e in sym (eq-eqb (suc n) (length (x ∷ xs)) (omega arith))
+      | false ↦ λ (e : eqb n (length xs) ≡ false). let ne : n ≢ length xs = eqb-false n (length xs) e in
+          sym (ne_eqb (suc n) (length (x ∷ xs)) (λ q. ne (omega arith)))
+    ] refl
+
+told_keyword : (j : Key) (a : ℕ) (w : List ℕ) (n : ℕ) → Tells (a ∷ w) (Keyword j n) → IsTold (a ∷ w) (Keyword j n)
+told_keyword Goods a w n h = let first : a ≡ 103 = first_of_take a w 103 _ n h.0 in record {
+  number = rw first refl;
+  price = (first_not_digit a w (rw first refl)).1;
+  ended = rw first refl;
+  keyword = elim [
+    | Goods ↦ ap (λ ds. bytes_eq ds (keyword_text Goods)) h.0 ∙ same_front (keyword_text Goods) n h.2
+    | Bids ↦ rw first refl
+    | Dummy ↦ rw first refl
+  ];
+}
+told_keyword Bids a w n h = let first : a ≡ 98 = first_of_take a w 98 _ n h.0 in record {
+  number = rw first refl;
+  price = (first_not_digit a w (rw first refl)).1;
+  ended = rw first refl;
+  keyword = elim [
+    | Goods ↦ rw first refl
+    | Bids ↦ ap (λ ds. bytes_eq ds (keyword_text Bids)) h.0 ∙ same_front (keyword_text Bids) n h.2
+    | Dummy ↦ rw first refl
+  ];
+}
+told_keyword Dummy a w n h = let first : a ≡ 100 = first_of_take a w 100 _ n h.0 in record {
+  number = rw first refl;
+  price = (first_not_digit a w (rw first refl)).1;
+  ended = rw first refl;
+  keyword = elim [
+    | Goods ↦ rw first refl
+    | Bids ↦ rw first refl
+    | Dummy ↦ ap (λ ds. bytes_eq ds (keyword_text Dummy)) h.0
+        ∙ same_front (keyword_text Dummy) n h.2
+  ];
+}
+
+-- a word that begins with a digit is neither `#` nor a keyword
+digit_first : (a : ℕ) (w : List ℕ) → is_digit a ≡ true → (is_end (a ∷ w) ≡ false) × ((k : Key) → bytes_eq (a ∷ w) (keyword_text k) ≡ false)
+digit_first a w h = (
+  digit_not a 35 w [] h refl,
+  elim [
+    | Goods ↦ digit_not a 103 w _ h refl
+    | Bids ↦ digit_not a 98 w _ h refl
+    | Dummy ↦ digit_not a 100 w _ h refl
+  ],
+)
+
+told_number : (a : ℕ) (w : List ℕ) (v : ℕ) → Tells (a ∷ w) (Number v) → IsTold (a ∷ w) (Number v)
+told_number a w v h = let first = digit_first a w (and_parts (is_digit a) (digits_alone w) h.0).0 in record {
+  number = h.0;
+  price = rw (whole-digits (a ∷ w) h.0, point-digits (a ∷ w) h.0, h.0) refl;
+  ended = first.0;
+  keyword = first.1;
+}
+
+price_behind : (behind : List ℕ) (count : ℕ) → digits_alone behind ≡ true → count ≡ min 6 (length behind) → is_number behind ≡ not (eqb count 0)
+price_behind [] count h e = rw e refl
+price_behind (b ∷ bs) count h e = h ∙ sym (ap not (ne_eqb count 0 (λ z. absurd (let pos : 0 < length (b ∷ bs) = omega arith in omega arith))))
+
+told_fraction : (a : ℕ) (w : List ℕ) (d : Decimal) → Tells (a ∷ w) (Fraction d) → IsTold (a ∷ w) (Fraction d)
+told_fraction a w d f = at f.whole f.is f.number
+  where
+    at : (whole : List ℕ) → a ∷ w ≡ whole ++ 46 ∷ f.behind → is_number whole ≡ true → IsTold (a ∷ w) (Fraction d)
+    at [] e n = absurd (both_ways false refl n)
+    at (c ∷ cs) e n =
+        let first : a ≡ c = cc in
+        let head : is_digit a ≡ true = ap is_digit first ∙ (and_parts (is_digit c) (digits_alone cs) n).0 in
+        let others = digit_first a w head in record {
+          number = ap is_number e ∙ not_number cs;
+          price = ap is_price e ∙ ap (λ x. is_number x && (not (has_point ((c ∷ cs) ++ 46 ∷ f.behind)) || is_number (places ((c ∷ cs) ++ 46 ∷ f.behind))))
+              (whole-point (c ∷ cs) f.behind n)
+              ∙ ap (λ x. x && (not (has_point ((c ∷ cs) ++ 46 ∷ f.behind)) || is_number (places ((c ∷ cs) ++ 46 ∷ f.behind)))) n
+              ∙ ap (λ x. not x || is_number (places ((c ∷ cs) ++ 46 ∷ f.behind))) (point-point (c ∷ cs) f.behind)
+              ∙ ap is_number (places-point (c ∷ cs) f.behind n) ∙ price_behind f.behind d.places f.digits f.count;
+          ended = others.0;
+          keyword = others.1;
+        }
+      where
+        not_number : (ds : List ℕ) → is_number ((c ∷ ds) ++ 46 ∷ f.behind) ≡ false
+        not_number ds = digits-not (c ∷ ds) f.behind 46 refl
+
+told_other : (w : List ℕ) → Tells w Other → IsTold w Other
+told_other w h = let o = subst IsOther (append-nil w) (h []) in record { number = o.number; price = o.price; ended = o.ended; keyword = o.keyword }
+
+pub told : (a : ℕ) (w : List ℕ) (s : Word) → Tells (a ∷ w) s → IsTold (a ∷ w) s
+told a w (Keyword k n) h = told_keyword k a w n h
+told a w (Number v) h = told_number a w v h
+told a w (Fraction d) h = told_fraction a w d h
+told a w End h = subst (λ ds. IsTold ds End) (sym h) (record {
+  number = refl;
+  price = refl;
+  ended = refl;
+  keyword = elim [ Goods ↦ refl | Bids ↦ refl | Dummy ↦ refl ];
+})
+told a w Other h = told_other (a ∷ w) h

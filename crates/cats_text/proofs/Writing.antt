@@ -1,0 +1,9 @@
+-- The layout of a file spells the file.
+pub mod Zeros
+pub mod Numerals
+pub mod SixDigits
+pub mod TextLines
+pub mod Prices
+pub mod BidTexts
+pub mod Lines
+pub mod Spells

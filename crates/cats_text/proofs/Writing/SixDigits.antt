@@ -1,0 +1,130 @@
+-- The six digits behind the point: what they spell, and that taking away the zeros at their end loses nothing.
+use Rattle.std.proofs.Common.{◌≡◌, ℕ, zero, suc, ◌+◌, ◌-◌, ◌*◌, ◌/◌, ◌%◌, ◌^◌, ◌<◌, ◌≤◌, true, eqb, List, [], ◌∷◌, ◌++◌, length, take, drop, replicate, decimal, refl, sym, ap, subst, ◌∙◌, inl, inr, arith, append_assoc}
+use Rattle.std.specs.Fmt.{digits}
+use Rattle.std.proofs.lemmas.Bool.{and_parts, and_from, cases_lt, cases_eq, cond-false, cond_both, ne_eqb}
+use Rattle.std.proofs.lemmas.Str.Parse.{digits_value_short}
+use Rattle.std.proofs.lemmas.Fmt.{length-decimal-le, digits_decimal, decimal_digit, decimal_step}
+use Rattle.cats_text.specs.Lines.{Word}
+use Rattle.cats_text.specs.Numbers.{is_digit, digits_alone, number_of, six_places}
+use Rattle.cats_text.specs.Layout.{with_place, without_zeros, six_digits, behind_point, places_text}
+use Rattle.cats_text.proofs.Writing.Numerals.{numerals, decimal_spells, number_of-cons}
+
+-- six digits of this value
+pub record SpellsPlaces (w : Word) (n : ℕ) : Type 0 where
+  pub long : length w ≡ 6
+  pub digits : digits_alone w ≡ true
+  pub value : number_of w ≡ n
+
+value_behind : (d v n p : ℕ) → p ≡ 1000000 → (d - 48) * p + v ≡ 1000000 + n → v < p → n < 1000000 → v ≡ n
+value_behind d v n p million value small places =
+    let e : (d - 48) * 1000000 + v ≡ 1000000 + n = subst (λ (q : ℕ). (d - 48) * q + v ≡ 1000000 + n) million value in
+    omega arith
+
+seven_digits : (w : Word) (n : ℕ) → digits_alone w ≡ true → number_of w ≡ 1000000 + n → n < 1000000 → length w ≤ 7 → SpellsPlaces (drop 1 w) n
+seven_digits [] n digits value places few = absurd (omega (arith, value))
+seven_digits (d ∷ ds) n digits value places few =
+    let behind : digits_alone ds ≡ true = (and_parts (is_digit d) (digits_alone ds) digits).1 in
+    elim (cases_lt (length ds) 6) as (λ _. SpellsPlaces ds n) [
+      | inl short ↦ absurd (omega (arith, value, digits_value_short numerals (d ∷ ds) 6 digits (omega arith)))
+      | inr long ↦
+          let six : length ds ≡ 6 = omega arith in
+          record {
+            long = six;
+            digits = behind;
+            value = value_behind d (number_of ds) n (10 ^ length ds) (ap (λ k. 10 ^ k) six) (sym (number_of-cons d ds)
+                ∙ value) (digits_value_short numerals ds (length ds) behind (omega arith)) places;
+          }
+    ]
+
+-- millionths
+pub six_digits_spell : (n : ℕ) → n < 1000000 → SpellsPlaces (six_digits n) n
+six_digits_spell n places =
+    let spelled = decimal_spells (1000000 + n) (omega arith) in
+    seven_digits (decimal (1000000 + n)) n (digits_decimal numerals (1000000 + n) (omega arith)) spelled.value places
+    (length-decimal-le 7 (1000000 + n) (omega arith) (omega arith) (omega arith))
+
+-- ---- with zeros behind it again
+
+place_filled : (b : ℕ) (ws ds : Word) (k : ℕ) → ((j : ℕ) → length ds ≤ j → take (length ds) (ws ++ replicate j 48) ≡ ds) → suc (length ds) ≤ k
+    → take (suc (length ds)) (with_place b ws ++ replicate k 48) ≡ b ∷ ds
+place_filled b (c ∷ cs) ds k filled room = ap (λ xs. b ∷ xs) (filled k (omega arith))
+place_filled b [] ds zero filled room = absurd (omega arith)
+place_filled b [] ds (suc k) filled room =
+    elim (cases_eq b 48) as (λ _. take (suc (length ds)) (with_place b [] ++ replicate (suc k) 48) ≡ b ∷ ds) [
+      | inl zero_digit ↦
+          subst (λ (a : ℕ). take (suc (length ds)) (with_place a [] ++ replicate (suc k) 48) ≡ a ∷ ds) (sym zero_digit)
+          (ap (λ xs. 48 ∷ xs) (filled k (omega arith)))
+      | inr other ↦
+          ap (λ ws. take (suc (length ds)) (ws ++ replicate (suc k) 48)) (cond-false (eqb b 48) [] (b ∷ []) (ne_eqb b 48 other))
+          ∙ ap (λ xs. b ∷ xs) (filled (suc k) (omega arith))
+    ]
+
+without_zeros_filled : (ds : Word) (k : ℕ) → length ds ≤ k → take (length ds) (without_zeros ds ++ replicate k 48) ≡ ds
+without_zeros_filled [] k room = refl
+without_zeros_filled (b ∷ bs) k room = place_filled b (without_zeros bs) bs k (without_zeros_filled bs) room
+
+-- a price reads these as the digits that they were
+pub six_places-without_zeros : (ds : Word) → length ds ≡ 6 → six_places (without_zeros ds) ≡ ds
+six_places-without_zeros ds six =
+    subst (λ (n : ℕ). take n (without_zeros ds ++ replicate 6 48) ≡ ds) six (without_zeros_filled ds 6 (omega arith))
+
+place_digits : (b : ℕ) (ws : Word) → is_digit b ≡ true → digits_alone ws ≡ true → digits_alone (with_place b ws) ≡ true
+place_digits b (c ∷ cs) here there = and_from (is_digit b) (digits_alone (c ∷ cs)) here there
+place_digits b [] here there = cond_both (eqb b 48) [] (b ∷ []) (λ (ws : Word). digits_alone ws ≡ true) (λ _. refl) (λ _. and_from (is_digit b) true here refl)
+
+pub digits_alone-without_zeros : (ds : Word) → digits_alone ds ≡ true → digits_alone (without_zeros ds) ≡ true
+digits_alone-without_zeros [] digits = refl
+digits_alone-without_zeros (b ∷ bs) digits =
+    let parts = and_parts (is_digit b) (digits_alone bs) digits in
+    place_digits b (without_zeros bs) parts.0 (digits_alone-without_zeros bs parts.1)
+
+place_length : (b : ℕ) (ws : Word) → length (with_place b ws) ≤ suc (length ws)
+place_length b (c ∷ cs) = omega arith
+place_length b [] = cond_both (eqb b 48) [] (b ∷ []) (λ (ws : Word). length ws ≤ 1) (λ _. omega arith) (λ _. omega arith)
+
+pub length-without_zeros-le : (ds : Word) → length (without_zeros ds) ≤ length ds
+length-without_zeros-le [] = omega arith
+length-without_zeros-le (b ∷ bs) = omega (arith, place_length b (without_zeros bs), length-without_zeros-le bs)
+
+-- ---- nothing is written of no millionths
+
+some_places : (ws : Word) (n : ℕ) → number_of (six_places ws) ≡ n → 0 < n → behind_point ws ≡ 46 ∷ ws
+some_places [] n value some = absurd (omega (arith, value))
+some_places (b ∷ bs) n value some = refl
+
+places_text_zero : places_text 0 ≡ []
+unfolding digits
+places_text_zero = refl
+
+pub places_text_none : (n : ℕ) → n ≡ 0 → places_text n ≡ []
+places_text_none n none = ap places_text none ∙ places_text_zero
+
+pub places_text_some : (n : ℕ) → 0 < n → n < 1000000 → places_text n ≡ 46 ∷ without_zeros (six_digits n)
+places_text_some n some places =
+    let six = six_digits_spell n places in
+    some_places (without_zeros (six_digits n)) n (ap number_of (six_places-without_zeros (six_digits n) six.long) ∙ six.value) some
+
+-- ---- a short number, digit by digit
+
+pub one_digit : (out new : List ℕ) (n : ℕ) → n < 10 → new ≡ out ++ (48 + n) ∷ [] → new ≡ out ++ decimal n
+one_digit out new n l e = e ∙ ap (λ ds. out ++ ds) (sym (decimal_digit n l))
+
+digit_behind : (out front new : List ℕ) (n : ℕ) → 10 ≤ n → n < 10000 → front ≡ out ++ decimal (n / 10) → new ≡ front ++ (48 + n % 10) ∷ []
+    → new ≡ out ++ decimal n
+digit_behind out front new n l short e f =
+    f ∙ ap (λ ds. ds ++ (48 + n % 10) ∷ []) e ∙ append_assoc out (decimal (n / 10)) ((48 + n % 10) ∷ [])
+    ∙ ap (λ ds. out ++ ds) (sym (decimal_step n l (omega arith)))
+
+pub two_digits : (out front new : List ℕ) (n : ℕ) → 10 ≤ n → n < 100 → front ≡ out ++ (48 + n / 10 % 10) ∷ [] → new ≡ front ++ (48 + n % 10) ∷ []
+    → new ≡ out ++ decimal n
+two_digits out front new n l short e f =
+    let one : n / 10 < 10 = omega arith in
+    let same : n / 10 % 10 ≡ n / 10 = omega arith in
+    digit_behind out front new n l (omega arith) (e ∙ ap (λ d. out ++ (48 + d) ∷ []) same ∙ ap (λ ds. out ++ ds) (sym (decimal_digit (n / 10) one))) f
+
+pub two_digits_behind : (out first second new : List ℕ) (n : ℕ) → 100 ≤ n → n < 10000 → first ≡ out ++ decimal (n / 100)
+    → second ≡ first ++ (48 + n / 10 % 10) ∷ [] → new ≡ second ++ (48 + n % 10) ∷ [] → new ≡ out ++ decimal n
+two_digits_behind out first second new n l short e f h =
+    let same : n / 100 ≡ n / 10 / 10 = omega arith in
+    let more : 10 ≤ n / 10 = omega arith in
+    digit_behind out second new n (omega arith) short (digit_behind out first second (n / 10) more (omega arith) (e ∙ ap (λ m. out ++ decimal m) same) f) h

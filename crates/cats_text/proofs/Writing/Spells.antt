@@ -1,0 +1,125 @@
+-- The layout of a file spells it: its lines are the bids by number, so each number comes once, and the goods of a bid rise.
+use Rattle.std.proofs.Common.{◌≡◌, ◌≢◌, ℕ, suc, ◌+◌, ◌^◌, ◌<◌, ◌≤◌, true, List, [], ◌∷◌, ◌++◌, length, map, decimal, Option, Some, None, refl, sym, ap, subst, ◌∙◌, arith, append_assoc, length-append}
+use Rattle.std.specs.List.{AllByRecursion, slice_get}
+use Rattle.std.proofs.lemmas.List.{append-nil}
+use Rattle.cats_text.specs.Numbers.{is_number, number_of}
+use Rattle.cats_text.specs.Grammar.{SpellsBid, Spells, AreDistinct, has_number, line_number}
+use Rattle.cats_text.specs.Files.{PlainBid, PlainFile, IsPlainFile, AreAbove, IsRising, dummy_good, goods_of}
+use Rattle.cats_text.specs.Layout.{price_text, layout}
+use Rattle.cats_text.proofs.Writing.Numerals.{decimal_spells}
+use Rattle.cats_text.proofs.Writing.Prices.{price_text_spells}
+use Rattle.cats_text.proofs.Writing.Lines.{AreShort, AreBids, bid_words, bids_words, bid_goods_short, behind_first, layout_words}
+
+-- ---- numbers that rise are distinct
+
+apart_from_above : (x : ℕ) (ys : List ℕ) → AreAbove x ys → AllByRecursion (λ y. x ≢ y) ys
+apart_from_above x [] above = tt
+apart_from_above x (y ∷ ys) above = ((λ e. omega (arith, above.0)), apart_from_above x ys above.1)
+
+rising_distinct : (xs : List ℕ) → IsRising xs → AreDistinct xs
+rising_distinct [] rising = tt
+rising_distinct (x ∷ xs) rising = (apart_from_above x xs rising.0, rising_distinct xs rising.1)
+
+above_push : (x y : ℕ) (ys : List ℕ) → AreAbove x ys → x < y → AreAbove x (ys ++ y ∷ [])
+above_push x y [] above here = (here, tt)
+above_push x y (z ∷ zs) above here = (above.0, above_push x y zs above.1 here)
+
+rising_push : (y : ℕ) (xs : List ℕ) → IsRising xs → AllByRecursion (λ x. x < y) xs → IsRising (xs ++ y ∷ [])
+rising_push y [] rising below = (tt, tt)
+rising_push y (x ∷ xs) rising below = (above_push x y xs rising.0 below.0, rising_push y xs rising.1 below.1)
+
+all_below : (m n : ℕ) (xs : List ℕ) → m ≤ n → AllByRecursion (λ x. x < m) xs → AllByRecursion (λ x. x < n) xs
+all_below m n [] more below = tt
+all_below m n (x ∷ xs) more below = (omega (arith, below.0), all_below m n xs more below.1)
+
+-- the dummy good stands behind the real goods
+goods_rising : (goods : ℕ) (gs : List ℕ) (d : Option ℕ) → IsRising gs → AllByRecursion (λ g. g < goods) gs → IsRising (gs ++ dummy_good goods d)
+goods_rising goods gs None rising below = subst IsRising (sym (append-nil gs)) rising
+goods_rising goods gs (Some d) rising below = rising_push (goods + d) gs rising (all_below goods (goods + d) gs (omega arith) below)
+
+-- ---- the goods of a line
+
+values : (gs : List ℕ) → AreShort gs → map number_of (map decimal gs) ≡ gs
+values [] short = refl
+values (g ∷ gs) short = ap (λ v. v ∷ map number_of (map decimal gs)) (decimal_spells g short.0).value ∙ ap (λ vs. g ∷ vs) (values gs short.1)
+
+numbers : (gs : List ℕ) → AreShort gs → AllByRecursion (λ w. is_number w ≡ true) (map decimal gs)
+numbers [] short = tt
+numbers (g ∷ gs) short = ((decimal_spells g short.0).number, numbers gs short.1)
+
+-- ---- a line
+
+standing : (front : List PlainBid) (b : PlainBid) (bs : List PlainBid) → slice_get (front ++ b ∷ bs) (length front) ≡ Some b
+standing [] b bs = refl
+standing (c ∷ cs) b bs = standing cs b bs
+
+spells_bid : (f : PlainFile) (front : List PlainBid) (b : PlainBid) (bs : List PlainBid) → f.bids ≡ front ++ b ∷ bs
+    → AreBids f.goods f.dummy (length front) (b ∷ bs) → SpellsBid f (bid_words f.goods (length front) b)
+spells_bid f front b bs split bids =
+    let bid = bids.each.0 in
+    let n : ℕ = length front in
+    let number = decimal_spells n (omega (arith, bids.count)) in
+    let short = bid_goods_short f.goods f.dummy b (omega (arith, bids.goods_fit)) bid in
+    let same = values (goods_of f.goods b) short in
+    record {
+      number = decimal n;
+      price = price_text b.price;
+      goods = map decimal (goods_of f.goods b);
+      bid = b;
+      words_are = refl;
+      number_spelled = number.number;
+      stands = ap (λ k. slice_get f.bids k) number.value ∙ ap (λ cs. slice_get cs n) split ∙ standing front b bs;
+      price_spelled = price_text_spells b.price (let greatest = bid.price in omega arith);
+      goods_spelled = numbers (goods_of f.goods b) short;
+      distinct = subst AreDistinct (sym same) (rising_distinct (goods_of f.goods b) (goods_rising f.goods b.goods b.dummy bid.rising bid.below));
+      same_goods = λ g. ap (λ gs. has_number gs g) same;
+    }
+
+spells_bids : (f : PlainFile) (front bs : List PlainBid) → f.bids ≡ front ++ bs → AreBids f.goods f.dummy (length front) bs
+    → AllByRecursion (SpellsBid f) (bids_words f.goods (length front) bs)
+spells_bids f front [] split bids = tt
+spells_bids f front (b ∷ bs) split bids =
+    let longer : length (front ++ b ∷ []) ≡ suc (length front) = omega (arith, length-append front (b ∷ [])) in
+    let behind : AreBids f.goods f.dummy (length (front ++ b ∷ [])) bs =
+    subst (λ (n : ℕ). AreBids f.goods f.dummy n bs) (sym longer) (behind_first f.goods f.dummy (length front) b bs bids) in
+    let later = spells_bids f (front ++ b ∷ []) bs (split ∙ sym (append_assoc front (b ∷ []) bs)) behind in
+    (spells_bid f front b bs split bids, subst (λ (n : ℕ). AllByRecursion (SpellsBid f) (bids_words f.goods n bs)) longer later)
+
+-- ---- the lines
+
+lines_above : (goods m n : ℕ) (bs : List PlainBid) → m < n → n + length bs < 2 ^ 32 → AreAbove m (map line_number (bids_words goods n bs))
+lines_above goods m n [] above fits = tt
+lines_above goods m n (b ∷ bs) above fits =
+    let value : number_of (decimal n) ≡ n = (decimal_spells n (omega arith)).value in
+    (omega (arith, value), lines_above goods m (suc n) bs (omega arith) (omega arith))
+
+lines_rising : (goods n : ℕ) (bs : List PlainBid) → n + length bs < 2 ^ 32 → IsRising (map line_number (bids_words goods n bs))
+lines_rising goods n [] fits = tt
+lines_rising goods n (b ∷ bs) fits =
+    let value : number_of (decimal n) ≡ n = (decimal_spells n (omega arith)).value in
+    (lines_above goods (number_of (decimal n)) (suc n) bs (omega (arith, value)) (omega arith), lines_rising goods (suc n) bs (omega arith))
+
+lines_count : (goods n : ℕ) (bs : List PlainBid) → length (bids_words goods n bs) ≡ length bs
+lines_count goods n [] = refl
+lines_count goods n (b ∷ bs) = ap suc (lines_count goods (suc n) bs)
+
+pub layout_spells : (f : PlainFile) → IsPlainFile f → Spells (layout f) f
+layout_spells f facts =
+    let goods_fit = facts.goods in
+    let dummy_fit = facts.dummy in
+    let count_fit = facts.count in
+    let bids : AreBids f.goods f.dummy 0 f.bids = record { goods_fit = omega arith; count = omega arith; each = facts.each } in
+    record {
+      goods = decimal f.goods;
+      bids = decimal (length f.bids);
+      dummy = decimal f.dummy;
+      bid_lines = bids_words f.goods 0 f.bids;
+      lines_are = layout_words f bids;
+      goods_spelled = decimal_spells f.goods (omega arith);
+      bids_spelled = decimal_spells (length f.bids) (omega arith);
+      dummy_spelled = decimal_spells f.dummy (omega arith);
+      count = lines_count f.goods 0 f.bids;
+      distinct = rising_distinct (map line_number (bids_words f.goods 0 f.bids)) (lines_rising f.goods 0 f.bids (omega arith));
+      each = spells_bids f [] f.bids refl bids;
+      facts = facts;
+    }

@@ -1,0 +1,11 @@
+-- What the contracts of private functions cite, and the facts that private types keep. No public contract rests on
+-- them.
+pub mod Front
+pub mod Keywords
+pub mod Machine
+pub mod Marks
+pub mod Parsing
+pub mod Progress
+pub mod Reading
+pub mod Returns
+pub mod Scanning

@@ -1,0 +1,29 @@
+-- The word at the front of bytes.
+use Rattle.std.specs.Prelude.{◌≡◌, ◌<◌, ◌≤◌, ◌==◌, ◌||◌, ◌+◌, if◌then◌else◌, ℕ, Bool, true, false, List, length, take, slice_index}
+use Rattle.std.specs.List.{AllByRecursion}
+use Rattle.cats_text.specs.Lines.{is_blank}
+use Rattle.cats_text.specs.Internal.Machine.{summary}
+use Rattle.cats_text.specs.declared.word.Word.{Word}
+
+-- no control, no blank, and not the byte that begins a comment
+abbrev pub IsPlain : ℕ → Type 0
+IsPlain b = (32 < b) × ((b == 37) ≡ false)
+
+-- the first so many bytes, of which this is kept as a word
+pub record IsKept (bytes : List ℕ) (kept : Word) (count : ℕ) : Type 0 where
+  pub some : 0 < count
+  pub within : count ≤ length bytes
+  pub plain : AllByRecursion IsPlain (take count bytes)
+  pub word : kept ≡ summary (take count bytes)
+
+-- a blank or LF
+abbrev pub ends_word : ℕ → Bool
+ends_word b = is_blank b || (b == 10)
+
+-- the first so many bytes are a word of which this is kept, and the blank behind it, or LF stands behind them
+pub record IsFront (bytes : List ℕ) (word : Word) (taken : ℕ) : Type 0 where
+  pub count : ℕ
+  pub kept : IsKept bytes word count
+  pub within : count < length bytes
+  pub ends : ends_word (slice_index bytes count) ≡ true
+  pub is : taken ≡ count + (if slice_index bytes count == 10 then 0 else 1)

@@ -1,0 +1,191 @@
+-- What a word, a line's end and the input's end do to what the parser keeps.
+use Rattle.std.specs.Prelude.{ℕ, ◌+◌, ◌-◌, ◌*◌, ◌^◌, ◌==◌, nat_lt, nat_le, min, Bool, true, false, ◌&&◌, ◌||◌, if◌then◌else◌, [], ◌∷◌, ◌++◌, length, slice_get, Option, Some, None, Result, Ok, Err}
+use Rattle.cats_text.specs.Numbers.{GREATEST_PRICE}
+use Rattle.cats_text.specs.Grammar.{has_number}
+use Rattle.cats_text.specs.Files.{PlainBid, PlainFile}
+use Rattle.cats_text.specs.FileLines.{rising_of, put_slot, filled}
+use Rattle.cats_text.specs.Internal.Keywords.{keyword_text}
+use Rattle.cats_text.specs.Internal.Progress.{Progress}
+use Rattle.cats_text.specs.declared.fault.Kind.{Kind}
+use Rattle.cats_text.specs.declared.fault.Kind.TheVariants as kinds
+use Rattle.cats_text.specs.declared.parser.Keeping.{Keeping}
+use Rattle.cats_text.specs.declared.parser.Keeping.TheVariants as keepings
+use Rattle.cats_text.specs.declared.word.Keyword.{Keyword}
+use Rattle.cats_text.specs.declared.word.Keyword.TheVariants as keywords
+use Rattle.cats_text.specs.declared.word.Word.{Word}
+use Rattle.cats_text.specs.declared.word.Word.TheVariants as words
+use Rattle.cats_text.specs.declared.parser.Stage.{Stage}
+use Rattle.cats_text.specs.declared.parser.Stage.TheVariants.{Goods, Bids, Dummy, Bid}
+use Rattle.cats_text.specs.declared.parser.Place.TheVariants.{First, Second, Later, Ended}
+use Rattle.cats_text.specs.declared.limits.TheConstants.{MAX_GOODS, MAX_BIDS, MAX_DUMMY}
+
+abbrev pub Reading : Type 0
+Reading = Result Progress Kind
+
+-- before the first line, where this is kept of each bid
+abbrev pub start : Keeping → Progress
+start keeping = record {
+  keeping = keeping;
+  stage = Goods;
+  place = First;
+  header = record { goods = 0; bids = 0; dummy = 0 };
+  due = 0;
+  slots = [];
+  draft = record { number = 0; price = 0; dummy = None };
+  goods = [];
+}
+
+-- ---- header lines
+
+abbrev pub is_same_keyword : Keyword → Keyword → Bool
+is_same_keyword keywords.Goods keywords.Goods = true
+is_same_keyword keywords.Bids keywords.Bids = true
+is_same_keyword keywords.Dummy keywords.Dummy = true
+is_same_keyword _ _ = false
+
+abbrev pub keyword_read : Progress → Keyword → Word → Reading
+keyword_read p k (words.Keyword j n) = if is_same_keyword j k && (n == length (keyword_text k))
+    then Ok (record p { place = Second }) else Err kinds.Header
+keyword_read p k _ = Err kinds.Header
+
+abbrev pub header_number_read : Progress → Word → Reading
+header_number_read p (words.Number n) = elim p.stage [
+  | Goods ↦ if nat_lt MAX_GOODS n then Err kinds.TooLarge
+      else Ok (record p { place = Later; header = record p.header { goods = n } })
+  | Bids ↦ if nat_lt MAX_BIDS n then Err kinds.TooLarge
+      else Ok (record p { place = Later; header = record p.header { bids = n }; due = n })
+  | Dummy ↦ if nat_lt MAX_DUMMY n then Err kinds.TooLarge
+      else Ok (record p { place = Later; header = record p.header { dummy = n } })
+  | Bid ↦ Err kinds.Header
+]
+header_number_read p _ = Err kinds.NotANumber
+
+-- ---- bid lines
+
+abbrev pub is_some_bid : Option (Option PlainBid) → Bool
+is_some_bid (Some (Some b)) = true
+is_some_bid _ = false
+
+abbrev pub number_read : Progress → Word → Reading
+number_read p (words.Number n) =
+    if p.due == 0 then Err kinds.ExtraBid
+    else if nat_le p.header.bids n then Err kinds.BidNumber
+    else if is_some_bid (slice_get p.slots n) then Err kinds.RepeatedNumber
+    else Ok (record p { place = Second; draft = record { number = n; price = 0; dummy = None } })
+number_read p _ = Err kinds.NotANumber
+
+-- the value in millionths of so many whole units and millionths, and perhaps finer places
+abbrev pub price_parts : ℕ → ℕ → Bool → Result ℕ Kind
+price_parts whole millionths fine =
+    if nat_lt GREATEST_PRICE whole || ((whole == GREATEST_PRICE) && (fine || nat_lt 0 millionths))
+    then Err kinds.TooLarge
+    else if fine then Err kinds.TooFine
+    else Ok (min (whole * 1000000 + millionths) (2 ^ 64 - 1))
+
+abbrev pub with_price : Progress → Result ℕ Kind → Reading
+with_price p (Ok millionths) = Ok (record p { place = Later; draft = record p.draft { price = millionths } })
+with_price p (Err kind) = Err kind
+
+abbrev pub price_read : Progress → Word → Reading
+price_read p (words.Number n) = with_price p (price_parts n 0 false)
+price_read p (words.Decimal d) = if d.places == 0 then Err kinds.NotANumber
+    else with_price p (price_parts d.whole d.millionths d.fine)
+price_read p _ = Err kinds.NotANumber
+
+abbrev pub dummy_read : Progress → Option ℕ → ℕ → Reading
+dummy_read p None d = Ok (record p { draft = record p.draft { dummy = Some d } })
+dummy_read p (Some e) d = if e == d then Err kinds.RepeatedGood else Err kinds.TwoDummies
+
+abbrev pub good_read : Progress → ℕ → Reading
+good_read p n =
+    if nat_le (p.header.goods + p.header.dummy) n then Err kinds.GoodRange
+    else if nat_lt n p.header.goods then (if has_number p.goods n then Err kinds.RepeatedGood
+    else Ok (record p { goods = p.goods ++ n ∷ [] }))
+    else dummy_read p p.draft.dummy (n - p.header.goods)
+
+abbrev pub end_read : Progress → Reading
+end_read p = if length p.goods == 0 then Err kinds.EmptyBundle else Ok (record p { place = Ended })
+
+abbrev pub good_or_end_read : Progress → Word → Reading
+good_or_end_read p (words.Number n) = good_read p n
+good_or_end_read p words.End = end_read p
+good_or_end_read p _ = Err kinds.NotANumber
+
+-- ---- a word, by its place
+
+abbrev pub word_read : Progress → Word → Reading
+word_read p w = elim p.place [
+  | First ↦ elim p.stage [
+    | Goods ↦ keyword_read p keywords.Goods w
+    | Bids ↦ keyword_read p keywords.Bids w
+    | Dummy ↦ keyword_read p keywords.Dummy w
+    | Bid ↦ number_read p w
+  ]
+  | Second ↦ elim p.stage [
+    | Goods ↦ header_number_read p w
+    | Bids ↦ header_number_read p w
+    | Dummy ↦ header_number_read p w
+    | Bid ↦ price_read p w
+  ]
+  | Later ↦ elim p.stage [
+    | Goods ↦ Err kinds.Header
+    | Bids ↦ Err kinds.Header
+    | Dummy ↦ Err kinds.Header
+    | Bid ↦ good_or_end_read p w
+  ]
+  | Ended ↦ Err kinds.AfterEnd
+]
+
+-- ---- the end of a line
+
+-- a bid of which only its number is kept
+abbrev pub number_alone : PlainBid
+number_alone = record { price = 0; goods = []; dummy = None }
+
+-- what is kept of a bid
+abbrev pub kept_of : Keeping → PlainBid → PlainBid
+kept_of keepings.Bids b = b
+kept_of keepings.Numbers b = number_alone
+
+abbrev pub drafted : Progress → PlainBid
+drafted p = record { price = p.draft.price; goods = rising_of p.goods; dummy = p.draft.dummy }
+
+abbrev pub with_bid : Progress → Progress
+with_bid p = record p {
+  place = First;
+  due = p.due - 1;
+  slots = put_slot p.slots p.draft.number (kept_of p.keeping (drafted p));
+  goods = [];
+}
+
+abbrev pub header_line_read : Progress → Stage → Reading
+header_line_read p next = elim p.place [
+  | First ↦ Err kinds.Header
+  | Second ↦ Err kinds.Header
+  | Later ↦ Ok (record p { place = First; stage = next })
+  | Ended ↦ Err kinds.Header
+]
+
+abbrev pub bid_read : Progress → Reading
+bid_read p = elim p.place [
+  | First ↦ Err kinds.NoEnd
+  | Second ↦ Err kinds.NoEnd
+  | Later ↦ Err kinds.NoEnd
+  | Ended ↦ Ok (with_bid p)
+]
+
+abbrev pub line_read : Progress → Reading
+line_read p = elim p.stage [
+  | Goods ↦ header_line_read p Bids
+  | Bids ↦ header_line_read p Dummy
+  | Dummy ↦ header_line_read p Bid
+  | Bid ↦ bid_read p
+]
+
+-- ---- the end of the input
+
+abbrev pub is_due : Progress → Bool
+is_due p = elim p.stage [ Goods ↦ true | Bids ↦ true | Dummy ↦ true | Bid ↦ nat_lt 0 p.due ]
+
+abbrev pub file_from : Progress → PlainFile
+file_from p = record { goods = p.header.goods; dummy = p.header.dummy; bids = filled p.slots }

@@ -1,0 +1,199 @@
+-- What a byte and the input's end do to what the scanner keeps.
+use Rattle.std.specs.Prelude.{◌≡◌, ℕ, suc, ◌==◌, Bool, true, false, if◌then◌else◌, List, [], ◌∷◌, ◌⊎◌, IsOkAnd, Result, Ok, Err, length, ◌<◌, ◌≤◌, drop}
+use Rattle.cats_text.specs.Lines.{is_blank}
+use Rattle.cats_text.specs.Internal.Returns.{settled, waits}
+use Rattle.cats_text.specs.Faults.{fault_at}
+use Rattle.cats_text.specs.Views.{plain_file}
+use Rattle.cats_text.specs.Internal.Machine.{word_from, word_with}
+use Rattle.cats_text.specs.Internal.Progress.{Progress, progress}
+use Rattle.cats_text.specs.Internal.Parsing.{Reading, start, word_read, line_read, is_due, file_from}
+use Rattle.cats_text.specs.declared.bid.BidFile.{BidFile}
+use Rattle.cats_text.specs.declared.fault.Kind.TheVariants.{Missing}
+use Rattle.cats_text.specs.declared.fault.ReadFault.{ReadFault}
+use Rattle.cats_text.specs.declared.parser.Header.{Header}
+use Rattle.cats_text.specs.declared.parser.Keeping.{Keeping}
+use Rattle.cats_text.specs.declared.parser.Stop.{Stop}
+use Rattle.cats_text.specs.declared.parser.Stop.TheVariants as stops
+use Rattle.cats_text.specs.declared.parser.Stage.TheVariants.{Bid}
+use Rattle.cats_text.specs.declared.scanner.Halt.{Halt}
+use Rattle.cats_text.specs.declared.scanner.Halt.TheVariants.{Fault, Memory}
+use Rattle.cats_text.specs.declared.scanner.Mode.{Mode}
+use Rattle.cats_text.specs.declared.scanner.Mode.TheVariants.{Start, Blank, Comment, Between, Inside}
+use Rattle.cats_text.specs.declared.scanner.Scanner.{Scanner}
+
+pub record State : Type 0 where
+  pub mode : Mode
+  pub line : ℕ
+  pub progress : Progress
+
+abbrev pub state : Scanner → State
+state s = record { mode = s.mode; line = s.line; progress = progress s.parser }
+
+abbrev pub first_state : Keeping → State
+first_state keeping = record { mode = Start; line = 1; progress = start keeping }
+
+abbrev pub Scan : Type 0
+Scan = Result State ReadFault
+
+abbrev pub halt_of : ℕ → Stop → Halt
+halt_of line (stops.Fault kind) = Fault (fault_at line kind)
+halt_of line stops.Memory = Memory
+
+abbrev pub and_then : Scan → (State → Scan) → Scan
+and_then (Ok s) f = f s
+and_then (Err e) f = Err e
+
+-- ---- a byte
+
+-- no word has begun, and no comment
+abbrev pub is_before_word : Mode → Bool
+is_before_word Start = true
+is_before_word Blank = true
+is_before_word Comment = false
+is_before_word Between = true
+is_before_word (Inside w) = false
+
+abbrev pub letter_mode : Mode → ℕ → Mode
+letter_mode Start b = if b == 37 then Comment else Inside (word_from b)
+letter_mode Blank b = if b == 37 then Comment else Inside (word_from b)
+letter_mode Comment b = Comment
+letter_mode Between b = Inside (word_from b)
+letter_mode (Inside w) b = Inside (word_with w b)
+
+abbrev pub with_reading : State → Mode → Reading → Scan
+with_reading s m (Ok p) = Ok (record s { mode = m; progress = p })
+with_reading s m (Err kind) = Err (fault_at s.line kind)
+
+abbrev pub blank_step_at : Mode → State → Scan
+blank_step_at Start s = Ok (record s { mode = Blank })
+blank_step_at Blank s = Ok s
+blank_step_at Comment s = Ok s
+blank_step_at Between s = Ok s
+blank_step_at (Inside w) s = with_reading s Between (word_read s.progress w)
+
+-- a blank, or the end of a line, after which no word goes on
+abbrev pub blank_step : State → Scan
+blank_step s = blank_step_at s.mode s
+
+abbrev pub words_step_at : Mode → State → Scan
+words_step_at Start s = Ok s
+words_step_at Blank s = Ok s
+words_step_at Comment s = Ok s
+words_step_at Between s = with_reading s Between (line_read s.progress)
+words_step_at (Inside w) s = Ok s
+
+-- the end of the words of a line
+abbrev pub words_step : State → Scan
+words_step s = words_step_at s.mode s
+
+abbrev pub next_line : State → Scan
+next_line s = Ok (record s { mode = Start; line = suc s.line })
+
+abbrev pub line_step : State → Scan
+line_step s = and_then (and_then (blank_step s) words_step) next_line
+
+abbrev pub byte_step : State → ℕ → Scan
+byte_step s b = if b == 10 then line_step s else if is_blank b then blank_step s
+    else Ok (record s { mode = letter_mode s.mode b })
+
+abbrev pub run : State → List ℕ → Scan
+run s [] = Ok s
+run s (b ∷ bs) = and_then (byte_step s b) (λ t. run t bs)
+
+-- ---- the end of the input
+
+-- the number of the line behind the last
+abbrev pub line_behind : State → ℕ
+line_behind s = elim s.mode [
+  | Start ↦ s.line
+  | Blank ↦ suc s.line
+  | Comment ↦ suc s.line
+  | Between ↦ suc s.line
+  | Inside w ↦ suc s.line
+]
+
+abbrev pub missing_step : ℕ → State → Scan
+missing_step behind s = if is_due s.progress then Err (fault_at behind Missing) else Ok s
+
+abbrev pub end_step : State → Scan
+end_step s = and_then (and_then (blank_step s) words_step) (missing_step (line_behind s))
+
+-- a CR that waits is a blank at the end
+abbrev pub end_of : Bool → State → Scan
+end_of true s = and_then (byte_step s 32) end_step
+end_of false s = end_step s
+
+-- ---- what the code's calls give
+
+-- a call gave what the machine gives, unless memory was refused
+abbrev pub Steps : {A : Type 0} → State → Result A Halt → Scan → Type 0
+Steps new (Ok x) read = read ≡ Ok new
+Steps new (Err (Fault e)) read = read ≡ Err e
+Steps new (Err Memory) read = Unit {0}
+
+abbrev pub IsInLine : Mode → Type 0
+IsInLine Start = ⊥
+IsInLine Blank = ⊥
+IsInLine Comment = ⊥
+IsInLine Between = Unit {0}
+IsInLine (Inside w) = Unit {0}
+
+-- in a bid line
+abbrev pub IsInBidLine : State → Type 0
+IsInBidLine s = (s.progress.stage ≡ Bid) × IsInLine s.mode
+
+-- memory was refused in a bid line, in this state
+abbrev pub AsksHere : {A : Type 0} → State → Result A Halt → Type 0
+AsksHere s (Ok x) = Unit {0}
+AsksHere s (Err (Fault e)) = Unit {0}
+AsksHere s (Err Memory) = IsInBidLine s
+
+-- a bid line stands in the bytes
+abbrev pub MeetsBidLine : State → List ℕ → Type 0
+MeetsBidLine s [] = IsInBidLine s
+MeetsBidLine s (b ∷ bs) = IsInBidLine s ⊎ IsOkAnd (byte_step s b) (λ t. MeetsBidLine t bs)
+
+abbrev pub Asks : {A : Type 0} → State → List ℕ → Result A Halt → Type 0
+Asks s bytes (Ok x) = Unit {0}
+Asks s bytes (Err (Fault e)) = Unit {0}
+Asks s bytes (Err Memory) = MeetsBidLine s bytes
+
+-- the file at the end of the input
+abbrev pub IsFileOf : BidFile → Scan → Type 0
+IsFileOf f (Ok s) = plain_file f ≡ file_from s.progress
+IsFileOf f (Err e) = ⊥
+
+-- the header lines at the end of the input
+abbrev pub IsHeaderOf : Header → Scan → Type 0
+IsHeaderOf h (Ok s) = h ≡ s.progress.header
+IsHeaderOf h (Err e) = ⊥
+
+-- a call at the end of the input gave what is asked for of it, or what the machine gives
+abbrev pub Finishes : {A : Type 0} → (A → Scan → Type 0) → Result A Halt → Scan → Type 0
+Finishes IsOf (Ok x) read = IsOf x read
+Finishes IsOf (Err (Fault e)) read = read ≡ Err e
+Finishes IsOf (Err Memory) read = Unit {0}
+
+-- memory was refused in a bid line, or for bids that came
+abbrev pub HasBids : Scan → Type 0
+HasBids (Ok s) = 0 < length s.progress.slots
+HasBids (Err e) = ⊥
+
+abbrev pub AsksAtEnd : {A : Type 0} → Bool → State → Result A Halt → Type 0
+AsksAtEnd waiting s (Ok x) = Unit {0}
+AsksAtEnd waiting s (Err (Fault e)) = Unit {0}
+AsksAtEnd waiting s (Err Memory) = IsInBidLine s ⊎ HasBids (end_of waiting s)
+
+-- What is left of a scan does to the state reached what the whole does to the first, and a CR waits at the end.
+pub record IsScanned (s0 s : State) (waiting : Bool) (bytes rest : List ℕ) : Type 0 where
+  pub steps : run s (settled rest) ≡ run s0 (settled bytes)
+  pub asks : MeetsBidLine s (settled rest) → MeetsBidLine s0 (settled bytes)
+  pub last : 0 < length rest → waits rest ≡ waits bytes
+  pub going : 0 < length rest → waiting ≡ false
+  pub ended : rest ≡ [] → waiting ≡ waits bytes
+
+-- a call scanned so many of the bytes, or stopped at what the machine says of them
+abbrev pub ScansTo : State → State → Bool → List ℕ → Result ℕ Halt → Type 0
+ScansTo s0 s waiting bytes (Ok count) = IsScanned s0 s waiting bytes (drop count bytes) × (count ≤ length bytes)
+ScansTo s0 s waiting bytes (Err (Fault e)) = run s0 (settled bytes) ≡ Err e
+ScansTo s0 s waiting bytes (Err Memory) = MeetsBidLine s0 (settled bytes)

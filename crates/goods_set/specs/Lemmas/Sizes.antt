@@ -1,0 +1,310 @@
+-- Lemmas on what is left of a list, on how many goods a list has, on putting a good, on the next good, and on parts of a bundle.
+use Rattle.std.proofs.Common.{◌≡◌, ℕ, ◌+◌, ◌<◌, ◌≤◌, Bool, true, false, not, cond, ◌&&◌, ◌||◌, eqb, ltb, leb, ◌⊎◌, inl, inr, ⊎_elim, List, [], ◌∷◌, length, refl, sym, ap, ap₂, ◌∙◌, subst, arith}
+use Rattle.std.proofs.lemmas.Bool.{and_parts, and_from, cases_Bool, or_cases, or_right, or_parts, both_ways, not_from_true, not_from_false, false_from_ne_true, true_from_ne_false, or_from, eqb-true, eqb-false, ne_eqb, ltb-true, ltb-false, leb-true, leb-false, cases_order}
+use Rattle.std.specs.Prelude.{Option, Some, None}
+use Rattle.std.specs.List.{filter}
+use Rattle.goods_set.specs.Bundles.{is_inside, are_apart, AreAbove, AreBelow, IsRising, IsBundle, IsInside, AreApart, has_good, without, with_good, good_from}
+use Rattle.goods_set.specs.Lemmas.Members.{has_head, has_tail, has_cases, has_above, has_below, has_not_head, AreAbove-lower, AreAbove-from_has, AreBelow-from_has, same_from_has, inside_at, inside_from, inside_refl, inside_antisymm, apart_at, apart_sym, has_without_from, has_without_parts, inside_without, inside_without_parts, IsRising-without, AreBelow-higher}
+
+-- ---- what is left of nothing, and of a list whose goods are all taken, or none
+
+-- a filter that passes every good of the list
+filter_all : (p : ℕ → Bool) (xs : List ℕ) → ((g : ℕ) → has_good xs g ≡ true → p g ≡ true) → filter p xs ≡ xs
+filter_all p [] h = refl
+filter_all p (x ∷ xs) h =
+    let e : p x ≡ true = h x (has_head x xs) in
+    let r : filter p xs ≡ xs = filter_all p xs (λ g k. h g (has_tail x xs g k)) in
+    simp (e, r)
+
+filter_none : (p : ℕ → Bool) (xs : List ℕ) → ((g : ℕ) → has_good xs g ≡ true → p g ≡ false) → filter p xs ≡ []
+filter_none p [] h = refl
+filter_none p (x ∷ xs) h =
+    let e : p x ≡ false = h x (has_head x xs) in
+    let r : filter p xs ≡ [] = filter_none p xs (λ g k. h g (has_tail x xs g k)) in
+    simp (e, r)
+
+-- two filters by tests that agree on the goods of the list
+pub filter_same : (p q : ℕ → Bool) (xs : List ℕ) → ((g : ℕ) → has_good xs g ≡ true → p g ≡ q g) → filter p xs ≡ filter q xs
+filter_same p q [] h = refl
+filter_same p q (x ∷ xs) h = ap₂ (λ (b : Bool) (zs : List ℕ). cond b (x ∷ zs) zs) (h x (has_head x xs)) (filter_same p q xs (λ g k. h g (has_tail x xs g k)))
+
+-- a filter of a filter
+pub filter_twice : (p q : ℕ → Bool) (xs : List ℕ) → filter p (filter q xs) ≡ filter (λ g. p g && q g) xs
+filter_twice p q [] = refl
+filter_twice p q (x ∷ xs) = at (filter_twice p q xs) (p x) (q x) refl refl
+  where
+    at : filter p (filter q xs) ≡ filter (λ g. p g && q g) xs → (b c : Bool) → p x ≡ b → q x ≡ c → filter p (cond (q x) (x ∷ filter q xs) (filter q xs))
+        ≡ cond (p x && q x) (x ∷ filter (λ g. p g && q g) xs) (filter (λ g. p g && q g) xs)
+    at r true true e f = simp (f, e, r)
+    at r true false e f = simp (f, e, r)
+    at r false true e f = simp (f, e, r)
+    at r false false e f = simp (f, e, r)
+
+pub without_apart_same : (xs ys : List ℕ) → AreApart xs ys → without xs ys ≡ xs
+without_apart_same xs ys a = filter_all (λ g. not (has_good ys g)) xs (λ g h. not_from_false (has_good ys g) (apart_at xs ys g a h))
+
+pub without_all : (xs ys : List ℕ) → IsInside xs ys → without xs ys ≡ []
+without_all xs ys i = filter_none (λ g. not (has_good ys g)) xs (λ g h. not_from_true (has_good ys g) (inside_at xs ys g i h))
+
+pub without_self : (xs : List ℕ) → without xs xs ≡ []
+without_self xs = without_all xs xs (inside_refl xs)
+
+pub without-nil : (xs : List ℕ) → without xs [] ≡ xs
+without-nil xs = filter_all (λ g. not (has_good [] g)) xs (λ g h. refl)
+
+-- in which order goods are taken is the same
+pub without_comm : (xs ys zs : List ℕ) → without (without xs ys) zs ≡ without (without xs zs) ys
+without_comm xs ys zs =
+    filter_twice (λ g. not (has_good zs g)) (λ g. not (has_good ys g)) xs
+    ∙ filter_same (λ g. not (has_good zs g) && not (has_good ys g)) (λ g. not (has_good ys g) && not (has_good zs g)) xs
+    (λ g _. and_swap (not (has_good zs g)) (not (has_good ys g)))
+    ∙ sym (filter_twice (λ g. not (has_good ys g)) (λ g. not (has_good zs g)) xs)
+  where
+    and_swap : (a b : Bool) → (a && b) ≡ (b && a)
+    and_swap true true = refl
+    and_swap true false = refl
+    and_swap false true = refl
+    and_swap false false = refl
+
+-- ---- sizes
+
+pub length-without_le : (xs ys : List ℕ) → length (without xs ys) ≤ length xs
+length-without_le [] ys = omega arith
+length-without_le (x ∷ xs) ys =
+    let r : length (without xs ys) ≤ length xs = length-without_le xs ys in
+    elim (has_good ys x) as (λ b. length (cond (not b) (x ∷ without xs ys) (without xs ys)) ≤ length (x ∷ xs)) [ true ↦ omega arith | false ↦ omega arith ]
+
+-- a good less in ys is a good more in what is left, if it is the first of xs
+without_head : (x : ℕ) (xs ys : List ℕ) → AreAbove x xs → without xs (x ∷ ys) ≡ without xs ys
+without_head x xs ys a = filter_same (λ g. not (has_good (x ∷ ys) g)) (λ g. not (has_good ys g)) xs (λ g h. let l : x < g = has_above x xs g a h in
+    let f : eqb x g ≡ false = ne_eqb x g (λ e. omega arith) in simp f)
+
+inside_tails : (x : ℕ) (xs : List ℕ) (y : ℕ) (ys : List ℕ) → x ≡ y → AreAbove y ys → IsInside (y ∷ ys) (x ∷ xs) → IsInside ys xs
+inside_tails x xs y ys e s i =
+    inside_from ys xs (λ g h. let l : y < g = has_above y ys g s h in
+    ⊎_elim (λ (d : x ≡ g). absurd (omega arith)) (λ (d : has_good xs g ≡ true). d) (has_cases x xs g (inside_at (y ∷ ys) (x ∷ xs) g i (has_tail y ys g h))))
+
+inside_tail : (x : ℕ) (xs : List ℕ) (y : ℕ) (ys : List ℕ) → x < y → AreAbove y ys → IsInside (y ∷ ys) (x ∷ xs) → IsInside (y ∷ ys) xs
+inside_tail x xs y ys l s i =
+    inside_from (y ∷ ys) xs (λ g h. let k : x < g = has_above x (y ∷ ys) g (l, AreAbove-lower x y ys (omega arith) s) h in
+    ⊎_elim (λ (d : x ≡ g). absurd (omega arith)) (λ (d : has_good xs g ≡ true). d) (has_cases x xs g (inside_at (y ∷ ys) (x ∷ xs) g i h)))
+
+-- the first good of a list inside another is not below the other's first good
+inside_heads : (x : ℕ) (xs : List ℕ) (y : ℕ) (ys : List ℕ) → AreAbove x xs → IsInside (y ∷ ys) (x ∷ xs) → x ≤ y
+inside_heads x xs y ys r i =
+    ⊎_elim (λ (e : x ≡ y). omega arith) (λ (h : has_good xs y ≡ true). let l : x < y = has_above x xs y r h in
+    omega arith) (has_cases x xs y (inside_at (y ∷ ys) (x ∷ xs) y i (has_head y ys)))
+
+-- what is left and what was taken out of a bundle are the bundle
+pub length-without : (xs ys : List ℕ) → IsRising xs → IsRising ys → IsInside ys xs → length (without xs ys) + length ys ≡ length xs
+length-without xs [] r s i = let e : without xs [] ≡ xs = without-nil xs in rw e (omega arith)
+length-without [] (y ∷ ys) r s i = absurd (both_ways false refl (inside_at (y ∷ ys) [] y i (has_head y ys)))
+length-without (x ∷ xs) (y ∷ ys) r s i =
+    ⊎_elim (λ (e : x ≡ y). taken e (length-without xs ys r.1 s.1 (inside_tails x xs y ys e s.0 i)))
+    (⊎_elim (λ (l : x < y). left l (length-without xs (y ∷ ys) r.1 s (inside_tail x xs y ys l s.0 i)))
+    (λ (l : y < x). let k : x ≤ y = inside_heads x xs y ys r.0 i in absurd (omega arith))) (cases_order x y)
+  where
+    taken : x ≡ y → length (without xs ys) + length ys ≡ length xs → length (without (x ∷ xs) (y ∷ ys)) + length (y ∷ ys) ≡ length (x ∷ xs)
+    taken e h =
+        let t : has_good (y ∷ ys) x ≡ true = subst (λ n. has_good (n ∷ ys) x ≡ true) e (has_head x ys) in
+        let w : without xs (y ∷ ys) ≡ without xs ys = without_head y xs ys (subst (λ n. AreAbove n xs) e r.0) in
+        rw (t, w) (omega arith)
+
+    left : x < y → length (without xs (y ∷ ys)) + length (y ∷ ys) ≡ length xs → length (without (x ∷ xs) (y ∷ ys)) + length (y ∷ ys) ≡ length (x ∷ xs)
+    left l h =
+        let t : has_good (y ∷ ys) x ≡ false = has_not_head x (y ∷ ys) (l, AreAbove-lower x y ys (omega arith) s.0) in
+        rw t (omega arith)
+
+pub length_inside : (xs ys : List ℕ) → IsRising xs → IsRising ys → IsInside xs ys → length xs ≤ length ys
+length_inside xs ys r s i = omega (arith, length-without ys xs s r i)
+
+pub no_goods : (xs : List ℕ) → length xs ≡ 0 → xs ≡ []
+no_goods [] e = refl
+no_goods (x ∷ xs) e = absurd (omega arith)
+
+-- what is left of ys is the list of goods that xs lacks; where there are none, ys is inside xs
+pub inside_from_without : (xs ys : List ℕ) → without xs ys ≡ [] → IsInside xs ys
+inside_from_without xs ys e =
+    inside_from xs ys (λ g h. true_from_ne_false (has_good ys g)
+    (λ k. both_ways (has_good [] g) refl (subst (λ zs. has_good zs g ≡ true) e (has_without_from xs ys g h k))))
+
+pub same_from_length : (xs ys : List ℕ) → IsRising xs → IsRising ys → IsInside xs ys → length xs ≡ length ys → xs ≡ ys
+same_from_length xs ys r s i e = inside_antisymm xs ys r s i (inside_from_without ys xs (no_goods (without ys xs) (omega (arith, length-without ys xs s r i))))
+
+-- a bundle with goods taken out of it is smaller
+pub length-without_lt : (xs ys : List ℕ) → IsRising xs → IsRising ys → IsInside ys xs → 0 < length ys → length (without xs ys) < length xs
+length-without_lt xs ys r s i l = omega (arith, length-without xs ys r s i)
+
+-- ---- put
+
+pub has-with_good : (x : ℕ) (xs : List ℕ) (g : ℕ) → has_good (with_good x xs) g ≡ (eqb x g || has_good xs g)
+has-with_good x [] g = refl
+has-with_good x (y ∷ ys) g = at (has-with_good x ys g) (ltb x y) (eqb x y) refl refl
+  where
+    or_swap : (a b c : Bool) → (a || (b || c)) ≡ (b || (a || c))
+    or_swap true true c = refl
+    or_swap true false c = refl
+    or_swap false b c = refl
+
+    or_twice : (a b : Bool) → (a || b) ≡ (a || (a || b))
+    or_twice true b = refl
+    or_twice false b = refl
+
+    at : has_good (with_good x ys) g ≡ (eqb x g || has_good ys g) → (b c : Bool) → ltb x y ≡ b → eqb x y ≡ c
+        → has_good (with_good x (y ∷ ys)) g ≡ (eqb x g || (eqb y g || has_good ys g))
+    at h true c e f = rw e refl
+    at h false true e f = let d : x ≡ y = eqb-true x y f in
+        rw (e, f) (subst (λ n. (eqb y g || has_good ys g) ≡ (eqb n g || (eqb y g || has_good ys g))) (sym d) (or_twice (eqb y g) (has_good ys g)))
+    at h false false e f = rw (e, f) (ap (λ b. eqb y g || b) h ∙ or_swap (eqb y g) (eqb x g) (has_good ys g))
+
+pub AreAbove-with_good : (a x : ℕ) (xs : List ℕ) → a < x → AreAbove a xs → AreAbove a (with_good x xs)
+AreAbove-with_good a x xs l h =
+    AreAbove-from_has a (with_good x xs) (λ g k. ⊎_elim (λ (e : eqb x g ≡ true). subst (λ n. a < n) (eqb-true x g e) l)
+    (λ (m : has_good xs g ≡ true). has_above a xs g h m) (or_cases (eqb x g) (has_good xs g) (sym (has-with_good x xs g) ∙ k)))
+
+pub AreBelow-with_good : (G x : ℕ) (xs : List ℕ) → x < G → AreBelow G xs → AreBelow G (with_good x xs)
+AreBelow-with_good G x xs l h =
+    AreBelow-from_has G (with_good x xs) (λ g k. ⊎_elim (λ (e : eqb x g ≡ true). subst (λ n. n < G) (eqb-true x g e) l)
+    (λ (m : has_good xs g ≡ true). has_below G xs g h m) (or_cases (eqb x g) (has_good xs g) (sym (has-with_good x xs g) ∙ k)))
+
+strictly : (x y : ℕ) → y ≤ x → (x ≡ y → ⊥) → y < x
+strictly x y l n = ⊎_elim (λ (e : x ≡ y). absurd (n e)) (⊎_elim (λ (k : x < y). absurd (omega arith)) (λ (k : y < x). k)) (cases_order x y)
+
+pub IsRising-with_good : (x : ℕ) (xs : List ℕ) → IsRising xs → IsRising (with_good x xs)
+IsRising-with_good x [] r = (tt, tt)
+IsRising-with_good x (y ∷ ys) r = at (IsRising-with_good x ys r.1) (ltb x y) (eqb x y) refl refl
+  where
+    at : IsRising (with_good x ys) → (b c : Bool) → ltb x y ≡ b → eqb x y ≡ c → IsRising (with_good x (y ∷ ys))
+    at h true c e f = let l : x < y = ltb-true x y e in rw e ((l, AreAbove-lower x y ys (omega arith) r.0), r)
+    at h false true e f = rw (e, f) r
+    at h false false e f = let l : y ≤ x = ltb-false x y e in let n : x ≡ y → ⊥ = eqb-false x y f in
+        rw (e, f) (AreAbove-with_good y x ys (strictly x y l n) r.0, h)
+
+pub IsBundle-with_good : (G x : ℕ) (xs : List ℕ) → x < G → IsBundle G xs → IsBundle G (with_good x xs)
+IsBundle-with_good G x xs l b = (IsRising-with_good x xs b.0, AreBelow-with_good G x xs l b.1)
+
+-- a good that is there is not put again
+pub with_good_there : (x : ℕ) (xs : List ℕ) → IsRising xs → has_good xs x ≡ true → with_good x xs ≡ xs
+with_good_there x xs r h =
+    same_from_has (with_good x xs) xs (IsRising-with_good x xs r) r
+    (λ g k. ⊎_elim (λ (e : eqb x g ≡ true). subst (λ n. has_good xs n ≡ true) (eqb-true x g e) h) (λ (m : has_good xs g ≡ true). m)
+    (or_cases (eqb x g) (has_good xs g) (sym (has-with_good x xs g) ∙ k))) (λ g k. has-with_good x xs g ∙ or_right (eqb x g) (has_good xs g) k)
+
+pub length-with_good : (x : ℕ) (xs : List ℕ) → has_good xs x ≡ false → length (with_good x xs) ≡ length xs + 1
+length-with_good x [] h = omega arith
+length-with_good x (y ∷ ys) h = let p : (eqb y x ≡ false) × (has_good ys x ≡ false) = or_parts (eqb y x) (has_good ys x) h in
+    at p.0 (length-with_good x ys p.1) (ltb x y) refl
+  where
+    at : eqb y x ≡ false → length (with_good x ys) ≡ length ys + 1 → (b : Bool) → ltb x y ≡ b → length (with_good x (y ∷ ys)) ≡ length (y ∷ ys) + 1
+    at n h true e = rw e (omega arith)
+    at n h false e = let f : eqb x y ≡ false = ne_eqb x y (λ d. eqb-false y x n (sym d)) in rw (e, f) (omega arith)
+
+-- ---- the next good
+
+pub record IsNextGood (xs : List ℕ) (g m : ℕ) : Type 0 where
+  pub there : has_good xs m ≡ true
+  pub from : g ≤ m
+  pub least : (k : ℕ) → g ≤ k → k < m → has_good xs k ≡ false
+
+pub good_from-Some : (xs : List ℕ) (g m : ℕ) → IsRising xs → good_from xs g ≡ Some m → IsNextGood xs g m
+good_from-Some [] g m r e = absurd (cc)
+good_from-Some (x ∷ xs) g m r e = at (good_from-Some xs g m r.1) (leb g x) refl
+  where
+    at : (good_from xs g ≡ Some m → IsNextGood xs g m) → (b : Bool) → leb g x ≡ b → IsNextGood (x ∷ xs) g m
+    at h true t =
+        let f : Some x ≡ Some m = rw t at e in
+        let d : x ≡ m = cc in
+        let l : g ≤ x = leb-true g x t in
+        record {
+          there = subst (λ n. has_good (x ∷ xs) n ≡ true) d (has_head x xs);
+          from = omega arith;
+          least = λ k a b. false_from_ne_true (has_good (x ∷ xs) k)
+              (λ w. ⊎_elim (λ (q : x ≡ k). absurd (omega arith)) (λ (q : has_good xs k ≡ true). let z : x < k = has_above x xs k r.0 q in absurd (omega arith))
+              (has_cases x xs k w));
+        }
+    at h false t =
+        let f : good_from xs g ≡ Some m = rw t at e in
+        let n : IsNextGood xs g m = h f in
+        let l : x < g = leb-false g x t in
+        record {
+          there = has_tail x xs m n.there;
+          from = n.from;
+          least = λ k a b. false_from_ne_true (has_good (x ∷ xs) k)
+              (λ w. ⊎_elim (λ (q : x ≡ k). absurd (omega arith)) (λ (q : has_good xs k ≡ true). both_ways (has_good xs k) (n.least k a b) q)
+              (has_cases x xs k w));
+        }
+
+pub good_from-None : (xs : List ℕ) (g k : ℕ) → good_from xs g ≡ None → g ≤ k → has_good xs k ≡ false
+good_from-None [] g k e a = refl
+good_from-None (x ∷ xs) g k e a = at (λ f. good_from-None xs g k f a) (leb g x) refl
+  where
+    at : (good_from xs g ≡ None → has_good xs k ≡ false) → (b : Bool) → leb g x ≡ b → has_good (x ∷ xs) k ≡ false
+    at h true t = let f : Some x ≡ None = rw t at e in absurd (cc)
+    at h false t =
+        let f : good_from xs g ≡ None = rw t at e in
+        let l : x < g = leb-false g x t in
+        or_from (eqb x k) (has_good xs k) (ne_eqb x k (λ q. omega arith)) (h f)
+
+-- the converses
+pub good_from_next : (xs : List ℕ) (g m : ℕ) → IsRising xs → IsNextGood xs g m → good_from xs g ≡ Some m
+good_from_next xs g m r n = at (good_from xs g) refl
+  where
+    at : (o : Option ℕ) → good_from xs g ≡ o → good_from xs g ≡ Some m
+    at None e = absurd (both_ways (has_good xs m) (good_from-None xs g m e n.from) n.there)
+    at (Some k) e =
+        let q : IsNextGood xs g k = good_from-Some xs g k r e in
+        let d : k ≡ m = same q (cases_order k m) in
+        e ∙ ap Some d
+      where
+        same : IsNextGood xs g k → (k ≡ m) ⊎ ((k < m) ⊎ (m < k)) → k ≡ m
+        same q (inl d) = d
+        same q (inr (inl l)) = absurd (both_ways (has_good xs k) (n.least k q.from l) q.there)
+        same q (inr (inr l)) = absurd (both_ways (has_good xs m) (q.least m n.from l) n.there)
+
+pub good_from_none : (xs : List ℕ) (g : ℕ) → IsRising xs → ((k : ℕ) → g ≤ k → has_good xs k ≡ false) → good_from xs g ≡ None
+good_from_none xs g r h = at (good_from xs g) refl
+  where
+    at : (o : Option ℕ) → good_from xs g ≡ o → good_from xs g ≡ None
+    at None e = e
+    at (Some k) e = let q : IsNextGood xs g k = good_from-Some xs g k r e in absurd (both_ways (has_good xs k) (h k q.from) q.there)
+
+-- ---- parts of a bundle
+
+-- taking out what is left gives back what was taken
+pub without_without : (xs ys : List ℕ) → IsRising xs → IsRising ys → IsInside ys xs → without xs (without xs ys) ≡ ys
+without_without xs ys r s i =
+    same_from_has (without xs (without xs ys)) ys (IsRising-without xs (without xs ys) r) s
+    (λ g h.
+    let p : (has_good xs g ≡ true) × (has_good (without xs ys) g ≡ false) = has_without_parts xs (without xs ys) g h in
+    true_from_ne_false (has_good ys g) (λ n. both_ways (has_good (without xs ys) g) p.1 (has_without_from xs ys g p.0 n)))
+    (λ g h. has_without_from xs (without xs ys) g (inside_at ys xs g i h)
+    (false_from_ne_true (has_good (without xs ys) g) (λ k. both_ways (has_good ys g) (has_without_parts xs ys g k).1 h)))
+
+-- a good of a list in one of two parts
+pub has_parts : (xs ys : List ℕ) (g : ℕ) → has_good xs g ≡ true → (has_good ys g ≡ true) ⊎ (has_good (without xs ys) g ≡ true)
+has_parts xs ys g h = ⊎_elim (λ (e : has_good ys g ≡ true). inl e) (λ (e : has_good ys g ≡ false). inr (has_without_from xs ys g h e))
+    (cases_Bool (has_good ys g))
+
+pub are_apart_comm : (xs ys : List ℕ) → are_apart xs ys ≡ are_apart ys xs
+are_apart_comm xs ys = by (are_apart xs ys) (are_apart ys xs) refl refl
+  where
+    by : (b c : Bool) → are_apart xs ys ≡ b → are_apart ys xs ≡ c → are_apart xs ys ≡ are_apart ys xs
+    by true c e f = e ∙ sym (apart_sym xs ys e)
+    by false true e f = apart_sym ys xs f ∙ sym f
+    by false false e f = e ∙ sym f
+
+pub is_inside-without : (zs xs ys : List ℕ) → is_inside zs (without xs ys) ≡ (is_inside zs xs && are_apart zs ys)
+is_inside-without zs xs ys = by (is_inside zs (without xs ys)) (is_inside zs xs && are_apart zs ys) refl refl
+  where
+    by : (b c : Bool) → is_inside zs (without xs ys) ≡ b → (is_inside zs xs && are_apart zs ys) ≡ c
+        → is_inside zs (without xs ys) ≡ (is_inside zs xs && are_apart zs ys)
+    by true c e f = let p : IsInside zs xs × AreApart zs ys = inside_without_parts zs xs ys e in e ∙ sym (and_from (is_inside zs xs) (are_apart zs ys) p.0 p.1)
+    by false true e f = let p : (is_inside zs xs ≡ true) × (are_apart zs ys ≡ true) = and_parts (is_inside zs xs) (are_apart zs ys) f in
+        inside_without zs xs ys p.0 p.1 ∙ sym f
+    by false false e f = e ∙ sym f
+
+pub AreBelow-inside : (G : ℕ) (xs ys : List ℕ) → IsInside xs ys → AreBelow G ys → AreBelow G xs
+AreBelow-inside G xs ys i b = AreBelow-from_has G xs (λ g h. has_below G ys g b (inside_at xs ys g i h))
+
+pub IsBundle-higher : (G H : ℕ) (xs : List ℕ) → G ≤ H → IsBundle G xs → IsBundle H xs
+IsBundle-higher G H xs l b = (b.0, AreBelow-higher G H xs l b.1)

@@ -1,0 +1,180 @@
+-- The turns of a pruning's loop, by what the code knows of its variables.
+use Rattle.std.proofs.Common.{◌≡◌, ℕ, zero, suc, ◌+◌, ◌<◌, ◌≤◌, Bool, true, false, ◌||◌, leb, ⊎_elim, List, [], ◌∷◌, ◌++◌, length, map, take, drop, max, get_or, sym, ap, ap₂, ◌∙◌, subst, arith, append_assoc, append-nil, Bor, ltb, None}
+use Rattle.std.specs.Prelude.{All, Contains}
+use Rattle.std.specs.List.{filter, list_any}
+use Rattle.std.proofs.lemmas.Bool.{cases_lt, le-leb, lt-leb, and_parts, ltb-true}
+use Rattle.std.proofs.lemmas.List.{map-append, drop_more, take_all, take_more, take-append-drop, take-map}
+use Rattle.std.proofs.lemmas.List.Elements.{All-nil, All-cons, All-head, All-tail, All-contains, All-filter, All-weaker, Contains-append_left, filter_passes}
+use Rattle.goods_set.specs.Bundles.{IsRising, is_inside, IsInside}
+use Rattle.valuation.specs.declared.atom.Atom.{Atom}
+use Rattle.valuation.specs.Lemmas.Atoms.{get_or-atoms_of}
+use Rattle.valuation.specs.Auctions.{IsAtom}
+use Rattle.valuation.specs.Values.{atoms_of, xor_value}
+use Rattle.valuation.specs.Lemmas.XorValues.{xor_value-nil, xor_value-inside}
+use Rattle.prune.specs.Steps.{greatest_price, search_steps, steps_at_most, is_heavy, first_heavy}
+use Rattle.prune.specs.Lemmas.Steps.{search_within_bound}
+use Rattle.prune.specs.Lemmas.Values.{xor_value-member}
+use Rattle.prune.specs.Lemmas.Lists.{list_any_filter}
+use Rattle.prune.specs.Internal.Listings.{covers, atom_at, atoms_inside, AreUncovered}
+use Rattle.prune.specs.Lemmas.OnBundles.{IsOnBundle}
+use Rattle.prune.specs.Internal.BestBids.{AreBestBids}
+use Rattle.prune.proofs.BestBids.{seen_of}
+use Rattle.prune.proofs.Pruning.{HasRisingBundle, IsKept-none}
+use Rattle.prune.proofs.Results.{IsTurn, IsXorKept, IsOrKept, AreXorPoints, AreOrPoints, turn_positive, xor_done, xor_missed, xor_more, xor_fewer, or_done, Within, none_heavy}
+
+-- ---- atoms of the code
+
+module _ {S : Type 0} (goods : S → List ℕ) (rising : (s : S) → IsRising (goods s)) where
+  all_rising : (atoms : List (Atom S)) → All HasRisingBundle (atoms_of goods atoms)
+  all_rising [] = All-nil HasRisingBundle
+  all_rising (a ∷ rest) = All-cons HasRisingBundle (seen_of goods a) (atoms_of goods rest) (rising a.bundle) (all_rising rest)
+
+  -- the next bid
+  pub next_turn : (bids : List (Atom (List ℕ))) (yielded all rest : List (Atom S)) (bid : Atom S) → AreBestBids bids (atoms_of goods (yielded ++ all))
+      → all ≡ bid ∷ rest → IsTurn bids (atoms_of goods yielded) (seen_of goods bid) (atoms_of goods rest)
+  next_turn bids yielded all rest bid b e =
+      let parts : atoms_of goods (yielded ++ all) ≡ atoms_of goods yielded ++ seen_of goods bid ∷ atoms_of goods rest =
+      ap (λ (zs : List (Atom S)). atoms_of goods (yielded ++ zs)) e ∙ map-append (seen_of goods) yielded (bid ∷ rest) in
+      record {
+        best = subst (λ (zs : List (Atom (List ℕ))). AreBestBids bids zs) parts b;
+        rising = subst (λ (zs : List (Atom (List ℕ))). All HasRisingBundle zs) parts (all_rising (yielded ++ all));
+      }
+
+pub taken : {X : Type 0} (yielded all rest : List X) (x : X) → all ≡ x ∷ rest → yielded ++ all ≡ (yielded ++ x ∷ []) ++ rest
+taken {X} yielded all rest x e = ap (λ (zs : List X). yielded ++ zs) e ∙ sym (append_assoc yielded (x ∷ []) rest)
+
+-- no bid is left
+pub none_left : {X : Type 0} (yielded all : List X) → all ≡ [] → yielded ++ all ≡ yielded
+none_left {X} yielded all e = ap (λ (zs : List X). yielded ++ zs) e ∙ append-nil yielded
+
+-- ---- the loop's end
+
+pub xor_end : {S : Type 0} (goods : S → List ℕ) (bids : List (Atom (List ℕ))) (yielded all kept result : List (Atom S))
+    → AreBestBids bids (atoms_of goods (yielded ++ all)) → IsXorKept (atoms_of goods yielded) (atoms_of goods kept) → all ≡ [] → result ≡ kept
+    → AreXorPoints bids (atoms_of goods result)
+xor_end {S} goods bids yielded all kept result b k none e =
+    let best = subst (λ (zs : List (Atom S)). AreBestBids bids (atoms_of goods zs)) (none_left yielded all none) b in
+    rw e (xor_done bids (atoms_of goods yielded) (atoms_of goods kept) best k)
+
+pub or_end : {S : Type 0} (goods : S → List ℕ) (bids : List (Atom (List ℕ))) (yielded all kept result : List (Atom S)) → All (λ a. 0 < length a.bundle) bids
+    → AreBestBids bids (atoms_of goods (yielded ++ all)) → IsOrKept (atoms_of goods yielded) (atoms_of goods kept) → all ≡ [] → result ≡ kept
+    → AreOrPoints bids (atoms_of goods result)
+or_end {S} goods bids yielded all kept result some b k none e =
+    let best = subst (λ (zs : List (Atom S)). AreBestBids bids (atoms_of goods zs)) (none_left yielded all none) b in
+    rw e (or_done bids (atoms_of goods yielded) (atoms_of goods kept) some best k)
+
+-- ---- an atom of a list of atoms inside a bundle has a price
+
+price_reached : (price : ℕ) → 0 < price → (bundle : List ℕ) (atoms : List (Atom (List ℕ))) → All (λ a. IsInside a.bundle bundle) atoms
+    → list_any (λ a. leb price a.price) atoms ≡ leb price (xor_value atoms bundle)
+price_reached price l bundle [] h = sym (ap (leb price) (xor_value-nil bundle) ∙ lt-leb price 0 l)
+price_reached price l bundle (a ∷ rest) h =
+    let e = xor_value-inside a rest bundle (All-head (λ a. IsInside a.bundle bundle) a rest h) in
+    ap (λ b. leb price a.price || b) (price_reached price l bundle rest (All-tail (λ a. IsInside a.bundle bundle) a rest h))
+    ∙ either (xor_value rest bundle) a.price ∙ sym (ap (leb price) e)
+  where
+    either : (m n : ℕ) → (leb price n || leb price m) ≡ leb price (max m n)
+    either m n =
+        ⊎_elim
+        (λ (p : n < price). ⊎_elim
+        (λ (q : m < price). let t = lt-leb price n p in let u = lt-leb price m q in let v = lt-leb price (max m n) (omega arith) in simp (t, u, v))
+        (λ (q : price ≤ m). let t = lt-leb price n p in let u = le-leb price m q in let v = le-leb price (max m n) (omega arith) in simp (t, u, v))
+        (cases_lt m price))
+        (λ (p : price ≤ n). let t = le-leb price n p in let v = le-leb price (max m n) (omega arith) in simp (t, v))
+        (cases_lt n price)
+
+-- whether a kept atom inside the bundle has the price
+pub covers_is : (price : ℕ) (bundle : List ℕ) (kept : List (Atom (List ℕ))) → 0 < price
+    → list_any (covers bundle price) kept ≡ leb price (xor_value (atoms_inside kept bundle) bundle)
+covers_is price bundle kept l =
+    list_any_filter (λ (a : Atom (List ℕ)). leb price a.price) (λ (a : Atom (List ℕ)). is_inside a.bundle bundle) kept
+    ∙ price_reached price l bundle (atoms_inside kept bundle) (filter_passes (λ a. is_inside a.bundle bundle) kept)
+
+-- the atoms inside the bundle ask for some goods, as all kept ones do
+pub nonempty_inside : {S : Type 0} (goods : S → List ℕ) (inside seen : List (Bor (Atom S))) (p : Atom (List ℕ) → Bool) (kept : List (Atom (List ℕ)))
+    → seen ≡ inside → atoms_of goods (map (λ a. a.now) inside) ≡ filter p kept → All (λ a. 0 < length a.bundle) kept
+    → All (λ a. 0 < length a.bundle) (atoms_of goods (map (λ a. a.now) seen))
+nonempty_inside goods inside seen p kept d e some = rw (d, e) (All-filter p (λ a. 0 < length a.bundle) kept some)
+
+-- and are inside it
+pub inside_bundle : {S : Type 0} (goods : S → List ℕ) (inside seen : List (Bor (Atom S))) (bundle : List ℕ) (kept : List (Atom (List ℕ))) → seen ≡ inside
+    → atoms_of goods (map (λ a. a.now) inside) ≡ atoms_inside kept bundle → All (λ a. IsInside a.bundle bundle) (atoms_of goods (map (λ a. a.now) seen))
+inside_bundle goods inside seen bundle kept d e = rw (d, e) (filter_passes (λ a. is_inside a.bundle bundle) kept)
+
+pub kept_nonempty : {S : Type 0} (goods : S → List ℕ) (n : ℕ) (bids : List (Atom (List ℕ))) (yielded all kept : List (Atom S))
+    → AreBestBids bids (atoms_of goods (yielded ++ all)) → All (IsAtom n) bids → All (Contains (atoms_of goods yielded)) (atoms_of goods kept)
+    → All (λ a. 0 < length a.bundle) (atoms_of goods kept)
+kept_nonempty {S} goods n bids yielded all kept b are among =
+    All-weaker (Contains (atoms_of goods yielded)) (λ a. 0 < length a.bundle)
+    (λ a c.
+    let there : Contains (atoms_of goods (yielded ++ all)) a =
+    subst (λ (zs : List (Atom (List ℕ))). Contains zs a) (sym (map-append (seen_of goods) yielded all))
+    (Contains-append_left (atoms_of goods yielded) (atoms_of goods all) a c) in
+    (All-contains (IsAtom n) bids a are (All-contains (Contains bids) (atoms_of goods (yielded ++ all)) a b.among there)).nonempty)
+    (atoms_of goods kept) among
+
+pub all_some : (n : ℕ) (bids : List (Atom (List ℕ))) → All (IsAtom n) bids → All (λ a. 0 < length a.bundle) bids
+all_some n bids are = All-weaker (IsAtom n) (λ a. 0 < length a.bundle) (λ a i. i.nonempty) bids are
+
+-- ---- no bid is covered by one before it
+
+-- the first bids are kept as they are
+first_uncovered : (bids best : List (Atom (List ℕ))) → AreBestBids bids best → All HasRisingBundle best → AreUncovered best → (i : ℕ) → i ≤ length best
+    → IsXorKept (take i best) (take i best)
+first_uncovered bids best b rising free zero l = IsKept-none xor_value xor_value-member xor_more xor_fewer
+first_uncovered bids best b rising free (suc i) l =
+    let x = atom_at best i in
+    let done = take i best in
+    let within : i < length best = omega arith in
+    let parts : best ≡ done ++ x ∷ drop (i + 1) best = sym (take-append-drop i best)
+    ∙ ap (λ zs. done ++ zs) (drop_more best i (record { bundle = []; price = 0 }) within) in
+    let turn : IsTurn bids done x (drop (i + 1) best) = record {
+      best = subst (λ (zs : List (Atom (List ℕ))). AreBestBids bids zs) parts b;
+      rising = subst (λ (zs : List (Atom (List ℕ))). All HasRisingBundle zs) parts rising;
+    } in
+    let missed = sym (free i within) ∙ covers_is x.price x.bundle done (turn_positive _ _ _ _ turn) in
+    let on : suc i ≡ i + 1 = omega arith in
+    let front : take (suc i) best ≡ done ++ x ∷ [] = ap (λ n. take n best) on ∙ take_more best i (record { bundle = []; price = 0 }) within in
+    rw front (xor_missed _ _ _ _ done turn (first_uncovered bids best b rising free i (omega arith)) missed)
+
+-- one more bid
+pub one_more_uncovered : {S : Type 0} (goods : S → List ℕ) (atoms before : List (Atom S)) (i : ℕ) (bid : Atom S)
+    → i < length atoms → bid ≡ get_or atoms i bid → before ≡ take i atoms → list_any (covers (goods bid.bundle) bid.price) (atoms_of goods before) ≡ false
+    → ((k : ℕ) → k < i → list_any (covers (atom_at (atoms_of goods atoms) k).bundle (atom_at (atoms_of goods atoms) k).price) (take k (atoms_of goods atoms))
+    ≡ false)
+    → (k : ℕ) → k < i + 1 → list_any (covers (atom_at (atoms_of goods atoms) k).bundle (atom_at (atoms_of goods atoms) k).price) (take k (atoms_of goods atoms))
+    ≡ false
+one_more_uncovered {S} goods atoms before i bid l is front free h k within =
+    let seen = atoms_of goods atoms in
+    let at : atom_at seen i ≡ seen_of goods bid = get_or-atoms_of goods atoms i bid (record { bundle = []; price = 0 }) l is in
+    let those : take i seen ≡ atoms_of goods before = take-map (seen_of goods) i atoms ∙ ap (atoms_of goods) (sym front) in
+    let here : list_any (covers (atom_at seen i).bundle (atom_at seen i).price) (take i seen) ≡ false =
+    ap₂ (λ (x : Atom (List ℕ)) (zs : List (Atom (List ℕ))). list_any (covers x.bundle x.price) zs) at those ∙ free in
+    ⊎_elim (λ (lt : k < i). h k lt)
+    (λ (le : i ≤ k). let e : i ≡ k = omega arith in subst (λ n. list_any (covers (atom_at seen n).bundle (atom_at seen n).price) (take n seen) ≡ false) e here)
+    (cases_lt k i)
+
+pub xor_uncovered : {S : Type 0} (goods : S → List ℕ) (rising : (s : S) → IsRising (goods s)) (bids : List (Atom (List ℕ))) (atoms : List (Atom S))
+    → AreBestBids bids (atoms_of goods atoms) → AreUncovered (atoms_of goods atoms) → AreXorPoints bids (atoms_of goods atoms)
+xor_uncovered goods rising bids atoms b free =
+    let best = atoms_of goods atoms in
+    let whole : take (length best) best ≡ best = take_all (length best) best (omega arith) in
+    xor_done bids best best b (rw whole at (first_uncovered bids best b (all_rising goods rising atoms) free (length best) (omega arith)))
+
+-- nothing is heavy, and the first heavy bundle
+pub none_heavy_end : {S : Type 0} (goods : S → List ℕ) (n limit : ℕ) (bids : List (Atom (List ℕ))) (yielded all kept : List (Atom S)) → All (IsOnBundle n) bids
+    → AreBestBids bids (atoms_of goods (yielded ++ all)) → IsOrKept (atoms_of goods yielded) (atoms_of goods kept)
+    → Within limit (atoms_of goods kept) (atoms_of goods yielded) → all ≡ [] → first_heavy n limit bids ≡ None
+none_heavy_end {S} goods n limit bids yielded all kept on b k w none =
+    none_heavy n limit bids (atoms_of goods yielded) (atoms_of goods kept) on (subst (λ (zs : List (Atom S)). AreBestBids bids (atoms_of goods zs))
+    (none_left yielded all none) b) k w
+
+-- a heavy bundle has more packings by all bids than the limit
+pub heavy_load : (n limit : ℕ) (bids : List (Atom (List ℕ))) (bundle : List ℕ) → All (IsOnBundle n) bids → is_heavy n limit bids bundle ≡ true
+    → limit < steps_at_most bids bundle
+unfolding is_heavy
+heavy_load n limit bids bundle on h =
+    let parts = and_parts (ltb 0 (greatest_price bids bundle)) (ltb limit (search_steps n bids bundle)) h in
+    let more : limit < search_steps n bids bundle = ltb-true _ _ parts.1 in
+    let bound = search_within_bound n bids on bundle in
+    omega arith

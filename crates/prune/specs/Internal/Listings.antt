@@ -1,0 +1,65 @@
+-- Atoms listed by their goods, so that those inside a bundle are found through the goods of the bundle.
+use Rattle.std.specs.Prelude.{◌≡◌, ◌≢◌, ℕ, ◌<◌, Bool, ◌&&◌, true, false, nat_le, map, slice_index_or, List, [], length, take, AllPairs, Contains}
+use Rattle.std.specs.Global.{Vec}
+use Rattle.std.specs.List.{filter, list_any}
+use Rattle.valuation.specs.declared.atom.Atom.{Atom}
+use Rattle.goods_set.specs.Bundles.{has_good, is_inside}
+use Rattle.prune.specs.declared.kept.Listing.{Listing}
+
+-- for each good what is listed there
+abbrev pub lists_of : List (Vec Listing) → List (List Listing)
+lists_of vectors = map (λ v. v.items) vectors
+
+-- what is listed at a good
+abbrev pub listed_at : List (List Listing) → ℕ → List Listing
+listed_at lists good = slice_index_or lists good []
+
+-- the places that are listed at a good
+abbrev pub places_at : List (List Listing) → ℕ → List ℕ
+places_at lists good = map (λ listing. listing.place) (listed_at lists good)
+
+-- the atom at a place
+abbrev pub atom_at : List (Atom (List ℕ)) → ℕ → Atom (List ℕ)
+atom_at atoms place = slice_index_or atoms place (record { bundle = []; price = 0 })
+
+-- whether the atom at the place is inside the bundle
+abbrev pub is_inside_at : List (Atom (List ℕ)) → List ℕ → ℕ → Bool
+is_inside_at atoms bundle place = is_inside (atom_at atoms place).bundle bundle
+
+-- whether the atom is inside the bundle and has at least the price
+abbrev pub covers : List ℕ → ℕ → Atom (List ℕ) → Bool
+covers bundle price a = nat_le price a.price && is_inside a.bundle bundle
+
+-- none of the atoms is covered by one before it
+abbrev pub AreUncovered : List (Atom (List ℕ)) → Type 0
+AreUncovered atoms = (place : ℕ) → place < length atoms
+    → list_any (covers (atom_at atoms place).bundle (atom_at atoms place).price) (take place atoms) ≡ false
+
+-- whether the atom at the place does
+abbrev pub covers_at : List (Atom (List ℕ)) → List ℕ → ℕ → ℕ → Bool
+covers_at atoms bundle price place = covers bundle price (atom_at atoms place)
+
+-- the place is listed at a good of the bundle
+pub record IsListed (lists : List (List Listing)) (bundle : List ℕ) (place : ℕ) : Type 0 where
+  pub good : ℕ
+  pub has : has_good bundle good ≡ true
+  pub listed : Contains (places_at lists good) place
+
+-- what is listed is right: the place is that of an atom with the price and the two goods
+pub record IsListing (atoms : List (Atom (List ℕ))) (listing : Listing) : Type 0 where
+  pub within : listing.place < length atoms
+  pub price : listing.price ≡ (atom_at atoms listing.place).price
+  pub witness : has_good (atom_at atoms listing.place).bundle listing.witness ≡ true
+  pub second : has_good (atom_at atoms listing.place).bundle listing.second ≡ true
+
+-- each atom is listed at one of its goods, once and at no other good, and nothing else is listed
+pub record AreListed (lists : List (List Listing)) (atoms : List (Atom (List ℕ))) : Type 0 where
+  pub each : (place : ℕ) → place < length atoms → IsListed lists (atom_at atoms place).bundle place
+  pub right : (good : ℕ) (listing : Listing) → Contains (listed_at lists good) listing → IsListing atoms listing
+  pub once : (good : ℕ) → AllPairs (λ one other. one ≢ other) (places_at lists good)
+  pub one_good : (good other place : ℕ) → Contains (places_at lists good) place → Contains (places_at lists other) place
+      → good ≡ other
+
+-- the atoms of a list inside a bundle
+abbrev pub atoms_inside : List (Atom (List ℕ)) → List ℕ → List (Atom (List ℕ))
+atoms_inside atoms bundle = filter (λ a. is_inside a.bundle bundle) atoms

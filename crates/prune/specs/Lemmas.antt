@@ -1,0 +1,9 @@
+-- Lemmas on the definitions beside this folder, for proofs here and in the crates above. No contract cites them.
+pub mod InOrder
+pub mod KeptBids
+pub mod Lists
+pub mod OnBundles
+pub mod Points
+pub mod Steps
+pub mod Tables
+pub mod Values

@@ -1,0 +1,156 @@
+-- Lemmas on lists: which elements a list has, behind a filter too, and the first that passes a test.
+use Rattle.std.proofs.Common.{◌≡◌, ℕ, zero, suc, ◌<◌, Bool, true, false, cond, ◌&&◌, ◌||◌, ◌⊎◌, inl, inr, ⊎_elim, List, [], ◌∷◌, map, refl, sym, ap, ap₂, ◌∙◌, subst, arith, Some, None}
+use Rattle.std.specs.Prelude.{All, AllPairs, Contains}
+use Rattle.std.specs.List.{filter, find, list_all, list_any}
+use Rattle.std.proofs.Math.Bool.{and-true, and-false}
+use Rattle.std.proofs.lemmas.Bool.{cases_Bool, both_ways, true_from_ne_false, or_parts, and_parts, and_from, and_cases}
+use Rattle.std.proofs.lemmas.List.Elements.{All-nil, All-cons, All-head, All-tail, All-contains, Contains-append_right}
+use Rattle.valuation.specs.Lemmas.Lists.{Contains-cons_cases, AllPairs-head, AllPairs-tail}
+
+pub zero_or_more : (n : ℕ) → (n ≡ 0) ⊎ (0 < n)
+zero_or_more zero = inl refl
+zero_or_more (suc n) = inr (omega arith)
+
+-- ---- which elements a list has
+
+pub Contains-nil : {X : Type 0} (x : X) → Contains [] x → ⊥
+Contains-nil x c = let l : c.0 < 0 = c.1 in omega arith
+
+pub Contains-head : {X : Type 0} (x : X) (xs : List X) → Contains (x ∷ xs) x
+Contains-head x xs = (0, omega arith, refl)
+
+pub Contains-tail : {X : Type 0} (y : X) (xs : List X) (x : X) → Contains xs x → Contains (y ∷ xs) x
+Contains-tail y xs x c = Contains-append_right (y ∷ []) xs x c
+
+pub nil_from_none : {X : Type 0} (xs : List X) → ((x : X) → Contains xs x → ⊥) → xs ≡ []
+nil_from_none [] h = refl
+nil_from_none (x ∷ xs) h = absurd (h x (Contains-head x xs))
+
+pub All-from_Contains : {X : Type 0} (P : X → Type 0) (xs : List X) → ((x : X) → Contains xs x → P x) → All P xs
+All-from_Contains P [] h = All-nil P
+All-from_Contains P (x ∷ xs) h = All-cons P x xs (h x (Contains-head x xs)) (All-from_Contains P xs (λ y c. h y (Contains-tail x xs y c)))
+
+-- ---- filters
+
+pub filter-kept : {X : Type 0} (p : X → Bool) (x : X) (xs : List X) → p x ≡ true → filter p (x ∷ xs) ≡ x ∷ filter p xs
+filter-kept p x xs e = simp e
+
+pub filter-lost : {X : Type 0} (p : X → Bool) (x : X) (xs : List X) → p x ≡ false → filter p (x ∷ xs) ≡ filter p xs
+filter-lost p x xs e = simp e
+
+pub Contains-filter : {X : Type 0} (p : X → Bool) (xs : List X) (x : X) → Contains xs x → p x ≡ true → Contains (filter p xs) x
+Contains-filter p [] x c e = absurd (Contains-nil x c)
+Contains-filter p (y ∷ ys) x c e =
+    ⊎_elim (λ (d : y ≡ x). rw (filter-kept p y ys (ap p d ∙ e)) (subst (λ z. Contains (y ∷ filter p ys) z) d (Contains-head y (filter p ys))))
+    (λ (d : Contains ys x). ⊎_elim (λ (t : p y ≡ true). rw (filter-kept p y ys t) (Contains-tail y (filter p ys) x (Contains-filter p ys x d e)))
+    (λ (t : p y ≡ false). rw (filter-lost p y ys t) (Contains-filter p ys x d e)) (cases_Bool (p y)))
+    (Contains-cons_cases y ys x c)
+
+pub Contains-filter_parts : {X : Type 0} (p : X → Bool) (xs : List X) (x : X) → Contains (filter p xs) x → Contains xs x × (p x ≡ true)
+Contains-filter_parts p [] x c = absurd (Contains-nil x c)
+Contains-filter_parts {X} p (y ∷ ys) x c = ⊎_elim (kept (Contains-filter_parts p ys x)) (lost (Contains-filter_parts p ys x)) (cases_Bool (p y))
+  where
+    behind : (Contains (filter p ys) x → Contains ys x × (p x ≡ true)) → Contains (filter p ys) x → Contains (y ∷ ys) x × (p x ≡ true)
+    behind h d = let r = h d in (Contains-tail y ys x r.0, r.1)
+
+    kept : (Contains (filter p ys) x → Contains ys x × (p x ≡ true)) → p y ≡ true → Contains (y ∷ ys) x × (p x ≡ true)
+    kept h t =
+        ⊎_elim (λ (d : y ≡ x). (subst (λ z. Contains (y ∷ ys) z) d (Contains-head y ys), ap p (sym d) ∙ t)) (behind h)
+        (Contains-cons_cases y (filter p ys) x (subst (λ (l : List X). Contains l x) (filter-kept p y ys t) c))
+
+    lost : (Contains (filter p ys) x → Contains ys x × (p x ≡ true)) → p y ≡ false → Contains (y ∷ ys) x × (p x ≡ true)
+    lost h t = behind h (subst (λ (l : List X). Contains l x) (filter-lost p y ys t) c)
+
+-- two tests that agree on the elements of the list keep the same ones
+pub filter_same_on : {X : Type 0} (p q : X → Bool) (xs : List X) → All (λ x. p x ≡ q x) xs → filter p xs ≡ filter q xs
+filter_same_on p q [] h = refl
+filter_same_on p q (x ∷ xs) h =
+    ap₂ (λ (b : Bool) (zs : List _). cond b (x ∷ zs) zs) (All-head (λ x. p x ≡ q x) x xs h) (filter_same_on p q xs (All-tail (λ x. p x ≡ q x) x xs h))
+
+-- ---- a test of each element
+
+pub list_all_at : {X : Type 0} (p : X → Bool) (xs : List X) → list_all p xs ≡ true → (x : X) → Contains xs x → p x ≡ true
+list_all_at p [] e x c = absurd (Contains-nil x c)
+list_all_at p (y ∷ ys) e x c =
+    let parts = and_parts (p y) (list_all p ys) e in
+    ⊎_elim (λ (d : y ≡ x). ap p (sym d) ∙ parts.0) (λ (d : Contains ys x). list_all_at p ys parts.1 x d) (Contains-cons_cases y ys x c)
+
+pub list_all_from : {X : Type 0} (p : X → Bool) (xs : List X) → ((x : X) → Contains xs x → p x ≡ true) → list_all p xs ≡ true
+list_all_from p [] h = refl
+list_all_from p (y ∷ ys) h = and_from (p y) (list_all p ys) (h y (Contains-head y ys)) (list_all_from p ys (λ x c. h x (Contains-tail y ys x c)))
+
+pub list_all_fails : {X : Type 0} (p : X → Bool) (xs : List X) → list_all p xs ≡ false → (x : X) × Contains xs x × (p x ≡ false)
+list_all_fails p [] e = absurd (cc)
+list_all_fails p (y ∷ ys) e =
+    ⊎_elim (λ (t : p y ≡ false). (y, Contains-head y ys, t)) (λ (t : list_all p ys ≡ false). let r = list_all_fails p ys t in
+    (r.0, Contains-tail y ys r.0 r.1, r.2)) (and_cases (p y) (list_all p ys) e)
+
+-- ---- the first element that passes
+
+pub find_first : {X : Type 0} (R : X → X → Type 0) (p : X → Bool) (xs : List X) → AllPairs R xs → (x : X) → Contains xs x → p x ≡ true
+    → ((y : X) → R y x → p y ≡ false) → find p xs ≡ Some x
+find_first R p [] s x c e h = absurd (Contains-nil x c)
+find_first R p (y ∷ ys) s x c e h =
+    ⊎_elim (λ (d : y ≡ x). let t : p y ≡ true = ap p d ∙ e in simp t (ap Some d))
+    (λ (d : Contains ys x). let t : p y ≡ false = h y (All-contains (R y) ys x (AllPairs-head R y ys s) d) in
+    simp t (find_first R p ys (AllPairs-tail R y ys s) x d e h))
+    (Contains-cons_cases y ys x c)
+
+pub find_none : {X : Type 0} (p : X → Bool) (xs : List X) → ((x : X) → Contains xs x → p x ≡ false) → find p xs ≡ None
+find_none p [] h = refl
+find_none p (y ∷ ys) h = let t : p y ≡ false = h y (Contains-head y ys) in simp t (find_none p ys (λ x c. h x (Contains-tail y ys x c)))
+
+pub found_none : {X : Type 0} (p : X → Bool) (xs : List X) → find p xs ≡ None → (x : X) → Contains xs x → p x ≡ false
+found_none p [] e x c = absurd (Contains-nil x c)
+found_none p (y ∷ ys) e x c =
+    ⊎_elim (λ (t : p y ≡ true). absurd (let d = simp t at e in cc))
+    (λ (t : p y ≡ false). ⊎_elim (λ (d : y ≡ x). ap p (sym d) ∙ t) (λ (d : Contains ys x). found_none p ys (simp t at e) x d) (Contains-cons_cases y ys x c))
+    (cases_Bool (p y))
+
+-- what is found is the first of those that pass
+find_of_passing : {X : Type 0} (p : X → Bool) (xs : List X) → find p xs ≡ find (λ x. true) (filter p xs)
+find_of_passing p [] = refl
+find_of_passing p (x ∷ xs) = elim (p x) as (λ b. cond b (Some x) (find p xs) ≡ find (λ x. true) (cond b (x ∷ filter p xs) (filter p xs))) [
+  | true ↦ refl
+  | false ↦ find_of_passing p xs
+]
+
+pub find_alike : {X : Type 0} (p q : X → Bool) (xs ys : List X) → filter p xs ≡ filter q ys → find p xs ≡ find q ys
+find_alike p q xs ys e = find_of_passing p xs ∙ ap (find (λ x. true)) e ∙ sym (find_of_passing q ys)
+
+-- ---- each element's image
+
+pub map_same_on : {X Y : Type 0} (f g : X → Y) (xs : List X) → All (λ x. f x ≡ g x) xs → map f xs ≡ map g xs
+map_same_on f g [] h = refl
+map_same_on {X} {Y} f g (x ∷ xs) h =
+    ap₂ (λ (y : Y) (ys : List Y). y ∷ ys) (All-head (λ x. f x ≡ g x) x xs h) (map_same_on f g xs (All-tail (λ x. f x ≡ g x) x xs h))
+
+pub map_same_at : {X Y : Type 0} (f g : X → Y) (xs : List X) → map f xs ≡ map g xs → (x : X) → Contains xs x → f x ≡ g x
+map_same_at f g [] e x c = absurd (Contains-nil x c)
+map_same_at f g (y ∷ ys) e x c =
+    ⊎_elim (λ (d : y ≡ x). let h : f y ≡ g y = cc in ap f (sym d) ∙ h ∙ ap g d) (λ (d : Contains ys x). map_same_at f g ys (cc) x d)
+    (Contains-cons_cases y ys x c)
+
+-- ---- whether some element passes
+
+pub list_any_fails : {X : Type 0} (p : X → Bool) (xs : List X) → list_any p xs ≡ false → (x : X) → Contains xs x → p x ≡ false
+list_any_fails p [] e x c = absurd (Contains-nil x c)
+list_any_fails p (y ∷ ys) e x c =
+    ⊎_elim (λ (d : y ≡ x). ap p (sym d) ∙ (or_parts (p y) (list_any p ys) e).0) (λ (d : Contains ys x). list_any_fails p ys (or_parts (p y) (list_any p ys) e).1
+    x d) (Contains-cons_cases y ys x c)
+
+pub list_any_found : {X : Type 0} (p : X → Bool) (xs : List X) → list_any p xs ≡ true → (x : X) × Contains xs x × (p x ≡ true)
+list_any_found p [] e = absurd (cc)
+list_any_found p (y ∷ ys) e =
+    ⊎_elim (λ (t : p y ≡ true). (y, Contains-head y ys, t)) (λ (t : p y ≡ false). let r = list_any_found p ys (simp t at e) in
+    (r.0, Contains-tail y ys r.0 r.1, r.2)) (cases_Bool (p y))
+
+pub list_any_has : {X : Type 0} (p : X → Bool) (xs : List X) (x : X) → Contains xs x → p x ≡ true → list_any p xs ≡ true
+list_any_has p xs x c t = true_from_ne_false (list_any p xs) (λ e. both_ways (p x) (list_any_fails p xs e x c) t)
+
+pub list_any_filter : {X : Type 0} (p q : X → Bool) (xs : List X) → list_any (λ x. p x && q x) xs ≡ list_any p (filter q xs)
+list_any_filter p q [] = refl
+list_any_filter p q (x ∷ xs) = elim (q x) as (λ b. ((p x && b) || list_any (λ x. p x && q x) xs) ≡ list_any p (cond b (x ∷ filter q xs) (filter q xs))) [
+  | true ↦ ap₂ (λ b c. b || c) (and-true (p x)) (list_any_filter p q xs)
+  | false ↦ ap (λ b. b || list_any (λ x. p x && q x) xs) (and-false (p x)) ∙ list_any_filter p q xs
+]

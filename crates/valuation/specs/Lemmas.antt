@@ -1,0 +1,13 @@
+-- Lemmas on the definitions beside this folder, for proofs here and in the crates above. No contract cites them.
+pub mod Atoms
+pub mod AuctionsOfFiles
+pub mod Limits
+pub mod Lists
+pub mod OrValues
+pub mod Orders
+pub mod PackingCounts
+pub mod Packings
+pub mod Permutations
+pub mod Sorting
+pub mod XorValues
+pub mod Comparing

@@ -1,0 +1,41 @@
+-- Lemmas on the atoms of a list, seen as their lists of goods and their prices.
+use Rattle.std.proofs.Common.{◌≡◌, ℕ, ◌+◌, ◌<◌, List, [], ◌∷◌, ◌++◌, length, map, drop, get_or, sym, ap, ◌∙◌, subst, arith}
+use Rattle.std.specs.Prelude.{All}
+use Rattle.std.proofs.lemmas.List.{drop-map, drop_more, length-map, get_or-map, map_push}
+use Rattle.std.proofs.lemmas.List.Elements.{All-push}
+use Rattle.valuation.specs.declared.atom.Atom.{Atom}
+use Rattle.valuation.specs.Values.{atoms_of}
+
+pub length-atoms_of : {S : Type 0} (goods : S → List ℕ) (atoms : List (Atom S)) → length (atoms_of goods atoms) ≡ length atoms
+length-atoms_of {S} goods atoms = length-map atoms (λ (b : Atom S). record { bundle = goods b.bundle; price = b.price })
+
+-- the atom at a place, which a read of that place gave
+pub get_or-atoms_of : {S : Type 0} (goods : S → List ℕ) (atoms : List (Atom S)) (i : ℕ) (a : Atom S) (d : Atom (List ℕ)) → i < length atoms
+    → a ≡ get_or atoms i a → get_or (atoms_of goods atoms) i d ≡ record { bundle = goods a.bundle; price = a.price }
+get_or-atoms_of {S} goods atoms i a d l e =
+    let seen : Atom S → Atom (List ℕ) = λ b. record { bundle = goods b.bundle; price = b.price } in
+    get_or-map seen atoms i a d l ∙ ap seen (sym e)
+
+-- that atom and those behind it
+pub drop-atoms_of : {S : Type 0} (goods : S → List ℕ) (atoms : List (Atom S)) (i : ℕ) (a : Atom S) → i < length atoms → a ≡ get_or atoms i a
+    → drop i (atoms_of goods atoms) ≡ record { bundle = goods a.bundle; price = a.price } ∷ drop (i + 1) (atoms_of goods atoms)
+drop-atoms_of {S} goods atoms i a l e =
+    let seen : Atom S → Atom (List ℕ) = λ b. record { bundle = goods b.bundle; price = b.price } in
+    drop-map seen i atoms ∙ ap (map seen) (drop_more atoms i a l ∙ ap (λ (b : Atom S). b ∷ drop (i + 1) atoms) (sym e))
+    ∙ ap (λ (bs : List (Atom (List ℕ))). seen a ∷ bs) (sym (drop-map seen (i + 1) atoms))
+
+-- what holds of each atom of the list holds of it
+pub atom-atoms_of : {S : Type 0} (goods : S → List ℕ) (P : Atom (List ℕ) → Type 0) (atoms : List (Atom S)) (i : ℕ) (a : Atom S) → i < length atoms
+    → a ≡ get_or atoms i a → All P (atoms_of goods atoms) → P (record { bundle = goods a.bundle; price = a.price })
+atom-atoms_of {S} goods P atoms i a l e h =
+    let d : Atom (List ℕ) = record { bundle = goods a.bundle; price = a.price } in
+    let long = length-atoms_of goods atoms in
+    subst P (get_or-atoms_of goods atoms i a d l e) (h i d (omega arith))
+
+-- one more atom of which it holds
+pub All-atoms_of-push : {S : Type 0} (goods : S → List ℕ) (P : Atom (List ℕ) → Type 0) (atoms more : List (Atom S)) (a : Atom S) → more ≡ atoms ++ a ∷ []
+    → All P (atoms_of goods atoms) → P (record { bundle = goods a.bundle; price = a.price }) → All P (atoms_of goods more)
+All-atoms_of-push {S} goods P atoms more a e h p =
+    let seen : Atom S → Atom (List ℕ) = λ b. record { bundle = goods b.bundle; price = b.price } in
+    let pushed : atoms_of goods more ≡ atoms_of goods atoms ++ seen a ∷ [] = ap (atoms_of goods) e ∙ map_push seen atoms a in
+    rw pushed (All-push P (atoms_of goods atoms) (seen a) h p)

@@ -1,0 +1,121 @@
+-- Lemmas on lists: what holds of each element, of each pair of elements, and of the places of a list and of the list behind its
+-- first element.
+use Rattle.std.proofs.Common.{◌≡◌, ℕ, zero, suc, pred, ◌<◌, ◌≤◌, ◌≢◌, ◌⊎◌, inl, inr, ⊎_elim, List, [], ◌∷◌, ◌++◌, length, map, get_or, refl, sym, ap, ◌∙◌, arith}
+use Rattle.std.specs.Prelude.{All, AllPairs, Contains}
+use Rattle.std.proofs.lemmas.Bool.{cases_lt}
+use Rattle.std.proofs.lemmas.List.Elements.{All-nil, All-cons, All-head, All-tail, All-append, All-map, All-weaker, Contains-append_right}
+
+pub le_or_lt : (m n : ℕ) → (m ≤ n) ⊎ (n < m)
+le_or_lt m n = ⊎_elim (λ (l : n < m). inr l) (λ (l : m ≤ n). inl l) (cases_lt n m)
+
+-- an element of a list is the first one or among the others
+pub Contains-cons_cases : {X : Type 0} (y : X) (xs : List X) (x : X) → Contains (y ∷ xs) x → (y ≡ x) ⊎ Contains xs x
+Contains-cons_cases {X} y xs x c = by c.0 c.1 c.2
+  where
+    by : (k : ℕ) → k < length (y ∷ xs) → get_or (y ∷ xs) k x ≡ x → (y ≡ x) ⊎ Contains xs x
+    by zero l e = inl e
+    by (suc k) l e = inr (k, omega arith, e)
+
+-- ---- each pair of elements
+
+pub AllPairs-nil : {X : Type 0} (R : X → X → Type 0) → AllPairs R []
+AllPairs-nil R i j d l m = absurd (omega arith)
+
+pub AllPairs-cons : {X : Type 0} (R : X → X → Type 0) (x : X) (xs : List X) → All (R x) xs → AllPairs R xs → AllPairs R (x ∷ xs)
+AllPairs-cons R x xs h k zero zero d l m = absurd (omega arith)
+AllPairs-cons R x xs h k zero (suc j) d l m = h j d (omega arith)
+AllPairs-cons R x xs h k (suc i) zero d l m = absurd (omega arith)
+AllPairs-cons R x xs h k (suc i) (suc j) d l m = k i j d (omega arith) (omega arith)
+
+pub AllPairs-head : {X : Type 0} (R : X → X → Type 0) (x : X) (xs : List X) → AllPairs R (x ∷ xs) → All (R x) xs
+AllPairs-head R x xs h k d l = h 0 (suc k) d (omega arith) (omega arith)
+
+pub AllPairs-tail : {X : Type 0} (R : X → X → Type 0) (x : X) (xs : List X) → AllPairs R (x ∷ xs) → AllPairs R xs
+AllPairs-tail R x xs h i j d l m = h (suc i) (suc j) d (omega arith) (omega arith)
+
+-- ---- places of a list, and of the list behind its first element
+
+-- each number is one more
+pub All-map_suc : (P : ℕ → Type 0) (places : List ℕ) → All (λ i. P (suc i)) places → All P (map suc places)
+All-map_suc P [] h = All-nil P
+All-map_suc P (i ∷ places) h =
+    All-cons P (suc i) (map suc places) (All-head (λ i. P (suc i)) i places h) (All-map_suc P places (All-tail (λ i. P (suc i)) i places h))
+
+pub All-unmap_suc : (P : ℕ → Type 0) (places : List ℕ) → All P (map suc places) → All (λ i. P (suc i)) places
+All-unmap_suc P [] h = All-nil (λ i. P (suc i))
+All-unmap_suc P (i ∷ places) h =
+    All-cons (λ i. P (suc i)) i places (All-head P (suc i) (map suc places) h) (All-unmap_suc P places (All-tail P (suc i) (map suc places) h))
+
+pub rising-map_suc : (places : List ℕ) → AllPairs (λ i j. i < j) places → AllPairs (λ i j. i < j) (map suc places)
+rising-map_suc [] h = AllPairs-nil (λ i j. i < j)
+rising-map_suc (i ∷ places) h =
+    AllPairs-cons (λ i j. i < j) (suc i) (map suc places)
+    (All-map_suc (λ j. suc i < j) places (λ k d l. let m : i < get_or places k d = AllPairs-head (λ i j. i < j) i places h k d l in omega arith))
+    (rising-map_suc places (AllPairs-tail (λ i j. i < j) i places h))
+
+pub rising-unmap_suc : (places : List ℕ) → AllPairs (λ i j. i < j) (map suc places) → AllPairs (λ i j. i < j) places
+rising-unmap_suc [] h = AllPairs-nil (λ i j. i < j)
+rising-unmap_suc (i ∷ places) h =
+    AllPairs-cons (λ i j. i < j) i places
+    (λ k d l. let m : suc i < suc (get_or places k d) = All-unmap_suc (λ j. suc i < j) places (AllPairs-head (λ i j. i < j) (suc i) (map suc places) h) k d l in
+    omega arith)
+    (rising-unmap_suc places (AllPairs-tail (λ i j. i < j) (suc i) (map suc places) h))
+
+-- numbers above 0 are each one more than some number
+pub positive_places : (places : List ℕ) → All (λ i. 0 < i) places → (lower : List ℕ) × (places ≡ map suc lower)
+positive_places [] h = ([], refl)
+positive_places (zero ∷ places) h = let l : 0 < 0 = All-head (λ i. 0 < i) zero places h in absurd (omega arith)
+positive_places (suc i ∷ places) h =
+    let r = positive_places places (All-tail (λ i. 0 < i) (suc i) places h) in
+    (i ∷ r.0, ap (λ (p : List ℕ). suc i ∷ p) r.1)
+
+-- a rising list of places has the first place or not
+pub rising_cases : (places : List ℕ) → AllPairs (λ i j. i < j) places → ((lower : List ℕ) × (places ≡ map suc lower))
+    ⊎ ((lower : List ℕ) × (places ≡ 0 ∷ map suc lower))
+rising_cases [] h = inl ([], refl)
+rising_cases (zero ∷ places) h =
+    let r = positive_places places (AllPairs-head (λ i j. i < j) zero places h) in
+    inr (r.0, ap (λ (p : List ℕ). 0 ∷ p) r.1)
+rising_cases (suc i ∷ places) h =
+    let r = positive_places places (λ k d l. let m : suc i < get_or places k d = AllPairs-head (λ i j. i < j) (suc i) places h k d l in omega arith) in
+    inl (i ∷ r.0, ap (λ (p : List ℕ). suc i ∷ p) r.1)
+
+-- ---- lists of lists of places
+
+pub AllPairs-append : {X : Type 0} (R : X → X → Type 0) (xs ys : List X) → AllPairs R xs → AllPairs R ys → All (λ x. All (R x) ys) xs → AllPairs R (xs ++ ys)
+AllPairs-append R [] ys h k cross = k
+AllPairs-append R (x ∷ xs) ys h k cross =
+    AllPairs-cons R x (xs ++ ys)
+    (All-append (R x) xs ys (AllPairs-head R x xs h) (All-head (λ x. All (R x) ys) x xs cross))
+    (AllPairs-append R xs ys (AllPairs-tail R x xs h) k (All-tail (λ x. All (R x) ys) x xs cross))
+
+pub AllPairs-map : {X Y : Type 0} (R : X → X → Type 0) (S : Y → Y → Type 0) (f : X → Y) → ((x y : X) → R x y → S (f x) (f y)) → (xs : List X) → AllPairs R xs
+    → AllPairs S (map f xs)
+AllPairs-map R S f step [] h = AllPairs-nil S
+AllPairs-map R S f step (x ∷ xs) h =
+    AllPairs-cons S (f x) (map f xs) (All-map (S (f x)) f xs (All-weaker (R x) (λ y. S (f x) (f y)) (step x) xs (AllPairs-head R x xs h)))
+    (AllPairs-map R S f step xs (AllPairs-tail R x xs h))
+
+pub Contains-map : {X Y : Type 0} (f : X → Y) (xs : List X) (x : X) → Contains xs x → Contains (map f xs) (f x)
+Contains-map f [] x c = let l : c.0 < 0 = c.1 in absurd (omega arith)
+Contains-map f (z ∷ xs) x c =
+    ⊎_elim (λ (e : z ≡ x). (0, omega arith, ap f e)) (λ (d : Contains xs x). Contains-append_right (f z ∷ []) (map f xs) (f x) (Contains-map f xs x d))
+    (Contains-cons_cases z xs x c)
+
+pub Contains-unmap : {X Y : Type 0} (f : X → Y) (xs : List X) (y : Y) → Contains (map f xs) y → (x : X) × Contains xs x × (y ≡ f x)
+Contains-unmap f [] y c = let l : c.0 < 0 = c.1 in absurd (omega arith)
+Contains-unmap f (z ∷ xs) y c =
+    ⊎_elim (λ (e : f z ≡ y). (z, (0, omega arith, refl), sym e))
+    (λ (d : Contains (map f xs) y). let r = Contains-unmap f xs y d in (r.0, Contains-append_right (z ∷ []) xs r.0 r.1, r.2))
+    (Contains-cons_cases (f z) (map f xs) y c)
+
+pub unmap_suc : (places : List ℕ) → map pred (map suc places) ≡ places
+unmap_suc [] = refl
+unmap_suc (i ∷ places) = ap (λ (p : List ℕ). i ∷ p) (unmap_suc places)
+
+pub map_suc_different : (xs ys : List ℕ) → xs ≢ ys → map suc xs ≢ map suc ys
+map_suc_different xs ys differ e = differ (sym (unmap_suc xs) ∙ ap (map pred) e ∙ unmap_suc ys)
+
+pub first_different : (xs ys : List ℕ) → map suc xs ≢ 0 ∷ map suc ys
+first_different [] ys e = cc
+first_different (x ∷ xs) ys e = cc
