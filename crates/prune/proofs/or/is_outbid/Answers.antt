@@ -1,4 +1,3 @@
-use Rattle.std.proofs.Common.{arith}
 use Rattle.goods_set.specs.Bundles.{is_inside}
 use Rattle.valuation.specs.Values.{atoms_of}
 use Rattle.prune.proofs.PruningLoop.{nonempty_inside, inside_bundle}
