@@ -1,9 +1,10 @@
 -- The statuses that the runs answer, and what of a line goes out where sending it may fail.
-use Rattle.std.proofs.Common.{◌≡◌, ℕ, List, [], ◌∷◌, refl, length, Option, None, Some, Result, Ok, Err, Bool, true, false, cond, sym, subst, arith, ◌≤◌}
+use Rattle.std.proofs.Common.{◌≡◌, ℕ, List, [], ◌∷◌, refl, length, Option, None, Some, Result, Ok, Err, Bool, true, false, cond, sym, ap, ◌∙◌, subst, arith, ◌≤◌}
 use Rattle.std.proofs.Math.Seq.{take-length}
 use Rattle.std.specs.Io.KnownBytes.{Appends}
 use Rattle.std.specs.Borrow.{Bor}
-use Rattle.std.specs.Prelude.{nat_lt, bytes_eq, codes, OnOk, IfErr}
+use Rattle.std.specs.Prelude.{nat_lt, bytes_eq, codes, OnOk, IfErr, IsErrAnd}
+use Rattle.std.proofs.lemmas.Result.{err_from_is_err_and}
 use Rattle.cats_text.specs.Files.{PlainFile}
 use Rattle.cats_text.specs.Streams.{inner_of, SendsWhole, SendsPart}
 use Rattle.cats_text.specs.declared.fault.SendFault.{SendFault}
@@ -17,10 +18,12 @@ use Rattle.cats_cmd.specs.Outcomes.{Outcome, Tells, ExceedsSteps, normalise_outc
 use Rattle.cats_cmd.specs.ValueTexts.{bundle_from, value_text}
 use Rattle.cats_cmd.specs.Runs.{RunsOnFile}
 use Rattle.cats_cmd.specs.Duplicates.{RunsOnPaths}
+use Rattle.cats_cmd.specs.Internal.Requests.{CarriesOut, ComparesSome, RunsFor, RunsOnSome}
 use Rattle.cats_cmd.specs.Stops.{IsAnswer, IsSilent, SendsBeginning, is_for_many_files, names_duplicates}
 use Rattle.command_line.specs.Requests.{IsNamedIn}
 use Rattle.command_line.specs.declared.request.Request.{Request}
 use Rattle.command_line.specs.declared.request.Request.TheVariants.{Compare, Duplicates}
+use Rattle.cats_cmd.specs.declared.program.Stop.{Stop}
 use Rattle.cats_cmd.specs.declared.program.Stop.TheVariants.{Run}
 use Rattle.cats_cmd.specs.declared.report.RunFault.{RunFault}
 use Rattle.cats_cmd.specs.declared.report.RunFault.TheVariants.{Refused, GoodRange, Sent}
@@ -99,3 +102,23 @@ pub silent_paths : {W : Type 0} (contents : W → Option (List ℕ)) (limit : �
 silent_paths contents limit paths old new (Refused which fault) ran = ran.2
 silent_paths contents limit paths old new (GoodRange good) ran = ran.tells.1
 silent_paths contents limit paths old new (Sent fault) ran = tt
+
+-- ---- a request
+
+module _ {F W : Type 0} (remaining : F → Option (List ℕ)) (contents : W → Option (List ℕ)) where
+  -- the run of a file that was opened
+  pub ran_on_some : (outcome : PlainFile → Outcome) (before after : Watched F) (old new : Watched W) (answer : Result ℕ RunFault) → RunsOnFile remaining contents outcome before after old new answer
+      → RunsOnSome remaining contents outcome old new answer
+  ran_on_some outcome before after old new answer ran = record { before = before; after = after; runs = ran }
+
+  pub compared_some : (limit : ℕ) (first first_after second second_after : Watched F) (old new : Watched W) (answer : Result ℕ RunFault)
+      → RunsOnFiles remaining remaining contents limit compare_outcome first first_after second second_after old new answer → ComparesSome remaining contents limit old new answer
+  compared_some limit first first_after second second_after old new answer ran = record { first = first; first_after = first_after; second = second; second_after = second_after; runs = ran }
+
+  -- the fault of a run is that of its request
+  pub stopped_run : (request : Request) (old new : Watched W) (fault : RunFault) (answer : Result ℕ Stop) → IsErrAnd answer (λ stop. stop ≡ Run fault) → RunsFor remaining contents request old new (Err fault)
+      → CarriesOut remaining contents request old new answer
+  stopped_run request old new fault answer is ran =
+      let told = err_from_is_err_and answer is in
+      let only : answer ≡ Err (Run fault) = told.1 ∙ ap (λ (stop : Stop). Err stop) told.2 in
+      subst (λ (r : Result ℕ Stop). CarriesOut remaining contents request old new r) (sym only) ran

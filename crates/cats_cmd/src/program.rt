@@ -2,6 +2,7 @@
 
 ghost use Rattle.std.specs.Prelude.{◌≡◌, ◌≢◌, ◌≤◌, IfErr, IfOk, false};
 ghost use Rattle.cats_text.specs.Streams.{has_ended, has_failed};
+ghost use Rattle.cats_cmd.specs.Internal.Requests.{CarriesOut};
 ghost use Rattle.cats_cmd.specs.Stops.{
   IsAnswer,
   IsAnswerToNoRequest,
@@ -94,6 +95,7 @@ fn carry_out<F: Files + AllocGlobal, W: Write, E: Write>(
     err: &mut Watched<E>,
 ) -> Result<u8, Stop>
     requires { has_failed out.old ≡ false }
+    ensures runs { CarriesOut F.File.remaining W.contents request.now out.old out.new result }
     ensures done { IfOk result (λ status. IsAnswer request.now status) }
     ensures stopped { IfErr result (λ stop. IsSilent stop out.old out.new) }
     ensures quiet { is_for_many_files request.now ≡ false → err.new ≡ err.old }

@@ -1,5 +1,5 @@
-use Rattle.cats_cmd.specs.Outcomes.{normalise_outcome, value_outcome}
-use Rattle.cats_cmd.proofs.Stopping.{told_run, value_tells, normalise_tells, told_comparison}
+use Rattle.cats_cmd.specs.Outcomes.{check_outcome, show_outcome, normalise_outcome, value_outcome}
+use Rattle.cats_cmd.proofs.Stopping.{told_run, value_tells, normalise_tells, told_comparison, ran_on_some, compared_some, stopped_run}
 use Rattle.cats_cmd.proofs.program.carry_out.Goals as goal
 
 pub returns-in_ok-run_value-in-Value-clause-done : goal.returns-in_ok-run_value-in-Value-clause-done
@@ -15,3 +15,47 @@ returns-in_ok-run_normalise-in-Normalise-clause-done g c =
 pub returns-in_ok-run_compare-in-Compare-clause-done : goal.returns-in_ok-run_compare-in-Compare-clause-done
 returns-in_ok-run_compare-in-Compare-clause-done g c =
     rw c.in-Compare.is (told_comparison _ _ _ c.in-Compare.limit _ _ _ _ _ _ _ c.in_ok-run_compare-in-Compare.ensures)
+
+-- the run of each request, where it answered and where it stopped
+
+pub returns-in_ok-run_check-in-Check-clause-runs : goal.returns-in_ok-run_check-in-Check-clause-runs
+returns-in_ok-run_check-in-Check-clause-runs g c = rw c.in-Check.is (ran_on_some _ _ check_outcome _ _ _ _ _ c.in_ok-run_check-in-Check.ensures)
+
+pub returns-in_err-run_check-in-Check-clause-runs : goal.returns-in_err-run_check-in-Check-clause-runs
+returns-in_err-run_check-in-Check-clause-runs g c =
+    stopped_run g.F.File.Read.remaining g.W.Write.contents c.args.request.now c.args.out.now c.run_check.new.out c.in_err-run_check-in-Check.field-0.0 c.from_residual-in_err-run_check-in-Check.result c.from_residual-in_err-run_check-in-Check.ensures.1
+    (rw c.in-Check.is (ran_on_some _ _ check_outcome _ _ _ _ _ c.in_err-run_check-in-Check.ensures))
+
+pub returns-in_ok-run_show-in-Show-clause-runs : goal.returns-in_ok-run_show-in-Show-clause-runs
+returns-in_ok-run_show-in-Show-clause-runs g c = rw c.in-Show.is (ran_on_some _ _ show_outcome _ _ _ _ _ c.in_ok-run_show-in-Show.ensures)
+
+pub returns-in_err-run_show-in-Show-clause-runs : goal.returns-in_err-run_show-in-Show-clause-runs
+returns-in_err-run_show-in-Show-clause-runs g c =
+    stopped_run g.F.File.Read.remaining g.W.Write.contents c.args.request.now c.args.out.now c.run_show.new.out c.in_err-run_show-in-Show.field-0.0 c.from_residual-in_err-run_show-in-Show.result c.from_residual-in_err-run_show-in-Show.ensures.1
+    (rw c.in-Show.is (ran_on_some _ _ show_outcome _ _ _ _ _ c.in_err-run_show-in-Show.ensures))
+
+pub returns-in_ok-run_value-in-Value-clause-runs : goal.returns-in_ok-run_value-in-Value-clause-runs
+returns-in_ok-run_value-in-Value-clause-runs g c =
+    rw c.in-Value.is (ran_on_some _ _ (value_outcome c.in-Value.goods.items c.in-Value.limit) _ _ _ _ _ (rw c.as_slice-goods.ensures.value at c.in_ok-run_value-in-Value.ensures))
+
+pub returns-in_err-run_value-in-Value-clause-runs : goal.returns-in_err-run_value-in-Value-clause-runs
+returns-in_err-run_value-in-Value-clause-runs g c =
+    stopped_run g.F.File.Read.remaining g.W.Write.contents c.args.request.now c.args.out.now c.run_value.new.out c.in_err-run_value-in-Value.field-0.0 c.from_residual-in_err-run_value-in-Value.result c.from_residual-in_err-run_value-in-Value.ensures.1
+    (rw c.in-Value.is (ran_on_some _ _ (value_outcome c.in-Value.goods.items c.in-Value.limit) _ _ _ _ _ (rw c.as_slice-goods.ensures.value at c.in_err-run_value-in-Value.ensures)))
+
+pub returns-in_ok-run_normalise-in-Normalise-clause-runs : goal.returns-in_ok-run_normalise-in-Normalise-clause-runs
+returns-in_ok-run_normalise-in-Normalise-clause-runs g c =
+    rw c.in-Normalise.is (ran_on_some _ _ (normalise_outcome c.in-Normalise.limit) _ _ _ _ _ c.in_ok-run_normalise-in-Normalise.ensures)
+
+pub returns-in_err-run_normalise-in-Normalise-clause-runs : goal.returns-in_err-run_normalise-in-Normalise-clause-runs
+returns-in_err-run_normalise-in-Normalise-clause-runs g c =
+    stopped_run g.F.File.Read.remaining g.W.Write.contents c.args.request.now c.args.out.now c.run_normalise.new.out c.in_err-run_normalise-in-Normalise.field-0.0 c.from_residual-in_err-run_normalise-in-Normalise.result c.from_residual-in_err-run_normalise-in-Normalise.ensures.1
+    (rw c.in-Normalise.is (ran_on_some _ _ (normalise_outcome c.in-Normalise.limit) _ _ _ _ _ c.in_err-run_normalise-in-Normalise.ensures))
+
+pub returns-in_ok-run_compare-in-Compare-clause-runs : goal.returns-in_ok-run_compare-in-Compare-clause-runs
+returns-in_ok-run_compare-in-Compare-clause-runs g c = rw c.in-Compare.is (compared_some _ _ c.in-Compare.limit _ _ _ _ _ _ _ c.in_ok-run_compare-in-Compare.ensures)
+
+pub returns-in_err-run_compare-in-Compare-clause-runs : goal.returns-in_err-run_compare-in-Compare-clause-runs
+returns-in_err-run_compare-in-Compare-clause-runs g c =
+    stopped_run g.F.File.Read.remaining g.W.Write.contents c.args.request.now c.args.out.now c.run_compare.new.out c.in_err-run_compare-in-Compare.field-0.0 c.from_residual-in_err-run_compare-in-Compare.result c.from_residual-in_err-run_compare-in-Compare.ensures.1
+    (rw c.in-Compare.is (compared_some _ _ c.in-Compare.limit _ _ _ _ _ _ _ c.in_err-run_compare-in-Compare.ensures))
