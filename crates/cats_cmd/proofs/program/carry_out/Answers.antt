@@ -36,12 +36,12 @@ returns-in_err-run_show-in-Show-clause-runs g c =
 
 pub returns-in_ok-run_value-in-Value-clause-runs : goal.returns-in_ok-run_value-in-Value-clause-runs
 returns-in_ok-run_value-in-Value-clause-runs g c =
-    rw c.in-Value.is (ran_on_some _ _ (value_outcome c.in-Value.goods.items c.in-Value.limit) _ _ _ _ _ (rw c.as_slice-goods.ensures.value at c.in_ok-run_value-in-Value.ensures))
+    rw c.in-Value.is (ran_on_some _ _ (value_outcome c.in-Value.goods.items c.in-Value.limit) _ _ _ _ _ (rw c.as_slice.ensures.value at c.in_ok-run_value-in-Value.ensures))
 
 pub returns-in_err-run_value-in-Value-clause-runs : goal.returns-in_err-run_value-in-Value-clause-runs
 returns-in_err-run_value-in-Value-clause-runs g c =
     stopped_run g.F.File.Read.remaining g.W.Write.contents c.args.request.now c.args.out.now c.run_value.new.out c.in_err-run_value-in-Value.field-0.0 c.from_residual-in_err-run_value-in-Value.result c.from_residual-in_err-run_value-in-Value.ensures.1
-    (rw c.in-Value.is (ran_on_some _ _ (value_outcome c.in-Value.goods.items c.in-Value.limit) _ _ _ _ _ (rw c.as_slice-goods.ensures.value at c.in_err-run_value-in-Value.ensures)))
+    (rw c.in-Value.is (ran_on_some _ _ (value_outcome c.in-Value.goods.items c.in-Value.limit) _ _ _ _ _ (rw c.as_slice.ensures.value at c.in_err-run_value-in-Value.ensures)))
 
 pub returns-in_ok-run_normalise-in-Normalise-clause-runs : goal.returns-in_ok-run_normalise-in-Normalise-clause-runs
 returns-in_ok-run_normalise-in-Normalise-clause-runs g c =
