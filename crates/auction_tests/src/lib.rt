@@ -1,4 +1,4 @@
-//! Tests of `goods_set`, `valuation`, `prune` and `canon`, on worked rows and beside slow programs. They stand in a
+//! Tests of `goods_set`, `valuation` and `prune`, on worked rows and beside slow programs. They stand in a
 //! crate of their own, since a crate's functions are proved with its tests once more.
 #![tactic(auto)]
 
@@ -8,12 +8,6 @@ mod auctions;
 mod bids;
 #[cfg(test)]
 mod bundles;
-#[cfg(test)]
-mod canonical;
-#[cfg(test)]
-mod comparisons;
-#[cfg(test)]
-mod places;
 #[cfg(test)]
 mod plain_points;
 #[cfg(test)]

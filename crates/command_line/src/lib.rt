@@ -5,8 +5,6 @@ mod commands;
 mod help;
 mod parser;
 mod request;
-#[cfg(test)]
-mod tests;
 
 pub use parser::parse;
 pub use request::{NoRequest, Request};

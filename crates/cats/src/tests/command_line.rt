@@ -1,6 +1,6 @@
 //! What no clause says of command lines: the files, goods and limits that they ask for, and what `clap` tells.
 
-use crate::{NoRequest, parse};
+use command_line::{NoRequest, parse};
 use std::test::Fail;
 
 /// Command lines, and what they ask for.

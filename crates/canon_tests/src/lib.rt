@@ -1,0 +1,10 @@
+//! Tests of `canon`, on worked rows. They stand in a crate of their own, since a crate's functions are proved with its
+//! tests once more.
+#![tactic(auto)]
+
+#[cfg(test)]
+mod canonical;
+#[cfg(test)]
+mod comparisons;
+#[cfg(test)]
+mod places;
