@@ -1,5 +1,6 @@
 //! Each public call once, with ample memory, on worked rows.
 
+use crate::refusals::refusal_text;
 use canon::{
     CanonFault, canonical, file_of, into_file, into_normal_file, last_normal_text, normal_file,
     normal_text, normalise,
@@ -50,16 +51,20 @@ fn canonical_auctions(rt: HostRuntime) -> Result<(), Fail> {
     Ok(())
 }
 
+/// The file of an auction, made twice: from the auction, and from the auction given up.
+fn texts_of<S: GoodsSet>(alloc: Global, auction: Auction<S>) -> Result<(String, String), Fail> {
+    let text = text_of(alloc, &file_of(alloc, &auction)?)?;
+    Ok((text, text_of(alloc, &into_file(alloc, auction)?)?))
+}
+
 #[test]
 fn files_of_auctions(rt: HostRuntime) -> Result<(), Fail> {
     for text in &[EQUAL_BIDDERS_TEXT, LARGER_BID] {
         let file = read(rt.alloc(), text.as_bytes())?;
         assert!(rt; file.goods() <= 1024);
         let auction: Auction<WordSet<16>> = auction_of(rt.alloc(), &file)?;
-        let again = file_of(rt.alloc(), &auction)?;
-        assert_eq!(rt; text_of(rt.alloc(), &again)?.as_str(), *text);
-        let given_up = into_file(rt.alloc(), auction)?;
-        assert_eq!(rt; text_of(rt.alloc(), &given_up)?.as_str(), *text);
+        let (first, given_up) = texts_of(rt.alloc(), auction)?;
+        assert_eq!(rt; (first.as_str(), given_up.as_str()), (*text, *text));
     }
     Ok(())
 }
@@ -68,9 +73,7 @@ fn files_of_auctions(rt: HostRuntime) -> Result<(), Fail> {
 fn told(alloc: Global, answer: Result<Vec<u8>, CanonFault>) -> Result<String, Fail> {
     match answer {
         Ok(text) => Ok(String::from_utf8(text)?),
-        Err(CanonFault::Read(fault)) => Ok(format!(in alloc; "{fault}")?),
-        Err(CanonFault::StepLimit { goods }) => Ok(format!(in alloc; "steps {goods:?}")?),
-        Err(CanonFault::Memory) => Ok(String::from_str(alloc, "memory")?),
+        Err(fault) => refusal_text(alloc, fault),
     }
 }
 
@@ -88,27 +91,35 @@ fn canonical_texts(rt: HostRuntime) -> Result<(), Fail> {
     Ok(())
 }
 
+/// The file that a call answered, as its text, or why there is none.
+fn told_file(alloc: Global, answer: Result<BidFile, CanonFault>) -> Result<String, Fail> {
+    match answer {
+        Ok(file) => text_of(alloc, &file),
+        Err(fault) => refusal_text(alloc, fault),
+    }
+}
+
 #[test]
 fn canonical_files(rt: HostRuntime) -> Result<(), Fail> {
-    let file = read(rt.alloc(), LARGER_BID.as_bytes())?;
-    match normal_file(rt.alloc(), &file, 3) {
-        Ok(normal) => {
-            assert_eq!(rt; text_of(rt.alloc(), &normal)?.as_str(), LARGER_BID_TEXT);
-        }
-        Err(_) => assert!(rt; false),
+    for (limit, expected) in &[(3, LARGER_BID_TEXT), (2, "steps [0, 1]")] {
+        let file = read(rt.alloc(), LARGER_BID.as_bytes())?;
+        let answer = normal_file(rt.alloc(), &file, *limit);
+        assert_eq!(rt; told_file(rt.alloc(), answer)?.as_str(), *expected);
+        let answer = into_normal_file(rt.alloc(), file, *limit);
+        assert_eq!(rt; told_file(rt.alloc(), answer)?.as_str(), *expected);
     }
-    assert_eq!(rt; normal_file(rt.alloc(), &file, 2).is_err(), true);
-    let answer = normal_text(rt.alloc(), file, 3);
-    assert_eq!(rt; told(rt.alloc(), answer)?.as_str(), LARGER_BID_TEXT);
-    let given_up = read(rt.alloc(), LARGER_BID.as_bytes())?;
-    match into_normal_file(rt.alloc(), given_up, 3) {
-        Ok(normal) => {
-            assert_eq!(rt; text_of(rt.alloc(), &normal)?.as_str(), LARGER_BID_TEXT);
-        }
-        Err(_) => assert!(rt; false),
+    Ok(())
+}
+
+#[test]
+fn canonical_texts_of_files(rt: HostRuntime) -> Result<(), Fail> {
+    for (limit, expected) in &[(3, LARGER_BID_TEXT), (2, "steps [0, 1]")] {
+        let file = read(rt.alloc(), LARGER_BID.as_bytes())?;
+        let answer = normal_text(rt.alloc(), file, *limit);
+        assert_eq!(rt; told(rt.alloc(), answer)?.as_str(), *expected);
+        let file = read(rt.alloc(), LARGER_BID.as_bytes())?;
+        let answer = last_normal_text(rt.alloc(), file, *limit);
+        assert_eq!(rt; told(rt.alloc(), answer)?.as_str(), *expected);
     }
-    let last = read(rt.alloc(), LARGER_BID.as_bytes())?;
-    let answer = last_normal_text(rt.alloc(), last, 3);
-    assert_eq!(rt; told(rt.alloc(), answer)?.as_str(), LARGER_BID_TEXT);
     Ok(())
 }

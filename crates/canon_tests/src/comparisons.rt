@@ -1,7 +1,8 @@
 //! Comparisons on worked rows. Texts have prices in units, verdicts in millionths.
 
+use crate::refusals::refusal_text;
 use canon::{CanonFault, Verdict, Which, compare, compare_files, normal_file};
-use cats_text::read;
+use cats_text::{BidFile, read};
 use std::alloc::Global;
 use std::test::Fail;
 
@@ -91,11 +92,10 @@ static ROWS: [(&str, &str, &str); 13] = [
 fn told(alloc: Global, answer: Result<Verdict, (Which, CanonFault)>) -> Result<String, Fail> {
     match answer {
         Ok(verdict) => Ok(format!(in alloc; "{verdict:?}")?),
-        Err((which, CanonFault::Read(fault))) => Ok(format!(in alloc; "{which:?} {fault}")?),
-        Err((which, CanonFault::StepLimit { goods })) => {
-            Ok(format!(in alloc; "{which:?} steps {goods:?}")?)
+        Err((which, fault)) => {
+            let why = refusal_text(alloc, fault)?;
+            Ok(format!(in alloc; "{which:?} {why}")?)
         }
-        Err((which, CanonFault::Memory)) => Ok(format!(in alloc; "{which:?} memory")?),
     }
 }
 
@@ -108,13 +108,17 @@ fn texts_part(rt: HostRuntime) -> Result<(), Fail> {
     Ok(())
 }
 
+/// The canonical file of a text.
+fn normal_file_of(alloc: Global, text: &str) -> Result<BidFile, Fail> {
+    let file = read(alloc, text.as_bytes())?;
+    Ok(normal_file(alloc, &file, 100)?)
+}
+
 #[test]
 fn canonical_files_part(rt: HostRuntime) -> Result<(), Fail> {
     for (left, right, expected) in &ROWS {
-        let one = read(rt.alloc(), left.as_bytes())?;
-        let one = normal_file(rt.alloc(), &one, 100)?;
-        let other = read(rt.alloc(), right.as_bytes())?;
-        let other = normal_file(rt.alloc(), &other, 100)?;
+        let one = normal_file_of(rt.alloc(), left)?;
+        let other = normal_file_of(rt.alloc(), right)?;
         let verdict = compare_files(rt.alloc(), &one, &other)?;
         let line = format!(in rt.alloc(); "{verdict:?}")?;
         assert_eq!(rt; line.as_str(), *expected);
@@ -122,21 +126,24 @@ fn canonical_files_part(rt: HostRuntime) -> Result<(), Fail> {
     Ok(())
 }
 
+const FAULT: &str = "goods 2\n";
+
+/// Pairs of texts, of which two steps are too few for those with a pair, and what is told.
+static REFUSALS: [(&str, &str, &str); 9] = [
+    (FAULT, "goods x\n", "First line 2: Missing"),
+    (FAULT, PAIR_AT_7, "First line 2: Missing"),
+    (FAULT, SINGLES, "First line 2: Missing"),
+    (PAIR_AT_7, FAULT, "First steps [0, 1]"),
+    (PAIR_AT_7, PAIR_AT_8, "First steps [0, 1]"),
+    (PAIR_AT_7, SINGLES, "First steps [0, 1]"),
+    (SINGLES, FAULT, "Second line 2: Missing"),
+    (SINGLES, PAIR_AT_7, "Second steps [0, 1]"),
+    (SINGLES, SINGLES, "Same"),
+];
+
 #[test]
 fn the_first_refusal_is_told(rt: HostRuntime) -> Result<(), Fail> {
-    let fault = "goods 2\n";
-    let heavy = PAIR_AT_7;
-    for (left, right, expected) in &[
-        (fault, "goods x\n", "First line 2: Missing"),
-        (fault, heavy, "First line 2: Missing"),
-        (fault, SINGLES, "First line 2: Missing"),
-        (heavy, fault, "First steps [0, 1]"),
-        (heavy, PAIR_AT_8, "First steps [0, 1]"),
-        (heavy, SINGLES, "First steps [0, 1]"),
-        (SINGLES, fault, "Second line 2: Missing"),
-        (SINGLES, heavy, "Second steps [0, 1]"),
-        (SINGLES, SINGLES, "Same"),
-    ] {
+    for (left, right, expected) in &REFUSALS {
         let answer = compare(rt.alloc(), left.as_bytes(), right.as_bytes(), 2);
         assert_eq!(rt; told(rt.alloc(), answer)?.as_str(), *expected);
     }

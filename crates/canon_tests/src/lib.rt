@@ -8,3 +8,5 @@ mod canonical;
 mod comparisons;
 #[cfg(test)]
 mod places;
+#[cfg(test)]
+mod refusals;

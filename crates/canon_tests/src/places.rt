@@ -1,5 +1,6 @@
 //! Files that are added one by one.
 
+use crate::refusals::refusal_text;
 use canon::{AuctionIndex, CanonFault};
 use cats_text::{Watched, read};
 use std::alloc::Global;
@@ -63,9 +64,7 @@ static ROWS: [(&str, u64, &str); 14] = [
 fn told(alloc: Global, answer: Result<usize, CanonFault>) -> Result<String, Fail> {
     match answer {
         Ok(place) => Ok(format!(in alloc; "{place}")?),
-        Err(CanonFault::Read(fault)) => Ok(format!(in alloc; "{fault}")?),
-        Err(CanonFault::StepLimit { goods }) => Ok(format!(in alloc; "steps {goods:?}")?),
-        Err(CanonFault::Memory) => Ok(String::from_str(alloc, "memory")?),
+        Err(fault) => refusal_text(alloc, fault),
     }
 }
 
