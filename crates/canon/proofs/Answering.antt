@@ -1,4 +1,4 @@
--- What the calls answer, from what the calls below them answered.
+-- What the calls answer, from what the calls below them answered: each kind of answer of one is, by the definitions, one of the other.
 use Rattle.std.proofs.Common.{◌≡◌, ℕ, ◌⊎◌, inl, inr, List, Some, Result, Ok, Err, sym, ap, ◌∙◌, subst, Global}
 use Rattle.std.specs.Prelude.{Vec, ◌↔◌, IfOk}
 use Rattle.cats_text.specs.Files.{PlainFile, IsPlainFile}

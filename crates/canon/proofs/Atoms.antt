@@ -1,4 +1,4 @@
--- What holds of the atoms of an auction holds of its points.
+-- What holds of the atoms of an auction holds of its points: they are atoms over its goods, and have the tables of all atoms.
 use Rattle.std.proofs.Common.{◌≡◌, ℕ, List}
 use Rattle.std.specs.Prelude.{All, Contains}
 use Rattle.std.proofs.lemmas.List.Elements.{All-contains, All-weaker}

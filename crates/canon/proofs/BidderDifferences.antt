@@ -1,4 +1,5 @@
--- The least bidder that two lists of bidders in order do not have equally often.
+-- The least element that two lists in order do not have equally often. It is the first such one of both lists, put in order together;
+-- where two lists that never fall part, it is the lesser of the two elements there, since what stands behind is no less.
 use Rattle.std.proofs.Common.{◌≡◌, ℕ, ◌+◌, ◌<◌, Bool, true, false, not, eqb, cond, ⊎_elim, List, [], ◌∷◌, ◌++◌, refl, ap, ◌∙◌, subst, arith, Option, Some, None, Ordering, Less, Equal, Greater}
 use Rattle.std.specs.Prelude.{Contains}
 use Rattle.std.specs.List.{find, AllByRecursion}

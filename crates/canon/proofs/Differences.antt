@@ -1,4 +1,5 @@
--- Laws of the first difference.
+-- Laws of the first difference. Exchanging the auctions exchanges its sides; there is none exactly between auctions that are the same;
+-- and where it is a bundle or a bidder, it is a point of one of them, or counted unequally by tables: each case by case over its parts.
 use Rattle.std.proofs.Common.{◌≡◌, ℕ, ◌<◌, true, false, eqb, cond, ⊎_elim, List, refl, sym, ap, ap₂, ◌∙◌, subst, arith, Option, Some, None}
 use Rattle.std.specs.Prelude.{All, ◌↔◌}
 use Rattle.std.specs.List.{find, count_by}

@@ -1,4 +1,4 @@
--- What is made of a file by normalising it, in the words of the runs.
+-- What is made of a file by normalising it, in the words of the runs: a text, a heavy bundle, or want of memory, answer by answer.
 use Rattle.std.proofs.Common.{◌≡◌, ℕ, List, Option, Some, None, Result, Ok, Err, ap, Global}
 use Rattle.std.specs.Prelude.{Vec}
 use Rattle.cats_text.specs.Files.{PlainFile}

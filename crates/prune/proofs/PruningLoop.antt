@@ -1,4 +1,5 @@
--- The turns of a pruning's loop, by what the code knows of its variables.
+-- The turns of a pruning's loop, by what the code knows of its variables: each is one of proofs/Results, once the code's lists are seen
+-- by the goods of their sets.
 use Rattle.std.proofs.Common.{◌≡◌, ℕ, zero, suc, ◌+◌, ◌<◌, ◌≤◌, Bool, true, false, ◌||◌, leb, ⊎_elim, List, [], ◌∷◌, ◌++◌, length, map, take, drop, max, get_or, sym, ap, ap₂, ◌∙◌, subst, arith, append_assoc, append-nil, Bor, ltb, None}
 use Rattle.std.specs.Prelude.{All, Contains}
 use Rattle.std.specs.List.{filter, list_any}

@@ -1,4 +1,5 @@
--- What a pruning that is done has kept: the points, with the values of all bids.
+-- What a pruning that is done has kept: the points, with the values of all bids. A turn on one more best bid keeps this of the bids
+-- so far, and in the end the best bids are done, which have the points and the values of all.
 use Rattle.std.proofs.Common.{◌≡◌, ℕ, ◌+◌, ◌<◌, ◌≤◌, Bool, true, false, leb, ltb, ◌&&◌, ⊎_elim, List, [], ◌∷◌, ◌++◌, length, refl, sym, ap, ◌∙◌, subst, arith, le_trans, le_antisymm, Some, None, Less}
 use Rattle.std.specs.Prelude.{All, Contains}
 use Rattle.std.specs.List.{filter}

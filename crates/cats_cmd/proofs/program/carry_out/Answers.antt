@@ -1,3 +1,4 @@
+-- A request is carried out by its one run: what the run's contract says, at the run's arguments, is what is asked of the request.
 use Rattle.cats_cmd.specs.Outcomes.{check_outcome, show_outcome, normalise_outcome, value_outcome}
 use Rattle.cats_cmd.proofs.Stopping.{told_run, value_tells, normalise_tells, told_comparison, ran_on_some, compared_some, stopped_run}
 use Rattle.cats_cmd.proofs.program.carry_out.Goals as goal

@@ -1,3 +1,5 @@
+-- A turn of the loop keeps a bid exactly where the search does not reach its price, which is a turn of proofs/Results; a search that
+-- gives up has found a heavy bundle; and at the end the kept bids are the points.
 use Rattle.std.proofs.Common.{arith, Err, ◌≡◌, length, sym, ap, ◌∙◌, []}
 use Rattle.std.proofs.lemmas.List.{map_push, nil_from_length, length_push}
 use Rattle.std.proofs.lemmas.List.Elements.{All-contains}

@@ -1,3 +1,5 @@
+-- A turn of the loop keeps a bid exactly where no kept bid inside its bundle covers it, which is a turn of proofs/Results; and at the
+-- end the kept bids are the points. Few bids of which none covers another are the points as they are.
 use Rattle.std.proofs.Common.{arith, ◌≡◌, length, sym, ap, ◌∙◌, subst, []}
 use Rattle.std.proofs.lemmas.Bool.{both_ways, le-leb}
 use Rattle.std.proofs.lemmas.List.{map_push, nil_from_length, length_push}

@@ -1,3 +1,5 @@
+-- None of the atoms listed before covers the bid; one that costs less, or is not inside the bundle, does not cover it either, and
+-- else one that does was found.
 use Rattle.std.proofs.Common.{arith, ◌≡◌, map, get_or, sym, ap, ◌∙◌, false}
 use Rattle.valuation.specs.Values.{atoms_of}
 use Rattle.prune.specs.declared.kept.Listing.{Listing}

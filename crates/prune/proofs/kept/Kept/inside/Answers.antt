@@ -1,3 +1,4 @@
+-- The atoms taken so far are those at the first of the places; the places of all are those of the atoms inside the bundle.
 use Rattle.std.proofs.Common.{arith, map, sym, ap, ◌∙◌}
 use Rattle.std.specs.List.{filter, range_with_len}
 use Rattle.std.proofs.lemmas.List.{take_all}

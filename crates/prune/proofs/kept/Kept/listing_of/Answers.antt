@@ -1,3 +1,4 @@
+-- What is chosen so far are goods of the bundle, and the next one is too; a bundle with goods has a first one, so some were chosen.
 use Rattle.std.proofs.Common.{arith, ◌≡◌, None, true, sym, ap, ◌∙◌, ⊎_elim, subst, inr}
 use Rattle.goods_set.specs.Bundles.{has_good, good_from}
 use Rattle.prune.specs.declared.kept.Listing.{Listing}
