@@ -22,7 +22,8 @@ use Rattle.canon.specs.Sameness.{AreSameFiles}
 use Rattle.canon.specs.declared.fault.CanonFault.{CanonFault}
 use Rattle.canon.specs.declared.fault.CanonFault.TheVariants.{Read, StepLimit, Memory}
 use Rattle.canon.proofs.Least.{canonical_is_least}
-use Rattle.canon.proofs.Texts.{normalised_spelled, text_from_normalised, normalised_from_text, normalised_again, same_text, same_from_text, canonical_file_is_same, canonical_file_is_fixed}
+use Rattle.canon.proofs.Texts.{normalised_spelled, text_from_normalised, normalised_from_text, normalised_again, same_text, same_from_text}
+use Rattle.canon.proofs.Texts.{canonical_file_is_same, canonical_file_is_fixed}
 
 -- ---- a fault of reading
 

@@ -1,6 +1,7 @@
 -- The least element that two lists in order do not have equally often. It is the first such one of both lists, put in order together;
 -- where two lists that never fall part, it is the lesser of the two elements there, since what stands behind is no less.
-use Rattle.std.proofs.Common.{◌≡◌, ℕ, ◌+◌, ◌<◌, Bool, true, false, not, eqb, cond, ⊎_elim, List, [], ◌∷◌, ◌++◌, refl, ap, ◌∙◌, subst, arith, Option, Some, None, Ordering, Less, Equal, Greater}
+use Rattle.std.proofs.Common.{◌≡◌, ℕ, ◌+◌, ◌<◌, Bool, true, false, not, eqb, cond, ⊎_elim, List, [], ◌∷◌, ◌++◌, refl, ap, ◌∙◌, subst, arith, Option, Some, None}
+use Rattle.std.proofs.Common.{Ordering, Less, Equal, Greater}
 use Rattle.std.specs.Prelude.{Contains}
 use Rattle.std.specs.List.{find, AllByRecursion}
 use Rattle.std.specs.Ordering.{is_eq, is_gt}

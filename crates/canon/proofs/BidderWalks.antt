@@ -1,7 +1,8 @@
 -- Walks over the bids of bidders. The bids of the first bidder are the leading ones with its dummy good, and behind them stand
 -- those of the others. Two walks side by side that gave the same bidders so far part at the least bidder that the two do not have
 -- equally often, since neither list of bidders falls.
-use Rattle.std.proofs.Common.{◌≡◌, ℕ, ◌+◌, ◌<◌, ◌≤◌, true, false, eqb, cond, ⊎_elim, List, [], ◌∷◌, ◌++◌, length, map, take, drop, get_or, refl, sym, ap, ap₂, ◌∙◌, subst, arith, append_assoc, Option, Some, None, Less, Equal, Greater, Bor, ◌-◌, ◌⊎◌}
+use Rattle.std.proofs.Common.{◌≡◌, ℕ, ◌+◌, ◌<◌, ◌≤◌, true, false, eqb, cond, ⊎_elim, List, [], ◌∷◌, ◌++◌, length, map, take, drop, get_or, refl, sym, ap, ap₂}
+use Rattle.std.proofs.Common.{◌∙◌, subst, arith, append_assoc, Option, Some, None, Less, Equal, Greater, Bor, ◌-◌, ◌⊎◌}
 use Rattle.std.specs.Prelude.{All, MatchOption}
 use Rattle.std.specs.List.{AllByRecursion, prefix_len}
 use Rattle.std.specs.Option.{option_eq, option_or}
@@ -72,7 +73,8 @@ parts_of_bids d bidder bidders bids h n e =
     let rest = dummy_bids (d + 1) bidders in
     let size : length own ≡ n = length-map bidder (bid_from (Some d)) ∙ sym e in
     let front : take n (own ++ rest) ≡ own = take-append-le n own rest (omega arith) ∙ take_all n own (omega arith) in
-    let back : drop n (own ++ rest) ≡ rest = drop-append-le n own rest (omega arith) ∙ ap (λ (zs : List PlainBid). zs ++ rest) (drop_all n own (omega arith)) in (
+    let back : drop n (own ++ rest) ≡ rest = drop-append-le n own rest (omega arith)
+    ∙ ap (λ (zs : List PlainBid). zs ++ rest) (drop_all n own (omega arith)) in (
       ap (map atom_of) (sym (take-map plain_bid n bids) ∙ ap (take n) h.are ∙ front) ∙ offered d bidder,
       record { each = h.each.1; are = sym (drop-map plain_bid n bids) ∙ ap (drop n) h.are ∙ back },
     )

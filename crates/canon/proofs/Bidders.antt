@@ -1,5 +1,6 @@
 -- The bidders as the code has them: what holds of each, one more, and putting them in order.
-use Rattle.std.proofs.Common.{◌≡◌, ℕ, ◌+◌, ◌<◌, ◌≤◌, Bool, true, false, ⊎_elim, List, [], ◌∷◌, ◌++◌, length, map, get_or, Some, None, sym, ap, ap₂, ◌∙◌, subst, arith, append_assoc, Global}
+use Rattle.std.proofs.Common.{◌≡◌, ℕ, ◌+◌, ◌<◌, ◌≤◌, Bool, true, false, ⊎_elim, List, [], ◌∷◌, ◌++◌, length, map, get_or, Some, None, sym, ap, ap₂, ◌∙◌, subst}
+use Rattle.std.proofs.Common.{arith, append_assoc, Global}
 use Rattle.std.specs.Prelude.{All, Vec, IsPermutation}
 use Rattle.std.specs.List.{filter}
 use Rattle.std.specs.List.Sorted.{IsSortedBy}
@@ -101,7 +102,8 @@ bidders_sorted {S} goods old new p up =
 
 -- ---- the loop over the bidders
 
-module _ {S : Type 0} (goods : S → List ℕ) (all done left rest : List (Vec (Atom S) Global)) (b : Vec (Atom S) Global) (parts : all ≡ done ++ left) (next : left ≡ b ∷ rest) where
+module _ {S : Type 0} (goods : S → List ℕ) (all done left rest : List (Vec (Atom S) Global)) (b : Vec (Atom S) Global) (parts : all ≡ done ++ left)
+    (next : left ≡ b ∷ rest) where
   pub bidder_next : (P : List (Atom (List ℕ)) → Type 0) → All P (bidders_of goods all) → P (atoms_of goods b.items)
   bidder_next P h = all_middle (λ (v : Vec (Atom S) Global). atoms_of goods v.items) P all done rest b (parts
       ∙ ap (λ (zs : List (Vec (Atom S) Global)). done ++ zs) next) h

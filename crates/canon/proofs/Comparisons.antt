@@ -1,5 +1,6 @@
 -- What comparing answers: of two canonical files, by their OR bids and their XOR bids, and of two texts, by the files that they spell.
-use Rattle.std.proofs.Common.{◌≡◌, ℕ, zero, suc, ◌+◌, ◌≤◌, Bool, true, cond, List, [], ◌∷◌, ◌++◌, length, map, take, drop, Option, Some, None, is_none, Result, Ok, Err, refl, sym, ap, ap₂, ◌∙◌, subst, arith}
+use Rattle.std.proofs.Common.{◌≡◌, ℕ, zero, suc, ◌+◌, ◌≤◌, Bool, true, cond, List, [], ◌∷◌, ◌++◌, length, map, take, drop, Option, Some, None, is_none, Result}
+use Rattle.std.proofs.Common.{Ok, Err, refl, sym, ap, ap₂, ◌∙◌, subst, arith}
 use Rattle.std.specs.Prelude.{◌↔◌, IfOk, OnErr, MatchOption}
 use Rattle.std.specs.List.{prefix_len}
 use Rattle.std.proofs.lemmas.Bool.{cond-true}
@@ -58,7 +59,8 @@ passing_plain : (bids : List Bid) → prefix_len (λ (b : Bid). is_none b.dummy)
 passing_plain [] = refl
 passing_plain (b ∷ bids) = ap (λ n. cond (is_none b.dummy) (1 + n) 0) (passing_plain bids)
 
-module _ (a : PlainAuction) (bids : List Bid) (are : plain_bids bids ≡ (file_from a).bids) (n : ℕ) (is : n ≡ prefix_len (λ (b : Bid). is_none b.dummy) bids) where
+module _ (a : PlainAuction) (bids : List Bid) (are : plain_bids bids ≡ (file_from a).bids) (n : ℕ)
+    (is : n ≡ prefix_len (λ (b : Bid). is_none b.dummy) bids) where
   or_count : n ≡ length (map (bid_from None) a.or_atoms)
   or_count =
       is ∙ passing_plain bids ∙ ap (prefix_len (λ (b : PlainBid). is_none b.dummy)) are

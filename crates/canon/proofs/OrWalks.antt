@@ -1,5 +1,6 @@
 -- Two lists of points are walked place by place. Where they part, the lesser bundle is the first on which the values differ.
-use Rattle.std.proofs.Common.{◌≡◌, ℕ, ◌+◌, ◌<◌, ◌≤◌, cond, ⊎_elim, List, [], ◌∷◌, ◌++◌, length, map, take, drop, get_or, refl, sym, ap, ap₂, ◌∙◌, subst, arith, Some, None, Less, Equal, Greater}
+use Rattle.std.proofs.Common.{◌≡◌, ℕ, ◌+◌, ◌<◌, ◌≤◌, cond, ⊎_elim, List, [], ◌∷◌, ◌++◌, length, map, take, drop, get_or, refl, sym, ap, ap₂, ◌∙◌, subst, arith}
+use Rattle.std.proofs.Common.{Some, None, Less, Equal, Greater}
 use Rattle.std.specs.Prelude.{Contains, OnErr, Result, Ok, Err}
 use Rattle.std.specs.List.{find}
 use Rattle.std.specs.Ordering.{ordering_reverse}
@@ -98,7 +99,8 @@ module _ (goods : ℕ) where
       sym (take-append-drop i xs)
       ∙ ap (λ (zs : List (Atom (List ℕ))). take i xs ++ zs) (drop_more xs i x l ∙ ap (λ (z : Atom (List ℕ)). z ∷ drop (i + 1) xs) (sym e))
 
-  module _ (one other : List (Atom (List ℕ))) (p : ArePoints goods one) (q : ArePoints goods other) (i : ℕ) (shared : take i one ≡ take i other) (x : Atom (List ℕ)) (here : i < length one) (is : x ≡ get_or one i x) where
+  module _ (one other : List (Atom (List ℕ))) (p : ArePoints goods one) (q : ArePoints goods other) (i : ℕ) (shared : take i one ≡ take i other)
+      (x : Atom (List ℕ)) (here : i < length one) (is : x ≡ get_or one i x) where
     left_is : one ≡ take i one ++ (x ∷ drop (i + 1) one)
     left_is = split_at_place one i x here is
 
@@ -133,7 +135,8 @@ module _ (goods : ℕ) where
           (λ a b. parts_both (take i one) x y (drop (i + 1) one) (drop (i + 1) other) a b same differ)
 
   -- the same, seen from the other list
-  module _ (one other : List (Atom (List ℕ))) (p : ArePoints goods one) (q : ArePoints goods other) (i : ℕ) (shared : take i one ≡ take i other) (y : Atom (List ℕ)) (there : i < length other) (so : y ≡ get_or other i y) where
+  module _ (one other : List (Atom (List ℕ))) (p : ArePoints goods one) (q : ArePoints goods other) (i : ℕ) (shared : take i one ≡ take i other)
+      (y : Atom (List ℕ)) (there : i < length other) (so : y ≡ get_or other i y) where
     pub parted_at_end_right : length one ≤ i → PartsAs goods one other y.bundle (Below y.price) (Exactly y.price)
     parted_at_end_right l = parts_swap other one y.bundle (Exactly y.price) (Below y.price) (parted_at_end other one q p i (sym shared) y there so l)
 

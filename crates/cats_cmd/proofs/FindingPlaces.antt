@@ -1,6 +1,7 @@
 -- One more path, whose file was judged or was not: what was found of the paths before it stays found, and the path adds a place, or a
 -- status that may be the greatest.
-use Rattle.std.proofs.Common.{◌≡◌, ◌≢◌, ℕ, suc, All, Option, Result, Ok, Err, ◌+◌, ◌<◌, ◌==◌, max, Bool, cond, List, [], ◌∷◌, ◌++◌, length, map, filter, fold, get_or, take, refl, sym, ap, ◌∙◌, subst, arith, append-nil}
+use Rattle.std.proofs.Common.{◌≡◌, ◌≢◌, ℕ, suc, All, Option, Result, Ok, Err, ◌+◌, ◌<◌, ◌==◌, max, Bool, cond, List, [], ◌∷◌, ◌++◌, length, map, filter, fold}
+use Rattle.std.proofs.Common.{get_or, take, refl, sym, ap, ◌∙◌, subst, arith, append-nil}
 use Rattle.std.specs.Borrow.{Bor}
 use Rattle.std.specs.List.{AllByRecursion, AllZip}
 use Rattle.std.specs.Prelude.{IsErrAnd, IfOk, OnErr}
@@ -102,8 +103,8 @@ one_more_path : (paths : List (Bor (List ℕ))) (i : ℕ) (d : Bor (List ℕ)) �
 one_more_path paths i d l = ap (map (λ (p : Bor (List ℕ)). p.now)) (take_more paths i d l)
     ∙ map-append (λ (p : Bor (List ℕ)). p.now) (take i paths) (get_or paths i d ∷ [])
 
-module _ (limit : ℕ) (paths : List (Bor (List ℕ))) (i : ℕ) (d : Bor (List ℕ)) (found : List (Bor (List ℕ) × ℕ)) (greatest : ℕ) (files more : List PlainFile) (l : i < length paths)
-    (h : FindsPlaces limit (map (λ p. p.now) (take i paths)) (found_paths found) files greatest) where
+module _ (limit : ℕ) (paths : List (Bor (List ℕ))) (i : ℕ) (d : Bor (List ℕ)) (found : List (Bor (List ℕ) × ℕ)) (greatest : ℕ) (files more : List PlainFile)
+    (l : i < length paths) (h : FindsPlaces limit (map (λ p. p.now) (take i paths)) (found_paths found) files greatest) where
   pub found_more : (longer : List (Bor (List ℕ) × ℕ)) (place same : ℕ) → Judges limit files more place → longer ≡ found ++ (get_or paths i d, place) ∷ []
       → same ≡ greatest
       → FindsPlaces limit (map (λ p. p.now) (take (i + 1) paths)) (found_paths longer) more same

@@ -1,5 +1,6 @@
 -- The statuses that the runs answer, and what of a line goes out where sending it may fail.
-use Rattle.std.proofs.Common.{◌≡◌, ℕ, List, [], ◌∷◌, refl, length, Option, None, Some, Result, Ok, Err, Bool, true, false, cond, sym, ap, ◌∙◌, subst, arith, ◌≤◌}
+use Rattle.std.proofs.Common.{◌≡◌, ℕ, List, [], ◌∷◌, refl, length, Option, None, Some, Result, Ok, Err, Bool, true, false, cond, sym, ap, ◌∙◌, subst, arith}
+use Rattle.std.proofs.Common.{◌≤◌}
 use Rattle.std.proofs.Math.Seq.{take-length}
 use Rattle.std.specs.Io.KnownBytes.{Appends}
 use Rattle.std.specs.Borrow.{Bor}
@@ -14,7 +15,8 @@ use Rattle.valuation.specs.Packings.{count_packings}
 use Rattle.prune.specs.Steps.{first_heavy}
 use Rattle.canon.specs.Difference.{Difference, NoDifference, InGoods, InOr, InXor, first_difference}
 use Rattle.cats_cmd.specs.Comparisons.{RunsOnFiles}
-use Rattle.cats_cmd.specs.Outcomes.{Outcome, Tells, ExceedsSteps, normalise_outcome, value_outcome, values_within, missing_good, outcome_unless, text_unless_heavy, outcome_of_difference, compare_outcome}
+use Rattle.cats_cmd.specs.Outcomes.{Outcome, Tells, ExceedsSteps, normalise_outcome, value_outcome, values_within, missing_good, outcome_unless}
+use Rattle.cats_cmd.specs.Outcomes.{text_unless_heavy, outcome_of_difference, compare_outcome}
 use Rattle.cats_cmd.specs.ValueTexts.{bundle_from, value_text}
 use Rattle.cats_cmd.specs.Runs.{RunsOnFile}
 use Rattle.cats_cmd.specs.Duplicates.{RunsOnPaths}
@@ -107,16 +109,25 @@ silent_paths contents limit paths old new (Sent fault) ran = tt
 
 module _ {F W : Type 0} (remaining : F → Option (List ℕ)) (contents : W → Option (List ℕ)) where
   -- the run of a file that was opened
-  pub ran_on_some : (outcome : PlainFile → Outcome) (before after : Watched F) (old new : Watched W) (answer : Result ℕ RunFault) → RunsOnFile remaining contents outcome before after old new answer
+  pub ran_on_some : (outcome : PlainFile → Outcome) (before after : Watched F) (old new : Watched W) (answer : Result ℕ RunFault)
+      → RunsOnFile remaining contents outcome before after old new answer
       → RunsOnSome remaining contents outcome old new answer
   ran_on_some outcome before after old new answer ran = record { before = before; after = after; runs = ran }
 
   pub compared_some : (limit : ℕ) (first first_after second second_after : Watched F) (old new : Watched W) (answer : Result ℕ RunFault)
-      → RunsOnFiles remaining remaining contents limit compare_outcome first first_after second second_after old new answer → ComparesSome remaining contents limit old new answer
-  compared_some limit first first_after second second_after old new answer ran = record { first = first; first_after = first_after; second = second; second_after = second_after; runs = ran }
+      → RunsOnFiles remaining remaining contents limit compare_outcome first first_after second second_after old new answer
+      → ComparesSome remaining contents limit old new answer
+  compared_some limit first first_after second second_after old new answer ran = record {
+    first = first;
+    first_after = first_after;
+    second = second;
+    second_after = second_after;
+    runs = ran;
+  }
 
   -- the fault of a run is that of its request
-  pub stopped_run : (request : Request) (old new : Watched W) (fault : RunFault) (answer : Result ℕ Stop) → IsErrAnd answer (λ stop. stop ≡ Run fault) → RunsFor remaining contents request old new (Err fault)
+  pub stopped_run : (request : Request) (old new : Watched W) (fault : RunFault) (answer : Result ℕ Stop) → IsErrAnd answer (λ stop. stop ≡ Run fault)
+      → RunsFor remaining contents request old new (Err fault)
       → CarriesOut remaining contents request old new answer
   stopped_run request old new fault answer is ran =
       let told = err_from_is_err_and answer is in

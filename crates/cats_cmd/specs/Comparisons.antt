@@ -46,8 +46,8 @@ module _ {R : Type 0} (remaining : R → Option (List ℕ)) (limit : ℕ) where
 
 -- ---- both files, of which `outcome` says what is made of them
 
-module _ {R S W : Type 0} (remaining_first : R → Option (List ℕ)) (remaining_second : S → Option (List ℕ)) (contents : W → Option (List ℕ))
-    (limit : ℕ) (outcome : PlainFile → PlainFile → Outcome) where
+module _ {R S W : Type 0} (remaining_first : R → Option (List ℕ)) (remaining_second : S → Option (List ℕ))
+    (contents : W → Option (List ℕ)) (limit : ℕ) (outcome : PlainFile → PlainFile → Outcome) where
   -- the first file was refused; the second was not read, and nothing was written
   pub record RefusesFirst (first first_after : Watched R) (second second_after : Watched S) (out out_after : Watched W)
       (fault : CanonFault) : Type 0 where

@@ -1,6 +1,7 @@
 -- What a pruning that is done has kept: the points, with the values of all bids. A turn on one more best bid keeps this of the bids
 -- so far, and in the end the best bids are done, which have the points and the values of all.
-use Rattle.std.proofs.Common.{◌≡◌, ℕ, ◌+◌, ◌<◌, ◌≤◌, Bool, true, false, leb, ltb, ◌&&◌, ⊎_elim, List, [], ◌∷◌, ◌++◌, length, refl, sym, ap, ◌∙◌, subst, arith, le_trans, le_antisymm, Some, None, Less}
+use Rattle.std.proofs.Common.{◌≡◌, ℕ, ◌+◌, ◌<◌, ◌≤◌, Bool, true, false, leb, ltb, ◌&&◌, ⊎_elim, List, [], ◌∷◌, ◌++◌, length, refl, sym, ap, ◌∙◌, subst, arith}
+use Rattle.std.proofs.Common.{le_trans, le_antisymm, Some, None, Less}
 use Rattle.std.specs.Prelude.{All, Contains}
 use Rattle.std.specs.List.{filter}
 use Rattle.std.proofs.lemmas.Bool.{and_left, and_right, and_from, leb-true, leb-false, lt-ltb, le-ltb}
@@ -24,7 +25,8 @@ use Rattle.prune.specs.Lemmas.Values.{xor_value-member, xor_value-bound, xor_val
 use Rattle.prune.specs.Lemmas.KeptBids.{all_nonempty, xor_kept_are_points, xor_points_same, or_kept_are_points, or_points_same}
 use Rattle.prune.specs.Lemmas.Steps.{greatest_price-member, greatest_price-reached}
 use Rattle.prune.specs.Internal.BestBids.{AreBestBids}
-use Rattle.prune.proofs.Pruning.{HasRisingBundle, IsKept, IsKept-reached, IsKept-missed, IsCompleted, completion, inside_is_below, below_push, later_not_below, not_below_itself, before_next, behind_next, rising_front}
+use Rattle.prune.proofs.Pruning.{HasRisingBundle, IsKept, IsKept-reached, IsKept-missed, IsCompleted, completion, inside_is_below, below_push, later_not_below}
+use Rattle.prune.proofs.Pruning.{not_below_itself, before_next, behind_next, rising_front}
 
 -- ---- values grow with the list
 

@@ -163,7 +163,8 @@ fn differences(rt: HostRuntime) -> Result<(), Fail> {
             ),
             (
                 APART,
-                "goods 2\nbids 5\ndummy 2\n0\t1\t0\t2\t#\n1\t1\t1\t2\t#\n2\t2\t0\t1\t2\t#\n3\t2\t0\t3\t#\n4\t2\t1\t3\t#\n",
+                "goods 2\nbids 5\ndummy 2\n0\t1\t0\t2\t#\n1\t1\t1\t2\t#\n2\t2\t0\t1\t2\t#\n3\t2\t0\t3\t#\n\
+                4\t2\t1\t3\t#\n",
                 1,
                 "different\nxor 0:1 1:1 0,1:2\nleft 0\nright 1\n",
                 "different\nxor 0:1 1:1 0,1:2\nleft 1\nright 0\n",

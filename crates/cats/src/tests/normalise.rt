@@ -98,7 +98,8 @@ fn xor_bidders(rt: HostRuntime) -> Result<(), Fail> {
                 "goods 2\nbids 0\ndummy 0\n",
             ),
             (
-                "goods 2\nbids 5\ndummy 2\n0\t1\t0\t2\t#\n1\t2\t0\t1\t2\t#\n2\t1\t0\t3\t#\n3\t1\t0\t1\t3\t#\n4\t2\t0\t1\t3\t#\n",
+                "goods 2\nbids 5\ndummy 2\n0\t1\t0\t2\t#\n1\t2\t0\t1\t2\t#\n2\t1\t0\t3\t#\n3\t1\t0\t1\t3\t#\n\
+                4\t2\t0\t1\t3\t#\n",
                 STEPS,
                 "goods 2\nbids 4\ndummy 2\n0\t1\t0\t2\t#\n1\t2\t0\t1\t2\t#\n2\t1\t0\t3\t#\n3\t2\t0\t1\t3\t#\n",
             ),

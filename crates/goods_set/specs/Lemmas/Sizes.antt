@@ -1,10 +1,14 @@
 -- Lemmas on what is left of a list, on how many goods a list has, on putting a good, on the next good, and on parts of a bundle.
-use Rattle.std.proofs.Common.{◌≡◌, ℕ, ◌+◌, ◌<◌, ◌≤◌, Bool, true, false, not, cond, ◌&&◌, ◌||◌, eqb, ltb, leb, ◌⊎◌, inl, inr, ⊎_elim, List, [], ◌∷◌, length, refl, sym, ap, ap₂, ◌∙◌, subst, arith}
-use Rattle.std.proofs.lemmas.Bool.{and_parts, and_from, cases_Bool, or_cases, or_right, or_parts, both_ways, not_from_true, not_from_false, false_from_ne_true, true_from_ne_false, or_from, eqb-true, eqb-false, ne_eqb, ltb-true, ltb-false, leb-true, leb-false, cases_order}
+use Rattle.std.proofs.Common.{◌≡◌, ℕ, ◌+◌, ◌<◌, ◌≤◌, Bool, true, false, not, cond, ◌&&◌, ◌||◌, eqb, ltb, leb, ◌⊎◌, inl, inr, ⊎_elim, List, [], ◌∷◌, length}
+use Rattle.std.proofs.Common.{refl, sym, ap, ap₂, ◌∙◌, subst, arith}
+use Rattle.std.proofs.lemmas.Bool.{and_parts, and_from, cases_Bool, or_cases, or_right, or_parts, both_ways, not_from_true, not_from_false, false_from_ne_true}
+use Rattle.std.proofs.lemmas.Bool.{true_from_ne_false, or_from, eqb-true, eqb-false, ne_eqb, ltb-true, ltb-false, leb-true, leb-false, cases_order}
 use Rattle.std.specs.Prelude.{Option, Some, None}
 use Rattle.std.specs.List.{filter}
 use Rattle.goods_set.specs.Bundles.{is_inside, are_apart, AreAbove, AreBelow, IsRising, IsBundle, IsInside, AreApart, has_good, without, with_good, good_from}
-use Rattle.goods_set.specs.Lemmas.Members.{has_head, has_tail, has_cases, has_above, has_below, has_not_head, AreAbove-lower, AreAbove-from_has, AreBelow-from_has, same_from_has, inside_at, inside_from, inside_refl, inside_antisymm, apart_at, apart_sym, has_without_from, has_without_parts, inside_without, inside_without_parts, IsRising-without, AreBelow-higher}
+use Rattle.goods_set.specs.Lemmas.Members.{has_head, has_tail, has_cases, has_above, has_below, has_not_head, AreAbove-lower, AreAbove-from_has}
+use Rattle.goods_set.specs.Lemmas.Members.{AreBelow-from_has, same_from_has, inside_at, inside_from, inside_refl, inside_antisymm, apart_at, apart_sym}
+use Rattle.goods_set.specs.Lemmas.Members.{has_without_from, has_without_parts, inside_without, inside_without_parts, IsRising-without, AreBelow-higher}
 
 -- ---- what is left of nothing, and of a list whose goods are all taken, or none
 

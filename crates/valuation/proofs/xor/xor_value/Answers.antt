@@ -5,7 +5,8 @@ use Rattle.valuation.specs.Values.{atoms_of}
 use Rattle.valuation.specs.Lemmas.Atoms.{length-atoms_of, get_or-atoms_of}
 use Rattle.valuation.proofs.Scans.{at, Scanned-take, Scanned-outside, Scanned-no_better, Scanned-value, Scanned-place, Scanned-none, none_is, some_is}
 use Rattle.valuation.proofs.xor.xor_value.Goals as goal
-use Rattle.valuation.proofs.xor.xor_value.Goals.{then-is_none, else-is_none, then-value-atom+then-is_inside, else-value-atom, else-value-atom-via-then-value-atom+else-is_inside, else-value-atom-via-else-value-atom}
+use Rattle.valuation.proofs.xor.xor_value.Goals.{then-is_none, else-is_none, then-value-atom+then-is_inside, else-value-atom}
+use Rattle.valuation.proofs.xor.xor_value.Goals.{else-value-atom-via-then-value-atom+else-is_inside, else-value-atom-via-else-value-atom}
 
 pub loop-i-preserved : goal.loop-i-preserved
 loop-i-preserved g c =
