@@ -152,10 +152,6 @@ pub record IsCounted (bidder : List (Atom (List ℕ))) (bidders : List (List (At
   pub rest : AreBidsOf dummy later bids
   pub counted : copies + count_of bidder_cmp bidder later ≡ count_of bidder_cmp bidder bidders
 
-pub none_counted_yet : (bidder : List (Atom (List ℕ))) (bidders : List (List (Atom (List ℕ)))) (bids : List PlainBid) → AreBidsOf 0 bidders bids
-    → IsCounted bidder bidders 0 bids
-none_counted_yet bidder bidders bids h = record { dummy = 0; later = bidders; rest = h; counted = omega arith }
-
 pub one_more_counted : (bidder : List (Atom (List ℕ))) (bidders : List (List (Atom (List ℕ)))) (copies more : ℕ) (bids first : List Bid)
     → IsFirstBidder bids first
     → more ≡ copies + cond {A = ℕ} (is_eq (bidder_cmp bidder (offers first))) 1 0 → IsCounted bidder bidders copies (plain_bids bids)

@@ -1,5 +1,5 @@
 -- The bidders as the code has them: what holds of each, one more, and putting them in order.
-use Rattle.std.proofs.Common.{◌≡◌, ℕ, ◌+◌, ◌<◌, ◌≤◌, Bool, true, false, ⊎_elim, List, [], ◌∷◌, ◌++◌, length, map, get_or, Some, None, sym, ap, ap₂, ◌∙◌, subst}
+use Rattle.std.proofs.Common.{◌≡◌, ℕ, ◌+◌, ◌<◌, ◌≤◌, Bool, true, false, ⊎_elim, List, [], ◌∷◌, ◌++◌, length, map, get_or, None, sym, ap, ap₂, ◌∙◌, subst}
 use Rattle.std.proofs.Common.{arith, append_assoc, Global}
 use Rattle.std.specs.Prelude.{All, Vec, IsPermutation}
 use Rattle.std.specs.List.{filter}
@@ -169,7 +169,3 @@ module _ (cap : ℕ) (a : PlainAuction) (facts : IsAuction cap a) (n : ℕ) (ors
 
   pub light_parts : (limit : ℕ) → ((m : ℕ) → All (IsAtom m) ors → first_heavy m limit ors ≡ None) → first_heavy a.goods limit a.or_atoms ≡ None
   light_parts limit h = ap (λ (x : PlainAuction). first_heavy x.goods limit x.or_atoms) parts ∙ h n made.or_atoms
-
-  pub heavy_parts : (limit : ℕ) (bundle : List ℕ) → ((m : ℕ) → All (IsAtom m) ors → first_heavy m limit ors ≡ Some bundle)
-      → first_heavy a.goods limit a.or_atoms ≡ Some bundle
-  heavy_parts limit bundle h = ap (λ (x : PlainAuction). first_heavy x.goods limit x.or_atoms) parts ∙ h n made.or_atoms

@@ -149,24 +149,6 @@ module _ {S : Type 0} (old new : HashMap (Vec ℕ Global) ℕ S) (count place : 
       → IsFirstPlace (files ++ f ∷ []) f place
   place_of_text text is h facts answer = place_in_index h facts (subst (λ (t : List ℕ). place ≡ unwrap_or (place_of old t) count) is answer)
 
--- an index of no files
-pub empty_index : {S : Type 0} (places : HashMap (Vec ℕ Global) ℕ S) → places.entries ≡ [] → IsIndex places 0 []
-empty_index places none = record {
-  count = refl;
-  facts = λ k file at. absurd (none-some file at);
-  texts = λ text. subst (λ (o : Option ℕ). PlacesText [] text o) (sym (ap (lookup (λ key. bytes_eq text key.items)) none))
-      (λ k other at is. absurd (none-some other at));
-}
-
--- an index whose map has the entries that it had
-pub index_kept : {S : Type 0} (old new : HashMap (Vec ℕ Global) ℕ S) (count : ℕ) (files : List PlainFile) → new.entries ≡ old.entries → IsIndex old count files
-    → IsIndex new count files
-index_kept old new count files same h = record {
-  count = h.count;
-  facts = h.facts;
-  texts = λ text. subst (λ (o : Option ℕ). PlacesText files text o) (sym (ap (lookup (λ key. bytes_eq text key.items)) same)) (h.texts text);
-}
-
 -- ---- the map
 
 abbrev key_eq : Vec ℕ Global → Vec ℕ Global → Bool
@@ -193,16 +175,6 @@ updated old new text place h other =
     other_entries (λ key. bytes_eq text key.items) old.entries new.entries h.3 (λ key. bytes_eq other key.items)
     (λ x y. nat_list_eq_equiv.congr other x.items y.items) (λ key. apart_texts text other key.items n)
     ∙ sym (cond-false (bytes_eq text other) (Some place) (place_of old other) n))
-    (cases_Bool (bytes_eq text other))
-
--- a text that has its place already
-pub unmoved : {S : Type 0} (places : HashMap (Vec ℕ Global) ℕ S) (text : List ℕ) (place : ℕ) → place_of places text ≡ Some place
-    → (other : List ℕ) → place_of places other ≡ cond (bytes_eq text other) (Some place) (place_of places other)
-unmoved places text place at other =
-    ⊎_elim
-    (λ (y : bytes_eq text other ≡ true). subst (λ (t : List ℕ). place_of places t ≡ Some place) ((bytes_decides text other).0 y) at
-    ∙ sym (cond-true (bytes_eq text other) (Some place) (place_of places other) y))
-    (λ (n : bytes_eq text other ≡ false). sym (cond-false (bytes_eq text other) (Some place) (place_of places other) n))
     (cases_Bool (bytes_eq text other))
 
 -- ---- a file that was read first

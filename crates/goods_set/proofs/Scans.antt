@@ -160,18 +160,6 @@ scan_passed ws from place rest s z g a b = ⊎_elim (λ (l : g < 64 * place). s.
         ∙ sym (s.above (g - 64 * place) (omega arith) (omega arith)) ∙ ap (λ x. bit_at x (g - 64 * place)) z ∙ bit_at-zero (g - 64 * place) in
         subst (λ x. word_bit ws x ≡ 0) d e
 
-pub scan_more : (ws : List ℕ) (from place rest next word : ℕ) → IsScan ws from place rest → rest ≡ 0 → next ≡ place + 1 → word ≡ get_or ws next 0
-    → word < 2 ^ 64 → IsScan ws from next word
-scan_more ws from place rest next word s z n w l =
-    let r : from < 64 * (place + 1) = s.reached in
-    record {
-      reached = omega arith;
-      passed = λ g a b. scan_passed ws from place rest s z g a (omega arith);
-      fits = l;
-      above = λ i k a. ap (λ x. bit_at x i) w;
-      below = λ i k a. absurd (omega arith);
-    }
-
 -- every word is passed
 pub scan_ended : (n : ℕ) (ws : List ℕ) (from place rest : ℕ) → IsScan ws from place rest → rest ≡ 0 → n ≤ place + 1
     → good_from (word_goods (64 * n) ws) from ≡ None
