@@ -25,8 +25,8 @@ use Rattle.prune.specs.Lemmas.Lists.{Contains-head, zero_or_more}
 use Rattle.prune.specs.Points.{xor_points, or_points}
 use Rattle.prune.specs.Steps.{first_heavy}
 use Rattle.prune.specs.Lemmas.Tables.{no_xor_points}
+use Rattle.prune.specs.Lemmas.KeptBids.{on_bundles}
 use Rattle.canon.specs.Canonical.{canonical_auction, points_of_bidders}
-use Rattle.canon.proofs.Atoms.{on_bundles}
 use Rattle.canon.proofs.Counting.{points_more, points_without}
 
 -- atoms over fewer goods are atoms over more

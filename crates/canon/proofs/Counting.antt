@@ -21,9 +21,10 @@ use Rattle.valuation.specs.Tables.{xor_table, is_nonzero}
 use Rattle.prune.specs.Points.{xor_points}
 use Rattle.prune.specs.Lemmas.Lists.{zero_or_more}
 use Rattle.prune.specs.Lemmas.Tables.{same_xor_points}
+use Rattle.prune.specs.Lemmas.KeptBids.{on_bundles}
 use Rattle.canon.specs.Sameness.{has_table}
 use Rattle.canon.specs.Canonical.{points_of_bidders}
-use Rattle.canon.proofs.Atoms.{on_bundles, xor_points_table}
+use Rattle.canon.proofs.Atoms.{xor_points_table}
 
 -- ---- tests by an order
 

@@ -19,14 +19,15 @@ use Rattle.valuation.specs.Values.{or_value}
 use Rattle.prune.specs.InOrder.{IsBefore}
 use Rattle.prune.specs.Lemmas.Lists.{Contains-nil, find_none}
 use Rattle.prune.specs.Points.{is_or_point}
+use Rattle.prune.specs.Lemmas.KeptBids.{on_bundles}
 use Rattle.canon.specs.Internal.BidderBids.{offers}
 use Rattle.canon.specs.Canonical.{bid_from}
 use Rattle.canon.specs.Difference.{InOr, first_unequal_bundle, or_difference}
 use Rattle.canon.specs.Internal.OrBids.{HasOrBids}
 use Rattle.canon.specs.declared.verdict.Side.{Side}
 use Rattle.canon.specs.declared.verdict.Side.TheVariants.{Exactly, Below}
-use Rattle.canon.proofs.Atoms.{on_bundles}
 use Rattle.canon.proofs.OrDifferences.{ArePoints, are_unequal, equal_test, unequal_swap, in_order, suffix_in_order, parts_at_left, both_at}
+use Rattle.canon.proofs.BidOrders.{length-offers}
 
 -- a fact that holds in any case
 pub on_err : {T E P : Type 0} (r : Result T E) → P → OnErr r P
@@ -190,9 +191,6 @@ offer_at bids i b l e =
     let long = length-map bids plain_bid in
     sym (get_or-map atom_of (plain_bids bids) i (plain_bid b) (atom_of (plain_bid b)) (omega arith)
     ∙ ap atom_of (get_or-map plain_bid bids i b (plain_bid b) l ∙ ap plain_bid (sym e)))
-
-pub length-offers : (bids : List Bid) → length (offers bids) ≡ length bids
-length-offers bids = length-map (plain_bids bids) atom_of ∙ length-map bids plain_bid
 
 -- ---- what is told of two walked lists of bids
 

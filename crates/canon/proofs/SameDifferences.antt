@@ -18,13 +18,14 @@ use Rattle.prune.specs.Lemmas.Lists.{filter_same_on, find_alike, All-from_Contai
 use Rattle.prune.specs.Lemmas.Points.{IsOrPoint-from_test, is_or_point-true, or_points_are}
 use Rattle.prune.specs.Points.{is_or_point, or_points}
 use Rattle.prune.specs.Lemmas.Tables.{same_or_points}
+use Rattle.prune.specs.Lemmas.KeptBids.{on_bundles}
 use Rattle.canon.specs.Canonical.{canonical_auction}
 use Rattle.canon.specs.Difference.{Difference, NoDifference, InGoods, InOr, InXor, first_difference, first_unequal_bundle, least_unequal_bidder, or_difference}
 use Rattle.canon.specs.Difference.{xor_difference}
 use Rattle.canon.specs.Sameness.{IsSameAuction, AreSameFiles}
 use Rattle.canon.specs.declared.verdict.Side.{Side}
 use Rattle.canon.specs.declared.verdict.Side.TheVariants.{Exactly, Below}
-use Rattle.canon.proofs.Atoms.{HasAtoms, on_bundles}
+use Rattle.canon.proofs.Atoms.{HasAtoms}
 use Rattle.canon.proofs.BidderDifferences.{least_uneven}
 use Rattle.canon.proofs.Differences.{at_same_goods, at_other_goods, unequal_bundle_is}
 use Rattle.canon.proofs.OrDifferences.{are_unequal}

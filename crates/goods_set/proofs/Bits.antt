@@ -32,7 +32,7 @@ tested_shifted cap ws g p e l =
     subst (λ q. eqb (bit_and (get_or ws q 0 / 2 ^ (g % 64)) 1) 1 ≡ has_good (word_goods cap ws) g) (sym e)
     (ap (λ b. eqb b 1) (shr_and_one (get_or ws (g / 64) 0) (g % 64)) ∙ sym (has-word_goods cap ws g l))
 
-one_shifted : (k : ℕ) → k < 64 → 1 * 2 ^ k % 2 ^ 64 ≡ 2 ^ k
+pub one_shifted : (k : ℕ) → k < 64 → 1 * 2 ^ k % 2 ^ 64 ≡ 2 ^ k
 one_shifted k l = shl_exact {a = 1} 1 (k) 64 (omega arith) (omega arith) ∙ (let e : 1 * 2 ^ k ≡ 2 ^ k = omega arith in e)
 
 -- the test `word & (1 << bit) == 0`

@@ -180,7 +180,3 @@ module _ {X : Type 0} (seen : X → Atom (List ℕ)) where
       (IsPermutation-map seen priced sorted p) in
       subst (λ (zs : List (Atom (List ℕ))). AreBestBids (map seen bids) zs) (sym (ap (map seen) d ∙ map-dedup is_same_bundle sorted))
       (best_from_sorted (map seen bids) (map seen sorted) moved (map-sorted is_bid_before sorted up))
-
--- a bid of the code
-abbrev pub seen_of : {S : Type 0} → (S → List ℕ) → Atom S → Atom (List ℕ)
-seen_of goods a = record { bundle = goods a.bundle; price = a.price }

@@ -21,8 +21,9 @@ use Rattle.std.proofs.lemmas.List.Sorted.{Contains-permutation, IsPermutation-sy
 use Rattle.std.proofs.lemmas.Map.Keys.{IsDistinct-IsPermutation, IsStrictlyIncreasing-from_distinct}
 use Rattle.std.proofs.lemmas.Map.Made.{IsDistinct-from_AllPairs}
 use Rattle.goods_set.specs.Bundles.{IsRising, has_good, is_inside, good_from}
-use Rattle.goods_set.specs.Lemmas.Members.{has_head, has_tail, has_cases, has-filter, AreAbove-from_has, IsRising-filter, same_from_has, inside_at}
+use Rattle.goods_set.specs.Lemmas.Members.{has_head, has_cases, has-filter, AreAbove-from_has, IsRising-filter, same_from_has, inside_at}
 use Rattle.goods_set.specs.Lemmas.Sizes.{IsNextGood, good_from-Some, good_from-None}
+use Rattle.goods_set.specs.Lemmas.Words.{range_has, range_rises}
 use Rattle.valuation.specs.declared.atom.Atom.{Atom}
 use Rattle.valuation.specs.Values.{atoms_of}
 use Rattle.valuation.specs.Lemmas.Atoms.{get_or-atoms_of}
@@ -76,16 +77,6 @@ has_range a zero g h = absurd (both_ways false refl h)
 has_range a (suc n) g h =
     ⊎_elim (λ (e : a ≡ g). (omega arith, omega arith)) (λ (k : has_good (range_with_len (a + 1) n) g ≡ true). let r = has_range (a + 1) n g k in
     (omega (arith, r.0), omega (arith, r.1))) (has_cases a (range_with_len (a + 1) n) g h)
-
-pub range_has : (a n g : ℕ) → a ≤ g → g < a + n → has_good (range_with_len a n) g ≡ true
-range_has a zero g l m = absurd (omega arith)
-range_has a (suc n) g l m =
-    ⊎_elim (λ (e : a ≡ g). subst (λ x. has_good (range_with_len a (suc n)) x ≡ true) e (has_head a (range_with_len (a + 1) n)))
-    (λ (d : a ≡ g → ⊥). has_tail a (range_with_len (a + 1) n) g (range_has (a + 1) n g (omega arith) (omega arith))) (cases_eq a g)
-
-pub range_rising : (a n : ℕ) → IsRising (range_with_len a n)
-range_rising a zero = tt
-range_rising a (suc n) = (AreAbove-from_has a (range_with_len (a + 1) n) (λ g h. let r = has_range (a + 1) n g h in omega (arith, r.0)), range_rising (a + 1) n)
 
 -- ---- the search through the goods of a bundle
 
@@ -170,7 +161,7 @@ IsFinding-all lists atoms bundle from found sorted a none f p up =
     same_from_has sorted (filter test all)
     (rising_from_pairs sorted
     (AllPairs-from_increasing sorted (IsStrictlyIncreasing-from_distinct sorted (IsNonDecreasingBy-from_sort (λ n. n) sorted up) distinct)))
-    (IsRising-filter test all (range_rising 0 (length atoms)))
+    (IsRising-filter test all (range_rises 0 (length atoms)))
     (λ g h.
     let there = Contains-permutation sorted found g (IsPermutation-sym found sorted p) (Contains_from_has sorted g h) in
     let s = All-contains (λ place. (test place ≡ true) × (place < length atoms)) found g f.sound there in

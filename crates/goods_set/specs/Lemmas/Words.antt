@@ -19,7 +19,7 @@ range_above : (a b n : ℕ) → a < b → AreAbove a (range_with_len b n)
 range_above a b zero l = tt
 range_above a b (suc n) l = (l, range_above a (b + 1) n (omega arith))
 
-range_rises : (a n : ℕ) → IsRising (range_with_len a n)
+pub range_rises : (a n : ℕ) → IsRising (range_with_len a n)
 range_rises a zero = tt
 range_rises a (suc n) = (range_above a (a + 1) n (omega arith), range_rises (a + 1) n)
 
@@ -27,7 +27,7 @@ range_below : (a n G : ℕ) → a + n ≤ G → AreBelow G (range_with_len a n)
 range_below a zero G l = tt
 range_below a (suc n) G l = (omega arith, range_below (a + 1) n G (omega arith))
 
-range_has : (a n g : ℕ) → a ≤ g → g < a + n → has_good (range_with_len a n) g ≡ true
+pub range_has : (a n g : ℕ) → a ≤ g → g < a + n → has_good (range_with_len a n) g ≡ true
 range_has a zero g l m = absurd (omega arith)
 range_has a (suc n) g l m = at (eqb a g) refl (λ (h : a < g). range_has (a + 1) n g (omega arith) (omega arith))
   where

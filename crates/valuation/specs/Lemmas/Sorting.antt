@@ -105,7 +105,7 @@ module _ {X : Type 0} (cmp : X → X → Ordering) (total : IsTotalOrder cmp) wh
 
   -- ---- a list in order is determined by how often it has each element
 
-  count_none : (x : X) (xs : List X) → AllByRecursion (λ y. cmp x y ≡ Less) xs → count_of cmp x xs ≡ 0
+  pub count_none : (x : X) (xs : List X) → AllByRecursion (λ y. cmp x y ≡ Less) xs → count_of cmp x xs ≡ 0
   count_none x [] h = refl
   count_none x (y ∷ ys) h =
       let other : cond {A = ℕ} (is_eq (cmp x y)) 1 0 ≡ 0 = ap (λ o. cond {A = ℕ} (is_eq o) 1 0) h.0 in

@@ -7,8 +7,7 @@ use Rattle.std.proofs.lemmas.List.Elements.{All-contains}
 use Rattle.std.specs.Vec.Iter.{into_iter_items}
 use Rattle.cats_text.specs.declared.limits.TheConstants.{MAX_GOODS}
 use Rattle.valuation.specs.Auctions.{IsAtom}
-use Rattle.valuation.specs.Values.{atoms_of}
-use Rattle.prune.proofs.BestBids.{seen_of}
+use Rattle.valuation.specs.Values.{atoms_of, plain_atom}
 use Rattle.prune.proofs.Results.{turn_positive, turn_among, xor_reached, xor_missed}
 use Rattle.prune.specs.Lemmas.KeptBids.{on_bundles, just_bundles}
 use Rattle.prune.specs.Internal.Listings.{AreUncovered}
@@ -39,7 +38,7 @@ loop-bid-preserved-in-Continue-branch-2 g c =
       best = rw joined at h.best;
       fits = rw joined at h.fits;
       listed = λ many. absurd (both_ways _ many (le-leb _ _ c.if-few.true));
-      kept = rw (map_push (seen_of goods) yielded bid, c.in_ok-push.ensures.items, map_push (seen_of goods) kept bid) missed;
+      kept = rw (map_push (plain_atom goods) yielded bid, c.in_ok-push.ensures.items, map_push (plain_atom goods) kept bid) missed;
       fewer = omega (
         arith,
         h.fewer,
@@ -68,7 +67,7 @@ loop-bid-preserved-in-Continue-branch-3 g c =
       best = rw joined at h.best;
       fits = rw joined at h.fits;
       listed = λ _. c.in_ok-push-2.ensures.listed;
-      kept = rw (map_push (seen_of goods) yielded bid, c.in_ok-push-2.ensures.atoms, map_push (seen_of goods) kept bid) missed;
+      kept = rw (map_push (plain_atom goods) yielded bid, c.in_ok-push-2.ensures.atoms, map_push (plain_atom goods) kept bid) missed;
       fewer = omega (
         arith,
         h.fewer,
@@ -96,7 +95,7 @@ loop-bid-preserved g c =
       best = rw joined at h.best;
       fits = rw joined at h.fits;
       listed = h.listed;
-      kept = rw (map_push (seen_of goods) yielded bid) reached;
+      kept = rw (map_push (plain_atom goods) yielded bid) reached;
       fewer = omega (arith, h.fewer, length_push yielded bid);
     }
 
