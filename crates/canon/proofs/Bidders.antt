@@ -23,7 +23,7 @@ use Rattle.valuation.specs.Tables.{xor_table, is_nonzero}
 use Rattle.valuation.specs.Values.{atoms_of}
 use Rattle.prune.specs.Lemmas.Lists.{Contains-head, zero_or_more}
 use Rattle.prune.specs.Points.{xor_points, or_points}
-use Rattle.prune.specs.Steps.{first_heavy}
+use Rattle.prune.specs.SearchSteps.{first_heavy}
 use Rattle.prune.specs.Lemmas.Tables.{no_xor_points}
 use Rattle.prune.specs.Lemmas.KeptBids.{on_bundles}
 use Rattle.canon.specs.Canonical.{canonical_auction, points_of_bidders}

@@ -12,8 +12,8 @@ use Rattle.cats_text.proofs.Spelling.Files.{spells_from_no_fault, no_fault_from_
 use Rattle.valuation.specs.Auctions.{PlainAuction, IsAuction, or_atoms_of, auction_from}
 use Rattle.valuation.specs.Lemmas.AuctionsOfFiles.{IsAuction-auction_from}
 use Rattle.prune.specs.Points.{or_points}
-use Rattle.prune.specs.Steps.{first_heavy}
-use Rattle.prune.specs.Lemmas.Steps.{no_heavy_point}
+use Rattle.prune.specs.SearchSteps.{first_heavy}
+use Rattle.prune.specs.Lemmas.SearchSteps.{no_heavy_point}
 use Rattle.prune.specs.Lemmas.KeptBids.{on_bundles}
 use Rattle.canon.specs.Sameness.{IsSameAuction, AreSameFiles, AreSameTexts}
 use Rattle.canon.specs.Canonical.{canonical_auction, file_from, canonical_file, canonical_text}

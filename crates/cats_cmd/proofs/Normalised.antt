@@ -3,7 +3,7 @@ use Rattle.std.proofs.Common.{◌≡◌, ℕ, List, Option, Some, None, Result, 
 use Rattle.std.specs.Prelude.{Vec}
 use Rattle.cats_text.specs.Files.{PlainFile}
 use Rattle.valuation.specs.Auctions.{or_atoms_of}
-use Rattle.prune.specs.Steps.{first_heavy}
+use Rattle.prune.specs.SearchSteps.{first_heavy}
 use Rattle.canon.specs.Answers.{NormalisesAs}
 use Rattle.canon.specs.Canonical.{canonical_text}
 use Rattle.canon.specs.Normalising.{unless_heavy, normalised_file}

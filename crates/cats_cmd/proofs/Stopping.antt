@@ -12,7 +12,7 @@ use Rattle.cats_text.specs.declared.fault.SendFault.{SendFault}
 use Rattle.cats_text.specs.declared.stream.Watched.{Watched}
 use Rattle.valuation.specs.Auctions.{or_atoms_of, auction_from}
 use Rattle.valuation.specs.Packings.{count_packings}
-use Rattle.prune.specs.Steps.{first_heavy}
+use Rattle.prune.specs.SearchSteps.{first_heavy}
 use Rattle.canon.specs.Difference.{Difference, NoDifference, InGoods, InOr, InXor, first_difference}
 use Rattle.cats_cmd.specs.Comparisons.{RunsOnFiles}
 use Rattle.cats_cmd.specs.Outcomes.{Outcome, Tells, ExceedsSteps, normalise_outcome, value_outcome, values_within, missing_good, outcome_unless}

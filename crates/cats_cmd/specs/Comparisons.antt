@@ -7,7 +7,7 @@ use Rattle.cats_text.specs.Views.{plain_file}
 use Rattle.cats_text.specs.declared.bid.BidFile.{BidFile}
 use Rattle.cats_text.specs.declared.stream.Watched.{Watched}
 use Rattle.valuation.specs.Auctions.{or_atoms_of}
-use Rattle.prune.specs.Steps.{first_heavy}
+use Rattle.prune.specs.SearchSteps.{first_heavy}
 use Rattle.canon.specs.Canonical.{canonical_file}
 use Rattle.canon.specs.declared.fault.CanonFault.{CanonFault}
 use Rattle.canon.specs.declared.fault.CanonFault.TheVariants.{Memory}

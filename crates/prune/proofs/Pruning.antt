@@ -12,7 +12,7 @@ use Rattle.goods_set.specs.Bundles.{IsRising, is_inside, IsInside}
 use Rattle.goods_set.specs.Lemmas.Members.{inside_refl}
 use Rattle.valuation.specs.declared.atom.Atom.{Atom}
 use Rattle.valuation.specs.Lemmas.Lists.{AllPairs-nil, AllPairs-head, AllPairs-tail}
-use Rattle.prune.specs.Steps.{is_below, atoms_below}
+use Rattle.prune.specs.SearchSteps.{is_below, atoms_below}
 use Rattle.prune.specs.Lemmas.Lists.{filter-lost, filter_same_on, All-from_Contains, Contains-head}
 use Rattle.prune.specs.InOrder.{IsBefore, IsInOrder}
 use Rattle.prune.specs.Lemmas.InOrder.{before_not_inside}

@@ -1,4 +1,4 @@
-use super::streams::{Told, answer_of, expect, reader, writer};
+use super::streams::{RunAnswer, answer_of, expect, reader, writer};
 use cats_cmd::run_compare;
 use std::alloc::Global;
 use std::process::Abort;
@@ -15,7 +15,7 @@ fn compared(
     second: &str,
     limit: u64,
     room: usize,
-) -> Result<Told, Fail> {
+) -> Result<RunAnswer, Fail> {
     let mut left = reader(first.as_bytes(), false);
     let mut right = reader(second.as_bytes(), false);
     let mut out = writer(alloc, 4096, room);

@@ -1,4 +1,4 @@
-use super::streams::{Told, expect, writer};
+use super::streams::{RunAnswer, expect, writer};
 use cats_cmd::run_cats;
 use std::process::Abort;
 use std::test::Fail;
@@ -10,12 +10,12 @@ fn run_words(
     words: &[&str],
     out_room: usize,
     err_room: usize,
-) -> Result<Told, Fail> {
+) -> Result<RunAnswer, Fail> {
     let alloc = rt.alloc();
     let mut out = writer(alloc, 4096, out_room);
     let mut err = writer(alloc, 4096, err_room);
     let status = run_cats(rt, words, &mut out, &mut err);
-    Ok(Told {
+    Ok(RunAnswer {
         status,
         sent: String::from_utf8(out.into_inner().taken)?,
         line: String::from_utf8(err.into_inner().taken)?,
@@ -31,7 +31,7 @@ fn run(
     other: &str,
     out_room: usize,
     err_room: usize,
-) -> Result<Told, Fail> {
+) -> Result<RunAnswer, Fail> {
     let mut words = Vec::new(rt.alloc());
     for word in line.split(' ') {
         words.push(match word {

@@ -1,11 +1,11 @@
-use super::streams::{Told, answer_of, expect, reader, writer};
+use super::streams::{RunAnswer, answer_of, expect, reader, writer};
 use cats_cmd::run_show;
 use std::alloc::Global;
 use std::process::Abort;
 use std::test::Fail;
 
 /// What `show` answers of a text, with a writer that takes 7 bytes a call.
-fn shown(alloc: Global, text: &[u8], fails: bool) -> Result<Told, Fail> {
+fn shown(alloc: Global, text: &[u8], fails: bool) -> Result<RunAnswer, Fail> {
     let mut input = reader(text, fails);
     let mut out = writer(alloc, 7, 65_536);
     let answer = run_show(alloc, &mut input, &mut out);

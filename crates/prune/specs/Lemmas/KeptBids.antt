@@ -20,7 +20,7 @@ use Rattle.valuation.specs.Lemmas.XorValues.{xor_value-grows}
 use Rattle.valuation.specs.Lemmas.OrValues.{or_value-split, or_value-empty, or_value-price, ReachesValue, ReachesValue-some}
 use Rattle.prune.specs.Lemmas.OnBundles.{IsOnBundle}
 use Rattle.prune.specs.Points.{is_xor_point, xor_points, is_or_point, or_points, IsXorPoint, IsPart, IsOrPoint}
-use Rattle.prune.specs.Steps.{is_below, atoms_below}
+use Rattle.prune.specs.SearchSteps.{is_below, atoms_below}
 use Rattle.prune.specs.Lemmas.Lists.{zero_or_more, list_all_fails, Contains-nil, Contains-filter, All-from_Contains}
 use Rattle.prune.specs.InOrder.{IsInOrder}
 use Rattle.prune.specs.Lemmas.InOrder.{same_bundle_same_atom, same_in_order}

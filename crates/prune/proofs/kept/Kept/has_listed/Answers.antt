@@ -4,7 +4,7 @@ use Rattle.std.proofs.Common.{arith, ◌≡◌, map, get_or, sym, ap, ◌∙◌,
 use Rattle.valuation.specs.Values.{atoms_of}
 use Rattle.prune.specs.declared.kept.Listing.{Listing}
 use Rattle.prune.specs.Internal.Listings.{lists_of, listed_at, covers_at}
-use Rattle.prune.proofs.Listed.{place_of, listed_there, places_get, listing_index, covers_listed, too_cheap, not_inside, one_listed, none_more}
+use Rattle.prune.proofs.ListedAtoms.{place_of, listed_there, places_get, listing_index, covers_listed, too_cheap, not_inside, one_listed, none_more}
 use Rattle.prune.proofs.kept.Kept.has_listed.Goals as goal
 use Rattle.prune.proofs.kept.Kept.has_listed.Goals.{else-price-listing-via-then-price-listing+else-is_inside, else-price-listing-via-else-price-listing}
 

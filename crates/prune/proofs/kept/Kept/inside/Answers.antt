@@ -5,7 +5,7 @@ use Rattle.std.proofs.lemmas.List.{take_all}
 use Rattle.valuation.specs.Values.{atoms_of}
 use Rattle.valuation.specs.Lemmas.Atoms.{length-atoms_of}
 use Rattle.prune.specs.Internal.Listings.{atom_at, is_inside_at}
-use Rattle.prune.proofs.Listed.{places_in_list, atoms_at_places, seen_more}
+use Rattle.prune.proofs.ListedAtoms.{places_in_list, atoms_at_places, seen_more}
 use Rattle.prune.proofs.kept.Kept.inside.Goals as goal
 
 pub index-requires : goal.index-requires

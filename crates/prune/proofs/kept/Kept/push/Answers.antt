@@ -6,7 +6,7 @@ use Rattle.valuation.specs.Lemmas.Atoms.{length-atoms_of}
 use Rattle.valuation.specs.declared.atom.Atom.{Atom}
 use Rattle.prune.specs.declared.kept.Listing.{Listing}
 use Rattle.prune.specs.Internal.Listings.{lists_of, listed_at, AreListed}
-use Rattle.prune.proofs.Listed.{AreListed-push, listed-set_same, listed-set_other, listed_there}
+use Rattle.prune.proofs.ListedAtoms.{AreListed-push, listed-set_same, listed-set_other, listed_there}
 use Rattle.prune.proofs.kept.Kept.push.Goals as goal
 
 pub returns-clause-listed : goal.returns-clause-listed
