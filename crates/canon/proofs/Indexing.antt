@@ -1,6 +1,6 @@
 -- One more file in an index. Files have one text exactly where they are the same auction, so the first file with a text, which is the
 -- one that the map has for it, is the first of its auction.
-use Rattle.std.proofs.Common.{◌≡◌, ◌⊎◌, ℕ, zero, suc, ◌+◌, Bool, true, false, cond, unwrap_or, bytes_eq, List, [], ◌∷◌, ◌++◌, length, get_or, All, Option, Some}
+use Rattle.std.proofs.Common.{◌≡◌, ◌⊎◌, ℕ, zero, suc, ◌+◌, ◌<◌, Bool, true, false, cond, unwrap_or, bytes_eq, List, [], ◌∷◌, ◌++◌, length, get_or, All, Option, Some}
 use Rattle.std.proofs.Common.{None, slice_get, refl, sym, ap, ◌∙◌, subst, inl, inr, ⊎_elim, arith, length-append, Global}
 use Rattle.std.specs.Prelude.{Vec, Result, Ok, Err, IfOk, IfErr, OnOk, OnErr}
 use Rattle.std.specs.Io.KnownBytes.{Consumes}
@@ -40,6 +40,11 @@ pushed [] y x (suc k) e = absurd (none-some x e)
 pushed (z ∷ xs) y x zero e = inl e
 pushed (z ∷ xs) y x (suc k) e = ⊎_elim (λ (f : slice_get xs k ≡ Some x). inl f) (λ (f : (k ≡ length xs) × (x ≡ y)). inr (ap suc f.0, f.1)) (pushed xs y x k e)
 
+-- one that stands before the last stood there before
+pushed_earlier : {X : Type 0} (xs : List X) (y x : X) (k : ℕ) → k < length xs → slice_get (xs ++ y ∷ []) k ≡ Some x → slice_get xs k ≡ Some x
+pushed_earlier xs y x k l at =
+    ⊎_elim (λ (e : slice_get xs k ≡ Some x). e) (λ (e : (k ≡ length xs) × (x ≡ y)). let last = e.0 in absurd (omega arith)) (pushed xs y x k at)
+
 -- ---- texts
 
 module _ (files : List PlainFile) (f : PlainFile) where
@@ -53,10 +58,8 @@ module _ (files : List PlainFile) (f : PlainFile) where
     there = pushed_before files f h.file place h.there;
     has = h.has;
     first = λ k other l at is.
-        ⊎_elim
-        (λ (e : slice_get files k ≡ Some other). h.first k other l e is)
-        (λ (e : (k ≡ length files) × (other ≡ f)). let within = slice_get_within files place h.file h.there in let last = e.0 in absurd (omega arith))
-        (pushed files f other k at);
+        let within = slice_get_within files place h.file h.there in
+        h.first k other l (pushed_earlier files f other k (omega arith) at) is;
   }
 
   -- a text that no file had has its first file now
@@ -65,11 +68,7 @@ module _ (files : List PlainFile) (f : PlainFile) where
     file = f;
     there = pushed_last files f;
     has = refl;
-    first = λ k other l at is.
-        ⊎_elim
-        (λ (e : slice_get files k ≡ Some other). h k other e is)
-        (λ (e : (k ≡ length files) × (other ≡ f)). let last = e.0 in absurd (omega arith))
-        (pushed files f other k at);
+    first = λ k other l at is. h k other (pushed_earlier files f other k l at) is;
   }
 
   -- another text has the place that it had
@@ -206,10 +205,8 @@ first_place_stays files more given place h = record {
   there = pushed_before files more h.file place h.there;
   same = h.same;
   first = λ k other l at same.
-      ⊎_elim
-      (λ (e : slice_get files k ≡ Some other). h.first k other l e same)
-      (λ (e : (k ≡ length files) × (other ≡ more)). let within = slice_get_within files place h.file h.there in let last = e.0 in absurd (omega arith))
-      (pushed files more other k at);
+      let within = slice_get_within files place h.file h.there in
+      h.first k other l (pushed_earlier files more other k (omega arith) at) same;
 }
 
 -- the first file with the text of a file
