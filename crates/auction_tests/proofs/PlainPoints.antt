@@ -10,7 +10,8 @@ use Rattle.goods_set.specs.Lemmas.AllBundles.{all_bundles_has}
 use Rattle.valuation.specs.declared.atom.Atom.{Atom}
 use Rattle.valuation.specs.Values.{xor_value, or_value}
 use Rattle.prune.specs.Points.{is_part, is_xor_point, is_or_point}
-use Rattle.prune.specs.Lemmas.Points.{IsXorPoint-from_test, is_xor_point-true, IsPart-from_test, is_part-true, inside_below, IsOrPoint-from_test, is_or_point-true}
+use Rattle.prune.specs.Lemmas.Points.{IsXorPoint-from_test, is_xor_point-true, IsPart-from_test, is_part-true, inside_below, IsOrPoint-from_test}
+use Rattle.prune.specs.Lemmas.Points.{is_or_point-true}
 use Rattle.prune.specs.Lemmas.KeptBids.{good_inside, has_from_Contains}
 use Rattle.prune.specs.Lemmas.Lists.{Contains-head, Contains-tail}
 

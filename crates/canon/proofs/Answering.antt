@@ -1,39 +1,22 @@
--- What the calls answer, from what the calls below them answered.
-use Rattle.std.proofs.Common.{◌≡◌, ℕ, ◌⊎◌, inl, inr, List, Some, Result, Ok, Err, sym, ap, ◌∙◌, subst, Global}
+-- What the calls answer, from what the calls below them answered: each kind of answer of one is, by the definitions, one of the other.
+use Rattle.std.proofs.Common.{◌≡◌, ℕ, List, Result, Ok, Err, sym, ap, ◌∙◌, subst, Global}
 use Rattle.std.specs.Prelude.{Vec, ◌↔◌, IfOk}
 use Rattle.cats_text.specs.Files.{PlainFile, IsPlainFile}
-use Rattle.cats_text.specs.Faults.{first_fault}
 use Rattle.cats_text.specs.Grammar.{Spells}
-use Rattle.cats_text.specs.Layout.{layout}
-use Rattle.cats_text.specs.Reading.{WantsMemory}
 use Rattle.cats_text.specs.Views.{plain_file}
 use Rattle.cats_text.specs.declared.bid.BidFile.{BidFile}
-use Rattle.cats_text.specs.declared.fault.Kind.{Kind}
-use Rattle.cats_text.specs.declared.fault.Kind.TheVariants.{Memory as NoMemory}
-use Rattle.cats_text.specs.declared.fault.ReadFault.{ReadFault}
 use Rattle.cats_text.proofs.Spelling.Files.{spells_one}
 use Rattle.valuation.specs.Auctions.{PlainAuction, auction_from}
-use Rattle.canon.specs.Answers.{RefusesAs, NormalisesAs, RefusesAuction, IsNormalFile, NormalisesAuctionAs, NormalisesFileAs}
+use Rattle.canon.specs.Answers.{RefusesAs, NormalisesAs, RefusesAuction, NormalisesAuctionAs, NormalisesFileAs}
 use Rattle.canon.specs.Canonical.{IsCanonicalFile, canonical_text}
 use Rattle.canon.specs.Least.{IsLeastFor}
-use Rattle.canon.specs.Normalising.{Normalised, IsNoFile, IsText, unless_heavy, unless_fault, normalised, normalised_file}
-use Rattle.canon.specs.Refusals.{refusal_by_kind, refusal_of}
+use Rattle.canon.specs.Normalising.{Normalised, IsText, unless_heavy, normalised, normalised_file}
 use Rattle.canon.specs.Sameness.{AreSameFiles}
 use Rattle.canon.specs.declared.fault.CanonFault.{CanonFault}
 use Rattle.canon.specs.declared.fault.CanonFault.TheVariants.{Read, StepLimit, Memory}
 use Rattle.canon.proofs.Least.{canonical_is_least}
-use Rattle.canon.proofs.Texts.{normalised_spelled, text_from_normalised, normalised_from_text, normalised_again, same_text, same_from_text, canonical_file_is_same, canonical_file_is_fixed}
-
--- ---- a fault of reading
-
-told_by_kind : (expected : Normalised) (fault : ReadFault) → expected ≡ IsNoFile fault → (kind : Kind) → RefusesAs expected (refusal_by_kind fault kind)
-told_by_kind expected fault e NoMemory = tt
-told_by_kind expected fault e kind = e
-
-pub refused_by_reading : (limit : ℕ) (text : List ℕ) (fault : ReadFault) → (first_fault text ≡ Some fault) ⊎ WantsMemory text fault
-    → RefusesAs (normalised limit text) (refusal_of fault)
-refused_by_reading limit text fault (inl e) = told_by_kind (normalised limit text) fault (ap (unless_fault limit text) e) fault.kind
-refused_by_reading limit text fault (inr w) = subst (λ (f : ReadFault). RefusesAs (normalised limit text) (refusal_of f)) (sym w.0) tt
+use Rattle.canon.proofs.Texts.{normalised_spelled, text_from_normalised, normalised_from_text, normalised_again, same_text, same_from_text}
+use Rattle.canon.proofs.Texts.{canonical_file_is_same, canonical_file_is_fixed}
 
 -- ---- a search that takes too many steps
 
@@ -43,10 +26,6 @@ refused_file limit f (StepLimit goods) r = ap (unless_heavy f) r
 refused_file limit f Memory r = tt
 
 -- ---- the text
-
-pub text_of_normal_file : (limit : ℕ) (f h : PlainFile) → IsNormalFile limit (auction_from f) h → (text : List ℕ) → text ≡ layout h
-    → normalised_file limit f ≡ IsText text
-text_of_normal_file limit f h n text e = ap (unless_heavy f) n.light ∙ ap IsText (sym (e ∙ ap layout n.canonical))
 
 -- a text that spells a file is answered as the file is
 pub answered_as_file : (limit : ℕ) (text : List ℕ) (f : PlainFile) → Spells text f → (r : Result (Vec ℕ Global) CanonFault)

@@ -1,22 +1,18 @@
--- What holds of the atoms of an auction holds of its points.
+-- What holds of the atoms of an auction holds of its points: they are atoms over its goods, and have the tables of all atoms.
 use Rattle.std.proofs.Common.{◌≡◌, ℕ, List}
 use Rattle.std.specs.Prelude.{All, Contains}
 use Rattle.std.proofs.lemmas.List.Elements.{All-contains, All-weaker}
 use Rattle.valuation.specs.declared.atom.Atom.{Atom}
 use Rattle.valuation.specs.Auctions.{IsAtom, PlainAuction}
 use Rattle.valuation.specs.Tables.{or_table, xor_table}
-use Rattle.prune.specs.Lemmas.OnBundles.{IsOnBundle}
 use Rattle.prune.specs.Points.{xor_points, or_points}
-use Rattle.prune.specs.Lemmas.KeptBids.{just_bundles, or_points_are_atoms, or_points_again, xor_points_are_atoms, xor_points_again}
+use Rattle.prune.specs.Lemmas.KeptBids.{just_bundles, or_points_are_atoms, or_points_again, xor_points_are_atoms, xor_points_again, on_bundles}
 use Rattle.prune.specs.Lemmas.Tables.{same_xor_points, same_or_points}
 
 -- the atoms of each bidder are atoms over the goods
 pub record HasAtoms (a : PlainAuction) : Type 0 where
   pub or_atoms : All (IsAtom a.goods) a.or_atoms
   pub xor_atoms : All (All (IsAtom a.goods)) a.xor_bidders
-
-pub on_bundles : (goods : ℕ) (atoms : List (Atom (List ℕ))) → All (IsAtom goods) atoms → All (IsOnBundle goods) atoms
-on_bundles goods atoms h = All-weaker (IsAtom goods) (IsOnBundle goods) (λ a p. record { nonempty = p.nonempty; bundle = p.bundle }) atoms h
 
 -- points are atoms over the goods, with the table of all atoms
 pub or_points_atoms : (goods : ℕ) (atoms : List (Atom (List ℕ))) → All (IsAtom goods) atoms → All (IsAtom goods) (or_points goods atoms)

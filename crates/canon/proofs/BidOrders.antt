@@ -1,4 +1,5 @@
--- Bidders whose bids are compared one by one, and bids that are told one by one.
+-- Bidders whose bids are compared one by one, and bids that are told one by one: each step takes the bids at one place, by which the
+-- order of what is behind it is known.
 use Rattle.std.proofs.Common.{◌≡◌, ℕ, ◌+◌, ◌<◌, List, [], ◌∷◌, ◌++◌, length, map, take, drop, get_or, sym, ap, ap₂, ◌∙◌, Global}
 use Rattle.std.specs.Prelude.{Vec}
 use Rattle.std.specs.Ordering.{ordering_then}

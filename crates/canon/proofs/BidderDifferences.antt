@@ -1,5 +1,7 @@
--- The least bidder that two lists of bidders in order do not have equally often.
-use Rattle.std.proofs.Common.{◌≡◌, ℕ, ◌+◌, ◌<◌, Bool, true, false, not, eqb, cond, ⊎_elim, List, [], ◌∷◌, ◌++◌, refl, ap, ◌∙◌, subst, arith, Option, Some, None, Ordering, Less, Equal, Greater}
+-- The least element that two lists in order do not have equally often. It is the first such one of both lists, put in order together;
+-- where two lists that never fall part, it is the lesser of the two elements there, since what stands behind is no less.
+use Rattle.std.proofs.Common.{◌≡◌, ℕ, ◌+◌, ◌<◌, Bool, true, false, not, eqb, cond, ⊎_elim, List, [], ◌∷◌, ◌++◌, refl, ap, ◌∙◌, subst, arith, Option, Some, None}
+use Rattle.std.proofs.Common.{Ordering, Less, Equal, Greater}
 use Rattle.std.specs.Prelude.{Contains}
 use Rattle.std.specs.List.{find, AllByRecursion}
 use Rattle.std.specs.Ordering.{is_eq, is_gt}
@@ -8,7 +10,7 @@ use Rattle.std.proofs.lemmas.Bool.{cases_Bool, both_ways, eqb-true, eq-eqb, ne_e
 use Rattle.std.proofs.lemmas.Cmp.{tied_itself}
 use Rattle.std.proofs.lemmas.List.Sums.{sum_by-cons, sum_by-append}
 use Rattle.valuation.specs.Sorting.{sort_by, count_of}
-use Rattle.valuation.specs.Lemmas.Sorting.{sum_by-sort_by, ordered-sort_by, sort_by-same, IsOrdered}
+use Rattle.valuation.specs.Lemmas.Sorting.{sum_by-sort_by, ordered-sort_by, sort_by-same, IsOrdered, count_none}
 use Rattle.prune.specs.Lemmas.Lists.{zero_or_more, filter_same_on, find_alike, All-from_Contains, found_none}
 use Rattle.canon.proofs.Finding.{find_least, found_least, counted_is_there}
 use Rattle.canon.proofs.OrDifferences.{eqb_swap}
@@ -36,12 +38,6 @@ module _ {X : Type 0} (cmp : X → X → Ordering) where
 
   count_of-sort_by : (x : X) (xs : List X) → count_of cmp x (sort_by cmp xs) ≡ count_of cmp x xs
   count_of-sort_by x xs = sum_by-sort_by cmp (λ y. cond (is_eq (cmp x y)) 1 0) xs
-
-  none_counted : (x : X) (xs : List X) → AllByRecursion (λ y. cmp x y ≡ Less) xs → count_of cmp x xs ≡ 0
-  none_counted x [] h = refl
-  none_counted x (y ∷ ys) h =
-      let other : cond {A = ℕ} (is_eq (cmp x y)) 1 0 ≡ 0 = ap (λ o. cond {A = ℕ} (is_eq o) 1 0) h.0 in
-      omega (arith, sum_by-cons (λ y. cond (is_eq (cmp x y)) 1 0) y ys, none_counted x ys h.1)
 
 module _ {X : Type 0} (cmp : X → X → Ordering) (total : IsTotalOrder cmp) (exact : (x y : X) → cmp x y ≡ Equal → x ≡ y) where
   -- the elements of both lists, in order, and the first of them that they do not have equally often
@@ -136,14 +132,14 @@ module _ {X : Type 0} (cmp : X → X → Ordering) (total : IsTotalOrder cmp) (e
         differ = λ e.
             let a = count_of-append cmp x front (x ∷ xs) in
             let b = count_of-append cmp x front ys in
-            let none = none_counted cmp x ys h in
+            let none = count_none cmp total x ys h in
             let here : cond {A = ℕ} (is_eq (cmp x x)) 1 0 ≡ 1 = ap (λ o. cond {A = ℕ} (is_eq o) 1 0) (tied_itself total x) in
             let some = sum_by-cons (λ y. cond {A = ℕ} (is_eq (cmp x y)) 1 0) x xs in
             omega arith;
         earlier = λ y l.
             let a = count_of-append cmp y front (x ∷ xs) in
             let b = count_of-append cmp y front ys in
-            let here = none_counted cmp y (x ∷ xs) (behind y x xs s l) in
-            let there = none_counted cmp y ys (behind_further y x ys l h) in
+            let here = count_none cmp total y (x ∷ xs) (behind y x xs s l) in
+            let there = count_none cmp total y ys (behind_further y x ys l h) in
             omega arith;
       })

@@ -1,7 +1,8 @@
 -- Walks over the bids of bidders. The bids of the first bidder are the leading ones with its dummy good, and behind them stand
 -- those of the others. Two walks side by side that gave the same bidders so far part at the least bidder that the two do not have
 -- equally often, since neither list of bidders falls.
-use Rattle.std.proofs.Common.{◌≡◌, ℕ, ◌+◌, ◌<◌, ◌≤◌, true, false, eqb, cond, ⊎_elim, List, [], ◌∷◌, ◌++◌, length, map, take, drop, get_or, refl, sym, ap, ap₂, ◌∙◌, subst, arith, append_assoc, Option, Some, None, Less, Equal, Greater, Bor, ◌-◌, ◌⊎◌}
+use Rattle.std.proofs.Common.{◌≡◌, ℕ, ◌+◌, ◌<◌, ◌≤◌, true, false, eqb, cond, ⊎_elim, List, [], ◌∷◌, ◌++◌, length, map, take, drop, get_or, refl, sym, ap, ap₂}
+use Rattle.std.proofs.Common.{◌∙◌, subst, arith, append_assoc, Option, Some, None, Less, Equal, Greater, Bor, ◌-◌, ◌⊎◌}
 use Rattle.std.specs.Prelude.{All, MatchOption}
 use Rattle.std.specs.List.{AllByRecursion, prefix_len}
 use Rattle.std.specs.Option.{option_eq, option_or}
@@ -21,10 +22,10 @@ use Rattle.valuation.specs.Sorting.{count_of}
 use Rattle.valuation.specs.Tables.{xor_table, is_nonzero}
 use Rattle.prune.specs.Points.{xor_points}
 use Rattle.prune.specs.Lemmas.Tables.{no_xor_points}
+use Rattle.prune.specs.Lemmas.KeptBids.{on_bundles}
 use Rattle.canon.specs.Internal.BidderBids.{offers, AreBidsOf, HasBidders, IsFirstBidder}
 use Rattle.canon.specs.Canonical.{bid_from, dummy_bids, canonical_auction, points_of_bidders}
 use Rattle.canon.specs.Difference.{InXor, least_unequal_bidder, xor_difference}
-use Rattle.canon.proofs.Atoms.{on_bundles}
 use Rattle.canon.proofs.BidderDifferences.{least_uneven, least_uneven_swap, none_of_same, behind, parts_at_left}
 use Rattle.canon.proofs.Counting.{points_more, points_without}
 
@@ -72,7 +73,8 @@ parts_of_bids d bidder bidders bids h n e =
     let rest = dummy_bids (d + 1) bidders in
     let size : length own ≡ n = length-map bidder (bid_from (Some d)) ∙ sym e in
     let front : take n (own ++ rest) ≡ own = take-append-le n own rest (omega arith) ∙ take_all n own (omega arith) in
-    let back : drop n (own ++ rest) ≡ rest = drop-append-le n own rest (omega arith) ∙ ap (λ (zs : List PlainBid). zs ++ rest) (drop_all n own (omega arith)) in (
+    let back : drop n (own ++ rest) ≡ rest = drop-append-le n own rest (omega arith)
+    ∙ ap (λ (zs : List PlainBid). zs ++ rest) (drop_all n own (omega arith)) in (
       ap (map atom_of) (sym (take-map plain_bid n bids) ∙ ap (take n) h.are ∙ front) ∙ offered d bidder,
       record { each = h.each.1; are = sym (drop-map plain_bid n bids) ∙ ap (drop n) h.are ∙ back },
     )
@@ -149,10 +151,6 @@ pub record IsCounted (bidder : List (Atom (List ℕ))) (bidders : List (List (At
   pub later : List (List (Atom (List ℕ)))
   pub rest : AreBidsOf dummy later bids
   pub counted : copies + count_of bidder_cmp bidder later ≡ count_of bidder_cmp bidder bidders
-
-pub none_counted_yet : (bidder : List (Atom (List ℕ))) (bidders : List (List (Atom (List ℕ)))) (bids : List PlainBid) → AreBidsOf 0 bidders bids
-    → IsCounted bidder bidders 0 bids
-none_counted_yet bidder bidders bids h = record { dummy = 0; later = bidders; rest = h; counted = omega arith }
 
 pub one_more_counted : (bidder : List (Atom (List ℕ))) (bidders : List (List (Atom (List ℕ)))) (copies more : ℕ) (bids first : List Bid)
     → IsFirstBidder bids first

@@ -1,5 +1,6 @@
 -- The bidders as the code has them: what holds of each, one more, and putting them in order.
-use Rattle.std.proofs.Common.{◌≡◌, ℕ, ◌+◌, ◌<◌, ◌≤◌, Bool, true, false, ⊎_elim, List, [], ◌∷◌, ◌++◌, length, map, get_or, Some, None, sym, ap, ap₂, ◌∙◌, subst, arith, append_assoc, Global}
+use Rattle.std.proofs.Common.{◌≡◌, ℕ, ◌+◌, ◌<◌, ◌≤◌, Bool, true, false, ⊎_elim, List, [], ◌∷◌, ◌++◌, length, map, get_or, None, sym, ap, ap₂, ◌∙◌, subst}
+use Rattle.std.proofs.Common.{arith, append_assoc, Global}
 use Rattle.std.specs.Prelude.{All, Vec, IsPermutation}
 use Rattle.std.specs.List.{filter}
 use Rattle.std.specs.List.Sorted.{IsSortedBy}
@@ -22,10 +23,10 @@ use Rattle.valuation.specs.Tables.{xor_table, is_nonzero}
 use Rattle.valuation.specs.Values.{atoms_of}
 use Rattle.prune.specs.Lemmas.Lists.{Contains-head, zero_or_more}
 use Rattle.prune.specs.Points.{xor_points, or_points}
-use Rattle.prune.specs.Steps.{first_heavy}
+use Rattle.prune.specs.SearchSteps.{first_heavy}
 use Rattle.prune.specs.Lemmas.Tables.{no_xor_points}
+use Rattle.prune.specs.Lemmas.KeptBids.{on_bundles}
 use Rattle.canon.specs.Canonical.{canonical_auction, points_of_bidders}
-use Rattle.canon.proofs.Atoms.{on_bundles}
 use Rattle.canon.proofs.Counting.{points_more, points_without}
 
 -- atoms over fewer goods are atoms over more
@@ -101,7 +102,8 @@ bidders_sorted {S} goods old new p up =
 
 -- ---- the loop over the bidders
 
-module _ {S : Type 0} (goods : S → List ℕ) (all done left rest : List (Vec (Atom S) Global)) (b : Vec (Atom S) Global) (parts : all ≡ done ++ left) (next : left ≡ b ∷ rest) where
+module _ {S : Type 0} (goods : S → List ℕ) (all done left rest : List (Vec (Atom S) Global)) (b : Vec (Atom S) Global) (parts : all ≡ done ++ left)
+    (next : left ≡ b ∷ rest) where
   pub bidder_next : (P : List (Atom (List ℕ)) → Type 0) → All P (bidders_of goods all) → P (atoms_of goods b.items)
   bidder_next P h = all_middle (λ (v : Vec (Atom S) Global). atoms_of goods v.items) P all done rest b (parts
       ∙ ap (λ (zs : List (Vec (Atom S) Global)). done ++ zs) next) h
@@ -167,7 +169,3 @@ module _ (cap : ℕ) (a : PlainAuction) (facts : IsAuction cap a) (n : ℕ) (ors
 
   pub light_parts : (limit : ℕ) → ((m : ℕ) → All (IsAtom m) ors → first_heavy m limit ors ≡ None) → first_heavy a.goods limit a.or_atoms ≡ None
   light_parts limit h = ap (λ (x : PlainAuction). first_heavy x.goods limit x.or_atoms) parts ∙ h n made.or_atoms
-
-  pub heavy_parts : (limit : ℕ) (bundle : List ℕ) → ((m : ℕ) → All (IsAtom m) ors → first_heavy m limit ors ≡ Some bundle)
-      → first_heavy a.goods limit a.or_atoms ≡ Some bundle
-  heavy_parts limit bundle h = ap (λ (x : PlainAuction). first_heavy x.goods limit x.or_atoms) parts ∙ h n made.or_atoms

@@ -1,5 +1,6 @@
 -- What comparing answers: of two canonical files, by their OR bids and their XOR bids, and of two texts, by the files that they spell.
-use Rattle.std.proofs.Common.{◌≡◌, ℕ, zero, suc, ◌+◌, ◌≤◌, Bool, true, cond, List, [], ◌∷◌, ◌++◌, length, map, take, drop, Option, Some, None, is_none, Result, Ok, Err, refl, sym, ap, ap₂, ◌∙◌, subst, arith}
+use Rattle.std.proofs.Common.{◌≡◌, ℕ, zero, suc, ◌+◌, ◌≤◌, Bool, true, cond, List, [], ◌∷◌, ◌++◌, length, map, take, drop, Option, Some, None, is_none, Result}
+use Rattle.std.proofs.Common.{Ok, Err, refl, sym, ap, ap₂, ◌∙◌, subst, arith}
 use Rattle.std.specs.Prelude.{◌↔◌, IfOk, OnErr, MatchOption}
 use Rattle.std.specs.List.{prefix_len}
 use Rattle.std.proofs.lemmas.Bool.{cond-true}
@@ -29,7 +30,7 @@ use Rattle.canon.specs.declared.fault.CanonFault.{CanonFault}
 use Rattle.canon.specs.declared.fault.CanonFault.TheVariants.{Read, StepLimit, Memory}
 use Rattle.canon.specs.declared.verdict.Verdict.{Verdict}
 use Rattle.canon.specs.declared.verdict.Verdict.TheVariants.{Same, Goods, Or, Xor}
-use Rattle.canon.specs.declared.which.Which.TheVariants.{First, Second, Both}
+use Rattle.canon.specs.declared.which.Which.TheVariants.{Second, Both}
 use Rattle.canon.proofs.Answering.{refused_file}
 use Rattle.canon.proofs.Atoms.{HasAtoms}
 use Rattle.canon.proofs.Differences.{at_same_goods, same_from_no_difference, no_difference_from_same}
@@ -58,7 +59,8 @@ passing_plain : (bids : List Bid) → prefix_len (λ (b : Bid). is_none b.dummy)
 passing_plain [] = refl
 passing_plain (b ∷ bids) = ap (λ n. cond (is_none b.dummy) (1 + n) 0) (passing_plain bids)
 
-module _ (a : PlainAuction) (bids : List Bid) (are : plain_bids bids ≡ (file_from a).bids) (n : ℕ) (is : n ≡ prefix_len (λ (b : Bid). is_none b.dummy) bids) where
+module _ (a : PlainAuction) (bids : List Bid) (are : plain_bids bids ≡ (file_from a).bids) (n : ℕ)
+    (is : n ≡ prefix_len (λ (b : Bid). is_none b.dummy) bids) where
   or_count : n ≡ length (map (bid_from None) a.or_atoms)
   or_count =
       is ∙ passing_plain bids ∙ ap (prefix_len (λ (b : PlainBid). is_none b.dummy)) are
@@ -186,25 +188,6 @@ module _ (limit : ℕ) (one other : List ℕ) (h k : PlainFile) (n : IsNormalFil
 -- ---- one text has none
 
 module _ (limit : ℕ) (one other : List ℕ) where
-  memory_first : (o : Normalised) → RefusesOf First (unless_second_refused one other o) Memory
-  memory_first (IsText text) = refl
-  memory_first (IsNoFile fault) = refl
-  memory_first (ExceedsSteps goods) = refl
-
-  first_in_place : (text : List ℕ) (fault : CanonFault) → RefusesAs (IsText text) fault
-      → RefusesOf First (unless_second_refused one other (normalised limit other)) fault
-  first_in_place text (Read fault) r = absurd (cc)
-  first_in_place text (StepLimit goods) r = absurd (cc)
-  first_in_place text Memory r = memory_first (normalised limit other)
-
-  first_by : (fault : CanonFault) (o : Normalised) → RefusesAs o fault → RefusesOf First (unless_first_refused limit one other o) fault
-  first_by fault (IsText text) r = first_in_place text fault r
-  first_by fault (IsNoFile why) r = r
-  first_by fault (ExceedsSteps goods) r = r
-
-  pub first_refused : (fault : CanonFault) → RefusesAs (normalised limit one) fault → RefusesOf First (compared limit one other) fault
-  first_refused fault r = first_by fault (normalised limit one) r
-
   second_in_place : (text : List ℕ) (fault : CanonFault) → RefusesAs (IsText text) fault
       → RefusesOf Second (unless_second_refused one other (IsText text)) fault
   second_in_place text (Read fault) r = absurd (cc)

@@ -1,6 +1,7 @@
 -- Bidders are counted alike by their tables and by their points. A bidder of value zero has neither, and of the others each has
 -- the points that its table says.
-use Rattle.std.proofs.Common.{◌≡◌, ℕ, ◌+◌, ◌<◌, ◌≤◌, Bool, true, false, cond, ⊎_elim, List, [], ◌∷◌, map, refl, sym, ap, ◌∙◌, subst, arith, le_antisymm, Ordering, Less, Equal, Greater, nat_cmp}
+use Rattle.std.proofs.Common.{◌≡◌, ℕ, ◌+◌, ◌<◌, ◌≤◌, Bool, true, false, cond, ⊎_elim, List, [], ◌∷◌, map, refl, sym, ap, ◌∙◌, subst, arith, le_antisymm}
+use Rattle.std.proofs.Common.{Ordering, Less, Equal, Greater, nat_cmp}
 use Rattle.std.specs.Prelude.{All}
 use Rattle.std.specs.List.{filter, count_by}
 use Rattle.std.specs.Ordering.{is_eq}
@@ -20,9 +21,10 @@ use Rattle.valuation.specs.Tables.{xor_table, is_nonzero}
 use Rattle.prune.specs.Points.{xor_points}
 use Rattle.prune.specs.Lemmas.Lists.{zero_or_more}
 use Rattle.prune.specs.Lemmas.Tables.{same_xor_points}
+use Rattle.prune.specs.Lemmas.KeptBids.{on_bundles}
 use Rattle.canon.specs.Sameness.{has_table}
 use Rattle.canon.specs.Canonical.{points_of_bidders}
-use Rattle.canon.proofs.Atoms.{on_bundles, xor_points_table}
+use Rattle.canon.proofs.Atoms.{xor_points_table}
 
 -- ---- tests by an order
 

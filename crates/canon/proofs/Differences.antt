@@ -1,4 +1,5 @@
--- Laws of the first difference.
+-- Laws of the first difference. Exchanging the auctions exchanges its sides; there is none exactly between auctions that are the same;
+-- and where it is a bundle or a bidder, it is a point of one of them, or counted unequally by tables: each case by case over its parts.
 use Rattle.std.proofs.Common.{◌≡◌, ℕ, ◌<◌, true, false, eqb, cond, ⊎_elim, List, refl, sym, ap, ap₂, ◌∙◌, subst, arith, Option, Some, None}
 use Rattle.std.specs.Prelude.{All, ◌↔◌}
 use Rattle.std.specs.List.{find, count_by}
@@ -16,10 +17,12 @@ use Rattle.valuation.specs.Values.{or_value}
 use Rattle.prune.specs.Lemmas.Lists.{find_none, found_none, map_same_on, map_same_at, All-from_Contains, zero_or_more}
 use Rattle.prune.specs.Points.{is_or_point, or_points}
 use Rattle.prune.specs.Lemmas.Tables.{same_or_points}
+use Rattle.prune.specs.Lemmas.KeptBids.{on_bundles}
 use Rattle.canon.specs.Sameness.{IsSameAuction, has_table, bidders_with}
 use Rattle.canon.specs.Canonical.{canonical_auction, points_of_bidders}
-use Rattle.canon.specs.Difference.{NoDifference, InGoods, first_difference, first_unequal_bundle, least_unequal_bidder, or_difference, xor_difference, copies_of, exchanged}
-use Rattle.canon.proofs.Atoms.{HasAtoms, on_bundles, xor_points_table}
+use Rattle.canon.specs.Difference.{NoDifference, InGoods, first_difference, first_unequal_bundle, least_unequal_bidder, or_difference, xor_difference}
+use Rattle.canon.specs.Difference.{copies_of, exchanged}
+use Rattle.canon.proofs.Atoms.{HasAtoms, xor_points_table}
 use Rattle.canon.proofs.Counting.{IsPointsOf, occurring, points_as_tables}
 use Rattle.canon.proofs.Sames.{same_canonical, same_from_canonical}
 use Rattle.canon.proofs.OrDifferences.{are_unequal, equal_from_test, unequal_swap, IsFirstUnequal, first_unequal, greater_is_point}

@@ -1,5 +1,7 @@
--- One more file in an index.
-use Rattle.std.proofs.Common.{◌≡◌, ◌⊎◌, ℕ, zero, suc, ◌+◌, Bool, true, false, cond, unwrap_or, bytes_eq, List, [], ◌∷◌, ◌++◌, length, get_or, All, Option, Some, None, slice_get, refl, sym, ap, ◌∙◌, subst, inl, inr, ⊎_elim, arith, length-append, Global}
+-- One more file in an index. Files have one text exactly where they are the same auction, so the first file with a text, which is the
+-- one that the map has for it, is the first of its auction.
+use Rattle.std.proofs.Common.{◌≡◌, ◌⊎◌, ℕ, zero, suc, ◌+◌, ◌<◌, Bool, true, false, cond, unwrap_or, bytes_eq, List, [], ◌∷◌, ◌++◌, length, get_or, All, Option, Some}
+use Rattle.std.proofs.Common.{None, slice_get, refl, sym, ap, ◌∙◌, subst, inl, inr, ⊎_elim, arith, length-append, Global}
 use Rattle.std.specs.Prelude.{Vec, Result, Ok, Err, IfOk, IfErr, OnOk, OnErr}
 use Rattle.std.specs.Io.KnownBytes.{Consumes}
 use Rattle.std.specs.Cmp.Lexicographic.{bytes_decides}
@@ -38,6 +40,11 @@ pushed [] y x (suc k) e = absurd (none-some x e)
 pushed (z ∷ xs) y x zero e = inl e
 pushed (z ∷ xs) y x (suc k) e = ⊎_elim (λ (f : slice_get xs k ≡ Some x). inl f) (λ (f : (k ≡ length xs) × (x ≡ y)). inr (ap suc f.0, f.1)) (pushed xs y x k e)
 
+-- one that stands before the last stood there before
+pushed_earlier : {X : Type 0} (xs : List X) (y x : X) (k : ℕ) → k < length xs → slice_get (xs ++ y ∷ []) k ≡ Some x → slice_get xs k ≡ Some x
+pushed_earlier xs y x k l at =
+    ⊎_elim (λ (e : slice_get xs k ≡ Some x). e) (λ (e : (k ≡ length xs) × (x ≡ y)). let last = e.0 in absurd (omega arith)) (pushed xs y x k at)
+
 -- ---- texts
 
 module _ (files : List PlainFile) (f : PlainFile) where
@@ -51,10 +58,8 @@ module _ (files : List PlainFile) (f : PlainFile) where
     there = pushed_before files f h.file place h.there;
     has = h.has;
     first = λ k other l at is.
-        ⊎_elim
-        (λ (e : slice_get files k ≡ Some other). h.first k other l e is)
-        (λ (e : (k ≡ length files) × (other ≡ f)). let within = slice_get_within files place h.file h.there in let last = e.0 in absurd (omega arith))
-        (pushed files f other k at);
+        let within = slice_get_within files place h.file h.there in
+        h.first k other l (pushed_earlier files f other k (omega arith) at) is;
   }
 
   -- a text that no file had has its first file now
@@ -63,11 +68,7 @@ module _ (files : List PlainFile) (f : PlainFile) where
     file = f;
     there = pushed_last files f;
     has = refl;
-    first = λ k other l at is.
-        ⊎_elim
-        (λ (e : slice_get files k ≡ Some other). h k other e is)
-        (λ (e : (k ≡ length files) × (other ≡ f)). let last = e.0 in absurd (omega arith))
-        (pushed files f other k at);
+    first = λ k other l at is. h k other (pushed_earlier files f other k l at) is;
   }
 
   -- another text has the place that it had
@@ -147,24 +148,6 @@ module _ {S : Type 0} (old new : HashMap (Vec ℕ Global) ℕ S) (count place : 
       → IsFirstPlace (files ++ f ∷ []) f place
   place_of_text text is h facts answer = place_in_index h facts (subst (λ (t : List ℕ). place ≡ unwrap_or (place_of old t) count) is answer)
 
--- an index of no files
-pub empty_index : {S : Type 0} (places : HashMap (Vec ℕ Global) ℕ S) → places.entries ≡ [] → IsIndex places 0 []
-empty_index places none = record {
-  count = refl;
-  facts = λ k file at. absurd (none-some file at);
-  texts = λ text. subst (λ (o : Option ℕ). PlacesText [] text o) (sym (ap (lookup (λ key. bytes_eq text key.items)) none))
-      (λ k other at is. absurd (none-some other at));
-}
-
--- an index whose map has the entries that it had
-pub index_kept : {S : Type 0} (old new : HashMap (Vec ℕ Global) ℕ S) (count : ℕ) (files : List PlainFile) → new.entries ≡ old.entries → IsIndex old count files
-    → IsIndex new count files
-index_kept old new count files same h = record {
-  count = h.count;
-  facts = h.facts;
-  texts = λ text. subst (λ (o : Option ℕ). PlacesText files text o) (sym (ap (lookup (λ key. bytes_eq text key.items)) same)) (h.texts text);
-}
-
 -- ---- the map
 
 abbrev key_eq : Vec ℕ Global → Vec ℕ Global → Bool
@@ -191,16 +174,6 @@ updated old new text place h other =
     other_entries (λ key. bytes_eq text key.items) old.entries new.entries h.3 (λ key. bytes_eq other key.items)
     (λ x y. nat_list_eq_equiv.congr other x.items y.items) (λ key. apart_texts text other key.items n)
     ∙ sym (cond-false (bytes_eq text other) (Some place) (place_of old other) n))
-    (cases_Bool (bytes_eq text other))
-
--- a text that has its place already
-pub unmoved : {S : Type 0} (places : HashMap (Vec ℕ Global) ℕ S) (text : List ℕ) (place : ℕ) → place_of places text ≡ Some place
-    → (other : List ℕ) → place_of places other ≡ cond (bytes_eq text other) (Some place) (place_of places other)
-unmoved places text place at other =
-    ⊎_elim
-    (λ (y : bytes_eq text other ≡ true). subst (λ (t : List ℕ). place_of places t ≡ Some place) ((bytes_decides text other).0 y) at
-    ∙ sym (cond-true (bytes_eq text other) (Some place) (place_of places other) y))
-    (λ (n : bytes_eq text other ≡ false). sym (cond-false (bytes_eq text other) (Some place) (place_of places other) n))
     (cases_Bool (bytes_eq text other))
 
 -- ---- a file that was read first
@@ -232,10 +205,8 @@ first_place_stays files more given place h = record {
   there = pushed_before files more h.file place h.there;
   same = h.same;
   first = λ k other l at same.
-      ⊎_elim
-      (λ (e : slice_get files k ≡ Some other). h.first k other l e same)
-      (λ (e : (k ≡ length files) × (other ≡ more)). let within = slice_get_within files place h.file h.there in let last = e.0 in absurd (omega arith))
-      (pushed files more other k at);
+      let within = slice_get_within files place h.file h.there in
+      h.first k other l (pushed_earlier files more other k (omega arith) at) same;
 }
 
 -- the first file with the text of a file

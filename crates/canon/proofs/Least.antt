@@ -15,12 +15,12 @@ use Rattle.valuation.specs.Sorting.{count_of}
 use Rattle.valuation.specs.Lemmas.Sorting.{sum_by-sort_by}
 use Rattle.valuation.specs.Tables.{xor_table, is_nonzero}
 use Rattle.prune.specs.Points.{xor_points}
-use Rattle.prune.specs.Lemmas.KeptBids.{just_bundles, or_points_are_atoms, xor_points_are_atoms}
+use Rattle.prune.specs.Lemmas.KeptBids.{just_bundles, or_points_are_atoms, xor_points_are_atoms, on_bundles}
 use Rattle.prune.specs.Lemmas.Tables.{no_xor_points}
 use Rattle.canon.specs.Sameness.{AreSameFiles}
 use Rattle.canon.specs.Canonical.{canonical_auction, canonical_file, points_of_bidders, bid_from, dummy_bids, file_from}
 use Rattle.canon.specs.Least.{IsHeldBy}
-use Rattle.canon.proofs.Atoms.{HasAtoms, on_bundles}
+use Rattle.canon.proofs.Atoms.{HasAtoms}
 use Rattle.canon.proofs.Counting.{alike, skips, points_more, points_without}
 use Rattle.canon.proofs.Files.{auction_from-file_from, length-dummy_bids}
 use Rattle.canon.proofs.Sames.{same_canonical}

@@ -240,7 +240,8 @@ module _ (goods : ℕ) where
           }
 
     -- the other list has another price there
-    module _ (y : Atom (List ℕ)) (ys : List (Atom (List ℕ))) (right : ArePoints (front ++ (y ∷ ys))) (same : x.bundle ≡ y.bundle) (differ : x.price ≡ y.price → ⊥) where
+    module _ (y : Atom (List ℕ)) (ys : List (Atom (List ℕ))) (right : ArePoints (front ++ (y ∷ ys))) (same : x.bundle ≡ y.bundle)
+        (differ : x.price ≡ y.price → ⊥) where
       pub record AreBothPoints : Type 0 where
         pub found : find (are_unequal (front ++ (x ∷ xs)) (front ++ (y ∷ ys))) (all_bundles goods) ≡ Some x.bundle
         pub left_point : is_or_point goods (front ++ (x ∷ xs)) x.bundle ≡ true

@@ -1,5 +1,6 @@
 -- Two lists of points are walked place by place. Where they part, the lesser bundle is the first on which the values differ.
-use Rattle.std.proofs.Common.{◌≡◌, ℕ, ◌+◌, ◌<◌, ◌≤◌, cond, ⊎_elim, List, [], ◌∷◌, ◌++◌, length, map, take, drop, get_or, refl, sym, ap, ap₂, ◌∙◌, subst, arith, Some, None, Less, Equal, Greater}
+use Rattle.std.proofs.Common.{◌≡◌, ℕ, ◌+◌, ◌<◌, ◌≤◌, cond, ⊎_elim, List, [], ◌∷◌, ◌++◌, length, map, take, drop, get_or, refl, sym, ap, ap₂, ◌∙◌, subst, arith}
+use Rattle.std.proofs.Common.{Some, None, Less, Equal, Greater}
 use Rattle.std.specs.Prelude.{Contains, OnErr, Result, Ok, Err}
 use Rattle.std.specs.List.{find}
 use Rattle.std.specs.Ordering.{ordering_reverse}
@@ -18,14 +19,15 @@ use Rattle.valuation.specs.Values.{or_value}
 use Rattle.prune.specs.InOrder.{IsBefore}
 use Rattle.prune.specs.Lemmas.Lists.{Contains-nil, find_none}
 use Rattle.prune.specs.Points.{is_or_point}
+use Rattle.prune.specs.Lemmas.KeptBids.{on_bundles}
 use Rattle.canon.specs.Internal.BidderBids.{offers}
 use Rattle.canon.specs.Canonical.{bid_from}
 use Rattle.canon.specs.Difference.{InOr, first_unequal_bundle, or_difference}
 use Rattle.canon.specs.Internal.OrBids.{HasOrBids}
 use Rattle.canon.specs.declared.verdict.Side.{Side}
 use Rattle.canon.specs.declared.verdict.Side.TheVariants.{Exactly, Below}
-use Rattle.canon.proofs.Atoms.{on_bundles}
 use Rattle.canon.proofs.OrDifferences.{ArePoints, are_unequal, equal_test, unequal_swap, in_order, suffix_in_order, parts_at_left, both_at}
+use Rattle.canon.proofs.BidOrders.{length-offers}
 
 -- a fact that holds in any case
 pub on_err : {T E P : Type 0} (r : Result T E) → P → OnErr r P
@@ -98,7 +100,8 @@ module _ (goods : ℕ) where
       sym (take-append-drop i xs)
       ∙ ap (λ (zs : List (Atom (List ℕ))). take i xs ++ zs) (drop_more xs i x l ∙ ap (λ (z : Atom (List ℕ)). z ∷ drop (i + 1) xs) (sym e))
 
-  module _ (one other : List (Atom (List ℕ))) (p : ArePoints goods one) (q : ArePoints goods other) (i : ℕ) (shared : take i one ≡ take i other) (x : Atom (List ℕ)) (here : i < length one) (is : x ≡ get_or one i x) where
+  module _ (one other : List (Atom (List ℕ))) (p : ArePoints goods one) (q : ArePoints goods other) (i : ℕ) (shared : take i one ≡ take i other)
+      (x : Atom (List ℕ)) (here : i < length one) (is : x ≡ get_or one i x) where
     left_is : one ≡ take i one ++ (x ∷ drop (i + 1) one)
     left_is = split_at_place one i x here is
 
@@ -133,7 +136,8 @@ module _ (goods : ℕ) where
           (λ a b. parts_both (take i one) x y (drop (i + 1) one) (drop (i + 1) other) a b same differ)
 
   -- the same, seen from the other list
-  module _ (one other : List (Atom (List ℕ))) (p : ArePoints goods one) (q : ArePoints goods other) (i : ℕ) (shared : take i one ≡ take i other) (y : Atom (List ℕ)) (there : i < length other) (so : y ≡ get_or other i y) where
+  module _ (one other : List (Atom (List ℕ))) (p : ArePoints goods one) (q : ArePoints goods other) (i : ℕ) (shared : take i one ≡ take i other)
+      (y : Atom (List ℕ)) (there : i < length other) (so : y ≡ get_or other i y) where
     pub parted_at_end_right : length one ≤ i → PartsAs goods one other y.bundle (Below y.price) (Exactly y.price)
     parted_at_end_right l = parts_swap other one y.bundle (Exactly y.price) (Below y.price) (parted_at_end other one q p i (sym shared) y there so l)
 
@@ -187,9 +191,6 @@ offer_at bids i b l e =
     let long = length-map bids plain_bid in
     sym (get_or-map atom_of (plain_bids bids) i (plain_bid b) (atom_of (plain_bid b)) (omega arith)
     ∙ ap atom_of (get_or-map plain_bid bids i b (plain_bid b) l ∙ ap plain_bid (sym e)))
-
-pub length-offers : (bids : List Bid) → length (offers bids) ≡ length bids
-length-offers bids = length-map (plain_bids bids) atom_of ∙ length-map bids plain_bid
 
 -- ---- what is told of two walked lists of bids
 

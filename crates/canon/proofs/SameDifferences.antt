@@ -18,12 +18,14 @@ use Rattle.prune.specs.Lemmas.Lists.{filter_same_on, find_alike, All-from_Contai
 use Rattle.prune.specs.Lemmas.Points.{IsOrPoint-from_test, is_or_point-true, or_points_are}
 use Rattle.prune.specs.Points.{is_or_point, or_points}
 use Rattle.prune.specs.Lemmas.Tables.{same_or_points}
+use Rattle.prune.specs.Lemmas.KeptBids.{on_bundles}
 use Rattle.canon.specs.Canonical.{canonical_auction}
-use Rattle.canon.specs.Difference.{Difference, NoDifference, InGoods, InOr, InXor, first_difference, first_unequal_bundle, least_unequal_bidder, or_difference, xor_difference}
+use Rattle.canon.specs.Difference.{Difference, NoDifference, InGoods, InOr, InXor, first_difference, first_unequal_bundle, least_unequal_bidder, or_difference}
+use Rattle.canon.specs.Difference.{xor_difference}
 use Rattle.canon.specs.Sameness.{IsSameAuction, AreSameFiles}
 use Rattle.canon.specs.declared.verdict.Side.{Side}
 use Rattle.canon.specs.declared.verdict.Side.TheVariants.{Exactly, Below}
-use Rattle.canon.proofs.Atoms.{HasAtoms, on_bundles}
+use Rattle.canon.proofs.Atoms.{HasAtoms}
 use Rattle.canon.proofs.BidderDifferences.{least_uneven}
 use Rattle.canon.proofs.Differences.{at_same_goods, at_other_goods, unequal_bundle_is}
 use Rattle.canon.proofs.OrDifferences.{are_unequal}
@@ -101,7 +103,8 @@ alike_from_same goods a a2 h h2 s e =
 
 -- ---- both
 
-module _ (a a2 b b2 : PlainAuction) (h : HasAtoms a) (h2 : HasAtoms a2) (k : HasAtoms b) (k2 : HasAtoms b2) (s : IsSameAuction a a2) (t : IsSameAuction b b2) where
+module _ (a a2 b b2 : PlainAuction) (h : HasAtoms a) (h2 : HasAtoms a2) (k : HasAtoms b) (k2 : HasAtoms b2) (s : IsSameAuction a a2)
+    (t : IsSameAuction b b2) where
   module _ (e : a.goods ≡ b.goods) where
     e2 : a2.goods ≡ b2.goods
     e2 = sym s.goods ∙ e ∙ t.goods

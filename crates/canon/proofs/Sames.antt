@@ -12,9 +12,10 @@ use Rattle.valuation.specs.Lemmas.Sorting.{sum_by-sort_by, All-sort_by, sort_by-
 use Rattle.valuation.specs.Tables.{or_table, xor_table, is_nonzero}
 use Rattle.prune.specs.Points.{xor_points}
 use Rattle.prune.specs.Lemmas.Tables.{same_or_points}
+use Rattle.prune.specs.Lemmas.KeptBids.{on_bundles}
 use Rattle.canon.specs.Sameness.{has_table, IsSameAuction}
 use Rattle.canon.specs.Canonical.{points_of_bidders, canonical_auction}
-use Rattle.canon.proofs.Atoms.{HasAtoms, on_bundles, or_points_atoms, xor_points_atoms, or_points_table}
+use Rattle.canon.proofs.Atoms.{HasAtoms, or_points_atoms, xor_points_atoms, or_points_table}
 use Rattle.canon.proofs.Counting.{tables_of_points, points_counted}
 
 -- ---- the same auction is an equivalence

@@ -16,12 +16,12 @@ use Rattle.valuation.specs.Tables.{xor_table, is_nonzero}
 use Rattle.prune.specs.InOrder.{IsBefore, IsInOrder}
 use Rattle.prune.specs.Lemmas.InOrder.{before_itself}
 use Rattle.prune.specs.Lemmas.Lists.{All-from_Contains, Contains-tail}
-use Rattle.prune.specs.Lemmas.KeptBids.{just_bundles, or_points_are_atoms, xor_points_are_atoms}
+use Rattle.prune.specs.Lemmas.KeptBids.{just_bundles, or_points_are_atoms, xor_points_are_atoms, on_bundles}
 use Rattle.prune.specs.Lemmas.Points.{points_where-in_order}
 use Rattle.prune.specs.Points.{or_points, xor_points, is_or_point, is_xor_point}
 use Rattle.valuation.specs.Values.{or_value, xor_value}
 use Rattle.canon.specs.Canonical.{canonical_auction, points_of_bidders}
-use Rattle.canon.proofs.Atoms.{HasAtoms, on_bundles}
+use Rattle.canon.proofs.Atoms.{HasAtoms}
 use Rattle.canon.proofs.Counting.{points_more, points_without}
 use Rattle.canon.proofs.Sames.{HasAtoms-auction, HasAtoms-canonical}
 

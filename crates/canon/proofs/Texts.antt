@@ -12,12 +12,13 @@ use Rattle.cats_text.proofs.Spelling.Files.{spells_from_no_fault, no_fault_from_
 use Rattle.valuation.specs.Auctions.{PlainAuction, IsAuction, or_atoms_of, auction_from}
 use Rattle.valuation.specs.Lemmas.AuctionsOfFiles.{IsAuction-auction_from}
 use Rattle.prune.specs.Points.{or_points}
-use Rattle.prune.specs.Steps.{first_heavy}
-use Rattle.prune.specs.Lemmas.Steps.{no_heavy_point}
+use Rattle.prune.specs.SearchSteps.{first_heavy}
+use Rattle.prune.specs.Lemmas.SearchSteps.{no_heavy_point}
+use Rattle.prune.specs.Lemmas.KeptBids.{on_bundles}
 use Rattle.canon.specs.Sameness.{IsSameAuction, AreSameFiles, AreSameTexts}
 use Rattle.canon.specs.Canonical.{canonical_auction, file_from, canonical_file, canonical_text}
 use Rattle.canon.specs.Normalising.{IsText, unless_heavy, normalised_file, unless_fault, normalised}
-use Rattle.canon.proofs.Atoms.{HasAtoms, on_bundles}
+use Rattle.canon.proofs.Atoms.{HasAtoms}
 use Rattle.canon.proofs.Sames.{HasAtoms-auction, canonical_is_same, same_canonical, same_from_canonical, canonical_is_fixed}
 use Rattle.canon.proofs.Files.{auction_from-file_from, IsPlainFile-file_from}
 use Rattle.canon.proofs.Smaller.{IsAuction-canonical}

@@ -6,7 +6,7 @@ use Rattle.cats_text.specs.Files.{PlainFile}
 use Rattle.cats_text.specs.Views.{plain_file}
 use Rattle.cats_text.specs.declared.bid.BidFile.{BidFile}
 use Rattle.valuation.specs.Auctions.{PlainAuction, auction_from}
-use Rattle.prune.specs.Steps.{first_heavy}
+use Rattle.prune.specs.SearchSteps.{first_heavy}
 use Rattle.canon.specs.Canonical.{canonical_auction, file_from}
 use Rattle.canon.specs.Normalising.{Normalised, IsNoFile, ExceedsSteps, IsText}
 use Rattle.canon.specs.declared.fault.CanonFault.{CanonFault}

@@ -5,7 +5,7 @@ use Rattle.cats_text.specs.Faults.{first_fault}
 use Rattle.cats_text.specs.FileLines.{spelled_file}
 use Rattle.cats_text.specs.declared.fault.ReadFault.{ReadFault}
 use Rattle.valuation.specs.Auctions.{or_atoms_of}
-use Rattle.prune.specs.Steps.{first_heavy}
+use Rattle.prune.specs.SearchSteps.{first_heavy}
 use Rattle.canon.specs.Canonical.{canonical_text}
 
 pub data Normalised : Type 0 where

@@ -8,7 +8,7 @@ ghost use Rattle.valuation.specs.Orders.{bidder_cmp};
 ghost use Rattle.valuation.specs.Sorting.{sort_by};
 ghost use Rattle.valuation.specs.Views.{plain_auction};
 ghost use Rattle.prune.specs.Faults.{IfStepLimit};
-ghost use Rattle.prune.specs.Steps.{first_heavy};
+ghost use Rattle.prune.specs.SearchSteps.{first_heavy};
 ghost use Rattle.canon.specs.Canonical.{IsCanonical, canonical_auction, points_of_bidders};
 ghost use Rattle.canon.specs.Sameness.{IsSameAuction};
 

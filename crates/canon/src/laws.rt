@@ -3,7 +3,7 @@
 ghost use Rattle.std.specs.Prelude.{◌≡◌, ◌↔◌, ℕ, List, None, true};
 ghost use Rattle.cats_text.specs.Files.{PlainFile, IsPlainFile};
 ghost use Rattle.valuation.specs.Auctions.{PlainAuction, IsAuction, auction_from};
-ghost use Rattle.prune.specs.Steps.{first_heavy, is_heavy};
+ghost use Rattle.prune.specs.SearchSteps.{first_heavy, is_heavy};
 ghost use Rattle.canon.specs.Canonical.{canonical_auction, canonical_text, file_from};
 ghost use Rattle.canon.specs.Normalising.{normalised, IsText};
 ghost use Rattle.canon.specs.Sameness.{AreSameFiles, AreSameTexts, IsSameAuction};

@@ -5,7 +5,7 @@ ghost use Rattle.cats_text.specs.Files.{PlainFile, IsPlainFile};
 ghost use Rattle.cats_text.specs.Grammar.{Spells};
 ghost use Rattle.cats_text.specs.Views.{plain_file};
 ghost use Rattle.valuation.specs.Views.{plain_auction};
-ghost use Rattle.prune.specs.Steps.{first_heavy};
+ghost use Rattle.prune.specs.SearchSteps.{first_heavy};
 ghost use Rattle.canon.specs.Answers.{NormalisesAs, NormalisesAuctionAs, NormalisesFileAs, RefusesAuction};
 ghost use Rattle.canon.specs.Canonical.{IsCanonicalFile, canonical_auction, canonical_text};
 ghost use Rattle.canon.specs.Least.{IsLeastFor};

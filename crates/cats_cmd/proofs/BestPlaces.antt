@@ -1,4 +1,4 @@
--- The place that `xor_value` answers is the least of a best atom.
+-- The place that `xor_value` answers is the least of a best atom: no atom before it is one, so the search for the first passes them.
 use Rattle.std.proofs.Common.{◌≡◌, ◌≢◌, ℕ, ◌<◌, Bool, true, false, cond, ◌&&◌, ◌==◌, List, [], length, get_or, Option, Some, None, refl, ap, ◌∙◌, arith, ⊎_elim}
 use Rattle.std.specs.Prelude.{All, IfSome, IsNone, nat_lt}
 use Rattle.std.specs.List.{position_or_len}

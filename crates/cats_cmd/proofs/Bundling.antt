@@ -1,4 +1,4 @@
--- Goods that a file has.
+-- Where a file misses none of the goods that are asked for, all are below its count of goods, by induction on them.
 use Rattle.std.proofs.Common.{◌≡◌, ℕ, ◌<◌, Bool, true, false, cond, List, [], ◌∷◌, Some, None, sym, ap, ◌∙◌, ⊎_elim}
 use Rattle.std.specs.Prelude.{All, nat_le}
 use Rattle.std.specs.List.{AllByRecursion}

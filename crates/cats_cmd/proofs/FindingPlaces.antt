@@ -1,32 +1,26 @@
--- One more path, whose file was judged or was not.
-use Rattle.std.proofs.Common.{◌≡◌, ◌≢◌, ℕ, suc, All, Option, Result, Ok, Err, ◌+◌, ◌<◌, ◌==◌, max, Bool, cond, List, [], ◌∷◌, ◌++◌, length, map, filter, fold, get_or, take, refl, sym, ap, ◌∙◌, subst, arith, append-nil}
+-- One more path, whose file was judged or was not: what was found of the paths before it stays found, and the path adds a place, or a
+-- status that may be the greatest.
+use Rattle.std.proofs.Common.{◌≡◌, ◌≢◌, ℕ, suc, All, ◌+◌, ◌<◌, ◌==◌, max, Bool, cond, List, [], ◌∷◌, ◌++◌, length, map, filter, fold}
+use Rattle.std.proofs.Common.{get_or, take, refl, sym, ap, ◌∙◌, subst, arith, append-nil}
 use Rattle.std.specs.Borrow.{Bor}
 use Rattle.std.specs.List.{AllByRecursion, AllZip}
-use Rattle.std.specs.Prelude.{IsErrAnd, IfOk, OnErr}
 use Rattle.std.proofs.lemmas.Bool.{ne_eqb}
 use Rattle.std.proofs.lemmas.List.{map-append, take_more}
 use Rattle.std.proofs.lemmas.List.Elements.{filter-append, All-from_recursion}
 use Rattle.std.proofs.lemmas.Option.{slice_get_within}
-use Rattle.std.proofs.lemmas.Result.{err_from_is_err_and}
 use Rattle.cats_text.specs.Files.{PlainFile}
 use Rattle.cats_text.specs.declared.fault.Kind.{Kind}
 use Rattle.cats_text.specs.declared.fault.Kind.TheVariants.{Device, Memory as NoMemory}
-use Rattle.cats_text.specs.declared.stream.Watched.{Watched}
-use Rattle.canon.specs.FirstPlaces.{AddsStream}
 use Rattle.canon.specs.declared.fault.CanonFault.{CanonFault}
 use Rattle.canon.specs.declared.fault.CanonFault.TheVariants.{Read, StepLimit, Memory}
 use Rattle.canon.specs.declared.which.Which.TheVariants.{Only}
 use Rattle.canon.proofs.Indexing.{first_place_stays}
-use Rattle.cats_cmd.specs.DuplicateTexts.{duplicates_text, found_paths}
-use Rattle.cats_cmd.specs.Duplicates.{judged_paths, FindsPlaces, FindsSome, IsJudged, Judges, RunsOnPaths}
-use Rattle.cats_cmd.specs.Outcomes.{Tells}
-use Rattle.cats_cmd.specs.Runs.{SendsAs}
+use Rattle.cats_cmd.specs.DuplicateTexts.{found_paths}
+use Rattle.cats_cmd.specs.Duplicates.{judged_paths, FindsPlaces, FindsSome, IsJudged, Judges}
 use Rattle.cats_cmd.specs.Statuses.{status_of_read_fault, status_of_canon_fault}
 use Rattle.cats_cmd.specs.Stops.{status_of_stop}
 use Rattle.cats_cmd.specs.declared.program.Stop.TheVariants.{Run}
-use Rattle.cats_cmd.specs.declared.report.RunFault.{RunFault}
-use Rattle.cats_cmd.specs.declared.report.RunFault.TheVariants.{Refused, GoodRange, Sent}
-use Rattle.cats_cmd.proofs.RunsOfOneFile.{told_by_sending}
+use Rattle.cats_cmd.specs.declared.report.RunFault.TheVariants.{Refused}
 
 pub fold_push : {X Y : Type 0} (f : Y → X → Y) (a : Y) (xs : List X) (x : X) → fold f a (xs ++ x ∷ []) ≡ f (fold f a xs) x
 fold_push f a [] x = refl
@@ -101,8 +95,8 @@ one_more_path : (paths : List (Bor (List ℕ))) (i : ℕ) (d : Bor (List ℕ)) �
 one_more_path paths i d l = ap (map (λ (p : Bor (List ℕ)). p.now)) (take_more paths i d l)
     ∙ map-append (λ (p : Bor (List ℕ)). p.now) (take i paths) (get_or paths i d ∷ [])
 
-module _ (limit : ℕ) (paths : List (Bor (List ℕ))) (i : ℕ) (d : Bor (List ℕ)) (found : List (Bor (List ℕ) × ℕ)) (greatest : ℕ) (files more : List PlainFile) (l : i < length paths)
-    (h : FindsPlaces limit (map (λ p. p.now) (take i paths)) (found_paths found) files greatest) where
+module _ (limit : ℕ) (paths : List (Bor (List ℕ))) (i : ℕ) (d : Bor (List ℕ)) (found : List (Bor (List ℕ) × ℕ)) (greatest : ℕ) (files more : List PlainFile)
+    (l : i < length paths) (h : FindsPlaces limit (map (λ p. p.now) (take i paths)) (found_paths found) files greatest) where
   pub found_more : (longer : List (Bor (List ℕ) × ℕ)) (place same : ℕ) → Judges limit files more place → longer ≡ found ++ (get_or paths i d, place) ∷ []
       → same ≡ greatest
       → FindsPlaces limit (map (λ p. p.now) (take (i + 1) paths)) (found_paths longer) more same
@@ -147,33 +141,6 @@ places_within limit paths found greatest h =
     (subst (λ (n : ℕ). AllByRecursion (λ f. f.1 < n) found) (sym (zip_length limit h.files found h.files zipped))
     (zip_within limit h.files found h.files zipped))
 
-module _ {W : Type 0} (contents : W → Option (List ℕ)) (limit : ℕ) (paths : List (List ℕ)) where
-  -- what was found is told
-  pub told_of_paths : (found : List (List ℕ × ℕ)) (greatest : ℕ) → FindsSome limit paths found greatest → (text : List ℕ) → text ≡ duplicates_text found
-      → (old new : Watched W) (answer : Result ℕ RunFault) → SendsAs contents greatest text old new answer → RunsOnPaths contents limit paths old new answer
-  told_of_paths found greatest finds text is old new (Ok told) sends = record {
-    found = found;
-    greatest = greatest;
-    finds = finds;
-    tells = told_by_sending contents (Tells greatest (duplicates_text found)) old new greatest text (ap (Tells greatest) (sym is)) (Ok told) sends;
-  }
-  told_of_paths found greatest finds text is old new (Err (Refused which fault)) sends = absurd sends
-  told_of_paths found greatest finds text is old new (Err (GoodRange good)) sends = absurd sends
-  told_of_paths found greatest finds text is old new (Err (Sent fault)) sends = record {
-    found = found;
-    greatest = greatest;
-    finds = finds;
-    tells = told_by_sending contents (Tells greatest (duplicates_text found)) old new greatest text (ap (Tells greatest) (sym is)) (Err (Sent fault)) sends;
-  }
-
-  -- memory was refused
-  pub memory_of_paths : (out : Watched W) (answer : Result ℕ RunFault) → IsErrAnd answer (λ told. told ≡ Refused Only Memory)
-      → RunsOnPaths contents limit paths out out answer
-  memory_of_paths out answer is =
-      let told = err_from_is_err_and answer is in
-      let only : answer ≡ Err (Refused Only Memory) = told.1 ∙ ap (λ (f : RunFault). Err f) told.2 in
-      subst (λ (r : Result ℕ RunFault). RunsOnPaths contents limit paths out out r) (sym only) (refl, refl, refl)
-
 -- ---- a file that is judged
 
 -- no stop has the status 0
@@ -189,17 +156,3 @@ canon_status_above Memory e = absurd (omega (arith, e))
 
 pub refused_status_above : (fault : CanonFault) → status_of_stop (Run (Refused Only fault)) ≢ 0
 refused_status_above fault = canon_status_above fault
-
--- what adding a file from a stream tells of the files
-pub judged_from_stream : {R : Type 0} (remaining : R → Option (List ℕ)) (limit : ℕ) (old new : List PlainFile) (before after : Watched R)
-    (answer : Result ℕ CanonFault)
-    → AddsStream remaining limit old new before after answer → IfOk answer (Judges limit old new)
-judged_from_stream remaining limit old new before after (Ok place) h =
-    record { file = h.adds.file; added = h.adds.added; judged = record { light = h.adds.light; first = h.adds.first } }
-judged_from_stream remaining limit old new before after (Err fault) h = tt
-
-pub unchanged_from_stream : {R : Type 0} (remaining : R → Option (List ℕ)) (limit : ℕ) (old new : List PlainFile) (before after : Watched R)
-    (answer : Result ℕ CanonFault)
-    → AddsStream remaining limit old new before after answer → OnErr answer (new ≡ old)
-unchanged_from_stream remaining limit old new before after (Ok place) h = tt
-unchanged_from_stream remaining limit old new before after (Err fault) h = h.adds.0

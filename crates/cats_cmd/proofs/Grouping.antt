@@ -1,5 +1,7 @@
--- The paths of the files for each place: each goes behind those of its place. And the text of the groups.
-use Rattle.std.proofs.Common.{append_assoc, codes, fold, length-append, ◌≡◌, ℕ, zero, suc, ◌+◌, ◌<◌, ◌≤◌, ◌==◌, Bool, true, false, cond, ⊎_elim, List, [], ◌∷◌, ◌++◌, length, map, get_or, set, take, replicate, Global, refl, sym, ap, ap₂, ◌∙◌, arith, append-nil, zero-add}
+-- The paths of the files for each place: each goes behind those of its place. And the text of the groups: a group of two paths has
+-- lines, so the next group stands behind an empty line.
+use Rattle.std.proofs.Common.{append_assoc, codes, fold, length-append, ◌≡◌, ℕ, zero, suc, ◌+◌, ◌<◌, ◌≤◌, ◌==◌, Bool, true, false, cond, ⊎_elim, List, [], ◌∷◌}
+use Rattle.std.proofs.Common.{◌++◌, length, map, get_or, set, take, replicate, Global, refl, sym, ap, ap₂, ◌∙◌, arith, append-nil, zero-add}
 use Rattle.std.specs.Borrow.{Bor}
 use Rattle.std.specs.Prelude.{Vec, filter}
 use Rattle.std.specs.List.{AllByRecursion, range_with_len}
@@ -8,7 +10,8 @@ use Rattle.std.proofs.lemmas.List.{length-set, get_or-set_same, get_or-set_other
 use Rattle.std.proofs.lemmas.List.Concat.{flat_map-append}
 use Rattle.std.proofs.lemmas.List.Elements.{filter_more}
 use Rattle.std.proofs.lemmas.List.FromFn.{fill_by_all, length-map-range_with_len, get_or-map-range_with_len}
-use Rattle.cats_cmd.specs.DuplicateTexts.{after_empty_lines, behind, duplicates_text, groups_of, groups_text, is_repeated, lines_of, paths_at, plain_group, plain_groups, with_group}
+use Rattle.cats_cmd.specs.DuplicateTexts.{after_empty_lines, behind, duplicates_text, groups_of, groups_text, is_repeated, lines_of, paths_at, plain_group}
+use Rattle.cats_cmd.specs.DuplicateTexts.{plain_groups, with_group}
 use Rattle.cats_cmd.proofs.FindingPlaces.{fold_push}
 
 abbrev Found : Type 0

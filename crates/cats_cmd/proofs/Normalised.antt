@@ -1,9 +1,9 @@
--- What is made of a file by normalising it, in the words of the runs.
+-- What is made of a file by normalising it, in the words of the runs: a text, a heavy bundle, or want of memory, answer by answer.
 use Rattle.std.proofs.Common.{◌≡◌, ℕ, List, Option, Some, None, Result, Ok, Err, ap, Global}
 use Rattle.std.specs.Prelude.{Vec}
 use Rattle.cats_text.specs.Files.{PlainFile}
 use Rattle.valuation.specs.Auctions.{or_atoms_of}
-use Rattle.prune.specs.Steps.{first_heavy}
+use Rattle.prune.specs.SearchSteps.{first_heavy}
 use Rattle.canon.specs.Answers.{NormalisesAs}
 use Rattle.canon.specs.Canonical.{canonical_text}
 use Rattle.canon.specs.Normalising.{unless_heavy, normalised_file}

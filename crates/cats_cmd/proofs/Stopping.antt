@@ -1,5 +1,6 @@
 -- The statuses that the runs answer, and what of a line goes out where sending it may fail.
-use Rattle.std.proofs.Common.{◌≡◌, ℕ, List, [], ◌∷◌, refl, length, Option, None, Some, Result, Ok, Err, Bool, true, false, cond, sym, ap, ◌∙◌, subst, arith, ◌≤◌}
+use Rattle.std.proofs.Common.{◌≡◌, ℕ, List, [], ◌∷◌, refl, length, Option, None, Some, Result, Ok, Err, Bool, true, false, cond, sym, ap, ◌∙◌, subst, arith}
+use Rattle.std.proofs.Common.{◌≤◌}
 use Rattle.std.proofs.Math.Seq.{take-length}
 use Rattle.std.specs.Io.KnownBytes.{Appends}
 use Rattle.std.specs.Borrow.{Bor}
@@ -11,22 +12,21 @@ use Rattle.cats_text.specs.declared.fault.SendFault.{SendFault}
 use Rattle.cats_text.specs.declared.stream.Watched.{Watched}
 use Rattle.valuation.specs.Auctions.{or_atoms_of, auction_from}
 use Rattle.valuation.specs.Packings.{count_packings}
-use Rattle.prune.specs.Steps.{first_heavy}
+use Rattle.prune.specs.SearchSteps.{first_heavy}
 use Rattle.canon.specs.Difference.{Difference, NoDifference, InGoods, InOr, InXor, first_difference}
 use Rattle.cats_cmd.specs.Comparisons.{RunsOnFiles}
-use Rattle.cats_cmd.specs.Outcomes.{Outcome, Tells, ExceedsSteps, normalise_outcome, value_outcome, values_within, missing_good, outcome_unless, text_unless_heavy, outcome_of_difference, compare_outcome}
+use Rattle.cats_cmd.specs.Outcomes.{Outcome, Tells, ExceedsSteps, normalise_outcome, value_outcome, values_within, missing_good, outcome_unless}
+use Rattle.cats_cmd.specs.Outcomes.{text_unless_heavy, outcome_of_difference, compare_outcome}
 use Rattle.cats_cmd.specs.ValueTexts.{bundle_from, value_text}
 use Rattle.cats_cmd.specs.Runs.{RunsOnFile}
-use Rattle.cats_cmd.specs.Duplicates.{RunsOnPaths}
 use Rattle.cats_cmd.specs.Internal.Requests.{CarriesOut, ComparesSome, RunsFor, RunsOnSome}
-use Rattle.cats_cmd.specs.Stops.{IsAnswer, IsSilent, SendsBeginning, is_for_many_files, names_duplicates}
+use Rattle.cats_cmd.specs.Stops.{SendsBeginning, is_for_many_files, names_duplicates}
 use Rattle.command_line.specs.Requests.{IsNamedIn}
 use Rattle.command_line.specs.declared.request.Request.{Request}
-use Rattle.command_line.specs.declared.request.Request.TheVariants.{Compare, Duplicates}
+use Rattle.command_line.specs.declared.request.Request.TheVariants.{Duplicates}
 use Rattle.cats_cmd.specs.declared.program.Stop.{Stop}
 use Rattle.cats_cmd.specs.declared.program.Stop.TheVariants.{Run}
 use Rattle.cats_cmd.specs.declared.report.RunFault.{RunFault}
-use Rattle.cats_cmd.specs.declared.report.RunFault.TheVariants.{Refused, GoodRange, Sent}
 
 -- a run that answered has the status that its outcome tells
 pub told_run : {R W : Type 0} (remaining : R → Option (List ℕ)) (contents : W → Option (List ℕ)) (outcome : PlainFile → Outcome)
@@ -83,11 +83,6 @@ pub told_comparison : {R S W : Type 0} (remaining_first : R → Option (List ℕ
 told_comparison remaining_first remaining_second contents limit first first_after second second_after old new status ran =
     differs_or_same (first_difference (auction_from ran.left.file) (auction_from ran.right.file)) status ran.tells.text ran.tells.is_made
 
-pub answer_is_small : (request : Request) (status : ℕ) → is_for_many_files request ≡ false → IsAnswer request status → status ≤ 1
-answer_is_small (Compare first second limit) status few is = is
-answer_is_small (Duplicates files limit progress) status few is = absurd (cc)
-answer_is_small request status few is = omega (arith, is)
-
 -- only `duplicates` names a request for many files
 pub few_files : (words : List (Bor (List ℕ))) (request : Request) → IsNamedIn words request → names_duplicates words ≡ false → is_for_many_files request ≡ false
 few_files (program ∷ (word ∷ words)) (Duplicates files limit progress) named few =
@@ -96,27 +91,29 @@ few_files (program ∷ []) (Duplicates files limit progress) named few = absurd 
 few_files [] (Duplicates files limit progress) named few = absurd (named)
 few_files words request named few = refl
 
--- a run of many files that stopped has written nothing, unless its output failed
-pub silent_paths : {W : Type 0} (contents : W → Option (List ℕ)) (limit : ℕ) (paths : List (List ℕ)) (old new : Watched W) (fault : RunFault)
-    → RunsOnPaths contents limit paths old new (Err fault) → IsSilent (Run fault) old new
-silent_paths contents limit paths old new (Refused which fault) ran = ran.2
-silent_paths contents limit paths old new (GoodRange good) ran = ran.tells.1
-silent_paths contents limit paths old new (Sent fault) ran = tt
-
 -- ---- a request
 
 module _ {F W : Type 0} (remaining : F → Option (List ℕ)) (contents : W → Option (List ℕ)) where
   -- the run of a file that was opened
-  pub ran_on_some : (outcome : PlainFile → Outcome) (before after : Watched F) (old new : Watched W) (answer : Result ℕ RunFault) → RunsOnFile remaining contents outcome before after old new answer
+  pub ran_on_some : (outcome : PlainFile → Outcome) (before after : Watched F) (old new : Watched W) (answer : Result ℕ RunFault)
+      → RunsOnFile remaining contents outcome before after old new answer
       → RunsOnSome remaining contents outcome old new answer
   ran_on_some outcome before after old new answer ran = record { before = before; after = after; runs = ran }
 
   pub compared_some : (limit : ℕ) (first first_after second second_after : Watched F) (old new : Watched W) (answer : Result ℕ RunFault)
-      → RunsOnFiles remaining remaining contents limit compare_outcome first first_after second second_after old new answer → ComparesSome remaining contents limit old new answer
-  compared_some limit first first_after second second_after old new answer ran = record { first = first; first_after = first_after; second = second; second_after = second_after; runs = ran }
+      → RunsOnFiles remaining remaining contents limit compare_outcome first first_after second second_after old new answer
+      → ComparesSome remaining contents limit old new answer
+  compared_some limit first first_after second second_after old new answer ran = record {
+    first = first;
+    first_after = first_after;
+    second = second;
+    second_after = second_after;
+    runs = ran;
+  }
 
   -- the fault of a run is that of its request
-  pub stopped_run : (request : Request) (old new : Watched W) (fault : RunFault) (answer : Result ℕ Stop) → IsErrAnd answer (λ stop. stop ≡ Run fault) → RunsFor remaining contents request old new (Err fault)
+  pub stopped_run : (request : Request) (old new : Watched W) (fault : RunFault) (answer : Result ℕ Stop) → IsErrAnd answer (λ stop. stop ≡ Run fault)
+      → RunsFor remaining contents request old new (Err fault)
       → CarriesOut remaining contents request old new answer
   stopped_run request old new fault answer is ran =
       let told = err_from_is_err_and answer is in

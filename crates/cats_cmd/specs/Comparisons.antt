@@ -7,7 +7,7 @@ use Rattle.cats_text.specs.Views.{plain_file}
 use Rattle.cats_text.specs.declared.bid.BidFile.{BidFile}
 use Rattle.cats_text.specs.declared.stream.Watched.{Watched}
 use Rattle.valuation.specs.Auctions.{or_atoms_of}
-use Rattle.prune.specs.Steps.{first_heavy}
+use Rattle.prune.specs.SearchSteps.{first_heavy}
 use Rattle.canon.specs.Canonical.{canonical_file}
 use Rattle.canon.specs.declared.fault.CanonFault.{CanonFault}
 use Rattle.canon.specs.declared.fault.CanonFault.TheVariants.{Memory}
@@ -46,8 +46,8 @@ module _ {R : Type 0} (remaining : R → Option (List ℕ)) (limit : ℕ) where
 
 -- ---- both files, of which `outcome` says what is made of them
 
-module _ {R S W : Type 0} (remaining_first : R → Option (List ℕ)) (remaining_second : S → Option (List ℕ)) (contents : W → Option (List ℕ))
-    (limit : ℕ) (outcome : PlainFile → PlainFile → Outcome) where
+module _ {R S W : Type 0} (remaining_first : R → Option (List ℕ)) (remaining_second : S → Option (List ℕ))
+    (contents : W → Option (List ℕ)) (limit : ℕ) (outcome : PlainFile → PlainFile → Outcome) where
   -- the first file was refused; the second was not read, and nothing was written
   pub record RefusesFirst (first first_after : Watched R) (second second_after : Watched S) (out out_after : Watched W)
       (fault : CanonFault) : Type 0 where

@@ -1,7 +1,10 @@
 -- The names under which the kinds of faults are told.
 use Rattle.std.specs.Prelude.{ℕ, List, codes}
 use Rattle.cats_text.specs.declared.fault.Kind.{Kind}
-use Rattle.cats_text.specs.declared.fault.Kind.TheVariants.{Header, NotANumber, TooLarge, ExtraBid, BidNumber, RepeatedNumber, TooFine, GoodRange, RepeatedGood, TwoDummies, EmptyBundle, NoEnd, AfterEnd, Missing, TooLong, Device, Memory}
+use Rattle.cats_text.specs.declared.fault.Kind.TheVariants.{Header, NotANumber, TooLarge, ExtraBid, BidNumber}
+use Rattle.cats_text.specs.declared.fault.Kind.TheVariants.{RepeatedNumber, TooFine, GoodRange, RepeatedGood}
+use Rattle.cats_text.specs.declared.fault.Kind.TheVariants.{TwoDummies, EmptyBundle, NoEnd, AfterEnd, Missing, TooLong}
+use Rattle.cats_text.specs.declared.fault.Kind.TheVariants.{Device, Memory}
 
 abbrev pub name_of_kind : Kind → List ℕ
 name_of_kind Header = codes "Header"

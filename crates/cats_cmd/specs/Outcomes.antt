@@ -4,7 +4,7 @@ use Rattle.cats_text.specs.Files.{PlainFile}
 use Rattle.cats_text.specs.Layout.{layout}
 use Rattle.valuation.specs.Auctions.{or_atoms_of, auction_from}
 use Rattle.valuation.specs.Packings.{count_packings}
-use Rattle.prune.specs.Steps.{first_heavy}
+use Rattle.prune.specs.SearchSteps.{first_heavy}
 use Rattle.canon.specs.Canonical.{canonical_text}
 use Rattle.canon.specs.Difference.{Difference, first_difference}
 use Rattle.cats_cmd.specs.DifferenceTexts.{difference_text}

@@ -99,7 +99,8 @@ module _ {W : Type 0} (contents : W → Option (List ℕ)) where
 
 -- ---- a run of one file, of which `outcome` says what it makes
 
-module _ {R W : Type 0} (remaining : R → Option (List ℕ)) (contents : W → Option (List ℕ)) (outcome : PlainFile → Outcome) where
+module _ {R W : Type 0} (remaining : R → Option (List ℕ)) (contents : W → Option (List ℕ))
+    (outcome : PlainFile → Outcome) where
   -- the file was refused, and nothing was written
   pub record RefusesFile (bytes : List ℕ) (input : Watched R) (old new : Watched W) (which : Which)
       (fault : CanonFault) : Type 0 where

@@ -1,5 +1,6 @@
 -- What `cats value` prints: the values of a bundle, with the bids that give them.
-use Rattle.std.specs.Prelude.{ℕ, suc, ◌+◌, ◌==◌, ◌&&◌, if◌then◌else◌, Bool, List, [], ◌∷◌, ◌++◌, Option, Some, None, is_none, fold, map, position, slice_index, codes, decimal, Vec}
+use Rattle.std.specs.Prelude.{ℕ, suc, ◌+◌, ◌==◌, ◌&&◌, if◌then◌else◌, Bool, List, [], ◌∷◌, ◌++◌, Option, Some, None}
+use Rattle.std.specs.Prelude.{is_none, fold, map, position, slice_index, codes, decimal, Vec}
 use Rattle.std.specs.Global.{Global}
 use Rattle.std.specs.List.{flat_map, range_with_len}
 use Rattle.goods_set.specs.Bundles.{is_inside, with_good}

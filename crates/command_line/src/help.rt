@@ -83,8 +83,8 @@ Statuses: 0 for the same auction, 1 for different ones; 2 for a file that is no 
 64 as 'cats --help' tells";
 
 pub(crate) const DUPLICATES: &str = "\
-Prints the paths of the files that are one auction, each on a line, for each auction that two or more of them are, with an
-empty line between two auctions. For example:
+Prints the paths of the files that are one auction, each on a line, for each auction that two or more of them are, with
+an empty line between two auctions. For example:
   $ cats duplicates examples/ladder.cats examples/packing.cats examples/ladder_rewritten.cats
   examples/ladder.cats
   examples/ladder_rewritten.cats
@@ -92,5 +92,5 @@ empty line between two auctions. For example:
 A file that is refused is told at once, with its path before the fault, and the others go on. A step is that of
 'cats normalise', to which each file is put.
 
-Statuses: 0 where every file was judged, whether or not some are one auction; else the greatest status of those that were
-not: 2 for a file that is no bid file, 3 for the step limit, 4, 5 and 64 as 'cats --help' tells";
+Statuses: 0 where every file was judged, whether or not some are one auction; else the greatest status of those that
+were not: 2 for a file that is no bid file, 3 for the step limit, 4, 5 and 64 as 'cats --help' tells";

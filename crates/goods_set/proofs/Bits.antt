@@ -1,8 +1,12 @@
--- One good's bit in the words of a set: read, set, and in a set with no goods.
-use Rattle.std.proofs.Common.{◌≡◌, ℕ, ◌*◌, ◌/◌, ◌%◌, ◌^◌, min, ◌<◌, ◌≤◌, ◌≢◌, true, false, not, eqb, ltb, ◌⊎◌, inl, inr, ⊎_elim, List, [], length, get_or, take, set, replicate, refl, sym, ap, ◌∙◌, subst, arith, w64, shl_exact, pow_pos, get_or-set_same, get_or-set_other, get_or-take, length-take}
+-- One good's bit in the words of a set: read, set, and in a set with no goods. It stands in the word of the good, at the good modulo
+-- 64, and setting it leaves all others as they are.
+use Rattle.std.proofs.Common.{◌≡◌, ℕ, ◌*◌, ◌/◌, ◌%◌, ◌^◌, min, ◌<◌, ◌≤◌, ◌≢◌, true, false, not, eqb, ltb, ◌⊎◌, inl, inr, ⊎_elim, List, [], length, get_or, take}
+use Rattle.std.proofs.Common.{set, replicate, refl, sym, ap, ◌∙◌, subst, arith, w64, shl_exact, pow_pos, get_or-set_same, get_or-set_other, get_or-take}
+use Rattle.std.proofs.Common.{length-take}
 use Rattle.std.specs.Int.{bit_at}
 use Rattle.std.specs.Int.RustNames.{bit_and, bit_or}
-use Rattle.std.proofs.lemmas.Bool.{both_ways, cases_eq, cases_Bool, eq-eqb, ne_eqb, eqb-true, ltb-true, ltb-false, false_from_ne_true, or_left, or_right, or_cases}
+use Rattle.std.proofs.lemmas.Bool.{both_ways, cases_eq, cases_Bool, eq-eqb, ne_eqb, eqb-true, ltb-true, ltb-false, false_from_ne_true, or_left, or_right}
+use Rattle.std.proofs.lemmas.Bool.{or_cases}
 use Rattle.std.proofs.lemmas.Nat.Bits.{bit_at-lt, bit_at-zero, shr_and_one, and_pow, bit_at_set_same, bit_at_set_other}
 use Rattle.std.proofs.lemmas.Simd.{get_or-replicate, length-replicate}
 use Rattle.std.proofs.lemmas.List.{get_or_past}
@@ -28,7 +32,7 @@ tested_shifted cap ws g p e l =
     subst (λ q. eqb (bit_and (get_or ws q 0 / 2 ^ (g % 64)) 1) 1 ≡ has_good (word_goods cap ws) g) (sym e)
     (ap (λ b. eqb b 1) (shr_and_one (get_or ws (g / 64) 0) (g % 64)) ∙ sym (has-word_goods cap ws g l))
 
-one_shifted : (k : ℕ) → k < 64 → 1 * 2 ^ k % 2 ^ 64 ≡ 2 ^ k
+pub one_shifted : (k : ℕ) → k < 64 → 1 * 2 ^ k % 2 ^ 64 ≡ 2 ^ k
 one_shifted k l = shl_exact {a = 1} 1 (k) 64 (omega arith) (omega arith) ∙ (let e : 1 * 2 ^ k ≡ 2 ^ k = omega arith in e)
 
 -- the test `word & (1 << bit) == 0`

@@ -1,13 +1,14 @@
 -- Which of two bundles of one size comes first: the one with the least good that they do not share, which is the lowest bit that
 -- differs in the first word that differs.
-use Rattle.std.proofs.Common.{◌≡◌, ℕ, ◌+◌, ◌-◌, ◌*◌, ◌/◌, ◌%◌, ◌^◌, ◌<◌, ◌≤◌, ◌≢◌, true, false, eqb, ◌||◌, ◌⊎◌, inl, inr, ⊎_elim, List, [], ◌∷◌, length, get_or, refl, sym, ap, ◌∙◌, subst, arith, w64, Less, Equal, Greater, nat_cmp}
+use Rattle.std.proofs.Common.{◌≡◌, ℕ, ◌+◌, ◌-◌, ◌*◌, ◌/◌, ◌%◌, ◌^◌, ◌<◌, ◌≤◌, ◌≢◌, true, false, eqb, ◌||◌, ◌⊎◌, inl, inr, ⊎_elim, List, [], ◌∷◌, length, get_or}
+use Rattle.std.proofs.Common.{refl, sym, ap, ◌∙◌, subst, arith, w64, Less, Equal, Greater, nat_cmp}
 use Rattle.std.specs.Ordering.{ordering_then, ordering_reverse}
 use Rattle.std.specs.Cmp.Lexicographic.{slice_cmp}
 use Rattle.std.specs.Int.{bit_at, trailing_zeros}
 use Rattle.std.specs.Int.RustNames.{bit_and, bit_xor}
 use Rattle.std.proofs.lemmas.Bool.{both_ways, cases_lt, cases_eq, cases_order, eqb-false, ne_eqb, or_parts}
 use Rattle.std.proofs.lemmas.Cmp.{nat_list_cmp_total, tied_itself}
-use Rattle.std.proofs.lemmas.Nat.Bits.{bit_at-lt, bit_at-zero, bit_at_xor, bit_at-trailing_zeros, shr_and_one, same_from_bits_below}
+use Rattle.std.proofs.lemmas.Nat.Bits.{bit_at-lt, bit_at_xor, bit_at-trailing_zeros, shr_and_one}
 use Rattle.goods_set.specs.Bundles.{AreAbove, IsRising, has_good}
 use Rattle.goods_set.specs.Lemmas.Members.{has_head, has_cases, has_above, has_not_head}
 use Rattle.goods_set.specs.Lemmas.Orders.{nat_cmp-lt, nat_cmp-refl}
@@ -146,17 +147,3 @@ greater_by_words n us vs k i l h d e b =
     let z : bit_at (get_or us k 0) i ≢ 1 = λ q. b (shr_and_one (get_or us k 0) i ∙ q) in
     greater_from_first (word_goods (64 * n) us) (word_goods (64 * n) vs) (64 * k + i) (word_goods_bundle (64 * n) us).0 (word_goods_bundle (64 * n) vs).0 e
     (first_of_words n vs us k i l (λ j m. sym (h j m)) (differs_back (get_or us k 0) (get_or vs k 0) i d) (omega (arith, d.differs)))
-
--- the step of a loop that has found no difference
-pub same_more : (us vs : List ℕ) (k : ℕ) → AreSameWords us vs k → get_or us k 0 < 2 ^ 64 → get_or vs k 0 < 2 ^ 64 → bit_xor (get_or us k 0) (get_or vs k 0) ≡ 0
-    → AreSameWords us vs (k + 1)
-same_more us vs k h a b e j l = ⊎_elim (λ (m : j < k). h j m) (λ (m : k ≤ j). let d : k ≡ j = omega arith in
-    subst (λ n. get_or us n 0 ≡ get_or vs n 0) d (same_from_bits_below 64 (get_or us k 0) (get_or vs k 0) a b (λ i _. bits i))) (cases_lt j k)
-  where
-    bits : (i : ℕ) → bit_at (get_or us k 0) i ≡ bit_at (get_or vs k 0) i
-    bits i =
-        let z : (bit_at (get_or us k 0) i + bit_at (get_or vs k 0) i) % 2 ≡ 0 = sym (bit_at_xor (get_or us k 0) (get_or vs k 0) i) ∙ ap (λ x. bit_at x i) e
-        ∙ bit_at-zero i in
-        let s : bit_at (get_or us k 0) i < 2 = bit_at-lt (get_or us k 0) i in
-        let r : bit_at (get_or vs k 0) i < 2 = bit_at-lt (get_or vs k 0) i in
-        omega arith

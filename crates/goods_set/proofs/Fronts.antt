@@ -1,6 +1,7 @@
 -- The order of lists of one length by their first four members as one number, and else by the lists. The number is unpacked member by
 -- member: where the numbers differ, so do the members at the first place at which the lists do.
-use Rattle.std.proofs.Common.{◌≡◌, ℕ, zero, suc, ◌+◌, ◌*◌, ◌^◌, ◌<◌, ◌≤◌, ◌⊎◌, inl, inr, ⊎_elim, List, [], ◌∷◌, length, get_or, refl, sym, ap, ◌∙◌, arith, Ordering, Less, Equal, Greater, nat_cmp}
+use Rattle.std.proofs.Common.{◌≡◌, ℕ, zero, suc, ◌+◌, ◌*◌, ◌^◌, ◌<◌, ◌⊎◌, ⊎_elim, List, [], ◌∷◌, length, get_or, refl, sym, ap, ◌∙◌, arith}
+use Rattle.std.proofs.Common.{Ordering, Less, Equal, Greater, nat_cmp}
 use Rattle.std.specs.Ordering.{ordering_then}
 use Rattle.std.specs.Cmp.Lexicographic.{slice_cmp}
 use Rattle.std.proofs.lemmas.Bool.{cases_order}
@@ -113,10 +114,7 @@ order_by_front xs ys a b =
     (nat_cmp-gt (length xs) (length ys) l) ∙ sym (larger_last xs ys l)))
     (cases_order (length xs) (length ys))
 
--- an order of two steps: the second counts where the first is Equal
-pub second_step : (o p : Ordering) (whole : Ordering) → o ≡ Equal → ordering_then o p ≡ whole → p ≡ whole
-second_step o p whole e h = ap (λ q. ordering_then q p) (sym e) ∙ h
-
+-- where the first of two steps of an order is not Equal, it is the whole
 pub first_step : (o p : Ordering) (whole : Ordering) → (o ≡ Equal → ⊥) → ordering_then o p ≡ whole → o ≡ whole
 first_step Less p whole n h = h
 first_step Equal p whole n h = absurd (n refl)

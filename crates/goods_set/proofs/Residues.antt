@@ -1,13 +1,16 @@
 -- The goods of a list modulo 64 as bits of a word: one bit more for each good, and what a bit that is not set says.
-use Rattle.std.proofs.Common.{◌≡◌, ℕ, zero, suc, ◌+◌, ◌*◌, ◌/◌, ◌%◌, ◌^◌, min, ◌<◌, Bool, true, false, eqb, ⊎_elim, List, [], ◌∷◌, ◌++◌, length, get_or, take, refl, sym, ap, ◌∙◌, subst, arith, w64, shl_exact}
+use Rattle.std.proofs.Common.{◌≡◌, ℕ, ◌+◌, ◌*◌, ◌/◌, ◌%◌, ◌^◌, min, ◌<◌, true, eqb, ⊎_elim, List, [], ◌∷◌, ◌++◌, length, get_or, take}
+use Rattle.std.proofs.Common.{refl, sym, ap, ◌∙◌, subst, arith, w64}
 use Rattle.std.specs.Int.{bit_at, bit_not, trailing_zeros}
 use Rattle.std.specs.Int.RustNames.{bit_and, bit_or}
 use Rattle.std.proofs.lemmas.Bool.{and_parts, cases_eq, or_cases, eqb-true, eq-eqb}
 use Rattle.std.proofs.lemmas.List.{take_more}
 use Rattle.std.proofs.lemmas.Nat.{and_le_l}
-use Rattle.std.proofs.lemmas.Nat.Bits.{bit_at-lt, bit_at_or, bit_at_and, bit_at_not, bit_at-pow_same, bit_at-pow_other, bit_at-trailing_zeros, bit_at-zero, shr_and_one}
+use Rattle.std.proofs.lemmas.Nat.Bits.{bit_at-lt, bit_at_or, bit_at_and, bit_at_not, bit_at-pow_same, bit_at-pow_other, bit_at-trailing_zeros, bit_at-zero}
+use Rattle.std.proofs.lemmas.Nat.Bits.{shr_and_one}
 use Rattle.goods_set.specs.Bundles.{IsInside, has_good, is_inside}
 use Rattle.goods_set.specs.Internal.Residues.{residues_from, residues_of}
+use Rattle.goods_set.proofs.Bits.{one_shifted}
 
 -- ---- one bit more
 
@@ -15,9 +18,6 @@ push : (bits : ℕ) (xs : List ℕ) (x : ℕ) → residues_from bits (xs ++ x �
 unfolding residues_from
 push bits [] x = refl
 push bits (y ∷ ys) x = push (bit_or bits (2 ^ (y % 64))) ys x
-
-one_shifted : (k : ℕ) → k < 64 → 1 * 2 ^ k % 2 ^ 64 ≡ 2 ^ k
-one_shifted k l = shl_exact {a = 1} 1 (k) 64 (omega arith) (omega arith) ∙ (let e : 1 * 2 ^ k ≡ 2 ^ k = omega arith in e)
 
 -- the turn of the loop that sets the bit of a good
 pub residues_more : (bits : ℕ) (xs : List ℕ) (i : ℕ) → i < length xs → bits ≡ residues_of (take i xs) → bit_or bits (1 * 2 ^ (get_or xs i 0 % 64) % 2 ^ 64)

@@ -1,6 +1,7 @@
 -- What goes through the words of a set from the first. How many goods they hold: the ones of each word. The next good: the lowest
 -- one of the first word that has one from there on.
-use Rattle.std.proofs.Common.{◌≡◌, ℕ, zero, suc, ◌+◌, ◌-◌, ◌*◌, ◌/◌, ◌%◌, ◌^◌, ◌<◌, ◌≤◌, ◌≢◌, Bool, true, false, cond, eqb, ◌⊎◌, inl, inr, ⊎_elim, List, ◌∷◌, map, length, get_or, refl, sym, ap, ap₂, ◌∙◌, subst, arith, w64, min}
+use Rattle.std.proofs.Common.{◌≡◌, ℕ, zero, suc, ◌+◌, ◌-◌, ◌*◌, ◌/◌, ◌%◌, ◌^◌, ◌<◌, ◌≤◌, ◌≢◌, Bool, true, false, cond, eqb, ◌⊎◌, inl, inr, ⊎_elim, List, ◌∷◌}
+use Rattle.std.proofs.Common.{map, length, get_or, refl, sym, ap, ap₂, ◌∙◌, subst, arith, w64, min}
 use Rattle.std.specs.Prelude.{Some, None}
 use Rattle.std.specs.List.{filter, range_with_len}
 use Rattle.std.specs.Int.{bit_at, trailing_zeros}
@@ -10,7 +11,8 @@ use Rattle.std.proofs.lemmas.Bool.{cases_lt, cases_eq, eq-eqb, ne_eqb}
 use Rattle.std.proofs.lemmas.List.{length-map}
 use Rattle.std.proofs.lemmas.List.Sums.{length-filter}
 use Rattle.std.proofs.lemmas.List.FromFn.{length-range_with_len, get_or-map-range_with_len}
-use Rattle.std.proofs.lemmas.Nat.Bits.{bit_at-lt, bit_at-zero, bit_at_and, bit_at-trailing_zeros, bit_at_mask_inside, bit_at_mask_below, ones_shl, same_from_bits_below}
+use Rattle.std.proofs.lemmas.Nat.Bits.{bit_at-lt, bit_at-zero, bit_at_and, bit_at-trailing_zeros, bit_at_mask_inside, bit_at_mask_below, ones_shl}
+use Rattle.std.proofs.lemmas.Nat.Bits.{same_from_bits_below}
 use Rattle.std.proofs.lemmas.Nat.{and_le_l}
 use Rattle.std.proofs.lemmas.Simd.{mask_l-lt, bit_mask_l, ones-mask_l}
 use Rattle.goods_set.specs.Bundles.{good_from}
@@ -157,18 +159,6 @@ scan_passed ws from place rest s z g a b = ⊎_elim (λ (l : g < 64 * place). s.
         let e : word_bit ws (64 * place + (g - 64 * place)) ≡ 0 = word_bit_at ws place (g - 64 * place) (omega arith)
         ∙ sym (s.above (g - 64 * place) (omega arith) (omega arith)) ∙ ap (λ x. bit_at x (g - 64 * place)) z ∙ bit_at-zero (g - 64 * place) in
         subst (λ x. word_bit ws x ≡ 0) d e
-
-pub scan_more : (ws : List ℕ) (from place rest next word : ℕ) → IsScan ws from place rest → rest ≡ 0 → next ≡ place + 1 → word ≡ get_or ws next 0
-    → word < 2 ^ 64 → IsScan ws from next word
-scan_more ws from place rest next word s z n w l =
-    let r : from < 64 * (place + 1) = s.reached in
-    record {
-      reached = omega arith;
-      passed = λ g a b. scan_passed ws from place rest s z g a (omega arith);
-      fits = l;
-      above = λ i k a. ap (λ x. bit_at x i) w;
-      below = λ i k a. absurd (omega arith);
-    }
 
 -- every word is passed
 pub scan_ended : (n : ℕ) (ws : List ℕ) (from place rest : ℕ) → IsScan ws from place rest → rest ≡ 0 → n ≤ place + 1

@@ -98,18 +98,22 @@ pub trait GoodsSet: Sized + Drop {
     // The order is total, and answers Equal only for equal lists.
     ghost order_total: { IsTotalOrder bundle_cmp } = { bundle_cmp_total };
 
-    ghost order_equal: { (s t : Self) → bundle_cmp (goods s) (goods t) ≡ Equal → goods s ≡ goods t } = { λ s t. bundle_cmp_equal (goods s) (goods t) };
+    ghost order_equal: { (s t : Self) → bundle_cmp (goods s) (goods t) ≡ Equal → goods s ≡ goods t } = { λ s t.
+        bundle_cmp_equal (goods s) (goods t) };
 
     // Inside is a partial order.
     ghost inside_reflexive: { (s : Self) → IsInside (goods s) (goods s) } = { λ s. inside_refl (goods s) };
 
     ghost inside_transitive: { (s t u : Self) → IsInside (goods s) (goods t)
-        → IsInside (goods t) (goods u) → IsInside (goods s) (goods u) } = { λ s t u. inside_trans (goods s) (goods t) (goods u) };
+        → IsInside (goods t) (goods u) → IsInside (goods s) (goods u) } = { λ s t u.
+            inside_trans (goods s) (goods t) (goods u) };
 
     ghost inside_antisymmetric: { (s t : Self) → IsInside (goods s) (goods t)
-        → IsInside (goods t) (goods s) → goods s ≡ goods t } = { λ s t. inside_antisymm_law CAP (goods s) (goods t) (is_bundle s) (is_bundle t) };
+        → IsInside (goods t) (goods s) → goods s ≡ goods t } = { λ s t.
+            inside_antisymm_law CAP (goods s) (goods t) (is_bundle s) (is_bundle t) };
 
     // A set inside another comes before it or equals it.
     ghost inside_ordered: { (s t : Self) → IsInside (goods s) (goods t)
-        → (bundle_cmp (goods s) (goods t) ≡ Less) ⊎ (goods s ≡ goods t) } = { λ s t. inside_ordered_law CAP (goods s) (goods t) (is_bundle s) (is_bundle t) };
+        → (bundle_cmp (goods s) (goods t) ≡ Less) ⊎ (goods s ≡ goods t) } = { λ s t.
+            inside_ordered_law CAP (goods s) (goods t) (is_bundle s) (is_bundle t) };
 }

@@ -1,5 +1,6 @@
 -- Bids sorted by bundle and by falling price: the first on each bundle are the best.
-use Rattle.std.proofs.Common.{◌≡◌, ℕ, ◌+◌, ◌<◌, ◌≤◌, Bool, true, false, cond, ltb, ◌⊎◌, inl, inr, ⊎_elim, List, [], ◌∷◌, map, length, get_or, refl, sym, ap, ap₂, ◌∙◌, subst, arith, le_refl, Ordering, Less, Equal, Greater, is_lt, nat_cmp}
+use Rattle.std.proofs.Common.{◌≡◌, ℕ, ◌+◌, ◌<◌, ◌≤◌, Bool, true, false, cond, ltb, ◌⊎◌, inl, inr, ⊎_elim, List, [], ◌∷◌, map, length, get_or, refl, sym, ap}
+use Rattle.std.proofs.Common.{ap₂, ◌∙◌, subst, arith, le_refl, Ordering, Less, Equal, Greater, is_lt, nat_cmp}
 use Rattle.std.specs.Prelude.{AllPairs, Contains, IsPermutation}
 use Rattle.std.specs.Cmp.{IsTotalOrder}
 use Rattle.std.specs.List.{filter, dedup, dedup_from}
@@ -179,7 +180,3 @@ module _ {X : Type 0} (seen : X → Atom (List ℕ)) where
       (IsPermutation-map seen priced sorted p) in
       subst (λ (zs : List (Atom (List ℕ))). AreBestBids (map seen bids) zs) (sym (ap (map seen) d ∙ map-dedup is_same_bundle sorted))
       (best_from_sorted (map seen bids) (map seen sorted) moved (map-sorted is_bid_before sorted up))
-
--- a bid of the code
-abbrev pub seen_of : {S : Type 0} → (S → List ℕ) → Atom S → Atom (List ℕ)
-seen_of goods a = record { bundle = goods a.bundle; price = a.price }

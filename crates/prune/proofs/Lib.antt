@@ -1,7 +1,7 @@
 -- Proofs that several functions of this crate cite.
 pub mod Pruning
 pub mod BestBids
-pub mod Listed
+pub mod ListedAtoms
 pub mod SharedGoods
 pub mod ByPlaces
 pub mod Results

@@ -5,13 +5,14 @@ use Rattle.std.proofs.Common.{◌≡◌, ℕ, ◌<◌, ◌≤◌, Bool, true, fa
 use Rattle.std.specs.Prelude.{All, Contains}
 use Rattle.std.specs.List.{filter}
 use Rattle.std.proofs.lemmas.Bool.{cases_lt, and_left, and_right, false_from_ne_true, not_from_true}
-use Rattle.std.proofs.lemmas.List.Elements.{All-nil, All-cons, All-head, All-tail, All-push, All-contains, All-weaker, filter-append, Contains-append_left, Contains-append_right, Contains-push}
+use Rattle.std.proofs.lemmas.List.Elements.{All-nil, All-cons, All-head, All-tail, All-push, All-contains, All-weaker, filter-append, Contains-append_left}
+use Rattle.std.proofs.lemmas.List.Elements.{Contains-append_right, Contains-push}
 use Rattle.std.proofs.lemmas.List.Quantifiers.{all_pairs_push}
 use Rattle.goods_set.specs.Bundles.{IsRising, is_inside, IsInside}
 use Rattle.goods_set.specs.Lemmas.Members.{inside_refl}
 use Rattle.valuation.specs.declared.atom.Atom.{Atom}
 use Rattle.valuation.specs.Lemmas.Lists.{AllPairs-nil, AllPairs-head, AllPairs-tail}
-use Rattle.prune.specs.Steps.{is_below, atoms_below}
+use Rattle.prune.specs.SearchSteps.{is_below, atoms_below}
 use Rattle.prune.specs.Lemmas.Lists.{filter-lost, filter_same_on, All-from_Contains, Contains-head}
 use Rattle.prune.specs.InOrder.{IsBefore, IsInOrder}
 use Rattle.prune.specs.Lemmas.InOrder.{before_not_inside}

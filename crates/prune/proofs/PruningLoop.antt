@@ -1,5 +1,7 @@
--- The turns of a pruning's loop, by what the code knows of its variables.
-use Rattle.std.proofs.Common.{◌≡◌, ℕ, zero, suc, ◌+◌, ◌<◌, ◌≤◌, Bool, true, false, ◌||◌, leb, ⊎_elim, List, [], ◌∷◌, ◌++◌, length, map, take, drop, max, get_or, sym, ap, ap₂, ◌∙◌, subst, arith, append_assoc, append-nil, Bor, ltb, None}
+-- The turns of a pruning's loop, by what the code knows of its variables: each is one of proofs/Results, once the code's lists are seen
+-- by the goods of their sets.
+use Rattle.std.proofs.Common.{◌≡◌, ℕ, zero, suc, ◌+◌, ◌<◌, ◌≤◌, Bool, true, false, ◌||◌, leb, ⊎_elim, List, [], ◌∷◌, ◌++◌, length, map, take, drop, max, get_or}
+use Rattle.std.proofs.Common.{sym, ap, ap₂, ◌∙◌, subst, arith, append_assoc, append-nil, Bor, ltb, None}
 use Rattle.std.specs.Prelude.{All, Contains}
 use Rattle.std.specs.List.{filter, list_any}
 use Rattle.std.proofs.lemmas.Bool.{cases_lt, le-leb, lt-leb, and_parts, ltb-true}
@@ -9,32 +11,32 @@ use Rattle.goods_set.specs.Bundles.{IsRising, is_inside, IsInside}
 use Rattle.valuation.specs.declared.atom.Atom.{Atom}
 use Rattle.valuation.specs.Lemmas.Atoms.{get_or-atoms_of}
 use Rattle.valuation.specs.Auctions.{IsAtom}
-use Rattle.valuation.specs.Values.{atoms_of, xor_value}
+use Rattle.valuation.specs.Values.{atoms_of, xor_value, plain_atom}
 use Rattle.valuation.specs.Lemmas.XorValues.{xor_value-nil, xor_value-inside}
-use Rattle.prune.specs.Steps.{greatest_price, search_steps, steps_at_most, is_heavy, first_heavy}
-use Rattle.prune.specs.Lemmas.Steps.{search_within_bound}
+use Rattle.prune.specs.SearchSteps.{greatest_price, search_steps, steps_at_most, is_heavy, first_heavy}
+use Rattle.prune.specs.Lemmas.SearchSteps.{search_within_bound}
 use Rattle.prune.specs.Lemmas.Values.{xor_value-member}
 use Rattle.prune.specs.Lemmas.Lists.{list_any_filter}
 use Rattle.prune.specs.Internal.Listings.{covers, atom_at, atoms_inside, AreUncovered}
 use Rattle.prune.specs.Lemmas.OnBundles.{IsOnBundle}
 use Rattle.prune.specs.Internal.BestBids.{AreBestBids}
-use Rattle.prune.proofs.BestBids.{seen_of}
 use Rattle.prune.proofs.Pruning.{HasRisingBundle, IsKept-none}
-use Rattle.prune.proofs.Results.{IsTurn, IsXorKept, IsOrKept, AreXorPoints, AreOrPoints, turn_positive, xor_done, xor_missed, xor_more, xor_fewer, or_done, Within, none_heavy}
+use Rattle.prune.proofs.Results.{IsTurn, IsXorKept, IsOrKept, AreXorPoints, AreOrPoints, turn_positive, xor_done, xor_missed, xor_more, xor_fewer, or_done}
+use Rattle.prune.proofs.Results.{Within, none_heavy}
 
 -- ---- atoms of the code
 
 module _ {S : Type 0} (goods : S → List ℕ) (rising : (s : S) → IsRising (goods s)) where
   all_rising : (atoms : List (Atom S)) → All HasRisingBundle (atoms_of goods atoms)
   all_rising [] = All-nil HasRisingBundle
-  all_rising (a ∷ rest) = All-cons HasRisingBundle (seen_of goods a) (atoms_of goods rest) (rising a.bundle) (all_rising rest)
+  all_rising (a ∷ rest) = All-cons HasRisingBundle (plain_atom goods a) (atoms_of goods rest) (rising a.bundle) (all_rising rest)
 
   -- the next bid
   pub next_turn : (bids : List (Atom (List ℕ))) (yielded all rest : List (Atom S)) (bid : Atom S) → AreBestBids bids (atoms_of goods (yielded ++ all))
-      → all ≡ bid ∷ rest → IsTurn bids (atoms_of goods yielded) (seen_of goods bid) (atoms_of goods rest)
+      → all ≡ bid ∷ rest → IsTurn bids (atoms_of goods yielded) (plain_atom goods bid) (atoms_of goods rest)
   next_turn bids yielded all rest bid b e =
-      let parts : atoms_of goods (yielded ++ all) ≡ atoms_of goods yielded ++ seen_of goods bid ∷ atoms_of goods rest =
-      ap (λ (zs : List (Atom S)). atoms_of goods (yielded ++ zs)) e ∙ map-append (seen_of goods) yielded (bid ∷ rest) in
+      let parts : atoms_of goods (yielded ++ all) ≡ atoms_of goods yielded ++ plain_atom goods bid ∷ atoms_of goods rest =
+      ap (λ (zs : List (Atom S)). atoms_of goods (yielded ++ zs)) e ∙ map-append (plain_atom goods) yielded (bid ∷ rest) in
       record {
         best = subst (λ (zs : List (Atom (List ℕ))). AreBestBids bids zs) parts b;
         rising = subst (λ (zs : List (Atom (List ℕ))). All HasRisingBundle zs) parts (all_rising (yielded ++ all));
@@ -108,7 +110,7 @@ kept_nonempty {S} goods n bids yielded all kept b are among =
     All-weaker (Contains (atoms_of goods yielded)) (λ a. 0 < length a.bundle)
     (λ a c.
     let there : Contains (atoms_of goods (yielded ++ all)) a =
-    subst (λ (zs : List (Atom (List ℕ))). Contains zs a) (sym (map-append (seen_of goods) yielded all))
+    subst (λ (zs : List (Atom (List ℕ))). Contains zs a) (sym (map-append (plain_atom goods) yielded all))
     (Contains-append_left (atoms_of goods yielded) (atoms_of goods all) a c) in
     (All-contains (IsAtom n) bids a are (All-contains (Contains bids) (atoms_of goods (yielded ++ all)) a b.among there)).nonempty)
     (atoms_of goods kept) among
@@ -146,8 +148,8 @@ pub one_more_uncovered : {S : Type 0} (goods : S → List ℕ) (atoms before : L
     ≡ false
 one_more_uncovered {S} goods atoms before i bid l is front free h k within =
     let seen = atoms_of goods atoms in
-    let at : atom_at seen i ≡ seen_of goods bid = get_or-atoms_of goods atoms i bid (record { bundle = []; price = 0 }) l is in
-    let those : take i seen ≡ atoms_of goods before = take-map (seen_of goods) i atoms ∙ ap (atoms_of goods) (sym front) in
+    let at : atom_at seen i ≡ plain_atom goods bid = get_or-atoms_of goods atoms i bid (record { bundle = []; price = 0 }) l is in
+    let those : take i seen ≡ atoms_of goods before = take-map (plain_atom goods) i atoms ∙ ap (atoms_of goods) (sym front) in
     let here : list_any (covers (atom_at seen i).bundle (atom_at seen i).price) (take i seen) ≡ false =
     ap₂ (λ (x : Atom (List ℕ)) (zs : List (Atom (List ℕ))). list_any (covers x.bundle x.price) zs) at those ∙ free in
     ⊎_elim (λ (lt : k < i). h k lt)

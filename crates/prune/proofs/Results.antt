@@ -1,5 +1,7 @@
--- What a pruning that is done has kept: the points, with the values of all bids.
-use Rattle.std.proofs.Common.{◌≡◌, ℕ, ◌+◌, ◌<◌, ◌≤◌, Bool, true, false, leb, ltb, ◌&&◌, ⊎_elim, List, [], ◌∷◌, ◌++◌, length, refl, sym, ap, ◌∙◌, subst, arith, le_trans, le_antisymm, Some, None, Less}
+-- What a pruning that is done has kept: the points, with the values of all bids. A turn on one more best bid keeps this of the bids
+-- so far, and in the end the best bids are done, which have the points and the values of all.
+use Rattle.std.proofs.Common.{◌≡◌, ℕ, ◌+◌, ◌<◌, ◌≤◌, Bool, true, false, leb, ltb, ◌&&◌, ⊎_elim, List, [], ◌∷◌, ◌++◌, length, refl, sym, ap, ◌∙◌, subst, arith}
+use Rattle.std.proofs.Common.{le_trans, le_antisymm, Some, None, Less}
 use Rattle.std.specs.Prelude.{All, Contains}
 use Rattle.std.specs.List.{filter}
 use Rattle.std.proofs.lemmas.Bool.{and_left, and_right, and_from, leb-true, leb-false, lt-ltb, le-ltb}
@@ -15,15 +17,16 @@ use Rattle.valuation.specs.Lemmas.Lists.{Contains-cons_cases}
 use Rattle.valuation.specs.Lemmas.OrValues.{or_value-nil, or_value-rest, or_value-least, or_value-taken, or_value-price, or_value-filter_le}
 use Rattle.prune.specs.Points.{xor_points, or_points}
 use Rattle.prune.specs.Lemmas.OnBundles.{IsOnBundle}
-use Rattle.prune.specs.Steps.{is_below, atoms_below, greatest_price, cut_steps, search_steps, is_heavy, first_heavy}
+use Rattle.prune.specs.SearchSteps.{is_below, atoms_below, greatest_price, cut_steps, search_steps, is_heavy, first_heavy}
 use Rattle.prune.specs.Lemmas.Lists.{zero_or_more, Contains-head, Contains-tail, Contains-filter_parts, All-from_Contains, find_first, find_none}
 use Rattle.prune.specs.InOrder.{IsBefore, IsInOrder}
 use Rattle.prune.specs.Lemmas.InOrder.{before_both, before_itself, same_bundle_same_atom}
 use Rattle.prune.specs.Lemmas.Values.{xor_value-member, xor_value-bound, xor_value-outbid, or_value-outbid}
 use Rattle.prune.specs.Lemmas.KeptBids.{all_nonempty, xor_kept_are_points, xor_points_same, or_kept_are_points, or_points_same}
-use Rattle.prune.specs.Lemmas.Steps.{greatest_price-member, greatest_price-reached}
+use Rattle.prune.specs.Lemmas.SearchSteps.{greatest_price-member, greatest_price-reached}
 use Rattle.prune.specs.Internal.BestBids.{AreBestBids}
-use Rattle.prune.proofs.Pruning.{HasRisingBundle, IsKept, IsKept-reached, IsKept-missed, IsCompleted, completion, inside_is_below, below_push, later_not_below, not_below_itself, before_next, behind_next, rising_front}
+use Rattle.prune.proofs.Pruning.{HasRisingBundle, IsKept, IsKept-reached, IsKept-missed, IsCompleted, completion, inside_is_below, below_push, later_not_below}
+use Rattle.prune.proofs.Pruning.{not_below_itself, before_next, behind_next, rising_front}
 
 -- ---- values grow with the list
 

@@ -4,6 +4,6 @@ pub mod KeptBids
 pub mod Lists
 pub mod OnBundles
 pub mod Points
-pub mod Steps
+pub mod SearchSteps
 pub mod Tables
 pub mod Values

@@ -1,6 +1,6 @@
 -- What the contracts of this crate cite.
 pub mod Points
-pub mod Steps
+pub mod SearchSteps
 pub mod InOrder
 pub mod Faults
 pub mod Lemmas

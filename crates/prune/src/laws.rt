@@ -7,7 +7,7 @@ ghost use Rattle.valuation.specs.Packings.{count_packings};
 ghost use Rattle.valuation.specs.Tables.{xor_table, or_table, is_nonzero};
 ghost use Rattle.valuation.specs.Values.{xor_value, or_value};
 ghost use Rattle.prune.specs.Points.{IsXorPoint, IsOrPoint, xor_points, or_points};
-ghost use Rattle.prune.specs.Steps.{atoms_below, steps_at_most, search_steps, is_heavy, first_heavy};
+ghost use Rattle.prune.specs.SearchSteps.{atoms_below, steps_at_most, search_steps, is_heavy, first_heavy};
 
 /// Which atoms are points. An XOR point is on a bundle of a value above 0, which each good less makes smaller; an OR
 /// point on one of a value above 0, which each split into two nonempty parts makes smaller. Either has the value for

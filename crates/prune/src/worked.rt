@@ -2,7 +2,7 @@
 ghost use Rattle.std.specs.Prelude.{◌≡◌, List, [], ◌∷◌, true, false, Some, None};
 ghost use Rattle.valuation.specs.Examples.{atom};
 ghost use Rattle.prune.specs.Points.{xor_points, or_points};
-ghost use Rattle.prune.specs.Steps.{
+ghost use Rattle.prune.specs.SearchSteps.{
   atoms_below,
   greatest_price,
   cut_steps,
@@ -47,7 +47,7 @@ pub fn or_points_worked()
 {}
 
 /// The steps of the searches, and the heavy bundles.
-#[tactic(auto, unfolding(crate::specs::Points::points_where, crate::specs::Points::is_or_point, crate::specs::Steps::cut_steps, crate::specs::Steps::steps_at_most, crate::specs::Steps::search_steps, crate::specs::Steps::is_heavy, crate::specs::Steps::first_heavy, valuation::specs::Values::or_value, valuation::specs::Packings::count_packings))]
+#[tactic(auto, unfolding(crate::specs::Points::points_where, crate::specs::Points::is_or_point, crate::specs::SearchSteps::cut_steps, crate::specs::SearchSteps::steps_at_most, crate::specs::SearchSteps::search_steps, crate::specs::SearchSteps::is_heavy, crate::specs::SearchSteps::first_heavy, valuation::specs::Values::or_value, valuation::specs::Packings::count_packings))]
 pub fn steps_worked()
     ensures below { atoms_below (atom (0 ∷ []) 3 ∷ atom (0 ∷ 1 ∷ []) 7 ∷ atom (2 ∷ []) 1 ∷ []) (0 ∷ 1 ∷ [])
         ≡ atom (0 ∷ []) 3 ∷ [] }

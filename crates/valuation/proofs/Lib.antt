@@ -1,6 +1,6 @@
 -- Proofs that several functions of this crate cite.
 pub mod PlaceMarks
-pub mod Scans
+pub mod FirstBestAtoms
 pub mod Placing
 pub mod BestPackingLevels
 pub mod MarkedPackingLevels

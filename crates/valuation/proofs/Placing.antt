@@ -1,6 +1,7 @@
 -- The turns of the loop that makes the auction of a file, by what the code knows of its vectors: an atom goes to the end of the OR
 -- bidder's list, or of the list of one XOR bidder.
-use Rattle.std.proofs.Common.{◌≡◌, ℕ, zero, suc, ◌+◌, ◌<◌, ◌≤◌, List, [], ◌∷◌, ◌++◌, length, map, get_or, set, take, replicate, Some, None, Global, refl, sym, ap, ap₂, ◌∙◌, append_assoc, subst, arith}
+use Rattle.std.proofs.Common.{◌≡◌, ℕ, zero, suc, ◌+◌, ◌<◌, ◌≤◌, List, [], ◌∷◌, ◌++◌, length, map, get_or, set, take, replicate, Some, None, Global, refl, sym}
+use Rattle.std.proofs.Common.{ap, ap₂, ◌∙◌, append_assoc, subst, arith}
 use Rattle.std.specs.Prelude.{Vec}
 use Rattle.std.specs.List.{range_with_len, AllByRecursion}
 use Rattle.std.proofs.lemmas.List.{map_push, map-set, length-map, length_push, append-nil, get_or-map, take_all}

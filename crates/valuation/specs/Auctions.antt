@@ -1,7 +1,8 @@
 -- Auctions: a number of goods, the atoms of the OR bidder, and the atoms of each XOR bidder. The bids of a file without
 -- a dummy good are the OR bidder's, and those that share a dummy good are one XOR bidder's (README of CATS 2.0, and
 -- Nisan's phantom goods).
-use Rattle.std.specs.Prelude.{ℕ, ◌+◌, ◌<◌, ◌≤◌, ◌==◌, Bool, false, Option, Some, None, is_none, List, length, map, filter, All, sum_by}
+use Rattle.std.specs.Prelude.{ℕ, ◌+◌, ◌<◌, ◌≤◌, ◌==◌, Bool, false, Option, Some, None, is_none, List, length, map}
+use Rattle.std.specs.Prelude.{filter, All, sum_by}
 use Rattle.std.specs.List.{range_with_len}
 use Rattle.valuation.specs.declared.atom.Atom.{Atom}
 use Rattle.goods_set.specs.Bundles.{IsBundle}

@@ -12,7 +12,9 @@ pub struct Auction<S: GoodsSet> {
     goods: u16,
     or_atoms: Vec<Atom<S>>,
     xor_bidders: Vec<Vec<Atom<S>>>,
-    pub ghost facts: { IsAuction S.CAP (plain_auction_of S.goods goods or_atoms.items xor_bidders.items) } by { IsAuction-prop S.CAP (plain_auction_of S.goods goods or_atoms.items xor_bidders.items) },
+    pub ghost facts: { IsAuction S.CAP
+        (plain_auction_of S.goods goods or_atoms.items xor_bidders.items) } by { IsAuction-prop S.CAP
+            (plain_auction_of S.goods goods or_atoms.items xor_bidders.items) },
 }
 
 impl<S: GoodsSet> Auction<S> {

@@ -1,4 +1,4 @@
-use super::streams::{Comments, Told, answer_of, expect, reader, writer};
+use super::streams::{Comments, RunAnswer, answer_of, expect, reader, writer};
 use cats_cmd::run_check;
 use cats_text::Watched;
 use std::alloc::Global;
@@ -12,7 +12,7 @@ fn checked(
     fails: bool,
     step: usize,
     room: usize,
-) -> Result<Told, Fail> {
+) -> Result<RunAnswer, Fail> {
     let mut input = reader(text, fails);
     let mut out = writer(alloc, step, room);
     let answer = run_check(alloc, &mut input, &mut out);
@@ -264,7 +264,7 @@ fn input_never_ends(rt: HostRuntime) -> Result<(), Fail> {
 }
 
 /// What `check` answers of `before`, a million copies of a digit, and `after`.
-fn checked_long(alloc: Global, before: &str, digit: u8, after: &str) -> Result<Told, Fail> {
+fn checked_long(alloc: Global, before: &str, digit: u8, after: &str) -> Result<RunAnswer, Fail> {
     let mut text = Vec::from_slice(alloc, before.as_bytes())?;
     for _ in 0..1_000_000 {
         text.push(digit)?;

@@ -1,4 +1,4 @@
-use super::streams::{Told, answer_of, expect, reader, writer};
+use super::streams::{RunAnswer, answer_of, expect, reader, writer};
 use cats_cmd::run_compare;
 use std::alloc::Global;
 use std::process::Abort;
@@ -15,7 +15,7 @@ fn compared(
     second: &str,
     limit: u64,
     room: usize,
-) -> Result<Told, Fail> {
+) -> Result<RunAnswer, Fail> {
     let mut left = reader(first.as_bytes(), false);
     let mut right = reader(second.as_bytes(), false);
     let mut out = writer(alloc, 4096, room);
@@ -163,7 +163,8 @@ fn differences(rt: HostRuntime) -> Result<(), Fail> {
             ),
             (
                 APART,
-                "goods 2\nbids 5\ndummy 2\n0\t1\t0\t2\t#\n1\t1\t1\t2\t#\n2\t2\t0\t1\t2\t#\n3\t2\t0\t3\t#\n4\t2\t1\t3\t#\n",
+                "goods 2\nbids 5\ndummy 2\n0\t1\t0\t2\t#\n1\t1\t1\t2\t#\n2\t2\t0\t1\t2\t#\n3\t2\t0\t3\t#\n\
+                4\t2\t1\t3\t#\n",
                 1,
                 "different\nxor 0:1 1:1 0,1:2\nleft 0\nright 1\n",
                 "different\nxor 0:1 1:1 0,1:2\nleft 1\nright 0\n",

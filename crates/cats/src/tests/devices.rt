@@ -4,7 +4,7 @@ ghost use Rattle.std.specs.Prelude.{◌≡◌, false};
 ghost use Rattle.cats_text.specs.Streams.{has_ended, has_failed};
 
 use super::streams::{
-    StepReader, StepWriter, Told, answer_of, byte_reader, expect, expect_cut_off, reader,
+    RunAnswer, StepReader, StepWriter, answer_of, byte_reader, expect, expect_cut_off, reader,
     stalling_writer, writer,
 };
 use cats_cmd::{run_check, run_compare, run_normalise, run_show, run_value};
@@ -31,7 +31,7 @@ fn answer(
     run: Run,
     input: &mut Watched<StepReader<'_>>,
     mut out: Watched<StepWriter>,
-) -> Result<Told, Fail>
+) -> Result<RunAnswer, Fail>
     requires input_works { has_failed input.old ≡ false }
     requires input_fresh { has_ended input.old ≡ false }
     requires out_works { has_failed out ≡ false }

@@ -1,6 +1,6 @@
 //! `cats duplicates` on new files, whose paths begin with what `@` stands for.
 
-use super::streams::{Told, expect, writer};
+use super::streams::{RunAnswer, expect, writer};
 use cats_cmd::run_cats;
 use std::alloc::{AllocError, Global};
 use std::process::Abort;
@@ -167,7 +167,7 @@ fn with_start(alloc: Global, start: &str, text: &str) -> Result<String, AllocErr
 }
 
 /// What a command line answers, whose words have a blank between each two.
-fn run(rt: &HostRuntime, line: &str, out_room: usize, err_room: usize) -> Result<Told, Fail> {
+fn run(rt: &HostRuntime, line: &str, out_room: usize, err_room: usize) -> Result<RunAnswer, Fail> {
     let mut words = Vec::new(rt.alloc());
     for word in line.split(' ') {
         words.push(word)?;
@@ -175,7 +175,7 @@ fn run(rt: &HostRuntime, line: &str, out_room: usize, err_room: usize) -> Result
     let mut out = writer(rt.alloc(), 4096, out_room);
     let mut err = writer(rt.alloc(), 4096, err_room);
     let status = run_cats(rt, words.as_slice(), &mut out, &mut err);
-    Ok(Told {
+    Ok(RunAnswer {
         status,
         sent: String::from_utf8(out.into_inner().taken)?,
         line: String::from_utf8(err.into_inner().taken)?,

@@ -1,4 +1,4 @@
-use super::streams::{Told, answer_of, expect, reader, writer};
+use super::streams::{RunAnswer, answer_of, expect, reader, writer};
 use cats_cmd::run_normalise;
 use std::alloc::{AllocError, Global};
 use std::ops::Range;
@@ -10,7 +10,7 @@ const STEPS: u64 = 1_000_000;
 const ROOM: usize = 8_388_608;
 
 /// What `normalise` answers of a text under a step limit.
-fn normal(alloc: Global, text: &[u8], fails: bool, limit: u64) -> Result<Told, Fail> {
+fn normal(alloc: Global, text: &[u8], fails: bool, limit: u64) -> Result<RunAnswer, Fail> {
     let mut input = reader(text, fails);
     let mut out = writer(alloc, 4096, ROOM);
     let answer = run_normalise(alloc, &mut input, limit, &mut out);
@@ -98,7 +98,8 @@ fn xor_bidders(rt: HostRuntime) -> Result<(), Fail> {
                 "goods 2\nbids 0\ndummy 0\n",
             ),
             (
-                "goods 2\nbids 5\ndummy 2\n0\t1\t0\t2\t#\n1\t2\t0\t1\t2\t#\n2\t1\t0\t3\t#\n3\t1\t0\t1\t3\t#\n4\t2\t0\t1\t3\t#\n",
+                "goods 2\nbids 5\ndummy 2\n0\t1\t0\t2\t#\n1\t2\t0\t1\t2\t#\n2\t1\t0\t3\t#\n3\t1\t0\t1\t3\t#\n\
+                4\t2\t0\t1\t3\t#\n",
                 STEPS,
                 "goods 2\nbids 4\ndummy 2\n0\t1\t0\t2\t#\n1\t2\t0\t1\t2\t#\n2\t1\t0\t3\t#\n3\t2\t0\t1\t3\t#\n",
             ),

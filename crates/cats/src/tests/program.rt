@@ -1,4 +1,4 @@
-use super::streams::{Told, expect, writer};
+use super::streams::{RunAnswer, expect, writer};
 use cats_cmd::run_cats;
 use std::process::Abort;
 use std::test::Fail;
@@ -10,12 +10,12 @@ fn run_words(
     words: &[&str],
     out_room: usize,
     err_room: usize,
-) -> Result<Told, Fail> {
+) -> Result<RunAnswer, Fail> {
     let alloc = rt.alloc();
     let mut out = writer(alloc, 4096, out_room);
     let mut err = writer(alloc, 4096, err_room);
     let status = run_cats(rt, words, &mut out, &mut err);
-    Ok(Told {
+    Ok(RunAnswer {
         status,
         sent: String::from_utf8(out.into_inner().taken)?,
         line: String::from_utf8(err.into_inner().taken)?,
@@ -31,7 +31,7 @@ fn run(
     other: &str,
     out_room: usize,
     err_room: usize,
-) -> Result<Told, Fail> {
+) -> Result<RunAnswer, Fail> {
     let mut words = Vec::new(rt.alloc());
     for word in line.split(' ') {
         words.push(match word {
@@ -399,7 +399,9 @@ static LARGER_BID_ROWS: [Row<'static>; 9] = [
 /// A bid for each of 20 goods: 2 to the 19 packings are within the steps that are allowed where the command line says
 /// nothing, and 2 to the 20 are not.
 const SINGLES: &str =
-    "goods 20\nbids 20\ndummy 0\n0 1 0 #\n1 1 1 #\n2 1 2 #\n3 1 3 #\n4 1 4 #\n5 1 5 #\n6 1 6 #\n7 1 7 #\n8 1 8 #\n9 1 9 #\n10 1 10 #\n11 1 11 #\n12 1 12 #\n13 1 13 #\n14 1 14 #\n15 1 15 #\n16 1 16 #\n17 1 17 #\n18 1 18 #\n19 1 19 #\n";
+    "goods 20\nbids 20\ndummy 0\n0 1 0 #\n1 1 1 #\n2 1 2 #\n3 1 3 #\n4 1 4 #\n5 1 5 #\n6 1 6 #\n7 1 7 #\n\
+    8 1 8 #\n9 1 9 #\n10 1 10 #\n11 1 11 #\n12 1 12 #\n13 1 13 #\n14 1 14 #\n15 1 15 #\n16 1 16 #\n17 1 17 #\n\
+    18 1 18 #\n19 1 19 #\n";
 
 static SINGLES_ROWS: [Row<'static>; 2] = [
     (

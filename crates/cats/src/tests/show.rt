@@ -1,11 +1,11 @@
-use super::streams::{Told, answer_of, expect, reader, writer};
+use super::streams::{RunAnswer, answer_of, expect, reader, writer};
 use cats_cmd::run_show;
 use std::alloc::Global;
 use std::process::Abort;
 use std::test::Fail;
 
 /// What `show` answers of a text, with a writer that takes 7 bytes a call.
-fn shown(alloc: Global, text: &[u8], fails: bool) -> Result<Told, Fail> {
+fn shown(alloc: Global, text: &[u8], fails: bool) -> Result<RunAnswer, Fail> {
     let mut input = reader(text, fails);
     let mut out = writer(alloc, 7, 65_536);
     let answer = run_show(alloc, &mut input, &mut out);
@@ -25,10 +25,12 @@ fn shows(rt: &(impl Abort + AllocGlobal), rows: &[(&[u8], &str)]) -> Result<(), 
 
 /// Bids whose prices have other digits than those that are shown.
 const PRICES: &[u8] =
-    b"goods 2\nbids 8\ndummy 0\n0 0.12345600 0 #\n1 1000000000000.0000000 0 #\n2 0.000 0 #\n3 1.50 0 #\n4 02.25 0 #\n5 3.750001 0 #\n6 0.000001 0 #\n7 999999999999.999999 0 #\n";
+    b"goods 2\nbids 8\ndummy 0\n0 0.12345600 0 #\n1 1000000000000.0000000 0 #\n2 0.000 0 #\n3 1.50 0 #\n\
+    4 02.25 0 #\n5 3.750001 0 #\n6 0.000001 0 #\n7 999999999999.999999 0 #\n";
 
 const PRICES_SHOWN: &str =
-    "goods 2\nbids 8\ndummy 0\n0\t0.123456\t0\t#\n1\t1000000000000\t0\t#\n2\t0\t0\t#\n3\t1.5\t0\t#\n4\t2.25\t0\t#\n5\t3.750001\t0\t#\n6\t0.000001\t0\t#\n7\t999999999999.999999\t0\t#\n";
+    "goods 2\nbids 8\ndummy 0\n0\t0.123456\t0\t#\n1\t1000000000000\t0\t#\n2\t0\t0\t#\n3\t1.5\t0\t#\n\
+    4\t2.25\t0\t#\n5\t3.750001\t0\t#\n6\t0.000001\t0\t#\n7\t999999999999.999999\t0\t#\n";
 
 #[test]
 fn layouts(rt: HostRuntime) -> Result<(), Fail> {

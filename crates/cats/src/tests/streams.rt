@@ -126,7 +126,7 @@ pub fn stalling_writer(alloc: Global, room: usize) -> Watched<StepWriter>
 
 /// What a run or the program answered: its status, and what went to its output and to standard error.
 #[derive(Debug, Drop)]
-pub struct Told {
+pub struct RunAnswer {
     pub status: u8,
     pub sent: String,
     pub line: String,
@@ -137,17 +137,17 @@ pub fn answer_of(
     alloc: Global,
     answer: Result<u8, RunFault>,
     out: Watched<StepWriter>,
-) -> Result<Told, Fail> {
+) -> Result<RunAnswer, Fail> {
     let sent = String::from_utf8(out.into_inner().taken)?;
     match answer {
-        Ok(status) => Ok(Told {
+        Ok(status) => Ok(RunAnswer {
             status,
             sent,
             line: String::new(alloc),
         }),
         Err(fault) => {
             let line = String::from_utf8(fault_line(alloc, &fault)?)?;
-            Ok(Told {
+            Ok(RunAnswer {
                 status: status(&fault),
                 sent,
                 line,
@@ -157,7 +157,7 @@ pub fn answer_of(
 }
 
 /// That this is what was answered.
-pub fn expect(rt: &impl Abort, answer: &Told, status: u8, sent: &str, line: &str) {
+pub fn expect(rt: &impl Abort, answer: &RunAnswer, status: u8, sent: &str, line: &str) {
     let same = answer.line.as_str() == line && answer.sent.as_str() == sent;
     assert!(rt;
         same && answer.status == status,
@@ -168,7 +168,7 @@ pub fn expect(rt: &impl Abort, answer: &Told, status: u8, sent: &str, line: &str
 /// That the output failed after so many bytes of this text.
 pub fn expect_cut_off(
     rt: &(impl Abort + AllocGlobal),
-    answer: &Told,
+    answer: &RunAnswer,
     text: &str,
     room: usize,
 ) -> Result<(), Fail> {

@@ -1,4 +1,4 @@
-use super::streams::{Told, answer_of, expect, reader, writer};
+use super::streams::{RunAnswer, answer_of, expect, reader, writer};
 use cats_cmd::run_value;
 use std::alloc::Global;
 use std::process::Abort;
@@ -13,7 +13,7 @@ fn valued(
     fails: bool,
     goods: &[u16],
     limit: u64,
-) -> Result<Told, Fail> {
+) -> Result<RunAnswer, Fail> {
     let mut input = reader(text, fails);
     let mut out = writer(alloc, 4096, 4096);
     let answer = run_value(alloc, &mut input, goods, limit, &mut out);

@@ -51,12 +51,6 @@ larger_last xs ys l = ap (λ o. ordering_then o (slice_cmp nat_cmp xs ys)) (nat_
 pub same_size : (xs ys : List ℕ) → length xs ≡ length ys → bundle_cmp xs ys ≡ slice_cmp nat_cmp xs ys
 same_size xs ys e = ap (λ o. ordering_then o (slice_cmp nat_cmp xs ys)) (subst (λ n. nat_cmp (length xs) n ≡ Equal) e (nat_cmp-refl (length xs)))
 
-pub length_from_Less : (xs ys : List ℕ) → bundle_cmp xs ys ≡ Less → length xs ≤ length ys
-length_from_Less xs ys e =
-    ⊎_elim (λ (d : length xs ≡ length ys). omega arith)
-    (⊎_elim (λ (l : length xs < length ys). omega arith) (λ (l : length ys < length xs). let d : bundle_cmp xs ys ≡ Greater = larger_last xs ys l in
-    absurd (cc))) (cases_order (length xs) (length ys))
-
 -- a bundle inside another comes before it or equals it
 pub inside_ordered : (xs ys : List ℕ) → IsRising xs → IsRising ys → IsInside xs ys → (bundle_cmp xs ys ≡ Less) ⊎ (xs ≡ ys)
 inside_ordered xs ys r s i =

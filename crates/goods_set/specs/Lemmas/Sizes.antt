@@ -1,10 +1,14 @@
 -- Lemmas on what is left of a list, on how many goods a list has, on putting a good, on the next good, and on parts of a bundle.
-use Rattle.std.proofs.Common.{◌≡◌, ℕ, ◌+◌, ◌<◌, ◌≤◌, Bool, true, false, not, cond, ◌&&◌, ◌||◌, eqb, ltb, leb, ◌⊎◌, inl, inr, ⊎_elim, List, [], ◌∷◌, length, refl, sym, ap, ap₂, ◌∙◌, subst, arith}
-use Rattle.std.proofs.lemmas.Bool.{and_parts, and_from, cases_Bool, or_cases, or_right, or_parts, both_ways, not_from_true, not_from_false, false_from_ne_true, true_from_ne_false, or_from, eqb-true, eqb-false, ne_eqb, ltb-true, ltb-false, leb-true, leb-false, cases_order}
+use Rattle.std.proofs.Common.{◌≡◌, ℕ, ◌+◌, ◌<◌, ◌≤◌, Bool, true, false, not, cond, ◌&&◌, ◌||◌, eqb, ltb, leb, ◌⊎◌, inl, inr, ⊎_elim, List, [], ◌∷◌, length}
+use Rattle.std.proofs.Common.{refl, sym, ap, ap₂, ◌∙◌, subst, arith}
+use Rattle.std.proofs.lemmas.Bool.{and_parts, and_from, or_cases, or_right, both_ways, not_from_true, false_from_ne_true}
+use Rattle.std.proofs.lemmas.Bool.{true_from_ne_false, or_from, eqb-true, eqb-false, ne_eqb, ltb-true, ltb-false, leb-true, leb-false, cases_order}
 use Rattle.std.specs.Prelude.{Option, Some, None}
 use Rattle.std.specs.List.{filter}
 use Rattle.goods_set.specs.Bundles.{is_inside, are_apart, AreAbove, AreBelow, IsRising, IsBundle, IsInside, AreApart, has_good, without, with_good, good_from}
-use Rattle.goods_set.specs.Lemmas.Members.{has_head, has_tail, has_cases, has_above, has_below, has_not_head, AreAbove-lower, AreAbove-from_has, AreBelow-from_has, same_from_has, inside_at, inside_from, inside_refl, inside_antisymm, apart_at, apart_sym, has_without_from, has_without_parts, inside_without, inside_without_parts, IsRising-without, AreBelow-higher}
+use Rattle.goods_set.specs.Lemmas.Members.{has_head, has_tail, has_cases, has_above, has_below, has_not_head, AreAbove-lower, AreAbove-from_has}
+use Rattle.goods_set.specs.Lemmas.Members.{AreBelow-from_has, same_from_has, inside_at, inside_from, inside_antisymm}
+use Rattle.goods_set.specs.Lemmas.Members.{has_without_from, inside_without, inside_without_parts}
 
 -- ---- what is left of nothing, and of a list whose goods are all taken, or none
 
@@ -40,14 +44,8 @@ filter_twice p q (x ∷ xs) = at (filter_twice p q xs) (p x) (q x) refl refl
     at r false true e f = simp (f, e, r)
     at r false false e f = simp (f, e, r)
 
-pub without_apart_same : (xs ys : List ℕ) → AreApart xs ys → without xs ys ≡ xs
-without_apart_same xs ys a = filter_all (λ g. not (has_good ys g)) xs (λ g h. not_from_false (has_good ys g) (apart_at xs ys g a h))
-
 pub without_all : (xs ys : List ℕ) → IsInside xs ys → without xs ys ≡ []
 without_all xs ys i = filter_none (λ g. not (has_good ys g)) xs (λ g h. not_from_true (has_good ys g) (inside_at xs ys g i h))
-
-pub without_self : (xs : List ℕ) → without xs xs ≡ []
-without_self xs = without_all xs xs (inside_refl xs)
 
 pub without-nil : (xs : List ℕ) → without xs [] ≡ xs
 without-nil xs = filter_all (λ g. not (has_good [] g)) xs (λ g h. refl)
@@ -67,12 +65,6 @@ without_comm xs ys zs =
     and_swap false false = refl
 
 -- ---- sizes
-
-pub length-without_le : (xs ys : List ℕ) → length (without xs ys) ≤ length xs
-length-without_le [] ys = omega arith
-length-without_le (x ∷ xs) ys =
-    let r : length (without xs ys) ≤ length xs = length-without_le xs ys in
-    elim (has_good ys x) as (λ b. length (cond (not b) (x ∷ without xs ys) (without xs ys)) ≤ length (x ∷ xs)) [ true ↦ omega arith | false ↦ omega arith ]
 
 -- a good less in ys is a good more in what is left, if it is the first of xs
 without_head : (x : ℕ) (xs ys : List ℕ) → AreAbove x xs → without xs (x ∷ ys) ≡ without xs ys
@@ -131,10 +123,6 @@ inside_from_without xs ys e =
 pub same_from_length : (xs ys : List ℕ) → IsRising xs → IsRising ys → IsInside xs ys → length xs ≡ length ys → xs ≡ ys
 same_from_length xs ys r s i e = inside_antisymm xs ys r s i (inside_from_without ys xs (no_goods (without ys xs) (omega (arith, length-without ys xs s r i))))
 
--- a bundle with goods taken out of it is smaller
-pub length-without_lt : (xs ys : List ℕ) → IsRising xs → IsRising ys → IsInside ys xs → 0 < length ys → length (without xs ys) < length xs
-length-without_lt xs ys r s i l = omega (arith, length-without xs ys r s i)
-
 -- ---- put
 
 pub has-with_good : (x : ℕ) (xs : List ℕ) (g : ℕ) → has_good (with_good x xs) g ≡ (eqb x g || has_good xs g)
@@ -189,15 +177,6 @@ with_good_there x xs r h =
     same_from_has (with_good x xs) xs (IsRising-with_good x xs r) r
     (λ g k. ⊎_elim (λ (e : eqb x g ≡ true). subst (λ n. has_good xs n ≡ true) (eqb-true x g e) h) (λ (m : has_good xs g ≡ true). m)
     (or_cases (eqb x g) (has_good xs g) (sym (has-with_good x xs g) ∙ k))) (λ g k. has-with_good x xs g ∙ or_right (eqb x g) (has_good xs g) k)
-
-pub length-with_good : (x : ℕ) (xs : List ℕ) → has_good xs x ≡ false → length (with_good x xs) ≡ length xs + 1
-length-with_good x [] h = omega arith
-length-with_good x (y ∷ ys) h = let p : (eqb y x ≡ false) × (has_good ys x ≡ false) = or_parts (eqb y x) (has_good ys x) h in
-    at p.0 (length-with_good x ys p.1) (ltb x y) refl
-  where
-    at : eqb y x ≡ false → length (with_good x ys) ≡ length ys + 1 → (b : Bool) → ltb x y ≡ b → length (with_good x (y ∷ ys)) ≡ length (y ∷ ys) + 1
-    at n h true e = rw e (omega arith)
-    at n h false e = let f : eqb x y ≡ false = ne_eqb x y (λ d. eqb-false y x n (sym d)) in rw (e, f) (omega arith)
 
 -- ---- the next good
 
@@ -270,29 +249,6 @@ good_from_none xs g r h = at (good_from xs g) refl
 
 -- ---- parts of a bundle
 
--- taking out what is left gives back what was taken
-pub without_without : (xs ys : List ℕ) → IsRising xs → IsRising ys → IsInside ys xs → without xs (without xs ys) ≡ ys
-without_without xs ys r s i =
-    same_from_has (without xs (without xs ys)) ys (IsRising-without xs (without xs ys) r) s
-    (λ g h.
-    let p : (has_good xs g ≡ true) × (has_good (without xs ys) g ≡ false) = has_without_parts xs (without xs ys) g h in
-    true_from_ne_false (has_good ys g) (λ n. both_ways (has_good (without xs ys) g) p.1 (has_without_from xs ys g p.0 n)))
-    (λ g h. has_without_from xs (without xs ys) g (inside_at ys xs g i h)
-    (false_from_ne_true (has_good (without xs ys) g) (λ k. both_ways (has_good ys g) (has_without_parts xs ys g k).1 h)))
-
--- a good of a list in one of two parts
-pub has_parts : (xs ys : List ℕ) (g : ℕ) → has_good xs g ≡ true → (has_good ys g ≡ true) ⊎ (has_good (without xs ys) g ≡ true)
-has_parts xs ys g h = ⊎_elim (λ (e : has_good ys g ≡ true). inl e) (λ (e : has_good ys g ≡ false). inr (has_without_from xs ys g h e))
-    (cases_Bool (has_good ys g))
-
-pub are_apart_comm : (xs ys : List ℕ) → are_apart xs ys ≡ are_apart ys xs
-are_apart_comm xs ys = by (are_apart xs ys) (are_apart ys xs) refl refl
-  where
-    by : (b c : Bool) → are_apart xs ys ≡ b → are_apart ys xs ≡ c → are_apart xs ys ≡ are_apart ys xs
-    by true c e f = e ∙ sym (apart_sym xs ys e)
-    by false true e f = apart_sym ys xs f ∙ sym f
-    by false false e f = e ∙ sym f
-
 pub is_inside-without : (zs xs ys : List ℕ) → is_inside zs (without xs ys) ≡ (is_inside zs xs && are_apart zs ys)
 is_inside-without zs xs ys = by (is_inside zs (without xs ys)) (is_inside zs xs && are_apart zs ys) refl refl
   where
@@ -302,9 +258,3 @@ is_inside-without zs xs ys = by (is_inside zs (without xs ys)) (is_inside zs xs 
     by false true e f = let p : (is_inside zs xs ≡ true) × (are_apart zs ys ≡ true) = and_parts (is_inside zs xs) (are_apart zs ys) f in
         inside_without zs xs ys p.0 p.1 ∙ sym f
     by false false e f = e ∙ sym f
-
-pub AreBelow-inside : (G : ℕ) (xs ys : List ℕ) → IsInside xs ys → AreBelow G ys → AreBelow G xs
-AreBelow-inside G xs ys i b = AreBelow-from_has G xs (λ g h. has_below G ys g b (inside_at xs ys g i h))
-
-pub IsBundle-higher : (G H : ℕ) (xs : List ℕ) → G ≤ H → IsBundle G xs → IsBundle H xs
-IsBundle-higher G H xs l b = (b.0, AreBelow-higher G H xs l b.1)

@@ -1,5 +1,6 @@
 -- The goods of words, bit by bit: what is inside, apart and left, by the words' bits.
-use Rattle.std.proofs.Common.{◌≡◌, ℕ, zero, suc, ◌+◌, ◌-◌, ◌*◌, ◌/◌, ◌%◌, ◌^◌, min, ◌<◌, ◌≤◌, ◌≢◌, Bool, true, false, eqb, List, get_or, refl, sym, ap, ◌∙◌, arith, w64}
+use Rattle.std.proofs.Common.{◌≡◌, ℕ, zero, suc, ◌+◌, ◌-◌, ◌*◌, ◌/◌, ◌%◌, ◌^◌, min, ◌<◌, ◌≤◌, ◌≢◌, Bool, true, false, eqb, List, get_or, refl, sym, ap, ◌∙◌}
+use Rattle.std.proofs.Common.{arith, w64}
 use Rattle.std.specs.List.{filter, range_with_len}
 use Rattle.std.specs.Int.{bit_at, bit_not, trailing_zeros}
 use Rattle.std.specs.Int.RustNames.{bit_and}
@@ -7,7 +8,8 @@ use Rattle.std.proofs.lemmas.Nat.Bits.{bit_at-lt, bit_at-zero, bit_at_and, bit_a
 use Rattle.std.proofs.lemmas.Nat.{and_le_l}
 use Rattle.std.proofs.lemmas.Bool.{and_parts, and_from, both_ways, eqb-true, eq-eqb, false_from_ne_true}
 use Rattle.goods_set.specs.Bundles.{AreAbove, AreBelow, IsRising, IsBundle, has_good, is_inside, are_apart, without}
-use Rattle.goods_set.specs.Lemmas.Members.{has_below, AreBelow-filter, has-filter, IsRising-filter, same_from_has, inside_at, inside_from, apart_at, apart_from, has_without_from, has_without_parts, IsRising-without}
+use Rattle.goods_set.specs.Lemmas.Members.{has_below, AreBelow-filter, has-filter, IsRising-filter, same_from_has, inside_at, inside_from, apart_at, apart_from}
+use Rattle.goods_set.specs.Lemmas.Members.{has_without_from, has_without_parts, IsRising-without}
 use Rattle.goods_set.specs.Lemmas.Sizes.{filter_same}
 use Rattle.goods_set.specs.Words.{word_bit, word_goods, word_cap}
 
@@ -17,7 +19,7 @@ range_above : (a b n : ℕ) → a < b → AreAbove a (range_with_len b n)
 range_above a b zero l = tt
 range_above a b (suc n) l = (l, range_above a (b + 1) n (omega arith))
 
-range_rises : (a n : ℕ) → IsRising (range_with_len a n)
+pub range_rises : (a n : ℕ) → IsRising (range_with_len a n)
 range_rises a zero = tt
 range_rises a (suc n) = (range_above a (a + 1) n (omega arith), range_rises (a + 1) n)
 
@@ -25,7 +27,7 @@ range_below : (a n G : ℕ) → a + n ≤ G → AreBelow G (range_with_len a n)
 range_below a zero G l = tt
 range_below a (suc n) G l = (omega arith, range_below (a + 1) n G (omega arith))
 
-range_has : (a n g : ℕ) → a ≤ g → g < a + n → has_good (range_with_len a n) g ≡ true
+pub range_has : (a n g : ℕ) → a ≤ g → g < a + n → has_good (range_with_len a n) g ≡ true
 range_has a zero g l m = absurd (omega arith)
 range_has a (suc n) g l m = at (eqb a g) refl (λ (h : a < g). range_has (a + 1) n g (omega arith) (omega arith))
   where

@@ -1,5 +1,6 @@
 -- Atoms listed by their goods, so that those inside a bundle are found through the goods of the bundle.
-use Rattle.std.specs.Prelude.{◌≡◌, ◌≢◌, ℕ, ◌<◌, Bool, ◌&&◌, true, false, nat_le, map, slice_index_or, List, [], length, take, AllPairs, Contains}
+use Rattle.std.specs.Prelude.{◌≡◌, ◌≢◌, ℕ, ◌<◌, Bool, ◌&&◌, true, false, nat_le, map, slice_index_or, List, [], length}
+use Rattle.std.specs.Prelude.{take, AllPairs, Contains}
 use Rattle.std.specs.Global.{Vec}
 use Rattle.std.specs.List.{filter, list_any}
 use Rattle.valuation.specs.declared.atom.Atom.{Atom}

@@ -1,7 +1,7 @@
 -- Points and tables of values tell the same: points are empty exactly where the table is all zeros, and tables are equal exactly
 -- where the points are.
 use Rattle.std.proofs.Common.{◌≡◌, ℕ, ◌<◌, false, not, eqb, List, [], map, sym, ap, ◌∙◌, arith}
-use Rattle.std.specs.Prelude.{All, ◌↔◌}
+use Rattle.std.specs.Prelude.{All, Contains, ◌↔◌}
 use Rattle.std.proofs.lemmas.Bool.{not-false, eqb-true, eq-eqb, not_from_true}
 use Rattle.std.proofs.lemmas.List.Elements.{All-map, All-contains}
 use Rattle.std.proofs.lemmas.List.Folds.{list_any_none}
@@ -48,48 +48,59 @@ same_at : (one other : List ℕ → ℕ) (goods : ℕ) → map one (all_bundles 
     → one bundle ≡ other bundle
 same_at one other goods e bundle b = map_same_at one other (all_bundles goods) e bundle (all_bundles_has goods bundle b)
 
+-- ---- points by any values
+
+module _ (value : List (Atom (List ℕ)) → List ℕ → ℕ) (goods : ℕ) where
+  -- points that keep the values, each on a bundle of a value above 0, are none exactly where all values are 0
+  no_points : ((bundle : List ℕ) → value [] bundle ≡ 0) → (atoms points : List (Atom (List ℕ)))
+      → ((bundle : List ℕ) → IsBundle goods bundle → value points bundle ≡ value atoms bundle)
+      → ((a : Atom (List ℕ)) → Contains points a → IsBundle goods a.bundle × (0 < value atoms a.bundle))
+      → (points ≡ [] ↔ is_nonzero (map (value atoms) (all_bundles goods)) ≡ false)
+  no_points nil atoms points keep are = (
+    λ e. table_zero (value atoms) goods (λ bundle b. sym (keep bundle b) ∙ ap (λ (zs : List (Atom (List ℕ))). value zs bundle) e ∙ nil bundle),
+    λ e. nil_from_none points (λ a c.
+        let positive : 0 < value atoms a.bundle = (are a c).1 in
+        let none : value atoms a.bundle ≡ 0 = zero_at (value atoms) goods e a.bundle (are a c).0 in
+        omega arith),
+  )
+
+  -- points that keep the values, and depend on them alone, are the same exactly where the values are
+  same_points : (one other points more : List (Atom (List ℕ)))
+      → ((bundle : List ℕ) → IsBundle goods bundle → value points bundle ≡ value one bundle)
+      → ((bundle : List ℕ) → IsBundle goods bundle → value more bundle ≡ value other bundle)
+      → (((bundle : List ℕ) → IsBundle goods bundle → value one bundle ≡ value other bundle) → points ≡ more)
+      → (map (value one) (all_bundles goods) ≡ map (value other) (all_bundles goods) ↔ points ≡ more)
+  same_points one other points more keep kept depend = (
+    λ e. depend (same_at (value one) (value other) goods e),
+    λ e. table_same (value one) (value other) goods (λ bundle b. sym (keep bundle b) ∙ ap (λ (zs : List (Atom (List ℕ))). value zs bundle) e
+        ∙ kept bundle b),
+  )
+
 -- ---- XOR
 
 pub no_xor_points : (goods : ℕ) (atoms : List (Atom (List ℕ))) → All (IsOnBundle goods) atoms
     → (xor_points goods atoms ≡ [] ↔ is_nonzero (xor_table atoms goods) ≡ false)
-no_xor_points goods atoms on = (
-  λ e. table_zero (xor_value atoms) goods (λ bundle b. sym (xor_points_keep_values goods atoms (just_bundles goods atoms on) bundle b)
-      ∙ ap (λ (zs : List (Atom (List ℕ))). xor_value zs bundle) e ∙ xor_value-nil bundle),
-  λ e. nil_from_none (xor_points goods atoms) (λ a c.
-      let p = (xor_points_are goods atoms a).0 c in
-      let positive : 0 < xor_value atoms a.bundle = p.1.positive in
-      let none : xor_value atoms a.bundle ≡ 0 = zero_at (xor_value atoms) goods e a.bundle p.0 in
-      omega arith),
-)
+no_xor_points goods atoms on =
+    no_points xor_value goods xor_value-nil atoms (xor_points goods atoms) (xor_points_keep_values goods atoms (just_bundles goods atoms on))
+    (λ a c. let p = (xor_points_are goods atoms a).0 c in (p.0, p.1.positive))
 
 pub same_xor_points : (goods : ℕ) (one other : List (Atom (List ℕ))) → All (IsOnBundle goods) one → All (IsOnBundle goods) other
     → (xor_table one goods ≡ xor_table other goods ↔ xor_points goods one ≡ xor_points goods other)
-same_xor_points goods one other on there = (
-  λ e. xor_points_same goods one other (same_at (xor_value one) (xor_value other) goods e),
-  λ e. table_same (xor_value one) (xor_value other) goods (λ bundle b.
-      sym (xor_points_keep_values goods one (just_bundles goods one on) bundle b) ∙ ap (λ (zs : List (Atom (List ℕ))). xor_value zs bundle) e
-      ∙ xor_points_keep_values goods other (just_bundles goods other there) bundle b),
-)
+same_xor_points goods one other on there =
+    same_points xor_value goods one other (xor_points goods one) (xor_points goods other)
+    (xor_points_keep_values goods one (just_bundles goods one on)) (xor_points_keep_values goods other (just_bundles goods other there))
+    (xor_points_same goods one other)
 
 -- ---- OR
 
 pub no_or_points : (goods : ℕ) (atoms : List (Atom (List ℕ))) → All (IsOnBundle goods) atoms
     → (or_points goods atoms ≡ [] ↔ is_nonzero (or_table atoms goods) ≡ false)
-no_or_points goods atoms on = (
-  λ e. table_zero (or_value atoms) goods (λ bundle b. sym (or_points_keep_values goods atoms on bundle b)
-      ∙ ap (λ (zs : List (Atom (List ℕ))). or_value zs bundle) e ∙ or_value-nil bundle),
-  λ e. nil_from_none (or_points goods atoms) (λ a c.
-      let p = (or_points_are goods atoms a).0 c in
-      let positive : 0 < or_value atoms a.bundle = p.1.positive in
-      let none : or_value atoms a.bundle ≡ 0 = zero_at (or_value atoms) goods e a.bundle p.0 in
-      omega arith),
-)
+no_or_points goods atoms on =
+    no_points or_value goods or_value-nil atoms (or_points goods atoms) (or_points_keep_values goods atoms on)
+    (λ a c. let p = (or_points_are goods atoms a).0 c in (p.0, p.1.positive))
 
 pub same_or_points : (goods : ℕ) (one other : List (Atom (List ℕ))) → All (IsOnBundle goods) one → All (IsOnBundle goods) other
     → (or_table one goods ≡ or_table other goods ↔ or_points goods one ≡ or_points goods other)
-same_or_points goods one other on there = (
-  λ e. or_points_same goods one other (same_at (or_value one) (or_value other) goods e),
-  λ e. table_same (or_value one) (or_value other) goods (λ bundle b.
-      sym (or_points_keep_values goods one on bundle b) ∙ ap (λ (zs : List (Atom (List ℕ))). or_value zs bundle) e
-      ∙ or_points_keep_values goods other there bundle b),
-)
+same_or_points goods one other on there =
+    same_points or_value goods one other (or_points goods one) (or_points goods other) (or_points_keep_values goods one on)
+    (or_points_keep_values goods other there) (or_points_same goods one other)

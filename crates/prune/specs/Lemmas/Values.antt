@@ -1,5 +1,6 @@
 -- Lemmas on values: of lists of which one outbids the other, and of the atoms of a list that matter for a bundle.
-use Rattle.std.proofs.Common.{◌≡◌, ℕ, ◌<◌, ◌≤◌, max, Bool, true, false, cond, ◌⊎◌, inl, inr, ⊎_elim, List, [], ◌∷◌, length, sym, ◌∙◌, subst, arith, le_trans, le_refl, le_antisymm}
+use Rattle.std.proofs.Common.{◌≡◌, ℕ, ◌<◌, ◌≤◌, max, Bool, true, false, cond, ◌⊎◌, inl, inr, ⊎_elim, List, [], ◌∷◌, length, sym, ◌∙◌, subst, arith, le_trans}
+use Rattle.std.proofs.Common.{le_refl, le_antisymm}
 use Rattle.std.specs.Prelude.{All, Contains}
 use Rattle.std.specs.List.{filter}
 use Rattle.std.proofs.lemmas.Bool.{cases_Bool}
@@ -9,7 +10,8 @@ use Rattle.goods_set.specs.Lemmas.Members.{inside_trans, without_inside}
 use Rattle.valuation.specs.declared.atom.Atom.{Atom}
 use Rattle.valuation.specs.Values.{xor_value, or_value}
 use Rattle.valuation.specs.Lemmas.Lists.{Contains-cons_cases}
-use Rattle.valuation.specs.Lemmas.XorValues.{xor_value-nil, xor_value-inside, xor_value-outside, xor_value-rest, xor_value-price, xor_value-least, xor_value-grows}
+use Rattle.valuation.specs.Lemmas.XorValues.{xor_value-nil, xor_value-inside, xor_value-outside, xor_value-rest, xor_value-price, xor_value-least}
+use Rattle.valuation.specs.Lemmas.XorValues.{xor_value-grows}
 use Rattle.valuation.specs.Lemmas.OrValues.{or_value-nil, or_value-rest, or_value-taken, or_value-least, or_value-split, or_value-filter_le}
 use Rattle.prune.specs.Lemmas.Lists.{Contains-nil, Contains-head, Contains-tail, All-from_Contains, filter-kept, Contains-filter, Contains-filter_parts}
 

@@ -1,6 +1,7 @@
 -- The auction of a file is an auction, and it is made bid by bid: each bid adds one atom, to the OR bidder or to the bidder of its
 -- dummy good.
-use Rattle.std.proofs.Common.{◌≡◌, ℕ, zero, suc, ◌+◌, ◌<◌, ◌≤◌, Bool, true, false, eqb, ltb, ⊎_elim, List, [], ◌∷◌, ◌++◌, length, map, get_or, set, take, Option, Some, None, is_none, refl, sym, ap, ap₂, ◌∙◌, subst, arith}
+use Rattle.std.proofs.Common.{◌≡◌, ℕ, zero, suc, ◌+◌, ◌<◌, ◌≤◌, Bool, true, false, eqb, ltb, ⊎_elim, List, [], ◌∷◌, ◌++◌, length, map, get_or, set, take}
+use Rattle.std.proofs.Common.{Option, Some, None, is_none, refl, sym, ap, ap₂, ◌∙◌, subst, arith}
 use Rattle.std.specs.Prelude.{All, filter, sum_by}
 use Rattle.std.specs.List.{range_with_len, AllByRecursion}
 use Rattle.std.proofs.lemmas.Bool.{cases_eq, ne_eqb, eq-eqb, le-ltb}

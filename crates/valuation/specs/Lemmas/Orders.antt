@@ -1,5 +1,6 @@
 -- The orders of atoms and of bidders are total, and answer Equal only for equal ones; lists are compared element by element.
-use Rattle.std.proofs.Common.{◌≡◌, ℕ, zero, suc, ◌<◌, true, false, min, ⊎_elim, List, [], ◌∷◌, length, drop, Ordering, Less, Equal, Greater, nat_cmp, refl, sym, ap, ap₂, ◌∙◌, arith}
+use Rattle.std.proofs.Common.{◌≡◌, ℕ, zero, suc, ◌<◌, true, false, min, ⊎_elim, List, [], ◌∷◌, length, drop, Ordering, Less, Equal, Greater, nat_cmp, refl, sym}
+use Rattle.std.proofs.Common.{ap, ap₂, ◌∙◌, arith}
 use Rattle.std.specs.Ordering.{is_ne, ordering_then}
 use Rattle.std.specs.Cmp.{IsTotalOrder}
 use Rattle.std.specs.Cmp.Lexicographic.{slice_cmp}

@@ -1,6 +1,7 @@
 -- Lists in an order that answers Equal for equal elements alone. The idea: a list in order is determined by how often it has each
 -- element, so a list is put in order in one way only, whichever way that is done.
-use Rattle.std.proofs.Common.{◌≡◌, ℕ, zero, suc, ◌+◌, true, false, cond, ⊎_elim, List, [], ◌∷◌, get_or, refl, sym, ap, ◌∙◌, subst, arith, Ordering, Less, Equal, Greater}
+use Rattle.std.proofs.Common.{◌≡◌, ℕ, zero, suc, ◌+◌, true, false, cond, ⊎_elim, List, [], ◌∷◌, get_or, refl, sym, ap, ◌∙◌, subst, arith, Ordering, Less, Equal}
+use Rattle.std.proofs.Common.{Greater}
 use Rattle.std.specs.Prelude.{All, AllPairs, IsPermutation}
 use Rattle.std.specs.List.{AllByRecursion, sum_by}
 use Rattle.std.specs.List.Sorted.{IsSortedBy, IsSorted}
@@ -9,7 +10,8 @@ use Rattle.std.specs.Cmp.{IsTotalOrder}
 use Rattle.std.proofs.lemmas.Bool.{cases_Bool}
 use Rattle.std.proofs.lemmas.Cmp.{upto, tied_itself, alike_right}
 use Rattle.std.proofs.lemmas.List.Elements.{recursion_from_All, All-from_recursion}
-use Rattle.std.proofs.lemmas.List.Sorted.{sorted_far, ranks_by, sum_by-IsPermutation, IsPermutation-refl, IsPermutation-sym, IsPermutation-trans, IsPermutation-cons, IsPermutation-middle}
+use Rattle.std.proofs.lemmas.List.Sorted.{sorted_far, ranks_by, sum_by-IsPermutation, IsPermutation-refl, IsPermutation-sym, IsPermutation-trans}
+use Rattle.std.proofs.lemmas.List.Sorted.{IsPermutation-cons, IsPermutation-middle}
 use Rattle.std.proofs.lemmas.List.Sums.{sum_by-cons}
 use Rattle.valuation.specs.Lemmas.Lists.{AllPairs-head, AllPairs-tail}
 use Rattle.valuation.specs.Sorting.{insert_by, sort_by, count_of}
@@ -103,7 +105,7 @@ module _ {X : Type 0} (cmp : X → X → Ordering) (total : IsTotalOrder cmp) wh
 
   -- ---- a list in order is determined by how often it has each element
 
-  count_none : (x : X) (xs : List X) → AllByRecursion (λ y. cmp x y ≡ Less) xs → count_of cmp x xs ≡ 0
+  pub count_none : (x : X) (xs : List X) → AllByRecursion (λ y. cmp x y ≡ Less) xs → count_of cmp x xs ≡ 0
   count_none x [] h = refl
   count_none x (y ∷ ys) h =
       let other : cond {A = ℕ} (is_eq (cmp x y)) 1 0 ≡ 0 = ap (λ o. cond {A = ℕ} (is_eq o) 1 0) h.0 in

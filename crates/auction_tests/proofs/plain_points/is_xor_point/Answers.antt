@@ -5,7 +5,8 @@ use Rattle.goods_set.specs.Bundles.{is_inside, without}
 use Rattle.valuation.specs.Values.{atoms_of, xor_value}
 use Rattle.auction_tests.proofs.PlainPoints.{xor_worthless, xor_same, XorLess-more, xor_all, bundle_at}
 use Rattle.auction_tests.proofs.plain_points.is_xor_point.Goals as goal
-use Rattle.auction_tests.proofs.plain_points.is_xor_point.Goals.{then-size-eq1+then-is_inside+in_ok-left+else-value-less, else-size-eq1, else-size-eq1-via-then-size-eq1+else-is_inside, else-size-eq1-via-else-size-eq1}
+use Rattle.auction_tests.proofs.plain_points.is_xor_point.Goals.{then-size-eq1+then-is_inside+in_ok-left+else-value-less, else-size-eq1}
+use Rattle.auction_tests.proofs.plain_points.is_xor_point.Goals.{else-size-eq1-via-then-size-eq1+else-is_inside, else-size-eq1-via-else-size-eq1}
 
 pub returns-then-value-eq0 : goal.returns-then-value-eq0
 returns-then-value-eq0 g c =

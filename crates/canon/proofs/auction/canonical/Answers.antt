@@ -1,3 +1,4 @@
+-- What is made of the pruned parts is the canonical auction (proofs/Bidders), so the laws of that auction are those of the result.
 use Rattle.std.proofs.Common.{◌≡◌, sym, ◌∙◌, subst}
 use Rattle.valuation.specs.Auctions.{PlainAuction, IsAuction}
 use Rattle.valuation.specs.Bidders.{bidders_of}

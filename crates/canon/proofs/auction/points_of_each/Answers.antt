@@ -1,3 +1,4 @@
+-- The points so far are those of the bidders that are done: the next bidder adds its points, or nothing where it has none.
 use Rattle.std.proofs.Common.{arith, ◌≡◌, [], length, sym, ◌∙◌}
 use Rattle.std.specs.Prelude.{All}
 use Rattle.std.specs.Vec.Iter.{into_iter_items}

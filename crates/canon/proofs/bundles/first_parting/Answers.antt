@@ -1,3 +1,5 @@
+-- The bids before i are the same on both sides, so the two lists part at i, at the end of the shorter one, or nowhere: each of these
+-- is a lemma of proofs/OrWalks.
 use Rattle.std.proofs.Common.{◌≡◌, take, refl, sym, subst, arith}
 use Rattle.canon.specs.Internal.BidderBids.{offers}
 use Rattle.canon.specs.declared.verdict.Side.TheVariants.{Exactly}

@@ -1,3 +1,5 @@
+-- The two parts of each file's bids are those of its auction, so what the walks over them answer is the first difference of the
+-- auctions: a bundle of the OR bidders, or else the least XOR bidder.
 use Rattle.std.proofs.Common.{◌≡◌, ◌∙◌, arith}
 use Rattle.cats_text.specs.declared.limits.TheConstants.{MAX_GOODS}
 use Rattle.cats_text.specs.Files.{plain_bids}

@@ -1,3 +1,5 @@
+-- The bids so far, with those of the bidders still to come, are the bids of the auction's file (proofs/Filing), so in the end they
+-- are all of them and keep its limits.
 use Rattle.std.proofs.Common.{◌≡◌, [], length, sym, ap, ◌∙◌, arith}
 use Rattle.std.proofs.lemmas.List.{nil_from_length}
 use Rattle.std.specs.Vec.Iter.{into_iter_items}

@@ -1,3 +1,5 @@
+-- The copies so far, with those among the bidders of the bids still to come, are all (IsCounted): the next bidder is one copy more,
+-- or none.
 use Rattle.std.proofs.Common.{◌≡◌, ℕ, ◌+◌, ◌≤◌, cond, List, length, sym, ap, ◌∙◌, subst, arith}
 use Rattle.std.specs.Ordering.{is_eq}
 use Rattle.std.proofs.lemmas.List.{length-drop}

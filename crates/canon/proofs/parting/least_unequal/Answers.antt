@@ -1,3 +1,5 @@
+-- The bidders that were walked past are the same on both sides (proofs/BidderWalks), so the lists part at the two that stand in
+-- front, of which the lesser is the least uneven one, or at the end of one list.
 use Rattle.std.proofs.Common.{◌≡◌, ◌-◌, ◌⊎◌, inl, inr, List, length, take, drop, Option, Some, None, sym, subst, Bor}
 use Rattle.std.specs.Prelude.{MatchOption}
 use Rattle.cats_text.specs.Files.{plain_bids}

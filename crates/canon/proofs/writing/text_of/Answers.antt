@@ -1,3 +1,5 @@
+-- The text so far, with that of the bidders still to come, is the text of the file (proofs/TextLines); the bids that are counted are
+-- those of the file, whose limit keeps the numbers small.
 use Rattle.std.proofs.Common.{arith, refl, ap, ◌∙◌, List, ℕ, ◌++◌, map, Some, None}
 use Rattle.cats_text.specs.Layout.{bids_text}
 use Rattle.valuation.specs.Values.{atoms_of}

@@ -1,14 +1,16 @@
 use Rattle.std.proofs.Common.{rules}
 use Rattle.std.proofs.lemmas.Fn.{filter_same, dedup_same, always_returns_same}
 use Rattle.std.proofs.lemmas.List.Sorted.{ranks_by}
-use Rattle.prune.proofs.BestBids.{is_bid_before, is_same_bundle, has_price, bid_cmp_total, best_from_steps, seen_of}
+use Rattle.prune.proofs.BestBids.{is_bid_before, is_same_bundle, has_price, bid_cmp_total, best_from_steps}
 use Rattle.prune.proofs.best.keep_best_bids.Goals as goal
+use Rattle.valuation.specs.Values.{plain_atom}
 
 pub returns-clause-best : goal.returns-clause-best
 returns-clause-best g c =
     let goods = g.S.GoodsSet.goods in
-    let priced = filter_same _ (λ a. has_price (seen_of goods a)) _ (λ x b f k. search rules) _ _ c.retain.ensures.filtered in
-    let sorted = c.sort_unstable_by.ensures.sorted (λ a b. is_bid_before (seen_of goods a) (seen_of goods b)) (ranks_by bid_cmp_total (seen_of goods))
+    let priced = filter_same _ (λ a. has_price (plain_atom goods a)) _ (λ x b f k. search rules) _ _ c.retain.ensures.filtered in
+    let sorted = c.sort_unstable_by.ensures.sorted (λ a b. is_bid_before (plain_atom goods a) (plain_atom goods b)) (ranks_by bid_cmp_total (plain_atom goods))
     (always_returns_same _ _ _ (λ a r f k. search rules)) in
-    let best = dedup_same _ (λ a b. is_same_bundle (seen_of goods a) (seen_of goods b)) _ (λ x y b f x' y' k. search rules) _ _ c.dedup_by.ensures.filtered in
-    best_from_steps (seen_of goods) _ _ _ _ priced c.sort_unstable_by.ensures.permutation sorted best
+    let best = dedup_same _ (λ a b. is_same_bundle (plain_atom goods a) (plain_atom goods b)) _ (λ x y b f x' y' k. search rules) _ _
+    c.dedup_by.ensures.filtered in
+    best_from_steps (plain_atom goods) _ _ _ _ priced c.sort_unstable_by.ensures.permutation sorted best

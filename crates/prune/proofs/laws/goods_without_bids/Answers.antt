@@ -1,5 +1,5 @@
 use Rattle.prune.specs.Lemmas.KeptBids.{on_bundles, xor_points_any_goods, or_points_any_goods}
-use Rattle.prune.specs.Lemmas.Steps.{first_heavy_any_goods}
+use Rattle.prune.specs.Lemmas.SearchSteps.{first_heavy_any_goods}
 use Rattle.prune.proofs.laws.goods_without_bids.Goals as goal
 
 pub returns : goal.returns

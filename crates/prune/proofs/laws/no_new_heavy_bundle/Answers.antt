@@ -1,5 +1,5 @@
 use Rattle.prune.specs.Lemmas.KeptBids.{on_bundles}
-use Rattle.prune.specs.Lemmas.Steps.{no_new_heavy}
+use Rattle.prune.specs.Lemmas.SearchSteps.{no_new_heavy}
 use Rattle.prune.proofs.laws.no_new_heavy_bundle.Goals as goal
 
 pub returns : goal.returns

@@ -1,5 +1,5 @@
 use Rattle.prune.specs.Lemmas.KeptBids.{on_bundles}
-use Rattle.prune.specs.Lemmas.Steps.{no_heavy_point}
+use Rattle.prune.specs.Lemmas.SearchSteps.{no_heavy_point}
 use Rattle.prune.proofs.laws.none_heavy_for_points.Goals as goal
 
 pub returns : goal.returns

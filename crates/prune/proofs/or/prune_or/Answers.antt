@@ -1,11 +1,12 @@
+-- A turn of the loop keeps a bid exactly where the search does not reach its price, which is a turn of proofs/Results; a search that
+-- gives up has found a heavy bundle; and at the end the kept bids are the points.
 use Rattle.std.proofs.Common.{arith, Err, ◌≡◌, length, sym, ap, ◌∙◌, []}
 use Rattle.std.proofs.lemmas.List.{map_push, nil_from_length, length_push}
 use Rattle.std.proofs.lemmas.List.Elements.{All-contains}
 use Rattle.std.specs.Vec.Iter.{into_iter_items}
 use Rattle.cats_text.specs.declared.limits.TheConstants.{MAX_GOODS}
 use Rattle.valuation.specs.Auctions.{IsAtom}
-use Rattle.valuation.specs.Values.{atoms_of}
-use Rattle.prune.proofs.BestBids.{seen_of}
+use Rattle.valuation.specs.Values.{atoms_of, plain_atom}
 use Rattle.prune.proofs.Results.{turn_among, or_reached, or_missed, within_reached, within_missed, heavy_found}
 use Rattle.prune.specs.Lemmas.KeptBids.{on_bundles}
 use Rattle.prune.proofs.PruningLoop.{next_turn, taken, or_end, kept_nonempty, all_some, none_heavy_end, heavy_load}
@@ -34,8 +35,8 @@ loop-bid-preserved-then-is_outbid g c =
       best = rw joined at h.best;
       fits = rw joined at h.fits;
       listed = h.listed;
-      kept = rw (map_push (seen_of goods) yielded bid) reached;
-      within = rw (map_push (seen_of goods) yielded bid) within;
+      kept = rw (map_push (plain_atom goods) yielded bid) reached;
+      within = rw (map_push (plain_atom goods) yielded bid) within;
       fewer = omega (arith, h.fewer, length_push yielded bid);
     }
 
@@ -69,8 +70,8 @@ loop-bid-preserved g c =
       best = rw joined at h.best;
       fits = rw joined at h.fits;
       listed = pushed.listed;
-      kept = rw (map_push (seen_of goods) yielded bid, pushed.atoms, map_push (seen_of goods) kept bid) missed;
-      within = rw (pushed.atoms, map_push (seen_of goods) kept bid, map_push (seen_of goods) yielded bid) within;
+      kept = rw (map_push (plain_atom goods) yielded bid, pushed.atoms, map_push (plain_atom goods) kept bid) missed;
+      within = rw (pushed.atoms, map_push (plain_atom goods) kept bid, map_push (plain_atom goods) yielded bid) within;
       fewer = omega (
         arith,
         h.fewer,

@@ -1,3 +1,5 @@
+-- A turn of the loop keeps a bid exactly where no kept bid inside its bundle covers it, which is a turn of proofs/Results; and at the
+-- end the kept bids are the points. Few bids of which none covers another are the points as they are.
 use Rattle.std.proofs.Common.{arith, ◌≡◌, length, sym, ap, ◌∙◌, subst, []}
 use Rattle.std.proofs.lemmas.Bool.{both_ways, le-leb}
 use Rattle.std.proofs.lemmas.List.{map_push, nil_from_length, length_push}
@@ -5,8 +7,7 @@ use Rattle.std.proofs.lemmas.List.Elements.{All-contains}
 use Rattle.std.specs.Vec.Iter.{into_iter_items}
 use Rattle.cats_text.specs.declared.limits.TheConstants.{MAX_GOODS}
 use Rattle.valuation.specs.Auctions.{IsAtom}
-use Rattle.valuation.specs.Values.{atoms_of}
-use Rattle.prune.proofs.BestBids.{seen_of}
+use Rattle.valuation.specs.Values.{atoms_of, plain_atom}
 use Rattle.prune.proofs.Results.{turn_positive, turn_among, xor_reached, xor_missed}
 use Rattle.prune.specs.Lemmas.KeptBids.{on_bundles, just_bundles}
 use Rattle.prune.specs.Internal.Listings.{AreUncovered}
@@ -37,7 +38,7 @@ loop-bid-preserved-in-Continue-branch-2 g c =
       best = rw joined at h.best;
       fits = rw joined at h.fits;
       listed = λ many. absurd (both_ways _ many (le-leb _ _ c.if-few.true));
-      kept = rw (map_push (seen_of goods) yielded bid, c.in_ok-push.ensures.items, map_push (seen_of goods) kept bid) missed;
+      kept = rw (map_push (plain_atom goods) yielded bid, c.in_ok-push.ensures.items, map_push (plain_atom goods) kept bid) missed;
       fewer = omega (
         arith,
         h.fewer,
@@ -66,7 +67,7 @@ loop-bid-preserved-in-Continue-branch-3 g c =
       best = rw joined at h.best;
       fits = rw joined at h.fits;
       listed = λ _. c.in_ok-push-2.ensures.listed;
-      kept = rw (map_push (seen_of goods) yielded bid, c.in_ok-push-2.ensures.atoms, map_push (seen_of goods) kept bid) missed;
+      kept = rw (map_push (plain_atom goods) yielded bid, c.in_ok-push-2.ensures.atoms, map_push (plain_atom goods) kept bid) missed;
       fewer = omega (
         arith,
         h.fewer,
@@ -94,7 +95,7 @@ loop-bid-preserved g c =
       best = rw joined at h.best;
       fits = rw joined at h.fits;
       listed = h.listed;
-      kept = rw (map_push (seen_of goods) yielded bid) reached;
+      kept = rw (map_push (plain_atom goods) yielded bid) reached;
       fewer = omega (arith, h.fewer, length_push yielded bid);
     }
 

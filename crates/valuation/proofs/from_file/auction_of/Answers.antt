@@ -1,3 +1,5 @@
+-- Each turn of the loop puts one atom at its place (proofs/Placing), and what was placed from all bids is the auction of the file,
+-- whose limits follow from those of the file.
 use Rattle.std.proofs.Common.{arith, ◌≡◌, ◌<◌, length, take, refl, sym, ap, ◌∙◌}
 use Rattle.goods_set.specs.Lemmas.Members.{AreBelow-higher}
 use Rattle.cats_text.specs.Files.{plain_bid, plain_bids}

@@ -1,3 +1,5 @@
+-- As in from_file/auction_of, of bids that are given up: those done and those still to come are the bids of the file, and each turn
+-- puts the atom of the next one at its place (proofs/Placing).
 use Rattle.std.proofs.Common.{arith, ◌≡◌, ◌<◌, [], length, refl, sym, ap, ◌∙◌}
 use Rattle.std.proofs.lemmas.List.{nil_from_length}
 use Rattle.std.specs.Vec.Iter.{into_iter_items}

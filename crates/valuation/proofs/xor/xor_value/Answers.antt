@@ -1,17 +1,19 @@
--- The atoms before i were looked at: see proofs/Scans.
+-- The atoms before i were looked at: see proofs/FirstBestAtoms.
 use Rattle.std.proofs.Common.{arith, sym, ◌∙◌, ◌≡◌, ◌<◌, ◌⊎◌, inl, inr, None, length}
 use Rattle.std.proofs.lemmas.Bool.{both_ways, ltb-true, ltb-false}
 use Rattle.valuation.specs.Values.{atoms_of}
 use Rattle.valuation.specs.Lemmas.Atoms.{length-atoms_of, get_or-atoms_of}
-use Rattle.valuation.proofs.Scans.{at, Scanned-take, Scanned-outside, Scanned-no_better, Scanned-value, Scanned-place, Scanned-none, none_is, some_is}
+use Rattle.valuation.proofs.FirstBestAtoms.{Scanned-take, Scanned-outside, Scanned-no_better, Scanned-value, Scanned-place, Scanned-none, none_is, some_is}
 use Rattle.valuation.proofs.xor.xor_value.Goals as goal
-use Rattle.valuation.proofs.xor.xor_value.Goals.{then-is_none, else-is_none, then-value-atom+then-is_inside, else-value-atom, else-value-atom-via-then-value-atom+else-is_inside, else-value-atom-via-else-value-atom}
+use Rattle.valuation.proofs.xor.xor_value.Goals.{then-is_none, else-is_none, then-value-atom+then-is_inside, else-value-atom}
+use Rattle.valuation.proofs.xor.xor_value.Goals.{else-value-atom-via-then-value-atom+else-is_inside, else-value-atom-via-else-value-atom}
+use Rattle.valuation.specs.Internal.PlaceMarks.{atom_at}
 
 pub loop-i-preserved : goal.loop-i-preserved
 loop-i-preserved g c =
     let goods = g.S.GoodsSet.goods in
     let a = c.index-atoms-i.result in
-    let here : at (atoms_of goods c.args.atoms.now) c.loop-i.i ≡ record { bundle = goods a.bundle; price = a.price } =
+    let here : atom_at (atoms_of goods c.args.atoms.now) c.loop-i.i ≡ record { bundle = goods a.bundle; price = a.price } =
     get_or-atoms_of goods c.args.atoms.now c.loop-i.i a _ c.loop-i-test.true c.index-atoms-i.is in
     let in_list : c.loop-i.i < length (atoms_of goods c.args.atoms.now) = omega (arith, length-atoms_of goods c.args.atoms.now, c.loop-i-test.true) in
     elim c.if-value-atom.branch [

@@ -1,6 +1,6 @@
--- The atoms before i were looked at: see proofs/Scans.
+-- The atoms before i were looked at: see proofs/FirstBestAtoms.
 use Rattle.valuation.specs.Values.{atoms_of}
-use Rattle.valuation.proofs.Scans.{Scanned}
+use Rattle.valuation.proofs.FirstBestAtoms.{Scanned}
 use Rattle.valuation.proofs.xor.xor_value.Given as goal
 
 abbrev pub invariant-loop-i : goal.invariant-loop-i

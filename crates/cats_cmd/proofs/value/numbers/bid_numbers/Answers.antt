@@ -1,3 +1,5 @@
+-- The lists hold the numbers of the bids so far, bidder by bidder, and the next bid's number goes to the end of its bidder's list
+-- (proofs/Numbering).
 use Rattle.std.proofs.Common.{arith, ◌<◌, length, take, refl, sym, ◌∙◌}
 use Rattle.cats_text.specs.Files.{plain_bid, plain_bids}
 use Rattle.std.proofs.lemmas.List.{length-map}

@@ -2,7 +2,7 @@ use Rattle.std.proofs.Common.{arith, ◌≡◌, ◌++◌, map, get_or, sym, ap, 
 use Rattle.valuation.specs.Values.{atoms_of}
 use Rattle.prune.specs.declared.kept.Listing.{Listing}
 use Rattle.prune.specs.Internal.Listings.{lists_of, is_inside_at}
-use Rattle.prune.proofs.Listed.{place_of, listed_there, places_get, listing_index, found_more}
+use Rattle.prune.proofs.ListedAtoms.{place_of, listed_there, places_get, listing_index, found_more}
 use Rattle.prune.proofs.kept.Kept.find_listed.Goals as goal
 use Rattle.prune.proofs.kept.Kept.find_listed.Goals.{then-is_inside+in_ok-push, else-is_inside}
 

@@ -2,7 +2,7 @@ use Rattle.std.proofs.Common.{◌≡◌, ◌++◌, map, take}
 use Rattle.std.specs.List.{filter}
 use Rattle.valuation.specs.Values.{atoms_of}
 use Rattle.prune.specs.Internal.Listings.{is_inside_at}
-use Rattle.prune.proofs.Listed.{place_of}
+use Rattle.prune.proofs.ListedAtoms.{place_of}
 use Rattle.prune.proofs.kept.Kept.find_listed.Given as goal
 
 abbrev pub invariant-loop-listing : goal.invariant-loop-listing

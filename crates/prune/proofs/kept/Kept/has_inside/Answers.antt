@@ -1,7 +1,7 @@
 use Rattle.std.proofs.Common.{arith, sym, ◌∙◌}
 use Rattle.valuation.specs.Values.{atoms_of}
 use Rattle.prune.specs.Internal.Listings.{lists_of}
-use Rattle.prune.proofs.Listed.{next_is_further, NoneCovers-more, NoneCovers-all, one_covers}
+use Rattle.prune.proofs.ListedAtoms.{next_is_further, NoneCovers-more, NoneCovers-all, one_covers}
 use Rattle.prune.proofs.kept.Kept.has_inside.Goals as goal
 
 pub loop-good-smaller : goal.loop-good-smaller

@@ -1,8 +1,10 @@
+-- None of the atoms listed before covers the bid; one that costs less, or is not inside the bundle, does not cover it either, and
+-- else one that does was found.
 use Rattle.std.proofs.Common.{arith, ◌≡◌, map, get_or, sym, ap, ◌∙◌, false}
 use Rattle.valuation.specs.Values.{atoms_of}
 use Rattle.prune.specs.declared.kept.Listing.{Listing}
 use Rattle.prune.specs.Internal.Listings.{lists_of, listed_at, covers_at}
-use Rattle.prune.proofs.Listed.{place_of, listed_there, places_get, listing_index, covers_listed, too_cheap, not_inside, one_listed, none_more}
+use Rattle.prune.proofs.ListedAtoms.{place_of, listed_there, places_get, listing_index, covers_listed, too_cheap, not_inside, one_listed, none_more}
 use Rattle.prune.proofs.kept.Kept.has_listed.Goals as goal
 use Rattle.prune.proofs.kept.Kept.has_listed.Goals.{else-price-listing-via-then-price-listing+else-is_inside, else-price-listing-via-else-price-listing}
 

@@ -1,10 +1,11 @@
+-- The atoms taken so far are those at the first of the places; the places of all are those of the atoms inside the bundle.
 use Rattle.std.proofs.Common.{arith, map, sym, ap, ◌∙◌}
 use Rattle.std.specs.List.{filter, range_with_len}
 use Rattle.std.proofs.lemmas.List.{take_all}
 use Rattle.valuation.specs.Values.{atoms_of}
 use Rattle.valuation.specs.Lemmas.Atoms.{length-atoms_of}
 use Rattle.prune.specs.Internal.Listings.{atom_at, is_inside_at}
-use Rattle.prune.proofs.Listed.{places_in_list, atoms_at_places, seen_more}
+use Rattle.prune.proofs.ListedAtoms.{places_in_list, atoms_at_places, seen_more}
 use Rattle.prune.proofs.kept.Kept.inside.Goals as goal
 
 pub index-requires : goal.index-requires

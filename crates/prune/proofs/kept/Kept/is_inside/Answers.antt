@@ -1,7 +1,7 @@
 use Rattle.std.proofs.Common.{sym, ◌∙◌}
 use Rattle.valuation.specs.Values.{atoms_of}
 use Rattle.prune.specs.Internal.Listings.{atom_at}
-use Rattle.prune.proofs.Listed.{lacks_outside}
+use Rattle.prune.proofs.ListedAtoms.{lacks_outside}
 use Rattle.prune.proofs.kept.Kept.is_inside.Goals as goal
 use Rattle.prune.proofs.kept.Kept.is_inside.Goals.{then-has, else-has}
 

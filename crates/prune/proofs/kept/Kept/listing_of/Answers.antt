@@ -1,7 +1,8 @@
+-- What is chosen so far are goods of the bundle, and the next one is too; a bundle with goods has a first one, so some were chosen.
 use Rattle.std.proofs.Common.{arith, ◌≡◌, None, true, sym, ap, ◌∙◌, ⊎_elim, subst, inr}
 use Rattle.goods_set.specs.Bundles.{has_good, good_from}
 use Rattle.prune.specs.declared.kept.Listing.{Listing}
-use Rattle.prune.proofs.Listed.{next_is_further, next_is_had, some_from_zero}
+use Rattle.prune.proofs.ListedAtoms.{next_is_further, next_is_had, some_from_zero}
 use Rattle.prune.proofs.kept.Kept.listing_of.Goals as goal
 use Rattle.prune.proofs.kept.Kept.listing_of.Goals.{then-from-eq0, else-from-eq0, then-count-fewest, else-count-fewest}
 

@@ -1,7 +1,7 @@
 use Rattle.std.proofs.Common.{◌-◌}
 use Rattle.valuation.specs.Values.{atoms_of}
 use Rattle.prune.specs.Internal.Listings.{lists_of}
-use Rattle.prune.proofs.Listed.{IsFinding}
+use Rattle.prune.proofs.ListedAtoms.{IsFinding}
 use Rattle.prune.proofs.kept.Kept.places_inside.Given as goal
 
 abbrev pub invariant-loop-good : goal.invariant-loop-good

@@ -1,15 +1,18 @@
 -- Atoms are found through the goods of a bundle: each atom inside it is listed at one of its goods, which is a good of the bundle.
 -- The places found, sorted, are those of the atoms inside the bundle, since no place is listed twice.
-use Rattle.std.proofs.Common.{◌≡◌, ◌≢◌, ℕ, zero, suc, ◌+◌, ◌<◌, ◌≤◌, Bool, true, false, cond, leb, take, set, get_or-set_same, get_or-set_other, append_assoc, Bor, eqb, ◌⊎◌, inl, inr, ⊎_elim, List, [], ◌∷◌, ◌++◌, length, map, get_or, refl, sym, ap, ◌∙◌, subst, arith, Some, None, nat_cmp}
+use Rattle.std.proofs.Common.{◌≡◌, ◌≢◌, ℕ, zero, suc, ◌+◌, ◌<◌, ◌≤◌, Bool, true, false, cond, leb, take, set, get_or-set_same, get_or-set_other, append_assoc}
+use Rattle.std.proofs.Common.{Bor, eqb, ◌⊎◌, inl, inr, ⊎_elim, List, [], ◌∷◌, ◌++◌, length, map, get_or, refl, sym, ap, ◌∙◌, subst, arith, Some, None, nat_cmp}
 use Rattle.std.specs.Prelude.{All, AllPairs, Contains, IsPermutation}
 use Rattle.std.specs.Global.{Vec}
 use Rattle.std.specs.List.{filter, list_any, range_with_len}
 use Rattle.std.specs.List.Sorted.{IsSorted}
-use Rattle.std.proofs.lemmas.Bool.{cases_lt, cases_eq, both_ways, and_parts, and_from, and_left, and_right, or_from, le-leb, lt-leb, false_from_ne_true, eqb-true, eq-eqb}
+use Rattle.std.proofs.lemmas.Bool.{cases_lt, cases_eq, both_ways, and_parts, and_from, and_left, and_right, or_from, le-leb, lt-leb, false_from_ne_true}
+use Rattle.std.proofs.lemmas.Bool.{eqb-true, eq-eqb}
 use Rattle.std.specs.Cmp.{both_ways as same_test}
 use Rattle.std.proofs.lemmas.Bool.Decides.{Decides-eqb}
 use Rattle.std.proofs.lemmas.List.{map-set, map_push, take_more, get_or-map, get_or_append_left, get_or_push, get_or_default, length-map, length_push}
-use Rattle.std.proofs.lemmas.List.Elements.{filter_more, Contains-get_or, All-append, All-contains, All-filter, All-weaker, Contains-append_left, Contains-append_right, Contains-push_cases, Contains-push}
+use Rattle.std.proofs.lemmas.List.Elements.{filter_more, Contains-get_or, All-append, All-contains, All-filter, All-weaker, Contains-append_left}
+use Rattle.std.proofs.lemmas.List.Elements.{Contains-append_right, Contains-push_cases, Contains-push}
 use Rattle.std.proofs.lemmas.List.Folds.{list_any_none, list_any_more}
 use Rattle.std.proofs.lemmas.List.FromFn.{fill_by_all}
 use Rattle.std.proofs.lemmas.List.Kept.{AllPairs-from_increasing, AllPairs-filter}
@@ -18,15 +21,17 @@ use Rattle.std.proofs.lemmas.List.Sorted.{Contains-permutation, IsPermutation-sy
 use Rattle.std.proofs.lemmas.Map.Keys.{IsDistinct-IsPermutation, IsStrictlyIncreasing-from_distinct}
 use Rattle.std.proofs.lemmas.Map.Made.{IsDistinct-from_AllPairs}
 use Rattle.goods_set.specs.Bundles.{IsRising, has_good, is_inside, good_from}
-use Rattle.goods_set.specs.Lemmas.Members.{has_head, has_tail, has_cases, has-filter, AreAbove-from_has, IsRising-filter, same_from_has, inside_at}
+use Rattle.goods_set.specs.Lemmas.Members.{has_head, has_cases, has-filter, AreAbove-from_has, IsRising-filter, same_from_has, inside_at}
 use Rattle.goods_set.specs.Lemmas.Sizes.{IsNextGood, good_from-Some, good_from-None}
+use Rattle.goods_set.specs.Lemmas.Words.{range_has, range_rises}
 use Rattle.valuation.specs.declared.atom.Atom.{Atom}
 use Rattle.valuation.specs.Values.{atoms_of}
 use Rattle.valuation.specs.Lemmas.Atoms.{get_or-atoms_of}
 use Rattle.valuation.specs.Lemmas.Lists.{AllPairs-head, AllPairs-tail, AllPairs-append, Contains-map, Contains-unmap}
 use Rattle.prune.specs.declared.kept.Listing.{Listing}
 use Rattle.prune.specs.Internal.Listings.{lists_of, listed_at, places_at, atom_at, is_inside_at, covers, covers_at, IsListed, IsListing, AreListed}
-use Rattle.prune.specs.Lemmas.Lists.{Contains-head, Contains-tail, Contains-filter, Contains-filter_parts, All-from_Contains, list_any_found, list_any_has, list_any_fails}
+use Rattle.prune.specs.Lemmas.Lists.{Contains-head, Contains-tail, Contains-filter, Contains-filter_parts, All-from_Contains, list_any_found, list_any_has}
+use Rattle.prune.specs.Lemmas.Lists.{list_any_fails}
 use Rattle.prune.specs.Lemmas.KeptBids.{has_from_Contains}
 use Rattle.prune.proofs.BestBids.{map-filter}
 
@@ -72,16 +77,6 @@ has_range a zero g h = absurd (both_ways false refl h)
 has_range a (suc n) g h =
     ⊎_elim (λ (e : a ≡ g). (omega arith, omega arith)) (λ (k : has_good (range_with_len (a + 1) n) g ≡ true). let r = has_range (a + 1) n g k in
     (omega (arith, r.0), omega (arith, r.1))) (has_cases a (range_with_len (a + 1) n) g h)
-
-pub range_has : (a n g : ℕ) → a ≤ g → g < a + n → has_good (range_with_len a n) g ≡ true
-range_has a zero g l m = absurd (omega arith)
-range_has a (suc n) g l m =
-    ⊎_elim (λ (e : a ≡ g). subst (λ x. has_good (range_with_len a (suc n)) x ≡ true) e (has_head a (range_with_len (a + 1) n)))
-    (λ (d : a ≡ g → ⊥). has_tail a (range_with_len (a + 1) n) g (range_has (a + 1) n g (omega arith) (omega arith))) (cases_eq a g)
-
-pub range_rising : (a n : ℕ) → IsRising (range_with_len a n)
-range_rising a zero = tt
-range_rising a (suc n) = (AreAbove-from_has a (range_with_len (a + 1) n) (λ g h. let r = has_range (a + 1) n g h in omega (arith, r.0)), range_rising (a + 1) n)
 
 -- ---- the search through the goods of a bundle
 
@@ -166,7 +161,7 @@ IsFinding-all lists atoms bundle from found sorted a none f p up =
     same_from_has sorted (filter test all)
     (rising_from_pairs sorted
     (AllPairs-from_increasing sorted (IsStrictlyIncreasing-from_distinct sorted (IsNonDecreasingBy-from_sort (λ n. n) sorted up) distinct)))
-    (IsRising-filter test all (range_rising 0 (length atoms)))
+    (IsRising-filter test all (range_rises 0 (length atoms)))
     (λ g h.
     let there = Contains-permutation sorted found g (IsPermutation-sym found sorted p) (Contains_from_has sorted g h) in
     let s = All-contains (λ place. (test place ≡ true) × (place < length atoms)) found g f.sound there in
