@@ -2,6 +2,7 @@
 //! and a bit set that implement it, and the order of bundles.
 #![tactic(auto)]
 
+pub mod inside;
 pub mod laws;
 mod least;
 pub mod list_set;
@@ -10,6 +11,7 @@ pub mod set;
 pub mod word_set;
 pub mod worked;
 
+pub use inside::may_be_inside;
 pub use list_set::ListSet;
 pub use listing::goods_of;
 pub use set::GoodsSet;

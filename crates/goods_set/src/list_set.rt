@@ -8,6 +8,7 @@ ghost use Rattle.goods_set.specs.Lemmas.BundleFacts.{IsBundle-prop};
 ghost use Rattle.goods_set.specs.Internal.Fronts.{front_of};
 ghost use Rattle.goods_set.specs.Internal.Residues.{residues_of};
 
+use crate::inside::may_be_inside;
 use crate::set::GoodsSet;
 use std::alloc::{AllocError, Global};
 use std::cmp::Ordering;
@@ -51,7 +52,7 @@ impl ListSet {
     fn may_be_inside(&self, other: &ListSet) -> bool
         ensures { IsInside self.now.goods.items other.now.goods.items → result ≡ true }
     {
-        self.residues & !other.residues == 0
+        may_be_inside(self.residues, other.residues)
     }
 
     // Where the good stands, or else where it goes.
@@ -114,6 +115,10 @@ impl GoodsSet for ListSet {
     fn next_from(&self, from: u32) -> Option<u16> {
         let place = self.goods.partition_point(|good| u32::from(*good) < from);
         self.goods.get(place).copied()
+    }
+
+    fn residues(&self) -> u64 {
+        self.residues
     }
 
     fn list_into(&self, out: &mut Vec<u16>) -> Result<(), AllocError> {

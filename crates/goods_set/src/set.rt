@@ -16,6 +16,7 @@ ghost use Rattle.goods_set.specs.Bundles.{
 };
 ghost use Rattle.goods_set.specs.Lemmas.Members.{inside_refl, inside_trans};
 ghost use Rattle.goods_set.specs.Orders.{bundle_cmp};
+ghost use Rattle.goods_set.specs.Residues.{AreResidues};
 ghost use Rattle.goods_set.specs.Lemmas.Orders.{bundle_cmp_total, bundle_cmp_equal};
 ghost use Rattle.goods_set.specs.Lemmas.Laws.{inside_antisymm_law, inside_ordered_law};
 
@@ -61,6 +62,10 @@ pub trait GoodsSet: Sized + Drop {
     /// The least good that is at least `from`.
     fn next_from(&self, from: u32) -> Option<u16>
         ensures { result ≡ good_from (goods self.now) from };
+
+    /// The goods modulo 64, as the bits of a word: `may_be_inside` tells by them most sets that are not inside another.
+    fn residues(&self) -> u64
+        ensures { AreResidues (goods self.now) result };
 
     /// Appends the goods of the set, rising. Where memory is refused, some of them may stand there.
     fn list_into(&self, out: &mut Vec<u16>) -> Result<(), AllocError>

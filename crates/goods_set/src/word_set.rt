@@ -91,6 +91,10 @@ impl<const N: usize> GoodsSet for WordSet<N> {
         scans::next_good(self.used(), from)
     }
 
+    fn residues(&self) -> u64 {
+        scans::all_residues(self.used())
+    }
+
     fn list_into(&self, out: &mut Vec<u16>) -> Result<(), AllocError> {
         scans::list_goods(self.used(), out)
     }

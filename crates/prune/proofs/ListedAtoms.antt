@@ -22,6 +22,7 @@ use Rattle.std.proofs.lemmas.Map.Keys.{IsDistinct-IsPermutation, IsStrictlyIncre
 use Rattle.std.proofs.lemmas.Map.Made.{IsDistinct-from_AllPairs}
 use Rattle.goods_set.specs.Bundles.{IsRising, has_good, is_inside, good_from}
 use Rattle.goods_set.specs.Lemmas.Members.{has_head, has_cases, has-filter, AreAbove-from_has, IsRising-filter, same_from_has, inside_at}
+use Rattle.goods_set.specs.Residues.{AreResidues}
 use Rattle.goods_set.specs.Lemmas.Sizes.{IsNextGood, good_from-Some, good_from-None}
 use Rattle.goods_set.specs.Lemmas.Words.{range_has, range_rises}
 use Rattle.valuation.specs.declared.atom.Atom.{Atom}
@@ -269,13 +270,14 @@ module _ (lists more : List (List Listing)) (atoms : List (Atom (List ℕ))) (a 
         record {
           within = omega arith;
           price = r.price ∙ ap (λ (b : Atom (List ℕ)). b.price) (sym e);
+          residues = subst (λ (b : Atom (List ℕ)). AreResidues b.bundle listing.residues) (sym e) r.residues;
           witness = ap (λ (b : Atom (List ℕ)). has_good b.bundle listing.witness) e ∙ r.witness;
           second = ap (λ (b : Atom (List ℕ)). has_good b.bundle listing.second) e ∙ r.second;
         }
 
-    pub AreListed-push : has_good a.bundle good ≡ true → new.price ≡ a.price → has_good a.bundle new.witness ≡ true → has_good a.bundle new.second ≡ true
-        → AreListed more (atoms ++ a ∷ [])
-    AreListed-push has price witness second =
+    pub AreListed-push : has_good a.bundle good ≡ true → new.price ≡ a.price → AreResidues a.bundle new.residues → has_good a.bundle new.witness ≡ true
+        → has_good a.bundle new.second ≡ true → AreListed more (atoms ++ a ∷ [])
+    AreListed-push has price residues witness second =
         let d : Atom (List ℕ) = record { bundle = []; price = 0 } in
         let long = length_push atoms a in
         let last : atom_at (atoms ++ a ∷ []) new.place ≡ a = get_or_push atoms a d new.place (sym place) in
@@ -296,6 +298,7 @@ module _ (lists more : List (List Listing)) (atoms : List (Atom (List ℕ))) (a 
               (λ (k : (g ≡ good) × (new ≡ listing)). subst (λ (z : Listing). IsListing (atoms ++ a ∷ []) z) k.1 (record {
                 within = omega arith;
                 price = price ∙ ap (λ (b : Atom (List ℕ)). b.price) (sym last);
+                residues = subst (λ (b : Atom (List ℕ)). AreResidues b.bundle new.residues) (sym last) residues;
                 witness = ap (λ (b : Atom (List ℕ)). has_good b.bundle new.witness) last ∙ witness;
                 second = ap (λ (b : Atom (List ℕ)). has_good b.bundle new.second) last ∙ second;
               }))

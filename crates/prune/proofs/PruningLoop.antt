@@ -12,6 +12,7 @@ use Rattle.valuation.specs.declared.atom.Atom.{Atom}
 use Rattle.valuation.specs.Lemmas.Atoms.{get_or-atoms_of}
 use Rattle.valuation.specs.Auctions.{IsAtom}
 use Rattle.valuation.specs.Values.{atoms_of, xor_value, plain_atom}
+use Rattle.valuation.specs.Packings.{price_sum}
 use Rattle.valuation.specs.Lemmas.XorValues.{xor_value-nil, xor_value-inside}
 use Rattle.prune.specs.SearchSteps.{greatest_price, search_steps, steps_at_most, is_heavy, first_heavy}
 use Rattle.prune.specs.Lemmas.SearchSteps.{search_within_bound}
@@ -102,6 +103,13 @@ nonempty_inside goods inside seen p kept d e some = rw (d, e) (All-filter p (λ 
 pub inside_bundle : {S : Type 0} (goods : S → List ℕ) (inside seen : List (Bor (Atom S))) (bundle : List ℕ) (kept : List (Atom (List ℕ))) → seen ≡ inside
     → atoms_of goods (map (λ a. a.now) inside) ≡ atoms_inside kept bundle → All (λ a. IsInside a.bundle bundle) (atoms_of goods (map (λ a. a.now) seen))
 inside_bundle goods inside seen bundle kept d e = rw (d, e) (filter_passes (λ a. is_inside a.bundle bundle) kept)
+
+-- their prices together do not reach a price
+pub too_low : {S : Type 0} (goods : S → List ℕ) (inside seen : List (Bor (Atom S))) (bundle : List ℕ) (price : ℕ) (kept : List (Atom (List ℕ))) → seen ≡ inside
+    → atoms_of goods (map (λ a. a.now) inside) ≡ atoms_inside kept bundle → price_sum (atoms_of goods (map (λ a. a.now) seen)) < price
+    → price_sum (atoms_inside kept bundle) < price
+too_low {S} goods inside seen bundle price kept d e l =
+    subst (λ (xs : List (Atom (List ℕ))). price_sum xs < price) (ap (λ (zs : List (Bor (Atom S))). atoms_of goods (map (λ a. a.now) zs)) d ∙ e) l
 
 pub kept_nonempty : {S : Type 0} (goods : S → List ℕ) (n : ℕ) (bids : List (Atom (List ℕ))) (yielded all kept : List (Atom S))
     → AreBestBids bids (atoms_of goods (yielded ++ all)) → All (IsAtom n) bids → All (Contains (atoms_of goods yielded)) (atoms_of goods kept)

@@ -2,6 +2,7 @@
 ghost use Rattle.std.specs.Prelude.{◌≡◌, ℕ, ◌<◌, true, map, length, vec_len, IfOk, OnOk, [], ◌∷◌, ◌++◌};
 ghost use Rattle.std.specs.List.{filter, list_any, range_with_len};
 ghost use Rattle.goods_set.specs.Bundles.{has_good};
+ghost use Rattle.goods_set.specs.Residues.{AreResidues};
 ghost use Rattle.valuation.specs.Values.{atoms_of};
 ghost use Rattle.prune.specs.Internal.Listings.{
   lists_of,
@@ -14,7 +15,7 @@ ghost use Rattle.prune.specs.Internal.Listings.{
   AreListed,
 };
 
-use goods_set::GoodsSet;
+use goods_set::{GoodsSet, may_be_inside};
 use std::alloc::{AllocError, Global};
 use valuation::Atom;
 
@@ -25,6 +26,8 @@ struct Listing {
     place: usize,
     /// The price of the atom.
     price: u64,
+    /// The residues of its bundle.
+    residues: u64,
     /// A good of its bundle.
     witness: u16,
     /// Another good of its bundle, where it has so many.
@@ -93,6 +96,7 @@ impl<S: GoodsSet> Kept<S> {
         ensures good { has_good (S.goods atom.now.bundle) result.0 ≡ true }
         ensures place { result.1.place ≡ vec_len self.now.atoms }
         ensures price { result.1.price ≡ atom.now.price }
+        ensures residues { AreResidues (S.goods atom.now.bundle) result.1.residues }
         ensures witness { has_good (S.goods atom.now.bundle) result.1.witness ≡ true }
         ensures second { has_good (S.goods atom.now.bundle) result.1.second ≡ true }
     {
@@ -101,6 +105,7 @@ impl<S: GoodsSet> Kept<S> {
         let mut listing = Listing {
             place: self.atoms.len(),
             price: atom.price,
+            residues: atom.bundle.residues(),
             witness: 0,
             second: 0,
         };
@@ -124,19 +129,28 @@ impl<S: GoodsSet> Kept<S> {
         (best, listing)
     }
 
-    /// Whether the atom that is listed is inside the bundle.
-    fn is_inside(&self, listing: &Listing, bundle: &S) -> bool
-        requires { IsListing (atoms_of S.goods self.now.atoms.items) listing.now }
+    /// Whether the atom that is listed is inside the bundle, which has these residues.
+    fn is_inside(&self, listing: &Listing, bundle: &S, residues: u64) -> bool
+        requires listing { IsListing (atoms_of S.goods self.now.atoms.items) listing.now }
+        requires residues { AreResidues (S.goods bundle.now) residues }
         ensures { result ≡ is_inside_at (atoms_of S.goods self.now.atoms.items) (S.goods bundle.now) listing.now.place }
     {
-        bundle.has(listing.witness)
+        may_be_inside(listing.residues, residues)
+            && bundle.has(listing.witness)
             && bundle.has(listing.second)
             && self.atoms[listing.place].bundle.is_inside(bundle)
     }
 
     /// Adds to `found` the places of the atoms inside the bundle that are listed at the good.
-    fn find_listed(&self, good: u16, bundle: &S, found: &mut Vec<usize>) -> Result<(), AllocError>
-        requires { AreListed (lists_of self.now.lists.items) (atoms_of S.goods self.now.atoms.items) }
+    fn find_listed(
+        &self,
+        good: u16,
+        bundle: &S,
+        residues: u64,
+        found: &mut Vec<usize>,
+    ) -> Result<(), AllocError>
+        requires listed { AreListed (lists_of self.now.lists.items) (atoms_of S.goods self.now.atoms.items) }
+        requires residues { AreResidues (S.goods bundle.now) residues }
         ensures { let inside = is_inside_at (atoms_of S.goods self.now.atoms.items) (S.goods bundle.now) in
             let listed = places_at (lists_of self.now.lists.items) good in
             OnOk result (found.new.items ≡ found.old.items ++ filter inside listed) }
@@ -144,7 +158,7 @@ impl<S: GoodsSet> Kept<S> {
         let good = usize::from(good);
         if good < self.lists.len() {
             for listing in &self.lists[good] {
-                if self.is_inside(listing, bundle) {
+                if self.is_inside(listing, bundle, residues) {
                     found.push(listing.place)?;
                 }
             }
@@ -159,10 +173,11 @@ impl<S: GoodsSet> Kept<S> {
             let all = range_with_len 0 (length self.now.atoms.items) in
             IfOk result (λ places. places.items ≡ filter inside all) }
     {
+        let residues = bundle.residues();
         let mut found = Vec::new(alloc);
         let mut from = 0;
         while let Some(good) = bundle.next_from(from) {
-            self.find_listed(good, bundle, &mut found)?;
+            self.find_listed(good, bundle, residues, &mut found)?;
             from = u32::from(good) + 1;
         }
         found.sort_unstable();
@@ -185,15 +200,16 @@ impl<S: GoodsSet> Kept<S> {
     }
 
     /// Whether an atom inside the bundle that is listed at the good has at least the price.
-    fn has_listed(&self, good: u16, bundle: &S, price: u64) -> bool
-        requires { AreListed (lists_of self.now.lists.items) (atoms_of S.goods self.now.atoms.items) }
+    fn has_listed(&self, good: u16, bundle: &S, residues: u64, price: u64) -> bool
+        requires listed { AreListed (lists_of self.now.lists.items) (atoms_of S.goods self.now.atoms.items) }
+        requires residues { AreResidues (S.goods bundle.now) residues }
         ensures { let covering = covers_at (atoms_of S.goods self.now.atoms.items) (S.goods bundle.now) price in
             result ≡ list_any covering (places_at (lists_of self.now.lists.items) good) }
     {
         let good = usize::from(good);
         if good < self.lists.len() {
             for listing in &self.lists[good] {
-                if price <= listing.price && self.is_inside(listing, bundle) {
+                if price <= listing.price && self.is_inside(listing, bundle, residues) {
                     return true;
                 }
             }
@@ -206,9 +222,10 @@ impl<S: GoodsSet> Kept<S> {
         requires { AreListed (lists_of self.now.lists.items) (atoms_of S.goods self.now.atoms.items) }
         ensures { result ≡ list_any (covers (S.goods bundle.now) price) (atoms_of S.goods self.now.atoms.items) }
     {
+        let residues = bundle.residues();
         let mut from = 0;
         while let Some(good) = bundle.next_from(from) {
-            if self.has_listed(good, bundle, price) {
+            if self.has_listed(good, bundle, residues, price) {
                 return true;
             }
             from = u32::from(good) + 1;

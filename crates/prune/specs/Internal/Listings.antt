@@ -5,6 +5,7 @@ use Rattle.std.specs.Global.{Vec}
 use Rattle.std.specs.List.{filter, list_any}
 use Rattle.valuation.specs.declared.atom.Atom.{Atom}
 use Rattle.goods_set.specs.Bundles.{has_good, is_inside}
+use Rattle.goods_set.specs.Residues.{AreResidues}
 use Rattle.prune.specs.declared.kept.Listing.{Listing}
 
 -- for each good what is listed there
@@ -46,10 +47,11 @@ pub record IsListed (lists : List (List Listing)) (bundle : List ℕ) (place : �
   pub has : has_good bundle good ≡ true
   pub listed : Contains (places_at lists good) place
 
--- what is listed is right: the place is that of an atom with the price and the two goods
+-- what is listed is right: the place is that of an atom with the price, the residues and the two goods
 pub record IsListing (atoms : List (Atom (List ℕ))) (listing : Listing) : Type 0 where
   pub within : listing.place < length atoms
   pub price : listing.price ≡ (atom_at atoms listing.place).price
+  pub residues : AreResidues (atom_at atoms listing.place).bundle listing.residues
   pub witness : has_good (atom_at atoms listing.place).bundle listing.witness ≡ true
   pub second : has_good (atom_at atoms listing.place).bundle listing.second ≡ true
 

@@ -1,18 +1,25 @@
+use Rattle.std.proofs.Common.{arith, ◌≡◌, ◌<◌, sym}
+use Rattle.std.proofs.lemmas.Bool.{lt-leb}
 use Rattle.goods_set.specs.Bundles.{is_inside}
-use Rattle.valuation.specs.Values.{atoms_of}
-use Rattle.prune.proofs.PruningLoop.{nonempty_inside, inside_bundle}
+use Rattle.valuation.specs.Values.{atoms_of, or_value}
+use Rattle.valuation.specs.Packings.{price_sum}
+use Rattle.prune.specs.Internal.Listings.{atoms_inside}
+use Rattle.prune.specs.Lemmas.Steps.{cut_steps-short}
+use Rattle.prune.specs.Steps.{cut_steps}
+use Rattle.prune.proofs.PruningLoop.{nonempty_inside, inside_bundle, too_low}
+use Rattle.prune.proofs.ReachingLevels.{or_value-all_prices}
 use Rattle.prune.proofs.or.is_outbid.Goals as goal
 
 pub is_reached_by_places-requires-clause-some : goal.is_reached_by_places-requires-clause-some
 is_reached_by_places-requires-clause-some g c =
     let goods = g.S.GoodsSet.goods in
     nonempty_inside goods c.in_ok-inside.inside.items _ (λ a. is_inside a.bundle (goods c.args.bid.now.bundle)) (atoms_of goods c.args.kept.now.atoms.items)
-    c.deref.ensures.value c.in_ok-inside.ensures c.requires.some
+    c.deref-then-size-cap.ensures.value c.in_ok-inside.ensures c.requires.some
 
 pub is_reached_by_places-requires-clause-inside : goal.is_reached_by_places-requires-clause-inside
 is_reached_by_places-requires-clause-inside g c =
     let goods = g.S.GoodsSet.goods in
-    inside_bundle goods c.in_ok-inside.inside.items _ (goods c.args.bid.now.bundle) (atoms_of goods c.args.kept.now.atoms.items) c.deref.ensures.value
+    inside_bundle goods c.in_ok-inside.inside.items _ (goods c.args.bid.now.bundle) (atoms_of goods c.args.kept.now.atoms.items) c.deref-then-size-cap.ensures.value
     c.in_ok-inside.ensures
 
 pub is_reached-requires : goal.is_reached-requires
@@ -20,3 +27,25 @@ is_reached-requires g c =
     let goods = g.S.GoodsSet.goods in
     nonempty_inside goods c.in_ok-inside.inside.items _ (λ a. is_inside a.bundle (goods c.args.bid.now.bundle)) (atoms_of goods c.args.kept.now.atoms.items)
     c.deref-2.ensures.value c.in_ok-inside.ensures c.requires.some
+
+pub returns-then-all_prices-from-clause-answer : goal.returns-then-all_prices-from-clause-answer
+returns-then-all_prices-from-clause-answer g c =
+    let goods = g.S.GoodsSet.goods in
+    let bundle = goods c.args.bid.now.bundle in
+    let price = c.args.bid.now.price in
+    let inside = atoms_inside (atoms_of goods c.args.kept.now.atoms.items) bundle in
+    let short : price_sum inside < price = too_low goods c.in_ok-inside.inside.items _ bundle price (atoms_of goods c.args.kept.now.atoms.items)
+    c.deref.ensures.value c.in_ok-inside.ensures (omega (arith, c.all_prices.ensures, c.from.ensures, c.if-all_prices-from.true)) in
+    sym (lt-leb price (or_value inside bundle) (omega (arith, short, or_value-all_prices inside bundle)))
+
+pub returns-then-all_prices-from-clause-within : goal.returns-then-all_prices-from-clause-within
+returns-then-all_prices-from-clause-within g c =
+    let goods = g.S.GoodsSet.goods in
+    let bundle = goods c.args.bid.now.bundle in
+    let price = c.args.bid.now.price in
+    let inside = atoms_inside (atoms_of goods c.args.kept.now.atoms.items) bundle in
+    let short : price_sum inside < price = too_low goods c.in_ok-inside.inside.items _ bundle price (atoms_of goods c.args.kept.now.atoms.items)
+    c.deref.ensures.value c.in_ok-inside.ensures (omega (arith, c.all_prices.ensures, c.from.ensures, c.if-all_prices-from.true)) in
+    let steps : cut_steps inside bundle price ≡ 0 = cut_steps-short inside bundle price short in
+    let left = c.spend.ensures.left.0 c.if-not-spend.false in
+    omega (arith, steps, left, c.new-budget.ensures.used, c.new-budget.ensures.limit)

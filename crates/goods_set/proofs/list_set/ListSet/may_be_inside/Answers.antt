@@ -1,9 +1,9 @@
-use Rattle.std.proofs.Common.{arith}
-use Rattle.goods_set.proofs.Residues.{may_be_inside}
+use Rattle.goods_set.proofs.Residues.{AreResidues-of}
 use Rattle.goods_set.proofs.list_set.ListSet.may_be_inside.Goals as goal
 
 pub returns : goal.returns
 returns c i =
     let s = c.args.self.now in
     let t = c.args.other.now in
-    may_be_inside s.residues t.residues s.goods.items t.goods.items (omega arith) (omega arith) s.marked t.marked i
+    c.may_be_inside.ensures s.goods.items t.goods.items (AreResidues-of s.residues s.goods.items s.marked)
+    (AreResidues-of t.residues t.goods.items t.marked) i

@@ -6,19 +6,19 @@ use Rattle.prune.proofs.ListedAtoms.{place_of, listed_there, places_get, listing
 use Rattle.prune.proofs.kept.Kept.find_listed.Goals as goal
 use Rattle.prune.proofs.kept.Kept.find_listed.Goals.{then-is_inside+in_ok-push, else-is_inside}
 
-pub is_inside-requires : goal.is_inside-requires
-is_inside-requires g c =
+pub is_inside-requires-clause-listing : goal.is_inside-requires-clause-listing
+is_inside-requires-clause-listing g c =
     let goods = g.S.GoodsSet.goods in
     let kept = c.args.self.now in
     let there = listed_there kept.lists.items c.from-good.result c.index.result.now (omega (arith, c.if-good-len.true, c.len.ensures, kept.lists.ok.0))
     c.index.ensures in
     listing_index (lists_of kept.lists.items) (atoms_of goods kept.atoms.items) c.from-good.result c.deref-listing-items.result.now c.loop-listing.listing-index
-    _ c.requires (there ∙ sym c.deref-listing-items.ensures.value) c.loop-listing-test.true
+    _ c.requires.listed (there ∙ sym c.deref-listing-items.ensures.value) c.loop-listing-test.true
 
 pub loop-listing-preserved : goal.loop-listing-preserved
 loop-listing-preserved g c =
     let goods = g.S.GoodsSet.goods in
-    let d : Listing = record { place = 0; price = 0; witness = 0; second = 0 } in
+    let d : Listing = record { place = 0; price = 0; residues = 0; witness = 0; second = 0 } in
     let listed = c.deref-listing-items.result.now in
     let p = is_inside_at (atoms_of goods c.args.self.now.atoms.items) (goods c.args.bundle.now) in
     let place = (get_or listed c.loop-listing.listing-index d).place in

@@ -8,14 +8,14 @@ use Rattle.prune.proofs.ListedAtoms.{place_of, listed_there, places_get, listing
 use Rattle.prune.proofs.kept.Kept.has_listed.Goals as goal
 use Rattle.prune.proofs.kept.Kept.has_listed.Goals.{else-price-listing-via-then-price-listing+else-is_inside, else-price-listing-via-else-price-listing}
 
-pub is_inside-requires : goal.is_inside-requires
-is_inside-requires g c =
+pub is_inside-requires-clause-listing : goal.is_inside-requires-clause-listing
+is_inside-requires-clause-listing g c =
     let goods = g.S.GoodsSet.goods in
     let kept = c.args.self.now in
     let there = listed_there kept.lists.items c.from-good.result c.index.result.now (omega (arith, c.if-good-len.true, c.len.ensures, kept.lists.ok.0))
     c.index.ensures in
     listing_index (lists_of kept.lists.items) (atoms_of goods kept.atoms.items) c.from-good.result c.deref-listing-items.result.now c.loop-listing.listing-index
-    _ c.requires (there ∙ sym c.deref-listing-items.ensures.value) c.loop-listing-test.true
+    _ c.requires.listed (there ∙ sym c.deref-listing-items.ensures.value) c.loop-listing-test.true
 
 pub returns-then-is_inside : goal.returns-then-is_inside
 returns-then-is_inside g c =
@@ -23,13 +23,13 @@ returns-then-is_inside g c =
     let kept = c.args.self.now in
     let there = listed_there kept.lists.items c.from-good.result c.index.result.now (omega (arith, c.if-good-len.true, c.len.ensures, kept.lists.ok.0))
     c.index.ensures in
-    let d : Listing = record { place = 0; price = 0; witness = 0; second = 0 } in
+    let d : Listing = record { place = 0; price = 0; residues = 0; witness = 0; second = 0 } in
     let atoms = atoms_of goods kept.atoms.items in
     let bundle = goods c.args.bundle.now in
     let listed = c.deref-listing-items.result.now in
     let i = c.loop-listing.listing-index in
     let is = ap (listed_at (lists_of kept.lists.items)) (sym c.from-good.ensures) ∙ there ∙ sym c.deref-listing-items.ensures.value in
-    let right = listing_index (lists_of kept.lists.items) atoms c.args.good listed i d c.requires is c.loop-listing-test.true in
+    let right = listing_index (lists_of kept.lists.items) atoms c.args.good listed i d c.requires.listed is c.loop-listing-test.true in
     let covering = covers_listed atoms bundle c.args.price (get_or listed i d) right c.if-price-listing.true (sym c.is_inside.ensures ∙ c.if-is_inside.true) in
     sym (one_listed (lists_of kept.lists.items) c.args.good listed i d (covers_at atoms bundle c.args.price) is c.loop-listing-test.true covering)
 
@@ -39,12 +39,12 @@ loop-listing-preserved g c =
     let kept = c.args.self.now in
     let there = listed_there kept.lists.items c.from-good.result c.index.result.now (omega (arith, c.if-good-len.true, c.len.ensures, kept.lists.ok.0))
     c.index.ensures in
-    let d : Listing = record { place = 0; price = 0; witness = 0; second = 0 } in
+    let d : Listing = record { place = 0; price = 0; residues = 0; witness = 0; second = 0 } in
     let atoms = atoms_of goods kept.atoms.items in
     let bundle = goods c.args.bundle.now in
     let listed = c.deref-listing-items.result.now in
     let i = c.loop-listing.listing-index in
-    let right = listing_index (lists_of kept.lists.items) atoms c.from-good.result listed i d c.requires (there ∙ sym c.deref-listing-items.ensures.value)
+    let right = listing_index (lists_of kept.lists.items) atoms c.from-good.result listed i d c.requires.listed (there ∙ sym c.deref-listing-items.ensures.value)
     c.loop-listing-test.true in
     let at = places_get listed i d c.loop-listing-test.true in
     let misses : covers_at atoms bundle c.args.price (get_or listed i d).place ≡ false =

@@ -1,9 +1,11 @@
 use Rattle.std.proofs.Common.{sym, ◌∙◌}
+use Rattle.std.proofs.lemmas.Bool.{both_ways, false_from_ne_true}
+use Rattle.goods_set.specs.Bundles.{is_inside}
 use Rattle.valuation.specs.Values.{atoms_of}
 use Rattle.prune.specs.Internal.Listings.{atom_at}
 use Rattle.prune.proofs.ListedAtoms.{lacks_outside}
 use Rattle.prune.proofs.kept.Kept.is_inside.Goals as goal
-use Rattle.prune.proofs.kept.Kept.is_inside.Goals.{then-has, else-has}
+use Rattle.prune.proofs.kept.Kept.is_inside.Goals.{then-may_be_inside, else-may_be_inside, then-has, else-has}
 
 pub returns-else-has-2 : goal.returns-else-has-2
 returns-else-has-2 g c =
@@ -12,8 +14,14 @@ returns-else-has-2 g c =
     let atom = atom_at (atoms_of goods c.args.self.now.atoms.items) listing.place in
     elim c.if-has.branch [
       | then-has w ↦ c.if-has-2.false
-          ∙ sym (lacks_outside atom.bundle (goods c.args.bundle.now) listing.second c.requires.second (sym w.has-then-has.ensures ∙ sym w.value-is
+          ∙ sym (lacks_outside atom.bundle (goods c.args.bundle.now) listing.second c.requires.listing.second (sym w.has-then-has.ensures ∙ sym w.value-is
           ∙ c.if-has-2.false))
-      | else-has w ↦ c.if-has-2.false
-          ∙ sym (lacks_outside atom.bundle (goods c.args.bundle.now) listing.witness c.requires.witness (sym c.has.ensures ∙ w.if-has.false))
+      | else-has w ↦ elim c.if-may_be_inside.branch [
+        | then-may_be_inside v ↦ c.if-has-2.false
+            ∙ sym (lacks_outside atom.bundle (goods c.args.bundle.now) listing.witness c.requires.listing.witness (sym v.has.ensures ∙ sym v.value-is
+            ∙ w.if-has.false))
+        | else-may_be_inside v ↦ c.if-has-2.false
+            ∙ sym (false_from_ne_true (is_inside atom.bundle (goods c.args.bundle.now)) (λ i. both_ways c.may_be_inside.result v.if-may_be_inside.false
+            (c.may_be_inside.ensures atom.bundle (goods c.args.bundle.now) c.requires.listing.residues c.requires.residues i)))
+      ]
     ]

@@ -1,6 +1,7 @@
 -- What is chosen so far are goods of the bundle, and the next one is too; a bundle with goods has a first one, so some were chosen.
 use Rattle.std.proofs.Common.{arith, ◌≡◌, None, true, sym, ap, ◌∙◌, ⊎_elim, subst, inr}
 use Rattle.goods_set.specs.Bundles.{has_good, good_from}
+use Rattle.goods_set.specs.Residues.{AreResidues}
 use Rattle.prune.specs.declared.kept.Listing.{Listing}
 use Rattle.prune.proofs.ListedAtoms.{next_is_further, next_is_had, some_from_zero}
 use Rattle.prune.proofs.kept.Kept.listing_of.Goals as goal
@@ -21,13 +22,15 @@ loop-good-preserved g c =
     let had : has_good bundle c.in-Some.good ≡ true = next_is_had bundle c.loop-good.from c.in-Some.good (g.met.S.GoodsSet.is_bundle c.args.atom.now.bundle).0
     (sym c.in-Some.ensures) in
     let first : (has_good bundle c.if-from-eq0.best ≡ true) × (has_good bundle c.if-from-eq0.listing.witness ≡ true)
-    × (c.if-from-eq0.listing.place ≡ c.loop-good.listing.place) × (c.if-from-eq0.listing.price ≡ c.loop-good.listing.price) =
+    × (c.if-from-eq0.listing.place ≡ c.loop-good.listing.place) × (c.if-from-eq0.listing.price ≡ c.loop-good.listing.price)
+    × (c.if-from-eq0.listing.residues ≡ c.loop-good.listing.residues) =
     elim c.if-from-eq0.branch [
       | then-from-eq0 w ↦ (
         ap (has_good bundle) w.best-is ∙ had,
         ap (λ (z : Listing). has_good bundle z.witness) w.listing-is ∙ had,
         ap (λ (z : Listing). z.place) w.listing-is,
         ap (λ (z : Listing). z.price) w.listing-is,
+        ap (λ (z : Listing). z.residues) w.listing-is,
       )
       | else-from-eq0 w ↦
           let before : (has_good bundle c.loop-good.best ≡ true) × (has_good bundle c.loop-good.listing.witness ≡ true)
@@ -36,12 +39,14 @@ loop-good-preserved g c =
             ap (λ (z : Listing). has_good bundle z.witness) w.listing-is ∙ before.1,
             ap (λ (z : Listing). z.place) w.listing-is,
             ap (λ (z : Listing). z.price) w.listing-is,
+            ap (λ (z : Listing). z.residues) w.listing-is,
           )
     ] in
     elim c.if-count-fewest.branch [
       | then-count-fewest w ↦ record {
         place = ap (λ (z : Listing). z.place) w.listing-is ∙ first.2 ∙ h.place;
         price = ap (λ (z : Listing). z.price) w.listing-is ∙ first.3 ∙ h.price;
+        residues = subst (λ bits. AreResidues bundle bits) (sym (ap (λ (z : Listing). z.residues) w.listing-is ∙ first.4)) h.residues;
         chosen = inr (
           ap (has_good bundle) w.best-is ∙ had,
           ap (λ (z : Listing). has_good bundle z.witness) w.listing-is ∙ first.0,
@@ -51,6 +56,7 @@ loop-good-preserved g c =
       | else-count-fewest w ↦ record {
         place = ap (λ (z : Listing). z.place) w.listing-is ∙ first.2 ∙ h.place;
         price = ap (λ (z : Listing). z.price) w.listing-is ∙ first.3 ∙ h.price;
+        residues = subst (λ bits. AreResidues bundle bits) (sym (ap (λ (z : Listing). z.residues) w.listing-is ∙ first.4)) h.residues;
         chosen = inr (
           ap (has_good bundle) w.best-is ∙ first.0,
           ap (λ (z : Listing). has_good bundle z.witness) w.listing-is ∙ had,
