@@ -33,7 +33,7 @@ use crate::word::{Keyword, Word};
 use std::alloc::{AllocError, AllocFailed, Global};
 
 /// Why parsing stops.
-#[derive(Clone, Copy, PartialEq, Eq, Debug)]
+#[derive(Clone, Copy)]
 pub enum Stop {
     /// A fault of the text.
     Fault(Kind),
@@ -64,7 +64,7 @@ impl<T: Drop> From<AllocFailed<T>> for Stop {
 }
 
 /// What is kept of the bids that come.
-#[derive(Clone, Copy, PartialEq, Eq, Debug)]
+#[derive(Clone, Copy)]
 pub enum Keeping {
     /// The bids.
     Bids,
@@ -73,7 +73,7 @@ pub enum Keeping {
 }
 
 /// Which significant line it is.
-#[derive(Clone, Copy, PartialEq, Eq, Debug)]
+#[derive(Clone, Copy, PartialEq, Eq)]
 pub enum Stage {
     Goods,
     Bids,
@@ -82,7 +82,7 @@ pub enum Stage {
 }
 
 /// Which word of the line is due.
-#[derive(Clone, Copy, PartialEq, Eq, Debug)]
+#[derive(Clone, Copy, PartialEq, Eq)]
 pub enum Place {
     First,
     Second,
@@ -100,7 +100,7 @@ pub struct Header {
 }
 
 /// The bid whose line is being read, without its goods.
-#[derive(Clone, Copy, PartialEq, Eq, Debug)]
+#[derive(Clone, Copy)]
 pub struct Draft {
     pub number: u32,
     pub price: u64,

@@ -49,7 +49,7 @@ use crate::word::Word;
 use std::alloc::Global;
 
 /// Why scanning stops.
-#[derive(Clone, Copy, PartialEq, Eq, Debug)]
+#[derive(Clone, Copy)]
 pub enum Halt {
     /// The text has this fault.
     Fault(ReadFault),
@@ -70,7 +70,7 @@ impl Halt {
 }
 
 /// Where in a line the scanner is.
-#[derive(Clone, Copy, PartialEq, Eq, Debug)]
+#[derive(Clone, Copy, PartialEq, Eq)]
 pub enum Mode {
     /// Before its first byte.
     Start,

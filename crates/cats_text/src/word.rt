@@ -4,7 +4,7 @@ ghost use Rattle.std.specs.Prelude.{◌≡◌, ◌≤◌};
 ghost use Rattle.cats_text.specs.Internal.Keywords.{keyword_text, place_value_of};
 
 /// The words that begin the header lines.
-#[derive(Clone, Copy, PartialEq, Eq, Debug)]
+#[derive(Clone, Copy, PartialEq, Eq)]
 pub enum Keyword {
     Goods,
     Bids,
@@ -27,7 +27,7 @@ impl Keyword {
 pub const HELD: u64 = 10_000_000_000_000;
 
 /// Digits, a point, and perhaps digits.
-#[derive(Clone, Copy, PartialEq, Eq, Debug)]
+#[derive(Clone, Copy, PartialEq, Eq)]
 pub struct Decimal {
     /// The digits before the point, held like any number.
     pub whole: u64,
@@ -80,7 +80,7 @@ impl Decimal {
 }
 
 /// A word so far.
-#[derive(Clone, Copy, PartialEq, Eq, Debug)]
+#[derive(Clone, Copy, PartialEq, Eq)]
 pub enum Word {
     /// So many bytes of a keyword.
     Keyword(Keyword, usize),
