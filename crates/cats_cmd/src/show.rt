@@ -10,6 +10,7 @@ use crate::run::{read_file, send_text};
 use cats_text::{Watched, write};
 use std::alloc::Global;
 use std::io::{Read, Write};
+use std::mem;
 
 /// Reads a bid file, and sends it in the layout that `cats_text::write` has.
 pub fn run_show<R: Read, W: Write>(
@@ -24,5 +25,7 @@ pub fn run_show<R: Read, W: Write>(
 {
     let file = read_file(alloc, input)?;
     let text = write(alloc, &file)?;
+    // To free one bid after another takes longer than the process's end.
+    mem::forget(file);
     send_text(out, DONE, text.as_slice())
 }

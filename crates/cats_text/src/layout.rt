@@ -1,7 +1,7 @@
 //! Bid files as text.
 
-ghost use Rattle.std.specs.Prelude.{◌≡◌, ◌+◌, ◌%◌, ◌++◌, [], ◌∷◌, ◌<◌, IfOk, OnOk, decimal};
-ghost use Rattle.cats_text.specs.Files.{PlainBid, plain_bids};
+ghost use Rattle.std.specs.Prelude.{◌≡◌, ◌+◌, ◌*◌, ◌++◌, ◌∷◌, ◌<◌, ◌≤◌, length, drop, codes, IfOk, OnOk, decimal};
+ghost use Rattle.cats_text.specs.Files.{PlainBid, plain_bids, dummy_good};
 ghost use Rattle.cats_text.specs.Views.{plain_file};
 ghost use Rattle.cats_text.specs.Grammar.{Spells};
 ghost use Rattle.cats_text.specs.Layout.{
@@ -10,17 +10,18 @@ ghost use Rattle.cats_text.specs.Layout.{
   headers_text,
   bid_text,
   bids_text,
+  tabbed,
   price_text,
   places_text,
   without_zeros,
 };
 
 use crate::bid::{Bid, BidFile};
-use itoa::{Buffer, Integer};
+use itoa::{Buffer, Integer, write_digits};
 use std::alloc::{AllocError, Global};
 
 /// Millionths in a whole.
-const MILLION: u32 = 1_000_000;
+const MILLION: u64 = 1_000_000;
 
 /// The text of a file: its header, then its bids in order of number, each with its goods rising and its dummy good
 /// last. Words are joined by single tabs in a bid line and by a space in a header line; nothing else stands there.
@@ -52,23 +53,6 @@ fn room_for(bids: &[Bid]) -> usize {
         room = room.saturating_add(LINE).saturating_add(goods);
     }
     room
-}
-
-/// Appends a price, given in millionths: its whole part, then, where millionths are left, a point and their digits
-/// without zeros at the end. Where memory is refused, some of it may stand there.
-pub fn push_price(out: &mut Vec<u8>, millionths: u128) -> Result<(), AllocError>
-    ensures { OnOk result (out.new.items ≡ out.old.items ++ price_text millionths) }
-{
-    push_number(out, millionths / u128::from(MILLION))?;
-    push_places(out, (millionths % u128::from(MILLION)) as u32)
-}
-
-/// As `push_price`, of a price that fits 64 bits: their division is the faster one.
-fn push_small_price(out: &mut Vec<u8>, millionths: u64) -> Result<(), AllocError>
-    ensures { OnOk result (out.new.items ≡ out.old.items ++ price_text millionths) }
-{
-    push_small(out, millionths / u64::from(MILLION))?;
-    push_places(out, (millionths % u64::from(MILLION)) as u32)
 }
 
 /// Appends the header of a file with so many goods, bids and dummy goods. Where memory is refused, some of it may stand
@@ -126,72 +110,95 @@ pub fn push_bid(
     ensures { let bid : PlainBid = record { price = price; goods = bundle.now; dummy = dummy } in
         OnOk result (out.new.items ≡ out.old.items ++ bid_text goods number bid) }
 {
-    push_number(out, number)?;
-    out.push(b'\t')?;
-    push_small_price(out, price)?;
-    for good in bundle {
-        push_good(out, u64::from(*good))?;
+    push_offer(out, number, price)?;
+    let mut left = bundle;
+    while left.len() > RUN {
+        let (run, rest) = left.split_at(RUN);
+        push_run(out, run)?;
+        left = rest;
     }
+    push_last_run(out, goods, left, dummy)
+}
+
+/// The bytes that a number, a tab and a price have at most.
+const OFFER: usize = 48;
+
+/// The number and the price of a bid.
+fn push_offer(out: &mut Vec<u8>, number: usize, price: u64) -> Result<(), AllocError>
+    ensures { OnOk result (out.new.items ≡ out.old.items ++ (decimal number ++ 9 ∷ price_text price)) }
+{
+    let mut text = [0; OFFER];
+    let tab = write_price(price, &mut text, OFFER) - 1;
+    text[tab] = b'\t';
+    let start = write_digits(number as u64, &mut text, tab);
+    out.extend_from_slice(&text[start..])
+}
+
+/// So many goods of a bid get their text at once, which is then appended in one go.
+const RUN: usize = 32;
+
+/// The bytes that these goods have at most, each with its tab, and those of the last ones with a dummy good and the
+/// end of the line.
+const RUN_TEXT: usize = 192;
+
+const LAST_TEXT: usize = 208;
+
+fn push_run(out: &mut Vec<u8>, goods: &[u16]) -> Result<(), AllocError>
+    requires { length goods.now ≤ 32 }
+    ensures { OnOk result (out.new.items ≡ out.old.items ++ tabbed goods.now) }
+{
+    let mut text = [0; RUN_TEXT];
+    let start = write_goods(goods, &mut text, RUN_TEXT);
+    out.extend_from_slice(&text[start..])
+}
+
+/// The last goods of a bid, its dummy good, and the end of its line.
+fn push_last_run(
+    out: &mut Vec<u8>,
+    goods: u16,
+    run: &[u16],
+    dummy: Option<u32>,
+) -> Result<(), AllocError>
+    requires { length run.now ≤ 32 }
+    ensures { OnOk result (out.new.items ≡ out.old.items ++ (tabbed (run.now ++ dummy_good goods dummy) ++ codes "\t#\n")) }
+{
+    let mut text = [0; LAST_TEXT];
+    let mut end = LAST_TEXT - 3;
+    text[end] = b'\t';
+    text[end + 1] = b'#';
+    text[end + 2] = b'\n';
     if let Some(dummy) = dummy {
-        push_good(out, u64::from(goods) + u64::from(dummy))?;
+        end = write_good(u64::from(goods) + u64::from(dummy), &mut text, end);
     }
-    out.extend_from_slice(b"\t#\n")
+    let start = write_goods(run, &mut text, end);
+    out.extend_from_slice(&text[start..])
 }
 
-fn push_good(out: &mut Vec<u8>, good: u64) -> Result<(), AllocError>
-    ensures { OnOk result (out.new.items ≡ out.old.items ++ 9 ∷ decimal good) }
+/// Writes goods, each behind a tab, so that their text ends at `end`, and tells where it starts.
+fn write_goods(goods: &[u16], text: &mut [u8], end: usize) -> usize
+    requires room { 6 * length goods.now ≤ end }
+    requires inside { end ≤ length text.old }
+    ensures start { result ≤ end }
+    ensures written { drop result text.new ≡ tabbed goods.now ++ drop end text.old }
 {
-    out.push(b'\t')?;
-    push_small(out, good)
-}
-
-/// A number with at most four digits is below it.
-const SHORT: u64 = 10_000;
-
-/// As `push_number`. Most numbers of a file are short.
-fn push_small(out: &mut Vec<u8>, number: u64) -> Result<(), AllocError>
-    ensures { OnOk result (out.new.items ≡ out.old.items ++ decimal number) }
-{
-    if number < SHORT {
-        return push_short(out, number);
+    let mut left = goods;
+    let mut start = end;
+    while let [front @ .., good] = left {
+        start = write_good(u64::from(*good), text, start);
+        left = front;
     }
-    push_number(out, number)
+    start
 }
 
-/// Appends the digits of a short number one by one, which takes less time than to gather them first.
-fn push_short(out: &mut Vec<u8>, number: u64) -> Result<(), AllocError>
-    requires { number < 10000 }
-    ensures { OnOk result (out.new.items ≡ out.old.items ++ decimal number) }
+fn write_good(good: u64, text: &mut [u8], end: usize) -> usize
+    requires room { length (decimal good) < end }
+    requires inside { end ≤ length text.old }
+    ensures start { result + length (decimal good) + 1 ≡ end }
+    ensures written { drop result text.new ≡ (9 ∷ decimal good) ++ drop end text.old }
 {
-    if number < 100 {
-        return push_pair(out, number);
-    }
-    push_pair(out, number / 100)?;
-    push_last_digit(out, number / 10)?;
-    push_last_digit(out, number)?;
-    Ok(())
-}
-
-/// Appends the digits of a number that has one or two.
-#[tactic(auto, using(crate::proofs::Writing::SixDigits::one_digit))]
-fn push_pair(out: &mut Vec<u8>, number: u64) -> Result<(), AllocError>
-    requires { number < 100 }
-    ensures { OnOk result (out.new.items ≡ out.old.items ++ decimal number) }
-{
-    if number < 10 {
-        out.push(b'0' + number as u8)?;
-        return Ok(());
-    }
-    push_last_digit(out, number / 10)?;
-    push_last_digit(out, number)?;
-    Ok(())
-}
-
-fn push_last_digit(out: &mut Vec<u8>, number: u64) -> Result<(), AllocError>
-    ensures { OnOk result (out.new.items ≡ out.old.items ++ (48 + number % 10) ∷ []) }
-{
-    out.push(b'0' + (number % 10) as u8)?;
-    Ok(())
+    let tab = write_digits(good, text, end) - 1;
+    text[tab] = b'\t';
+    tab
 }
 
 fn push_number<I: Integer>(out: &mut Vec<u8>, number: I) -> Result<(), AllocError>
@@ -200,28 +207,53 @@ fn push_number<I: Integer>(out: &mut Vec<u8>, number: I) -> Result<(), AllocErro
     out.extend_from_slice(Buffer::new().format(number).as_bytes())
 }
 
-/// The point and the digits behind it, if there are any.
-fn push_places(out: &mut Vec<u8>, millionths: u32) -> Result<(), AllocError>
-    requires { millionths < 1000000 }
-    ensures { OnOk result (out.new.items ≡ out.old.items ++ places_text millionths) }
+/// Appends a price, given in millionths: its whole part, then, where millionths are left, a point and their digits
+/// without zeros at the end. Where memory is refused, some of it may stand there.
+pub fn push_price(out: &mut Vec<u8>, millionths: u128) -> Result<(), AllocError>
+    ensures { OnOk result (out.new.items ≡ out.old.items ++ price_text millionths) }
 {
-    if millionths == 0 {
-        return Ok(());
-    }
-    let mut buffer = Buffer::new();
-    let digits = buffer.format(MILLION + millionths).as_bytes();
-    out.push(b'.')?;
-    out.extend_from_slice(without_zeros(&digits[1..]))
+    push_number(out, millionths / u128::from(MILLION))?;
+    let mut text = [0; 7];
+    let start = write_places((millionths % u128::from(MILLION)) as u64, &mut text, 7);
+    out.extend_from_slice(&text[start..])
 }
 
-/// The digits without the zeros at their end.
-#[tactic(auto, using(crate::proofs::Writing::Zeros::without_zeros_front, crate::proofs::Writing::Zeros::without_zeros_whole))]
-fn without_zeros(digits: &[u8]) -> &[u8]
-    ensures { result.now ≡ without_zeros digits.now }
+/// Writes a price that fits 64 bits, so that its text ends at `end`, and tells where it starts.
+fn write_price(millionths: u64, text: &mut [u8], end: usize) -> usize
+    requires room { 27 ≤ end }
+    requires inside { end ≤ length text.old }
+    ensures start { (result < end) × (end ≤ result + 27) }
+    ensures written { drop result text.new ≡ price_text millionths ++ drop end text.old }
 {
-    let mut left = digits;
-    while let [front @ .., b'0'] = left {
-        left = front;
+    let point = write_places(millionths % MILLION, text, end);
+    write_digits(millionths / MILLION, text, point)
+}
+
+/// The point and the digits behind it, if there are any.
+fn write_places(millionths: u64, text: &mut [u8], end: usize) -> usize
+    requires places { millionths < 1000000 }
+    requires room { 7 ≤ end }
+    requires inside { end ≤ length text.old }
+    ensures start { (result ≤ end) × (end ≤ result + 7) }
+    ensures written { drop result text.new ≡ places_text millionths ++ drop end text.old }
+{
+    if millionths == 0 {
+        return end;
+    }
+    let point = write_digits(without_zeros(MILLION + millionths), text, end);
+    text[point] = b'.';
+    point
+}
+
+/// The number whose digits are those of this one without the zeros at their end.
+fn without_zeros(number: u64) -> u64
+    requires { 0 < number }
+    ensures digits { decimal result ≡ without_zeros (decimal number) }
+    ensures size { (0 < result) × (result ≤ number) }
+{
+    let mut left = number;
+    while left % 10 == 0 {
+        left /= 10;
     }
     left
 }

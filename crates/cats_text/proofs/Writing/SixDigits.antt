@@ -1,12 +1,13 @@
 -- The six digits behind the point: what they spell, and that taking away the zeros at their end loses nothing.
-use Rattle.std.proofs.Common.{◌≡◌, ℕ, zero, suc, ◌+◌, ◌-◌, ◌*◌, ◌/◌, ◌%◌, ◌^◌, ◌<◌, ◌≤◌, true, eqb, List, [], ◌∷◌, ◌++◌, length, take, drop, replicate, decimal, refl, sym, ap, subst, ◌∙◌, inl, inr, arith, append_assoc}
+use Rattle.std.proofs.Common.{◌≡◌, ℕ, zero, suc, ◌+◌, ◌-◌, ◌*◌, ◌^◌, ◌<◌, ◌≤◌, true, eqb, [], ◌∷◌, ◌++◌, length, take, drop, replicate, decimal, refl, sym, ap, subst, ◌∙◌, inl, inr, arith}
 use Rattle.std.specs.Fmt.{digits}
 use Rattle.std.proofs.lemmas.Bool.{and_parts, and_from, cases_lt, cases_eq, cond-false, cond_both, ne_eqb}
 use Rattle.std.proofs.lemmas.Str.Parse.{digits_value_short}
-use Rattle.std.proofs.lemmas.Fmt.{length-decimal-le, digits_decimal, decimal_digit, decimal_step}
+use Rattle.std.proofs.lemmas.Fmt.{length-decimal-le, digits_decimal}
 use Rattle.cats_text.specs.Lines.{Word}
 use Rattle.cats_text.specs.Numbers.{is_digit, digits_alone, number_of, six_places}
 use Rattle.cats_text.specs.Layout.{with_place, without_zeros, six_digits, behind_point, places_text}
+use Rattle.cats_text.proofs.Writing.Zeros.{drop_without_zeros}
 use Rattle.cats_text.proofs.Writing.Numerals.{numerals, decimal_spells, number_of-cons}
 
 -- six digits of this value
@@ -104,27 +105,8 @@ places_text_some n some places =
     let six = six_digits_spell n places in
     some_places (without_zeros (six_digits n)) n (ap number_of (six_places-without_zeros (six_digits n) six.long) ∙ six.value) some
 
--- ---- a short number, digit by digit
-
-pub one_digit : (out new : List ℕ) (n : ℕ) → n < 10 → new ≡ out ++ (48 + n) ∷ [] → new ≡ out ++ decimal n
-one_digit out new n l e = e ∙ ap (λ ds. out ++ ds) (sym (decimal_digit n l))
-
-digit_behind : (out front new : List ℕ) (n : ℕ) → 10 ≤ n → n < 10000 → front ≡ out ++ decimal (n / 10) → new ≡ front ++ (48 + n % 10) ∷ []
-    → new ≡ out ++ decimal n
-digit_behind out front new n l short e f =
-    f ∙ ap (λ ds. ds ++ (48 + n % 10) ∷ []) e ∙ append_assoc out (decimal (n / 10)) ((48 + n % 10) ∷ [])
-    ∙ ap (λ ds. out ++ ds) (sym (decimal_step n l (omega arith)))
-
-pub two_digits : (out front new : List ℕ) (n : ℕ) → 10 ≤ n → n < 100 → front ≡ out ++ (48 + n / 10 % 10) ∷ [] → new ≡ front ++ (48 + n % 10) ∷ []
-    → new ≡ out ++ decimal n
-two_digits out front new n l short e f =
-    let one : n / 10 < 10 = omega arith in
-    let same : n / 10 % 10 ≡ n / 10 = omega arith in
-    digit_behind out front new n l (omega arith) (e ∙ ap (λ d. out ++ (48 + d) ∷ []) same ∙ ap (λ ds. out ++ ds) (sym (decimal_digit (n / 10) one))) f
-
-pub two_digits_behind : (out first second new : List ℕ) (n : ℕ) → 100 ≤ n → n < 10000 → first ≡ out ++ decimal (n / 100)
-    → second ≡ first ++ (48 + n / 10 % 10) ∷ [] → new ≡ second ++ (48 + n % 10) ∷ [] → new ≡ out ++ decimal n
-two_digits_behind out first second new n l short e f h =
-    let same : n / 100 ≡ n / 10 / 10 = omega arith in
-    let more : 10 ≤ n / 10 = omega arith in
-    digit_behind out second new n (omega arith) short (digit_behind out first second (n / 10) more (omega arith) (e ∙ ap (λ m. out ++ decimal m) same) f) h
+-- the point in place of the first digit of the seven
+pub places_written : (shown n : ℕ) → 0 < n → n < 1000000 → decimal shown ≡ without_zeros (decimal (1000000 + n))
+    → 46 ∷ drop 1 (decimal shown) ≡ places_text n
+places_written shown n some places e =
+    ap (λ ds. 46 ∷ drop 1 ds) e ∙ ap (λ ds. 46 ∷ ds) (drop_without_zeros (decimal (1000000 + n))) ∙ sym (places_text_some n some places)

@@ -1,7 +1,7 @@
 -- The zeros at the end of digits.
-use Rattle.std.proofs.Common.{◌≡◌, ◌≢◌, ℕ, ◌+◌, ◌-◌, ◌<◌, ◌≤◌, List, [], ◌∷◌, ◌++◌, length, take, get_or, refl, sym, ap, ◌∙◌, arith, length-append}
-use Rattle.std.proofs.lemmas.Bool.{cond-false, ne_eqb}
-use Rattle.std.proofs.lemmas.List.{take_more, take_all}
+use Rattle.std.proofs.Common.{◌≡◌, ◌≢◌, ℕ, ◌+◌, ◌/◌, ◌%◌, ◌^◌, ◌<◌, List, [], ◌∷◌, ◌++◌, length, drop, eqb, decimal, refl, sym, ap, ◌∙◌, inl, inr, arith, length-append}
+use Rattle.std.proofs.lemmas.Bool.{cases_lt, cond-false, cond_both, ne_eqb}
+use Rattle.std.proofs.lemmas.Fmt.{decimal_digit, decimal_step}
 use Rattle.cats_text.specs.Layout.{with_place, without_zeros}
 
 without_zeros_push : (xs : List ℕ) → without_zeros (xs ++ 48 ∷ []) ≡ without_zeros xs
@@ -17,22 +17,31 @@ without_zeros_stops [] b other = cond-false _ [] (b ∷ []) (ne_eqb b 48 other)
 without_zeros_stops (x ∷ xs) b other =
     ap (with_place x) (without_zeros_stops xs b other) ∙ with_place-more x (xs ++ b ∷ []) (omega (arith, length-append xs (b ∷ [])))
 
-front_and_last : (xs : List ℕ) → 1 ≤ length xs → xs ≡ take (length xs - 1) xs ++ get_or xs (length xs - 1) 0 ∷ []
-front_and_last xs some =
-    let there : length xs - 1 < length xs = omega arith in
-    let whole : length xs ≤ length xs - 1 + 1 = omega arith in
-    sym (take_all (length xs - 1 + 1) xs whole) ∙ take_more xs (length xs - 1) 0 there
-
 -- a zero at the end goes
-pub without_zeros_front : (xs : List ℕ) → 1 ≤ length xs → get_or xs (length xs - 1) 0 ≡ 48 → without_zeros (take (length xs - 1) xs) ≡ without_zeros xs
-without_zeros_front xs some zero =
-    sym (without_zeros_push (take (length xs - 1) xs))
-    ∙ ap (λ b. without_zeros (take (length xs - 1) xs ++ b ∷ [])) (sym zero)
-    ∙ ap without_zeros (sym (front_and_last xs some))
+pub zero_dropped : (n : ℕ) → 0 < n → n < 2 ^ 64 → n % 10 ≡ 0 → without_zeros (decimal (n / 10)) ≡ without_zeros (decimal n)
+zero_dropped n some fits zero =
+    let step = decimal_step n (omega arith) fits in
+    sym (without_zeros_push (decimal (n / 10)))
+    ∙ ap (λ d. without_zeros (decimal (n / 10) ++ (48 + d) ∷ [])) (sym zero)
+    ∙ ap without_zeros (sym step)
 
 -- another digit at the end stays
-pub without_zeros_whole : (xs : List ℕ) → 1 ≤ length xs → get_or xs (length xs - 1) 0 ≢ 48 → without_zeros xs ≡ xs
-without_zeros_whole xs some other =
-    ap without_zeros (front_and_last xs some)
-    ∙ without_zeros_stops (take (length xs - 1) xs) (get_or xs (length xs - 1) 0) other
-    ∙ sym (front_and_last xs some)
+pub last_stays : (n : ℕ) → n < 2 ^ 64 → n % 10 ≢ 0 → without_zeros (decimal n) ≡ decimal n
+last_stays n fits other =
+    elim (cases_lt n 10) as (λ _. without_zeros (decimal n) ≡ decimal n) [
+      | inl short ↦
+          let digit = decimal_digit n short in
+          ap without_zeros digit ∙ without_zeros_stops [] (48 + n) (λ e. other (omega arith)) ∙ sym digit
+      | inr long ↦
+          let step = decimal_step n long fits in
+          ap without_zeros step ∙ without_zeros_stops (decimal (n / 10)) (48 + n % 10) (λ e. other (omega arith)) ∙ sym step
+    ]
+
+drop_place : (b : ℕ) (ws : List ℕ) → drop 1 (with_place b ws) ≡ ws
+drop_place b [] = cond_both (eqb b 48) [] (b ∷ []) (λ (ws : List ℕ). drop 1 ws ≡ []) (λ _. refl) (λ _. refl)
+drop_place b (c ∷ cs) = refl
+
+-- the first digit is not looked at by those behind it
+pub drop_without_zeros : (ds : List ℕ) → drop 1 (without_zeros ds) ≡ without_zeros (drop 1 ds)
+drop_without_zeros [] = refl
+drop_without_zeros (d ∷ ds) = drop_place d (without_zeros ds)

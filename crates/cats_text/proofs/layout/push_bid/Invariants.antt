@@ -1,7 +1,10 @@
-use Rattle.std.proofs.Common.{◌≡◌, ◌++◌, ◌∷◌, take, decimal}
+use Rattle.std.proofs.Common.{◌≡◌, ◌++◌, ◌∷◌, length, decimal}
 use Rattle.cats_text.specs.Layout.{price_text, tabbed}
 use Rattle.cats_text.proofs.layout.push_bid.Given as goal
 
-abbrev pub invariant-loop-good : goal.invariant-loop-good
-invariant-loop-good l =
-    l.out.items ≡ l.fn.out.items ++ (decimal l.number ++ 9 ∷ price_text l.price ++ tabbed (take l.good-index l.bundle))
+abbrev pub invariant-loop-left : goal.invariant-loop-left
+invariant-loop-left l =
+    l.out.items ++ tabbed l.left ≡ l.fn.out.items ++ (decimal l.number ++ 9 ∷ price_text l.price) ++ tabbed l.bundle
+
+abbrev pub decreases-loop-left : goal.decreases-loop-left
+decreases-loop-left l = length l.left

@@ -1,0 +1,53 @@
+-- A text that is written from its end to its start.
+use Rattle.std.proofs.Common.{◌≡◌, ℕ, ◌+◌, ◌-◌, ◌<◌, ◌≤◌, List, [], ◌∷◌, ◌++◌, Result, Ok, Err, OnOk, length, take, drop, set, get_or, decimal, sym, ap, ◌∙◌, arith, append_assoc, take-take}
+use Rattle.std.proofs.lemmas.List.{append-nil, drop-set, drop-drop, drop-append-le, take_more, take_all, get_or-take, length-take-le}
+use Rattle.std.proofs.lemmas.Grind.{flat_map-append}
+use Rattle.cats_text.specs.Layout.{tabbed}
+
+-- a byte in place of the first
+pub byte_in_place : (xs text rest : List ℕ) (start b : ℕ) → start < length xs → 0 < length text → drop start xs ≡ text ++ rest
+    → drop start (set xs start b) ≡ (b ∷ drop 1 text) ++ rest
+byte_in_place xs text rest start b inside some e =
+    drop-set xs start b inside ∙ ap (λ t. b ∷ t) (sym (drop-drop 1 start xs) ∙ ap (drop 1) e ∙ drop-append-le 1 text rest some)
+
+-- ---- goods, the last one first
+
+tabbed_all : (gs hs : List ℕ) → tabbed (gs ++ hs) ≡ tabbed gs ++ tabbed hs
+tabbed_all gs hs = flat_map-append (λ g. 9 ∷ decimal g) gs hs
+
+pub last_good : (gs rest : List ℕ) → 1 ≤ length gs
+    → tabbed (take (length gs - 1) gs) ++ ((9 ∷ decimal (get_or gs (length gs - 1) 0)) ++ rest) ≡ tabbed gs ++ rest
+last_good gs rest some =
+    let front = take (length gs - 1) gs in
+    let good = get_or gs (length gs - 1) 0 in
+    let whole : gs ≡ front ++ good ∷ [] = sym (take_all (length gs - 1 + 1) gs (omega arith)) ∙ take_more gs (length gs - 1) 0 (omega arith) in
+    sym (append_assoc (tabbed front) (9 ∷ decimal good) rest)
+    ∙ ap (λ t. t ++ rest) (ap (λ t. tabbed front ++ t) (sym (append-nil (9 ∷ decimal good))) ∙ sym (tabbed_all front (good ∷ [])) ∙ ap tabbed (sym whole))
+
+-- those that are left are the front of them all
+pub shorter_front : (xs whole : List ℕ) → xs ≡ take (length xs) whole → take (length xs - 1) xs ≡ take (length (take (length xs - 1) xs)) whole
+shorter_front xs whole e =
+    let n = length xs - 1 in
+    ap (take n) e ∙ take-take n (length xs) whole (omega arith) ∙ ap (λ k. take k whole) (sym (length-take-le n xs (omega arith)))
+
+pub last_of_front : (xs whole : List ℕ) → 1 ≤ length xs → xs ≡ take (length xs) whole → get_or xs (length xs - 1) 0 ≡ get_or whole (length xs - 1) 0
+last_of_front xs whole some e = ap (λ ys. get_or ys (length xs - 1) 0) e ∙ get_or-take (length xs) whole (length xs - 1) 0 (omega arith)
+
+-- ---- the end of a line
+
+ended : (out now offer bundle left dummy end : List ℕ) → now ++ tabbed left ≡ out ++ offer ++ tabbed bundle
+    → now ++ (tabbed (left ++ dummy) ++ end) ≡ out ++ (offer ++ tabbed (bundle ++ dummy) ++ end)
+ended out now offer bundle left dummy end before =
+    ap (λ t. now ++ (t ++ end)) (tabbed_all left dummy)
+    ∙ sym (append_assoc now (tabbed left ++ tabbed dummy) end)
+    ∙ ap (λ t. t ++ end) (sym (append_assoc now (tabbed left) (tabbed dummy))
+    ∙ ap (λ t. t ++ tabbed dummy) before
+    ∙ append_assoc (out ++ offer) (tabbed bundle) (tabbed dummy)
+    ∙ ap (λ t. out ++ offer ++ t) (sym (tabbed_all bundle dummy))
+    ∙ append_assoc out offer (tabbed (bundle ++ dummy)))
+    ∙ append_assoc out (offer ++ tabbed (bundle ++ dummy)) end
+
+pub line_ended : {T E : Type 0} (r : Result T E) (out now new offer bundle left dummy end : List ℕ) → now ++ tabbed left ≡ out ++ offer ++ tabbed bundle
+    → OnOk r (new ≡ now ++ (tabbed (left ++ dummy) ++ end)) → OnOk r (new ≡ out ++ (offer ++ tabbed (bundle ++ dummy) ++ end))
+line_ended (Ok x) out now new offer bundle left dummy end before e = e ∙ ended out now offer bundle left dummy end before
+line_ended (Err x) out now new offer bundle left dummy end before e = tt

@@ -1,6 +1,0 @@
-use Rattle.std.proofs.Common.{arith}
-use Rattle.cats_text.proofs.Writing.SixDigits.{two_digits}
-use Rattle.cats_text.proofs.layout.push_pair.Goals as goal
-
-pub returns : goal.returns
-returns c = two_digits c.args.out.now.items _ _ c.args.number (omega arith) c.requires c.in_ok-push_last_digit.ensures c.in_ok-push_last_digit-2.ensures
