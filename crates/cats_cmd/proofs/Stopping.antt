@@ -12,6 +12,7 @@ use Rattle.cats_text.specs.declared.stream.Watched.{Watched}
 use Rattle.valuation.specs.Auctions.{or_atoms_of, auction_from}
 use Rattle.valuation.specs.Packings.{count_packings}
 use Rattle.prune.specs.Steps.{first_heavy}
+use Rattle.canon.specs.declared.which.Which.TheVariants.{Only, First, Second, Both}
 use Rattle.canon.specs.Difference.{Difference, NoDifference, InGoods, InOr, InXor, first_difference}
 use Rattle.cats_cmd.specs.Comparisons.{RunsOnFiles}
 use Rattle.cats_cmd.specs.Outcomes.{Outcome, Tells, ExceedsSteps, normalise_outcome, value_outcome, values_within, missing_good, outcome_unless, text_unless_heavy, outcome_of_difference, compare_outcome}
@@ -102,6 +103,33 @@ pub silent_paths : {W : Type 0} (contents : W → Option (List ℕ)) (limit : �
 silent_paths contents limit paths old new (Refused which fault) ran = ran.2
 silent_paths contents limit paths old new (GoodRange good) ran = ran.tells.1
 silent_paths contents limit paths old new (Sent fault) ran = tt
+
+-- a run of one file that stopped, likewise
+pub silent_run : {R W : Type 0} (remaining : R → Option (List ℕ)) (contents : W → Option (List ℕ)) (outcome : PlainFile → Outcome) (before after : Watched R)
+    (old new : Watched W) (fault : RunFault)
+    → RunsOnFile remaining contents outcome before after old new (Err fault) → IsSilent (Run fault) old new
+silent_run remaining contents outcome before after old new (Refused which fault) ran = ran.runs.silent
+silent_run remaining contents outcome before after old new (GoodRange good) ran = ran.runs.tells.1
+silent_run remaining contents outcome before after old new (Sent fault) ran = tt
+
+-- a comparison that stopped, likewise
+pub silent_comparison : {R S W : Type 0} (remaining_first : R → Option (List ℕ)) (remaining_second : S → Option (List ℕ)) (contents : W → Option (List ℕ))
+    (limit : ℕ)
+    → (first first_after : Watched R) (second second_after : Watched S) (old new : Watched W) (fault : RunFault)
+    → RunsOnFiles remaining_first remaining_second contents limit compare_outcome first first_after second second_after old new (Err fault)
+    → IsSilent (Run fault) old new
+silent_comparison remaining_first remaining_second contents limit first first_after second second_after old new (Refused First fault) ran = ran.silent
+silent_comparison remaining_first remaining_second contents limit first first_after second second_after old new (Refused Second fault) ran = ran.silent
+silent_comparison remaining_first remaining_second contents limit first first_after second second_after old new (Refused Both fault) ran = ran.silent
+silent_comparison remaining_first remaining_second contents limit first first_after second second_after old new (Refused Only fault) ran = absurd ran
+silent_comparison remaining_first remaining_second contents limit first first_after second second_after old new (GoodRange good) ran = absurd ran
+silent_comparison remaining_first remaining_second contents limit first first_after second second_after old new (Sent fault) ran = tt
+
+-- and its request, which stops with the run's fault
+pub silent_stop : {W : Type 0} (old new : Watched W) (fault : RunFault) (answer : Result ℕ Stop) → IsErrAnd answer (λ stop. stop ≡ Run fault)
+    → IsSilent (Run fault) old new → IfErr answer (λ stop. IsSilent stop old new)
+silent_stop old new fault (Ok status) is silent = tt
+silent_stop old new fault (Err stop) is silent = subst (λ (s : Stop). IsSilent s old new) (sym is) silent
 
 -- ---- a request
 
