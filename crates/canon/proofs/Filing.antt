@@ -13,12 +13,11 @@ use Rattle.valuation.specs.Values.{atoms_of}
 use Rattle.canon.specs.Canonical.{bid_from, dummy_bids, file_from}
 use Rattle.canon.proofs.Files.{IsPlainFile-file_from}
 
--- one more bid, and one atom less to come
-pub one_more_bid : {S : Type 0} (goods : S → List ℕ) (dummy : Option ℕ) (old new : List Bid) (b : Bid) (atoms : List (Atom S)) (i : ℕ) (a : Atom S)
-    → i < length atoms → a ≡ get_or atoms i a → new ≡ old ++ b ∷ [] → b.price ≡ a.price → b.goods.items ≡ goods a.bundle → b.dummy ≡ dummy
-    → plain_bids new ++ map (bid_from dummy) (drop (i + 1) (atoms_of goods atoms)) ≡ plain_bids old ++ map (bid_from dummy) (drop i (atoms_of goods atoms))
-one_more_bid goods dummy old new b atoms i a l e more price items its =
-    let rest = map (bid_from dummy) (drop (i + 1) (atoms_of goods atoms)) in
+-- one more bid, before those to come
+added_bid : {S : Type 0} (goods : S → List ℕ) (dummy : Option ℕ) (old new : List Bid) (b : Bid) (a : Atom S) (rest : List PlainBid)
+    → new ≡ old ++ b ∷ [] → b.price ≡ a.price → b.goods.items ≡ goods a.bundle → b.dummy ≡ dummy
+    → plain_bids new ++ rest ≡ plain_bids old ++ bid_from dummy (record { bundle = goods a.bundle; price = a.price }) ∷ rest
+added_bid goods dummy old new b a rest more price items its =
     let same : plain_bid b ≡ bid_from dummy (record { bundle = goods a.bundle; price = a.price }) =
     ap (λ p. record { price = p; goods = b.goods.items; dummy = b.dummy }) price
     ∙ ap₂ (λ (gs : List ℕ) (d : Option ℕ). record { price = a.price; goods = gs; dummy = d }) items its in
@@ -26,7 +25,28 @@ one_more_bid goods dummy old new b atoms i a l e more price items its =
     ∙ ap (λ (zs : List PlainBid). zs ++ rest) (map_push plain_bid old b)
     ∙ append_assoc (plain_bids old) (plain_bid b ∷ []) rest
     ∙ ap (λ (x : PlainBid). plain_bids old ++ x ∷ rest) same
+
+-- one more bid, and one atom less to come
+pub one_more_bid : {S : Type 0} (goods : S → List ℕ) (dummy : Option ℕ) (old new : List Bid) (b : Bid) (atoms : List (Atom S)) (i : ℕ) (a : Atom S)
+    → i < length atoms → a ≡ get_or atoms i a → new ≡ old ++ b ∷ [] → b.price ≡ a.price → b.goods.items ≡ goods a.bundle → b.dummy ≡ dummy
+    → plain_bids new ++ map (bid_from dummy) (drop (i + 1) (atoms_of goods atoms)) ≡ plain_bids old ++ map (bid_from dummy) (drop i (atoms_of goods atoms))
+one_more_bid goods dummy old new b atoms i a l e more price items its =
+    added_bid goods dummy old new b a (map (bid_from dummy) (drop (i + 1) (atoms_of goods atoms))) more price items its
     ∙ ap (λ (zs : List (Atom (List ℕ))). plain_bids old ++ map (bid_from dummy) zs) (sym (drop-atoms_of goods atoms i a l e))
+
+-- one more bid, whose atom is given up
+pub one_moved_bid : {S : Type 0} (goods : S → List ℕ) (dummy : Option ℕ) (old new : List Bid) (b : Bid) (left rest : List (Atom S)) (a : Atom S)
+    → left ≡ a ∷ rest → new ≡ old ++ b ∷ [] → b.price ≡ a.price → b.goods.items ≡ goods a.bundle → b.dummy ≡ dummy
+    → plain_bids new ++ map (bid_from dummy) (atoms_of goods rest) ≡ plain_bids old ++ map (bid_from dummy) (atoms_of goods left)
+one_moved_bid {S} goods dummy old new b left rest a e more price items its =
+    added_bid goods dummy old new b a (map (bid_from dummy) (atoms_of goods rest)) more price items its
+    ∙ ap (λ (zs : List (Atom S)). plain_bids old ++ map (bid_from dummy) (atoms_of goods zs)) (sym e)
+
+-- no atom is left
+pub all_moved_bids : {S : Type 0} (goods : S → List ℕ) (dummy : Option ℕ) (done all : List PlainBid) (left : List (Atom S)) → left ≡ []
+    → done ++ map (bid_from dummy) (atoms_of goods left) ≡ all → done ≡ all
+all_moved_bids {S} goods dummy done all left none h =
+    sym (append-nil done) ∙ ap (λ (zs : List (Atom S)). done ++ map (bid_from dummy) (atoms_of goods zs)) (sym none) ∙ h
 
 -- the atoms of the OR bidder are given up
 pub or_moved : {S : Type 0} (goods : S → List ℕ) (a : PlainAuction) (n : ℕ) (or_atoms : List (Atom S)) (bidders left : List (Vec (Atom S) Global))

@@ -1,8 +1,9 @@
 -- One more file in an index. Files have one text exactly where they are the same auction, so the first file with a text, which is the
 -- one that the map has for it, is the first of its auction.
-use Rattle.std.proofs.Common.{◌≡◌, ◌⊎◌, ℕ, zero, suc, ◌+◌, ◌<◌, Bool, true, false, cond, unwrap_or, bytes_eq, List, [], ◌∷◌, ◌++◌, length, get_or, All, Option, Some}
-use Rattle.std.proofs.Common.{None, slice_get, refl, sym, ap, ◌∙◌, subst, inl, inr, ⊎_elim, arith, length-append, Global}
-use Rattle.std.specs.Prelude.{Vec, Result, Ok, Err, IfOk, IfErr, OnOk, OnErr}
+
+use Rattle.std.proofs.Common.{◌≡◌, ◌⊎◌, ℕ, zero, suc, ◌+◌, ◌<◌, Bool, true, false, cond, unwrap_or, bytes_eq, List, [], ◌∷◌, ◌++◌, length, get_or, All, Option}
+use Rattle.std.proofs.Common.{Some, None, slice_get, refl, sym, ap, ◌∙◌, subst, inl, inr, ⊎_elim, arith, length-append, Global}
+use Rattle.std.specs.Prelude.{Vec, Result, Ok, Err, IfOk, IfErr, OnOk, OnErr, IsErrAnd}
 use Rattle.std.specs.Io.KnownBytes.{Consumes}
 use Rattle.std.specs.Cmp.Lexicographic.{bytes_decides}
 use Rattle.std.specs.HashMap.{HashMap, UpdatesBy}
@@ -12,7 +13,7 @@ use Rattle.std.proofs.lemmas.Cmp.{nat_list_eq_equiv}
 use Rattle.std.proofs.lemmas.List.Quantifiers.{position-Some}
 use Rattle.std.proofs.lemmas.Option.{none-some, same_Some, slice_get_within, slice_get-get_or, get_or_from_slice_get}
 use Rattle.cats_text.specs.Files.{PlainFile, IsPlainFile}
-use Rattle.cats_text.specs.Streams.{inner_of, ReadsFile}
+use Rattle.cats_text.specs.Streams.{inner_of, ReadsFile, ReadsAs}
 use Rattle.cats_text.specs.declared.stream.Watched.{Watched}
 use Rattle.canon.specs.Answers.{RefusesAs}
 use Rattle.canon.specs.Canonical.{canonical_text}
@@ -21,6 +22,8 @@ use Rattle.canon.specs.Normalising.{IsText, normalised_file}
 use Rattle.canon.specs.declared.fault.CanonFault.{CanonFault}
 use Rattle.canon.specs.Internal.TextPlaces.{place_of, IsFirstText, LacksText, PlacesText, IsIndex}
 use Rattle.canon.proofs.Texts.{same_text, same_from_text}
+use Rattle.cats_text.specs.declared.fault.ReadFault.{ReadFault}
+use Rattle.canon.specs.Refusals.{refusal_of}
 
 -- ---- a list with one more element
 
@@ -193,6 +196,17 @@ stream_added remaining limit old new before after bytes file consumes reads (Err
   bytes = bytes;
   consumes = consumes;
   adds = (unchanged, inr (record { file = file; reads = reads; refused = refused }));
+}
+
+-- nothing is added of a file that was not read
+pub stream_unread : {R : Type 0} (remaining : R → Option (List ℕ)) (limit : ℕ) (files : List PlainFile) (before after : Watched R) (bytes : List ℕ)
+    (why : ReadFault) → Consumes (remaining (inner_of before)) (remaining (inner_of after)) bytes → ReadsAs remaining bytes after (Err why)
+    → (answer : Result ℕ CanonFault) → IsErrAnd answer (λ fault. fault ≡ refusal_of why) → AddsStream remaining limit files files before after answer
+stream_unread remaining limit files before after bytes why consumes reads (Ok place) is = absurd is
+stream_unread remaining limit files before after bytes why consumes reads (Err fault) is = record {
+  bytes = bytes;
+  consumes = consumes;
+  adds = (refl, inl (record { why = why; reads = reads; is = is }));
 }
 
 -- ---- later files

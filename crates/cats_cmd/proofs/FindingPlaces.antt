@@ -1,11 +1,12 @@
 -- One more path, whose file was judged or was not: what was found of the paths before it stays found, and the path adds a place, or a
 -- status that may be the greatest.
-use Rattle.std.proofs.Common.{◌≡◌, ◌≢◌, ℕ, suc, All, ◌+◌, ◌<◌, ◌==◌, max, Bool, cond, List, [], ◌∷◌, ◌++◌, length, map, filter, fold}
-use Rattle.std.proofs.Common.{get_or, take, refl, sym, ap, ◌∙◌, subst, arith, append-nil}
+
+use Rattle.std.proofs.Common.{◌≡◌, ◌≢◌, ℕ, suc, All, ◌+◌, ◌<◌, ◌==◌, max, Bool, cond, List, [], ◌∷◌, ◌++◌, length, map, filter, fold, get_or, take, refl, sym}
+use Rattle.std.proofs.Common.{ap, ◌∙◌, subst, arith, append-nil, ◌≤◌}
 use Rattle.std.specs.Borrow.{Bor}
 use Rattle.std.specs.List.{AllByRecursion, AllZip}
 use Rattle.std.proofs.lemmas.Bool.{ne_eqb}
-use Rattle.std.proofs.lemmas.List.{map-append, take_more}
+use Rattle.std.proofs.lemmas.List.{map-append, take_more, take_all}
 use Rattle.std.proofs.lemmas.List.Elements.{filter-append, All-from_recursion}
 use Rattle.std.proofs.lemmas.Option.{slice_get_within}
 use Rattle.cats_text.specs.Files.{PlainFile}
@@ -116,6 +117,14 @@ module _ (limit : ℕ) (paths : List (Bor (List ℕ))) (i : ℕ) (d : Bor (List 
       (subst (λ (ps : List (List ℕ)). FindsPlaces limit ps (found_paths found) files last) (sym (one_more_path paths i d l))
       (refused_more limit (map (λ p. p.now) (take i paths)) (found_paths found) greatest (get_or paths i d).now files status last h refused (is ∙ g
       ∙ ap (max greatest) t)))
+
+-- all paths were gone through
+pub found_all : (limit : ℕ) (paths : List (Bor (List ℕ))) (i : ℕ) (found : List (List ℕ × ℕ)) (greatest : ℕ) (files : List PlainFile) → length paths ≤ i
+    → FindsPlaces limit (map (λ p. p.now) (take i paths)) found files greatest → FindsSome limit (map (λ p. p.now) paths) found greatest
+found_all limit paths i found greatest files l h = record {
+  files = files;
+  finds = subst (λ (ps : List (Bor (List ℕ))). FindsPlaces limit (map (λ p. p.now) ps) found files greatest) (take_all i paths l) h;
+}
 
 -- ---- what was found
 

@@ -19,6 +19,12 @@ loop-dummy-init g c =
     ∙ ap (map (bid_from None)) c.or_atoms.ensures)
     c.xor_bidders-bidders.ensures
 
+pub overflow_cast-dummy : goal.overflow_cast-dummy
+overflow_cast-dummy g c =
+    let a = plain_auction c.args.auction.now in
+    let long = length-bidders g.S.GoodsSet.goods c.xor_bidders-bidders.result.now a.xor_bidders c.xor_bidders-bidders.ensures in
+    record { fits = omega (arith, long, c.loop-dummy-test.true, c.args.auction.now.facts.bidders) }
+
 pub loop-dummy-preserved : goal.loop-dummy-preserved
 loop-dummy-preserved g c =
     one_more_bidder g.S.GoodsSet.goods (plain_bids c.loop-dummy.bids.items) (plain_bids c.push_bids-in-loop-dummy.new.bids.items)
@@ -28,6 +34,12 @@ loop-dummy-preserved g c =
     ∙ ap (λ (zs : List _). plain_bids c.loop-dummy.bids.items ++ map (bid_from (Some c.loop-dummy.dummy)) (atoms_of g.S.GoodsSet.goods zs))
     c.as_slice.ensures.value)
     ∙ c.loop-dummy.invariant
+
+pub overflow_cast-bidders : goal.overflow_cast-bidders
+overflow_cast-bidders g c =
+    let a = plain_auction c.args.auction.now in
+    let long = length-bidders g.S.GoodsSet.goods c.xor_bidders-bidders.result.now a.xor_bidders c.xor_bidders-bidders.ensures in
+    record { fits = omega (arith, long, c.args.auction.now.facts.bidders) }
 
 pub new-requires : goal.new-requires
 new-requires g c =

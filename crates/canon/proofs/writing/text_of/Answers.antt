@@ -6,6 +6,7 @@ use Rattle.valuation.specs.Values.{atoms_of}
 use Rattle.valuation.specs.Views.{plain_auction}
 use Rattle.canon.specs.Canonical.{bid_from}
 use Rattle.canon.proofs.Files.{IsPlainFile-file_from}
+use Rattle.canon.proofs.Filing.{length-bidders}
 use Rattle.canon.proofs.TextLines.{behind_nothing, text_begun, bidders_text_more, bidders_text_all, count_begun, count_more}
 use Rattle.canon.proofs.writing.text_of.Goals as goal
 
@@ -27,6 +28,12 @@ loop-dummy-init g c =
       count = count_begun g.S.GoodsSet.goods a _ c.or_atoms-or_atoms.result.now c.xor_bidders-bidders.result.now c.or_atoms-or_atoms.ensures
           c.xor_bidders-bidders.ensures refl;
     }
+
+pub overflow_cast-dummy : goal.overflow_cast-dummy
+overflow_cast-dummy g c =
+    let a = plain_auction c.args.auction.now in
+    let long = length-bidders g.S.GoodsSet.goods c.xor_bidders-bidders.result.now a.xor_bidders c.xor_bidders-bidders.ensures in
+    record { fits = omega (arith, long, c.loop-dummy-test.true, c.args.auction.now.facts.bidders) }
 
 pub loop-dummy-preserved : goal.loop-dummy-preserved
 loop-dummy-preserved g c =

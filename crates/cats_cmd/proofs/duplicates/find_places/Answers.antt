@@ -1,7 +1,8 @@
-use Rattle.std.proofs.Common.{ℕ, List, []}
+use Rattle.std.proofs.Common.{ℕ, List, [], arith}
 use Rattle.std.specs.Borrow.{Bor}
+use Rattle.cats_cmd.specs.DuplicateTexts.{found_paths}
 use Rattle.cats_cmd.specs.Stops.{status_of_stop}
-use Rattle.cats_cmd.proofs.FindingPlaces.{nothing_found, found_more, not_found}
+use Rattle.cats_cmd.proofs.FindingPlaces.{nothing_found, found_more, not_found, found_all}
 use Rattle.cats_cmd.proofs.duplicates.find_places.Goals as goal
 use Rattle.cats_cmd.proofs.duplicates.find_places.Goals.{in-Ok+in_ok-push-in-Ok, in-Err}
 
@@ -29,3 +30,8 @@ loop-number-preserved g c =
           w.max-greatest.result c.match-judge.greatest w.in-Err.ensures.unchanged w.in-Err.ensures.status w.greatest-is w.max-greatest.ensures
           w.tell_refusal.ensures)
     ]
+
+pub returns : goal.returns
+returns g c =
+    found_all c.args.limit c.args.paths.now c.loop-number.number (found_paths c.loop-number.found.items) c.loop-number.greatest c.loop-number.index
+    (omega (arith, c.loop-number-test.false)) c.loop-number.invariant

@@ -1,6 +1,6 @@
 -- A request is carried out by its one run: what the run's contract says, at the run's arguments, is what is asked of the request.
 use Rattle.cats_cmd.specs.Outcomes.{check_outcome, show_outcome, normalise_outcome, value_outcome}
-use Rattle.cats_cmd.proofs.Stopping.{told_run, value_tells, normalise_tells, told_comparison, ran_on_some, compared_some, stopped_run}
+use Rattle.cats_cmd.proofs.Stopping.{told_run, value_tells, normalise_tells, told_comparison, silent_run, silent_comparison, silent_paths, silent_stop, ran_on_some, compared_some, stopped_run}
 use Rattle.cats_cmd.proofs.program.carry_out.Goals as goal
 
 pub returns-in_ok-run_value-in-Value-clause-done : goal.returns-in_ok-run_value-in-Value-clause-done
@@ -16,6 +16,44 @@ returns-in_ok-run_normalise-in-Normalise-clause-done g c =
 pub returns-in_ok-run_compare-in-Compare-clause-done : goal.returns-in_ok-run_compare-in-Compare-clause-done
 returns-in_ok-run_compare-in-Compare-clause-done g c =
     rw c.in-Compare.is (told_comparison _ _ _ c.in-Compare.limit _ _ _ _ _ _ _ c.in_ok-run_compare-in-Compare.ensures)
+
+-- a run that stopped has written nothing, unless its output failed
+
+pub returns-in_err-run_check-in-Check-clause-stopped : goal.returns-in_err-run_check-in-Check-clause-stopped
+returns-in_err-run_check-in-Check-clause-stopped g c =
+    silent_stop c.args.out.now c.run_check.new.out c.in_err-run_check-in-Check.field-0.0
+    c.from_residual-in_err-run_check-in-Check.result c.from_residual-in_err-run_check-in-Check.ensures.1
+    (silent_run _ _ _ _ _ _ _ _ c.in_err-run_check-in-Check.ensures)
+
+pub returns-in_err-run_show-in-Show-clause-stopped : goal.returns-in_err-run_show-in-Show-clause-stopped
+returns-in_err-run_show-in-Show-clause-stopped g c =
+    silent_stop c.args.out.now c.run_show.new.out c.in_err-run_show-in-Show.field-0.0
+    c.from_residual-in_err-run_show-in-Show.result c.from_residual-in_err-run_show-in-Show.ensures.1
+    (silent_run _ _ _ _ _ _ _ _ c.in_err-run_show-in-Show.ensures)
+
+pub returns-in_err-run_value-in-Value-clause-stopped : goal.returns-in_err-run_value-in-Value-clause-stopped
+returns-in_err-run_value-in-Value-clause-stopped g c =
+    silent_stop c.args.out.now c.run_value.new.out c.in_err-run_value-in-Value.field-0.0
+    c.from_residual-in_err-run_value-in-Value.result c.from_residual-in_err-run_value-in-Value.ensures.1
+    (silent_run _ _ _ _ _ _ _ _ c.in_err-run_value-in-Value.ensures)
+
+pub returns-in_err-run_normalise-in-Normalise-clause-stopped : goal.returns-in_err-run_normalise-in-Normalise-clause-stopped
+returns-in_err-run_normalise-in-Normalise-clause-stopped g c =
+    silent_stop c.args.out.now c.run_normalise.new.out c.in_err-run_normalise-in-Normalise.field-0.0
+    c.from_residual-in_err-run_normalise-in-Normalise.result c.from_residual-in_err-run_normalise-in-Normalise.ensures.1
+    (silent_run _ _ _ _ _ _ _ _ c.in_err-run_normalise-in-Normalise.ensures)
+
+pub returns-in_err-run_compare-in-Compare-clause-stopped : goal.returns-in_err-run_compare-in-Compare-clause-stopped
+returns-in_err-run_compare-in-Compare-clause-stopped g c =
+    silent_stop c.args.out.now c.run_compare.new.out c.in_err-run_compare-in-Compare.field-0.0
+    c.from_residual-in_err-run_compare-in-Compare.result c.from_residual-in_err-run_compare-in-Compare.ensures.1
+    (silent_comparison _ _ _ c.in-Compare.limit _ _ _ _ _ _ _ c.in_err-run_compare-in-Compare.ensures)
+
+pub returns-in_err-run_duplicates-in-Duplicates-clause-stopped : goal.returns-in_err-run_duplicates-in-Duplicates-clause-stopped
+returns-in_err-run_duplicates-in-Duplicates-clause-stopped g c =
+    silent_stop c.args.out.now c.run_duplicates.new.out c.in_err-run_duplicates-in-Duplicates.field-0.0
+    c.from_residual-in_err-run_duplicates-in-Duplicates.result c.from_residual-in_err-run_duplicates-in-Duplicates.ensures.1
+    (silent_paths g.W.Write.contents c.in-Duplicates.limit _ _ _ _ c.in_err-run_duplicates-in-Duplicates.ensures)
 
 -- the run of each request, where it answered and where it stopped
 

@@ -1,9 +1,16 @@
-use Rattle.std.proofs.Common.{◌∙◌}
+use Rattle.std.proofs.Common.{sym, ◌∙◌}
 use Rattle.std.proofs.lemmas.Result.{on_ok_weaker}
+use Rattle.valuation.specs.Lemmas.Atoms.{length-atoms_of}
 use Rattle.valuation.specs.Values.{atoms_of}
-use Rattle.cats_cmd.proofs.BestPlaces.{place_of_best}
+use Rattle.cats_cmd.proofs.BestPlaces.{place_of_best, place_within}
 use Rattle.cats_cmd.proofs.Printing.{appended, xor_line_made}
 use Rattle.cats_cmd.proofs.value.lines.push_xor_line.Goals as goal
+
+pub push_bid-requires : goal.push_bid-requires
+push_bid-requires g c =
+    let goods = g.S.GoodsSet.goods in
+    place_within (atoms_of goods c.args.atoms.now) (goods c.args.bundle.now) c.args.numbers.now _ c.xor_value-value.ensures.place
+    (c.requires ∙ sym (length-atoms_of goods c.args.atoms.now))
 
 pub returns : goal.returns
 returns g c =
