@@ -1,10 +1,8 @@
 -- The statuses that the runs answer, and what of a line goes out where sending it may fail.
-use Rattle.std.proofs.Common.{◌≡◌, ℕ, List, [], ◌∷◌, refl, length, Option, None, Some, Result, Ok, Err, Bool, true, false, cond, sym, ap, ◌∙◌, subst, arith}
-use Rattle.std.proofs.Common.{◌≤◌}
+use Rattle.std.proofs.Common.{◌≡◌, ℕ, List, length, Option, None, Some, Result, Ok, Err, Bool, true, false, cond, sym, ap, ◌∙◌, subst, arith, ◌≤◌}
 use Rattle.std.proofs.Math.Seq.{take-length}
 use Rattle.std.specs.Io.KnownBytes.{Appends}
-use Rattle.std.specs.Borrow.{Bor}
-use Rattle.std.specs.Prelude.{nat_lt, bytes_eq, codes, OnOk, IfErr, IsErrAnd}
+use Rattle.std.specs.Prelude.{nat_lt, OnOk, IfErr, IsErrAnd}
 use Rattle.std.proofs.lemmas.Result.{err_from_is_err_and}
 use Rattle.cats_text.specs.Files.{PlainFile}
 use Rattle.cats_text.specs.Streams.{inner_of, SendsWhole, SendsPart}
@@ -20,13 +18,14 @@ use Rattle.cats_cmd.specs.Outcomes.{text_unless_heavy, outcome_of_difference, co
 use Rattle.cats_cmd.specs.ValueTexts.{bundle_from, value_text}
 use Rattle.cats_cmd.specs.Runs.{RunsOnFile}
 use Rattle.cats_cmd.specs.Internal.Requests.{CarriesOut, ComparesSome, RunsFor, RunsOnSome}
-use Rattle.cats_cmd.specs.Stops.{SendsBeginning, is_for_many_files, names_duplicates}
-use Rattle.command_line.specs.Requests.{IsNamedIn}
+use Rattle.cats_cmd.specs.Stops.{SendsBeginning, IsSilent}
 use Rattle.command_line.specs.declared.request.Request.{Request}
-use Rattle.command_line.specs.declared.request.Request.TheVariants.{Duplicates}
 use Rattle.cats_cmd.specs.declared.program.Stop.{Stop}
 use Rattle.cats_cmd.specs.declared.program.Stop.TheVariants.{Run}
 use Rattle.cats_cmd.specs.declared.report.RunFault.{RunFault}
+use Rattle.canon.specs.declared.which.Which.TheVariants.{Only, First, Second, Both}
+use Rattle.cats_cmd.specs.Duplicates.{RunsOnPaths}
+use Rattle.cats_cmd.specs.declared.report.RunFault.TheVariants.{Refused, GoodRange, Sent}
 
 -- a run that answered has the status that its outcome tells
 pub told_run : {R W : Type 0} (remaining : R → Option (List ℕ)) (contents : W → Option (List ℕ)) (outcome : PlainFile → Outcome)
@@ -83,37 +82,54 @@ pub told_comparison : {R S W : Type 0} (remaining_first : R → Option (List ℕ
 told_comparison remaining_first remaining_second contents limit first first_after second second_after old new status ran =
     differs_or_same (first_difference (auction_from ran.left.file) (auction_from ran.right.file)) status ran.tells.text ran.tells.is_made
 
--- only `duplicates` names a request for many files
-pub few_files : (words : List (Bor (List ℕ))) (request : Request) → IsNamedIn words request → names_duplicates words ≡ false → is_for_many_files request ≡ false
-few_files (program ∷ (word ∷ words)) (Duplicates files limit progress) named few =
-    subst (λ (name : List ℕ). bytes_eq name (codes "duplicates") ≡ false) named few
-few_files (program ∷ []) (Duplicates files limit progress) named few = absurd (named)
-few_files [] (Duplicates files limit progress) named few = absurd (named)
-few_files words request named few = refl
+-- a run of many files that stopped has written nothing, unless its output failed
+pub silent_paths : {W : Type 0} (contents : W → Option (List ℕ)) (limit : ℕ) (paths : List (List ℕ)) (old new : Watched W) (fault : RunFault)
+    → RunsOnPaths contents limit paths old new (Err fault) → IsSilent (Run fault) old new
+silent_paths contents limit paths old new (Refused which fault) ran = ran.2
+silent_paths contents limit paths old new (GoodRange good) ran = ran.tells.1
+silent_paths contents limit paths old new (Sent fault) ran = tt
+
+-- a run of one file that stopped, likewise
+pub silent_run : {R W : Type 0} (remaining : R → Option (List ℕ)) (contents : W → Option (List ℕ)) (outcome : PlainFile → Outcome) (before after : Watched R)
+    (old new : Watched W) (fault : RunFault)
+    → RunsOnFile remaining contents outcome before after old new (Err fault) → IsSilent (Run fault) old new
+silent_run remaining contents outcome before after old new (Refused which fault) ran = ran.runs.silent
+silent_run remaining contents outcome before after old new (GoodRange good) ran = ran.runs.tells.1
+silent_run remaining contents outcome before after old new (Sent fault) ran = tt
+
+-- a comparison that stopped, likewise
+pub silent_comparison : {R S W : Type 0} (remaining_first : R → Option (List ℕ)) (remaining_second : S → Option (List ℕ)) (contents : W → Option (List ℕ))
+    (limit : ℕ)
+    → (first first_after : Watched R) (second second_after : Watched S) (old new : Watched W) (fault : RunFault)
+    → RunsOnFiles remaining_first remaining_second contents limit compare_outcome first first_after second second_after old new (Err fault)
+    → IsSilent (Run fault) old new
+silent_comparison remaining_first remaining_second contents limit first first_after second second_after old new (Refused First fault) ran = ran.silent
+silent_comparison remaining_first remaining_second contents limit first first_after second second_after old new (Refused Second fault) ran = ran.silent
+silent_comparison remaining_first remaining_second contents limit first first_after second second_after old new (Refused Both fault) ran = ran.silent
+silent_comparison remaining_first remaining_second contents limit first first_after second second_after old new (Refused Only fault) ran = absurd ran
+silent_comparison remaining_first remaining_second contents limit first first_after second second_after old new (GoodRange good) ran = absurd ran
+silent_comparison remaining_first remaining_second contents limit first first_after second second_after old new (Sent fault) ran = tt
+
+-- and its request, which stops with the run's fault
+pub silent_stop : {W : Type 0} (old new : Watched W) (fault : RunFault) (answer : Result ℕ Stop) → IsErrAnd answer (λ stop. stop ≡ Run fault)
+    → IsSilent (Run fault) old new → IfErr answer (λ stop. IsSilent stop old new)
+silent_stop old new fault (Ok status) is silent = tt
+silent_stop old new fault (Err stop) is silent = subst (λ (s : Stop). IsSilent s old new) (sym is) silent
 
 -- ---- a request
 
 module _ {F W : Type 0} (remaining : F → Option (List ℕ)) (contents : W → Option (List ℕ)) where
   -- the run of a file that was opened
-  pub ran_on_some : (outcome : PlainFile → Outcome) (before after : Watched F) (old new : Watched W) (answer : Result ℕ RunFault)
-      → RunsOnFile remaining contents outcome before after old new answer
+  pub ran_on_some : (outcome : PlainFile → Outcome) (before after : Watched F) (old new : Watched W) (answer : Result ℕ RunFault) → RunsOnFile remaining contents outcome before after old new answer
       → RunsOnSome remaining contents outcome old new answer
   ran_on_some outcome before after old new answer ran = record { before = before; after = after; runs = ran }
 
   pub compared_some : (limit : ℕ) (first first_after second second_after : Watched F) (old new : Watched W) (answer : Result ℕ RunFault)
-      → RunsOnFiles remaining remaining contents limit compare_outcome first first_after second second_after old new answer
-      → ComparesSome remaining contents limit old new answer
-  compared_some limit first first_after second second_after old new answer ran = record {
-    first = first;
-    first_after = first_after;
-    second = second;
-    second_after = second_after;
-    runs = ran;
-  }
+      → RunsOnFiles remaining remaining contents limit compare_outcome first first_after second second_after old new answer → ComparesSome remaining contents limit old new answer
+  compared_some limit first first_after second second_after old new answer ran = record { first = first; first_after = first_after; second = second; second_after = second_after; runs = ran }
 
   -- the fault of a run is that of its request
-  pub stopped_run : (request : Request) (old new : Watched W) (fault : RunFault) (answer : Result ℕ Stop) → IsErrAnd answer (λ stop. stop ≡ Run fault)
-      → RunsFor remaining contents request old new (Err fault)
+  pub stopped_run : (request : Request) (old new : Watched W) (fault : RunFault) (answer : Result ℕ Stop) → IsErrAnd answer (λ stop. stop ≡ Run fault) → RunsFor remaining contents request old new (Err fault)
       → CarriesOut remaining contents request old new answer
   stopped_run request old new fault answer is ran =
       let told = err_from_is_err_and answer is in

@@ -7,8 +7,8 @@ use Rattle.cats_text.specs.Internal.Parsing.{Reading, word_read, line_read, is_d
 use Rattle.cats_text.specs.Internal.Scanning.{State, Scan, and_then, with_reading, blank_step_at, blank_step, words_step_at, words_step, missing_step, line_behind, line_step, byte_step, run, end_step, end_of}
 use Rattle.cats_text.specs.declared.fault.Kind.TheVariants.{Missing}
 use Rattle.cats_text.specs.declared.parser.Keeping.{Keeping}
-use Rattle.cats_text.specs.declared.parser.Place.{Place}
-use Rattle.cats_text.specs.declared.parser.Place.TheVariants.{First, Second, Later, Ended}
+use Rattle.cats_text.specs.declared.parser.Column.{Column}
+use Rattle.cats_text.specs.declared.parser.Column.TheVariants.{First, Second, Later, Ended}
 use Rattle.cats_text.specs.declared.parser.Stage.{Stage}
 use Rattle.cats_text.specs.declared.parser.Stage.TheVariants.{Goods, Bids, Dummy, Bid}
 use Rattle.cats_text.specs.declared.scanner.Mode.{Mode}
@@ -28,7 +28,7 @@ word_keeps : (p : Progress) (r : Reading) → Keeps p r → ReadKeeps p.keeping 
 word_keeps p (Ok q) h = h.keeping q refl
 word_keeps p (Err kind) h = tt
 
-line_keeps : (place : Place) (stage : Stage) (p : Progress) → ReadKeeps p.keeping (line_at place stage p)
+line_keeps : (column : Column) (stage : Stage) (p : Progress) → ReadKeeps p.keeping (line_at column stage p)
 line_keeps First Goods p = tt
 line_keeps Second Goods p = tt
 line_keeps Later Goods p = refl
@@ -61,7 +61,7 @@ words_keep : (m : Mode) (s : State) → ScanKeeps s.progress.keeping (words_step
 words_keep Start s = refl
 words_keep Blank s = refl
 words_keep Comment s = refl
-words_keep Between s = reading_keeps s Between (line_read s.progress) (line_keeps s.progress.place s.progress.stage s.progress)
+words_keep Between s = reading_keeps s Between (line_read s.progress) (line_keeps s.progress.column s.progress.stage s.progress)
 words_keep (Inside w) s = refl
 
 either_keeps : (k : Keeping) (test : Bool) (a b : Scan) → ScanKeeps k a → ScanKeeps k b → ScanKeeps k (if test then a else b)

@@ -5,7 +5,8 @@ ghost use Rattle.cats_text.specs.Internal.Front.{IsFront, IsKept};
 ghost use Rattle.cats_text.specs.Internal.Machine.{word_with};
 ghost use Rattle.cats_text.specs.Numbers.{digits_alone};
 
-use crate::word::{Decimal, HELD, Word};
+use crate::price::Decimal;
+use crate::word::{HELD, Word};
 
 /// A number with the digits that stand in front, and how many they are.
 pub fn with_digits(value: u64, bytes: &[u8]) -> (u64, usize)
@@ -55,7 +56,7 @@ fn kept(bytes: &[u8]) -> Option<(Word, usize)>
             let whole = Decimal {
                 whole: value,
                 millionths: 0,
-                places: 0,
+                decimals: 0,
                 fine: false,
             };
             let (decimal, places) = with_places(whole, &bytes[digits + 1..]);

@@ -12,16 +12,12 @@ ghost use Rattle.cats_text.specs.Layout.{
   bids_text,
   tabbed,
   price_text,
-  places_text,
-  without_zeros,
 };
 
 use crate::bid::{Bid, BidFile};
+use crate::price::write_price;
 use itoa::{Buffer, Integer, write_digits};
 use std::alloc::{AllocError, Global};
-
-/// Millionths in a whole.
-const MILLION: u64 = 1_000_000;
 
 /// The text of a file: its header, then its bids in order of number, each with its goods rising and its dummy good
 /// last. Words are joined by single tabs in a bid line and by a space in a header line; nothing else stands there.
@@ -205,55 +201,4 @@ fn push_number<I: Integer>(out: &mut Vec<u8>, number: I) -> Result<(), AllocErro
     ensures { OnOk result (out.new.items ≡ out.old.items ++ I.text number) }
 {
     out.extend_from_slice(Buffer::new().format(number).as_bytes())
-}
-
-/// Appends a price, given in millionths: its whole part, then, where millionths are left, a point and their digits
-/// without zeros at the end. Where memory is refused, some of it may stand there.
-pub fn push_price(out: &mut Vec<u8>, millionths: u128) -> Result<(), AllocError>
-    ensures { OnOk result (out.new.items ≡ out.old.items ++ price_text millionths) }
-{
-    push_number(out, millionths / u128::from(MILLION))?;
-    let mut text = [0; 7];
-    let start = write_places((millionths % u128::from(MILLION)) as u64, &mut text, 7);
-    out.extend_from_slice(&text[start..])
-}
-
-/// Writes a price that fits 64 bits, so that its text ends at `end`, and tells where it starts.
-fn write_price(millionths: u64, text: &mut [u8], end: usize) -> usize
-    requires room { 27 ≤ end }
-    requires inside { end ≤ length text.old }
-    ensures start { (result < end) × (end ≤ result + 27) }
-    ensures written { drop result text.new ≡ price_text millionths ++ drop end text.old }
-{
-    let point = write_places(millionths % MILLION, text, end);
-    write_digits(millionths / MILLION, text, point)
-}
-
-/// The point and the digits behind it, if there are any.
-fn write_places(millionths: u64, text: &mut [u8], end: usize) -> usize
-    requires places { millionths < 1000000 }
-    requires room { 7 ≤ end }
-    requires inside { end ≤ length text.old }
-    ensures start { (result ≤ end) × (end ≤ result + 7) }
-    ensures written { drop result text.new ≡ places_text millionths ++ drop end text.old }
-{
-    if millionths == 0 {
-        return end;
-    }
-    let point = write_digits(without_zeros(MILLION + millionths), text, end);
-    text[point] = b'.';
-    point
-}
-
-/// The number whose digits are those of this one without the zeros at their end.
-fn without_zeros(number: u64) -> u64
-    requires { 0 < number }
-    ensures digits { decimal result ≡ without_zeros (decimal number) }
-    ensures size { (0 < result) × (result ≤ number) }
-{
-    let mut left = number;
-    while left % 10 == 0 {
-        left /= 10;
-    }
-    left
 }

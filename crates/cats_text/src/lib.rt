@@ -11,6 +11,7 @@ pub mod laws;
 mod layout;
 mod limits;
 mod parser;
+mod price;
 mod reader;
 mod scanner;
 mod slots;
@@ -20,8 +21,9 @@ pub mod worked;
 
 pub use bid::{Bid, BidFile};
 pub use fault::{Kind, ReadFault, SendFault};
-pub use layout::{push_bid, push_header, push_price, write};
+pub use layout::{push_bid, push_header, write};
 pub use limits::{MAX_BIDS, MAX_DUMMY, MAX_GOODS, MAX_PRICE, MAX_STREAM};
 pub use parser::Header;
+pub use price::push_price;
 pub use reader::{Reader, read};
 pub use stream::{Watched, answers_of_devices, check_from, read_from, send};

@@ -4,13 +4,12 @@ ghost use Rattle.std.specs.Prelude.{◌≡◌, ◌<◌, [], length, IfOk, OnOk, 
 ghost use Rattle.std.specs.Bool.{OnTrue};
 ghost use Rattle.cats_text.specs.Files.{IsPlainFile, plain_bid};
 ghost use Rattle.cats_text.specs.Views.{plain_file};
-ghost use Rattle.cats_text.specs.Internal.Progress.{progress, Gives, Answers, AsksOnBidLines};
+ghost use Rattle.cats_text.specs.Internal.Progress.{progress, Gives, AsksOnBidLines};
 ghost use Rattle.cats_text.specs.Internal.Parsing.{
   start,
   keyword_read,
   header_number_read,
   number_read,
-  price_parts,
   price_read,
   good_read,
   good_or_end_read,
@@ -27,7 +26,8 @@ ghost use Rattle.cats_text.specs.Internal.Parsing.{
 use crate::bid::{Bid, BidFile};
 use crate::fault::Kind;
 use crate::goods::GoodList;
-use crate::limits::{MAX_BIDS, MAX_DUMMY, MAX_GOODS, MAX_PRICE};
+use crate::limits::{MAX_BIDS, MAX_DUMMY, MAX_GOODS};
+use crate::price::price_of;
 use crate::slots::Slots;
 use crate::word::{Keyword, Word};
 use std::alloc::{AllocError, AllocFailed, Global};
@@ -81,9 +81,9 @@ pub enum Stage {
     Bid,
 }
 
-/// Which word of the line is due.
+/// Which word of the line comes next.
 #[derive(Clone, Copy, PartialEq, Eq)]
-pub enum Place {
+pub enum Column {
     First,
     Second,
     Later,
@@ -113,30 +113,13 @@ pub struct Parser {
     alloc: Global,
     pub keeping: Keeping,
     pub stage: Stage,
-    pub place: Place,
+    pub column: Column,
     pub header: Header,
     /// How many bid lines are still due.
     pub due: u32,
     pub slots: Slots,
     pub draft: Draft,
     pub goods: GoodList,
-}
-
-/// How many millionths a whole unit has.
-const MILLIONTHS: u64 = 1_000_000;
-
-/// A price of so many whole units and millionths, and perhaps finer places.
-fn price_of(whole: u64, millionths: u64, fine: bool) -> Result<u64, Stop>
-    ensures { Answers result (price_parts whole millionths fine) }
-{
-    let greatest = MAX_PRICE / MILLIONTHS;
-    if whole > greatest || (whole == greatest && (fine || millionths > 0)) {
-        return Err(Stop::Fault(Kind::TooLarge));
-    }
-    if fine {
-        return Err(Stop::Fault(Kind::TooFine));
-    }
-    Ok((whole * MILLIONTHS).saturating_add(millionths))
 }
 
 impl Parser {
@@ -148,7 +131,7 @@ impl Parser {
             alloc,
             keeping,
             stage: Stage::Goods,
-            place: Place::First,
+            column: Column::First,
             header: Header {
                 goods: 0,
                 bids: 0,
@@ -171,7 +154,7 @@ impl Parser {
         ensures stage { self.new.stage ≡ self.old.stage }
     {
         if word == Word::Keyword(keyword, keyword.text().len()) {
-            self.place = Place::Second;
+            self.column = Column::Second;
             Ok(())
         } else {
             Err(Stop::Fault(Kind::Header))
@@ -196,7 +179,7 @@ impl Parser {
             Stage::Bid => return Err(Stop::Fault(Kind::Header)),
             _ => return Err(Stop::Fault(Kind::TooLarge)),
         }
-        self.place = Place::Later;
+        self.column = Column::Later;
         Ok(())
     }
 
@@ -222,7 +205,7 @@ impl Parser {
             price: 0,
             dummy: None,
         };
-        self.place = Place::Second;
+        self.column = Column::Second;
         Ok(())
     }
 
@@ -233,12 +216,12 @@ impl Parser {
     {
         self.draft.price = match word {
             Word::Number(value) => price_of(value, 0, false)?,
-            Word::Decimal(decimal) if decimal.places > 0 => {
+            Word::Decimal(decimal) if decimal.decimals > 0 => {
                 price_of(decimal.whole, decimal.millionths, decimal.fine)?
             }
             _ => return Err(Stop::Fault(Kind::NotANumber)),
         };
-        self.place = Place::Later;
+        self.column = Column::Later;
         Ok(())
     }
 
@@ -281,7 +264,7 @@ impl Parser {
             Word::Number(value) => self.good(value),
             Word::End if self.goods.is_empty() => Err(Stop::Fault(Kind::EmptyBundle)),
             Word::End => {
-                self.place = Place::Ended;
+                self.column = Column::Ended;
                 Ok(())
             }
             _ => Err(Stop::Fault(Kind::NotANumber)),
@@ -290,9 +273,9 @@ impl Parser {
 
     /// Whether goods of a bid are due.
     pub fn takes_goods(&self) -> bool
-        ensures { OnTrue result ((self.now.stage ≡ Stage.Bid) × (self.now.place ≡ Place.Later)) }
+        ensures { OnTrue result ((self.now.stage ≡ Stage.Bid) × (self.now.column ≡ Column.Later)) }
     {
-        self.stage == Stage::Bid && self.place == Place::Later
+        self.stage == Stage::Bid && self.column == Column::Later
     }
 
     /// The next word of a line.
@@ -302,16 +285,16 @@ impl Parser {
         ensures memory { AsksOnBidLines (progress self.old) result }
         ensures stage { self.new.stage ≡ self.old.stage }
     {
-        match (self.place, self.stage) {
-            (Place::First, Stage::Goods) => self.keyword(Keyword::Goods, word),
-            (Place::First, Stage::Bids) => self.keyword(Keyword::Bids, word),
-            (Place::First, Stage::Dummy) => self.keyword(Keyword::Dummy, word),
-            (Place::First, Stage::Bid) => self.number(word),
-            (Place::Second, Stage::Bid) => self.price(word),
-            (Place::Second, _) => self.header_number(word),
-            (Place::Later, Stage::Bid) => self.good_or_end(word),
-            (Place::Later, _) => Err(Stop::Fault(Kind::Header)),
-            (Place::Ended, _) => Err(Stop::Fault(Kind::AfterEnd)),
+        match (self.column, self.stage) {
+            (Column::First, Stage::Goods) => self.keyword(Keyword::Goods, word),
+            (Column::First, Stage::Bids) => self.keyword(Keyword::Bids, word),
+            (Column::First, Stage::Dummy) => self.keyword(Keyword::Dummy, word),
+            (Column::First, Stage::Bid) => self.number(word),
+            (Column::Second, Stage::Bid) => self.price(word),
+            (Column::Second, _) => self.header_number(word),
+            (Column::Later, Stage::Bid) => self.good_or_end(word),
+            (Column::Later, _) => Err(Stop::Fault(Kind::Header)),
+            (Column::Ended, _) => Err(Stop::Fault(Kind::AfterEnd)),
         }
     }
 
@@ -342,13 +325,13 @@ impl Parser {
         ensures reads { Gives (progress self.new) result (bid_read (progress self.old)) }
         ensures memory { (progress self.old).stage ≡ Stage.Bid → AsksOnBidLines (progress self.old) result }
     {
-        if self.place != Place::Ended {
+        if self.column != Column::Ended {
             return Err(Stop::Fault(Kind::NoEnd));
         }
         let bid = self.kept_bid()?;
         self.slots.put(self.draft.number as usize, bid)?;
         self.due = self.due.saturating_sub(1);
-        self.place = Place::First;
+        self.column = Column::First;
         Ok(())
     }
 
@@ -356,11 +339,11 @@ impl Parser {
         ensures reads { Gives (progress self.new) result (header_line_read (progress self.old) next) }
         ensures memory { AsksOnBidLines (progress self.old) result }
     {
-        if self.place != Place::Later {
+        if self.column != Column::Later {
             return Err(Stop::Fault(Kind::Header));
         }
         self.stage = next;
-        self.place = Place::First;
+        self.column = Column::First;
         Ok(())
     }
 

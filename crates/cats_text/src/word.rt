@@ -1,7 +1,9 @@
 //! What the reader keeps of a word: enough for every test that the grammar makes of it, whatever the word's length.
 
-ghost use Rattle.std.specs.Prelude.{◌≡◌, ◌≤◌};
-ghost use Rattle.cats_text.specs.Internal.Keywords.{keyword_text, place_value_of};
+ghost use Rattle.std.specs.Prelude.{◌≡◌};
+ghost use Rattle.cats_text.specs.Internal.Keywords.{keyword_text};
+
+use crate::price::Decimal;
 
 /// The words that begin the header lines.
 #[derive(Clone, Copy, PartialEq, Eq)]
@@ -25,59 +27,6 @@ impl Keyword {
 
 /// From here on a number takes no further digits: it is above every limit.
 pub const HELD: u64 = 10_000_000_000_000;
-
-/// Digits, a point, and perhaps digits.
-#[derive(Clone, Copy, PartialEq, Eq)]
-pub struct Decimal {
-    /// The digits before the point, held like any number.
-    pub whole: u64,
-    /// The first six places behind it.
-    pub millionths: u64,
-    /// How many of those six have come.
-    pub places: u8,
-    /// Whether a place behind them is not 0.
-    pub fine: bool,
-}
-
-/// What a place counts, in millionths, with so many before it behind the point.
-fn place_value(places: u8) -> u64
-    ensures value { result ≡ place_value_of places }
-    ensures bound { result ≤ 100000 }
-{
-    match places {
-        0 => 100_000,
-        1 => 10_000,
-        2 => 1_000,
-        3 => 100,
-        4 => 10,
-        5 => 1,
-        _ => 0,
-    }
-}
-
-impl Decimal {
-    ghost use Rattle.cats_text.specs.Internal.Machine.{decimal_with};
-
-    /// The decimal with one more digit.
-    pub fn with(self, digit: u8) -> Decimal
-        requires { digit ≤ 9 }
-        ensures { result ≡ decimal_with self digit }
-    {
-        if self.places < 6 {
-            let more = u64::from(digit) * place_value(self.places);
-            Decimal {
-                millionths: self.millionths.saturating_add(more),
-                places: self.places + 1,
-                ..self
-            }
-        } else {
-            Decimal {
-                fine: self.fine || digit != 0,
-                ..self
-            }
-        }
-    }
-}
 
 /// A word so far.
 #[derive(Clone, Copy, PartialEq, Eq)]
@@ -122,7 +71,7 @@ impl Word {
                 b'.' => Word::Decimal(Decimal {
                     whole: value,
                     millionths: 0,
-                    places: 0,
+                    decimals: 0,
                     fine: false,
                 }),
                 _ => Word::Other,

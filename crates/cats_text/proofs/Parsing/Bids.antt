@@ -11,11 +11,11 @@ use Rattle.cats_text.specs.Internal.Parsing.{Reading, number_read, price_read, p
 use Rattle.cats_text.specs.declared.fault.Kind.{Kind}
 use Rattle.cats_text.specs.declared.fault.Kind.TheVariants as kinds
 use Rattle.cats_text.specs.declared.word.Word.{Word}
-use Rattle.cats_text.specs.declared.word.Decimal.{Decimal}
+use Rattle.cats_text.specs.declared.price.Decimal.{Decimal}
 use Rattle.cats_text.specs.declared.word.Word.TheVariants.{Keyword, Number, Decimal as Fraction, End, Other}
 use Rattle.cats_text.specs.declared.word.TheConstants.{HELD}
 use Rattle.cats_text.specs.declared.parser.Header.{Header}
-use Rattle.cats_text.specs.declared.parser.Place.TheVariants.{Later}
+use Rattle.cats_text.specs.declared.parser.Column.TheVariants.{Later}
 use Rattle.cats_text.specs.declared.limits.TheConstants.{MAX_BIDS}
 use Rattle.cats_text.proofs.Words.Places.{digit_bounds, places_from, places-six, places_below_one, place_not_zero}
 use Rattle.cats_text.proofs.Words.Kept.{Tells, Holds, whole-digits, whole-point, places-point}
@@ -80,7 +80,7 @@ number_follows g b d lines w v p t at =
       is,
       record {
         stage = at.stage;
-        place = refl;
+        column = refl;
         header = at.header;
         due = at.due;
         slots = at.slots;
@@ -125,7 +125,7 @@ pub record IsPriced (w : List ℕ) (v m : ℕ) (fine : Bool) : Type 0 where
 
 price_follows : (lines : List (List (List ℕ))) (n w : List ℕ) (p : Progress) (v m : ℕ) (fine : Bool) → IsPriced w v m fine
     → word_fault lines (n ∷ []) w ≡ when (is_too_large w) kinds.TooLarge (when (is_too_fine w) kinds.TooFine None)
-    → ((x : ℕ) → x ≡ price_of w → IsAt lines (n ∷ w ∷ []) (record p { place = Later; draft = record p.draft { price = x } }))
+    → ((x : ℕ) → x ≡ price_of w → IsAt lines (n ∷ w ∷ []) (record p { column = Later; draft = record p.draft { price = x } }))
     → WordFollows lines (n ∷ []) w (with_price p (price_parts v m fine))
 price_follows lines n w p v m fine i fault next =
     let large : (ltb GREATEST_PRICE v || (eqb v GREATEST_PRICE && (fine || ltb 0 m))) ≡ is_too_large w =
@@ -182,10 +182,10 @@ priced_fraction w d f = at f.whole f.is f.number f.value
 
 -- nothing but the price has come
 behind_price : (g b d : List (List ℕ)) (lines : List (List (List ℕ))) (n w : List ℕ) (p : Progress) → IsAt (g ∷ b ∷ d ∷ lines) (n ∷ []) p
-    → (x : ℕ) → x ≡ price_of w → IsAt (g ∷ b ∷ d ∷ lines) (n ∷ w ∷ []) (record p { place = Later; draft = record p.draft { price = x } })
+    → (x : ℕ) → x ≡ price_of w → IsAt (g ∷ b ∷ d ∷ lines) (n ∷ w ∷ []) (record p { column = Later; draft = record p.draft { price = x } })
 behind_price g b d lines n w p at x e = record {
   stage = at.stage;
-  place = refl;
+  column = refl;
   header = at.header;
   due = at.due;
   slots = at.slots;
@@ -202,10 +202,10 @@ bid_second g b d lines n w (Number v) p told t at =
     price_follows (g ∷ b ∷ d ∷ lines) n w p v 0 false (priced_number w v t) (passes (g ∷ b ∷ d ∷ lines) (n ∷ []) w _ _ _ refl (ap not told.price))
     (behind_price g b d lines n w p at)
 bid_second g b d lines n w (Fraction e) p told t at =
-    elim (eqb e.places 0) as (λ x. eqb e.places 0 ≡ x
+    elim (eqb e.decimals 0) as (λ x. eqb e.decimals 0 ≡ x
     → WordFollows (g ∷ b ∷ d ∷ lines) (n ∷ []) w (cond x (Err kinds.NotANumber) (with_price p (price_parts e.whole e.millionths e.fine)))) [
-      | true ↦ λ (q : eqb e.places 0 ≡ true). fault_named (g ∷ b ∷ d ∷ lines) (n ∷ []) w _ _ _ refl (ap not (told.price ∙ ap not q))
-      | false ↦ λ (q : eqb e.places 0 ≡ false). price_follows (g ∷ b ∷ d ∷ lines) n w p e.whole e.millionths e.fine (priced_fraction w e t)
+      | true ↦ λ (q : eqb e.decimals 0 ≡ true). fault_named (g ∷ b ∷ d ∷ lines) (n ∷ []) w _ _ _ refl (ap not (told.price ∙ ap not q))
+      | false ↦ λ (q : eqb e.decimals 0 ≡ false). price_follows (g ∷ b ∷ d ∷ lines) n w p e.whole e.millionths e.fine (priced_fraction w e t)
           (passes (g ∷ b ∷ d ∷ lines) (n ∷ []) w _ _ _ refl (ap not (told.price ∙ ap not q))) (behind_price g b d lines n w p at)
     ] refl
 bid_second g b d lines n w (Keyword j k) p told t at = fault_named (g ∷ b ∷ d ∷ lines) (n ∷ []) w _ _ _ refl (ap not told.price)

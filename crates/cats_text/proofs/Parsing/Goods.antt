@@ -17,7 +17,7 @@ use Rattle.cats_text.specs.declared.parser.Header.{Header}
 use Rattle.cats_text.specs.declared.limits.TheConstants.{MAX_GOODS, MAX_DUMMY}
 use Rattle.cats_text.proofs.Words.Kept.{Tells}
 use Rattle.cats_text.proofs.Words.Tests.{IsTold, tells_number, tells_end}
-use Rattle.cats_text.proofs.Parsing.States.{IsAt, WordFollows, HasOneDummy, ended_place}
+use Rattle.cats_text.proofs.Parsing.States.{IsAt, WordFollows, HasOneDummy, ended_column}
 use Rattle.cats_text.proofs.Parsing.Headers.{holds_le, holds_same}
 use Rattle.cats_text.proofs.Parsing.Bids.{follow_test, fault_named, passes}
 use Rattle.cats_text.proofs.Parsing.GoodsSoFar.{values, before_end-all, before_end-ended, before_end-push, has_end-push, values-push, any_find, any_values, find_passes, has_filtered, none_real, no_dummy_has_not, other_dummy_has_not, one_more_real, first_dummy, real_goods-real, real_goods-dummy, dummy_in-real, dummy_in-dummy}
@@ -72,7 +72,7 @@ end_follows g b d lines n x gs w p o e fault =
       is,
       record {
         stage = o.at.stage;
-        place = sym (ap ended_place (has_end-push gs w o.on ∙ e));
+        column = sym (ap ended_column (has_end-push gs w o.on ∙ e));
         header = o.at.header;
         due = o.at.due;
         slots = o.at.slots;
@@ -106,7 +106,7 @@ real_follows g b d lines n x gs w v p o e same l fault =
       is ∙ ap (λ t. when (t && list_any (λ y. leb p.header.goods (number_of y)) gs) kinds.TwoDummies None) (lt-leb p.header.goods (number_of w) lw),
       record {
         stage = o.at.stage;
-        place = o.at.place ∙ ap ended_place (o.on ∙ sym (has_end-push gs w o.on ∙ e));
+        column = o.at.column ∙ ap ended_column (o.on ∙ sym (has_end-push gs w o.on ∙ e));
         header = o.at.header;
         due = o.at.due;
         slots = o.at.slots;
@@ -150,7 +150,7 @@ dummy_follows g b d lines n x gs w p o e le fault None none =
       passes (g ∷ b ∷ d ∷ lines) (n ∷ x ∷ gs) w _ _ _ fault new ∙ ap₂ (λ (s t : Bool). when (s && t) kinds.TwoDummies None) is_dummy first,
       record {
         stage = o.at.stage;
-        place = o.at.place ∙ ap ended_place (o.on ∙ sym (has_end-push gs w o.on ∙ e));
+        column = o.at.column ∙ ap ended_column (o.on ∙ sym (has_end-push gs w o.on ∙ e));
         header = o.at.header;
         due = o.at.due;
         slots = o.at.slots;

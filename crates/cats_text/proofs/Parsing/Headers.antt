@@ -16,17 +16,17 @@ use Rattle.cats_text.specs.declared.word.TheConstants.{HELD}
 use Rattle.cats_text.specs.declared.parser.Header.{Header}
 use Rattle.cats_text.specs.declared.parser.Stage.{Stage}
 use Rattle.cats_text.specs.declared.parser.Stage.TheVariants.{Goods, Bids, Dummy, Bid}
-use Rattle.cats_text.specs.declared.parser.Place.{Place}
-use Rattle.cats_text.specs.declared.parser.Place.TheVariants.{First, Second, Later, Ended}
+use Rattle.cats_text.specs.declared.parser.Column.{Column}
+use Rattle.cats_text.specs.declared.parser.Column.TheVariants.{First, Second, Later, Ended}
 use Rattle.cats_text.specs.declared.limits.TheConstants.{MAX_GOODS, MAX_BIDS, MAX_DUMMY}
 use Rattle.cats_text.proofs.Words.Kept.{Tells, Holds}
 use Rattle.cats_text.proofs.Words.Tests.{IsTold, tells_number, tells_keyword}
 use Rattle.cats_text.proofs.Parsing.States.{IsAt, WordFollows}
 
--- ---- a word by its place, the place and the line given
+-- ---- a word by its column, the column and the line given
 
-abbrev pub read_at : Place → Stage → Progress → Word → Reading
-read_at place stage p w = elim place [
+abbrev pub read_at : Column → Stage → Progress → Word → Reading
+read_at column stage p w = elim column [
   | First ↦ elim stage [
     | Goods ↦ keyword_read p keywords.Goods w
     | Bids ↦ keyword_read p keywords.Bids w
@@ -53,7 +53,7 @@ holds_same v n small h = ⊎_elim (λ (e : v ≡ n). e) (λ (above : (HELD ≤ v
 
 -- ---- the first word of a header line
 
-pub keyword_good : (p : Progress) (k : Key) (s : Word) → tells_keyword k s ≡ true → keyword_read p k s ≡ Ok (record p { place = Second })
+pub keyword_good : (p : Progress) (k : Key) (s : Word) → tells_keyword k s ≡ true → keyword_read p k s ≡ Ok (record p { column = Second })
 keyword_good p k (Keyword j n) h = rw h refl
 keyword_good p k (Number v) h = absurd (both_ways false refl h)
 keyword_good p k (Fraction d) h = absurd (both_ways false refl h)
@@ -69,7 +69,7 @@ keyword_bad p k Other h = refl
 
 first_word : (lines : List (List (List ℕ))) (k : Key) (limit : ℕ) (p : Progress) (s : Word) (w : List ℕ) → IsTold w s
     → word_read p s ≡ keyword_read p k s → word_fault lines [] w ≡ header_word (keyword_text k) limit [] w
-    → IsAt lines (w ∷ []) (record p { place = Second }) → WordFollows lines [] w (word_read p s)
+    → IsAt lines (w ∷ []) (record p { column = Second }) → WordFollows lines [] w (word_read p s)
 first_word lines k limit p s w t read fault next = subst (WordFollows lines [] w) (sym read)
     (elim (tells_keyword k s) as (λ b. tells_keyword k s ≡ b → WordFollows lines [] w (keyword_read p k s)) [
       | true ↦ λ (h : tells_keyword k s ≡ true). subst (WordFollows lines [] w) (sym (keyword_good p k s h)) (
@@ -130,9 +130,9 @@ second_word lines k limit p Other w small told t q number other fault next =
 
 -- ---- a header line, whichever it is
 
--- reading at a known place of a known line
-pub read_there : (place : Place) (stage : Stage) (p : Progress) (s : Word) → p.place ≡ place → p.stage ≡ stage → word_read p s ≡ read_at place stage p s
-read_there place stage p s e f = ap₂ (λ (x : Place) (y : Stage). read_at x y p s) e f
+-- reading at a known column of a known line
+pub read_there : (column : Column) (stage : Stage) (p : Progress) (s : Word) → p.column ≡ column → p.stage ≡ stage → word_read p s ≡ read_at column stage p s
+read_there column stage p s e f = ap₂ (λ (x : Column) (y : Stage). read_at x y p s) e f
 
 not_number_read : (p : Progress) (x : Word) → tells_number x ≡ false → header_number_read p x ≡ Err kinds.NotANumber
 not_number_read p (Number v) h = absurd (both_ways true h refl)
@@ -143,9 +143,9 @@ not_number_read p Other h = refl
 
 abbrev numbers_at : Stage → Progress → ℕ → Reading
 numbers_at stage p v = elim stage [
-  | Goods ↦ limited MAX_GOODS (record p { place = Later; header = record p.header { goods = v } }) v
-  | Bids ↦ limited MAX_BIDS (record p { place = Later; header = record p.header { bids = v }; due = v }) v
-  | Dummy ↦ limited MAX_DUMMY (record p { place = Later; header = record p.header { dummy = v } }) v
+  | Goods ↦ limited MAX_GOODS (record p { column = Later; header = record p.header { goods = v } }) v
+  | Bids ↦ limited MAX_BIDS (record p { column = Later; header = record p.header { bids = v }; due = v }) v
+  | Dummy ↦ limited MAX_DUMMY (record p { column = Later; header = record p.header { dummy = v } }) v
   | Bid ↦ Err kinds.Header
 ]
 
@@ -154,10 +154,10 @@ number_there stage p v e = ap (λ (x : Stage). numbers_at x p v) e
 
 pub goods_word : (words : List (List ℕ)) (w : List ℕ) (s : Word) (p : Progress) → IsTold w s → Tells w s → IsAt [] words p
     → WordFollows [] words w (word_read p s)
-goods_word [] w s p told t at = first_word [] keywords.Goods MAX_GOODS p s w told (read_there First Goods p s at.place at.stage) refl
+goods_word [] w s p told t at = first_word [] keywords.Goods MAX_GOODS p s w told (read_there First Goods p s at.column at.stage) refl
     (record {
       stage = at.stage;
-      place = refl;
+      column = refl;
       header = at.header;
       due = at.due;
       slots = at.slots;
@@ -167,12 +167,12 @@ goods_word [] w s p told t at = first_word [] keywords.Goods MAX_GOODS p s w tol
       dummy = at.dummy;
     })
 goods_word (k ∷ []) w s p told t at =
-    second_word [] k MAX_GOODS p s w (lit< tt) told t (λ v. record p { place = Later; header = record p.header { goods = v } })
-    (λ v. read_there Second Goods p (Number v) at.place at.stage ∙ number_there Goods p v at.stage)
-    (λ x h. read_there Second Goods p x at.place at.stage ∙ not_number_read p x h) refl
+    second_word [] k MAX_GOODS p s w (lit< tt) told t (λ v. record p { column = Later; header = record p.header { goods = v } })
+    (λ v. read_there Second Goods p (Number v) at.column at.stage ∙ number_there Goods p v at.stage)
+    (λ x h. read_there Second Goods p x at.column at.stage ∙ not_number_read p x h) refl
     (λ v e le. record {
       stage = at.stage;
-      place = refl;
+      column = refl;
       header = ap₂ (λ (x : ℕ) (h : Header). record h { goods = x }) e at.header;
       due = at.due;
       slots = at.slots;
@@ -181,14 +181,14 @@ goods_word (k ∷ []) w s p told t at =
       bids = at.bids;
       dummy = at.dummy;
     })
-goods_word (k ∷ v ∷ words) w s p told t at = subst (WordFollows [] (k ∷ v ∷ words) w) (sym (read_there Later Goods p s at.place at.stage)) refl
+goods_word (k ∷ v ∷ words) w s p told t at = subst (WordFollows [] (k ∷ v ∷ words) w) (sym (read_there Later Goods p s at.column at.stage)) refl
 
 pub bids_word : (g : List (List ℕ)) (words : List (List ℕ)) (w : List ℕ) (s : Word) (p : Progress) → IsTold w s → Tells w s → IsAt (g ∷ []) words p
     → WordFollows (g ∷ []) words w (word_read p s)
-bids_word g [] w s p told t at = first_word (g ∷ []) keywords.Bids MAX_BIDS p s w told (read_there First Bids p s at.place at.stage) refl
+bids_word g [] w s p told t at = first_word (g ∷ []) keywords.Bids MAX_BIDS p s w told (read_there First Bids p s at.column at.stage) refl
     (record {
       stage = at.stage;
-      place = refl;
+      column = refl;
       header = at.header;
       due = at.due;
       slots = at.slots;
@@ -198,12 +198,12 @@ bids_word g [] w s p told t at = first_word (g ∷ []) keywords.Bids MAX_BIDS p 
       dummy = at.dummy;
     })
 bids_word g (k ∷ []) w s p told t at =
-    second_word (g ∷ []) k MAX_BIDS p s w (lit< tt) told t (λ v. record p { place = Later; header = record p.header { bids = v }; due = v })
-    (λ v. read_there Second Bids p (Number v) at.place at.stage ∙ number_there Bids p v at.stage)
-    (λ x h. read_there Second Bids p x at.place at.stage ∙ not_number_read p x h) refl
+    second_word (g ∷ []) k MAX_BIDS p s w (lit< tt) told t (λ v. record p { column = Later; header = record p.header { bids = v }; due = v })
+    (λ v. read_there Second Bids p (Number v) at.column at.stage ∙ number_there Bids p v at.stage)
+    (λ x h. read_there Second Bids p x at.column at.stage ∙ not_number_read p x h) refl
     (λ v e le. record {
       stage = at.stage;
-      place = refl;
+      column = refl;
       header = ap₂ (λ (x : ℕ) (h : Header). record h { bids = x }) e at.header;
       due = omega arith;
       slots = at.slots;
@@ -212,14 +212,14 @@ bids_word g (k ∷ []) w s p told t at =
       bids = le;
       dummy = at.dummy;
     })
-bids_word g (k ∷ v ∷ words) w s p told t at = subst (WordFollows (g ∷ []) (k ∷ v ∷ words) w) (sym (read_there Later Bids p s at.place at.stage)) refl
+bids_word g (k ∷ v ∷ words) w s p told t at = subst (WordFollows (g ∷ []) (k ∷ v ∷ words) w) (sym (read_there Later Bids p s at.column at.stage)) refl
 
 pub dummy_word : (g b : List (List ℕ)) (words : List (List ℕ)) (w : List ℕ) (s : Word) (p : Progress) → IsTold w s → Tells w s → IsAt (g ∷ b ∷ []) words p
     → WordFollows (g ∷ b ∷ []) words w (word_read p s)
-dummy_word g b [] w s p told t at = first_word (g ∷ b ∷ []) keywords.Dummy MAX_DUMMY p s w told (read_there First Dummy p s at.place at.stage) refl
+dummy_word g b [] w s p told t at = first_word (g ∷ b ∷ []) keywords.Dummy MAX_DUMMY p s w told (read_there First Dummy p s at.column at.stage) refl
     (record {
       stage = at.stage;
-      place = refl;
+      column = refl;
       header = at.header;
       due = at.due;
       slots = at.slots;
@@ -229,12 +229,12 @@ dummy_word g b [] w s p told t at = first_word (g ∷ b ∷ []) keywords.Dummy M
       dummy = at.dummy;
     })
 dummy_word g b (k ∷ []) w s p told t at =
-    second_word (g ∷ b ∷ []) k MAX_DUMMY p s w (lit< tt) told t (λ v. record p { place = Later; header = record p.header { dummy = v } })
-    (λ v. read_there Second Dummy p (Number v) at.place at.stage ∙ number_there Dummy p v at.stage)
-    (λ x h. read_there Second Dummy p x at.place at.stage ∙ not_number_read p x h) refl
+    second_word (g ∷ b ∷ []) k MAX_DUMMY p s w (lit< tt) told t (λ v. record p { column = Later; header = record p.header { dummy = v } })
+    (λ v. read_there Second Dummy p (Number v) at.column at.stage ∙ number_there Dummy p v at.stage)
+    (λ x h. read_there Second Dummy p x at.column at.stage ∙ not_number_read p x h) refl
     (λ v e le. record {
       stage = at.stage;
-      place = refl;
+      column = refl;
       header = ap₂ (λ (x : ℕ) (h : Header). record h { dummy = x }) e at.header;
       due = at.due;
       slots = at.slots;
@@ -243,4 +243,4 @@ dummy_word g b (k ∷ []) w s p told t at =
       bids = at.bids;
       dummy = le;
     })
-dummy_word g b (k ∷ v ∷ words) w s p told t at = subst (WordFollows (g ∷ b ∷ []) (k ∷ v ∷ words) w) (sym (read_there Later Dummy p s at.place at.stage)) refl
+dummy_word g b (k ∷ v ∷ words) w s p told t at = subst (WordFollows (g ∷ b ∷ []) (k ∷ v ∷ words) w) (sym (read_there Later Dummy p s at.column at.stage)) refl

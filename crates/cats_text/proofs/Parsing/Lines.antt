@@ -13,12 +13,12 @@ use Rattle.cats_text.specs.declared.fault.Kind.TheVariants as kinds
 use Rattle.cats_text.specs.declared.parser.Header.{Header}
 use Rattle.cats_text.specs.declared.parser.Stage.{Stage}
 use Rattle.cats_text.specs.declared.parser.Stage.TheVariants.{Goods, Bids, Dummy, Bid}
-use Rattle.cats_text.specs.declared.parser.Place.{Place}
-use Rattle.cats_text.specs.declared.parser.Place.TheVariants.{First, Second, Later, Ended}
+use Rattle.cats_text.specs.declared.parser.Column.{Column}
+use Rattle.cats_text.specs.declared.parser.Column.TheVariants.{First, Second, Later, Ended}
 use Rattle.cats_text.specs.Internal.Machine.{summary}
 use Rattle.cats_text.proofs.Words.Kept.{tells}
 use Rattle.cats_text.proofs.Words.Tests.{told}
-use Rattle.cats_text.proofs.Parsing.States.{IsAt, IsDraft, WordFollows, LineFollows, ended_place, kept_slots}
+use Rattle.cats_text.proofs.Parsing.States.{IsAt, IsDraft, WordFollows, LineFollows, ended_column, kept_slots}
 use Rattle.cats_text.proofs.Parsing.Headers.{read_there, goods_word, bids_word, dummy_word}
 use Rattle.cats_text.proofs.Parsing.Bids.{fault_named, bid_first, bid_second}
 use Rattle.cats_text.proofs.Parsing.Goods.{bid_later}
@@ -28,18 +28,18 @@ use Rattle.cats_text.proofs.Parsing.Goods.{bid_later}
 bid_word_step : (g b d : List (List ℕ)) (lines : List (List (List ℕ))) (words : List (List ℕ)) (a : ℕ) (w : List ℕ) (p : Progress)
     → IsAt (g ∷ b ∷ d ∷ lines) words p
     → WordFollows (g ∷ b ∷ d ∷ lines) words (a ∷ w) (word_read p (summary (a ∷ w)))
-bid_word_step g b d lines [] a w p at = subst (WordFollows (g ∷ b ∷ d ∷ lines) [] (a ∷ w)) (sym (read_there First Bid p (summary (a ∷ w)) at.place at.stage))
+bid_word_step g b d lines [] a w p at = subst (WordFollows (g ∷ b ∷ d ∷ lines) [] (a ∷ w)) (sym (read_there First Bid p (summary (a ∷ w)) at.column at.stage))
     (bid_first g b d lines (a ∷ w) (summary (a ∷ w)) p (told a w (summary (a ∷ w)) (tells a w)) (tells a w) at)
 bid_word_step g b d lines (n ∷ []) a w p at =
-    subst (WordFollows (g ∷ b ∷ d ∷ lines) (n ∷ []) (a ∷ w)) (sym (read_there Second Bid p (summary (a ∷ w)) at.place at.stage))
+    subst (WordFollows (g ∷ b ∷ d ∷ lines) (n ∷ []) (a ∷ w)) (sym (read_there Second Bid p (summary (a ∷ w)) at.column at.stage))
     (bid_second g b d lines n (a ∷ w) (summary (a ∷ w)) p (told a w (summary (a ∷ w)) (tells a w)) (tells a w) at)
 bid_word_step g b d lines (n ∷ x ∷ gs) a w p at =
     elim (has_end gs) as (λ t. has_end gs ≡ t → WordFollows (g ∷ b ∷ d ∷ lines) (n ∷ x ∷ gs) (a ∷ w) (word_read p (summary (a ∷ w)))) [
       | true ↦ λ (e : has_end gs ≡ true). subst (WordFollows (g ∷ b ∷ d ∷ lines) (n ∷ x ∷ gs) (a ∷ w))
-          (sym (read_there Ended Bid p (summary (a ∷ w)) (at.place ∙ ap ended_place e) at.stage))
+          (sym (read_there Ended Bid p (summary (a ∷ w)) (at.column ∙ ap ended_column e) at.stage))
           (fault_named (g ∷ b ∷ d ∷ lines) (n ∷ x ∷ gs) (a ∷ w) _ _ _ refl e)
       | false ↦ λ (e : has_end gs ≡ false). subst (WordFollows (g ∷ b ∷ d ∷ lines) (n ∷ x ∷ gs) (a ∷ w))
-          (sym (read_there Later Bid p (summary (a ∷ w)) (at.place ∙ ap ended_place e) at.stage))
+          (sym (read_there Later Bid p (summary (a ∷ w)) (at.column ∙ ap ended_column e) at.stage))
           (bid_later g b d lines n x gs (a ∷ w) (summary (a ∷ w)) p (told a w (summary (a ∷ w)) (tells a w)) (tells a w) (record { at = at; on = e }))
     ] refl
 
@@ -52,32 +52,32 @@ word_step (g ∷ b ∷ d ∷ lines) words a w p at = bid_word_step g b d lines w
 
 -- ---- the end of a line
 
--- the end at a known place of a known line
-abbrev pub line_at : Place → Stage → Progress → Reading
-line_at place stage p = elim stage [
-  | Goods ↦ elim place [
+-- the end at a known column of a known line
+abbrev pub line_at : Column → Stage → Progress → Reading
+line_at column stage p = elim stage [
+  | Goods ↦ elim column [
     | First ↦ Err kinds.Header
     | Second ↦ Err kinds.Header
-    | Later ↦ Ok (record p { place = First; stage = Bids })
+    | Later ↦ Ok (record p { column = First; stage = Bids })
     | Ended ↦ Err kinds.Header
   ]
-  | Bids ↦ elim place [
+  | Bids ↦ elim column [
     | First ↦ Err kinds.Header
     | Second ↦ Err kinds.Header
-    | Later ↦ Ok (record p { place = First; stage = Dummy })
+    | Later ↦ Ok (record p { column = First; stage = Dummy })
     | Ended ↦ Err kinds.Header
   ]
-  | Dummy ↦ elim place [
+  | Dummy ↦ elim column [
     | First ↦ Err kinds.Header
     | Second ↦ Err kinds.Header
-    | Later ↦ Ok (record p { place = First; stage = Bid })
+    | Later ↦ Ok (record p { column = First; stage = Bid })
     | Ended ↦ Err kinds.Header
   ]
-  | Bid ↦ elim place [ First ↦ Err kinds.NoEnd | Second ↦ Err kinds.NoEnd | Later ↦ Err kinds.NoEnd | Ended ↦ Ok (with_bid p) ]
+  | Bid ↦ elim column [ First ↦ Err kinds.NoEnd | Second ↦ Err kinds.NoEnd | Later ↦ Err kinds.NoEnd | Ended ↦ Ok (with_bid p) ]
 ]
 
-line_there : (place : Place) (stage : Stage) (p : Progress) → p.place ≡ place → p.stage ≡ stage → line_read p ≡ line_at place stage p
-line_there place stage p e f = ap₂ (λ (x : Place) (y : Stage). line_at x y p) e f
+line_there : (column : Column) (stage : Stage) (p : Progress) → p.column ≡ column → p.stage ≡ stage → line_read p ≡ line_at column stage p
+line_there column stage p e f = ap₂ (λ (x : Column) (y : Stage). line_at x y p) e f
 
 abbrev bid_made : ℕ → List ℕ → Option ℕ → PlainBid
 bid_made price goods dummy = record { price = price; goods = rising_of goods; dummy = dummy }
@@ -89,13 +89,13 @@ drafted_is G n x gs p d = ap (λ k. bid_made k p.goods p.draft.dummy) d.price �
 bid_line_step : (g b d : List (List ℕ)) (lines : List (List (List ℕ))) (words : List (List ℕ)) (p : Progress) → 0 < length words
     → IsAt (g ∷ b ∷ d ∷ lines) words p → LineFollows (g ∷ b ∷ d ∷ lines) words (line_read p)
 bid_line_step g b d lines [] p l at = absurd (let no : 0 < 0 = l in omega arith)
-bid_line_step g b d lines (n ∷ []) p l at = subst (LineFollows (g ∷ b ∷ d ∷ lines) (n ∷ [])) (sym (line_there Second Bid p at.place at.stage)) refl
+bid_line_step g b d lines (n ∷ []) p l at = subst (LineFollows (g ∷ b ∷ d ∷ lines) (n ∷ [])) (sym (line_there Second Bid p at.column at.stage)) refl
 bid_line_step g b d lines (n ∷ x ∷ gs) p l at = elim (has_end gs) as (λ t. has_end gs ≡ t → LineFollows (g ∷ b ∷ d ∷ lines) (n ∷ x ∷ gs) (line_read p)) [
-  | true ↦ λ (e : has_end gs ≡ true). subst (LineFollows (g ∷ b ∷ d ∷ lines) (n ∷ x ∷ gs)) (sym (line_there Ended Bid p (at.place ∙ ap ended_place e) at.stage)) (
+  | true ↦ λ (e : has_end gs ≡ true). subst (LineFollows (g ∷ b ∷ d ∷ lines) (n ∷ x ∷ gs)) (sym (line_there Ended Bid p (at.column ∙ ap ended_column e) at.stage)) (
     ap (λ t. when (not t) kinds.NoEnd None) e,
     record {
       stage = at.stage;
-      place = refl;
+      column = refl;
       header = at.header;
       due = (let due : p.due ≡ p.header.bids - length lines = at.due in let more : length (lines ++ (n ∷ x ∷ gs) ∷ []) ≡ length lines + 1 = length-append lines
           ((n ∷ x ∷ gs) ∷ []) in omega arith);
@@ -110,19 +110,19 @@ bid_line_step g b d lines (n ∷ x ∷ gs) p l at = elim (has_end gs) as (λ t. 
     },
   )
   | false ↦ λ (e : has_end gs ≡ false). subst (LineFollows (g ∷ b ∷ d ∷ lines) (n ∷ x ∷ gs))
-      (sym (line_there Later Bid p (at.place ∙ ap ended_place e) at.stage))
+      (sym (line_there Later Bid p (at.column ∙ ap ended_column e) at.stage))
       (ap (λ t. when (not t) kinds.NoEnd None) e)
 ] refl
 
 pub line_step : (lines : List (List (List ℕ))) (words : List (List ℕ)) (p : Progress) → 0 < length words → IsAt lines words p
     → LineFollows lines words (line_read p)
 line_step lines [] p l at = absurd (let no : 0 < 0 = l in omega arith)
-line_step [] (k ∷ []) p l at = subst (LineFollows [] (k ∷ [])) (sym (line_there Second Goods p at.place at.stage)) refl
-line_step [] (k ∷ v ∷ ws) p l at = subst (LineFollows [] (k ∷ v ∷ ws)) (sym (line_there Later Goods p at.place at.stage)) (
+line_step [] (k ∷ []) p l at = subst (LineFollows [] (k ∷ [])) (sym (line_there Second Goods p at.column at.stage)) refl
+line_step [] (k ∷ v ∷ ws) p l at = subst (LineFollows [] (k ∷ v ∷ ws)) (sym (line_there Later Goods p at.column at.stage)) (
   refl,
   record {
     stage = refl;
-    place = refl;
+    column = refl;
     header = at.header;
     due = at.due;
     slots = at.slots;
@@ -132,12 +132,12 @@ line_step [] (k ∷ v ∷ ws) p l at = subst (LineFollows [] (k ∷ v ∷ ws)) (
     dummy = at.dummy;
   },
 )
-line_step (g ∷ []) (k ∷ []) p l at = subst (LineFollows (g ∷ []) (k ∷ [])) (sym (line_there Second Bids p at.place at.stage)) refl
-line_step (g ∷ []) (k ∷ v ∷ ws) p l at = subst (LineFollows (g ∷ []) (k ∷ v ∷ ws)) (sym (line_there Later Bids p at.place at.stage)) (
+line_step (g ∷ []) (k ∷ []) p l at = subst (LineFollows (g ∷ []) (k ∷ [])) (sym (line_there Second Bids p at.column at.stage)) refl
+line_step (g ∷ []) (k ∷ v ∷ ws) p l at = subst (LineFollows (g ∷ []) (k ∷ v ∷ ws)) (sym (line_there Later Bids p at.column at.stage)) (
   refl,
   record {
     stage = refl;
-    place = refl;
+    column = refl;
     header = at.header;
     due = at.due;
     slots = at.slots;
@@ -147,12 +147,12 @@ line_step (g ∷ []) (k ∷ v ∷ ws) p l at = subst (LineFollows (g ∷ []) (k 
     dummy = at.dummy;
   },
 )
-line_step (g ∷ b ∷ []) (k ∷ []) p l at = subst (LineFollows (g ∷ b ∷ []) (k ∷ [])) (sym (line_there Second Dummy p at.place at.stage)) refl
-line_step (g ∷ b ∷ []) (k ∷ v ∷ ws) p l at = subst (LineFollows (g ∷ b ∷ []) (k ∷ v ∷ ws)) (sym (line_there Later Dummy p at.place at.stage)) (
+line_step (g ∷ b ∷ []) (k ∷ []) p l at = subst (LineFollows (g ∷ b ∷ []) (k ∷ [])) (sym (line_there Second Dummy p at.column at.stage)) refl
+line_step (g ∷ b ∷ []) (k ∷ v ∷ ws) p l at = subst (LineFollows (g ∷ b ∷ []) (k ∷ v ∷ ws)) (sym (line_there Later Dummy p at.column at.stage)) (
   refl,
   record {
     stage = refl;
-    place = refl;
+    column = refl;
     header = at.header;
     due = at.due;
     slots = at.slots;

@@ -12,8 +12,8 @@ use Rattle.cats_text.specs.Internal.Parsing.{Reading, kept_of}
 use Rattle.cats_text.specs.declared.parser.Keeping.{Keeping}
 use Rattle.cats_text.specs.declared.parser.Stage.{Stage}
 use Rattle.cats_text.specs.declared.parser.Stage.TheVariants.{Goods, Bids, Dummy, Bid}
-use Rattle.cats_text.specs.declared.parser.Place.{Place}
-use Rattle.cats_text.specs.declared.parser.Place.TheVariants.{First, Second, Later, Ended}
+use Rattle.cats_text.specs.declared.parser.Column.{Column}
+use Rattle.cats_text.specs.declared.parser.Column.TheVariants.{First, Second, Later, Ended}
 use Rattle.cats_text.specs.declared.parser.Header.{Header}
 use Rattle.cats_text.specs.declared.limits.TheConstants.{MAX_GOODS, MAX_BIDS, MAX_DUMMY}
 
@@ -23,25 +23,25 @@ stage_of (_ ∷ []) = Bids
 stage_of (_ ∷ _ ∷ []) = Dummy
 stage_of (_ ∷ _ ∷ _ ∷ _) = Bid
 
-abbrev pub header_place : List Word → Place
-header_place [] = First
-header_place (_ ∷ []) = Second
-header_place (_ ∷ _ ∷ _) = Later
+abbrev pub header_column : List Word → Column
+header_column [] = First
+header_column (_ ∷ []) = Second
+header_column (_ ∷ _ ∷ _) = Later
 
-abbrev pub ended_place : Bool → Place
-ended_place true = Ended
-ended_place false = Later
+abbrev pub ended_column : Bool → Column
+ended_column true = Ended
+ended_column false = Later
 
-abbrev pub bid_place : List Word → Place
-bid_place [] = First
-bid_place (_ ∷ []) = Second
-bid_place (_ ∷ _ ∷ gs) = ended_place (has_end gs)
+abbrev pub bid_column : List Word → Column
+bid_column [] = First
+bid_column (_ ∷ []) = Second
+bid_column (_ ∷ _ ∷ gs) = ended_column (has_end gs)
 
-abbrev pub place_of : List (List Word) → List Word → Place
-place_of [] words = header_place words
-place_of (_ ∷ []) words = header_place words
-place_of (_ ∷ _ ∷ []) words = header_place words
-place_of (_ ∷ _ ∷ _ ∷ _) words = bid_place words
+abbrev pub column_of : List (List Word) → List Word → Column
+column_of [] words = header_column words
+column_of (_ ∷ []) words = header_column words
+column_of (_ ∷ _ ∷ []) words = header_column words
+column_of (_ ∷ _ ∷ _ ∷ _) words = bid_column words
 
 abbrev pub values_of : List (List Word) → List Word → Header
 values_of [] words = record { goods = header_value words; bids = 0; dummy = 0 }
@@ -78,7 +78,7 @@ kept_slots keeping G lines = fold (λ slots l. put_slot slots (line_number l) (k
 -- p is what the parser keeps behind these lines and, in the next, these words
 pub record IsAt (lines : List (List Word)) (words : List Word) (p : Progress) : Type 0 where
   pub stage : p.stage ≡ stage_of lines
-  pub place : p.place ≡ place_of lines words
+  pub column : p.column ≡ column_of lines words
   pub header : p.header ≡ values_of lines words
   pub due : p.due ≡ p.header.bids - length (drop 3 lines)
   pub slots : p.slots ≡ kept_slots p.keeping p.header.goods (drop 3 lines)

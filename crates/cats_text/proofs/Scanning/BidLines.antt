@@ -14,8 +14,8 @@ use Rattle.cats_text.specs.declared.word.Keyword.{Keyword as Key}
 use Rattle.cats_text.specs.declared.word.Keyword.TheVariants as keywords
 use Rattle.cats_text.specs.declared.word.Word.TheVariants.{Keyword, Number, Decimal as Fraction, End, Other}
 use Rattle.cats_text.specs.declared.parser.Keeping.{Keeping}
-use Rattle.cats_text.specs.declared.parser.Place.{Place}
-use Rattle.cats_text.specs.declared.parser.Place.TheVariants.{First, Second, Later, Ended}
+use Rattle.cats_text.specs.declared.parser.Column.{Column}
+use Rattle.cats_text.specs.declared.parser.Column.TheVariants.{First, Second, Later, Ended}
 use Rattle.cats_text.specs.declared.limits.TheConstants.{MAX_GOODS, MAX_BIDS, MAX_DUMMY}
 use Rattle.cats_text.proofs.Parsing.Headers.{read_at}
 use Rattle.cats_text.proofs.Parsing.Lines.{line_at}
@@ -221,9 +221,9 @@ keeps_keyword p k End = keeps_err p _
 keeps_keyword p k Other = keeps_err p _
 
 keeps_header_number : (p : Progress) (stage : Stage) (v : ℕ) → Keeps p (elim stage [
-  | Goods ↦ cond (ltb MAX_GOODS v) (Err kinds.TooLarge) (Ok (record p { place = Later; header = record p.header { goods = v } }))
-  | Bids ↦ cond (ltb MAX_BIDS v) (Err kinds.TooLarge) (Ok (record p { place = Later; header = record p.header { bids = v }; due = v }))
-  | Dummy ↦ cond (ltb MAX_DUMMY v) (Err kinds.TooLarge) (Ok (record p { place = Later; header = record p.header { dummy = v } }))
+  | Goods ↦ cond (ltb MAX_GOODS v) (Err kinds.TooLarge) (Ok (record p { column = Later; header = record p.header { goods = v } }))
+  | Bids ↦ cond (ltb MAX_BIDS v) (Err kinds.TooLarge) (Ok (record p { column = Later; header = record p.header { bids = v }; due = v }))
+  | Dummy ↦ cond (ltb MAX_DUMMY v) (Err kinds.TooLarge) (Ok (record p { column = Later; header = record p.header { dummy = v } }))
   | Bid ↦ Err kinds.Header
 ])
 keeps_header_number p Goods v = keeps_cond p _ _ _ (keeps_err p _) (keeps_ok p _ refl refl)
@@ -241,13 +241,13 @@ keeps_second p Other = keeps_err p _
 keeps_number : (p : Progress) (w : Kept) → Keeps p (number_read p w)
 keeps_number p (Keyword j n) = keeps_err p _
 keeps_number p (Number v) =
-    let last : Reading = Ok (record p { place = Second; draft = record { number = v; price = 0; dummy = None } }) in
+    let last : Reading = Ok (record p { column = Second; draft = record { number = v; price = 0; dummy = None } }) in
     let new : Reading = cond (is_some_bid (slice_get p.slots v)) (Err kinds.RepeatedNumber) last in
     let low : Reading = cond (leb p.header.bids v) (Err kinds.BidNumber) new in
     keeps_cond p (eqb p.due 0) (Err kinds.ExtraBid) low (keeps_err p kinds.ExtraBid)
     (keeps_cond p (leb p.header.bids v) (Err kinds.BidNumber) new (keeps_err p kinds.BidNumber)
     (keeps_cond p (is_some_bid (slice_get p.slots v)) (Err kinds.RepeatedNumber) last (keeps_err p kinds.RepeatedNumber)
-    (keeps_ok p (record p { place = Second; draft = record { number = v; price = 0; dummy = None } }) refl refl)))
+    (keeps_ok p (record p { column = Second; draft = record { number = v; price = 0; dummy = None } }) refl refl)))
 keeps_number p (Fraction d) = keeps_err p _
 keeps_number p End = keeps_err p _
 keeps_number p Other = keeps_err p _
@@ -281,7 +281,7 @@ keeps_good p (Fraction d) = keeps_err p _
 keeps_good p End = keeps_cond p _ _ _ (keeps_err p _) (keeps_ok p _ refl refl)
 keeps_good p Other = keeps_err p _
 
-keeps_at : (place : Place) (stage : Stage) (p : Progress) (w : Kept) → Keeps p (read_at place stage p w)
+keeps_at : (column : Column) (stage : Stage) (p : Progress) (w : Kept) → Keeps p (read_at column stage p w)
 keeps_at First Goods p w = keeps_keyword p keywords.Goods w
 keeps_at First Bids p w = keeps_keyword p keywords.Bids w
 keeps_at First Dummy p w = keeps_keyword p keywords.Dummy w
@@ -301,14 +301,14 @@ keeps_at Ended Bid p w = keeps_err p _
 
 -- a word keeps the line
 pub keeps_word : (p : Progress) (w : Kept) → Keeps p (word_read p w)
-keeps_word p w = keeps_at p.place p.stage p w
+keeps_word p w = keeps_at p.column p.stage p w
 
 abbrev ranked : ℕ → Reading → Type 0
 ranked k (Ok q) = rank q.stage ≤ suc k
 ranked k (Err kind) = Unit {0}
 
 -- a line's end goes on by one line at most
-ranked_at : (place : Place) (stage : Stage) (p : Progress) → p.stage ≡ stage → ranked (rank stage) (line_at place stage p)
+ranked_at : (column : Column) (stage : Stage) (p : Progress) → p.stage ≡ stage → ranked (rank stage) (line_at column stage p)
 ranked_at First Goods p e = tt
 ranked_at Second Goods p e = tt
 ranked_at Later Goods p e = omega arith
@@ -327,7 +327,7 @@ ranked_at Later Bid p e = tt
 ranked_at Ended Bid p e = subst (λ (s : Stage). rank s ≤ 4) (sym e) (omega arith)
 
 ranked_line : (p : Progress) → ranked (rank p.stage) (line_read p)
-ranked_line p = ranked_at p.place p.stage p refl
+ranked_line p = ranked_at p.column p.stage p refl
 
 -- ---- lines begun and lines ended
 

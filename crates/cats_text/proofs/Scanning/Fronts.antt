@@ -9,7 +9,7 @@ use Rattle.cats_text.specs.Numbers.{is_digit, digits_alone}
 use Rattle.cats_text.specs.Internal.Machine.{word_from, word_with, summary}
 use Rattle.cats_text.specs.Internal.Front.{IsPlain, IsKept, IsFront}
 use Rattle.cats_text.specs.declared.word.Word.{Word}
-use Rattle.cats_text.specs.declared.word.Decimal.{Decimal}
+use Rattle.cats_text.specs.declared.price.Decimal.{Decimal}
 use Rattle.cats_text.specs.declared.word.Word.TheVariants.{Number, Decimal as Fraction, End}
 use Rattle.cats_text.proofs.Scanning.ManyBytes.{digits_plain}
 
@@ -57,7 +57,7 @@ end_kept (b ∷ bytes) l e = record {
 pub decimal_kept : (bytes : List ℕ) (count v : ℕ) (d : Decimal) (places : ℕ) → 0 < count → count < length bytes → get_or bytes count 0 ≡ 46
     → digits_alone (take count bytes) ≡ true → Number v ≡ fold word_with (Number 0) (take count bytes)
     → places ≤ length (drop (count + 1) bytes) → digits_alone (take places (drop (count + 1) bytes)) ≡ true
-    → Fraction d ≡ fold word_with (Fraction (record { whole = v; millionths = 0; places = 0; fine = false })) (take places (drop (count + 1) bytes))
+    → Fraction d ≡ fold word_with (Fraction (record { whole = v; millionths = 0; decimals = 0; fine = false })) (take places (drop (count + 1) bytes))
     → IsKept bytes (Fraction d) (count + 1 + places)
 decimal_kept bytes count v d places some within point digits value room more fraction =
     let rest : length (drop (count + 1) bytes) ≡ length bytes - (count + 1) = length-drop (count + 1) bytes in

@@ -22,7 +22,7 @@ use Rattle.cats_text.specs.Internal.Machine.{word_from, word_with, decimal_with,
 use Rattle.cats_text.specs.Internal.Front.{IsPlain, IsKept}
 use Rattle.cats_text.specs.declared.word.Word.{Word}
 use Rattle.cats_text.specs.declared.word.Word.TheVariants.{Number, Decimal as Fraction}
-use Rattle.cats_text.specs.declared.word.Decimal.{Decimal}
+use Rattle.cats_text.specs.declared.price.Decimal.{Decimal}
 use Rattle.cats_text.specs.declared.word.TheConstants.{HELD}
 
 pub record IsNumberSoFar (first : ℕ) (bytes : List ℕ) (count sum : ℕ) : Type 0 where

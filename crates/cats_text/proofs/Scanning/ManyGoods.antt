@@ -8,9 +8,9 @@ use Rattle.cats_text.specs.Internal.Progress.{Progress}
 use Rattle.cats_text.specs.Internal.Parsing.{good_read, word_read}
 use Rattle.cats_text.specs.Internal.Scanning.{State, IsInBidLine, MeetsBidLine, IsScanned, is_before_word, IsInLine}
 use Rattle.cats_text.specs.declared.parser.Stage.{Stage}
-use Rattle.cats_text.specs.declared.parser.Place.{Place}
+use Rattle.cats_text.specs.declared.parser.Column.{Column}
 use Rattle.cats_text.specs.declared.parser.Stage.TheVariants.{Bid}
-use Rattle.cats_text.specs.declared.parser.Place.TheVariants.{Later}
+use Rattle.cats_text.specs.declared.parser.Column.TheVariants.{Later}
 use Rattle.cats_text.specs.declared.scanner.Mode.{Mode}
 use Rattle.cats_text.specs.declared.scanner.Mode.TheVariants.{Between}
 use Rattle.cats_text.specs.declared.word.Word.TheVariants.{Number}
@@ -23,13 +23,13 @@ with_good p n = record p { goods = p.goods ++ n ∷ [] }
 real_good_read : (p : Progress) (n : ℕ) → n < p.header.goods → has_number p.goods n ≡ false → good_read p n ≡ Ok (with_good p n)
 real_good_read p n l new = rw (lt-leb (p.header.goods + p.header.dummy) n (omega arith), lt-ltb n p.header.goods l, new) refl
 
-good_word : (p : Progress) (n : ℕ) → p.stage ≡ Bid → p.place ≡ Later → word_read p (Number n) ≡ good_read p n
-good_word p n stage place =
-    let is : p ≡ record p { stage = Bid; place = Later } = ap₂ (λ (s : Stage) (l : Place). record p { stage = s; place = l }) stage place in
+good_word : (p : Progress) (n : ℕ) → p.stage ≡ Bid → p.column ≡ Later → word_read p (Number n) ≡ good_read p n
+good_word p n stage column =
+    let is : p ≡ record p { stage = Bid; column = Later } = ap₂ (λ (s : Stage) (l : Column). record p { stage = s; column = l }) stage column in
     ap (λ (q : Progress). word_read q (Number n)) is ∙ sym (ap (λ (q : Progress). good_read q n) is)
 
 pub good_more : (s0 s t : State) (w v : Bool) (bytes : List ℕ) (place n taken : ℕ) → IsScanned s0 s w bytes (drop place bytes) → s.mode ≡ Between
-    → s.progress.stage ≡ Bid → s.progress.place ≡ Later
+    → s.progress.stage ≡ Bid → s.progress.column ≡ Later
     → n < s.progress.header.goods → has_number s.progress.goods n ≡ false → IsFront (drop place bytes) (Number n) taken
     → t ≡ record s { progress = with_good s.progress n } → v ≡ false
     → IsScanned s0 t v bytes (drop (place + taken) bytes) × (place + taken ≤ length bytes) × (0 < taken)

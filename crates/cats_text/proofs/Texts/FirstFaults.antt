@@ -125,7 +125,7 @@ kept_ends n (l ∷ ls) r =
 pub at_start : (k : Keeping) → IsAt [] [] (start k)
 at_start k = record {
   stage = refl;
-  place = refl;
+  column = refl;
   header = refl;
   due = refl;
   slots = refl;

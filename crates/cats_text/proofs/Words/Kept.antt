@@ -16,7 +16,7 @@ use Rattle.cats_text.specs.Internal.Machine.{word_from, word_with, decimal_with,
 use Rattle.cats_text.specs.declared.word.Keyword.{Keyword as Key}
 use Rattle.cats_text.specs.declared.word.Keyword.TheVariants.{Goods, Bids, Dummy}
 use Rattle.cats_text.specs.declared.word.Word.{Word}
-use Rattle.cats_text.specs.declared.word.Decimal.{Decimal}
+use Rattle.cats_text.specs.declared.price.Decimal.{Decimal}
 use Rattle.cats_text.specs.declared.word.Word.TheVariants.{Keyword, Number, Decimal as Fraction, End, Other}
 use Rattle.cats_text.specs.declared.word.TheConstants.{HELD}
 use Rattle.cats_text.proofs.Words.Places.{places_from, places-push, place_value_late, digit_bounds, places_below_one}
@@ -42,7 +42,7 @@ pub record IsFraction (w : List ℕ) (d : Decimal) : Type 0 where
   pub number : is_number whole ≡ true
   pub digits : digits_alone behind ≡ true
   pub value : Holds d.whole (number_of whole)
-  pub count : d.places ≡ min 6 (length behind)
+  pub count : d.decimals ≡ min 6 (length behind)
   pub millionths : d.millionths ≡ places_from 0 behind
   pub fine : d.fine ≡ has_place_from 6 behind
 
@@ -186,11 +186,11 @@ tells_number : (a : ℕ) (w : List ℕ) (b v : ℕ) → Tells (a ∷ w) (Number 
 tells_number a w b v h =
     elim (is_digit b) as (λ t. is_digit b ≡ t
     → Tells ((a ∷ w) ++ b ∷ [])
-    (cond t (Number (cond (ltb v HELD) (v * 10 + (b - 48)) v)) (cond (eqb b 46) (Fraction (record { whole = v; millionths = 0; places = 0; fine = false }))
+    (cond t (Number (cond (ltb v HELD) (v * 10 + (b - 48)) v)) (cond (eqb b 46) (Fraction (record { whole = v; millionths = 0; decimals = 0; fine = false }))
     Other))) [
       | true ↦ λ (digit : is_digit b ≡ true). (digits-more (a ∷ w) b h.0 digit, rw (number_of-push (a ∷ w) b) (holds_more v (number_of (a ∷ w)) (b - 48) h.1))
       | false ↦ λ (digit : is_digit b ≡ false). elim (eqb b 46) as (λ t. eqb b 46 ≡ t
-          → Tells ((a ∷ w) ++ b ∷ []) (cond t (Fraction (record { whole = v; millionths = 0; places = 0; fine = false })) Other)) [
+          → Tells ((a ∷ w) ++ b ∷ []) (cond t (Fraction (record { whole = v; millionths = 0; decimals = 0; fine = false })) Other)) [
             | true ↦ λ (point : eqb b 46 ≡ true). record {
               whole = a ∷ w;
               behind = [];
@@ -237,14 +237,14 @@ has_place_early : (ds : List ℕ) → length ds ≤ 6 → has_place_from 6 ds �
 has_place_early ds l = ap (λ (r : List ℕ). list_any (λ c. not (eqb c 48)) r) (drop_of_length-le ds l)
 
 -- a place more, of the first six
-fraction_early : (w : List ℕ) (d : Decimal) (b : ℕ) → IsFraction w d → is_digit b ≡ true → d.places < 6
-    → IsFraction (w ++ b ∷ []) (record d { millionths = min (d.millionths + (b - 48) * place_value_of d.places) (2 ^ 64 - 1); places = d.places + 1 })
+fraction_early : (w : List ℕ) (d : Decimal) (b : ℕ) → IsFraction w d → is_digit b ≡ true → d.decimals < 6
+    → IsFraction (w ++ b ∷ []) (record d { millionths = min (d.millionths + (b - 48) * place_value_of d.decimals) (2 ^ 64 - 1); decimals = d.decimals + 1 })
 fraction_early w d b f digit early =
-    let count : d.places ≡ min 6 (length f.behind) = f.count in
-    let same : d.places ≡ 0 + length f.behind = omega arith in
+    let count : d.decimals ≡ min 6 (length f.behind) = f.count in
+    let same : d.decimals ≡ 0 + length f.behind = omega arith in
     let more : length (f.behind ++ b ∷ []) ≡ length f.behind + 1 = length-append f.behind (b ∷ []) in
     let digits : digits_alone (f.behind ++ b ∷ []) ≡ true = digits-more f.behind b f.digits digit in
-    let sum : d.millionths + (b - 48) * place_value_of d.places ≡ places_from 0 (f.behind ++ b ∷ []) =
+    let sum : d.millionths + (b - 48) * place_value_of d.decimals ≡ places_from 0 (f.behind ++ b ∷ []) =
     ap (λ v. d.millionths + (b - 48) * place_value_of v) same ∙ ap (λ v. v + (b - 48) * place_value_of (0 + length f.behind)) f.millionths
     ∙ sym (places-push 0 f.behind b) in
     let low : places_from 0 (f.behind ++ b ∷ []) ≤ 1000000 = places_below_one (f.behind ++ b ∷ []) digits in
@@ -275,10 +275,10 @@ one_more ds b l = sym (ap (λ (r : List ℕ). list_any (λ c. not (eqb c 48)) r)
     or_false false = refl
 
 -- a place more, behind the first six
-fraction_late : (w : List ℕ) (d : Decimal) (b : ℕ) → IsFraction w d → is_digit b ≡ true → 6 ≤ d.places
+fraction_late : (w : List ℕ) (d : Decimal) (b : ℕ) → IsFraction w d → is_digit b ≡ true → 6 ≤ d.decimals
     → IsFraction (w ++ b ∷ []) (record d { fine = d.fine || not (eqb (b - 48) 0) })
 fraction_late w d b f digit late =
-    let count : d.places ≡ min 6 (length f.behind) = f.count in
+    let count : d.decimals ≡ min 6 (length f.behind) = f.count in
     let long : 6 ≤ length f.behind = omega arith in
     let more : length (f.behind ++ b ∷ []) ≡ length f.behind + 1 = length-append f.behind (b ∷ []) in
     let none : place_value_of (0 + length f.behind) ≡ 0 = place_value_late (0 + length f.behind) (omega arith) in
@@ -299,12 +299,12 @@ fraction_late w d b f digit late =
 
 tells_fraction : (a : ℕ) (w : List ℕ) (b : ℕ) (d : Decimal) → Tells (a ∷ w) (Fraction d) → Tells ((a ∷ w) ++ b ∷ []) (word_with (Fraction d) b)
 tells_fraction a w b d f = elim (is_digit b) as (λ t. is_digit b ≡ t → Tells ((a ∷ w) ++ b ∷ []) (cond t (Fraction (decimal_with d (b - 48))) Other)) [
-  | true ↦ λ (digit : is_digit b ≡ true). elim (ltb d.places 6) as (λ t. ltb d.places 6 ≡ t
+  | true ↦ λ (digit : is_digit b ≡ true). elim (ltb d.decimals 6) as (λ t. ltb d.decimals 6 ≡ t
       → IsFraction ((a ∷ w) ++ b ∷ [])
-      (cond t (record d { millionths = min (d.millionths + (b - 48) * place_value_of d.places) (2 ^ 64 - 1); places = d.places + 1 })
+      (cond t (record d { millionths = min (d.millionths + (b - 48) * place_value_of d.decimals) (2 ^ 64 - 1); decimals = d.decimals + 1 })
       (record d { fine = d.fine || not (eqb (b - 48) 0) }))) [
-        | true ↦ λ (e : ltb d.places 6 ≡ true). fraction_early (a ∷ w) d b f digit (ltb-true d.places 6 e)
-        | false ↦ λ (e : ltb d.places 6 ≡ false). fraction_late (a ∷ w) d b f digit (ltb-false d.places 6 e)
+        | true ↦ λ (e : ltb d.decimals 6 ≡ true). fraction_early (a ∷ w) d b f digit (ltb-true d.decimals 6 e)
+        | false ↦ λ (e : ltb d.decimals 6 ≡ false). fraction_late (a ∷ w) d b f digit (ltb-false d.decimals 6 e)
       ] refl
   | false ↦ λ (digit : is_digit b ≡ false). λ t. other f.whole f.behind t f.number digit
       (append_assoc (a ∷ w) (b ∷ []) t ∙ ap (λ ds. ds ++ b ∷ t) f.is ∙ append_assoc f.whole (46 ∷ f.behind) (b ∷ t))

@@ -9,7 +9,7 @@ use Rattle.cats_text.specs.Internal.Parsing.{is_same_keyword}
 use Rattle.cats_text.specs.declared.word.Keyword.{Keyword as Key}
 use Rattle.cats_text.specs.declared.word.Keyword.TheVariants.{Goods, Bids, Dummy}
 use Rattle.cats_text.specs.declared.word.Word.{Word}
-use Rattle.cats_text.specs.declared.word.Decimal.{Decimal}
+use Rattle.cats_text.specs.declared.price.Decimal.{Decimal}
 use Rattle.cats_text.specs.declared.word.Word.TheVariants.{Keyword, Number, Decimal as Fraction, End, Other}
 use Rattle.cats_text.proofs.Words.Kept.{Tells, IsOther, digit_not, first_of_take, digits-not, whole-digits, point-digits, whole-point, places-point, point-point}
 
@@ -19,7 +19,7 @@ tells_number _ = false
 
 abbrev pub tells_price : Word → Bool
 tells_price (Number v) = true
-tells_price (Fraction d) = not (eqb d.places 0)
+tells_price (Fraction d) = not (eqb d.decimals 0)
 tells_price _ = false
 
 abbrev pub tells_end : Word → Bool
@@ -128,7 +128,7 @@ told_fraction a w d f = at f.whole f.is f.number
               (whole-point (c ∷ cs) f.behind n)
               ∙ ap (λ x. x && (not (has_point ((c ∷ cs) ++ 46 ∷ f.behind)) || is_number (places ((c ∷ cs) ++ 46 ∷ f.behind)))) n
               ∙ ap (λ x. not x || is_number (places ((c ∷ cs) ++ 46 ∷ f.behind))) (point-point (c ∷ cs) f.behind)
-              ∙ ap is_number (places-point (c ∷ cs) f.behind n) ∙ price_behind f.behind d.places f.digits f.count;
+              ∙ ap is_number (places-point (c ∷ cs) f.behind n) ∙ price_behind f.behind d.decimals f.digits f.count;
           ended = others.0;
           keyword = others.1;
         }

@@ -5,7 +5,7 @@ use Rattle.cats_text.specs.Numbers.{is_digit}
 use Rattle.cats_text.specs.Internal.Keywords.{keyword_text, place_value_of}
 use Rattle.cats_text.specs.declared.word.Keyword.TheVariants.{Goods, Bids, Dummy}
 use Rattle.cats_text.specs.declared.word.Word.{Word}
-use Rattle.cats_text.specs.declared.word.Decimal.{Decimal}
+use Rattle.cats_text.specs.declared.price.Decimal.{Decimal}
 use Rattle.cats_text.specs.declared.word.Word.TheVariants.{Keyword, Number, Decimal as Fraction, End, Other}
 use Rattle.cats_text.specs.declared.word.TheConstants.{HELD}
 
@@ -17,16 +17,16 @@ word_from b = if is_digit b then Number (b - 48) else if b == 35 then End else i
 
 abbrev pub decimal_with : Decimal → ℕ → Decimal
 decimal_with d digit =
-    if nat_lt d.places 6 then record d {
-      millionths = min (d.millionths + digit * place_value_of d.places) (2 ^ 64 - 1);
-      places = d.places + 1;
+    if nat_lt d.decimals 6 then record d {
+      millionths = min (d.millionths + digit * place_value_of d.decimals) (2 ^ 64 - 1);
+      decimals = d.decimals + 1;
     }
     else record d { fine = d.fine || not (digit == 0) }
 
 abbrev pub word_with : Word → ℕ → Word
 word_with (Number n) b =
     if is_digit b then Number (if nat_lt n HELD then n * 10 + (b - 48) else n)
-    else if b == 46 then Fraction (record { whole = n; millionths = 0; places = 0; fine = false }) else Other
+    else if b == 46 then Fraction (record { whole = n; millionths = 0; decimals = 0; fine = false }) else Other
 word_with (Fraction d) b = if is_digit b then Fraction (decimal_with d (b - 48)) else Other
 word_with (Keyword k n) b = if nat_lt n (length (keyword_text k)) && (get_or (keyword_text k) n 0 == b)
     then Keyword k (n + 1) else Other

@@ -16,7 +16,7 @@ use Rattle.cats_text.specs.declared.word.Word.{Word}
 use Rattle.cats_text.specs.declared.word.Word.TheVariants as words
 use Rattle.cats_text.specs.declared.parser.Stage.{Stage}
 use Rattle.cats_text.specs.declared.parser.Stage.TheVariants.{Goods, Bids, Dummy, Bid}
-use Rattle.cats_text.specs.declared.parser.Place.TheVariants.{First, Second, Later, Ended}
+use Rattle.cats_text.specs.declared.parser.Column.TheVariants.{First, Second, Later, Ended}
 use Rattle.cats_text.specs.declared.limits.TheConstants.{MAX_GOODS, MAX_BIDS, MAX_DUMMY}
 
 abbrev pub Reading : Type 0
@@ -27,7 +27,7 @@ abbrev pub start : Keeping → Progress
 start keeping = record {
   keeping = keeping;
   stage = Goods;
-  place = First;
+  column = First;
   header = record { goods = 0; bids = 0; dummy = 0 };
   due = 0;
   slots = [];
@@ -45,17 +45,17 @@ is_same_keyword _ _ = false
 
 abbrev pub keyword_read : Progress → Keyword → Word → Reading
 keyword_read p k (words.Keyword j n) = if is_same_keyword j k && (n == length (keyword_text k))
-    then Ok (record p { place = Second }) else Err kinds.Header
+    then Ok (record p { column = Second }) else Err kinds.Header
 keyword_read p k _ = Err kinds.Header
 
 abbrev pub header_number_read : Progress → Word → Reading
 header_number_read p (words.Number n) = elim p.stage [
   | Goods ↦ if nat_lt MAX_GOODS n then Err kinds.TooLarge
-      else Ok (record p { place = Later; header = record p.header { goods = n } })
+      else Ok (record p { column = Later; header = record p.header { goods = n } })
   | Bids ↦ if nat_lt MAX_BIDS n then Err kinds.TooLarge
-      else Ok (record p { place = Later; header = record p.header { bids = n }; due = n })
+      else Ok (record p { column = Later; header = record p.header { bids = n }; due = n })
   | Dummy ↦ if nat_lt MAX_DUMMY n then Err kinds.TooLarge
-      else Ok (record p { place = Later; header = record p.header { dummy = n } })
+      else Ok (record p { column = Later; header = record p.header { dummy = n } })
   | Bid ↦ Err kinds.Header
 ]
 header_number_read p _ = Err kinds.NotANumber
@@ -71,7 +71,7 @@ number_read p (words.Number n) =
     if p.due == 0 then Err kinds.ExtraBid
     else if nat_le p.header.bids n then Err kinds.BidNumber
     else if is_some_bid (slice_get p.slots n) then Err kinds.RepeatedNumber
-    else Ok (record p { place = Second; draft = record { number = n; price = 0; dummy = None } })
+    else Ok (record p { column = Second; draft = record { number = n; price = 0; dummy = None } })
 number_read p _ = Err kinds.NotANumber
 
 -- the value in millionths of so many whole units and millionths, and perhaps finer places
@@ -83,12 +83,12 @@ price_parts whole millionths fine =
     else Ok (min (whole * 1000000 + millionths) (2 ^ 64 - 1))
 
 abbrev pub with_price : Progress → Result ℕ Kind → Reading
-with_price p (Ok millionths) = Ok (record p { place = Later; draft = record p.draft { price = millionths } })
+with_price p (Ok millionths) = Ok (record p { column = Later; draft = record p.draft { price = millionths } })
 with_price p (Err kind) = Err kind
 
 abbrev pub price_read : Progress → Word → Reading
 price_read p (words.Number n) = with_price p (price_parts n 0 false)
-price_read p (words.Decimal d) = if d.places == 0 then Err kinds.NotANumber
+price_read p (words.Decimal d) = if d.decimals == 0 then Err kinds.NotANumber
     else with_price p (price_parts d.whole d.millionths d.fine)
 price_read p _ = Err kinds.NotANumber
 
@@ -104,17 +104,17 @@ good_read p n =
     else dummy_read p p.draft.dummy (n - p.header.goods)
 
 abbrev pub end_read : Progress → Reading
-end_read p = if length p.goods == 0 then Err kinds.EmptyBundle else Ok (record p { place = Ended })
+end_read p = if length p.goods == 0 then Err kinds.EmptyBundle else Ok (record p { column = Ended })
 
 abbrev pub good_or_end_read : Progress → Word → Reading
 good_or_end_read p (words.Number n) = good_read p n
 good_or_end_read p words.End = end_read p
 good_or_end_read p _ = Err kinds.NotANumber
 
--- ---- a word, by its place
+-- ---- a word, by its column
 
 abbrev pub word_read : Progress → Word → Reading
-word_read p w = elim p.place [
+word_read p w = elim p.column [
   | First ↦ elim p.stage [
     | Goods ↦ keyword_read p keywords.Goods w
     | Bids ↦ keyword_read p keywords.Bids w
@@ -152,22 +152,22 @@ drafted p = record { price = p.draft.price; goods = rising_of p.goods; dummy = p
 
 abbrev pub with_bid : Progress → Progress
 with_bid p = record p {
-  place = First;
+  column = First;
   due = p.due - 1;
   slots = put_slot p.slots p.draft.number (kept_of p.keeping (drafted p));
   goods = [];
 }
 
 abbrev pub header_line_read : Progress → Stage → Reading
-header_line_read p next = elim p.place [
+header_line_read p next = elim p.column [
   | First ↦ Err kinds.Header
   | Second ↦ Err kinds.Header
-  | Later ↦ Ok (record p { place = First; stage = next })
+  | Later ↦ Ok (record p { column = First; stage = next })
   | Ended ↦ Err kinds.Header
 ]
 
 abbrev pub bid_read : Progress → Reading
-bid_read p = elim p.place [
+bid_read p = elim p.column [
   | First ↦ Err kinds.NoEnd
   | Second ↦ Err kinds.NoEnd
   | Later ↦ Err kinds.NoEnd

@@ -8,7 +8,7 @@ use Rattle.cats_text.specs.declared.parser.Stop.{Stop}
 use Rattle.cats_text.specs.declared.parser.Stop.TheVariants.{Fault, Memory}
 use Rattle.cats_text.specs.declared.parser.Stage.{Stage}
 use Rattle.cats_text.specs.declared.parser.Stage.TheVariants.{Bid}
-use Rattle.cats_text.specs.declared.parser.Place.{Place}
+use Rattle.cats_text.specs.declared.parser.Column.{Column}
 use Rattle.cats_text.specs.declared.parser.Header.{Header}
 use Rattle.cats_text.specs.declared.parser.Draft.{Draft}
 use Rattle.cats_text.specs.declared.parser.Parser.{Parser}
@@ -17,7 +17,7 @@ use Rattle.cats_text.specs.declared.slots.Slots.{Slots}
 pub record Progress : Type 0 where
   pub keeping : Keeping
   pub stage : Stage
-  pub place : Place
+  pub column : Column
   pub header : Header
   pub due : ℕ
   pub slots : List (Option PlainBid)
@@ -38,7 +38,7 @@ abbrev pub progress : Parser → Progress
 progress p = record {
   keeping = p.keeping;
   stage = p.stage;
-  place = p.place;
+  column = p.column;
   header = p.header;
   due = p.due;
   slots = plain_slots (slot_list p.slots);

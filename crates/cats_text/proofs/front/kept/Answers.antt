@@ -21,7 +21,7 @@ returns-in-46 c =
     (subst (λ (ds : List ℕ). c.with_places-places.result.1 ≤ length ds) rest places.bound)
     (subst (λ (ds : List ℕ). digits_alone (take c.with_places-places.result.1 ds) ≡ true) rest places.digits)
     (subst (λ (ds : List ℕ). Decimal c.with_places-places.result.0
-    ≡ fold word_with (Decimal (record { whole = c.with_digits-value.result.0; millionths = 0; places = 0; fine = false }))
+    ≡ fold word_with (Decimal (record { whole = c.with_digits-value.result.0; millionths = 0; decimals = 0; fine = false }))
     (take c.with_places-places.result.1 ds)) rest places.value)
 
 pub returns-in_default-2 : goal.returns-in_default-2

@@ -2,7 +2,7 @@ use Rattle.std.proofs.Common.{◌<◌, ◌++◌, length, drop, decimal, sym, ap,
 use Rattle.std.proofs.lemmas.Fmt.{length-decimal-le, decimal_nonempty}
 use Rattle.cats_text.proofs.Writing.SixDigits.{places_text_none, places_written}
 use Rattle.cats_text.proofs.Writing.Ends.{byte_in_place}
-use Rattle.cats_text.proofs.layout.write_places.Goals as goal
+use Rattle.cats_text.proofs.price.write_places.Goals as goal
 
 pub returns-then-millionths-eq0-clause-written : goal.returns-then-millionths-eq0-clause-written
 returns-then-millionths-eq0-clause-written c =

@@ -1,6 +1,6 @@
 use Rattle.std.proofs.Common.{◌∙◌, sym, arith}
 use Rattle.cats_text.proofs.Writing.Zeros.{zero_dropped, last_stays}
-use Rattle.cats_text.proofs.layout.without_zeros.Goals as goal
+use Rattle.cats_text.proofs.price.without_zeros.Goals as goal
 
 pub loop-left-preserved : goal.loop-left-preserved
 loop-left-preserved c =

@@ -1,0 +1,139 @@
+//! Prices: the decimals that come, their value in millionths, and their text.
+
+ghost use Rattle.std.specs.Prelude.{◌≡◌, ◌+◌, ◌++◌, ◌<◌, ◌≤◌, length, drop, OnOk, decimal};
+ghost use Rattle.cats_text.specs.Layout.{price_text, places_text, without_zeros};
+ghost use Rattle.cats_text.specs.Internal.Keywords.{place_value_of};
+ghost use Rattle.cats_text.specs.Internal.Parsing.{price_parts};
+ghost use Rattle.cats_text.specs.Internal.Progress.{Answers};
+
+use crate::fault::Kind;
+use crate::limits::MAX_PRICE;
+use crate::parser::Stop;
+use itoa::{Buffer, write_digits};
+use std::alloc::AllocError;
+
+/// Millionths in a whole unit.
+const MILLION: u64 = 1_000_000;
+
+/// Digits, a point, and perhaps digits.
+#[derive(Clone, Copy, PartialEq, Eq)]
+pub struct Decimal {
+    /// The digits before the point, held like any number.
+    pub whole: u64,
+    /// The first six digits behind it, in millionths.
+    pub millionths: u64,
+    /// How many of those six have come.
+    pub decimals: u8,
+    /// Whether a digit behind them is not 0.
+    pub fine: bool,
+}
+
+/// What a decimal counts, in millionths, with so many before it behind the point.
+fn place_value(decimals: u8) -> u64
+    ensures value { result ≡ place_value_of decimals }
+    ensures bound { result ≤ 100000 }
+{
+    match decimals {
+        0 => 100_000,
+        1 => 10_000,
+        2 => 1_000,
+        3 => 100,
+        4 => 10,
+        5 => 1,
+        _ => 0,
+    }
+}
+
+impl Decimal {
+    ghost use Rattle.cats_text.specs.Internal.Machine.{decimal_with};
+
+    /// The decimal with one more digit.
+    pub fn with(self, digit: u8) -> Decimal
+        requires { digit ≤ 9 }
+        ensures { result ≡ decimal_with self digit }
+    {
+        if self.decimals < 6 {
+            let more = u64::from(digit) * place_value(self.decimals);
+            Decimal {
+                millionths: self.millionths.saturating_add(more),
+                decimals: self.decimals + 1,
+                ..self
+            }
+        } else {
+            Decimal {
+                fine: self.fine || digit != 0,
+                ..self
+            }
+        }
+    }
+}
+
+/// A price of so many whole units and millionths, and perhaps finer places.
+pub fn price_of(whole: u64, millionths: u64, fine: bool) -> Result<u64, Stop>
+    ensures { Answers result (price_parts whole millionths fine) }
+{
+    let greatest = MAX_PRICE / MILLION;
+    if whole > greatest || (whole == greatest && (fine || millionths > 0)) {
+        return Err(Stop::Fault(Kind::TooLarge));
+    }
+    if fine {
+        return Err(Stop::Fault(Kind::TooFine));
+    }
+    Ok((whole * MILLION).saturating_add(millionths))
+}
+
+/// The bytes that the point of a price and the digits behind it have at most.
+const BEHIND: usize = 7;
+
+/// Appends a price, given in millionths: its whole part, then, where millionths are left, a point and their digits
+/// without zeros at the end. Where memory is refused, some of it may stand there.
+pub fn push_price(out: &mut Vec<u8>, millionths: u128) -> Result<(), AllocError>
+    ensures { OnOk result (out.new.items ≡ out.old.items ++ price_text millionths) }
+{
+    let million = u128::from(MILLION);
+    let mut whole = Buffer::new();
+    out.extend_from_slice(whole.format(millionths / million).as_bytes())?;
+    let mut text = [0; BEHIND];
+    let start = write_places((millionths % million) as u64, &mut text, BEHIND);
+    out.extend_from_slice(&text[start..])
+}
+
+/// Writes a price that fits 64 bits, so that its text ends at `end`, and tells where it starts.
+pub fn write_price(millionths: u64, text: &mut [u8], end: usize) -> usize
+    requires room { 27 ≤ end }
+    requires inside { end ≤ length text.old }
+    ensures start { (result < end) × (end ≤ result + 27) }
+    ensures written { drop result text.new ≡ price_text millionths ++ drop end text.old }
+{
+    let point = write_places(millionths % MILLION, text, end);
+    write_digits(millionths / MILLION, text, point)
+}
+
+/// The point and the digits behind it, if there are any.
+fn write_places(millionths: u64, text: &mut [u8], end: usize) -> usize
+    requires places { millionths < 1000000 }
+    requires room { 7 ≤ end }
+    requires inside { end ≤ length text.old }
+    ensures start { (result ≤ end) × (end ≤ result + 7) }
+    ensures written { drop result text.new ≡ places_text millionths ++ drop end text.old }
+{
+    if millionths == 0 {
+        return end;
+    }
+    let point = write_digits(without_zeros(MILLION + millionths), text, end);
+    text[point] = b'.';
+    point
+}
+
+/// The number whose digits are those of this one without the zeros at their end.
+fn without_zeros(number: u64) -> u64
+    requires { 0 < number }
+    ensures digits { decimal result ≡ without_zeros (decimal number) }
+    ensures size { (0 < result) × (result ≤ number) }
+{
+    let mut left = number;
+    while left % 10 == 0 {
+        left /= 10;
+    }
+    left
+}
