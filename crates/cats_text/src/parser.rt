@@ -295,6 +295,13 @@ impl Parser {
         self.stage == Stage::Bid && self.place == Place::Later
     }
 
+    /// Whether a bid line is due, and none has begun.
+    pub fn begins_bid(&self) -> bool
+        ensures { OnTrue result ((self.now.stage ≡ Stage.Bid) × (self.now.place ≡ Place.First)) }
+    {
+        self.stage == Stage::Bid && self.place == Place::First
+    }
+
     /// The next word of a line.
     #[inline(always)]
     pub fn word(&mut self, word: Word) -> Result<(), Stop>
@@ -316,6 +323,7 @@ impl Parser {
     }
 
     /// What is kept of the bid that has been read; its goods are gone.
+    #[inline(always)]
     fn kept_bid(&mut self) -> Result<Bid, AllocError>
         ensures bid { IfOk result (λ bid. plain_bid bid ≡ kept_of self.old.keeping (drafted (progress self.old))) }
         ensures goods { OnOk result (progress self.new ≡ record (progress self.old) { goods = [] }) }
