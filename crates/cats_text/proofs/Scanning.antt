@@ -6,6 +6,7 @@ pub mod Pieces
 pub mod Appends
 pub mod Rests
 pub mod ManyBytes
+pub mod FewDigits
 pub mod Fronts
 pub mod WholeWords
 pub mod ManyGoods

@@ -1,12 +1,14 @@
 //! The word at the front of bytes, where it stands there whole.
 
 ghost use Rattle.std.specs.Prelude.{◌≡◌, ◌≤◌, true, fold, length, take, IfSome};
+ghost use Rattle.std.specs.Bool.{OnTrue};
 ghost use Rattle.cats_text.specs.Internal.Front.{IsFront, IsKept};
 ghost use Rattle.cats_text.specs.Internal.Machine.{word_with};
 ghost use Rattle.cats_text.specs.Numbers.{digits_alone};
 
 use crate::price::Decimal;
 use crate::word::{HELD, Word};
+use core::dec2flt::read_digits;
 
 /// A number with the digits that stand in front, and how many they are.
 pub fn with_digits(value: u64, bytes: &[u8]) -> (u64, usize)
@@ -28,6 +30,23 @@ pub fn with_digits(value: u64, bytes: &[u8]) -> (u64, usize)
     (value, bytes.len())
 }
 
+/// So many digits spell a number below 2 to the power 64, and one below `HELD`.
+const FEW_DIGITS: usize = 13;
+
+/// The number that the digits in front spell, and how many they are. Few of them are read eight bytes at a time.
+#[inline(always)]
+fn digits(bytes: &[u8]) -> (u64, usize)
+    ensures bound { result.1 ≤ length bytes.now }
+    ensures digits { digits_alone (take result.1 bytes.now) ≡ true }
+    ensures value { Word.Number result.0 ≡ fold word_with (Word.Number 0) (take result.1 bytes.now) }
+{
+    let (count, value) = read_digits(bytes, 0, 0);
+    if count > FEW_DIGITS {
+        return with_digits(0, bytes);
+    }
+    (value, count)
+}
+
 /// A decimal with the digits that stand in front, and how many they are.
 fn with_places(decimal: Decimal, bytes: &[u8]) -> (Decimal, usize)
     ensures bound { result.1 ≤ length bytes.now }
@@ -45,10 +64,11 @@ fn with_places(decimal: Decimal, bytes: &[u8]) -> (Decimal, usize)
 }
 
 /// The number in front, with a point and more digits or without, or `#`, and how many bytes it has.
+#[inline(always)]
 fn kept(bytes: &[u8]) -> Option<(Word, usize)>
     ensures { IfSome result (λ r. IsKept bytes.now r.0 r.1) }
 {
-    let (value, digits) = with_digits(0, bytes);
+    let (value, digits) = digits(bytes);
     match *bytes.get(digits)? {
         b'#' if digits == 0 => Some((Word::End, 1)),
         _ if digits == 0 => None,
@@ -67,10 +87,11 @@ fn kept(bytes: &[u8]) -> Option<(Word, usize)>
 }
 
 /// The number in front, where a blank stands behind it, and how many bytes they have.
+#[inline(always)]
 pub fn number(bytes: &[u8]) -> Option<(u64, usize)>
     ensures { IfSome result (λ r. IsFront bytes.now (Word.Number r.0) r.1) }
 {
-    let (value, count) = with_digits(0, bytes);
+    let (value, count) = digits(bytes);
     if count == 0 {
         return None;
     }
@@ -82,6 +103,7 @@ pub fn number(bytes: &[u8]) -> Option<(u64, usize)>
 
 /// The number, price or `#` in front, where a blank or a line's end stands behind it, and how many bytes it and the
 /// blank have.
+#[inline(always)]
 pub fn front(bytes: &[u8]) -> Option<(Word, usize)>
     ensures { IfSome result (λ r. IsFront bytes.now r.0 r.1) }
 {
@@ -91,4 +113,13 @@ pub fn front(bytes: &[u8]) -> Option<(Word, usize)>
         b'\n' => Some((word, count)),
         _ => None,
     }
+}
+
+/// Whether `#` stands in front, and a line's end behind it.
+#[tactic(auto, using(crate::proofs::Scanning::Fronts::front_end))]
+#[inline(always)]
+pub fn ends_bid(bytes: &[u8]) -> bool
+    ensures { OnTrue result (IsFront bytes.now Word.End 1) }
+{
+    bytes.len() > 1 && bytes[0] == b'#' && bytes[1] == b'\n'
 }

@@ -73,6 +73,7 @@ impl GoodList {
     }
 
     /// Puts a good behind the others unless it has come, and tells whether it was new.
+    #[inline(always)]
     pub fn put(&mut self, good: u16) -> Result<bool, AllocError>
         ensures new { IfOk result (λ is_new. is_new ≡ not (has_number self.old good)) }
         ensures goods { IfOk result (λ is_new. self.new ≡ (if is_new then self.old ++ good ∷ [] else self.old)) }

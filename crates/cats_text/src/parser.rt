@@ -278,6 +278,13 @@ impl Parser {
         self.stage == Stage::Bid && self.column == Column::Later
     }
 
+    /// Whether a bid line is due, and none has begun.
+    pub fn begins_bid(&self) -> bool
+        ensures { OnTrue result ((self.now.stage ≡ Stage.Bid) × (self.now.column ≡ Column.First)) }
+    {
+        self.stage == Stage::Bid && self.column == Column::First
+    }
+
     /// The next word of a line.
     #[inline(always)]
     pub fn word(&mut self, word: Word) -> Result<(), Stop>
@@ -299,6 +306,7 @@ impl Parser {
     }
 
     /// What is kept of the bid that has been read; its goods are gone.
+    #[inline(always)]
     fn kept_bid(&mut self) -> Result<Bid, AllocError>
         ensures bid { IfOk result (λ bid. plain_bid bid ≡ kept_of self.old.keeping (drafted (progress self.old))) }
         ensures goods { OnOk result (progress self.new ≡ record (progress self.old) { goods = [] }) }

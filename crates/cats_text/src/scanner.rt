@@ -15,8 +15,11 @@ ghost use Rattle.std.specs.Prelude.{
   false,
   OnOk,
   IfOk,
+  ℕ,
+  List,
 };
 ghost use Rattle.cats_text.specs.Files.{IsPlainFile};
+ghost use Rattle.cats_text.specs.Internal.Front.{IsFront};
 ghost use Rattle.cats_text.specs.Internal.Parsing.{file_from};
 ghost use Rattle.cats_text.specs.Internal.Returns.{settled, waits, carried, return_byte};
 ghost use Rattle.cats_text.specs.Internal.Scanning.{
@@ -43,7 +46,7 @@ ghost use Rattle.cats_text.specs.Internal.Scanning.{
 
 use crate::bid::BidFile;
 use crate::fault::{Kind, ReadFault};
-use crate::front::{front, number, with_digits};
+use crate::front::{ends_bid, front, number, with_digits};
 use crate::parser::{Header, Keeping, Parser, Stop};
 use crate::word::Word;
 use std::alloc::Global;
@@ -210,16 +213,68 @@ impl Scanner {
         }
     }
 
-    /// Real goods in front that have not come, where goods are due; tells how many bytes they and their blanks have.
-    fn goods(&mut self, bytes: &[u8]) -> Result<usize, Halt>
+    /// Reads this word, which with its blank has so many bytes in front; tells how many.
+    #[inline(always)]
+    fn read(&mut self, word: Word, taken: usize) -> Result<usize, Halt>
         requires waits { self.old.waiting ≡ false }
-        requires mode { self.old.mode ≡ Mode.Between }
-        ensures scanned { ScansTo (state self.old) (state self.new) self.new.waiting bytes.now result }
-        ensures mode { self.new.mode ≡ Mode.Between }
+        requires before { is_before_word self.old.mode ≡ true }
+        ensures scanned { (bytes : List ℕ) → IsFront bytes word taken
+            → ScansTo (state self.old) (state self.new) self.new.waiting bytes result }
+        ensures count { IfOk result (λ count. count ≡ taken) }
+        ensures before { is_before_word self.new.mode ≡ true }
         ensures line { self.new.line ≡ self.old.line }
         ensures waiting { self.new.waiting ≡ self.old.waiting }
     {
-        if !self.parser.takes_goods() {
+        if let Err(stop) = self.parser.word(word) {
+            return Err(Halt::at(self.line, stop));
+        }
+        self.mode = Mode::Between;
+        Ok(taken)
+    }
+
+    /// A word in front; tells how many bytes it and its blank have, 0 where none stands there whole.
+    #[inline(always)]
+    fn word(&mut self, bytes: &[u8]) -> Result<usize, Halt>
+        requires waits { self.old.waiting ≡ false }
+        requires before { is_before_word self.old.mode ≡ true }
+        ensures scanned { ScansTo (state self.old) (state self.new) self.new.waiting bytes.now result }
+        ensures before { is_before_word self.new.mode ≡ true }
+        ensures line { self.new.line ≡ self.old.line }
+        ensures waiting { self.new.waiting ≡ self.old.waiting }
+    {
+        match front(bytes) {
+            Some((word, taken)) => self.read(word, taken),
+            None => Ok(0),
+        }
+    }
+
+    /// The same of a number with a blank.
+    #[inline(always)]
+    fn number(&mut self, bytes: &[u8]) -> Result<usize, Halt>
+        requires waits { self.old.waiting ≡ false }
+        requires before { is_before_word self.old.mode ≡ true }
+        ensures scanned { ScansTo (state self.old) (state self.new) self.new.waiting bytes.now result }
+        ensures before { is_before_word self.new.mode ≡ true }
+        ensures line { self.new.line ≡ self.old.line }
+        ensures waiting { self.new.waiting ≡ self.old.waiting }
+    {
+        match number(bytes) {
+            Some((value, taken)) => self.read(Word::Number(value), taken),
+            None => Ok(0),
+        }
+    }
+
+    /// Real goods in front that have not come, where goods are due; tells how many bytes they and their blanks have.
+    #[inline(always)]
+    fn goods(&mut self, bytes: &[u8]) -> Result<usize, Halt>
+        requires waits { self.old.waiting ≡ false }
+        requires before { is_before_word self.old.mode ≡ true }
+        ensures scanned { ScansTo (state self.old) (state self.new) self.new.waiting bytes.now result }
+        ensures before { is_before_word self.new.mode ≡ true }
+        ensures line { self.new.line ≡ self.old.line }
+        ensures waiting { self.new.waiting ≡ self.old.waiting }
+    {
+        if self.mode != Mode::Between || !self.parser.takes_goods() {
             return Ok(0);
         }
         let goods = u64::from(self.parser.header.goods);
@@ -237,6 +292,63 @@ impl Scanner {
         Ok(place)
     }
 
+    /// The `#` in front, where the line ends behind it; tells how many bytes it has.
+    #[inline(always)]
+    fn bid_end(&mut self, bytes: &[u8]) -> Result<usize, Halt>
+        requires waits { self.old.waiting ≡ false }
+        requires before { is_before_word self.old.mode ≡ true }
+        ensures scanned { ScansTo (state self.old) (state self.new) self.new.waiting bytes.now result }
+        ensures before { is_before_word self.new.mode ≡ true }
+        ensures line { self.new.line ≡ self.old.line }
+        ensures waiting { self.new.waiting ≡ self.old.waiting }
+    {
+        if ends_bid(bytes) {
+            self.read(Word::End, 1)
+        } else {
+            Ok(0)
+        }
+    }
+
+    /// The words of a bid line in front, in the order that is usual, as far as they stand there whole: number, price,
+    /// real goods, dummy good, `#`. Tells how many bytes they and their blanks have.
+    #[inline(always)]
+    fn bid_words(&mut self, bytes: &[u8]) -> Result<usize, Halt>
+        requires waits { self.old.waiting ≡ false }
+        requires before { is_before_word self.old.mode ≡ true }
+        ensures scanned { ScansTo (state self.old) (state self.new) self.new.waiting bytes.now result }
+        ensures before { is_before_word self.new.mode ≡ true }
+        ensures line { self.new.line ≡ self.old.line }
+        ensures waiting { self.new.waiting ≡ self.old.waiting }
+    {
+        let mut place = self.number(bytes)?;
+        place += self.word(&bytes[place..])?;
+        place += self.goods(&bytes[place..])?;
+        place += self.number(&bytes[place..])?;
+        place += self.bid_end(&bytes[place..])?;
+        Ok(place)
+    }
+
+    /// Whole bid lines in front, and of one more the words that stand there whole; tells how many bytes they have.
+    fn bid_lines(&mut self, bytes: &[u8]) -> Result<usize, Halt>
+        requires waits { self.old.waiting ≡ false }
+        requires before { is_before_word self.old.mode ≡ true }
+        requires room { self.old.line + length bytes.now < 2 ^ 64 }
+        ensures scanned { ScansTo (state self.old) (state self.new) self.new.waiting bytes.now result }
+        ensures line { IfOk result (λ count. self.new.line ≤ self.old.line + count) }
+        ensures most { self.new.line ≤ self.old.line + length bytes.now }
+    {
+        let mut place = 0;
+        'lines: while place < bytes.len() && self.parser.begins_bid() {
+            place += self.bid_words(&bytes[place..])?;
+            if place == bytes.len() || bytes[place] != b'\n' {
+                break 'lines;
+            }
+            self.byte(b'\n')?;
+            place += 1;
+        }
+        Ok(place)
+    }
+
     /// Whole words in front; tells how many bytes they and their blanks have.
     fn words(&mut self, bytes: &[u8]) -> Result<usize, Halt>
         requires waits { self.old.waiting ≡ false }
@@ -246,12 +358,7 @@ impl Scanner {
     {
         let mut place = 0;
         while let Some((word, taken)) = front(&bytes[place..]) {
-            if let Err(stop) = self.parser.word(word) {
-                return Err(Halt::at(self.line, stop));
-            }
-            self.mode = Mode::Between;
-            place += taken;
-            place += self.goods(&bytes[place..])?;
+            place += self.read(word, taken)?;
         }
         Ok(place)
     }
@@ -260,8 +367,10 @@ impl Scanner {
     fn go_on(&mut self, bytes: &[u8]) -> Result<usize, Halt>
         requires waits { self.old.waiting ≡ false }
         requires some { 0 < length bytes.now }
+        requires room { self.old.line + length bytes.now < 2 ^ 64 }
         ensures scanned { ScansTo (state self.old) (state self.new) self.new.waiting bytes.now result }
-        ensures line { self.new.line ≡ self.old.line }
+        ensures line { IfOk result (λ count. self.new.line ≤ self.old.line + count) }
+        ensures most { self.new.line ≤ self.old.line + length bytes.now }
     {
         match self.mode {
             Mode::Comment => {
@@ -274,6 +383,7 @@ impl Scanner {
                 self.mode = Mode::Inside(Word::Number(value));
                 Ok(count)
             }
+            Mode::Start if self.parser.begins_bid() => self.bid_lines(bytes),
             Mode::Start | Mode::Blank | Mode::Between => self.words(bytes),
             Mode::Inside(_) => Ok(0),
         }

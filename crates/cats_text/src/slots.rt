@@ -58,6 +58,7 @@ impl Slots {
     }
 
     /// Puts a bid at its number.
+    #[inline(always)]
     pub fn put(&mut self, number: usize, bid: Bid) -> Result<(), AllocError>
         ensures { OnOk result (plain_slots (slot_list self.new) ≡ put_slot (plain_slots (slot_list self.old)) number
             (plain_bid bid)) }

@@ -102,3 +102,7 @@ front_feed bytes w count kept within feed = let is : eqb (get_or bytes count 0) 
   ends = or_right (is_blank (get_or bytes count 0)) (eqb (get_or bytes count 0) 10) is;
   is = sym (ap (λ t. count + cond t 0 1) is ∙ omega arith);
 }
+
+-- `#` and LF
+pub front_end : (bytes : List ℕ) → 1 < length bytes → get_or bytes 0 0 ≡ 35 → get_or bytes 1 0 ≡ 10 → IsFront bytes End 1
+front_end bytes two hash feed = front_feed bytes End 1 (end_kept bytes (omega arith) hash) two feed

@@ -36,7 +36,7 @@ digits_push : (ds : List ℕ) (b : ℕ) → digits_alone ds ≡ true → is_digi
 digits_push [] b h k = rw k refl
 digits_push (a ∷ w) b h k = let p = and_parts (is_digit a) (digits_alone w) h in and_from (is_digit a) (digits_alone (w ++ b ∷ [])) p.0 (digits_push w b p.1 k)
 
-number_with : (v b : ℕ) → is_digit b ≡ true → word_with (Number v) b ≡ Number (cond (ltb v HELD) (v * 10 + (b - 48)) v)
+pub number_with : (v b : ℕ) → is_digit b ≡ true → word_with (Number v) b ≡ Number (cond (ltb v HELD) (v * 10 + (b - 48)) v)
 number_with v b d = rw d refl
 
 -- one more digit

@@ -129,6 +129,21 @@ front_taken s p v bytes count taken within ends is so_far = elim (eqb (get_or by
       )
     ] refl
 
+-- the word in front is read
+pub word_taken : (s : State) (p : Progress) (v : Bool) (bytes : List ℕ) (word : Word) (taken : ℕ) → is_before_word s.mode ≡ true → IsFront bytes word taken
+    → word_read s.progress word ≡ Ok p → p.stage ≡ s.progress.stage → v ≡ false → ScansTo s (behind_word s p) v bytes (Ok taken)
+word_taken s p v bytes word taken before front read stage e =
+    front_taken s p v bytes front.count taken front.within front.ends front.is (read_scanned s p bytes word taken v before front read stage e)
+
+-- or stops the parser
+pub word_halts : (s t : State) (u : Progress) (v : Bool) (bytes : List ℕ) (word : Word) (taken : ℕ) (stop : Stop) (halt : Halt) → is_before_word s.mode ≡ true
+    → IsFront bytes word taken → Gives {A = Unit {0}} u (Err stop) (word_read s.progress word) → AsksOnBidLines {A = Unit {0}} s.progress (Err stop)
+    → halt ≡ halt_of s.line stop → ScansTo s t v bytes (Err halt)
+word_halts s t u v bytes word taken (Fault kind) halt before front read asks e =
+    subst (λ (h : Halt). ScansTo s t v bytes (Err h)) (sym e) (front_faults s bytes word taken kind before front read)
+word_halts s t u v bytes word taken Memory halt before front read asks e =
+    subst (λ (h : Halt). ScansTo s t v bytes (Err h)) (sym e) (front_asks s bytes word taken before front asks)
+
 -- ---- one word after another
 
 front_some : (bytes : List ℕ) (w : Word) (taken : ℕ) → IsFront bytes w taken → (0 < taken) × (0 < length bytes)
@@ -147,8 +162,7 @@ word_more s0 s p w v bytes place word taken so_far before front read stage e =
     let long : 0 < length (drop place bytes) = some.1 in
     let left : length (drop place bytes) ≡ length bytes - place = length-drop place bytes in
     let here : IsScanned s (behind_word s p) v (drop place bytes) (drop taken (drop place bytes)) × (taken ≤ length (drop place bytes)) =
-    front_taken s p v (drop place bytes) front.count taken front.within front.ends front.is
-    (read_scanned s p (drop place bytes) word taken v before front read stage e) in
+    word_taken s p v (drop place bytes) word taken before front read stage e in
     let most : taken ≤ length (drop place bytes) = here.1 in (
       subst (IsScanned s0 (behind_word s p) v bytes) (drop-drop taken place bytes)
           (scanned_then s0 s (behind_word s p) w v bytes (drop place bytes) (drop taken (drop place bytes)) so_far here.0 (λ l. omega arith)
@@ -156,16 +170,6 @@ word_more s0 s p w v bytes place word taken so_far before front read stage e =
       omega arith,
       some.0,
     )
-
--- the parser stopped at the word in front
-pub word_stops : (s0 s t : State) (u : Progress) (w v : Bool) (bytes : List ℕ) (place : ℕ) (word : Word) (taken : ℕ) (stop : Stop) (halt : Halt)
-    → IsScanned s0 s w bytes (drop place bytes) → is_before_word s.mode ≡ true
-    → IsFront (drop place bytes) word taken → Gives {A = Unit {0}} u (Err stop) (word_read s.progress word)
-    → AsksOnBidLines {A = Unit {0}} s.progress (Err stop) → halt ≡ halt_of s.line stop → ScansTo s0 t v bytes (Err halt)
-word_stops s0 s t u w v bytes place word taken (Fault kind) halt so_far before front read asks e =
-    subst (λ (h : Halt). ScansTo s0 t v bytes (Err h)) (sym e) (sym so_far.steps ∙ front_faults s (drop place bytes) word taken kind before front read)
-word_stops s0 s t u w v bytes place word taken Memory halt so_far before front read asks e =
-    subst (λ (h : Halt). ScansTo s0 t v bytes (Err h)) (sym e) (so_far.asks (front_asks s (drop place bytes) word taken before front asks))
 
 -- ---- a call on the rest of the bytes
 
@@ -222,6 +226,12 @@ byte_stops s0 s t u w v bytes place count halt l so_far next here ne steps asks 
     at_byte s0 t u v bytes rest b later (halts.Fault e) so_far split steps asks =
         (sym so_far.steps ∙ ap (run t) split ∙ ap (λ r. and_then r (λ x. run x later)) steps, tt)
     at_byte s0 t u v bytes rest b later halts.Memory so_far split steps asks = (tt, so_far.asks (subst (MeetsBidLine t) (sym split) (inl asks)))
+
+-- as a scan that stopped
+pub scans_to : (s0 u t : State) (v : Bool) (bytes : List ℕ) (halt : Halt) → Steps {A = Unit {0}} u (Err halt) (run s0 (settled bytes))
+    → Asks {A = Unit {0}} s0 (settled bytes) (Err halt) → ScansTo s0 t v bytes (Err halt)
+scans_to s0 u t v bytes (halts.Fault e) steps asks = steps
+scans_to s0 u t v bytes halts.Memory steps asks = asks
 
 -- what a `?` answers
 pub residual_is : {A : Type 0} (r : Result A Halt) (halt : Halt) (P : Result A Halt → Type 0) → IsErr r → IsErrAnd r (λ h. h ≡ halt) → P (Err halt) → P r

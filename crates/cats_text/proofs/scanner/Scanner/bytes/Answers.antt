@@ -42,7 +42,8 @@ loop-place-preserved c =
     let most : c.loop-place.place + c.in_ok-place.field-0 ≤ length c.args.bytes.now = both.1 in
     let left : c.loop-place.place + c.in_ok-place.field-0 ≢ length c.args.bytes.now = search rules in
     let here : c.loop-place.place + c.in_ok-place.field-0 < length c.args.bytes.now = omega arith in
-    let line : c.go_on.new.self.line ≤ c.args.self.now.line + c.loop-place.place = omega (arith, c.loop-place.invariant.1, c.go_on.ensures.line) in
+    let line : c.go_on.new.self.line ≤ c.args.self.now.line + (c.loop-place.place + c.in_ok-place.field-0) =
+    omega (arith, c.loop-place.invariant.1, c.in_ok-place.ensures.line) in
     elim c.if-bytes-place-ne13.branch [
       | then-bytes-place-ne13+in_ok-byte w ↦ rw w.self-is (
         scan_byte_at _ _ _ _ _ c.args.bytes.now (c.loop-place.place + c.in_ok-place.field-0) here (search rules) so_far w.in_ok-byte.ensures.steps

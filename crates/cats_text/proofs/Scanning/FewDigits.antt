@@ -1,0 +1,61 @@
+-- The digits in front of bytes and the number that they spell, where they are few.
+use Rattle.std.proofs.Common.{◌≡◌, ℕ, suc, ◌+◌, ◌-◌, ◌*◌, ◌%◌, ◌^◌, ◌<◌, ◌≤◌, min, true, false, cond, List, [], ◌∷◌, length, take, drop, slice_range, fold, refl, sym, ap, ◌∙◌, subst, arith, lt_of_lt_of_le}
+use Rattle.std.proofs.Math.Nat.{pow-suc, pow-le-pow_right, mod-eq_of_lt}
+use Rattle.std.proofs.lemmas.Bool.{and_parts, and_from, lt-ltb}
+use Rattle.std.proofs.lemmas.List.{length-take}
+use Rattle.std.specs.Char.{digit_value}
+use Rattle.std.specs.Float.Numeral.{digits_len}
+use Rattle.std.specs.Str.Parse.{digits_value, digits_value_after}
+use Rattle.core.proofs.dec2flt.DigitsLemmas.{is_digit as digit_worth}
+use Rattle.cats_text.specs.Numbers.{is_digit, digits_alone}
+use Rattle.cats_text.specs.Internal.Machine.{word_with}
+use Rattle.cats_text.specs.declared.word.Word.TheVariants.{Number}
+use Rattle.cats_text.specs.declared.word.TheConstants.{HELD}
+use Rattle.cats_text.proofs.Words.Places.{digit_bounds}
+use Rattle.cats_text.proofs.Scanning.ManyBytes.{IsNumberSoFar, number_with}
+
+digits_in_front : (bs : List ℕ) → digits_alone (take (digits_len bs) bs) ≡ true
+digits_in_front [] = refl
+digits_in_front (b ∷ bs) = elim (is_digit b) as (λ t. is_digit b ≡ t → digits_alone (take (cond t (1 + digits_len bs) 0) (b ∷ bs)) ≡ true) [
+  | true ↦ λ (d : is_digit b ≡ true). let n : 1 + digits_len bs ≡ suc (digits_len bs) = omega arith in
+      subst (λ k. digits_alone (take k (b ∷ bs)) ≡ true) (sym n) (and_from (is_digit b) (digits_alone (take (digits_len bs) bs)) d (digits_in_front bs))
+  | false ↦ λ (d : is_digit b ≡ false). refl
+] refl
+
+-- up to thirteen digits are not held back, and spell what they are worth
+few_spell : (ds : List ℕ) (v k : ℕ) → v < 10 ^ k → k + length ds ≤ 13 → digits_alone ds ≡ true
+    → (Number (digits_value_after 10 v ds) ≡ fold word_with (Number v) ds) × (digits_value_after 10 v ds < 10 ^ 13)
+few_spell [] v k small few h =
+    let ten : 0 < 10 = omega arith in
+    let room : k ≤ 13 = omega arith in
+    (refl, lt_of_lt_of_le small (pow-le-pow_right ten room))
+few_spell (b ∷ ds) v k small few h =
+    let p = and_parts (is_digit b) (digits_alone ds) h in
+    let bounds = digit_bounds b p.0 in
+    let ten : 0 < 10 = omega arith in
+    let room : k ≤ 13 = omega arith in
+    let below : 10 ^ k ≤ 10 ^ 13 = pow-le-pow_right ten room in
+    let held : v < HELD = omega arith in
+    let worth : digit_value b ≡ b - 48 = (digit_worth b bounds.0 bounds.1).1 in
+    let step : word_with (Number v) b ≡ Number (v * 10 + digit_value b) =
+    number_with v b p.0 ∙ ap (λ t. Number (cond t (v * 10 + (b - 48)) v)) (lt-ltb v HELD held) ∙ ap (λ d. Number (v * 10 + d)) (sym worth) in
+    let low : 48 ≤ b = bounds.0 in
+    let high : b ≤ 57 = bounds.1 in
+    let more : v * 10 + digit_value b < 10 ^ (suc k) = omega (arith, pow-suc 10 k) in
+    let rest = few_spell ds (v * 10 + digit_value b) (suc k) more (omega arith) p.1 in
+    (rest.0 ∙ ap (λ w. fold word_with w ds) (sym step), rest.1)
+
+-- all digits in front, of which there are few, and what they are worth
+pub few_read : (bytes : List ℕ) (count value : ℕ) → count ≡ 0 + digits_len (drop 0 bytes) → count ≤ 13
+    → value ≡ (0 * 10 ^ (count - 0) + digits_value 10 (slice_range bytes 0 count)) % 2 ^ 64 → IsNumberSoFar 0 bytes count value
+few_read bytes count value all few is =
+    let front : digits_len bytes ≡ count = omega arith in
+    let digits : digits_alone (take count bytes) ≡ true = subst (λ k. digits_alone (take k bytes) ≡ true) front (digits_in_front bytes) in
+    let long : length (take count bytes) ≡ min count (length bytes) = length-take count bytes in
+    let spelt = few_spell (take count bytes) 0 0 (omega arith) (omega arith) digits in
+    let same : count - 0 ≡ count = omega arith in
+    let worth : digits_value 10 (slice_range bytes 0 count) ≡ digits_value 10 (take count bytes) = ap (λ k. digits_value 10 (take k bytes)) same in
+    let small : digits_value 10 (take count bytes) < 10 ^ 13 = spelt.1 in
+    let sum : 0 * 10 ^ (count - 0) + digits_value 10 (slice_range bytes 0 count) ≡ digits_value 10 (take count bytes) = omega arith in
+    let fits : digits_value 10 (take count bytes) < 2 ^ 64 = omega arith in
+    record { digits = digits; value = ap (λ n. Number n) (is ∙ ap (λ n. n % 2 ^ 64) sum ∙ mod-eq_of_lt fits) ∙ spelt.0 }
