@@ -1,6 +1,5 @@
 -- One more path, whose file was judged or was not: what was found of the paths before it stays found, and the path adds a place, or a
 -- status that may be the greatest.
-
 use Rattle.std.proofs.Common.{◌≡◌, ◌≢◌, ℕ, suc, All, ◌+◌, ◌<◌, ◌==◌, max, Bool, cond, List, [], ◌∷◌, ◌++◌, length, map, filter, fold, get_or, take, refl, sym}
 use Rattle.std.proofs.Common.{ap, ◌∙◌, subst, arith, append-nil, ◌≤◌}
 use Rattle.std.specs.Borrow.{Bor}
