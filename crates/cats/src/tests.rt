@@ -1,7 +1,7 @@
 //! Worked rows of the runs and of the program, each by the call of `cats_cmd` that it shows.
 
 mod check;
-mod command_line;
+mod command_lines;
 mod compare;
 mod devices;
 mod duplicates;
