@@ -1,8 +1,9 @@
 -- The statuses that the runs answer, and what of a line goes out where sending it may fail.
-use Rattle.std.proofs.Common.{◌≡◌, ℕ, List, length, Option, None, Some, Result, Ok, Err, Bool, true, false, cond, sym, ap, ◌∙◌, subst, arith, ◌≤◌}
+use Rattle.std.proofs.Common.{◌≡◌, ℕ, List, length, Option, None, Some, Result, Ok, Err, Bool, true, false, cond, sym, ap, ◌∙◌, subst, arith, ◌≤◌, [], ◌∷◌}
+use Rattle.std.proofs.Common.{refl}
 use Rattle.std.proofs.Math.Seq.{take-length}
 use Rattle.std.specs.Io.KnownBytes.{Appends}
-use Rattle.std.specs.Prelude.{nat_lt, OnOk, IfErr, IsErrAnd}
+use Rattle.std.specs.Prelude.{nat_lt, OnOk, IfErr, IsErrAnd, bytes_eq, codes}
 use Rattle.std.proofs.lemmas.Result.{err_from_is_err_and}
 use Rattle.cats_text.specs.Files.{PlainFile}
 use Rattle.cats_text.specs.Streams.{inner_of, SendsWhole, SendsPart}
@@ -18,7 +19,7 @@ use Rattle.cats_cmd.specs.Outcomes.{text_unless_heavy, outcome_of_difference, co
 use Rattle.cats_cmd.specs.ValueTexts.{bundle_from, value_text}
 use Rattle.cats_cmd.specs.Runs.{RunsOnFile}
 use Rattle.cats_cmd.specs.Internal.Requests.{CarriesOut, ComparesSome, RunsFor, RunsOnSome}
-use Rattle.cats_cmd.specs.Stops.{SendsBeginning, IsSilent}
+use Rattle.cats_cmd.specs.Stops.{SendsBeginning, IsSilent, is_for_many_files, names_duplicates}
 use Rattle.command_line.specs.declared.request.Request.{Request}
 use Rattle.cats_cmd.specs.declared.program.Stop.{Stop}
 use Rattle.cats_cmd.specs.declared.program.Stop.TheVariants.{Run}
@@ -26,6 +27,9 @@ use Rattle.cats_cmd.specs.declared.report.RunFault.{RunFault}
 use Rattle.canon.specs.declared.which.Which.TheVariants.{Only, First, Second, Both}
 use Rattle.cats_cmd.specs.Duplicates.{RunsOnPaths}
 use Rattle.cats_cmd.specs.declared.report.RunFault.TheVariants.{Refused, GoodRange, Sent}
+use Rattle.std.specs.Borrow.{Bor}
+use Rattle.command_line.specs.Requests.{IsNamedIn}
+use Rattle.command_line.specs.declared.request.Request.TheVariants.{Duplicates}
 
 -- a run that answered has the status that its outcome tells
 pub told_run : {R W : Type 0} (remaining : R → Option (List ℕ)) (contents : W → Option (List ℕ)) (outcome : PlainFile → Outcome)
@@ -81,6 +85,14 @@ pub told_comparison : {R S W : Type 0} (remaining_first : R → Option (List ℕ
     → RunsOnFiles remaining_first remaining_second contents limit compare_outcome first first_after second second_after old new (Ok status) → status ≤ 1
 told_comparison remaining_first remaining_second contents limit first first_after second second_after old new status ran =
     differs_or_same (first_difference (auction_from ran.left.file) (auction_from ran.right.file)) status ran.tells.text ran.tells.is_made
+
+-- only `duplicates` names a request for many files
+pub few_files : (words : List (Bor (List ℕ))) (request : Request) → IsNamedIn words request → names_duplicates words ≡ false → is_for_many_files request ≡ false
+few_files (program ∷ (word ∷ words)) (Duplicates files limit progress) named few =
+    subst (λ (name : List ℕ). bytes_eq name (codes "duplicates") ≡ false) named few
+few_files (program ∷ []) (Duplicates files limit progress) named few = absurd (named)
+few_files [] (Duplicates files limit progress) named few = absurd (named)
+few_files words request named few = refl
 
 -- a run of many files that stopped has written nothing, unless its output failed
 pub silent_paths : {W : Type 0} (contents : W → Option (List ℕ)) (limit : ℕ) (paths : List (List ℕ)) (old new : Watched W) (fault : RunFault)
