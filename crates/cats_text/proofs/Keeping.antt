@@ -4,7 +4,8 @@ use Rattle.cats_text.specs.Lines.{is_blank}
 use Rattle.cats_text.specs.Faults.{fault_at}
 use Rattle.cats_text.specs.Internal.Progress.{Progress}
 use Rattle.cats_text.specs.Internal.Parsing.{Reading, word_read, line_read, is_due}
-use Rattle.cats_text.specs.Internal.Scanning.{State, Scan, and_then, with_reading, blank_step_at, blank_step, words_step_at, words_step, missing_step, line_behind, line_step, byte_step, run, end_step, end_of}
+use Rattle.cats_text.specs.Internal.Scanning.{State, Scan, and_then, with_reading, blank_step_at, blank_step, words_step_at, words_step, missing_step}
+use Rattle.cats_text.specs.Internal.Scanning.{line_behind, line_step, byte_step, run, end_step, end_of}
 use Rattle.cats_text.specs.declared.fault.Kind.TheVariants.{Missing}
 use Rattle.cats_text.specs.declared.parser.Keeping.{Keeping}
 use Rattle.cats_text.specs.declared.parser.Column.{Column}

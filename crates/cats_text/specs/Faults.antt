@@ -1,6 +1,7 @@
 -- The first fault of a text. Its places are, line by line, the words of its significant lines from the left and after
 -- them the line's end; last comes the end of the input. At each place the first test that holds is the fault there.
-use Rattle.std.specs.Prelude.{◌≡◌, ℕ, suc, ◌+◌, ◌<◌, ◌==◌, nat_lt, nat_le, Bool, true, false, not, ◌&&◌, ◌||◌, if◌then◌else◌, List, [], ◌∷◌, ◌++◌, length, drop, Option, Some, None, option_map, codes}
+use Rattle.std.specs.Prelude.{◌≡◌, ℕ, suc, ◌+◌, ◌<◌, ◌==◌, nat_lt, nat_le, Bool, true, false, not, ◌&&◌, ◌||◌}
+use Rattle.std.specs.Prelude.{if◌then◌else◌, List, [], ◌∷◌, ◌++◌, length, drop, Option, Some, None, option_map, codes}
 use Rattle.std.specs.Option.{option_or}
 use Rattle.std.specs.List.{list_any}
 use Rattle.std.specs.Str.{bytes_eq}
@@ -8,7 +9,10 @@ use Rattle.cats_text.specs.Lines.{Word, Line, is_blank, significant_lines, line_
 use Rattle.cats_text.specs.Numbers.{is_number, number_of, is_price, is_too_large, is_too_fine}
 use Rattle.cats_text.specs.Grammar.{line_number}
 use Rattle.cats_text.specs.declared.fault.Kind.{Kind}
-use Rattle.cats_text.specs.declared.fault.Kind.TheVariants.{Header, NotANumber, TooLarge, ExtraBid, BidNumber, RepeatedNumber, TooFine, GoodRange, RepeatedGood, TwoDummies, EmptyBundle, NoEnd, AfterEnd, Missing, TooLong, Device, Memory}
+use Rattle.cats_text.specs.declared.fault.Kind.TheVariants.{Header, NotANumber, TooLarge, ExtraBid, BidNumber}
+use Rattle.cats_text.specs.declared.fault.Kind.TheVariants.{RepeatedNumber, TooFine, GoodRange, RepeatedGood}
+use Rattle.cats_text.specs.declared.fault.Kind.TheVariants.{TwoDummies, EmptyBundle, NoEnd, AfterEnd, Missing, TooLong}
+use Rattle.cats_text.specs.declared.fault.Kind.TheVariants.{Device, Memory}
 use Rattle.cats_text.specs.declared.fault.ReadFault.{ReadFault}
 use Rattle.cats_text.specs.declared.limits.TheConstants.{MAX_GOODS, MAX_BIDS, MAX_DUMMY}
 

@@ -1,6 +1,7 @@
 -- When a text spells a bid file (README of CATS 2.0: three header lines, then one line for each bid, "its number, its
 -- price, the numbers of its goods, then `#`"; this project's profile says which spellings of them are taken).
-use Rattle.std.specs.Prelude.{◌≡◌, ◌≢◌, ℕ, ◌==◌, Bool, true, false, List, [], ◌∷◌, ◌++◌, map, length, slice_get, Some, codes}
+use Rattle.std.specs.Prelude.{◌≡◌, ◌≢◌, ℕ, ◌==◌, Bool, true, false, List, [], ◌∷◌, ◌++◌, map, length, slice_get, Some}
+use Rattle.std.specs.Prelude.{codes}
 use Rattle.std.specs.List.{AllByRecursion, list_any}
 use Rattle.cats_text.specs.Lines.{Word, significant_lines}
 use Rattle.cats_text.specs.Numbers.{is_number, number_of, is_price, is_too_fine, price_of}

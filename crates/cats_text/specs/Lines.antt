@@ -1,7 +1,8 @@
 -- The lines and words of a text, by the README of CATS 2.0 ("a bid file is a text of lines; lines that begin with `%`
 -- are comments") and this project's profile of it: a line ends with LF, a word is a longest run of bytes that are no
 -- blank.
-use Rattle.std.specs.Prelude.{ℕ, suc, ◌==◌, Bool, true, false, not, ◌&&◌, ◌||◌, if◌then◌else◌, List, [], ◌∷◌, length, filter}
+use Rattle.std.specs.Prelude.{ℕ, suc, ◌==◌, Bool, true, false, not, ◌&&◌, ◌||◌, if◌then◌else◌, List, [], ◌∷◌, length}
+use Rattle.std.specs.Prelude.{filter}
 
 -- a word is a list of bytes
 abbrev pub Word : Type 0

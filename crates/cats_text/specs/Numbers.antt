@@ -1,5 +1,6 @@
 -- Numbers and prices as words.
-use Rattle.std.specs.Prelude.{ℕ, ◌+◌, ◌-◌, ◌*◌, ◌==◌, nat_lt, nat_le, Bool, false, not, ◌&&◌, ◌||◌, if◌then◌else◌, [], ◌∷◌, ◌++◌, fold, take, drop}
+use Rattle.std.specs.Prelude.{ℕ, ◌+◌, ◌-◌, ◌*◌, ◌==◌, nat_lt, nat_le, Bool, false, not, ◌&&◌, ◌||◌, if◌then◌else◌, []}
+use Rattle.std.specs.Prelude.{◌∷◌, ◌++◌, fold, take, drop}
 use Rattle.std.specs.List.{list_all, list_any}
 use Rattle.cats_text.specs.Lines.{Word}
 

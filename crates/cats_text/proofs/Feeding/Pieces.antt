@@ -1,5 +1,6 @@
 -- What a reader answers to one more piece.
-use Rattle.std.proofs.Common.{◌≡◌, ℕ, suc, zero, ◌+◌, ◌-◌, ◌<◌, ◌≤◌, min, Bool, false, List, [], ◌∷◌, ◌++◌, length, take, Some, None, refl, sym, ap, ◌∙◌, arith, inl, inr, ◌⊎◌, Result, Ok, Err, IfOk, length-append, ◌^◌}
+use Rattle.std.proofs.Common.{◌≡◌, ℕ, suc, zero, ◌+◌, ◌-◌, ◌<◌, ◌≤◌, min, Bool, false, List, [], ◌∷◌, ◌++◌, length, take, Some, None, refl, sym, ap, ◌∙◌, arith}
+use Rattle.std.proofs.Common.{inl, inr, ◌⊎◌, Result, Ok, Err, IfOk, length-append, ◌^◌}
 use Rattle.std.specs.Option.{option_or}
 use Rattle.std.specs.Result.{result_err}
 use Rattle.std.proofs.lemmas.Bool.{le-leb, lt-leb}
@@ -14,7 +15,8 @@ use Rattle.cats_text.specs.declared.bid.BidFile.{BidFile}
 use Rattle.cats_text.specs.Internal.Reading.{HasTaken, IsReading, SpellsSizes, fault_told}
 use Rattle.cats_text.specs.Reading.{WantsMemory, FeedsAs}
 use Rattle.cats_text.specs.Internal.Returns.{settled, waits, carried}
-use Rattle.cats_text.specs.Internal.Scanning.{State, state, first_state, Scan, run, and_then, Steps, Asks, MeetsBidLine, end_of, IsFileOf, IsHeaderOf, Finishes, AsksAtEnd, IsInBidLine, HasBids}
+use Rattle.cats_text.specs.Internal.Scanning.{State, state, first_state, Scan, run, and_then, Steps, Asks, MeetsBidLine, end_of, IsFileOf, IsHeaderOf, Finishes}
+use Rattle.cats_text.specs.Internal.Scanning.{AsksAtEnd, IsInBidLine, HasBids}
 use Rattle.cats_text.specs.declared.fault.ReadFault.{ReadFault}
 use Rattle.cats_text.specs.declared.fault.Kind.TheVariants.{TooLong}
 use Rattle.cats_text.specs.declared.parser.Header.{Header}
@@ -24,7 +26,8 @@ use Rattle.cats_text.specs.declared.scanner.Halt.{Halt}
 use Rattle.cats_text.specs.declared.scanner.Halt.TheVariants.{Fault, Memory}
 use Rattle.cats_text.specs.declared.scanner.Scanner.{Scanner}
 use Rattle.cats_text.proofs.Scanning.Lines.{run-append}
-use Rattle.cats_text.proofs.Texts.MachineAnswers.{stops_at_complete_fault, goes_on_without_fault, meets_bid_line, complete_fault_is_first, ends_at_file, ends_at_sizes, ends_at_first_fault, ends_in_bid_line}
+use Rattle.cats_text.proofs.Texts.MachineAnswers.{stops_at_complete_fault, goes_on_without_fault, meets_bid_line, complete_fault_is_first, ends_at_file}
+use Rattle.cats_text.proofs.Texts.MachineAnswers.{ends_at_sizes, ends_at_first_fault, ends_in_bid_line}
 use Rattle.cats_text.proofs.Scanning.Pieces.{settled-append, waits-append}
 use Rattle.cats_text.proofs.Feeding.Streams.{take-within}
 use Rattle.cats_text.proofs.Scanning.Appends.{meets_behind, run-line, settled-length}

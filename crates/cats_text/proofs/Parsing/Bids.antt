@@ -1,8 +1,10 @@
 -- The words of a bid line: the parser and the definitions agree.
-use Rattle.std.proofs.Common.{◌≡◌, ℕ, ◌+◌, ◌-◌, ◌*◌, ◌^◌, ◌<◌, ◌≤◌, min, Bool, true, false, not, ◌&&◌, ◌||◌, cond, eqb, ltb, leb, ⊎_elim, List, [], ◌∷◌, ◌++◌, length, refl, sym, ap, ap₂, ◌∙◌, subst, arith, Option, None, Ok, Err}
+use Rattle.std.proofs.Common.{◌≡◌, ℕ, ◌+◌, ◌-◌, ◌*◌, ◌^◌, ◌<◌, ◌≤◌, min, Bool, true, false, not, ◌&&◌, ◌||◌, cond, eqb, ltb, leb, ⊎_elim, List, [], ◌∷◌, ◌++◌}
+use Rattle.std.proofs.Common.{length, refl, sym, ap, ap₂, ◌∙◌, subst, arith, Option, None, Ok, Err}
 use Rattle.std.proofs.lemmas.Bool.{ltb-false, lt-ltb, leb-true, leb-false, eq-eqb, ne_eqb, both_ways, or_left, and_parts}
 use Rattle.std.specs.List.{list_any, slice_get}
-use Rattle.cats_text.specs.Numbers.{is_number, number_of, is_too_large, is_too_fine, price_of, whole_part, places, has_place_from, six_places, is_digit, digits_alone, GREATEST_PRICE}
+use Rattle.cats_text.specs.Numbers.{is_number, number_of, is_too_large, is_too_fine, price_of, whole_part, places, has_place_from, six_places, is_digit}
+use Rattle.cats_text.specs.Numbers.{digits_alone, GREATEST_PRICE}
 use Rattle.cats_text.specs.Grammar.{line_number}
 use Rattle.cats_text.specs.Faults.{header_value, word_fault, when}
 use Rattle.cats_text.specs.FileLines.{bid_of}

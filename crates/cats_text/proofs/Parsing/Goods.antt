@@ -1,5 +1,6 @@
 -- The goods of a bid line and its `#`: the parser and the definitions agree.
-use Rattle.std.proofs.Common.{◌≡◌, ◌≢◌, ℕ, ◌+◌, ◌-◌, ◌<◌, ◌≤◌, Bool, true, false, not, ◌&&◌, cond, eqb, ltb, leb, List, [], ◌∷◌, ◌++◌, length, refl, sym, ap, ap₂, ◌∙◌, subst, arith, Option, Some, None, Ok, Err}
+use Rattle.std.proofs.Common.{◌≡◌, ◌≢◌, ℕ, ◌+◌, ◌-◌, ◌<◌, ◌≤◌, Bool, true, false, not, ◌&&◌, cond, eqb, ltb, leb, List, [], ◌∷◌, ◌++◌, length, refl, sym, ap}
+use Rattle.std.proofs.Common.{ap₂, ◌∙◌, subst, arith, Option, Some, None, Ok, Err}
 use Rattle.std.proofs.lemmas.Bool.{ltb-true, ltb-false, le-leb, lt-leb, leb-true, leb-false, eqb-true, eqb-false, eq-eqb, ne_eqb}
 use Rattle.std.specs.List.{list_any, find}
 use Rattle.std.specs.Option.{option_map, is_some}
@@ -20,7 +21,9 @@ use Rattle.cats_text.proofs.Words.Tests.{IsTold, tells_number, tells_end}
 use Rattle.cats_text.proofs.Parsing.States.{IsAt, WordFollows, HasOneDummy, ended_column}
 use Rattle.cats_text.proofs.Parsing.Headers.{holds_le, holds_same}
 use Rattle.cats_text.proofs.Parsing.Bids.{follow_test, fault_named, passes}
-use Rattle.cats_text.proofs.Parsing.GoodsSoFar.{values, before_end-all, before_end-ended, before_end-push, has_end-push, values-push, any_find, any_values, find_passes, has_filtered, none_real, no_dummy_has_not, other_dummy_has_not, one_more_real, first_dummy, real_goods-real, real_goods-dummy, dummy_in-real, dummy_in-dummy}
+use Rattle.cats_text.proofs.Parsing.GoodsSoFar.{values, before_end-all, before_end-ended, before_end-push, has_end-push, values-push, any_find, any_values}
+use Rattle.cats_text.proofs.Parsing.GoodsSoFar.{find_passes, has_filtered, none_real, no_dummy_has_not, other_dummy_has_not, one_more_real, first_dummy}
+use Rattle.cats_text.proofs.Parsing.GoodsSoFar.{real_goods-real, real_goods-dummy, dummy_in-real, dummy_in-dummy}
 
 -- the tests of a good, in the order of the definitions
 abbrev tests_from_range : ℕ → ℕ → List (List ℕ) → List ℕ → Option Kind

@@ -1,6 +1,8 @@
 -- The goods of a bid so far: what the parser keeps of them answers the tests of the next.
-use Rattle.std.proofs.Common.{◌≡◌, ◌≢◌, ℕ, suc, take, ◌+◌, ◌-◌, ◌<◌, ◌≤◌, Bool, true, false, not, ◌||◌, cond, eqb, ltb, leb, ◌⊎◌, inl, inr, ⊎_elim, List, [], ◌∷◌, ◌++◌, length, map, refl, sym, ap, ◌∙◌, subst, arith, Option, Some, None, append-nil}
-use Rattle.std.proofs.lemmas.Bool.{eqb-true, eq-eqb, ne_eqb, ltb-false, lt-ltb, le-ltb, le-leb, lt-leb, leb-true, both_ways, false_from_ne_true, or_cases, or_right}
+use Rattle.std.proofs.Common.{◌≡◌, ◌≢◌, ℕ, suc, take, ◌+◌, ◌-◌, ◌<◌, ◌≤◌, Bool, true, false, not, ◌||◌, cond, eqb, ltb, leb, ◌⊎◌, inl, inr, ⊎_elim, List, []}
+use Rattle.std.proofs.Common.{◌∷◌, ◌++◌, length, map, refl, sym, ap, ◌∙◌, subst, arith, Option, Some, None, append-nil}
+use Rattle.std.proofs.lemmas.Bool.{eqb-true, eq-eqb, ne_eqb, ltb-false, lt-ltb, le-ltb, le-leb, lt-leb, leb-true, both_ways, false_from_ne_true, or_cases}
+use Rattle.std.proofs.lemmas.Bool.{or_right}
 use Rattle.std.proofs.lemmas.List.{map-append}
 use Rattle.std.proofs.lemmas.List.Folds.{find-append, list_any-append}
 use Rattle.std.proofs.lemmas.List.Elements.{filter-append}

@@ -1,5 +1,6 @@
 -- The words of the header lines: the parser and the definitions agree.
-use Rattle.std.proofs.Common.{lit<, ◌≡◌, ℕ, ◌<◌, ◌≤◌, true, false, not, cond, ltb, leb, ⊎_elim, List, [], ◌∷◌, ◌++◌, refl, sym, ap, ap₂, ◌∙◌, subst, arith, Option, None, Ok, Err}
+use Rattle.std.proofs.Common.{lit<, ◌≡◌, ℕ, ◌<◌, ◌≤◌, true, false, not, cond, ltb, leb, ⊎_elim, List, [], ◌∷◌, ◌++◌, refl, sym, ap, ap₂, ◌∙◌, subst, arith}
+use Rattle.std.proofs.Common.{Option, None, Ok, Err}
 use Rattle.std.proofs.lemmas.Bool.{ltb-false, lt-ltb, le-leb, both_ways}
 use Rattle.cats_text.specs.Numbers.{is_number, number_of}
 use Rattle.cats_text.specs.Faults.{header_word, word_fault, when, header_value}

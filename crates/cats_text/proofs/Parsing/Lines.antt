@@ -1,5 +1,6 @@
 -- Words, line ends and whole lines: the parser and the definitions agree.
-use Rattle.std.proofs.Common.{◌≡◌, ℕ, ◌+◌, ◌-◌, ◌<◌, ◌≤◌, Bool, true, false, not, ltb, List, [], ◌∷◌, ◌++◌, length, refl, sym, ap, ap₂, ◌∙◌, subst, arith, Option, None, Ok, Err, length-append}
+use Rattle.std.proofs.Common.{◌≡◌, ℕ, ◌+◌, ◌-◌, ◌<◌, ◌≤◌, Bool, true, false, not, ltb, List, [], ◌∷◌, ◌++◌, length, refl, sym, ap, ap₂, ◌∙◌, subst, arith}
+use Rattle.std.proofs.Common.{Option, None, Ok, Err, length-append}
 use Rattle.std.proofs.lemmas.Bool.{ltb-true, ltb-false, lt-ltb, le-ltb}
 use Rattle.std.proofs.lemmas.List.Sums.{fold_push}
 use Rattle.cats_text.specs.Numbers.{number_of, price_of}
@@ -91,7 +92,8 @@ bid_line_step : (g b d : List (List ℕ)) (lines : List (List (List ℕ))) (word
 bid_line_step g b d lines [] p l at = absurd (let no : 0 < 0 = l in omega arith)
 bid_line_step g b d lines (n ∷ []) p l at = subst (LineFollows (g ∷ b ∷ d ∷ lines) (n ∷ [])) (sym (line_there Second Bid p at.column at.stage)) refl
 bid_line_step g b d lines (n ∷ x ∷ gs) p l at = elim (has_end gs) as (λ t. has_end gs ≡ t → LineFollows (g ∷ b ∷ d ∷ lines) (n ∷ x ∷ gs) (line_read p)) [
-  | true ↦ λ (e : has_end gs ≡ true). subst (LineFollows (g ∷ b ∷ d ∷ lines) (n ∷ x ∷ gs)) (sym (line_there Ended Bid p (at.column ∙ ap ended_column e) at.stage)) (
+  | true ↦ λ (e : has_end gs ≡ true). subst (LineFollows (g ∷ b ∷ d ∷ lines) (n ∷ x ∷ gs))
+      (sym (line_there Ended Bid p (at.column ∙ ap ended_column e) at.stage)) (
     ap (λ t. when (not t) kinds.NoEnd None) e,
     record {
       stage = at.stage;

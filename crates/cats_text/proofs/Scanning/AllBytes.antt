@@ -1,12 +1,14 @@
 -- From bytes to lines: the scanner over a whole text gives what the parser gives over its significant lines.
-use Rattle.std.proofs.Common.{◌≡◌, ℕ, suc, ◌<◌, Bool, true, false, ◌&&◌, ◌||◌, cond, eqb, List, [], ◌∷◌, ◌++◌, length, refl, sym, ap, ◌∙◌, subst, arith, Ok, Err, append-nil}
+use Rattle.std.proofs.Common.{◌≡◌, ℕ, suc, ◌<◌, Bool, true, false, ◌&&◌, ◌||◌, cond, eqb, List, [], ◌∷◌, ◌++◌, length, refl, sym, ap, ◌∙◌, subst, arith, Ok}
+use Rattle.std.proofs.Common.{Err, append-nil}
 use Rattle.std.proofs.lemmas.Bool.{both_ways, eqb-true}
 use Rattle.std.specs.List.{AllByRecursion}
 use Rattle.cats_text.specs.Lines.{Word, RawLine, raw_lines, lines_with, with_byte, line_words, is_significant, is_blank}
 use Rattle.cats_text.specs.Faults.{fault_at}
 use Rattle.cats_text.specs.Internal.Progress.{Progress}
 use Rattle.cats_text.specs.Internal.Parsing.{Reading, line_read, is_due}
-use Rattle.cats_text.specs.Internal.Scanning.{State, Scan, and_then, run, byte_step, blank_step, words_step, next_line, end_step, missing_step, line_behind, with_reading, letter_mode}
+use Rattle.cats_text.specs.Internal.Scanning.{State, Scan, and_then, run, byte_step, blank_step, words_step, next_line, end_step, missing_step, line_behind}
+use Rattle.cats_text.specs.Internal.Scanning.{with_reading, letter_mode}
 use Rattle.cats_text.specs.declared.fault.Kind.TheVariants.{Missing}
 use Rattle.cats_text.specs.declared.fault.ReadFault.{ReadFault}
 use Rattle.cats_text.specs.declared.scanner.Mode.{Mode}

@@ -1,13 +1,16 @@
 -- Where the scanner is in a bid line, a fourth significant line has begun. The idea: count the lines that begin, byte by byte,
 -- and the header lines that have ended by the parser's stage.
-use Rattle.std.proofs.Common.{◌≡◌, ℕ, suc, ◌+◌, ◌-◌, ◌≤◌, Option, Some, None, Bool, true, false, not, cond, eqb, ltb, leb, ⊎_elim, List, [], ◌∷◌, ◌++◌, length, filter, refl, sym, ap, ◌∙◌, subst, arith, Result, Ok, Err, IsOkAnd}
+use Rattle.std.proofs.Common.{◌≡◌, ℕ, suc, ◌+◌, ◌-◌, ◌≤◌, Option, Some, None, Bool, true, false, not, cond, eqb, ltb, leb, ⊎_elim, List, [], ◌∷◌, ◌++◌, length}
+use Rattle.std.proofs.Common.{filter, refl, sym, ap, ◌∙◌, subst, arith, Result, Ok, Err, IsOkAnd}
 use Rattle.std.proofs.lemmas.Bool.{lt-ltb}
-use Rattle.cats_text.specs.Lines.{Word, RawLine, Line, raw_lines, lines_with, with_byte, line_words, words_with, with_letter, begins_word, is_significant, is_blank, numbered, blank_returns, significant_lines}
+use Rattle.cats_text.specs.Lines.{Word, RawLine, Line, raw_lines, lines_with, with_byte, line_words, words_with, with_letter, begins_word, is_significant}
+use Rattle.cats_text.specs.Lines.{is_blank, numbered, blank_returns, significant_lines}
 use Rattle.cats_text.specs.Faults.{has_bid_line}
 use Rattle.std.specs.List.{slice_get}
 use Rattle.cats_text.specs.Grammar.{has_number}
 use Rattle.cats_text.specs.Internal.Progress.{Progress}
-use Rattle.cats_text.specs.Internal.Parsing.{Reading, keyword_read, header_number_read, number_read, is_some_bid, price_parts, with_price, price_read, dummy_read, good_or_end_read, word_read, line_read}
+use Rattle.cats_text.specs.Internal.Parsing.{Reading, keyword_read, header_number_read, number_read, is_some_bid, price_parts, with_price, price_read}
+use Rattle.cats_text.specs.Internal.Parsing.{dummy_read, good_or_end_read, word_read, line_read}
 use Rattle.cats_text.specs.declared.fault.Kind.{Kind}
 use Rattle.cats_text.specs.declared.fault.Kind.TheVariants as kinds
 use Rattle.cats_text.specs.declared.word.Keyword.{Keyword as Key}
@@ -19,7 +22,8 @@ use Rattle.cats_text.specs.declared.parser.Column.TheVariants.{First, Second, La
 use Rattle.cats_text.specs.declared.limits.TheConstants.{MAX_GOODS, MAX_BIDS, MAX_DUMMY}
 use Rattle.cats_text.proofs.Parsing.Headers.{read_at}
 use Rattle.cats_text.proofs.Parsing.Lines.{line_at}
-use Rattle.cats_text.specs.Internal.Scanning.{State, Scan, and_then, byte_step, blank_step, words_step, line_step, next_line, with_reading, letter_mode, MeetsBidLine, IsInBidLine, IsInLine, first_state}
+use Rattle.cats_text.specs.Internal.Scanning.{State, Scan, and_then, byte_step, blank_step, words_step, line_step, next_line, with_reading, letter_mode}
+use Rattle.cats_text.specs.Internal.Scanning.{MeetsBidLine, IsInBidLine, IsInLine, first_state}
 use Rattle.cats_text.specs.Internal.Machine.{word_from}
 use Rattle.cats_text.specs.declared.word.Word.{Word as Kept}
 use Rattle.cats_text.specs.declared.parser.Stage.{Stage}

@@ -1,5 +1,6 @@
 -- Several bytes at once: the digits of a number, whole words, and the bytes of a comment.
-use Rattle.std.proofs.Common.{◌≡◌, ◌≢◌, ℕ, suc, ◌+◌, ◌-◌, ◌*◌, ◌<◌, ◌≤◌, Bool, true, false, not, ◌&&◌, ◌||◌, cond, eqb, ltb, List, [], ◌∷◌, ◌++◌, length, get_or, take, drop, fold, refl, sym, ap, ◌∙◌, subst, arith, Ok, add-one, append-nil, Some, None, min}
+use Rattle.std.proofs.Common.{◌≡◌, ◌≢◌, ℕ, suc, ◌+◌, ◌-◌, ◌*◌, ◌<◌, ◌≤◌, Bool, true, false, not, ◌&&◌, ◌||◌, cond, eqb, ltb, List, [], ◌∷◌, ◌++◌, length}
+use Rattle.std.proofs.Common.{get_or, take, drop, fold, refl, sym, ap, ◌∙◌, subst, arith, Ok, add-one, append-nil, Some, None, min}
 use Rattle.std.proofs.lemmas.Bool.{and_parts, and_from, ltb-false, ne_eqb, eq-eqb}
 use Rattle.std.proofs.lemmas.List.Sums.{fold_push}
 use Rattle.std.proofs.Math.Seq.{take-suc, take-length}

@@ -1,6 +1,7 @@
 -- A scan of a list of bytes: what is left of it does to the state reached what the whole does to the first.
 use Rattle.std.proofs.Math.ListN.{drop_of_length-le}
-use Rattle.std.proofs.Common.{add-one, drop-cons, ◌≡◌, ◌≢◌, ℕ, ◌+◌, ◌<◌, Bool, true, false, List, [], ◌∷◌, length, drop, get_or, refl, sym, ap, ◌∙◌, subst, arith, inr, Ok}
+use Rattle.std.proofs.Common.{add-one, drop-cons, ◌≡◌, ◌≢◌, ℕ, ◌+◌, ◌<◌, Bool, true, false, List, [], ◌∷◌, length, drop, get_or, refl, sym, ap, ◌∙◌, subst}
+use Rattle.std.proofs.Common.{arith, inr, Ok}
 use Rattle.std.proofs.lemmas.Bool.{ne_eqb, eq-eqb}
 use Rattle.cats_text.specs.Internal.Returns.{settled, waits, return_byte}
 use Rattle.cats_text.specs.Internal.Scanning.{State, run, byte_step, MeetsBidLine, IsScanned}

@@ -1,5 +1,6 @@
 -- Whole words in front of bytes, each read before the byte that ends it.
-use Rattle.std.proofs.Common.{◌≡◌, ◌≢◌, ℕ, ◌+◌, ◌-◌, ◌<◌, ◌≤◌, Bool, true, false, ◌||◌, cond, eqb, ⊎_elim, inl, inr, List, [], ◌∷◌, length, get_or, take, drop, refl, sym, ap, ◌∙◌, subst, arith, Result, Ok, Err, IsOkAnd, IsErr, IsErrAnd}
+use Rattle.std.proofs.Common.{◌≡◌, ◌≢◌, ℕ, ◌+◌, ◌-◌, ◌<◌, ◌≤◌, Bool, true, false, ◌||◌, cond, eqb, ⊎_elim, inl, inr, List, [], ◌∷◌, length, get_or, take, drop}
+use Rattle.std.proofs.Common.{refl, sym, ap, ◌∙◌, subst, arith, Result, Ok, Err, IsOkAnd, IsErr, IsErrAnd}
 use Rattle.std.proofs.lemmas.Bool.{both_ways}
 use Rattle.std.proofs.lemmas.List.{length-drop, drop-drop}
 use Rattle.cats_text.specs.Lines.{is_blank}
@@ -8,7 +9,8 @@ use Rattle.cats_text.specs.Faults.{fault_at}
 use Rattle.cats_text.specs.Internal.Front.{IsFront, ends_word}
 use Rattle.cats_text.specs.Internal.Progress.{Progress, Gives, AsksOnBidLines}
 use Rattle.cats_text.specs.Internal.Parsing.{word_read}
-use Rattle.cats_text.specs.Internal.Scanning.{State, and_then, run, byte_step, halt_of, is_before_word, AsksHere, IsInBidLine, MeetsBidLine, IsScanned, ScansTo, Steps, Asks}
+use Rattle.cats_text.specs.Internal.Scanning.{State, and_then, run, byte_step, halt_of, is_before_word, AsksHere, IsInBidLine, MeetsBidLine, IsScanned, ScansTo}
+use Rattle.cats_text.specs.Internal.Scanning.{Steps, Asks}
 use Rattle.cats_text.specs.declared.fault.Kind.{Kind}
 use Rattle.cats_text.specs.declared.parser.Stop.{Stop}
 use Rattle.cats_text.specs.declared.parser.Stop.TheVariants.{Fault, Memory}

@@ -1,5 +1,6 @@
 -- The bid that a line spells, and the bid of a line's words.
-use Rattle.std.proofs.Common.{◌≡◌, ℕ, zero, suc, ◌<◌, ◌≤◌, true, false, not, cond, ltb, ⊎_elim, List, [], ◌∷◌, ◌++◌, length, map, Some, refl, sym, ap, ap₂, ◌∙◌, subst}
+use Rattle.std.proofs.Common.{◌≡◌, ℕ, zero, suc, ◌<◌, ◌≤◌, true, false, not, cond, ltb, ⊎_elim, List, [], ◌∷◌, ◌++◌, length, map, Some, refl, sym, ap, ap₂, ◌∙◌}
+use Rattle.std.proofs.Common.{subst}
 use Rattle.std.proofs.lemmas.Bool.{both_ways, ltb-true, lt-ltb, or_cases, or_left, or_right}
 use Rattle.std.proofs.lemmas.List.Sums.{take_while-cons}
 use Rattle.std.proofs.lemmas.Option.{slice_get_within}
@@ -13,7 +14,8 @@ use Rattle.cats_text.specs.Faults.{Bounds, is_end}
 use Rattle.cats_text.specs.FileLines.{before_end, bid_of}
 use Rattle.cats_text.specs.declared.limits.TheConstants.{MAX_PRICE}
 use Rattle.cats_text.proofs.Spelling.Rising.{has_head, has_tail, has_cases, IsRising-of}
-use Rattle.cats_text.proofs.Spelling.Members.{bid_on, bid_on_same, bid_on_below, bid_on_real, bid_on_dummy, goods_are, rising_goods, same_dummy, has_real_good, real, dummy_of}
+use Rattle.cats_text.proofs.Spelling.Members.{bid_on, bid_on_same, bid_on_below, bid_on_real, bid_on_dummy, goods_are, rising_goods, same_dummy, has_real_good}
+use Rattle.cats_text.proofs.Spelling.Members.{real, dummy_of}
 use Rattle.cats_text.proofs.Spelling.Prices.{price_below, price_small}
 use Rattle.cats_text.proofs.Spelling.Goods.{IsBidLine, number_no_end}
 

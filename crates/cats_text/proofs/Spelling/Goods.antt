@@ -1,5 +1,6 @@
 -- Bid lines without a fault: a number, a price, and goods up to `#`.
-use Rattle.std.proofs.Common.{◌≡◌, ℕ, ◌+◌, ◌<◌, Bool, true, false, not, cond, eqb, ltb, leb, ◌||◌, ◌&&◌, ⊎_elim, List, [], ◌∷◌, ◌++◌, length, map, Option, None, refl, sym, ap, ap₂, ◌∙◌, subst, append_assoc, append-nil}
+use Rattle.std.proofs.Common.{◌≡◌, ℕ, ◌+◌, ◌<◌, Bool, true, false, not, cond, eqb, ltb, leb, ◌||◌, ◌&&◌, ⊎_elim, List, [], ◌∷◌, ◌++◌, length, map, Option, None}
+use Rattle.std.proofs.Common.{refl, sym, ap, ap₂, ◌∙◌, subst, append_assoc, append-nil}
 use Rattle.std.proofs.lemmas.Bool.{both_ways, leb-false, lt-leb, not-false, not_from_true, or_left, or_right, or_from, false_from_ne_true, cases_Bool}
 use Rattle.std.proofs.lemmas.List.{map-append}
 use Rattle.std.proofs.lemmas.List.Folds.{list_any-append}
@@ -10,7 +11,8 @@ use Rattle.cats_text.specs.Numbers.{is_number, number_of, is_price, is_too_large
 use Rattle.cats_text.specs.Grammar.{has_number, line_number}
 use Rattle.cats_text.specs.Faults.{when, Bounds, number_word, price_word, is_end, has_end, good_word, bid_end, bounds_of, words_fault}
 use Rattle.cats_text.specs.declared.fault.Kind.{Kind}
-use Rattle.cats_text.specs.declared.fault.Kind.TheVariants.{NotANumber, TooLarge, ExtraBid, BidNumber, RepeatedNumber, TooFine, GoodRange, RepeatedGood, TwoDummies, EmptyBundle, NoEnd, AfterEnd}
+use Rattle.cats_text.specs.declared.fault.Kind.TheVariants.{NotANumber, TooLarge, ExtraBid, BidNumber, RepeatedNumber, TooFine, GoodRange, RepeatedGood}
+use Rattle.cats_text.specs.declared.fault.Kind.TheVariants.{TwoDummies, EmptyBundle, NoEnd, AfterEnd}
 use Rattle.cats_text.proofs.Spelling.Members.{AreGoods, MayFollow, no_goods, push_goods, may_follow}
 use Rattle.cats_text.proofs.Spelling.Tests.{when_none, none_when, or_none, none_or, equal_words}
 

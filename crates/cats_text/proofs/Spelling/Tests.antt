@@ -56,7 +56,8 @@ pub record IsHeader (keyword : Word) (limit : ℕ) (words : List Word) : Type 0 
   pub spelled : is_number number ≡ true
   pub within : number_of number ≤ limit
 
-module _ (keyword : Word) (limit : ℕ) (lines : List (List Word)) (is_header : (before : List Word) (w : Word) → word_fault lines before w ≡ header_word keyword limit before w) where
+module _ (keyword : Word) (limit : ℕ) (lines : List (List Word))
+    (is_header : (before : List Word) (w : Word) → word_fault lines before w ≡ header_word keyword limit before w) where
   pub header_from : (words : List Word) → words_fault lines [] words ≡ None → header_end words ≡ None → IsHeader keyword limit words
   header_from [] f e = absurd (cc)
   header_from (k ∷ []) f e = absurd (cc)

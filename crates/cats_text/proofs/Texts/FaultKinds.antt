@@ -1,9 +1,12 @@
 -- Which kinds a fault of a text has, and at which lines.
-use Rattle.std.proofs.Common.{◌≡◌, ◌≢◌, ℕ, suc, ◌<◌, ◌≤◌, nat_le, Bool, true, false, ◌||◌, ◌&&◌, cond, List, [], ◌∷◌, ◌++◌, Option, Some, None, IfSome, option_map, refl, if◌then◌else◌, take, length, filter, arith}
+use Rattle.std.proofs.Common.{◌≡◌, ◌≢◌, ℕ, suc, ◌<◌, ◌≤◌, nat_le, Bool, true, false, ◌||◌, ◌&&◌, cond, List, [], ◌∷◌, ◌++◌, Option, Some, None, IfSome}
+use Rattle.std.proofs.Common.{option_map, refl, if◌then◌else◌, take, length, filter, arith}
 use Rattle.std.specs.Option.{option_or}
 use Rattle.std.specs.List.{AllByRecursion}
 use Rattle.cats_text.specs.Lines.{Word, RawLine, Line, line_count, significant_lines, raw_lines, blank_returns, numbered, is_significant, line_words}
-use Rattle.cats_text.specs.Faults.{when, header_word, header_end, number_word, price_word, good_word, bid_word, bid_end, Bounds, word_fault, end_fault, words_fault, fault_at, line_fault, lines_fault, first_fault, complete_fault, up_to_final, is_line_due, is_text_kind, IsOfText}
+use Rattle.cats_text.specs.Faults.{when, header_word, header_end, number_word, price_word, good_word, bid_word, bid_end, Bounds, word_fault, end_fault}
+use Rattle.cats_text.specs.Faults.{words_fault, fault_at, line_fault, lines_fault, first_fault, complete_fault, up_to_final, is_line_due, is_text_kind}
+use Rattle.cats_text.specs.Faults.{IsOfText}
 use Rattle.cats_text.specs.Fed.{fed_fault}
 use Rattle.cats_text.specs.declared.fault.Kind.{Kind}
 use Rattle.cats_text.specs.declared.fault.Kind.TheVariants.{Missing, TooLong, Device, Memory}

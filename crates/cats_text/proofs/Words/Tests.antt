@@ -1,5 +1,6 @@
 -- What is kept of a word answers every test that the grammar makes of the word.
-use Rattle.std.proofs.Common.{◌≡◌, ◌≢◌, ℕ, zero, suc, ◌<◌, ◌≤◌, min, Bool, true, false, not, ◌&&◌, ◌||◌, cond, eqb, List, [], ◌∷◌, ◌++◌, length, take, refl, sym, ap, ◌∙◌, subst, arith, append-nil}
+use Rattle.std.proofs.Common.{◌≡◌, ◌≢◌, ℕ, zero, suc, ◌<◌, ◌≤◌, min, Bool, true, false, not, ◌&&◌, ◌||◌, cond, eqb, List, [], ◌∷◌, ◌++◌, length, take, refl}
+use Rattle.std.proofs.Common.{sym, ap, ◌∙◌, subst, arith, append-nil}
 use Rattle.std.proofs.lemmas.Bool.{and_parts, eqb-true, eqb-false, eq-eqb, ne_eqb, both_ways}
 use Rattle.std.specs.Str.{bytes_eq}
 use Rattle.cats_text.specs.Numbers.{is_digit, digits_alone, is_number, is_price, whole_part, has_point, places}
@@ -11,7 +12,8 @@ use Rattle.cats_text.specs.declared.word.Keyword.TheVariants.{Goods, Bids, Dummy
 use Rattle.cats_text.specs.declared.word.Word.{Word}
 use Rattle.cats_text.specs.declared.price.Decimal.{Decimal}
 use Rattle.cats_text.specs.declared.word.Word.TheVariants.{Keyword, Number, Decimal as Fraction, End, Other}
-use Rattle.cats_text.proofs.Words.Kept.{Tells, IsOther, digit_not, first_of_take, digits-not, whole-digits, point-digits, whole-point, places-point, point-point}
+use Rattle.cats_text.proofs.Words.Kept.{Tells, IsOther, digit_not, first_of_take, digits-not, whole-digits, point-digits, whole-point, places-point}
+use Rattle.cats_text.proofs.Words.Kept.{point-point}
 
 abbrev pub tells_number : Word → Bool
 tells_number (Number v) = true

@@ -1,5 +1,6 @@
 -- A text that is written from its end to its start.
-use Rattle.std.proofs.Common.{◌≡◌, ℕ, ◌+◌, ◌-◌, ◌<◌, ◌≤◌, List, [], ◌∷◌, ◌++◌, Result, Ok, Err, OnOk, length, take, drop, set, get_or, decimal, sym, ap, ◌∙◌, arith, append_assoc, take-take}
+use Rattle.std.proofs.Common.{◌≡◌, ℕ, ◌+◌, ◌-◌, ◌<◌, ◌≤◌, List, [], ◌∷◌, ◌++◌, Result, Ok, Err, OnOk, length, take, drop, set, get_or, decimal, sym, ap, ◌∙◌}
+use Rattle.std.proofs.Common.{arith, append_assoc, take-take}
 use Rattle.std.proofs.lemmas.List.{append-nil, drop-set, drop-drop, drop-append-le, take_more, take_all, get_or-take, length-take-le}
 use Rattle.std.proofs.lemmas.Grind.{flat_map-append}
 use Rattle.cats_text.specs.Layout.{tabbed}

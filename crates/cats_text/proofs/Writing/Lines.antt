@@ -1,5 +1,6 @@
 -- The lines and words of a layout.
-use Rattle.std.proofs.Common.{◌≡◌, ℕ, suc, ◌+◌, ◌/◌, ◌^◌, ◌<◌, true, eqb, List, [], ◌∷◌, ◌++◌, length, map, codes, decimal, Option, Some, None, refl, sym, ap, ◌∙◌, arith, rules, append_assoc}
+use Rattle.std.proofs.Common.{◌≡◌, ℕ, suc, ◌+◌, ◌/◌, ◌^◌, ◌<◌, true, eqb, List, [], ◌∷◌, ◌++◌, length, map, codes, decimal, Option, Some, None, refl, sym, ap}
+use Rattle.std.proofs.Common.{◌∙◌, arith, rules, append_assoc}
 use Rattle.std.specs.List.{AllByRecursion}
 use Rattle.std.proofs.lemmas.Bool.{and_parts, false≢true, ne_eqb, not_from_false}
 use Rattle.std.proofs.lemmas.List.{append-nil}
@@ -11,7 +12,8 @@ use Rattle.cats_text.specs.Layout.{price_text, header_text, tabbed, bid_text, bi
 use Rattle.cats_text.proofs.Words.Places.{digit_bounds}
 use Rattle.cats_text.proofs.Writing.Numerals.{decimal_spells}
 use Rattle.cats_text.proofs.Writing.Prices.{price_text_is_word}
-use Rattle.cats_text.proofs.Writing.TextLines.{IsInLine, IsWord, all_append, letters_in_line, number_is_word, line_words-word, line_words-last, lines_from, lines_from-line}
+use Rattle.cats_text.proofs.Writing.TextLines.{IsInLine, IsWord, all_append, letters_in_line, number_is_word, line_words-word, line_words-last, lines_from}
+use Rattle.cats_text.proofs.Writing.TextLines.{lines_from-line}
 
 -- ---- the words that are written
 

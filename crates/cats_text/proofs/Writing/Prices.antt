@@ -1,5 +1,6 @@
 -- What the text of a price spells.
-use Rattle.std.proofs.Common.{◌≡◌, ℕ, ◌+◌, ◌*◌, ◌/◌, ◌%◌, ◌^◌, ◌<◌, ◌≤◌, true, false, not, eqb, [], ◌∷◌, ◌++◌, length, decimal, refl, sym, ap, subst, ◌∙◌, inl, inr, arith, length-append}
+use Rattle.std.proofs.Common.{◌≡◌, ℕ, ◌+◌, ◌*◌, ◌/◌, ◌%◌, ◌^◌, ◌<◌, ◌≤◌, true, false, not, eqb, [], ◌∷◌, ◌++◌, length, decimal, refl, sym, ap, subst, ◌∙◌, inl}
+use Rattle.std.proofs.Common.{inr, arith, length-append}
 use Rattle.std.specs.List.{list_any}
 use Rattle.std.proofs.lemmas.Bool.{and_parts, and_from, or_left, or_right, cases_eq, cond-false, ne_eqb}
 use Rattle.std.proofs.lemmas.List.{append-nil, drop_all}
@@ -10,7 +11,8 @@ use Rattle.cats_text.specs.Layout.{without_zeros, six_digits, places_text, price
 use Rattle.cats_text.proofs.Writing.Numerals.{decimal_spells, digits_from_number, is_number_from_digits}
 use Rattle.cats_text.proofs.Words.Places.{digit_bounds}
 use Rattle.cats_text.proofs.Words.Kept.{whole-digits, point-digits, whole-point, places-point}
-use Rattle.cats_text.proofs.Writing.SixDigits.{six_digits_spell, six_places-without_zeros, digits_alone-without_zeros, length-without_zeros-le, places_text_none, places_text_some}
+use Rattle.cats_text.proofs.Writing.SixDigits.{six_digits_spell, six_places-without_zeros, digits_alone-without_zeros, length-without_zeros-le}
+use Rattle.cats_text.proofs.Writing.SixDigits.{places_text_none, places_text_some}
 use Rattle.cats_text.proofs.Writing.TextLines.{IsWord, IsLetter, all_append, digits_are_letters, number_is_word}
 
 digit_not_point : (b : ℕ) → is_digit b ≡ true → eqb b 46 ≡ false

@@ -1,5 +1,6 @@
 -- The six digits behind the point: what they spell, and that taking away the zeros at their end loses nothing.
-use Rattle.std.proofs.Common.{◌≡◌, ℕ, zero, suc, ◌+◌, ◌-◌, ◌*◌, ◌^◌, ◌<◌, ◌≤◌, true, eqb, [], ◌∷◌, ◌++◌, length, take, drop, replicate, decimal, refl, sym, ap, subst, ◌∙◌, inl, inr, arith}
+use Rattle.std.proofs.Common.{◌≡◌, ℕ, zero, suc, ◌+◌, ◌-◌, ◌*◌, ◌^◌, ◌<◌, ◌≤◌, true, eqb, [], ◌∷◌, ◌++◌, length, take, drop, replicate, decimal, refl, sym, ap}
+use Rattle.std.proofs.Common.{subst, ◌∙◌, inl, inr, arith}
 use Rattle.std.specs.Fmt.{digits}
 use Rattle.std.proofs.lemmas.Bool.{and_parts, and_from, cases_lt, cases_eq, cond-false, cond_both, ne_eqb}
 use Rattle.std.proofs.lemmas.Str.Parse.{digits_value_short}

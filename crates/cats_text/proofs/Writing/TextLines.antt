@@ -2,7 +2,8 @@
 use Rattle.std.proofs.Common.{◌≡◌, ℕ, suc, ◌<◌, true, false, eqb, List, [], ◌∷◌, ◌++◌, length, map, filter, refl, ap, ◌∙◌, arith}
 use Rattle.std.specs.List.{AllByRecursion}
 use Rattle.std.proofs.lemmas.Bool.{false≢true, cond-true, cond-false, not_from_true, not_from_false, and_parts, and_left, or_from, ne_eqb}
-use Rattle.cats_text.specs.Lines.{Word, Line, is_blank, blank_returns, lines_with, raw_lines, begins_word, with_letter, words_with, line_words, is_significant, numbered}
+use Rattle.cats_text.specs.Lines.{Word, Line, is_blank, blank_returns, lines_with, raw_lines, begins_word, with_letter, words_with, line_words, is_significant}
+use Rattle.cats_text.specs.Lines.{numbered}
 use Rattle.cats_text.specs.Numbers.{is_digit, digits_alone, is_number}
 use Rattle.cats_text.proofs.Words.Places.{digit_bounds}
 

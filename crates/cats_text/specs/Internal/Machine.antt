@@ -1,6 +1,7 @@
 -- The reader as a machine over bytes: what each call of it does to what it keeps. Private to the reader: its contracts
 -- speak of the definitions over whole texts, to which the proofs tie it.
-use Rattle.std.specs.Prelude.{ℕ, ◌+◌, ◌-◌, ◌*◌, ◌^◌, ◌==◌, nat_lt, min, false, not, ◌&&◌, ◌||◌, if◌then◌else◌, List, [], ◌∷◌, fold, length, get_or}
+use Rattle.std.specs.Prelude.{ℕ, ◌+◌, ◌-◌, ◌*◌, ◌^◌, ◌==◌, nat_lt, min, false, not, ◌&&◌, ◌||◌, if◌then◌else◌, List, []}
+use Rattle.std.specs.Prelude.{◌∷◌, fold, length, get_or}
 use Rattle.cats_text.specs.Numbers.{is_digit}
 use Rattle.cats_text.specs.Internal.Keywords.{keyword_text, place_value_of}
 use Rattle.cats_text.specs.declared.word.Keyword.TheVariants.{Goods, Bids, Dummy}

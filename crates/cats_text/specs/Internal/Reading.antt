@@ -1,5 +1,6 @@
 -- What a reader keeps: the scanner has taken all bytes that came, unless a fault was answered.
-use Rattle.std.specs.Prelude.{◌≡◌, ◌⊎◌, ◌<◌, ◌≤◌, ◌^◌, ℕ, List, length, Option, Some, None, Result, Ok, Err, MatchOption}
+use Rattle.std.specs.Prelude.{◌≡◌, ◌⊎◌, ◌<◌, ◌≤◌, ◌^◌, ℕ, List, length, Option, Some, None, Result, Ok, Err}
+use Rattle.std.specs.Prelude.{MatchOption}
 use Rattle.cats_text.specs.Faults.{first_fault, fault_at}
 use Rattle.cats_text.specs.Grammar.{Spells}
 use Rattle.cats_text.specs.Files.{PlainFile}

@@ -1,3 +1,4 @@
+-- The values on the two sides of each split stay below the own value, as far as they were asked; one that does not shows no point.
 use Rattle.std.proofs.Common.{arith, ◌≡◌, ◌+◌, ◌≤◌, map, sym, ap, ◌∙◌}
 use Rattle.std.proofs.lemmas.Bool.{both_ways}
 use Rattle.std.proofs.lemmas.List.{length-map}

@@ -1,3 +1,4 @@
+-- The value on each bundle with one good less is below the own value, as far as they were asked; one that is not shows no point.
 use Rattle.std.proofs.Common.{arith, ◌≡◌, map, sym, ap, ◌∙◌}
 use Rattle.std.proofs.lemmas.Bool.{both_ways}
 use Rattle.std.proofs.lemmas.List.{length-map}

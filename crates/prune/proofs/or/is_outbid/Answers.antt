@@ -1,3 +1,4 @@
+-- A bid that all kept bids inside its bundle together do not reach is not reached by a packing of them, and that is known after one step.
 use Rattle.std.proofs.Common.{arith, ◌≡◌, ◌<◌, sym}
 use Rattle.std.proofs.lemmas.Bool.{lt-leb}
 use Rattle.goods_set.specs.Bundles.{is_inside}

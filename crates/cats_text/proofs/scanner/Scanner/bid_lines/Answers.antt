@@ -1,3 +1,4 @@
+-- The lines so far are scanned; one more is the words of a bid line and its LF, or those words alone where no LF stands behind them.
 use Rattle.std.proofs.Common.{◌≡◌, ◌≢◌, ◌+◌, ◌<◌, Ok, Err, length, get_or, sym, ap, subst, ◌∙◌, arith, rules}
 use Rattle.std.proofs.lemmas.Grind.{common_steps}
 use Rattle.cats_text.specs.Internal.Scanning.{state, byte_step, is_before_word, ScansTo, Steps}

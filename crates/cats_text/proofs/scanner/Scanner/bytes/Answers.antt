@@ -1,10 +1,12 @@
+-- The bytes so far are scanned; what goes on from there, and one more byte where it stops short, make the scan longer.
 use Rattle.std.proofs.Common.{◌≡◌, ◌≢◌, ◌+◌, ◌≤◌, ◌<◌, Ok, length, drop, get_or, arith, rules}
 use Rattle.cats_text.specs.Internal.Scanning.{state, run, byte_step, IsScanned, Steps, Asks}
 use Rattle.cats_text.specs.Internal.Returns.{settled, return_byte}
 use Rattle.cats_text.proofs.Scanning.Rests.{scan_byte_at, scan_last_return_at, scan_return_at}
 use Rattle.cats_text.proofs.Scanning.WholeWords.{rest_scanned, byte_stops, residual_is}
 use Rattle.cats_text.proofs.scanner.Scanner.bytes.Goals as goal
-use Rattle.cats_text.proofs.scanner.Scanner.bytes.Goals.{then-bytes-place-ne13+in_ok-byte, else-bytes-place-ne13+then-place-bytes-2, else-bytes-place-ne13+else-place-bytes-2+in_ok-byte-2}
+use Rattle.cats_text.proofs.scanner.Scanner.bytes.Goals.{then-bytes-place-ne13+in_ok-byte, else-bytes-place-ne13+then-place-bytes-2}
+use Rattle.cats_text.proofs.scanner.Scanner.bytes.Goals.{else-bytes-place-ne13+else-place-bytes-2+in_ok-byte-2}
 
 pub returns-in_err-byte-clause-steps : goal.returns-in_err-byte-clause-steps
 returns-in_err-byte-clause-steps c =
