@@ -40,6 +40,7 @@ fn copy_and_list<S: GoodsSet>(rt: &impl Abort, alloc: Global) -> Result<(), Fail
 }
 
 fn give_and_take_back<S: GoodsSet>(rt: &impl Abort, alloc: Global) -> Result<(), Fail> {
+    assert!(rt; S::cap() > 9);
     let given = S::from_rising(alloc, [3, 5].to_vec(alloc)?)?;
     assert_eq!(rt; given.size(), 2);
     assert_eq!(rt; given.into_list(alloc)?.as_slice(), [3, 5].as_slice());

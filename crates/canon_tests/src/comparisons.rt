@@ -2,7 +2,7 @@
 
 use crate::refusals::refusal_text;
 use canon::{CanonFault, Verdict, Which, compare, compare_files, normal_file};
-use cats_text::{BidFile, read};
+use cats_text::read;
 use std::alloc::Global;
 use std::test::Fail;
 
@@ -108,17 +108,13 @@ fn texts_part(rt: HostRuntime) -> Result<(), Fail> {
     Ok(())
 }
 
-/// The canonical file of a text.
-fn normal_file_of(alloc: Global, text: &str) -> Result<BidFile, Fail> {
-    let file = read(alloc, text.as_bytes())?;
-    Ok(normal_file(alloc, &file, 100)?)
-}
-
 #[test]
 fn canonical_files_part(rt: HostRuntime) -> Result<(), Fail> {
     for (left, right, expected) in &ROWS {
-        let one = normal_file_of(rt.alloc(), left)?;
-        let other = normal_file_of(rt.alloc(), right)?;
+        let one = read(rt.alloc(), left.as_bytes())?;
+        let one = normal_file(rt.alloc(), &one, 100)?;
+        let other = read(rt.alloc(), right.as_bytes())?;
+        let other = normal_file(rt.alloc(), &other, 100)?;
         let verdict = compare_files(rt.alloc(), &one, &other)?;
         let line = format!(in rt.alloc(); "{verdict:?}")?;
         assert_eq!(rt; line.as_str(), *expected);
