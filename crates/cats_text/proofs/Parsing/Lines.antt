@@ -94,23 +94,23 @@ bid_line_step g b d lines (n ∷ []) p l at = subst (LineFollows (g ∷ b ∷ d 
 bid_line_step g b d lines (n ∷ x ∷ gs) p l at = elim (has_end gs) as (λ t. has_end gs ≡ t → LineFollows (g ∷ b ∷ d ∷ lines) (n ∷ x ∷ gs) (line_read p)) [
   | true ↦ λ (e : has_end gs ≡ true). subst (LineFollows (g ∷ b ∷ d ∷ lines) (n ∷ x ∷ gs))
       (sym (line_there Ended Bid p (at.column ∙ ap ended_column e) at.stage)) (
-    ap (λ t. when (not t) kinds.NoEnd None) e,
-    record {
-      stage = at.stage;
-      column = refl;
-      header = at.header;
-      due = (let due : p.due ≡ p.header.bids - length lines = at.due in let more : length (lines ++ (n ∷ x ∷ gs) ∷ []) ≡ length lines + 1 = length-append lines
-          ((n ∷ x ∷ gs) ∷ []) in omega arith);
-      slots = ap₂ (λ (s : List (Option PlainBid)) (k : ℕ). put_slot s k (kept_of p.keeping (drafted p))) at.slots at.draft.number
-          ∙ ap (λ (b : PlainBid). put_slot (kept_slots p.keeping p.header.goods lines) (number_of n) (kept_of p.keeping b))
-          (drafted_is p.header.goods n x gs p at.draft)
-          ∙ sym (fold_push (λ s m. put_slot s (line_number m) (kept_of p.keeping (bid_of p.header.goods m))) [] lines (n ∷ x ∷ gs));
-      draft = refl;
-      goods = at.goods;
-      bids = at.bids;
-      dummy = at.dummy;
-    },
-  )
+        ap (λ t. when (not t) kinds.NoEnd None) e,
+        record {
+          stage = at.stage;
+          column = refl;
+          header = at.header;
+          due = (let due : p.due ≡ p.header.bids - length lines = at.due in let more : length (lines ++ (n ∷ x ∷ gs) ∷ []) ≡ length lines + 1 = length-append lines
+              ((n ∷ x ∷ gs) ∷ []) in omega arith);
+          slots = ap₂ (λ (s : List (Option PlainBid)) (k : ℕ). put_slot s k (kept_of p.keeping (drafted p))) at.slots at.draft.number
+              ∙ ap (λ (b : PlainBid). put_slot (kept_slots p.keeping p.header.goods lines) (number_of n) (kept_of p.keeping b))
+              (drafted_is p.header.goods n x gs p at.draft)
+              ∙ sym (fold_push (λ s m. put_slot s (line_number m) (kept_of p.keeping (bid_of p.header.goods m))) [] lines (n ∷ x ∷ gs));
+          draft = refl;
+          goods = at.goods;
+          bids = at.bids;
+          dummy = at.dummy;
+        },
+      )
   | false ↦ λ (e : has_end gs ≡ false). subst (LineFollows (g ∷ b ∷ d ∷ lines) (n ∷ x ∷ gs))
       (sym (line_there Later Bid p (at.column ∙ ap ended_column e) at.stage))
       (ap (λ t. when (not t) kinds.NoEnd None) e)

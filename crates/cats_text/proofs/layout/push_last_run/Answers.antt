@@ -12,7 +12,12 @@ write_goods-start-requires-clause-room c =
     let few = c.requires in
     elim c.match-dummy.branch [
       | in-Some w ↦
-          omega (arith, w.end-is, w.write_good-end.ensures.start, length-decimal-le 10 (w.from.result + w.from-in-Some.result) (omega arith) (omega arith)
-          (omega arith))
+          omega (
+            arith,
+            w.end-is,
+            w.write_good-end.ensures.start,
+            length-decimal-le 10 (w.from.result + w.from-in-Some.result) (omega arith) (omega arith)
+                (omega arith),
+          )
       | in_default w ↦ omega (arith, w.end-is)
     ]
