@@ -1,6 +1,6 @@
 //! What is seen of sets of both kinds, at worked examples. Each call is made with ample memory, so
 //! that it has to succeed.
-use goods_set::{GoodsSet, ListSet, WordSet, goods_of};
+use goods_set::{GoodsSet, ListSet, WordSet, goods_of, may_be_inside};
 use std::alloc::Global;
 use std::cmp::Ordering;
 use std::process::Abort;
@@ -91,10 +91,20 @@ fn compare_sets<S: GoodsSet>(rt: &impl Abort, alloc: Global) -> Result<(), Fail>
     Ok(())
 }
 
+fn tell_residues<S: GoodsSet>(rt: &impl Abort, alloc: Global) -> Result<(), Fail> {
+    let set = set_of::<S>(rt, alloc, &[1, 66])?;
+    let other = set_of::<S>(rt, alloc, &[3])?;
+    assert_eq!(rt; set.residues(), 6);
+    assert_eq!(rt; other.residues(), 8);
+    assert!(rt; !may_be_inside(other.residues(), set.residues()));
+    Ok(())
+}
+
 fn hold_goods<S: GoodsSet>(rt: &impl Abort, alloc: Global) -> Result<(), Fail> {
     put_and_ask::<S>(rt, alloc)?;
     copy_and_list::<S>(rt, alloc)?;
     give_and_take_back::<S>(rt, alloc)?;
+    tell_residues::<S>(rt, alloc)?;
     compare_sets::<S>(rt, alloc)
 }
 
