@@ -5,7 +5,7 @@ use Rattle.cats_text.specs.Faults.{fault_at}
 use Rattle.cats_text.specs.Internal.Progress.{Progress}
 use Rattle.cats_text.specs.Internal.Parsing.{Reading, word_read, line_read, is_due}
 use Rattle.cats_text.specs.Internal.Scanning.{State, Scan, and_then, with_reading, blank_step_at, blank_step, words_step_at, words_step, missing_step}
-use Rattle.cats_text.specs.Internal.Scanning.{line_behind, line_step, byte_step, run, end_step, end_of}
+use Rattle.cats_text.specs.Internal.Scanning.{line_behind, line_step, byte_step, scan, end_step, end_of}
 use Rattle.cats_text.specs.declared.fault.Kind.TheVariants.{Missing}
 use Rattle.cats_text.specs.declared.parser.Keeping.{Keeping}
 use Rattle.cats_text.specs.declared.parser.Column.{Column}
@@ -85,9 +85,9 @@ byte_keeps : (s : State) (b : ℕ) → ScanKeeps s.progress.keeping (byte_step s
 byte_keeps s b = either_keeps s.progress.keeping (b == 10) (line_step s) _ (line_step_keeps s)
     (either_keeps s.progress.keeping (is_blank b) (blank_step s) _ (blank_keeps s.mode s) refl)
 
-run_keeps : (s : State) (bytes : List ℕ) → ScanKeeps s.progress.keeping (run s bytes)
-run_keeps s [] = refl
-run_keeps s (b ∷ bytes) = then_keeps s.progress.keeping (byte_step s b) (λ t. run t bytes) (byte_keeps s b) (λ t. run_keeps t bytes)
+scan_keeps : (s : State) (bytes : List ℕ) → ScanKeeps s.progress.keeping (scan s bytes)
+scan_keeps s [] = refl
+scan_keeps s (b ∷ bytes) = then_keeps s.progress.keeping (byte_step s b) (λ t. scan t bytes) (byte_keeps s b) (λ t. scan_keeps t bytes)
 
 end_step_keeps : (s : State) → ScanKeeps s.progress.keeping (end_step s)
 end_step_keeps s =
@@ -99,8 +99,8 @@ end_keeps true s = then_keeps s.progress.keeping (byte_step s 32) end_step (byte
 end_keeps false s = end_step_keeps s
 
 -- the bytes and the end of the input keep it
-pub run_keeping : (s t : State) (bytes : List ℕ) → run s bytes ≡ Ok t → t.progress.keeping ≡ s.progress.keeping
-run_keeping s t bytes e = subst (ScanKeeps s.progress.keeping) e (run_keeps s bytes)
+pub scan_keeping : (s t : State) (bytes : List ℕ) → scan s bytes ≡ Ok t → t.progress.keeping ≡ s.progress.keeping
+scan_keeping s t bytes e = subst (ScanKeeps s.progress.keeping) e (scan_keeps s bytes)
 
 pub end_keeping : (waiting : Bool) (s t : State) → end_of waiting s ≡ Ok t → t.progress.keeping ≡ s.progress.keeping
 end_keeping waiting s t e = subst (ScanKeeps s.progress.keeping) e (end_keeps waiting s)

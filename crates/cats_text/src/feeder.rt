@@ -93,13 +93,13 @@ impl Feeder {
     }
 
     /// Judges the rest as the end of the input, and gives what the header lines said.
-    pub fn header(self) -> Result<Header, ReadFault>
+    pub fn finish_header(self) -> Result<Header, ReadFault>
         ensures { SizesAs self.fed result }
     {
         if let Some(fault) = self.failed {
             return Err(fault);
         }
-        match self.scanner.header() {
+        match self.scanner.finish_header() {
             Ok(header) => Ok(header),
             Err(stopped) => Err(told(stopped)),
         }

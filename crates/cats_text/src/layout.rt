@@ -108,12 +108,12 @@ pub fn push_bid(
 {
     push_offer(out, number, price)?;
     let mut left = bundle;
-    while left.len() > RUN {
-        let (run, rest) = left.split_at(RUN);
-        push_run(out, run)?;
+    while left.len() > CHUNK {
+        let (chunk, rest) = left.split_at(CHUNK);
+        push_chunk(out, chunk)?;
         left = rest;
     }
-    push_last_run(out, goods, left, dummy)
+    push_last_chunk(out, goods, left, dummy)
 }
 
 /// The bytes that a number, a tab and a price have at most.
@@ -131,32 +131,32 @@ fn push_offer(out: &mut Vec<u8>, number: usize, price: u64) -> Result<(), AllocE
 }
 
 /// So many goods of a bid get their text at once, which is then appended in one go.
-const RUN: usize = 32;
+const CHUNK: usize = 32;
 
 /// The bytes that these goods have at most, each with its tab, and those of the last ones with a dummy good and the
 /// end of the line.
-const RUN_TEXT: usize = 192;
+const CHUNK_TEXT: usize = 192;
 
 const LAST_TEXT: usize = 208;
 
-fn push_run(out: &mut Vec<u8>, goods: &[u16]) -> Result<(), AllocError>
+fn push_chunk(out: &mut Vec<u8>, goods: &[u16]) -> Result<(), AllocError>
     requires { length goods.now ≤ 32 }
     ensures { OnOk result (out.new.items ≡ out.old.items ++ tabbed goods.now) }
 {
-    let mut text = [0; RUN_TEXT];
-    let start = write_goods(goods, &mut text, RUN_TEXT);
+    let mut text = [0; CHUNK_TEXT];
+    let start = write_goods(goods, &mut text, CHUNK_TEXT);
     out.extend_from_slice(&text[start..])
 }
 
 /// The last goods of a bid, its dummy good, and the end of its line.
-fn push_last_run(
+fn push_last_chunk(
     out: &mut Vec<u8>,
     goods: u16,
-    run: &[u16],
+    chunk: &[u16],
     dummy: Option<u32>,
 ) -> Result<(), AllocError>
-    requires { length run.now ≤ 32 }
-    ensures { OnOk result (out.new.items ≡ out.old.items ++ (tabbed (run.now ++ dummy_good goods dummy) ++ codes "\t#\n")) }
+    requires { length chunk.now ≤ 32 }
+    ensures { OnOk result (out.new.items ≡ out.old.items ++ (tabbed (chunk.now ++ dummy_good goods dummy) ++ codes "\t#\n")) }
 {
     let mut text = [0; LAST_TEXT];
     let mut end = LAST_TEXT - 3;
@@ -166,7 +166,7 @@ fn push_last_run(
     if let Some(dummy) = dummy {
         end = write_good(u64::from(goods) + u64::from(dummy), &mut text, end);
     }
-    let start = write_goods(run, &mut text, end);
+    let start = write_goods(chunk, &mut text, end);
     out.extend_from_slice(&text[start..])
 }
 

@@ -5,7 +5,7 @@ mod bid;
 mod fault;
 mod feeder;
 mod front;
-mod goods;
+mod good_list;
 mod history;
 pub mod laws;
 mod layout;

@@ -25,7 +25,7 @@ ghost use Rattle.cats_text.specs.Internal.Parsing.{
 
 use crate::bid::{Bid, BidFile};
 use crate::fault::Kind;
-use crate::goods::GoodList;
+use crate::good_list::GoodList;
 use crate::limits::{MAX_BIDS, MAX_DUMMY, MAX_GOODS};
 use crate::price::price_of;
 use crate::slots::Slots;
@@ -148,7 +148,7 @@ impl Parser {
         }
     }
 
-    fn keyword(&mut self, keyword: Keyword, word: Word) -> Result<(), Stop>
+    fn take_keyword(&mut self, keyword: Keyword, word: Word) -> Result<(), Stop>
         ensures reads { Gives (progress self.new) result (keyword_read (progress self.old) keyword word) }
         ensures memory { AsksOnBidLines (progress self.old) result }
         ensures stage { self.new.stage ≡ self.old.stage }
@@ -161,7 +161,7 @@ impl Parser {
         }
     }
 
-    fn header_number(&mut self, word: Word) -> Result<(), Stop>
+    fn take_header_number(&mut self, word: Word) -> Result<(), Stop>
         ensures reads { Gives (progress self.new) result (header_number_read (progress self.old) word) }
         ensures memory { AsksOnBidLines (progress self.old) result }
         ensures stage { self.new.stage ≡ self.old.stage }
@@ -183,7 +183,7 @@ impl Parser {
         Ok(())
     }
 
-    fn number(&mut self, word: Word) -> Result<(), Stop>
+    fn take_number(&mut self, word: Word) -> Result<(), Stop>
         ensures reads { Gives (progress self.new) result (number_read (progress self.old) word) }
         ensures memory { AsksOnBidLines (progress self.old) result }
         ensures stage { self.new.stage ≡ self.old.stage }
@@ -209,7 +209,7 @@ impl Parser {
         Ok(())
     }
 
-    fn price(&mut self, word: Word) -> Result<(), Stop>
+    fn take_price(&mut self, word: Word) -> Result<(), Stop>
         ensures reads { Gives (progress self.new) result (price_read (progress self.old) word) }
         ensures memory { AsksOnBidLines (progress self.old) result }
         ensures stage { self.new.stage ≡ self.old.stage }
@@ -226,7 +226,7 @@ impl Parser {
     }
 
     #[inline(always)]
-    fn good(&mut self, value: u64) -> Result<(), Stop>
+    fn take_good(&mut self, value: u64) -> Result<(), Stop>
         ensures reads { Gives (progress self.new) result (good_read (progress self.old) value) }
         ensures memory { (progress self.old).stage ≡ Stage.Bid → AsksOnBidLines (progress self.old) result }
         ensures stage { self.new.stage ≡ self.old.stage }
@@ -255,13 +255,13 @@ impl Parser {
     }
 
     #[inline(always)]
-    fn good_or_end(&mut self, word: Word) -> Result<(), Stop>
+    fn take_good_or_end(&mut self, word: Word) -> Result<(), Stop>
         ensures reads { Gives (progress self.new) result (good_or_end_read (progress self.old) word) }
         ensures memory { (progress self.old).stage ≡ Stage.Bid → AsksOnBidLines (progress self.old) result }
         ensures stage { self.new.stage ≡ self.old.stage }
     {
         match word {
-            Word::Number(value) => self.good(value),
+            Word::Number(value) => self.take_good(value),
             Word::End if self.goods.is_empty() => Err(Stop::Fault(Kind::EmptyBundle)),
             Word::End => {
                 self.column = Column::Ended;
@@ -287,19 +287,19 @@ impl Parser {
 
     /// The next word of a line.
     #[inline(always)]
-    pub fn word(&mut self, word: Word) -> Result<(), Stop>
+    pub fn take_word(&mut self, word: Word) -> Result<(), Stop>
         ensures reads { Gives (progress self.new) result (word_read (progress self.old) word) }
         ensures memory { AsksOnBidLines (progress self.old) result }
         ensures stage { self.new.stage ≡ self.old.stage }
     {
         match (self.column, self.stage) {
-            (Column::First, Stage::Goods) => self.keyword(Keyword::Goods, word),
-            (Column::First, Stage::Bids) => self.keyword(Keyword::Bids, word),
-            (Column::First, Stage::Dummy) => self.keyword(Keyword::Dummy, word),
-            (Column::First, Stage::Bid) => self.number(word),
-            (Column::Second, Stage::Bid) => self.price(word),
-            (Column::Second, _) => self.header_number(word),
-            (Column::Later, Stage::Bid) => self.good_or_end(word),
+            (Column::First, Stage::Goods) => self.take_keyword(Keyword::Goods, word),
+            (Column::First, Stage::Bids) => self.take_keyword(Keyword::Bids, word),
+            (Column::First, Stage::Dummy) => self.take_keyword(Keyword::Dummy, word),
+            (Column::First, Stage::Bid) => self.take_number(word),
+            (Column::Second, Stage::Bid) => self.take_price(word),
+            (Column::Second, _) => self.take_header_number(word),
+            (Column::Later, Stage::Bid) => self.take_good_or_end(word),
             (Column::Later, _) => Err(Stop::Fault(Kind::Header)),
             (Column::Ended, _) => Err(Stop::Fault(Kind::AfterEnd)),
         }
@@ -307,7 +307,7 @@ impl Parser {
 
     /// What is kept of the bid that has been read; its goods are gone.
     #[inline(always)]
-    fn kept_bid(&mut self) -> Result<Bid, AllocError>
+    fn take_bid(&mut self) -> Result<Bid, AllocError>
         ensures bid { IfOk result (λ bid. plain_bid bid ≡ kept_of self.old.keeping (drafted (progress self.old))) }
         ensures goods { OnOk result (progress self.new ≡ record (progress self.old) { goods = [] }) }
     {
@@ -329,21 +329,21 @@ impl Parser {
     }
 
     #[inline(always)]
-    fn bid(&mut self) -> Result<(), Stop>
+    fn end_bid(&mut self) -> Result<(), Stop>
         ensures reads { Gives (progress self.new) result (bid_read (progress self.old)) }
         ensures memory { (progress self.old).stage ≡ Stage.Bid → AsksOnBidLines (progress self.old) result }
     {
         if self.column != Column::Ended {
             return Err(Stop::Fault(Kind::NoEnd));
         }
-        let bid = self.kept_bid()?;
+        let bid = self.take_bid()?;
         self.slots.put(self.draft.number as usize, bid)?;
         self.due = self.due.saturating_sub(1);
         self.column = Column::First;
         Ok(())
     }
 
-    fn header_line(&mut self, next: Stage) -> Result<(), Stop>
+    fn end_header_line(&mut self, next: Stage) -> Result<(), Stop>
         ensures reads { Gives (progress self.new) result (header_line_read (progress self.old) next) }
         ensures memory { AsksOnBidLines (progress self.old) result }
     {
@@ -357,15 +357,15 @@ impl Parser {
 
     /// The end of a line that has words.
     #[inline(always)]
-    pub fn line(&mut self) -> Result<(), Stop>
+    pub fn end_line(&mut self) -> Result<(), Stop>
         ensures reads { Gives (progress self.new) result (line_read (progress self.old)) }
         ensures memory { AsksOnBidLines (progress self.old) result }
     {
         match self.stage {
-            Stage::Goods => self.header_line(Stage::Bids),
-            Stage::Bids => self.header_line(Stage::Dummy),
-            Stage::Dummy => self.header_line(Stage::Bid),
-            Stage::Bid => self.bid(),
+            Stage::Goods => self.end_header_line(Stage::Bids),
+            Stage::Bids => self.end_header_line(Stage::Dummy),
+            Stage::Dummy => self.end_header_line(Stage::Bid),
+            Stage::Bid => self.end_bid(),
         }
     }
 
@@ -377,7 +377,7 @@ impl Parser {
     }
 
     /// The file, where no line is due and the bids are kept.
-    pub fn file(self) -> Result<BidFile, AllocError>
+    pub fn into_file(self) -> Result<BidFile, AllocError>
         requires { IsPlainFile (file_from (progress self)) }
         ensures file { IfOk result (λ f. plain_file f ≡ file_from (progress self)) }
         ensures memory { OnErr result (0 < length (progress self).slots) }

@@ -30,7 +30,7 @@ ghost use Rattle.cats_text.specs.Internal.Scanning.{
   blank_step,
   words_step,
   byte_step,
-  run,
+  scan,
   end_of,
   is_before_word,
   ScansTo,
@@ -161,7 +161,7 @@ impl Scanner {
     {
         match self.mode {
             Mode::Inside(word) => {
-                if let Err(stop) = self.parser.word(word) {
+                if let Err(stop) = self.parser.take_word(word) {
                     return Err(Halt::at(self.line, stop));
                 }
                 self.mode = Mode::Between;
@@ -181,7 +181,7 @@ impl Scanner {
         ensures waiting { self.new.waiting ≡ self.old.waiting }
     {
         if let Mode::Between = self.mode {
-            if let Err(stop) = self.parser.line() {
+            if let Err(stop) = self.parser.end_line() {
                 return Err(Halt::at(self.line, stop));
             }
         }
@@ -190,7 +190,7 @@ impl Scanner {
 
     /// The next byte, no CR that ends a line.
     #[inline(always)]
-    fn byte(&mut self, byte: u8) -> Result<(), Halt>
+    fn take_byte(&mut self, byte: u8) -> Result<(), Halt>
         requires { self.old.line < 2 ^ 64 - 1 }
         ensures steps { Steps (state self.new) result (byte_step (state self.old) byte) }
         ensures memory { AsksHere (state self.old) result }
@@ -215,7 +215,7 @@ impl Scanner {
 
     /// Reads this word, which with its blank has so many bytes in front; tells how many.
     #[inline(always)]
-    fn read(&mut self, word: Word, taken: usize) -> Result<usize, Halt>
+    fn take_word(&mut self, word: Word, taken: usize) -> Result<usize, Halt>
         requires waits { self.old.waiting ≡ false }
         requires before { is_before_word self.old.mode ≡ true }
         ensures scanned { (bytes : List ℕ) → IsFront bytes word taken
@@ -225,7 +225,7 @@ impl Scanner {
         ensures line { self.new.line ≡ self.old.line }
         ensures waiting { self.new.waiting ≡ self.old.waiting }
     {
-        if let Err(stop) = self.parser.word(word) {
+        if let Err(stop) = self.parser.take_word(word) {
             return Err(Halt::at(self.line, stop));
         }
         self.mode = Mode::Between;
@@ -234,7 +234,7 @@ impl Scanner {
 
     /// A word in front; tells how many bytes it and its blank have, 0 where none stands there whole.
     #[inline(always)]
-    fn word(&mut self, bytes: &[u8]) -> Result<usize, Halt>
+    fn read_word(&mut self, bytes: &[u8]) -> Result<usize, Halt>
         requires waits { self.old.waiting ≡ false }
         requires before { is_before_word self.old.mode ≡ true }
         ensures scanned { ScansTo (state self.old) (state self.new) self.new.waiting bytes.now result }
@@ -243,14 +243,14 @@ impl Scanner {
         ensures waiting { self.new.waiting ≡ self.old.waiting }
     {
         match front(bytes) {
-            Some((word, taken)) => self.read(word, taken),
+            Some((word, taken)) => self.take_word(word, taken),
             None => Ok(0),
         }
     }
 
     /// The same of a number with a blank.
     #[inline(always)]
-    fn number(&mut self, bytes: &[u8]) -> Result<usize, Halt>
+    fn read_number(&mut self, bytes: &[u8]) -> Result<usize, Halt>
         requires waits { self.old.waiting ≡ false }
         requires before { is_before_word self.old.mode ≡ true }
         ensures scanned { ScansTo (state self.old) (state self.new) self.new.waiting bytes.now result }
@@ -259,14 +259,14 @@ impl Scanner {
         ensures waiting { self.new.waiting ≡ self.old.waiting }
     {
         match number(bytes) {
-            Some((value, taken)) => self.read(Word::Number(value), taken),
+            Some((value, taken)) => self.take_word(Word::Number(value), taken),
             None => Ok(0),
         }
     }
 
     /// Real goods in front that have not come, where goods are due; tells how many bytes they and their blanks have.
     #[inline(always)]
-    fn goods(&mut self, bytes: &[u8]) -> Result<usize, Halt>
+    fn read_goods(&mut self, bytes: &[u8]) -> Result<usize, Halt>
         requires waits { self.old.waiting ≡ false }
         requires before { is_before_word self.old.mode ≡ true }
         ensures scanned { ScansTo (state self.old) (state self.new) self.new.waiting bytes.now result }
@@ -294,7 +294,7 @@ impl Scanner {
 
     /// The `#` in front, where the line ends behind it; tells how many bytes it has.
     #[inline(always)]
-    fn bid_end(&mut self, bytes: &[u8]) -> Result<usize, Halt>
+    fn read_bid_end(&mut self, bytes: &[u8]) -> Result<usize, Halt>
         requires waits { self.old.waiting ≡ false }
         requires before { is_before_word self.old.mode ≡ true }
         ensures scanned { ScansTo (state self.old) (state self.new) self.new.waiting bytes.now result }
@@ -303,7 +303,7 @@ impl Scanner {
         ensures waiting { self.new.waiting ≡ self.old.waiting }
     {
         if ends_bid(bytes) {
-            self.read(Word::End, 1)
+            self.take_word(Word::End, 1)
         } else {
             Ok(0)
         }
@@ -312,7 +312,7 @@ impl Scanner {
     /// The words of a bid line in front, in the order that is usual, as far as they stand there whole: number, price,
     /// real goods, dummy good, `#`. Tells how many bytes they and their blanks have.
     #[inline(always)]
-    fn bid_words(&mut self, bytes: &[u8]) -> Result<usize, Halt>
+    fn read_bid_words(&mut self, bytes: &[u8]) -> Result<usize, Halt>
         requires waits { self.old.waiting ≡ false }
         requires before { is_before_word self.old.mode ≡ true }
         ensures scanned { ScansTo (state self.old) (state self.new) self.new.waiting bytes.now result }
@@ -320,16 +320,16 @@ impl Scanner {
         ensures line { self.new.line ≡ self.old.line }
         ensures waiting { self.new.waiting ≡ self.old.waiting }
     {
-        let mut place = self.number(bytes)?;
-        place += self.word(&bytes[place..])?;
-        place += self.goods(&bytes[place..])?;
-        place += self.number(&bytes[place..])?;
-        place += self.bid_end(&bytes[place..])?;
+        let mut place = self.read_number(bytes)?;
+        place += self.read_word(&bytes[place..])?;
+        place += self.read_goods(&bytes[place..])?;
+        place += self.read_number(&bytes[place..])?;
+        place += self.read_bid_end(&bytes[place..])?;
         Ok(place)
     }
 
     /// Whole bid lines in front, and of one more the words that stand there whole; tells how many bytes they have.
-    fn bid_lines(&mut self, bytes: &[u8]) -> Result<usize, Halt>
+    fn read_bid_lines(&mut self, bytes: &[u8]) -> Result<usize, Halt>
         requires waits { self.old.waiting ≡ false }
         requires before { is_before_word self.old.mode ≡ true }
         requires room { self.old.line + length bytes.now < 2 ^ 64 }
@@ -339,18 +339,18 @@ impl Scanner {
     {
         let mut place = 0;
         'lines: while place < bytes.len() && self.parser.begins_bid() {
-            place += self.bid_words(&bytes[place..])?;
+            place += self.read_bid_words(&bytes[place..])?;
             if place == bytes.len() || bytes[place] != b'\n' {
                 break 'lines;
             }
-            self.byte(b'\n')?;
+            self.take_byte(b'\n')?;
             place += 1;
         }
         Ok(place)
     }
 
     /// Whole words in front; tells how many bytes they and their blanks have.
-    fn words(&mut self, bytes: &[u8]) -> Result<usize, Halt>
+    fn read_words(&mut self, bytes: &[u8]) -> Result<usize, Halt>
         requires waits { self.old.waiting ≡ false }
         requires before { is_before_word self.old.mode ≡ true }
         ensures scanned { ScansTo (state self.old) (state self.new) self.new.waiting bytes.now result }
@@ -358,7 +358,7 @@ impl Scanner {
     {
         let mut place = 0;
         while let Some((word, taken)) = front(&bytes[place..]) {
-            place += self.read(word, taken)?;
+            place += self.take_word(word, taken)?;
         }
         Ok(place)
     }
@@ -383,17 +383,17 @@ impl Scanner {
                 self.mode = Mode::Inside(Word::Number(value));
                 Ok(count)
             }
-            Mode::Start if self.parser.begins_bid() => self.bid_lines(bytes),
-            Mode::Start | Mode::Blank | Mode::Between => self.words(bytes),
+            Mode::Start if self.parser.begins_bid() => self.read_bid_lines(bytes),
+            Mode::Start | Mode::Blank | Mode::Between => self.read_words(bytes),
             Mode::Inside(_) => Ok(0),
         }
     }
 
     /// The next bytes, behind no CR that waits.
-    fn bytes(&mut self, bytes: &[u8]) -> Result<(), Halt>
+    fn scan(&mut self, bytes: &[u8]) -> Result<(), Halt>
         requires waits { self.old.waiting ≡ false }
         requires room { self.old.line + length bytes.now < 2 ^ 64 }
-        ensures steps { Steps (state self.new) result (run (state self.old) (settled bytes.now)) }
+        ensures steps { Steps (state self.new) result (scan (state self.old) (settled bytes.now)) }
         ensures memory { Asks (state self.old) (settled bytes.now) result }
         ensures waiting { OnOk result (self.new.waiting ≡ waits bytes.now) }
         ensures line { self.new.line ≤ self.old.line + length bytes.now }
@@ -405,11 +405,11 @@ impl Scanner {
                 break;
             }
             if bytes[place] != b'\r' {
-                self.byte(bytes[place])?;
+                self.take_byte(bytes[place])?;
             } else if place + 1 == bytes.len() {
                 self.waiting = true;
             } else {
-                self.byte(carriage_return(bytes[place + 1]))?;
+                self.take_byte(carriage_return(bytes[place + 1]))?;
             }
             place += 1;
         }
@@ -420,7 +420,7 @@ impl Scanner {
     pub fn take(&mut self, bytes: &[u8]) -> Result<(), Halt>
         requires { self.old.line + length bytes.now < 2 ^ 64 - 1 }
         ensures steps { Steps (state self.new) result
-            (run (state self.old) (settled (carried self.old.waiting bytes.now))) }
+            (scan (state self.old) (settled (carried self.old.waiting bytes.now))) }
         ensures memory { Asks (state self.old) (settled (carried self.old.waiting bytes.now)) result }
         ensures waiting { OnOk result (self.new.waiting ≡ waits (carried self.old.waiting bytes.now)) }
         ensures line { self.new.line ≤ self.old.line + length bytes.now + 1 }
@@ -430,9 +430,9 @@ impl Scanner {
                 return Ok(());
             };
             self.waiting = false;
-            self.byte(carriage_return(*next))?;
+            self.take_byte(carriage_return(*next))?;
         }
-        self.bytes(bytes)
+        self.scan(bytes)
     }
 
     /// The end of the input.
@@ -442,7 +442,7 @@ impl Scanner {
         ensures memory { AsksHere (state self.old) result }
     {
         if self.waiting {
-            self.byte(b' ')?;
+            self.take_byte(b' ')?;
         }
         let lines = if self.mode == Mode::Start {
             self.line
@@ -468,14 +468,14 @@ impl Scanner {
         ensures memory { AsksAtEnd self.waiting (state self) result }
     {
         self.end()?;
-        match self.parser.file() {
+        match self.parser.into_file() {
             Ok(file) => Ok(file),
             Err(_) => Err(Halt::Memory),
         }
     }
 
     /// The end of the input, and what the header lines said.
-    pub fn header(mut self) -> Result<Header, Halt>
+    pub fn finish_header(mut self) -> Result<Header, Halt>
         requires { self.line < 2 ^ 64 - 2 }
         ensures steps { Finishes IsHeaderOf result (end_of self.waiting (state self)) }
         ensures memory { AsksAtEnd self.waiting (state self) result }

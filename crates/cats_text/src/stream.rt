@@ -194,7 +194,7 @@ pub fn check_from<R: Read>(alloc: Global, input: &mut Watched<R>) -> Result<Head
 {
     let mut feeder = Feeder::new(alloc, MAX_STREAM, Keeping::Numbers);
     feed_from(&mut feeder, input)?;
-    feeder.header()
+    feeder.finish_header()
 }
 
 /// Feeds the whole stream, a piece at a time.

@@ -15,7 +15,21 @@ use Rattle.cats_text.specs.declared.bid.BidFile.{BidFile}
 use Rattle.cats_text.specs.Internal.Reading.{HasTaken, IsReading, SpellsSizes, fault_told}
 use Rattle.cats_text.specs.Reading.{WantsMemory, FeedsAs}
 use Rattle.cats_text.specs.Internal.Returns.{settled, waits, carried}
-use Rattle.cats_text.specs.Internal.Scanning.{State, state, first_state, Scan, run, and_then, Steps, Asks, MeetsBidLine, end_of, IsFileOf, IsHeaderOf, Finishes}
+use Rattle.cats_text.specs.Internal.Scanning.{
+  State,
+  state,
+  first_state,
+  Scan,
+  scan,
+  and_then,
+  Steps,
+  Asks,
+  MeetsBidLine,
+  end_of,
+  IsFileOf,
+  IsHeaderOf,
+  Finishes,
+}
 use Rattle.cats_text.specs.Internal.Scanning.{AsksAtEnd, IsInBidLine, HasBids}
 use Rattle.cats_text.specs.declared.fault.ReadFault.{ReadFault}
 use Rattle.cats_text.specs.declared.fault.Kind.TheVariants.{TooLong}
@@ -25,12 +39,12 @@ use Rattle.cats_text.specs.declared.parser.Keeping.TheVariants as keepings
 use Rattle.cats_text.specs.declared.scanner.Halt.{Halt}
 use Rattle.cats_text.specs.declared.scanner.Halt.TheVariants.{Fault, Memory}
 use Rattle.cats_text.specs.declared.scanner.Scanner.{Scanner}
-use Rattle.cats_text.proofs.Scanning.Lines.{run-append}
+use Rattle.cats_text.proofs.Scanning.Lines.{scan-append}
 use Rattle.cats_text.proofs.Texts.MachineAnswers.{stops_at_complete_fault, goes_on_without_fault, meets_bid_line, complete_fault_is_first, ends_at_file}
 use Rattle.cats_text.proofs.Texts.MachineAnswers.{ends_at_sizes, ends_at_first_fault, ends_in_bid_line}
 use Rattle.cats_text.proofs.Scanning.Pieces.{settled-append, waits-append}
 use Rattle.cats_text.proofs.Feeding.Streams.{take-within}
-use Rattle.cats_text.proofs.Scanning.Appends.{meets_behind, run-line, settled-length}
+use Rattle.cats_text.proofs.Scanning.Appends.{meets_behind, scan-line, settled-length}
 
 -- ---- the bytes that are judged
 
@@ -55,11 +69,11 @@ judged_bytes limit count bytes piece c within =
 
 -- ---- the machine on them
 
-run_on : (k : Keeping) (bytes taken : List ℕ) (s : State) (waiting : Bool) → run (first_state k) (settled bytes) ≡ Ok s → waiting ≡ waits bytes
-    → run (first_state k) (settled (bytes ++ taken)) ≡ run s (settled (carried waiting taken))
-run_on k bytes taken s waiting runs w =
-    ap (run (first_state k)) (settled-append bytes taken) ∙ run-append (first_state k) (settled bytes) (settled (carried (waits bytes) taken))
-    ∙ ap (λ r. and_then r (λ t. run t (settled (carried (waits bytes) taken)))) runs ∙ ap (λ v. run s (settled (carried v taken))) (sym w)
+scan_on : (k : Keeping) (bytes taken : List ℕ) (s : State) (waiting : Bool) → scan (first_state k) (settled bytes) ≡ Ok s → waiting ≡ waits bytes
+    → scan (first_state k) (settled (bytes ++ taken)) ≡ scan s (settled (carried waiting taken))
+scan_on k bytes taken s waiting runs w =
+    ap (scan (first_state k)) (settled-append bytes taken) ∙ scan-append (first_state k) (settled bytes) (settled (carried (waits bytes) taken))
+    ∙ ap (λ r. and_then r (λ t. scan t (settled (carried (waits bytes) taken)))) runs ∙ ap (λ v. scan s (settled (carried v taken))) (sym w)
 
 -- no fault in bytes within the limit
 pub fed-within : (limit : ℕ) (bytes : List ℕ) → length bytes ≤ limit → fed_fault limit bytes ≡ complete_fault bytes
@@ -95,12 +109,12 @@ nothing_taken k limit scanner bytes first waiting none = record {
 -- the scanner stopped in the bytes that are judged
 pub halted : (k : Keeping) (limit taken : ℕ) (scanner : Scanner) (bytes judged all : List ℕ) (new : State) (halt : Halt) → HasTaken k limit taken scanner bytes
     → bytes ++ judged ≡ take limit all
-    → Steps {A = Unit {0}} new (Err halt) (run (state scanner) (settled (carried scanner.waiting judged)))
+    → Steps {A = Unit {0}} new (Err halt) (scan (state scanner) (settled (carried scanner.waiting judged)))
     → Asks {A = Unit {0}} (state scanner) (settled (carried scanner.waiting judged)) (Err halt)
     → (fed_fault limit all ≡ Some (fault_told halt)) ⊎ WantsMemory (take limit all) (fault_told halt)
 halted k limit taken scanner bytes judged all new (Fault e) kept is steps asks =
     inl (fed-judged limit all e (ap complete_fault (sym is) ∙
-    stops_at_complete_fault k (bytes ++ judged) e (run_on k bytes judged (state scanner) scanner.waiting kept.runs kept.waiting ∙ steps)))
+    stops_at_complete_fault k (bytes ++ judged) e (scan_on k bytes judged (state scanner) scanner.waiting kept.runs kept.waiting ∙ steps)))
 halted k limit taken scanner bytes judged all new Memory kept is steps asks =
     let behind = meets_behind (first_state k) (state scanner) (settled bytes) (settled (carried scanner.waiting judged)) kept.runs asks in
     let met : MeetsBidLine (first_state k) (settled (bytes ++ judged)) = rw (settled-append bytes judged, ← kept.waiting) behind in
@@ -108,27 +122,27 @@ halted k limit taken scanner bytes judged all new Memory kept is steps asks =
 
 -- the scanner took them
 pub went_on : (k : Keeping) (limit taken : ℕ) (old new : Scanner) (bytes judged : List ℕ) → HasTaken k limit taken old bytes
-    → run (state old) (settled (carried old.waiting judged)) ≡ Ok (state new)
+    → scan (state old) (settled (carried old.waiting judged)) ≡ Ok (state new)
     → complete_fault (bytes ++ judged) ≡ None
 went_on k limit taken old new bytes judged kept steps =
-    goes_on_without_fault k (bytes ++ judged) (state new) (run_on k bytes judged (state old) old.waiting kept.runs kept.waiting ∙ steps)
+    goes_on_without_fault k (bytes ++ judged) (state new) (scan_on k bytes judged (state old) old.waiting kept.runs kept.waiting ∙ steps)
 
 -- and has taken them then
 pub took : (k : Keeping) (limit before count : ℕ) (old new : Scanner) (bytes judged : List ℕ) → HasTaken k limit before old bytes
-    → run (state old) (settled (carried old.waiting judged)) ≡ Ok (state new)
+    → scan (state old) (settled (carried old.waiting judged)) ≡ Ok (state new)
     → new.waiting ≡ waits (carried old.waiting judged) → count ≡ before + length judged → count ≤ limit
     → HasTaken k limit count new (bytes ++ judged)
 took k limit before count old new bytes judged kept steps waiting sum within = record {
   count = rw (length-append bytes judged, ← kept.count) sum;
   within = within;
-  runs = run_on k bytes judged (state old) old.waiting kept.runs kept.waiting ∙ steps;
+  runs = scan_on k bytes judged (state old) old.waiting kept.runs kept.waiting ∙ steps;
   waiting = waiting ∙ ap (λ w. waits (carried w judged)) kept.waiting ∙ sym (waits-append bytes judged);
 }
 
 -- the number of the line stays small
 pub few_lines : (k : Keeping) (limit taken : ℕ) (scanner : Scanner) (bytes : List ℕ) → HasTaken k limit taken scanner bytes → scanner.line ≤ suc taken
 few_lines k limit taken scanner bytes kept =
-    let lines = run-line (first_state k) (settled bytes) in
+    let lines = scan-line (first_state k) (settled bytes) in
     let line : (state scanner).line ≤ 1 + length (settled bytes) = rw kept.runs at lines in
     let count = kept.count in
     let decided = settled-length bytes in
@@ -141,7 +155,7 @@ IsJudged k limit count scanner all (Err e) = (fed_fault limit all ≡ Some e) �
 
 pub judged_halted : (k : Keeping) (limit count taken : ℕ) (old new : Scanner) (bytes judged all : List ℕ) (halt : Halt) → HasTaken k limit taken old bytes
     → bytes ++ judged ≡ take limit all
-    → Steps {A = Unit {0}} (state new) (Err halt) (run (state old) (settled (carried old.waiting judged)))
+    → Steps {A = Unit {0}} (state new) (Err halt) (scan (state old) (settled (carried old.waiting judged)))
     → Asks {A = Unit {0}} (state old) (settled (carried old.waiting judged)) (Err halt)
     → IsJudged k limit count new all (Err (fault_told halt))
 judged_halted k limit count taken old new bytes judged all halt kept is steps asks =
@@ -149,14 +163,14 @@ judged_halted k limit count taken old new bytes judged all halt kept is steps as
 
 pub judged_too_long : (k : Keeping) (limit count taken : ℕ) (old new : Scanner) (bytes judged all : List ℕ) → HasTaken k limit taken old bytes
     → bytes ++ judged ≡ take limit all → limit < length all
-    → run (state old) (settled (carried old.waiting judged)) ≡ Ok (state new)
+    → scan (state old) (settled (carried old.waiting judged)) ≡ Ok (state new)
     → IsJudged k limit count new all (Err (fault_at 0 TooLong))
 judged_too_long k limit count taken old new bytes judged all kept is beyond steps =
     inl (fed-too_long limit all beyond (ap complete_fault (sym is) ∙ went_on k limit taken old new bytes judged kept steps))
 
 pub judged_ok : (k : Keeping) (limit count before : ℕ) (old new : Scanner) (bytes judged all : List ℕ) → HasTaken k limit before old bytes
     → bytes ++ judged ≡ all → length all ≤ limit
-    → run (state old) (settled (carried old.waiting judged)) ≡ Ok (state new)
+    → scan (state old) (settled (carried old.waiting judged)) ≡ Ok (state new)
     → new.waiting ≡ waits (carried old.waiting judged) → count ≡ before + length judged → count ≤ limit
     → IsJudged k limit count new all (Ok tt)
 judged_ok k limit count before old new bytes judged all kept is within steps waiting sum most =

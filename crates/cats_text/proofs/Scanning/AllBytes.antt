@@ -7,14 +7,14 @@ use Rattle.cats_text.specs.Lines.{Word, RawLine, raw_lines, lines_with, with_byt
 use Rattle.cats_text.specs.Faults.{fault_at}
 use Rattle.cats_text.specs.Internal.Progress.{Progress}
 use Rattle.cats_text.specs.Internal.Parsing.{Reading, line_read, is_due}
-use Rattle.cats_text.specs.Internal.Scanning.{State, Scan, and_then, run, byte_step, blank_step, words_step, next_line, end_step, missing_step, line_behind}
+use Rattle.cats_text.specs.Internal.Scanning.{State, Scan, and_then, scan, byte_step, blank_step, words_step, next_line, end_step, missing_step, line_behind}
 use Rattle.cats_text.specs.Internal.Scanning.{with_reading, letter_mode}
 use Rattle.cats_text.specs.declared.fault.Kind.TheVariants.{Missing}
 use Rattle.cats_text.specs.declared.fault.ReadFault.{ReadFault}
 use Rattle.cats_text.specs.declared.scanner.Mode.{Mode}
 use Rattle.cats_text.specs.declared.scanner.Mode.TheVariants.{Start, Blank, Comment, Between, Inside}
 use Rattle.cats_text.specs.Internal.Machine.{word_from}
-use Rattle.cats_text.proofs.Scanning.Lines.{byte_blank, byte_letter, and_then-assoc, run-append, IsNoEnd, standing, lifted, fresh_outcome, quiet, from_start}
+use Rattle.cats_text.proofs.Scanning.Lines.{byte_blank, byte_letter, and_then-assoc, scan-append, IsNoEnd, standing, lifted, fresh_outcome, quiet, from_start}
 use Rattle.cats_text.proofs.Parsing.WholeLines.{words_read, reading_then, on_line, Scanned, scanned_then}
 
 -- ---- a text as its lines
@@ -105,18 +105,18 @@ line_then n ws p f g same =
 
 -- a line, its LF, and the rest of the text
 pub line_and_rest : (n : ℕ) (p : Progress) (bytes rest : List ℕ) → AllByRecursion IsNoEnd bytes
-    → run (standing Start n p) (bytes ++ 10 ∷ rest) ≡ then_from (line_outcome n (line_words bytes) p) (λ q. run (standing Start (suc n) q) rest)
+    → scan (standing Start n p) (bytes ++ 10 ∷ rest) ≡ then_from (line_outcome n (line_words bytes) p) (λ q. scan (standing Start (suc n) q) rest)
 line_and_rest n p bytes rest h =
-    run-append (standing Start n p) bytes (10 ∷ rest)
-    ∙ regroup (run (standing Start n p) bytes)
-    ∙ ap (λ r. and_then (and_then r words_step) (λ t. and_then (next_line t) (λ u. run u rest))) (from_start n p bytes h)
-    ∙ line_then n (line_words bytes) p (λ t. and_then (next_line t) (λ u. run u rest)) (λ q. run (standing Start (suc n) q) rest) (λ m q. refl)
+    scan-append (standing Start n p) bytes (10 ∷ rest)
+    ∙ regroup (scan (standing Start n p) bytes)
+    ∙ ap (λ r. and_then (and_then r words_step) (λ t. and_then (next_line t) (λ u. scan u rest))) (from_start n p bytes h)
+    ∙ line_then n (line_words bytes) p (λ t. and_then (next_line t) (λ u. scan u rest)) (λ q. scan (standing Start (suc n) q) rest) (λ m q. refl)
   where
-    one : (t : State) → run t (10 ∷ rest) ≡ and_then (and_then (blank_step t) words_step) (λ u. and_then (next_line u) (λ v. run v rest))
-    one t = and_then-assoc (and_then (blank_step t) words_step) next_line (λ u. run u rest)
+    one : (t : State) → scan t (10 ∷ rest) ≡ and_then (and_then (blank_step t) words_step) (λ u. and_then (next_line u) (λ v. scan v rest))
+    one t = and_then-assoc (and_then (blank_step t) words_step) next_line (λ u. scan u rest)
 
-    regroup : (r : Scan) → and_then r (λ t. run t (10 ∷ rest)) ≡ and_then (and_then (and_then r blank_step) words_step)
-        (λ t. and_then (next_line t) (λ u. run u rest))
+    regroup : (r : Scan) → and_then r (λ t. scan t (10 ∷ rest)) ≡ and_then (and_then (and_then r blank_step) words_step)
+        (λ t. and_then (next_line t) (λ u. scan u rest))
     regroup (Ok t) = one t
     regroup (Err e) = refl
 
@@ -195,21 +195,21 @@ begun_byte s t b h e = elim (is_blank b) as (λ q. is_blank b ≡ q → HasBegun
       subst (HasBegun s) is (record { line = refl; behind = begun_letter s.mode s.line s.progress b })
 ] refl
 
-begun_run : (s t : State) (bytes : List ℕ) → AllByRecursion IsNoEnd bytes → line_behind s ≡ suc s.line → run s bytes ≡ Ok t → HasBegun s t
-begun_run s t [] h b e = subst (HasBegun s) (state_ok s t e) (record { line = refl; behind = b })
-begun_run s t (x ∷ xs) h b e = step (byte_step s x) refl (λ u f g. begun_run u t xs h.1 f g) e
+begun_scan : (s t : State) (bytes : List ℕ) → AllByRecursion IsNoEnd bytes → line_behind s ≡ suc s.line → scan s bytes ≡ Ok t → HasBegun s t
+begun_scan s t [] h b e = subst (HasBegun s) (state_ok s t e) (record { line = refl; behind = b })
+begun_scan s t (x ∷ xs) h b e = step (byte_step s x) refl (λ u f g. begun_scan u t xs h.1 f g) e
   where
-    step : (r : Scan) → byte_step s x ≡ r → ((u : State) → line_behind u ≡ suc u.line → run u xs ≡ Ok t → HasBegun u t) → and_then r (λ u. run u xs) ≡ Ok t
+    step : (r : Scan) → byte_step s x ≡ r → ((u : State) → line_behind u ≡ suc u.line → scan u xs ≡ Ok t → HasBegun u t) → and_then r (λ u. scan u xs) ≡ Ok t
         → HasBegun s t
     step (Ok u) is next f = let first = begun_byte s u x h.0 is in let later = next u (first.behind ∙ ap suc (sym first.line)) f in
         record { line = later.line ∙ first.line; behind = later.behind ∙ ap suc first.line }
     step (Err c) is next f = absurd (no_state c t f)
 
-pub begun_line : (s t : State) (b : ℕ) (bytes : List ℕ) → AllByRecursion IsNoEnd (b ∷ bytes) → run s (b ∷ bytes) ≡ Ok t → HasBegun s t
+pub begun_line : (s t : State) (b : ℕ) (bytes : List ℕ) → AllByRecursion IsNoEnd (b ∷ bytes) → scan s (b ∷ bytes) ≡ Ok t → HasBegun s t
 begun_line s t b bytes h e = step (byte_step s b) refl e
   where
-    step : (r : Scan) → byte_step s b ≡ r → and_then r (λ u. run u bytes) ≡ Ok t → HasBegun s t
-    step (Ok u) is f = let first = begun_byte s u b h.0 is in let later = begun_run u t bytes h.1 (first.behind ∙ ap suc (sym first.line)) f in
+    step : (r : Scan) → byte_step s b ≡ r → and_then r (λ u. scan u bytes) ≡ Ok t → HasBegun s t
+    step (Ok u) is f = let first = begun_byte s u b h.0 is in let later = begun_scan u t bytes h.1 (first.behind ∙ ap suc (sym first.line)) f in
         record { line = later.line ∙ first.line; behind = later.behind ∙ ap suc first.line }
     step (Err c) is f = absurd (no_state c t f)
 
@@ -241,9 +241,9 @@ outcome_from (Err e) g = refl
 
 -- a last line without its LF, and the end of the input
 last_line : (n : ℕ) (p : Progress) (b : ℕ) (bytes : List ℕ) → AllByRecursion IsNoEnd (b ∷ bytes)
-    → outcome (and_then (run (standing Start n p) (b ∷ bytes)) end_step) ≡ scanned_then (line_outcome n (line_words (b ∷ bytes)) p) (due_outcome (suc n))
+    → outcome (and_then (scan (standing Start n p) (b ∷ bytes)) end_step) ≡ scanned_then (line_outcome n (line_words (b ∷ bytes)) p) (due_outcome (suc n))
 last_line n p b bytes h =
-    regroup (run (standing Start n p) (b ∷ bytes)) (λ t e. (begun_line (standing Start n p) t b bytes h e).behind)
+    regroup (scan (standing Start n p) (b ∷ bytes)) (λ t e. (begun_line (standing Start n p) t b bytes h e).behind)
     ∙ ap (λ r. scan_then (and_then r words_step) (λ t. outcome (missing_step (suc n) t))) (from_start n p (b ∷ bytes) h)
     ∙ line_then_outcome n (line_words (b ∷ bytes)) p (λ t. outcome (missing_step (suc n) t)) (due_outcome (suc n)) (λ m q. due_is (suc n) (standing m n q))
   where
@@ -261,30 +261,30 @@ tail_raw : (l : RawLine) (ls : List RawLine) → AreRaw (l ∷ ls) → AllByRecu
 tail_raw l [] r = (r.0, tt)
 tail_raw l (m ∷ ls) r = (r.0, r.2)
 
-pub whole_text : (n : ℕ) (p : Progress) (ls : List RawLine) → AreRaw ls → outcome (and_then (run (standing Start n p) (text_of ls)) end_step)
+pub whole_text : (n : ℕ) (p : Progress) (ls : List RawLine) → AreRaw ls → outcome (and_then (scan (standing Start n p) (text_of ls)) end_step)
     ≡ raw_scan true n ls p
 whole_text n p [] r = due_is n (standing Blank n p)
 whole_text n p (l ∷ ls) r =
-    elim l.ended as (λ t. l.ended ≡ t → outcome (and_then (run (standing Start n p) (l.bytes ++ cond t (10 ∷ text_of ls) (text_of ls))) end_step)
+    elim l.ended as (λ t. l.ended ≡ t → outcome (and_then (scan (standing Start n p) (l.bytes ++ cond t (10 ∷ text_of ls) (text_of ls))) end_step)
     ≡ cond (t || true) (scanned_then (line_outcome n (line_words l.bytes) p) (raw_scan true (suc n) ls)) (open_outcome n (line_words l.bytes) p)) [
       | true ↦ λ (e : l.ended ≡ true). let parts = tail_raw l ls r in ap (λ x. outcome (and_then x end_step)) (line_and_rest n p l.bytes (text_of ls) parts.0)
-          ∙ outcome_then (line_outcome n (line_words l.bytes) p) (λ q. run (standing Start (suc n) q) (text_of ls)) end_step
+          ∙ outcome_then (line_outcome n (line_words l.bytes) p) (λ q. scan (standing Start (suc n) q) (text_of ls)) end_step
           ∙ on_outcome (line_outcome n (line_words l.bytes) p) (λ q. whole_text (suc n) q ls parts.1)
       | false ↦ λ (e : l.ended ≡ false). at_last l ls r e
     ] refl
   where
-    on_outcome : (o : Scanned) → ((q : Progress) → outcome (and_then (run (standing Start (suc n) q) (text_of ls)) end_step) ≡ raw_scan true (suc n) ls q)
-        → scanned_then o (λ q. outcome (and_then (run (standing Start (suc n) q) (text_of ls)) end_step)) ≡ scanned_then o (raw_scan true (suc n) ls)
+    on_outcome : (o : Scanned) → ((q : Progress) → outcome (and_then (scan (standing Start (suc n) q) (text_of ls)) end_step) ≡ raw_scan true (suc n) ls q)
+        → scanned_then o (λ q. outcome (and_then (scan (standing Start (suc n) q) (text_of ls)) end_step)) ≡ scanned_then o (raw_scan true (suc n) ls)
     on_outcome (Ok q) h = h q
     on_outcome (Err e) h = refl
 
-    at_bytes : (bytes : List ℕ) → AllByRecursion IsNoEnd bytes → 0 < length bytes → outcome (and_then (run (standing Start n p) (bytes ++ [])) end_step)
+    at_bytes : (bytes : List ℕ) → AllByRecursion IsNoEnd bytes → 0 < length bytes → outcome (and_then (scan (standing Start n p) (bytes ++ [])) end_step)
         ≡ scanned_then (line_outcome n (line_words bytes) p) (due_outcome (suc n))
     at_bytes [] h l = absurd (let no : 0 < 0 = l in omega arith)
-    at_bytes (b ∷ bs) h l = ap (λ ds. outcome (and_then (run (standing Start n p) ds) end_step)) (append-nil (b ∷ bs)) ∙ last_line n p b bs h
+    at_bytes (b ∷ bs) h l = ap (λ ds. outcome (and_then (scan (standing Start n p) ds) end_step)) (append-nil (b ∷ bs)) ∙ last_line n p b bs h
 
     at_last : (l : RawLine) (ls : List RawLine) → AreRaw (l ∷ ls) → l.ended ≡ false
-        → outcome (and_then (run (standing Start n p) (l.bytes ++ text_of ls)) end_step) ≡ scanned_then (line_outcome n (line_words l.bytes) p)
+        → outcome (and_then (scan (standing Start n p) (l.bytes ++ text_of ls)) end_step) ≡ scanned_then (line_outcome n (line_words l.bytes) p)
         (raw_scan true (suc n) ls)
     at_last l [] r e = at_bytes l.bytes r.0 (r.1 e)
     at_last l (m ∷ ms) r e = absurd (both_ways l.ended e r.1)

@@ -8,7 +8,7 @@ use Rattle.cats_text.specs.declared.scanner.Mode.{Mode}
 use Rattle.cats_text.specs.declared.scanner.Mode.TheVariants.{Start, Blank, Comment, Between, Inside}
 use Rattle.cats_text.specs.Internal.Parsing.{Reading, word_read, line_read}
 use Rattle.cats_text.specs.Internal.Scanning.{State, Scan, and_then, with_reading, blank_step_at, blank_step, words_step_at, words_step, line_step, byte_step}
-use Rattle.cats_text.specs.Internal.Scanning.{run, MeetsBidLine}
+use Rattle.cats_text.specs.Internal.Scanning.{scan, MeetsBidLine}
 
 abbrev ok : State → Scan
 ok t = Ok t
@@ -16,8 +16,8 @@ ok t = Ok t
 abbrev err : ReadFault → Scan
 err e = Err e
 
-then_meets : (r : Scan) (t : State) (xs ys : List ℕ) → ((s : State) → run s xs ≡ Ok t → MeetsBidLine s (xs ++ ys))
-    → and_then r (λ s. run s xs) ≡ Ok t → IsOkAnd r (λ s. MeetsBidLine s (xs ++ ys))
+then_meets : (r : Scan) (t : State) (xs ys : List ℕ) → ((s : State) → scan s xs ≡ Ok t → MeetsBidLine s (xs ++ ys))
+    → and_then r (λ s. scan s xs) ≡ Ok t → IsOkAnd r (λ s. MeetsBidLine s (xs ++ ys))
 then_meets (Ok s) t xs ys h e = h s e
 then_meets (Err fault) t xs ys h e = absurd (no e)
   where
@@ -25,7 +25,7 @@ then_meets (Err fault) t xs ys h e = absurd (no e)
     no q = cc
 
 -- a bid line that is met behind the first bytes is met from their front
-pub meets_behind : (s t : State) (xs ys : List ℕ) → run s xs ≡ Ok t → MeetsBidLine t ys → MeetsBidLine s (xs ++ ys)
+pub meets_behind : (s t : State) (xs ys : List ℕ) → scan s xs ≡ Ok t → MeetsBidLine t ys → MeetsBidLine s (xs ++ ys)
 meets_behind s t [] ys e m = let same : s ≡ t = cc in rw same m
 meets_behind s t (b ∷ xs) ys e m = inr (then_meets (byte_step s b) t xs ys (λ u e'. meets_behind u t xs ys e' m) e)
 
@@ -75,11 +75,11 @@ byte_step-line s b =
     (either-line (is_blank b) (blank_step s) _ (suc s.line) (at_most (blank_step s) s.line (suc s.line) (blank-line s.mode s) (omega arith)) (omega arith))
 
 -- no more lines than bytes come
-pub run-line : (s : State) (bytes : List ℕ) → IfOk (run s bytes) (λ t. t.line ≤ s.line + length bytes)
-run-line s [] = omega arith
-run-line s (b ∷ bytes) =
-    then-line (byte_step s b) (λ t. run t bytes) (suc s.line) (s.line + suc (length bytes)) (byte_step-line s b)
-    (λ t h. up_to (run t bytes) (t.line + length bytes) (s.line + suc (length bytes)) (run-line t bytes) (omega arith))
+pub scan-line : (s : State) (bytes : List ℕ) → IfOk (scan s bytes) (λ t. t.line ≤ s.line + length bytes)
+scan-line s [] = omega arith
+scan-line s (b ∷ bytes) =
+    then-line (byte_step s b) (λ t. scan t bytes) (suc s.line) (s.line + suc (length bytes)) (byte_step-line s b)
+    (λ t h. up_to (scan t bytes) (t.line + length bytes) (s.line + suc (length bytes)) (scan-line t bytes) (omega arith))
   where
     up_to : (r : Scan) (n m : ℕ) → IfOk r (λ t. t.line ≤ n) → n ≤ m → IfOk r (λ t. t.line ≤ m)
     up_to (Ok t) n m h le = omega arith

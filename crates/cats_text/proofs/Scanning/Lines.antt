@@ -7,7 +7,7 @@ use Rattle.cats_text.specs.Faults.{fault_at}
 use Rattle.cats_text.specs.Internal.Progress.{Progress}
 use Rattle.cats_text.specs.Internal.Parsing.{Reading, word_read}
 use Rattle.cats_text.specs.Internal.Machine.{word_from, summary}
-use Rattle.cats_text.specs.Internal.Scanning.{State, Scan, and_then, run, byte_step, blank_step, with_reading, letter_mode, blank_step_at}
+use Rattle.cats_text.specs.Internal.Scanning.{State, Scan, and_then, scan, byte_step, blank_step, with_reading, letter_mode, blank_step_at}
 use Rattle.cats_text.specs.declared.word.Word.{Word as Kept}
 use Rattle.cats_text.specs.declared.scanner.Mode.{Mode}
 use Rattle.cats_text.specs.declared.scanner.Mode.TheVariants.{Start, Blank, Comment, Between, Inside}
@@ -20,14 +20,14 @@ pub and_then-assoc : (r : Scan) (f g : State → Scan) → and_then (and_then r 
 and_then-assoc (Ok s) f g = refl
 and_then-assoc (Err e) f g = refl
 
-run_step : (r : Scan) (xs ys : List ℕ) → ((t : State) → run t (xs ++ ys) ≡ and_then (run t xs) (λ u. run u ys))
-    → and_then r (λ t. run t (xs ++ ys)) ≡ and_then (and_then r (λ t. run t xs)) (λ t. run t ys)
-run_step (Ok t) xs ys h = h t
-run_step (Err e) xs ys h = refl
+scan_step : (r : Scan) (xs ys : List ℕ) → ((t : State) → scan t (xs ++ ys) ≡ and_then (scan t xs) (λ u. scan u ys))
+    → and_then r (λ t. scan t (xs ++ ys)) ≡ and_then (and_then r (λ t. scan t xs)) (λ t. scan t ys)
+scan_step (Ok t) xs ys h = h t
+scan_step (Err e) xs ys h = refl
 
-pub run-append : (s : State) (xs ys : List ℕ) → run s (xs ++ ys) ≡ and_then (run s xs) (λ t. run t ys)
-run-append s [] ys = refl
-run-append s (x ∷ xs) ys = run_step (byte_step s x) xs ys (λ t. run-append t xs ys)
+pub scan-append : (s : State) (xs ys : List ℕ) → scan s (xs ++ ys) ≡ and_then (scan s xs) (λ t. scan t ys)
+scan-append s [] ys = refl
+scan-append s (x ∷ xs) ys = scan_step (byte_step s x) xs ys (λ t. scan-append t xs ys)
 
 -- ---- the words of a line
 
@@ -75,7 +75,7 @@ lifted n m (Err kind) = Err (fault_at n kind)
 
 -- the bytes, and after them the end of the word
 abbrev pub to_blank : State → List ℕ → Scan
-to_blank s bytes = and_then (run s bytes) blank_step
+to_blank s bytes = and_then (scan s bytes) blank_step
 
 pub byte_letter : (s : State) (b : ℕ) → eqb b 10 ≡ false → is_blank b ≡ false → byte_step s b ≡ Ok (record s { mode = letter_mode s.mode b })
 byte_letter s b e h = rw (e, h) refl
@@ -90,7 +90,7 @@ reading_then_ok (Err kind) = refl
 -- a blank behind a word, and the rest of the line
 behind_word : (n : ℕ) (r : Reading) (bs : List ℕ) (rest : Progress → Reading)
     → ((q : Progress) → to_blank (standing Between n q) bs ≡ lifted n Between (rest q))
-    → and_then (and_then (lifted n Between r) (λ t. run t bs)) blank_step ≡ lifted n Between (reading_then r rest)
+    → and_then (and_then (lifted n Between r) (λ t. scan t bs)) blank_step ≡ lifted n Between (reading_then r rest)
 behind_word n (Ok q) bs rest h = h q
 behind_word n (Err kind) bs rest h = refl
 
@@ -114,20 +114,20 @@ from_word n p (a ∷ w) [] f h = lifted_word (standing (Inside (summary (a ∷ w
     ∙ ap (λ ws. lifted n Between (words_read ws p)) (sym (ap line_words (append-nil (a ∷ w)) ∙ words_last a w f))
 from_word n p [] (b ∷ bs) f h =
     elim (is_blank b) as (λ t. is_blank b ≡ t → to_blank (standing Between n p) (b ∷ bs) ≡ lifted n Between (words_read (line_words (b ∷ bs)) p)) [
-      | true ↦ λ (e : is_blank b ≡ true). ap (λ r. and_then (and_then r (λ t. run t bs)) blank_step) (byte_blank (standing Between n p) b h.0 e)
+      | true ↦ λ (e : is_blank b ≡ true). ap (λ r. and_then (and_then r (λ t. scan t bs)) blank_step) (byte_blank (standing Between n p) b h.0 e)
           ∙ from_word n p [] bs tt h.1 ∙ ap (λ ws. lifted n Between (words_read ws p)) (sym (words_blank b bs e))
-      | false ↦ λ (e : is_blank b ≡ false). ap (λ r. and_then (and_then r (λ t. run t bs)) blank_step) (byte_letter (standing Between n p) b h.0 e)
+      | false ↦ λ (e : is_blank b ≡ false). ap (λ r. and_then (and_then r (λ t. scan t bs)) blank_step) (byte_letter (standing Between n p) b h.0 e)
           ∙ from_word n p (b ∷ []) bs (e, tt) h.1
     ] refl
 from_word n p (a ∷ w) (b ∷ bs) f h =
     elim (is_blank b) as (λ t. is_blank b ≡ t → to_blank (standing (Inside (summary (a ∷ w))) n p) (b ∷ bs)
     ≡ lifted n Between (words_read (line_words ((a ∷ w) ++ b ∷ bs)) p)) [
-      | true ↦ λ (e : is_blank b ≡ true). ap (λ r. and_then (and_then r (λ t. run t bs)) blank_step)
+      | true ↦ λ (e : is_blank b ≡ true). ap (λ r. and_then (and_then r (λ t. scan t bs)) blank_step)
           (byte_blank (standing (Inside (summary (a ∷ w))) n p) b h.0 e
           ∙ lifted_word (standing (Inside (summary (a ∷ w))) n p) (summary (a ∷ w)) refl)
           ∙ behind_word n (word_read p (summary (a ∷ w))) bs (words_read (line_words bs)) (λ q. from_word n q [] bs tt h.1)
           ∙ ap (λ ws. lifted n Between (words_read ws p)) (sym (words_next a w b bs f e))
-      | false ↦ λ (e : is_blank b ≡ false). ap (λ r. and_then (and_then r (λ t. run t bs)) blank_step)
+      | false ↦ λ (e : is_blank b ≡ false). ap (λ r. and_then (and_then r (λ t. scan t bs)) blank_step)
           (byte_letter (standing (Inside (summary (a ∷ w))) n p) b h.0 e)
           ∙ ap (λ s. to_blank (standing (Inside s) n p) bs) (sym (summary-push a w b))
           ∙ from_word n p ((a ∷ w) ++ b ∷ []) bs (blank_free_push (a ∷ w) b f e) h.1
@@ -136,11 +136,11 @@ from_word n p (a ∷ w) (b ∷ bs) f h =
 
 -- ---- from the beginning of a line on
 
-pub in_comment : (n : ℕ) (p : Progress) (bytes : List ℕ) → AllByRecursion IsNoEnd bytes → run (standing Comment n p) bytes ≡ Ok (standing Comment n p)
+pub in_comment : (n : ℕ) (p : Progress) (bytes : List ℕ) → AllByRecursion IsNoEnd bytes → scan (standing Comment n p) bytes ≡ Ok (standing Comment n p)
 in_comment n p [] h = refl
-in_comment n p (b ∷ bs) h = elim (is_blank b) as (λ t. is_blank b ≡ t → run (standing Comment n p) (b ∷ bs) ≡ Ok (standing Comment n p)) [
-  | true ↦ λ (e : is_blank b ≡ true). ap (λ r. and_then r (λ t. run t bs)) (byte_blank (standing Comment n p) b h.0 e) ∙ in_comment n p bs h.1
-  | false ↦ λ (e : is_blank b ≡ false). ap (λ r. and_then r (λ t. run t bs)) (byte_letter (standing Comment n p) b h.0 e) ∙ in_comment n p bs h.1
+in_comment n p (b ∷ bs) h = elim (is_blank b) as (λ t. is_blank b ≡ t → scan (standing Comment n p) (b ∷ bs) ≡ Ok (standing Comment n p)) [
+  | true ↦ λ (e : is_blank b ≡ true). ap (λ r. and_then r (λ t. scan t bs)) (byte_blank (standing Comment n p) b h.0 e) ∙ in_comment n p bs h.1
+  | false ↦ λ (e : is_blank b ≡ false). ap (λ r. and_then r (λ t. scan t bs)) (byte_letter (standing Comment n p) b h.0 e) ∙ in_comment n p bs h.1
 ] refl
 
 -- the mode behind a line that has no words to judge
@@ -178,7 +178,7 @@ fresh_word n p b bs e c = let f = first_of_words b bs e in ap (λ ws. fresh_outc
 -- a letter that begins a line
 from_letter : (m : Mode) (n : ℕ) (p : Progress) (b : ℕ) (bs : List ℕ) → AllByRecursion IsNoEnd (b ∷ bs) → is_blank b ≡ false
     → letter_mode m b ≡ cond (eqb b 37) Comment (Inside (word_from b)) → to_blank (standing m n p) (b ∷ bs) ≡ fresh_outcome n (line_words (b ∷ bs)) p
-from_letter m n p b bs h e mode = ap (λ r. and_then (and_then r (λ t. run t bs)) blank_step) (byte_letter (standing m n p) b h.0 e)
+from_letter m n p b bs h e mode = ap (λ r. and_then (and_then r (λ t. scan t bs)) blank_step) (byte_letter (standing m n p) b h.0 e)
     ∙ ap (λ k. to_blank (standing k n p) bs) mode
     ∙ (elim (eqb b 37) as (λ c. eqb b 37 ≡ c → to_blank (standing (cond c Comment (Inside (word_from b))) n p) bs ≡ fresh_outcome n (line_words (b ∷ bs)) p) [
       | true ↦ λ (c : eqb b 37 ≡ true). ap (λ r. and_then r blank_step) (in_comment n p bs h.1) ∙ sym (fresh_comment n p b bs e c)
@@ -189,7 +189,7 @@ pub from_blank : (n : ℕ) (p : Progress) (bytes : List ℕ) → AllByRecursion 
     → to_blank (standing Blank n p) bytes ≡ fresh_outcome n (line_words bytes) p
 from_blank n p [] h = refl
 from_blank n p (b ∷ bs) h = elim (is_blank b) as (λ t. is_blank b ≡ t → to_blank (standing Blank n p) (b ∷ bs) ≡ fresh_outcome n (line_words (b ∷ bs)) p) [
-  | true ↦ λ (e : is_blank b ≡ true). ap (λ r. and_then (and_then r (λ t. run t bs)) blank_step) (byte_blank (standing Blank n p) b h.0 e)
+  | true ↦ λ (e : is_blank b ≡ true). ap (λ r. and_then (and_then r (λ t. scan t bs)) blank_step) (byte_blank (standing Blank n p) b h.0 e)
       ∙ from_blank n p bs h.1 ∙ ap (λ ws. fresh_outcome n ws p) (sym (words_blank b bs e))
   | false ↦ λ (e : is_blank b ≡ false). from_letter Blank n p b bs h e refl
 ] refl
@@ -198,7 +198,7 @@ pub from_start : (n : ℕ) (p : Progress) (bytes : List ℕ) → AllByRecursion 
     → to_blank (standing Start n p) bytes ≡ fresh_outcome n (line_words bytes) p
 from_start n p [] h = refl
 from_start n p (b ∷ bs) h = elim (is_blank b) as (λ t. is_blank b ≡ t → to_blank (standing Start n p) (b ∷ bs) ≡ fresh_outcome n (line_words (b ∷ bs)) p) [
-  | true ↦ λ (e : is_blank b ≡ true). ap (λ r. and_then (and_then r (λ t. run t bs)) blank_step) (byte_blank (standing Start n p) b h.0 e)
+  | true ↦ λ (e : is_blank b ≡ true). ap (λ r. and_then (and_then r (λ t. scan t bs)) blank_step) (byte_blank (standing Start n p) b h.0 e)
       ∙ from_blank n p bs h.1 ∙ ap (λ ws. fresh_outcome n ws p) (sym (words_blank b bs e))
   | false ↦ λ (e : is_blank b ≡ false). from_letter Start n p b bs h e refl
 ] refl

@@ -11,13 +11,13 @@ use Rattle.std.specs.Option.{unwrap_or}
 use Rattle.cats_text.specs.Lines.{is_blank}
 use Rattle.cats_text.specs.Internal.Returns.{settled, waits, return_byte}
 use Rattle.cats_text.specs.Internal.Progress.{Progress}
-use Rattle.cats_text.specs.Internal.Scanning.{State, run, and_then, letter_mode, is_before_word, MeetsBidLine, IsScanned}
+use Rattle.cats_text.specs.Internal.Scanning.{State, scan, and_then, letter_mode, is_before_word, MeetsBidLine, IsScanned}
 use Rattle.cats_text.specs.declared.scanner.Mode.{Mode}
 use Rattle.cats_text.specs.declared.scanner.Mode.TheVariants.{Start, Blank, Comment, Between, Inside}
 use Rattle.cats_text.proofs.Words.Places.{digit_bounds}
 use Rattle.cats_text.proofs.Scanning.Rests.{settled-other}
 use Rattle.cats_text.proofs.Scanning.Appends.{meets_behind}
-use Rattle.cats_text.proofs.Scanning.Lines.{IsNoEnd, standing, run-append, in_comment, byte_letter}
+use Rattle.cats_text.proofs.Scanning.Lines.{IsNoEnd, standing, scan-append, in_comment, byte_letter}
 use Rattle.cats_text.specs.Numbers.{is_digit, digits_alone}
 use Rattle.cats_text.specs.Internal.Machine.{word_from, word_with, decimal_with, summary}
 use Rattle.cats_text.specs.Internal.Front.{IsPlain, IsKept}
@@ -122,13 +122,13 @@ settled_split (b ∷ front) back h = let later = settled_split front back h.1 in
       (one c, none),
     )
 
-comment_run : (n : ℕ) (p : Progress) (front back : List ℕ) → AllByRecursion IsNoEnd front
-    → (run (standing Comment n p) (settled back) ≡ run (standing Comment n p) (settled (front ++ back))) × (MeetsBidLine (standing Comment n p) (settled back)
+comment_scan : (n : ℕ) (p : Progress) (front back : List ℕ) → AllByRecursion IsNoEnd front
+    → (scan (standing Comment n p) (settled back) ≡ scan (standing Comment n p) (settled (front ++ back))) × (MeetsBidLine (standing Comment n p) (settled back)
     → MeetsBidLine (standing Comment n p) (settled (front ++ back)))
-comment_run n p front back h = let split = settled_split front back h in
-    let quiet : run (standing Comment n p) split.0 ≡ Ok (standing Comment n p) = in_comment n p split.0 split.2 in (
-      sym (ap (run (standing Comment n p)) split.1 ∙ run-append (standing Comment n p) split.0 (settled back)
-          ∙ ap (λ r. and_then r (λ t. run t (settled back))) quiet),
+comment_scan n p front back h = let split = settled_split front back h in
+    let quiet : scan (standing Comment n p) split.0 ≡ Ok (standing Comment n p) = in_comment n p split.0 split.2 in (
+      sym (ap (scan (standing Comment n p)) split.1 ∙ scan-append (standing Comment n p) split.0 (settled back)
+          ∙ ap (λ r. and_then r (λ t. scan t (settled back))) quiet),
       λ m. subst (MeetsBidLine (standing Comment n p)) (sym split.1) (meets_behind (standing Comment n p) (standing Comment n p) split.0 (settled back) quiet
           m),
     )
@@ -173,12 +173,12 @@ comment_scanned s rest count w mode some feed e =
     let is : s ≡ standing Comment s.line s.progress = ap (λ (m : Mode). standing m s.line s.progress) mode in
     let parts : take count rest ++ drop count rest ≡ rest = take-append-drop count rest in
     let front : AllByRecursion IsNoEnd (take count rest) = subst (λ k. AllByRecursion IsNoEnd (take k rest)) (sym (feed ∙ feed_at rest)) (no_feed_front rest) in
-    let both = comment_run s.line s.progress (take count rest) (drop count rest) front in
+    let both = comment_scan s.line s.progress (take count rest) (drop count rest) front in
     let left : length (drop count rest) ≡ length rest - count = length-drop count rest in
     let within : count ≤ length rest = comment_within rest count feed in
     record {
-      steps = ap (λ t. run t (settled (drop count rest))) is ∙ both.0 ∙ ap (λ ds. run (standing Comment s.line s.progress) (settled ds)) parts
-          ∙ ap (λ t. run t (settled rest)) (sym is);
+      steps = ap (λ t. scan t (settled (drop count rest))) is ∙ both.0 ∙ ap (λ ds. scan (standing Comment s.line s.progress) (settled ds)) parts
+          ∙ ap (λ t. scan t (settled rest)) (sym is);
       asks = λ m. subst (λ t. MeetsBidLine t (settled rest)) (sym is) (subst (λ ds. MeetsBidLine (standing Comment s.line s.progress) (settled ds)) parts
           (both.1 (subst (λ t. MeetsBidLine t (settled (drop count rest))) is m)));
       last = λ l. sym (waits_behind (take count rest) (drop count rest) l) ∙ ap waits parts;
@@ -209,11 +209,11 @@ plain_letter b p = let low : 32 < b = p.0 in
     neither : (x y : Bool) → x ≡ false → y ≡ false → (x || y) ≡ false
     neither x y e f = rw (e, f) refl
 
-plain_run : (w : Word) (n : ℕ) (p : Progress) (ds : List ℕ) → AllByRecursion IsPlain ds
-    → run (standing (Inside w) n p) ds ≡ Ok (standing (Inside (fold word_with w ds)) n p)
-plain_run w n p [] h = refl
-plain_run w n p (b ∷ ds) h = let letter = plain_letter b h.0 in
-    ap (λ r. and_then r (λ t. run t ds)) (byte_letter (standing (Inside w) n p) b letter.0 letter.1) ∙ plain_run (word_with w b) n p ds h.1
+plain_scan : (w : Word) (n : ℕ) (p : Progress) (ds : List ℕ) → AllByRecursion IsPlain ds
+    → scan (standing (Inside w) n p) ds ≡ Ok (standing (Inside (fold word_with w ds)) n p)
+plain_scan w n p [] h = refl
+plain_scan w n p (b ∷ ds) h = let letter = plain_letter b h.0 in
+    ap (λ r. and_then r (λ t. scan t ds)) (byte_letter (standing (Inside w) n p) b letter.0 letter.1) ∙ plain_scan (word_with w b) n p ds h.1
 
 plain_begins : (m : Mode) (b : ℕ) → is_before_word m ≡ true → IsPlain b → letter_mode m b ≡ Inside (word_from b)
 plain_begins Start b e h = ap (λ t. cond t Comment (Inside (word_from b))) h.1
@@ -222,23 +222,23 @@ plain_begins Comment b e h = cc
 plain_begins Between b e h = refl
 plain_begins (Inside w) b e h = cc
 
-word_run : (m : Mode) (n : ℕ) (p : Progress) (ds : List ℕ) → is_before_word m ≡ true → 0 < length ds → AllByRecursion IsPlain ds
-    → run (standing m n p) ds ≡ Ok (standing (Inside (summary ds)) n p)
-word_run m n p [] before l h = absurd (let no : 0 < 0 = l in omega arith)
-word_run m n p (b ∷ ds) before l h = let letter = plain_letter b h.0 in
-    ap (λ r. and_then r (λ t. run t ds)) (byte_letter (standing m n p) b letter.0 letter.1 ∙ ap (λ k. Ok (standing k n p)) (plain_begins m b before h.0))
-    ∙ plain_run (word_from b) n p ds h.1
+word_scan : (m : Mode) (n : ℕ) (p : Progress) (ds : List ℕ) → is_before_word m ≡ true → 0 < length ds → AllByRecursion IsPlain ds
+    → scan (standing m n p) ds ≡ Ok (standing (Inside (summary ds)) n p)
+word_scan m n p [] before l h = absurd (let no : 0 < 0 = l in omega arith)
+word_scan m n p (b ∷ ds) before l h = let letter = plain_letter b h.0 in
+    ap (λ r. and_then r (λ t. scan t ds)) (byte_letter (standing m n p) b letter.0 letter.1 ∙ ap (λ k. Ok (standing k n p)) (plain_begins m b before h.0))
+    ∙ plain_scan (word_from b) n p ds h.1
 
 -- bytes of a word in front, which lead from one state to another
-plain_scanned : (s t : State) (rest : List ℕ) (count : ℕ) (w : Bool) → AllByRecursion IsPlain (take count rest) → run s (take count rest) ≡ Ok t → w ≡ false
+plain_scanned : (s t : State) (rest : List ℕ) (count : ℕ) (w : Bool) → AllByRecursion IsPlain (take count rest) → scan s (take count rest) ≡ Ok t → w ≡ false
     → IsScanned s t w rest (drop count rest)
 plain_scanned s t rest count w plain ran e =
     let parts : take count rest ++ drop count rest ≡ rest = take-append-drop count rest in
     let split : settled rest ≡ take count rest ++ settled (drop count rest) = ap settled (sym parts)
     ∙ settled_plain (take count rest) (drop count rest) plain in
     record {
-      steps = sym (ap (run s) split ∙ run-append s (take count rest) (settled (drop count rest))
-          ∙ ap (λ r. and_then r (λ t. run t (settled (drop count rest)))) ran);
+      steps = sym (ap (scan s) split ∙ scan-append s (take count rest) (settled (drop count rest))
+          ∙ ap (λ r. and_then r (λ t. scan t (settled (drop count rest)))) ran);
       asks = λ m. subst (MeetsBidLine s) (sym split) (meets_behind s t (take count rest) (settled (drop count rest)) ran m);
       last = λ l. sym (waits_behind (take count rest) (drop count rest) l) ∙ ap waits parts;
       going = λ l. e;
@@ -262,7 +262,7 @@ number_scanned s first sum rest count w mode digits value e =
     let is : s ≡ standing (Inside (Number first)) s.line s.progress = ap (λ (m : Mode). standing m s.line s.progress) mode in
     let plain : AllByRecursion IsPlain (take count rest) = digits_plain (take count rest) digits in
     plain_scanned s (record s { mode = Inside (Number sum) }) rest count w plain
-    (ap (λ t. run t (take count rest)) is ∙ plain_run (Number first) s.line s.progress (take count rest) plain
+    (ap (λ t. scan t (take count rest)) is ∙ plain_scan (Number first) s.line s.progress (take count rest) plain
     ∙ ap (λ k. Ok (standing (Inside k) s.line s.progress)) (sym value)) e
 
 -- ---- a whole word
@@ -275,7 +275,7 @@ word_scanned s rest kept count w before is e =
     let within : count ≤ length rest = is.within in
     let long : length (take count rest) ≡ min count (length rest) = length-take count rest in
     plain_scanned s (record s { mode = Inside kept }) rest count w is.plain
-    (word_run s.mode s.line s.progress (take count rest) before (omega arith) is.plain ∙ ap (λ k. Ok (standing (Inside k) s.line s.progress)) (sym is.word)) e
+    (word_scan s.mode s.line s.progress (take count rest) before (omega arith) is.plain ∙ ap (λ k. Ok (standing (Inside k) s.line s.progress)) (sym is.word)) e
 
 -- ---- from a place on
 

@@ -5,9 +5,9 @@ use Rattle.std.specs.List.{AllByRecursion}
 use Rattle.cats_text.specs.Lines.{is_blank, line_byte, blank_returns}
 use Rattle.cats_text.specs.Faults.{is_final, keep_final, up_to_final, complete_fault}
 use Rattle.cats_text.specs.Internal.Returns.{return_byte, settled, waits, carried}
-use Rattle.cats_text.specs.Internal.Scanning.{State, Scan, first_state, and_then, run, byte_step, end_step, end_of, letter_mode}
+use Rattle.cats_text.specs.Internal.Scanning.{State, Scan, first_state, and_then, scan, byte_step, end_step, end_of, letter_mode}
 use Rattle.cats_text.specs.declared.parser.Keeping.{Keeping}
-use Rattle.cats_text.proofs.Scanning.Lines.{run-append, byte_letter}
+use Rattle.cats_text.proofs.Scanning.Lines.{scan-append, byte_letter}
 use Rattle.cats_text.proofs.Parsing.WholeLines.{Scanned}
 use Rattle.cats_text.proofs.Scanning.AllBytes.{outcome}
 use Rattle.cats_text.proofs.Texts.FirstFaults.{EndsFinal, OpenIs, open_fault}
@@ -49,7 +49,7 @@ blank_returns-settled [] = refl
 blank_returns-settled (b ∷ []) = elim (eqb b 13) as (λ t. cond (t && true) 32 b ∷ [] ≡ cond t [] (b ∷ []) ++ waiting t) [ true ↦ refl | false ↦ refl ]
 blank_returns-settled (b ∷ c ∷ cs) = ap₂ (λ (k : ℕ) (ds : List ℕ). k ∷ ds) (line_byte-settle b c) (blank_returns-settled (c ∷ cs))
 
-end_waiting : (w : Bool) (s : State) → end_of w s ≡ and_then (run s (waiting w)) end_step
+end_waiting : (w : Bool) (s : State) → end_of w s ≡ and_then (scan s (waiting w)) end_step
 end_waiting true s = ap (λ r. and_then r end_step) (sym (and_then_ok (byte_step s 32)))
   where
     and_then_ok : (r : Scan) → and_then r (λ t. Ok t) ≡ r
@@ -58,12 +58,12 @@ end_waiting true s = ap (λ r. and_then r end_step) (sym (and_then_ok (byte_step
 end_waiting false s = refl
 
 -- the end of the input behind the bytes that are decided
-pub end_of_text : (k : Keeping) (text : List ℕ) (s : State) → run (first_state k) (settled text) ≡ Ok s
-    → end_of (waits text) s ≡ and_then (run (first_state k) (blank_returns text)) end_step
+pub end_of_text : (k : Keeping) (text : List ℕ) (s : State) → scan (first_state k) (settled text) ≡ Ok s
+    → end_of (waits text) s ≡ and_then (scan (first_state k) (blank_returns text)) end_step
 end_of_text k text s e = end_waiting (waits text) s
-    ∙ ap (λ (r : Scan). and_then (and_then r (λ t. run t (waiting (waits text)))) end_step) (sym e)
-    ∙ ap (λ (r : Scan). and_then r end_step) (sym (ap (run (first_state k)) (blank_returns-settled text)
-    ∙ run-append (first_state k) (settled text) (waiting (waits text))))
+    ∙ ap (λ (r : Scan). and_then (and_then r (λ t. scan t (waiting (waits text)))) end_step) (sym e)
+    ∙ ap (λ (r : Scan). and_then r end_step) (sym (ap (scan (first_state k)) (blank_returns-settled text)
+    ∙ scan-append (first_state k) (settled text) (waiting (waits text))))
 
 -- ---- what is complete
 
@@ -147,13 +147,13 @@ open_settled (b ∷ c ∷ cs) h = (
 )
 
 -- bytes of a word are no fault yet
-open_run : (s : State) (t : List ℕ) → AreOpen t → outcome (run s t) ≡ Ok s.progress
-open_run s [] h = refl
-open_run s (b ∷ bs) h = let p = open_byte b h.0 in ap (λ r. outcome (and_then r (λ u. run u bs))) (byte_letter s b p.0 p.1)
-    ∙ open_run (record s { mode = letter_mode s.mode b }) bs h.1
+open_scan : (s : State) (t : List ℕ) → AreOpen t → outcome (scan s t) ≡ Ok s.progress
+open_scan s [] h = refl
+open_scan s (b ∷ bs) h = let p = open_byte b h.0 in ap (λ r. outcome (and_then r (λ u. scan u bs))) (byte_letter s b p.0 p.1)
+    ∙ open_scan (record s { mode = letter_mode s.mode b }) bs h.1
 
-open_behind : (r : Scan) (t : List ℕ) → AreOpen t → outcome (and_then r (λ s. run s t)) ≡ outcome r
-open_behind (Ok s) t h = open_run s t h
+open_behind : (r : Scan) (t : List ℕ) → AreOpen t → outcome (and_then r (λ s. scan s t)) ≡ outcome r
+open_behind (Ok s) t h = open_scan s t h
 open_behind (Err e) t h = refl
 
 -- the answer for the bytes so far
@@ -161,14 +161,14 @@ abbrev pub CompleteIs : List ℕ → Scanned → Type 0
 CompleteIs bytes (Ok q) = complete_fault bytes ≡ None
 CompleteIs bytes (Err e) = complete_fault bytes ≡ Some e
 
-pub complete_is : (k : Keeping) (text : List ℕ) → CompleteIs text (outcome (run (first_state k) (settled text)))
+pub complete_is : (k : Keeping) (text : List ℕ) → CompleteIs text (outcome (scan (first_state k) (settled text)))
 complete_is k text =
     let cut = cut_of text in
-    subst (CompleteIs text) (sym (ap (λ bs. outcome (run (first_state k) (settled bs))) cut.1.is
-    ∙ ap (λ bs. outcome (run (first_state k) bs)) (settled-final (up_to_final text) cut.0 cut.1.ends)
-    ∙ ap outcome (run-append (first_state k) (blank_returns (up_to_final text)) (settled cut.0))
-    ∙ open_behind (run (first_state k) (blank_returns (up_to_final text))) (settled cut.0) (open_settled cut.0 cut.1.open_rest)))
-    (answer (outcome (run (first_state k) (blank_returns (up_to_final text)))) (open_fault k (up_to_final text) (ends_returns (up_to_final text) cut.1.ends)))
+    subst (CompleteIs text) (sym (ap (λ bs. outcome (scan (first_state k) (settled bs))) cut.1.is
+    ∙ ap (λ bs. outcome (scan (first_state k) bs)) (settled-final (up_to_final text) cut.0 cut.1.ends)
+    ∙ ap outcome (scan-append (first_state k) (blank_returns (up_to_final text)) (settled cut.0))
+    ∙ open_behind (scan (first_state k) (blank_returns (up_to_final text))) (settled cut.0) (open_settled cut.0 cut.1.open_rest)))
+    (answer (outcome (scan (first_state k) (blank_returns (up_to_final text)))) (open_fault k (up_to_final text) (ends_returns (up_to_final text) cut.1.ends)))
   where
     answer : (r : Scanned) → OpenIs (up_to_final text) r → CompleteIs text r
     answer (Ok q) h = h

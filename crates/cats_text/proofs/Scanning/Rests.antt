@@ -4,7 +4,7 @@ use Rattle.std.proofs.Common.{add-one, drop-cons, ◌≡◌, ◌≢◌, ℕ, ◌
 use Rattle.std.proofs.Common.{arith, inr, Ok}
 use Rattle.std.proofs.lemmas.Bool.{ne_eqb, eq-eqb}
 use Rattle.cats_text.specs.Internal.Returns.{settled, waits, return_byte}
-use Rattle.cats_text.specs.Internal.Scanning.{State, run, byte_step, MeetsBidLine, IsScanned}
+use Rattle.cats_text.specs.Internal.Scanning.{State, scan, byte_step, MeetsBidLine, IsScanned}
 
 pub settled-other : (b : ℕ) (rest : List ℕ) → b ≢ 13 → settled (b ∷ rest) ≡ b ∷ settled rest
 settled-other b [] ne = rw (ne_eqb b 13 ne) refl
@@ -21,15 +21,15 @@ waits-one b ne = ne_eqb b 13 ne
 
 -- a decided byte, and what is decided after it
 scan_decided : (s0 s t : State) (w : Bool) (bytes rest after : List ℕ) (b : ℕ) → settled rest ≡ b ∷ after → IsScanned s0 s w bytes rest → byte_step s b ≡ Ok t
-    → (run t after ≡ run s0 (settled bytes)) × (MeetsBidLine t after → MeetsBidLine s0 (settled bytes))
+    → (scan t after ≡ scan s0 (settled bytes)) × (MeetsBidLine t after → MeetsBidLine s0 (settled bytes))
 scan_decided s0 s t w bytes rest after b e p step = (
-  rw step at (sym (ap (λ ds. run s ds) e) ∙ p.steps),
+  rw step at (sym (ap (λ ds. scan s ds) e) ∙ p.steps),
   λ m. p.asks (rw e (let here : MeetsBidLine s (b ∷ after) = inr (rw step m) in here)),
 )
 
 pub scan_byte : (s0 s t : State) (w : Bool) (bytes : List ℕ) (b : ℕ) (rest : List ℕ) → b ≢ 13 → IsScanned s0 s w bytes (b ∷ rest) → byte_step s b ≡ Ok t
     → IsScanned s0 t w bytes rest
-scan_byte s0 s t w bytes b rest ne p step = let both : (run t (settled rest) ≡ run s0 (settled bytes))
+scan_byte s0 s t w bytes b rest ne p step = let both : (scan t (settled rest) ≡ scan s0 (settled bytes))
     × (MeetsBidLine t (settled rest) → MeetsBidLine s0 (settled bytes)) =
     scan_decided s0 s t w bytes (b ∷ rest) (settled rest) b (settled-other b rest ne) p step in record {
       steps = both.0;
@@ -45,7 +45,7 @@ scan_byte s0 s t w bytes b rest ne p step = let both : (run t (settled rest) ≡
 
 pub scan_last_return : (s0 s : State) (w : Bool) (bytes : List ℕ) (b : ℕ) → b ≡ 13 → IsScanned s0 s w bytes (b ∷ []) → IsScanned s0 s true bytes []
 scan_last_return s0 s w bytes b e p = record {
-  steps = ap (λ ds. run s ds) (sym (settled-last_return b e)) ∙ p.steps;
+  steps = ap (λ ds. scan s ds) (sym (settled-last_return b e)) ∙ p.steps;
   asks = λ m. p.asks (rw (settled-last_return b e) m);
   last = λ l. absurd (let no : 0 < 0 = l in omega arith);
   going = λ l. absurd (let no : 0 < 0 = l in omega arith);
@@ -54,7 +54,7 @@ scan_last_return s0 s w bytes b e p = record {
 
 pub scan_return : (s0 s t : State) (w : Bool) (bytes : List ℕ) (b c : ℕ) (cs : List ℕ) → b ≡ 13 → IsScanned s0 s w bytes (b ∷ c ∷ cs)
     → byte_step s (return_byte c) ≡ Ok t → IsScanned s0 t w bytes (c ∷ cs)
-scan_return s0 s t w bytes b c cs e p step = let both : (run t (settled (c ∷ cs)) ≡ run s0 (settled bytes))
+scan_return s0 s t w bytes b c cs e p step = let both : (scan t (settled (c ∷ cs)) ≡ scan s0 (settled bytes))
     × (MeetsBidLine t (settled (c ∷ cs)) → MeetsBidLine s0 (settled bytes)) =
     scan_decided s0 s t w bytes (b ∷ c ∷ cs) (settled (c ∷ cs)) (return_byte c) (settled-return b c cs e) p step in record {
       steps = both.0;

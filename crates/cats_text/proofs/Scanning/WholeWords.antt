@@ -9,7 +9,19 @@ use Rattle.cats_text.specs.Faults.{fault_at}
 use Rattle.cats_text.specs.Internal.Front.{IsFront, ends_word}
 use Rattle.cats_text.specs.Internal.Progress.{Progress, Gives, AsksOnBidLines}
 use Rattle.cats_text.specs.Internal.Parsing.{word_read}
-use Rattle.cats_text.specs.Internal.Scanning.{State, and_then, run, byte_step, halt_of, is_before_word, AsksHere, IsInBidLine, MeetsBidLine, IsScanned, ScansTo}
+use Rattle.cats_text.specs.Internal.Scanning.{
+  State,
+  and_then,
+  scan,
+  byte_step,
+  halt_of,
+  is_before_word,
+  AsksHere,
+  IsInBidLine,
+  MeetsBidLine,
+  IsScanned,
+  ScansTo,
+}
 use Rattle.cats_text.specs.Internal.Scanning.{Steps, Asks}
 use Rattle.cats_text.specs.declared.fault.Kind.{Kind}
 use Rattle.cats_text.specs.declared.parser.Stop.{Stop}
@@ -95,7 +107,7 @@ read_scanned s p bytes w taken v before front read stage e =
     ⊎_elim (λ (m : IsInBidLine (behind_word s p)). inl (sym stage ∙ m.0, tt)) (λ (m : IsOkAnd (byte_step (behind_word s p) b) (λ t. MeetsBidLine t later)). inr
     (subst (λ r. IsOkAnd r (λ t. MeetsBidLine t later)) (sym same) m)) in
     record {
-      steps = ap (run (behind_word s p)) split ∙ sym (ap (λ r. and_then r (λ t. run t later)) same) ∙ sym (ap (run (in_word s w)) split) ∙ come.steps;
+      steps = ap (scan (behind_word s p)) split ∙ sym (ap (λ r. and_then r (λ t. scan t later)) same) ∙ sym (ap (scan (in_word s w)) split) ∙ come.steps;
       asks = λ m. come.asks (subst (MeetsBidLine (in_word s w)) (sym split) (again (subst (MeetsBidLine (behind_word s p)) split m)));
       last = come.last;
       going = come.going;
@@ -103,11 +115,11 @@ read_scanned s p bytes w taken v before front read stage e =
     }
 
 front_faults : (s : State) (bytes : List ℕ) (w : Word) (taken : ℕ) (kind : Kind) → is_before_word s.mode ≡ true → IsFront bytes w taken
-    → word_read s.progress w ≡ Err kind → run s (settled bytes) ≡ Err (fault_at s.line kind)
+    → word_read s.progress w ≡ Err kind → scan s (settled bytes) ≡ Err (fault_at s.line kind)
 front_faults s bytes w taken kind before front read =
     let come : IsScanned s (in_word s w) false bytes (drop front.count bytes) = word_scanned s bytes w front.count false before front.kept refl in
-    sym come.steps ∙ ap (run (in_word s w)) (settled_end bytes front.count front.within front.ends)
-    ∙ ap (λ r. and_then r (λ t. run t (settled (drop (front.count + 1) bytes)))) (byte_faults s w kind (get_or bytes front.count 0) front.ends read)
+    sym come.steps ∙ ap (scan (in_word s w)) (settled_end bytes front.count front.within front.ends)
+    ∙ ap (λ r. and_then r (λ t. scan t (settled (drop (front.count + 1) bytes)))) (byte_faults s w kind (get_or bytes front.count 0) front.ends read)
 
 front_asks : (s : State) (bytes : List ℕ) (w : Word) (taken : ℕ) → is_before_word s.mode ≡ true → IsFront bytes w taken → s.progress.stage ≡ Bid
     → MeetsBidLine s (settled bytes)
@@ -200,13 +212,13 @@ rest_scanned s0 s t w v bytes place count l so_far next =
 
 pub rest_stops_to : (s0 s t u : State) (w v x : Bool) (bytes : List ℕ) (place : ℕ) (halt : Halt) → IsScanned s0 s w bytes (drop place bytes)
     → ScansTo s t v (take (length bytes - place) (drop place bytes)) (Err halt) → ScansTo s0 u x bytes (Err halt)
-rest_stops_to s0 s t u w v x bytes place (halts.Fault e) so_far stop = sym so_far.steps ∙ subst (λ ds. run s (settled ds) ≡ Err e) (rest_is bytes place) stop
+rest_stops_to s0 s t u w v x bytes place (halts.Fault e) so_far stop = sym so_far.steps ∙ subst (λ ds. scan s (settled ds) ≡ Err e) (rest_is bytes place) stop
 rest_stops_to s0 s t u w v x bytes place halts.Memory so_far stop = so_far.asks (subst (λ ds. MeetsBidLine s (settled ds)) (rest_is bytes place) stop)
 
 pub rest_stops : (s0 s t u : State) (w v : Bool) (bytes : List ℕ) (place : ℕ) (halt : Halt) → IsScanned s0 s w bytes (drop place bytes)
     → ScansTo s t v (take (length bytes - place) (drop place bytes)) (Err halt)
-    → Steps {A = Unit {0}} u (Err halt) (run s0 (settled bytes)) × Asks {A = Unit {0}} s0 (settled bytes) (Err halt)
-rest_stops s0 s t u w v bytes place (halts.Fault e) so_far stop = (sym so_far.steps ∙ subst (λ ds. run s (settled ds) ≡ Err e) (rest_is bytes place) stop, tt)
+    → Steps {A = Unit {0}} u (Err halt) (scan s0 (settled bytes)) × Asks {A = Unit {0}} s0 (settled bytes) (Err halt)
+rest_stops s0 s t u w v bytes place (halts.Fault e) so_far stop = (sym so_far.steps ∙ subst (λ ds. scan s (settled ds) ≡ Err e) (rest_is bytes place) stop, tt)
 rest_stops s0 s t u w v bytes place halts.Memory so_far stop = (tt, so_far.asks (subst (λ ds. MeetsBidLine s (settled ds)) (rest_is bytes place) stop))
 
 -- behind that call a byte stopped
@@ -214,7 +226,7 @@ pub byte_stops : (s0 s t u : State) (w v : Bool) (bytes : List ℕ) (place count
     → IsScanned s0 s w bytes (drop place bytes) → ScansTo s t v (take (length bytes - place) (drop place bytes)) (Ok count)
     → place + count < length bytes → get_or bytes (place + count) 0 ≢ 13 → Steps {A = Unit {0}} u (Err halt) (byte_step t (get_or bytes (place + count) 0))
     → AsksHere {A = Unit {0}} t (Err halt)
-    → Steps {A = Unit {0}} u (Err halt) (run s0 (settled bytes)) × Asks {A = Unit {0}} s0 (settled bytes) (Err halt)
+    → Steps {A = Unit {0}} u (Err halt) (scan s0 (settled bytes)) × Asks {A = Unit {0}} s0 (settled bytes) (Err halt)
 byte_stops s0 s t u w v bytes place count halt l so_far next here ne steps asks =
     let both = rest_scanned s0 s t w v bytes place count l so_far next in
     let b : ℕ = get_or bytes (place + count) 0 in
@@ -224,13 +236,13 @@ byte_stops s0 s t u w v bytes place count halt l so_far next here ne steps asks 
   where
     at_byte : (s0 t u : State) (v : Bool) (bytes rest : List ℕ) (b : ℕ) (later : List ℕ) (halt : Halt) → IsScanned s0 t v bytes rest → settled rest ≡ b ∷ later
         → Steps {A = Unit {0}} u (Err halt) (byte_step t b) → AsksHere {A = Unit {0}} t (Err halt)
-        → Steps {A = Unit {0}} u (Err halt) (run s0 (settled bytes)) × Asks {A = Unit {0}} s0 (settled bytes) (Err halt)
+        → Steps {A = Unit {0}} u (Err halt) (scan s0 (settled bytes)) × Asks {A = Unit {0}} s0 (settled bytes) (Err halt)
     at_byte s0 t u v bytes rest b later (halts.Fault e) so_far split steps asks =
-        (sym so_far.steps ∙ ap (run t) split ∙ ap (λ r. and_then r (λ x. run x later)) steps, tt)
+        (sym so_far.steps ∙ ap (scan t) split ∙ ap (λ r. and_then r (λ x. scan x later)) steps, tt)
     at_byte s0 t u v bytes rest b later halts.Memory so_far split steps asks = (tt, so_far.asks (subst (MeetsBidLine t) (sym split) (inl asks)))
 
 -- as a scan that stopped
-pub scans_to : (s0 u t : State) (v : Bool) (bytes : List ℕ) (halt : Halt) → Steps {A = Unit {0}} u (Err halt) (run s0 (settled bytes))
+pub scans_to : (s0 u t : State) (v : Bool) (bytes : List ℕ) (halt : Halt) → Steps {A = Unit {0}} u (Err halt) (scan s0 (settled bytes))
     → Asks {A = Unit {0}} s0 (settled bytes) (Err halt) → ScansTo s0 t v bytes (Err halt)
 scans_to s0 u t v bytes (halts.Fault e) steps asks = steps
 scans_to s0 u t v bytes halts.Memory steps asks = asks

@@ -9,11 +9,11 @@ use Rattle.cats_text.specs.Grammar.{significant_words}
 use Rattle.cats_text.specs.Faults.{fault_at, lines_fault, first_fault, is_line_due, is_final}
 use Rattle.cats_text.specs.Internal.Progress.{Progress}
 use Rattle.cats_text.specs.Internal.Parsing.{Reading, start, is_due, line_read}
-use Rattle.cats_text.specs.Internal.Scanning.{Scan, first_state, and_then, run, byte_step, blank_step, end_step}
+use Rattle.cats_text.specs.Internal.Scanning.{Scan, first_state, and_then, scan, byte_step, blank_step, end_step}
 use Rattle.cats_text.specs.declared.parser.Keeping.{Keeping}
 use Rattle.cats_text.specs.declared.fault.Kind.TheVariants.{Missing}
 use Rattle.cats_text.specs.declared.scanner.Mode.TheVariants.{Start, Between}
-use Rattle.cats_text.proofs.Scanning.Lines.{run-append, IsNoEnd, standing, fresh_outcome, lifted, quiet, from_start, byte_blank, words_blank}
+use Rattle.cats_text.proofs.Scanning.Lines.{scan-append, IsNoEnd, standing, fresh_outcome, lifted, quiet, from_start, byte_blank, words_blank}
 use Rattle.cats_text.proofs.Parsing.WholeLines.{words_read, on_line, reading_then, Scanned, scanned_then, lines_scan, lines_step, LinesAre, IsLine, IsWord}
 use Rattle.cats_text.proofs.Parsing.WholeLines.{AreEndedButLast}
 use Rattle.cats_text.proofs.Parsing.States.{IsAt}
@@ -144,9 +144,9 @@ abbrev pub WholeIs : List ℕ → Scanned → Type 0
 WholeIs text (Ok q) = (first_fault text ≡ None) × IsAt (significant_words text) [] q × (is_line_due (significant_words text) ≡ false)
 WholeIs text (Err e) = first_fault text ≡ Some e
 
-pub whole_fault : (k : Keeping) (text : List ℕ) → WholeIs text (outcome (and_then (run (first_state k) (blank_returns text)) end_step))
+pub whole_fault : (k : Keeping) (text : List ℕ) → WholeIs text (outcome (and_then (scan (first_state k) (blank_returns text)) end_step))
 whole_fault k text =
-    subst (WholeIs text) (sym (ap (λ bs. outcome (and_then (run (first_state k) bs) end_step)) (sym (text_of-lines (blank_returns text)))
+    subst (WholeIs text) (sym (ap (λ bs. outcome (and_then (scan (first_state k) bs) end_step)) (sym (text_of-lines (blank_returns text)))
     ∙ whole_text 1 (start k) (raw_lines (blank_returns text)) (AreRaw-lines (blank_returns text))
     ∙ raw_scan-lines true 1 (raw_lines (blank_returns text)) (start k) (line_count text) (AreRaw-lines (blank_returns text)) (λ e. omega arith)))
     (answer (lines_scan true (line_count text) (significant_lines text) (start k))
@@ -243,17 +243,17 @@ open_is n ws p = elim (is_significant ws) as (λ t. outcome (cond t (lifted n Be
 
 -- a last line without its LF, up to a blank
 open_line_end : (n : ℕ) (p : Progress) (bs : List ℕ) (b : ℕ) → AllByRecursion IsNoEnd (bs ++ b ∷ []) → is_blank b ≡ true
-    → outcome (run (standing Start n p) (bs ++ b ∷ [])) ≡ open_outcome n (line_words (bs ++ b ∷ [])) p
+    → outcome (scan (standing Start n p) (bs ++ b ∷ [])) ≡ open_outcome n (line_words (bs ++ b ∷ [])) p
 open_line_end n p bs b h e =
     let parts = all_parts bs h in
-    ap outcome (run-append (standing Start n p) bs (b ∷ []) ∙ at_blank (run (standing Start n p) bs) parts.1 ∙ from_start n p bs parts.0)
+    ap outcome (scan-append (standing Start n p) bs (b ∷ []) ∙ at_blank (scan (standing Start n p) bs) parts.1 ∙ from_start n p bs parts.0)
     ∙ open_is n (line_words bs) p ∙ ap (λ ws. open_outcome n ws p) (sym (words_trailing bs b e))
   where
     all_parts : (bs : List ℕ) → AllByRecursion IsNoEnd (bs ++ b ∷ []) → AllByRecursion IsNoEnd bs × (eqb b 10 ≡ false)
     all_parts [] h = (tt, h.0)
     all_parts (c ∷ cs) h = let k = all_parts cs h.1 in ((h.0, k.0), k.1)
 
-    at_blank : (r : Scan) → eqb b 10 ≡ false → and_then r (λ t. run t (b ∷ [])) ≡ and_then r blank_step
+    at_blank : (r : Scan) → eqb b 10 ≡ false → and_then r (λ t. scan t (b ∷ [])) ≡ and_then r blank_step
     at_blank (Ok t) k = and_then_ok (byte_step t b) ∙ byte_blank t b k e
     at_blank (Err c) k = refl
 
@@ -261,13 +261,13 @@ tail_blank : (l : RawLine) (ls : List RawLine) → EndsBlank (l ∷ ls) → Ends
 tail_blank l [] h = tt
 tail_blank l (m ∷ ls) h = h
 
-open_text : (n : ℕ) (p : Progress) (ls : List RawLine) → AreRaw ls → EndsBlank ls → outcome (run (standing Start n p) (text_of ls)) ≡ raw_scan false n ls p
+open_text : (n : ℕ) (p : Progress) (ls : List RawLine) → AreRaw ls → EndsBlank ls → outcome (scan (standing Start n p) (text_of ls)) ≡ raw_scan false n ls p
 open_text n p [] r b = refl
-open_text n p (l ∷ ls) r b = elim l.ended as (λ t. l.ended ≡ t → outcome (run (standing Start n p) (l.bytes ++ cond t (10 ∷ text_of ls) (text_of ls)))
+open_text n p (l ∷ ls) r b = elim l.ended as (λ t. l.ended ≡ t → outcome (scan (standing Start n p) (l.bytes ++ cond t (10 ∷ text_of ls) (text_of ls)))
     ≡ cond (t || false) (scanned_then (line_outcome n (line_words l.bytes) p) (raw_scan false (suc n) ls)) (open_outcome n (line_words l.bytes) p)) [
       | true ↦ λ (e : l.ended ≡ true). ap outcome (line_and_rest n p l.bytes (text_of ls) (head_raw l ls r))
-          ∙ outcome_from (line_outcome n (line_words l.bytes) p) (λ q. run (standing Start (suc n) q) (text_of ls))
-          ∙ scanned_same (line_outcome n (line_words l.bytes) p) (λ q. outcome (run (standing Start (suc n) q) (text_of ls))) (raw_scan false (suc n) ls)
+          ∙ outcome_from (line_outcome n (line_words l.bytes) p) (λ q. scan (standing Start (suc n) q) (text_of ls))
+          ∙ scanned_same (line_outcome n (line_words l.bytes) p) (λ q. outcome (scan (standing Start (suc n) q) (text_of ls))) (raw_scan false (suc n) ls)
           (λ q. open_text (suc n) q ls (tail_raw l ls r) (tail_blank l ls b))
       | false ↦ λ (e : l.ended ≡ false). at_last l ls r b e
     ] refl
@@ -277,9 +277,9 @@ open_text n p (l ∷ ls) r b = elim l.ended as (λ t. l.ended ≡ t → outcome 
     head_raw l (m ∷ ms) r = r.0
 
     at_last : (l : RawLine) (ls : List RawLine) → AreRaw (l ∷ ls) → EndsBlank (l ∷ ls) → l.ended ≡ false
-        → outcome (run (standing Start n p) (l.bytes ++ text_of ls)) ≡ open_outcome n (line_words l.bytes) p
+        → outcome (scan (standing Start n p) (l.bytes ++ text_of ls)) ≡ open_outcome n (line_words l.bytes) p
     at_last l [] r b e = let k = b e in
-        ap (λ ds. outcome (run (standing Start n p) ds)) (append-nil l.bytes ∙ k.2) ∙ open_line_end n p k.0 k.1 (subst (AllByRecursion IsNoEnd) k.2 r.0) k.3
+        ap (λ ds. outcome (scan (standing Start n p) ds)) (append-nil l.bytes ∙ k.2) ∙ open_line_end n p k.0 k.1 (subst (AllByRecursion IsNoEnd) k.2 r.0) k.3
         ∙ ap (λ ds. open_outcome n (line_words ds) p) (sym k.2)
     at_last l (m ∷ ms) r b e = absurd (both_ways l.ended e r.1)
 
@@ -288,9 +288,9 @@ abbrev pub OpenIs : List ℕ → Scanned → Type 0
 OpenIs text (Ok q) = lines_fault false 0 [] (significant_lines text) ≡ None
 OpenIs text (Err e) = lines_fault false 0 [] (significant_lines text) ≡ Some e
 
-pub open_fault : (k : Keeping) (text : List ℕ) → EndsFinal (blank_returns text) → OpenIs text (outcome (run (first_state k) (blank_returns text)))
+pub open_fault : (k : Keeping) (text : List ℕ) → EndsFinal (blank_returns text) → OpenIs text (outcome (scan (first_state k) (blank_returns text)))
 open_fault k text f =
-    subst (OpenIs text) (sym (ap (λ bs. outcome (run (first_state k) bs)) (sym (text_of-lines (blank_returns text)))
+    subst (OpenIs text) (sym (ap (λ bs. outcome (scan (first_state k) bs)) (sym (text_of-lines (blank_returns text)))
     ∙ open_text 1 (start k) (raw_lines (blank_returns text)) (AreRaw-lines (blank_returns text)) (EndsBlank-lines (blank_returns text) f)
     ∙ raw_scan-lines false 1 (raw_lines (blank_returns text)) (start k) 0 (AreRaw-lines (blank_returns text)) (λ e. absurd (both_ways false refl e))))
     (answer (lines_scan false 0 (significant_lines text) (start k))

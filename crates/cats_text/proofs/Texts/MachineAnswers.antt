@@ -13,7 +13,7 @@ use Rattle.cats_text.specs.Internal.Returns.{settled, waits, carried}
 use Rattle.cats_text.specs.Internal.Progress.{Progress}
 use Rattle.cats_text.specs.Internal.Parsing.{file_from}
 use Rattle.cats_text.specs.FileLines.{filled, file_of_lines, slots_of}
-use Rattle.cats_text.specs.Internal.Scanning.{State, Scan, first_state, and_then, run, byte_step, end_step, end_of, MeetsBidLine, IsInBidLine, HasBids}
+use Rattle.cats_text.specs.Internal.Scanning.{State, Scan, first_state, and_then, scan, byte_step, end_step, end_of, MeetsBidLine, IsInBidLine, HasBids}
 use Rattle.cats_text.specs.declared.parser.Keeping.{Keeping}
 use Rattle.cats_text.specs.declared.parser.Keeping.TheVariants as keepings
 use Rattle.cats_text.specs.declared.fault.ReadFault.{ReadFault}
@@ -23,9 +23,9 @@ use Rattle.cats_text.proofs.Texts.FirstFaults.{WholeIs, whole_fault}
 use Rattle.cats_text.proofs.Scanning.Pieces.{CompleteIs, complete_is, end_of_text, waiting, blank_returns-settled, settled-append}
 use Rattle.cats_text.proofs.Scanning.BidLines.{bid_line_met}
 use Rattle.cats_text.proofs.Parsing.States.{IsAt, kept_slots}
-use Rattle.cats_text.proofs.Keeping.{run_keeping, end_keeping}
+use Rattle.cats_text.proofs.Keeping.{scan_keeping, end_keeping}
 use Rattle.cats_text.proofs.Spelling.Files.{spells_from_no_fault, spelled_value}
-use Rattle.cats_text.proofs.Scanning.Lines.{run-append}
+use Rattle.cats_text.proofs.Scanning.Lines.{scan-append}
 
 abbrev ok : State → Scan
 ok s = Ok s
@@ -34,34 +34,34 @@ abbrev err : ReadFault → Scan
 err e = Err e
 
 -- a fault that stops the machine is complete in the bytes
-pub stops_at_complete_fault : (k : Keeping) (bytes : List ℕ) (e : ReadFault) → run (first_state k) (settled bytes) ≡ err e → complete_fault bytes ≡ Some e
+pub stops_at_complete_fault : (k : Keeping) (bytes : List ℕ) (e : ReadFault) → scan (first_state k) (settled bytes) ≡ err e → complete_fault bytes ≡ Some e
 stops_at_complete_fault k bytes e h = subst (λ (r : Scan). CompleteIs bytes (outcome r)) h (complete_is k bytes)
 
 -- where the machine goes on, no fault is complete
-pub goes_on_without_fault : (k : Keeping) (bytes : List ℕ) (s : State) → run (first_state k) (settled bytes) ≡ ok s → complete_fault bytes ≡ None
+pub goes_on_without_fault : (k : Keeping) (bytes : List ℕ) (s : State) → scan (first_state k) (settled bytes) ≡ ok s → complete_fault bytes ≡ None
 goes_on_without_fault k bytes s h = subst (λ (r : Scan). CompleteIs bytes (outcome r)) h (complete_is k bytes)
 
 -- the answer of the machine for the whole text, where it stopped at a fault already
-stopped : (k : Keeping) (bytes : List ℕ) (e : ReadFault) → run (first_state k) (settled bytes) ≡ err e → first_fault bytes ≡ Some e
+stopped : (k : Keeping) (bytes : List ℕ) (e : ReadFault) → scan (first_state k) (settled bytes) ≡ err e → first_fault bytes ≡ Some e
 stopped k bytes e h = subst (λ (r : Scan). WholeIs bytes (outcome r))
-    (ap (λ (r : Scan). and_then r end_step) (ap (run (first_state k)) (blank_returns-settled bytes)
-    ∙ run-append (first_state k) (settled bytes) (waiting (waits bytes)) ∙ ap (λ (r : Scan). and_then r (λ t. run t (waiting (waits bytes)))) h))
+    (ap (λ (r : Scan). and_then r end_step) (ap (scan (first_state k)) (blank_returns-settled bytes)
+    ∙ scan-append (first_state k) (settled bytes) (waiting (waits bytes)) ∙ ap (λ (r : Scan). and_then r (λ t. scan t (waiting (waits bytes)))) h))
     (whole_fault k bytes)
 
 -- and it is the first fault of the bytes
 pub complete_fault_is_first : (bytes : List ℕ) (e : ReadFault) → complete_fault bytes ≡ Some e → first_fault bytes ≡ Some e
-complete_fault_is_first bytes e h = by_run (run (first_state keepings.Bids) (settled bytes)) refl
+complete_fault_is_first bytes e h = by_scan (scan (first_state keepings.Bids) (settled bytes)) refl
   where
     no : None ≡ Some e → ⊥
     no q = cc
 
-    by_run : (r : Scan) → run (first_state keepings.Bids) (settled bytes) ≡ r → first_fault bytes ≡ Some e
-    by_run (Ok s) is = absurd (no (sym (goes_on_without_fault keepings.Bids bytes s is) ∙ h))
-    by_run (Err c) is = stopped keepings.Bids bytes c is ∙ sym (stops_at_complete_fault keepings.Bids bytes c is) ∙ h
+    by_scan : (r : Scan) → scan (first_state keepings.Bids) (settled bytes) ≡ r → first_fault bytes ≡ Some e
+    by_scan (Ok s) is = absurd (no (sym (goes_on_without_fault keepings.Bids bytes s is) ∙ h))
+    by_scan (Err c) is = stopped keepings.Bids bytes c is ∙ sym (stops_at_complete_fault keepings.Bids bytes c is) ∙ h
 
 -- it is complete in every longer text too
 complete_fault-append : (bytes rest : List ℕ) (e : ReadFault) → complete_fault bytes ≡ Some e → complete_fault (bytes ++ rest) ≡ Some e
-complete_fault-append bytes rest e h = by_run (run (first_state keepings.Bids) (settled bytes)) refl
+complete_fault-append bytes rest e h = by_scan (scan (first_state keepings.Bids) (settled bytes)) refl
   where
     no : None ≡ Some e → ⊥
     no q = cc
@@ -69,23 +69,23 @@ complete_fault-append bytes rest e h = by_run (run (first_state keepings.Bids) (
     more : List ℕ
     more = settled (carried (waits bytes) rest)
 
-    by_run : (r : Scan) → run (first_state keepings.Bids) (settled bytes) ≡ r → complete_fault (bytes ++ rest) ≡ Some e
-    by_run (Ok s) is = absurd (no (sym (goes_on_without_fault keepings.Bids bytes s is) ∙ h))
-    by_run (Err c) is = stops_at_complete_fault keepings.Bids (bytes ++ rest) c
-        (ap (run (first_state keepings.Bids)) (settled-append bytes rest) ∙ run-append (first_state keepings.Bids) (settled bytes) more
-        ∙ ap (λ (r : Scan). and_then r (λ t. run t more)) is)
+    by_scan : (r : Scan) → scan (first_state keepings.Bids) (settled bytes) ≡ r → complete_fault (bytes ++ rest) ≡ Some e
+    by_scan (Ok s) is = absurd (no (sym (goes_on_without_fault keepings.Bids bytes s is) ∙ h))
+    by_scan (Err c) is = stops_at_complete_fault keepings.Bids (bytes ++ rest) c
+        (ap (scan (first_state keepings.Bids)) (settled-append bytes rest) ∙ scan-append (first_state keepings.Bids) (settled bytes) more
+        ∙ ap (λ (r : Scan). and_then r (λ t. scan t more)) is)
         ∙ sym (stops_at_complete_fault keepings.Bids bytes c is) ∙ h
 
 -- so it is the first fault, whatever follows
 pub complete_fault_stays : (bytes rest : List ℕ) (e : ReadFault) → complete_fault bytes ≡ Some e → first_fault (bytes ++ rest) ≡ Some e
 complete_fault_stays bytes rest e h = complete_fault_is_first (bytes ++ rest) e (complete_fault-append bytes rest e h)
 
-whole_at_end : (k : Keeping) (bytes : List ℕ) (s : State) (r : Scan) → run (first_state k) (settled bytes) ≡ ok s → end_of (waits bytes) s ≡ r
+whole_at_end : (k : Keeping) (bytes : List ℕ) (s : State) (r : Scan) → scan (first_state k) (settled bytes) ≡ ok s → end_of (waits bytes) s ≡ r
     → WholeIs bytes (outcome r)
 whole_at_end k bytes s r h end = subst (λ (x : Scan). WholeIs bytes (outcome x)) (sym (end_of_text k bytes s h) ∙ end) (whole_fault k bytes)
 
 -- at the end of the input the machine stops at the first fault
-pub ends_at_first_fault : (k : Keeping) (bytes : List ℕ) (s : State) (e : ReadFault) → run (first_state k) (settled bytes) ≡ ok s
+pub ends_at_first_fault : (k : Keeping) (bytes : List ℕ) (s : State) (e : ReadFault) → scan (first_state k) (settled bytes) ≡ ok s
     → end_of (waits bytes) s ≡ err e → first_fault bytes ≡ Some e
 ends_at_first_fault k bytes s e h end = whole_at_end k bytes s (err e) h end
 
@@ -103,14 +103,14 @@ file_is_said (g ∷ b ∷ d ∷ lines) p kept at due =
     file h s = record { goods = h.goods; dummy = h.dummy; bids = filled s }
 
 -- or has the file that the bytes spell
-pub ends_at_file : (bytes : List ℕ) (s t : State) → run (first_state keepings.Bids) (settled bytes) ≡ ok s → end_of (waits bytes) s ≡ ok t
+pub ends_at_file : (bytes : List ℕ) (s t : State) → scan (first_state keepings.Bids) (settled bytes) ≡ ok s → end_of (waits bytes) s ≡ ok t
     → Spells bytes (file_from t.progress)
 ends_at_file bytes s t h end = let whole = whole_at_end keepings.Bids bytes s (ok t) h end in
-    let kept : t.progress.keeping ≡ keepings.Bids = end_keeping (waits bytes) s t end ∙ run_keeping (first_state keepings.Bids) s (settled bytes) h in
+    let kept : t.progress.keeping ≡ keepings.Bids = end_keeping (waits bytes) s t end ∙ scan_keeping (first_state keepings.Bids) s (settled bytes) h in
     subst (Spells bytes) (sym (file_is_said (significant_words bytes) t.progress kept whole.1 whole.2)) (spells_from_no_fault bytes whole.0)
 
 -- and its sizes are those that the header lines say
-pub ends_at_sizes : (k : Keeping) (bytes : List ℕ) (s t : State) → run (first_state k) (settled bytes) ≡ ok s → end_of (waits bytes) s ≡ ok t
+pub ends_at_sizes : (k : Keeping) (bytes : List ℕ) (s t : State) → scan (first_state k) (settled bytes) ≡ ok s → end_of (waits bytes) s ≡ ok t
     → SpellsSizes bytes t.progress.header
 ends_at_sizes k bytes s t h end =
     let whole = whole_at_end k bytes s (ok t) h end in
@@ -131,7 +131,7 @@ ends_at_sizes k bytes s t h end =
 pub meets_bid_line : (k : Keeping) (bytes : List ℕ) → MeetsBidLine (first_state k) (settled bytes) → has_bid_line bytes ≡ true
 meets_bid_line k bytes m = bid_line_met k bytes (settled bytes) (waiting (waits bytes)) (blank_returns-settled bytes) m
 
-met_at_end : (s t : State) (bytes : List ℕ) → run s bytes ≡ ok t → IsInBidLine t → MeetsBidLine s bytes
+met_at_end : (s t : State) (bytes : List ℕ) → scan s bytes ≡ ok t → IsInBidLine t → MeetsBidLine s bytes
 met_at_end s t [] h i = subst IsInBidLine (sym (same s t h)) i
   where
     same : (x y : State) → ok x ≡ ok y → x ≡ y
@@ -141,7 +141,7 @@ met_at_end s t (b ∷ bs) h i = inr (step (byte_step s b) h (λ u e. met_at_end 
     no : (e : ReadFault) → err e ≡ ok t → ⊥
     no e q = cc
 
-    step : (r : Scan) → and_then r (λ u. run u bs) ≡ ok t → ((u : State) → run u bs ≡ ok t → MeetsBidLine u bs) → IsOkAnd r (λ u. MeetsBidLine u bs)
+    step : (r : Scan) → and_then r (λ u. scan u bs) ≡ ok t → ((u : State) → scan u bs ≡ ok t → MeetsBidLine u bs) → IsOkAnd r (λ u. MeetsBidLine u bs)
     step (Ok u) e next = next u e
     step (Err c) e next = absurd (no c e)
 
@@ -153,7 +153,7 @@ bids_behind (g ∷ b ∷ []) p at l = absurd (let none : length p.slots ≡ 0 = 
 bids_behind (g ∷ b ∷ d ∷ []) p at l = absurd (let none : length p.slots ≡ 0 = ap length at.slots in omega arith)
 bids_behind (g ∷ b ∷ d ∷ m ∷ lines) p at l = omega arith
 
-pub ends_in_bid_line : (k : Keeping) (bytes : List ℕ) (s : State) → run (first_state k) (settled bytes) ≡ ok s
+pub ends_in_bid_line : (k : Keeping) (bytes : List ℕ) (s : State) → scan (first_state k) (settled bytes) ≡ ok s
     → IsInBidLine s ⊎ HasBids (end_of (waits bytes) s) → has_bid_line bytes ≡ true
 ends_in_bid_line k bytes s h b = ⊎_elim
     (λ (i : IsInBidLine s). meets_bid_line k bytes (met_at_end (first_state k) s (settled bytes) h i))

@@ -7,7 +7,7 @@ use Rattle.cats_text.specs.Files.{PlainFile}
 use Rattle.cats_text.specs.Views.{HasSizes}
 use Rattle.cats_text.specs.Fed.{Fed}
 use Rattle.cats_text.specs.Internal.Returns.{settled, waits}
-use Rattle.cats_text.specs.Internal.Scanning.{state, first_state, run}
+use Rattle.cats_text.specs.Internal.Scanning.{state, first_state, scan}
 use Rattle.cats_text.specs.declared.fault.ReadFault.{ReadFault}
 use Rattle.cats_text.specs.declared.fault.Kind.TheVariants.{Memory as NoMemory}
 use Rattle.cats_text.specs.declared.parser.Header.{Header}
@@ -25,7 +25,7 @@ fault_told Memory = fault_at 0 NoMemory
 pub record HasTaken (keeping : Keeping) (limit taken : ℕ) (scanner : Scanner) (bytes : List ℕ) : Type 0 where
   pub count : taken ≡ length bytes
   pub within : taken ≤ limit
-  pub runs : run (first_state keeping) (settled bytes) ≡ Ok (state scanner)
+  pub runs : scan (first_state keeping) (settled bytes) ≡ Ok (state scanner)
   pub waiting : scanner.waiting ≡ waits bytes
 
 pub record IsReading (keeping : Keeping) (most count : ℕ) (scanner : Scanner) (failed : Option ReadFault)

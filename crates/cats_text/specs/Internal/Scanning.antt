@@ -97,9 +97,9 @@ abbrev pub byte_step : State → ℕ → Scan
 byte_step s b = if b == 10 then line_step s else if is_blank b then blank_step s
     else Ok (record s { mode = letter_mode s.mode b })
 
-abbrev pub run : State → List ℕ → Scan
-run s [] = Ok s
-run s (b ∷ bs) = and_then (byte_step s b) (λ t. run t bs)
+abbrev pub scan : State → List ℕ → Scan
+scan s [] = Ok s
+scan s (b ∷ bs) = and_then (byte_step s b) (λ t. scan t bs)
 
 -- ---- the end of the input
 
@@ -187,7 +187,7 @@ AsksAtEnd waiting s (Err Memory) = IsInBidLine s ⊎ HasBids (end_of waiting s)
 
 -- What is left of a scan does to the state reached what the whole does to the first, and a CR waits at the end.
 pub record IsScanned (s0 s : State) (waiting : Bool) (bytes rest : List ℕ) : Type 0 where
-  pub steps : run s (settled rest) ≡ run s0 (settled bytes)
+  pub steps : scan s (settled rest) ≡ scan s0 (settled bytes)
   pub asks : MeetsBidLine s (settled rest) → MeetsBidLine s0 (settled bytes)
   pub last : 0 < length rest → waits rest ≡ waits bytes
   pub going : 0 < length rest → waiting ≡ false
@@ -196,5 +196,5 @@ pub record IsScanned (s0 s : State) (waiting : Bool) (bytes rest : List ℕ) : T
 -- a call scanned so many of the bytes, or stopped at what the machine says of them
 abbrev pub ScansTo : State → State → Bool → List ℕ → Result ℕ Halt → Type 0
 ScansTo s0 s waiting bytes (Ok count) = IsScanned s0 s waiting bytes (drop count bytes) × (count ≤ length bytes)
-ScansTo s0 s waiting bytes (Err (Fault e)) = run s0 (settled bytes) ≡ Err e
+ScansTo s0 s waiting bytes (Err (Fault e)) = scan s0 (settled bytes) ≡ Err e
 ScansTo s0 s waiting bytes (Err Memory) = MeetsBidLine s0 (settled bytes)

@@ -6,6 +6,6 @@ use Rattle.cats_text.proofs.layout.push_bid.Goals as goal
 
 pub returns : goal.returns
 returns c =
-    line_ended c.push_last_run.result c.args.out.now.items c.loop-left.out.items c.push_last_run.new.out.items
+    line_ended c.push_last_chunk.result c.args.out.now.items c.loop-left.out.items c.push_last_chunk.new.out.items
     (decimal c.args.number ++ 9 ∷ price_text c.args.price) c.args.bundle.now c.loop-left.left.now (dummy_good c.args.goods c.args.dummy) (codes "\t#\n")
-    c.loop-left.invariant c.push_last_run.ensures
+    c.loop-left.invariant c.push_last_chunk.ensures

@@ -1,8 +1,0 @@
-use Rattle.std.proofs.Common.{◌≡◌, ℕ, ◌+◌, ◌-◌, get_or, vec_len}
-use Rattle.cats_text.proofs.goods.cover.Given as goal
-
-abbrev pub invariant-loop-marks : goal.invariant-loop-marks
-invariant-loop-marks l = (k : ℕ) → get_or l.marks.items k 0 ≡ get_or l.fn.marks.items k 0
-
-abbrev pub decreases-loop-marks : goal.decreases-loop-marks
-decreases-loop-marks l = l.place + 1 - vec_len l.marks
