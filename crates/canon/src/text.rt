@@ -94,6 +94,7 @@ fn is_sparse(file: &BidFile) -> bool {
     } else {
         words
     };
+    // No file has so many goods that it saturates.
     let mut listed: usize = 0;
     for bid in bids {
         listed = listed.saturating_add(bid.goods.len());

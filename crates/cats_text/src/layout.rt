@@ -41,7 +41,7 @@ const LINE: usize = 64;
 
 const GOOD: usize = 5;
 
-/// As many bytes as the text of these bids has at most.
+/// As many bytes as the text of these bids has at most. No file is so large that it saturates.
 fn room_for(bids: &[Bid]) -> usize {
     let mut room = LINE;
     for bid in bids {

@@ -338,6 +338,7 @@ impl Parser {
         }
         let bid = self.take_bid()?;
         self.slots.put(self.draft.number as usize, bid)?;
+        // One is due: the line began where one was.
         self.due = self.due.saturating_sub(1);
         self.column = Column::First;
         Ok(())

@@ -53,6 +53,7 @@ impl Decimal {
         ensures { result ≡ decimal_with self digit }
     {
         if self.decimals < 6 {
+            // Never saturates: the digits so far are less than one unit, which the type does not say.
             let more = u64::from(digit) * place_value(self.decimals);
             Decimal {
                 millionths: self.millionths.saturating_add(more),
@@ -79,6 +80,7 @@ pub fn price_of(whole: u64, millionths: u64, fine: bool) -> Result<u64, Stop>
     if fine {
         return Err(Stop::Fault(Kind::TooFine));
     }
+    // Never saturates: the millionths that are read are less than one unit, which their type does not say.
     Ok((whole * MILLION).saturating_add(millionths))
 }
 
