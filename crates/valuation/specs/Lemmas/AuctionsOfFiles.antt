@@ -1,15 +1,15 @@
 -- The auction of a file is an auction, and it is made bid by bid: each bid adds one atom, to the OR bidder or to the bidder of its
 -- dummy good.
-use Rattle.std.proofs.Common.{◌≡◌, ℕ, zero, suc, ◌+◌, ◌<◌, ◌≤◌, Bool, true, false, eqb, ltb, ⊎_elim, List, [], ◌∷◌, ◌++◌, length, map, get_or, set, take}
+use Rattle.std.proofs.Common.{◌≡◌, ℕ, zero, suc, ◌+◌, ◌<◌, ◌≤◌, Bool, true, false, ⊎_elim, List, [], ◌∷◌, ◌++◌, length, map, get_or, set, take}
 use Rattle.std.proofs.Common.{Option, Some, None, is_none, refl, sym, ap, ap₂, ◌∙◌, subst, arith}
 use Rattle.std.specs.Prelude.{All, filter, sum_by}
 use Rattle.std.specs.List.{range_with_len, AllByRecursion}
-use Rattle.std.proofs.lemmas.Bool.{cases_eq, ne_eqb, eq-eqb, le-ltb}
+use Rattle.std.proofs.lemmas.Bool.{cases_eq, ne_eqb, eq-eqb}
 use Rattle.std.proofs.lemmas.List.{take_more, map-append, length-set, get_or-set_same, get_or-set_other, length-map, append-nil, get_or-map}
 use Rattle.std.proofs.lemmas.List.Elements.{All-map, All-filter, All-from_recursion, All-weaker, filter-append}
 use Rattle.std.proofs.lemmas.List.Sums.{sum_by-cons}
 use Rattle.std.proofs.lemmas.List.FromFn.{fill_by_all, length-map-range_with_len, get_or-map-range_with_len}
-use Rattle.goods_set.specs.Bundles.{IsRising, AreAbove, AreBelow, with_good}
+use Rattle.goods_set.specs.Bundles.{IsRising, AreAbove, AreBelow}
 use Rattle.cats_text.specs.Files as files
 use Rattle.cats_text.specs.declared.bid.Bid.{Bid}
 use Rattle.cats_text.specs.Files.{plain_bid, plain_bids, PlainBid, PlainFile, IsBid, IsBidFile, IsPlainFile}

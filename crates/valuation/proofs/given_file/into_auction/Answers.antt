@@ -4,7 +4,7 @@ use Rattle.std.proofs.Common.{arith, ◌≡◌, ◌<◌, [], length, refl, sym, 
 use Rattle.std.proofs.lemmas.List.{nil_from_length}
 use Rattle.std.specs.Vec.Iter.{into_iter_items}
 use Rattle.goods_set.specs.Lemmas.Members.{AreBelow-higher}
-use Rattle.cats_text.specs.Files.{IsBid, plain_bid, plain_bids}
+use Rattle.cats_text.specs.Files.{plain_bids}
 use Rattle.cats_text.specs.Views.{plain_file}
 use Rattle.valuation.specs.Values.{atoms_of}
 use Rattle.valuation.specs.Lemmas.AuctionsOfFiles.{rising-from, below-from, IsAuction-auction_from}
