@@ -1,10 +1,7 @@
 -- The text so far, with that of the bidders still to come, is the text of the file (proofs/TextLines); the bids that are counted are
 -- those of the file, whose limit keeps the numbers small.
-use Rattle.std.proofs.Common.{arith, refl, ap, ◌∙◌, List, ℕ, ◌++◌, map, Some, None}
-use Rattle.cats_text.specs.Layout.{bids_text}
-use Rattle.valuation.specs.Values.{atoms_of}
+use Rattle.std.proofs.Common.{arith, refl}
 use Rattle.valuation.specs.Views.{plain_auction}
-use Rattle.canon.specs.Canonical.{bid_from}
 use Rattle.canon.proofs.Files.{IsPlainFile-file_from}
 use Rattle.canon.proofs.Filing.{length-bidders}
 use Rattle.canon.proofs.TextLines.{behind_nothing, text_begun, bidders_text_more, bidders_text_all, count_begun, count_more}

@@ -1,5 +1,5 @@
 -- None of the atoms before covers the bid: one that does is found, and else there is none.
-use Rattle.std.proofs.Common.{get_or, take, sym, ap, ◌∙◌, arith, true, false}
+use Rattle.std.proofs.Common.{get_or, take, sym, ap, ◌∙◌, arith}
 use Rattle.std.proofs.lemmas.Bool.{or_from}
 use Rattle.std.proofs.lemmas.List.{take_all}
 use Rattle.std.proofs.lemmas.List.Folds.{list_any_at, list_any_more}
