@@ -225,11 +225,13 @@ impl Parser {
         Ok(())
     }
 
+    /// A good of the bid whose line has begun.
     #[inline(always)]
-    fn take_good(&mut self, value: u64) -> Result<(), Stop>
+    pub fn take_good(&mut self, value: u64) -> Result<(), Stop>
         ensures reads { Gives (progress self.new) result (good_read (progress self.old) value) }
         ensures memory { (progress self.old).stage ≡ Stage.Bid → AsksOnBidLines (progress self.old) result }
         ensures stage { self.new.stage ≡ self.old.stage }
+        ensures column { self.new.column ≡ self.old.column }
     {
         let goods = u64::from(self.header.goods);
         if value >= goods + u64::from(self.header.dummy) {

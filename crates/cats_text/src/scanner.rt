@@ -33,6 +33,7 @@ ghost use Rattle.cats_text.specs.Internal.Scanning.{
   scan,
   end_of,
   is_before_word,
+  IsGoodDue,
   ScansTo,
   Steps,
   AsksHere,
@@ -264,7 +265,25 @@ impl Scanner {
         }
     }
 
-    /// Real goods in front that have not come, where goods are due; tells how many bytes they and their blanks have.
+    /// Takes a good that is due, which with its blank has so many bytes in front; tells how many.
+    #[inline(always)]
+    fn take_good(&mut self, good: u64, taken: usize) -> Result<usize, Halt>
+        requires waits { self.old.waiting ≡ false }
+        requires due { IsGoodDue (state self.old) }
+        ensures scanned { (bytes : List ℕ) → IsFront bytes (Word.Number good) taken
+            → ScansTo (state self.old) (state self.new) self.new.waiting bytes result }
+        ensures count { IfOk result (λ count. count ≡ taken) }
+        ensures due { IsGoodDue (state self.new) }
+        ensures line { self.new.line ≡ self.old.line }
+        ensures waiting { self.new.waiting ≡ self.old.waiting }
+    {
+        if let Err(stop) = self.parser.take_good(good) {
+            return Err(Halt::at(self.line, stop));
+        }
+        Ok(taken)
+    }
+
+    /// Goods in front, where goods are due; tells how many bytes they and their blanks have.
     #[inline(always)]
     fn read_goods(&mut self, bytes: &[u8]) -> Result<usize, Halt>
         requires waits { self.old.waiting ≡ false }
@@ -277,17 +296,9 @@ impl Scanner {
         if self.mode != Mode::Between || !self.parser.takes_goods() {
             return Ok(0);
         }
-        let goods = u64::from(self.parser.header.goods);
         let mut place = 0;
         while let Some((good, taken)) = number(&bytes[place..]) {
-            if good >= goods {
-                break;
-            }
-            match self.parser.goods.put(good as u16) {
-                Ok(true) => place += taken,
-                Ok(false) => break,
-                Err(_) => return Err(Halt::Memory),
-            }
+            place += self.take_good(good, taken)?;
         }
         Ok(place)
     }
@@ -310,7 +321,7 @@ impl Scanner {
     }
 
     /// The words of a bid line in front, in the order that is usual, as far as they stand there whole: number, price,
-    /// real goods, dummy good, `#`. Tells how many bytes they and their blanks have.
+    /// goods, `#`. Tells how many bytes they and their blanks have.
     #[inline(always)]
     fn read_bid_words(&mut self, bytes: &[u8]) -> Result<usize, Halt>
         requires waits { self.old.waiting ≡ false }
@@ -323,7 +334,6 @@ impl Scanner {
         let mut place = self.read_number(bytes)?;
         place += self.read_word(&bytes[place..])?;
         place += self.read_goods(&bytes[place..])?;
-        place += self.read_number(&bytes[place..])?;
         place += self.read_bid_end(&bytes[place..])?;
         Ok(place)
     }

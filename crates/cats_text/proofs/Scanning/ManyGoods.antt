@@ -1,51 +1,38 @@
--- Goods in front of bytes, each read with its blank.
-use Rattle.std.proofs.Common.{◌≡◌, ℕ, ◌+◌, ◌<◌, ◌≤◌, Bool, true, false, List, [], ◌∷◌, ◌++◌, length, drop, refl, sym, ap, ap₂, ◌∙◌, subst, arith, inl, Ok}
-use Rattle.std.proofs.lemmas.Bool.{lt-leb, lt-ltb}
-use Rattle.cats_text.specs.Internal.Returns.{settled}
-use Rattle.cats_text.specs.Grammar.{has_number}
+-- A good that is due is read as any word in its column is.
+use Rattle.std.proofs.Common.{◌≡◌, ℕ, Bool, true, List, sym, ap, ap₂, ◌∙◌, subst, false, Ok, Err}
 use Rattle.cats_text.specs.Internal.Front.{IsFront}
-use Rattle.cats_text.specs.Internal.Progress.{Progress}
+use Rattle.cats_text.specs.Internal.Progress.{Progress, Gives, AsksOnBidLines}
 use Rattle.cats_text.specs.Internal.Parsing.{good_read, word_read}
-use Rattle.cats_text.specs.Internal.Scanning.{State, IsInBidLine, MeetsBidLine, IsScanned, is_before_word, IsInLine}
+use Rattle.cats_text.specs.Internal.Scanning.{State, IsGoodDue, ScansTo, is_before_word, halt_of}
 use Rattle.cats_text.specs.declared.parser.Stage.{Stage}
 use Rattle.cats_text.specs.declared.parser.Column.{Column}
+use Rattle.cats_text.specs.declared.parser.Stop.{Stop}
 use Rattle.cats_text.specs.declared.parser.Stage.TheVariants.{Bid}
 use Rattle.cats_text.specs.declared.parser.Column.TheVariants.{Later}
+use Rattle.cats_text.specs.declared.scanner.Halt.{Halt}
 use Rattle.cats_text.specs.declared.scanner.Mode.{Mode}
-use Rattle.cats_text.specs.declared.scanner.Mode.TheVariants.{Between}
 use Rattle.cats_text.specs.declared.word.Word.TheVariants.{Number}
-use Rattle.cats_text.proofs.Scanning.WholeWords.{behind_word, word_more}
-
--- one more good of the bid
-abbrev pub with_good : Progress → ℕ → Progress
-with_good p n = record p { goods = p.goods ++ n ∷ [] }
-
-real_good_read : (p : Progress) (n : ℕ) → n < p.header.goods → has_number p.goods n ≡ false → good_read p n ≡ Ok (with_good p n)
-real_good_read p n l new = rw (lt-leb (p.header.goods + p.header.dummy) n (omega arith), lt-ltb n p.header.goods l, new) refl
+use Rattle.cats_text.proofs.Scanning.WholeWords.{behind_word, word_taken, word_halts}
 
 good_word : (p : Progress) (n : ℕ) → p.stage ≡ Bid → p.column ≡ Later → word_read p (Number n) ≡ good_read p n
 good_word p n stage column =
     let is : p ≡ record p { stage = Bid; column = Later } = ap₂ (λ (s : Stage) (l : Column). record p { stage = s; column = l }) stage column in
     ap (λ (q : Progress). word_read q (Number n)) is ∙ sym (ap (λ (q : Progress). good_read q n) is)
 
-pub good_more : (s0 s t : State) (w v : Bool) (bytes : List ℕ) (place n taken : ℕ) → IsScanned s0 s w bytes (drop place bytes) → s.mode ≡ Between
-    → s.progress.stage ≡ Bid → s.progress.column ≡ Later
-    → n < s.progress.header.goods → has_number s.progress.goods n ≡ false → IsFront (drop place bytes) (Number n) taken
-    → t ≡ record s { progress = with_good s.progress n } → v ≡ false
-    → IsScanned s0 t v bytes (drop (place + taken) bytes) × (place + taken ≤ length bytes) × (0 < taken)
-good_more s0 s t w v bytes place n taken so_far mode stage at l new front is e =
-    let p : Progress = with_good s.progress n in
-    let read : word_read s.progress (Number n) ≡ Ok (with_good s.progress n) = good_word s.progress n stage at ∙ real_good_read s.progress n l new in
-    let before : is_before_word s.mode ≡ true = ap is_before_word mode in
-    let come = word_more s0 s (with_good s.progress n) w v bytes place (Number n) taken so_far before front read refl e in
-    let same : behind_word s (with_good s.progress n) ≡ t = ap (λ (m : Mode). record s { mode = m; progress = with_good s.progress n }) (sym mode) ∙ sym is in
-    (subst (λ (u : State). IsScanned s0 u v bytes (drop (place + taken) bytes)) same come.0, come.1, come.2)
+-- it stays behind a word
+pub good_taken : (s : State) (p : Progress) (v : Bool) (bytes : List ℕ) (good taken : ℕ) → IsGoodDue s → IsFront bytes (Number good) taken
+    → good_read s.progress good ≡ Ok p → p.stage ≡ s.progress.stage → v ≡ false → ScansTo s (record s { progress = p }) v bytes (Ok taken)
+good_taken s p v bytes good taken due front read stage e =
+    let before : is_before_word s.mode ≡ true = ap is_before_word due.mode in
+    let same : behind_word s p ≡ record s { progress = p } = ap (λ (m : Mode). record s { mode = m; progress = p }) (sym due.mode) in
+    subst (λ (t : State). ScansTo s t v bytes (Ok taken)) same
+    (word_taken s p v bytes (Number good) taken before front (good_word s.progress good due.stage due.column ∙ read) stage e)
 
-meets_here : (s : State) (bytes : List ℕ) → IsInBidLine s → MeetsBidLine s bytes
-meets_here s [] h = h
-meets_here s (b ∷ bs) h = inl h
-
--- memory was refused for a good
-pub good_asks : (s0 s : State) (w : Bool) (bytes : List ℕ) (place : ℕ) → IsScanned s0 s w bytes (drop place bytes) → s.mode ≡ Between → s.progress.stage ≡ Bid
-    → MeetsBidLine s0 (settled bytes)
-good_asks s0 s w bytes place so_far mode stage = so_far.asks (meets_here s (settled (drop place bytes)) (stage, subst IsInLine (sym mode) tt))
+-- or stops the parser
+pub good_halts : (s t : State) (u : Progress) (v : Bool) (bytes : List ℕ) (good taken : ℕ) (stop : Stop) (halt : Halt) → IsGoodDue s
+    → IsFront bytes (Number good) taken → Gives {A = Unit {0}} u (Err stop) (good_read s.progress good)
+    → AsksOnBidLines {A = Unit {0}} s.progress (Err stop) → halt ≡ halt_of s.line stop → ScansTo s t v bytes (Err halt)
+good_halts s t u v bytes good taken stop halt due front read asks e =
+    let before : is_before_word s.mode ≡ true = ap is_before_word due.mode in
+    word_halts s t u v bytes (Number good) taken stop halt before front
+    (subst (Gives {A = Unit {0}} u (Err stop)) (sym (good_word s.progress good due.stage due.column)) read) asks e

@@ -16,6 +16,7 @@ use Rattle.cats_text.specs.declared.parser.Keeping.{Keeping}
 use Rattle.cats_text.specs.declared.parser.Stop.{Stop}
 use Rattle.cats_text.specs.declared.parser.Stop.TheVariants as stops
 use Rattle.cats_text.specs.declared.parser.Stage.TheVariants.{Bid}
+use Rattle.cats_text.specs.declared.parser.Column.TheVariants.{Later}
 use Rattle.cats_text.specs.declared.scanner.Halt.{Halt}
 use Rattle.cats_text.specs.declared.scanner.Halt.TheVariants.{Fault, Memory}
 use Rattle.cats_text.specs.declared.scanner.Mode.{Mode}
@@ -53,6 +54,12 @@ is_before_word Blank = true
 is_before_word Comment = false
 is_before_word Between = true
 is_before_word (Inside w) = false
+
+-- a good of a bid line is due, or its `#`
+pub record IsGoodDue (s : State) : Type 0 where
+  pub mode : s.mode ≡ Between
+  pub stage : s.progress.stage ≡ Bid
+  pub column : s.progress.column ≡ Later
 
 abbrev pub letter_mode : Mode → ℕ → Mode
 letter_mode Start b = if b == 37 then Comment else Inside (word_from b)

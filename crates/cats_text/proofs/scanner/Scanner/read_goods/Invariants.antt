@@ -1,17 +1,11 @@
 use Rattle.std.proofs.Common.{◌≡◌, ◌≤◌, ◌-◌, false, drop, length}
-use Rattle.cats_text.specs.Internal.Scanning.{state, IsScanned}
-use Rattle.cats_text.specs.declared.parser.Stage.TheVariants.{Bid}
-use Rattle.cats_text.specs.declared.parser.Column.TheVariants.{Later}
-use Rattle.cats_text.specs.declared.scanner.Mode.TheVariants.{Between}
+use Rattle.cats_text.specs.Internal.Scanning.{state, IsGoodDue, IsScanned}
 use Rattle.cats_text.proofs.scanner.Scanner.read_goods.Given as goal
 
 abbrev pub invariant-loop-good : goal.invariant-loop-good
 invariant-loop-good l = record {
   scanned : IsScanned (state l.fn.self) (state l.self) l.self.waiting l.bytes (drop l.place l.bytes);
-  mode : l.self.mode ≡ Between;
-  stage : l.self.parser.stage ≡ Bid;
-  at : l.self.parser.column ≡ Later;
-  limit : l.goods ≡ l.self.parser.header.goods;
+  due : IsGoodDue (state l.self);
   within : l.place ≤ length l.bytes;
   line : l.self.line ≡ l.fn.self.line;
   waits : l.self.waiting ≡ false;
