@@ -34,8 +34,7 @@ pub fn with_digits(value: u64, bytes: &[u8]) -> (u64, usize)
 const FEW_DIGITS: usize = 13;
 
 /// The number that the digits in front spell, and how many they are. Few of them are read eight bytes at a time.
-#[inline(always)]
-fn digits(bytes: &[u8]) -> (u64, usize)
+fn many_digits(bytes: &[u8]) -> (u64, usize)
     ensures bound { result.1 ≤ length bytes.now }
     ensures digits { digits_alone (take result.1 bytes.now) ≡ true }
     ensures value { Word.Number result.0 ≡ fold word_with (Word.Number 0) (take result.1 bytes.now) }
@@ -45,6 +44,23 @@ fn digits(bytes: &[u8]) -> (u64, usize)
         return with_digits(0, bytes);
     }
     (value, count)
+}
+
+/// The number that the digits in front spell, and how many they are: mostly the eight bytes in front have a byte that
+/// is none.
+#[inline(always)]
+fn digits(bytes: &[u8]) -> (u64, usize)
+    ensures bound { result.1 ≤ length bytes.now }
+    ensures digits { digits_alone (take result.1 bytes.now) ≡ true }
+    ensures value { Word.Number result.0 ≡ fold word_with (Word.Number 0) (take result.1 bytes.now) }
+{
+    if bytes.len() >= 8 {
+        let (count, value) = read_digits(&bytes[..8], 0, 0);
+        if count < 8 {
+            return (value, count);
+        }
+    }
+    many_digits(bytes)
 }
 
 /// A decimal with the digits that stand in front, and how many they are.
