@@ -6,6 +6,7 @@ ghost use Rattle.cats_text.specs.Internal.Front.{IsFront, IsKept};
 ghost use Rattle.cats_text.specs.Internal.Machine.{word_with};
 ghost use Rattle.cats_text.specs.Numbers.{digits_alone};
 
+use crate::eight::few_digits;
 use crate::price::Decimal;
 use crate::word::{HELD, Word};
 use core::dec2flt::read_digits;
@@ -46,8 +47,7 @@ fn many_digits(bytes: &[u8]) -> (u64, usize)
     (value, count)
 }
 
-/// The number that the digits in front spell, and how many they are: mostly the eight bytes in front have a byte that
-/// is none.
+/// The same, where mostly one of the eight bytes in front is no digit.
 #[inline(always)]
 fn digits(bytes: &[u8]) -> (u64, usize)
     ensures bound { result.1 ≤ length bytes.now }
@@ -55,9 +55,8 @@ fn digits(bytes: &[u8]) -> (u64, usize)
     ensures value { Word.Number result.0 ≡ fold word_with (Word.Number 0) (take result.1 bytes.now) }
 {
     if bytes.len() >= 8 {
-        let (count, value) = read_digits(&bytes[..8], 0, 0);
-        if count < 8 {
-            return (value, count);
+        if let Some(few) = few_digits(bytes) {
+            return few;
         }
     }
     many_digits(bytes)

@@ -2,6 +2,7 @@
 #![tactic(auto)]
 
 mod bid;
+mod eight;
 mod fault;
 mod feeder;
 mod front;

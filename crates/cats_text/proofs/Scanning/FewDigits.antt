@@ -3,11 +3,11 @@ use Rattle.std.proofs.Common.{◌≡◌, ℕ, suc, ◌+◌, ◌-◌, ◌*◌, �
 use Rattle.std.proofs.Common.{refl, sym, ap, ◌∙◌, subst, arith, lt_of_lt_of_le}
 use Rattle.std.proofs.Math.Nat.{pow-suc, pow-le-pow_right, mod-eq_of_lt}
 use Rattle.std.proofs.lemmas.Bool.{and_parts, and_from, lt-ltb}
-use Rattle.std.proofs.lemmas.List.{length-take}
+use Rattle.std.proofs.lemmas.List.{length-take, take-take}
 use Rattle.std.specs.Char.{digit_value}
 use Rattle.std.specs.Float.Numeral.{digits_len}
 use Rattle.std.specs.Str.Parse.{digits_value, digits_value_after}
-use Rattle.core.proofs.dec2flt.DigitsLemmas.{is_digit as digit_worth}
+use Rattle.core.proofs.dec2flt.DigitsLemmas.{is_digit as digit_worth, digits_len_short}
 use Rattle.cats_text.specs.Numbers.{is_digit, digits_alone}
 use Rattle.cats_text.specs.Internal.Machine.{word_with}
 use Rattle.cats_text.specs.declared.word.Word.TheVariants.{Number}
@@ -46,17 +46,32 @@ few_spell (b ∷ ds) v k small few h =
     let rest = few_spell ds (v * 10 + digit_value b) (suc k) more (omega arith) p.1 in
     (rest.0 ∙ ap (λ w. fold word_with w ds) (sym step), rest.1)
 
--- all digits in front, of which there are few, and what they are worth
+-- few digits in front and what they are worth
+few_spelt : (bytes : List ℕ) (count value : ℕ) → digits_len bytes ≡ count → count ≤ 13 → value ≡ digits_value 10 (take count bytes)
+    → IsNumberSoFar 0 bytes count value
+few_spelt bytes count value front few worth =
+    let digits : digits_alone (take count bytes) ≡ true = subst (λ k. digits_alone (take k bytes) ≡ true) front (digits_in_front bytes) in
+    let long : length (take count bytes) ≡ min count (length bytes) = length-take count bytes in
+    record { digits = digits; value = ap (λ n. Number n) worth ∙ (few_spell (take count bytes) 0 0 (omega arith) (omega arith) digits).0 }
+
+-- where a byte of the first eight is no digit
+pub eight_read : (bytes : List ℕ) (count value : ℕ) → count < 8 → count ≡ digits_len (take 8 bytes)
+    → value ≡ digits_value 10 (take count (take 8 bytes)) → IsNumberSoFar 0 bytes count value
+eight_read bytes count value few is worth =
+    let short : digits_len (take 8 bytes) < 8 = omega (arith, is) in
+    few_spelt bytes count value (digits_len_short bytes 8 short ∙ sym is) (omega arith)
+    (worth ∙ ap (λ ds. digits_value 10 ds) (take-take count 8 bytes (omega arith)))
+
+-- or where the digits were read as one number of 64 bits
 pub few_read : (bytes : List ℕ) (count value : ℕ) → count ≡ 0 + digits_len (drop 0 bytes) → count ≤ 13
     → value ≡ (0 * 10 ^ (count - 0) + digits_value 10 (slice_range bytes 0 count)) % 2 ^ 64 → IsNumberSoFar 0 bytes count value
 few_read bytes count value all few is =
     let front : digits_len bytes ≡ count = omega arith in
     let digits : digits_alone (take count bytes) ≡ true = subst (λ k. digits_alone (take k bytes) ≡ true) front (digits_in_front bytes) in
     let long : length (take count bytes) ≡ min count (length bytes) = length-take count bytes in
-    let spelt = few_spell (take count bytes) 0 0 (omega arith) (omega arith) digits in
     let same : count - 0 ≡ count = omega arith in
     let worth : digits_value 10 (slice_range bytes 0 count) ≡ digits_value 10 (take count bytes) = ap (λ k. digits_value 10 (take k bytes)) same in
-    let small : digits_value 10 (take count bytes) < 10 ^ 13 = spelt.1 in
+    let small : digits_value 10 (take count bytes) < 10 ^ 13 = (few_spell (take count bytes) 0 0 (omega arith) (omega arith) digits).1 in
     let sum : 0 * 10 ^ (count - 0) + digits_value 10 (slice_range bytes 0 count) ≡ digits_value 10 (take count bytes) = omega arith in
     let fits : digits_value 10 (take count bytes) < 2 ^ 64 = omega arith in
-    record { digits = digits; value = ap (λ n. Number n) (is ∙ ap (λ n. n % 2 ^ 64) sum ∙ mod-eq_of_lt fits) ∙ spelt.0 }
+    few_spelt bytes count value front few (is ∙ ap (λ n. n % 2 ^ 64) sum ∙ mod-eq_of_lt fits)
