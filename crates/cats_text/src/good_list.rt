@@ -12,34 +12,41 @@ ghost use Rattle.std.specs.Prelude.{
   not,
   if◌then◌else◌,
   OnOk,
+  OnErr,
   IfOk,
+  false,
   slice_index,
   vec_len,
 };
 ghost use Rattle.cats_text.specs.Files.{IsRising};
 ghost use Rattle.cats_text.specs.Grammar.{has_number};
+ghost use Rattle.cats_text.specs.Internal.Marks.{IsMarked};
+ghost use Rattle.std.specs.Bool.{OnTrue};
 
 use std::alloc::{AllocError, Global};
 use std::marker::Model;
 
-/// Goods in the order in which they came, none twice. A good that came is found at once, whatever their number: its
-/// mark is that of the bid, and so the marks of an earlier bid need not be taken away.
+/// Goods in the order in which they came, none twice. Where they rise, as they mostly do, the next one need only be above
+/// the last. Else a good that came is found by its mark, which is that of the bid, and so the marks of an earlier bid
+/// need not be taken away.
 #[derive(Drop)]
 pub struct GoodList {
     goods: Vec<u16>,
     marks: Vec<u32>,
     bid_mark: u32,
+    /// Whether the goods rise so far, and are not marked.
+    rises: bool,
 }
 
 impl Model for GoodList {
     ghost use Rattle.std.specs.Prelude.{ℕ, List};
-    ghost use Rattle.cats_text.specs.Internal.Marks.{IsMarked};
+    ghost use Rattle.cats_text.specs.Internal.Marks.{IsListed};
 
     ghost Value = { List ℕ };
 
     ghost view = { λ s. s.goods.items };
 
-    ghost invariant = { λ s. IsMarked s.goods.items s.marks.items s.bid_mark };
+    ghost invariant = { λ s. IsListed s.goods.items s.marks.items s.bid_mark s.rises };
 }
 
 /// Lengthens the marks so that there is one at this place.
@@ -53,6 +60,59 @@ fn cover(marks: &mut Vec<u32>, place: usize) -> Result<(), AllocError>
     Ok(())
 }
 
+/// Marks rising goods, where none is marked.
+fn mark_all(marks: &mut Vec<u32>, goods: &[u16], bid_mark: u32) -> Result<(), AllocError>
+    requires rising { IsRising goods.now }
+    requires fresh { IsMarked [] marks.old.items bid_mark }
+    ensures marked { OnOk result (IsMarked goods.now marks.new.items bid_mark) }
+    ensures fresh { OnErr result (IsMarked [] marks.new.items bid_mark) }
+{
+    let [.., last] = goods else {
+        return Ok(());
+    };
+    cover(marks, usize::from(*last))?;
+    for good in goods {
+        marks[usize::from(*good)] = bid_mark;
+    }
+    Ok(())
+}
+
+/// Puts a good behind the others and marks it unless it has a mark, and tells whether it was new.
+fn put_marked(
+    goods: &mut Vec<u16>,
+    marks: &mut Vec<u32>,
+    bid_mark: u32,
+    good: u16,
+) -> Result<bool, AllocError>
+    requires { IsMarked goods.old.items marks.old.items bid_mark }
+    ensures new { IfOk result (λ is_new. is_new ≡ not (has_number goods.old.items good)) }
+    ensures goods { IfOk result (λ is_new. goods.new.items
+        ≡ (if is_new then goods.old.items ++ good ∷ [] else goods.old.items)) }
+    ensures same { OnErr result (goods.new.items ≡ goods.old.items) }
+    ensures marked { IsMarked goods.new.items marks.new.items bid_mark }
+{
+    let place = usize::from(good);
+    cover(marks, place)?;
+    if marks[place] == bid_mark {
+        return Ok(false);
+    }
+    goods.push(good)?;
+    marks[place] = bid_mark;
+    Ok(true)
+}
+
+/// Whether the good is above the last one.
+fn goes_on_rising(goods: &[u16], good: u16) -> bool
+    requires { IsRising goods.now }
+    ensures rising { OnTrue result (IsRising (goods.now ++ good ∷ [])) }
+    ensures new { OnTrue result (has_number goods.now good ≡ false) }
+{
+    match goods {
+        [] => true,
+        [.., last] => *last < good,
+    }
+}
+
 impl GoodList {
     /// No goods.
     pub fn new(alloc: Global) -> GoodList
@@ -62,6 +122,7 @@ impl GoodList {
             goods: Vec::new(alloc),
             marks: Vec::new(alloc),
             bid_mark: 1,
+            rises: true,
         }
     }
 
@@ -78,14 +139,23 @@ impl GoodList {
         ensures new { IfOk result (λ is_new. is_new ≡ not (has_number self.old good)) }
         ensures goods { IfOk result (λ is_new. self.new ≡ (if is_new then self.old ++ good ∷ [] else self.old)) }
     {
-        let place = usize::from(good);
-        cover(&mut self.marks, place)?;
-        if self.marks[place] == self.bid_mark {
-            return Ok(false);
+        if self.rises && goes_on_rising(self.goods.as_slice(), good) {
+            self.goods.push(good)?;
+            return Ok(true);
         }
-        self.goods.push(good)?;
-        self.marks[place] = self.bid_mark;
-        Ok(true)
+        self.put_by_mark(good)
+    }
+
+    /// The same of any good.
+    fn put_by_mark(&mut self, good: u16) -> Result<bool, AllocError>
+        ensures new { IfOk result (λ is_new. is_new ≡ not (has_number self.old good)) }
+        ensures goods { IfOk result (λ is_new. self.new ≡ (if is_new then self.old ++ good ∷ [] else self.old)) }
+    {
+        if self.rises {
+            mark_all(&mut self.marks, self.goods.as_slice(), self.bid_mark)?;
+            self.rises = false;
+        }
+        put_marked(&mut self.goods, &mut self.marks, self.bid_mark, good)
     }
 
     /// The goods in rising order; there are none afterwards.
@@ -95,7 +165,7 @@ impl GoodList {
         ensures empty { OnOk result (self.new ≡ []) }
     {
         let mut goods = Vec::from_slice(alloc, self.goods.as_slice())?;
-        if !goods.as_slice().is_sorted() {
+        if !self.rises {
             goods.sort_unstable();
         }
         self.clear();
@@ -107,6 +177,10 @@ impl GoodList {
         ensures { self.new ≡ [] }
     {
         self.goods.clear();
+        if self.rises {
+            return;
+        }
+        self.rises = true;
         if self.bid_mark == u32::MAX {
             self.marks.clear();
             self.bid_mark = 1;

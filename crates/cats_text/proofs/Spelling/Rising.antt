@@ -1,7 +1,7 @@
 -- Rising lists of numbers. Two that have the same numbers are equal, so a list put in order is the one rising list of its numbers.
-use Rattle.std.proofs.Common.{◌≡◌, ◌≢◌, ℕ, ◌<◌, ◌≤◌, Bool, true, false, cond, ◌||◌, eqb, ltb, ◌⊎◌, inl, inr, ⊎_elim, List, [], ◌∷◌, refl, sym, ap, ap₂, ◌∙◌}
+use Rattle.std.proofs.Common.{◌≡◌, ◌≢◌, ℕ, ◌<◌, ◌≤◌, Bool, true, false, cond, ◌||◌, eqb, ltb, ◌⊎◌, inl, inr, ⊎_elim, List, [], ◌∷◌, ◌++◌, ◌-◌, zero, suc, length, take, get_or, refl, sym, ap, ap₂, ◌∙◌}
 use Rattle.std.proofs.Common.{subst, arith}
-use Rattle.std.proofs.lemmas.Bool.{or_cases, or_left, or_right, both_ways, eqb-true, eqb-false, eq-eqb, ltb-true, ltb-false, false_from_ne_true}
+use Rattle.std.proofs.lemmas.Bool.{or_cases, or_left, or_right, both_ways, eqb-true, eqb-false, eq-eqb, ne_eqb, ltb-true, ltb-false, false_from_ne_true}
 use Rattle.cats_text.specs.Files.{IsRising, AreAbove}
 use Rattle.cats_text.specs.Grammar.{has_number}
 use Rattle.cats_text.specs.FileLines.{rising_with, rising_of}
@@ -51,6 +51,50 @@ same_rising (x ∷ xs) (y ∷ ys) r s h =
     let s' : IsRising (x ∷ ys) = subst (λ n. IsRising (n ∷ ys)) (sym e) s in
     let h' : (g : ℕ) → has_number (x ∷ xs) g ≡ has_number (x ∷ ys) g = λ g. h g ∙ ap (λ n. has_number (n ∷ ys) g) (sym e) in
     ap₂ (λ n ns. n ∷ ns) e (same_rising xs ys r.1 s'.1 (same_tail x xs ys r.0 s'.0 h'))
+
+-- ---- one more number behind
+
+above_push : (x : ℕ) (xs : List ℕ) (g : ℕ) → AreAbove x xs → x < g → AreAbove x (xs ++ g ∷ [])
+above_push x [] g a l = (l, tt)
+above_push x (y ∷ ys) g a l = (a.0, above_push x ys g a.1 l)
+
+pub IsRising-push : (xs : List ℕ) (g : ℕ) → IsRising xs → ((k : ℕ) → has_number xs k ≡ true → k < g) → IsRising (xs ++ g ∷ [])
+IsRising-push [] g r h = (tt, tt)
+IsRising-push (x ∷ xs) g r h = (above_push x xs g r.0 (h x (has_head x xs)), IsRising-push xs g r.1 (λ k m. h k (has_tail x xs k m)))
+
+pub has_at : (xs : List ℕ) (i d : ℕ) → i < length xs → has_number xs (get_or xs i d) ≡ true
+has_at [] i d l = absurd (let none : i < 0 = l in omega arith)
+has_at (x ∷ xs) zero d l = has_head x xs
+has_at (x ∷ xs) (suc i) d l = has_tail x xs (get_or xs i d) (has_at xs i d (omega arith))
+
+-- none stands before itself
+pub rising_new : (xs : List ℕ) (i d : ℕ) → IsRising xs → i < length xs → has_number (take i xs) (get_or xs i d) ≡ false
+rising_new [] i d r l = absurd (let none : i < 0 = l in omega arith)
+rising_new (x ∷ xs) zero d r l = refl
+rising_new (x ∷ xs) (suc i) d r l =
+    let above : x < get_or xs i d = above_has x xs (get_or xs i d) r.0 (has_at xs i d (omega arith)) in
+    let other : x ≢ get_or xs i d = omega arith in
+    ap (λ b. b || has_number (take i xs) (get_or xs i d)) (ne_eqb x (get_or xs i d) other) ∙ rising_new xs i d r.1 (omega arith)
+
+-- the last number of a rising list is the greatest
+pub last_is_most : (xs : List ℕ) (d k : ℕ) → IsRising xs → has_number xs k ≡ true → k ≤ get_or xs (length xs - 1) d
+last_is_most [] d k r h = absurd (both_ways false refl h)
+last_is_most (x ∷ []) d k r h = ⊎_elim (λ (e : x ≡ k). omega arith) (λ (m : has_number [] k ≡ true). absurd (both_ways false refl m)) (has_cases x [] k h)
+last_is_most (x ∷ (y ∷ ys)) d k r h =
+    let place : length (x ∷ (y ∷ ys)) - 1 ≡ suc (length (y ∷ ys) - 1) = omega arith in
+    let same : get_or (x ∷ (y ∷ ys)) (length (x ∷ (y ∷ ys)) - 1) d ≡ get_or (y ∷ ys) (length (y ∷ ys) - 1) d =
+    ap (λ n. get_or (x ∷ (y ∷ ys)) n d) place in
+    rw same (⊎_elim
+    (λ (e : x ≡ k). let above : x < y = r.0.0 in let most : y ≤ get_or (y ∷ ys) (length (y ∷ ys) - 1) d = last_is_most (y ∷ ys) d y r.1 (has_head y ys) in
+    omega arith)
+    (λ (m : has_number (y ∷ ys) k ≡ true). last_is_most (y ∷ ys) d k r.1 m) (has_cases x (y ∷ ys) k h))
+
+-- so what is above it is new, and goes behind
+pub above_last : (xs : List ℕ) (d g : ℕ) → IsRising xs → get_or xs (length xs - 1) d < g → IsRising (xs ++ g ∷ []) × (has_number xs g ≡ false)
+above_last xs d g r above = (
+  IsRising-push xs g r (λ k h. let most : k ≤ get_or xs (length xs - 1) d = last_is_most xs d k r h in omega arith),
+  false_from_ne_true (has_number xs g) (λ h. let most : g ≤ get_or xs (length xs - 1) d = last_is_most xs d g r h in absurd (omega arith)),
+)
 
 -- ---- a list put in order
 

@@ -1,5 +1,6 @@
 -- The marks of the goods that have come in a bid.
-use Rattle.std.specs.Prelude.{◌≡◌, ℕ, ◌<◌, ◌≤◌, ◌==◌, List, slice_index}
+use Rattle.std.specs.Prelude.{◌≡◌, ℕ, ◌<◌, ◌≤◌, ◌==◌, Bool, true, if◌then◌else◌, List, [], slice_index}
+use Rattle.cats_text.specs.Files.{IsRising}
 use Rattle.cats_text.specs.Grammar.{has_number, AreDistinct}
 
 -- those marked as this bid's are the goods, none of which stands twice, and no mark is of a later bid
@@ -8,3 +9,8 @@ pub record IsMarked (goods marks : List ℕ) (bid_mark : ℕ) : Type 0 where
   pub marked : (g : ℕ) → (slice_index marks g == bid_mark) ≡ has_number goods g
   pub older : (g : ℕ) → slice_index marks g ≤ bid_mark
   pub distinct : AreDistinct goods
+
+-- goods that rise so far are not marked, others are
+pub record IsListed (goods marks : List ℕ) (bid_mark : ℕ) (rises : Bool) : Type 0 where
+  pub marked : IsMarked (if rises then [] else goods) marks bid_mark
+  pub rising : rises ≡ true → IsRising goods
