@@ -339,7 +339,9 @@ impl Parser {
             return Err(Stop::Fault(Kind::NoEnd));
         }
         let bid = self.take_bid()?;
-        self.slots.put(self.draft.number as usize, bid)?;
+        let number = self.draft.number as usize;
+        self.slots.make_room(number, self.header.bids as usize)?;
+        self.slots.put(number, bid)?;
         // One is due: the line began where one was.
         self.due = self.due.saturating_sub(1);
         self.column = Column::First;

@@ -47,6 +47,17 @@ impl Slots {
         }
     }
 
+    /// Makes room for all bids of a file before its first one, number 0.
+    #[inline(always)]
+    pub fn make_room(&mut self, number: usize, count: usize) -> Result<(), AllocError>
+        ensures { slot_list self.new ≡ slot_list self.old }
+    {
+        if number == 0 {
+            self.front.reserve(count)?;
+        }
+        Ok(())
+    }
+
     /// Whether the bid of this number has come.
     pub fn has(&self, number: usize) -> bool
         ensures { result ≡ is_some_bid (slice_get (plain_slots (slot_list self.now)) number) }

@@ -14,7 +14,8 @@ returns-clause-reads c =
     let forgotten : progress c.take_bid.new.self ≡ record before { goods = [] } = c.in_ok-bid.ensures.goods in
     let ended : c.args.self.now.column ≡ Ended = search rules in
     let slots : plain_slots (slot_list c.put.new.self) ≡ put_slot before.slots before.draft.number (kept_of before.keeping (drafted before)) =
-    c.in_ok-put.ensures ∙ ap (λ (p : Progress). put_slot p.slots p.draft.number (plain_bid c.in_ok-bid.bid)) forgotten
+    c.in_ok-put.ensures ∙ ap (λ ss. put_slot (plain_slots ss) c.take_bid.new.self.draft.number (plain_bid c.in_ok-bid.bid)) c.make_room.ensures
+    ∙ ap (λ (p : Progress). put_slot p.slots p.draft.number (plain_bid c.in_ok-bid.bid)) forgotten
     ∙ ap (put_slot before.slots before.draft.number) c.in_ok-bid.ensures.bid in
     let due : c.saturating_sub-self.result ≡ before.due - 1 = c.saturating_sub-self.ensures ∙ ap (λ (p : Progress). p.due - 1) forgotten in
     let made : Progress → List (Option PlainBid) → ℕ → Progress = λ p ss d. record p { column = First; due = d; slots = ss } in
