@@ -235,8 +235,9 @@ def measure_duplicates(folder):
     """Which of 2,000 files are the same auction, beside normalising each of them."""
     paths = [f"{folder}/{number}" for number in range(2000)]
     made(pairs, paths[:1000], paths[1000:], 250, 64, 5, 20)
-    each = sum(it.seconds for it in measure_alternately([[*NORMALISE, path] for path in paths], 3))
-    nothing = sum(it.seconds for it in measure_alternately([[*NORMALISE, EMPTY]] * len(paths), 3))
+    # (a process that does nothing takes as long as one of these files does, so both are measured at the same time)
+    runs = measure_alternately([[*NORMALISE, it] for path in paths for it in (path, EMPTY)], TIMES)
+    each, nothing = (sum(it.seconds for it in runs[start::2]) for start in (0, 1))
     (took,) = measure_alternately([cats("duplicates", *paths)], TIMES)
     name = "2,000 files: cats duplicates"
     print(f"{name:50} {took.seconds:8.3f} s")
