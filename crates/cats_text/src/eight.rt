@@ -1,5 +1,5 @@
 //! The digits in front of eight bytes, all read at once, as the toolchain's `core::dec2flt` reads them: its `read_digits`
-//! goes on behind the eight, and that loop takes as long again where a number is short.
+//! goes on behind the eight, and that loop is a third of the instructions where a number is short.
 
 ghost use Rattle.core.specs.Prelude.{◌≡◌, ℕ, ◌-◌, ◌*◌, ◌%◌, ◌^◌, ◌<◌, ◌≤◌, List, length, take, nat_le, IfSome};
 ghost use Rattle.core.specs.Dec2flt.Digits.{IsEightBytes, IsEightDigits};
