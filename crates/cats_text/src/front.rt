@@ -8,7 +8,7 @@ ghost use Rattle.cats_text.specs.Numbers.{digits_alone};
 
 use crate::eight::few_digits;
 use crate::price::Decimal;
-use crate::word::{HELD, Word};
+use crate::word::{Word, with_digit};
 use core::dec2flt::read_digits;
 
 /// A number with the digits that stand in front, and how many they are.
@@ -20,11 +20,7 @@ pub fn with_digits(value: u64, bytes: &[u8]) -> (u64, usize)
     let mut value = value;
     for (count, byte) in bytes.iter().enumerate() {
         match *byte {
-            digit @ b'0'..=b'9' => {
-                if value < HELD {
-                    value = value * 10 + u64::from(digit - b'0');
-                }
-            }
+            digit @ b'0'..=b'9' => value = with_digit(value, digit - b'0'),
             _ => return (value, count),
         }
     }

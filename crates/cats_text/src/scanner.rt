@@ -94,20 +94,10 @@ impl Mode {
         ensures { self.new ≡ letter_mode self.old byte }
     {
         match self {
+            Mode::Comment => {}
             Mode::Inside(word) => *word = word.with(byte),
-            _ => *self = self.with(byte),
-        }
-    }
-
-    /// Behind one more byte that is no blank.
-    fn with(self, byte: u8) -> Mode
-        ensures { result ≡ letter_mode self byte }
-    {
-        match self {
-            Mode::Comment => Mode::Comment,
-            Mode::Inside(word) => Mode::Inside(word.with(byte)),
-            Mode::Start | Mode::Blank if byte == b'%' => Mode::Comment,
-            _ => Mode::Inside(Word::new(byte)),
+            Mode::Start | Mode::Blank if byte == b'%' => *self = Mode::Comment,
+            _ => *self = Mode::Inside(Word::new(byte)),
         }
     }
 }

@@ -1,7 +1,8 @@
 //! What the reader keeps of a word: enough for every test that the grammar makes of it, whatever the word's length.
 
-ghost use Rattle.std.specs.Prelude.{◌≡◌};
+ghost use Rattle.std.specs.Prelude.{◌≡◌, ◌≤◌};
 ghost use Rattle.cats_text.specs.Internal.Keywords.{keyword_text};
+ghost use Rattle.cats_text.specs.Internal.Machine.{with_digit};
 
 use crate::price::Decimal;
 
@@ -27,6 +28,18 @@ impl Keyword {
 
 /// From here on a number takes no further digits: it is above every limit.
 pub const HELD: u64 = 10_000_000_000_000;
+
+/// The number with one more digit.
+pub fn with_digit(value: u64, digit: u8) -> u64
+    requires { digit ≤ 9 }
+    ensures { result ≡ with_digit value digit }
+{
+    if value < HELD {
+        value * 10 + u64::from(digit)
+    } else {
+        value
+    }
+}
 
 /// A word so far.
 #[derive(Clone, Copy, PartialEq, Eq)]
@@ -66,8 +79,7 @@ impl Word {
     {
         match self {
             Word::Number(value) => match byte {
-                b'0'..=b'9' if value < HELD => Word::Number(value * 10 + u64::from(byte - b'0')),
-                b'0'..=b'9' => Word::Number(value),
+                b'0'..=b'9' => Word::Number(with_digit(value, byte - b'0')),
                 b'.' => Word::Decimal(Decimal {
                     whole: value,
                     millionths: 0,

@@ -24,9 +24,12 @@ decimal_with d digit =
     }
     else record d { fine = d.fine || not (digit == 0) }
 
+abbrev pub with_digit : ℕ → ℕ → ℕ
+with_digit n digit = if nat_lt n HELD then n * 10 + digit else n
+
 abbrev pub word_with : Word → ℕ → Word
 word_with (Number n) b =
-    if is_digit b then Number (if nat_lt n HELD then n * 10 + (b - 48) else n)
+    if is_digit b then Number (with_digit n (b - 48))
     else if b == 46 then Fraction (record { whole = n; millionths = 0; decimals = 0; fine = false }) else Other
 word_with (Fraction d) b = if is_digit b then Fraction (decimal_with d (b - 48)) else Other
 word_with (Keyword k n) b = if nat_lt n (length (keyword_text k)) && (get_or (keyword_text k) n 0 == b)

@@ -2,4 +2,4 @@ use Rattle.core.proofs.slice.Flagged.{flags_from_ten}
 use Rattle.cats_text.proofs.eight.flags_from_ten.Goals as goal
 
 pub returns : goal.returns
-returns c = flags_from_ten c.args.word
+returns c = flags_from_ten c.args.eight

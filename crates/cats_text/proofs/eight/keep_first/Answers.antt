@@ -2,4 +2,4 @@ use Rattle.core.proofs.dec2flt.Eight.{bytes_up}
 use Rattle.cats_text.proofs.eight.keep_first.Goals as goal
 
 pub returns : goal.returns
-returns c = bytes_up c.args.word c.args.count c.requires
+returns c = bytes_up c.args.eight c.args.count c.requires

@@ -2,4 +2,4 @@ use Rattle.core.proofs.dec2flt.Eight.{eight_is}
 use Rattle.cats_text.proofs.eight.value_of_eight.Goals as goal
 
 pub returns : goal.returns
-returns c ds eight e = eight_is ds c.args.word eight e
+returns c ds eight e = eight_is ds c.args.eight eight e
