@@ -12,6 +12,7 @@ ghost use Rattle.goods_set.specs.Bundles.{
   all_bundles,
 };
 ghost use Rattle.goods_set.specs.Orders.{bundle_cmp};
+ghost use Rattle.goods_set.specs.Residues.{AreResidues};
 ghost use Rattle.std.specs.declared.cmp.Ordering.TheVariants.{Less, Equal, Greater};
 
 /// Bundles are strictly rising lists of goods below the number of goods.
@@ -49,4 +50,11 @@ pub fn order_worked()
     ensures all { all_bundles 3 ≡ [] ∷ (0 ∷ []) ∷ (1 ∷ []) ∷ (2 ∷ [])
         ∷ (0 ∷ 1 ∷ []) ∷ (0 ∷ 2 ∷ []) ∷ (1 ∷ 2 ∷ []) ∷ (0 ∷ 1 ∷ 2 ∷ []) ∷ [] }
     ensures over_none { all_bundles 0 ≡ [] ∷ [] }
+{}
+
+/// Goods that differ by 64 share a residue.
+pub fn residues_worked()
+    ensures shared { AreResidues (1 ∷ 65 ∷ 130 ∷ []) 6 }
+    ensures one_lacks { ¬ AreResidues (1 ∷ 2 ∷ []) 2 }
+    ensures one_too_many { ¬ AreResidues (1 ∷ []) 6 }
 {}
