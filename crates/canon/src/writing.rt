@@ -12,8 +12,8 @@ use goods_set::GoodsSet;
 use std::alloc::{AllocError, Global};
 use valuation::{Atom, Auction};
 
-/// As many bytes as the line of a bid of few goods has, so that the text seldom grows. The product never saturates: there
-/// are at most 65,536 bids.
+/// As many bytes as the line of a bid of few goods has, so that the text seldom grows. The product never saturates:
+/// there are at most 65,536 bids.
 const LINE: usize = 40;
 
 /// The text of the file of an auction, canonical or not. The goods of one bid at a time are listed, in one buffer.

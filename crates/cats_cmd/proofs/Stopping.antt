@@ -132,16 +132,20 @@ silent_stop old new fault (Err stop) is silent = subst (λ (s : Stop). IsSilent 
 
 module _ {F W : Type 0} (remaining : F → Option (List ℕ)) (contents : W → Option (List ℕ)) where
   -- the run of a file that was opened
-  pub ran_on_some : (outcome : PlainFile → Outcome) (before after : Watched F) (old new : Watched W) (answer : Result ℕ RunFault) → RunsOnFile remaining contents outcome before after old new answer
+  pub ran_on_some : (outcome : PlainFile → Outcome) (before after : Watched F) (old new : Watched W) (answer : Result ℕ RunFault)
+      → RunsOnFile remaining contents outcome before after old new answer
       → RunsOnSome remaining contents outcome old new answer
   ran_on_some outcome before after old new answer ran = record { before = before; after = after; runs = ran }
 
   pub compared_some : (limit : ℕ) (first first_after second second_after : Watched F) (old new : Watched W) (answer : Result ℕ RunFault)
-      → RunsOnFiles remaining remaining contents limit compare_outcome first first_after second second_after old new answer → ComparesSome remaining contents limit old new answer
-  compared_some limit first first_after second second_after old new answer ran = record { first = first; first_after = first_after; second = second; second_after = second_after; runs = ran }
+      → RunsOnFiles remaining remaining contents limit compare_outcome first first_after second second_after old new answer
+      → ComparesSome remaining contents limit old new answer
+  compared_some limit first first_after second second_after old new answer ran =
+      record { first = first; first_after = first_after; second = second; second_after = second_after; runs = ran }
 
   -- the fault of a run is that of its request
-  pub stopped_run : (request : Request) (old new : Watched W) (fault : RunFault) (answer : Result ℕ Stop) → IsErrAnd answer (λ stop. stop ≡ Run fault) → RunsFor remaining contents request old new (Err fault)
+  pub stopped_run : (request : Request) (old new : Watched W) (fault : RunFault) (answer : Result ℕ Stop)
+      → IsErrAnd answer (λ stop. stop ≡ Run fault) → RunsFor remaining contents request old new (Err fault)
       → CarriesOut remaining contents request old new answer
   stopped_run request old new fault answer is ran =
       let told = err_from_is_err_and answer is in

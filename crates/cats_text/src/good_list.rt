@@ -26,9 +26,9 @@ ghost use Rattle.std.specs.Bool.{OnTrue};
 use std::alloc::{AllocError, Global};
 use std::marker::Model;
 
-/// Goods in the order in which they came, none twice. Where they rise, as they mostly do, the next one need only be above
-/// the last. Else a good that came is found by its mark, which is that of the bid, and so the marks of an earlier bid
-/// need not be taken away.
+/// Goods in the order in which they came, none twice. Where they rise, as they mostly do, the next one need only be
+/// above the last. Else a good that came is found by its mark, which is that of the bid, and so the marks of an earlier
+/// bid need not be taken away.
 #[derive(Drop)]
 pub struct GoodList {
     goods: Vec<u16>,

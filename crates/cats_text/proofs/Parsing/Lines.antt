@@ -99,7 +99,8 @@ bid_line_step g b d lines (n ∷ x ∷ gs) p l at = elim (has_end gs) as (λ t. 
           stage = at.stage;
           column = refl;
           header = at.header;
-          due = (let due : p.due ≡ p.header.bids - length lines = at.due in let more : length (lines ++ (n ∷ x ∷ gs) ∷ []) ≡ length lines + 1 = length-append lines
+          due = (let due : p.due ≡ p.header.bids - length lines = at.due in
+              let more : length (lines ++ (n ∷ x ∷ gs) ∷ []) ≡ length lines + 1 = length-append lines
               ((n ∷ x ∷ gs) ∷ []) in omega arith);
           slots = ap₂ (λ (s : List (Option PlainBid)) (k : ℕ). put_slot s k (kept_of p.keeping (drafted p))) at.slots at.draft.number
               ∙ ap (λ (b : PlainBid). put_slot (kept_slots p.keeping p.header.goods lines) (number_of n) (kept_of p.keeping b))

@@ -20,7 +20,8 @@ is_reached_by_places-requires-clause-some g c =
 pub is_reached_by_places-requires-clause-inside : goal.is_reached_by_places-requires-clause-inside
 is_reached_by_places-requires-clause-inside g c =
     let goods = g.S.GoodsSet.goods in
-    inside_bundle goods c.in_ok-inside.inside.items _ (goods c.args.bid.now.bundle) (atoms_of goods c.args.kept.now.atoms.items) c.deref-then-size-cap.ensures.value
+    inside_bundle goods c.in_ok-inside.inside.items _ (goods c.args.bid.now.bundle) (atoms_of goods c.args.kept.now.atoms.items)
+    c.deref-then-size-cap.ensures.value
     c.in_ok-inside.ensures
 
 pub is_reached-requires : goal.is_reached-requires

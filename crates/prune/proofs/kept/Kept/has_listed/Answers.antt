@@ -44,7 +44,8 @@ loop-listing-preserved g c =
     let bundle = goods c.args.bundle.now in
     let listed = c.deref-listing-items.result.now in
     let i = c.loop-listing.listing-index in
-    let right = listing_index (lists_of kept.lists.items) atoms c.from-good.result listed i d c.requires.listed (there ∙ sym c.deref-listing-items.ensures.value)
+    let right = listing_index (lists_of kept.lists.items) atoms c.from-good.result listed i d c.requires.listed
+    (there ∙ sym c.deref-listing-items.ensures.value)
     c.loop-listing-test.true in
     let at = places_get listed i d c.loop-listing-test.true in
     let misses : covers_at atoms bundle c.args.price (get_or listed i d).place ≡ false =
