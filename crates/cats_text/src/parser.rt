@@ -22,13 +22,14 @@ ghost use Rattle.cats_text.specs.Internal.Parsing.{
   is_due,
   file_from,
 };
+ghost use Rattle.cats_text.specs.declared.parser.Keeping.TheVariants as keepings;
 
 use crate::bid::{Bid, BidFile};
 use crate::fault::Kind;
 use crate::good_list::GoodList;
 use crate::limits::{MAX_BIDS, MAX_DUMMY, MAX_GOODS};
 use crate::price::price_of;
-use crate::slots::Slots;
+use crate::slots::{Front, Slots};
 use crate::word::{Keyword, Word};
 use std::alloc::{AllocError, AllocFailed, Global};
 
@@ -111,7 +112,6 @@ pub struct Draft {
 #[derive(Drop)]
 pub struct Parser {
     alloc: Global,
-    pub keeping: Keeping,
     pub stage: Stage,
     pub column: Column,
     pub header: Header,
@@ -129,7 +129,6 @@ impl Parser {
     {
         Parser {
             alloc,
-            keeping,
             stage: Stage::Goods,
             column: Column::First,
             header: Header {
@@ -138,7 +137,7 @@ impl Parser {
                 dummy: 0,
             },
             due: 0,
-            slots: Slots::new(alloc),
+            slots: Slots::new(alloc, keeping),
             draft: Draft {
                 number: 0,
                 price: 0,
@@ -197,7 +196,7 @@ impl Parser {
         if value >= u64::from(self.header.bids) {
             return Err(Stop::Fault(Kind::BidNumber));
         }
-        if self.slots.has(value as usize) {
+        if self.slots.has(value as u32) {
             return Err(Stop::Fault(Kind::RepeatedNumber));
         }
         self.draft = Draft {
@@ -310,16 +309,16 @@ impl Parser {
     /// What is kept of the bid that has been read; its goods are gone.
     #[inline(always)]
     fn take_bid(&mut self) -> Result<Bid, AllocError>
-        ensures bid { IfOk result (λ bid. plain_bid bid ≡ kept_of self.old.keeping (drafted (progress self.old))) }
+        ensures bid { IfOk result (λ bid. plain_bid bid ≡ kept_of (progress self.old).keeping (drafted (progress self.old))) }
         ensures goods { OnOk result (progress self.new ≡ record (progress self.old) { goods = [] }) }
     {
-        match self.keeping {
-            Keeping::Bids => Ok(Bid {
+        match &self.slots.front {
+            Front::Bids(_) => Ok(Bid {
                 price: self.draft.price,
                 goods: self.goods.take_rising(self.alloc)?,
                 dummy: self.draft.dummy,
             }),
-            Keeping::Numbers => {
+            Front::Numbers(_) => {
                 self.goods.clear();
                 Ok(Bid {
                     price: 0,
@@ -339,8 +338,8 @@ impl Parser {
             return Err(Stop::Fault(Kind::NoEnd));
         }
         let bid = self.take_bid()?;
-        let number = self.draft.number as usize;
-        self.slots.make_room(number, self.header.bids as usize)?;
+        let number = self.draft.number;
+        self.slots.make_room(number, self.header.bids)?;
         self.slots.put(number, bid)?;
         // One is due: the line began where one was.
         self.due = self.due.saturating_sub(1);
@@ -383,11 +382,12 @@ impl Parser {
 
     /// The file, where no line is due and the bids are kept.
     pub fn into_file(self) -> Result<BidFile, AllocError>
-        requires { IsPlainFile (file_from (progress self)) }
+        requires file { IsPlainFile (file_from (progress self)) }
+        requires keeping { (progress self).keeping ≡ keepings.Bids }
         ensures file { IfOk result (λ f. plain_file f ≡ file_from (progress self)) }
         ensures memory { OnErr result (0 < length (progress self).slots) }
     {
-        let bids = self.slots.into_bids()?;
+        let bids = self.slots.into_bids(self.alloc)?;
         Ok(BidFile::new(self.header.goods, self.header.dummy, bids))
     }
 }

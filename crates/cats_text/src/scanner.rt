@@ -44,6 +44,7 @@ ghost use Rattle.cats_text.specs.Internal.Scanning.{
   AsksAtEnd,
   IsInLine,
 };
+ghost use Rattle.cats_text.specs.declared.parser.Keeping.TheVariants as keepings;
 
 use crate::bid::BidFile;
 use crate::fault::{Kind, ReadFault};
@@ -464,6 +465,7 @@ impl Scanner {
     pub fn finish(mut self) -> Result<BidFile, Halt>
         requires line { self.line < 2 ^ 64 - 2 }
         requires file { IfOk (end_of self.waiting (state self)) (λ t. IsPlainFile (file_from t.progress)) }
+        requires keeping { (state self).progress.keeping ≡ keepings.Bids }
         ensures steps { Finishes IsFileOf result (end_of self.waiting (state self)) }
         ensures memory { AsksAtEnd self.waiting (state self) result }
     {

@@ -1,19 +1,80 @@
 //! The bids that have come, each at its number.
 
-ghost use Rattle.std.specs.Prelude.{◌≡◌, ◌<◌, [], length, slice_get, IfOk, OnOk, OnErr};
+ghost use Rattle.std.specs.Prelude.{◌≡◌, ◌<◌, ◌^◌, [], ◌∷◌, ◌++◌, length, set, slice_get, IfOk, OnOk, OnErr};
 ghost use Rattle.cats_text.specs.Files.{plain_bid, plain_bids};
 ghost use Rattle.cats_text.specs.FileLines.{put_slot, filled};
-ghost use Rattle.cats_text.specs.Internal.Parsing.{is_some_bid};
-ghost use Rattle.cats_text.specs.Internal.Progress.{plain_slots, slot_list};
+ghost use Rattle.cats_text.specs.Internal.Parsing.{is_some_bid, kept_of};
+ghost use Rattle.cats_text.specs.Internal.Progress.{plain_slots, keeping_of, front_bids, slot_list};
+ghost use Rattle.cats_text.specs.declared.parser.Keeping.TheVariants as keepings;
 
 use crate::bid::Bid;
+use crate::parser::Keeping;
 use std::alloc::{AllocError, Global};
 
-/// Bids by number. As long as they come in order, from 0 on, they stand in the vector that becomes the file's; from the
-/// first that does not, a place may still be empty.
+/// The bids in front, which came in order, from number 0 on.
+#[derive(Drop)]
+pub enum Front {
+    /// They stand in the vector that becomes the file's.
+    Bids(Vec<Bid>),
+    /// How many they are, where only their numbers are kept.
+    Numbers(usize),
+}
+
+impl Front {
+    /// How many have come.
+    fn len(&self) -> usize
+        ensures { result ≡ length (front_bids self.now) }
+    {
+        match self {
+            Front::Bids(bids) => bids.len(),
+            Front::Numbers(count) => *count,
+        }
+    }
+
+    /// Puts a bid in the place of one that has come.
+    fn replace(&mut self, place: usize, bid: Bid)
+        requires place { place < length (front_bids self.old) }
+        requires kept { kept_of (keeping_of self.old) (plain_bid bid) ≡ plain_bid bid }
+        ensures bids { front_bids self.new ≡ set (front_bids self.old) place (plain_bid bid) }
+        ensures keeping { keeping_of self.new ≡ keeping_of self.old }
+    {
+        if let Front::Bids(bids) = self {
+            bids[place] = bid;
+        }
+    }
+
+    /// Puts a bid behind the others.
+    #[inline(always)]
+    fn push(&mut self, bid: Bid) -> Result<(), AllocError>
+        requires room { length (front_bids self.old) < 2 ^ 32 }
+        requires kept { kept_of (keeping_of self.old) (plain_bid bid) ≡ plain_bid bid }
+        ensures bids { OnOk result (front_bids self.new ≡ front_bids self.old ++ plain_bid bid ∷ []) }
+        ensures keeping { OnOk result (keeping_of self.new ≡ keeping_of self.old) }
+    {
+        match self {
+            Front::Bids(bids) => bids.push(bid)?,
+            Front::Numbers(count) => *count += 1,
+        }
+        Ok(())
+    }
+
+    /// The bids, where they are kept.
+    fn into_bids(self, alloc: Global) -> Vec<Bid>
+        requires { keeping_of self ≡ keepings.Bids }
+        ensures { plain_bids result.items ≡ front_bids self }
+    {
+        match self {
+            Front::Bids(bids) => bids,
+            Front::Numbers(_) => Vec::new(alloc),
+        }
+    }
+}
+
+/// Bids by number. As long as they come in order they stand in front; from the first that does not, a place may still
+/// be empty.
 #[derive(Drop)]
 pub struct Slots {
-    pub front: Vec<Bid>,
+    pub front: Front,
     /// At each number behind those the bid that has come, up to the greatest number that has.
     pub rest: Vec<Option<Bid>>,
 }
@@ -38,59 +99,72 @@ fn put_at(slots: &mut Vec<Option<Bid>>, place: usize, bid: Bid) -> Result<(), Al
 
 impl Slots {
     /// No bids.
-    pub fn new(alloc: Global) -> Slots
-        ensures { slot_list result ≡ [] }
+    pub fn new(alloc: Global, keeping: Keeping) -> Slots
+        ensures slots { slot_list result ≡ [] }
+        ensures keeping { keeping_of result.front ≡ keeping }
     {
+        let front = match keeping {
+            Keeping::Bids => Front::Bids(Vec::new(alloc)),
+            Keeping::Numbers => Front::Numbers(0),
+        };
         Slots {
-            front: Vec::new(alloc),
+            front,
             rest: Vec::new(alloc),
         }
     }
 
     /// Makes room for all bids of a file before its first one, number 0.
     #[inline(always)]
-    pub fn make_room(&mut self, number: usize, count: usize) -> Result<(), AllocError>
-        ensures { slot_list self.new ≡ slot_list self.old }
+    pub fn make_room(&mut self, number: u32, count: u32) -> Result<(), AllocError>
+        ensures slots { slot_list self.new ≡ slot_list self.old }
+        ensures keeping { keeping_of self.new.front ≡ keeping_of self.old.front }
     {
         if number == 0 {
-            self.front.reserve(count)?;
+            if let Front::Bids(bids) = &mut self.front {
+                bids.reserve(count as usize)?;
+            }
         }
         Ok(())
     }
 
     /// Whether the bid of this number has come.
-    pub fn has(&self, number: usize) -> bool
-        ensures { result ≡ is_some_bid (slice_get (plain_slots (slot_list self.now)) number) }
+    pub fn has(&self, number: u32) -> bool
+        ensures { result ≡ is_some_bid (slice_get (slot_list self.now) number) }
     {
-        if number < self.front.len() {
+        let place = number as usize;
+        let in_front = self.front.len();
+        if place < in_front {
             return true;
         }
-        has_at(self.rest.as_slice(), number - self.front.len())
+        has_at(self.rest.as_slice(), place - in_front)
     }
 
-    /// Puts a bid at its number.
+    /// Puts what is kept of a bid at its number.
     #[inline(always)]
-    pub fn put(&mut self, number: usize, bid: Bid) -> Result<(), AllocError>
-        ensures { OnOk result (plain_slots (slot_list self.new) ≡ put_slot (plain_slots (slot_list self.old)) number
-            (plain_bid bid)) }
+    pub fn put(&mut self, number: u32, bid: Bid) -> Result<(), AllocError>
+        requires { kept_of (keeping_of self.old.front) (plain_bid bid) ≡ plain_bid bid }
+        ensures slots { OnOk result (slot_list self.new ≡ put_slot (slot_list self.old) number (plain_bid bid)) }
+        ensures keeping { OnOk result (keeping_of self.new.front ≡ keeping_of self.old.front) }
     {
-        if number < self.front.len() {
-            self.front[number] = bid;
+        let place = number as usize;
+        let in_front = self.front.len();
+        if place < in_front {
+            self.front.replace(place, bid);
             return Ok(());
         }
-        if number == self.front.len() && self.rest.is_empty() {
-            self.front.push(bid)?;
-            return Ok(());
+        if place == in_front && self.rest.is_empty() {
+            return self.front.push(bid);
         }
-        put_at(&mut self.rest, number - self.front.len(), bid)
+        put_at(&mut self.rest, place - in_front, bid)
     }
 
-    /// The bids, in order of their numbers.
-    pub fn into_bids(self) -> Result<Vec<Bid>, AllocError>
-        ensures bids { IfOk result (λ bids. plain_bids bids.items ≡ filled (plain_slots (slot_list self))) }
-        ensures memory { OnErr result (0 < length (plain_slots (slot_list self))) }
+    /// The bids, in order of their numbers, where they are kept.
+    pub fn into_bids(self, alloc: Global) -> Result<Vec<Bid>, AllocError>
+        requires { keeping_of self.front ≡ keepings.Bids }
+        ensures bids { IfOk result (λ bids. plain_bids bids.items ≡ filled (slot_list self)) }
+        ensures memory { OnErr result (0 < length (slot_list self)) }
     {
-        let mut bids = self.front;
+        let mut bids = self.front.into_bids(alloc);
         for slot in self.rest {
             if let Some(bid) = slot {
                 bids.push(bid)?;

@@ -4,9 +4,11 @@ use Rattle.std.proofs.Common.{true, map, append-nil, refl, sym, ap, ap₂, ◌�
 use Rattle.std.proofs.lemmas.List.{length-replicate, replicate-append-replicate, map-set, map-append, length-map, set-append_left, set-append_right}
 use Rattle.std.specs.List.{slice_get}
 use Rattle.cats_text.specs.declared.bid.Bid.{Bid}
-use Rattle.cats_text.specs.Files.{PlainBid, plain_bid, plain_bids}
-use Rattle.cats_text.specs.Internal.Parsing.{is_some_bid}
-use Rattle.cats_text.specs.Internal.Progress.{plain_slot, plain_slots}
+use Rattle.cats_text.specs.declared.slots.Front.{Front}
+use Rattle.cats_text.specs.declared.slots.Front.TheVariants.{Numbers}
+use Rattle.cats_text.specs.Files.{PlainBid, plain_bid}
+use Rattle.cats_text.specs.Internal.Parsing.{is_some_bid, kept_of}
+use Rattle.cats_text.specs.Internal.Progress.{plain_slot, plain_slots, number_alone, keeping_of, front_bids}
 use Rattle.std.proofs.lemmas.List.Elements.{filter_map-append}
 use Rattle.std.specs.Option.{option_to_list}
 use Rattle.cats_text.specs.FileLines.{put_slot, filled}
@@ -64,19 +66,23 @@ filled-push slots slot = ap filled (map-append plain_slot slots (slot ∷ [])) �
 
 -- ---- bids in front, and places behind them
 
-abbrev came : List Bid → List (Option Bid)
+abbrev came : List PlainBid → List (Option PlainBid)
 came front = map (λ b. Some b) front
 
-filled-came : (front : List Bid) → plain_bids front ≡ filled (plain_slots (came front))
+filled-came : (front : List PlainBid) → front ≡ filled (came front)
 filled-came [] = refl
-filled-came (b ∷ front) = ap (λ bs. plain_bid b ∷ bs) (filled-came front)
+filled-came (b ∷ front) = ap (λ bs. b ∷ bs) (filled-came front)
 
-pub filled-front : (front : List Bid) → plain_bids front ≡ filled (plain_slots (came front ++ []))
-filled-front front = filled-came front ∙ ap (λ ss. filled (plain_slots ss)) (sym (append-nil (came front)))
+pub filled-front : (front : List PlainBid) → front ≡ filled (came front ++ [])
+filled-front front = filled-came front ∙ ap filled (sym (append-nil (came front)))
 
-pub filled_more : (front : List Bid) (slots : List (Option Bid)) (slot : Option Bid) → filled (plain_slots (came front ++ (slots ++ slot ∷ [])))
-    ≡ filled (plain_slots (came front ++ slots)) ++ option_to_list (plain_slot slot)
-filled_more front slots slot = ap (λ ss. filled (plain_slots ss)) (sym (append_assoc (came front) slots (slot ∷ []))) ∙ filled-push (came front ++ slots) slot
+pub filled_more : (front : List PlainBid) (slots : List (Option Bid)) (slot : Option Bid) → filled (came front ++ plain_slots (slots ++ slot ∷ []))
+    ≡ filled (came front ++ plain_slots slots) ++ option_to_list (plain_slot slot)
+filled_more front slots slot =
+    filter_map-append (λ s. s) (came front) (plain_slots (slots ++ slot ∷ []))
+    ∙ ap (λ bs. filled (came front) ++ bs) (filled-push slots slot)
+    ∙ sym (append_assoc (filled (came front)) (filled (plain_slots slots)) (option_to_list (plain_slot slot)))
+    ∙ ap (λ bs. bs ++ option_to_list (plain_slot slot)) (sym (filter_map-append (λ s. s) (came front) (plain_slots slots)))
 
 -- a bid put behind others
 put_slot-append : (front rest : List (Option PlainBid)) (n : ℕ) (b : PlainBid) → length front ≤ n
@@ -88,55 +94,67 @@ put_slot-append front rest n b l =
     ∙ ap (λ ss. set ss n (Some b)) (append_assoc front rest (replicate (n - length front + 1 - length rest) None))
     ∙ set-append_right front (rest ++ replicate (n - length front + 1 - length rest) None) (length front) n (Some b) refl l
 
-length-came : (front : List Bid) → length (plain_slots (came front)) ≡ length front
-length-came front = length-map (came front) plain_slot ∙ length-map front (λ b. Some b)
+length-came : (front : List PlainBid) → length (came front) ≡ length front
+length-came front = length-map front (λ b. Some b)
 
-pub put_front : (front next : List Bid) (rest : List (Option Bid)) (n : ℕ) (b : Bid) → n < length front → next ≡ set front n b
-    → plain_slots (came next ++ rest) ≡ put_slot (plain_slots (came front ++ rest)) n (plain_bid b)
+pub put_front : (front next : List PlainBid) (rest : List (Option PlainBid)) (n : ℕ) (b : PlainBid) → n < length front → next ≡ set front n b
+    → came next ++ rest ≡ put_slot (came front ++ rest) n b
 put_front front next rest n b l e =
-    let long : length (came front) ≡ length front = length-map front (λ b. Some b) in
+    let long : length (came front) ≡ length front = length-came front in
     let all : length (came front ++ rest) ≡ length (came front) + length rest = length-append (came front) rest in
-    ap (λ bs. plain_slots (came bs ++ rest)) e
-    ∙ ap (λ ss. plain_slots (ss ++ rest)) (map-set (λ b. Some b) front n b)
-    ∙ ap plain_slots (sym (set-append_left (came front) rest n (Some b) (omega arith)))
-    ∙ plain_put (came front ++ rest) (came front ++ rest) n b (record { count = 0; is = sym (append-nil (came front ++ rest)); few = omega arith })
-    (omega arith)
+    let none : n + 1 - length (came front ++ rest) ≡ 0 = omega arith in
+    ap (λ bs. came bs ++ rest) e
+    ∙ ap (λ ss. ss ++ rest) (map-set (λ b. Some b) front n b)
+    ∙ sym (set-append_left (came front) rest n (Some b) (omega arith))
+    ∙ ap (λ ss. set ss n (Some b)) (sym (append-nil (came front ++ rest)) ∙ ap (λ k. (came front ++ rest) ++ replicate k None) (sym none))
 
-pub put_next : (front next : List Bid) (rest : List (Option Bid)) (n : ℕ) (b : Bid) → n ≡ length front → rest ≡ [] → next ≡ front ++ b ∷ []
-    → plain_slots (came next ++ rest) ≡ put_slot (plain_slots (came front ++ rest)) n (plain_bid b)
+pub put_next : (front next : List PlainBid) (rest : List (Option PlainBid)) (n : ℕ) (b : PlainBid) → n ≡ length front → rest ≡ []
+    → next ≡ front ++ b ∷ [] → came next ++ rest ≡ put_slot (came front ++ rest) n b
 put_next front next rest n b at none e =
-    let long : length (plain_slots (came front)) ≡ length front = length-came front in
-    let here : n - length (plain_slots (came front)) ≡ 0 = omega arith in
-    ap₂ (λ bs ss. plain_slots (came bs ++ ss)) e none
-    ∙ ap plain_slots (append-nil (came (front ++ b ∷ [])) ∙ map-append (λ b. Some b) front (b ∷ []))
-    ∙ map-append plain_slot (came front) (Some b ∷ [])
-    ∙ ap (λ k. plain_slots (came front) ++ put_slot [] k (plain_bid b)) (sym here)
-    ∙ sym (put_slot-append (plain_slots (came front)) [] n (plain_bid b) (omega arith))
-    ∙ ap (λ ss. put_slot ss n (plain_bid b)) (sym (map-append plain_slot (came front) []))
-    ∙ ap (λ ss. put_slot (plain_slots (came front ++ ss)) n (plain_bid b)) (sym none)
+    let long : length (came front) ≡ length front = length-came front in
+    let here : n - length (came front) ≡ 0 = omega arith in
+    ap₂ (λ bs ss. came bs ++ ss) e none
+    ∙ append-nil (came (front ++ b ∷ []))
+    ∙ map-append (λ b. Some b) front (b ∷ [])
+    ∙ ap (λ k. came front ++ put_slot [] k b) (sym here)
+    ∙ sym (put_slot-append (came front) [] n b (omega arith))
+    ∙ ap (λ ss. put_slot (came front ++ ss) n b) (sym none)
 
-pub put_rest : (front : List Bid) (rest next : List (Option Bid)) (n : ℕ) (b : Bid) → length front ≤ n
-    → plain_slots next ≡ put_slot (plain_slots rest) (n - length front) (plain_bid b)
-    → plain_slots (came front ++ next) ≡ put_slot (plain_slots (came front ++ rest)) n (plain_bid b)
+pub put_rest : (front : List PlainBid) (rest next : List (Option PlainBid)) (n : ℕ) (b : PlainBid) → length front ≤ n
+    → next ≡ put_slot rest (n - length front) b → came front ++ next ≡ put_slot (came front ++ rest) n b
 put_rest front rest next n b l e =
-    let long : length (plain_slots (came front)) ≡ length front = length-came front in
-    map-append plain_slot (came front) next
-    ∙ ap (λ ss. plain_slots (came front) ++ ss) e
-    ∙ ap (λ k. plain_slots (came front) ++ put_slot (plain_slots rest) (n - k) (plain_bid b)) (sym long)
-    ∙ sym (put_slot-append (plain_slots (came front)) (plain_slots rest) n (plain_bid b) (omega arith))
-    ∙ ap (λ ss. put_slot ss n (plain_bid b)) (sym (map-append plain_slot (came front) rest))
+    let long : length (came front) ≡ length front = length-came front in
+    ap (λ ss. came front ++ ss) e
+    ∙ ap (λ k. came front ++ put_slot rest (n - k) b) (sym long)
+    ∙ sym (put_slot-append (came front) rest n b (omega arith))
 
-pub has_front : (front : List Bid) (rest : List (Option Bid)) (n : ℕ) → n < length front → is_some_bid (slice_get (plain_slots (came front ++ rest)) n) ≡ true
+pub has_front : (front : List PlainBid) (rest : List (Option PlainBid)) (n : ℕ) → n < length front
+    → is_some_bid (slice_get (came front ++ rest) n) ≡ true
 has_front [] rest n l = absurd (let no : n < 0 = l in omega arith)
 has_front (b ∷ front) rest zero l = refl
 has_front (b ∷ front) rest (suc n) l = has_front front rest n (omega arith)
 
-pub has_rest : (front : List Bid) (rest : List (Option Bid)) (n : ℕ) → length front ≤ n → is_some_bid (slice_get (plain_slots (came front ++ rest)) n)
-    ≡ is_some_bid (slice_get (plain_slots rest) (n - length front))
-has_rest [] rest n l = let e : n ≡ n - 0 = omega arith in ap (λ k. is_some_bid (slice_get (plain_slots rest) k)) e
+pub has_rest : (front : List PlainBid) (rest : List (Option PlainBid)) (n : ℕ) → length front ≤ n → is_some_bid (slice_get (came front ++ rest) n)
+    ≡ is_some_bid (slice_get rest (n - length front))
+has_rest [] rest n l = let e : n ≡ n - 0 = omega arith in ap (λ k. is_some_bid (slice_get rest k)) e
 has_rest (b ∷ front) rest zero l = absurd (let no : suc (length front) ≤ 0 = l in omega arith)
 has_rest (b ∷ front) rest (suc n) l = let e : n - length front ≡ suc n - suc (length front) = omega arith in has_rest front rest n (omega arith)
-    ∙ ap (λ k. is_some_bid (slice_get (plain_slots rest) k)) e
+    ∙ ap (λ k. is_some_bid (slice_get rest k)) e
+
+-- the same put in the place of one of many
+set-replicate : {X : Type 0} (count n : ℕ) (x : X) → replicate count x ≡ set (replicate count x) n x
+set-replicate zero n x = refl
+set-replicate (suc count) zero x = refl
+set-replicate (suc count) (suc n) x = ap (λ xs. x ∷ xs) (set-replicate count n x)
+
+-- what is kept of a bid put in the place of another of which only the number is kept
+pub set-numbers : (front : Front) (count n : ℕ) (b : PlainBid) → front ≡ Numbers count → kept_of (keeping_of front) b ≡ b
+    → front_bids front ≡ set (front_bids front) n b
+set-numbers front count n b is kept =
+    let alone : number_alone ≡ b = ap (λ f. kept_of (keeping_of f) b) (sym is) ∙ kept in
+    ap front_bids is
+    ∙ set-replicate count n number_alone
+    ∙ ap₂ (λ f x. set (front_bids f) n x) (sym is) alone
 
 pub on_ok : {A E : Type 0} (r : Result A E) (P Q : Type 0) → (P → Q) → OnOk r P → OnOk r Q
 on_ok (Ok x) P Q f h = f h

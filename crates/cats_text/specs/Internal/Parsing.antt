@@ -6,7 +6,7 @@ use Rattle.cats_text.specs.Grammar.{has_number}
 use Rattle.cats_text.specs.Files.{PlainBid, PlainFile}
 use Rattle.cats_text.specs.FileLines.{rising_of, put_slot, filled}
 use Rattle.cats_text.specs.Internal.Keywords.{keyword_text}
-use Rattle.cats_text.specs.Internal.Progress.{Progress}
+use Rattle.cats_text.specs.Internal.Progress.{Progress, number_alone}
 use Rattle.cats_text.specs.declared.fault.Kind.{Kind}
 use Rattle.cats_text.specs.declared.fault.Kind.TheVariants as kinds
 use Rattle.cats_text.specs.declared.parser.Keeping.{Keeping}
@@ -138,10 +138,6 @@ word_read p w = elim p.column [
 ]
 
 -- ---- the end of a line
-
--- a bid of which only its number is kept
-abbrev pub number_alone : PlainBid
-number_alone = record { price = 0; goods = []; dummy = None }
 
 -- what is kept of a bid
 abbrev pub kept_of : Keeping → PlainBid → PlainBid

@@ -1,9 +1,11 @@
 -- The end of the bytes that the scanner took: it has the file.
-use Rattle.std.proofs.Common.{◌≡◌, subst, arith}
+use Rattle.std.proofs.Common.{◌≡◌, ◌∙◌, subst, arith}
 use Rattle.cats_text.specs.Internal.Reading.{HasTaken}
-use Rattle.cats_text.specs.Internal.Scanning.{IsFileOf}
+use Rattle.cats_text.specs.Internal.Returns.{settled}
+use Rattle.cats_text.specs.Internal.Scanning.{IsFileOf, state, first_state}
 use Rattle.cats_text.specs.declared.parser.Keeping.{Keeping}
 use Rattle.cats_text.specs.declared.parser.Keeping.TheVariants.{Bids}
+use Rattle.cats_text.proofs.Keeping.{scan_keeping}
 use Rattle.cats_text.proofs.Feeding.Pieces.{ended_fact, ended_file, ended_fault, few_lines}
 use Rattle.cats_text.proofs.feeder.Feeder.finish.Goals as goal
 
@@ -21,6 +23,12 @@ finish-requires-clause-file c =
     ended_fact c.self.inside.limit c.self.inside.count c.self.inside.scanner c.self.inside.history.bytes
     (subst (λ (k : Keeping). HasTaken k c.self.inside.limit c.self.inside.count c.self.inside.scanner c.self.inside.history.bytes) bids
     (c.self.invariant.taken c.in_default.is))
+
+pub finish-requires-clause-keeping : goal.finish-requires-clause-keeping
+finish-requires-clause-keeping c =
+    let bids : c.self.inside.keeping ≡ Bids = rw (← c.self.view_is) at c.requires in
+    let kept = c.self.invariant.taken c.in_default.is in
+    scan_keeping (first_state c.self.inside.keeping) (state c.self.inside.scanner) (settled c.self.inside.history.bytes) kept.runs ∙ bids
 
 pub returns-in-Ok : goal.returns-in-Ok
 returns-in-Ok c =

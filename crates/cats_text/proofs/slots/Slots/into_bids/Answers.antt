@@ -2,28 +2,28 @@ use Rattle.std.proofs.Common.{◌∙◌, ◌++◌, ◌∷◌, [], List, Option, 
 use Rattle.std.proofs.lemmas.List.{map-append}
 use Rattle.cats_text.specs.declared.bid.Bid.{Bid}
 use Rattle.cats_text.specs.Files.{PlainBid, plain_bid, plain_bids}
-use Rattle.cats_text.specs.Internal.Progress.{plain_slots, plain_slot}
+use Rattle.cats_text.specs.Internal.Progress.{plain_slots, plain_slot, front_bids}
 use Rattle.cats_text.specs.FileLines.{filled}
 use Rattle.std.specs.Option.{option_to_list}
 use Rattle.cats_text.proofs.Parsing.BidsByNumber.{filled-front, filled_more}
 use Rattle.cats_text.proofs.slots.Slots.into_bids.Goals as goal
 
 pub loop-slot-init : goal.loop-slot-init
-loop-slot-init c = filled-front c.args.self.front.items
+loop-slot-init c = c.into_bids-bids.ensures ∙ filled-front (front_bids c.args.self.front)
 
 pub loop-slot-preserved-in-Continue-1 : goal.loop-slot-preserved-in-Continue-1
 loop-slot-preserved-in-Continue-1 c =
+    let sofar : List PlainBid = filled (map (λ b. Some b) (front_bids c.args.self.front) ++ plain_slots c.loop-slot.yielded) in
     ap plain_bids c.in_ok-push.ensures.items
     ∙ map-append plain_bid c.loop-slot.bids.items (c.in-Some-slot.bid ∷ [])
     ∙ ap (λ (bs : List PlainBid). bs ++ plain_bid c.in-Some-slot.bid ∷ []) c.loop-slot.invariant
-    ∙ ap (λ (s : Option Bid). filled (plain_slots (map (λ b. Some b) c.args.self.front.items ++ c.loop-slot.yielded)) ++ option_to_list (plain_slot s))
-    (sym c.in-Some-slot.is)
-    ∙ sym (filled_more c.args.self.front.items c.loop-slot.yielded c.in-Some.slot)
+    ∙ ap (λ (s : Option Bid). sofar ++ option_to_list (plain_slot s)) (sym c.in-Some-slot.is)
+    ∙ sym (filled_more (front_bids c.args.self.front) c.loop-slot.yielded c.in-Some.slot)
 
 pub loop-slot-preserved : goal.loop-slot-preserved
 loop-slot-preserved c =
+    let sofar : List PlainBid = filled (map (λ b. Some b) (front_bids c.args.self.front) ++ plain_slots c.loop-slot.yielded) in
     c.loop-slot.invariant
-    ∙ sym (append-nil (filled (plain_slots (map (λ b. Some b) c.args.self.front.items ++ c.loop-slot.yielded))))
-    ∙ ap (λ (s : Option Bid). filled (plain_slots (map (λ b. Some b) c.args.self.front.items ++ c.loop-slot.yielded)) ++ option_to_list (plain_slot s))
-    (sym c.in_default.is)
-    ∙ sym (filled_more c.args.self.front.items c.loop-slot.yielded c.in-Some.slot)
+    ∙ sym (append-nil sofar)
+    ∙ ap (λ (s : Option Bid). sofar ++ option_to_list (plain_slot s)) (sym c.in_default.is)
+    ∙ sym (filled_more (front_bids c.args.self.front) c.loop-slot.yielded c.in-Some.slot)

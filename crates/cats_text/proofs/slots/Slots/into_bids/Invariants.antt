@@ -1,8 +1,8 @@
 use Rattle.std.proofs.Common.{◌≡◌, ◌++◌, map, Some}
 use Rattle.cats_text.specs.Files.{plain_bids}
-use Rattle.cats_text.specs.Internal.Progress.{plain_slots}
+use Rattle.cats_text.specs.Internal.Progress.{plain_slots, front_bids}
 use Rattle.cats_text.specs.FileLines.{filled}
 use Rattle.cats_text.proofs.slots.Slots.into_bids.Given as goal
 
 abbrev pub invariant-loop-slot : goal.invariant-loop-slot
-invariant-loop-slot l = plain_bids l.bids.items ≡ filled (plain_slots (map (λ b. Some b) l.fn.self.front.items ++ l.yielded))
+invariant-loop-slot l = plain_bids l.bids.items ≡ filled (map (λ b. Some b) (front_bids l.fn.self.front) ++ plain_slots l.yielded)
