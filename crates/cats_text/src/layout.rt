@@ -106,6 +106,9 @@ pub fn push_bid(
     ensures { let bid : PlainBid = record { price = price; goods = bundle.now; dummy = dummy } in
         OnOk result (out.new.items ≡ out.old.items ++ bid_text goods number bid) }
 {
+    if bundle.len() <= CHUNK {
+        return push_short_bid(out, goods, number, price, bundle, dummy);
+    }
     push_offer(out, number, price)?;
     let mut left = bundle;
     while left.len() > CHUNK {
@@ -116,28 +119,47 @@ pub fn push_bid(
     push_last_chunk(out, goods, left, dummy)
 }
 
-/// The bytes that a number, a tab and a price have at most.
+/// So many goods of a bid get their text at once, which is then appended in one go.
+const CHUNK: usize = 32;
+
+/// The bytes that the number and the price of a bid have at most, those of so many goods, each with its tab, those of
+/// the last ones with a dummy good and the end of the line, and those of a line that has no more goods.
 const OFFER: usize = 48;
+
+const CHUNK_TEXT: usize = 192;
+
+const LAST_TEXT: usize = 208;
+
+const SHORT_LINE: usize = 256;
+
+/// The line of a bid of few goods.
+#[inline(always)]
+fn push_short_bid(
+    out: &mut Vec<u8>,
+    goods: u16,
+    number: usize,
+    price: u64,
+    bundle: &[u16],
+    dummy: Option<u32>,
+) -> Result<(), AllocError>
+    requires { length bundle.now ≤ 32 }
+    ensures { let bid : PlainBid = record { price = price; goods = bundle.now; dummy = dummy } in
+        OnOk result (out.new.items ≡ out.old.items ++ bid_text goods number bid) }
+{
+    let mut text = [0; SHORT_LINE];
+    let end = write_last_chunk(goods, bundle, dummy, &mut text, SHORT_LINE);
+    let start = write_offer(number, price, &mut text, end);
+    out.extend_from_slice(&text[start..])
+}
 
 /// The number and the price of a bid.
 fn push_offer(out: &mut Vec<u8>, number: usize, price: u64) -> Result<(), AllocError>
     ensures { OnOk result (out.new.items ≡ out.old.items ++ (decimal number ++ 9 ∷ price_text price)) }
 {
     let mut text = [0; OFFER];
-    let tab = write_price(price, &mut text, OFFER) - 1;
-    text[tab] = b'\t';
-    let start = write_digits(number as u64, &mut text, tab);
+    let start = write_offer(number, price, &mut text, OFFER);
     out.extend_from_slice(&text[start..])
 }
-
-/// So many goods of a bid get their text at once, which is then appended in one go.
-const CHUNK: usize = 32;
-
-/// The bytes that these goods have at most, each with its tab, and those of the last ones with a dummy good and the
-/// end of the line.
-const CHUNK_TEXT: usize = 192;
-
-const LAST_TEXT: usize = 208;
 
 fn push_chunk(out: &mut Vec<u8>, goods: &[u16]) -> Result<(), AllocError>
     requires { length goods.now ≤ 32 }
@@ -159,22 +181,63 @@ fn push_last_chunk(
     ensures { OnOk result (out.new.items ≡ out.old.items ++ (tabbed (chunk.now ++ dummy_good goods dummy) ++ codes "\t#\n")) }
 {
     let mut text = [0; LAST_TEXT];
-    let mut end = LAST_TEXT - 3;
-    text[end] = b'\t';
-    text[end + 1] = b'#';
-    text[end + 2] = b'\n';
-    if let Some(dummy) = dummy {
-        end = write_good(u64::from(goods) + u64::from(dummy), &mut text, end);
-    }
-    let start = write_goods(chunk, &mut text, end);
+    let start = write_last_chunk(goods, chunk, dummy, &mut text, LAST_TEXT);
     out.extend_from_slice(&text[start..])
+}
+
+/// Writes the number and the price of a bid, so that their text ends at `end`, and tells where it starts.
+#[inline(always)]
+fn write_offer(number: usize, price: u64, text: &mut [u8], end: usize) -> usize
+    requires room { 48 ≤ end }
+    requires inside { end ≤ length text.old }
+    ensures start { result ≤ end }
+    ensures written { drop result text.new ≡ (decimal number ++ 9 ∷ price_text price) ++ drop end text.old }
+{
+    let tab = write_price(price, text, end) - 1;
+    text[tab] = b'\t';
+    write_digits(number as u64, text, tab)
+}
+
+/// Writes the last goods of a bid, its dummy good, and the end of its line in the same way.
+#[inline(always)]
+fn write_last_chunk(
+    goods: u16,
+    chunk: &[u16],
+    dummy: Option<u32>,
+    text: &mut [u8],
+    end: usize,
+) -> usize
+    requires few { length chunk.now ≤ 32 }
+    requires room { 208 ≤ end }
+    requires inside { end ≤ length text.old }
+    ensures start { (result ≤ end) × (end ≤ result + 208) }
+    ensures written { drop result text.new
+        ≡ (tabbed (chunk.now ++ dummy_good goods dummy) ++ codes "\t#\n") ++ drop end text.old }
+{
+    let mut start = write_line_end(text, end);
+    if let Some(dummy) = dummy {
+        start = write_good(u64::from(goods) + u64::from(dummy), text, start);
+    }
+    write_goods(chunk, text, start)
+}
+
+fn write_line_end(text: &mut [u8], end: usize) -> usize
+    requires room { 3 ≤ end }
+    requires inside { end ≤ length text.old }
+    ensures start { result + 3 ≡ end }
+    ensures written { drop result text.new ≡ codes "\t#\n" ++ drop end text.old }
+{
+    text[end - 1] = b'\n';
+    text[end - 2] = b'#';
+    text[end - 3] = b'\t';
+    end - 3
 }
 
 /// Writes goods, each behind a tab, so that their text ends at `end`, and tells where it starts.
 fn write_goods(goods: &[u16], text: &mut [u8], end: usize) -> usize
     requires room { 6 * length goods.now ≤ end }
     requires inside { end ≤ length text.old }
-    ensures start { result ≤ end }
+    ensures start { (result ≤ end) × (end ≤ result + 6 * length goods.now) }
     ensures written { drop result text.new ≡ tabbed goods.now ++ drop end text.old }
 {
     let mut left = goods;

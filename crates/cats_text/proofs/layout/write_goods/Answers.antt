@@ -10,7 +10,7 @@ write_good-start-requires-clause-room c =
     let l = c.loop-left in
     let some = c.in-len1-up.len_at_least in
     let good : c.from.result ≡ get_or c.args.goods.now (length l.left.now - 1) 0 =
-    c.from.ensures ∙ last_of_front l.left.now c.args.goods.now some l.invariant.2 in
+    c.from.ensures ∙ last_of_front l.left.now c.args.goods.now some l.invariant.3 in
     let fits = (c.type_inv.goods (length l.left.now - 1)).fits in
     omega (arith, l.invariant.0, length-decimal-le 5 c.from.result (omega arith) (omega arith) (omega arith))
 
@@ -19,15 +19,16 @@ loop-left-preserved c =
     let l = c.loop-left in
     let some = c.in-len1-up.len_at_least in
     let good : c.from.result ≡ get_or c.args.goods.now (length l.left.now - 1) 0 =
-    c.from.ensures ∙ last_of_front l.left.now c.args.goods.now some l.invariant.2 in
+    c.from.ensures ∙ last_of_front l.left.now c.args.goods.now some l.invariant.3 in
     let fits = (c.type_inv.goods (length l.left.now - 1)).fits in
     let digits : length (decimal c.from.result) ≤ 5 = length-decimal-le 5 c.from.result (omega arith) (omega arith) (omega arith) in
     let front = take (length l.left.now - 1) l.left.now in
     let fewer = length-take-le (length l.left.now - 1) l.left.now (omega arith) in (
       omega (arith, l.invariant.0, c.write_good-start.ensures.start),
       omega (arith, l.invariant.1, c.write_good-start.ensures.start),
-      shorter_front l.left.now c.args.goods.now l.invariant.2,
+      omega (arith, l.invariant.2, c.write_good-start.ensures.start, digits),
+      shorter_front l.left.now c.args.goods.now l.invariant.3,
       ap (λ t. tabbed front ++ t) (c.write_good-start.ensures.written ∙ ap (λ g. (9 ∷ decimal g) ++ drop l.start l.text) c.from.ensures)
           ∙ last_good l.left.now (drop l.start l.text) some
-          ∙ l.invariant.3,
+          ∙ l.invariant.4,
     )
