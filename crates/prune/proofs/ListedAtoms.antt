@@ -273,11 +273,12 @@ module _ (lists more : List (List Listing)) (atoms : List (Atom (List ℕ))) (a 
           residues = subst (λ (b : Atom (List ℕ)). AreResidues b.bundle listing.residues) (sym e) r.residues;
           witness = ap (λ (b : Atom (List ℕ)). has_good b.bundle listing.witness) e ∙ r.witness;
           second = ap (λ (b : Atom (List ℕ)). has_good b.bundle listing.second) e ∙ r.second;
+          third = ap (λ (b : Atom (List ℕ)). has_good b.bundle listing.third) e ∙ r.third;
         }
 
     pub AreListed-push : has_good a.bundle good ≡ true → new.price ≡ a.price → AreResidues a.bundle new.residues → has_good a.bundle new.witness ≡ true
-        → has_good a.bundle new.second ≡ true → AreListed more (atoms ++ a ∷ [])
-    AreListed-push has price residues witness second =
+        → has_good a.bundle new.second ≡ true → has_good a.bundle new.third ≡ true → AreListed more (atoms ++ a ∷ [])
+    AreListed-push has price residues witness second third =
         let d : Atom (List ℕ) = record { bundle = []; price = 0 } in
         let long = length_push atoms a in
         let last : atom_at (atoms ++ a ∷ []) new.place ≡ a = get_or_push atoms a d new.place (sym place) in
@@ -301,6 +302,7 @@ module _ (lists more : List (List Listing)) (atoms : List (Atom (List ℕ))) (a 
                 residues = subst (λ (b : Atom (List ℕ)). AreResidues b.bundle new.residues) (sym last) residues;
                 witness = ap (λ (b : Atom (List ℕ)). has_good b.bundle new.witness) last ∙ witness;
                 second = ap (λ (b : Atom (List ℕ)). has_good b.bundle new.second) last ∙ second;
+                third = ap (λ (b : Atom (List ℕ)). has_good b.bundle new.third) last ∙ third;
               }))
               (listing_cases g listing c);
           once = λ g.

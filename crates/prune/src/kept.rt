@@ -30,8 +30,9 @@ struct Listing {
     residues: u64,
     /// A good of its bundle.
     witness: u16,
-    /// Another good of its bundle, where it has so many.
+    /// Other goods of its bundle, where it has so many.
     second: u16,
+    third: u16,
 }
 
 /// Atoms, each listed at one of its goods, so that those inside a bundle are found through the bundle's goods.
@@ -99,6 +100,7 @@ impl<S: GoodsSet> Kept<S> {
         ensures residues { AreResidues (S.goods atom.now.bundle) result.1.residues }
         ensures witness { has_good (S.goods atom.now.bundle) result.1.witness ≡ true }
         ensures second { has_good (S.goods atom.now.bundle) result.1.second ≡ true }
+        ensures third { has_good (S.goods atom.now.bundle) result.1.third ≡ true }
     {
         let mut best = 0;
         let mut fewest = 0;
@@ -108,15 +110,18 @@ impl<S: GoodsSet> Kept<S> {
             residues: atom.bundle.residues(),
             witness: 0,
             second: 0,
+            third: 0,
         };
         let mut from = 0;
         while let Some(good) = atom.bundle.next_from(from) {
             let count = self.count_at(good);
             if from == 0 {
                 listing.witness = good;
+                listing.second = good;
                 best = good;
                 fewest = count;
             }
+            listing.third = listing.second;
             listing.second = listing.witness;
             listing.witness = good;
             if count < fewest {
@@ -138,6 +143,7 @@ impl<S: GoodsSet> Kept<S> {
         may_be_inside(listing.residues, residues)
             && bundle.has(listing.witness)
             && bundle.has(listing.second)
+            && bundle.has(listing.third)
             && self.atoms[listing.place].bundle.is_inside(bundle)
     }
 

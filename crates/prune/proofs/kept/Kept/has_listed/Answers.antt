@@ -23,7 +23,7 @@ returns-then-is_inside g c =
     let kept = c.args.self.now in
     let there = listed_there kept.lists.items c.from-good.result c.index.result.now (omega (arith, c.if-good-len.true, c.len.ensures, kept.lists.ok.0))
     c.index.ensures in
-    let d : Listing = record { place = 0; price = 0; residues = 0; witness = 0; second = 0 } in
+    let d : Listing = record { place = 0; price = 0; residues = 0; witness = 0; second = 0; third = 0 } in
     let atoms = atoms_of goods kept.atoms.items in
     let bundle = goods c.args.bundle.now in
     let listed = c.deref-listing-items.result.now in
@@ -39,7 +39,7 @@ loop-listing-preserved g c =
     let kept = c.args.self.now in
     let there = listed_there kept.lists.items c.from-good.result c.index.result.now (omega (arith, c.if-good-len.true, c.len.ensures, kept.lists.ok.0))
     c.index.ensures in
-    let d : Listing = record { place = 0; price = 0; residues = 0; witness = 0; second = 0 } in
+    let d : Listing = record { place = 0; price = 0; residues = 0; witness = 0; second = 0; third = 0 } in
     let atoms = atoms_of goods kept.atoms.items in
     let bundle = goods c.args.bundle.now in
     let listed = c.deref-listing-items.result.now in

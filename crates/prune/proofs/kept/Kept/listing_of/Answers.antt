@@ -22,21 +22,23 @@ loop-good-preserved g c =
     let had : has_good bundle c.in-Some.good ≡ true = next_is_had bundle c.loop-good.from c.in-Some.good (g.met.S.GoodsSet.is_bundle c.args.atom.now.bundle).0
     (sym c.in-Some.ensures) in
     let first : (has_good bundle c.if-from-eq0.best ≡ true) × (has_good bundle c.if-from-eq0.listing.witness ≡ true)
-    × (c.if-from-eq0.listing.place ≡ c.loop-good.listing.place) × (c.if-from-eq0.listing.price ≡ c.loop-good.listing.price)
+    × (has_good bundle c.if-from-eq0.listing.second ≡ true) × (c.if-from-eq0.listing.place ≡ c.loop-good.listing.place) × (c.if-from-eq0.listing.price ≡ c.loop-good.listing.price)
     × (c.if-from-eq0.listing.residues ≡ c.loop-good.listing.residues) =
     elim c.if-from-eq0.branch [
       | then-from-eq0 w ↦ (
         ap (has_good bundle) w.best-is ∙ had,
         ap (λ (z : Listing). has_good bundle z.witness) w.listing-is ∙ had,
+        ap (λ (z : Listing). has_good bundle z.second) w.listing-is ∙ had,
         ap (λ (z : Listing). z.place) w.listing-is,
         ap (λ (z : Listing). z.price) w.listing-is,
         ap (λ (z : Listing). z.residues) w.listing-is,
       )
       | else-from-eq0 w ↦
           let before : (has_good bundle c.loop-good.best ≡ true) × (has_good bundle c.loop-good.listing.witness ≡ true)
-          × (has_good bundle c.loop-good.listing.second ≡ true) = ⊎_elim (λ (e : c.loop-good.from ≡ 0). absurd (w.if-from-eq0.false e)) (λ k. k) h.chosen in (
+          × (has_good bundle c.loop-good.listing.second ≡ true) × (has_good bundle c.loop-good.listing.third ≡ true) = ⊎_elim (λ (e : c.loop-good.from ≡ 0). absurd (w.if-from-eq0.false e)) (λ k. k) h.chosen in (
             ap (has_good bundle) w.best-is ∙ before.0,
             ap (λ (z : Listing). has_good bundle z.witness) w.listing-is ∙ before.1,
+            ap (λ (z : Listing). has_good bundle z.second) w.listing-is ∙ before.2,
             ap (λ (z : Listing). z.place) w.listing-is,
             ap (λ (z : Listing). z.price) w.listing-is,
             ap (λ (z : Listing). z.residues) w.listing-is,
@@ -44,23 +46,25 @@ loop-good-preserved g c =
     ] in
     elim c.if-count-fewest.branch [
       | then-count-fewest w ↦ record {
-        place = ap (λ (z : Listing). z.place) w.listing-is ∙ first.2 ∙ h.place;
-        price = ap (λ (z : Listing). z.price) w.listing-is ∙ first.3 ∙ h.price;
-        residues = subst (λ bits. AreResidues bundle bits) (sym (ap (λ (z : Listing). z.residues) w.listing-is ∙ first.4)) h.residues;
+        place = ap (λ (z : Listing). z.place) w.listing-is ∙ first.3 ∙ h.place;
+        price = ap (λ (z : Listing). z.price) w.listing-is ∙ first.4 ∙ h.price;
+        residues = subst (λ bits. AreResidues bundle bits) (sym (ap (λ (z : Listing). z.residues) w.listing-is ∙ first.5)) h.residues;
         chosen = inr (
           ap (has_good bundle) w.best-is ∙ had,
           ap (λ (z : Listing). has_good bundle z.witness) w.listing-is ∙ first.0,
           ap (λ (z : Listing). has_good bundle z.second) w.listing-is ∙ first.1,
+          ap (λ (z : Listing). has_good bundle z.third) w.listing-is ∙ first.2,
         );
       }
       | else-count-fewest w ↦ record {
-        place = ap (λ (z : Listing). z.place) w.listing-is ∙ first.2 ∙ h.place;
-        price = ap (λ (z : Listing). z.price) w.listing-is ∙ first.3 ∙ h.price;
-        residues = subst (λ bits. AreResidues bundle bits) (sym (ap (λ (z : Listing). z.residues) w.listing-is ∙ first.4)) h.residues;
+        place = ap (λ (z : Listing). z.place) w.listing-is ∙ first.3 ∙ h.place;
+        price = ap (λ (z : Listing). z.price) w.listing-is ∙ first.4 ∙ h.price;
+        residues = subst (λ bits. AreResidues bundle bits) (sym (ap (λ (z : Listing). z.residues) w.listing-is ∙ first.5)) h.residues;
         chosen = inr (
           ap (has_good bundle) w.best-is ∙ first.0,
           ap (λ (z : Listing). has_good bundle z.witness) w.listing-is ∙ had,
           ap (λ (z : Listing). has_good bundle z.second) w.listing-is ∙ first.1,
+          ap (λ (z : Listing). has_good bundle z.third) w.listing-is ∙ first.2,
         );
       }
     ]
@@ -85,3 +89,10 @@ returns-clause-second g c =
     ⊎_elim (λ (e : c.loop-good.from ≡ 0). absurd
     (some_from_zero (goods c.args.atom.now.bundle) c.requires (subst (λ n. good_from (goods c.args.atom.now.bundle) n ≡ None) e
     (sym c.in_default.ensures)))) (λ h. h.2) c.loop-good.invariant.chosen
+
+pub returns-clause-third : goal.returns-clause-third
+returns-clause-third g c =
+    let goods = g.S.GoodsSet.goods in
+    ⊎_elim (λ (e : c.loop-good.from ≡ 0). absurd
+    (some_from_zero (goods c.args.atom.now.bundle) c.requires (subst (λ n. good_from (goods c.args.atom.now.bundle) n ≡ None) e
+    (sym c.in_default.ensures)))) (λ h. h.3) c.loop-good.invariant.chosen

@@ -11,7 +11,8 @@ invariant-loop-good g l =
       place : l.listing.place ≡ vec_len l.self.atoms;
       price : l.listing.price ≡ l.atom.price;
       residues : AreResidues bundle l.listing.residues;
-      chosen : (l.from ≡ 0) ⊎ ((has_good bundle l.best ≡ true) × (has_good bundle l.listing.witness ≡ true) × (has_good bundle l.listing.second ≡ true));
+      chosen : (l.from ≡ 0) ⊎ ((has_good bundle l.best ≡ true) × (has_good bundle l.listing.witness ≡ true) × (has_good bundle l.listing.second ≡ true)
+          × (has_good bundle l.listing.third ≡ true));
     }
 
 abbrev pub decreases-loop-good : goal.decreases-loop-good

@@ -31,4 +31,4 @@ returns-clause-listed g c =
     c.requires.listed
     (λ k n. listed-set_other vectors good c.push-2.new.self k n ∙ c.loop-alloc.invariant.lists k) there
     (omega (arith, c.listing_of-least.ensures.place, old.atoms.ok.0, length-atoms_of goods old.atoms.items)) has c.listing_of-least.ensures.price
-    c.listing_of-least.ensures.residues c.listing_of-least.ensures.witness c.listing_of-least.ensures.second)
+    c.listing_of-least.ensures.residues c.listing_of-least.ensures.witness c.listing_of-least.ensures.second c.listing_of-least.ensures.third)
