@@ -87,18 +87,21 @@ pub fn normalise(alloc: Global, text: &[u8], limit: u64) -> Result<Vec<u8>, Cano
 /// still.
 fn is_sparse(file: &BidFile) -> bool {
     let bids = file.bids();
+    // No file has so many goods that it saturates.
+    let mut listed: usize = 0;
+    let mut or_bids: usize = 0;
+    for bid in bids {
+        listed = listed.saturating_add(bid.goods.len());
+        if bid.dummy.is_none() {
+            or_bids = or_bids.saturating_add(1);
+        }
+    }
     let words = usize::from(file.goods() / 64);
-    let or_bids = bids.iter().filter(|bid| bid.dummy.is_none()).count();
     let most = if or_bids > bids.len() / 2 {
         words / 4
     } else {
         words
     };
-    // No file has so many goods that it saturates.
-    let mut listed: usize = 0;
-    for bid in bids {
-        listed = listed.saturating_add(bid.goods.len());
-    }
     listed < bids.len().saturating_mul(most)
 }
 
