@@ -338,9 +338,7 @@ impl Parser {
             return Err(Stop::Fault(Kind::NoEnd));
         }
         let bid = self.take_bid()?;
-        let number = self.draft.number;
-        self.slots.make_room(number, self.header.bids)?;
-        self.slots.put(number, bid)?;
+        self.slots.put(self.draft.number, bid, self.header.bids)?;
         // One is due: the line began where one was.
         self.due = self.due.saturating_sub(1);
         self.column = Column::First;

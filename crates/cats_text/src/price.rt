@@ -101,6 +101,7 @@ pub fn push_price(out: &mut Vec<u8>, millionths: u128) -> Result<(), AllocError>
 }
 
 /// Writes a price that fits 64 bits, so that its text ends at `end`, and tells where it starts.
+#[inline(always)]
 pub fn write_price(millionths: u64, text: &mut [u8], end: usize) -> usize
     requires room { 27 ≤ end }
     requires inside { end ≤ length text.old }

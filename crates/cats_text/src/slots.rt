@@ -43,17 +43,22 @@ impl Front {
         }
     }
 
-    /// Puts a bid behind the others.
+    /// Puts a bid behind the others. At the first one, room is made for the bids of a file with so many.
     #[inline(always)]
-    fn push(&mut self, bid: Bid) -> Result<(), AllocError>
+    fn push(&mut self, bid: Bid, count: u32) -> Result<(), AllocError>
         requires room { length (front_bids self.old) < 2 ^ 32 }
         requires kept { kept_of (keeping_of self.old) (plain_bid bid) ≡ plain_bid bid }
         ensures bids { OnOk result (front_bids self.new ≡ front_bids self.old ++ plain_bid bid ∷ []) }
         ensures keeping { OnOk result (keeping_of self.new ≡ keeping_of self.old) }
     {
         match self {
-            Front::Bids(bids) => bids.push(bid)?,
-            Front::Numbers(count) => *count += 1,
+            Front::Bids(bids) => {
+                if bids.is_empty() {
+                    bids.reserve(count as usize)?;
+                }
+                bids.push(bid)?;
+            }
+            Front::Numbers(number) => *number += 1,
         }
         Ok(())
     }
@@ -113,20 +118,6 @@ impl Slots {
         }
     }
 
-    /// Makes room for all bids of a file before its first one, number 0.
-    #[inline(always)]
-    pub fn make_room(&mut self, number: u32, count: u32) -> Result<(), AllocError>
-        ensures slots { slot_list self.new ≡ slot_list self.old }
-        ensures keeping { keeping_of self.new.front ≡ keeping_of self.old.front }
-    {
-        if number == 0 {
-            if let Front::Bids(bids) = &mut self.front {
-                bids.reserve(count as usize)?;
-            }
-        }
-        Ok(())
-    }
-
     /// Whether the bid of this number has come.
     pub fn has(&self, number: u32) -> bool
         ensures { result ≡ is_some_bid (slice_get (slot_list self.now) number) }
@@ -139,9 +130,9 @@ impl Slots {
         has_at(self.rest.as_slice(), place - in_front)
     }
 
-    /// Puts what is kept of a bid at its number.
+    /// Puts what is kept of a bid of a file with so many at its number.
     #[inline(always)]
-    pub fn put(&mut self, number: u32, bid: Bid) -> Result<(), AllocError>
+    pub fn put(&mut self, number: u32, bid: Bid, count: u32) -> Result<(), AllocError>
         requires { kept_of (keeping_of self.old.front) (plain_bid bid) ≡ plain_bid bid }
         ensures slots { OnOk result (slot_list self.new ≡ put_slot (slot_list self.old) number (plain_bid bid)) }
         ensures keeping { OnOk result (keeping_of self.new.front ≡ keeping_of self.old.front) }
@@ -153,7 +144,7 @@ impl Slots {
             return Ok(());
         }
         if place == in_front && self.rest.is_empty() {
-            return self.front.push(bid);
+            return self.front.push(bid, count);
         }
         put_at(&mut self.rest, place - in_front, bid)
     }

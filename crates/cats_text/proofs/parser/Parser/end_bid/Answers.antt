@@ -15,12 +15,12 @@ returns-clause-reads c =
     let forgotten : progress c.take_bid.new.self ≡ record before { goods = [] } = c.in_ok-bid.ensures.goods in
     let ended : c.args.self.now.column ≡ Ended = search rules in
     let slots : slot_list c.put.new.self ≡ put_slot before.slots before.draft.number (kept_of before.keeping (drafted before)) =
-    c.in_ok-put.ensures.slots ∙ ap (λ ss. put_slot ss c.take_bid.new.self.draft.number (plain_bid c.in_ok-bid.bid)) c.make_room.ensures.slots
+    c.in_ok-put.ensures.slots
     ∙ ap (λ (p : Progress). put_slot p.slots p.draft.number (plain_bid c.in_ok-bid.bid)) forgotten
     ∙ ap (put_slot before.slots before.draft.number) c.in_ok-bid.ensures.bid in
     let due : c.saturating_sub-self.result ≡ before.due - 1 = c.saturating_sub-self.ensures ∙ ap (λ (p : Progress). p.due - 1) forgotten in
     let kept : keeping_of c.put.new.self.front ≡ before.keeping =
-    c.in_ok-put.ensures.keeping ∙ c.make_room.ensures.keeping ∙ ap (λ (p : Progress). p.keeping) forgotten in
+    c.in_ok-put.ensures.keeping ∙ ap (λ (p : Progress). p.keeping) forgotten in
     let made : Progress → Keeping → List (Option PlainBid) → ℕ → Progress = λ p k ss d. record p { keeping = k; column = First; due = d; slots = ss } in
     bid_read-ended before ended
     ∙ ap Ok (ap (λ ss. made (record before { goods = [] }) before.keeping ss (before.due - 1)) (sym slots)
