@@ -10,6 +10,7 @@ ghost use Rattle.std.specs.Prelude.{
   ◌∷◌,
   ◌++◌,
   not,
+  true,
   if◌then◌else◌,
   OnOk,
   OnErr,
@@ -133,21 +134,21 @@ impl GoodList {
         self.goods.is_empty()
     }
 
-    /// Puts a good behind the others unless it has come, and tells whether it was new.
+    /// Puts a good behind the others where they rise and it is above them, and tells whether it did.
     #[inline(always)]
-    pub fn put(&mut self, good: u16) -> Result<bool, AllocError>
-        ensures new { IfOk result (λ is_new. is_new ≡ not (has_number self.old good)) }
-        ensures goods { IfOk result (λ is_new. self.new ≡ (if is_new then self.old ++ good ∷ [] else self.old)) }
+    pub fn put_next(&mut self, good: u16) -> Result<bool, AllocError>
+        ensures new { IfOk result (λ is_put. is_put ≡ true → has_number self.old good ≡ false) }
+        ensures goods { IfOk result (λ is_put. self.new ≡ (if is_put then self.old ++ good ∷ [] else self.old)) }
     {
         if self.rises && goes_on_rising(self.goods.as_slice(), good) {
             self.goods.push(good)?;
             return Ok(true);
         }
-        self.put_by_mark(good)
+        Ok(false)
     }
 
-    /// The same of any good.
-    fn put_by_mark(&mut self, good: u16) -> Result<bool, AllocError>
+    /// Puts a good behind the others unless it has come, and tells whether it was new.
+    pub fn put(&mut self, good: u16) -> Result<bool, AllocError>
         ensures new { IfOk result (λ is_new. is_new ≡ not (has_number self.old good)) }
         ensures goods { IfOk result (λ is_new. self.new ≡ (if is_new then self.old ++ good ∷ [] else self.old)) }
     {

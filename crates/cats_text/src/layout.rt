@@ -43,12 +43,15 @@ const GOOD: usize = 5;
 
 /// As many bytes as the text of these bids has at most. No file is so large that it saturates.
 fn room_for(bids: &[Bid]) -> usize {
-    let mut room = LINE;
+    let mut goods: usize = 0;
     for bid in bids {
-        let goods = bid.goods.len().saturating_mul(GOOD);
-        room = room.saturating_add(LINE).saturating_add(goods);
+        goods = goods.saturating_add(bid.goods.len());
     }
-    room
+    let lines = bids.len().saturating_mul(LINE);
+    goods
+        .saturating_mul(GOOD)
+        .saturating_add(lines)
+        .saturating_add(LINE)
 }
 
 /// Appends the header of a file with so many goods, bids and dummy goods. Where memory is refused, some of it may stand

@@ -238,6 +238,9 @@ impl Parser {
         }
         if value < goods {
             let good = value as u16;
+            if self.goods.put_next(good)? {
+                return Ok(());
+            }
             return if self.goods.put(good)? {
                 Ok(())
             } else {
