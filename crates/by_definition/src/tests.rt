@@ -84,28 +84,57 @@ fn push_goods(
     Ok(())
 }
 
+/// What normalising gave of the text is what is expected.
+fn expect_normal(rt: &impl Abort, found: &[u8], expected: &[u8], text: &str) {
+    assert_eq!(rt; found, expected, "of {text}");
+}
+
+/// Normalising the text gives what is expected, and normalising that gives it back.
+fn expect_canonical(
+    rt: &impl Abort,
+    alloc: Global,
+    text: &str,
+    expected: &[u8],
+) -> Result<(), Fail> {
+    let found = normalise(alloc, text.as_bytes(), AMPLE)?;
+    expect_normal(rt, &found, expected, text);
+    let again = normalise(alloc, &found, AMPLE)?;
+    expect_normal(rt, &again, expected, text);
+    Ok(())
+}
+
+/// The answer about the text is the canonical one.
+fn expect_light(rt: &impl Abort, answer: Result<Vec<u8>, CanonFault>, expected: &[u8], text: &str) {
+    let Ok(light) = answer else {
+        panic!(rt; "another answer of {text}");
+    };
+    expect_normal(rt, &light, expected, text);
+}
+
+/// The answer about the text is that this bundle is heavy.
+fn expect_heavy(rt: &impl Abort, answer: Result<Vec<u8>, CanonFault>, bundle: &[u16], text: &str) {
+    let Err(CanonFault::StepLimit { goods }) = answer else {
+        panic!(rt; "another answer of {text}");
+    };
+    assert_eq!(rt; goods.as_slice(), bundle, "of {text}");
+}
+
 /// The text is what the definition gives, normalising it gives it back, and under the limit the first heavy bundle is
 /// told. Answers whether there is one.
 fn expect_text(rt: &impl Abort, alloc: Global, text: &str, limit: u64) -> Result<bool, Fail> {
     let file = read(alloc, text.as_bytes())?;
     let expected = canonical_text(alloc, &file)?;
-    let found = normalise(alloc, text.as_bytes(), AMPLE)?;
-    assert_eq!(rt; found.as_slice(), expected.as_slice(), "of {text}");
-    let again = normalise(alloc, found.as_slice(), AMPLE)?;
-    assert_eq!(rt; again.as_slice(), expected.as_slice(), "of {text}");
-    match (
-        first_heavy(alloc, &file, limit)?,
-        normalise(alloc, text.as_bytes(), limit),
-    ) {
-        (None, Ok(light)) => {
-            assert_eq!(rt; light.as_slice(), expected.as_slice(), "of {text}");
+    expect_canonical(rt, alloc, text, &expected)?;
+    let answer = normalise(alloc, text.as_bytes(), limit);
+    match first_heavy(alloc, &file, limit)? {
+        None => {
+            expect_light(rt, answer, &expected, text);
             Ok(false)
         }
-        (Some(bundle), Err(CanonFault::StepLimit { goods })) => {
-            assert_eq!(rt; goods.as_slice(), bundle.as_slice(), "of {text}");
+        Some(bundle) => {
+            expect_heavy(rt, answer, &bundle, text);
             Ok(true)
         }
-        _ => panic!(rt; "another answer of {text}"),
     }
 }
 
@@ -187,16 +216,28 @@ fn first_same(alloc: Global, members: &[Member], one: &Member) -> Result<usize, 
     Ok(members.len())
 }
 
+/// The member's file, added to the index, has the place of the first member that is the same auction.
+fn expect_place(
+    rt: &impl Abort,
+    alloc: Global,
+    index: &mut AuctionIndex,
+    members: &[Member],
+    member: &Member,
+) -> Result<(), Fail> {
+    let expected = first_same(alloc, members, member)?;
+    let file = read(alloc, member.text.as_bytes())?;
+    let place = index.add(alloc, file, AMPLE)?;
+    assert_eq!(rt; place, expected);
+    Ok(())
+}
+
 /// Files that are added one by one have the place of the first of their auction.
 #[test]
 fn places_are_by_definition(rt: HostRuntime) -> Result<(), Fail> {
     let members = first_members(rt.alloc(), 300)?;
     let mut index = AuctionIndex::new(rt.alloc());
     for member in &members {
-        let expected = first_same(rt.alloc(), members.as_slice(), member)?;
-        let file = read(rt.alloc(), member.text.as_bytes())?;
-        let place = index.add(rt.alloc(), file, AMPLE)?;
-        assert_eq!(rt; place, expected);
+        expect_place(&rt, rt.alloc(), &mut index, &members, member)?;
     }
     Ok(())
 }
@@ -227,6 +268,14 @@ fn exchanged(verdict: Verdict) -> Verdict {
     }
 }
 
+/// The verdict on the two texts.
+fn verdict_on(rt: &impl Abort, alloc: Global, one: &Member, other: &Member) -> Verdict {
+    let Ok(verdict) = compare(alloc, one.text.as_bytes(), other.text.as_bytes(), AMPLE) else {
+        panic!(rt; "the texts are compared");
+    };
+    verdict
+}
+
 /// The verdict is the first difference by the definition, and the other way round it is exchanged. Answers it.
 fn expect_verdict(
     rt: &impl Abort,
@@ -235,15 +284,37 @@ fn expect_verdict(
     other: &Member,
 ) -> Result<Verdict, Fail> {
     let expected = first_difference(alloc, &one.file, &other.file)?;
-    let Ok(there) = compare(alloc, one.text.as_bytes(), other.text.as_bytes(), AMPLE) else {
-        panic!(rt; "the texts are compared");
-    };
-    assert_eq!(rt; there, expected);
-    let Ok(back) = compare(alloc, other.text.as_bytes(), one.text.as_bytes(), AMPLE) else {
-        panic!(rt; "the texts are compared the other way round");
-    };
-    assert_eq!(rt; exchanged(back), expected);
+    assert_eq!(rt; verdict_on(rt, alloc, one, other), expected);
+    let back = exchanged(verdict_on(rt, alloc, other, one));
+    assert_eq!(rt; back, expected);
     Ok(expected)
+}
+
+/// The fault tells this bundle.
+fn expect_step_limit(rt: &impl Abort, fault: CanonFault, bundle: Option<Vec<u16>>) {
+    let CanonFault::StepLimit { goods } = fault else {
+        panic!(rt; "the step limit is told");
+    };
+    assert_eq!(rt; bundle, Some(goods));
+}
+
+/// The answer refuses the first of two texts that has a heavy bundle, where these are the first of each.
+fn expect_refused(
+    rt: &impl Abort,
+    answer: Result<Verdict, (Which, CanonFault)>,
+    heavy: Option<Vec<u16>>,
+    other_heavy: Option<Vec<u16>>,
+) {
+    match answer {
+        Ok(_verdict) => {
+            assert!(rt; heavy.is_none() && other_heavy.is_none());
+        }
+        Err((which, fault)) => {
+            assert_eq!(rt; which == Which::First, heavy.is_some());
+            assert_eq!(rt; which == Which::Second, heavy.is_none());
+            expect_step_limit(rt, fault, heavy.or(other_heavy));
+        }
+    }
 }
 
 /// Under a limit of one step the first heavy bundle of the first text that has one is told.
@@ -255,20 +326,8 @@ fn expect_refusal(
 ) -> Result<(), Fail> {
     let heavy = first_heavy(alloc, &one.file, 1)?;
     let other_heavy = first_heavy(alloc, &other.file, 1)?;
-    let (which, fault) = match compare(alloc, one.text.as_bytes(), other.text.as_bytes(), 1) {
-        Ok(_verdict) => {
-            assert!(rt; heavy.is_none() && other_heavy.is_none());
-            return Ok(());
-        }
-        Err(refusal) => refusal,
-    };
-    let CanonFault::StepLimit { goods } = fault else {
-        panic!(rt; "the step limit is told");
-    };
-    assert_eq!(rt; which == Which::First, heavy.is_some());
-    assert_eq!(rt; which == Which::Second, heavy.is_none());
-    let bundle = heavy.or(other_heavy);
-    assert_eq!(rt; bundle, Some(goods));
+    let answer = compare(alloc, one.text.as_bytes(), other.text.as_bytes(), 1);
+    expect_refused(rt, answer, heavy, other_heavy);
     Ok(())
 }
 
