@@ -1,6 +1,6 @@
 //! Auctions of files, and the orders of atoms and bidders, on both kinds of sets.
 
-use crate::bids::{Offer, UNIT, atoms_on, bundle_of};
+use crate::bids::{Offer, UNIT, atoms_on, expect_bid};
 use cats_text::{Bid, BidFile};
 use goods_set::{GoodsSet, ListSet, WordSet};
 use std::alloc::Global;
@@ -34,11 +34,8 @@ fn expect_atom<S: GoodsSet>(
     goods: &[u16],
     price: u64,
 ) -> Result<(), Fail> {
-    let bundle = bundle_of::<S>(rt, alloc, goods)?;
     assert_eq!(rt; atoms.len(), 1);
-    assert_eq!(rt; atoms[0].price, price);
-    assert_eq!(rt; atoms[0].bundle.order(&bundle), Ordering::Equal);
-    Ok(())
+    Ok(expect_bid(rt, alloc, &atoms[0], goods, price)?)
 }
 
 fn expect_small_auction<S: GoodsSet>(
@@ -83,13 +80,29 @@ static BIDDERS: [&[Offer]; 5] = [
     &[(&[0, 1], 1)],
 ];
 
+// The order of the ones at the places i and j is that of their places.
+fn expect_order(rt: &impl Abort, order: Ordering, i: usize, j: usize) {
+    assert_eq!(rt; order, i.cmp(&j), "{i} and {j}");
+}
+
+// The bidder at the place i stands in order with each.
+fn bidder_in_order<S: GoodsSet>(
+    rt: &impl Abort,
+    alloc: Global,
+    one: &[Atom<S>],
+    i: usize,
+) -> Result<(), Fail> {
+    for (j, others) in BIDDERS.iter().enumerate() {
+        let other = atoms_on::<S>(rt, alloc, others)?;
+        expect_order(rt, compare_bidders(one, &other), i, j);
+    }
+    Ok(())
+}
+
 fn bidders_in_order<S: GoodsSet>(rt: &impl Abort, alloc: Global) -> Result<(), Fail> {
     for (i, some) in BIDDERS.iter().enumerate() {
         let one = atoms_on::<S>(rt, alloc, some)?;
-        for (j, others) in BIDDERS.iter().enumerate() {
-            let other = atoms_on::<S>(rt, alloc, others)?;
-            assert_eq!(rt; compare_bidders(&one, &other), i.cmp(&j), "{i} and {j}");
-        }
+        bidder_in_order(rt, alloc, &one, i)?;
     }
     Ok(())
 }
@@ -101,7 +114,7 @@ fn atoms_in_order<S: GoodsSet>(rt: &impl Abort, alloc: Global) -> Result<(), Fai
     let atoms = atoms_on::<S>(rt, alloc, &ATOMS)?;
     for (i, one) in atoms.iter().enumerate() {
         for (j, other) in atoms.iter().enumerate() {
-            assert_eq!(rt; compare_atoms(one, other), i.cmp(&j), "{i} and {j}");
+            expect_order(rt, compare_atoms(one, other), i, j);
         }
     }
     Ok(())

@@ -6,7 +6,8 @@ ghost use Rattle.valuation.specs.Values.{atoms_of};
 
 use cats_text::MAX_GOODS;
 use goods_set::GoodsSet;
-use std::alloc::Global;
+use std::alloc::{AllocError, Global};
+use std::cmp::Ordering;
 use std::process::Abort;
 use std::test::Fail;
 use valuation::Atom;
@@ -17,13 +18,64 @@ pub const UNIT: u64 = 1_000_000;
 // The goods of a bid, and its price.
 pub type Offer = (&'static [u16], u64);
 
-pub fn bundle_of<S: GoodsSet>(rt: &impl Abort, alloc: Global, goods: &[u16]) -> Result<S, Fail> {
+// Puts a good in that the sets can hold, and says whether it is new.
+pub fn put_good<S: GoodsSet>(
+    rt: &impl Abort,
+    bundle: &mut S,
+    good: u16,
+) -> Result<bool, AllocError> {
+    assert!(rt; u32::from(good) < S::cap());
+    bundle.put(good)
+}
+
+pub fn bundle_of<S: GoodsSet>(
+    rt: &impl Abort,
+    alloc: Global,
+    goods: &[u16],
+) -> Result<S, AllocError> {
     let mut bundle = S::empty(alloc)?;
     for good in goods {
-        assert!(rt; u32::from(*good) < S::cap());
-        bundle.put(*good)?;
+        put_good(rt, &mut bundle, *good)?;
     }
     Ok(bundle)
+}
+
+// The bundle has these goods.
+pub fn expect_bundle<S: GoodsSet>(
+    rt: &impl Abort,
+    alloc: Global,
+    bundle: &S,
+    goods: &[u16],
+) -> Result<(), AllocError> {
+    let expected = bundle_of::<S>(rt, alloc, goods)?;
+    assert_eq!(rt; bundle.order(&expected), Ordering::Equal);
+    Ok(())
+}
+
+// The bid offers this price for these goods.
+pub fn expect_bid<S: GoodsSet>(
+    rt: &impl Abort,
+    alloc: Global,
+    bid: &Atom<S>,
+    goods: &[u16],
+    price: u64,
+) -> Result<(), AllocError> {
+    assert_eq!(rt; bid.price, price);
+    expect_bundle(rt, alloc, &bid.bundle, goods)
+}
+
+// These are the goods.
+pub fn expect_goods(rt: &impl Abort, goods: &[u16], expected: &[u16]) {
+    assert_eq!(rt; goods, expected);
+}
+
+// The goods below `count`.
+pub fn goods_below(alloc: Global, count: u16) -> Result<Vec<u16>, AllocError> {
+    let mut goods = Vec::new(alloc);
+    for good in 0..count {
+        goods.push(good)?;
+    }
+    Ok(goods)
 }
 
 pub fn add_atom<S: GoodsSet>(

@@ -1,5 +1,6 @@
 //! What is seen of sets of both kinds, at worked examples. Each call is made with ample memory, so
 //! that it has to succeed.
+use crate::bids::{expect_goods, put_good};
 use goods_set::{GoodsSet, ListSet, WordSet, goods_of, may_be_inside};
 use std::alloc::Global;
 use std::cmp::Ordering;
@@ -9,8 +10,8 @@ use std::test::Fail;
 fn set_of<S: GoodsSet>(rt: &impl Abort, alloc: Global, goods: &[u16]) -> Result<S, Fail> {
     let mut set = S::empty(alloc)?;
     for good in goods {
-        assert!(rt; u32::from(*good) < S::cap());
-        assert!(rt; set.put(*good)?);
+        let is_new = put_good(rt, &mut set, *good)?;
+        assert!(rt; is_new);
     }
     Ok(set)
 }
@@ -32,10 +33,10 @@ fn put_and_ask<S: GoodsSet>(rt: &impl Abort, alloc: Global) -> Result<(), Fail> 
 
 fn copy_and_list<S: GoodsSet>(rt: &impl Abort, alloc: Global) -> Result<(), Fail> {
     let copy = set_of::<S>(rt, alloc, &[5, 3])?.copy()?;
-    assert_eq!(rt; goods_of(alloc, &copy)?.as_slice(), [3, 5].as_slice());
+    expect_goods(rt, &goods_of(alloc, &copy)?, &[3, 5]);
     let mut listed = [7].to_vec(alloc)?;
     copy.list_into(&mut listed)?;
-    assert_eq!(rt; listed.as_slice(), [7, 3, 5].as_slice());
+    expect_goods(rt, &listed, &[7, 3, 5]);
     Ok(())
 }
 
@@ -43,7 +44,7 @@ fn give_and_take_back<S: GoodsSet>(rt: &impl Abort, alloc: Global) -> Result<(),
     assert!(rt; S::cap() > 9);
     let given = S::from_rising(alloc, [3, 5].to_vec(alloc)?)?;
     assert_eq!(rt; given.size(), 2);
-    assert_eq!(rt; given.into_list(alloc)?.as_slice(), [3, 5].as_slice());
+    expect_goods(rt, &given.into_list(alloc)?, &[3, 5]);
     Ok(())
 }
 
@@ -118,18 +119,19 @@ fn words_hold_goods(rt: HostRuntime) -> Result<(), Fail> {
     hold_goods::<WordSet<16>>(&rt, rt.alloc())
 }
 
+// The set of this good alone has it, and none behind it.
+fn hold_last_good<S: GoodsSet>(rt: &impl Abort, alloc: Global, last: u16) -> Result<(), Fail> {
+    let set = set_of::<S>(rt, alloc, &[last])?;
+    assert_eq!(rt; set.next_from(u32::from(last)), Some(last));
+    assert_eq!(rt; set.next_from(u32::from(last) + 1), None);
+    Ok(())
+}
+
 #[test]
 fn last_goods_of_each_type(rt: HostRuntime) -> Result<(), Fail> {
-    let alloc = rt.alloc();
-    let list = set_of::<ListSet>(&rt, alloc, &[65_535])?;
-    assert_eq!(rt; list.next_from(65_535), Some(65_535));
-    assert_eq!(rt; list.next_from(65_536), None);
-    let one_word = set_of::<WordSet<1>>(&rt, alloc, &[63])?;
-    assert_eq!(rt; one_word.next_from(63), Some(63));
-    assert_eq!(rt; one_word.next_from(64), None);
-    let most_words = set_of::<WordSet<1024>>(&rt, alloc, &[65_535])?;
-    assert_eq!(rt; most_words.next_from(65_535), Some(65_535));
-    assert_eq!(rt; most_words.next_from(65_536), None);
+    hold_last_good::<ListSet>(&rt, rt.alloc(), 65_535)?;
+    hold_last_good::<WordSet<1>>(&rt, rt.alloc(), 63)?;
+    hold_last_good::<WordSet<1024>>(&rt, rt.alloc(), 65_535)?;
     let caps = [
         ListSet::cap(),
         WordSet::<0>::cap(),
@@ -150,7 +152,7 @@ fn words_past_the_last_lanes_count(rt: HostRuntime) -> Result<(), Fail> {
     assert!(rt; !both.is_inside(&three));
     assert!(rt; !both.is_apart(&last));
     both.take_out(&last);
-    assert_eq!(rt; goods_of(alloc, &both)?.as_slice(), [3].as_slice());
+    expect_goods(&rt, &goods_of(alloc, &both)?, &[3]);
     Ok(())
 }
 

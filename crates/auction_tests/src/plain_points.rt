@@ -18,7 +18,7 @@ fn is_part<S: GoodsSet>(part: &S, bundle: &S) -> bool
 }
 
 /// What the part leaves of the bundle.
-fn left_of<S: GoodsSet>(bundle: &S, part: &S) -> Result<S, AllocError>
+pub fn left_of<S: GoodsSet>(bundle: &S, part: &S) -> Result<S, AllocError>
     ensures { IfOk result (λ left. S.goods left ≡ without (S.goods bundle.now) (S.goods part.now)) }
 {
     let mut left = bundle.copy()?;

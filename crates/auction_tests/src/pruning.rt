@@ -4,14 +4,17 @@ ghost use Rattle.cats_text.specs.declared.limits.TheConstants.{MAX_GOODS};
 ghost use Rattle.valuation.specs.Auctions.{IsAtom};
 ghost use Rattle.valuation.specs.Values.{atoms_of};
 
-use crate::bids::{Offer, UNIT, add_atom, atoms_on, bundle_of, next_number};
+use crate::bids::{
+    Offer, UNIT, add_atom, atoms_on, bundle_of, expect_bid, expect_bundle, goods_below, next_number,
+};
 use crate::plain_points as plain;
 use cats_text::MAX_GOODS;
 use goods_set::{GoodsSet, ListSet, WordSet};
 use prune::{PruneFault, prune_or, prune_xor};
-use std::alloc::Global;
+use std::alloc::{AllocError, Global};
 use std::cmp::Ordering;
 use std::process::Abort;
+use std::slice::Iter;
 use std::test::Fail;
 use valuation::{Atom, or_value, xor_value};
 
@@ -25,10 +28,8 @@ fn expect_bids<S: GoodsSet>(
     offers: &[Offer],
 ) -> Result<(), Fail> {
     assert_eq!(rt; bids.len(), offers.len());
-    for (bid, (goods, price)) in bids.iter().zip(offers) {
-        let bundle = bundle_of::<S>(rt, alloc, goods)?;
-        assert_eq!(rt; bid.bundle.order(&bundle), Ordering::Equal);
-        assert_eq!(rt; bid.price, *price);
+    for (place, (goods, price)) in offers.iter().enumerate() {
+        expect_bid(rt, alloc, &bids[place], goods, *price)?;
     }
     Ok(())
 }
@@ -92,9 +93,7 @@ fn expect_or<S: GoodsSet>(
     match (prune_or(alloc, bids, limit), pruned) {
         (Ok(kept), Pruned::To(points)) => expect_bids(rt, alloc, &kept, points),
         (Err(PruneFault::StepLimit { bundle }), Pruned::StoppedAt(goods)) => {
-            let expected = bundle_of::<S>(rt, alloc, goods)?;
-            assert_eq!(rt; bundle.order(&expected), Ordering::Equal);
-            Ok(())
+            Ok(expect_bundle(rt, alloc, &bundle, goods)?)
         }
         _ => panic!(rt; "the other answer, or no memory"),
     }
@@ -174,40 +173,49 @@ fn or_steps_on_both_sets(rt: HostRuntime) -> Result<(), Fail> {
     each_or_row::<WordSet<64>>(&rt, rt.alloc(), &STEP_ROWS)
 }
 
-// The bids 0:1 to (n-1):1, then n on all goods but the last, then n + 2 on all.
-fn step_bomb<S: GoodsSet>(
-    rt: &impl Abort,
-    alloc: Global,
-    n: u16,
-) -> Result<(Vec<Atom<S>>, Vec<u16>), Fail>
-    ensures { IfOk result (λ r. All (IsAtom MAX_GOODS) (atoms_of S.goods r.0.items)) }
+// The goods and the price of the bid of the bomb below that is given at this place.
+fn bomb_bid(alloc: Global, n: u16, place: u16) -> Result<(Vec<u16>, u64), AllocError> {
+    match place {
+        0 => Ok((goods_below(alloc, n.saturating_sub(1))?, u64::from(n))),
+        1 => Ok((goods_below(alloc, n)?, u64::from(n) + 2)),
+        _ => Ok((vec![in alloc; place.saturating_sub(2)]?, 1)),
+    }
+}
+
+// The bids 0:1 to (n-1):1, then n on all goods but the last, then n + 2 on all; the last two are given first.
+fn step_bomb<S: GoodsSet>(rt: &impl Abort, alloc: Global, n: u16) -> Result<Vec<Atom<S>>, Fail>
+    ensures { IfOk result (λ bids. All (IsAtom MAX_GOODS) (atoms_of S.goods bids.items)) }
 {
     assert!(rt; 0 < n && n < 1000);
     let mut bids = Vec::new(alloc);
-    let mut goods = Vec::new(alloc);
-    for good in 0..n {
-        if good + 1 == n {
-            add_atom(rt, alloc, &mut bids, &goods, u64::from(n))?;
-        }
-        goods.push(good)?;
+    for place in 0..n + 2 {
+        let (goods, price) = bomb_bid(alloc, n, place)?;
+        add_atom(rt, alloc, &mut bids, &goods, price)?;
     }
-    add_atom(rt, alloc, &mut bids, &goods, u64::from(n) + 2)?;
-    for good in 0..n {
-        add_atom(rt, alloc, &mut bids, &[good], 1)?;
-    }
-    Ok((bids, goods))
+    Ok(bids)
+}
+
+// The pruning was stopped at the bundle of all goods below n.
+fn expect_stop<S: GoodsSet>(
+    rt: &impl Abort,
+    alloc: Global,
+    answer: Result<Vec<Atom<S>>, PruneFault<S>>,
+    n: u16,
+) -> Result<(), Fail> {
+    let Err(PruneFault::StepLimit { bundle }) = answer else {
+        panic!(rt; "the step limit is told");
+    };
+    Ok(expect_bundle(rt, alloc, &bundle, &goods_below(alloc, n)?)?)
+}
+
+fn stopped_bomb<S: GoodsSet>(rt: &impl Abort, alloc: Global, n: u16) -> Result<(), Fail> {
+    let bids = step_bomb::<S>(rt, alloc, n)?;
+    expect_stop(rt, alloc, prune_or(alloc, bids, 1_000_000), n)
 }
 
 fn bombs<S: GoodsSet>(rt: &impl Abort, alloc: Global) -> Result<(), Fail> {
-    let (bids, goods) = step_bomb::<S>(rt, alloc, 20)?;
-    let Err(PruneFault::StepLimit { bundle }) = prune_or(alloc, bids, 1_000_000) else {
-        panic!(rt; "the step limit is told");
-    };
-    assert_eq!(rt;
-        bundle.order(&bundle_of(rt, alloc, &goods)?),
-        Ordering::Equal
-    );
-    let (bids, _) = step_bomb::<S>(rt, alloc, 20)?;
+    stopped_bomb::<S>(rt, alloc, 20)?;
+    let bids = step_bomb::<S>(rt, alloc, 20)?;
     let Ok(kept) = prune_or(alloc, bids, 1_048_575) else {
         panic!(rt; "the bids are pruned");
     };
@@ -220,7 +228,7 @@ fn bombs<S: GoodsSet>(rt: &impl Abort, alloc: Global) -> Result<(), Fail> {
         };
         assert_eq!(rt; bid.price, price);
     }
-    let (bids, _) = step_bomb::<S>(rt, alloc, 20)?;
+    let bids = step_bomb::<S>(rt, alloc, 20)?;
     assert!(rt; prune_or(alloc, bids, 1_048_574).is_err());
     Ok(())
 }
@@ -231,25 +239,13 @@ fn many_steps_on_both_sets(rt: HostRuntime) -> Result<(), Fail> {
     bombs::<WordSet<64>>(&rt, rt.alloc())
 }
 
-fn endless<S: GoodsSet>(rt: &impl Abort, alloc: Global, n: u16) -> Result<(), Fail> {
-    let (bids, goods) = step_bomb::<S>(rt, alloc, n)?;
-    let Err(PruneFault::StepLimit { bundle }) = prune_or(alloc, bids, 1_000_000) else {
-        panic!(rt; "the step limit is told");
-    };
-    assert_eq!(rt;
-        bundle.order(&bundle_of(rt, alloc, &goods)?),
-        Ordering::Equal
-    );
-    Ok(())
-}
-
 // A search that goes on behind its limit would not end here in anybody's lifetime, on few goods or on many.
 #[test]
 fn search_stops_at_its_limit(rt: HostRuntime) -> Result<(), Fail> {
-    endless::<ListSet>(&rt, rt.alloc(), 60)?;
-    endless::<ListSet>(&rt, rt.alloc(), 100)?;
-    endless::<WordSet<64>>(&rt, rt.alloc(), 60)?;
-    endless::<WordSet<64>>(&rt, rt.alloc(), 100)
+    stopped_bomb::<ListSet>(&rt, rt.alloc(), 60)?;
+    stopped_bomb::<ListSet>(&rt, rt.alloc(), 100)?;
+    stopped_bomb::<WordSet<64>>(&rt, rt.alloc(), 60)?;
+    stopped_bomb::<WordSet<64>>(&rt, rt.alloc(), 100)
 }
 
 // The bids 1:{0}, 2:{0,1}, 3:{0,1,2} and so on, each inside the next.
@@ -257,12 +253,22 @@ fn nested_bids<S: GoodsSet>(rt: &impl Abort, alloc: Global, n: u16) -> Result<Ve
     ensures { IfOk result (λ bids. All (IsAtom MAX_GOODS) (atoms_of S.goods bids.items)) }
 {
     let mut bids = Vec::new(alloc);
-    let mut goods = Vec::new(alloc);
     for good in 0..n {
-        goods.push(good)?;
+        let goods = goods_below(alloc, good + 1)?;
         add_atom(rt, alloc, &mut bids, &goods, u64::from(good) + 1)?;
     }
     Ok(bids)
+}
+
+// The pruned bids, where the pruning was not stopped.
+fn pruned_bids<S: GoodsSet>(
+    rt: &impl Abort,
+    answer: Result<Vec<Atom<S>>, PruneFault<S>>,
+) -> Vec<Atom<S>> {
+    let Ok(kept) = answer else {
+        panic!(rt; "the bids are pruned");
+    };
+    kept
 }
 
 // The search in the greatest bundle enters the empty family and each bid alone but the last, whose price does not
@@ -270,9 +276,7 @@ fn nested_bids<S: GoodsSet>(rt: &impl Abort, alloc: Global, n: u16) -> Result<Ve
 fn nested<S: GoodsSet>(rt: &impl Abort, alloc: Global) -> Result<(), Fail> {
     for n in [60, 80] {
         let bids = nested_bids::<S>(rt, alloc, n)?;
-        let Ok(kept) = prune_or(alloc, bids, u64::from(n) - 1) else {
-            panic!(rt; "the bids are pruned");
-        };
+        let kept = pruned_bids(rt, prune_or(alloc, bids, u64::from(n) - 1));
         assert_eq!(rt; kept.len(), usize::from(n));
         let bids = nested_bids::<S>(rt, alloc, n)?;
         assert!(rt; prune_or(alloc, bids, u64::from(n) - 2).is_err());
@@ -306,9 +310,7 @@ fn one_bundle<S: GoodsSet>(rt: &impl Abort, alloc: Global) -> Result<(), Fail> {
         &[(&[0], 65_535_000_000)],
     )?;
     let bids = bids_on_one_bundle::<S>(rt, alloc)?;
-    let Ok(kept) = prune_or(alloc, bids, 1) else {
-        panic!(rt; "the bids are pruned");
-    };
+    let kept = pruned_bids(rt, prune_or(alloc, bids, 1));
     expect_bids(rt, alloc, &kept, &[(&[0], 65_535_000_000)])
 }
 
@@ -329,6 +331,13 @@ fn small_bundles<S: GoodsSet>(rt: &impl Abort, alloc: Global) -> Result<Vec<S>, 
     Ok(bundles)
 }
 
+// The goods and the price of a bid of the family.
+fn family_bid(state: &mut u64) -> Result<Offer, Fail> {
+    let place = next_number(state) % 7 + 1;
+    let goods = SMALL_BUNDLES.get(place as usize).ok_or("no bundle")?;
+    Ok((goods, next_number(state) % 6))
+}
+
 // The bids of one auction of the family: up to eight, on nonempty bundles over three goods, at prices below 6.
 fn family_bids<S: GoodsSet>(rt: &impl Abort, alloc: Global, seed: u64) -> Result<Vec<Atom<S>>, Fail>
     ensures { IfOk result (λ bids. All (IsAtom MAX_GOODS) (atoms_of S.goods bids.items)) }
@@ -336,12 +345,22 @@ fn family_bids<S: GoodsSet>(rt: &impl Abort, alloc: Global, seed: u64) -> Result
     let mut state = seed;
     let mut bids = Vec::new(alloc);
     for _i in 0..next_number(&mut state) % 9 {
-        let place = next_number(&mut state) % 7 + 1;
-        let goods = SMALL_BUNDLES.get(place as usize).ok_or("no bundle")?;
-        let price = next_number(&mut state) % 6;
+        let (goods, price) = family_bid(&mut state)?;
         add_atom(rt, alloc, &mut bids, goods, price)?;
     }
     Ok(bids)
+}
+
+// The next of the pruned bids is on this bundle, at this price.
+fn expect_point<S: GoodsSet>(
+    rt: &impl Abort,
+    found: &mut Iter<'_, Atom<S>>,
+    bundle: &S,
+    price: u128,
+) {
+    let point = found.next().expect(rt, "a point");
+    assert_eq!(rt; point.bundle.order(bundle), Ordering::Equal);
+    assert_eq!(rt; u128::from(point.price), price);
 }
 
 // The pruned OR bids are exactly the points that the plain test finds, in order.
@@ -352,16 +371,13 @@ fn or_agrees<S: GoodsSet>(
     seed: u64,
 ) -> Result<(), Fail> {
     let all = family_bids::<S>(rt, alloc, seed)?;
-    let Ok(kept) = prune_or(alloc, family_bids::<S>(rt, alloc, seed)?, AMPLE) else {
-        panic!(rt; "the bids are pruned");
-    };
+    let bids = family_bids::<S>(rt, alloc, seed)?;
+    let kept = pruned_bids(rt, prune_or(alloc, bids, AMPLE));
     let mut found = kept.iter();
     for bundle in bundles {
         if plain::is_or_point(alloc, bundles, &all, bundle)? {
-            let point = found.next().expect(rt, "a point");
             let value = or_value(alloc, &all, bundle, AMPLE)?.value;
-            assert_eq!(rt; point.bundle.order(bundle), Ordering::Equal);
-            assert_eq!(rt; u128::from(point.price), value);
+            expect_point(rt, &mut found, bundle, value);
         }
     }
     assert!(rt; found.next().is_none());
@@ -380,9 +396,8 @@ fn xor_agrees<S: GoodsSet>(
     let mut found = kept.iter();
     for bundle in bundles {
         if plain::is_xor_point(bundles, &all, bundle)? {
-            let point = found.next().expect(rt, "a point");
-            assert_eq!(rt; point.bundle.order(bundle), Ordering::Equal);
-            assert_eq!(rt; point.price, xor_value(&all, bundle).0);
+            let value = xor_value(&all, bundle).0;
+            expect_point(rt, &mut found, bundle, u128::from(value));
         }
     }
     assert!(rt; found.next().is_none());

@@ -4,14 +4,14 @@ ghost use Rattle.cats_text.specs.declared.limits.TheConstants.{MAX_GOODS};
 ghost use Rattle.valuation.specs.Auctions.{IsAtom};
 ghost use Rattle.valuation.specs.Values.{atoms_of};
 
-use crate::bids::{Offer, add_atom, atoms_on, bundle_of, next_number};
+use crate::bids::{Offer, add_atom, atoms_on, bundle_of, next_number, put_good};
 use crate::plain_values as plain;
 use cats_text::{MAX_GOODS, MAX_PRICE};
 use goods_set::{GoodsSet, ListSet, WordSet};
 use std::alloc::Global;
 use std::process::Abort;
 use std::test::Fail;
-use valuation::{Atom, ValueFault, or_value, xor_value};
+use valuation::{Atom, Packing, ValueFault, or_value, xor_value};
 
 // The atoms i:price, for each good i below `count`.
 fn singles<S: GoodsSet>(
@@ -33,8 +33,7 @@ fn singles<S: GoodsSet>(
 fn all_goods<S: GoodsSet>(rt: &impl Abort, alloc: Global, count: u16) -> Result<S, Fail> {
     let mut bundle = S::empty(alloc)?;
     for good in 0..count {
-        assert!(rt; u32::from(good) < S::cap());
-        bundle.put(good)?;
+        put_good(rt, &mut bundle, good)?;
     }
     Ok(bundle)
 }
@@ -105,7 +104,9 @@ const TRIPLE: &[Offer] = &[(&[0], 1), (&[1], 1), (&[2], 1), (&[0, 1, 2], 4)];
 const DECIMALS: &[Offer] = &[(&[0], 1_500_000), (&[1], 2_250_000), (&[0, 1], 3_750_000)];
 
 // Offers, a bundle and a limit, and what is found.
-static OR_ROWS: [(&[Offer], &[u16], u64, Found); 9] = [
+type OrRow = (&'static [Offer], &'static [u16], u64, Found);
+
+static OR_ROWS: [OrRow; 9] = [
     (&[], &[], 0, None),
     (&[], &[], 1, Some((0, &[]))),
     (&[(&[0], 0)], &[0], 2, Some((0, &[]))),
@@ -117,11 +118,16 @@ static OR_ROWS: [(&[Offer], &[u16], u64, Found); 9] = [
     (DECIMALS, &[0, 1], 5, Some((3_750_000, &[2]))),
 ];
 
+fn or_row<S: GoodsSet>(rt: &impl Abort, alloc: Global, row: &OrRow) -> Result<(), Fail> {
+    let (offers, goods, limit, found) = *row;
+    let atoms = atoms_on::<S>(rt, alloc, offers)?;
+    let bundle = bundle_of::<S>(rt, alloc, goods)?;
+    expect_found(rt, alloc, &atoms, &bundle, limit, found)
+}
+
 fn or_values<S: GoodsSet>(rt: &impl Abort, alloc: Global) -> Result<(), Fail> {
-    for (offers, goods, limit, found) in &OR_ROWS {
-        let atoms = atoms_on::<S>(rt, alloc, offers)?;
-        let bundle = bundle_of::<S>(rt, alloc, goods)?;
-        expect_found(rt, alloc, &atoms, &bundle, *limit, *found)?;
+    for row in &OR_ROWS {
+        or_row::<S>(rt, alloc, row)?;
     }
     Ok(())
 }
@@ -133,6 +139,17 @@ fn or_values_on_both_sets(rt: HostRuntime) -> Result<(), Fail> {
     or_values::<WordSet<64>>(&rt, rt.alloc())
 }
 
+// The search stopped at its limit.
+fn expect_step_limit(rt: &impl Abort, answer: Result<Packing, ValueFault>) {
+    let fault = answer.expect_err(rt, "no value");
+    assert_eq!(rt; fault, ValueFault::StepLimit);
+}
+
+// These places were found.
+fn expect_places(rt: &impl Abort, places: &[usize], expected: &[usize]) {
+    assert_eq!(rt; places, expected);
+}
+
 const ALL_PLACES: &[usize] = &[
     0, 1, 2, 3, 4, 5, 6, 7, 8, 9, 10, 11, 12, 13, 14, 15, 16, 17, 18,
 ];
@@ -142,9 +159,8 @@ fn greatest_prices<S: GoodsSet>(rt: &impl Abort, alloc: Global) -> Result<(), Fa
     let bundle = all_goods::<S>(rt, alloc, 19)?;
     let packing = or_value(alloc, &atoms, &bundle, 1 << 19).expect(rt, "a value");
     assert_eq!(rt; packing.value, 19_000_000_000_000_000_000);
-    assert_eq!(rt; packing.members.as_slice(), ALL_PLACES);
-    let fault = or_value(alloc, &atoms, &bundle, (1 << 19) - 1).expect_err(rt, "no value");
-    assert_eq!(rt; fault, ValueFault::StepLimit);
+    expect_places(rt, &packing.members, ALL_PLACES);
+    expect_step_limit(rt, or_value(alloc, &atoms, &bundle, (1 << 19) - 1));
     Ok(())
 }
 
@@ -163,8 +179,7 @@ fn many_packings<S: GoodsSet>(
 ) -> Result<(), Fail> {
     let atoms = singles::<S>(rt, alloc, count, 1)?;
     let bundle = all_goods::<S>(rt, alloc, count)?;
-    let fault = or_value(alloc, &atoms, &bundle, limit).expect_err(rt, "no value");
-    assert_eq!(rt; fault, ValueFault::StepLimit);
+    expect_step_limit(rt, or_value(alloc, &atoms, &bundle, limit));
     Ok(())
 }
 
@@ -201,12 +216,11 @@ fn agree_on<S: GoodsSet>(
     let value = plain::or_value(atoms, bundle)?;
     assert_eq!(rt; packing.value, value);
     let places = plain::chosen_places(alloc, atoms, bundle)?;
-    assert_eq!(rt; packing.members.as_slice(), places.as_slice());
+    expect_places(rt, &packing.members, &places);
     let count = plain::count_packings(atoms, bundle)?;
     assert!(rt; or_value(alloc, atoms, bundle, count).is_ok());
     assert!(rt; count > 0);
-    let fault = or_value(alloc, atoms, bundle, count - 1).expect_err(rt, "no value");
-    assert_eq!(rt; fault, ValueFault::StepLimit);
+    expect_step_limit(rt, or_value(alloc, atoms, bundle, count - 1));
     Ok(())
 }
 

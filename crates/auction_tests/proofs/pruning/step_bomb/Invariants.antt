@@ -4,8 +4,5 @@ use Rattle.valuation.specs.Auctions.{IsAtom}
 use Rattle.valuation.specs.Values.{atoms_of}
 use Rattle.auction_tests.proofs.pruning.step_bomb.Given as goal
 
-abbrev pub invariant-loop-good : goal.invariant-loop-good
-invariant-loop-good g l = All (IsAtom MAX_GOODS) (atoms_of g.S.GoodsSet.goods l.bids.items)
-
-abbrev pub invariant-loop-good-2 : goal.invariant-loop-good-2
-invariant-loop-good-2 g l = All (IsAtom MAX_GOODS) (atoms_of g.S.GoodsSet.goods l.bids.items)
+abbrev pub invariant-loop-place : goal.invariant-loop-place
+invariant-loop-place g l = All (IsAtom MAX_GOODS) (atoms_of g.S.GoodsSet.goods l.bids.items)
