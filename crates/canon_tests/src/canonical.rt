@@ -1,6 +1,6 @@
 //! Each public call once, with ample memory, on worked rows.
 
-use crate::refusals::refusal_text;
+use crate::refusals::{expect_line, refusal_text};
 use canon::{
     CanonFault, canonical, file_of, into_file, into_normal_file, last_normal_text, normal_file,
     normal_text, normalise,
@@ -45,16 +45,27 @@ fn canonical_auctions(rt: HostRuntime) -> Result<(), Fail> {
         assert!(rt; file.goods() <= 64);
         let words: Auction<WordSet<1>> = auction_of(rt.alloc(), &file)?;
         let lists: Auction<ListSet> = auction_of(rt.alloc(), &file)?;
-        assert_eq!(rt; canonical_on(rt.alloc(), words)?.as_str(), *expected);
-        assert_eq!(rt; canonical_on(rt.alloc(), lists)?.as_str(), *expected);
+        expect_line(&rt, &canonical_on(rt.alloc(), words)?, expected);
+        expect_line(&rt, &canonical_on(rt.alloc(), lists)?, expected);
     }
     Ok(())
 }
 
-/// The file of an auction, made twice: from the auction, and from the auction given up.
-fn texts_of<S: GoodsSet>(alloc: Global, auction: Auction<S>) -> Result<(String, String), Fail> {
-    let text = text_of(alloc, &file_of(alloc, &auction)?)?;
-    Ok((text, text_of(alloc, &into_file(alloc, auction)?)?))
+/// The file has this text.
+fn expect_text(rt: &impl Abort, alloc: Global, file: &BidFile, text: &str) -> Result<(), Fail> {
+    expect_line(rt, &text_of(alloc, file)?, text);
+    Ok(())
+}
+
+/// The file of an auction, made twice, has this text: from the auction, and from the auction given up.
+fn expect_texts<S: GoodsSet>(
+    rt: &impl Abort,
+    alloc: Global,
+    auction: Auction<S>,
+    text: &str,
+) -> Result<(), Fail> {
+    expect_text(rt, alloc, &file_of(alloc, &auction)?, text)?;
+    expect_text(rt, alloc, &into_file(alloc, auction)?, text)
 }
 
 #[test]
@@ -63,8 +74,7 @@ fn files_of_auctions(rt: HostRuntime) -> Result<(), Fail> {
         let file = read(rt.alloc(), text.as_bytes())?;
         assert!(rt; file.goods() <= 1024);
         let auction: Auction<WordSet<16>> = auction_of(rt.alloc(), &file)?;
-        let (first, given_up) = texts_of(rt.alloc(), auction)?;
-        assert_eq!(rt; (first.as_str(), given_up.as_str()), (*text, *text));
+        expect_texts(&rt, rt.alloc(), auction, text)?;
     }
     Ok(())
 }
@@ -77,6 +87,17 @@ fn told(alloc: Global, answer: Result<Vec<u8>, CanonFault>) -> Result<String, Fa
     }
 }
 
+/// What a call answered is told by this line.
+fn expect_told(
+    rt: &impl Abort,
+    alloc: Global,
+    answer: Result<Vec<u8>, CanonFault>,
+    expected: &str,
+) -> Result<(), Fail> {
+    expect_line(rt, &told(alloc, answer)?, expected);
+    Ok(())
+}
+
 #[test]
 fn canonical_texts(rt: HostRuntime) -> Result<(), Fail> {
     for (text, limit, expected) in &[
@@ -86,7 +107,7 @@ fn canonical_texts(rt: HostRuntime) -> Result<(), Fail> {
         ("goods 2\n", 2, "line 2: Missing"),
     ] {
         let answer = normalise(rt.alloc(), text.as_bytes(), *limit);
-        assert_eq!(rt; told(rt.alloc(), answer)?.as_str(), *expected);
+        expect_told(&rt, rt.alloc(), answer, expected)?;
     }
     Ok(())
 }
@@ -104,9 +125,9 @@ fn canonical_files(rt: HostRuntime) -> Result<(), Fail> {
     for (limit, expected) in &[(3, LARGER_BID_TEXT), (2, "steps [0, 1]")] {
         let file = read(rt.alloc(), LARGER_BID.as_bytes())?;
         let answer = normal_file(rt.alloc(), &file, *limit);
-        assert_eq!(rt; told_file(rt.alloc(), answer)?.as_str(), *expected);
+        expect_line(&rt, &told_file(rt.alloc(), answer)?, expected);
         let answer = into_normal_file(rt.alloc(), file, *limit);
-        assert_eq!(rt; told_file(rt.alloc(), answer)?.as_str(), *expected);
+        expect_line(&rt, &told_file(rt.alloc(), answer)?, expected);
     }
     Ok(())
 }
@@ -116,10 +137,10 @@ fn canonical_texts_of_files(rt: HostRuntime) -> Result<(), Fail> {
     for (limit, expected) in &[(3, LARGER_BID_TEXT), (2, "steps [0, 1]")] {
         let file = read(rt.alloc(), LARGER_BID.as_bytes())?;
         let answer = normal_text(rt.alloc(), file, *limit);
-        assert_eq!(rt; told(rt.alloc(), answer)?.as_str(), *expected);
+        expect_told(&rt, rt.alloc(), answer, expected)?;
         let file = read(rt.alloc(), LARGER_BID.as_bytes())?;
         let answer = last_normal_text(rt.alloc(), file, *limit);
-        assert_eq!(rt; told(rt.alloc(), answer)?.as_str(), *expected);
+        expect_told(&rt, rt.alloc(), answer, expected)?;
     }
     Ok(())
 }

@@ -1,9 +1,9 @@
 //! Comparisons on worked rows. Texts have prices in units, verdicts in millionths.
 
-use crate::refusals::refusal_text;
+use crate::refusals::{expect_line, refusal_text};
 use canon::{CanonFault, Verdict, Which, compare, compare_files, normal_file};
 use cats_text::read;
-use std::alloc::Global;
+use std::alloc::{AllocError, Global};
 use std::test::Fail;
 
 const TWICE: &str =
@@ -88,13 +88,22 @@ static ROWS: [(&str, &str, &str); 13] = [
     ),
 ];
 
+fn verdict_text(alloc: Global, verdict: &Verdict) -> Result<String, AllocError> {
+    Ok(format!(in alloc; "{verdict:?}")?)
+}
+
+/// A refusal, behind which of the texts is refused.
+fn refused_text(alloc: Global, which: Which, why: &str) -> Result<String, AllocError> {
+    Ok(format!(in alloc; "{which:?} {why}")?)
+}
+
 /// What comparing answered, as a line.
 fn told(alloc: Global, answer: Result<Verdict, (Which, CanonFault)>) -> Result<String, Fail> {
     match answer {
-        Ok(verdict) => Ok(format!(in alloc; "{verdict:?}")?),
+        Ok(verdict) => Ok(verdict_text(alloc, &verdict)?),
         Err((which, fault)) => {
             let why = refusal_text(alloc, fault)?;
-            Ok(format!(in alloc; "{which:?} {why}")?)
+            Ok(refused_text(alloc, which, &why)?)
         }
     }
 }
@@ -103,21 +112,26 @@ fn told(alloc: Global, answer: Result<Verdict, (Which, CanonFault)>) -> Result<S
 fn texts_part(rt: HostRuntime) -> Result<(), Fail> {
     for (left, right, expected) in &ROWS {
         let answer = compare(rt.alloc(), left.as_bytes(), right.as_bytes(), 100);
-        assert_eq!(rt; told(rt.alloc(), answer)?.as_str(), *expected);
+        expect_line(&rt, &told(rt.alloc(), answer)?, expected);
     }
     Ok(())
+}
+
+/// How the canonical files of two texts part.
+fn difference(alloc: Global, left: &str, right: &str) -> Result<Verdict, Fail> {
+    let one = read(alloc, left.as_bytes())?;
+    let one = normal_file(alloc, &one, 100)?;
+    let other = read(alloc, right.as_bytes())?;
+    let other = normal_file(alloc, &other, 100)?;
+    let verdict = compare_files(alloc, &one, &other)?;
+    Ok(verdict)
 }
 
 #[test]
 fn canonical_files_part(rt: HostRuntime) -> Result<(), Fail> {
     for (left, right, expected) in &ROWS {
-        let one = read(rt.alloc(), left.as_bytes())?;
-        let one = normal_file(rt.alloc(), &one, 100)?;
-        let other = read(rt.alloc(), right.as_bytes())?;
-        let other = normal_file(rt.alloc(), &other, 100)?;
-        let verdict = compare_files(rt.alloc(), &one, &other)?;
-        let line = format!(in rt.alloc(); "{verdict:?}")?;
-        assert_eq!(rt; line.as_str(), *expected);
+        let verdict = difference(rt.alloc(), left, right)?;
+        expect_line(&rt, &verdict_text(rt.alloc(), &verdict)?, expected);
     }
     Ok(())
 }
@@ -141,7 +155,7 @@ static REFUSALS: [(&str, &str, &str); 9] = [
 fn the_first_refusal_is_told(rt: HostRuntime) -> Result<(), Fail> {
     for (left, right, expected) in &REFUSALS {
         let answer = compare(rt.alloc(), left.as_bytes(), right.as_bytes(), 2);
-        assert_eq!(rt; told(rt.alloc(), answer)?.as_str(), *expected);
+        expect_line(&rt, &told(rt.alloc(), answer)?, expected);
     }
     Ok(())
 }
@@ -153,7 +167,7 @@ fn a_heavy_bundle_comes_before_goods(rt: HostRuntime) -> Result<(), Fail> {
     let many = "goods 4096\nbids 0\ndummy 0\n";
     for (limit, expected) in &[(2, "First steps [0, 1]"), (3, "Goods(1024, 4096)")] {
         let answer = compare(rt.alloc(), few.as_bytes(), many.as_bytes(), *limit);
-        assert_eq!(rt; told(rt.alloc(), answer)?.as_str(), *expected);
+        expect_line(&rt, &told(rt.alloc(), answer)?, expected);
     }
     Ok(())
 }
