@@ -3,6 +3,7 @@
 ghost use Rattle.std.specs.Prelude.{◌≡◌, ◌≤◌, List, [], ◌∷◌, IfOk, None};
 ghost use Rattle.cats_text.specs.Files.{PlainBid, IsBidFile, plain_bid, plain_bids};
 
+use crate::texts::assert_bytes;
 use cats_text::{Bid, BidFile, push_bid, push_header, push_price, write};
 use std::alloc::{AllocError, Global};
 use std::test::Fail;
@@ -23,7 +24,7 @@ fn minimal_file(rt: HostRuntime) -> Result<(), Fail> {
     let file = BidFile::new(0, 0, Vec::new(rt.alloc()));
     assert_eq!(rt; (file.goods(), file.bids().len(), file.dummy()), (0, 0, 0));
     let text = write(rt.alloc(), &file)?;
-    assert_eq!(rt; text.as_slice(), b"goods 0\nbids 0\ndummy 0\n".as_slice());
+    assert_bytes(&rt, &text, b"goods 0\nbids 0\ndummy 0\n");
     Ok(())
 }
 
@@ -34,7 +35,7 @@ fn cats_layout(rt: HostRuntime) -> Result<(), Fail> {
     bids.push(bid(rt.alloc(), 7_000_000, &[1], None)?)?;
     let text = write(rt.alloc(), &BidFile::new(3, 1, bids))?;
     let want = b"goods 3\nbids 2\ndummy 1\n0\t20\t0\t2\t3\t#\n1\t7\t1\t#\n";
-    assert_eq!(rt; text.as_slice(), want.as_slice());
+    assert_bytes(&rt, &text, want);
     Ok(())
 }
 
@@ -45,7 +46,7 @@ fn text_in_parts(rt: HostRuntime) -> Result<(), Fail> {
     push_bid(&mut out, 3, 0, 20_000_000, &[0, 2], Some(0))?;
     push_bid(&mut out, 3, 1, 7_500_000, &[1], None)?;
     let want = b"goods 3\nbids 2\ndummy 1\n0\t20\t0\t2\t3\t#\n1\t7.5\t1\t#\n";
-    assert_eq!(rt; out.as_slice(), want.as_slice());
+    assert_bytes(&rt, &out, want);
     Ok(())
 }
 
@@ -62,7 +63,7 @@ fn prices_and_sums(rt: HostRuntime) -> Result<(), Fail> {
     for (millionths, want) in prices {
         let mut out = Vec::new(rt.alloc());
         push_price(&mut out, millionths)?;
-        assert_eq!(rt; out.as_slice(), want.as_bytes());
+        assert_bytes(&rt, &out, want.as_bytes());
     }
     Ok(())
 }

@@ -1,6 +1,7 @@
 ghost use Rattle.std.specs.Prelude.{◌≡◌, false};
 ghost use Rattle.cats_text.specs.Streams.{has_ended, has_failed};
 
+use crate::texts::assert_bytes;
 use cats_text::{
     BidFile, Header, Kind, MAX_STREAM, ReadFault, SendFault, Watched, check_from, read_from, send,
 };
@@ -142,19 +143,30 @@ static READS: [(Option<usize>, &[ReadStep], u64); 2] = [
     ),
 ];
 
+/// Takes one step, and asserts what comes of it.
+fn assert_read(
+    rt: &impl Abort,
+    input: &mut Watched<ByteReader<'_>>,
+    piece: &mut [u8; 4],
+    step: &ReadStep,
+) {
+    let (has_room, want, first, ended, failed) = *step;
+    let answer = if has_room {
+        input.read(piece)
+    } else {
+        input.read(&mut [])
+    };
+    let told = (kind_of(answer), piece[0], input.ended(), input.failed());
+    assert_eq!(rt; told, (want, first, ended, failed));
+}
+
 #[test]
 fn reads_pass_through_until_one_fails(rt: HostRuntime) -> Result<(), Fail> {
     for (cut, steps, calls) in &READS {
         let mut input = reader(b"xy", *cut, ErrorKind::Interrupted);
         let mut piece = [0; 4];
-        for (has_room, want, first, ended, failed) in *steps {
-            let answer = if *has_room {
-                input.read(&mut piece)
-            } else {
-                input.read(&mut [])
-            };
-            let told = (kind_of(answer), piece[0], input.ended(), input.failed());
-            assert_eq!(rt; told, (*want, *first, *ended, *failed));
+        for step in *steps {
+            assert_read(&rt, &mut input, &mut piece, step);
         }
         assert_eq!(rt; input.into_inner().calls, *calls);
     }
@@ -225,22 +237,39 @@ static WRITES: [Writes; 4] = [
     ),
 ];
 
+/// Takes one step, and asserts what comes of it.
+fn assert_write(rt: &impl Abort, out: &mut Watched<StepWriter>, step: &WriteStep) {
+    let (piece, want, failed) = *step;
+    let answer = match piece {
+        Some(piece) => out.write(piece),
+        None => out.flush().map(|_| 0),
+    };
+    assert_eq!(rt; (kind_of(answer), out.failed()), (want, failed));
+}
+
+/// Asserts what a writer took, and how many writes and flushes reached it.
+fn assert_taken(rt: &impl Abort, inner: &StepWriter, taken: &[u8], writes: u64, flushes: u64) {
+    assert_bytes(rt, &inner.taken, taken);
+    assert_eq!(rt; (inner.writes, inner.flushes), (writes, flushes));
+}
+
 #[test]
 fn writes_pass_through_until_one_fails(rt: HostRuntime) -> Result<(), Fail> {
     for (room, full, flush_fails, steps, taken, writes, flushes) in &WRITES {
         let mut out = writer(rt.alloc(), 3, *room, *full, *flush_fails);
-        for (piece, want, failed) in *steps {
-            let answer = match piece {
-                Some(piece) => out.write(piece),
-                None => out.flush().map(|_| 0),
-            };
-            assert_eq!(rt; (kind_of(answer), out.failed()), (*want, *failed));
+        for step in *steps {
+            assert_write(&rt, &mut out, step);
         }
-        let inner = out.into_inner();
-        assert_eq!(rt; inner.taken.as_slice(), *taken);
-        assert_eq!(rt; (inner.writes, inner.flushes), (*writes, *flushes));
+        assert_taken(&rt, &out.into_inner(), taken, *writes, *flushes);
     }
     Ok(())
+}
+
+/// Asserts that so many first bytes of the text went out, and how many flushes reached the writer.
+fn assert_sent(rt: &impl Abort, inner: &StepWriter, text: &[u8], written: u64, flushes: u64) {
+    assert_eq!(rt; inner.taken.len() as u64, written);
+    assert!(rt; text.starts_with(&inner.taken));
+    assert_eq!(rt; inner.flushes, flushes);
 }
 
 /// Asserts what a writer that takes so many bytes a call and so many in all makes of a text that is sent: how much goes
@@ -260,10 +289,7 @@ fn assert_sends(
     };
     assert_eq!(rt; send(&mut out, text), want);
     assert_eq!(rt; out.failed(), want.is_err());
-    let inner = out.into_inner();
-    assert_eq!(rt; inner.taken.len() as u64, written);
-    assert!(rt; text.starts_with(&inner.taken));
-    assert_eq!(rt; inner.flushes, flushes);
+    assert_sent(rt, &out.into_inner(), text, written, flushes);
 }
 
 #[test]

@@ -54,11 +54,17 @@ fn joined(alloc: Global, parts: &[&[u8]]) -> Result<Vec<u8>, AllocError> {
 
 /// A byte, many times.
 fn many(alloc: Global, byte: u8, count: usize) -> Result<Vec<u8>, AllocError> {
-    let mut bytes = Vec::new(alloc);
-    for _ in 0..count {
-        bytes.push(byte)?;
-    }
-    Ok(bytes)
+    Ok(vec![in alloc; byte; count]?)
+}
+
+/// Asserts that these are the bytes.
+pub fn assert_bytes(rt: &impl Abort, bytes: &[u8], want: &[u8]) {
+    assert_eq!(rt; bytes, want);
+}
+
+/// Asserts that this is the fault of a text, or that it has none.
+fn assert_fault(rt: &impl Abort, alloc: Global, text: &[u8], want: Option<ReadFault>) {
+    assert_eq!(rt; fault_of(alloc, text), want);
 }
 
 /// What reading byte by byte gives.

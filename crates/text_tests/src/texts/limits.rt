@@ -1,10 +1,16 @@
 //! The greatest sizes, and files of many bids.
 
-use super::{fault, fault_of, joined, sizes, written};
+use super::{assert_bytes, assert_fault, fault, joined, sizes, written};
 use cats_text::Kind;
 use std::alloc::{AllocError, Global};
 use std::process::Abort;
 use std::test::Fail;
+
+/// The line of a bid on good 0 and a dummy of its own, with its number as its price.
+fn bid_line(alloc: Global, bid: u32) -> Result<String, AllocError> {
+    let good = bid.saturating_add(1);
+    Ok(format!(in alloc; "{bid}\t{bid}\t0\t{good}\t#\n")?)
+}
 
 /// The text of as many bids as there may be, each on good 0 and a dummy of its own, with its number as its price. The
 /// first has the number `first`, and from one to the next the number rises by `step`, going round at the end.
@@ -12,9 +18,7 @@ fn many_bids(alloc: Global, first: u32, step: u32) -> Result<Vec<u8>, AllocError
     let mut text = joined(alloc, &[b"goods 1\nbids 65536\ndummy 65536\n"])?;
     for place in 0..65_536_u32 {
         let bid = first.wrapping_add(place.wrapping_mul(step)) % 65_536;
-        let good = bid.saturating_add(1);
-        let line = format!(in alloc; "{bid}\t{bid}\t0\t{good}\t#\n")?;
-        text.extend_from_slice(line.as_bytes())?;
+        text.extend_from_slice(bid_line(alloc, bid)?.as_bytes())?;
     }
     Ok(text)
 }
@@ -31,7 +35,7 @@ fn assert_many_bids(
     assert_eq!(rt; sizes(alloc, &text), Ok((1, 65_536, 65_536)));
     assert!(rt; written(alloc, &text)?.as_slice() == rising);
     let more = joined(alloc, &[&text, b"7 1 0 #\n"])?;
-    assert_eq!(rt; fault_of(alloc, &more), fault(65_540, Kind::ExtraBid));
+    assert_fault(rt, alloc, &more, fault(65_540, Kind::ExtraBid));
     Ok(())
 }
 
@@ -42,9 +46,19 @@ fn most_bids_in_any_order(rt: HostRuntime) -> Result<(), Fail> {
         assert_many_bids(&rt, rt.alloc(), first, step, &rising)?;
     }
     let twice = many_bids(rt.alloc(), 0, 2)?;
-    let repeated = fault(32_772, Kind::RepeatedNumber);
-    assert_eq!(rt; fault_of(rt.alloc(), &twice), repeated);
+    assert_fault(&rt, rt.alloc(), &twice, fault(32_772, Kind::RepeatedNumber));
     Ok(())
+}
+
+/// A number behind its separator.
+fn push_number(
+    alloc: Global,
+    text: &mut Vec<u8>,
+    separator: &str,
+    number: u32,
+) -> Result<(), AllocError> {
+    let word = format!(in alloc; "{separator}{number}")?;
+    Ok(text.extend_from_slice(word.as_bytes())?)
 }
 
 /// The text of a bid on all goods, falling or rising, and behind them these bytes.
@@ -55,14 +69,14 @@ fn all_goods(
     end: &[u8],
 ) -> Result<Vec<u8>, AllocError> {
     let mut text = joined(alloc, &[b"goods 4096\nbids 1\ndummy 1\n0"])?;
-    text.extend_from_slice(format!(in alloc; "{separator}1")?.as_bytes())?;
+    push_number(alloc, &mut text, separator, 1)?;
     for place in 0..4_096_u32 {
         let good = if falling {
             4_095_u32.saturating_sub(place)
         } else {
             place
         };
-        text.extend_from_slice(format!(in alloc; "{separator}{good}")?.as_bytes())?;
+        push_number(alloc, &mut text, separator, good)?;
     }
     text.extend_from_slice(end)?;
     Ok(text)
@@ -72,9 +86,8 @@ fn all_goods(
 fn all_goods_in_falling_order(rt: HostRuntime) -> Result<(), Fail> {
     let text = all_goods(rt.alloc(), " ", true, b" 4096 #\n")?;
     let want = all_goods(rt.alloc(), "\t", false, b"\t4096\t#\n")?;
-    assert_eq!(rt; written(rt.alloc(), &text)?, want);
+    assert_bytes(&rt, &written(rt.alloc(), &text)?, &want);
     let repeated = all_goods(rt.alloc(), " ", true, b" 2048 #\n")?;
-    let want = fault(4, Kind::RepeatedGood);
-    assert_eq!(rt; fault_of(rt.alloc(), &repeated), want);
+    assert_fault(&rt, rt.alloc(), &repeated, fault(4, Kind::RepeatedGood));
     Ok(())
 }

@@ -1,6 +1,6 @@
 //! Words of a million bytes.
 
-use super::{fault, fault_of, many, written};
+use super::{assert_bytes, fault, fault_of, many, written};
 use cats_text::Kind;
 use std::alloc::{AllocError, Global};
 use std::test::Fail;
@@ -34,7 +34,7 @@ static ZEROS: [(&[&[u8]], &[u8]); 2] = [
 fn zeros_before_numbers(rt: HostRuntime) -> Result<(), Fail> {
     for (parts, want) in &ZEROS {
         let text = with_digits_between(rt.alloc(), b'0', parts)?;
-        assert_eq!(rt; written(rt.alloc(), &text)?.as_slice(), *want);
+        assert_bytes(&rt, &written(rt.alloc(), &text)?, want);
     }
     Ok(())
 }

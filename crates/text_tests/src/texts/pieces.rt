@@ -6,6 +6,7 @@ use super::whole_files::CATS;
 use super::{fault, fault_of, many, outcome_of_bytes};
 use cats_text::{Kind, MAX_STREAM, ReadFault, Reader};
 use std::alloc::{AllocError, Global};
+use std::process::Abort;
 use std::test::Fail;
 
 /// The least and the greatest of some numbers of first bytes of `CATS`, and the line and the kind of their fault.
@@ -26,18 +27,39 @@ static FIRST_BYTES: [(usize, usize, Option<(u64, Kind)>); 14] = [
     (58, 59, None),
 ];
 
+/// Asserts the fault of so many bytes.
+fn assert_fault_of_bytes(
+    rt: &impl Abort,
+    told: Option<ReadFault>,
+    want: Option<ReadFault>,
+    count: usize,
+) {
+    assert_eq!(rt; told, want, "{count} bytes");
+}
+
+/// Asserts the fault of so many first bytes of `CATS`: whole, and byte by byte.
+fn assert_first_bytes(
+    rt: &impl Abort,
+    alloc: Global,
+    count: usize,
+    want: Option<ReadFault>,
+) -> Result<(), Fail> {
+    let text = CATS.get(..count).ok_or("too short")?;
+    assert_fault_of_bytes(rt, fault_of(alloc, text), want, count);
+    let told = outcome_of_bytes(alloc, text)?.err();
+    assert_fault_of_bytes(rt, told, want, count);
+    Ok(())
+}
+
 #[test]
 fn first_bytes_of_a_file(rt: HostRuntime) -> Result<(), Fail> {
     for (least, greatest, want) in &FIRST_BYTES {
+        let want = match want {
+            Some((line, kind)) => fault(*line, *kind),
+            None => None,
+        };
         for count in *least..=*greatest {
-            let text = CATS.get(..count).ok_or("too short")?;
-            let want = match want {
-                Some((line, kind)) => fault(*line, *kind),
-                None => None,
-            };
-            assert_eq!(rt; fault_of(rt.alloc(), text), want, "{count} bytes");
-            let told = outcome_of_bytes(rt.alloc(), text)?.err();
-            assert_eq!(rt; told, want, "{count} bytes");
+            assert_first_bytes(&rt, rt.alloc(), count, want)?;
         }
     }
     Ok(())
@@ -51,7 +73,7 @@ fn fault_told_once_it_is_complete(rt: HostRuntime) -> Result<(), Fail> {
         let piece = text.get(..count).ok_or("too short")?;
         let told = Reader::new(rt.alloc(), MAX_STREAM).feed(piece).err();
         let want = if count < 43 { None } else { two_dummies };
-        assert_eq!(rt; told, want, "{count} bytes");
+        assert_fault_of_bytes(&rt, told, want, count);
     }
     Ok(())
 }
@@ -165,14 +187,29 @@ fn answers(
     Ok((told, reader.finish().err()))
 }
 
+/// Asserts what was told of pieces.
+fn assert_told(
+    rt: &impl Abort,
+    told: &[Option<ReadFault>],
+    want: &[Option<ReadFault>],
+    pieces: &[&[u8]],
+) {
+    assert_eq!(rt; told, want, "{pieces:?}");
+}
+
 #[test]
 fn answers_to_each_piece_and_at_the_end(rt: HostRuntime) -> Result<(), Fail> {
     for (limit, pieces, want, end) in &ANSWERS {
         let (told, last) = answers(rt.alloc(), (*limit).min(MAX_STREAM), pieces)?;
-        assert_eq!(rt; told.as_slice(), *want, "{pieces:?}");
-        assert_eq!(rt; last, *end, "{pieces:?}");
+        assert_told(&rt, &told, want, pieces);
+        assert_told(&rt, &[last], &[*end], pieces);
     }
     Ok(())
+}
+
+/// Asserts that a stream is too long.
+fn assert_too_long(rt: &impl Abort, told: Option<ReadFault>) {
+    assert_eq!(rt; told, fault(0, Kind::TooLong));
 }
 
 #[test]
@@ -183,8 +220,8 @@ fn endless_comment_is_too_long(rt: HostRuntime) -> Result<(), Fail> {
         reader.feed(&piece)?;
     }
     for _ in 245..300 {
-        assert_eq!(rt; reader.feed(&piece).err(), fault(0, Kind::TooLong));
+        assert_too_long(&rt, reader.feed(&piece).err());
     }
-    assert_eq!(rt; reader.finish().err(), fault(0, Kind::TooLong));
+    assert_too_long(&rt, reader.finish().err());
     Ok(())
 }

@@ -1,7 +1,8 @@
 //! Files that are accepted, and what is written of them.
 
-use super::{assert_written, sizes};
-use cats_text::{MAX_STREAM, Reader, Watched, read, read_from, send};
+use super::{assert_bytes, assert_written, sizes};
+use cats_text::{Bid, MAX_STREAM, Reader, Watched, read, read_from, send};
+use std::process::Abort;
 use std::test::Fail;
 
 /// Another text of the file "goods 2, bids 1, dummy 0, bid 0 of price 5 on the goods 0 and 1".
@@ -106,18 +107,23 @@ fn sizes_of_accepted_texts(rt: HostRuntime) -> Result<(), Fail> {
     Ok(())
 }
 
-/// The bids of `CATS`: their prices, goods and dummy goods.
-static BIDS: [(u64, &[u16], Option<u32>); 2] = [
-    (20_000_000, &[0, 2], Some(0)),
-    (7_000_000, &[1], None),
-];
+/// The price, the goods and the dummy good of a bid.
+type BidRow = (u64, &'static [u16], Option<u32>);
+
+/// The bids of `CATS`.
+static BIDS: [BidRow; 2] = [(20_000_000, &[0, 2], Some(0)), (7_000_000, &[1], None)];
+
+fn assert_bid(rt: &impl Abort, bid: &Bid, want: &BidRow) {
+    assert_eq!(rt; (bid.price, bid.goods.as_slice(), bid.dummy), *want);
+}
 
 #[test]
 fn bids_as_values(rt: HostRuntime) -> Result<(), Fail> {
     let file = read(rt.alloc(), CATS)?;
-    assert_eq!(rt; file.bids().len(), BIDS.len());
-    for (bid, want) in file.bids().iter().zip(&BIDS) {
-        assert_eq!(rt; (bid.price, bid.goods.as_slice(), bid.dummy), *want);
+    let bids = file.bids();
+    assert_eq!(rt; bids.len(), BIDS.len());
+    for (place, want) in BIDS.iter().enumerate() {
+        assert_bid(&rt, &bids[place], want);
     }
     Ok(())
 }
@@ -144,6 +150,6 @@ fn bytes_are_read(rt: HostRuntime) -> Result<(), Fail> {
 fn bytes_are_sent(rt: HostRuntime) -> Result<(), Fail> {
     let mut out = Watched::new(Vec::new(rt.alloc()));
     send(&mut out, CATS)?;
-    assert_eq!(rt; out.into_inner().as_slice(), CATS);
+    assert_bytes(&rt, &out.into_inner(), CATS);
     Ok(())
 }
