@@ -79,15 +79,32 @@ static PAIRS: [Pair; 10] = [
     ),
 ];
 
+// What the other set leaves of the set are these goods.
+fn expect_left<S: GoodsSet>(
+    rt: &impl Abort,
+    alloc: Global,
+    mut set: S,
+    other: &S,
+    left: &[u16],
+) -> Result<(), Fail> {
+    set.take_out(other);
+    expect_goods(rt, &goods_of(alloc, &set)?, left);
+    Ok(())
+}
+
+fn compare_pair<S: GoodsSet>(rt: &impl Abort, alloc: Global, pair: &Pair) -> Result<(), Fail> {
+    let (goods, others, inside, apart, order, left) = *pair;
+    let set = set_of::<S>(rt, alloc, goods)?;
+    let other = set_of::<S>(rt, alloc, others)?;
+    assert!(rt; set.is_inside(&other) == inside);
+    assert!(rt; set.is_apart(&other) == apart);
+    assert!(rt; set.order(&other) == order);
+    expect_left(rt, alloc, set, &other, left)
+}
+
 fn compare_sets<S: GoodsSet>(rt: &impl Abort, alloc: Global) -> Result<(), Fail> {
-    for (goods, others, inside, apart, order, left) in &PAIRS {
-        let mut set = set_of::<S>(rt, alloc, goods)?;
-        let other = set_of::<S>(rt, alloc, others)?;
-        assert!(rt; set.is_inside(&other) == *inside);
-        assert!(rt; set.is_apart(&other) == *apart);
-        assert!(rt; set.order(&other) == *order);
-        set.take_out(&other);
-        assert!(rt; goods_of(alloc, &set)?.as_slice() == *left);
+    for pair in &PAIRS {
+        compare_pair::<S>(rt, alloc, pair)?;
     }
     Ok(())
 }

@@ -14,7 +14,6 @@ use prune::{PruneFault, prune_or, prune_xor};
 use std::alloc::{AllocError, Global};
 use std::cmp::Ordering;
 use std::process::Abort;
-use std::slice::Iter;
 use std::test::Fail;
 use valuation::{Atom, or_value, xor_value};
 
@@ -59,10 +58,20 @@ static XOR_ROWS: [(&[Offer], &[Offer]); 9] = [
     (LADDER, &[(&[0], 5_000_000), (&[0, 1], 6_000_000)]),
 ];
 
+// The points of the XOR bidder with these offers.
+fn points_of<S: GoodsSet>(
+    rt: &impl Abort,
+    alloc: Global,
+    offers: &[Offer],
+) -> Result<Vec<Atom<S>>, Fail> {
+    let bids = atoms_on::<S>(rt, alloc, offers)?;
+    Ok(prune_xor(alloc, bids)?)
+}
+
 fn xor_points<S: GoodsSet>(rt: &impl Abort, alloc: Global) -> Result<(), Fail> {
     for (offers, points) in &XOR_ROWS {
-        let bids = atoms_on::<S>(rt, alloc, offers)?;
-        expect_bids(rt, alloc, &prune_xor(alloc, bids)?, points)?;
+        let kept = points_of::<S>(rt, alloc, offers)?;
+        expect_bids(rt, alloc, &kept, points)?;
     }
     Ok(())
 }
@@ -141,11 +150,15 @@ static OR_ROWS: [OrRow; 6] = [
     ),
 ];
 
+fn or_points<S: GoodsSet>(rt: &impl Abort, alloc: Global) -> Result<(), Fail> {
+    each_or_row::<S>(rt, alloc, &OR_ROWS)
+}
+
 #[test]
 fn or_points_on_both_sets(rt: HostRuntime) -> Result<(), Fail> {
-    each_or_row::<ListSet>(&rt, rt.alloc(), &OR_ROWS)?;
-    each_or_row::<WordSet<16>>(&rt, rt.alloc(), &OR_ROWS)?;
-    each_or_row::<WordSet<64>>(&rt, rt.alloc(), &OR_ROWS)
+    or_points::<ListSet>(&rt, rt.alloc())?;
+    or_points::<WordSet<16>>(&rt, rt.alloc())?;
+    or_points::<WordSet<64>>(&rt, rt.alloc())
 }
 
 const TRIPLE: &[Offer] = &[(&[0], 1), (&[1], 1), (&[2], 1), (&[0, 1, 2], 4)];
@@ -166,11 +179,15 @@ static STEP_ROWS: [OrRow; 8] = [
     (REACHED, 3, Pruned::To(&[(&[0], 3), (&[1], 4)])),
 ];
 
+fn or_steps<S: GoodsSet>(rt: &impl Abort, alloc: Global) -> Result<(), Fail> {
+    each_or_row::<S>(rt, alloc, &STEP_ROWS)
+}
+
 #[test]
 fn or_steps_on_both_sets(rt: HostRuntime) -> Result<(), Fail> {
-    each_or_row::<ListSet>(&rt, rt.alloc(), &STEP_ROWS)?;
-    each_or_row::<WordSet<16>>(&rt, rt.alloc(), &STEP_ROWS)?;
-    each_or_row::<WordSet<64>>(&rt, rt.alloc(), &STEP_ROWS)
+    or_steps::<ListSet>(&rt, rt.alloc())?;
+    or_steps::<WordSet<16>>(&rt, rt.alloc())?;
+    or_steps::<WordSet<64>>(&rt, rt.alloc())
 }
 
 // The goods and the price of the bid of the bomb below that is given at this place.
@@ -213,13 +230,8 @@ fn stopped_bomb<S: GoodsSet>(rt: &impl Abort, alloc: Global, n: u16) -> Result<(
     expect_stop(rt, alloc, prune_or(alloc, bids, 1_000_000), n)
 }
 
-fn bombs<S: GoodsSet>(rt: &impl Abort, alloc: Global) -> Result<(), Fail> {
-    stopped_bomb::<S>(rt, alloc, 20)?;
-    let bids = step_bomb::<S>(rt, alloc, 20)?;
-    let Ok(kept) = prune_or(alloc, bids, 1_048_575) else {
-        panic!(rt; "the bids are pruned");
-    };
-    assert_eq!(rt; kept.len(), 22);
+// The bids of the bomb on 20 goods, in order.
+fn expect_bomb<S: GoodsSet>(rt: &impl Abort, kept: &[Atom<S>]) {
     for (place, bid) in kept.iter().enumerate() {
         let price = match place {
             20 => 20,
@@ -228,6 +240,21 @@ fn bombs<S: GoodsSet>(rt: &impl Abort, alloc: Global) -> Result<(), Fail> {
         };
         assert_eq!(rt; bid.price, price);
     }
+}
+
+fn pruned_bomb<S: GoodsSet>(rt: &impl Abort, alloc: Global) -> Result<(), Fail> {
+    let bids = step_bomb::<S>(rt, alloc, 20)?;
+    let Ok(kept) = prune_or(alloc, bids, 1_048_575) else {
+        panic!(rt; "the bids are pruned");
+    };
+    assert_eq!(rt; kept.len(), 22);
+    expect_bomb(rt, &kept);
+    Ok(())
+}
+
+fn bombs<S: GoodsSet>(rt: &impl Abort, alloc: Global) -> Result<(), Fail> {
+    stopped_bomb::<S>(rt, alloc, 20)?;
+    pruned_bomb::<S>(rt, alloc)?;
     let bids = step_bomb::<S>(rt, alloc, 20)?;
     assert!(rt; prune_or(alloc, bids, 1_048_574).is_err());
     Ok(())
@@ -271,15 +298,24 @@ fn pruned_bids<S: GoodsSet>(
     kept
 }
 
+// What pruning n nested bids answers under the limit.
+fn pruned_nested<S: GoodsSet>(
+    rt: &impl Abort,
+    alloc: Global,
+    n: u16,
+    limit: u64,
+) -> Result<Result<Vec<Atom<S>>, PruneFault<S>>, Fail> {
+    let bids = nested_bids::<S>(rt, alloc, n)?;
+    Ok(prune_or(alloc, bids, limit))
+}
+
 // The search in the greatest bundle enters the empty family and each bid alone but the last, whose price does not
 // suffice.
 fn nested<S: GoodsSet>(rt: &impl Abort, alloc: Global) -> Result<(), Fail> {
     for n in [60, 80] {
-        let bids = nested_bids::<S>(rt, alloc, n)?;
-        let kept = pruned_bids(rt, prune_or(alloc, bids, u64::from(n) - 1));
+        let kept = pruned_bids(rt, pruned_nested::<S>(rt, alloc, n, u64::from(n) - 1)?);
         assert_eq!(rt; kept.len(), usize::from(n));
-        let bids = nested_bids::<S>(rt, alloc, n)?;
-        assert!(rt; prune_or(alloc, bids, u64::from(n) - 2).is_err());
+        assert!(rt; pruned_nested::<S>(rt, alloc, n, u64::from(n) - 2)?.is_err());
     }
     Ok(())
 }
@@ -351,14 +387,9 @@ fn family_bids<S: GoodsSet>(rt: &impl Abort, alloc: Global, seed: u64) -> Result
     Ok(bids)
 }
 
-// The next of the pruned bids is on this bundle, at this price.
-fn expect_point<S: GoodsSet>(
-    rt: &impl Abort,
-    found: &mut Iter<'_, Atom<S>>,
-    bundle: &S,
-    price: u128,
-) {
-    let point = found.next().expect(rt, "a point");
+// There is such a pruned bid, on this bundle and at this price.
+fn expect_point<S: GoodsSet>(rt: &impl Abort, found: Option<&Atom<S>>, bundle: &S, price: u128) {
+    let point = found.expect(rt, "a point");
     assert_eq!(rt; point.bundle.order(bundle), Ordering::Equal);
     assert_eq!(rt; u128::from(point.price), price);
 }
@@ -373,14 +404,15 @@ fn or_agrees<S: GoodsSet>(
     let all = family_bids::<S>(rt, alloc, seed)?;
     let bids = family_bids::<S>(rt, alloc, seed)?;
     let kept = pruned_bids(rt, prune_or(alloc, bids, AMPLE));
-    let mut found = kept.iter();
+    let mut count = 0usize;
     for bundle in bundles {
         if plain::is_or_point(alloc, bundles, &all, bundle)? {
             let value = or_value(alloc, &all, bundle, AMPLE)?.value;
-            expect_point(rt, &mut found, bundle, value);
+            expect_point(rt, kept.get(count), bundle, value);
+            count = count.saturating_add(1);
         }
     }
-    assert!(rt; found.next().is_none());
+    assert_eq!(rt; count, kept.len());
     Ok(())
 }
 
@@ -393,14 +425,15 @@ fn xor_agrees<S: GoodsSet>(
 ) -> Result<(), Fail> {
     let all = family_bids::<S>(rt, alloc, seed)?;
     let kept = prune_xor(alloc, family_bids::<S>(rt, alloc, seed)?)?;
-    let mut found = kept.iter();
+    let mut count = 0usize;
     for bundle in bundles {
         if plain::is_xor_point(bundles, &all, bundle)? {
             let value = xor_value(&all, bundle).0;
-            expect_point(rt, &mut found, bundle, u128::from(value));
+            expect_point(rt, kept.get(count), bundle, u128::from(value));
+            count = count.saturating_add(1);
         }
     }
-    assert!(rt; found.next().is_none());
+    assert_eq!(rt; count, kept.len());
     Ok(())
 }
 

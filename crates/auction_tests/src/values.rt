@@ -157,10 +157,11 @@ const ALL_PLACES: &[usize] = &[
 fn greatest_prices<S: GoodsSet>(rt: &impl Abort, alloc: Global) -> Result<(), Fail> {
     let atoms = singles::<S>(rt, alloc, 19, MAX_PRICE)?;
     let bundle = all_goods::<S>(rt, alloc, 19)?;
-    let packing = or_value(alloc, &atoms, &bundle, 1 << 19).expect(rt, "a value");
+    // 2 to the 19 packings
+    let packing = or_value(alloc, &atoms, &bundle, 524_288).expect(rt, "a value");
     assert_eq!(rt; packing.value, 19_000_000_000_000_000_000);
     expect_places(rt, &packing.members, ALL_PLACES);
-    expect_step_limit(rt, or_value(alloc, &atoms, &bundle, (1 << 19) - 1));
+    expect_step_limit(rt, or_value(alloc, &atoms, &bundle, 524_287));
     Ok(())
 }
 
@@ -256,6 +257,12 @@ fn add_others<S: GoodsSet>(
     Ok(())
 }
 
+// The bundle of the goods whose bits the number has.
+fn bundle_of_bits<S: GoodsSet>(rt: &impl Abort, alloc: Global, bits: u64) -> Result<S, Fail> {
+    let goods = goods_of(alloc, bits)?;
+    Ok(bundle_of::<S>(rt, alloc, &goods)?)
+}
+
 // With more than 128 atoms the search is the one by sets of goods, and else the one by marks.
 fn agree<S: GoodsSet>(rt: &impl Abort, alloc: Global, others: u8) -> Result<(), Fail> {
     let mut state = 7;
@@ -263,7 +270,7 @@ fn agree<S: GoodsSet>(rt: &impl Abort, alloc: Global, others: u8) -> Result<(), 
         let mut atoms = some_atoms(rt, alloc, &mut state)?;
         add_others(rt, alloc, &mut atoms, others)?;
         for bits in 0..64 {
-            let bundle = bundle_of::<S>(rt, alloc, &goods_of(alloc, bits)?)?;
+            let bundle = bundle_of_bits::<S>(rt, alloc, bits)?;
             agree_on(rt, alloc, &atoms, &bundle)?;
         }
     }
