@@ -1,6 +1,7 @@
 //! What no clause says of command lines: the files, goods and limits that they ask for, and what `clap` tells.
 
-use command_line::{NoRequest, parse};
+use command_line::{NoRequest, Request, parse};
+use std::process::Abort;
 use std::test::Fail;
 
 /// Command lines, and what they ask for.
@@ -41,12 +42,23 @@ static REQUESTS: [(&[&str], &str); 10] = [
     ),
 ];
 
+/// That this is asked for by these words.
+fn expect_request(
+    rt: &(impl Abort + AllocGlobal),
+    words: &[&str],
+    request: &Request<'_>,
+    asked: &str,
+) -> Result<(), Fail> {
+    let text = format!(in rt.alloc(); "{request:?}")?;
+    assert!(rt; text.as_str() == asked, "of {words:?}: {request:?}");
+    Ok(())
+}
+
 #[test]
 fn requests(rt: HostRuntime) -> Result<(), Fail> {
     for (words, asked) in &REQUESTS {
         let request = parse(rt.alloc(), words)?;
-        let text = format!(in rt.alloc(); "{request:?}")?;
-        assert!(rt; text.as_str() == *asked, "of {words:?}: {request:?}");
+        expect_request(&rt, words, &request, asked)?;
     }
     Ok(())
 }

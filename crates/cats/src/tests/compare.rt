@@ -36,16 +36,27 @@ const TWO_DUMMIES: &str = "goods 2\nbids 2\ndummy 2\n0\t1\t0\t2\t#\n1\t1\t1\t2\t
 
 const NO_END: &str = "goods 1\nbids 3\ndummy 0\n0\t5\t0\t#\n1\t5\t0\t#\n2 5 0\n";
 
+/// That a comparison of two texts has this status, and tells this.
+fn tells(
+    rt: &(impl Abort + AllocGlobal),
+    first: &str,
+    second: &str,
+    status: u8,
+    told: &str,
+) -> Result<(), Fail> {
+    let answer = compared(rt.alloc(), first, second, STEPS, ROOM)?;
+    expect(rt, &answer, status, told, "");
+    Ok(())
+}
+
 /// Pairs of texts, and for each its status and what it tells, in this order and with the texts exchanged.
 fn tells_both_ways(
     rt: &(impl Abort + AllocGlobal),
     rows: &[(&str, &str, u8, &str, &str)],
 ) -> Result<(), Fail> {
     for (first, second, status, there, back) in rows {
-        let answer = compared(rt.alloc(), first, second, STEPS, ROOM)?;
-        expect(rt, &answer, *status, there, "");
-        let answer = compared(rt.alloc(), second, first, STEPS, ROOM)?;
-        expect(rt, &answer, *status, back, "");
+        tells(rt, first, second, *status, there)?;
+        tells(rt, second, first, *status, back)?;
     }
     Ok(())
 }

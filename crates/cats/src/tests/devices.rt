@@ -70,6 +70,22 @@ static RUNS: [(Run, &str, &str); 6] = [
     (Run::CompareSecond, "same\n", "second: "),
 ];
 
+/// That a run on an input that gives these bytes and then fails has this status and this line.
+fn expect_failure(
+    rt: &(impl Abort + AllocGlobal),
+    run: Run,
+    bytes: &[u8],
+    failure: ErrorKind,
+    status: u8,
+    line: &str,
+) -> Result<(), Fail> {
+    let mut input = byte_reader(bytes, Some(failure));
+    let out = writer(rt.alloc(), ROOM, ROOM);
+    let answer = answer(rt.alloc(), run, &mut input, out)?;
+    expect(rt, &answer, status, "", line);
+    Ok(())
+}
+
 /// What a run tells of an input that fails after each number of bytes of a text: its fault from so many bytes on, and
 /// else the failure.
 fn fails_in(
@@ -83,13 +99,11 @@ fn fails_in(
     let device = format!(in rt.alloc(); "{prefix}Device\n")?;
     let fault = format!(in rt.alloc(); "{prefix}line 5: TwoDummies\n")?;
     for count in 0..=text.len() {
-        let mut input = byte_reader(&text[..count], Some(failure));
-        let out = writer(rt.alloc(), ROOM, ROOM);
-        let answer = answer(rt.alloc(), run, &mut input, out)?;
+        let bytes = &text[..count];
         if count < faulty_from {
-            expect(rt, &answer, 5, "", device.as_str());
+            expect_failure(rt, run, bytes, failure, 5, device.as_str())?;
         } else {
-            expect(rt, &answer, 2, "", fault.as_str());
+            expect_failure(rt, run, bytes, failure, 2, fault.as_str())?;
         }
     }
     Ok(())

@@ -1,7 +1,7 @@
 //! `cats duplicates` on new files, whose paths begin with what `@` stands for.
 
-use super::streams::{RunAnswer, expect, writer};
-use cats_cmd::run_cats;
+use super::program::run_words;
+use super::streams::{RunAnswer, expect};
 use std::alloc::{AllocError, Global};
 use std::process::Abort;
 use std::test::Fail;
@@ -156,14 +156,7 @@ static ROWS: [Row; 16] = [
 
 /// A text in which the beginning of the paths stands for each `@`.
 fn with_start(alloc: Global, start: &str, text: &str) -> Result<String, AllocError> {
-    let mut told = String::new(alloc);
-    for (number, part) in text.split('@').enumerate() {
-        if number > 0 {
-            told.push_str(start)?;
-        }
-        told.push_str(part)?;
-    }
-    Ok(told)
+    text.replace(alloc, '@', start)
 }
 
 /// What a command line answers, whose words have a blank between each two.
@@ -172,14 +165,7 @@ fn run(rt: &HostRuntime, line: &str, out_room: usize, err_room: usize) -> Result
     for word in line.split(' ') {
         words.push(word)?;
     }
-    let mut out = writer(rt.alloc(), 4096, out_room);
-    let mut err = writer(rt.alloc(), 4096, err_room);
-    let status = run_cats(rt, words.as_slice(), &mut out, &mut err);
-    Ok(RunAnswer {
-        status,
-        sent: String::from_utf8(out.into_inner().taken)?,
-        line: String::from_utf8(err.into_inner().taken)?,
-    })
+    run_words(rt, words.as_slice(), out_room, err_room)
 }
 
 #[test]

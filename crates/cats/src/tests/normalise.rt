@@ -192,18 +192,23 @@ fn push_bid(
     text.push_str("\t#\n")
 }
 
+/// The price and the goods of the bid of this number in the text below.
+fn bomb_bid(number: u32, goods: u32) -> (u32, Range<u32>) {
+    if number < goods {
+        (1, number..number.saturating_add(1))
+    } else if number == goods {
+        (goods, 0..goods.saturating_sub(1))
+    } else {
+        (goods.saturating_add(2), 0..goods)
+    }
+}
+
 /// Single goods at 1 each, all goods but the last at a price, and all goods at two more.
 fn step_bomb(alloc: Global, goods: u32) -> Result<String, AllocError> {
     let bids = goods.saturating_add(2);
     let mut text = format!(in alloc; "goods {goods}\nbids {bids}\ndummy 0\n")?;
     for number in 0..bids {
-        let (price, wanted) = if number < goods {
-            (1, number..number.saturating_add(1))
-        } else if number == goods {
-            (goods, 0..goods.saturating_sub(1))
-        } else {
-            (bids, 0..goods)
-        };
+        let (price, wanted) = bomb_bid(number, goods);
         push_bid(&mut text, number, price, wanted)?;
     }
     Ok(text)

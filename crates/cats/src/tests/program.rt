@@ -1,11 +1,11 @@
-use super::streams::{RunAnswer, expect, writer};
+use super::streams::{RunAnswer, expect, text_taken, writer};
 use cats_cmd::run_cats;
 use std::process::Abort;
 use std::test::Fail;
 use std::{env, fs, process};
 
 /// What a command line of these words answers, with so much room for its output and for its faults.
-fn run_words(
+pub fn run_words(
     rt: &HostRuntime,
     words: &[&str],
     out_room: usize,
@@ -17,8 +17,8 @@ fn run_words(
     let status = run_cats(rt, words, &mut out, &mut err);
     Ok(RunAnswer {
         status,
-        sent: String::from_utf8(out.into_inner().taken)?,
-        line: String::from_utf8(err.into_inner().taken)?,
+        sent: text_taken(out)?,
+        line: text_taken(err)?,
     })
 }
 
@@ -80,13 +80,18 @@ static WRONG_LINES: [&str; 31] = [
     "cats duplicates --progress=yes a b",
 ];
 
+/// That a command line has this status, and that what it told is as it should be.
+fn expect_told(rt: &impl Abort, line: &str, answer: &RunAnswer, status: u8, told: bool) {
+    assert!(rt; told && answer.status == status, "of {line:?}: {answer:?}");
+}
+
 #[test]
 fn usage_faults(rt: HostRuntime) -> Result<(), Fail> {
     for line in &WRONG_LINES {
         for err_room in [ROOM, 3] {
             let answer = run(&rt, line, "", "", ROOM, err_room)?;
             let told = answer.sent.is_empty() && !answer.line.is_empty();
-            assert!(rt; told && answer.status == 64, "of {line:?}: {answer:?}");
+            expect_told(&rt, line, &answer, 64, told);
         }
     }
     assert!(rt; run_words(&rt, &[], ROOM, ROOM)?.status == 64);
@@ -112,11 +117,10 @@ fn help(rt: HostRuntime) -> Result<(), Fail> {
     for line in &HELP_LINES {
         let answer = run(&rt, line, "", "", ROOM, ROOM)?;
         let text = answer.sent.as_str();
-        let told = text.contains("Usage: cats") && answer.line.is_empty();
-        assert!(rt; told && answer.status == 0, "of {line:?}: {answer:?}");
-        assert!(rt; text.contains("Statuses:"), "of {line:?}: {answer:?}");
+        let told = text.contains("Usage: cats") && text.contains("Statuses:");
+        expect_told(&rt, line, &answer, 0, told && answer.line.is_empty());
         let cut_off = run(&rt, line, "", "", 3, ROOM)?;
-        assert!(rt; cut_off.status == 5, "of {line:?}: {cut_off:?}");
+        expect_told(&rt, line, &cut_off, 5, true);
     }
     Ok(())
 }

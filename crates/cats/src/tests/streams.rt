@@ -5,7 +5,7 @@ ghost use Rattle.cats_text.specs.Streams.{has_ended, has_failed};
 
 use cats_cmd::{RunFault, fault_line, status};
 use cats_text::Watched;
-use std::alloc::Global;
+use std::alloc::{AllocError, Global};
 use std::io;
 use std::io::{ErrorKind, Read, Write};
 use std::process::Abort;
@@ -124,6 +124,11 @@ pub fn stalling_writer(alloc: Global, room: usize) -> Watched<StepWriter>
     })
 }
 
+/// The text that a writer took.
+pub fn text_taken(out: Watched<StepWriter>) -> Result<String, Fail> {
+    Ok(String::from_utf8(out.into_inner().taken)?)
+}
+
 /// What a run or the program answered: its status, and what went to its output and to standard error.
 #[derive(Debug, Drop)]
 pub struct RunAnswer {
@@ -138,7 +143,7 @@ pub fn answer_of(
     answer: Result<u8, RunFault>,
     out: Watched<StepWriter>,
 ) -> Result<RunAnswer, Fail> {
-    let sent = String::from_utf8(out.into_inner().taken)?;
+    let sent = text_taken(out)?;
     match answer {
         Ok(status) => Ok(RunAnswer {
             status,
@@ -165,6 +170,11 @@ pub fn expect(rt: &impl Abort, answer: &RunAnswer, status: u8, sent: &str, line:
     );
 }
 
+/// The line of an output that failed after so many bytes.
+fn cut_off_line(alloc: Global, room: usize) -> Result<String, AllocError> {
+    Ok(format!(in alloc; "output failed after {room} bytes\n")?)
+}
+
 /// That the output failed after so many bytes of this text.
 pub fn expect_cut_off(
     rt: &(impl Abort + AllocGlobal),
@@ -172,7 +182,7 @@ pub fn expect_cut_off(
     text: &str,
     room: usize,
 ) -> Result<(), Fail> {
-    let line = format!(in rt.alloc(); "output failed after {room} bytes\n")?;
+    let line = cut_off_line(rt.alloc(), room)?;
     let sent = text.get(..room).unwrap_or(text);
     expect(rt, answer, 5, sent, line.as_str());
     Ok(())
