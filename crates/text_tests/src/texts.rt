@@ -86,6 +86,11 @@ fn outcome_of_two(alloc: Global, front: &[u8], back: &[u8]) -> Result<Outcome, A
     outcome(alloc, reader.finish())
 }
 
+/// Asserts what one way of reading a text gave.
+fn assert_same(rt: &impl Abort, text: &[u8], outcome: &Outcome, want: &Outcome) {
+    assert_eq!(rt; *outcome, *want, "{text:?}");
+}
+
 /// Asserts that a text gives this file's text or this fault: whole, in two pieces wherever it is cut, and byte by byte.
 fn assert_outcome(
     rt: &impl Abort,
@@ -93,11 +98,11 @@ fn assert_outcome(
     text: &[u8],
     want: &Outcome,
 ) -> Result<(), AllocError> {
-    assert_eq!(rt; outcome(alloc, read(alloc, text))?, *want, "{text:?}");
-    assert_eq!(rt; outcome_of_bytes(alloc, text)?, *want, "{text:?}");
+    assert_same(rt, text, &outcome(alloc, read(alloc, text))?, want);
+    assert_same(rt, text, &outcome_of_bytes(alloc, text)?, want);
     for place in 0..=text.len() {
         let (front, back) = text.split_at(place);
-        assert_eq!(rt; outcome_of_two(alloc, front, back)?, *want, "{text:?}");
+        assert_same(rt, text, &outcome_of_two(alloc, front, back)?, want);
     }
     Ok(())
 }

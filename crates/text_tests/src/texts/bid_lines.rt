@@ -1,6 +1,6 @@
 //! Prices and their places.
 
-use super::{joined, written};
+use super::{assert_bytes, joined, written};
 use std::test::Fail;
 
 /// Prices as words, and as they are written.
@@ -27,7 +27,7 @@ fn prices_as_they_are_written(rt: HostRuntime) -> Result<(), Fail> {
     for (price, want) in &PRICES {
         let text = joined(rt.alloc(), &[header, b"0 ", price, b" 0 #\n"])?;
         let want = joined(rt.alloc(), &[header, b"0\t", want, b"\t0\t#\n"])?;
-        assert_eq!(rt; written(rt.alloc(), &text)?, want);
+        assert_bytes(&rt, &written(rt.alloc(), &text)?, &want);
     }
     Ok(())
 }
