@@ -154,7 +154,7 @@ def measure_bids(folder, name, goods):
     lines, check, show, normalise, same, rewritten = rows(name, path, commands)
     bound(f"{name}: check, times wc -l", check.seconds / lines.seconds, 25)
     bound(f"{name}: show, times check", show.seconds / check.seconds, 4)
-    bound(f"{name}: normalise, times check", normalise.seconds / check.seconds, 9)
+    bound(f"{name}: normalise, times check", normalise.seconds / check.seconds, 11)
     bound(f"{name}: compare with itself, times normalise", same.seconds / normalise.seconds, 2.1)
     bound(f"{name}: compare with its text, times normalise", rewritten.seconds / normalise.seconds, 2.1)
     bound(f"{name}: what compare holds, of normalise and a text", same.held / (normalise.held + os.path.getsize(text)), 1.5)
@@ -212,7 +212,7 @@ def measure_value(folder):
     made(generate, path, 65_536, 4096, 5, 1000, 3)
     check, value = measure_alternately([[*CHECK, path], [*cats("value"), path, "0", "1", "2", "3"]], TIMES)
     row("value on a large file", path, value)
-    bound("value of 4 goods, times check", value.seconds / check.seconds, 7)
+    bound("value of 4 goods, times check", value.seconds / check.seconds, 9)
 
 
 def measure_steps(folder):
