@@ -23,11 +23,6 @@ fn many_bids(alloc: Global, first: u32, step: u32) -> Result<Vec<u8>, AllocError
     Ok(text)
 }
 
-/// Asserts the sizes of a text of as many bids as there may be.
-fn assert_most_bids(rt: &impl Abort, alloc: Global, text: &[u8]) {
-    assert_eq!(rt; sizes(alloc, text), Ok((1, 65_536, 65_536)));
-}
-
 /// Asserts that these bids are read, and written by their numbers.
 fn assert_many_bids(
     rt: &impl Abort,
@@ -37,7 +32,7 @@ fn assert_many_bids(
     rising: &[u8],
 ) -> Result<(), Fail> {
     let text = many_bids(alloc, first, step)?;
-    assert_most_bids(rt, alloc, &text);
+    assert_eq!(rt; sizes(alloc, &text), Ok((1, 65_536, 65_536)));
     assert!(rt; written(alloc, &text)?.as_slice() == rising);
     let more = joined(alloc, &[&text, b"7 1 0 #\n"])?;
     assert_fault(rt, alloc, &more, fault(65_540, Kind::ExtraBid));

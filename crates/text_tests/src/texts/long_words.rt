@@ -1,9 +1,8 @@
 //! Words of a million bytes.
 
 use super::{assert_bytes, fault, fault_of, many, written};
-use cats_text::{Kind, ReadFault};
+use cats_text::Kind;
 use std::alloc::{AllocError, Global};
-use std::process::Abort;
 use std::test::Fail;
 
 /// The parts, with a million times this digit between each and the next.
@@ -102,22 +101,12 @@ static FAULTS: [(u8, &[&[u8]], u64, Kind); 13] = [
     ),
 ];
 
-/// Asserts the fault of a text of these parts.
-fn assert_fault_of_parts(
-    rt: &impl Abort,
-    told: Option<ReadFault>,
-    want: Option<ReadFault>,
-    parts: &[&[u8]],
-) {
-    assert_eq!(rt; told, want, "{parts:?}");
-}
-
 #[test]
 fn long_numbers_in_each_place(rt: HostRuntime) -> Result<(), Fail> {
     for (digit, parts, line, kind) in &FAULTS {
         let text = with_digits_between(rt.alloc(), *digit, parts)?;
         let want = fault(*line, *kind);
-        assert_fault_of_parts(&rt, fault_of(rt.alloc(), &text), want, parts);
+        assert_eq!(rt; fault_of(rt.alloc(), &text), want, "{parts:?}");
     }
     Ok(())
 }
