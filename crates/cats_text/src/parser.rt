@@ -312,7 +312,8 @@ impl Parser {
     /// What is kept of the bid that has been read; its goods are gone.
     #[inline(always)]
     fn take_bid(&mut self) -> Result<Bid, AllocError>
-        ensures bid { IfOk result (λ bid. plain_bid bid ≡ kept_of (progress self.old).keeping (drafted (progress self.old))) }
+        ensures bid { let old = progress self.old in
+            IfOk result (λ bid. plain_bid bid ≡ kept_of old.keeping (drafted old)) }
         ensures goods { OnOk result (progress self.new ≡ record (progress self.old) { goods = [] }) }
     {
         match &self.slots.front {

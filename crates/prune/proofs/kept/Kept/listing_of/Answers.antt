@@ -22,7 +22,8 @@ loop-good-preserved g c =
     let had : has_good bundle c.in-Some.good ≡ true = next_is_had bundle c.loop-good.from c.in-Some.good (g.met.S.GoodsSet.is_bundle c.args.atom.now.bundle).0
     (sym c.in-Some.ensures) in
     let first : (has_good bundle c.if-from-eq0.best ≡ true) × (has_good bundle c.if-from-eq0.listing.witness ≡ true)
-    × (has_good bundle c.if-from-eq0.listing.second ≡ true) × (c.if-from-eq0.listing.place ≡ c.loop-good.listing.place) × (c.if-from-eq0.listing.price ≡ c.loop-good.listing.price)
+    × (has_good bundle c.if-from-eq0.listing.second ≡ true) × (c.if-from-eq0.listing.place ≡ c.loop-good.listing.place)
+    × (c.if-from-eq0.listing.price ≡ c.loop-good.listing.price)
     × (c.if-from-eq0.listing.residues ≡ c.loop-good.listing.residues) =
     elim c.if-from-eq0.branch [
       | then-from-eq0 w ↦ (
@@ -35,7 +36,8 @@ loop-good-preserved g c =
       )
       | else-from-eq0 w ↦
           let before : (has_good bundle c.loop-good.best ≡ true) × (has_good bundle c.loop-good.listing.witness ≡ true)
-          × (has_good bundle c.loop-good.listing.second ≡ true) × (has_good bundle c.loop-good.listing.third ≡ true) = ⊎_elim (λ (e : c.loop-good.from ≡ 0). absurd (w.if-from-eq0.false e)) (λ k. k) h.chosen in (
+          × (has_good bundle c.loop-good.listing.second ≡ true) × (has_good bundle c.loop-good.listing.third ≡ true) =
+          ⊎_elim (λ (e : c.loop-good.from ≡ 0). absurd (w.if-from-eq0.false e)) (λ k. k) h.chosen in (
             ap (has_good bundle) w.best-is ∙ before.0,
             ap (λ (z : Listing). has_good bundle z.witness) w.listing-is ∙ before.1,
             ap (λ (z : Listing). has_good bundle z.second) w.listing-is ∙ before.2,
