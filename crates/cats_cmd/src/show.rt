@@ -6,13 +6,13 @@ ghost use Rattle.cats_cmd.specs.Outcomes.{show_outcome};
 ghost use Rattle.cats_cmd.specs.Runs.{RunsOnFile};
 
 use crate::report::{DONE, RunFault};
-use crate::run::{read_file, send_text};
-use cats_text::{Watched, write};
+use crate::run::read_file;
+use cats_text::{Watched, send_file};
 use std::alloc::Global;
 use std::io::{Read, Write};
 use std::mem;
 
-/// Reads a bid file, and sends it in the layout that `cats_text::write` has.
+/// Reads a bid file, and sends it in the layout that `cats_text::write` has, a page at a time.
 pub fn run_show<R: Read, W: Write>(
     alloc: Global,
     input: &mut Watched<R>,
@@ -24,8 +24,11 @@ pub fn run_show<R: Read, W: Write>(
     ensures { RunsOnFile R.remaining W.contents show_outcome input.old input.new out.old out.new result }
 {
     let file = read_file(alloc, input)?;
-    let text = write(alloc, &file)?;
+    let sent = send_file(alloc, out, &file)?;
     // To free one bid after another takes longer than the process's end.
     mem::forget(file);
-    send_text(out, DONE, text.as_slice())
+    match sent {
+        Ok(()) => Ok(DONE),
+        Err(fault) => Err(RunFault::Sent(fault)),
+    }
 }

@@ -1,4 +1,4 @@
--- The layout of a file spells the file.
+-- The layout of a file spells the file, and goes out in pieces.
 pub mod Zeros
 pub mod Numerals
 pub mod SixDigits
@@ -8,3 +8,4 @@ pub mod Prices
 pub mod BidTexts
 pub mod Lines
 pub mod Spells
+pub mod Pieces

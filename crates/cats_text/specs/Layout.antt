@@ -1,5 +1,5 @@
 -- The one layout that is written: header lines, then a line for each bid, by number.
-use Rattle.std.specs.Prelude.{ℕ, suc, ◌/◌, ◌%◌, ◌+◌, ◌==◌, if◌then◌else◌, List, [], ◌∷◌, ◌++◌, length, drop, codes}
+use Rattle.std.specs.Prelude.{ℕ, suc, ◌/◌, ◌%◌, ◌+◌, ◌*◌, ◌==◌, if◌then◌else◌, List, [], ◌∷◌, ◌++◌, length, drop, codes}
 use Rattle.std.specs.Prelude.{decimal}
 use Rattle.std.specs.List.{flat_map}
 use Rattle.cats_text.specs.Lines.{Word}
@@ -44,6 +44,10 @@ tabbed gs = flat_map (λ g. 9 ∷ decimal g) gs
 
 abbrev pub bid_text : ℕ → ℕ → PlainBid → List ℕ
 bid_text goods number b = decimal number ++ 9 ∷ price_text b.price ++ tabbed (goods_of goods b) ++ codes "\t#\n"
+
+-- as many bytes as the line of a bid of so many goods has room in
+abbrev pub line_room : ℕ → ℕ
+line_room goods = 256 + 6 * goods
 
 abbrev pub bids_text : ℕ → ℕ → List PlainBid → List ℕ
 bids_text goods n [] = []

@@ -13,6 +13,7 @@ use Rattle.cats_text.specs.declared.bid.BidFile.{BidFile}
 use Rattle.cats_text.specs.declared.fault.Kind.{Kind}
 use Rattle.cats_text.specs.declared.fault.Kind.TheVariants.{Device, Memory}
 use Rattle.cats_text.specs.declared.fault.ReadFault.{ReadFault}
+use Rattle.cats_text.specs.declared.fault.SendFault.{SendFault}
 use Rattle.cats_text.specs.declared.parser.Header.{Header}
 use Rattle.cats_text.specs.declared.limits.TheConstants.{MAX_STREAM}
 use Rattle.cats_text.specs.declared.stream.Watched.{Watched}
@@ -52,6 +53,11 @@ module _ {W : Type 0} (contents : W → Option (List ℕ)) where
     pub within : written ≤ length text
     pub appended : Appends (contents (inner_of old)) (contents (inner_of new)) (take written text)
     pub failed : has_failed new ≡ true
+
+  -- what sending a text answers
+  abbrev pub Sends : Watched W → Watched W → List ℕ → Result (Unit {0}) SendFault → Type 0
+  Sends old new text (Ok u) = SendsWhole old new text
+  Sends old new text (Err fault) = SendsPart old new text fault.written
 
 -- What reading a stream answers, by the bytes that were read and the stream that is left.
 module _ {R : Type 0} (remaining : R → Option (List ℕ)) where

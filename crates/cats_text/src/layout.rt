@@ -1,10 +1,27 @@
 //! Bid files as text.
 
-ghost use Rattle.std.specs.Prelude.{◌≡◌, ◌+◌, ◌*◌, ◌++◌, ◌∷◌, ◌<◌, ◌≤◌, length, drop, codes, IfOk, OnOk, decimal};
+ghost use Rattle.std.specs.Prelude.{
+  ◌≡◌,
+  ◌+◌,
+  ◌*◌,
+  ◌++◌,
+  ◌∷◌,
+  ◌<◌,
+  ◌≤◌,
+  length,
+  drop,
+  codes,
+  vec_capacity,
+  IfOk,
+  IsOk,
+  OnOk,
+  decimal,
+};
 ghost use Rattle.cats_text.specs.Files.{PlainBid, plain_bids, dummy_good};
 ghost use Rattle.cats_text.specs.Views.{plain_file};
 ghost use Rattle.cats_text.specs.Grammar.{Spells};
 ghost use Rattle.cats_text.specs.Layout.{
+  line_room,
   layout,
   header_text,
   headers_text,
@@ -62,7 +79,8 @@ pub fn push_header(
     bids: usize,
     dummy: usize,
 ) -> Result<(), AllocError>
-    ensures { OnOk result (out.new.items ≡ out.old.items ++ headers_text goods bids dummy) }
+    ensures text { OnOk result (out.new.items ≡ out.old.items ++ headers_text goods bids dummy) }
+    ensures capacity { vec_capacity out.old ≤ vec_capacity out.new }
 {
     push_header_line(out, b"goods", u64::from(goods))?;
     push_header_line(out, b"bids", bids as u64)?;
@@ -70,7 +88,8 @@ pub fn push_header(
 }
 
 fn push_header_line(out: &mut Vec<u8>, keyword: &[u8], value: u64) -> Result<(), AllocError>
-    ensures { OnOk result (out.new.items ≡ out.old.items ++ header_text keyword.now value) }
+    ensures text { OnOk result (out.new.items ≡ out.old.items ++ header_text keyword.now value) }
+    ensures capacity { vec_capacity out.old ≤ vec_capacity out.new }
 {
     out.extend_from_slice(keyword)?;
     out.push(b' ')?;
@@ -97,7 +116,7 @@ fn push_bids(out: &mut Vec<u8>, goods: u16, bids: &[Bid]) -> Result<(), AllocErr
 
 /// Appends the line of a bid in a file of so many `goods`: its number, its price in millionths, the goods of its
 /// `bundle`, and its dummy good, counted from 0 behind the real goods. Where memory is refused, some of it may stand
-/// there.
+/// there; none is asked for where the vector has room for the longest line of so many goods.
 pub fn push_bid(
     out: &mut Vec<u8>,
     goods: u16,
@@ -106,8 +125,11 @@ pub fn push_bid(
     bundle: &[u16],
     dummy: Option<u32>,
 ) -> Result<(), AllocError>
-    ensures { let bid : PlainBid = record { price = price; goods = bundle.now; dummy = dummy } in
+    ensures text { let bid : PlainBid = record { price = price; goods = bundle.now; dummy = dummy } in
         OnOk result (out.new.items ≡ out.old.items ++ bid_text goods number bid) }
+    ensures fits { length out.old.items + line_room (length bundle.now) ≤ vec_capacity out.old → IsOk result }
+    ensures room { OnOk result (length out.new.items ≤ length out.old.items + line_room (length bundle.now)) }
+    ensures capacity { vec_capacity out.old ≤ vec_capacity out.new }
 {
     if bundle.len() <= CHUNK {
         return push_short_bid(out, goods, number, price, bundle, dummy);
@@ -146,8 +168,11 @@ fn push_short_bid(
     dummy: Option<u32>,
 ) -> Result<(), AllocError>
     requires { length bundle.now ≤ 32 }
-    ensures { let bid : PlainBid = record { price = price; goods = bundle.now; dummy = dummy } in
+    ensures text { let bid : PlainBid = record { price = price; goods = bundle.now; dummy = dummy } in
         OnOk result (out.new.items ≡ out.old.items ++ bid_text goods number bid) }
+    ensures fits { length out.old.items + 256 ≤ vec_capacity out.old → IsOk result }
+    ensures room { OnOk result (length out.new.items ≤ length out.old.items + 256) }
+    ensures capacity { vec_capacity out.old ≤ vec_capacity out.new }
 {
     let mut text = [0; SHORT_LINE];
     let end = write_last_chunk(goods, bundle, dummy, &mut text, SHORT_LINE);
@@ -157,7 +182,10 @@ fn push_short_bid(
 
 /// The number and the price of a bid.
 fn push_offer(out: &mut Vec<u8>, number: usize, price: u64) -> Result<(), AllocError>
-    ensures { OnOk result (out.new.items ≡ out.old.items ++ (decimal number ++ 9 ∷ price_text price)) }
+    ensures text { OnOk result (out.new.items ≡ out.old.items ++ (decimal number ++ 9 ∷ price_text price)) }
+    ensures fits { length out.old.items + 48 ≤ vec_capacity out.old → IsOk result }
+    ensures room { OnOk result (length out.new.items ≤ length out.old.items + 48) }
+    ensures capacity { vec_capacity out.old ≤ vec_capacity out.new }
 {
     let mut text = [0; OFFER];
     let start = write_offer(number, price, &mut text, OFFER);
@@ -166,7 +194,10 @@ fn push_offer(out: &mut Vec<u8>, number: usize, price: u64) -> Result<(), AllocE
 
 fn push_chunk(out: &mut Vec<u8>, goods: &[u16]) -> Result<(), AllocError>
     requires { length goods.now ≤ 32 }
-    ensures { OnOk result (out.new.items ≡ out.old.items ++ tabbed goods.now) }
+    ensures text { OnOk result (out.new.items ≡ out.old.items ++ tabbed goods.now) }
+    ensures fits { length out.old.items + 192 ≤ vec_capacity out.old → IsOk result }
+    ensures room { OnOk result (length out.new.items ≤ length out.old.items + 192) }
+    ensures capacity { vec_capacity out.old ≤ vec_capacity out.new }
 {
     let mut text = [0; CHUNK_TEXT];
     let start = write_goods(goods, &mut text, CHUNK_TEXT);
@@ -181,7 +212,10 @@ fn push_last_chunk(
     dummy: Option<u32>,
 ) -> Result<(), AllocError>
     requires { length chunk.now ≤ 32 }
-    ensures { OnOk result (out.new.items ≡ out.old.items ++ (tabbed (chunk.now ++ dummy_good goods dummy) ++ codes "\t#\n")) }
+    ensures text { OnOk result (out.new.items ≡ out.old.items ++ (tabbed (chunk.now ++ dummy_good goods dummy) ++ codes "\t#\n")) }
+    ensures fits { length out.old.items + 208 ≤ vec_capacity out.old → IsOk result }
+    ensures room { OnOk result (length out.new.items ≤ length out.old.items + 208) }
+    ensures capacity { vec_capacity out.old ≤ vec_capacity out.new }
 {
     let mut text = [0; LAST_TEXT];
     let start = write_last_chunk(goods, chunk, dummy, &mut text, LAST_TEXT);
@@ -264,7 +298,8 @@ fn write_good(good: u64, text: &mut [u8], end: usize) -> usize
 }
 
 fn push_number<I: Integer>(out: &mut Vec<u8>, number: I) -> Result<(), AllocError>
-    ensures { OnOk result (out.new.items ≡ out.old.items ++ I.text number) }
+    ensures text { OnOk result (out.new.items ≡ out.old.items ++ I.text number) }
+    ensures capacity { vec_capacity out.old ≤ vec_capacity out.new }
 {
     out.extend_from_slice(Buffer::new().format(number).as_bytes())
 }

@@ -39,7 +39,7 @@ ghost use Rattle.cats_text.specs.Streams.{
 };
 
 use crate::bid::BidFile;
-use crate::fault::{Kind, ReadFault, SendFault};
+use crate::fault::{Kind, ReadFault};
 use crate::feeder::Feeder;
 use crate::limits::MAX_STREAM;
 use crate::parser::{Header, Keeping};
@@ -228,35 +228,6 @@ fn device_failed() -> ReadFault
 
 /// How many bytes are read at once.
 const PIECE: usize = 65_536;
-
-/// Sends the whole text and then flushes once. Where the writer fails, what went out is the beginning of the text that
-/// the fault counts.
-pub fn send<W: Write>(out: &mut Watched<W>, text: &[u8]) -> Result<(), SendFault>
-    requires { has_failed out.old ≡ false }
-    ensures whole { OnOk result (SendsWhole W.contents out.old out.new text.now) }
-    ensures part { IfErr result (λ fault. SendsPart W.contents out.old out.new text.now fault.written) }
-    ensures ended { has_ended out.new ≡ has_ended out.old }
-{
-    let mut written = 0;
-    while written < text.len() {
-        match out.write(&text[written..]) {
-            Ok(count) if count > 0 => written += count,
-            _ => return Err(sent(written)),
-        }
-    }
-    match out.flush() {
-        Ok(()) => Ok(()),
-        Err(_) => Err(sent(written)),
-    }
-}
-
-fn sent(written: usize) -> SendFault
-    ensures { result.written ≡ written }
-{
-    SendFault {
-        written: written as u64,
-    }
-}
 
 /// What a call's answer tells of a device, on worked answers: a call that moves nothing of a piece that is not empty
 /// ends a reader and fails a writer, and an empty piece tells nothing.

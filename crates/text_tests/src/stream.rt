@@ -3,9 +3,10 @@ ghost use Rattle.cats_text.specs.Streams.{has_ended, has_failed};
 
 use crate::texts::assert_bytes;
 use cats_text::{
-    BidFile, Header, Kind, MAX_STREAM, ReadFault, SendFault, Watched, check_from, read_from, send,
+    BidFile, Header, Kind, MAX_STREAM, ReadFault, SendFault, Watched, check_from, push_bid,
+    push_header, read, read_from, send, send_file,
 };
-use std::alloc::Global;
+use std::alloc::{AllocError, Global};
 use std::io;
 use std::io::{ErrorKind, Read, Write};
 use std::process::Abort;
@@ -317,6 +318,74 @@ fn counts_what_went_out(rt: HostRuntime) {
     }
     let out = writer(rt.alloc(), 2, 9, BROKEN, true);
     assert_sends(&rt, out, b"goods 0", Err(SendFault { written: 7 }), 1);
+}
+
+/// The text of a file of so many bids, each on all of 4,096 goods: its lines have some 20,000 bytes.
+fn long_text(alloc: Global, bids: usize) -> Result<Vec<u8>, AllocError> {
+    let mut goods = Vec::new(alloc);
+    for good in 0..4096 {
+        goods.push(good)?;
+    }
+    let mut text = Vec::new(alloc);
+    push_header(&mut text, 4096, bids, 0)?;
+    for number in 0..bids {
+        push_bid(&mut text, 4096, number, 7_000_001, &goods, None)?;
+    }
+    Ok(text)
+}
+
+/// Asserts what a writer that has room for so many bytes makes of a file that is sent.
+fn assert_sends_file(
+    rt: &impl Abort,
+    alloc: Global,
+    mut out: Watched<StepWriter>,
+    file: &BidFile,
+    text: &[u8],
+    want: Result<(), SendFault>,
+    flushes: u64,
+) -> Result<(), Fail>
+    requires { has_failed out ≡ false }
+{
+    let written = match want {
+        Ok(()) => text.len() as u64,
+        Err(fault) => fault.written,
+    };
+    assert_eq!(rt; send_file(alloc, &mut out, file)?, want);
+    assert_eq!(rt; out.failed(), want.is_err());
+    assert_sent(rt, &out.into_inner(), text, written, flushes);
+    Ok(())
+}
+
+#[test]
+fn sends_a_file_in_pages(rt: HostRuntime) -> Result<(), Fail> {
+    let text = long_text(rt.alloc(), 9)?;
+    let file = read(rt.alloc(), &text)?;
+    for room in [0, 1, 22, 23, 20_000, 65_536, 100_000, 150_000] {
+        let out = writer(rt.alloc(), 30_000, room, BROKEN, false);
+        let written = room as u64;
+        assert_sends_file(
+            &rt,
+            rt.alloc(),
+            out,
+            &file,
+            &text,
+            Err(SendFault { written }),
+            0,
+        )?;
+    }
+    let out = writer(rt.alloc(), 30_000, text.len(), BROKEN, false);
+    assert_sends_file(&rt, rt.alloc(), out, &file, &text, Ok(()), 1)?;
+    let out = writer(rt.alloc(), 30_000, text.len(), BROKEN, true);
+    let written = text.len() as u64;
+    assert_sends_file(
+        &rt,
+        rt.alloc(),
+        out,
+        &file,
+        &text,
+        Err(SendFault { written }),
+        1,
+    )
 }
 
 /// A text, where and how its reader fails, and what reading it answers: the sizes of the file, or the fault. Whether

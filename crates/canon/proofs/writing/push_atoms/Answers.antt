@@ -13,7 +13,7 @@ loop-place-preserved g c =
     c.push_bid.new.out.items _
     c.loop-place-test.true c.index-atoms-place.is
     (c.as_slice.ensures.value ∙ c.in_ok-list_into.ensures ∙ ap (λ (zs : List ℕ). zs ++ goods atom.bundle) c.clear.ensures.items)
-    c.in_ok-push_bid.ensures c.loop-place.invariant
+    c.in_ok-push_bid.ensures.text c.loop-place.invariant
 
 pub returns : goal.returns
 returns g c = atoms_text_all g.S.GoodsSet.goods c.args.goods c.args.first c.loop-place.place c.args.dummy c.args.atoms.now c.loop-place.out.items _

@@ -21,7 +21,7 @@ loop-dummy-init g c =
     record {
       text = text_begun g.S.GoodsSet.goods a _ _ _ _ c.or_atoms-or_atoms.result.now c.xor_bidders-bidders.result.now _ _
           c.goods-goods.ensures c.count_bids-bids.ensures refl c.or_atoms-or_atoms.ensures c.xor_bidders-bidders.ensures refl
-          (behind_nothing _ _ _ c.in_ok-out.ensures.items c.in_ok-push_header.ensures) c.in_ok-push_atoms.ensures;
+          (behind_nothing _ _ _ c.in_ok-out.ensures.items c.in_ok-push_header.ensures.text) c.in_ok-push_atoms.ensures;
       count = count_begun g.S.GoodsSet.goods a _ c.or_atoms-or_atoms.result.now c.xor_bidders-bidders.result.now c.or_atoms-or_atoms.ensures
           c.xor_bidders-bidders.ensures refl;
     }

@@ -7,7 +7,7 @@ pub loop-number-preserved : goal.loop-number-preserved
 loop-number-preserved c =
     bids_text_more c.args.goods c.args.bids.now c.loop-number.number c.index-bids-number.result _ _ _ (omega arith) c.index-bids-number.is
     c.loop-number.invariant
-    (c.in_ok-push_bid.ensures
+    (c.in_ok-push_bid.ensures.text
     ∙ ap (λ (gs : List ℕ). c.loop-number.out.items ++ bid_text c.args.goods c.loop-number.number (record {
       price = c.index-bids-number.result.price;
       goods = gs;

@@ -5,7 +5,7 @@ use Rattle.std.proofs.lemmas.List.{length-drop}
 use Rattle.std.proofs.KnownBytes.{Appends-trans}
 use Rattle.std.specs.Io.KnownBytes.{Appends}
 use Rattle.cats_text.specs.Streams.{failed_to_write}
-use Rattle.cats_text.proofs.stream.send.Goals as goal
+use Rattle.cats_text.proofs.sending.send_piece.Goals as goal
 
 all_but : (n : ℕ) (text : List ℕ) → take (length text - n) (drop n text) ≡ drop n text
 all_but n text = grind (arith, length-drop n text, take-length (drop n text))
@@ -20,10 +20,10 @@ took_some n [] h = refl
 took_some n (byte ∷ piece) h = grind arith
 
 pub loop-written-preserved : goal.loop-written-preserved
-loop-written-preserved g c = let wrote = c.in-Ok.ensures in let left = all_but c.loop-written.written c.args.text.now in record {
+loop-written-preserved g c = let wrote = c.in-Ok.ensures in let left = all_but c.loop-written.written c.args.piece.now in record {
   working = wrote.failed ∙ took_some c.in-Ok.count _ c.if-count-gt0.true;
   ended = wrote.ended ∙ c.loop-written.invariant.ended;
-  within = let bound : c.in-Ok.count ≤ length (drop c.loop-written.written c.args.text.now) = rw left at wrote.bound in
-      omega (arith, length-drop c.loop-written.written c.args.text.now);
-  sent = one_more_piece _ _ _ c.loop-written.written c.in-Ok.count c.args.text.now c.loop-written.invariant.sent wrote.bytes;
+  within = let bound : c.in-Ok.count ≤ length (drop c.loop-written.written c.args.piece.now) = rw left at wrote.bound in
+      omega (arith, length-drop c.loop-written.written c.args.piece.now);
+  sent = one_more_piece _ _ _ c.loop-written.written c.in-Ok.count c.args.piece.now c.loop-written.invariant.sent wrote.bytes;
 }

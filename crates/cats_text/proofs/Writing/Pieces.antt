@@ -1,0 +1,118 @@
+-- A text that goes out in pieces: what went out is its beginning, and the page holds its next bytes.
+use Rattle.std.proofs.Common.{arith, ◌≡◌, ◌<◌, ◌≤◌, ◌+◌, ◌-◌, ◌*◌, ◌^◌, ◌++◌, ◌∷◌, ℕ, List, [], get_or, length, take, drop, zero, suc, decimal, codes, Option, Result, Ok, Err, sym, ap, ap₂, ◌∙◌, subst}
+use Rattle.std.specs.Prelude.{IsErrAnd}
+use Rattle.std.proofs.Math.Seq.{take-add}
+use Rattle.std.proofs.KnownBytes.{Appends-trans}
+use Rattle.std.proofs.lemmas.Fmt.{length-decimal-le}
+use Rattle.std.proofs.lemmas.List.{drop-drop, take-append-le, drop-append-le, length-drop, length-append}
+use Rattle.std.proofs.lemmas.Result.{err_from_is_err_and}
+use Rattle.std.specs.Io.KnownBytes.{Appends}
+use Rattle.std.specs.List.{AllByRecursion}
+use Rattle.cats_text.specs.declared.bid.Bid.{Bid}
+use Rattle.cats_text.specs.Files.{PlainBid, IsRising, AreAbove, IsBid, IsBidFile, plain_bid, plain_bids}
+use Rattle.cats_text.specs.Layout.{bid_text, bids_text, header_text, headers_text}
+use Rattle.cats_text.specs.Streams.{inner_of, Sends, SendsPart}
+use Rattle.cats_text.specs.declared.fault.SendFault.{SendFault}
+use Rattle.cats_text.specs.declared.stream.Watched.{Watched}
+use Rattle.cats_text.proofs.Writing.BidTexts.{bids_text_more}
+
+-- ---- what goes out, and what is held
+
+-- `count` bytes went out, `before` of them with earlier pieces
+module _ (before count : ℕ) (page rest whole : List ℕ) (later : before ≤ count) (held : count ≤ before + length page)
+    (next : page ++ rest ≡ drop before whole) where
+  behind : before + (count - before) ≡ count
+  behind = omega arith
+
+  piece : take (count - before) (drop before whole) ≡ take (count - before) page
+  piece = ap (take (count - before)) (sym next) ∙ take-append-le (count - before) page rest (omega arith)
+
+  pub sent_on : (a b c : Option (List ℕ)) → Appends a b (take before whole) → Appends b c (take (count - before) page) → Appends a c (take count whole)
+  sent_on a b c first more =
+      subst (λ (n : ℕ). Appends a c (take n whole)) behind
+      (rw (take-add before (count - before) whole) (Appends-trans a b c _ _ first (rw piece more)))
+
+  pub left_on : drop (count - before) page ++ rest ≡ drop count whole
+  left_on =
+      sym (drop-append-le (count - before) page rest (omega arith))
+      ∙ ap (drop (count - before)) next
+      ∙ drop-drop (count - before) before whole
+      ∙ ap (λ (n : ℕ). drop n whole) behind
+
+  pub within_on : before ≤ length whole → count ≤ length whole
+  within_on inside = omega (arith, length-append page rest, ap length next, length-drop before whole)
+
+-- one more line is held
+pub line_held : (goods : ℕ) (bids : List Bid) (plain : List PlainBid) (number : ℕ) (bid : Bid) (before count : ℕ) (page left new whole : List ℕ)
+    (real : ℕ) (bundle : List ℕ) → real ≡ goods → bundle ≡ bid.goods.items → plain_bids bids ≡ plain → number < length bids → bid ≡ get_or bids number bid → before ≤ count → count ≤ before + length page
+    → page ++ bids_text goods number (drop number plain) ≡ drop before whole → left ≡ drop (count - before) page
+    → new ≡ left ++ bid_text real number (record { price = bid.price; goods = bundle; dummy = bid.dummy })
+    → new ++ bids_text goods (number + 1) (drop (number + 1) plain) ≡ drop count whole
+line_held goods bids plain number bid before count page left new whole real bundle same_goods same_bundle same there is later held next rest more =
+    let line : new ≡ left ++ bid_text goods number (plain_bid bid) =
+        more ∙ ap₂ (λ (n : ℕ) (gs : List ℕ). left ++ bid_text n number (record { price = bid.price; goods = gs; dummy = bid.dummy })) same_goods same_bundle in
+    let now : left ++ bids_text goods number (drop number plain) ≡ drop count whole =
+        ap (λ l. l ++ bids_text goods number (drop number plain)) rest ∙ left_on before count page _ whole later held next in
+    subst (λ ps. new ++ bids_text goods (number + 1) (drop (number + 1) ps) ≡ drop count whole) same
+    (bids_text_more goods bids number bid left new (drop count whole) there is
+        (subst (λ ps. left ++ bids_text goods number (drop number ps) ≡ drop count whole) (sym same) now) line)
+
+-- the writer failed in a piece
+pub failed_in_piece : {W : Type 0} (contents : W → Option (List ℕ)) (a b c : Watched W) (before : ℕ) (page piece rest whole : List ℕ) (fault : SendFault)
+    → piece ≡ page → page ++ rest ≡ drop before whole → before ≤ length whole → Appends (contents (inner_of a)) (contents (inner_of b)) (take before whole)
+    → before ≤ fault.written → SendsPart contents b c piece (fault.written - before)
+    → (answer : Result (Unit {0}) SendFault) → IsErrAnd answer (λ told. told ≡ fault) → Sends contents a c whole answer
+failed_in_piece contents a b c before page piece rest whole fault same next inside first later part_of answer is =
+    let part = subst (λ (p : List ℕ). SendsPart contents b c p (fault.written - before)) same part_of in
+    let told = err_from_is_err_and answer is in
+    let only : answer ≡ Err fault = told.1 ∙ ap (λ (f : SendFault). Err f) told.2 in
+    let held : fault.written ≤ before + length page = let within = part.within in omega arith in
+    subst (λ (r : Result (Unit {0}) SendFault). Sends contents a c whole r) (sym only) (record {
+      within = within_on before fault.written page rest whole later held next inside;
+      appended = sent_on before fault.written page rest whole later held next _ _ _ first part.appended;
+      failed = part.failed;
+    })
+
+-- ---- how long lines are
+
+-- numbers that rise above k and stay below G
+rising_within : (G k : ℕ) (xs : List ℕ) → AreAbove k xs → IsRising xs → AllByRecursion (λ x. x < G) xs → k < G → length xs + k < G
+rising_within G k [] above rising below start = omega arith
+rising_within G k (x ∷ xs) above rising below start =
+    let rest : length xs + x < G = rising_within G x xs rising.0 rising.1 below.1 below.0 in
+    let more : k < x = above.0 in
+    omega arith
+
+-- a bundle has at most as many goods as the file
+pub goods_within : (G : ℕ) (xs : List ℕ) → IsRising xs → AllByRecursion (λ x. x < G) xs → length xs ≤ G
+goods_within G [] rising below = omega arith
+goods_within G (x ∷ xs) rising below =
+    let rest : length xs + x < G = rising_within G x xs rising.0 rising.1 below.1 below.0 in
+    omega arith
+
+bid_at : (P : PlainBid → Type 0) (bids : List Bid) (i : ℕ) (bid : Bid) → AllByRecursion P (plain_bids bids) → i < length bids → bid ≡ get_or bids i bid
+    → P (plain_bid bid)
+bid_at P [] i bid all there is = absurd (omega arith)
+bid_at P (b ∷ bs) zero bid all there is = subst (λ (x : Bid). P (plain_bid x)) (sym is) all.0
+bid_at P (b ∷ bs) (suc i) bid all there is = bid_at P bs i bid all.1 (omega arith) is
+
+pub bundle_within : (G D : ℕ) (bids : List Bid) (plain : List PlainBid) (i : ℕ) (bid : Bid) → IsBidFile G D plain → plain_bids bids ≡ plain
+    → i < length bids → bid ≡ get_or bids i bid → length bid.goods.items ≤ 4096
+bundle_within G D bids plain i bid file same there is =
+    let this : IsBid G D (plain_bid bid) = bid_at (IsBid G D) bids i bid (subst (λ ps. AllByRecursion (IsBid G D) ps) (sym same) file.each) there is in
+    let few : length bid.goods.items ≤ G = goods_within G bid.goods.items this.rising this.below in
+    let bound : G ≤ 4096 = file.goods in
+    omega arith
+
+header_line_short : (keyword : List ℕ) (n : ℕ) → n < 2 ^ 64 → length keyword ≤ 8 → length (header_text keyword n) ≤ 30
+header_line_short keyword n small short =
+    let digits : length (decimal n) ≤ 20 = length-decimal-le 20 n (omega arith) (omega arith) (omega arith) in
+    grind (arith, length-append)
+
+three_short : (a b c : List ℕ) → length a ≤ 30 → length b ≤ 30 → length c ≤ 30 → length (a ++ b ++ c) ≤ 128
+three_short a b c short_a short_b short_c = grind (arith, length-append)
+
+pub headers_short : (goods bids dummy : ℕ) → goods < 2 ^ 64 → bids < 2 ^ 64 → dummy < 2 ^ 64 → length (headers_text goods bids dummy) ≤ 128
+headers_short goods bids dummy g b d =
+    three_short (header_text (codes "goods") goods) (header_text (codes "bids") bids) (header_text (codes "dummy") dummy)
+    (header_line_short (codes "goods") goods g (omega arith)) (header_line_short (codes "bids") bids b (omega arith)) (header_line_short (codes "dummy") dummy d (omega arith))
