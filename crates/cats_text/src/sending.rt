@@ -1,6 +1,23 @@
 //! Sending a text, whole or in pieces.
 
-ghost use Rattle.std.specs.Prelude.{◌≡◌, ◌+◌, ◌-◌, ◌^◌, ◌<◌, ◌≤◌, length, take, drop, false, vec_capacity, is_err, IfErr, IfOk, OnErr, OnOk};
+ghost use Rattle.std.specs.Prelude.{
+  ◌≡◌,
+  ◌+◌,
+  ◌-◌,
+  ◌^◌,
+  ◌<◌,
+  ◌≤◌,
+  length,
+  take,
+  drop,
+  false,
+  vec_capacity,
+  is_err,
+  IfErr,
+  IfOk,
+  OnErr,
+  OnOk,
+};
 ghost use Rattle.std.specs.Io.KnownBytes.{Keeps};
 ghost use Rattle.cats_text.specs.Layout.{headers_text, layout};
 ghost use Rattle.cats_text.specs.Streams.{inner_of, has_failed, has_ended, Sends, SendsPart, SendsWhole};
@@ -110,11 +127,7 @@ fn send_full_page<W: Write>(
 }
 
 /// Sends a piece of a text, of which so many bytes went out before.
-fn send_piece<W: Write>(
-    out: &mut Watched<W>,
-    piece: &[u8],
-    before: u64,
-) -> Result<(), SendFault>
+fn send_piece<W: Write>(out: &mut Watched<W>, piece: &[u8], before: u64) -> Result<(), SendFault>
     requires works { has_failed out.old ≡ false }
     requires counted { before + length piece.now < 2 ^ 64 }
     ensures whole { OnOk result (SendsWhole W.contents out.old out.new piece.now) }

@@ -23,7 +23,7 @@ ghost use Rattle.cats_text.specs.Files.{PlainBid, PlainFile};
 ghost use Rattle.cats_text.specs.Grammar.{Spells};
 ghost use Rattle.cats_text.specs.Faults.{first_fault, complete_fault, fault_at};
 ghost use Rattle.cats_text.specs.FileLines.{spelled_file};
-ghost use Rattle.cats_text.specs.Layout.{layout, price_text};
+ghost use Rattle.cats_text.specs.Layout.{layout, line_room, price_text};
 ghost use Rattle.cats_text.specs.declared.limits.TheConstants.{MAX_GOODS, MAX_BIDS, MAX_DUMMY, MAX_PRICE, MAX_STREAM};
 ghost use Rattle.cats_text.specs.declared.fault.Kind.TheVariants.{
   Header,
@@ -148,9 +148,11 @@ pub fn complete_faults()
         ∷ Some (fault_at 1 NotANumber) ∷ None ∷ None ∷ Some (fault_at 1 Header) ∷ []) }
 {}
 
-/// A file as it is written.
+/// A file as it is written, and the room for lines of no good and of all.
 pub fn written_file()
-    ensures { layout (record {
+    ensures no_good { line_room 0 ≡ 256 }
+    ensures all_goods { line_room 4096 ≡ 24832 }
+    ensures text { layout (record {
       goods = 3;
       dummy = 1;
       bids = record { price = 20000000; goods = 0 ∷ 2 ∷ []; dummy = Some 0 }

@@ -1,5 +1,6 @@
 -- A text that goes out in pieces: what went out is its beginning, and the page holds its next bytes.
-use Rattle.std.proofs.Common.{arith, ◌≡◌, ◌<◌, ◌≤◌, ◌+◌, ◌-◌, ◌*◌, ◌^◌, ◌++◌, ◌∷◌, ℕ, List, [], get_or, length, take, drop, zero, suc, decimal, codes, Option, Result, Ok, Err, sym, ap, ap₂, ◌∙◌, subst}
+use Rattle.std.proofs.Common.{arith, ◌≡◌, ◌<◌, ◌≤◌, ◌+◌, ◌-◌, ◌^◌, ◌++◌, ◌∷◌, ℕ, List, [], get_or, length, take, drop, zero, suc, decimal, codes}
+use Rattle.std.proofs.Common.{Option, Result, Err, sym, ap, ap₂, ◌∙◌, subst}
 use Rattle.std.specs.Prelude.{IsErrAnd}
 use Rattle.std.proofs.Math.Seq.{take-add}
 use Rattle.std.proofs.KnownBytes.{Appends-trans}
@@ -44,18 +45,19 @@ module _ (before count : ℕ) (page rest whole : List ℕ) (later : before ≤ c
 
 -- one more line is held
 pub line_held : (goods : ℕ) (bids : List Bid) (plain : List PlainBid) (number : ℕ) (bid : Bid) (before count : ℕ) (page left new whole : List ℕ)
-    (real : ℕ) (bundle : List ℕ) → real ≡ goods → bundle ≡ bid.goods.items → plain_bids bids ≡ plain → number < length bids → bid ≡ get_or bids number bid → before ≤ count → count ≤ before + length page
+    (real : ℕ) (bundle : List ℕ) → real ≡ goods → bundle ≡ bid.goods.items → plain_bids bids ≡ plain → number < length bids
+    → bid ≡ get_or bids number bid → before ≤ count → count ≤ before + length page
     → page ++ bids_text goods number (drop number plain) ≡ drop before whole → left ≡ drop (count - before) page
     → new ≡ left ++ bid_text real number (record { price = bid.price; goods = bundle; dummy = bid.dummy })
     → new ++ bids_text goods (number + 1) (drop (number + 1) plain) ≡ drop count whole
 line_held goods bids plain number bid before count page left new whole real bundle same_goods same_bundle same there is later held next rest more =
     let line : new ≡ left ++ bid_text goods number (plain_bid bid) =
-        more ∙ ap₂ (λ (n : ℕ) (gs : List ℕ). left ++ bid_text n number (record { price = bid.price; goods = gs; dummy = bid.dummy })) same_goods same_bundle in
+    more ∙ ap₂ (λ (n : ℕ) (gs : List ℕ). left ++ bid_text n number (record { price = bid.price; goods = gs; dummy = bid.dummy })) same_goods same_bundle in
     let now : left ++ bids_text goods number (drop number plain) ≡ drop count whole =
-        ap (λ l. l ++ bids_text goods number (drop number plain)) rest ∙ left_on before count page _ whole later held next in
+    ap (λ l. l ++ bids_text goods number (drop number plain)) rest ∙ left_on before count page _ whole later held next in
     subst (λ ps. new ++ bids_text goods (number + 1) (drop (number + 1) ps) ≡ drop count whole) same
     (bids_text_more goods bids number bid left new (drop count whole) there is
-        (subst (λ ps. left ++ bids_text goods number (drop number ps) ≡ drop count whole) (sym same) now) line)
+    (subst (λ ps. left ++ bids_text goods number (drop number ps) ≡ drop count whole) (sym same) now) line)
 
 -- the writer failed in a piece
 pub failed_in_piece : {W : Type 0} (contents : W → Option (List ℕ)) (a b c : Watched W) (before : ℕ) (page piece rest whole : List ℕ) (fault : SendFault)
@@ -115,4 +117,5 @@ three_short a b c short_a short_b short_c = grind (arith, length-append)
 pub headers_short : (goods bids dummy : ℕ) → goods < 2 ^ 64 → bids < 2 ^ 64 → dummy < 2 ^ 64 → length (headers_text goods bids dummy) ≤ 128
 headers_short goods bids dummy g b d =
     three_short (header_text (codes "goods") goods) (header_text (codes "bids") bids) (header_text (codes "dummy") dummy)
-    (header_line_short (codes "goods") goods g (omega arith)) (header_line_short (codes "bids") bids b (omega arith)) (header_line_short (codes "dummy") dummy d (omega arith))
+    (header_line_short (codes "goods") goods g (omega arith)) (header_line_short (codes "bids") bids b (omega arith))
+    (header_line_short (codes "dummy") dummy d (omega arith))

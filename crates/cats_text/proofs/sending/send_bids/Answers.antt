@@ -1,4 +1,4 @@
-use Rattle.std.proofs.Common.{arith, length-drop, vec_capacity, ◌++◌, ◌+◌, ◌*◌, ◌-◌, ◌≡◌, ◌≤◌, ℕ, List, length, refl, sym, ap, ◌∙◌, subst}
+use Rattle.std.proofs.Common.{arith, length-drop, vec_capacity, ◌++◌, ◌+◌, ◌*◌, ◌-◌, ◌≤◌, length, drop, refl, ap, ◌∙◌}
 use Rattle.std.proofs.lemmas.Bool.{false≢true}
 use Rattle.std.proofs.KnownBytes.{Appends-nil}
 use Rattle.cats_text.specs.Layout.{bids_text, layout}
@@ -11,8 +11,8 @@ loop-number-init g c =
     let facts = c.args.file.now.facts in
     let bound : length (plain_file c.args.file.now).bids ≤ 65536 = facts.count in
     let short : length c.args.page.items ≤ 128 =
-        rw c.requires.header (headers_short c.args.file.now.goods (length (plain_file c.args.file.now).bids) c.args.file.now.dummy
-            (omega (arith, facts.goods)) (omega arith) (omega (arith, facts.dummy))) in
+    rw c.requires.header (headers_short c.args.file.now.goods (length (plain_file c.args.file.now).bids) c.args.file.now.dummy
+    (omega (arith, facts.goods)) (omega arith) (omega (arith, facts.dummy))) in
     record {
       working = c.requires.works;
       ended = refl;
@@ -27,14 +27,16 @@ pub returns-in_err-written-clause-sends : goal.returns-in_err-written-clause-sen
 returns-in_err-written-clause-sends g c =
     let now = c.loop-number in
     let wrote = c.in_err-written.ensures in
-    failed_in_piece g.W.Write.contents c.args.out.now now.out c.send_full_page.new.out now.written now.page.items now.page.items _
-    (layout (plain_file c.args.file.now)) c.in_err-written.field-0.0 refl now.invariant.left now.invariant.within now.invariant.sent wrote.counts wrote.part _ c.from_residual.ensures.1
+    failed_in_piece g.W.Write.contents c.args.out.now now.out c.send_full_page.new.out now.written now.page.items now.page.items
+    (bids_text c.args.file.now.goods now.number (drop now.number (plain_file c.args.file.now).bids))
+    (layout (plain_file c.args.file.now)) c.in_err-written.field-0.0 refl now.invariant.left now.invariant.within now.invariant.sent
+    wrote.counts wrote.part _ c.from_residual.ensures.1
 
 pub unreachable-requires : goal.unreachable-requires
 unreachable-requires g c =
     let file = plain_file c.args.file.now in
     let few : length c.bid-item.result.goods.items ≤ 4096 = bundle_within file.goods file.dummy c.bids-bid-items.result.now file.bids c.loop-number.number
-        c.bid-item.result c.args.file.now.facts c.bids-bid-items.ensures (omega arith) c.bid-item.is in
+    c.bid-item.result c.args.file.now.facts c.bids-bid-items.ensures (omega arith) c.bid-item.is in
     let room : 65536 ≤ vec_capacity c.loop-number.page = c.loop-number.invariant.room in
     let short : length c.as_slice.result.now ≤ 4096 = rw c.as_slice.ensures.value few in
     false≢true (c.in_default.ensures.fits (omega (arith, c.send_full_page.ensures.capacity, c.in_ok-written.ensures.room)))
@@ -46,11 +48,18 @@ loop-number-preserved g c =
     let wrote = c.in_ok-written.ensures in
     let count = c.in_ok-written.written in
     let few : length c.bid-item.result.goods.items ≤ 4096 = bundle_within file.goods file.dummy c.bids-bid-items.result.now file.bids c.loop-number.number
-        c.bid-item.result c.args.file.now.facts c.bids-bid-items.ensures (omega arith) c.bid-item.is in
+    c.bid-item.result c.args.file.now.facts c.bids-bid-items.ensures (omega arith) c.bid-item.is in
     let room : 65536 ≤ vec_capacity c.push_bid.new.out = omega (arith, now.invariant.room, wrote.capacity, c.in-Ok.ensures.capacity) in
     let short : length c.as_slice.result.now ≤ 4096 = rw c.as_slice.ensures.value few in
-    let counted : count + length c.push_bid.new.out.items ≤ 128 + 65536 * (now.number + 1) = omega (arith, now.invariant.counted, wrote.count.0, wrote.count.1, ap length wrote.left, length-drop (count - now.written) now.page.items,
-      c.in-Ok.ensures.room) in
+    let counted : count + length c.push_bid.new.out.items ≤ 128 + 65536 * (now.number + 1) = omega (
+      arith,
+      now.invariant.counted,
+      wrote.count.0,
+      wrote.count.1,
+      ap length wrote.left,
+      length-drop (count - now.written) now.page.items,
+      c.in-Ok.ensures.room,
+    ) in
     record {
       working = wrote.sent.works;
       ended = wrote.ended ∙ now.invariant.ended;
@@ -58,7 +67,8 @@ loop-number-preserved g c =
       sent = sent_on now.written count now.page.items _ (layout file) wrote.count.0 wrote.count.1 now.invariant.left _ _ _ now.invariant.sent
           wrote.sent.appended;
       left = line_held file.goods c.bids-bid-items.result.now file.bids now.number c.bid-item.result now.written count now.page.items _ _ (layout file)
-          c.goods.result c.as_slice.result.now c.goods.ensures c.as_slice.ensures.value c.bids-bid-items.ensures (omega arith) c.bid-item.is wrote.count.0 wrote.count.1 now.invariant.left wrote.left c.in-Ok.ensures.text;
+          c.goods.result c.as_slice.result.now c.goods.ensures c.as_slice.ensures.value c.bids-bid-items.ensures (omega arith) c.bid-item.is
+          wrote.count.0 wrote.count.1 now.invariant.left wrote.left c.in-Ok.ensures.text;
       room = room;
       counted = counted;
     }
