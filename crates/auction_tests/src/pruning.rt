@@ -275,6 +275,39 @@ fn search_stops_at_its_limit(rt: HostRuntime) -> Result<(), Fail> {
     stopped_bomb::<WordSet<64>>(&rt, rt.alloc(), 100)
 }
 
+// All pairs of 17 goods at 1 each, more than can be marked, and the bundle of all 17 goods at 8, which eight pairs reach.
+fn pairs_and_all<S: GoodsSet>(rt: &impl Abort, alloc: Global) -> Result<Vec<Atom<S>>, Fail>
+    ensures { IfOk result (λ bids. All (IsAtom MAX_GOODS) (atoms_of S.goods bids.items)) }
+{
+    let mut bids = Vec::new(alloc);
+    for place in 0..289u16 {
+        if place / 17 < place % 17 {
+            add_atom(rt, alloc, &mut bids, &[place / 17, place % 17], 1)?;
+        }
+    }
+    add_atom(rt, alloc, &mut bids, &goods_below(alloc, 17)?, 8)?;
+    Ok(bids)
+}
+
+fn long_list<S: GoodsSet>(rt: &impl Abort, alloc: Global) -> Result<(), Fail> {
+    let Ok(kept) = prune_or(alloc, pairs_and_all::<S>(rt, alloc)?, 9) else {
+        panic!(rt; "the bids are pruned");
+    };
+    assert_eq!(rt; kept.len(), 136);
+    expect_stop(
+        rt,
+        alloc,
+        prune_or(alloc, pairs_and_all::<S>(rt, alloc)?, 8),
+        17,
+    )
+}
+
+#[test]
+fn long_lists_on_both_sets(rt: HostRuntime) -> Result<(), Fail> {
+    long_list::<ListSet>(&rt, rt.alloc())?;
+    long_list::<WordSet<64>>(&rt, rt.alloc())
+}
+
 // The bids 1:{0}, 2:{0,1}, 3:{0,1,2} and so on, each inside the next.
 fn nested_bids<S: GoodsSet>(rt: &impl Abort, alloc: Global, n: u16) -> Result<Vec<Atom<S>>, Fail>
     ensures { IfOk result (λ bids. All (IsAtom MAX_GOODS) (atoms_of S.goods bids.items)) }

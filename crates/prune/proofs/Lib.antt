@@ -8,3 +8,4 @@ pub mod Results
 pub mod PruningLoop
 pub mod ReachingLevels
 pub mod ReachingLevelsOfCode
+pub mod MarkedReaching

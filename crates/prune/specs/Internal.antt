@@ -3,3 +3,4 @@
 pub mod BestBids
 pub mod Listings
 pub mod Places
+pub mod PricesLeft

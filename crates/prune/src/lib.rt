@@ -5,6 +5,7 @@ mod best;
 mod fault;
 mod kept;
 mod laws;
+mod marked;
 mod or;
 mod places;
 mod search;

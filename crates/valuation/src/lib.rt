@@ -20,6 +20,7 @@ pub use auction::Auction;
 pub use budget::Budget;
 pub use from_file::auction_of;
 pub use given_file::into_auction;
+pub use marks::{MAX_MARKS, Row, marks_inside, rows_of};
 pub use order::{compare_atoms, compare_bidders};
 pub use packing::{Packing, ValueFault, or_value};
 pub use xor::xor_value;

@@ -4,6 +4,7 @@ ghost use Rattle.std.specs.declared.cmp.Ordering.TheVariants.{Less, Equal, Great
 ghost use Rattle.valuation.specs.Examples.{atom};
 ghost use Rattle.valuation.specs.Values.{xor_value, or_value, chosen_places};
 ghost use Rattle.valuation.specs.Packings.{count_packings};
+ghost use Rattle.valuation.specs.PlaceMarks.{is_inside_at, is_apart_behind};
 ghost use Rattle.valuation.specs.Tables.{or_table, xor_table, is_nonzero};
 ghost use Rattle.valuation.specs.Orders.{atom_cmp, bidder_cmp};
 ghost use Rattle.valuation.specs.Sorting.{sort_by};
@@ -46,6 +47,20 @@ pub fn packings_worked()
         count_packings a (0 ∷ 1 ∷ 2 ∷ []) ≡ 9 }
     ensures same_bundle { let a = atom (0 ∷ []) 1 ∷ atom (0 ∷ []) 1 ∷ atom (1 ∷ []) 1 ∷ [] in
         count_packings a (0 ∷ 1 ∷ []) ≡ 6 }
+{}
+
+/// The places that are marked: of the atoms inside a bundle, and of those behind an atom that share no good with it.
+pub fn marked_places_worked()
+    ensures inside { let a = atom (0 ∷ []) 3 ∷ atom (1 ∷ []) 4 ∷ atom (0 ∷ 1 ∷ []) 7 ∷ [] in
+        is_inside_at a (1 ∷ []) 1 ≡ true }
+    ensures not_inside { let a = atom (0 ∷ []) 3 ∷ atom (1 ∷ []) 4 ∷ atom (0 ∷ 1 ∷ []) 7 ∷ [] in
+        is_inside_at a (1 ∷ []) 2 ≡ false }
+    ensures apart { let a = atom (0 ∷ []) 3 ∷ atom (1 ∷ []) 4 ∷ atom (0 ∷ 1 ∷ []) 7 ∷ [] in
+        is_apart_behind a 0 1 ≡ true }
+    ensures before { let a = atom (0 ∷ []) 3 ∷ atom (1 ∷ []) 4 ∷ atom (0 ∷ 1 ∷ []) 7 ∷ [] in
+        is_apart_behind a 1 0 ≡ false }
+    ensures one_good_shared { let a = atom (0 ∷ []) 3 ∷ atom (1 ∷ []) 4 ∷ atom (0 ∷ 1 ∷ []) 7 ∷ [] in
+        is_apart_behind a 0 2 ≡ false }
 {}
 
 /// A table has the values on all bundles, in order.
