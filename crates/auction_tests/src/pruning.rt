@@ -275,17 +275,27 @@ fn search_stops_at_its_limit(rt: HostRuntime) -> Result<(), Fail> {
     stopped_bomb::<WordSet<64>>(&rt, rt.alloc(), 100)
 }
 
+// All pairs of 17 goods.
+fn all_pairs(alloc: Global) -> Result<Vec<(u16, u16)>, AllocError> {
+    let mut pairs = Vec::new(alloc);
+    for place in 0..289u16 {
+        if place / 17 < place % 17 {
+            pairs.push((place / 17, place % 17))?;
+        }
+    }
+    Ok(pairs)
+}
+
 // All pairs of 17 goods at 1 each, more than can be marked, and the bundle of all 17 goods at 8, which eight pairs reach.
 fn pairs_and_all<S: GoodsSet>(rt: &impl Abort, alloc: Global) -> Result<Vec<Atom<S>>, Fail>
     ensures { IfOk result (λ bids. All (IsAtom MAX_GOODS) (atoms_of S.goods bids.items)) }
 {
+    let pairs = all_pairs(alloc)?;
     let mut bids = Vec::new(alloc);
-    for place in 0..289u16 {
-        if place / 17 < place % 17 {
-            add_atom(rt, alloc, &mut bids, &[place / 17, place % 17], 1)?;
-        }
-    }
     add_atom(rt, alloc, &mut bids, &goods_below(alloc, 17)?, 8)?;
+    for (one, other) in &pairs {
+        add_atom(rt, alloc, &mut bids, &[*one, *other], 1)?;
+    }
     Ok(bids)
 }
 
