@@ -2,6 +2,7 @@
 #![tactic(auto)]
 
 mod bid;
+mod compact;
 mod eight;
 mod fault;
 mod feeder;
