@@ -146,6 +146,12 @@ kept_of keepings.Bids b = b
 kept_of keepings.Compact b = b
 kept_of keepings.Numbers b = number_alone
 
+-- the bids themselves are kept
+abbrev pub KeepsBids : Keeping → Type 0
+KeepsBids keepings.Bids = Unit {0}
+KeepsBids keepings.Compact = Unit {0}
+KeepsBids keepings.Numbers = ⊥
+
 -- a draft with these goods
 abbrev pub with_goods : Draft → List ℕ → PlainBid
 with_goods draft goods = record { price = draft.price; goods = goods; dummy = draft.dummy }
