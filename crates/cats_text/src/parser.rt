@@ -337,7 +337,12 @@ impl Parser {
             }) }
     {
         self.sort_goods();
-        self.slots.put(self.alloc, self.draft, self.goods.as_slice(), self.header.bids)?;
+        self.slots.put(
+            self.alloc,
+            self.draft,
+            self.goods.as_slice(),
+            self.header.bids,
+        )?;
         self.goods.clear();
         Ok(())
     }

@@ -95,7 +95,12 @@ impl Front {
     {
         match self {
             Front::Bids(bids) => bids[place] = bid,
-            Front::Compact(bids) => bids.replace(place, bid.price, bid.goods.as_slice(), bid.dummy)?,
+            Front::Compact(bids) => bids.replace(
+                place,
+                bid.price,
+                bid.goods.as_slice(),
+                bid.dummy,
+            )?,
             Front::Numbers(_) => {}
         }
         Ok(())
@@ -103,7 +108,13 @@ impl Front {
 
     /// Puts what is kept of a bid behind the others. At the first one, room is made for the bids of a file with so many.
     #[inline(always)]
-    fn push(&mut self, alloc: Global, draft: Draft, goods: &[u16], count: u32) -> Result<(), AllocError>
+    fn push(
+        &mut self,
+        alloc: Global,
+        draft: Draft,
+        goods: &[u16],
+        count: u32,
+    ) -> Result<(), AllocError>
         requires { length (front_bids self.old) < 2 ^ 32 }
         ensures bids { let bid = kept_of (keeping_of self.old) (with_goods draft goods.now) in
             OnOk result (front_bids self.new ≡ front_bids self.old ++ bid ∷ []) }
@@ -198,7 +209,13 @@ impl Slots {
 
     /// Puts what is kept of a bid of a file with so many at its number.
     #[inline(always)]
-    pub fn put(&mut self, alloc: Global, draft: Draft, goods: &[u16], count: u32) -> Result<(), AllocError>
+    pub fn put(
+        &mut self,
+        alloc: Global,
+        draft: Draft,
+        goods: &[u16],
+        count: u32,
+    ) -> Result<(), AllocError>
         ensures slots { let bid = kept_of (keeping_of self.old.front) (with_goods draft goods.now) in
             OnOk result (slot_list self.new ≡ put_slot (slot_list self.old) draft.number bid) }
         ensures keeping { OnOk result (keeping_of self.new.front ≡ keeping_of self.old.front) }

@@ -188,7 +188,10 @@ pub fn read_from<R: Read>(alloc: Global, input: &mut Watched<R>) -> Result<BidFi
 
 /// Reads the whole stream as `read_from` does, as a file that is only to be sent: the goods of all bids stand together,
 /// and so a file of many bids takes less memory and less time.
-pub fn read_compact_from<R: Read>(alloc: Global, input: &mut Watched<R>) -> Result<CompactFile, ReadFault>
+pub fn read_compact_from<R: Read>(
+    alloc: Global,
+    input: &mut Watched<R>,
+) -> Result<CompactFile, ReadFault>
     requires works { has_failed input.old ≡ false }
     requires fresh { has_ended input.old ≡ false }
     ensures { (bytes : List ℕ) × Consumes (R.remaining (inner_of input.old)) (R.remaining (inner_of input.new)) bytes

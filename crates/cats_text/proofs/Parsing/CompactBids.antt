@@ -1,7 +1,6 @@
 -- Bids whose goods stand in one list: those of one more bid are put behind the others.
-use Rattle.std.proofs.Common.{◌≡◌, ℕ, ◌+◌, ◌-◌, ◌≤◌, List, [], ◌∷◌, ◌++◌, length, map, set, take, drop, refl, sym, ap, ap₂, ◌∙◌, arith, length-append, length-drop}
+use Rattle.std.proofs.Common.{◌≡◌, ℕ, ◌+◌, ◌-◌, ◌≤◌, List, [], ◌∷◌, ◌++◌, length, map, set, take, drop, refl, ap, ap₂, ◌∙◌, arith, length-append, length-drop}
 use Rattle.std.proofs.lemmas.List.{drop_all, take-append-le, drop-append-le, map-append, map-set}
-use Rattle.std.specs.List.{slice_range}
 use Rattle.cats_text.specs.declared.compact.Offer.{Offer}
 use Rattle.cats_text.specs.Files.{PlainBid}
 use Rattle.cats_text.specs.Internal.Compact.{offered, IsHeld, AreHeld}

@@ -1,5 +1,5 @@
 -- Goods that do not rise are sorted: the marks stay theirs.
-use Rattle.std.proofs.Common.{◌≡◌, sym, ap, ◌∙◌, List, ℕ, false}
+use Rattle.std.proofs.Common.{sym, ap, ◌∙◌, List, ℕ}
 use Rattle.std.proofs.lemmas.List.Sorted.{list_any-IsPermutation, IsNonDecreasingBy-from_sort}
 use Rattle.cats_text.specs.Files.{IsRising}
 use Rattle.cats_text.specs.Grammar.{has_number}
