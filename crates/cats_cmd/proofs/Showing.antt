@@ -1,8 +1,7 @@
--- A run that shows a file: the file was read, and then its page was refused, or its layout was sent.
-use Rattle.std.proofs.Common.{◌≡◌, ℕ, List, Option, Result, Ok, Err, refl}
+-- A run that shows a file: the file was read, and then its page was refused.
+use Rattle.std.proofs.Common.{◌≡◌, ℕ, List, Option, Result, Ok, Err}
 use Rattle.std.specs.Prelude.{IsErrAnd}
 use Rattle.cats_text.specs.Files.{PlainFile}
-use Rattle.cats_text.specs.Layout.{layout}
 use Rattle.cats_text.specs.declared.stream.Watched.{Watched}
 use Rattle.canon.specs.declared.fault.CanonFault.{CanonFault}
 use Rattle.canon.specs.declared.fault.CanonFault.TheVariants.{Memory}
@@ -11,8 +10,8 @@ use Rattle.cats_cmd.specs.declared.report.RunFault.{RunFault}
 use Rattle.cats_cmd.specs.declared.report.RunFault.TheVariants.{Refused}
 use Rattle.cats_cmd.specs.Internal.Showing.{ReadsToShow}
 use Rattle.cats_cmd.specs.Outcomes.{show_outcome}
-use Rattle.cats_cmd.specs.Runs.{RunsOnFile, SendsAs}
-use Rattle.cats_cmd.proofs.RunsOfOneFile.{refused_in_reading, refused_in_making, runs_by_refusing, runs_by_telling, told_by_sending}
+use Rattle.cats_cmd.specs.Runs.{RunsOnFile}
+use Rattle.cats_cmd.proofs.RunsOfOneFile.{refused_in_reading, refused_in_making, runs_by_refusing}
 
 module _ {R W : Type 0} (remaining : R → Option (List ℕ)) (contents : W → Option (List ℕ)) where
   pub show_unread : (input read : Watched R) (out : Watched W) (fault : CanonFault) → ReadsToShow remaining input read (Err fault)
@@ -33,13 +32,4 @@ module _ {R W : Type 0} (remaining : R → Option (List ℕ)) (contents : W → 
     consumes = shown.consumes;
     runs = runs_by_refusing remaining contents show_outcome shown.bytes read out Memory
         (refused_in_making remaining show_outcome shown.bytes read file shown.reads Memory tt) answer is;
-  }
-
-  pub show_told : (input read : Watched R) (old new : Watched W) (file : PlainFile) → ReadsToShow remaining input read (Ok file)
-      → (answer : Result ℕ RunFault) → SendsAs contents 0 (layout file) old new answer → RunsOnFile remaining contents show_outcome input read old new answer
-  show_told input read old new file shown answer sends = record {
-    bytes = shown.bytes;
-    consumes = shown.consumes;
-    runs = runs_by_telling remaining contents show_outcome shown.bytes read file shown.reads old new answer
-        (told_by_sending contents (show_outcome file) old new 0 (layout file) refl answer sends);
   }

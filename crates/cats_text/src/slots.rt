@@ -106,7 +106,7 @@ impl Front {
         Ok(())
     }
 
-    /// Puts what is kept of a bid behind the others. At the first one, room is made for the bids of a file with so many.
+    /// Puts what is kept of a bid behind the others. At the first one, room is made for so many.
     #[inline(always)]
     fn push(
         &mut self,

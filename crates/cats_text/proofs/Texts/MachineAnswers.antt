@@ -109,11 +109,11 @@ file_is_said (g ∷ b ∷ d ∷ lines) p kept at due =
 
 -- or has the file that the bytes spell
 pub ends_at_file : (k : Keeping) (bytes : List ℕ) (s t : State) → KeepsBids k → scan (first_state k) (settled bytes) ≡ ok s
-    → end_of (waits bytes) s ≡ ok t
-    → Spells bytes (file_from t.progress)
+    → end_of (waits bytes) s ≡ ok t → Spells bytes (file_from t.progress)
 ends_at_file k bytes s t keeps h end = let whole = whole_at_end k bytes s (ok t) h end in
     let kept : t.progress.keeping ≡ k = end_keeping (waits bytes) s t end ∙ scan_keeping (first_state k) s (settled bytes) h in
-    subst (Spells bytes) (sym (file_is_said (significant_words bytes) t.progress (subst KeepsBids (sym kept) keeps) whole.1 whole.2)) (spells_from_no_fault bytes whole.0)
+    subst (Spells bytes) (sym (file_is_said (significant_words bytes) t.progress (subst KeepsBids (sym kept) keeps) whole.1 whole.2))
+    (spells_from_no_fault bytes whole.0)
 
 -- and its sizes are those that the header lines say
 pub ends_at_sizes : (k : Keeping) (bytes : List ℕ) (s t : State) → scan (first_state k) (settled bytes) ≡ ok s → end_of (waits bytes) s ≡ ok t

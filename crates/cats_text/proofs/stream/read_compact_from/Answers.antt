@@ -21,5 +21,6 @@ returns g c =
     let fed = c.in_ok-feed_from.ensures.answer in (
       c.feed_from.new.feeder.fed.bytes,
       c.in_ok-feed_from.ensures.bytes,
-      compact_told g.R.Read.remaining c.feed_from.new.feeder.fed.bytes c.feed_from.new.input c.finish_compact.result fed.1 fed.2 (rw fed.0 at c.finish_compact.ensures),
+      compact_told g.R.Read.remaining c.feed_from.new.feeder.fed.bytes c.feed_from.new.input c.finish_compact.result fed.1 fed.2
+          (rw fed.0 at c.finish_compact.ensures),
     )
