@@ -3,3 +3,4 @@
 pub mod Checks
 pub mod Requests
 pub mod Searches
+pub mod Showing

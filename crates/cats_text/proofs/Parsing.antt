@@ -9,3 +9,4 @@ pub mod Goods
 pub mod Lines
 pub mod WholeLines
 pub mod BidsByNumber
+pub mod CompactBids

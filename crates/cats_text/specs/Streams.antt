@@ -99,6 +99,11 @@ module _ {R : Type 0} (remaining : R → Option (List ℕ)) where
   FeedsFrom fed input (Ok u) = (fed.failed ≡ None) × (has_failed input ≡ false) × IsWhole fed.bytes input
   FeedsFrom fed input (Err fault) = FaultsAt fed.bytes input fault.line fault.kind
 
+  -- of a file as a caller sees it
+  abbrev pub ReadsPlainAs : List ℕ → Watched R → Result PlainFile ReadFault → Type 0
+  ReadsPlainAs bytes input (Ok file) = ReadsFile bytes input file
+  ReadsPlainAs bytes input (Err fault) = FaultsAt bytes input fault.line fault.kind
+
   abbrev pub ReadsAs : List ℕ → Watched R → Result BidFile ReadFault → Type 0
   ReadsAs bytes input (Ok file) = ReadsFile bytes input (plain_file file)
   ReadsAs bytes input (Err fault) = FaultsAt bytes input fault.line fault.kind

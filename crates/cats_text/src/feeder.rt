@@ -5,6 +5,7 @@ ghost use Rattle.cats_text.specs.Faults.{fault_at};
 ghost use Rattle.cats_text.specs.Internal.Reading.{fault_told};
 
 use crate::bid::BidFile;
+use crate::compact::CompactFile;
 use crate::fault::{Kind, ReadFault};
 use crate::history::History;
 use crate::parser::{Header, Keeping};
@@ -39,8 +40,8 @@ impl Model for Feeder {
 
 impl Feeder {
     ghost use Rattle.cats_text.specs.Reading.{FeedsAs, FinishesAs};
-    ghost use Rattle.cats_text.specs.Internal.Reading.{SizesAs};
-    ghost use Rattle.cats_text.specs.declared.parser.Keeping.TheVariants.{Bids};
+    ghost use Rattle.cats_text.specs.Internal.Reading.{SizesAs, CompactAs};
+    ghost use Rattle.cats_text.specs.declared.parser.Keeping.TheVariants.{Bids, Compact};
 
     /// Takes at most `limit` bytes.
     pub fn new(alloc: Global, limit: u64, keeping: Keeping) -> Feeder
@@ -87,6 +88,20 @@ impl Feeder {
             return Err(fault);
         }
         match self.scanner.finish() {
+            Ok(file) => Ok(file),
+            Err(stopped) => Err(told(stopped)),
+        }
+    }
+
+    /// Judges the rest as the end of the input, and gives the file in little memory.
+    pub fn finish_compact(self) -> Result<CompactFile, ReadFault>
+        requires { self.keeping ≡ Compact }
+        ensures { CompactAs self.fed result }
+    {
+        if let Some(fault) = self.failed {
+            return Err(fault);
+        }
+        match self.scanner.finish_compact() {
             Ok(file) => Ok(file),
             Err(stopped) => Err(told(stopped)),
         }

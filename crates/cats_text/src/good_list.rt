@@ -159,18 +159,23 @@ impl GoodList {
         put_marked(&mut self.goods, &mut self.marks, self.bid_mark, good)
     }
 
-    /// The goods in rising order; there are none afterwards.
-    pub fn take_rising(&mut self, alloc: Global) -> Result<Vec<u16>, AllocError>
-        ensures rising { IfOk result (λ goods. IsRising goods.items) }
-        ensures same { IfOk result (λ goods. (g : ℕ) → has_number goods.items g ≡ has_number self.old g) }
-        ensures empty { OnOk result (self.new ≡ []) }
+    /// The goods.
+    #[inline(always)]
+    pub fn as_slice(&self) -> &[u16]
+        ensures { result.now ≡ self.now }
     {
-        let mut goods = Vec::from_slice(alloc, self.goods.as_slice())?;
+        self.goods.as_slice()
+    }
+
+    /// Brings the goods into rising order.
+    #[inline(always)]
+    pub fn sort(&mut self)
+        ensures rising { IsRising self.new }
+        ensures same { (g : ℕ) → has_number self.new g ≡ has_number self.old g }
+    {
         if !self.rises {
-            goods.sort_unstable();
+            self.goods.sort_unstable();
         }
-        self.clear();
-        Ok(goods)
     }
 
     /// Forgets the goods.

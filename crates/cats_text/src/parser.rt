@@ -2,7 +2,8 @@
 
 ghost use Rattle.std.specs.Prelude.{◌≡◌, ◌<◌, [], length, IfOk, OnOk, OnErr};
 ghost use Rattle.std.specs.Bool.{OnTrue};
-ghost use Rattle.cats_text.specs.Files.{IsPlainFile, plain_bid};
+ghost use Rattle.cats_text.specs.Files.{IsPlainFile};
+ghost use Rattle.cats_text.specs.FileLines.{put_slot};
 ghost use Rattle.cats_text.specs.Views.{plain_file};
 ghost use Rattle.cats_text.specs.Internal.Progress.{progress, Gives, AsksOnBidLines};
 ghost use Rattle.cats_text.specs.Internal.Parsing.{
@@ -15,6 +16,7 @@ ghost use Rattle.cats_text.specs.Internal.Parsing.{
   good_or_end_read,
   word_read,
   drafted,
+  with_goods,
   kept_of,
   bid_read,
   header_line_read,
@@ -24,7 +26,8 @@ ghost use Rattle.cats_text.specs.Internal.Parsing.{
 };
 ghost use Rattle.cats_text.specs.declared.parser.Keeping.TheVariants as keepings;
 
-use crate::bid::{Bid, BidFile};
+use crate::bid::BidFile;
+use crate::compact::CompactFile;
 use crate::fault::Kind;
 use crate::good_list::GoodList;
 use crate::limits::{MAX_BIDS, MAX_DUMMY, MAX_GOODS};
@@ -69,6 +72,8 @@ impl<T: Drop> From<AllocFailed<T>> for Stop {
 pub enum Keeping {
     /// The bids.
     Bids,
+    /// The bids in little memory, to be sent.
+    Compact,
     /// That their numbers came.
     Numbers,
 }
@@ -309,28 +314,37 @@ impl Parser {
         }
     }
 
-    /// What is kept of the bid that has been read; its goods are gone.
+    /// Brings the goods of the bid that has been read into rising order, where they are kept.
     #[inline(always)]
-    fn take_bid(&mut self) -> Result<Bid, AllocError>
-        ensures bid { let old = progress self.old in
-            IfOk result (λ bid. plain_bid bid ≡ kept_of old.keeping (drafted old)) }
-        ensures goods { OnOk result (progress self.new ≡ record (progress self.old) { goods = [] }) }
+    fn sort_goods(&mut self)
+        ensures kept { let old = progress self.old in
+            kept_of old.keeping (with_goods old.draft self.new.goods) ≡ kept_of old.keeping (drafted old) }
+        ensures rest { progress self.new ≡ record (progress self.old) { goods = self.new.goods } }
     {
-        match &self.slots.front {
-            Front::Bids(_) => Ok(Bid {
-                price: self.draft.price,
-                goods: self.goods.take_rising(self.alloc)?,
-                dummy: self.draft.dummy,
-            }),
-            Front::Numbers(_) => {
-                self.goods.clear();
-                Ok(Bid {
-                    price: 0,
-                    goods: Vec::new(self.alloc),
-                    dummy: None,
-                })
-            }
+        if let Front::Numbers(_) = &self.slots.front {
+            return;
         }
+        self.goods.sort();
+    }
+
+    /// Puts what is kept of the bid that has been read at its number; its goods are gone.
+    #[inline(always)]
+    fn keep_bid(&mut self) -> Result<(), AllocError>
+        ensures { let old = progress self.old in
+            OnOk result (progress self.new ≡ record old {
+              slots = put_slot old.slots old.draft.number (kept_of old.keeping (drafted old));
+              goods = [];
+            }) }
+    {
+        self.sort_goods();
+        self.slots.put(
+            self.alloc,
+            self.draft,
+            self.goods.as_slice(),
+            self.header.bids,
+        )?;
+        self.goods.clear();
+        Ok(())
     }
 
     #[inline(always)]
@@ -341,8 +355,7 @@ impl Parser {
         if self.column != Column::Ended {
             return Err(Stop::Fault(Kind::NoEnd));
         }
-        let bid = self.take_bid()?;
-        self.slots.put(self.draft.number, bid, self.header.bids)?;
+        self.keep_bid()?;
         // One is due: the line began where one was.
         self.due = self.due.saturating_sub(1);
         self.column = Column::First;
@@ -391,5 +404,16 @@ impl Parser {
     {
         let bids = self.slots.into_bids(self.alloc)?;
         Ok(BidFile::new(self.header.goods, self.header.dummy, bids))
+    }
+
+    /// The file, where no line is due and the bids are kept in little memory.
+    pub fn into_compact(self) -> Result<CompactFile, AllocError>
+        requires file { IsPlainFile (file_from (progress self)) }
+        requires keeping { (progress self).keeping ≡ keepings.Compact }
+        ensures file { IfOk result (λ f. f ≡ file_from (progress self)) }
+        ensures memory { OnErr result (0 < length (progress self).slots) }
+    {
+        let bids = self.slots.into_compact(self.alloc)?;
+        Ok(CompactFile::new(self.header.goods, self.header.dummy, bids))
     }
 }

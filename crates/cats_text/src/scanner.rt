@@ -39,6 +39,7 @@ ghost use Rattle.cats_text.specs.Internal.Scanning.{
   AsksHere,
   Asks,
   IsFileOf,
+  IsPlainFileOf,
   IsHeaderOf,
   Finishes,
   AsksAtEnd,
@@ -47,6 +48,7 @@ ghost use Rattle.cats_text.specs.Internal.Scanning.{
 ghost use Rattle.cats_text.specs.declared.parser.Keeping.TheVariants as keepings;
 
 use crate::bid::BidFile;
+use crate::compact::CompactFile;
 use crate::fault::{Kind, ReadFault};
 use crate::front::{ends_bid, front, number, with_digits};
 use crate::parser::{Header, Keeping, Parser, Stop};
@@ -471,6 +473,21 @@ impl Scanner {
     {
         self.end()?;
         match self.parser.into_file() {
+            Ok(file) => Ok(file),
+            Err(_) => Err(Halt::Memory),
+        }
+    }
+
+    /// The end of the input, and the file, of a scanner that keeps the bids in little memory.
+    pub fn finish_compact(mut self) -> Result<CompactFile, Halt>
+        requires line { self.line < 2 ^ 64 - 2 }
+        requires file { IfOk (end_of self.waiting (state self)) (λ t. IsPlainFile (file_from t.progress)) }
+        requires keeping { (state self).progress.keeping ≡ keepings.Compact }
+        ensures steps { Finishes IsPlainFileOf result (end_of self.waiting (state self)) }
+        ensures memory { AsksAtEnd self.waiting (state self) result }
+    {
+        self.end()?;
+        match self.parser.into_compact() {
             Ok(file) => Ok(file),
             Err(_) => Err(Halt::Memory),
         }

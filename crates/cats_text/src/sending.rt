@@ -21,9 +21,8 @@ ghost use Rattle.std.specs.Prelude.{
 ghost use Rattle.std.specs.Io.KnownBytes.{Keeps};
 ghost use Rattle.cats_text.specs.Layout.{headers_text, layout};
 ghost use Rattle.cats_text.specs.Streams.{inner_of, has_failed, has_ended, Sends, SendsPart, SendsWhole};
-ghost use Rattle.cats_text.specs.Views.{plain_file};
 
-use crate::bid::BidFile;
+use crate::compact::CompactFile;
 use crate::fault::SendFault;
 use crate::layout::{push_bid, push_header};
 use crate::stream::Watched;
@@ -47,10 +46,10 @@ pub fn send<W: Write>(out: &mut Watched<W>, text: &[u8]) -> Result<(), SendFault
 pub fn send_file<W: Write>(
     alloc: Global,
     out: &mut Watched<W>,
-    file: &BidFile,
+    file: &CompactFile,
 ) -> Result<Result<(), SendFault>, AllocError>
     requires { has_failed out.old ≡ false }
-    ensures sends { IfOk result (λ sent. Sends W.contents out.old out.new (layout (plain_file file.now)) sent) }
+    ensures sends { IfOk result (λ sent. Sends W.contents out.old out.new (layout file.now) sent) }
     ensures silent { OnErr result (out.new ≡ out.old) }
     ensures ended { has_ended out.new ≡ has_ended out.old }
 {
@@ -73,25 +72,21 @@ const FULL: usize = 40_704;
 fn send_bids<W: Write>(
     out: &mut Watched<W>,
     mut page: Vec<u8>,
-    file: &BidFile,
+    file: &CompactFile,
 ) -> Result<(), SendFault>
     requires works { has_failed out.old ≡ false }
-    requires header { let f = plain_file file.now in page.items ≡ headers_text f.goods (length f.bids) f.dummy }
+    requires header { let f = file.now in page.items ≡ headers_text f.goods (length f.bids) f.dummy }
     requires room { 65536 ≤ vec_capacity page }
-    ensures sends { Sends W.contents out.old out.new (layout (plain_file file.now)) result }
+    ensures sends { Sends W.contents out.old out.new (layout file.now) result }
     ensures ended { has_ended out.new ≡ has_ended out.old }
 {
+    let goods = file.goods();
+    let bids = file.bids();
     let mut written = 0;
-    for (number, bid) in file.bids().iter().enumerate() {
+    for number in 0..bids.len() {
         written = send_full_page(out, &mut page, written)?;
-        let Ok(()) = push_bid(
-            &mut page,
-            file.goods(),
-            number,
-            bid.price,
-            bid.goods.as_slice(),
-            bid.dummy,
-        ) else {
+        let (price, bundle, dummy) = bids.at(number);
+        let Ok(()) = push_bid(&mut page, goods, number, price, bundle, dummy) else {
             unreachable!()
         };
     }

@@ -32,6 +32,7 @@ ghost use Rattle.cats_text.specs.Streams.{
   moved_nothing,
   failed_to_write,
   ReadsAs,
+  ReadsPlainAs,
   ChecksAs,
   FeedsFrom,
   SendsPart,
@@ -39,6 +40,7 @@ ghost use Rattle.cats_text.specs.Streams.{
 };
 
 use crate::bid::BidFile;
+use crate::compact::CompactFile;
 use crate::fault::{Kind, ReadFault};
 use crate::feeder::Feeder;
 use crate::limits::MAX_STREAM;
@@ -182,6 +184,22 @@ pub fn read_from<R: Read>(alloc: Global, input: &mut Watched<R>) -> Result<BidFi
     let mut feeder = Feeder::new(alloc, MAX_STREAM, Keeping::Bids);
     feed_from(&mut feeder, input)?;
     feeder.finish()
+}
+
+/// Reads the whole stream as `read_from` does, as a file that is only to be sent: the goods of all bids stand together,
+/// and so a file of many bids takes less memory and less time.
+pub fn read_compact_from<R: Read>(
+    alloc: Global,
+    input: &mut Watched<R>,
+) -> Result<CompactFile, ReadFault>
+    requires works { has_failed input.old ≡ false }
+    requires fresh { has_ended input.old ≡ false }
+    ensures { (bytes : List ℕ) × Consumes (R.remaining (inner_of input.old)) (R.remaining (inner_of input.new)) bytes
+        × ReadsPlainAs R.remaining bytes input.new result }
+{
+    let mut feeder = Feeder::new(alloc, MAX_STREAM, Keeping::Compact);
+    feed_from(&mut feeder, input)?;
+    feeder.finish_compact()
 }
 
 /// Judges the whole stream as `read_from` does, and answers what the header lines of its file say: how many goods, bids

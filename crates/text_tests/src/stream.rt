@@ -3,8 +3,8 @@ ghost use Rattle.cats_text.specs.Streams.{has_ended, has_failed};
 
 use crate::texts::assert_bytes;
 use cats_text::{
-    BidFile, Header, Kind, MAX_STREAM, ReadFault, SendFault, Watched, check_from, push_bid,
-    push_header, read, read_from, send, send_file,
+    BidFile, CompactFile, Header, Kind, MAX_STREAM, ReadFault, SendFault, Watched, check_from,
+    push_bid, push_header, read_compact_from, read_from, send, send_file,
 };
 use std::alloc::{AllocError, Global};
 use std::io;
@@ -339,7 +339,7 @@ fn assert_sends_file(
     rt: &impl Abort,
     alloc: Global,
     mut out: Watched<StepWriter>,
-    file: &BidFile,
+    file: &CompactFile,
     text: &[u8],
     want: Result<(), SendFault>,
     flushes: u64,
@@ -359,7 +359,7 @@ fn assert_sends_file(
 #[test]
 fn sends_a_file_in_pages(rt: HostRuntime) -> Result<(), Fail> {
     let text = long_text(rt.alloc(), 9)?;
-    let file = read(rt.alloc(), &text)?;
+    let file = read_compact_from(rt.alloc(), &mut Watched::new(text.as_slice()))?;
     for room in [0, 1, 22, 23, 20_000, 65_536, 100_000, 150_000] {
         let out = writer(rt.alloc(), 30_000, room, BROKEN, false);
         let written = room as u64;
@@ -505,6 +505,45 @@ fn checks_as_it_reads(rt: HostRuntime) -> Result<(), Fail> {
         let told = (answer, input.ended(), input.failed());
         assert_eq!(rt; told, (*want, *ended, *failed));
         assert_eq!(rt; input.into_inner().calls, *calls);
+    }
+    Ok(())
+}
+
+#[test]
+fn reads_to_send_as_it_reads(rt: HostRuntime) -> Result<(), Fail> {
+    for (text, cut, kind, want, ended, failed, calls) in &STREAMS {
+        let mut input = reader(text, *cut, *kind);
+        let answer = read_compact_from(rt.alloc(), &mut input);
+        let told = (answer.err(), input.ended(), input.failed());
+        assert_eq!(rt; told, (want.err(), *ended, *failed));
+        assert_eq!(rt; input.into_inner().calls, *calls);
+    }
+    Ok(())
+}
+
+/// A text, and what is sent of its file: bids in order, in no order, and in order up to one that comes late.
+static SENT: [(&[u8], &[u8]); 3] = [
+    (
+        b"goods 3\nbids 2\ndummy 1\n0 1 0 2 #\n1 2.5 1 0 3 #\n",
+        b"goods 3\nbids 2\ndummy 1\n0\t1\t0\t2\t#\n1\t2.5\t0\t1\t3\t#\n",
+    ),
+    (
+        b"goods 3\nbids 2\ndummy 1\n1 1 0 2 #\n0 2.5 3 2 1 #\n",
+        b"goods 3\nbids 2\ndummy 1\n0\t2.5\t1\t2\t3\t#\n1\t1\t0\t2\t#\n",
+    ),
+    (
+        b"goods 3\nbids 4\ndummy 0\n0 1 2 #\n2 3 1 2 #\n1 2 0 #\n3 4 2 1 0 #\n",
+        b"goods 3\nbids 4\ndummy 0\n0\t1\t2\t#\n1\t2\t0\t#\n2\t3\t1\t2\t#\n3\t4\t0\t1\t2\t#\n",
+    ),
+];
+
+#[test]
+fn sends_what_was_read(rt: HostRuntime) -> Result<(), Fail> {
+    for (text, want) in &SENT {
+        let file = read_compact_from(rt.alloc(), &mut Watched::new(*text))?;
+        let mut out = Watched::new(Vec::new(rt.alloc()));
+        send_file(rt.alloc(), &mut out, &file)??;
+        assert_bytes(&rt, &out.into_inner(), want);
     }
     Ok(())
 }

@@ -7,11 +7,9 @@ use Rattle.std.proofs.lemmas.Bool.{le-leb, lt-leb}
 use Rattle.std.proofs.lemmas.Bool.Decides.{leb_tells}
 use Rattle.cats_text.specs.Faults.{complete_fault, first_fault, has_bid_line, fault_at}
 use Rattle.cats_text.specs.Fed.{Fed, fed_fault}
-use Rattle.cats_text.specs.Files.{IsPlainFile}
+use Rattle.cats_text.specs.Files.{PlainFile, IsPlainFile}
 use Rattle.cats_text.specs.Grammar.{Spells}
-use Rattle.cats_text.specs.Internal.Parsing.{file_from}
-use Rattle.cats_text.specs.Views.{plain_file}
-use Rattle.cats_text.specs.declared.bid.BidFile.{BidFile}
+use Rattle.cats_text.specs.Internal.Parsing.{file_from, KeepsBids}
 use Rattle.cats_text.specs.Internal.Reading.{HasTaken, IsReading, SpellsSizes, fault_told}
 use Rattle.cats_text.specs.Reading.{WantsMemory, FeedsAs}
 use Rattle.cats_text.specs.Internal.Returns.{settled, waits, carried}
@@ -26,7 +24,7 @@ use Rattle.cats_text.specs.Internal.Scanning.{
   Asks,
   MeetsBidLine,
   end_of,
-  IsFileOf,
+  IsPlainFileOf,
   IsHeaderOf,
   Finishes,
 }
@@ -35,7 +33,6 @@ use Rattle.cats_text.specs.declared.fault.ReadFault.{ReadFault}
 use Rattle.cats_text.specs.declared.fault.Kind.TheVariants.{TooLong}
 use Rattle.cats_text.specs.declared.parser.Header.{Header}
 use Rattle.cats_text.specs.declared.parser.Keeping.{Keeping}
-use Rattle.cats_text.specs.declared.parser.Keeping.TheVariants as keepings
 use Rattle.cats_text.specs.declared.scanner.Halt.{Halt}
 use Rattle.cats_text.specs.declared.scanner.Halt.TheVariants.{Fault, Memory}
 use Rattle.cats_text.specs.declared.scanner.Scanner.{Scanner}
@@ -192,20 +189,20 @@ fed_told k old piece count scanner (Err e) none told = rw none (record { limit =
 
 -- ---- the end of the input
 
-pub ended_fact : (limit taken : ℕ) (scanner : Scanner) (bytes : List ℕ) → HasTaken keepings.Bids limit taken scanner bytes
+pub ended_fact : (k : Keeping) (limit taken : ℕ) (scanner : Scanner) (bytes : List ℕ) → KeepsBids k → HasTaken k limit taken scanner bytes
     → IfOk (end_of scanner.waiting (state scanner)) (λ t. IsPlainFile (file_from t.progress))
-ended_fact limit taken scanner bytes kept = at_end (end_of scanner.waiting (state scanner)) refl
+ended_fact k limit taken scanner bytes keeps kept = at_end (end_of scanner.waiting (state scanner)) refl
   where
     at_end : (r : Scan) → end_of scanner.waiting (state scanner) ≡ r → IfOk r (λ t. IsPlainFile (file_from t.progress))
-    at_end (Ok t) e = (ends_at_file bytes (state scanner) t kept.runs (ap (λ w. end_of w (state scanner)) (sym kept.waiting) ∙ e)).facts
+    at_end (Ok t) e = (ends_at_file k bytes (state scanner) t keeps kept.runs (ap (λ w. end_of w (state scanner)) (sym kept.waiting) ∙ e)).facts
     at_end (Err fault) e = tt
 
-pub ended_file : (limit taken : ℕ) (scanner : Scanner) (bytes : List ℕ) (file : BidFile) → HasTaken keepings.Bids limit taken scanner bytes
-    → IsFileOf file (end_of scanner.waiting (state scanner)) → Spells bytes (plain_file file)
-ended_file limit taken scanner bytes file kept is = at_end (end_of scanner.waiting (state scanner)) refl is
+pub ended_file : (k : Keeping) (limit taken : ℕ) (scanner : Scanner) (bytes : List ℕ) (file : PlainFile) → KeepsBids k
+    → HasTaken k limit taken scanner bytes → IsPlainFileOf file (end_of scanner.waiting (state scanner)) → Spells bytes file
+ended_file k limit taken scanner bytes file keeps kept is = at_end (end_of scanner.waiting (state scanner)) refl is
   where
-    at_end : (r : Scan) → end_of scanner.waiting (state scanner) ≡ r → IsFileOf file r → Spells bytes (plain_file file)
-    at_end (Ok t) e same = rw same (ends_at_file bytes (state scanner) t kept.runs (ap (λ w. end_of w (state scanner)) (sym kept.waiting) ∙ e))
+    at_end : (r : Scan) → end_of scanner.waiting (state scanner) ≡ r → IsPlainFileOf file r → Spells bytes file
+    at_end (Ok t) e same = rw same (ends_at_file k bytes (state scanner) t keeps kept.runs (ap (λ w. end_of w (state scanner)) (sym kept.waiting) ∙ e))
     at_end (Err fault) e same = absurd same
 
 pub ended_sizes : (k : Keeping) (limit taken : ℕ) (scanner : Scanner) (bytes : List ℕ) (header : Header) → HasTaken k limit taken scanner bytes

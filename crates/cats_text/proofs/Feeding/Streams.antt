@@ -2,9 +2,10 @@
 use Rattle.std.proofs.Common.{◌≡◌, ◌≤◌, ℕ, zero, suc, false, List, [], ◌∷◌, length, take, Option, Some, IfSome, Result, Ok, Err, ◌⊎◌, inl, inr, refl, ap, arith}
 use Rattle.cats_text.specs.Faults.{first_fault, fault_at}
 use Rattle.cats_text.specs.Fed.{fed_fault}
+use Rattle.cats_text.specs.Files.{PlainFile}
 use Rattle.cats_text.specs.Reading.{WantsMemory, FinishAnswer}
-use Rattle.cats_text.specs.Internal.Reading.{SizesAnswer}
-use Rattle.cats_text.specs.Streams.{has_failed, IsWhole, IsTextFault, FaultsAt, ReadsAs, ChecksAs}
+use Rattle.cats_text.specs.Internal.Reading.{SizesAnswer, CompactAnswer}
+use Rattle.cats_text.specs.Streams.{has_failed, IsWhole, IsTextFault, FaultsAt, ReadsAs, ReadsPlainAs, ChecksAs}
 use Rattle.cats_text.specs.declared.bid.BidFile.{BidFile}
 use Rattle.cats_text.specs.declared.fault.Kind.{Kind}
 use Rattle.cats_text.specs.declared.fault.Kind.TheVariants.{Device, Memory}
@@ -54,6 +55,11 @@ module _ {R : Type 0} (remaining : R → Option (List ℕ)) where
       → FinishAnswer bytes answer → ReadsAs remaining bytes input answer
   finished_told bytes input (Ok file) works whole spelled = record { spelled = spelled; whole = whole; works = works }
   finished_told bytes input (Err e) works whole told = ended_told bytes input e works whole told
+
+  pub compact_told : (bytes : List ℕ) (input : Watched R) (answer : Result PlainFile ReadFault) → has_failed input ≡ false
+      → IsWhole remaining bytes input → CompactAnswer bytes answer → ReadsPlainAs remaining bytes input answer
+  compact_told bytes input (Ok file) works whole spelled = record { spelled = spelled; whole = whole; works = works }
+  compact_told bytes input (Err e) works whole told = ended_told bytes input e works whole told
 
   pub checked_told : (bytes : List ℕ) (input : Watched R) (answer : Result Header ReadFault) → has_failed input ≡ false → IsWhole remaining bytes input
       → SizesAnswer bytes answer → ChecksAs remaining bytes input answer

@@ -72,3 +72,12 @@ pub rising_from_sort : (xs ys : List ℕ) → AreDistinct xs → IsPermutation x
 rising_from_sort xs ys distinct moved order = rising_from_order ys order (λ g.
     let same : times ys g ≡ times xs g = sum_by-IsPermutation (one_at g) xs ys moved in
     let one : times xs g ≤ 1 = times-AreDistinct xs distinct g in omega arith)
+
+apart_from_above : (x : ℕ) (xs : List ℕ) → AreAbove x xs → AllByRecursion (λ y. x ≢ y) xs
+apart_from_above x [] h = tt
+apart_from_above x (y ∷ ys) h = (λ e. let less : x < y = h.0 in let same : x ≡ y = e in omega arith, apart_from_above x ys h.1)
+
+-- numbers that rise stand there once
+pub distinct_from_rising : (xs : List ℕ) → IsRising xs → AreDistinct xs
+distinct_from_rising [] h = tt
+distinct_from_rising (x ∷ xs) h = (apart_from_above x xs h.0, distinct_from_rising xs h.1)

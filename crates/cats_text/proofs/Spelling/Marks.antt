@@ -2,9 +2,13 @@
 use Rattle.std.proofs.Common.{◌≡◌, ◌≢◌, ℕ, ◌<◌, ◌≤◌, true, false, eqb, List, [], ◌∷◌, ◌++◌, length, get_or, set, refl, sym, ap, ◌∙◌, subst, arith, ◌||◌}
 use Rattle.std.proofs.Common.{get_or-set_same, get_or-set_other}
 use Rattle.std.proofs.lemmas.Bool.{eqb-true, eq-eqb, eqb-false, both_ways, or_left, or_right}
+use Rattle.std.proofs.lemmas.List.Sorted.{list_any-IsPermutation}
 use Rattle.std.specs.List.{AllByRecursion}
+use Rattle.std.specs.List.Sorted.{IsPermutation}
+use Rattle.cats_text.specs.Files.{IsRising}
 use Rattle.cats_text.specs.Grammar.{AreDistinct, has_number}
 use Rattle.cats_text.specs.Internal.Marks.{IsMarked}
+use Rattle.cats_text.proofs.Spelling.Distinct.{distinct_from_rising}
 
 -- one more number, other than those there
 apart_more : (x : ℕ) (xs : List ℕ) (g : ℕ) → AllByRecursion (λ y. x ≢ y) xs → x ≢ g → AllByRecursion (λ y. x ≢ y) (xs ++ g ∷ [])
@@ -67,4 +71,14 @@ IsMarked-covered goods marks more m old same = record {
   marked = λ k. ap (λ n. eqb n m) (same k) ∙ old.marked k;
   older = λ k. let e : get_or more k 0 ≡ get_or marks k 0 = same k in let le : get_or marks k 0 ≤ m = old.older k in omega arith;
   distinct = old.distinct;
+}
+
+-- the goods in rising order have the same marks
+pub IsMarked-sorted : (goods sorted marks : List ℕ) (m : ℕ) → IsMarked goods marks m → IsPermutation goods sorted → IsRising sorted
+    → IsMarked sorted marks m
+IsMarked-sorted goods sorted marks m old moved rises = record {
+  begun = old.begun;
+  marked = λ k. old.marked k ∙ list_any-IsPermutation _ goods sorted moved;
+  older = old.older;
+  distinct = distinct_from_rising sorted rises;
 }

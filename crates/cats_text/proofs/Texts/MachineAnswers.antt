@@ -11,7 +11,7 @@ use Rattle.std.specs.Prelude.{codes}
 use Rattle.cats_text.specs.Internal.Reading.{SpellsSizes}
 use Rattle.cats_text.specs.Internal.Returns.{settled, waits, carried}
 use Rattle.cats_text.specs.Internal.Progress.{Progress}
-use Rattle.cats_text.specs.Internal.Parsing.{file_from}
+use Rattle.cats_text.specs.Internal.Parsing.{file_from, KeepsBids}
 use Rattle.cats_text.specs.FileLines.{filled, file_of_lines, slots_of}
 use Rattle.cats_text.specs.Internal.Scanning.{State, Scan, first_state, and_then, scan, byte_step, end_step, end_of, MeetsBidLine, IsInBidLine, HasBids}
 use Rattle.cats_text.specs.declared.parser.Keeping.{Keeping}
@@ -90,24 +90,30 @@ pub ends_at_first_fault : (k : Keeping) (bytes : List ℕ) (s : State) (e : Read
 ends_at_first_fault k bytes s e h end = whole_at_end k bytes s (err e) h end
 
 -- what the parser keeps behind all lines is the file that they say
-file_is_said : (lines : List (List Word)) (p : Progress) → p.keeping ≡ keepings.Bids → IsAt lines [] p → is_line_due lines ≡ false
+whole_slots : (k : Keeping) (G : ℕ) (lines : List (List Word)) → KeepsBids k → kept_slots k G lines ≡ slots_of G lines
+whole_slots keepings.Bids G lines kept = refl
+whole_slots keepings.Compact G lines kept = refl
+whole_slots keepings.Numbers G lines kept = absurd kept
+
+file_is_said : (lines : List (List Word)) (p : Progress) → KeepsBids p.keeping → IsAt lines [] p → is_line_due lines ≡ false
     → file_from p ≡ file_of_lines lines
 file_is_said [] p kept at due = absurd (both_ways true due refl)
 file_is_said (g ∷ []) p kept at due = absurd (both_ways true due refl)
 file_is_said (g ∷ b ∷ []) p kept at due = absurd (both_ways true due refl)
 file_is_said (g ∷ b ∷ d ∷ lines) p kept at due =
-    ap (λ (s : List (Option PlainBid)). file p.header s) at.slots ∙ ap (λ (k : Keeping). file p.header (kept_slots k p.header.goods lines)) kept
+    ap (λ (s : List (Option PlainBid)). file p.header s) at.slots ∙ ap (file p.header) (whole_slots p.keeping p.header.goods lines kept)
     ∙ ap (λ (h : Header). file h (slots_of h.goods lines)) at.header
   where
     file : Header → List (Option PlainBid) → PlainFile
     file h s = record { goods = h.goods; dummy = h.dummy; bids = filled s }
 
 -- or has the file that the bytes spell
-pub ends_at_file : (bytes : List ℕ) (s t : State) → scan (first_state keepings.Bids) (settled bytes) ≡ ok s → end_of (waits bytes) s ≡ ok t
-    → Spells bytes (file_from t.progress)
-ends_at_file bytes s t h end = let whole = whole_at_end keepings.Bids bytes s (ok t) h end in
-    let kept : t.progress.keeping ≡ keepings.Bids = end_keeping (waits bytes) s t end ∙ scan_keeping (first_state keepings.Bids) s (settled bytes) h in
-    subst (Spells bytes) (sym (file_is_said (significant_words bytes) t.progress kept whole.1 whole.2)) (spells_from_no_fault bytes whole.0)
+pub ends_at_file : (k : Keeping) (bytes : List ℕ) (s t : State) → KeepsBids k → scan (first_state k) (settled bytes) ≡ ok s
+    → end_of (waits bytes) s ≡ ok t → Spells bytes (file_from t.progress)
+ends_at_file k bytes s t keeps h end = let whole = whole_at_end k bytes s (ok t) h end in
+    let kept : t.progress.keeping ≡ k = end_keeping (waits bytes) s t end ∙ scan_keeping (first_state k) s (settled bytes) h in
+    subst (Spells bytes) (sym (file_is_said (significant_words bytes) t.progress (subst KeepsBids (sym kept) keeps) whole.1 whole.2))
+    (spells_from_no_fault bytes whole.0)
 
 -- and its sizes are those that the header lines say
 pub ends_at_sizes : (k : Keeping) (bytes : List ℕ) (s t : State) → scan (first_state k) (settled bytes) ≡ ok s → end_of (waits bytes) s ≡ ok t

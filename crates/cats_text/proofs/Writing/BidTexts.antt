@@ -1,8 +1,9 @@
 -- The texts of bids one after another.
-use Rattle.std.proofs.Common.{◌≡◌, ℕ, suc, ◌+◌, ◌<◌, ◌≤◌, List, [], ◌++◌, length, get_or, drop, sym, ap, ◌∙◌, arith, add-one, append_assoc, drop-cons}
+use Rattle.std.proofs.Common.{◌≡◌, ℕ, zero, suc, ◌+◌, ◌<◌, ◌≤◌, List, [], ◌∷◌, ◌++◌, Some, length, subst, get_or, drop, sym, ap, ◌∙◌, arith, add-one, append_assoc, drop-cons}
 use Rattle.std.proofs.lemmas.List.{get_or-map, length-map, drop_all, append-nil}
+use Rattle.std.specs.List.{AllByRecursion, slice_get}
 use Rattle.cats_text.specs.declared.bid.Bid.{Bid}
-use Rattle.cats_text.specs.Files.{plain_bid, plain_bids}
+use Rattle.cats_text.specs.Files.{PlainBid, plain_bid, plain_bids}
 use Rattle.cats_text.specs.Layout.{bid_text, bids_text}
 
 -- one more bid is written
@@ -26,3 +27,28 @@ pub bids_text_all : (goods : ℕ) (bids : List Bid) (i : ℕ) (out text : List �
 bids_text_all goods bids i out text all written =
     let none : drop i (plain_bids bids) ≡ [] = drop_all i (plain_bids bids) (omega (arith, length-map bids plain_bid)) in
     sym (append-nil out) ∙ ap (λ bs. out ++ bids_text goods i bs) (sym none) ∙ written
+
+some_same : {X : Type 0} (x y : X) → Some x ≡ Some y → x ≡ y
+some_same x y e = cc
+
+-- the bids from one place on begin with the bid there
+drop_at : (bids : List PlainBid) (i : ℕ) (bid : PlainBid) → slice_get bids i ≡ Some bid → drop i bids ≡ bid ∷ drop (suc i) bids
+drop_at [] i bid is = cc
+drop_at (b ∷ bs) zero bid is = ap (λ (x : PlainBid). x ∷ bs) (some_same b bid is)
+drop_at (b ∷ bs) (suc i) bid is = drop_at bs i bid is
+
+-- what holds of each bid holds of this
+pub bid_at : (P : PlainBid → Type 0) (bids : List PlainBid) (i : ℕ) (bid : PlainBid) → AllByRecursion P bids → slice_get bids i ≡ Some bid → P bid
+bid_at P [] i bid all is = cc
+bid_at P (b ∷ bs) zero bid all is = subst P (some_same b bid is) all.0
+bid_at P (b ∷ bs) (suc i) bid all is = bid_at P bs i bid all.1 is
+
+-- one more is written
+pub bids_text_on : (goods : ℕ) (bids : List PlainBid) (i : ℕ) (bid : PlainBid) (out new text : List ℕ) → slice_get bids i ≡ Some bid
+    → out ++ bids_text goods i (drop i bids) ≡ text → new ≡ out ++ bid_text goods i bid → new ++ bids_text goods (i + 1) (drop (i + 1) bids) ≡ text
+bids_text_on goods bids i bid out new text is before more =
+    ap (λ (xs : List ℕ). xs ++ bids_text goods (i + 1) (drop (i + 1) bids)) more
+    ∙ append_assoc out (bid_text goods i bid) (bids_text goods (i + 1) (drop (i + 1) bids))
+    ∙ ap (λ (k : ℕ). out ++ (bid_text goods i bid ++ bids_text goods k (drop k bids))) (add-one i)
+    ∙ ap (λ (bs : List PlainBid). out ++ bids_text goods i bs) (sym (drop_at bids i bid is))
+    ∙ before

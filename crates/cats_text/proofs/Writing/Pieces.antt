@@ -1,6 +1,6 @@
 -- A text that goes out in pieces: what went out is its beginning, and the page holds its next bytes.
-use Rattle.std.proofs.Common.{arith, ◌≡◌, ◌<◌, ◌≤◌, ◌+◌, ◌-◌, ◌^◌, ◌++◌, ◌∷◌, ℕ, List, [], get_or, length, take, drop, zero, suc, decimal, codes}
-use Rattle.std.proofs.Common.{Option, Result, Err, sym, ap, ap₂, ◌∙◌, subst}
+use Rattle.std.proofs.Common.{arith, ◌≡◌, ◌<◌, ◌≤◌, ◌+◌, ◌-◌, ◌^◌, ◌++◌, ◌∷◌, ℕ, List, [], length, take, drop, decimal, codes}
+use Rattle.std.proofs.Common.{Option, Some, Result, Err, sym, ap, ◌∙◌, subst}
 use Rattle.std.specs.Prelude.{IsErrAnd}
 use Rattle.std.proofs.Math.Seq.{take-add}
 use Rattle.std.proofs.KnownBytes.{Appends-trans}
@@ -8,14 +8,13 @@ use Rattle.std.proofs.lemmas.Fmt.{length-decimal-le}
 use Rattle.std.proofs.lemmas.List.{drop-drop, take-append-le, drop-append-le, length-drop, length-append}
 use Rattle.std.proofs.lemmas.Result.{err_from_is_err_and}
 use Rattle.std.specs.Io.KnownBytes.{Appends}
-use Rattle.std.specs.List.{AllByRecursion}
-use Rattle.cats_text.specs.declared.bid.Bid.{Bid}
-use Rattle.cats_text.specs.Files.{PlainBid, IsRising, AreAbove, IsBid, IsBidFile, plain_bid, plain_bids}
+use Rattle.std.specs.List.{AllByRecursion, slice_get}
+use Rattle.cats_text.specs.Files.{PlainBid, PlainFile, IsRising, AreAbove, IsBid, IsPlainFile}
 use Rattle.cats_text.specs.Layout.{bid_text, bids_text, header_text, headers_text}
 use Rattle.cats_text.specs.Streams.{inner_of, Sends, SendsPart}
 use Rattle.cats_text.specs.declared.fault.SendFault.{SendFault}
 use Rattle.cats_text.specs.declared.stream.Watched.{Watched}
-use Rattle.cats_text.proofs.Writing.BidTexts.{bids_text_more}
+use Rattle.cats_text.proofs.Writing.BidTexts.{bid_at, bids_text_on}
 
 -- ---- what goes out, and what is held
 
@@ -44,20 +43,15 @@ module _ (before count : ℕ) (page rest whole : List ℕ) (later : before ≤ c
   within_on inside = omega (arith, length-append page rest, ap length next, length-drop before whole)
 
 -- one more line is held
-pub line_held : (goods : ℕ) (bids : List Bid) (plain : List PlainBid) (number : ℕ) (bid : Bid) (before count : ℕ) (page left new whole : List ℕ)
-    (real : ℕ) (bundle : List ℕ) → real ≡ goods → bundle ≡ bid.goods.items → plain_bids bids ≡ plain → number < length bids
-    → bid ≡ get_or bids number bid → before ≤ count → count ≤ before + length page
-    → page ++ bids_text goods number (drop number plain) ≡ drop before whole → left ≡ drop (count - before) page
-    → new ≡ left ++ bid_text real number (record { price = bid.price; goods = bundle; dummy = bid.dummy })
-    → new ++ bids_text goods (number + 1) (drop (number + 1) plain) ≡ drop count whole
-line_held goods bids plain number bid before count page left new whole real bundle same_goods same_bundle same there is later held next rest more =
-    let line : new ≡ left ++ bid_text goods number (plain_bid bid) =
-    more ∙ ap₂ (λ (n : ℕ) (gs : List ℕ). left ++ bid_text n number (record { price = bid.price; goods = gs; dummy = bid.dummy })) same_goods same_bundle in
-    let now : left ++ bids_text goods number (drop number plain) ≡ drop count whole =
-    ap (λ l. l ++ bids_text goods number (drop number plain)) rest ∙ left_on before count page _ whole later held next in
-    subst (λ ps. new ++ bids_text goods (number + 1) (drop (number + 1) ps) ≡ drop count whole) same
-    (bids_text_more goods bids number bid left new (drop count whole) there is
-    (subst (λ ps. left ++ bids_text goods number (drop number ps) ≡ drop count whole) (sym same) now) line)
+pub line_held : (goods : ℕ) (bids : List PlainBid) (number : ℕ) (bid : PlainBid) (before count : ℕ) (page left new whole : List ℕ) (real : ℕ)
+    → real ≡ goods → slice_get bids number ≡ Some bid → before ≤ count → count ≤ before + length page
+    → page ++ bids_text goods number (drop number bids) ≡ drop before whole → left ≡ drop (count - before) page
+    → new ≡ left ++ bid_text real number bid → new ++ bids_text goods (number + 1) (drop (number + 1) bids) ≡ drop count whole
+line_held goods bids number bid before count page left new whole real same there later held next rest more =
+    let now : left ++ bids_text goods number (drop number bids) ≡ drop count whole =
+    ap (λ (l : List ℕ). l ++ bids_text goods number (drop number bids)) rest ∙ left_on before count page _ whole later held next in
+    bids_text_on goods bids number bid left new (drop count whole) there now
+    (more ∙ ap (λ (n : ℕ). left ++ bid_text n number bid) same)
 
 -- the writer failed in a piece
 pub failed_in_piece : {W : Type 0} (contents : W → Option (List ℕ)) (a b c : Watched W) (before : ℕ) (page piece rest whole : List ℕ) (fault : SendFault)
@@ -92,18 +86,11 @@ goods_within G (x ∷ xs) rising below =
     let rest : length xs + x < G = rising_within G x xs rising.0 rising.1 below.1 below.0 in
     omega arith
 
-bid_at : (P : PlainBid → Type 0) (bids : List Bid) (i : ℕ) (bid : Bid) → AllByRecursion P (plain_bids bids) → i < length bids → bid ≡ get_or bids i bid
-    → P (plain_bid bid)
-bid_at P [] i bid all there is = absurd (omega arith)
-bid_at P (b ∷ bs) zero bid all there is = subst (λ (x : Bid). P (plain_bid x)) (sym is) all.0
-bid_at P (b ∷ bs) (suc i) bid all there is = bid_at P bs i bid all.1 (omega arith) is
-
-pub bundle_within : (G D : ℕ) (bids : List Bid) (plain : List PlainBid) (i : ℕ) (bid : Bid) → IsBidFile G D plain → plain_bids bids ≡ plain
-    → i < length bids → bid ≡ get_or bids i bid → length bid.goods.items ≤ 4096
-bundle_within G D bids plain i bid file same there is =
-    let this : IsBid G D (plain_bid bid) = bid_at (IsBid G D) bids i bid (subst (λ ps. AllByRecursion (IsBid G D) ps) (sym same) file.each) there is in
-    let few : length bid.goods.items ≤ G = goods_within G bid.goods.items this.rising this.below in
-    let bound : G ≤ 4096 = file.goods in
+pub bundle_within : (file : PlainFile) (i : ℕ) (bid : PlainBid) → IsPlainFile file → slice_get file.bids i ≡ Some bid → length bid.goods ≤ 4096
+bundle_within file i bid facts is =
+    let this : IsBid file.goods file.dummy bid = bid_at (IsBid file.goods file.dummy) file.bids i bid facts.each is in
+    let few : length bid.goods ≤ file.goods = goods_within file.goods bid.goods this.rising this.below in
+    let bound : file.goods ≤ 4096 = facts.goods in
     omega arith
 
 header_line_short : (keyword : List ℕ) (n : ℕ) → n < 2 ^ 64 → length keyword ≤ 8 → length (header_text keyword n) ≤ 30

@@ -1,6 +1,6 @@
 -- What a word, a line's end and the input's end do to what the parser keeps.
 use Rattle.std.specs.Prelude.{ℕ, ◌+◌, ◌-◌, ◌*◌, ◌^◌, ◌==◌, nat_lt, nat_le, min, Bool, true, false, ◌&&◌, ◌||◌}
-use Rattle.std.specs.Prelude.{if◌then◌else◌, [], ◌∷◌, ◌++◌, length, slice_get, Option, Some, None, Result, Ok, Err}
+use Rattle.std.specs.Prelude.{if◌then◌else◌, List, [], ◌∷◌, ◌++◌, length, slice_get, Option, Some, None, Result, Ok, Err}
 use Rattle.cats_text.specs.Numbers.{GREATEST_PRICE}
 use Rattle.cats_text.specs.Grammar.{has_number}
 use Rattle.cats_text.specs.Files.{PlainBid, PlainFile}
@@ -9,6 +9,7 @@ use Rattle.cats_text.specs.Internal.Keywords.{keyword_text}
 use Rattle.cats_text.specs.Internal.Progress.{Progress, number_alone}
 use Rattle.cats_text.specs.declared.fault.Kind.{Kind}
 use Rattle.cats_text.specs.declared.fault.Kind.TheVariants as kinds
+use Rattle.cats_text.specs.declared.parser.Draft.{Draft}
 use Rattle.cats_text.specs.declared.parser.Keeping.{Keeping}
 use Rattle.cats_text.specs.declared.parser.Keeping.TheVariants as keepings
 use Rattle.cats_text.specs.declared.word.Keyword.{Keyword}
@@ -142,7 +143,18 @@ word_read p w = elim p.column [
 -- what is kept of a bid
 abbrev pub kept_of : Keeping → PlainBid → PlainBid
 kept_of keepings.Bids b = b
+kept_of keepings.Compact b = b
 kept_of keepings.Numbers b = number_alone
+
+-- the bids themselves are kept
+abbrev pub KeepsBids : Keeping → Type 0
+KeepsBids keepings.Bids = Unit {0}
+KeepsBids keepings.Compact = Unit {0}
+KeepsBids keepings.Numbers = ⊥
+
+-- a draft with these goods
+abbrev pub with_goods : Draft → List ℕ → PlainBid
+with_goods draft goods = record { price = draft.price; goods = goods; dummy = draft.dummy }
 
 abbrev pub drafted : Progress → PlainBid
 drafted p = record { price = p.draft.price; goods = rising_of p.goods; dummy = p.draft.dummy }

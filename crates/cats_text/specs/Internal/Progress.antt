@@ -40,11 +40,13 @@ number_alone = record { price = 0; goods = []; dummy = None }
 -- what is kept of each bid
 abbrev pub keeping_of : Front → Keeping
 keeping_of (fronts.Bids bids) = keepings.Bids
+keeping_of (fronts.Compact bids) = keepings.Compact
 keeping_of (fronts.Numbers count) = keepings.Numbers
 
 -- what is kept of those in front
 abbrev pub front_bids : Front → List PlainBid
 front_bids (fronts.Bids bids) = plain_bids bids.items
+front_bids (fronts.Compact bids) = bids
 front_bids (fronts.Numbers count) = replicate count number_alone
 
 -- each place's bid, with those in front

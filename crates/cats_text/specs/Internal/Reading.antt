@@ -33,6 +33,13 @@ pub record IsReading (keeping : Keeping) (most count : ℕ) (scanner : Scanner) 
   pub limit : most < 2 ^ 63
   pub taken : failed ≡ None → HasTaken keeping most count scanner bytes
 
+abbrev pub CompactAnswer : List ℕ → Result PlainFile ReadFault → Type 0
+CompactAnswer bytes (Ok file) = Spells bytes file
+CompactAnswer bytes (Err e) = (first_fault bytes ≡ Some e) ⊎ WantsMemory bytes e
+
+abbrev pub CompactAs : Fed → Result PlainFile ReadFault → Type 0
+CompactAs fed r = MatchOption fed.failed (CompactAnswer fed.bytes r) (λ e. r ≡ Err e)
+
 -- the bytes spell a file whose header lines say this
 pub record SpellsSizes (bytes : List ℕ) (header : Header) : Type 0 where
   pub file : PlainFile

@@ -4,6 +4,7 @@ use Rattle.std.specs.Prelude.{Ok, Err, length, ◌<◌, ◌≤◌, drop}
 use Rattle.cats_text.specs.Lines.{is_blank}
 use Rattle.cats_text.specs.Internal.Returns.{settled, waits}
 use Rattle.cats_text.specs.Faults.{fault_at}
+use Rattle.cats_text.specs.Files.{PlainFile}
 use Rattle.cats_text.specs.Views.{plain_file}
 use Rattle.cats_text.specs.Internal.Machine.{word_from, word_with}
 use Rattle.cats_text.specs.Internal.Progress.{Progress, progress}
@@ -167,9 +168,12 @@ Asks s bytes (Err (Fault e)) = Unit {0}
 Asks s bytes (Err Memory) = MeetsBidLine s bytes
 
 -- the file at the end of the input
+abbrev pub IsPlainFileOf : PlainFile → Scan → Type 0
+IsPlainFileOf f (Ok s) = f ≡ file_from s.progress
+IsPlainFileOf f (Err e) = ⊥
+
 abbrev pub IsFileOf : BidFile → Scan → Type 0
-IsFileOf f (Ok s) = plain_file f ≡ file_from s.progress
-IsFileOf f (Err e) = ⊥
+IsFileOf f read = IsPlainFileOf (plain_file f) read
 
 -- the header lines at the end of the input
 abbrev pub IsHeaderOf : Header → Scan → Type 0

@@ -1,9 +1,9 @@
 -- The end of the bytes that the scanner took: it has the file.
-use Rattle.std.proofs.Common.{◌≡◌, ◌∙◌, subst, arith}
-use Rattle.cats_text.specs.Internal.Reading.{HasTaken}
+use Rattle.std.proofs.Common.{◌≡◌, ◌∙◌, sym, subst, arith}
+use Rattle.cats_text.specs.Internal.Parsing.{KeepsBids}
 use Rattle.cats_text.specs.Internal.Returns.{settled}
 use Rattle.cats_text.specs.Internal.Scanning.{IsFileOf, state, first_state}
-use Rattle.cats_text.specs.declared.parser.Keeping.{Keeping}
+use Rattle.cats_text.specs.Views.{plain_file}
 use Rattle.cats_text.specs.declared.parser.Keeping.TheVariants.{Bids}
 use Rattle.cats_text.proofs.Keeping.{scan_keeping}
 use Rattle.cats_text.proofs.Feeding.Pieces.{ended_fact, ended_file, ended_fault, few_lines}
@@ -20,9 +20,8 @@ finish-requires-clause-line c =
 pub finish-requires-clause-file : goal.finish-requires-clause-file
 finish-requires-clause-file c =
     let bids : c.self.inside.keeping ≡ Bids = rw (← c.self.view_is) at c.requires in
-    ended_fact c.self.inside.limit c.self.inside.count c.self.inside.scanner c.self.inside.history.bytes
-    (subst (λ (k : Keeping). HasTaken k c.self.inside.limit c.self.inside.count c.self.inside.scanner c.self.inside.history.bytes) bids
-    (c.self.invariant.taken c.in_default.is))
+    ended_fact c.self.inside.keeping c.self.inside.limit c.self.inside.count c.self.inside.scanner c.self.inside.history.bytes
+    (subst KeepsBids (sym bids) tt) (c.self.invariant.taken c.in_default.is)
 
 pub finish-requires-clause-keeping : goal.finish-requires-clause-keeping
 finish-requires-clause-keeping c =
@@ -34,9 +33,8 @@ pub returns-in-Ok : goal.returns-in-Ok
 returns-in-Ok c =
     let bids : c.self.inside.keeping ≡ Bids = rw (← c.self.view_is) at c.requires in
     rw (← c.self.view_is, c.in_default.is)
-    (ended_file c.self.inside.limit c.self.inside.count c.self.inside.scanner c.self.inside.history.bytes c.in-Ok.file
-    (subst (λ (k : Keeping). HasTaken k c.self.inside.limit c.self.inside.count c.self.inside.scanner c.self.inside.history.bytes) bids
-    (c.self.invariant.taken c.in_default.is)) c.in-Ok.ensures.steps)
+    (ended_file c.self.inside.keeping c.self.inside.limit c.self.inside.count c.self.inside.scanner c.self.inside.history.bytes
+    (plain_file c.in-Ok.file) (subst KeepsBids (sym bids) tt) (c.self.invariant.taken c.in_default.is) c.in-Ok.ensures.steps)
 
 pub returns-in-Err : goal.returns-in-Err
 returns-in-Err c =

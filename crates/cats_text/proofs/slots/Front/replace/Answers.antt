@@ -10,5 +10,5 @@ returns-in-Bids-clause-bids c =
     map-set plain_bid c.in-Bids.bids.items c.args.place c.args.bid
     ∙ ap (λ front. set (front_bids front) c.args.place (plain_bid c.args.bid)) (sym c.in-Bids.is)
 
-pub returns-in_default-clause-bids : goal.returns-in_default-clause-bids
-returns-in_default-clause-bids c = set-numbers _ c.in_default.field-0 c.args.place _ c.in_default.is c.requires.kept
+pub returns-in-Numbers-clause-bids : goal.returns-in-Numbers-clause-bids
+returns-in-Numbers-clause-bids c = set-numbers _ c.in-Numbers.field-0 c.args.place _ c.in-Numbers.is c.requires.kept

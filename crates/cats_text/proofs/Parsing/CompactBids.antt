@@ -1,0 +1,53 @@
+-- Bids whose goods stand in one list: those of one more bid are put behind the others.
+use Rattle.std.proofs.Common.{◌≡◌, ℕ, ◌+◌, ◌-◌, ◌≤◌, List, [], ◌∷◌, ◌++◌, length, map, set, take, drop, refl, ap, ap₂, ◌∙◌, arith, length-append, length-drop}
+use Rattle.std.proofs.lemmas.List.{drop_all, take-append-le, drop-append-le, map-append, map-set}
+use Rattle.cats_text.specs.declared.compact.Offer.{Offer}
+use Rattle.cats_text.specs.Files.{PlainBid}
+use Rattle.cats_text.specs.Internal.Compact.{offered, IsHeld, AreHeld}
+use Rattle.cats_text.proofs.Feeding.Streams.{take-within}
+
+-- the bid of an offer that has these goods
+abbrev bid_with : Offer → List ℕ → PlainBid
+bid_with o goods = record { price = o.price; goods = goods; dummy = o.dummy }
+
+offered_more : (goods more : List ℕ) (o : Offer) → IsHeld (length goods) o → offered (goods ++ more) o ≡ offered goods o
+offered_more goods more o held =
+    let order : o.start ≤ o.end = held.order in
+    let within : o.end ≤ length goods = held.within in
+    ap (λ (gs : List ℕ). bid_with o (take (o.end - o.start) gs)) (drop-append-le o.start goods more (omega arith))
+    ∙ ap (bid_with o) (take-append-le (o.end - o.start) (drop o.start goods) more (omega (arith, length-drop o.start goods)))
+
+all_offered_more : (goods more : List ℕ) (offers : List Offer) → AreHeld (length goods) offers
+    → map (offered (goods ++ more)) offers ≡ map (offered goods) offers
+all_offered_more goods more [] held = refl
+all_offered_more goods more (o ∷ offers) held =
+    ap₂ (λ (b : PlainBid) (bs : List PlainBid). b ∷ bs) (offered_more goods more o held.0) (all_offered_more goods more offers held.1)
+
+-- the goods of an offer that were put behind the others
+offered_last : (goods more : List ℕ) (o : Offer) → o.start ≡ length goods → o.end ≡ length (goods ++ more)
+    → offered (goods ++ more) o ≡ bid_with o more
+offered_last goods more o start end =
+    let long : length (goods ++ more) ≡ length goods + length more = length-append goods more in
+    ap (λ (gs : List ℕ). bid_with o (take (o.end - o.start) gs))
+    (drop-append-le o.start goods more (omega arith) ∙ ap (λ (gs : List ℕ). gs ++ more) (drop_all o.start goods (omega arith)))
+    ∙ ap (bid_with o) (take-within (o.end - o.start) more (omega arith))
+
+-- one more bid
+pub offers_push : (goods more all : List ℕ) (offers next : List Offer) (o : Offer) → AreHeld (length goods) offers → all ≡ goods ++ more
+    → o.start ≡ length goods → o.end ≡ length all → next ≡ offers ++ o ∷ []
+    → map (offered all) next ≡ map (offered goods) offers ++ bid_with o more ∷ []
+offers_push goods more all offers next o held is start end put =
+    ap₂ (λ (gs : List ℕ) (os : List Offer). map (offered gs) os) is put
+    ∙ map-append (offered (goods ++ more)) offers (o ∷ [])
+    ∙ ap₂ (λ (bs : List PlainBid) (b : PlainBid). bs ++ b ∷ []) (all_offered_more goods more offers held)
+    (offered_last goods more o start (end ∙ ap length is))
+
+-- a bid in the place of another
+pub offers_set : (goods more all : List ℕ) (offers : List Offer) (place : ℕ) (o : Offer) → AreHeld (length goods) offers → all ≡ goods ++ more
+    → o.start ≡ length goods → o.end ≡ length all
+    → map (offered all) (set offers place o) ≡ set (map (offered goods) offers) place (bid_with o more)
+offers_set goods more all offers place o held is start end =
+    ap (λ (gs : List ℕ). map (offered gs) (set offers place o)) is
+    ∙ map-set (offered (goods ++ more)) offers place o
+    ∙ ap₂ (λ (bs : List PlainBid) (b : PlainBid). set bs place b) (all_offered_more goods more offers held)
+    (offered_last goods more o start (end ∙ ap length is))

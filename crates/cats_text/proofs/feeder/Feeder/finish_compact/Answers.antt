@@ -1,0 +1,43 @@
+-- The end of the bytes that the scanner took: it has the file in little memory.
+use Rattle.std.proofs.Common.{◌≡◌, ◌∙◌, sym, subst, arith}
+use Rattle.cats_text.specs.Internal.Parsing.{KeepsBids}
+use Rattle.cats_text.specs.Internal.Returns.{settled}
+use Rattle.cats_text.specs.Internal.Scanning.{IsPlainFileOf, state, first_state}
+use Rattle.cats_text.specs.declared.parser.Keeping.TheVariants.{Compact}
+use Rattle.cats_text.proofs.Keeping.{scan_keeping}
+use Rattle.cats_text.proofs.Feeding.Pieces.{ended_fact, ended_file, ended_fault, few_lines}
+use Rattle.cats_text.proofs.feeder.Feeder.finish_compact.Goals as goal
+
+pub finish_compact-requires-clause-line : goal.finish_compact-requires-clause-line
+finish_compact-requires-clause-line c =
+    let kept = c.self.invariant.taken c.in_default.is in
+    let lines = few_lines c.self.inside.keeping c.self.inside.limit c.self.inside.count c.self.inside.scanner c.self.inside.history.bytes kept in
+    let within = kept.within in
+    let limit = c.self.invariant.limit in
+    omega arith
+
+pub finish_compact-requires-clause-file : goal.finish_compact-requires-clause-file
+finish_compact-requires-clause-file c =
+    let bids : c.self.inside.keeping ≡ Compact = rw (← c.self.view_is) at c.requires in
+    ended_fact c.self.inside.keeping c.self.inside.limit c.self.inside.count c.self.inside.scanner c.self.inside.history.bytes
+    (subst KeepsBids (sym bids) tt) (c.self.invariant.taken c.in_default.is)
+
+pub finish_compact-requires-clause-keeping : goal.finish_compact-requires-clause-keeping
+finish_compact-requires-clause-keeping c =
+    let bids : c.self.inside.keeping ≡ Compact = rw (← c.self.view_is) at c.requires in
+    let kept = c.self.invariant.taken c.in_default.is in
+    scan_keeping (first_state c.self.inside.keeping) (state c.self.inside.scanner) (settled c.self.inside.history.bytes) kept.runs ∙ bids
+
+pub returns-in-Ok : goal.returns-in-Ok
+returns-in-Ok c =
+    let bids : c.self.inside.keeping ≡ Compact = rw (← c.self.view_is) at c.requires in
+    rw (← c.self.view_is, c.in_default.is)
+    (ended_file c.self.inside.keeping c.self.inside.limit c.self.inside.count c.self.inside.scanner c.self.inside.history.bytes
+    c.in-Ok.file (subst KeepsBids (sym bids) tt) (c.self.invariant.taken c.in_default.is) c.in-Ok.ensures.steps)
+
+pub returns-in-Err : goal.returns-in-Err
+returns-in-Err c =
+    rw (← c.self.view_is, c.in_default.is, c.told.ensures)
+    (ended_fault IsPlainFileOf c.self.inside.keeping c.self.inside.limit c.self.inside.count c.self.inside.scanner c.self.inside.history.bytes c.in-Err.stopped
+    (c.self.invariant.taken c.in_default.is)
+    c.in-Err.ensures.steps c.in-Err.ensures.memory)

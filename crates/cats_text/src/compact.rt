@@ -1,0 +1,193 @@
+//! Bids, and a bid file, in little memory.
+
+ghost use Rattle.std.specs.Prelude.{◌≡◌, ◌<◌, ◌≤◌, ◌^◌, [], ◌∷◌, ◌++◌, length, map, set, slice_get, Some, OnOk, OnErr, IfOk};
+ghost use Rattle.cats_text.specs.Files.{PlainBid, IsBidFile};
+
+use std::alloc::{AllocError, Global};
+use std::marker::Model;
+
+/// A bid of which the goods stand from one place of a list to another.
+#[derive(Clone, Copy)]
+pub struct Offer {
+    price: u64,
+    start: u32,
+    end: u32,
+    dummy: Option<u32>,
+}
+
+/// Bids by number. The goods of all of them stand in one vector.
+#[derive(Drop)]
+pub struct CompactBids {
+    offers: Vec<Offer>,
+    goods: Vec<u16>,
+}
+
+impl Model for CompactBids {
+    ghost use Rattle.std.specs.Prelude.{List, length, map};
+    ghost use Rattle.cats_text.specs.Files.{PlainBid};
+    ghost use Rattle.cats_text.specs.Internal.Compact.{offered, AreHeld};
+
+    ghost Value = { List PlainBid };
+
+    ghost view = { λ b. map (offered b.goods.items) b.offers.items };
+
+    ghost invariant = { λ b. AreHeld (length b.goods.items) b.offers.items };
+}
+
+/// Puts goods behind the others, and tells from where to where they stand. Memory is refused too where there would be
+/// 2 to the power 32 goods, as no file has.
+#[inline(always)]
+fn append(all: &mut Vec<u16>, goods: &[u16]) -> Result<(u32, u32), AllocError>
+    ensures goods { OnOk result (all.new.items ≡ all.old.items ++ goods.now) }
+    ensures same { OnErr result (all.new.items ≡ all.old.items) }
+    ensures start { IfOk result (λ places. places.0 ≡ length all.old.items) }
+    ensures end { IfOk result (λ places. places.1 ≡ length all.new.items) }
+{
+    let start = all.len();
+    let end = start + goods.len();
+    if end > u32::MAX as usize {
+        return Err(AllocError);
+    }
+    all.extend_from_slice(goods)?;
+    Ok((start as u32, end as u32))
+}
+
+/// Makes room for so many offers where none has come.
+#[inline(always)]
+fn make_room(offers: &mut Vec<Offer>, count: u32) -> Result<(), AllocError>
+    ensures { offers.new.items ≡ offers.old.items }
+{
+    if offers.is_empty() {
+        offers.reserve(count as usize)?;
+    }
+    Ok(())
+}
+
+impl CompactBids {
+    /// No bids.
+    pub fn new(alloc: Global) -> CompactBids
+        ensures { result ≡ [] }
+    {
+        CompactBids {
+            offers: Vec::new(alloc),
+            goods: Vec::new(alloc),
+        }
+    }
+
+    /// How many there are.
+    #[inline(always)]
+    pub fn len(&self) -> usize
+        ensures { result ≡ length self.now }
+    {
+        self.offers.len()
+    }
+
+    /// Puts a bid behind the others. At the first one, room is made for so many bids.
+    #[inline(always)]
+    pub fn push(
+        &mut self,
+        price: u64,
+        goods: &[u16],
+        dummy: Option<u32>,
+        count: u32,
+    ) -> Result<(), AllocError>
+        ensures { let bid : PlainBid = record { price = price; goods = goods.now; dummy = dummy } in
+            OnOk result (self.new ≡ self.old ++ bid ∷ []) }
+    {
+        make_room(&mut self.offers, count)?;
+        let (start, end) = append(&mut self.goods, goods)?;
+        self.offers.push(Offer {
+            price,
+            start,
+            end,
+            dummy,
+        })?;
+        Ok(())
+    }
+
+    /// Puts a bid in the place of another.
+    pub fn replace(
+        &mut self,
+        place: usize,
+        price: u64,
+        goods: &[u16],
+        dummy: Option<u32>,
+    ) -> Result<(), AllocError>
+        requires { place < length self.old }
+        ensures { let bid : PlainBid = record { price = price; goods = goods.now; dummy = dummy } in
+            OnOk result (self.new ≡ set self.old place bid) }
+    {
+        let (start, end) = append(&mut self.goods, goods)?;
+        self.offers[place] = Offer {
+            price,
+            start,
+            end,
+            dummy,
+        };
+        Ok(())
+    }
+
+    /// The price, the goods and the dummy good of the bid at this place.
+    #[inline(always)]
+    pub fn at(&self, place: usize) -> (u64, &[u16], Option<u32>)
+        requires { place < length self.now }
+        ensures { let bid : PlainBid = record { price = result.0; goods = result.1.now; dummy = result.2 } in
+            slice_get self.now place ≡ Some bid }
+    {
+        let offer = self.offers[place];
+        let goods = &self.goods[offer.start as usize..offer.end as usize];
+        (offer.price, goods, offer.dummy)
+    }
+}
+
+/// A bid file that is only to be sent, in little memory.
+#[derive(Drop)]
+pub struct CompactFile {
+    goods: u16,
+    dummy: u32,
+    bids: CompactBids,
+}
+
+impl Model for CompactFile {
+    ghost use Rattle.cats_text.specs.Files.{PlainFile, IsBidFile};
+
+    ghost Value = { PlainFile };
+
+    ghost view = { λ f. record { goods = f.goods; dummy = f.dummy; bids = f.bids } };
+
+    ghost invariant = { λ f. IsBidFile f.goods f.dummy f.bids };
+}
+
+impl CompactFile {
+    ghost use Rattle.cats_text.specs.Files.{IsPlainFile};
+
+    pub(crate) fn new(goods: u16, dummy: u32, bids: CompactBids) -> CompactFile
+        requires { IsBidFile goods dummy bids }
+        ensures { result ≡ record { goods = goods; dummy = dummy; bids = bids } }
+    {
+        CompactFile { goods, dummy, bids }
+    }
+
+    /// How many real goods there are.
+    pub(crate) fn goods(&self) -> u16
+        ensures value { result ≡ self.now.goods }
+        ensures file { IsPlainFile self.now }
+    {
+        self.goods
+    }
+
+    /// How many dummy goods there are.
+    pub(crate) fn dummy(&self) -> u32
+        ensures { result ≡ self.now.dummy }
+    {
+        self.dummy
+    }
+
+    /// The bids.
+    #[inline(always)]
+    pub(crate) fn bids(&self) -> &CompactBids
+        ensures { result.now ≡ self.now.bids }
+    {
+        &self.bids
+    }
+}
