@@ -232,16 +232,23 @@ def pairs(paths, others, *words):
 
 
 def measure_duplicates(folder):
-    """Which of 2,000 files are the same auction, beside normalising each of them."""
+    """Which of 2,000 files are the same auction."""
     paths = [f"{folder}/{number}" for number in range(2000)]
     made(pairs, paths[:1000], paths[1000:], 250, 64, 5, 20)
-    # (a process that does nothing takes as long as one of these files does, so both are measured at the same time)
-    runs = measure_alternately([[*NORMALISE, it] for path in paths for it in (path, EMPTY)], TIMES)
-    each, nothing = (sum(it.seconds for it in runs[start::2]) for start in (0, 1))
     (took,) = measure_alternately([cats("duplicates", *paths)], TIMES)
-    name = "2,000 files: cats duplicates"
+    print(f"{'2,000 files: cats duplicates':50} {took.seconds:8.3f} s")
+
+
+def measure_large_duplicates(folder):
+    """The same of 200 files, beside normalising each of them. (Of smaller ones a process's own time would be most of it.)"""
+    paths = [f"{folder}/{number}" for number in range(200)]
+    made(pairs, paths[:100], paths[100:], 4096, 512, 5, 20)
+    commands = [[*NORMALISE, path] for path in paths]
+    nothing, took, *each = measure_alternately([[*NORMALISE, EMPTY], cats("duplicates", *paths), *commands], TIMES)
+    alone = sum(it.seconds - nothing.seconds for it in each)
+    name = "200 files of 4,096 bids: cats duplicates"
     print(f"{name:50} {took.seconds:8.3f} s")
-    bound(f"{name}, times normalising each", took.seconds / (each - nothing), 1.2)
+    bound(f"{name}, times normalising each", took.seconds / alone, 1.2)
 
 
 def measure_held_duplicates(folder):
@@ -285,6 +292,7 @@ GROUPS = {
     "value on a large file": measure_value,
     "steps": measure_steps,
     "duplicates": measure_duplicates,
+    "duplicates of larger files": measure_large_duplicates,
     "what duplicates holds": measure_held_duplicates,
     **{name: partial(measure_pruning, name=name, write_bids=write_bids, most=most) for name, write_bids, most in PRUNINGS},
 }

@@ -1,6 +1,6 @@
 -- Atoms are found through the goods of a bundle: each atom inside it is listed at one of its goods, which is a good of the bundle.
 -- The places found, sorted, are those of the atoms inside the bundle, since no place is listed twice.
-use Rattle.std.proofs.Common.{◌≡◌, ◌≢◌, ℕ, zero, suc, ◌+◌, ◌<◌, ◌≤◌, Bool, true, false, cond, leb, take, set, get_or-set_same, get_or-set_other, append_assoc}
+use Rattle.std.proofs.Common.{◌≡◌, ◌≢◌, ℕ, zero, suc, ◌+◌, ◌<◌, ◌≤◌, Bool, true, ◌&&◌, false, cond, leb, take, set, get_or-set_same, get_or-set_other, append_assoc}
 use Rattle.std.proofs.Common.{Bor, eqb, ◌⊎◌, inl, inr, ⊎_elim, List, [], ◌∷◌, ◌++◌, length, map, get_or, refl, sym, ap, ◌∙◌, subst, arith, Some, None, nat_cmp}
 use Rattle.std.specs.Prelude.{All, AllPairs, Contains, IsPermutation}
 use Rattle.std.specs.Global.{Vec}
@@ -55,8 +55,15 @@ pub place_within : (lists : List (List Listing)) (atoms : List (Atom (List ℕ))
 place_within lists atoms good place a c = let r = listing_at lists atoms good place a c in let l = r.1.within in omega (arith, r.2)
 
 -- an atom with a good that the bundle lacks is not inside it
-pub lacks_outside : (xs bundle : List ℕ) (g : ℕ) → has_good xs g ≡ true → has_good bundle g ≡ false → is_inside xs bundle ≡ false
-lacks_outside xs bundle g h n = false_from_ne_true (is_inside xs bundle) (λ i. both_ways (has_good bundle g) n (inside_at xs bundle g i h))
+pub lacks_some : (xs bundle : List ℕ) (g m n : ℕ) → has_good xs g ≡ true → has_good xs m ≡ true → has_good xs n ≡ true
+    → (has_good bundle g && has_good bundle m && has_good bundle n) ≡ false → is_inside xs bundle ≡ false
+lacks_some xs bundle g m n h k l none =
+    false_from_ne_true (is_inside xs bundle) (λ i.
+    let p = inside_at xs bundle g i h in
+    let q = inside_at xs bundle m i k in
+    let r = inside_at xs bundle n i l in
+    let all : (has_good bundle g && has_good bundle m && has_good bundle n) ≡ true = simp (p, q, r) in
+    both_ways (has_good bundle g && has_good bundle m && has_good bundle n) none all)
 
 pub Contains_from_has : (xs : List ℕ) (g : ℕ) → has_good xs g ≡ true → Contains xs g
 Contains_from_has [] g h = absurd (both_ways false refl h)

@@ -1,5 +1,5 @@
 //! The atoms that a pruning keeps, found by their goods.
-ghost use Rattle.std.specs.Prelude.{◌≡◌, ℕ, ◌<◌, true, map, length, vec_len, IfOk, OnOk, [], ◌∷◌, ◌++◌};
+ghost use Rattle.std.specs.Prelude.{◌≡◌, ℕ, ◌<◌, ◌&&◌, true, map, length, vec_len, IfOk, OnOk, [], ◌∷◌, ◌++◌};
 ghost use Rattle.std.specs.List.{filter, list_any, range_with_len};
 ghost use Rattle.goods_set.specs.Bundles.{has_good};
 ghost use Rattle.goods_set.specs.Residues.{AreResidues};
@@ -34,6 +34,9 @@ struct Listing {
     second: u16,
     third: u16,
 }
+
+/// A bundle of so many goods has about half of all residues.
+const WIDE: usize = 40;
 
 /// Atoms, each listed at one of its goods, so that those inside a bundle are found through the bundle's goods.
 #[derive(Drop)]
@@ -134,17 +137,28 @@ impl<S: GoodsSet> Kept<S> {
         (best, listing)
     }
 
-    /// Whether the atom that is listed is inside the bundle, which has these residues.
-    fn is_inside(&self, listing: &Listing, bundle: &S, residues: u64) -> bool
+    /// Whether the bundle has the goods of an atom that are listed with it.
+    fn has_witnesses(bundle: &S, listing: &Listing) -> bool
+        ensures { let has = has_good (S.goods bundle.now) in
+            result ≡ (has listing.now.witness && has listing.now.second && has listing.now.third) }
+    {
+        bundle.has(listing.witness) && bundle.has(listing.second) && bundle.has(listing.third)
+    }
+
+    /// Whether the atom that is listed is inside the bundle, which has these residues. In a wide bundle, which has most
+    /// of all residues, the goods that are listed with the atom are looked up before its own bundle is read.
+    fn is_inside(&self, listing: &Listing, bundle: &S, residues: u64, wide: bool) -> bool
         requires listing { IsListing (atoms_of S.goods self.now.atoms.items) listing.now }
         requires residues { AreResidues (S.goods bundle.now) residues }
         ensures { result ≡ is_inside_at (atoms_of S.goods self.now.atoms.items) (S.goods bundle.now) listing.now.place }
     {
-        may_be_inside(listing.residues, residues)
-            && bundle.has(listing.witness)
-            && bundle.has(listing.second)
-            && bundle.has(listing.third)
-            && self.atoms[listing.place].bundle.is_inside(bundle)
+        if !may_be_inside(listing.residues, residues) {
+            return false;
+        }
+        if wide && !Self::has_witnesses(bundle, listing) {
+            return false;
+        }
+        self.atoms[listing.place].bundle.is_inside(bundle)
     }
 
     /// Adds to `found` the places of the atoms inside the bundle that are listed at the good.
@@ -153,6 +167,7 @@ impl<S: GoodsSet> Kept<S> {
         good: u16,
         bundle: &S,
         residues: u64,
+        wide: bool,
         found: &mut Vec<usize>,
     ) -> Result<(), AllocError>
         requires listed { AreListed (lists_of self.now.lists.items) (atoms_of S.goods self.now.atoms.items) }
@@ -164,7 +179,7 @@ impl<S: GoodsSet> Kept<S> {
         let good = usize::from(good);
         if good < self.lists.len() {
             for listing in &self.lists[good] {
-                if self.is_inside(listing, bundle, residues) {
+                if self.is_inside(listing, bundle, residues, wide) {
                     found.push(listing.place)?;
                 }
             }
@@ -180,10 +195,11 @@ impl<S: GoodsSet> Kept<S> {
             IfOk result (λ places. places.items ≡ filter inside all) }
     {
         let residues = bundle.residues();
+        let wide = bundle.size() > WIDE;
         let mut found = Vec::new(alloc);
         let mut from = 0;
         while let Some(good) = bundle.next_from(from) {
-            self.find_listed(good, bundle, residues, &mut found)?;
+            self.find_listed(good, bundle, residues, wide, &mut found)?;
             from = u32::from(good) + 1;
         }
         found.sort_unstable();
@@ -206,7 +222,7 @@ impl<S: GoodsSet> Kept<S> {
     }
 
     /// Whether an atom inside the bundle that is listed at the good has at least the price.
-    fn has_listed(&self, good: u16, bundle: &S, residues: u64, price: u64) -> bool
+    fn has_listed(&self, good: u16, bundle: &S, residues: u64, wide: bool, price: u64) -> bool
         requires listed { AreListed (lists_of self.now.lists.items) (atoms_of S.goods self.now.atoms.items) }
         requires residues { AreResidues (S.goods bundle.now) residues }
         ensures { let covering = covers_at (atoms_of S.goods self.now.atoms.items) (S.goods bundle.now) price in
@@ -215,7 +231,7 @@ impl<S: GoodsSet> Kept<S> {
         let good = usize::from(good);
         if good < self.lists.len() {
             for listing in &self.lists[good] {
-                if price <= listing.price && self.is_inside(listing, bundle, residues) {
+                if price <= listing.price && self.is_inside(listing, bundle, residues, wide) {
                     return true;
                 }
             }
@@ -229,9 +245,10 @@ impl<S: GoodsSet> Kept<S> {
         ensures { result ≡ list_any (covers (S.goods bundle.now) price) (atoms_of S.goods self.now.atoms.items) }
     {
         let residues = bundle.residues();
+        let wide = bundle.size() > WIDE;
         let mut from = 0;
         while let Some(good) = bundle.next_from(from) {
-            if self.has_listed(good, bundle, residues, price) {
+            if self.has_listed(good, bundle, residues, wide, price) {
                 return true;
             }
             from = u32::from(good) + 1;
