@@ -1,6 +1,6 @@
 //! Bids, and a bid file, in little memory.
 
-ghost use Rattle.std.specs.Prelude.{◌≡◌, ◌<◌, ◌≤◌, ◌^◌, [], ◌∷◌, ◌++◌, length, map, set, slice_get, Some, OnOk, OnErr, IfOk};
+ghost use Rattle.std.specs.Prelude.{◌≡◌, ◌<◌, [], ◌∷◌, ◌++◌, length, set, slice_get, Some, OnOk, OnErr, IfOk};
 ghost use Rattle.cats_text.specs.Files.{PlainBid, IsBidFile};
 
 use std::alloc::{AllocError, Global};
