@@ -187,35 +187,40 @@ impl<S: GoodsSet> Kept<S> {
         Ok(())
     }
 
-    /// The places of the atoms inside the bundle, rising.
-    fn places_inside(&self, alloc: Global, bundle: &S) -> Result<Vec<usize>, AllocError>
+    /// Puts the places of the atoms inside the bundle, rising, where other places stood.
+    fn find_inside(&self, bundle: &S, places: &mut Vec<usize>) -> Result<(), AllocError>
         requires { AreListed (lists_of self.now.lists.items) (atoms_of S.goods self.now.atoms.items) }
         ensures { let inside = is_inside_at (atoms_of S.goods self.now.atoms.items) (S.goods bundle.now) in
             let all = range_with_len 0 (length self.now.atoms.items) in
-            IfOk result (λ places. places.items ≡ filter inside all) }
+            OnOk result (places.new.items ≡ filter inside all) }
     {
         let residues = bundle.residues();
         let wide = bundle.size() > WIDE;
-        let mut found = Vec::new(alloc);
+        places.clear();
         let mut from = 0;
         while let Some(good) = bundle.next_from(from) {
-            self.find_listed(good, bundle, residues, wide, &mut found)?;
+            self.find_listed(good, bundle, residues, wide, places)?;
             from = u32::from(good) + 1;
         }
-        found.sort_unstable();
-        Ok(found)
+        places.sort_unstable();
+        Ok(())
     }
 
-    /// The atoms inside the bundle, in the order in which they came.
-    pub fn inside(&self, alloc: Global, bundle: &S) -> Result<Vec<&Atom<S>>, AllocError>
+    /// The atoms inside the bundle, in the order in which they came. `places` is room for their places.
+    pub fn inside(
+        &self,
+        alloc: Global,
+        bundle: &S,
+        places: &mut Vec<usize>,
+    ) -> Result<Vec<&Atom<S>>, AllocError>
         requires { AreListed (lists_of self.now.lists.items) (atoms_of S.goods self.now.atoms.items) }
         ensures { let atoms = atoms_of S.goods self.now.atoms.items in
             IfOk result (λ inside. atoms_of S.goods (map (λ a. a.now) inside.items)
             ≡ atoms_inside atoms (S.goods bundle.now)) }
     {
-        let places = self.places_inside(alloc, bundle)?;
+        self.find_inside(bundle, places)?;
         let mut inside = Vec::with_capacity(alloc, places.len())?;
-        for place in &places {
+        for place in places.iter() {
             inside.push(&self.atoms[*place])?;
         }
         Ok(inside)

@@ -13,7 +13,7 @@ index-requires g c =
     let goods = g.S.GoodsSet.goods in
     let atoms = c.args.self.now.atoms.items in
     let long = length-atoms_of goods atoms in
-    let is = c.deref-place-items.ensures.value ∙ c.in_ok-places.ensures
+    let is = c.deref-place-items.ensures.value ∙ c.in_ok-find_inside.ensures
     ∙ ap (λ n. filter (is_inside_at (atoms_of goods atoms) (goods c.args.bundle.now)) (range_with_len 0 n)) (sym long) in
     let in_list = places_in_list (atoms_of goods atoms) (goods c.args.bundle.now) c.deref-place-items.result.now is c.loop-place.place-index 0
     c.loop-place-test.true in
@@ -24,7 +24,7 @@ loop-place-preserved g c =
     let goods = g.S.GoodsSet.goods in
     let atoms = c.args.self.now.atoms.items in
     let long = length-atoms_of goods atoms in
-    let is = c.deref-place-items.ensures.value ∙ c.in_ok-places.ensures
+    let is = c.deref-place-items.ensures.value ∙ c.in_ok-find_inside.ensures
     ∙ ap (λ n. filter (is_inside_at (atoms_of goods atoms) (goods c.args.bundle.now)) (range_with_len 0 n)) (sym long) in
     let in_list = places_in_list (atoms_of goods atoms) (goods c.args.bundle.now) c.deref-place-items.result.now is c.loop-place.place-index 0
     c.loop-place-test.true in
@@ -36,7 +36,7 @@ returns g c =
     let goods = g.S.GoodsSet.goods in
     let atoms = c.args.self.now.atoms.items in
     let long = length-atoms_of goods atoms in
-    let is = c.deref-place-items.ensures.value ∙ c.in_ok-places.ensures
+    let is = c.deref-place-items.ensures.value ∙ c.in_ok-find_inside.ensures
     ∙ ap (λ n. filter (is_inside_at (atoms_of goods atoms) (goods c.args.bundle.now)) (range_with_len 0 n)) (sym long) in
     c.loop-place.invariant ∙ ap (map (atom_at (atoms_of goods atoms)))
     (take_all c.loop-place.place-index c.deref-place-items.result.now c.loop-place-test.false)

@@ -4,7 +4,7 @@ use Rattle.valuation.specs.Values.{atoms_of}
 use Rattle.valuation.specs.Lemmas.Atoms.{length-atoms_of}
 use Rattle.prune.specs.Internal.Listings.{lists_of, is_inside_at}
 use Rattle.prune.proofs.ListedAtoms.{next_is_further, IsFinding-more, IsFinding-all}
-use Rattle.prune.proofs.kept.Kept.places_inside.Goals as goal
+use Rattle.prune.proofs.kept.Kept.find_inside.Goals as goal
 
 pub loop-good-smaller : goal.loop-good-smaller
 loop-good-smaller g c =
