@@ -45,10 +45,8 @@ impl Goods {
                 held: Held::Few(alloc, FewGoods::from_slice(goods)),
             });
         }
-        let mut many = Vec::with_capacity(alloc, goods.len())?;
-        many.extend_from_slice(goods)?;
         Ok(Goods {
-            held: Held::Many(many),
+            held: Held::Many(goods.to_vec(alloc)?),
         })
     }
 
@@ -115,11 +113,7 @@ impl Goods {
         ensures { IfOk result (λ goods. goods.items ≡ self) }
     {
         match self.held {
-            Held::Few(alloc, few) => {
-                let mut goods = Vec::with_capacity(alloc, FEW)?;
-                goods.extend_from_slice(few.as_slice())?;
-                Ok(goods)
-            }
+            Held::Few(alloc, few) => few.as_slice().to_vec(alloc),
             Held::Many(many) => Ok(many),
         }
     }
