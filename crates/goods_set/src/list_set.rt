@@ -17,7 +17,7 @@ use crate::set::GoodsSet;
 use std::alloc::{AllocError, Global};
 use std::cmp::Ordering;
 
-/// A set of goods as the rising list of them: for few goods, of any number below 65,536. Up to 14 take no memory of
+/// A set of goods as the rising list of them: for few goods, of any number below 65,536. Up to 11 take no memory of
 /// their own.
 #[derive(Debug, Drop)]
 pub struct ListSet {
@@ -74,7 +74,7 @@ impl ListSet {
 
     // The few goods that are not in the set.
     fn left_of(&self, goods: &[u16]) -> FewGoods
-        requires { length goods.now ≤ 14 }
+        requires { length goods.now ≤ 11 }
         ensures { result ≡ without goods.now self.now.goods }
     {
         let mut left = FewGoods::none();

@@ -5,13 +5,15 @@ ghost use Rattle.std.specs.List.{insert};
 use std::marker::Model;
 
 /// How many goods fit.
-pub(crate) const FEW: usize = 14;
+pub(crate) const FEW: usize = 11;
 
-/// Up to 14 goods, one after another.
+/// Up to 11 goods, one after another.
 #[derive(Debug, Drop)]
 pub(crate) struct FewGoods {
+    /// Takes no room, but places the others so that they are moved as whole words.
+    words: [u64; 0],
     count: u8,
-    goods: [u16; 14],
+    goods: [u16; 11],
 }
 
 impl Model for FewGoods {
@@ -21,7 +23,7 @@ impl Model for FewGoods {
 
     ghost view = { λ f. take f.count f.goods };
 
-    ghost invariant = { λ f. f.count ≤ 14 };
+    ghost invariant = { λ f. f.count ≤ 11 };
 }
 
 impl FewGoods {
@@ -29,13 +31,14 @@ impl FewGoods {
         ensures { result ≡ [] }
     {
         FewGoods {
+            words: [],
             count: 0,
-            goods: [0; 14],
+            goods: [0; 11],
         }
     }
 
     pub(crate) fn from_slice(goods: &[u16]) -> FewGoods
-        requires { length goods.now ≤ 14 }
+        requires { length goods.now ≤ 11 }
         ensures { result ≡ goods.now }
     {
         let mut few = FewGoods::none();
@@ -46,13 +49,13 @@ impl FewGoods {
     #[inline(always)]
     pub(crate) fn as_slice(&self) -> &[u16]
         ensures goods { result.now ≡ self.now }
-        ensures fits { length self.now ≤ 14 }
+        ensures fits { length self.now ≤ 11 }
     {
         &self.goods[..usize::from(self.count)]
     }
 
     pub(crate) fn push(&mut self, good: u16)
-        requires { length self.old < 14 }
+        requires { length self.old < 11 }
         ensures { self.new ≡ self.old ++ good ∷ [] }
     {
         self.goods[usize::from(self.count)] = good;
@@ -60,7 +63,7 @@ impl FewGoods {
     }
 
     pub(crate) fn append(&mut self, goods: &[u16])
-        requires { length self.old + length goods.now ≤ 14 }
+        requires { length self.old + length goods.now ≤ 11 }
         ensures { self.new ≡ self.old ++ goods.now }
     {
         let start = usize::from(self.count);
@@ -71,7 +74,7 @@ impl FewGoods {
 
     /// The goods with another at a place.
     pub(crate) fn with(&self, place: usize, good: u16) -> FewGoods
-        requires room { length self.now < 14 }
+        requires room { length self.now < 11 }
         requires place { place ≤ length self.now }
         ensures { result ≡ insert self.now place good }
     {
@@ -86,6 +89,7 @@ impl FewGoods {
         ensures { result ≡ self.now }
     {
         FewGoods {
+            words: [],
             count: self.count,
             goods: self.goods,
         }
