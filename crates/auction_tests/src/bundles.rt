@@ -138,11 +138,11 @@ const MANY: [u16; 17] = [
     1, 2, 3, 5, 8, 13, 21, 34, 55, 89, 144, 233, 377, 610, 987, 1_597, 2_584,
 ];
 
-// A set of the first twelve of them, from which the others were taken.
+// A set of the first eight of them, from which the others were taken.
 fn left_of_many(rt: &impl Abort, alloc: Global, many: &ListSet) -> Result<ListSet, Fail> {
     let mut left = many.copy()?;
-    left.take_out(&ListSet::from_slice(alloc, &MANY[12..])?);
-    expect_goods(rt, &goods_of(alloc, &left)?, &MANY[..12]);
+    left.take_out(&ListSet::from_slice(alloc, &MANY[8..])?);
+    expect_goods(rt, &goods_of(alloc, &left)?, &MANY[..8]);
     Ok(left)
 }
 
@@ -151,14 +151,14 @@ fn hold_many(rt: &impl Abort, alloc: Global, many: &ListSet) -> Result<(), Fail>
     expect_goods(rt, &goods_of(alloc, many)?, &MANY);
     expect_goods(rt, &many.copy()?.into_list(alloc)?, &MANY);
     let left = left_of_many(rt, alloc, many)?;
-    let few = ListSet::from_slice(alloc, &MANY[..12])?;
+    let few = ListSet::from_slice(alloc, &MANY[..8])?;
     assert!(rt; left.order(&few) == Ordering::Equal);
     assert!(rt; left.residues() == few.residues());
     assert!(rt; left.is_inside(&few) && few.is_inside(&left));
     assert!(rt; few.is_inside(many) && !many.is_inside(&few));
     assert!(rt; few.order(many) == Ordering::Less);
     expect_left(rt, alloc, few, &left, &[])?;
-    expect_goods(rt, &left.into_list(alloc)?, &MANY[..12]);
+    expect_goods(rt, &left.into_list(alloc)?, &MANY[..8]);
     Ok(())
 }
 
@@ -170,7 +170,11 @@ fn lists_hold_many_goods(rt: HostRuntime) -> Result<(), Fail> {
     hold_many(&rt, alloc, &set_of::<ListSet>(&rt, alloc, &MANY)?)?;
     hold_many(&rt, alloc, &set_of::<ListSet>(&rt, alloc, &falling)?)?;
     hold_many(&rt, alloc, &ListSet::from_slice(alloc, &MANY)?)?;
-    hold_many(&rt, alloc, &ListSet::from_rising(alloc, MANY.to_vec(alloc)?)?)
+    hold_many(
+        &rt,
+        alloc,
+        &ListSet::from_rising(alloc, MANY.to_vec(alloc)?)?,
+    )
 }
 
 #[test]
