@@ -45,6 +45,8 @@ fn give_and_take_back<S: GoodsSet>(rt: &impl Abort, alloc: Global) -> Result<(),
     let given = S::from_rising(alloc, [3, 5].to_vec(alloc)?)?;
     assert_eq!(rt; given.size(), 2);
     expect_goods(rt, &given.into_list(alloc)?, &[3, 5]);
+    let copied = S::from_slice(alloc, &[3, 5])?;
+    expect_goods(rt, &copied.into_list(alloc)?, &[3, 5]);
     Ok(())
 }
 
@@ -129,6 +131,50 @@ fn hold_goods<S: GoodsSet>(rt: &impl Abort, alloc: Global) -> Result<(), Fail> {
 #[test]
 fn lists_hold_goods(rt: HostRuntime) -> Result<(), Fail> {
     hold_goods::<ListSet>(&rt, rt.alloc())
+}
+
+// Seventeen goods, which are more than a list keeps in itself.
+const MANY: [u16; 17] = [
+    1, 2, 3, 5, 8, 13, 21, 34, 55, 89, 144, 233, 377, 610, 987, 1_597, 2_584,
+];
+
+// A set of the first eight of them, from which the others were taken.
+fn left_of_many(rt: &impl Abort, alloc: Global, many: &ListSet) -> Result<ListSet, Fail> {
+    let mut left = many.copy()?;
+    left.take_out(&ListSet::from_slice(alloc, &MANY[8..])?);
+    expect_goods(rt, &goods_of(alloc, &left)?, &MANY[..8]);
+    Ok(left)
+}
+
+// What is seen of a set is the same whether or not it has held many goods.
+fn hold_many(rt: &impl Abort, alloc: Global, many: &ListSet) -> Result<(), Fail> {
+    expect_goods(rt, &goods_of(alloc, many)?, &MANY);
+    expect_goods(rt, &many.copy()?.into_list(alloc)?, &MANY);
+    let left = left_of_many(rt, alloc, many)?;
+    let few = ListSet::from_slice(alloc, &MANY[..8])?;
+    assert!(rt; left.order(&few) == Ordering::Equal);
+    assert!(rt; left.residues() == few.residues());
+    assert!(rt; left.is_inside(&few) && few.is_inside(&left));
+    assert!(rt; few.is_inside(many) && !many.is_inside(&few));
+    assert!(rt; few.order(many) == Ordering::Less);
+    expect_left(rt, alloc, few, &left, &[])?;
+    expect_goods(rt, &left.into_list(alloc)?, &MANY[..8]);
+    Ok(())
+}
+
+#[test]
+fn lists_hold_many_goods(rt: HostRuntime) -> Result<(), Fail> {
+    let alloc = rt.alloc();
+    let mut falling = MANY;
+    falling.reverse();
+    hold_many(&rt, alloc, &set_of::<ListSet>(&rt, alloc, &MANY)?)?;
+    hold_many(&rt, alloc, &set_of::<ListSet>(&rt, alloc, &falling)?)?;
+    hold_many(&rt, alloc, &ListSet::from_slice(alloc, &MANY)?)?;
+    hold_many(
+        &rt,
+        alloc,
+        &ListSet::from_rising(alloc, MANY.to_vec(alloc)?)?,
+    )
 }
 
 #[test]

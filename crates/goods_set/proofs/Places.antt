@@ -1,5 +1,5 @@
 -- Where a good stands in a rising list, or where it goes: what a binary search and a partition point tell.
-use Rattle.std.proofs.Common.{◌≡◌, ℕ, zero, suc, ◌^◌, ◌<◌, ◌≤◌, Bool, true, false, cond, eqb, ltb, List, [], ◌∷◌, length, get_or, refl, sym, ap, ◌∙◌, subst}
+use Rattle.std.proofs.Common.{◌≡◌, ℕ, zero, suc, ◌<◌, ◌≤◌, true, false, eqb, ltb, List, [], ◌∷◌, length, get_or, refl, sym, ap, ◌∙◌}
 use Rattle.std.proofs.Common.{arith, MatchResult, Bor}
 use Rattle.std.specs.Prelude.{Result, Ok, Err, Option, Some, None}
 use Rattle.std.proofs.lemmas.Bool.{or_left, or_right, or_from, eq-eqb, ne_eqb, ltb-true, ltb-false, lt-ltb, le-ltb, le-leb, lt-leb}
@@ -10,8 +10,7 @@ use Rattle.std.specs.Ordering.{nat_cmp}
 use Rattle.std.specs.Option.{option_copied}
 use Rattle.std.specs.Slice.{IsItemAt}
 use Rattle.std.proofs.lemmas.Option.{slice_get-get_or, slice_get_past}
-use Rattle.goods_set.specs.Bundles.{AreAbove, IsRising, IsBundle, has_good, with_good, good_from}
-use Rattle.goods_set.specs.Lemmas.Sizes.{IsBundle-with_good}
+use Rattle.goods_set.specs.Bundles.{AreAbove, IsRising, has_good, with_good, good_from}
 
 AreAbove-get_or : (x : ℕ) (xs : List ℕ) (k d : ℕ) → AreAbove x xs → k < length xs → x < get_or xs k d
 AreAbove-get_or x [] k d a l = absurd (omega arith)
@@ -79,9 +78,3 @@ next_at (x ∷ xs) g (suc i) l p =
 pub got : (xs : List ℕ) (i : ℕ) (r : Option (Bor ℕ)) → IsItemAt xs i r → option_copied r ≡ slice_get xs i
 got xs i None h = sym (slice_get_past xs i h.3)
 got xs i (Some x) h = sym (slice_get-get_or xs i x.now h.3.0 ∙ ap Some (sym (h.3.1 x.now)))
-
--- the good that was put, or not put for want of memory, leaves a bundle
-pub kept_bundle : (xs : List ℕ) (g i : ℕ) (done : Bool) → IsBundle 65536 xs → g < 2 ^ 16 → insert xs i g ≡ with_good g xs → (ys : List ℕ)
-    → ys ≡ cond done (insert xs i g) xs → IsBundle 65536 ys
-kept_bundle xs g i true b l e ys is = subst (λ (zs : List ℕ). IsBundle 65536 zs) (sym (is ∙ e)) (IsBundle-with_good 65536 g xs l b)
-kept_bundle xs g i false b l e ys is = subst (λ (zs : List ℕ). IsBundle 65536 zs) (sym is) b

@@ -1,39 +1,45 @@
-//! A set of goods as a sorted vector.
+//! A set of goods as a sorted list.
+mod few;
+mod goods;
 mod summary;
 
 ghost use Rattle.std.specs.Prelude.{◌≡◌, ℕ, ◌<◌, ◌≤◌, [], length, not, true, false, IsOk, IfOk, MatchResult};
 ghost use Rattle.std.specs.List.{insert};
-ghost use Rattle.goods_set.specs.Bundles.{IsBundle, IsInside, IsRising, AreBelow, has_good, with_good};
+ghost use Rattle.goods_set.specs.Bundles.{IsBundle, IsInside, IsRising, AreBelow, has_good, with_good, without};
 ghost use Rattle.goods_set.specs.Lemmas.BundleFacts.{IsBundle-prop};
 ghost use Rattle.goods_set.specs.Internal.Fronts.{front_of};
 ghost use Rattle.goods_set.specs.Internal.Residues.{residues_of};
 
 use crate::inside::may_be_inside;
+use crate::list_set::few::FewGoods;
+use crate::list_set::goods::{Goods, Held};
 use crate::set::GoodsSet;
 use std::alloc::{AllocError, Global};
 use std::cmp::Ordering;
 
-/// A set of goods as the rising vector of them: for few goods, of any number below 65,536.
+/// A set of goods as the rising list of them: for few goods, of any number below 65,536. Up to 11 take no memory of
+/// their own.
 #[derive(Debug, Drop)]
 pub struct ListSet {
-    goods: Vec<u16>,
+    goods: Goods,
     /// The first four goods as one number, which tells most sets of one size apart.
     front: u64,
     /// The goods modulo 64, as bits, which tell most goods that are not there.
     residues: u64,
-    ghost fronts: { front ≡ front_of goods.items },
-    ghost marked: { residues ≡ residues_of goods.items },
-    ghost bundle: { IsBundle 65536 goods.items } by { IsBundle-prop 65536 goods.items },
+    ghost fronts: { front ≡ front_of goods },
+    ghost marked: { residues ≡ residues_of goods },
+    ghost bundle: { IsBundle 65536 goods } by { IsBundle-prop 65536 goods },
 }
 
 impl ListSet {
-    // The set of a rising vector.
-    fn new(rising: Vec<u16>) -> ListSet
-        requires { IsBundle 65536 rising.items }
+    // The set of rising goods.
+    fn new(rising: Goods) -> ListSet
+        requires { IsBundle 65536 rising }
         ensures { result.goods ≡ rising }
     {
-        let front = summary::front(&rising);
-        let residues = summary::residues(&rising);
+        let goods = rising.as_slice();
+        let front = summary::front(goods);
+        let residues = summary::residues(goods);
         ListSet {
             goods: rising,
             front,
@@ -43,14 +49,14 @@ impl ListSet {
 
     // Whether a good with the same residue is there.
     fn may_have(&self, good: u16) -> bool
-        ensures { has_good self.now.goods.items good ≡ true → result ≡ true }
+        ensures { has_good self.now.goods good ≡ true → result ≡ true }
     {
         (self.residues >> (good % 64)) & 1 == 1
     }
 
     // Whether the goods have no residue that those of `other` lack.
     fn may_be_inside(&self, other: &ListSet) -> bool
-        ensures { IsInside self.now.goods.items other.now.goods.items → result ≡ true }
+        ensures { IsInside self.now.goods other.now.goods → result ≡ true }
     {
         may_be_inside(self.residues, other.residues)
     }
@@ -58,38 +64,66 @@ impl ListSet {
     // Where the good stands, or else where it goes.
     fn place(&self, good: u16) -> Result<usize, usize>
         ensures { MatchResult result
-            (λ i. has_good self.now.goods.items good ≡ true)
-            (λ i. (i ≤ length self.now.goods.items)
-            × (has_good self.now.goods.items good ≡ false)
-            × (insert self.now.goods.items i good ≡ with_good good self.now.goods.items)) }
+            (λ i. has_good self.now.goods good ≡ true)
+            (λ i. (i ≤ length self.now.goods)
+            × (has_good self.now.goods good ≡ false)
+            × (insert self.now.goods i good ≡ with_good good self.now.goods)) }
     {
-        self.goods.binary_search(&good)
+        self.goods.as_slice().binary_search(&good)
+    }
+
+    // The few goods that are not in the set.
+    fn left_of(&self, goods: &[u16]) -> FewGoods
+        requires { length goods.now ≤ 11 }
+        ensures { result ≡ without goods.now self.now.goods }
+    {
+        let mut left = FewGoods::none();
+        for good in goods {
+            if !self.has(*good) {
+                left.push(*good);
+            }
+        }
+        left
+    }
+
+    // Takes the goods of the set out of others.
+    fn leave(&self, goods: &mut Goods)
+        ensures { goods.new ≡ without goods.old self.now.goods }
+    {
+        match &mut goods.held {
+            Held::Few(_, few) => *few = self.left_of(few.as_slice()),
+            Held::Many(many) => many.retain(|good| !self.has(*good)),
+        }
     }
 }
 
 impl GoodsSet for ListSet {
     ghost CAP = { 65536 };
 
-    ghost goods = { λ s. s.goods.items };
+    ghost goods = { λ s. s.goods };
 
     fn cap() -> u32 {
         65_536
     }
 
     fn empty(alloc: Global) -> Result<ListSet, AllocError>
-        ensures goods { IfOk result (λ s. s.goods.items ≡ []) }
+        ensures goods { IfOk result (λ s. s.goods ≡ []) }
         ensures ok { IsOk result }
     {
-        Ok(ListSet::new(Vec::new(alloc)))
+        Ok(ListSet::new(Goods::none(alloc)))
     }
 
     fn from_rising(_alloc: Global, rising: Vec<u16>) -> Result<ListSet, AllocError>
         requires rising { IsRising rising.items }
         requires below { AreBelow 65536 rising.items }
-        ensures goods { IfOk result (λ s. s.goods.items ≡ rising.items) }
+        ensures goods { IfOk result (λ s. s.goods ≡ rising.items) }
         ensures ok { IsOk result }
     {
-        Ok(ListSet::new(rising))
+        Ok(ListSet::new(Goods::from_vector(rising)))
+    }
+
+    fn from_slice(alloc: Global, rising: &[u16]) -> Result<ListSet, AllocError> {
+        Ok(ListSet::new(Goods::from_slice(alloc, rising)?))
     }
 
     fn put(&mut self, good: u16) -> Result<bool, AllocError> {
@@ -97,8 +131,8 @@ impl GoodsSet for ListSet {
             Ok(_) => Ok(false),
             Err(place) => {
                 self.goods.insert(place, good)?;
-                self.front = summary::front(&self.goods);
-                self.residues = summary::residues(&self.goods);
+                self.front = summary::front(self.goods.as_slice());
+                self.residues = summary::residues(self.goods.as_slice());
                 Ok(true)
             }
         }
@@ -109,12 +143,13 @@ impl GoodsSet for ListSet {
     }
 
     fn size(&self) -> usize {
-        self.goods.len()
+        self.goods.as_slice().len()
     }
 
     fn next_from(&self, from: u32) -> Option<u16> {
-        let place = self.goods.partition_point(|good| u32::from(*good) < from);
-        self.goods.get(place).copied()
+        let goods = self.goods.as_slice();
+        let place = goods.partition_point(|good| u32::from(*good) < from);
+        goods.get(place).copied()
     }
 
     fn residues(&self) -> u64 {
@@ -125,43 +160,40 @@ impl GoodsSet for ListSet {
         out.extend_from_slice(self.goods.as_slice())
     }
 
-    fn into_list(self, _alloc: Global) -> Result<Vec<u16>, AllocError>
-        ensures goods { IfOk result (λ list. list.items ≡ self.goods.items) }
-        ensures ok { IsOk result }
-    {
+    fn into_list(self, _alloc: Global) -> Result<Vec<u16>, AllocError> {
         let ListSet {
             goods,
             front: _,
             residues: _,
         } = self;
-        Ok(goods)
+        goods.into_vector()
     }
 
     fn is_inside(&self, other: &ListSet) -> bool {
-        self.may_be_inside(other) && self.goods.iter().all(|good| other.has(*good))
+        self.may_be_inside(other) && self.goods.as_slice().iter().all(|good| other.has(*good))
     }
 
     fn is_apart(&self, other: &ListSet) -> bool {
-        self.goods.iter().all(|good| !other.has(*good))
+        self.goods.as_slice().iter().all(|good| !other.has(*good))
     }
 
     fn take_out(&mut self, other: &ListSet) {
-        self.goods.retain(|good| !other.has(*good));
-        self.front = summary::front(&self.goods);
-        self.residues = summary::residues(&self.goods);
+        other.leave(&mut self.goods);
+        self.front = summary::front(self.goods.as_slice());
+        self.residues = summary::residues(self.goods.as_slice());
     }
 
     fn order(&self, other: &ListSet) -> Ordering {
         let sizes = self.size().cmp(&other.size());
         match sizes.then(self.front.cmp(&other.front)) {
-            Ordering::Equal => self.goods.cmp(&other.goods),
+            Ordering::Equal => self.goods.as_slice().cmp(other.goods.as_slice()),
             unequal => unequal,
         }
     }
 
     fn copy(&self) -> Result<ListSet, AllocError> {
         Ok(ListSet {
-            goods: self.goods.clone()?,
+            goods: self.goods.copy()?,
             front: self.front,
             residues: self.residues,
         })

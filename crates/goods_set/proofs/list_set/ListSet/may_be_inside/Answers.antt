@@ -5,5 +5,5 @@ pub returns : goal.returns
 returns c i =
     let s = c.args.self.now in
     let t = c.args.other.now in
-    c.may_be_inside.ensures s.goods.items t.goods.items (AreResidues-of s.residues s.goods.items s.marked)
-    (AreResidues-of t.residues t.goods.items t.marked) i
+    c.may_be_inside.ensures s.goods t.goods (AreResidues-of s.residues s.goods s.marked)
+    (AreResidues-of t.residues t.goods t.marked) i

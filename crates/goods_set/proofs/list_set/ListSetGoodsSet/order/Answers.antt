@@ -10,7 +10,7 @@ pub returns-in_default : goal.returns-in_default
 returns-in_default c =
     let s = c.args.self.now in
     let t = c.args.other.now in
-    let both : ordering_then c.then.result (slice_cmp nat_cmp s.goods.items t.goods.items) ≡ bundle_cmp s.goods.items t.goods.items =
+    let both : ordering_then c.then.result (slice_cmp nat_cmp s.goods t.goods) ≡ bundle_cmp s.goods t.goods =
     rw (
       c.then.ensures,
       c.cmp-sizes.ensures,
@@ -19,5 +19,5 @@ returns-in_default c =
       c.cmp.ensures,
       s.fronts,
       t.fronts,
-    ) (order_by_front s.goods.items t.goods.items s.bundle.1 t.bundle.1) in
-    first_step c.then.result (slice_cmp nat_cmp s.goods.items t.goods.items) (bundle_cmp s.goods.items t.goods.items) c.in_default.not-Equal both
+    ) (order_by_front s.goods t.goods s.bundle.1 t.bundle.1) in
+    first_step c.then.result (slice_cmp nat_cmp s.goods t.goods) (bundle_cmp s.goods t.goods) c.in_default.not-Equal both

@@ -4,4 +4,4 @@ use Rattle.goods_set.proofs.list_set.ListSetGoodsSet.residues.Goals as goal
 pub returns : goal.returns
 returns c =
     let s = c.args.self.now in
-    AreResidues-of s.residues s.goods.items s.marked
+    AreResidues-of s.residues s.goods s.marked

@@ -1,0 +1,97 @@
+//! A few goods, which take no memory of their own.
+ghost use Rattle.std.specs.Prelude.{◌≡◌, ◌+◌, ◌<◌, ◌≤◌, [], ◌∷◌, ◌++◌, length};
+ghost use Rattle.std.specs.List.{insert};
+
+use std::marker::Model;
+
+/// How many goods fit.
+pub(crate) const FEW: usize = 11;
+
+/// Up to 11 goods, one after another.
+#[derive(Debug, Drop)]
+pub(crate) struct FewGoods {
+    /// Takes no room, but places the others so that they are moved as whole words.
+    words: [u64; 0],
+    count: u8,
+    goods: [u16; 11],
+}
+
+impl Model for FewGoods {
+    ghost use Rattle.std.specs.Prelude.{ℕ, List, take, ◌≤◌};
+
+    ghost Value = { List ℕ };
+
+    ghost view = { λ f. take f.count f.goods };
+
+    ghost invariant = { λ f. f.count ≤ 11 };
+}
+
+impl FewGoods {
+    pub(crate) fn none() -> FewGoods
+        ensures { result ≡ [] }
+    {
+        FewGoods {
+            words: [],
+            count: 0,
+            goods: [0; 11],
+        }
+    }
+
+    pub(crate) fn from_slice(goods: &[u16]) -> FewGoods
+        requires { length goods.now ≤ 11 }
+        ensures { result ≡ goods.now }
+    {
+        let mut few = FewGoods::none();
+        few.append(goods);
+        few
+    }
+
+    #[inline(always)]
+    pub(crate) fn as_slice(&self) -> &[u16]
+        ensures goods { result.now ≡ self.now }
+        ensures fits { length self.now ≤ 11 }
+    {
+        &self.goods[..usize::from(self.count)]
+    }
+
+    pub(crate) fn push(&mut self, good: u16)
+        requires { length self.old < 11 }
+        ensures { self.new ≡ self.old ++ good ∷ [] }
+    {
+        self.goods[usize::from(self.count)] = good;
+        self.count += 1;
+    }
+
+    pub(crate) fn append(&mut self, goods: &[u16])
+        requires { length self.old + length goods.now ≤ 11 }
+        ensures { self.new ≡ self.old ++ goods.now }
+    {
+        let start = usize::from(self.count);
+        let end = start + goods.len();
+        self.goods[start..end].copy_from_slice(goods);
+        self.count = end as u8;
+    }
+
+    /// The goods with another at a place.
+    pub(crate) fn with(&self, place: usize, good: u16) -> FewGoods
+        requires room { length self.now < 11 }
+        requires place { place ≤ length self.now }
+        ensures { result ≡ insert self.now place good }
+    {
+        let goods = self.as_slice();
+        let mut with = FewGoods::from_slice(&goods[..place]);
+        with.push(good);
+        with.append(&goods[place..]);
+        with
+    }
+
+    pub(crate) fn copy(&self) -> FewGoods
+        ensures { result ≡ self.now }
+    {
+        FewGoods {
+            words: [],
+            count: self.count,
+            goods: self.goods,
+        }
+    }
+}

@@ -1,0 +1,120 @@
+//! The goods of a set: a few of them in the value itself, more in a vector.
+ghost use Rattle.std.specs.Prelude.{◌≡◌, ◌≤◌, [], length, IsOk, IfOk, OnOk, OnErr};
+ghost use Rattle.std.specs.List.{insert};
+
+use crate::list_set::few::{FEW, FewGoods};
+use std::alloc::{AllocError, Global};
+use std::marker::Model;
+
+#[derive(Debug, Drop)]
+pub(crate) enum Held {
+    Few(Global, FewGoods),
+    Many(Vec<u16>),
+}
+
+/// Goods, one after another. As long as they are few they take no memory of their own.
+#[derive(Debug, Drop)]
+pub(crate) struct Goods {
+    pub(crate) held: Held,
+}
+
+impl Model for Goods {
+    ghost use Rattle.std.specs.Prelude.{ℕ, List};
+
+    ghost Value = { List ℕ };
+
+    ghost use Rattle.goods_set.specs.Internal.Held.{held_goods};
+
+    ghost view = { λ g. held_goods g.held };
+}
+
+impl Goods {
+    pub(crate) fn none(alloc: Global) -> Goods
+        ensures { result ≡ [] }
+    {
+        Goods {
+            held: Held::Few(alloc, FewGoods::none()),
+        }
+    }
+
+    pub(crate) fn from_slice(alloc: Global, goods: &[u16]) -> Result<Goods, AllocError>
+        ensures { IfOk result (λ g. g ≡ goods.now) }
+    {
+        if goods.len() <= FEW {
+            return Ok(Goods {
+                held: Held::Few(alloc, FewGoods::from_slice(goods)),
+            });
+        }
+        Ok(Goods {
+            held: Held::Many(goods.to_vec(alloc)?),
+        })
+    }
+
+    /// The goods of a vector, which is kept where they are many.
+    pub(crate) fn from_vector(goods: Vec<u16>) -> Goods
+        ensures { result ≡ goods.items }
+    {
+        if goods.len() > FEW {
+            return Goods {
+                held: Held::Many(goods),
+            };
+        }
+        Goods {
+            held: Held::Few(*goods.allocator(), FewGoods::from_slice(&goods)),
+        }
+    }
+
+    #[inline(always)]
+    pub(crate) fn as_slice(&self) -> &[u16]
+        ensures { result.now ≡ self.now }
+    {
+        match &self.held {
+            Held::Few(_, few) => few.as_slice(),
+            Held::Many(many) => many.as_slice(),
+        }
+    }
+
+    /// Puts a good in at a place.
+    pub(crate) fn insert(&mut self, place: usize, good: u16) -> Result<(), AllocError>
+        requires { place ≤ length self.old }
+        ensures goods { OnOk result (self.new ≡ insert self.old place good) }
+        ensures same { OnErr result (self.new ≡ self.old) }
+    {
+        match &mut self.held {
+            Held::Few(alloc, few) => {
+                let goods = few.as_slice();
+                if goods.len() < FEW {
+                    *few = few.with(place, good);
+                } else {
+                    let mut many = Vec::with_capacity(*alloc, 2 * FEW)?;
+                    many.extend_from_slice(goods)?;
+                    many.insert(place, good)?;
+                    self.held = Held::Many(many);
+                }
+            }
+            Held::Many(many) => many.insert(place, good)?,
+        }
+        Ok(())
+    }
+
+    pub(crate) fn copy(&self) -> Result<Goods, AllocError>
+        ensures { IfOk result (λ g. g ≡ self.now) }
+    {
+        Ok(Goods {
+            held: match &self.held {
+                Held::Few(alloc, few) => Held::Few(*alloc, few.copy()),
+                Held::Many(many) => Held::Many(many.clone()?),
+            },
+        })
+    }
+
+    /// The goods as a vector, which is the one that they stand in where they are many.
+    pub(crate) fn into_vector(self) -> Result<Vec<u16>, AllocError>
+        ensures { IfOk result (λ goods. goods.items ≡ self) }
+    {
+        match self.held {
+            Held::Few(alloc, few) => few.as_slice().to_vec(alloc),
+            Held::Many(many) => Ok(many),
+        }
+    }
+}
