@@ -140,7 +140,7 @@ impl CompactBids {
     }
 }
 
-/// A bid file that is only to be sent, in little memory.
+/// A bid file in little memory: the goods of all bids stand in one vector. The bid at place i has the number i.
 #[derive(Drop)]
 pub struct CompactFile {
     goods: u16,
@@ -161,7 +161,8 @@ impl Model for CompactFile {
 impl CompactFile {
     ghost use Rattle.cats_text.specs.Files.{IsPlainFile};
 
-    pub(crate) fn new(goods: u16, dummy: u32, bids: CompactBids) -> CompactFile
+    /// The file of these parts.
+    pub fn new(goods: u16, dummy: u32, bids: CompactBids) -> CompactFile
         requires { IsBidFile goods dummy bids }
         ensures { result ≡ record { goods = goods; dummy = dummy; bids = bids } }
     {
@@ -169,7 +170,7 @@ impl CompactFile {
     }
 
     /// How many real goods there are.
-    pub(crate) fn goods(&self) -> u16
+    pub fn goods(&self) -> u16
         ensures value { result ≡ self.now.goods }
         ensures file { IsPlainFile self.now }
     {
@@ -177,15 +178,15 @@ impl CompactFile {
     }
 
     /// How many dummy goods there are.
-    pub(crate) fn dummy(&self) -> u32
+    pub fn dummy(&self) -> u32
         ensures { result ≡ self.now.dummy }
     {
         self.dummy
     }
 
-    /// The bids.
+    /// The bids, in order of their numbers.
     #[inline(always)]
-    pub(crate) fn bids(&self) -> &CompactBids
+    pub fn bids(&self) -> &CompactBids
         ensures { result.now ≡ self.now.bids }
     {
         &self.bids

@@ -23,7 +23,7 @@ mod word;
 pub mod worked;
 
 pub use bid::{Bid, BidFile};
-pub use compact::CompactFile;
+pub use compact::{CompactBids, CompactFile};
 pub use fault::{Kind, ReadFault, SendFault};
 pub use layout::{push_bid, push_header, write};
 pub use limits::{MAX_BIDS, MAX_DUMMY, MAX_GOODS, MAX_PRICE, MAX_STREAM};
