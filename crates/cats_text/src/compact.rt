@@ -109,7 +109,7 @@ impl CompactBids {
     }
 
     /// Puts a bid in the place of another.
-    pub fn replace(
+    pub(crate) fn replace(
         &mut self,
         place: usize,
         price: u64,
