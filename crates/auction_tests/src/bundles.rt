@@ -46,11 +46,7 @@ fn give_and_take_back<S: GoodsSet>(rt: &impl Abort, alloc: Global) -> Result<(),
     assert_eq!(rt; given.size(), 2);
     expect_goods(rt, &given.into_list(alloc)?, &[3, 5]);
     let copied = S::from_slice(alloc, &[3, 5])?;
-<<<<<<< HEAD
-    expect_goods(rt, &copied.into_list(alloc)?, &[3, 5]);
-=======
     expect_goods(rt, &goods_of(alloc, &copied)?, &[3, 5]);
->>>>>>> 6a4fcef3521ae741b8f27ed81bfc3f5295e0ea69
     Ok(())
 }
 
