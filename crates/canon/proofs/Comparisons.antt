@@ -9,7 +9,6 @@ use Rattle.std.proofs.lemmas.Option.{MatchOption-at_some, MatchOption-at_none}
 use Rattle.std.proofs.lemmas.Result.{IfOk-weaker}
 use Rattle.std.proofs.Math.Seq.{take-append_seam, drop-append_seam}
 use Rattle.cats_text.specs.declared.bid.Bid.{Bid}
-use Rattle.cats_text.specs.declared.bid.BidFile.{BidFile}
 use Rattle.cats_text.specs.declared.limits.TheConstants.{MAX_BIDS, MAX_GOODS}
 use Rattle.cats_text.specs.Files.{PlainBid, PlainFile, IsPlainFile, plain_bid, plain_bids}
 use Rattle.cats_text.specs.Grammar.{Spells}
@@ -17,7 +16,7 @@ use Rattle.cats_text.proofs.Spelling.Files.{says_spelled, spells_one}
 use Rattle.valuation.specs.declared.atom.Atom.{Atom}
 use Rattle.valuation.specs.Lemmas.AuctionsOfFiles.{IsAuction-auction_from}
 use Rattle.valuation.specs.Auctions.{PlainAuction, IsAuction, auction_from}
-use Rattle.canon.specs.Answers.{RefusesAs, NormalisesFileAs}
+use Rattle.canon.specs.Answers.{RefusesAs, NormalisesPlainAs}
 use Rattle.canon.specs.Internal.BidderBids.{HasBidders}
 use Rattle.canon.specs.Canonical.{IsCanonical, IsCanonicalFile, bid_from, canonical_auction, canonical_text, dummy_bids, file_from}
 use Rattle.canon.specs.Comparing.{Compared, ComparedBy, IsNormalFileOf, ReadsNormalAs, RefusesOf, compared, unless_first_refused, unless_second_refused}
@@ -128,7 +127,7 @@ same_exactly_by_difference a b h k v d = (
 
 -- ---- the first step: a text is read and made canonical
 
-pub normal_from_file : (limit : ℕ) (text : List ℕ) (f : PlainFile) → Spells text f → (r : Result BidFile CanonFault) → NormalisesFileAs limit f r
+pub normal_from_file : (limit : ℕ) (text : List ℕ) (f : PlainFile) → Spells text f → (r : Result PlainFile CanonFault) → NormalisesPlainAs limit f r
     → ReadsNormalAs limit text r
 normal_from_file limit text f s (Ok h) n = record { file = f; spelled = s; normal = n }
 normal_from_file limit text f s (Err fault) n =

@@ -11,3 +11,4 @@ pub mod Verdicts
 pub mod Comparing
 pub mod FirstPlaces
 pub mod Internal
+pub mod Stub
