@@ -92,6 +92,10 @@ impl GoodsSet for ListSet {
         Ok(ListSet::new(rising))
     }
 
+    fn from_slice(alloc: Global, rising: &[u16]) -> Result<ListSet, AllocError> {
+        Ok(ListSet::new(rising.to_vec(alloc)?))
+    }
+
     fn put(&mut self, good: u16) -> Result<bool, AllocError> {
         match self.place(good) {
             Ok(_) => Ok(false),

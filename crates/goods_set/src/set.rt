@@ -44,6 +44,12 @@ pub trait GoodsSet: Sized + Drop {
         requires below { AreBelow CAP rising.items }
         ensures { IfOk result (λ s. goods s ≡ rising.items) };
 
+    /// The set of these goods, which it copies.
+    fn from_slice(alloc: Global, rising: &[u16]) -> Result<Self, AllocError>
+        requires rising { IsRising rising.now }
+        requires below { AreBelow CAP rising.now }
+        ensures { IfOk result (λ s. goods s ≡ rising.now) };
+
     /// Puts a good in, and says whether it is new. Where memory is refused the set is as it was.
     fn put(&mut self, good: u16) -> Result<bool, AllocError>
         requires { good < CAP }

@@ -47,14 +47,23 @@ impl<const N: usize> GoodsSet for WordSet<N> {
         Ok(WordSet { words: [0; N] })
     }
 
-    fn from_rising(_alloc: Global, rising: Vec<u16>) -> Result<WordSet<N>, AllocError>
+    fn from_rising(alloc: Global, rising: Vec<u16>) -> Result<WordSet<N>, AllocError>
         requires rising { IsRising rising.items }
         requires below { AreBelow (word_cap N) rising.items }
         ensures goods { IfOk result (λ s. word_goods (word_cap N) s.words ≡ rising.items) }
         ensures ok { IsOk result }
     {
+        WordSet::from_slice(alloc, &rising)
+    }
+
+    fn from_slice(_alloc: Global, rising: &[u16]) -> Result<WordSet<N>, AllocError>
+        requires rising { IsRising rising.now }
+        requires below { AreBelow (word_cap N) rising.now }
+        ensures goods { IfOk result (λ s. word_goods (word_cap N) s.words ≡ rising.now) }
+        ensures ok { IsOk result }
+    {
         let mut set = WordSet { words: [0; N] };
-        for good in &rising {
+        for good in rising {
             let place = usize::from(*good / 64);
             set.words[place] |= 1u64 << (*good % 64);
         }

@@ -4,6 +4,7 @@
 mod atom;
 mod auction;
 mod budget;
+mod compact;
 mod from_file;
 mod given_file;
 pub mod laws;
@@ -18,6 +19,7 @@ mod xor;
 pub use atom::Atom;
 pub use auction::Auction;
 pub use budget::Budget;
+pub use compact::compact_auction;
 pub use from_file::auction_of;
 pub use given_file::into_auction;
 pub use marks::{MAX_MARKS, Row, marks_inside, rows_of};

@@ -3,11 +3,12 @@
 use Rattle.std.proofs.Common.{◌≡◌, ℕ, zero, suc, ◌+◌, ◌<◌, ◌≤◌, Bool, true, false, ⊎_elim, List, [], ◌∷◌, ◌++◌, length, map, get_or, set, take}
 use Rattle.std.proofs.Common.{Option, Some, None, is_none, refl, sym, ap, ap₂, ◌∙◌, subst, arith}
 use Rattle.std.specs.Prelude.{All, filter, sum_by}
-use Rattle.std.specs.List.{range_with_len, AllByRecursion}
+use Rattle.std.specs.List.{range_with_len, AllByRecursion, slice_get}
 use Rattle.std.proofs.lemmas.Bool.{cases_eq, ne_eqb, eq-eqb}
 use Rattle.std.proofs.lemmas.List.{take_more, map-append, length-set, get_or-set_same, get_or-set_other, length-map, append-nil, get_or-map}
 use Rattle.std.proofs.lemmas.List.Elements.{All-map, All-filter, All-from_recursion, All-weaker, filter-append}
 use Rattle.std.proofs.lemmas.List.Sums.{sum_by-cons}
+use Rattle.std.proofs.lemmas.Option.{get_or_from_slice_get, slice_get_within}
 use Rattle.std.proofs.lemmas.List.FromFn.{fill_by_all, length-map-range_with_len, get_or-map-range_with_len}
 use Rattle.goods_set.specs.Bundles.{IsRising, AreAbove, AreBelow}
 use Rattle.cats_text.specs.Files as files
@@ -180,3 +181,9 @@ pub IsBid-at : (G D : ℕ) (bids : List Bid) (i : ℕ) (b : Bid) → i < length 
 IsBid-at G D bids i b l e h =
     let long = length-map bids plain_bid in
     subst (IsBid G D) (plain_bid_at bids i b l e) (All-from_recursion (IsBid G D) (plain_bids bids) h i (plain_bid b) (omega arith))
+
+-- ---- a bid that stands in a list of the bids of a file
+
+pub IsBid-there : (G D : ℕ) (bids : List PlainBid) (i : ℕ) (b : PlainBid) → AllByRecursion (IsBid G D) bids → slice_get bids i ≡ Some b → IsBid G D b
+IsBid-there G D bids i b h e =
+    subst (IsBid G D) (get_or_from_slice_get bids i b b e) (All-from_recursion (IsBid G D) bids h i b (slice_get_within bids i b e))
