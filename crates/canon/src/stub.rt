@@ -1,21 +1,10 @@
 //! Stub.
-ghost use Rattle.std.specs.Prelude.{◌≡◌, ◌≤◌, ◌↔◌, IfOk, IsTrue};
+ghost use Rattle.std.specs.Prelude.{◌≡◌, ◌↔◌, IfOk, IsTrue};
 ghost use Rattle.cats_text.specs.Views.{plain_file};
-ghost use Rattle.valuation.specs.Auctions.{auction_from};
-ghost use Rattle.valuation.specs.Views.{plain_auction};
 ghost use Rattle.canon.specs.Stub.{FinishPlain};
 
 use cats_text::{BidFile, CompactFile, ReadFault, Kind};
-use goods_set::GoodsSet;
 use std::alloc::{AllocError, Global};
-use valuation::Auction;
-
-pub(crate) fn compact_auction<S: GoodsSet>(_alloc: Global, _file: &CompactFile) -> Result<Auction<S>, AllocError>
-    requires { _file.now.goods ≤ S.CAP }
-    ensures { IfOk result (λ a. plain_auction a ≡ auction_from _file.now) }
-{
-    Err(AllocError)
-}
 
 pub(crate) fn read_compact(_alloc: Global, _text: &[u8]) -> Result<CompactFile, ReadFault>
     ensures { FinishPlain _text.now result }

@@ -24,13 +24,13 @@ use crate::auction::canonical;
 use crate::fault::CanonFault;
 use crate::file::{compact_file_of, file_of};
 use crate::writing::text_of;
-use crate::stub::{compact_auction, read_compact};
+use crate::stub::read_compact;
 use cats_text::{BidFile, CompactFile};
 use goods_set::{GoodsSet, ListSet, goods_of, on_least_set};
 use prune::PruneFault;
 use std::alloc::Global;
 use std::mem;
-use valuation::{Auction, auction_of};
+use valuation::{Auction, auction_of, compact_auction};
 
 /// The canonical file of a file: the file of its canonical auction. `limit` bounds each search that decides on a bundle
 /// of the OR bidder.

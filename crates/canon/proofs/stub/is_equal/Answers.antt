@@ -1,0 +1,4 @@
+use Rattle.canon.proofs.stub.is_equal.Goals as goal
+
+pub returns : goal.returns
+returns c = ?
