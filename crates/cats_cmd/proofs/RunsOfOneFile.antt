@@ -95,9 +95,9 @@ module _ {R W : Type 0} (remaining : R → Option (List ℕ)) (contents : W → 
     consumes = read_as.consumes;
     runs = record {
       only = sends.0;
-      refused = subst (λ (f : CanonFault). IsRefusedFile remaining outcome read_as.bytes read f) (sym sends.1.0)
+      refused = subst (λ (f : CanonFault). IsRefusedFile remaining outcome read_as.bytes read f) (sym sends.1)
           (inr (record { file = file; reads = read_as.reads }));
-      silent = sends.1.1;
+      silent = sends.2;
     };
   }
   run_sent input read old new file read_as text made (Err (GoodRange good)) sends = absurd sends
