@@ -16,10 +16,10 @@ ghost use Rattle.canon.specs.declared.verdict.Verdict.TheVariants.{Same};
 use crate::bundles::bundle_verdict;
 use crate::fault::CanonFault;
 use crate::parting::bidder_verdict;
+use crate::stub::{is_equal, read_compact, to_file};
 use crate::text::into_normal_file;
 use crate::verdict::Verdict;
 use crate::which::Which;
-use crate::stub::{is_equal, read_compact, to_file};
 use cats_text::{Bid, BidFile, CompactFile};
 use std::alloc::{AllocError, Global};
 

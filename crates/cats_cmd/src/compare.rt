@@ -49,9 +49,7 @@ pub fn run_compare<R: Read, S: Read, W: Write>(
         Err(fault) => return Err(RunFault::Refused(Which::Second, fault)),
     };
     match told(alloc, &left, &right) {
-        Ok((status, text)) => {
-            send_text(out, status, text.as_slice())
-        }
+        Ok((status, text)) => { send_text(out, status, text.as_slice()) }
         Err(AllocError) => Err(RunFault::Refused(Which::Both, CanonFault::Memory)),
     }
 }
