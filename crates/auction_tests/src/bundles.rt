@@ -45,6 +45,8 @@ fn give_and_take_back<S: GoodsSet>(rt: &impl Abort, alloc: Global) -> Result<(),
     let given = S::from_rising(alloc, [3, 5].to_vec(alloc)?)?;
     assert_eq!(rt; given.size(), 2);
     expect_goods(rt, &given.into_list(alloc)?, &[3, 5]);
+    let copied = S::from_slice(alloc, &[3, 5])?;
+    expect_goods(rt, &goods_of(alloc, &copied)?, &[3, 5]);
     Ok(())
 }
 

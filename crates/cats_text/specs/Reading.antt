@@ -2,6 +2,7 @@
 use Rattle.std.specs.Prelude.{◌≡◌, ◌⊎◌, ℕ, List, ◌++◌, take, true, Some, None, Result, Ok, Err, MatchOption}
 use Rattle.cats_text.specs.Faults.{first_fault, has_bid_line, fault_at}
 use Rattle.cats_text.specs.Grammar.{Spells}
+use Rattle.cats_text.specs.Files.{PlainFile}
 use Rattle.cats_text.specs.Views.{plain_file}
 use Rattle.cats_text.specs.Fed.{fed_fault, Fed}
 use Rattle.cats_text.specs.declared.bid.BidFile.{BidFile}
@@ -30,3 +31,8 @@ FinishAnswer bytes (Err e) = (first_fault bytes ≡ Some e) ⊎ WantsMemory byte
 
 abbrev pub FinishesAs : Fed → Result BidFile ReadFault → Type 0
 FinishesAs fed r = MatchOption fed.failed (FinishAnswer fed.bytes r) (λ e. r ≡ Err e)
+
+-- of a file as a caller sees it
+abbrev pub CompactAnswer : List ℕ → Result PlainFile ReadFault → Type 0
+CompactAnswer bytes (Ok file) = Spells bytes file
+CompactAnswer bytes (Err e) = (first_fault bytes ≡ Some e) ⊎ WantsMemory bytes e

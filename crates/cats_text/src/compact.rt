@@ -1,8 +1,11 @@
 //! Bids, and a bid file, in little memory.
 
-ghost use Rattle.std.specs.Prelude.{◌≡◌, ◌<◌, [], ◌∷◌, ◌++◌, length, set, slice_get, Some, OnOk, OnErr, IfOk};
+ghost use Rattle.std.specs.Prelude.{◌≡◌, ◌↔◌, ◌<◌, [], ◌∷◌, ◌++◌, length, set, slice_get, Some, OnOk, OnErr, IfOk};
+ghost use Rattle.std.specs.Prelude.{IsTrue};
 ghost use Rattle.cats_text.specs.Files.{PlainBid, IsBidFile};
+ghost use Rattle.cats_text.specs.Views.{plain_file};
 
+use crate::bid::{Bid, BidFile};
 use std::alloc::{AllocError, Global};
 use std::marker::Model;
 
@@ -106,7 +109,7 @@ impl CompactBids {
     }
 
     /// Puts a bid in the place of another.
-    pub fn replace(
+    pub(crate) fn replace(
         &mut self,
         place: usize,
         price: u64,
@@ -137,6 +140,40 @@ impl CompactBids {
         let offer = self.offers[place];
         let goods = &self.goods[offer.start as usize..offer.end as usize];
         (offer.price, goods, offer.dummy)
+    }
+
+    /// Whether the bid at this place is this one.
+    #[inline(always)]
+    fn is_at(&self, place: usize, price: u64, goods: &[u16], dummy: Option<u32>) -> bool
+        requires { place < length self.now }
+        ensures { let bid : PlainBid = record { price = price; goods = goods.now; dummy = dummy } in
+            IsTrue result ↔ slice_get self.now place ≡ Some bid }
+    {
+        let (this_price, this_goods, this_dummy) = self.at(place);
+        if this_price != price {
+            return false;
+        }
+        if this_dummy != dummy {
+            return false;
+        }
+        this_goods == goods
+    }
+
+    /// Whether both have the same bids in the same order.
+    pub fn is_equal(&self, other: &CompactBids) -> bool
+        ensures { IsTrue result ↔ self.now ≡ other.now }
+    {
+        let count = self.len();
+        if other.len() != count {
+            return false;
+        }
+        for place in 0..count {
+            let (price, goods, dummy) = other.at(place);
+            if !self.is_at(place, price, goods, dummy) {
+                return false;
+            }
+        }
+        true
     }
 }
 
@@ -190,5 +227,38 @@ impl CompactFile {
         ensures { result.now ≡ self.now.bids }
     {
         &self.bids
+    }
+
+    /// Whether both have so many goods and dummy goods, and the same bids in the same order.
+    pub fn is_equal(&self, other: &CompactFile) -> bool
+        ensures { IsTrue result ↔ self.now ≡ other.now }
+    {
+        if self.goods() != other.goods() {
+            return false;
+        }
+        if self.dummy() != other.dummy() {
+            return false;
+        }
+        self.bids().is_equal(other.bids())
+    }
+
+    /// The same file with a vector for each bid.
+    pub fn to_file(&self, alloc: Global) -> Result<BidFile, AllocError>
+        ensures { IfOk result (λ f. plain_file f ≡ self.now) }
+    {
+        let goods = self.goods();
+        let dummy = self.dummy();
+        let held = self.bids();
+        let mut bids = Vec::with_capacity(alloc, held.len())?;
+        for number in 0..held.len() {
+            let (price, goods, dummy) = held.at(number);
+            let goods = goods.to_vec(alloc)?;
+            bids.push(Bid {
+                price,
+                goods,
+                dummy,
+            })?;
+        }
+        Ok(BidFile::new(goods, dummy, bids))
     }
 }

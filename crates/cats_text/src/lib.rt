@@ -29,6 +29,6 @@ pub use layout::{push_bid, push_header, write};
 pub use limits::{MAX_BIDS, MAX_DUMMY, MAX_GOODS, MAX_PRICE, MAX_STREAM};
 pub use parser::Header;
 pub use price::push_price;
-pub use reader::{Reader, read};
+pub use reader::{Reader, read, read_compact};
 pub use sending::{send, send_file};
 pub use stream::{Watched, answers_of_devices, check_from, read_compact_from, read_from};

@@ -1,9 +1,10 @@
 //! Reading a bid file in pieces.
 
 ghost use Rattle.std.specs.Prelude.{◌≡◌, ◌^◌, ◌<◌, [], None};
-ghost use Rattle.cats_text.specs.Reading.{FinishAnswer};
+ghost use Rattle.cats_text.specs.Reading.{FinishAnswer, CompactAnswer};
 
 use crate::bid::BidFile;
+use crate::compact::CompactFile;
 use crate::fault::ReadFault;
 use crate::feeder::Feeder;
 use crate::parser::Keeping;
@@ -64,4 +65,13 @@ pub fn read(alloc: Global, text: &[u8]) -> Result<BidFile, ReadFault>
     let mut reader = Reader::new(alloc, text.len() as u64);
     reader.feed(text)?;
     reader.finish()
+}
+
+/// Reads a whole text as `read` does, as a file in little memory.
+pub fn read_compact(alloc: Global, text: &[u8]) -> Result<CompactFile, ReadFault>
+    ensures { CompactAnswer text.now result }
+{
+    let mut feeder = Feeder::new(alloc, text.len() as u64, Keeping::Compact);
+    feeder.feed(text)?;
+    feeder.finish_compact()
 }

@@ -186,8 +186,8 @@ pub fn read_from<R: Read>(alloc: Global, input: &mut Watched<R>) -> Result<BidFi
     feeder.finish()
 }
 
-/// Reads the whole stream as `read_from` does, as a file that is only to be sent: the goods of all bids stand together,
-/// and so a file of many bids takes less memory and less time.
+/// Reads the whole stream as `read_from` does, as a file in little memory: the goods of all bids stand together, and so
+/// a file of many bids takes less memory and less time.
 pub fn read_compact_from<R: Read>(
     alloc: Global,
     input: &mut Watched<R>,

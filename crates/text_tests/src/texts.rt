@@ -7,7 +7,7 @@ mod long_words;
 mod pieces;
 mod whole_files;
 
-use cats_text::{BidFile, Kind, MAX_STREAM, ReadFault, Reader, read, write};
+use cats_text::{BidFile, Kind, MAX_STREAM, ReadFault, Reader, read, read_compact, write};
 use std::alloc::{AllocError, Global};
 use std::process::Abort;
 use std::test::Fail;
@@ -86,12 +86,21 @@ fn outcome_of_two(alloc: Global, front: &[u8], back: &[u8]) -> Result<Outcome, A
     outcome(alloc, reader.finish())
 }
 
+/// What reading as a file in little memory gives.
+fn outcome_of_compact(alloc: Global, text: &[u8]) -> Result<Outcome, AllocError> {
+    match read_compact(alloc, text) {
+        Ok(file) => Ok(Ok(write(alloc, &file.to_file(alloc)?)?)),
+        Err(fault) => Ok(Err(fault)),
+    }
+}
+
 /// Asserts what one way of reading a text gave.
 fn assert_same(rt: &impl Abort, text: &[u8], outcome: &Outcome, want: &Outcome) {
     assert_eq!(rt; *outcome, *want, "{text:?}");
 }
 
-/// Asserts that a text gives this file's text or this fault: whole, in two pieces wherever it is cut, and byte by byte.
+/// Asserts that a text gives this file's text or this fault: whole, as a file in little memory, in two pieces wherever
+/// it is cut, and byte by byte.
 fn assert_outcome(
     rt: &impl Abort,
     alloc: Global,
@@ -99,6 +108,7 @@ fn assert_outcome(
     want: &Outcome,
 ) -> Result<(), AllocError> {
     assert_same(rt, text, &outcome(alloc, read(alloc, text))?, want);
+    assert_same(rt, text, &outcome_of_compact(alloc, text)?, want);
     assert_same(rt, text, &outcome_of_bytes(alloc, text)?, want);
     for place in 0..=text.len() {
         let (front, back) = text.split_at(place);

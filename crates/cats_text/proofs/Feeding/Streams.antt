@@ -3,8 +3,8 @@ use Rattle.std.proofs.Common.{◌≡◌, ◌≤◌, ℕ, zero, suc, false, List,
 use Rattle.cats_text.specs.Faults.{first_fault, fault_at}
 use Rattle.cats_text.specs.Fed.{fed_fault}
 use Rattle.cats_text.specs.Files.{PlainFile}
-use Rattle.cats_text.specs.Reading.{WantsMemory, FinishAnswer}
-use Rattle.cats_text.specs.Internal.Reading.{SizesAnswer, CompactAnswer}
+use Rattle.cats_text.specs.Reading.{CompactAnswer, WantsMemory, FinishAnswer}
+use Rattle.cats_text.specs.Internal.Reading.{SizesAnswer}
 use Rattle.cats_text.specs.Streams.{has_failed, IsWhole, IsTextFault, FaultsAt, ReadsAs, ReadsPlainAs, ChecksAs}
 use Rattle.cats_text.specs.declared.bid.BidFile.{BidFile}
 use Rattle.cats_text.specs.declared.fault.Kind.{Kind}

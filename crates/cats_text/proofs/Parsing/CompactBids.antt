@@ -1,6 +1,8 @@
 -- Bids whose goods stand in one list: those of one more bid are put behind the others.
-use Rattle.std.proofs.Common.{◌≡◌, ℕ, ◌+◌, ◌-◌, ◌≤◌, List, [], ◌∷◌, ◌++◌, length, map, set, take, drop, refl, ap, ap₂, ◌∙◌, arith, length-append, length-drop}
-use Rattle.std.proofs.lemmas.List.{drop_all, take-append-le, drop-append-le, map-append, map-set}
+use Rattle.std.proofs.Common.{◌≡◌, ℕ, ◌+◌, ◌-◌, ◌≤◌, List, [], ◌∷◌, ◌++◌, length, map, set, take, drop, Some, refl, ap, ap₂, ◌∙◌, arith, length-append, length-drop}
+use Rattle.std.proofs.lemmas.List.{drop_all, take-append-le, take_more, drop-append-le, map-append, map-set}
+use Rattle.std.proofs.lemmas.Option.{get_or_from_slice_get, slice_get_within}
+use Rattle.std.specs.List.{slice_get}
 use Rattle.cats_text.specs.declared.compact.Offer.{Offer}
 use Rattle.cats_text.specs.Files.{PlainBid}
 use Rattle.cats_text.specs.Internal.Compact.{offered, IsHeld, AreHeld}
@@ -51,3 +53,9 @@ offers_set goods more all offers place o held is start end =
     ∙ map-set (offered (goods ++ more)) offers place o
     ∙ ap₂ (λ (bs : List PlainBid) (b : PlainBid). set bs place b) (all_offered_more goods more offers held)
     (offered_last goods more o start (end ∙ ap length is))
+
+-- the first bids, with one more
+pub take_bid : (bids : List PlainBid) (i : ℕ) (bid : PlainBid) → slice_get bids i ≡ Some bid → take (i + 1) bids ≡ take i bids ++ bid ∷ []
+take_bid bids i bid e =
+    take_more bids i bid (slice_get_within bids i bid e)
+    ∙ ap (λ (b : PlainBid). take i bids ++ b ∷ []) (get_or_from_slice_get bids i bid bid e)

@@ -15,7 +15,7 @@ use Rattle.cats_text.specs.declared.parser.Keeping.{Keeping}
 use Rattle.cats_text.specs.declared.scanner.Halt.{Halt}
 use Rattle.cats_text.specs.declared.scanner.Halt.TheVariants.{Fault, Memory}
 use Rattle.cats_text.specs.declared.scanner.Scanner.{Scanner}
-use Rattle.cats_text.specs.Reading.{WantsMemory}
+use Rattle.cats_text.specs.Reading.{CompactAnswer, WantsMemory}
 
 abbrev pub fault_told : Halt → ReadFault
 fault_told (Fault e) = e
@@ -32,10 +32,6 @@ pub record IsReading (keeping : Keeping) (most count : ℕ) (scanner : Scanner) 
     (bytes : List ℕ) : Type 0 where
   pub limit : most < 2 ^ 63
   pub taken : failed ≡ None → HasTaken keeping most count scanner bytes
-
-abbrev pub CompactAnswer : List ℕ → Result PlainFile ReadFault → Type 0
-CompactAnswer bytes (Ok file) = Spells bytes file
-CompactAnswer bytes (Err e) = (first_fault bytes ≡ Some e) ⊎ WantsMemory bytes e
 
 abbrev pub CompactAs : Fed → Result PlainFile ReadFault → Type 0
 CompactAs fed r = MatchOption fed.failed (CompactAnswer fed.bytes r) (λ e. r ≡ Err e)

@@ -1,7 +1,10 @@
 //! Files that are accepted, and what is written of them.
 
 use super::{assert_bytes, assert_written, sizes};
-use cats_text::{Bid, MAX_STREAM, Reader, Watched, read, read_from, send};
+use cats_text::{
+    Bid, CompactBids, CompactFile, MAX_STREAM, Reader, Watched, read, read_compact, read_from, send,
+};
+use std::alloc::Global;
 use std::process::Abort;
 use std::test::Fail;
 
@@ -151,5 +154,57 @@ fn bytes_are_sent(rt: HostRuntime) -> Result<(), Fail> {
     let mut out = Watched::new(Vec::new(rt.alloc()));
     send(&mut out, CATS)?;
     assert_bytes(&rt, &out.into_inner(), CATS);
+    Ok(())
+}
+
+/// Texts of which each two spell files that differ.
+static DIFFERENT: [&[u8]; 7] = [
+    b"goods 2\nbids 1\ndummy 1\n0 5 0 #\n",
+    b"goods 3\nbids 1\ndummy 1\n0 5 0 #\n",
+    b"goods 2\nbids 1\ndummy 2\n0 5 0 #\n",
+    b"goods 2\nbids 2\ndummy 1\n0 5 0 #\n1 5 0 #\n",
+    b"goods 2\nbids 1\ndummy 1\n0 6 0 #\n",
+    b"goods 2\nbids 1\ndummy 1\n0 5 1 #\n",
+    b"goods 2\nbids 1\ndummy 1\n0 5 0 2 #\n",
+];
+
+fn compare_with_each(
+    rt: &impl Abort,
+    alloc: Global,
+    file: &CompactFile,
+    place: usize,
+) -> Result<(), Fail> {
+    for (other_place, text) in DIFFERENT.iter().enumerate() {
+        let other = read_compact(alloc, text)?;
+        assert_eq!(rt; file.is_equal(&other), place == other_place);
+    }
+    Ok(())
+}
+
+#[test]
+fn compares_compact_files(rt: HostRuntime) -> Result<(), Fail> {
+    let alloc = rt.alloc();
+    for (text, want) in &ACCEPTED {
+        let file = read_compact(alloc, text)?;
+        assert!(&rt; file.is_equal(&read_compact(alloc, want)?));
+    }
+    for (place, text) in DIFFERENT.iter().enumerate() {
+        compare_with_each(&rt, alloc, &read_compact(alloc, text)?, place)?;
+    }
+    Ok(())
+}
+
+#[test]
+fn makes_a_compact_file(rt: HostRuntime) -> Result<(), Fail> {
+    let alloc = rt.alloc();
+    let mut bids = CompactBids::new(alloc);
+    bids.push(20_000_000, &[0, 2], Some(0), 2)?;
+    bids.push(7_000_000, &[1], None, 2)?;
+    assert_eq!(rt; bids.len(), 2);
+    let (price, goods, dummy) = bids.at(1);
+    assert_eq!(rt; (price, goods.len(), dummy), (7_000_000, 1, None));
+    let file = CompactFile::new(3, 1, bids);
+    assert_eq!(rt; (file.goods(), file.dummy(), file.bids().len()), (3, 1, 2));
+    assert!(&rt; file.is_equal(&read_compact(alloc, CATS)?));
     Ok(())
 }

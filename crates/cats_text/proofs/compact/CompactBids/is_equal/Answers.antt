@@ -1,0 +1,14 @@
+-- Each turn adds one bid that both have.
+use Rattle.std.proofs.Common.{◌≡◌, ◌∙◌, ◌++◌, ◌∷◌, [], List, Some, ap, sym}
+use Rattle.std.specs.List.{slice_get}
+use Rattle.cats_text.specs.Files.{PlainBid}
+use Rattle.cats_text.proofs.Parsing.CompactBids.{take_bid}
+use Rattle.cats_text.proofs.compact.CompactBids.is_equal.Goals as goal
+
+pub loop-place-preserved : goal.loop-place-preserved
+loop-place-preserved c =
+    let i = c.loop-place.place in
+    let bid : PlainBid = record { price = c.at-price.result.0; goods = c.at-price.result.1.now; dummy = c.at-price.result.2 } in
+    let here : slice_get c.args.self.now i ≡ Some bid = c.is_at.ensures.0 c.if-not-is_at.false in
+    take_bid c.args.self.now i bid here ∙ ap (λ (bs : List PlainBid). bs ++ bid ∷ []) c.loop-place.invariant
+    ∙ sym (take_bid c.args.other.now i bid c.at-price.ensures)

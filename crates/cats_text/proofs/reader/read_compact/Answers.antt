@@ -1,0 +1,11 @@
+-- What a feeder that was fed the whole text answers.
+use Rattle.std.proofs.lemmas.Result.{err_from_is_err_and}
+use Rattle.cats_text.proofs.Feeding.Pieces.{whole_told}
+use Rattle.cats_text.proofs.reader.read_compact.Goals as goal
+
+pub returns-in_err-feed : goal.returns-in_err-feed
+returns-in_err-feed c =
+    let fed = rw c.new-feeder.ensures at c.in_err-feed.ensures.feeds in
+    let told = err_from_is_err_and c.from_residual.result c.from_residual.ensures.1 in
+    rw (told.1, told.2)
+    (whole_told c.args.text.now c.feed.new.self.fed.bytes c.feed.new.self.fed.limit c.in_err-feed.field-0.0 fed.limit fed.bytes fed.answer.0)
