@@ -11,4 +11,3 @@ pub mod Verdicts
 pub mod Comparing
 pub mod FirstPlaces
 pub mod Internal
-pub mod Stub

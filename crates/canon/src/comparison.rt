@@ -16,11 +16,10 @@ ghost use Rattle.canon.specs.declared.verdict.Verdict.TheVariants.{Same};
 use crate::bundles::bundle_verdict;
 use crate::fault::CanonFault;
 use crate::parting::bidder_verdict;
-use crate::stub::{is_equal, read_compact, to_file};
 use crate::text::into_normal_file;
 use crate::verdict::Verdict;
 use crate::which::Which;
-use cats_text::{Bid, BidFile, CompactFile};
+use cats_text::{Bid, BidFile, CompactFile, read_compact};
 use std::alloc::{AllocError, Global};
 
 /// Where the auctions of two texts' files part first. The first text is read and made canonical, and what was read of
@@ -81,11 +80,11 @@ pub fn compare_compact_files(
     if left.goods() != right.goods() {
         return Ok(Verdict::Goods(left.goods(), right.goods()));
     }
-    if is_equal(left, right) {
+    if left.is_equal(right) {
         return Ok(Verdict::Same);
     }
-    let left = to_file(left, alloc)?;
-    let right = to_file(right, alloc)?;
+    let left = left.to_file(alloc)?;
+    let right = right.to_file(alloc)?;
     compare_files(alloc, &left, &right)
 }
 

@@ -14,7 +14,6 @@ mod file;
 pub mod laws;
 mod parting;
 mod place_laws;
-mod stub;
 mod text;
 mod verdict;
 mod which;
