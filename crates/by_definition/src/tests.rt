@@ -5,7 +5,7 @@ use crate::difference::first_difference;
 use crate::same::are_same_files;
 use crate::steps::first_heavy;
 use canon::{AuctionIndex, CanonFault, Verdict, Which, compare, normalise};
-use cats_text::{BidFile, read};
+use cats_text::{BidFile, read, read_compact};
 use std::alloc::{AllocError, Global};
 use std::process::Abort;
 use std::test::Fail;
@@ -225,7 +225,7 @@ fn expect_place(
     member: &Member,
 ) -> Result<(), Fail> {
     let expected = first_same(alloc, members, member)?;
-    let file = read(alloc, member.text.as_bytes())?;
+    let file = read_compact(alloc, member.text.as_bytes())?;
     let place = index.add(alloc, file, AMPLE)?;
     assert_eq!(rt; place, expected);
     Ok(())

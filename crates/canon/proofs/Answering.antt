@@ -1,5 +1,5 @@
 -- What the calls answer, from what the calls below them answered: each kind of answer of one is, by the definitions, one of the other.
-use Rattle.std.proofs.Common.{◌≡◌, ℕ, List, Result, Ok, Err, sym, ap, ◌∙◌, subst, Global}
+use Rattle.std.proofs.Common.{◌≡◌, ℕ, List, None, Result, Ok, Err, sym, ap, ◌∙◌, subst, Global}
 use Rattle.std.specs.Prelude.{Vec, ◌↔◌, IfOk}
 use Rattle.cats_text.specs.Files.{PlainFile, IsPlainFile}
 use Rattle.cats_text.specs.Grammar.{Spells}
@@ -7,13 +7,15 @@ use Rattle.cats_text.specs.Views.{plain_file}
 use Rattle.cats_text.specs.declared.bid.BidFile.{BidFile}
 use Rattle.cats_text.proofs.Spelling.Files.{spells_one}
 use Rattle.valuation.specs.Auctions.{PlainAuction, auction_from}
-use Rattle.canon.specs.Answers.{RefusesAs, NormalisesAs, RefusesAuction, NormalisesAuctionAs, NormalisesFileAs}
-use Rattle.canon.specs.Canonical.{IsCanonicalFile, canonical_text}
+use Rattle.canon.specs.Answers.{RefusesAs, NormalisesAs, RefusesAuction, NormalisesAuctionAs, NormalisesFileAs, IsNormalFile, plain_answer}
+use Rattle.canon.specs.Canonical.{IsCanonical, IsCanonicalFile, canonical_auction, canonical_text, file_from}
 use Rattle.canon.specs.Least.{IsLeastFor}
 use Rattle.canon.specs.Normalising.{Normalised, IsText, unless_heavy, normalised, normalised_file}
 use Rattle.canon.specs.Sameness.{AreSameFiles}
 use Rattle.canon.specs.declared.fault.CanonFault.{CanonFault}
 use Rattle.canon.specs.declared.fault.CanonFault.TheVariants.{Read, StepLimit, Memory}
+use Rattle.prune.specs.SearchSteps.{first_heavy}
+use Rattle.canon.proofs.Files.{auction_from-file_from}
 use Rattle.canon.proofs.Least.{canonical_is_least}
 use Rattle.canon.proofs.Texts.{normalised_spelled, text_from_normalised, normalised_from_text, normalised_again, same_text, same_from_text}
 use Rattle.canon.proofs.Texts.{canonical_file_is_same, canonical_file_is_fixed}
@@ -54,22 +56,30 @@ again_if_text limit text (Err fault) h = tt
 
 -- ---- the file
 
-pub same_if_file : (limit : ℕ) (f : PlainFile) → IsPlainFile f → (r : Result BidFile CanonFault) → NormalisesFileAs limit f r
-    → IfOk r (λ h. AreSameFiles f (plain_file h))
-same_if_file limit f facts (Ok h) n = subst (λ (x : PlainFile). AreSameFiles f x) (sym n.canonical) (canonical_file_is_same f facts)
-same_if_file limit f facts (Err fault) n = tt
+module _ (limit : ℕ) (f : PlainFile) (facts : IsPlainFile f) where
+  pub same_if_file : (r : Result BidFile CanonFault) → NormalisesFileAs limit f r → IfOk r (λ h. AreSameFiles f (plain_file h))
+  same_if_file (Ok h) n = subst (λ (x : PlainFile). AreSameFiles f x) (sym n.canonical) (canonical_file_is_same f facts)
+  same_if_file (Err fault) n = tt
 
-pub canonical_if_file : (limit : ℕ) (f : PlainFile) → IsPlainFile f → (r : Result BidFile CanonFault) → NormalisesFileAs limit f r
-    → IfOk r (λ h. IsCanonicalFile (plain_file h))
-canonical_if_file limit f facts (Ok h) n = subst (λ (x : PlainFile). IsCanonicalFile x) (sym n.canonical) (canonical_file_is_fixed f facts)
-canonical_if_file limit f facts (Err fault) n = tt
+  pub canonical_if_file : (r : Result BidFile CanonFault) → NormalisesFileAs limit f r → IfOk r (λ h. IsCanonicalFile (plain_file h))
+  canonical_if_file (Ok h) n = subst IsCanonicalFile (sym n.canonical) (canonical_file_is_fixed f facts)
+  canonical_if_file (Err fault) n = tt
 
-pub least_if_file : (limit : ℕ) (f : PlainFile) → IsPlainFile f → (r : Result BidFile CanonFault) → NormalisesFileAs limit f r
-    → IfOk r (λ h. IsLeastFor f (plain_file h))
-least_if_file limit f facts (Ok h) n = subst (λ (x : PlainFile). IsLeastFor f x) (sym n.canonical) (canonical_is_least f facts)
-least_if_file limit f facts (Err fault) n = tt
+  pub least_if_file : (r : Result BidFile CanonFault) → NormalisesFileAs limit f r → IfOk r (λ h. IsLeastFor f (plain_file h))
+  least_if_file (Ok h) n = subst (λ (x : PlainFile). IsLeastFor f x) (sym n.canonical) (canonical_is_least f facts)
+  least_if_file (Err fault) n = tt
 
 -- an answer for the auction of a file is one for the file
-pub answered_as_auction : (limit : ℕ) (f : PlainFile) (a : PlainAuction) → a ≡ auction_from f → (r : Result BidFile CanonFault) → NormalisesAuctionAs limit a r
-    → NormalisesFileAs limit f r
-answered_as_auction limit f a e r h = subst (λ (x : PlainAuction). NormalisesAuctionAs limit x r) e h
+pub answered_as_auction : (limit : ℕ) (f : PlainFile) (a : PlainAuction) → a ≡ auction_from f → (r : Result BidFile CanonFault)
+    → NormalisesAuctionAs limit a (plain_answer r) → NormalisesFileAs limit f r
+answered_as_auction limit f a e r h = subst (λ (x : PlainAuction). NormalisesAuctionAs limit x (plain_answer r)) e h
+
+-- ---- the file of a canonical auction
+
+pub normal_file_is : (limit : ℕ) (a c : PlainAuction) (h : PlainFile) → h ≡ file_from c → c ≡ canonical_auction a → first_heavy a.goods limit a.or_atoms ≡ None
+    → IsNormalFile limit a h
+normal_file_is limit a c h is e light = record { canonical = is ∙ ap file_from e; light = light }
+
+pub canonical_file_is : (c : PlainAuction) (h : PlainFile) → h ≡ file_from c → IsCanonical c → IsCanonicalFile h
+canonical_file_is c h is fixed =
+    subst IsCanonicalFile (sym is) (ap (λ (a : PlainAuction). file_from (canonical_auction a)) (auction_from-file_from c) ∙ ap file_from fixed)

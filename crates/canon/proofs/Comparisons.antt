@@ -9,7 +9,6 @@ use Rattle.std.proofs.lemmas.Option.{MatchOption-at_some, MatchOption-at_none}
 use Rattle.std.proofs.lemmas.Result.{IfOk-weaker}
 use Rattle.std.proofs.Math.Seq.{take-append_seam, drop-append_seam}
 use Rattle.cats_text.specs.declared.bid.Bid.{Bid}
-use Rattle.cats_text.specs.declared.bid.BidFile.{BidFile}
 use Rattle.cats_text.specs.declared.limits.TheConstants.{MAX_BIDS, MAX_GOODS}
 use Rattle.cats_text.specs.Files.{PlainBid, PlainFile, IsPlainFile, plain_bid, plain_bids}
 use Rattle.cats_text.specs.Grammar.{Spells}
@@ -17,11 +16,11 @@ use Rattle.cats_text.proofs.Spelling.Files.{says_spelled, spells_one}
 use Rattle.valuation.specs.declared.atom.Atom.{Atom}
 use Rattle.valuation.specs.Lemmas.AuctionsOfFiles.{IsAuction-auction_from}
 use Rattle.valuation.specs.Auctions.{PlainAuction, IsAuction, auction_from}
-use Rattle.canon.specs.Answers.{RefusesAs, NormalisesFileAs}
+use Rattle.canon.specs.Answers.{RefusesAs, NormalisesPlainAs}
 use Rattle.canon.specs.Internal.BidderBids.{HasBidders}
 use Rattle.canon.specs.Canonical.{IsCanonical, IsCanonicalFile, bid_from, canonical_auction, canonical_text, dummy_bids, file_from}
 use Rattle.canon.specs.Comparing.{Compared, ComparedBy, IsNormalFileOf, ReadsNormalAs, RefusesOf, compared, unless_first_refused, unless_second_refused}
-use Rattle.canon.specs.Difference.{Difference, NoDifference, first_difference, first_unequal_bundle, least_unequal_bidder, or_difference, xor_difference}
+use Rattle.canon.specs.Difference.{Difference, NoDifference, InGoods, InOr, InXor, first_difference, first_unequal_bundle, least_unequal_bidder, or_difference, xor_difference}
 use Rattle.canon.specs.Normalising.{Normalised, IsNoFile, ExceedsSteps, IsText, normalised}
 use Rattle.canon.specs.Internal.OrBids.{HasOrBids}
 use Rattle.canon.specs.Sameness.{AreSameFiles, AreSameTexts, IsSameAuction}
@@ -36,8 +35,8 @@ use Rattle.canon.proofs.Atoms.{HasAtoms}
 use Rattle.canon.proofs.Differences.{at_same_goods, same_from_no_difference, no_difference_from_same}
 use Rattle.canon.proofs.Files.{auction_from-file_from}
 use Rattle.canon.proofs.SameDifferences.{difference_of_same_files}
-use Rattle.canon.proofs.Sames.{same_sym, same_trans}
-use Rattle.canon.proofs.Texts.{IsPlainFile-canonical, canonical_file_is_same, canonical_file_is_fixed, normalised_from_text, normalised_spelled}
+use Rattle.canon.proofs.Sames.{same_canonical, same_refl, same_sym, same_trans}
+use Rattle.canon.proofs.Texts.{HasAtoms-file, IsPlainFile-canonical, canonical_file_is_same, canonical_file_is_fixed, normalised_from_text, normalised_spelled}
 
 -- ---- the bids of a canonical file
 
@@ -128,7 +127,7 @@ same_exactly_by_difference a b h k v d = (
 
 -- ---- the first step: a text is read and made canonical
 
-pub normal_from_file : (limit : ℕ) (text : List ℕ) (f : PlainFile) → Spells text f → (r : Result BidFile CanonFault) → NormalisesFileAs limit f r
+pub normal_from_file : (limit : ℕ) (text : List ℕ) (f : PlainFile) → Spells text f → (r : Result PlainFile CanonFault) → NormalisesPlainAs limit f r
     → ReadsNormalAs limit text r
 normal_from_file limit text f s (Ok h) n = record { file = f; spelled = s; normal = n }
 normal_from_file limit text f s (Err fault) n =
@@ -236,3 +235,42 @@ module _ (a b : PlainAuction) (e : a.goods ≡ b.goods) where
 
 pub bids_count : (f : PlainFile) → IsPlainFile f → (bids : List Bid) → plain_bids bids ≡ f.bids → length bids ≤ MAX_BIDS
 bids_count f h bids e = let long = length-map bids plain_bid in let same = ap (λ (zs : List PlainBid). length zs) e in omega (arith, h.count)
+
+-- ---- two compact files
+
+-- equal files have no difference
+pub equal_files : (f g : PlainFile) → IsPlainFile f → f ≡ g → first_difference (auction_from f) (auction_from g) ≡ NoDifference
+equal_files f g h e =
+    let atoms = HasAtoms-file f h in
+    subst (λ (x : PlainFile). first_difference (auction_from f) (auction_from x) ≡ NoDifference) e
+    (no_difference_from_same (auction_from f) (auction_from f) atoms atoms (same_refl (auction_from f)))
+
+no_goods_differ : (a b : PlainAuction) (bundle : Option (List ℕ)) (left right : ℕ) → or_difference a b bundle ≡ InGoods left right → ⊥
+no_goods_differ a b (Some bundle) left right e = absurd (cc)
+no_goods_differ a b None left right e = by (least_unequal_bidder a b) e
+  where
+    by : (o : Option (List (Atom (List ℕ)))) → xor_difference a b o ≡ InGoods left right → ⊥
+    by None e = absurd (cc)
+    by (Some bidder) e = absurd (cc)
+
+-- canonical files of as many goods that are not equal differ in a bundle or in a bidder
+module _ (f g : PlainFile) (h : IsPlainFile f) (k : IsPlainFile g) (c : IsCanonicalFile f) (d : IsCanonicalFile g) where
+  equal_from_no_difference : first_difference (auction_from f) (auction_from g) ≡ NoDifference → f ≡ g
+  equal_from_no_difference q =
+      let a = auction_from f in
+      let b = auction_from g in
+      let atoms = HasAtoms-file f h in
+      let others = HasAtoms-file g k in
+      sym c ∙ ap file_from (same_canonical a b atoms others (same_from_no_difference a b atoms others q)) ∙ d
+
+  pub unequal_files : f.goods ≡ g.goods → (f ≡ g → ⊥) → NamesGoods (first_difference (auction_from f) (auction_from g))
+  unequal_files e differ = by (first_difference (auction_from f) (auction_from g)) refl
+    where
+      by : (told : Difference) → first_difference (auction_from f) (auction_from g) ≡ told → NamesGoods told
+      by NoDifference q = absurd (differ (equal_from_no_difference q))
+      by (InGoods left right) q =
+          let a = auction_from f in
+          let b = auction_from g in
+          absurd (no_goods_differ a b (first_unequal_bundle a b) left right (sym (at_same_goods a b e) ∙ q))
+      by (InOr bundle left right) q = tt
+      by (InXor bidder left right) q = tt

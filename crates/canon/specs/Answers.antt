@@ -33,10 +33,18 @@ RefusesAuction limit a (Read fault) = ⊥
 RefusesAuction limit a (StepLimit goods) = first_heavy a.goods limit a.or_atoms ≡ Some goods.items
 RefusesAuction limit a Memory = Unit {0}
 
-abbrev pub NormalisesAuctionAs : ℕ → PlainAuction → Result BidFile CanonFault → Type 0
-NormalisesAuctionAs limit a (Ok h) = IsNormalFile limit a (plain_file h)
+abbrev pub NormalisesAuctionAs : ℕ → PlainAuction → Result PlainFile CanonFault → Type 0
+NormalisesAuctionAs limit a (Ok h) = IsNormalFile limit a h
 NormalisesAuctionAs limit a (Err fault) = RefusesAuction limit a fault
 
 -- the same of a file
+abbrev pub NormalisesPlainAs : ℕ → PlainFile → Result PlainFile CanonFault → Type 0
+NormalisesPlainAs limit f r = NormalisesAuctionAs limit (auction_from f) r
+
+-- an answer, as a caller sees its file
+abbrev pub plain_answer : Result BidFile CanonFault → Result PlainFile CanonFault
+plain_answer (Ok h) = Ok (plain_file h)
+plain_answer (Err fault) = Err fault
+
 abbrev pub NormalisesFileAs : ℕ → PlainFile → Result BidFile CanonFault → Type 0
-NormalisesFileAs limit f r = NormalisesAuctionAs limit (auction_from f) r
+NormalisesFileAs limit f r = NormalisesPlainAs limit f (plain_answer r)

@@ -4,8 +4,6 @@ use Rattle.std.specs.Prelude.{◌≡◌, ℕ, List, Result, Ok, Err}
 use Rattle.cats_text.specs.FileLines.{spelled_file}
 use Rattle.cats_text.specs.Files.{PlainFile}
 use Rattle.cats_text.specs.Grammar.{Spells}
-use Rattle.cats_text.specs.Views.{plain_file}
-use Rattle.cats_text.specs.declared.bid.BidFile.{BidFile}
 use Rattle.valuation.specs.Auctions.{auction_from}
 use Rattle.canon.specs.Answers.{IsNormalFile, RefusesAs}
 use Rattle.canon.specs.Difference.{Difference, first_difference}
@@ -61,6 +59,6 @@ pub record IsNormalFileOf (limit : ℕ) (text : List ℕ) (h : PlainFile) : Type
   pub spelled : Spells text file
   pub normal : IsNormalFile limit (auction_from file) h
 
-abbrev pub ReadsNormalAs : ℕ → List ℕ → Result BidFile CanonFault → Type 0
-ReadsNormalAs limit text (Ok h) = IsNormalFileOf limit text (plain_file h)
+abbrev pub ReadsNormalAs : ℕ → List ℕ → Result PlainFile CanonFault → Type 0
+ReadsNormalAs limit text (Ok h) = IsNormalFileOf limit text h
 ReadsNormalAs limit text (Err fault) = RefusesAs (normalised limit text) fault

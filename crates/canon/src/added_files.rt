@@ -4,7 +4,7 @@ ghost use Rattle.std.specs.Prelude.{◌≡◌, List, [], ◌∷◌, ◌++◌};
 ghost use Rattle.std.specs.Borrow.{ftrue};
 ghost use Rattle.cats_text.specs.Files.{PlainFile};
 
-use cats_text::BidFile;
+use cats_text::CompactFile;
 use std::marker::Model;
 
 /// Files that no code holds.
@@ -18,8 +18,6 @@ impl Model for AddedFiles {
 }
 
 impl AddedFiles {
-    ghost use Rattle.cats_text.specs.Views.{plain_file};
-
     /// No files.
     pub fn none() -> AddedFiles
         ensures { result.files ≡ [] }
@@ -28,8 +26,8 @@ impl AddedFiles {
     }
 
     /// The files before, and this one behind them.
-    pub fn with(_before: &AddedFiles, _file: &BidFile) -> AddedFiles
-        ensures { result.files ≡ _before.now.files ++ plain_file _file.now ∷ [] }
+    pub fn with(_before: &AddedFiles, _file: &CompactFile) -> AddedFiles
+        ensures { result.files ≡ _before.now.files ++ _file.now ∷ [] }
     {
         AddedFiles {}
     }

@@ -19,7 +19,6 @@ ghost use Rattle.std.specs.Prelude.{
 };
 ghost use Rattle.cats_text.specs.Files.{PlainFile};
 ghost use Rattle.cats_text.specs.Streams.{has_ended, has_failed};
-ghost use Rattle.cats_text.specs.Views.{plain_file};
 ghost use Rattle.canon.specs.Answers.{RefusesAs};
 ghost use Rattle.canon.specs.Canonical.{canonical_text};
 ghost use Rattle.canon.specs.FirstPlaces.{AddsStream, IsFirstPlace};
@@ -29,7 +28,7 @@ ghost use Rattle.canon.specs.Internal.TextPlaces.{place_of};
 use crate::added_files::AddedFiles;
 use crate::fault::CanonFault;
 use crate::text::normal_text;
-use cats_text::{BidFile, Watched, read_from};
+use cats_text::{CompactFile, Watched, read_compact_from};
 use std::alloc::{AllocError, Global};
 use std::collections::HashMap;
 use std::io::Read;
@@ -70,16 +69,15 @@ impl AuctionIndex {
         }
     }
 
-    /// Adds a file, and answers the place, counted from 0, of the first file added that is the same auction; that is
-    /// its own place where there is none. `limit` bounds each search that decides on a bundle of the OR bidder.
+    /// Adds a compact file, and answers the place, counted from 0, of the first file added that is the same auction;
+    /// that is its own place where there is none. `limit` bounds each search that decides on a bundle of the OR bidder.
     ///
     /// An index to which `usize::MAX` files were added takes no more, and tells want of memory.
-    pub fn add(&mut self, alloc: Global, file: BidFile, limit: u64) -> Result<usize, CanonFault>
-        ensures place { IfOk result (IsFirstPlace self.new (plain_file file)) }
-        ensures added { OnOk result (self.new ≡ self.old ++ plain_file file ∷ []) }
-        ensures light { OnOk result (normalised_file limit (plain_file file)
-            ≡ IsText (canonical_text (plain_file file))) }
-        ensures refused { IfErr result (RefusesAs (normalised_file limit (plain_file file))) }
+    pub fn add(&mut self, alloc: Global, file: CompactFile, limit: u64) -> Result<usize, CanonFault>
+        ensures place { IfOk result (IsFirstPlace self.new file) }
+        ensures added { OnOk result (self.new ≡ self.old ++ file ∷ []) }
+        ensures light { OnOk result (normalised_file limit file ≡ IsText (canonical_text file)) }
+        ensures refused { IfErr result (RefusesAs (normalised_file limit file)) }
         ensures unchanged { OnErr result (self.new ≡ self.old) }
     {
         let Some(count) = self.count.checked_add(1) else {
@@ -104,7 +102,7 @@ impl AuctionIndex {
         requires fresh { has_ended input.old ≡ false }
         ensures { AddsStream R.remaining limit self.old self.new input.old input.new result }
     {
-        let file = read_from(alloc, input)?;
+        let file = read_compact_from(alloc, input)?;
         self.add(alloc, file, limit)
     }
 }

@@ -19,7 +19,7 @@ use crate::parting::bidder_verdict;
 use crate::text::into_normal_file;
 use crate::verdict::Verdict;
 use crate::which::Which;
-use cats_text::{Bid, BidFile, read};
+use cats_text::{Bid, BidFile, CompactFile, read_compact};
 use std::alloc::{AllocError, Global};
 
 /// Where the auctions of two texts' files part first. The first text is read and made canonical, and what was read of
@@ -41,7 +41,7 @@ pub fn compare(
         Ok(file) => file,
         Err(fault) => return Err((Which::Second, fault)),
     };
-    match compare_files(alloc, &first, &second) {
+    match compare_compact_files(alloc, &first, &second) {
         Ok(verdict) => Ok(verdict),
         Err(_) => Err((Which::Both, CanonFault::Memory)),
     }
@@ -60,6 +60,32 @@ pub fn compare_files(alloc: Global, left: &BidFile, right: &BidFile) -> Result<V
         OnErr result (NamesGoods difference) }
 {
     walk_files(alloc, left, right)
+}
+
+/// Where the auctions of two canonical compact files part first, as `compare_files`. Where they part in a bundle or a
+/// bidder, both files are copied for the walk over their bids.
+pub fn compare_compact_files(
+    alloc: Global,
+    left: &CompactFile,
+    right: &CompactFile,
+) -> Result<Verdict, AllocError>
+    requires left_canonical { IsCanonicalFile left.now }
+    requires right_canonical { IsCanonicalFile right.now }
+    ensures difference { IfOk result (λ verdict. plain_verdict verdict
+        ≡ first_difference (auction_from left.now) (auction_from right.now)) }
+    ensures same { IfOk result (λ verdict. verdict ≡ Same ↔ AreSameFiles left.now right.now) }
+    ensures memory { let difference = first_difference (auction_from left.now) (auction_from right.now) in
+        OnErr result (NamesGoods difference) }
+{
+    if left.goods() != right.goods() {
+        return Ok(Verdict::Goods(left.goods(), right.goods()));
+    }
+    if left.is_equal(right) {
+        return Ok(Verdict::Same);
+    }
+    let left = left.to_file(alloc)?;
+    let right = right.to_file(alloc)?;
+    compare_files(alloc, &left, &right)
 }
 
 /// The walk over the bids of two files, from the first number on. Of canonical files it finds where their auctions
@@ -84,10 +110,10 @@ fn walk_files(alloc: Global, left: &BidFile, right: &BidFile) -> Result<Verdict,
 }
 
 /// The canonical file of the file that a text spells.
-fn read_normal(alloc: Global, text: &[u8], limit: u64) -> Result<BidFile, CanonFault>
+fn read_normal(alloc: Global, text: &[u8], limit: u64) -> Result<CompactFile, CanonFault>
     ensures { ReadsNormalAs limit text.now result }
 {
-    let file = read(alloc, text)?;
+    let file = read_compact(alloc, text)?;
     into_normal_file(alloc, file, limit)
 }
 

@@ -8,7 +8,7 @@ ghost use Rattle.valuation.specs.Views.{plain_auction};
 ghost use Rattle.canon.specs.Canonical.{bid_from, file_from};
 
 use crate::writing::count_bids;
-use cats_text::{Bid, BidFile};
+use cats_text::{Bid, BidFile, CompactBids, CompactFile};
 use goods_set::{GoodsSet, goods_of};
 use std::alloc::{AllocError, Global};
 use valuation::{Atom, Auction};
@@ -27,19 +27,24 @@ pub fn file_of<S: GoodsSet>(alloc: Global, auction: &Auction<S>) -> Result<BidFi
     Ok(BidFile::new(auction.goods(), bidders.len() as u32, bids))
 }
 
-/// The file of an auction that is given up, as `file_of`. Sets that keep their goods as a vector give it to the bid.
-pub fn into_file<S: GoodsSet>(alloc: Global, auction: Auction<S>) -> Result<BidFile, AllocError>
-    ensures { IfOk result (λ file. plain_file file ≡ file_from (plain_auction auction)) }
+/// The compact file of any auction, as `file_of`. The goods of one bid at a time are listed, in one buffer.
+pub fn compact_file_of<S: GoodsSet>(
+    alloc: Global,
+    auction: &Auction<S>,
+) -> Result<CompactFile, AllocError>
+    ensures { IfOk result (λ file. file ≡ file_from (plain_auction auction.now)) }
 {
-    let mut bids = Vec::with_capacity(alloc, count_bids(&auction))?;
-    let (goods, or_atoms, xor_bidders) = auction.into_parts();
-    move_bids(alloc, &mut bids, or_atoms, None)?;
-    let mut dummy = 0;
-    for bidder in xor_bidders {
-        move_bids(alloc, &mut bids, bidder, Some(dummy))?;
-        dummy += 1;
+    // No file has more bids than a number of 32 bits counts.
+    let count = count_bids(auction) as u32;
+    let bidders = auction.xor_bidders();
+    let mut bids = CompactBids::new(alloc);
+    let mut bundle = Vec::new(alloc);
+    push_offers(&mut bids, &mut bundle, auction.or_atoms(), None, count)?;
+    for (dummy, bidder) in bidders.iter().enumerate() {
+        let atoms = bidder.as_slice();
+        push_offers(&mut bids, &mut bundle, atoms, Some(dummy as u32), count)?;
     }
-    Ok(BidFile::new(goods, dummy, bids))
+    Ok(CompactFile::new(auction.goods(), bidders.len() as u32, bids))
 }
 
 /// Appends a bid for each atom, all with the same dummy good.
@@ -62,23 +67,20 @@ fn push_bids<S: GoodsSet>(
     Ok(())
 }
 
-/// Appends a bid for each atom that is given up, all with the same dummy good.
-fn move_bids<S: GoodsSet>(
-    alloc: Global,
-    bids: &mut Vec<Bid>,
-    atoms: Vec<Atom<S>>,
+/// Appends a bid for each atom, all with the same dummy good, where there will be so many bids.
+fn push_offers<S: GoodsSet>(
+    bids: &mut CompactBids,
+    bundle: &mut Vec<u16>,
+    atoms: &[Atom<S>],
     dummy: Option<u32>,
+    count: u32,
 ) -> Result<(), AllocError>
-    ensures { OnOk result (plain_bids bids.new.items ≡ plain_bids bids.old.items ++ map (bid_from dummy)
-        (atoms_of S.goods atoms.items)) }
+    ensures { OnOk result (bids.new ≡ bids.old ++ map (bid_from dummy) (atoms_of S.goods atoms.now)) }
 {
     for atom in atoms {
-        let Atom { bundle, price } = atom;
-        bids.push(Bid {
-            price,
-            goods: bundle.into_list(alloc)?,
-            dummy,
-        })?;
+        bundle.clear();
+        atom.bundle.list_into(bundle)?;
+        bids.push(atom.price, bundle.as_slice(), dummy, count)?;
     }
     Ok(())
 }

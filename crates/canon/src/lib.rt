@@ -24,14 +24,14 @@ mod writing;
 
 pub use auction::canonical;
 pub use auction_index::AuctionIndex;
-pub use comparison::{compare, compare_files};
+pub use comparison::{compare, compare_compact_files, compare_files};
 pub use difference_laws::{
     difference_is_a_point, difference_is_the_least_bidder, differences_exchanged,
     no_difference_of_the_same, same_auctions_have_one_difference,
 };
 pub use fault::CanonFault;
-pub use file::{file_of, into_file};
+pub use file::{compact_file_of, file_of};
 pub use place_laws::first_place_by_text;
-pub use text::{into_normal_file, last_normal_text, normal_file, normal_text, normalise};
+pub use text::{into_normal_file, last_normal_file, normal_file, normal_text, normalise};
 pub use verdict::{Side, Verdict};
 pub use which::Which;

@@ -4,24 +4,32 @@ ghost use Rattle.std.specs.Prelude.{◌≡◌, ◌≤◌, ◌↔◌, None, IfOk,
 ghost use Rattle.cats_text.specs.Files.{PlainFile, IsPlainFile};
 ghost use Rattle.cats_text.specs.Grammar.{Spells};
 ghost use Rattle.cats_text.specs.Views.{plain_file};
+ghost use Rattle.valuation.specs.Auctions.{auction_from};
 ghost use Rattle.valuation.specs.Views.{plain_auction};
 ghost use Rattle.prune.specs.SearchSteps.{first_heavy};
-ghost use Rattle.canon.specs.Answers.{NormalisesAs, NormalisesAuctionAs, NormalisesFileAs, RefusesAuction};
-ghost use Rattle.canon.specs.Canonical.{IsCanonicalFile, canonical_auction, canonical_text};
+ghost use Rattle.canon.specs.Answers.{
+  NormalisesAs,
+  NormalisesAuctionAs,
+  NormalisesFileAs,
+  NormalisesPlainAs,
+  RefusesAuction,
+  plain_answer,
+};
+ghost use Rattle.canon.specs.Canonical.{IsCanonical, IsCanonicalFile, canonical_auction, canonical_text};
 ghost use Rattle.canon.specs.Least.{IsLeastFor};
 ghost use Rattle.canon.specs.Normalising.{IsText, normalised, normalised_file};
 ghost use Rattle.canon.specs.Sameness.{AreSameFiles};
 
 use crate::auction::canonical;
 use crate::fault::CanonFault;
-use crate::file::into_file;
+use crate::file::{compact_file_of, file_of};
 use crate::writing::text_of;
-use cats_text::{BidFile, read};
+use cats_text::{BidFile, CompactFile, read_compact};
 use goods_set::{GoodsSet, ListSet, goods_of, on_least_set};
 use prune::PruneFault;
 use std::alloc::Global;
 use std::mem;
-use valuation::{Auction, auction_of, into_auction};
+use valuation::{Auction, auction_of, compact_auction};
 
 /// The canonical file of a file: the file of its canonical auction. `limit` bounds each search that decides on a bundle
 /// of the OR bidder.
@@ -31,17 +39,21 @@ pub fn normal_file(alloc: Global, file: &BidFile, limit: u64) -> Result<BidFile,
     ensures canonical { IfOk result (λ h. IsCanonicalFile (plain_file h)) }
     ensures least { IfOk result (λ h. IsLeastFor (plain_file file.now) (plain_file h)) }
 {
-    if is_sparse(file) {
+    if has_sparse_bids(file) {
         return normal_file_on::<ListSet>(alloc, file, limit);
     }
     on_least_set!(file.goods(), normal_file_on(alloc, file, limit))
 }
 
-/// The canonical file of a file, as `normal_file`. The file is given up before its auction is made canonical, so the
-/// two are never held at once.
-pub fn into_normal_file(alloc: Global, file: BidFile, limit: u64) -> Result<BidFile, CanonFault>
-    ensures answer { NormalisesFileAs limit (plain_file file) result }
-    ensures canonical { IfOk result (λ h. IsCanonicalFile (plain_file h)) }
+/// The canonical file of a compact file, as `normal_file`. The file is given up before its auction is made canonical,
+/// so the two are never held at once.
+pub fn into_normal_file(
+    alloc: Global,
+    file: CompactFile,
+    limit: u64,
+) -> Result<CompactFile, CanonFault>
+    ensures answer { NormalisesPlainAs limit file result }
+    ensures canonical { IfOk result (λ h. IsCanonicalFile h) }
 {
     if is_sparse(&file) {
         return into_normal_file_on::<ListSet>(alloc, file, limit);
@@ -49,25 +61,32 @@ pub fn into_normal_file(alloc: Global, file: BidFile, limit: u64) -> Result<BidF
     on_least_set!(file.goods(), into_normal_file_on(alloc, file, limit))
 }
 
-/// The canonical text of a file, whose bids are given up before its auction is made canonical.
-pub fn normal_text(alloc: Global, file: BidFile, limit: u64) -> Result<Vec<u8>, CanonFault>
-    ensures { NormalisesAs (normalised_file limit (plain_file file)) result }
+/// The canonical file of a compact file, as `into_normal_file`, in a process that ends soon. The memory of the
+/// canonical auction is left to the process's end, which takes less time than to free one bid after another.
+pub fn last_normal_file(
+    alloc: Global,
+    file: CompactFile,
+    limit: u64,
+) -> Result<CompactFile, CanonFault>
+    ensures answer { NormalisesPlainAs limit file result }
+    ensures canonical { IfOk result (λ h. IsCanonicalFile h) }
 {
+    if is_sparse(&file) {
+        return last_normal_file_on::<ListSet>(alloc, file, limit);
+    }
+    on_least_set!(file.goods(), last_normal_file_on(alloc, file, limit))
+}
+
+/// The canonical text of a compact file, which is given up before its auction is made canonical.
+pub fn normal_text(alloc: Global, file: CompactFile, limit: u64) -> Result<Vec<u8>, CanonFault>
+    ensures answer { NormalisesAs (normalised_file limit file) result }
+    ensures file { IsPlainFile file }
+{
+    let goods = file.goods();
     if is_sparse(&file) {
         return normal_text_on::<ListSet>(alloc, file, limit);
     }
-    on_least_set!(file.goods(), normal_text_on(alloc, file, limit))
-}
-
-/// The canonical text of a file, as `normal_text`, in a process that ends soon. The memory of the auction is left to
-/// the process's end, which takes less time than to free one bid after another.
-pub fn last_normal_text(alloc: Global, file: BidFile, limit: u64) -> Result<Vec<u8>, CanonFault>
-    ensures { NormalisesAs (normalised_file limit (plain_file file)) result }
-{
-    if is_sparse(&file) {
-        return last_text_on::<ListSet>(alloc, file, limit);
-    }
-    on_least_set!(file.goods(), last_text_on(alloc, file, limit))
+    on_least_set!(goods, normal_text_on(alloc, file, limit))
 }
 
 /// The canonical text of the file that a text spells: the one text of its auction.
@@ -78,16 +97,29 @@ pub fn normalise(alloc: Global, text: &[u8], limit: u64) -> Result<Vec<u8>, Cano
         → (out.items ≡ canonical_text g ↔ AreSameFiles f g)) }
     ensures again { IfOk result (λ out. normalised limit out.items ≡ IsText out.items) }
 {
-    let file = read(alloc, text)?;
+    let file = read_compact(alloc, text)?;
     normal_text(alloc, file, limit)
 }
 
-/// Whether the bids have so few goods that lists of them take less memory than words with a bit for each good. Where
-/// most bids are the OR bidder's, whose searches ask sets the most and words answer faster, they have to be fewer
-/// still.
-fn is_sparse(file: &BidFile) -> bool {
+/// Whether lists of its goods suit a compact file best.
+fn is_sparse(file: &CompactFile) -> bool {
     let bids = file.bids();
-    // No file has so many goods that it saturates.
+    // No file has so many goods, or bids, that it saturates.
+    let mut listed: usize = 0;
+    let mut or_bids: usize = 0;
+    for place in 0..bids.len() {
+        let (_, goods, dummy) = bids.at(place);
+        listed = listed.saturating_add(goods.len());
+        if dummy.is_none() {
+            or_bids = or_bids.saturating_add(1);
+        }
+    }
+    suits_lists(file.goods(), bids.len(), or_bids, listed)
+}
+
+/// Whether lists of its goods suit a file best, as `is_sparse`.
+fn has_sparse_bids(file: &BidFile) -> bool {
+    let bids = file.bids();
     let mut listed: usize = 0;
     let mut or_bids: usize = 0;
     for bid in bids {
@@ -96,13 +128,16 @@ fn is_sparse(file: &BidFile) -> bool {
             or_bids = or_bids.saturating_add(1);
         }
     }
-    let words = usize::from(file.goods() / 64);
-    let most = if or_bids > bids.len() / 2 {
-        words / 4
-    } else {
-        words
-    };
-    listed < bids.len().saturating_mul(most)
+    suits_lists(file.goods(), bids.len(), or_bids, listed)
+}
+
+/// Whether so many bids have so few goods that lists of them take less memory than words with a bit for each good.
+/// Where most bids are the OR bidder's, whose searches ask sets the most and words answer faster, they have to be fewer
+/// still.
+fn suits_lists(goods: u16, bids: usize, or_bids: usize, listed: usize) -> bool {
+    let words = usize::from(goods / 64);
+    let most = if or_bids > bids / 2 { words / 4 } else { words };
+    listed < bids.saturating_mul(most)
 }
 
 fn normal_file_on<S: GoodsSet>(
@@ -122,43 +157,59 @@ fn normal_file_on<S: GoodsSet>(
 
 fn into_normal_file_on<S: GoodsSet>(
     alloc: Global,
-    file: BidFile,
+    file: CompactFile,
     limit: u64,
-) -> Result<BidFile, CanonFault>
-    requires { (plain_file file).goods ≤ S.CAP }
-    ensures answer { NormalisesFileAs limit (plain_file file) result }
-    ensures canonical { IfOk result (λ h. IsCanonicalFile (plain_file h)) }
+) -> Result<CompactFile, CanonFault>
+    requires { file.goods ≤ S.CAP }
+    ensures answer { NormalisesPlainAs limit file result }
+    ensures canonical { IfOk result (λ h. IsCanonicalFile h) }
 {
-    let auction: Auction<S> = into_auction(alloc, file)?;
-    file_of_canonical(alloc, auction, limit)
+    let canonical: Auction<S> = into_canonical(alloc, file, limit)?;
+    Ok(compact_file_of(alloc, &canonical)?)
+}
+
+fn last_normal_file_on<S: GoodsSet>(
+    alloc: Global,
+    file: CompactFile,
+    limit: u64,
+) -> Result<CompactFile, CanonFault>
+    requires { file.goods ≤ S.CAP }
+    ensures answer { NormalisesPlainAs limit file result }
+    ensures canonical { IfOk result (λ h. IsCanonicalFile h) }
+{
+    let canonical: Auction<S> = into_canonical(alloc, file, limit)?;
+    let normal = compact_file_of(alloc, &canonical)?;
+    mem::forget(canonical);
+    Ok(normal)
 }
 
 fn normal_text_on<S: GoodsSet>(
     alloc: Global,
-    file: BidFile,
+    file: CompactFile,
     limit: u64,
 ) -> Result<Vec<u8>, CanonFault>
-    requires { (plain_file file).goods ≤ S.CAP }
-    ensures { NormalisesAs (normalised_file limit (plain_file file)) result }
+    requires { file.goods ≤ S.CAP }
+    ensures { NormalisesAs (normalised_file limit file) result }
 {
-    let auction: Auction<S> = into_auction(alloc, file)?;
-    let canonical = light_canonical(alloc, auction, limit)?;
+    let canonical: Auction<S> = into_canonical(alloc, file, limit)?;
     Ok(text_of(alloc, &canonical)?)
 }
 
-fn last_text_on<S: GoodsSet>(
+/// The canonical auction of a compact file, which is given up before, where no bundle is heavy.
+fn into_canonical<S: GoodsSet>(
     alloc: Global,
-    file: BidFile,
+    file: CompactFile,
     limit: u64,
-) -> Result<Vec<u8>, CanonFault>
-    requires { (plain_file file).goods ≤ S.CAP }
-    ensures { NormalisesAs (normalised_file limit (plain_file file)) result }
+) -> Result<Auction<S>, CanonFault>
+    requires { file.goods ≤ S.CAP }
+    ensures canonical { IfOk result (λ c. plain_auction c ≡ canonical_auction (auction_from file)) }
+    ensures fixed { IfOk result (λ c. IsCanonical (plain_auction c)) }
+    ensures light { let a = auction_from file in OnOk result (first_heavy a.goods limit a.or_atoms ≡ None) }
+    ensures refused { IfErr result (λ fault. RefusesAuction limit (auction_from file) fault) }
 {
-    let auction: Auction<S> = into_auction(alloc, file)?;
-    let canonical = light_canonical(alloc, auction, limit)?;
-    let text = text_of(alloc, &canonical)?;
-    mem::forget(canonical);
-    Ok(text)
+    let auction = compact_auction(alloc, &file)?;
+    mem::drop(file);
+    light_canonical(alloc, auction, limit)
 }
 
 /// The file of the canonical auction.
@@ -167,10 +218,10 @@ fn file_of_canonical<S: GoodsSet>(
     auction: Auction<S>,
     limit: u64,
 ) -> Result<BidFile, CanonFault>
-    ensures { NormalisesAuctionAs limit (plain_auction auction) result }
+    ensures { NormalisesAuctionAs limit (plain_auction auction) (plain_answer result) }
 {
     let canonical = light_canonical(alloc, auction, limit)?;
-    Ok(into_file(alloc, canonical)?)
+    Ok(file_of(alloc, &canonical)?)
 }
 
 /// The canonical auction, where no bundle is heavy.
@@ -180,6 +231,7 @@ fn light_canonical<S: GoodsSet>(
     limit: u64,
 ) -> Result<Auction<S>, CanonFault>
     ensures canonical { IfOk result (λ c. plain_auction c ≡ canonical_auction (plain_auction auction)) }
+    ensures fixed { IfOk result (λ c. IsCanonical (plain_auction c)) }
     ensures light { let a = plain_auction auction in
         OnOk result (first_heavy a.goods limit a.or_atoms ≡ None) }
     ensures refused { IfErr result (λ fault. RefusesAuction limit (plain_auction auction) fault) }

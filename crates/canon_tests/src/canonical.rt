@@ -2,10 +2,10 @@
 
 use crate::refusals::{expect_line, refusal_text};
 use canon::{
-    CanonFault, canonical, file_of, into_file, into_normal_file, last_normal_text, normal_file,
-    normal_text, normalise,
+    CanonFault, canonical, compact_file_of, file_of, into_normal_file, last_normal_file,
+    normal_file, normal_text, normalise,
 };
-use cats_text::{BidFile, read, write};
+use cats_text::{BidFile, CompactFile, read, read_compact, write};
 use goods_set::{GoodsSet, ListSet, WordSet};
 use std::alloc::Global;
 use std::process::Abort;
@@ -25,6 +25,11 @@ const LARGER_BID_TEXT: &str = "goods 2\nbids 2\ndummy 0\n0\t3\t0\t#\n1\t4\t1\t#\
 /// The bytes of a file, as a text.
 fn text_of(alloc: Global, file: &BidFile) -> Result<String, Fail> {
     Ok(String::from_utf8(write(alloc, file)?)?)
+}
+
+/// The bytes of a compact file, as a text.
+fn compact_text_of(alloc: Global, file: &CompactFile) -> Result<String, Fail> {
+    text_of(alloc, &file.to_file(alloc)?)
 }
 
 /// The canonical auction of a file's auction, on this kind of sets.
@@ -51,21 +56,20 @@ fn canonical_auctions(rt: HostRuntime) -> Result<(), Fail> {
     Ok(())
 }
 
-/// The file has this text.
-fn expect_text(rt: &impl Abort, alloc: Global, file: &BidFile, text: &str) -> Result<(), Fail> {
-    expect_line(rt, &text_of(alloc, file)?, text);
-    Ok(())
-}
-
-/// The file of an auction, made twice, has this text: from the auction, and from the auction given up.
+/// The file of an auction, made twice, has this text.
 fn expect_texts<S: GoodsSet>(
     rt: &impl Abort,
     alloc: Global,
-    auction: Auction<S>,
+    auction: &Auction<S>,
     text: &str,
 ) -> Result<(), Fail> {
-    expect_text(rt, alloc, &file_of(alloc, &auction)?, text)?;
-    expect_text(rt, alloc, &into_file(alloc, auction)?, text)
+    expect_line(rt, &text_of(alloc, &file_of(alloc, auction)?)?, text);
+    expect_line(
+        rt,
+        &compact_text_of(alloc, &compact_file_of(alloc, auction)?)?,
+        text,
+    );
+    Ok(())
 }
 
 #[test]
@@ -74,7 +78,7 @@ fn files_of_auctions(rt: HostRuntime) -> Result<(), Fail> {
         let file = read(rt.alloc(), text.as_bytes())?;
         assert!(rt; file.goods() <= 1024);
         let auction: Auction<WordSet<16>> = auction_of(rt.alloc(), &file)?;
-        expect_texts(&rt, rt.alloc(), auction, text)?;
+        expect_texts(&rt, rt.alloc(), &auction, text)?;
     }
     Ok(())
 }
@@ -120,14 +124,36 @@ fn told_file(alloc: Global, answer: Result<BidFile, CanonFault>) -> Result<Strin
     }
 }
 
+/// The compact file that a call answered, as its text, or why there is none.
+fn told_compact_file(
+    alloc: Global,
+    answer: Result<CompactFile, CanonFault>,
+) -> Result<String, Fail> {
+    match answer {
+        Ok(file) => compact_text_of(alloc, &file),
+        Err(fault) => refusal_text(alloc, fault),
+    }
+}
+
 #[test]
 fn canonical_files(rt: HostRuntime) -> Result<(), Fail> {
     for (limit, expected) in &[(3, LARGER_BID_TEXT), (2, "steps [0, 1]")] {
         let file = read(rt.alloc(), LARGER_BID.as_bytes())?;
         let answer = normal_file(rt.alloc(), &file, *limit);
         expect_line(&rt, &told_file(rt.alloc(), answer)?, expected);
+    }
+    Ok(())
+}
+
+#[test]
+fn canonical_compact_files(rt: HostRuntime) -> Result<(), Fail> {
+    for (limit, expected) in &[(3, LARGER_BID_TEXT), (2, "steps [0, 1]")] {
+        let file = read_compact(rt.alloc(), LARGER_BID.as_bytes())?;
         let answer = into_normal_file(rt.alloc(), file, *limit);
-        expect_line(&rt, &told_file(rt.alloc(), answer)?, expected);
+        expect_line(&rt, &told_compact_file(rt.alloc(), answer)?, expected);
+        let file = read_compact(rt.alloc(), LARGER_BID.as_bytes())?;
+        let answer = last_normal_file(rt.alloc(), file, *limit);
+        expect_line(&rt, &told_compact_file(rt.alloc(), answer)?, expected);
     }
     Ok(())
 }
@@ -135,11 +161,8 @@ fn canonical_files(rt: HostRuntime) -> Result<(), Fail> {
 #[test]
 fn canonical_texts_of_files(rt: HostRuntime) -> Result<(), Fail> {
     for (limit, expected) in &[(3, LARGER_BID_TEXT), (2, "steps [0, 1]")] {
-        let file = read(rt.alloc(), LARGER_BID.as_bytes())?;
+        let file = read_compact(rt.alloc(), LARGER_BID.as_bytes())?;
         let answer = normal_text(rt.alloc(), file, *limit);
-        expect_told(&rt, rt.alloc(), answer, expected)?;
-        let file = read(rt.alloc(), LARGER_BID.as_bytes())?;
-        let answer = last_normal_text(rt.alloc(), file, *limit);
         expect_told(&rt, rt.alloc(), answer, expected)?;
     }
     Ok(())

@@ -1,8 +1,11 @@
 //! Comparisons on worked rows. Texts have prices in units, verdicts in millionths.
 
 use crate::refusals::{expect_line, refusal_text};
-use canon::{CanonFault, Verdict, Which, compare, compare_files, normal_file};
-use cats_text::read;
+use canon::{
+    CanonFault, Verdict, Which, compare, compare_compact_files, compare_files, into_normal_file,
+    normal_file,
+};
+use cats_text::{read, read_compact};
 use std::alloc::{AllocError, Global};
 use std::test::Fail;
 
@@ -131,6 +134,25 @@ fn difference(alloc: Global, left: &str, right: &str) -> Result<Verdict, Fail> {
 fn canonical_files_part(rt: HostRuntime) -> Result<(), Fail> {
     for (left, right, expected) in &ROWS {
         let verdict = difference(rt.alloc(), left, right)?;
+        expect_line(&rt, &verdict_text(rt.alloc(), &verdict)?, expected);
+    }
+    Ok(())
+}
+
+/// How the canonical compact files of two texts part.
+fn compact_difference(alloc: Global, left: &str, right: &str) -> Result<Verdict, Fail> {
+    let one = read_compact(alloc, left.as_bytes())?;
+    let one = into_normal_file(alloc, one, 100)?;
+    let other = read_compact(alloc, right.as_bytes())?;
+    let other = into_normal_file(alloc, other, 100)?;
+    let verdict = compare_compact_files(alloc, &one, &other)?;
+    Ok(verdict)
+}
+
+#[test]
+fn canonical_compact_files_part(rt: HostRuntime) -> Result<(), Fail> {
+    for (left, right, expected) in &ROWS {
+        let verdict = compact_difference(rt.alloc(), left, right)?;
         expect_line(&rt, &verdict_text(rt.alloc(), &verdict)?, expected);
     }
     Ok(())

@@ -1,56 +1,48 @@
 -- What the runs of two files share: a file was read and normalised, and then what is made of both is sent.
-use Rattle.std.proofs.Common.{◌≡◌, ℕ, List, Option, Result, Ok, Err, sym, ap, ap₂, ◌∙◌, subst, inr}
+use Rattle.std.proofs.Common.{◌≡◌, ℕ, List, Option, Result, Ok, Err, sym, ap, ap₂, ◌∙◌, subst}
 use Rattle.std.specs.Prelude.{IsErrAnd}
 use Rattle.std.proofs.lemmas.Result.{err_from_is_err_and}
 use Rattle.cats_text.specs.Files.{PlainFile, IsPlainFile}
-use Rattle.cats_text.specs.Views.{plain_file}
-use Rattle.cats_text.specs.declared.bid.BidFile.{BidFile}
 use Rattle.cats_text.specs.declared.stream.Watched.{Watched}
 use Rattle.valuation.specs.Auctions.{auction_from}
 use Rattle.canon.proofs.SameDifferences.{difference_of_same_files}
 use Rattle.canon.proofs.Sames.{same_sym}
 use Rattle.canon.proofs.Texts.{canonical_file_is_same, IsPlainFile-canonical}
-use Rattle.canon.specs.Answers.{NormalisesFileAs}
+use Rattle.canon.specs.Answers.{NormalisesPlainAs}
 use Rattle.canon.specs.Canonical.{canonical_file}
 use Rattle.canon.specs.declared.fault.CanonFault.{CanonFault}
-use Rattle.canon.specs.declared.fault.CanonFault.TheVariants.{Read, StepLimit, Memory}
 use Rattle.cats_cmd.specs.Comparisons.{ReadsLightFile, ReadsCanonicalFile, ReadsCanonical, RunsOnFiles}
-use Rattle.cats_cmd.specs.Outcomes.{Outcome, Tells, normalise_outcome, text_unless_heavy, outcome_of_difference, compare_outcome}
+use Rattle.cats_cmd.specs.Outcomes.{Outcome, Tells, normalise_outcome, outcome_of_difference, compare_outcome}
 use Rattle.cats_cmd.specs.Runs.{ReadsInput, SendsAs}
 use Rattle.cats_cmd.specs.declared.report.RunFault.{RunFault}
 use Rattle.cats_cmd.specs.declared.report.RunFault.TheVariants.{Refused, GoodRange, Sent}
-use Rattle.cats_cmd.proofs.RunsOfOneFile.{refused_in_reading, told_by_sending}
+use Rattle.cats_cmd.proofs.Normalised.{refused_by_normalising}
+use Rattle.cats_cmd.proofs.RunsOfOneFile.{refused_in_reading, refused_in_making, told_by_sending}
 
 -- ---- one of the files
 
 module _ {R : Type 0} (remaining : R → Option (List ℕ)) (limit : ℕ) where
   pub canonical_unread : (old new : Watched R) (fault : CanonFault) → ReadsInput remaining old new (Err fault)
-      → (answer : Result BidFile CanonFault) → IsErrAnd answer (λ told. told ≡ fault) → ReadsCanonical remaining limit old new answer
+      → (answer : Result PlainFile CanonFault) → IsErrAnd answer (λ told. told ≡ fault) → ReadsCanonical remaining limit old new answer
   canonical_unread old new fault read_as answer is =
       let told = err_from_is_err_and answer is in
       let only : answer ≡ Err fault = told.1 ∙ ap (λ (f : CanonFault). Err f) told.2 in
-      subst (λ (r : Result BidFile CanonFault). ReadsCanonical remaining limit old new r) (sym only) (record {
+      subst (λ (r : Result PlainFile CanonFault). ReadsCanonical remaining limit old new r) (sym only) (record {
         bytes = read_as.bytes;
         consumes = read_as.consumes;
         refused = refused_in_reading remaining (normalise_outcome limit) read_as.bytes new fault read_as.reads;
       })
 
-  pub canonical_read : (old new : Watched R) (file : BidFile) → ReadsInput remaining old new (Ok file)
-      → (answer : Result BidFile CanonFault) → NormalisesFileAs limit (plain_file file) answer → ReadsCanonical remaining limit old new answer
+  pub canonical_read : (old new : Watched R) (file : PlainFile) → ReadsInput remaining old new (Ok file)
+      → (answer : Result PlainFile CanonFault) → NormalisesPlainAs limit file answer → ReadsCanonical remaining limit old new answer
   canonical_read old new file read_as (Ok canonical) n = record {
-    given = record { bytes = read_as.bytes; consumes = read_as.consumes; file = plain_file file; reads = read_as.reads; light = n.light };
+    given = record { bytes = read_as.bytes; consumes = read_as.consumes; file = file; reads = read_as.reads; light = n.light };
     is = n.canonical;
   }
-  canonical_read old new file read_as (Err (Read why)) n = absurd n
-  canonical_read old new file read_as (Err (StepLimit goods)) n = record {
+  canonical_read old new file read_as (Err fault) n = record {
     bytes = read_as.bytes;
     consumes = read_as.consumes;
-    refused = record { file = plain_file file; reads = read_as.reads; made = ap (text_unless_heavy (plain_file file)) n };
-  }
-  canonical_read old new file read_as (Err Memory) n = record {
-    bytes = read_as.bytes;
-    consumes = read_as.consumes;
-    refused = inr (record { file = plain_file file; reads = read_as.reads });
+    refused = refused_in_making remaining (normalise_outcome limit) read_as.bytes new file read_as.reads fault (refused_by_normalising limit file fault n);
   }
 
 -- ---- both files
@@ -82,13 +74,13 @@ module _ {R S W : Type 0} (remaining_first : R → Option (List ℕ)) (remaining
   }
 
   -- a run that sent what the canonical files tell
-  pub run_compared : (first first_after : Watched R) (second second_after : Watched S) (out out_after : Watched W) (left right : BidFile)
-      → ReadsCanonicalFile remaining_first limit first first_after (plain_file left)
-      → ReadsCanonicalFile remaining_second limit second second_after (plain_file right)
-      → (status : ℕ) (text : List ℕ) → compare_outcome (plain_file left) (plain_file right) ≡ Tells status text
+  pub run_compared : (first first_after : Watched R) (second second_after : Watched S) (out out_after : Watched W) (left right : PlainFile)
+      → ReadsCanonicalFile remaining_first limit first first_after left
+      → ReadsCanonicalFile remaining_second limit second second_after right
+      → (status : ℕ) (text : List ℕ) → compare_outcome left right ≡ Tells status text
       → (answer : Result ℕ RunFault) → SendsAs contents status text out out_after answer
       → RunsOnFiles remaining_first remaining_second contents limit compare_outcome first first_after second second_after out out_after answer
   run_compared first first_after second second_after out out_after left right one other status text is answer sends =
-      let given : compare_outcome (plain_file left) (plain_file right) ≡ compare_outcome one.given.file other.given.file =
+      let given : compare_outcome left right ≡ compare_outcome one.given.file other.given.file =
       ap₂ compare_outcome one.is other.is ∙ (canonical_outcome one.given.file other.given.file one.given.reads.spelled.facts other.given.reads.spelled.facts) in
       files_told compare_outcome first first_after second second_after out out_after one.given other.given status text (sym given ∙ is) answer sends

@@ -1,7 +1,6 @@
 -- Proofs that several functions of this crate cite.
 pub mod Normalised
 mod Checking
-mod Showing
 mod Numbering
 mod Bundling
 mod BestPlaces

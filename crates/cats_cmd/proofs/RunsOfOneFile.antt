@@ -4,11 +4,9 @@ use Rattle.std.specs.Prelude.{IsErrAnd}
 use Rattle.std.proofs.lemmas.Result.{err_from_is_err_and}
 use Rattle.cats_text.specs.Files.{PlainFile}
 use Rattle.cats_text.specs.Streams.{ReadsFile}
-use Rattle.cats_text.specs.Views.{plain_file}
-use Rattle.cats_text.specs.declared.bid.BidFile.{BidFile}
 use Rattle.cats_text.specs.declared.stream.Watched.{Watched}
 use Rattle.cats_cmd.specs.Outcomes.{Outcome, Tells}
-use Rattle.cats_cmd.specs.Runs.{ReadsInput, RunsOnFile, RunsAs, SendsAs, TellsAs, IsRefusedByReading, IsRefusedFile, MakesAs}
+use Rattle.cats_cmd.specs.Runs.{ReadsInput, RunsOnFile, RunsAs, SendsAs, SendsFileAs, TellsAs, IsRefusedByReading, IsRefusedFile, MakesAs}
 use Rattle.canon.specs.declared.fault.CanonFault.{CanonFault}
 use Rattle.canon.specs.declared.fault.CanonFault.TheVariants.{Read, StepLimit, Memory}
 use Rattle.canon.specs.declared.which.Which.TheVariants.{Only}
@@ -66,23 +64,41 @@ module _ {R W : Type 0} (remaining : R → Option (List ℕ)) (contents : W → 
   }
 
   -- a run whose text was refused
-  pub run_unmade : (input read : Watched R) (out : Watched W) (file : BidFile) → ReadsInput remaining input read (Ok file) → (fault : CanonFault)
-      → MakesAs (outcome (plain_file file)) (Err fault)
+  pub run_unmade : (input read : Watched R) (out : Watched W) (file : PlainFile) → ReadsInput remaining input read (Ok file) → (fault : CanonFault)
+      → MakesAs (outcome file) (Err fault)
       → (answer : Result ℕ RunFault) → IsErrAnd answer (λ told. told ≡ Refused Only fault) → RunsOnFile remaining contents outcome input read out out answer
   run_unmade input read out file read_as fault made answer is = record {
     bytes = read_as.bytes;
     consumes = read_as.consumes;
-    runs = runs_by_refusing read_as.bytes read out fault (refused_in_making remaining outcome read_as.bytes read (plain_file file) read_as.reads fault made)
+    runs = runs_by_refusing read_as.bytes read out fault (refused_in_making remaining outcome read_as.bytes read file read_as.reads fault made)
         answer is;
   }
 
   -- a run that sent its text
-  pub run_told : (input read : Watched R) (old new : Watched W) (file : BidFile) → ReadsInput remaining input read (Ok file)
-      → (status : ℕ) (text : List ℕ) → outcome (plain_file file) ≡ Tells status text
+  pub run_told : (input read : Watched R) (old new : Watched W) (file : PlainFile) → ReadsInput remaining input read (Ok file)
+      → (status : ℕ) (text : List ℕ) → outcome file ≡ Tells status text
       → (answer : Result ℕ RunFault) → SendsAs contents status text old new answer → RunsOnFile remaining contents outcome input read old new answer
   run_told input read old new file read_as status text made answer sends = record {
     bytes = read_as.bytes;
     consumes = read_as.consumes;
-    runs = runs_by_telling read_as.bytes read (plain_file file) read_as.reads old new answer
-        (told_by_sending contents (outcome (plain_file file)) old new status text made answer sends);
+    runs = runs_by_telling read_as.bytes read file read_as.reads old new answer
+        (told_by_sending contents (outcome file) old new status text made answer sends);
   }
+
+  -- a run that sent a file's text by pages, or was refused the memory for one
+  pub run_sent : (input read : Watched R) (old new : Watched W) (file : PlainFile) → ReadsInput remaining input read (Ok file)
+      → (text : List ℕ) → outcome file ≡ Tells 0 text
+      → (answer : Result ℕ RunFault) → SendsFileAs contents text old new answer → RunsOnFile remaining contents outcome input read old new answer
+  run_sent input read old new file read_as text made (Ok status) sends = run_told input read old new file read_as 0 text made (Ok status) sends
+  run_sent input read old new file read_as text made (Err (Refused which fault)) sends = record {
+    bytes = read_as.bytes;
+    consumes = read_as.consumes;
+    runs = record {
+      only = sends.0;
+      refused = subst (λ (f : CanonFault). IsRefusedFile remaining outcome read_as.bytes read f) (sym sends.1)
+          (inr (record { file = file; reads = read_as.reads }));
+      silent = sends.2;
+    };
+  }
+  run_sent input read old new file read_as text made (Err (GoodRange good)) sends = absurd sends
+  run_sent input read old new file read_as text made (Err (Sent fault)) sends = run_told input read old new file read_as 0 text made (Err (Sent fault)) sends

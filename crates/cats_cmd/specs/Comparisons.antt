@@ -3,8 +3,6 @@ use Rattle.std.specs.Prelude.{◌≡◌, ℕ, List, Option, Result, Ok, Err, Non
 use Rattle.std.specs.Io.KnownBytes.{Consumes}
 use Rattle.cats_text.specs.Files.{PlainFile}
 use Rattle.cats_text.specs.Streams.{inner_of, ReadsFile}
-use Rattle.cats_text.specs.Views.{plain_file}
-use Rattle.cats_text.specs.declared.bid.BidFile.{BidFile}
 use Rattle.cats_text.specs.declared.stream.Watched.{Watched}
 use Rattle.valuation.specs.Auctions.{or_atoms_of}
 use Rattle.prune.specs.SearchSteps.{first_heavy}
@@ -40,8 +38,8 @@ module _ {R : Type 0} (remaining : R → Option (List ℕ)) (limit : ℕ) where
     pub is : canonical ≡ canonical_file given.file
 
   -- reading a file and normalising it
-  abbrev pub ReadsCanonical : Watched R → Watched R → Result BidFile CanonFault → Type 0
-  ReadsCanonical old new (Ok canonical) = ReadsCanonicalFile old new (plain_file canonical)
+  abbrev pub ReadsCanonical : Watched R → Watched R → Result PlainFile CanonFault → Type 0
+  ReadsCanonical old new (Ok canonical) = ReadsCanonicalFile old new canonical
   ReadsCanonical old new (Err fault) = ReadsRefusedFile old new fault
 
 -- ---- both files, of which `outcome` says what is made of them

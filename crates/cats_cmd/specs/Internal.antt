@@ -3,4 +3,3 @@
 pub mod Checks
 pub mod Requests
 pub mod Searches
-pub mod Showing

@@ -4,8 +4,6 @@ use Rattle.std.specs.Global.{Global}
 use Rattle.std.specs.Io.KnownBytes.{Consumes}
 use Rattle.cats_text.specs.Files.{PlainFile}
 use Rattle.cats_text.specs.Streams.{inner_of, ReadsFile, FaultsAt, SendsWhole, SendsPart}
-use Rattle.cats_text.specs.Views.{plain_file}
-use Rattle.cats_text.specs.declared.bid.BidFile.{BidFile}
 use Rattle.cats_text.specs.declared.fault.Kind.TheVariants.{Memory as NoMemory}
 use Rattle.cats_text.specs.declared.stream.Watched.{Watched}
 use Rattle.canon.specs.declared.fault.CanonFault.{CanonFault}
@@ -26,12 +24,12 @@ module _ {R : Type 0} (remaining : R → Option (List ℕ)) where
   IsRefusedByReading bytes input (StepLimit goods) = ⊥
   IsRefusedByReading bytes input Memory = FaultsAt remaining bytes input 0 NoMemory
 
-  abbrev pub ReadsOrRefuses : List ℕ → Watched R → Result BidFile CanonFault → Type 0
-  ReadsOrRefuses bytes input (Ok file) = ReadsFile remaining bytes input (plain_file file)
+  abbrev pub ReadsOrRefuses : List ℕ → Watched R → Result PlainFile CanonFault → Type 0
+  ReadsOrRefuses bytes input (Ok file) = ReadsFile remaining bytes input file
   ReadsOrRefuses bytes input (Err fault) = IsRefusedByReading bytes input fault
 
   -- the contract of reading a file, from its input before to that after
-  pub record ReadsInput (old new : Watched R) (answer : Result BidFile CanonFault) : Type 0 where
+  pub record ReadsInput (old new : Watched R) (answer : Result PlainFile CanonFault) : Type 0 where
     pub bytes : List ℕ
     pub consumes : Consumes (remaining (inner_of old)) (remaining (inner_of new)) bytes
     pub reads : ReadsOrRefuses bytes new answer
@@ -75,6 +73,12 @@ module _ {W : Type 0} (contents : W → Option (List ℕ)) where
   SendsAs status text old new (Err (Refused which fault)) = ⊥
   SendsAs status text old new (Err (GoodRange good)) = ⊥
   SendsAs status text old new (Err (Sent fault)) = SendsPart contents old new text fault.written
+
+  -- Sending a file's text by pages, where the run then answers 0. Memory for a page may be refused, and then nothing is
+  -- written.
+  abbrev pub SendsFileAs : List ℕ → Watched W → Watched W → Result ℕ RunFault → Type 0
+  SendsFileAs text old new (Err (Refused which fault)) = (which ≡ Only) × (fault ≡ Memory) × (new ≡ old)
+  SendsFileAs text old new answer = SendsAs 0 text old new answer
 
   -- this status and a text are made, and the text went out
   pub record TellsText (made : Outcome) (old new : Watched W) (status : ℕ) : Type 0 where

@@ -4,7 +4,6 @@ mod text;
 
 ghost use Rattle.std.specs.Prelude.{◌≡◌, false, IfOk};
 ghost use Rattle.cats_text.specs.Streams.{has_ended, has_failed};
-ghost use Rattle.cats_text.specs.Views.{plain_file};
 ghost use Rattle.canon.specs.Canonical.{IsCanonicalFile};
 ghost use Rattle.canon.specs.Verdicts.{plain_verdict};
 ghost use Rattle.cats_cmd.specs.Comparisons.{ReadsCanonical, RunsOnFiles};
@@ -12,12 +11,11 @@ ghost use Rattle.cats_cmd.specs.Outcomes.{Tells, compare_outcome};
 ghost use Rattle.cats_cmd.specs.Statuses.{status_of_difference};
 
 use crate::report::{DIFFERENT, DONE, RunFault};
-use crate::run::{read_file, send_text};
-use canon::{CanonFault, Verdict, Which, compare_files, into_normal_file};
-use cats_text::{BidFile, Watched};
+use crate::run::{read_compact_file, send_text};
+use canon::{CanonFault, Verdict, Which, compare_compact_files, last_normal_file};
+use cats_text::{CompactFile, Watched};
 use std::alloc::{AllocError, Global};
 use std::io::{Read, Write};
-use std::mem;
 use text::verdict_text;
 
 /// Reads and normalises the first file, and then the second, and sends whether they are the same auction, or where they
@@ -51,12 +49,7 @@ pub fn run_compare<R: Read, S: Read, W: Write>(
         Err(fault) => return Err(RunFault::Refused(Which::Second, fault)),
     };
     match told(alloc, &left, &right) {
-        Ok((status, text)) => {
-            // To free one bid after another takes longer than the process's end.
-            mem::forget(left);
-            mem::forget(right);
-            send_text(out, status, text.as_slice())
-        }
+        Ok((status, text)) => { send_text(out, status, text.as_slice()) }
         Err(AllocError) => Err(RunFault::Refused(Which::Both, CanonFault::Memory)),
     }
 }
@@ -66,23 +59,23 @@ fn read_canonical<R: Read>(
     alloc: Global,
     input: &mut Watched<R>,
     limit: u64,
-) -> Result<BidFile, CanonFault>
+) -> Result<CompactFile, CanonFault>
     requires works { has_failed input.old ≡ false }
     requires fresh { has_ended input.old ≡ false }
     ensures answer { ReadsCanonical R.remaining limit input.old input.new result }
-    ensures canonical { IfOk result (λ file. IsCanonicalFile (plain_file file)) }
+    ensures canonical { IfOk result (λ file. IsCanonicalFile file) }
 {
-    let file = read_file(alloc, input)?;
-    into_normal_file(alloc, file, limit)
+    let file = read_compact_file(alloc, input)?;
+    last_normal_file(alloc, file, limit)
 }
 
 /// The status and the text of a comparison.
-fn told(alloc: Global, left: &BidFile, right: &BidFile) -> Result<(u8, Vec<u8>), AllocError>
-    requires left { IsCanonicalFile (plain_file left.now) }
-    requires right { IsCanonicalFile (plain_file right.now) }
-    ensures { IfOk result (λ t. compare_outcome (plain_file left.now) (plain_file right.now) ≡ Tells t.0 t.1.items) }
+fn told(alloc: Global, left: &CompactFile, right: &CompactFile) -> Result<(u8, Vec<u8>), AllocError>
+    requires left { IsCanonicalFile left.now }
+    requires right { IsCanonicalFile right.now }
+    ensures { IfOk result (λ t. compare_outcome left.now right.now ≡ Tells t.0 t.1.items) }
 {
-    let verdict = compare_files(alloc, left, right)?;
+    let verdict = compare_compact_files(alloc, left, right)?;
     Ok((status_of(&verdict), verdict_text(alloc, &verdict)?))
 }
 

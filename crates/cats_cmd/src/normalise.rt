@@ -5,14 +5,14 @@ ghost use Rattle.cats_text.specs.Streams.{has_ended, has_failed};
 ghost use Rattle.cats_cmd.specs.Outcomes.{normalise_outcome};
 ghost use Rattle.cats_cmd.specs.Runs.{RunsOnFile};
 
-use crate::report::{DONE, RunFault};
-use crate::run::{read_file, send_text};
-use canon::last_normal_text;
+use crate::report::RunFault;
+use crate::run::{read_compact_file, send_compact_file};
+use canon::last_normal_file;
 use cats_text::Watched;
 use std::alloc::Global;
 use std::io::{Read, Write};
 
-/// Reads a bid file, and sends the canonical text of its auction. `limit` bounds the steps of each search that decides
+/// Reads a bid file, and sends the canonical text of its auction, a page at a time. `limit` bounds the steps of each search that decides
 /// on a bundle of the OR bidder. The memory of the auction is left to the process's end.
 pub fn run_normalise<R: Read, W: Write>(
     alloc: Global,
@@ -25,7 +25,7 @@ pub fn run_normalise<R: Read, W: Write>(
     requires out_works { has_failed out.old ≡ false }
     ensures { RunsOnFile R.remaining W.contents (normalise_outcome limit) input.old input.new out.old out.new result }
 {
-    let file = read_file(alloc, input)?;
-    let text = last_normal_text(alloc, file, limit)?;
-    send_text(out, DONE, text.as_slice())
+    let file = read_compact_file(alloc, input)?;
+    let normal = last_normal_file(alloc, file, limit)?;
+    send_compact_file(alloc, out, &normal)
 }

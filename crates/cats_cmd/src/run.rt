@@ -1,12 +1,14 @@
-//! What the runs share: reading a file, telling why it was refused, and sending a text.
+//! What the runs share: reading a file, telling why it was refused, and sending a text or a file.
 
 ghost use Rattle.std.specs.Prelude.{◌≡◌, false};
+ghost use Rattle.cats_text.specs.Layout.{layout};
 ghost use Rattle.cats_text.specs.Streams.{has_ended, has_failed};
-ghost use Rattle.cats_cmd.specs.Runs.{ReadsInput, SendsAs};
+ghost use Rattle.canon.specs.Answers.{plain_answer};
+ghost use Rattle.cats_cmd.specs.Runs.{ReadsInput, SendsAs, SendsFileAs};
 
-use crate::report::RunFault;
+use crate::report::{DONE, RunFault};
 use canon::CanonFault;
-use cats_text::{BidFile, Watched, read_from, send};
+use cats_text::{BidFile, CompactFile, Watched, read_compact_from, read_from, send, send_file};
 use std::alloc::Global;
 use std::io::{Read, Write};
 
@@ -17,9 +19,24 @@ pub(crate) fn read_file<R: Read>(
 ) -> Result<BidFile, CanonFault>
     requires works { has_failed input.old ≡ false }
     requires fresh { has_ended input.old ≡ false }
-    ensures { ReadsInput R.remaining input.old input.new result }
+    ensures { ReadsInput R.remaining input.old input.new (plain_answer result) }
 {
     match read_from(alloc, input) {
+        Ok(file) => Ok(file),
+        Err(fault) => Err(CanonFault::from(fault)),
+    }
+}
+
+/// Reads a bid file in little memory, as `read_file`.
+pub(crate) fn read_compact_file<R: Read>(
+    alloc: Global,
+    input: &mut Watched<R>,
+) -> Result<CompactFile, CanonFault>
+    requires works { has_failed input.old ≡ false }
+    requires fresh { has_ended input.old ≡ false }
+    ensures { ReadsInput R.remaining input.old input.new result }
+{
+    match read_compact_from(alloc, input) {
         Ok(file) => Ok(file),
         Err(fault) => Err(CanonFault::from(fault)),
     }
@@ -36,6 +53,21 @@ pub(crate) fn send_text<W: Write>(
 {
     match send(out, text) {
         Ok(()) => Ok(status),
+        Err(fault) => Err(RunFault::Sent(fault)),
+    }
+}
+
+/// Sends the text of a file, as `cats_text::write` has it, a page at a time, and then answers that the run is done.
+pub(crate) fn send_compact_file<W: Write>(
+    alloc: Global,
+    out: &mut Watched<W>,
+    file: &CompactFile,
+) -> Result<u8, RunFault>
+    requires { has_failed out.old ≡ false }
+    ensures { SendsFileAs W.contents (layout file.now) out.old out.new result }
+{
+    match send_file(alloc, out, file)? {
+        Ok(()) => Ok(DONE),
         Err(fault) => Err(RunFault::Sent(fault)),
     }
 }

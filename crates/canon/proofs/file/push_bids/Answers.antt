@@ -1,5 +1,6 @@
-use Rattle.std.proofs.Common.{arith, refl, ◌∙◌}
-use Rattle.cats_text.specs.Files.{plain_bids}
+use Rattle.std.proofs.Common.{arith, ap, ◌∙◌}
+use Rattle.std.proofs.lemmas.List.{map_push}
+use Rattle.cats_text.specs.Files.{plain_bid, plain_bids}
 use Rattle.valuation.specs.Lemmas.Atoms.{length-atoms_of}
 use Rattle.valuation.specs.Values.{atoms_of}
 use Rattle.canon.specs.Canonical.{bid_from}
@@ -8,8 +9,9 @@ use Rattle.canon.proofs.file.push_bids.Goals as goal
 
 pub loop-atom-preserved : goal.loop-atom-preserved
 loop-atom-preserved g c =
-    one_more_bid g.S.GoodsSet.goods c.args.dummy c.loop-atom.bids.items c.push.new.self.items _ c.args.atoms.now c.loop-atom.atom-index c.atom-item.result
-    c.loop-atom-test.true c.atom-item.is c.in_ok-push.ensures.items refl c.in_ok-goods_of.ensures refl
+    one_more_bid g.S.GoodsSet.goods c.args.dummy (plain_bids c.loop-atom.bids.items) (plain_bids c.push.new.self.items) _ c.args.atoms.now
+    c.loop-atom.atom-index c.atom-item.result
+    c.loop-atom-test.true c.atom-item.is c.in_ok-goods_of.ensures (ap plain_bids c.in_ok-push.ensures.items ∙ map_push plain_bid c.loop-atom.bids.items _)
     ∙ c.loop-atom.invariant
 
 pub returns : goal.returns

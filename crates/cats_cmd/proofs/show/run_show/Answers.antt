@@ -1,9 +1,10 @@
-use Rattle.cats_cmd.proofs.Showing.{show_unread, show_unmade}
+use Rattle.std.proofs.Common.{refl}
+use Rattle.cats_cmd.specs.Outcomes.{show_outcome}
+use Rattle.cats_cmd.proofs.RunsOfOneFile.{run_unread, run_sent}
 use Rattle.cats_cmd.proofs.show.run_show.Goals as goal
 
 pub returns-in_err-file : goal.returns-in_err-file
-returns-in_err-file g c = show_unread _ _ _ _ _ _ c.in_err-file.ensures _ c.from_residual.ensures.1
+returns-in_err-file g c = run_unread _ _ show_outcome _ _ _ _ c.in_err-file.ensures _ c.from_residual.ensures.1
 
-pub returns-in_err-send_file : goal.returns-in_err-send_file
-returns-in_err-send_file g c =
-    rw c.in_err-send_file.ensures.silent (show_unmade _ _ _ _ _ c.in_ok-file.file c.in_ok-file.ensures _ c.from_residual-in_err-send_file.ensures.1)
+pub returns : goal.returns
+returns g c = run_sent _ _ show_outcome _ _ _ _ c.in_ok-file.file c.in_ok-file.ensures _ refl _ c.send_compact_file.ensures

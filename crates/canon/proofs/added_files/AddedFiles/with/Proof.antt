@@ -1,7 +1,6 @@
 -- It makes the empty struct, at the list that its clause names.
 use mathlib.Core.Path.{refl}
 use mathlib.Core.List.{[], ◌∷◌, ◌++◌}
-use Rattle.cats_text.specs.Views.{plain_file}
 use seplogic.Ra.Ura.{Ura}
 use mir.Syntax.{named}
 use mir.Val.{Val, vptr, vstruct, vnil}
@@ -33,7 +32,7 @@ use Rattle.canon.specs.contracts.added_files.AddedFiles.with as f
 use Rattle.canon.proofs.added_files.AddedFiles.with.Statement as stated
 use Rattle.canon.proofs.added_files.AddedFiles.with.Code as code
 use Rattle.canon.specs.contracts.added_files.AddedFiles as list
-use Rattle.cats_text.specs.contracts.bid.BidFile as given
+use Rattle.cats_text.specs.contracts.compact.CompactFile as given
 
 abbrev stayed : Stays (f.ended).signature.params (f.ended).kept
 stayed = (stay_none_ref (0 ∷ []) tt (plain (λ _. list.the_row)) yes, (stay_none_ref (1 ∷ []) tt (plain (λ _. given.the_row)) yes, tt))
@@ -60,11 +59,11 @@ module _ {M : Type 1} {𝓤 : Ura M} (𝓛 : Logic 𝓤) (mem : Memory → SProp
         qed 𝓛 (raw (alive 𝓛 f.signature κs qs) ∷ ‵ passed ∷ []) ∵ enter ! C Λ code.function (before ∷ named_by ∷ []) _ $
         alloc_all ! (λ l. pass_all ! refl ((tt, tt), ((tt, tt), tt)) $ sets ! (agg ! (no_more !)) refl (tt, tt) $
         returns ! (look_at ! 0 refl) $ free_all ! refl $
-        suffices ! _ (ends_at 𝓛 f.ended stayed (f.clauses 𝓛 mem run) bound (vstruct vnil) (record { files = a.0.now.files ++ plain_file a.1.0.now ∷ [] }) (
+        suffices ! _ (ends_at 𝓛 f.ended stayed (f.clauses 𝓛 mem run) bound (vstruct vnil) (record { files = a.0.now.files ++ a.1.0.now ∷ [] }) (
           tt,
           (tt, tt),
         ) (tt, (tt, tt))) $
-        says ! refl $ pure_i ! (list.the_row.own_val (record { files = a.0.now.files ++ plain_file a.1.0.now ∷ [] }) (vstruct vnil ∷ [])) (
+        says ! refl $ pure_i ! (list.the_row.own_val (record { files = a.0.now.files ++ a.1.0.now ∷ [] }) (vstruct vnil ∷ [])) (
           (λ vss. (tt, tt)),
           tt,
         ) ((tt, (refl, tt)), tt) $

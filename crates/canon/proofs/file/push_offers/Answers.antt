@@ -1,0 +1,22 @@
+use Rattle.std.proofs.Common.{List, ℕ, ◌++◌, arith, ap, ◌∙◌}
+use Rattle.valuation.specs.Lemmas.Atoms.{length-atoms_of}
+use Rattle.valuation.specs.Values.{atoms_of}
+use Rattle.canon.specs.Canonical.{bid_from}
+use Rattle.canon.proofs.Filing.{one_more_bid, all_bids}
+use Rattle.canon.proofs.file.push_offers.Goals as goal
+
+pub loop-atom-preserved : goal.loop-atom-preserved
+loop-atom-preserved g c =
+    let goods = g.S.GoodsSet.goods in
+    let atom = c.atom-item.result in
+    one_more_bid goods c.args.dummy c.loop-atom.bids c.push.new.self c.as_slice.result.now c.args.atoms.now c.loop-atom.atom-index atom
+    c.loop-atom-test.true c.atom-item.is
+    (c.as_slice.ensures.value ∙ c.in_ok-list_into.ensures ∙ ap (λ (zs : List ℕ). zs ++ goods atom.bundle) c.clear.ensures.items)
+    c.in_ok-push.ensures
+    ∙ c.loop-atom.invariant
+
+pub returns : goal.returns
+returns g c =
+    let atoms = atoms_of g.S.GoodsSet.goods c.args.atoms.now in
+    all_bids c.loop-atom.bids (bid_from c.args.dummy) atoms c.loop-atom.atom-index _
+    (omega (arith, length-atoms_of g.S.GoodsSet.goods c.args.atoms.now, c.loop-atom-test.false)) c.loop-atom.invariant
