@@ -12,7 +12,7 @@ ghost use Rattle.cats_cmd.specs.Statuses.{status_of_difference};
 
 use crate::report::{DIFFERENT, DONE, RunFault};
 use crate::run::{read_compact_file, send_text};
-use canon::{CanonFault, Verdict, Which, compare_compact_files, last_normal_file};
+use canon::{CanonFault, Verdict, Which, compare_compact_files, into_normal_file};
 use cats_text::{CompactFile, Watched};
 use std::alloc::{AllocError, Global};
 use std::io::{Read, Write};
@@ -20,8 +20,6 @@ use text::verdict_text;
 
 /// Reads and normalises the first file, and then the second, and sends whether they are the same auction, or where they
 /// part first. `limit` bounds the steps of each search that decides on a bundle of an OR bidder.
-///
-/// The memory of the two auctions is left to the process's end.
 ///
 /// The status is 0 for the same auction, and 1 for a difference. A fault of a file tells which of the two it belongs
 /// to; want of memory that is met while the two are compared belongs to both.
@@ -49,7 +47,7 @@ pub fn run_compare<R: Read, S: Read, W: Write>(
         Err(fault) => return Err(RunFault::Refused(Which::Second, fault)),
     };
     match told(alloc, &left, &right) {
-        Ok((status, text)) => { send_text(out, status, text.as_slice()) }
+        Ok((status, text)) => send_text(out, status, text.as_slice()),
         Err(AllocError) => Err(RunFault::Refused(Which::Both, CanonFault::Memory)),
     }
 }
@@ -66,7 +64,7 @@ fn read_canonical<R: Read>(
     ensures canonical { IfOk result (λ file. IsCanonicalFile file) }
 {
     let file = read_compact_file(alloc, input)?;
-    last_normal_file(alloc, file, limit)
+    into_normal_file(alloc, file, limit)
 }
 
 /// The status and the text of a comparison.

@@ -113,15 +113,6 @@ impl GoodsSet for ListSet {
         Ok(ListSet::new(Goods::none(alloc)))
     }
 
-    fn from_rising(_alloc: Global, rising: Vec<u16>) -> Result<ListSet, AllocError>
-        requires rising { IsRising rising.items }
-        requires below { AreBelow 65536 rising.items }
-        ensures goods { IfOk result (λ s. s.goods ≡ rising.items) }
-        ensures ok { IsOk result }
-    {
-        Ok(ListSet::new(Goods::from_vector(rising)))
-    }
-
     fn from_slice(alloc: Global, rising: &[u16]) -> Result<ListSet, AllocError> {
         Ok(ListSet::new(Goods::from_slice(alloc, rising)?))
     }
@@ -158,15 +149,6 @@ impl GoodsSet for ListSet {
 
     fn list_into(&self, out: &mut Vec<u16>) -> Result<(), AllocError> {
         out.extend_from_slice(self.goods.as_slice())
-    }
-
-    fn into_list(self, _alloc: Global) -> Result<Vec<u16>, AllocError> {
-        let ListSet {
-            goods,
-            front: _,
-            residues: _,
-        } = self;
-        goods.into_vector()
     }
 
     fn is_inside(&self, other: &ListSet) -> bool {

@@ -38,12 +38,6 @@ pub trait GoodsSet: Sized + Drop {
     fn empty(alloc: Global) -> Result<Self, AllocError>
         ensures { IfOk result (λ s. goods s ≡ []) };
 
-    /// The set of these goods. It may keep the vector.
-    fn from_rising(alloc: Global, rising: Vec<u16>) -> Result<Self, AllocError>
-        requires rising { IsRising rising.items }
-        requires below { AreBelow CAP rising.items }
-        ensures { IfOk result (λ s. goods s ≡ rising.items) };
-
     /// The set of these goods, which it copies.
     fn from_slice(alloc: Global, rising: &[u16]) -> Result<Self, AllocError>
         requires rising { IsRising rising.now }
@@ -76,10 +70,6 @@ pub trait GoodsSet: Sized + Drop {
     /// Appends the goods of the set, rising. Where memory is refused, some of them may stand there.
     fn list_into(&self, out: &mut Vec<u16>) -> Result<(), AllocError>
         ensures { OnOk result (out.new.items ≡ out.old.items ++ goods self.now) };
-
-    /// The goods of the set, rising. It may give its own vector away.
-    fn into_list(self, alloc: Global) -> Result<Vec<u16>, AllocError>
-        ensures { IfOk result (λ list. list.items ≡ goods self) };
 
     /// Whether each good of the set is in `other`.
     fn is_inside(&self, other: &Self) -> bool

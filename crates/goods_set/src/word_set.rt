@@ -12,7 +12,7 @@ use std::alloc::{AllocError, Global};
 use std::cmp::Ordering;
 
 /// A set of goods below the lesser of 64 times `N` and 65,536: a good is in it where its bit of the
-/// words is set. None of its calls takes memory, but for the vectors of `list_into` and `into_list`.
+/// words is set. None of its calls takes memory, but for the vector of `list_into`.
 #[derive(Debug, Drop)]
 pub struct WordSet<const N: usize> {
     words: [u64; N],
@@ -45,15 +45,6 @@ impl<const N: usize> GoodsSet for WordSet<N> {
         ensures ok { IsOk result }
     {
         Ok(WordSet { words: [0; N] })
-    }
-
-    fn from_rising(alloc: Global, rising: Vec<u16>) -> Result<WordSet<N>, AllocError>
-        requires rising { IsRising rising.items }
-        requires below { AreBelow (word_cap N) rising.items }
-        ensures goods { IfOk result (λ s. word_goods (word_cap N) s.words ≡ rising.items) }
-        ensures ok { IsOk result }
-    {
-        WordSet::from_slice(alloc, &rising)
     }
 
     fn from_slice(_alloc: Global, rising: &[u16]) -> Result<WordSet<N>, AllocError>
@@ -106,12 +97,6 @@ impl<const N: usize> GoodsSet for WordSet<N> {
 
     fn list_into(&self, out: &mut Vec<u16>) -> Result<(), AllocError> {
         scans::list_goods(self.used(), out)
-    }
-
-    fn into_list(self, alloc: Global) -> Result<Vec<u16>, AllocError> {
-        let mut goods = Vec::with_capacity(alloc, scans::count_goods(self.used()))?;
-        scans::list_goods(self.used(), &mut goods)?;
-        Ok(goods)
     }
 
     fn is_inside(&self, other: &WordSet<N>) -> bool {

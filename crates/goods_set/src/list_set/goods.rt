@@ -50,20 +50,6 @@ impl Goods {
         })
     }
 
-    /// The goods of a vector, which is kept where they are many.
-    pub(crate) fn from_vector(goods: Vec<u16>) -> Goods
-        ensures { result ≡ goods.items }
-    {
-        if goods.len() > FEW {
-            return Goods {
-                held: Held::Many(goods),
-            };
-        }
-        Goods {
-            held: Held::Few(*goods.allocator(), FewGoods::from_slice(&goods)),
-        }
-    }
-
     #[inline(always)]
     pub(crate) fn as_slice(&self) -> &[u16]
         ensures { result.now ≡ self.now }
@@ -106,15 +92,5 @@ impl Goods {
                 Held::Many(many) => Held::Many(many.clone()?),
             },
         })
-    }
-
-    /// The goods as a vector, which is the one that they stand in where they are many.
-    pub(crate) fn into_vector(self) -> Result<Vec<u16>, AllocError>
-        ensures { IfOk result (λ goods. goods.items ≡ self) }
-    {
-        match self.held {
-            Held::Few(alloc, few) => few.as_slice().to_vec(alloc),
-            Held::Many(many) => Ok(many),
-        }
     }
 }
