@@ -7,9 +7,7 @@ use std::alloc::Global;
 use std::cmp::Ordering;
 use std::process::Abort;
 use std::test::Fail;
-use valuation::{
-    Atom, Auction, auction_of, compact_auction, compare_atoms, compare_bidders, into_auction,
-};
+use valuation::{Atom, Auction, auction_of, compact_auction, compare_atoms, compare_bidders};
 
 // Three goods and two dummy goods: a bid with the first dummy good, then one without.
 fn small_file(alloc: Global) -> Result<BidFile, Fail> {
@@ -72,7 +70,6 @@ fn auction_of_small_file<S: GoodsSet>(rt: &impl Abort, alloc: Global) -> Result<
     expect_small_auction(rt, alloc, &auction)?;
     let (goods, or_atoms, xor_bidders) = auction.into_parts();
     expect_small_auction(rt, alloc, &Auction::new(goods, or_atoms, xor_bidders))?;
-    expect_small_auction(rt, alloc, &into_auction::<S>(alloc, file)?)?;
     let compact = small_compact_file(alloc)?;
     assert!(rt; u32::from(compact.goods()) <= S::cap());
     expect_small_auction(rt, alloc, &compact_auction::<S>(alloc, &compact)?)

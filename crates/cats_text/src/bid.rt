@@ -54,16 +54,4 @@ impl BidFile {
     {
         self.bids.as_slice()
     }
-
-    /// The bids, in order of their numbers, of a file that is given up.
-    pub fn into_bids(self) -> Vec<Bid>
-        ensures { plain_bids result.items ≡ (plain_file self).bids }
-    {
-        let BidFile {
-            goods: _,
-            dummy: _,
-            bids,
-        } = self;
-        bids
-    }
 }

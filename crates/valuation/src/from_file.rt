@@ -30,13 +30,13 @@ fn atom_of<S: GoodsSet>(alloc: Global, bid: &Bid) -> Result<Atom<S>, AllocError>
 }
 
 /// How many bids have no dummy good.
-pub(crate) fn count_or_bids(bids: &[Bid]) -> usize {
+fn count_or_bids(bids: &[Bid]) -> usize {
     bids.iter().filter(|bid| bid.dummy.is_none()).count()
 }
 
 /// How many bids have each dummy good, so that no bidder's vector takes more memory than it has to. No file has so many
 /// that a count saturates.
-pub(crate) fn bids_of_dummies(alloc: Global, file: &BidFile) -> Result<Vec<usize>, AllocError>
+fn bids_of_dummies(alloc: Global, file: &BidFile) -> Result<Vec<usize>, AllocError>
     ensures { IfOk result (λ counts. vec_len counts ≡ (plain_file file.now).dummy) }
 {
     let bids = file.bids();

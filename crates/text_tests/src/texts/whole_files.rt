@@ -135,7 +135,7 @@ fn bids_as_values(rt: HostRuntime) -> Result<(), Fail> {
 fn pieces_are_read(rt: HostRuntime) -> Result<(), Fail> {
     let mut reader = Reader::new(rt.alloc(), MAX_STREAM);
     reader.feed(CATS)?;
-    assert_eq!(rt; reader.finish()?.into_bids().len(), 2);
+    assert_eq!(rt; reader.finish()?.bids().len(), 2);
     Ok(())
 }
 
