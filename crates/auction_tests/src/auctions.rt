@@ -7,9 +7,7 @@ use std::alloc::Global;
 use std::cmp::Ordering;
 use std::process::Abort;
 use std::test::Fail;
-use valuation::{
-    Atom, Auction, auction_of, compact_auction, compare_atoms, compare_bidders,
-};
+use valuation::{Atom, Auction, auction_of, compact_auction, compare_atoms, compare_bidders};
 
 // Three goods and two dummy goods: a bid with the first dummy good, then one without.
 fn small_file(alloc: Global) -> Result<BidFile, Fail> {

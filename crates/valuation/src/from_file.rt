@@ -19,24 +19,20 @@ fn atom_of<S: GoodsSet>(alloc: Global, bid: &Bid) -> Result<Atom<S>, AllocError>
     ensures bundle { IfOk result (λ a. S.goods a.bundle ≡ bid.now.goods.items) }
     ensures price { IfOk result (λ a. a.price ≡ bid.now.price) }
 {
-    let mut bundle = S::empty(alloc)?;
-    for good in &bid.goods {
-        bundle.put(*good)?;
-    }
     Ok(Atom {
-        bundle,
+        bundle: S::from_slice(alloc, &bid.goods)?,
         price: bid.price,
     })
 }
 
 /// How many bids have no dummy good.
-pub(crate) fn count_or_bids(bids: &[Bid]) -> usize {
+fn count_or_bids(bids: &[Bid]) -> usize {
     bids.iter().filter(|bid| bid.dummy.is_none()).count()
 }
 
 /// How many bids have each dummy good, so that no bidder's vector takes more memory than it has to. No file has so many
 /// that a count saturates.
-pub(crate) fn bids_of_dummies(alloc: Global, file: &BidFile) -> Result<Vec<usize>, AllocError>
+fn bids_of_dummies(alloc: Global, file: &BidFile) -> Result<Vec<usize>, AllocError>
     ensures { IfOk result (λ counts. vec_len counts ≡ (plain_file file.now).dummy) }
 {
     let bids = file.bids();
