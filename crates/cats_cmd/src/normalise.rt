@@ -12,8 +12,8 @@ use cats_text::Watched;
 use std::alloc::Global;
 use std::io::{Read, Write};
 
-/// Reads a bid file, and sends the canonical text of its auction, a page at a time. `limit` bounds the steps of each search that decides
-/// on a bundle of the OR bidder. The memory of the auction is left to the process's end.
+/// Reads a bid file, and sends the canonical text of its auction, a page at a time. `limit` bounds the steps of each
+/// search that decides on a bundle of the OR bidder. The memory of the auction is left to the process's end.
 pub fn run_normalise<R: Read, W: Write>(
     alloc: Global,
     input: &mut Watched<R>,

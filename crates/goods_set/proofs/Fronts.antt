@@ -1,14 +1,14 @@
--- The order of lists of one length by their first four members as one number, and else by the lists. The number is unpacked member by
--- member: where the numbers differ, so do the members at the first place at which the lists do.
-use Rattle.std.proofs.Common.{◌≡◌, ℕ, zero, suc, ◌+◌, ◌*◌, ◌^◌, ◌<◌, ⊎_elim, List, [], ◌∷◌, length, get_or, refl, sym, ap, ◌∙◌, arith}
-use Rattle.std.proofs.Common.{Ordering, Less, Equal, Greater, nat_cmp}
+-- Lists are ordered by their fronts, where these differ. Of two lists of one length the first goods are unpacked one by one: where their
+-- numbers differ, so do the goods at the first place at which the lists do.
+use Rattle.std.proofs.Common.{◌≡◌, ℕ, zero, suc, ◌+◌, ◌*◌, ◌^◌, ◌<◌, ◌≤◌, cond, ⊎_elim, List, [], ◌∷◌, length, get_or, refl, sym, ap, ◌∙◌, arith}
+use Rattle.std.proofs.Common.{Less, Equal, Greater, nat_cmp}
 use Rattle.std.specs.Ordering.{ordering_then}
 use Rattle.std.specs.Cmp.Lexicographic.{slice_cmp}
-use Rattle.std.proofs.lemmas.Bool.{cases_order}
+use Rattle.std.proofs.lemmas.Bool.{cases_order, cases_lt, lt-ltb, le-ltb}
 use Rattle.goods_set.specs.Bundles.{AreBelow}
 use Rattle.goods_set.specs.Orders.{bundle_cmp}
 use Rattle.goods_set.specs.Lemmas.Orders.{nat_cmp-lt, nat_cmp-gt, nat_cmp-refl, smaller_first, larger_last, same_size}
-use Rattle.goods_set.specs.Internal.Fronts.{front_of}
+use Rattle.goods_set.specs.Internal.Fronts.{front_of, first_goods}
 
 -- ---- members
 
@@ -44,10 +44,9 @@ less_2 (x ∷ xs) (y ∷ ys) e a b l =
     ⊎_elim (λ (s : x ≡ y). head_same x y xs ys s (less_1 xs ys (omega (arith, e)) (omega arith)))
     (⊎_elim (λ (s : x < y). head_less x y xs ys s) (λ (s : y < x). absurd (omega arith))) (cases_order x y)
 
-abbrev front_3 : List ℕ → ℕ
-front_3 xs = get_or xs 0 0 * 2 ^ 32 + get_or xs 1 0 * 2 ^ 16 + get_or xs 2 0
-
-less_3 : (xs ys : List ℕ) → length xs ≡ length ys → AreBelow 65536 xs → AreBelow 65536 ys → front_3 xs < front_3 ys → slice_cmp nat_cmp xs ys ≡ Less
+less_3 : (xs ys : List ℕ) → length xs ≡ length ys → AreBelow 65536 xs → AreBelow 65536 ys → first_goods xs < first_goods ys
+    → slice_cmp nat_cmp xs ys ≡ Less
+unfolding first_goods
 less_3 [] [] e a b l = absurd (omega arith)
 less_3 [] (y ∷ ys) e a b l = absurd (omega (arith, e))
 less_3 (x ∷ xs) [] e a b l = absurd (omega (arith, e))
@@ -57,21 +56,6 @@ less_3 (x ∷ xs) (y ∷ ys) e a b l =
     let m1 : get_or xs 1 0 < 65536 = member_fits xs 1 a.1 in
     let n1 : get_or ys 1 0 < 65536 = member_fits ys 1 b.1 in
     ⊎_elim (λ (s : x ≡ y). head_same x y xs ys s (less_2 xs ys (omega (arith, e)) a.1 b.1 (omega arith)))
-    (⊎_elim (λ (s : x < y). head_less x y xs ys s) (λ (s : y < x). absurd (omega arith))) (cases_order x y)
-
-less_4 : (xs ys : List ℕ) → length xs ≡ length ys → AreBelow 65536 xs → AreBelow 65536 ys → front_of xs < front_of ys → slice_cmp nat_cmp xs ys ≡ Less
-unfolding front_of
-less_4 [] [] e a b l = absurd (omega arith)
-less_4 [] (y ∷ ys) e a b l = absurd (omega (arith, e))
-less_4 (x ∷ xs) [] e a b l = absurd (omega (arith, e))
-less_4 (x ∷ xs) (y ∷ ys) e a b l =
-    let m : get_or xs 0 0 < 65536 = member_fits xs 0 a.1 in
-    let n : get_or ys 0 0 < 65536 = member_fits ys 0 b.1 in
-    let m1 : get_or xs 1 0 < 65536 = member_fits xs 1 a.1 in
-    let n1 : get_or ys 1 0 < 65536 = member_fits ys 1 b.1 in
-    let m2 : get_or xs 2 0 < 65536 = member_fits xs 2 a.1 in
-    let n2 : get_or ys 2 0 < 65536 = member_fits ys 2 b.1 in
-    ⊎_elim (λ (s : x ≡ y). head_same x y xs ys s (less_3 xs ys (omega (arith, e)) a.1 b.1 (omega arith)))
     (⊎_elim (λ (s : x < y). head_less x y xs ys s) (λ (s : y < x). absurd (omega arith))) (cases_order x y)
 
 -- ---- the order
@@ -89,33 +73,58 @@ greater_from (x ∷ xs) (y ∷ ys) h =
     let k : slice_cmp nat_cmp (y ∷ ys) (x ∷ xs) ≡ Greater = ap (λ o. ordering_then o (slice_cmp nat_cmp ys xs)) g in absurd (cc))
     (λ (s : y < x). ap (λ o. ordering_then o (slice_cmp nat_cmp xs ys)) (nat_cmp-gt x y s))) (cases_order x y)
 
-same_length : (xs ys : List ℕ) → length xs ≡ length ys → AreBelow 65536 xs → AreBelow 65536 ys
-    → ordering_then (nat_cmp (front_of xs) (front_of ys)) (slice_cmp nat_cmp xs ys) ≡ slice_cmp nat_cmp xs ys
-same_length xs ys e a b =
-    ⊎_elim (λ (s : front_of xs ≡ front_of ys). ap (λ o. ordering_then o (slice_cmp nat_cmp xs ys)) (ap (nat_cmp (front_of xs)) (sym s)
-    ∙ nat_cmp-refl (front_of xs)))
-    (⊎_elim (λ (s : front_of xs < front_of ys). ap (λ o. ordering_then o (slice_cmp nat_cmp xs ys)) (nat_cmp-lt (front_of xs) (front_of ys) s)
-    ∙ sym (less_4 xs ys e a b s))
-    (λ (s : front_of ys < front_of xs). ap (λ o. ordering_then o (slice_cmp nat_cmp xs ys)) (nat_cmp-gt (front_of xs) (front_of ys) s)
-    ∙ sym (greater_from xs ys (less_4 ys xs (sym e) b a s))))
-    (cases_order (front_of xs) (front_of ys))
+first_goods-fit : (xs : List ℕ) → AreBelow 65536 xs → first_goods xs < 2 ^ 48
+unfolding first_goods
+first_goods-fit xs b =
+    let k = member_fits xs 0 b in
+    let m = member_fits xs 1 b in
+    let n = member_fits xs 2 b in
+    omega (arith, k, m, n)
 
--- the order by sizes, then fronts, then lists
-pub order_by_front : (xs ys : List ℕ) → AreBelow 65536 xs → AreBelow 65536 ys
-    → ordering_then (ordering_then (nat_cmp (length xs) (length ys)) (nat_cmp (front_of xs) (front_of ys))) (slice_cmp nat_cmp xs ys) ≡ bundle_cmp xs ys
-order_by_front xs ys a b =
-    ⊎_elim (λ (e : length xs ≡ length ys).
-    let z : nat_cmp (length xs) (length ys) ≡ Equal = ap (nat_cmp (length xs)) (sym e) ∙ nat_cmp-refl (length xs) in
-    ap (λ o. ordering_then (ordering_then o (nat_cmp (front_of xs) (front_of ys))) (slice_cmp nat_cmp xs ys)) z ∙ same_length xs ys e a b
-    ∙ sym (same_size xs ys e))
-    (⊎_elim (λ (l : length xs < length ys). ap (λ o. ordering_then (ordering_then o (nat_cmp (front_of xs) (front_of ys))) (slice_cmp nat_cmp xs ys))
-    (nat_cmp-lt (length xs) (length ys) l) ∙ sym (smaller_first xs ys l))
-    (λ (l : length ys < length xs). ap (λ o. ordering_then (ordering_then o (nat_cmp (front_of xs) (front_of ys))) (slice_cmp nat_cmp xs ys))
-    (nat_cmp-gt (length xs) (length ys) l) ∙ sym (larger_last xs ys l)))
+pub front_of-short : (xs : List ℕ) → length xs < 65535 → front_of xs ≡ length xs * 2 ^ 48 + first_goods xs
+unfolding front_of
+front_of-short xs l = ap (λ b. cond b (length xs * 2 ^ 48 + first_goods xs) (65535 * 2 ^ 48)) (lt-ltb (length xs) 65535 l)
+
+pub front_of-long : (xs : List ℕ) → 65535 ≤ length xs → front_of xs ≡ 65535 * 2 ^ 48
+unfolding front_of
+front_of-long xs l = ap (λ b. cond b (length xs * 2 ^ 48 + first_goods xs) (65535 * 2 ^ 48)) (le-ltb (length xs) 65535 l)
+
+front_less : (xs ys : List ℕ) → AreBelow 65536 xs → AreBelow 65536 ys → front_of xs < front_of ys → bundle_cmp xs ys ≡ Less
+front_less xs ys a b l =
+    let f = first_goods-fit xs a in
+    let g = first_goods-fit ys b in
+    ⊎_elim
+    (λ (m : length xs < 65535).
+    let x = front_of-short xs m in
+    ⊎_elim
+    (λ (n : length ys < 65535).
+    let y = front_of-short ys n in
+    ⊎_elim
+    (λ (e : length xs ≡ length ys). same_size xs ys e ∙ less_3 xs ys e a b (omega (arith, l, x, y, e)))
+    (⊎_elim (λ (s : length xs < length ys). smaller_first xs ys s) (λ (s : length ys < length xs). absurd (omega (arith, l, x, y, s, f, g))))
+    (cases_order (length xs) (length ys)))
+    (λ (n : 65535 ≤ length ys). smaller_first xs ys (omega (arith, m, n)))
+    (cases_lt (length ys) 65535))
+    (λ (m : 65535 ≤ length xs).
+    let x = front_of-long xs m in
+    ⊎_elim
+    (λ (n : length ys < 65535). let y = front_of-short ys n in absurd (omega (arith, l, x, y, g, n)))
+    (λ (n : 65535 ≤ length ys). let y = front_of-long ys n in absurd (omega (arith, l, x, y)))
+    (cases_lt (length ys) 65535))
+    (cases_lt (length xs) 65535)
+
+bundle_cmp-greater : (xs ys : List ℕ) → bundle_cmp ys xs ≡ Less → bundle_cmp xs ys ≡ Greater
+bundle_cmp-greater xs ys h =
+    ⊎_elim (λ (e : length xs ≡ length ys). same_size xs ys e ∙ greater_from xs ys (sym (same_size ys xs (sym e)) ∙ h))
+    (⊎_elim (λ (l : length xs < length ys). let g = larger_last ys xs l in absurd (cc))
+    (λ (l : length ys < length xs). larger_last xs ys l))
     (cases_order (length xs) (length ys))
 
--- where the first of two steps of an order is not Equal, it is the whole
-pub first_step : (o p : Ordering) (whole : Ordering) → (o ≡ Equal → ⊥) → ordering_then o p ≡ whole → o ≡ whole
-first_step Less p whole n h = h
-first_step Equal p whole n h = absurd (n refl)
-first_step Greater p whole n h = h
+-- the order of two bundles from their fronts, where these differ
+pub order_by_front : (xs ys : List ℕ) → AreBelow 65536 xs → AreBelow 65536 ys → (nat_cmp (front_of xs) (front_of ys) ≡ Equal → ⊥)
+    → nat_cmp (front_of xs) (front_of ys) ≡ bundle_cmp xs ys
+order_by_front xs ys a b n =
+    ⊎_elim (λ (s : front_of xs ≡ front_of ys). absurd (n (ap (nat_cmp (front_of xs)) (sym s) ∙ nat_cmp-refl (front_of xs))))
+    (⊎_elim (λ (s : front_of xs < front_of ys). nat_cmp-lt (front_of xs) (front_of ys) s ∙ sym (front_less xs ys a b s))
+    (λ (s : front_of ys < front_of xs). nat_cmp-gt (front_of xs) (front_of ys) s ∙ sym (bundle_cmp-greater xs ys (front_less ys xs b a s))))
+    (cases_order (front_of xs) (front_of ys))

@@ -22,7 +22,7 @@ use std::cmp::Ordering;
 #[derive(Debug, Drop)]
 pub struct ListSet {
     goods: Goods,
-    /// The first four goods as one number, which tells most sets of one size apart.
+    /// The size and the first three goods as one number, by which most sets are in order.
     front: u64,
     /// The goods modulo 64, as bits, which tell most goods that are not there.
     residues: u64,
@@ -166,9 +166,11 @@ impl GoodsSet for ListSet {
     }
 
     fn order(&self, other: &ListSet) -> Ordering {
-        let sizes = self.size().cmp(&other.size());
-        match sizes.then(self.front.cmp(&other.front)) {
-            Ordering::Equal => self.goods.as_slice().cmp(other.goods.as_slice()),
+        match self.front.cmp(&other.front) {
+            Ordering::Equal => {
+                let sizes = self.size().cmp(&other.size());
+                sizes.then_with(|| self.goods.as_slice().cmp(other.goods.as_slice()))
+            }
             unequal => unequal,
         }
     }

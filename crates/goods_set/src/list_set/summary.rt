@@ -1,4 +1,4 @@
-//! What is kept beside the vector of a set, so that most sets are told apart without it.
+//! What is kept beside the goods of a set, so that most sets are told apart without them.
 ghost use Rattle.std.specs.Prelude.{◌≡◌, ◌≤◌, get_or};
 ghost use Rattle.goods_set.specs.Internal.Fronts.{front_of};
 ghost use Rattle.goods_set.specs.Internal.Residues.{residues_of};
@@ -14,14 +14,18 @@ fn good_at(goods: &[u16], place: usize) -> u64
     }
 }
 
-/// The first four goods as one number, the first in its highest bits.
+/// How many goods there are and the first three of them, as one number, by which nearly all sets are in order. The
+/// longest lists have no goods in it.
 pub(crate) fn front(goods: &[u16]) -> u64
     ensures { result ≡ front_of goods.now }
 {
-    let first = good_at(goods, 0) << 48;
-    let second = good_at(goods, 1) << 32;
-    let third = good_at(goods, 2) << 16;
-    first + second + third + good_at(goods, 3)
+    if goods.len() >= 65_535 {
+        return 65_535 << 48;
+    }
+    let size = (goods.len() as u64) << 48;
+    let first = good_at(goods, 0) << 32;
+    let second = good_at(goods, 1) << 16;
+    size + first + second + good_at(goods, 2)
 }
 
 /// The goods modulo 64, as the bits of a word.
