@@ -28,7 +28,8 @@ pub struct CompactBids {
 impl Model for CompactBids {
     ghost use Rattle.std.specs.Prelude.{List, length, map};
     ghost use Rattle.cats_text.specs.Files.{PlainBid};
-    ghost use Rattle.cats_text.specs.Internal.Compact.{offered, AreHeld};
+    ghost use Rattle.cats_text.specs.Views.{offered};
+    ghost use Rattle.cats_text.specs.Internal.Compact.{AreHeld};
 
     ghost Value = { List PlainBid };
 

@@ -5,7 +5,8 @@ use Rattle.std.proofs.lemmas.Option.{get_or_from_slice_get, slice_get_within}
 use Rattle.std.specs.List.{slice_get}
 use Rattle.cats_text.specs.declared.compact.Offer.{Offer}
 use Rattle.cats_text.specs.Files.{PlainBid}
-use Rattle.cats_text.specs.Internal.Compact.{offered, IsHeld, AreHeld}
+use Rattle.cats_text.specs.Internal.Compact.{IsHeld, AreHeld}
+use Rattle.cats_text.specs.Views.{offered}
 use Rattle.cats_text.proofs.Feeding.Streams.{take-within}
 
 -- the bid of an offer that has these goods
