@@ -1,7 +1,7 @@
 -- Atoms are found through the goods of a bundle: each atom inside it is listed at one of its goods, which is a good of the bundle.
 -- The places found, sorted, are those of the atoms inside the bundle, since no place is listed twice.
 use Rattle.std.proofs.Common.{◌≡◌, ◌≢◌, ℕ, zero, suc, ◌+◌, ◌<◌, ◌≤◌, Bool, true, ◌&&◌, false, cond, leb, take, set, get_or-set_same, get_or-set_other, append_assoc}
-use Rattle.std.proofs.Common.{Bor, eqb, ◌⊎◌, inl, inr, ⊎_elim, List, [], ◌∷◌, ◌++◌, length, map, get_or, refl, sym, ap, ◌∙◌, subst, arith, Some, None, nat_cmp}
+use Rattle.std.proofs.Common.{Bor, eqb, ◌⊎◌, inl, inr, ⊎_elim, List, [], ◌∷◌, ◌++◌, length, map, get_or, refl, sym, ap, ◌∙◌, subst, arith, Some, None, nat_cmp, Less, Greater}
 use Rattle.std.specs.Prelude.{All, AllPairs, Contains, IsPermutation}
 use Rattle.std.specs.Global.{Vec}
 use Rattle.std.specs.List.{filter, list_any, range_with_len}
@@ -10,7 +10,7 @@ use Rattle.std.proofs.lemmas.Bool.{cases_lt, cases_eq, both_ways, and_parts, and
 use Rattle.std.proofs.lemmas.Bool.{eqb-true, eq-eqb}
 use Rattle.std.specs.Cmp.{both_ways as same_test}
 use Rattle.std.proofs.lemmas.Bool.Decides.{Decides-eqb}
-use Rattle.std.proofs.lemmas.List.{map-set, map_push, take_more, get_or-map, get_or_append_left, get_or_push, get_or_default, length-map, length_push}
+use Rattle.std.proofs.lemmas.List.{map-set, map_push, take_more, get_or-map, get_or_append_left, get_or_default, length-map, length_push}
 use Rattle.std.proofs.lemmas.List.Elements.{filter_more, Contains-get_or, All-append, All-contains, All-filter, All-weaker, Contains-append_left}
 use Rattle.std.proofs.lemmas.List.Elements.{Contains-append_right, Contains-push_cases, Contains-push}
 use Rattle.std.proofs.lemmas.List.Folds.{list_any_none, list_any_more}
@@ -22,15 +22,20 @@ use Rattle.std.proofs.lemmas.Map.Keys.{IsDistinct-IsPermutation, IsStrictlyIncre
 use Rattle.std.proofs.lemmas.Map.Made.{IsDistinct-from_AllPairs}
 use Rattle.goods_set.specs.Bundles.{IsRising, has_good, is_inside, good_from}
 use Rattle.goods_set.specs.Lemmas.Members.{has_head, has_cases, has-filter, AreAbove-from_has, IsRising-filter, same_from_has, inside_at}
+use Rattle.goods_set.specs.Orders.{bundle_cmp}
 use Rattle.goods_set.specs.Residues.{AreResidues}
-use Rattle.goods_set.specs.Lemmas.Sizes.{IsNextGood, good_from-Some, good_from-None}
+use Rattle.goods_set.specs.Lemmas.Orders.{larger_last}
+use Rattle.goods_set.specs.Lemmas.Sizes.{IsNextGood, good_from-Some, good_from-None, length_inside, same_from_length}
 use Rattle.goods_set.specs.Lemmas.Words.{range_has, range_rises}
 use Rattle.valuation.specs.declared.atom.Atom.{Atom}
 use Rattle.valuation.specs.Values.{atoms_of}
 use Rattle.valuation.specs.Lemmas.Atoms.{get_or-atoms_of}
 use Rattle.valuation.specs.Lemmas.Lists.{AllPairs-head, AllPairs-tail, AllPairs-append, Contains-map, Contains-unmap}
 use Rattle.prune.specs.declared.kept.Listing.{Listing}
+use Rattle.prune.specs.InOrder.{IsInOrder}
 use Rattle.prune.specs.Internal.Listings.{lists_of, listed_at, places_at, atom_at, is_inside_at, covers, covers_at, IsListed, IsListing, AreListed}
+use Rattle.prune.specs.Internal.Listings.{IsBehind, NoneInsideFrom}
+use Rattle.prune.specs.Lemmas.InOrder.{before_itself}
 use Rattle.prune.specs.Lemmas.Lists.{Contains-head, Contains-tail, Contains-filter, Contains-filter_parts, All-from_Contains, list_any_found, list_any_has}
 use Rattle.prune.specs.Lemmas.Lists.{list_any_fails}
 use Rattle.prune.specs.Lemmas.KeptBids.{has_from_Contains}
@@ -46,13 +51,13 @@ abbrev pub place_of : Listing → ℕ
 place_of listing = listing.place
 
 -- what is listed at the place is right
-pub listing_at : (lists : List (List Listing)) (atoms : List (Atom (List ℕ))) (good place : ℕ) → AreListed lists atoms → Contains (places_at lists good) place
+pub listing_at : (lists : List (List Listing)) (listed : ℕ) (atoms : List (Atom (List ℕ))) (good place : ℕ) → AreListed lists listed atoms → Contains (places_at lists good) place
     → (listing : Listing) × IsListing atoms listing × (place ≡ listing.place)
-listing_at lists atoms good place a c = let r = Contains-unmap place_of (listed_at lists good) place c in (r.0, a.right good r.0 r.1, r.2)
+listing_at lists listed atoms good place a c = let r = Contains-unmap place_of (listed_at lists good) place c in (r.0, a.right good r.0 r.1, r.2)
 
-pub place_within : (lists : List (List Listing)) (atoms : List (Atom (List ℕ))) (good place : ℕ) → AreListed lists atoms → Contains (places_at lists good) place
+pub place_within : (lists : List (List Listing)) (listed : ℕ) (atoms : List (Atom (List ℕ))) (good place : ℕ) → AreListed lists listed atoms → Contains (places_at lists good) place
     → place < length atoms
-place_within lists atoms good place a c = let r = listing_at lists atoms good place a c in let l = r.1.within in omega (arith, r.2)
+place_within lists listed atoms good place a c = let r = listing_at lists listed atoms good place a c in let l = r.1.within in omega (arith, r.2)
 
 -- an atom with a good that the bundle lacks is not inside it
 pub lacks_some : (xs bundle : List ℕ) (g m n : ℕ) → has_good xs g ≡ true → has_good xs m ≡ true → has_good xs n ≡ true
@@ -96,10 +101,10 @@ pub record IsFinding (lists : List (List Listing)) (atoms : List (Atom (List ℕ
   pub earlier : All (λ place. (good : ℕ) × (good < from) × Contains (places_at lists good) place) found
   pub once : AllPairs (λ one other. one ≢ other) found
 
-pub IsFinding-more : (lists : List (List Listing)) (atoms : List (Atom (List ℕ))) (bundle : List ℕ) (from good : ℕ) (found more : List ℕ)
-    → AreListed lists atoms → IsRising bundle → good_from bundle from ≡ Some good → more ≡ found ++ filter (is_inside_at atoms bundle) (places_at lists good)
+pub IsFinding-more : (lists : List (List Listing)) (listed : ℕ) (atoms : List (Atom (List ℕ))) (bundle : List ℕ) (from good : ℕ) (found more : List ℕ)
+    → AreListed lists listed atoms → IsRising bundle → good_from bundle from ≡ Some good → more ≡ found ++ filter (is_inside_at atoms bundle) (places_at lists good)
     → IsFinding lists atoms bundle from found → IsFinding lists atoms bundle (good + 1) more
-IsFinding-more lists atoms bundle from good found more a r next e f =
+IsFinding-more lists listed atoms bundle from good found more a r next e f =
     let p = is_inside_at atoms bundle in
     let new = filter p (places_at lists good) in
     let n : IsNextGood bundle from good = good_from-Some bundle from good r next in
@@ -107,7 +112,7 @@ IsFinding-more lists atoms bundle from good found more a r next e f =
     rw e (record {
       sound = All-append (λ place. (p place ≡ true) × (place < length atoms)) found new f.sound
           (All-from_Contains (λ place. (p place ≡ true) × (place < length atoms)) new
-          (λ place c. let t = Contains-filter_parts p (places_at lists good) place c in (t.1, place_within lists atoms good place a t.0)));
+          (λ place c. let t = Contains-filter_parts p (places_at lists good) place c in (t.1, place_within lists listed atoms good place a t.0)));
       complete = λ g place h l c t.
           ⊎_elim (λ (q : g ≡ good). Contains-append_right found new place
           (Contains-filter p (places_at lists good) place (subst (λ m. Contains (places_at lists m) place) q c) t))
@@ -141,11 +146,19 @@ pub some_from_zero : (bundle : List ℕ) → 0 < length bundle → good_from bun
 some_from_zero [] l e = omega arith
 some_from_zero (x ∷ xs) l e = both_ways (has_good (x ∷ xs) x) (good_from-None (x ∷ xs) 0 x e (omega arith)) (has_head x xs)
 
+-- an atom inside the bundle is listed
+is_listed : (listed : ℕ) (atoms : List (Atom (List ℕ))) (bundle : List ℕ) → NoneInsideFrom listed atoms bundle → (place : ℕ) → place < length atoms
+    → is_inside_at atoms bundle place ≡ true → place < listed
+is_listed listed atoms bundle unlisted place l t =
+    ⊎_elim (λ (m : place < listed). m)
+    (λ (m : listed ≤ place). absurd (both_ways (is_inside_at atoms bundle place) (unlisted place m l) t))
+    (cases_lt place listed)
+
 -- the good at which an atom inside the bundle is listed has been gone through
-listed_before : (lists : List (List Listing)) (atoms : List (Atom (List ℕ))) (bundle : List ℕ) (from place : ℕ) → AreListed lists atoms
-    → good_from bundle from ≡ None → place < length atoms → is_inside_at atoms bundle place ≡ true → (good : ℕ) × (has_good bundle good ≡ true) × (good < from)
+listed_before : (lists : List (List Listing)) (listed : ℕ) (atoms : List (Atom (List ℕ))) (bundle : List ℕ) (from place : ℕ) → AreListed lists listed atoms
+    → good_from bundle from ≡ None → place < listed → is_inside_at atoms bundle place ≡ true → (good : ℕ) × (has_good bundle good ≡ true) × (good < from)
     × Contains (places_at lists good) place
-listed_before lists atoms bundle from place a none l t =
+listed_before lists listed atoms bundle from place a none l t =
     let at = a.each place l in
     let of_bundle = inside_at (atom_at atoms place).bundle bundle at.good t at.has in (
       at.good,
@@ -159,10 +172,10 @@ eqb_flips : (x y : ℕ) → eqb x y ≡ eqb y x
 eqb_flips x y = same_test (eqb x y) (eqb y x) (λ t. eq-eqb y x (sym (eqb-true x y t))) (λ t. eq-eqb x y (sym (eqb-true y x t)))
 
 -- all goods are done: the places found are those of the atoms inside the bundle
-pub IsFinding-all : (lists : List (List Listing)) (atoms : List (Atom (List ℕ))) (bundle : List ℕ) (from : ℕ) (found sorted : List ℕ) → AreListed lists atoms
-    → good_from bundle from ≡ None → IsFinding lists atoms bundle from found
+pub IsFinding-all : (lists : List (List Listing)) (listed : ℕ) (atoms : List (Atom (List ℕ))) (bundle : List ℕ) (from : ℕ) (found sorted : List ℕ) → AreListed lists listed atoms
+    → NoneInsideFrom listed atoms bundle → good_from bundle from ≡ None → IsFinding lists atoms bundle from found
     → IsPermutation found sorted → IsSorted nat_cmp sorted → sorted ≡ filter (is_inside_at atoms bundle) (range_with_len 0 (length atoms))
-IsFinding-all lists atoms bundle from found sorted a none f p up =
+IsFinding-all lists listed atoms bundle from found sorted a unlisted none f p up =
     let test = is_inside_at atoms bundle in
     let all = range_with_len 0 (length atoms) in
     let distinct = IsDistinct-IsPermutation eqb eqb_flips found sorted p (IsDistinct-from_AllPairs Decides-eqb found f.once) in
@@ -177,7 +190,8 @@ IsFinding-all lists atoms bundle from found sorted a none f p up =
     (λ g h.
     let t = and_parts (test g) (has_good all g) (sym (has-filter test all g) ∙ h) in
     let r = has_range 0 (length atoms) g t.1 in
-    let l = listed_before lists atoms bundle from g a none (omega (arith, r.1)) t.0 in
+    let within : g < listed = is_listed listed atoms bundle unlisted g (omega (arith, r.1)) t.0 in
+    let l = listed_before lists listed atoms bundle from g a none within t.0 in
     has_from_Contains sorted g (Contains-permutation found sorted g p (f.complete l.0 g l.1 l.2 l.3 t.0)))
 
 -- ---- an atom inside the bundle of at least a price
@@ -199,23 +213,23 @@ NoneCovers-more lists atoms bundle price from good r next e h g place has l c =
     (cases_eq g good)
 
 -- all goods are done: none is there
-pub NoneCovers-all : (lists : List (List Listing)) (atoms : List (Atom (List ℕ))) (bundle : List ℕ) (price from : ℕ) → AreListed lists atoms
-    → good_from bundle from ≡ None → NoneCovers lists atoms bundle price from → list_any (covers bundle price) atoms ≡ false
-NoneCovers-all lists atoms bundle price from a none h =
+pub NoneCovers-all : (lists : List (List Listing)) (listed : ℕ) (atoms : List (Atom (List ℕ))) (bundle : List ℕ) (price from : ℕ) → AreListed lists listed atoms
+    → NoneInsideFrom listed atoms bundle → good_from bundle from ≡ None → NoneCovers lists atoms bundle price from → list_any (covers bundle price) atoms ≡ false
+NoneCovers-all lists listed atoms bundle price from a unlisted none h =
     list_any_none (covers bundle price) atoms (λ place d l.
     false_from_ne_true (covers bundle price (get_or atoms place d)) (λ t.
     let here : covers_at atoms bundle price place ≡ true = ap (covers bundle price) (get_or_default atoms place (record { bundle = []; price = 0 }) d l) ∙ t in
-    let at = listed_before lists atoms bundle from place a none l (and_parts (leb price (atom_at atoms place).price) (is_inside_at atoms bundle place)
-    here).1 in
+    let inside = (and_parts (leb price (atom_at atoms place).price) (is_inside_at atoms bundle place) here).1 in
+    let at = listed_before lists listed atoms bundle from place a none (is_listed listed atoms bundle unlisted place l inside) inside in
     both_ways (covers_at atoms bundle price place) (h at.0 place at.1 at.2 at.3) here))
 
 -- one is listed at a good
-pub one_covers : (lists : List (List Listing)) (atoms : List (Atom (List ℕ))) (bundle : List ℕ) (price good : ℕ) → AreListed lists atoms
+pub one_covers : (lists : List (List Listing)) (listed : ℕ) (atoms : List (Atom (List ℕ))) (bundle : List ℕ) (price good : ℕ) → AreListed lists listed atoms
     → list_any (covers_at atoms bundle price) (places_at lists good) ≡ true → list_any (covers bundle price) atoms ≡ true
-one_covers lists atoms bundle price good a e =
+one_covers lists listed atoms bundle price good a e =
     let r = list_any_found (covers_at atoms bundle price) (places_at lists good) e in
     list_any_has (covers bundle price) atoms (atom_at atoms r.0)
-    (Contains-get_or atoms r.0 (record { bundle = []; price = 0 }) (place_within lists atoms good r.0 a r.1)) r.2
+    (Contains-get_or atoms r.0 (record { bundle = []; price = 0 }) (place_within lists listed atoms good r.0 a r.1)) r.2
 
 -- ---- the atoms at the places found
 
@@ -235,9 +249,42 @@ atoms_at_places atoms bundle places e =
 
 -- ---- one more atom
 
-module _ (lists more : List (List Listing)) (atoms : List (Atom (List ℕ))) (a : Atom (List ℕ)) (good : ℕ) (new : Listing) (h : AreListed lists atoms)
+pub AreListed-push : (lists : List (List Listing)) (listed : ℕ) (atoms : List (Atom (List ℕ))) (a : Atom (List ℕ)) → AreListed lists listed atoms
+    → AreListed lists listed (atoms ++ a ∷ [])
+AreListed-push lists listed atoms a h =
+    let d : Atom (List ℕ) = record { bundle = []; price = 0 } in
+    let long = length_push atoms a in
+    let most : listed ≤ length atoms = h.most in
+    record {
+      most = omega arith;
+      each = λ place l.
+          subst (λ (b : Atom (List ℕ)). IsListed lists b.bundle place) (sym (get_or_append_left atoms (a ∷ []) d place (omega arith))) (h.each place l);
+      right = λ g listing c. still_right (h.right g listing c);
+      no_more = h.no_more;
+      once = h.once;
+      one_good = h.one_good;
+    }
+  where
+    still_right : {listing : Listing} → IsListing atoms listing → IsListing (atoms ++ a ∷ []) listing
+    still_right {listing} r =
+        let l : listing.place < length atoms = r.within in
+        let e : atom_at (atoms ++ a ∷ []) listing.place ≡ atom_at atoms listing.place =
+        get_or_append_left atoms (a ∷ []) (record { bundle = []; price = 0 }) listing.place l in
+        let long = length_push atoms a in
+        record {
+          within = omega arith;
+          price = r.price ∙ ap (λ (b : Atom (List ℕ)). b.price) (sym e);
+          residues = subst (λ (b : Atom (List ℕ)). AreResidues b.bundle listing.residues) (sym e) r.residues;
+          witness = ap (λ (b : Atom (List ℕ)). has_good b.bundle listing.witness) e ∙ r.witness;
+          second = ap (λ (b : Atom (List ℕ)). has_good b.bundle listing.second) e ∙ r.second;
+          third = ap (λ (b : Atom (List ℕ)). has_good b.bundle listing.third) e ∙ r.third;
+        }
+
+-- ---- one more atom is listed
+
+module _ (lists more : List (List Listing)) (listed : ℕ) (atoms : List (Atom (List ℕ))) (good : ℕ) (new : Listing) (h : AreListed lists listed atoms)
     (others : (g : ℕ) → (g ≡ good → ⊥) → listed_at more g ≡ listed_at lists g) (there : listed_at more good ≡ listed_at lists good ++ new ∷ [])
-    (place : new.place ≡ length atoms)
+    (place : new.place ≡ listed)
   where
     -- what is listed now was listed before, or is new
     listing_cases : (g : ℕ) (listing : Listing) → Contains (listed_at more g) listing → Contains (listed_at lists g) listing ⊎ ((g ≡ good) × (new ≡ listing))
@@ -249,7 +296,7 @@ module _ (lists more : List (List Listing)) (atoms : List (Atom (List ℕ))) (a 
         (λ (n : g ≡ good → ⊥). inl (subst (λ (zs : List Listing). Contains zs listing) (others g n) c))
         (cases_eq g good)
 
-    place_cases : (g spot : ℕ) → Contains (places_at more g) spot → Contains (places_at lists g) spot ⊎ ((g ≡ good) × (spot ≡ length atoms))
+    place_cases : (g spot : ℕ) → Contains (places_at more g) spot → Contains (places_at lists g) spot ⊎ ((g ≡ good) × (spot ≡ listed))
     place_cases g spot c =
         let r = Contains-unmap place_of (listed_at more g) spot c in
         ⊎_elim (λ (k : Contains (listed_at lists g) r.0). inl
@@ -264,72 +311,89 @@ module _ (lists more : List (List Listing)) (atoms : List (Atom (List ℕ))) (a 
         (λ (n : g ≡ good → ⊥). subst (λ (zs : List Listing). Contains (map place_of zs) spot) (sym (others g n)) c)
         (cases_eq g good)
 
-    here : Contains (places_at more good) (length atoms)
+    here : Contains (places_at more good) (listed)
     here = subst (λ n. Contains (places_at more good) n) place (subst (λ (zs : List Listing). Contains (map place_of zs) new.place) (sym there)
         (subst (λ (zs : List ℕ). Contains zs new.place) (sym (map_push place_of (listed_at lists good) new)) (Contains-push (places_at lists good) new.place)))
 
-    old_right : (listing : Listing) → IsListing atoms listing → IsListing (atoms ++ a ∷ []) listing
-    old_right listing r =
-        let l : listing.place < length atoms = r.within in
-        let e : atom_at (atoms ++ a ∷ []) listing.place ≡ atom_at atoms listing.place =
-        get_or_append_left atoms (a ∷ []) (record { bundle = []; price = 0 }) listing.place l in
-        let long = length_push atoms a in
+    pub AreListed-more : (a : Atom (List ℕ)) → a ≡ atom_at atoms listed → listed < length atoms → has_good a.bundle good ≡ true → new.price ≡ a.price
+        → AreResidues a.bundle new.residues → has_good a.bundle new.witness ≡ true → has_good a.bundle new.second ≡ true → has_good a.bundle new.third ≡ true
+        → AreListed more (listed + 1) atoms
+    AreListed-more a is next has price residues witness second third =
+        let at : atom_at atoms new.place ≡ a = ap (atom_at atoms) place ∙ sym is in
         record {
-          within = omega arith;
-          price = r.price ∙ ap (λ (b : Atom (List ℕ)). b.price) (sym e);
-          residues = subst (λ (b : Atom (List ℕ)). AreResidues b.bundle listing.residues) (sym e) r.residues;
-          witness = ap (λ (b : Atom (List ℕ)). has_good b.bundle listing.witness) e ∙ r.witness;
-          second = ap (λ (b : Atom (List ℕ)). has_good b.bundle listing.second) e ∙ r.second;
-          third = ap (λ (b : Atom (List ℕ)). has_good b.bundle listing.third) e ∙ r.third;
-        }
-
-    pub AreListed-push : has_good a.bundle good ≡ true → new.price ≡ a.price → AreResidues a.bundle new.residues → has_good a.bundle new.witness ≡ true
-        → has_good a.bundle new.second ≡ true → has_good a.bundle new.third ≡ true → AreListed more (atoms ++ a ∷ [])
-    AreListed-push has price residues witness second third =
-        let d : Atom (List ℕ) = record { bundle = []; price = 0 } in
-        let long = length_push atoms a in
-        let last : atom_at (atoms ++ a ∷ []) new.place ≡ a = get_or_push atoms a d new.place (sym place) in
-        record {
+          most = omega arith;
           each = λ spot l.
               ⊎_elim
-              (λ (m : spot < length atoms).
-              let at : IsListed lists (atom_at atoms spot).bundle spot = h.each spot m in
-              subst (λ (b : Atom (List ℕ)). IsListed more b.bundle spot) (sym (get_or_append_left atoms (a ∷ []) d spot m))
-              (record { good = at.good; has = at.has; listed = still at.good spot at.listed }))
-              (λ (m : length atoms ≤ spot).
-              let e : length atoms ≡ spot = omega arith in
-              subst (λ (b : Atom (List ℕ)). IsListed more b.bundle spot) (sym (get_or_push atoms a d spot e))
-              (record { good = good; has = has; listed = subst (λ n. Contains (places_at more good) n) e here }))
-              (cases_lt spot (length atoms));
+              (λ (m : spot < listed).
+              let at = h.each spot m in
+              record { good = at.good; has = at.has; listed = still at.good spot at.listed })
+              (λ (m : listed ≤ spot).
+              let e : listed ≡ spot = omega arith in
+              subst (λ n. IsListed more (atom_at atoms n).bundle n) e
+              (record { good = good; has = ap (λ (b : Atom (List ℕ)). has_good b.bundle good) (sym is) ∙ has; listed = here }))
+              (cases_lt spot listed);
           right = λ g listing c.
-              ⊎_elim (λ (k : Contains (listed_at lists g) listing). old_right listing (h.right g listing k))
-              (λ (k : (g ≡ good) × (new ≡ listing)). subst (λ (z : Listing). IsListing (atoms ++ a ∷ []) z) k.1 (record {
+              ⊎_elim (λ (k : Contains (listed_at lists g) listing). h.right g listing k)
+              (λ (k : (g ≡ good) × (new ≡ listing)). subst (λ (z : Listing). IsListing atoms z) k.1 (record {
                 within = omega arith;
-                price = price ∙ ap (λ (b : Atom (List ℕ)). b.price) (sym last);
-                residues = subst (λ (b : Atom (List ℕ)). AreResidues b.bundle new.residues) (sym last) residues;
-                witness = ap (λ (b : Atom (List ℕ)). has_good b.bundle new.witness) last ∙ witness;
-                second = ap (λ (b : Atom (List ℕ)). has_good b.bundle new.second) last ∙ second;
-                third = ap (λ (b : Atom (List ℕ)). has_good b.bundle new.third) last ∙ third;
+                price = price ∙ ap (λ (b : Atom (List ℕ)). b.price) (sym at);
+                residues = subst (λ (b : Atom (List ℕ)). AreResidues b.bundle new.residues) (sym at) residues;
+                witness = ap (λ (b : Atom (List ℕ)). has_good b.bundle new.witness) at ∙ witness;
+                second = ap (λ (b : Atom (List ℕ)). has_good b.bundle new.second) at ∙ second;
+                third = ap (λ (b : Atom (List ℕ)). has_good b.bundle new.third) at ∙ third;
               }))
               (listing_cases g listing c);
+          no_more = λ g spot c.
+              ⊎_elim (λ (k : Contains (places_at lists g) spot). let l = h.no_more g spot k in omega (arith, l))
+              (λ (k : (g ≡ good) × (spot ≡ listed)). let e : spot ≡ listed = k.1 in omega arith)
+              (place_cases g spot c);
           once = λ g.
               ⊎_elim
               (λ (e : g ≡ good). subst (λ (zs : List ℕ). AllPairs (λ one other. one ≢ other) zs) (sym (ap (λ m. places_at more m) e ∙ ap (map place_of) there
               ∙ map_push place_of (listed_at lists good) new))
               (all_pairs_push (λ one other. one ≢ other) (places_at lists good) new.place (h.once good) (λ k d l q.
-              let w = place_within lists atoms good (get_or (places_at lists good) k d) h (Contains-get_or (places_at lists good) k d l) in
-              omega arith)))
+              let w = h.no_more good (get_or (places_at lists good) k d) (Contains-get_or (places_at lists good) k d l) in
+              omega (arith, w))))
               (λ (n : g ≡ good → ⊥). subst (λ (zs : List Listing). AllPairs (λ one other. one ≢ other) (map place_of zs)) (sym (others g n)) (h.once g))
               (cases_eq g good);
           one_good = λ g o spot c k. both g o spot (place_cases g spot c) (place_cases o spot k);
         }
       where
-        both : (g o spot : ℕ) → Contains (places_at lists g) spot ⊎ ((g ≡ good) × (spot ≡ length atoms)) → Contains (places_at lists o) spot
-            ⊎ ((o ≡ good) × (spot ≡ length atoms)) → g ≡ o
+        both : (g o spot : ℕ) → Contains (places_at lists g) spot ⊎ ((g ≡ good) × (spot ≡ listed)) → Contains (places_at lists o) spot
+            ⊎ ((o ≡ good) × (spot ≡ listed)) → g ≡ o
         both g o spot (inl c) (inl k) = h.one_good g o spot c k
-        both g o spot (inl c) (inr k) = let l = place_within lists atoms g spot h c in let e : spot ≡ length atoms = k.1 in absurd (omega arith)
-        both g o spot (inr c) (inl k) = let l = place_within lists atoms o spot h k in let e : spot ≡ length atoms = c.1 in absurd (omega arith)
+        both g o spot (inl c) (inr k) = let l = h.no_more g spot c in let e : spot ≡ listed = k.1 in absurd (omega (arith, l))
+        both g o spot (inr c) (inl k) = let l = h.no_more o spot k in let e : spot ≡ listed = c.1 in absurd (omega (arith, l))
         both g o spot (inr c) (inr k) = c.0 ∙ sym k.0
+
+-- ---- the atoms that are not listed
+
+-- behind an atom at least as large as a bundle that comes behind all atoms, none is inside the bundle
+pub none_inside : (from : ℕ) (atoms : List (Atom (List ℕ))) (bundle : List ℕ) → All (λ a. IsRising a.bundle) atoms → IsRising bundle → IsInOrder atoms
+    → IsBehind bundle atoms → (from < length atoms → length bundle ≤ length (atom_at atoms from).bundle)
+    → NoneInsideFrom from atoms bundle
+none_inside from atoms bundle rising r order before large place behind within =
+    let d : Atom (List ℕ) = record { bundle = []; price = 0 } in
+    let x = atom_at atoms place in
+    let y = atom_at atoms from in
+    let least : length bundle ≤ length y.bundle = large (omega arith) in
+    let larger : length y.bundle ≤ length x.bundle =
+    ⊎_elim (λ (e : from ≡ place). subst (λ n. length y.bundle ≤ length (atom_at atoms n).bundle) e (omega arith))
+    (λ (n : from ≡ place → ⊥). no_smaller y.bundle x.bundle (order from place d (apart from place behind n) within))
+    (cases_eq from place) in
+    false_from_ne_true (is_inside x.bundle bundle) (λ i.
+    let fits = length_inside x.bundle bundle (rising place d within) r i in
+    let same = same_from_length x.bundle bundle (rising place d within) r i (omega (arith, fits, larger, least)) in
+    before_itself bundle (subst (λ zs. bundle_cmp zs bundle ≡ Less) same (before place d within)))
+  where
+    apart : (m n : ℕ) → m ≤ n → (m ≡ n → ⊥) → m < n
+    apart m n l e = ⊎_elim (λ (k : m < n). k) (λ (k : n ≤ m). absurd (e (omega arith))) (cases_lt m n)
+
+    no_smaller : (xs ys : List ℕ) → bundle_cmp xs ys ≡ Less → length xs ≤ length ys
+    no_smaller xs ys l =
+        ⊎_elim (λ (k : length ys < length xs). let g = larger_last xs ys k in let e : Less ≡ Greater = sym l ∙ g in cc)
+        (λ (k : length xs ≤ length ys). k)
+        (cases_lt (length ys) (length xs))
 
 -- ---- the places found so far at one good
 
@@ -345,9 +409,9 @@ pub places_get : (listed : List Listing) (i : ℕ) (d : Listing) → i < length 
     × (get_or (map place_of listed) i 0 ≡ (get_or listed i d).place)
 places_get listed i d l = let long = length-map listed place_of in (omega arith, get_or-map place_of listed i d 0 l)
 
-pub listing_index : (lists : List (List Listing)) (atoms : List (Atom (List ℕ))) (good : ℕ) (listed : List Listing) (i : ℕ) (d : Listing)
-    → AreListed lists atoms → listed_at lists good ≡ listed → i < length listed → IsListing atoms (get_or listed i d)
-listing_index lists atoms good listed i d a e l =
+pub listing_index : (lists : List (List Listing)) (count : ℕ) (atoms : List (Atom (List ℕ))) (good : ℕ) (listed : List Listing) (i : ℕ) (d : Listing)
+    → AreListed lists count atoms → listed_at lists good ≡ listed → i < length listed → IsListing atoms (get_or listed i d)
+listing_index lists count atoms good listed i d a e l =
     a.right good (get_or listed i d) (subst (λ (zs : List Listing). Contains zs (get_or listed i d)) (sym e) (Contains-get_or listed i d l))
 
 -- whether the atom that is listed covers the bundle at the price
@@ -405,6 +469,14 @@ listed-set_same vectors good v l =
     let m : good < length (lists_of vectors) = omega arith in
     ap (λ (zs : List (List Listing)). get_or zs good []) (map-set (λ (v : Vec Listing). v.items) vectors good v)
     ∙ get_or-set_same (lists_of vectors) good v.items [] m
+
+-- a list that is added is empty
+pub listed-pushed : (vectors : List (Vec Listing)) (v : Vec Listing) (k : ℕ) → v.items ≡ [] → listed_at (lists_of (vectors ++ v ∷ [])) k
+    ≡ listed_at (lists_of vectors) k
+listed-pushed [] v zero e = e
+listed-pushed [] v (suc k) e = refl
+listed-pushed (x ∷ xs) v zero e = refl
+listed-pushed (x ∷ xs) v (suc k) e = listed-pushed xs v k e
 
 pub listed-set_other : (vectors : List (Vec Listing)) (good : ℕ) (v : Vec Listing) (g : ℕ) → (g ≡ good → ⊥) → listed_at (lists_of (set vectors good v)) g
     ≡ listed_at (lists_of vectors) g

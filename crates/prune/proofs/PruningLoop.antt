@@ -28,7 +28,7 @@ use Rattle.prune.proofs.Results.{Within, none_heavy}
 -- ---- atoms of the code
 
 module _ {S : Type 0} (goods : S → List ℕ) (rising : (s : S) → IsRising (goods s)) where
-  all_rising : (atoms : List (Atom S)) → All HasRisingBundle (atoms_of goods atoms)
+  pub all_rising : (atoms : List (Atom S)) → All HasRisingBundle (atoms_of goods atoms)
   all_rising [] = All-nil HasRisingBundle
   all_rising (a ∷ rest) = All-cons HasRisingBundle (plain_atom goods a) (atoms_of goods rest) (rising a.bundle) (all_rising rest)
 

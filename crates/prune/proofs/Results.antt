@@ -19,6 +19,7 @@ use Rattle.prune.specs.Points.{xor_points, or_points}
 use Rattle.prune.specs.Lemmas.OnBundles.{IsOnBundle}
 use Rattle.prune.specs.SearchSteps.{is_below, atoms_below, greatest_price, cut_steps, search_steps, is_heavy, first_heavy}
 use Rattle.prune.specs.Lemmas.Lists.{zero_or_more, Contains-head, Contains-tail, Contains-filter_parts, All-from_Contains, find_first, find_none}
+use Rattle.prune.specs.Internal.Listings.{IsBehind}
 use Rattle.prune.specs.InOrder.{IsBefore, IsInOrder}
 use Rattle.prune.specs.Lemmas.InOrder.{before_both, before_itself, same_bundle_same_atom}
 use Rattle.prune.specs.Lemmas.Values.{xor_value-member, xor_value-bound, xor_value-outbid, or_value-outbid}
@@ -63,6 +64,12 @@ pub record IsTurn (bids done : List (Atom (List ℕ))) (x : Atom (List ℕ)) (re
 
 turn_before : (bids done : List (Atom (List ℕ))) (x : Atom (List ℕ)) (rest : List (Atom (List ℕ))) → IsTurn bids done x rest → All (λ a. IsBefore a x) done
 turn_before bids done x rest t = before_next done x rest t.best.in_order
+
+-- the bid comes behind all kept ones
+pub turn_behind : (bids done : List (Atom (List ℕ))) (x : Atom (List ℕ)) (rest kept : List (Atom (List ℕ))) → IsTurn bids done x rest → All (Contains done) kept
+    → IsBehind x.bundle kept
+turn_behind bids done x rest kept t among =
+    All-weaker (Contains done) (λ a. IsBefore a x) (λ a c. All-contains (λ a. IsBefore a x) done a (turn_before bids done x rest t) c) kept among
 
 turn_rising : (bids done : List (Atom (List ℕ))) (x : Atom (List ℕ)) (rest : List (Atom (List ℕ))) → IsTurn bids done x rest → HasRisingBundle x
 turn_rising bids done x rest t = All-contains HasRisingBundle (done ++ x ∷ rest) x t.rising (Contains-append_right done (x ∷ rest) x (Contains-head x rest))

@@ -1,10 +1,31 @@
 //! The atoms that a pruning keeps, found by their goods.
-ghost use Rattle.std.specs.Prelude.{◌≡◌, ℕ, ◌<◌, ◌&&◌, true, map, length, vec_len, IfOk, OnOk, [], ◌∷◌, ◌++◌};
+ghost use Rattle.std.specs.Prelude.{
+  ◌≡◌,
+  ℕ,
+  ◌+◌,
+  ◌<◌,
+  ◌≤◌,
+  ◌&&◌,
+  true,
+  false,
+  map,
+  length,
+  vec_len,
+  All,
+  IfOk,
+  OnOk,
+  [],
+  ◌∷◌,
+  ◌++◌,
+};
+ghost use Rattle.std.specs.Bool.{OnTrue};
 ghost use Rattle.std.specs.List.{filter, list_any, range_with_len};
 ghost use Rattle.goods_set.specs.Bundles.{has_good};
 ghost use Rattle.goods_set.specs.Residues.{AreResidues};
 ghost use Rattle.valuation.specs.Values.{atoms_of};
+ghost use Rattle.prune.specs.InOrder.{IsInOrder};
 ghost use Rattle.prune.specs.Internal.Listings.{
+  atom_at,
   lists_of,
   places_at,
   is_inside_at,
@@ -13,6 +34,8 @@ ghost use Rattle.prune.specs.Internal.Listings.{
   covers,
   IsListing,
   AreListed,
+  IsBehind,
+  NoneInsideFrom,
 };
 
 use goods_set::{GoodsSet, may_be_inside};
@@ -38,11 +61,15 @@ struct Listing {
 /// A bundle of so many goods has about half of all residues.
 const WIDE: usize = 40;
 
-/// Atoms, each listed at one of its goods, so that those inside a bundle are found through the bundle's goods.
+/// Atoms, each listed at one of its goods, so that those inside a bundle are found through the bundle's goods. They come
+/// in order, and so the smaller bundles first: an atom is listed once a larger bundle comes, since none of its own size
+/// is inside another.
 #[derive(Drop)]
 pub struct Kept<S> {
     /// The atoms, in the order in which they came.
     pub atoms: Vec<Atom<S>>,
+    /// How many of them, from the first on, are listed.
+    listed: usize,
     /// For each good the atoms that are listed there.
     lists: Vec<Vec<Listing>>,
 }
@@ -52,10 +79,11 @@ impl<S: GoodsSet> Kept<S> {
     pub fn with_room(alloc: Global, room: usize) -> Result<Kept<S>, AllocError>
         ensures atoms { IfOk result (λ kept. kept.atoms.items ≡ []) }
         ensures listed { IfOk result
-            (λ kept. AreListed (lists_of kept.lists.items) (atoms_of S.goods kept.atoms.items)) }
+            (λ kept. AreListed (lists_of kept.lists.items) kept.listed (atoms_of S.goods kept.atoms.items)) }
     {
         Ok(Kept {
             atoms: Vec::with_capacity(alloc, room)?,
+            listed: 0,
             lists: Vec::new(alloc),
         })
     }
@@ -64,25 +92,71 @@ impl<S: GoodsSet> Kept<S> {
     pub fn into_atoms(self) -> Vec<Atom<S>>
         ensures { result ≡ self.atoms }
     {
-        let Kept { atoms, lists: _ } = self;
+        let Kept { atoms, listed: _, lists: _ } = self;
         atoms
     }
 
-    /// Adds an atom, and lists it at the good of its bundle at which the fewest are listed.
-    pub fn push(&mut self, alloc: Global, atom: Atom<S>) -> Result<(), AllocError>
-        requires some { 0 < length (S.goods atom.bundle) }
-        requires listed { AreListed (lists_of self.old.lists.items) (atoms_of S.goods self.old.atoms.items) }
+    /// Adds an atom, which is not listed yet.
+    pub fn push(&mut self, atom: Atom<S>) -> Result<(), AllocError>
+        requires { AreListed (lists_of self.old.lists.items) self.old.listed (atoms_of S.goods self.old.atoms.items) }
         ensures atoms { OnOk result (self.new.atoms.items ≡ self.old.atoms.items ++ atom ∷ []) }
-        ensures listed { OnOk result
-            (AreListed (lists_of self.new.lists.items) (atoms_of S.goods self.new.atoms.items)) }
+        ensures listed { OnOk result (AreListed (lists_of self.new.lists.items) self.new.listed
+            (atoms_of S.goods self.new.atoms.items)) }
     {
-        let (least, listing) = self.listing_of(&atom);
+        self.atoms.push(atom)?;
+        Ok(())
+    }
+
+    /// Lists the first atom that is not, at the good of its bundle at which the fewest are listed.
+    fn list_next(&mut self, alloc: Global) -> Result<(), AllocError>
+        requires next { self.old.listed < vec_len self.old.atoms }
+        requires some { All (λ a. 0 < length a.bundle) (atoms_of S.goods self.old.atoms.items) }
+        requires listed { AreListed (lists_of self.old.lists.items) self.old.listed
+            (atoms_of S.goods self.old.atoms.items) }
+        ensures atoms { OnOk result (self.new.atoms ≡ self.old.atoms) }
+        ensures count { OnOk result (self.new.listed ≡ self.old.listed + 1) }
+        ensures listed { OnOk result (AreListed (lists_of self.new.lists.items) self.new.listed
+            (atoms_of S.goods self.new.atoms.items)) }
+    {
+        let (least, listing) = self.listing_of(&self.atoms[self.listed]);
         let good = usize::from(least);
         while self.lists.len() <= good {
             self.lists.push(Vec::new(alloc))?;
         }
         self.lists[good].push(listing)?;
-        self.atoms.push(atom)?;
+        self.listed += 1;
+        Ok(())
+    }
+
+    /// Whether the first atom that is not listed has fewer goods.
+    fn is_next_smaller(&self, size: usize) -> bool
+        ensures next { OnTrue result (self.now.listed < vec_len self.now.atoms) }
+        ensures larger { result ≡ false → self.now.listed < vec_len self.now.atoms
+            → size ≤ length (atom_at (atoms_of S.goods self.now.atoms.items) self.now.listed).bundle }
+    {
+        match self.atoms.get(self.listed) {
+            Some(atom) => atom.bundle.size() < size,
+            None => false,
+        }
+    }
+
+    /// Lists the atoms with fewer goods than the bundle, which comes behind all of them.
+    pub fn list_below(&mut self, alloc: Global, bundle: &S) -> Result<(), AllocError>
+        requires some { All (λ a. 0 < length a.bundle) (atoms_of S.goods self.old.atoms.items) }
+        requires in_order { IsInOrder (atoms_of S.goods self.old.atoms.items) }
+        requires behind { IsBehind (S.goods bundle.now) (atoms_of S.goods self.old.atoms.items) }
+        requires listed { AreListed (lists_of self.old.lists.items) self.old.listed
+            (atoms_of S.goods self.old.atoms.items) }
+        ensures atoms { OnOk result (self.new.atoms ≡ self.old.atoms) }
+        ensures listed { OnOk result (AreListed (lists_of self.new.lists.items) self.new.listed
+            (atoms_of S.goods self.new.atoms.items)) }
+        ensures unlisted { OnOk result (NoneInsideFrom self.new.listed (atoms_of S.goods self.new.atoms.items)
+            (S.goods bundle.now)) }
+    {
+        let size = bundle.size();
+        while self.is_next_smaller(size) {
+            self.list_next(alloc)?;
+        }
         Ok(())
     }
 
@@ -94,11 +168,11 @@ impl<S: GoodsSet> Kept<S> {
         }
     }
 
-    /// The good of the atom's bundle at which the fewest atoms are listed, and what is to be listed there.
+    /// The good of the next atom's bundle at which the fewest atoms are listed, and what is to be listed there.
     fn listing_of(&self, atom: &Atom<S>) -> (u16, Listing)
         requires { 0 < length (S.goods atom.now.bundle) }
         ensures good { has_good (S.goods atom.now.bundle) result.0 ≡ true }
-        ensures place { result.1.place ≡ vec_len self.now.atoms }
+        ensures place { result.1.place ≡ self.now.listed }
         ensures price { result.1.price ≡ atom.now.price }
         ensures residues { AreResidues (S.goods atom.now.bundle) result.1.residues }
         ensures witness { has_good (S.goods atom.now.bundle) result.1.witness ≡ true }
@@ -108,7 +182,7 @@ impl<S: GoodsSet> Kept<S> {
         let mut best = 0;
         let mut fewest = 0;
         let mut listing = Listing {
-            place: self.atoms.len(),
+            place: self.listed,
             price: atom.price,
             residues: atom.bundle.residues(),
             witness: 0,
@@ -170,7 +244,7 @@ impl<S: GoodsSet> Kept<S> {
         wide: bool,
         found: &mut Vec<usize>,
     ) -> Result<(), AllocError>
-        requires listed { AreListed (lists_of self.now.lists.items) (atoms_of S.goods self.now.atoms.items) }
+        requires listed { AreListed (lists_of self.now.lists.items) self.now.listed (atoms_of S.goods self.now.atoms.items) }
         requires residues { AreResidues (S.goods bundle.now) residues }
         ensures { let inside = is_inside_at (atoms_of S.goods self.now.atoms.items) (S.goods bundle.now) in
             let listed = places_at (lists_of self.now.lists.items) good in
@@ -189,7 +263,8 @@ impl<S: GoodsSet> Kept<S> {
 
     /// Puts the places of the atoms inside the bundle, rising, where other places stood.
     fn find_inside(&self, bundle: &S, places: &mut Vec<usize>) -> Result<(), AllocError>
-        requires { AreListed (lists_of self.now.lists.items) (atoms_of S.goods self.now.atoms.items) }
+        requires listed { AreListed (lists_of self.now.lists.items) self.now.listed (atoms_of S.goods self.now.atoms.items) }
+        requires unlisted { NoneInsideFrom self.now.listed (atoms_of S.goods self.now.atoms.items) (S.goods bundle.now) }
         ensures { let inside = is_inside_at (atoms_of S.goods self.now.atoms.items) (S.goods bundle.now) in
             let all = range_with_len 0 (length self.now.atoms.items) in
             OnOk result (places.new.items ≡ filter inside all) }
@@ -213,7 +288,8 @@ impl<S: GoodsSet> Kept<S> {
         bundle: &S,
         places: &mut Vec<usize>,
     ) -> Result<Vec<&Atom<S>>, AllocError>
-        requires { AreListed (lists_of self.now.lists.items) (atoms_of S.goods self.now.atoms.items) }
+        requires listed { AreListed (lists_of self.now.lists.items) self.now.listed (atoms_of S.goods self.now.atoms.items) }
+        requires unlisted { NoneInsideFrom self.now.listed (atoms_of S.goods self.now.atoms.items) (S.goods bundle.now) }
         ensures { let atoms = atoms_of S.goods self.now.atoms.items in
             IfOk result (λ inside. atoms_of S.goods (map (λ a. a.now) inside.items)
             ≡ atoms_inside atoms (S.goods bundle.now)) }
@@ -228,7 +304,7 @@ impl<S: GoodsSet> Kept<S> {
 
     /// Whether an atom inside the bundle that is listed at the good has at least the price.
     fn has_listed(&self, good: u16, bundle: &S, residues: u64, wide: bool, price: u64) -> bool
-        requires listed { AreListed (lists_of self.now.lists.items) (atoms_of S.goods self.now.atoms.items) }
+        requires listed { AreListed (lists_of self.now.lists.items) self.now.listed (atoms_of S.goods self.now.atoms.items) }
         requires residues { AreResidues (S.goods bundle.now) residues }
         ensures { let covering = covers_at (atoms_of S.goods self.now.atoms.items) (S.goods bundle.now) price in
             result ≡ list_any covering (places_at (lists_of self.now.lists.items) good) }
@@ -246,7 +322,8 @@ impl<S: GoodsSet> Kept<S> {
 
     /// Whether an atom inside the bundle has at least the price.
     pub fn has_inside(&self, bundle: &S, price: u64) -> bool
-        requires { AreListed (lists_of self.now.lists.items) (atoms_of S.goods self.now.atoms.items) }
+        requires listed { AreListed (lists_of self.now.lists.items) self.now.listed (atoms_of S.goods self.now.atoms.items) }
+        requires unlisted { NoneInsideFrom self.now.listed (atoms_of S.goods self.now.atoms.items) (S.goods bundle.now) }
         ensures { result ≡ list_any (covers (S.goods bundle.now) price) (atoms_of S.goods self.now.atoms.items) }
     {
         let residues = bundle.residues();

@@ -1,11 +1,11 @@
 //! Pruning the bids of an XOR bidder.
-ghost use Rattle.std.specs.Prelude.{◌≡◌, ℕ, ◌≤◌, true, false, List, All, Contains, IfOk, vec_len};
+ghost use Rattle.std.specs.Prelude.{◌≡◌, ℕ, ◌<◌, ◌≤◌, true, List, All, Contains, IfOk, OnOk, vec_len, length};
 ghost use Rattle.std.specs.List.{list_any};
 ghost use Rattle.cats_text.specs.declared.limits.TheConstants.{MAX_GOODS};
 ghost use Rattle.valuation.specs.Auctions.{IsAtom};
 ghost use Rattle.valuation.specs.Values.{atoms_of, plain_atom, xor_value};
 ghost use Rattle.prune.specs.InOrder.{IsInOrder};
-ghost use Rattle.prune.specs.Internal.Listings.{lists_of, covers, AreListed, AreUncovered};
+ghost use Rattle.prune.specs.Internal.Listings.{lists_of, covers, AreListed, AreUncovered, IsBehind};
 ghost use Rattle.prune.specs.Points.{xor_points};
 
 use crate::best::keep_best_bids;
@@ -52,15 +52,28 @@ fn are_few_and_uncovered<S: GoodsSet>(bids: &[Atom<S>]) -> bool
 }
 
 /// Whether a kept atom inside the bid's bundle has at least its price. Few atoms need not be listed.
-fn is_covered<S: GoodsSet>(kept: &Kept<S>, bid: &Atom<S>, few: bool) -> bool
-    requires { few ≡ false → AreListed (lists_of kept.now.lists.items) (atoms_of S.goods kept.now.atoms.items) }
-    ensures { result ≡ list_any (covers (S.goods bid.now.bundle) bid.now.price)
-        (atoms_of S.goods kept.now.atoms.items) }
+fn is_covered<S: GoodsSet>(
+    alloc: Global,
+    kept: &mut Kept<S>,
+    bid: &Atom<S>,
+    few: bool,
+) -> Result<bool, AllocError>
+    requires some { All (λ a. 0 < length a.bundle) (atoms_of S.goods kept.old.atoms.items) }
+    requires in_order { IsInOrder (atoms_of S.goods kept.old.atoms.items) }
+    requires behind { IsBehind (S.goods bid.now.bundle) (atoms_of S.goods kept.old.atoms.items) }
+    requires listed { AreListed (lists_of kept.old.lists.items) kept.old.listed
+        (atoms_of S.goods kept.old.atoms.items) }
+    ensures answer { IfOk result (λ covered. covered ≡ list_any (covers (S.goods bid.now.bundle) bid.now.price)
+        (atoms_of S.goods kept.old.atoms.items)) }
+    ensures atoms { OnOk result (kept.new.atoms ≡ kept.old.atoms) }
+    ensures listed { OnOk result (AreListed (lists_of kept.new.lists.items) kept.new.listed
+        (atoms_of S.goods kept.new.atoms.items)) }
 {
-    if !few {
-        return kept.has_inside(&bid.bundle, bid.price);
+    if few {
+        return Ok(is_covered_by_any(bid, kept.atoms.as_slice()));
     }
-    is_covered_by_any(bid, kept.atoms.as_slice())
+    kept.list_below(alloc, &bid.bundle)?;
+    Ok(kept.has_inside(&bid.bundle, bid.price))
 }
 
 /// The bids that the bidder's values alone ask for, in order: a bid stays where no kept bid inside its bundle has its
@@ -89,12 +102,8 @@ pub fn prune_xor<S: GoodsSet>(
     let few = atoms.len() <= FEW;
     let mut kept = Kept::with_room(alloc, atoms.len())?;
     for bid in atoms {
-        if !is_covered(&kept, &bid, few) {
-            if few {
-                kept.atoms.push(bid)?;
-            } else {
-                kept.push(alloc, bid)?;
-            }
+        if !is_covered(alloc, &mut kept, &bid, few)? {
+            kept.push(bid)?;
         }
     }
     Ok(kept.into_atoms())

@@ -1,10 +1,12 @@
 -- Atoms listed by their goods, so that those inside a bundle are found through the goods of the bundle.
-use Rattle.std.specs.Prelude.{◌≡◌, ◌≢◌, ℕ, ◌<◌, Bool, ◌&&◌, true, false, nat_le, map, slice_index_or, List, [], length}
-use Rattle.std.specs.Prelude.{take, AllPairs, Contains}
+use Rattle.std.specs.Prelude.{◌≡◌, ◌≢◌, ℕ, ◌<◌, ◌≤◌, Bool, ◌&&◌, true, false, nat_le, map, slice_index_or, List, [], length}
+use Rattle.std.specs.Prelude.{take, All, AllPairs, Contains}
+use Rattle.std.proofs.Common.{Less}
 use Rattle.std.specs.Global.{Vec}
 use Rattle.std.specs.List.{filter, list_any}
 use Rattle.valuation.specs.declared.atom.Atom.{Atom}
 use Rattle.goods_set.specs.Bundles.{has_good, is_inside}
+use Rattle.goods_set.specs.Orders.{bundle_cmp}
 use Rattle.goods_set.specs.Residues.{AreResidues}
 use Rattle.prune.specs.declared.kept.Listing.{Listing}
 
@@ -56,13 +58,23 @@ pub record IsListing (atoms : List (Atom (List ℕ))) (listing : Listing) : Type
   pub second : has_good (atom_at atoms listing.place).bundle listing.second ≡ true
   pub third : has_good (atom_at atoms listing.place).bundle listing.third ≡ true
 
--- each atom is listed at one of its goods, once and at no other good, and nothing else is listed
-pub record AreListed (lists : List (List Listing)) (atoms : List (Atom (List ℕ))) : Type 0 where
-  pub each : (place : ℕ) → place < length atoms → IsListed lists (atom_at atoms place).bundle place
+-- each of so many atoms, from the first on, is listed at one of its goods, once and at no other good, and nothing else is listed
+pub record AreListed (lists : List (List Listing)) (listed : ℕ) (atoms : List (Atom (List ℕ))) : Type 0 where
+  pub most : listed ≤ length atoms
+  pub each : (place : ℕ) → place < listed → IsListed lists (atom_at atoms place).bundle place
   pub right : (good : ℕ) (listing : Listing) → Contains (listed_at lists good) listing → IsListing atoms listing
+  pub no_more : (good place : ℕ) → Contains (places_at lists good) place → place < listed
   pub once : (good : ℕ) → AllPairs (λ one other. one ≢ other) (places_at lists good)
   pub one_good : (good other place : ℕ) → Contains (places_at lists good) place → Contains (places_at lists other) place
       → good ≡ other
+
+-- the bundle comes behind those of all atoms
+abbrev pub IsBehind : List ℕ → List (Atom (List ℕ)) → Type 0
+IsBehind bundle atoms = All (λ a. bundle_cmp a.bundle bundle ≡ Less) atoms
+
+-- none of the atoms from a place on is inside the bundle
+abbrev pub NoneInsideFrom : ℕ → List (Atom (List ℕ)) → List ℕ → Type 0
+NoneInsideFrom from atoms bundle = (place : ℕ) → from ≤ place → place < length atoms → is_inside_at atoms bundle place ≡ false
 
 -- the atoms of a list inside a bundle
 abbrev pub atoms_inside : List (Atom (List ℕ)) → List ℕ → List (Atom (List ℕ))

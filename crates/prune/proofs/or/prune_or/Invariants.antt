@@ -14,7 +14,7 @@ invariant-loop-bid g l =
     record {
       best : AreBestBids (atoms_of goods l.fn.atoms.items) (atoms_of goods (l.yielded ++ into_iter_items l.bid-iterator));
       fits : length (l.yielded ++ into_iter_items l.bid-iterator) ≤ vec_len l.fn.atoms;
-      listed : AreListed (lists_of l.kept.lists.items) (atoms_of goods l.kept.atoms.items);
+      listed : AreListed (lists_of l.kept.lists.items) l.kept.listed (atoms_of goods l.kept.atoms.items);
       kept : IsOrKept (atoms_of goods l.yielded) (atoms_of goods l.kept.atoms.items);
       within : Within l.limit (atoms_of goods l.kept.atoms.items) (atoms_of goods l.yielded);
       fewer : vec_len l.kept.atoms ≤ length l.yielded;

@@ -1,5 +1,5 @@
 -- The bids that are done and those still to come are the best bids; what is kept of those that are done is as it should be.
-use Rattle.std.proofs.Common.{◌≡◌, ◌≤◌, false, ◌++◌, length, vec_len}
+use Rattle.std.proofs.Common.{◌≤◌, ◌++◌, length, vec_len}
 use Rattle.std.specs.Vec.Iter.{into_iter_items}
 use Rattle.valuation.specs.Values.{atoms_of}
 use Rattle.prune.specs.Internal.BestBids.{AreBestBids}
@@ -13,7 +13,7 @@ invariant-loop-bid g l =
     record {
       best : AreBestBids (atoms_of goods l.fn.atoms.items) (atoms_of goods (l.yielded ++ into_iter_items l.bid-iterator));
       fits : length (l.yielded ++ into_iter_items l.bid-iterator) ≤ vec_len l.fn.atoms;
-      listed : l.few ≡ false → AreListed (lists_of l.kept.lists.items) (atoms_of goods l.kept.atoms.items);
+      listed : AreListed (lists_of l.kept.lists.items) l.kept.listed (atoms_of goods l.kept.atoms.items);
       kept : IsXorKept (atoms_of goods l.yielded) (atoms_of goods l.kept.atoms.items);
       fewer : vec_len l.kept.atoms ≤ length l.yielded;
     }

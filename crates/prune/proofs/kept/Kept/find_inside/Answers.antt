@@ -16,7 +16,7 @@ loop-good-smaller g c =
 pub loop-good-preserved : goal.loop-good-preserved
 loop-good-preserved g c =
     let goods = g.S.GoodsSet.goods in
-    let next = IsFinding-more _ _ (goods c.args.bundle.now) c.loop-good.from c.in-Some.good _ _ c.requires (g.met.S.GoodsSet.is_bundle c.args.bundle.now).0
+    let next = IsFinding-more _ _ _ (goods c.args.bundle.now) c.loop-good.from c.in-Some.good _ _ c.requires.listed (g.met.S.GoodsSet.is_bundle c.args.bundle.now).0
     (sym c.in-Some.ensures) c.in_ok-find_listed.ensures c.loop-good.invariant in
     rw c.from-from.ensures next
 
@@ -24,7 +24,8 @@ pub returns : goal.returns
 returns g c =
     let goods = g.S.GoodsSet.goods in
     let atoms = c.args.self.now.atoms.items in
-    IsFinding-all (lists_of c.args.self.now.lists.items) (atoms_of goods atoms) (goods c.args.bundle.now) c.loop-good.from _ _ c.requires
+    IsFinding-all (lists_of c.args.self.now.lists.items) c.args.self.now.listed (atoms_of goods atoms) (goods c.args.bundle.now) c.loop-good.from _ _ c.requires.listed
+    c.requires.unlisted
     (sym c.in_default.ensures) c.loop-good.invariant
     c.sort_unstable.ensures.permutation c.sort_unstable.ensures.sorted
     ∙ ap (λ n. filter (is_inside_at (atoms_of goods atoms) (goods c.args.bundle.now)) (range_with_len 0 n)) (length-atoms_of goods atoms)

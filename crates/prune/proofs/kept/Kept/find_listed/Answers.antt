@@ -12,7 +12,7 @@ is_inside-requires-clause-listing g c =
     let kept = c.args.self.now in
     let there = listed_there kept.lists.items c.from-good.result c.index.result.now (omega (arith, c.if-good-len.true, c.len.ensures, kept.lists.ok.0))
     c.index.ensures in
-    listing_index (lists_of kept.lists.items) (atoms_of goods kept.atoms.items) c.from-good.result c.deref-listing-items.result.now c.loop-listing.listing-index
+    listing_index (lists_of kept.lists.items) kept.listed (atoms_of goods kept.atoms.items) c.from-good.result c.deref-listing-items.result.now c.loop-listing.listing-index
     _ c.requires.listed (there ∙ sym c.deref-listing-items.ensures.value) c.loop-listing-test.true
 
 pub loop-listing-preserved : goal.loop-listing-preserved

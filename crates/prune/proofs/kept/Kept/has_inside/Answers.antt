@@ -22,11 +22,11 @@ loop-good-preserved g c =
 pub returns-then-has_listed : goal.returns-then-has_listed
 returns-then-has_listed g c =
     let goods = g.S.GoodsSet.goods in
-    sym (one_covers (lists_of c.args.self.now.lists.items) (atoms_of goods c.args.self.now.atoms.items) (goods c.args.bundle.now) c.args.price c.in-Some.good
-    c.requires (sym c.has_listed.ensures ∙ c.if-has_listed.true))
+    sym (one_covers (lists_of c.args.self.now.lists.items) c.args.self.now.listed (atoms_of goods c.args.self.now.atoms.items) (goods c.args.bundle.now) c.args.price c.in-Some.good
+    c.requires.listed (sym c.has_listed.ensures ∙ c.if-has_listed.true))
 
 pub returns : goal.returns
 returns g c =
     let goods = g.S.GoodsSet.goods in
-    sym (NoneCovers-all (lists_of c.args.self.now.lists.items) (atoms_of goods c.args.self.now.atoms.items) (goods c.args.bundle.now) c.args.price
-    c.loop-good.from c.requires (sym c.in_default.ensures) c.loop-good.invariant)
+    sym (NoneCovers-all (lists_of c.args.self.now.lists.items) c.args.self.now.listed (atoms_of goods c.args.self.now.atoms.items) (goods c.args.bundle.now) c.args.price
+    c.loop-good.from c.requires.listed c.requires.unlisted (sym c.in_default.ensures) c.loop-good.invariant)

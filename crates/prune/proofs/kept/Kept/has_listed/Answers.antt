@@ -14,7 +14,7 @@ is_inside-requires-clause-listing g c =
     let kept = c.args.self.now in
     let there = listed_there kept.lists.items c.from-good.result c.index.result.now (omega (arith, c.if-good-len.true, c.len.ensures, kept.lists.ok.0))
     c.index.ensures in
-    listing_index (lists_of kept.lists.items) (atoms_of goods kept.atoms.items) c.from-good.result c.deref-listing-items.result.now c.loop-listing.listing-index
+    listing_index (lists_of kept.lists.items) kept.listed (atoms_of goods kept.atoms.items) c.from-good.result c.deref-listing-items.result.now c.loop-listing.listing-index
     _ c.requires.listed (there ∙ sym c.deref-listing-items.ensures.value) c.loop-listing-test.true
 
 pub returns-then-is_inside : goal.returns-then-is_inside
@@ -29,7 +29,7 @@ returns-then-is_inside g c =
     let listed = c.deref-listing-items.result.now in
     let i = c.loop-listing.listing-index in
     let is = ap (listed_at (lists_of kept.lists.items)) (sym c.from-good.ensures) ∙ there ∙ sym c.deref-listing-items.ensures.value in
-    let right = listing_index (lists_of kept.lists.items) atoms c.args.good listed i d c.requires.listed is c.loop-listing-test.true in
+    let right = listing_index (lists_of kept.lists.items) kept.listed atoms c.args.good listed i d c.requires.listed is c.loop-listing-test.true in
     let covering = covers_listed atoms bundle c.args.price (get_or listed i d) right c.if-price-listing.true (sym c.is_inside.ensures ∙ c.if-is_inside.true) in
     sym (one_listed (lists_of kept.lists.items) c.args.good listed i d (covers_at atoms bundle c.args.price) is c.loop-listing-test.true covering)
 
@@ -44,7 +44,7 @@ loop-listing-preserved g c =
     let bundle = goods c.args.bundle.now in
     let listed = c.deref-listing-items.result.now in
     let i = c.loop-listing.listing-index in
-    let right = listing_index (lists_of kept.lists.items) atoms c.from-good.result listed i d c.requires.listed
+    let right = listing_index (lists_of kept.lists.items) kept.listed atoms c.from-good.result listed i d c.requires.listed
     (there ∙ sym c.deref-listing-items.ensures.value)
     c.loop-listing-test.true in
     let at = places_get listed i d c.loop-listing-test.true in

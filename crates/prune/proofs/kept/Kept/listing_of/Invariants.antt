@@ -1,5 +1,5 @@
 -- The goods chosen so far are goods of the bundle.
-use Rattle.std.proofs.Common.{◌≡◌, ◌-◌, ◌⊎◌, true, vec_len}
+use Rattle.std.proofs.Common.{◌≡◌, ◌-◌, ◌⊎◌, true}
 use Rattle.goods_set.specs.Bundles.{has_good}
 use Rattle.goods_set.specs.Residues.{AreResidues}
 use Rattle.prune.proofs.kept.Kept.listing_of.Given as goal
@@ -8,7 +8,7 @@ abbrev pub invariant-loop-good : goal.invariant-loop-good
 invariant-loop-good g l =
     let bundle = g.S.GoodsSet.goods l.atom.bundle in
     record {
-      place : l.listing.place ≡ vec_len l.self.atoms;
+      place : l.listing.place ≡ l.self.listed;
       price : l.listing.price ≡ l.atom.price;
       residues : AreResidues bundle l.listing.residues;
       chosen : (l.from ≡ 0) ⊎ ((has_good bundle l.best ≡ true) × (has_good bundle l.listing.witness ≡ true) × (has_good bundle l.listing.second ≡ true)
