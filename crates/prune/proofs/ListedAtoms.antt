@@ -6,7 +6,7 @@ use Rattle.std.specs.Prelude.{All, AllPairs, Contains, IsPermutation}
 use Rattle.std.specs.Global.{Vec}
 use Rattle.std.specs.List.{filter, list_any, range_with_len}
 use Rattle.std.specs.List.Sorted.{IsSorted}
-use Rattle.std.proofs.lemmas.Bool.{cases_lt, cases_eq, both_ways, and_parts, and_from, and_left, and_right, or_from, le-leb, lt-leb, false_from_ne_true}
+use Rattle.std.proofs.lemmas.Bool.{cases_lt, cases_eq, both_ways, and_parts, and_from, and_left, and_right, or_from, lt-leb, false_from_ne_true}
 use Rattle.std.proofs.lemmas.Bool.{eqb-true, eq-eqb}
 use Rattle.std.specs.Cmp.{both_ways as same_test}
 use Rattle.std.proofs.lemmas.Bool.Decides.{Decides-eqb}
@@ -414,13 +414,7 @@ pub listing_index : (lists : List (List Listing)) (count : ℕ) (atoms : List (A
 listing_index lists count atoms good listed i d a e l =
     a.right good (get_or listed i d) (subst (λ (zs : List Listing). Contains zs (get_or listed i d)) (sym e) (Contains-get_or listed i d l))
 
--- whether the atom that is listed covers the bundle at the price
-pub covers_listed : (atoms : List (Atom (List ℕ))) (bundle : List ℕ) (price : ℕ) (listing : Listing) → IsListing atoms listing → price ≤ listing.price
-    → is_inside_at atoms bundle listing.place ≡ true → covers_at atoms bundle price listing.place ≡ true
-covers_listed atoms bundle price listing r l t = let e = r.price in
-    and_from (leb price (atom_at atoms listing.place).price) (is_inside_at atoms bundle listing.place)
-    (le-leb price (atom_at atoms listing.place).price (omega arith)) t
-
+-- an atom that is too cheap, or not inside the bundle, does not cover it at the price
 pub too_cheap : (atoms : List (Atom (List ℕ))) (bundle : List ℕ) (price : ℕ) (listing : Listing) → IsListing atoms listing → listing.price < price
     → covers_at atoms bundle price listing.place ≡ false
 too_cheap atoms bundle price listing r l = let e = r.price in and_left (leb price (atom_at atoms listing.place).price) (is_inside_at atoms bundle listing.place)

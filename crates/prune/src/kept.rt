@@ -219,17 +219,48 @@ impl<S: GoodsSet> Kept<S> {
         bundle.has(listing.witness) && bundle.has(listing.second) && bundle.has(listing.third)
     }
 
-    /// Whether the atom that is listed is inside the bundle, which has these residues. In a wide bundle, which has most
-    /// of all residues, the goods that are listed with the atom are looked up before its own bundle is read.
+    /// Whether the atom that is listed may be inside the bundle, which has these residues. In a wide bundle, which has
+    /// most of all residues, the goods that are listed with the atom are looked up before its own bundle is read.
+    fn may_be_inside(&self, listing: &Listing, bundle: &S, residues: u64, wide: bool) -> bool
+        requires listing { IsListing (atoms_of S.goods self.now.atoms.items) listing.now }
+        requires residues { AreResidues (S.goods bundle.now) residues }
+        ensures { is_inside_at (atoms_of S.goods self.now.atoms.items) (S.goods bundle.now) listing.now.place ≡ true
+            → result ≡ true }
+    {
+        may_be_inside(listing.residues, residues) && (!wide || Self::has_witnesses(bundle, listing))
+    }
+
+    /// Whether the atom that is listed is inside the bundle.
     fn is_inside(&self, listing: &Listing, bundle: &S, residues: u64, wide: bool) -> bool
         requires listing { IsListing (atoms_of S.goods self.now.atoms.items) listing.now }
         requires residues { AreResidues (S.goods bundle.now) residues }
         ensures { result ≡ is_inside_at (atoms_of S.goods self.now.atoms.items) (S.goods bundle.now) listing.now.place }
     {
-        if !may_be_inside(listing.residues, residues) {
+        if !self.may_be_inside(listing, bundle, residues, wide) {
             return false;
         }
-        if wide && !Self::has_witnesses(bundle, listing) {
+        self.atoms[listing.place].bundle.is_inside(bundle)
+    }
+
+    /// Whether the atom that is listed is inside the bundle and has at least the price. The price is compared late,
+    /// since it says nothing of the next one's, and what says mostly the same costs less.
+    fn is_covering(
+        &self,
+        listing: &Listing,
+        bundle: &S,
+        residues: u64,
+        wide: bool,
+        price: u64,
+    ) -> bool
+        requires listing { IsListing (atoms_of S.goods self.now.atoms.items) listing.now }
+        requires residues { AreResidues (S.goods bundle.now) residues }
+        ensures { result ≡ covers_at (atoms_of S.goods self.now.atoms.items) (S.goods bundle.now) price
+            listing.now.place }
+    {
+        if !self.may_be_inside(listing, bundle, residues, wide) {
+            return false;
+        }
+        if listing.price < price {
             return false;
         }
         self.atoms[listing.place].bundle.is_inside(bundle)
@@ -312,7 +343,7 @@ impl<S: GoodsSet> Kept<S> {
         let good = usize::from(good);
         if good < self.lists.len() {
             for listing in &self.lists[good] {
-                if price <= listing.price && self.is_inside(listing, bundle, residues, wide) {
+                if self.is_covering(listing, bundle, residues, wide, price) {
                     return true;
                 }
             }

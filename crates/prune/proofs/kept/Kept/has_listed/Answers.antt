@@ -1,24 +1,22 @@
--- None of the atoms listed before covers the bid; one that costs less, or is not inside the bundle, does not cover it either, and
--- else one that does was found.
-use Rattle.std.proofs.Common.{arith, ◌≡◌, map, get_or, sym, ap, ◌∙◌, false}
+-- None of the atoms listed before covers the bid, and the next one does not either, or one that does was found.
+use Rattle.std.proofs.Common.{arith, map, get_or, sym, ap, ◌∙◌}
 use Rattle.valuation.specs.Values.{atoms_of}
 use Rattle.prune.specs.declared.kept.Listing.{Listing}
 use Rattle.prune.specs.Internal.Listings.{lists_of, listed_at, covers_at}
-use Rattle.prune.proofs.ListedAtoms.{place_of, listed_there, places_get, listing_index, covers_listed, too_cheap, not_inside, one_listed, none_more}
+use Rattle.prune.proofs.ListedAtoms.{place_of, listed_there, places_get, listing_index, one_listed, none_more}
 use Rattle.prune.proofs.kept.Kept.has_listed.Goals as goal
-use Rattle.prune.proofs.kept.Kept.has_listed.Goals.{else-price-listing-via-then-price-listing+else-is_inside, else-price-listing-via-else-price-listing}
 
-pub is_inside-requires-clause-listing : goal.is_inside-requires-clause-listing
-is_inside-requires-clause-listing g c =
+pub is_covering-requires-clause-listing : goal.is_covering-requires-clause-listing
+is_covering-requires-clause-listing g c =
     let goods = g.S.GoodsSet.goods in
     let kept = c.args.self.now in
     let there = listed_there kept.lists.items c.from-good.result c.index.result.now (omega (arith, c.if-good-len.true, c.len.ensures, kept.lists.ok.0))
     c.index.ensures in
-    listing_index (lists_of kept.lists.items) kept.listed (atoms_of goods kept.atoms.items) c.from-good.result c.deref-listing-items.result.now c.loop-listing.listing-index
-    _ c.requires.listed (there ∙ sym c.deref-listing-items.ensures.value) c.loop-listing-test.true
+    listing_index (lists_of kept.lists.items) kept.listed (atoms_of goods kept.atoms.items) c.from-good.result c.deref-listing-items.result.now
+    c.loop-listing.listing-index _ c.requires.listed (there ∙ sym c.deref-listing-items.ensures.value) c.loop-listing-test.true
 
-pub returns-then-is_inside : goal.returns-then-is_inside
-returns-then-is_inside g c =
+pub returns-then-is_covering : goal.returns-then-is_covering
+returns-then-is_covering g c =
     let goods = g.S.GoodsSet.goods in
     let kept = c.args.self.now in
     let there = listed_there kept.lists.items c.from-good.result c.index.result.now (omega (arith, c.if-good-len.true, c.len.ensures, kept.lists.ok.0))
@@ -29,29 +27,15 @@ returns-then-is_inside g c =
     let listed = c.deref-listing-items.result.now in
     let i = c.loop-listing.listing-index in
     let is = ap (listed_at (lists_of kept.lists.items)) (sym c.from-good.ensures) ∙ there ∙ sym c.deref-listing-items.ensures.value in
-    let right = listing_index (lists_of kept.lists.items) kept.listed atoms c.args.good listed i d c.requires.listed is c.loop-listing-test.true in
-    let covering = covers_listed atoms bundle c.args.price (get_or listed i d) right c.if-price-listing.true (sym c.is_inside.ensures ∙ c.if-is_inside.true) in
-    sym (one_listed (lists_of kept.lists.items) c.args.good listed i d (covers_at atoms bundle c.args.price) is c.loop-listing-test.true covering)
+    sym (one_listed (lists_of kept.lists.items) c.args.good listed i d (covers_at atoms bundle c.args.price) is c.loop-listing-test.true
+    (sym c.is_covering.ensures ∙ c.if-is_covering.true))
 
 pub loop-listing-preserved : goal.loop-listing-preserved
 loop-listing-preserved g c =
     let goods = g.S.GoodsSet.goods in
-    let kept = c.args.self.now in
-    let there = listed_there kept.lists.items c.from-good.result c.index.result.now (omega (arith, c.if-good-len.true, c.len.ensures, kept.lists.ok.0))
-    c.index.ensures in
     let d : Listing = record { place = 0; price = 0; residues = 0; witness = 0; second = 0; third = 0 } in
-    let atoms = atoms_of goods kept.atoms.items in
-    let bundle = goods c.args.bundle.now in
     let listed = c.deref-listing-items.result.now in
     let i = c.loop-listing.listing-index in
-    let right = listing_index (lists_of kept.lists.items) kept.listed atoms c.from-good.result listed i d c.requires.listed
-    (there ∙ sym c.deref-listing-items.ensures.value)
-    c.loop-listing-test.true in
     let at = places_get listed i d c.loop-listing-test.true in
-    let misses : covers_at atoms bundle c.args.price (get_or listed i d).place ≡ false =
-    elim c.else-price-listing.branch [
-      | else-price-listing-via-then-price-listing+else-is_inside w ↦ not_inside atoms bundle c.args.price (get_or listed i d) (sym w.is_inside.ensures
-          ∙ w.if-is_inside.false)
-      | else-price-listing-via-else-price-listing w ↦ too_cheap atoms bundle c.args.price (get_or listed i d) right w.if-price-listing.false
-    ] in
-    none_more (covers_at atoms bundle c.args.price) (map place_of listed) i (get_or listed i d).place at.0 at.1 c.loop-listing.invariant misses
+    none_more (covers_at (atoms_of goods c.args.self.now.atoms.items) (goods c.args.bundle.now) c.args.price) (map place_of listed) i (get_or listed i d).place
+    at.0 at.1 c.loop-listing.invariant (sym c.is_covering.ensures ∙ c.if-is_covering.false)
