@@ -72,7 +72,7 @@ impl<T: Drop> From<AllocFailed<T>> for Stop {
 pub enum Keeping {
     /// The bids.
     Bids,
-    /// The bids in little memory, to be sent.
+    /// The bids in little memory.
     Compact,
     /// That their numbers came.
     Numbers,

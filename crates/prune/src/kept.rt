@@ -92,7 +92,11 @@ impl<S: GoodsSet> Kept<S> {
     pub fn into_atoms(self) -> Vec<Atom<S>>
         ensures { result ≡ self.atoms }
     {
-        let Kept { atoms, listed: _, lists: _ } = self;
+        let Kept {
+            atoms,
+            listed: _,
+            lists: _,
+        } = self;
         atoms
     }
 
@@ -221,6 +225,7 @@ impl<S: GoodsSet> Kept<S> {
 
     /// Whether the atom that is listed may be inside the bundle, which has these residues. In a wide bundle, which has
     /// most of all residues, the goods that are listed with the atom are looked up before its own bundle is read.
+    #[inline(always)]
     fn may_be_inside(&self, listing: &Listing, bundle: &S, residues: u64, wide: bool) -> bool
         requires listing { IsListing (atoms_of S.goods self.now.atoms.items) listing.now }
         requires residues { AreResidues (S.goods bundle.now) residues }
@@ -231,6 +236,7 @@ impl<S: GoodsSet> Kept<S> {
     }
 
     /// Whether the atom that is listed is inside the bundle.
+    #[inline(always)]
     fn is_inside(&self, listing: &Listing, bundle: &S, residues: u64, wide: bool) -> bool
         requires listing { IsListing (atoms_of S.goods self.now.atoms.items) listing.now }
         requires residues { AreResidues (S.goods bundle.now) residues }
@@ -244,6 +250,7 @@ impl<S: GoodsSet> Kept<S> {
 
     /// Whether the atom that is listed is inside the bundle and has at least the price. The price is compared late,
     /// since it says nothing of the next one's, and what says mostly the same costs less.
+    #[inline(always)]
     fn is_covering(
         &self,
         listing: &Listing,
