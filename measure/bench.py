@@ -119,7 +119,8 @@ def bidders(path, count, many, per_bidder):
 
 
 def subsets(path, count):
-    """The nonempty subsets of 16 goods, the first ones by size, as bids of one XOR bidder."""
+    """The nonempty subsets of 16 goods, the first ones by size, as bids of one XOR bidder. Of all of them one has 655 others inside on the
+    average, and of the first 8,192 one has 29, so that a byte of more costs up to 22 times as much."""
     families = (goods for size in range(1, 17) for goods in combinations(range(16), size))
     chosen = [(1 + len(goods), [*goods, 16]) for goods, _ in zip(families, range(count))]
     write(path, [f"goods 16\nbids {len(chosen)}\ndummy 1\n", *bid_lines(chosen)])
@@ -278,7 +279,7 @@ PRUNINGS = (
     ("pruning of 4 goods a bid", one_bidder(4), 3),
     ("pruning of 40 goods a bid", one_bidder(40), 3),
     ("pruning of 300 goods a bid", one_bidder(300), 3),
-    ("pruning of subsets of 16 goods", subsets, 12),
+    ("pruning of subsets of 16 goods", subsets, 25),
     ("pruning of bidders of one bid", single_bids, 2.5),
     ("pruning of OR bids", or_bids, 3),
 )
