@@ -369,6 +369,20 @@ fn nested_bids_on_both_sets(rt: HostRuntime) -> Result<(), Fail> {
     nested::<WordSet<16>>(&rt, rt.alloc())
 }
 
+// Of more XOR bids than are compared one by one, each inside the next, only one that the bid before it covers goes.
+fn nested_xor<S: GoodsSet>(rt: &impl Abort, alloc: Global) -> Result<(), Fail> {
+    let mut bids = nested_bids::<S>(rt, alloc, 60)?;
+    add_atom(rt, alloc, &mut bids, &goods_below(alloc, 61)?, 60)?;
+    assert_eq!(rt; prune_xor(alloc, bids)?.len(), 60);
+    Ok(())
+}
+
+#[test]
+fn nested_xor_bids_on_both_sets(rt: HostRuntime) -> Result<(), Fail> {
+    nested_xor::<ListSet>(&rt, rt.alloc())?;
+    nested_xor::<WordSet<16>>(&rt, rt.alloc())
+}
+
 // The bids 0:0, 0:1, and so on, in units.
 fn bids_on_one_bundle<S: GoodsSet>(rt: &impl Abort, alloc: Global) -> Result<Vec<Atom<S>>, Fail>
     ensures { IfOk result (λ bids. All (IsAtom MAX_GOODS) (atoms_of S.goods bids.items)) }

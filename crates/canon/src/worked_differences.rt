@@ -4,6 +4,7 @@ ghost use Rattle.std.specs.Prelude.{◌≡◌, ℕ, List, [], ◌∷◌};
 ghost use Rattle.valuation.specs.Examples.{atom};
 ghost use Rattle.canon.specs.Difference.{first_difference, NoDifference, InGoods, InOr, InXor};
 ghost use Rattle.canon.specs.Examples.{auction};
+ghost use Rattle.canon.specs.Verdicts.{NamesGoods};
 ghost use Rattle.canon.specs.declared.verdict.Side.TheVariants.{Exactly, Below};
 
 /// The first difference. Goods come before values, the first bundle before later ones, and the OR bidder before XOR
@@ -34,4 +35,12 @@ pub fn first_differences()
         (auction 2 [] ((atom (0 ∷ []) 1 ∷ atom (1 ∷ []) 1 ∷ atom (0 ∷ 1 ∷ []) 2 ∷ [])
         ∷ (atom (0 ∷ []) 2 ∷ atom (1 ∷ []) 2 ∷ []) ∷ []))
         ≡ InXor (atom (0 ∷ []) 1 ∷ atom (1 ∷ []) 1 ∷ atom (0 ∷ 1 ∷ []) 2 ∷ []) 0 1 }
+{}
+
+/// The differences that name goods: of the OR bidder, and of an XOR bidder.
+pub fn differences_that_name_goods()
+    ensures or { NamesGoods (InOr (0 ∷ []) (Exactly 4) (Below 4)) }
+    ensures xor { NamesGoods (InXor (atom (0 ∷ []) 1 ∷ []) 1 0) }
+    ensures none { NamesGoods NoDifference → ⊥ }
+    ensures goods { NamesGoods (InGoods 1 2) → ⊥ }
 {}

@@ -1,6 +1,6 @@
 //! Worked examples of what the runs print, computed by the prover.
 
-ghost use Rattle.std.specs.Prelude.{◌≡◌, ℕ, List, [], ◌∷◌, map, codes, Vec};
+ghost use Rattle.std.specs.Prelude.{◌≡◌, ℕ, List, [], ◌∷◌, map, codes, Vec, Ok, Err, true, false};
 ghost use Rattle.std.specs.Global.{Global};
 ghost use Rattle.cats_text.specs.declared.fault.Kind.TheVariants.{
   TwoDummies,
@@ -18,6 +18,8 @@ ghost use Rattle.cats_cmd.specs.Outcomes.{LacksGood, ExceedsSteps, Tells, check_
 ghost use Rattle.cats_cmd.specs.Outputs.{bundle_text, sizes_text};
 ghost use Rattle.cats_cmd.specs.ValueTexts.{bundle_from};
 ghost use Rattle.cats_cmd.specs.FaultLines.{line_of_fault};
+ghost use Rattle.cats_text.specs.Examples.{known, watched};
+ghost use Rattle.cats_cmd.specs.Runs.{SendsFileAs};
 ghost use Rattle.cats_cmd.specs.Statuses.{status_of_difference, status_of_fault};
 ghost use Rattle.canon.specs.declared.which.Which.TheVariants.{Only, First, Second, Both};
 ghost use Rattle.canon.specs.declared.fault.CanonFault.TheVariants.{Read, StepLimit, Memory};
@@ -99,4 +101,18 @@ pub fn differences()
         ≡ codes "different\nxor 0:1 0,1:2\nleft 2\nright 1\n" }
     ensures statuses { map status_of_difference (NoDifference ∷ InGoods 1 2 ∷ InOr [] (Exactly 1) (Exactly 2)
         ∷ InXor [] 0 1 ∷ []) ≡ 0 ∷ 1 ∷ 1 ∷ 1 ∷ [] }
+{}
+
+/// What becomes of a file's text: all of it went out, or so many of its first bytes, or, where memory for a page was
+/// refused, nothing was written.
+pub fn files_sent()
+    ensures whole { SendsFileAs known (codes "ab") (watched [] false false) (watched (codes "ab") false false) (Ok 0) }
+    ensures part { SendsFileAs known (codes "ab") (watched [] false false) (watched (codes "a") true false)
+        (Err (Sent (record { written = 1 }))) }
+    ensures no_memory { SendsFileAs known (codes "ab") (watched [] false false) (watched [] false false)
+        (Err (Refused Only Memory)) }
+    ensures other_status { SendsFileAs known (codes "ab") (watched [] false false) (watched (codes "ab") false false)
+        (Ok 1) → ⊥ }
+    ensures some_written { SendsFileAs known (codes "ab") (watched [] false false) (watched (codes "a") false false)
+        (Err (Refused Only Memory)) → ⊥ }
 {}

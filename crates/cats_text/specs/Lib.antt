@@ -7,6 +7,7 @@ pub mod Grammar
 pub mod Faults
 pub mod Layout
 pub mod Streams
+pub mod Examples
 pub mod FileLines
 pub mod Fed
 pub mod Reading

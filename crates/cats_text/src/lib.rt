@@ -21,6 +21,7 @@ mod slots;
 mod stream;
 mod word;
 pub mod worked;
+pub mod worked_streams;
 
 pub use bid::{Bid, BidFile};
 pub use compact::{CompactBids, CompactFile};
