@@ -46,5 +46,5 @@ returns-clause-listed g c =
     rw (c.loop-alloc.invariant.atoms, c.loop-alloc.invariant.listed)
     (AreListed-more (lists_of old.lists.items) _ old.listed (atoms_of goods old.atoms.items) good c.listing_of-least.result.1 c.requires.listed
     (λ k n. listed-set_other vectors good c.push-2.new.self k n ∙ c.loop-alloc.invariant.lists k) there c.listing_of-least.ensures.place
-    (plain_atom goods atom) (sym at) (omega (arith, next, long, old.atoms.ok.0)) has c.listing_of-least.ensures.price
+    (plain_atom goods atom) (sym at) (omega (arith, next, long, old.atoms.ok.0)) has
     c.listing_of-least.ensures.residues c.listing_of-least.ensures.witness c.listing_of-least.ensures.second c.listing_of-least.ensures.third)
