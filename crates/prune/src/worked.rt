@@ -78,15 +78,16 @@ pub fn steps_worked()
 fn listed_worked()
     ensures one { let it : Listing = record { place = 0; residues = 1; witness = 0; second = 0; third = 0 } in
         IsListed ((it ∷ []) ∷ []) (0 ∷ []) 0 }
-    ensures at_another_good { let it : Listing = record { place = 0; residues = 1; witness = 0; second = 0; third = 0 } in
+    ensures other_good { let it : Listing = record { place = 0; residues = 1; witness = 0; second = 0; third = 0 } in
         ¬ IsListed ((it ∷ []) ∷ []) (1 ∷ []) 0 }
-    ensures another_place { let it : Listing = record { place = 0; residues = 1; witness = 0; second = 0; third = 0 } in
+    ensures other_place { let it : Listing = record { place = 0; residues = 1; witness = 0; second = 0; third = 0 } in
         ¬ IsListed ((it ∷ []) ∷ []) (0 ∷ []) 1 }
 {}
 
 /// What is listed has the residues of the atom's bundle, and three goods of it.
 fn listing_worked()
-    ensures right { IsListing (atom (0 ∷ []) 5 ∷ []) (record { place = 0; residues = 1; witness = 0; second = 0; third = 0 }) }
+    ensures right { IsListing (atom (0 ∷ []) 5 ∷ [])
+        (record { place = 0; residues = 1; witness = 0; second = 0; third = 0 }) }
     ensures no_atom { ¬ IsListing (atom (0 ∷ []) 5 ∷ [])
         (record { place = 1; residues = 1; witness = 0; second = 0; third = 0 }) }
     ensures residues { ¬ IsListing (atom (0 ∷ []) 5 ∷ [])
@@ -101,7 +102,7 @@ fn listings_worked()
     ensures one { let it : Listing = record { place = 0; residues = 1; witness = 0; second = 0; third = 0 } in
         AreListed ((it ∷ []) ∷ []) 1 (atom (0 ∷ []) 5 ∷ []) }
     ensures nowhere { ¬ AreListed [] 1 (atom (0 ∷ []) 5 ∷ []) }
-    ensures something_else { let it : Listing = record { place = 0; residues = 1; witness = 0; second = 0; third = 0 } in
+    ensures too_many { let it : Listing = record { place = 0; residues = 1; witness = 0; second = 0; third = 0 } in
         ¬ AreListed ((it ∷ []) ∷ []) 0 (atom (0 ∷ []) 5 ∷ []) }
 {}
 

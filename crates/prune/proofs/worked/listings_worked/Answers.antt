@@ -20,5 +20,5 @@ returns-clause-one c =
     AreListed-more [] ((it ∷ []) ∷ []) 0 (atom (0 ∷ []) 5 ∷ []) 0 it none_yet (elsewhere it) refl refl
     (atom (0 ∷ []) 5) refl (omega arith) refl listed_rightly.residues refl refl refl
 
-pub returns-clause-something_else : goal.returns-clause-something_else
-returns-clause-something_else c h = absurd (omega (arith, h.no_more 0 0 (0, omega arith, refl)))
+pub returns-clause-too_many : goal.returns-clause-too_many
+returns-clause-too_many c h = absurd (omega (arith, h.no_more 0 0 (0, omega arith, refl)))
