@@ -9,3 +9,4 @@ pub mod PruningLoop
 pub mod ReachingLevels
 pub mod ReachingLevelsOfCode
 pub mod MarkedReaching
+pub mod WorkedListings

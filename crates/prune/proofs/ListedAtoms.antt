@@ -6,7 +6,7 @@ use Rattle.std.specs.Prelude.{All, AllPairs, Contains, IsPermutation}
 use Rattle.std.specs.Global.{Vec}
 use Rattle.std.specs.List.{filter, list_any, range_with_len}
 use Rattle.std.specs.List.Sorted.{IsSorted}
-use Rattle.std.proofs.lemmas.Bool.{cases_lt, cases_eq, both_ways, and_parts, and_from, and_left, and_right, or_from, lt-leb, false_from_ne_true}
+use Rattle.std.proofs.lemmas.Bool.{cases_lt, cases_eq, both_ways, and_parts, and_from, and_right, or_from, false_from_ne_true}
 use Rattle.std.proofs.lemmas.Bool.{eqb-true, eq-eqb}
 use Rattle.std.specs.Cmp.{both_ways as same_test}
 use Rattle.std.proofs.lemmas.Bool.Decides.{Decides-eqb}
@@ -273,7 +273,6 @@ AreListed-push lists listed atoms a h =
         let long = length_push atoms a in
         record {
           within = omega arith;
-          price = r.price ∙ ap (λ (b : Atom (List ℕ)). b.price) (sym e);
           residues = subst (λ (b : Atom (List ℕ)). AreResidues b.bundle listing.residues) (sym e) r.residues;
           witness = ap (λ (b : Atom (List ℕ)). has_good b.bundle listing.witness) e ∙ r.witness;
           second = ap (λ (b : Atom (List ℕ)). has_good b.bundle listing.second) e ∙ r.second;
@@ -315,10 +314,10 @@ module _ (lists more : List (List Listing)) (listed : ℕ) (atoms : List (Atom (
     here = subst (λ n. Contains (places_at more good) n) place (subst (λ (zs : List Listing). Contains (map place_of zs) new.place) (sym there)
         (subst (λ (zs : List ℕ). Contains zs new.place) (sym (map_push place_of (listed_at lists good) new)) (Contains-push (places_at lists good) new.place)))
 
-    pub AreListed-more : (a : Atom (List ℕ)) → a ≡ atom_at atoms listed → listed < length atoms → has_good a.bundle good ≡ true → new.price ≡ a.price
+    pub AreListed-more : (a : Atom (List ℕ)) → a ≡ atom_at atoms listed → listed < length atoms → has_good a.bundle good ≡ true
         → AreResidues a.bundle new.residues → has_good a.bundle new.witness ≡ true → has_good a.bundle new.second ≡ true → has_good a.bundle new.third ≡ true
         → AreListed more (listed + 1) atoms
-    AreListed-more a is next has price residues witness second third =
+    AreListed-more a is next has residues witness second third =
         let at : atom_at atoms new.place ≡ a = ap (atom_at atoms) place ∙ sym is in
         record {
           most = omega arith;
@@ -336,7 +335,6 @@ module _ (lists more : List (List Listing)) (listed : ℕ) (atoms : List (Atom (
               ⊎_elim (λ (k : Contains (listed_at lists g) listing). h.right g listing k)
               (λ (k : (g ≡ good) × (new ≡ listing)). subst (λ (z : Listing). IsListing atoms z) k.1 (record {
                 within = omega arith;
-                price = price ∙ ap (λ (b : Atom (List ℕ)). b.price) (sym at);
                 residues = subst (λ (b : Atom (List ℕ)). AreResidues b.bundle new.residues) (sym at) residues;
                 witness = ap (λ (b : Atom (List ℕ)). has_good b.bundle new.witness) at ∙ witness;
                 second = ap (λ (b : Atom (List ℕ)). has_good b.bundle new.second) at ∙ second;
@@ -414,12 +412,7 @@ pub listing_index : (lists : List (List Listing)) (count : ℕ) (atoms : List (A
 listing_index lists count atoms good listed i d a e l =
     a.right good (get_or listed i d) (subst (λ (zs : List Listing). Contains zs (get_or listed i d)) (sym e) (Contains-get_or listed i d l))
 
--- an atom that is too cheap, or not inside the bundle, does not cover it at the price
-pub too_cheap : (atoms : List (Atom (List ℕ))) (bundle : List ℕ) (price : ℕ) (listing : Listing) → IsListing atoms listing → listing.price < price
-    → covers_at atoms bundle price listing.place ≡ false
-too_cheap atoms bundle price listing r l = let e = r.price in and_left (leb price (atom_at atoms listing.place).price) (is_inside_at atoms bundle listing.place)
-    (lt-leb price (atom_at atoms listing.place).price (omega arith))
-
+-- an atom that is not inside the bundle does not cover it
 pub not_inside : (atoms : List (Atom (List ℕ))) (bundle : List ℕ) (price : ℕ) (listing : Listing) → is_inside_at atoms bundle listing.place ≡ false
     → covers_at atoms bundle price listing.place ≡ false
 not_inside atoms bundle price listing t = and_right (leb price (atom_at atoms listing.place).price) (is_inside_at atoms bundle listing.place) t

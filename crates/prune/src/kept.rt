@@ -42,13 +42,12 @@ use goods_set::{GoodsSet, may_be_inside};
 use std::alloc::{AllocError, Global};
 use valuation::Atom;
 
-/// An atom as it is listed at a good, with what tells most atoms apart before their bundles are read.
+/// An atom as it is listed at a good, with what tells most atoms apart before they are read. Searches go through many of
+/// these, and so each is kept small: a place takes 4 bytes, and the price is asked of the atom.
 #[derive(Drop)]
 struct Listing {
     /// The place of the atom.
-    place: usize,
-    /// The price of the atom.
-    price: u64,
+    place: u32,
     /// The residues of its bundle.
     residues: u64,
     /// A good of its bundle.
@@ -111,7 +110,8 @@ impl<S: GoodsSet> Kept<S> {
         Ok(())
     }
 
-    /// Lists the first atom that is not, at the good of its bundle at which the fewest are listed.
+    /// Lists the first atom that is not, at the good of its bundle at which the fewest are listed. There is no room for
+    /// one whose place is past the numbers of 4 bytes; a file has far fewer bids.
     fn list_next(&mut self, alloc: Global) -> Result<(), AllocError>
         requires next { self.old.listed < vec_len self.old.atoms }
         requires some { All (λ a. 0 < length a.bundle) (atoms_of S.goods self.old.atoms.items) }
@@ -122,7 +122,10 @@ impl<S: GoodsSet> Kept<S> {
         ensures listed { OnOk result (AreListed (lists_of self.new.lists.items) self.new.listed
             (atoms_of S.goods self.new.atoms.items)) }
     {
-        let (least, listing) = self.listing_of(&self.atoms[self.listed]);
+        if self.listed > u32::MAX as usize {
+            return Err(AllocError);
+        }
+        let (least, listing) = self.listing_of(&self.atoms[self.listed], self.listed as u32);
         let good = usize::from(least);
         while self.lists.len() <= good {
             self.lists.push(Vec::new(alloc))?;
@@ -172,12 +175,12 @@ impl<S: GoodsSet> Kept<S> {
         }
     }
 
-    /// The good of the next atom's bundle at which the fewest atoms are listed, and what is to be listed there.
-    fn listing_of(&self, atom: &Atom<S>) -> (u16, Listing)
+    /// The good of the atom's bundle at which the fewest atoms are listed, and what is to be listed there: the atom, as
+    /// that at the place.
+    fn listing_of(&self, atom: &Atom<S>, place: u32) -> (u16, Listing)
         requires { 0 < length (S.goods atom.now.bundle) }
         ensures good { has_good (S.goods atom.now.bundle) result.0 ≡ true }
-        ensures place { result.1.place ≡ self.now.listed }
-        ensures price { result.1.price ≡ atom.now.price }
+        ensures place { result.1.place ≡ place }
         ensures residues { AreResidues (S.goods atom.now.bundle) result.1.residues }
         ensures witness { has_good (S.goods atom.now.bundle) result.1.witness ≡ true }
         ensures second { has_good (S.goods atom.now.bundle) result.1.second ≡ true }
@@ -186,8 +189,7 @@ impl<S: GoodsSet> Kept<S> {
         let mut best = 0;
         let mut fewest = 0;
         let mut listing = Listing {
-            place: self.listed,
-            price: atom.price,
+            place,
             residues: atom.bundle.residues(),
             witness: 0,
             second: 0,
@@ -245,7 +247,7 @@ impl<S: GoodsSet> Kept<S> {
         if !self.may_be_inside(listing, bundle, residues, wide) {
             return false;
         }
-        self.atoms[listing.place].bundle.is_inside(bundle)
+        self.atoms[listing.place as usize].bundle.is_inside(bundle)
     }
 
     /// Whether the atom that is listed is inside the bundle and has at least the price. The price is compared late,
@@ -267,10 +269,8 @@ impl<S: GoodsSet> Kept<S> {
         if !self.may_be_inside(listing, bundle, residues, wide) {
             return false;
         }
-        if listing.price < price {
-            return false;
-        }
-        self.atoms[listing.place].bundle.is_inside(bundle)
+        let atom = &self.atoms[listing.place as usize];
+        price <= atom.price && atom.bundle.is_inside(bundle)
     }
 
     /// Adds to `found` the places of the atoms inside the bundle that are listed at the good.
@@ -292,7 +292,7 @@ impl<S: GoodsSet> Kept<S> {
         if good < self.lists.len() {
             for listing in &self.lists[good] {
                 if self.is_inside(listing, bundle, residues, wide) {
-                    found.push(listing.place)?;
+                    found.push(listing.place as usize)?;
                 }
             }
         }

@@ -1,6 +1,9 @@
 //! Worked examples of the definitions, which the check computes.
 ghost use Rattle.std.specs.Prelude.{◌≡◌, List, [], ◌∷◌, true, false, Some, None};
 ghost use Rattle.valuation.specs.Examples.{atom};
+ghost use Rattle.prune.specs.declared.kept.Listing.{Listing};
+ghost use Rattle.prune.specs.Internal.Listings.{IsListed, IsListing, AreListed, NoneInsideFrom};
+ghost use Rattle.prune.specs.Internal.PricesLeft.{ArePricesLeft};
 ghost use Rattle.prune.specs.Points.{xor_points, or_points};
 ghost use Rattle.prune.specs.SearchSteps.{
   atoms_below,
@@ -69,4 +72,51 @@ pub fn steps_worked()
     ensures worthless { first_heavy 1 0 (atom (0 ∷ []) 0 ∷ []) ≡ None }
     ensures limit_one { is_heavy 3 1 (atom (0 ∷ []) 1 ∷ atom (1 ∷ []) 1 ∷ atom (2 ∷ []) 1
         ∷ atom (0 ∷ 1 ∷ 2 ∷ []) 4 ∷ []) (0 ∷ 1 ∷ 2 ∷ []) ≡ false }
+{}
+
+/// A place is listed at a good of the bundle.
+fn listed_worked()
+    ensures one { let it : Listing = record { place = 0; residues = 1; witness = 0; second = 0; third = 0 } in
+        IsListed ((it ∷ []) ∷ []) (0 ∷ []) 0 }
+    ensures other_good { let it : Listing = record { place = 0; residues = 1; witness = 0; second = 0; third = 0 } in
+        ¬ IsListed ((it ∷ []) ∷ []) (1 ∷ []) 0 }
+    ensures other_place { let it : Listing = record { place = 0; residues = 1; witness = 0; second = 0; third = 0 } in
+        ¬ IsListed ((it ∷ []) ∷ []) (0 ∷ []) 1 }
+{}
+
+/// What is listed has the residues of the atom's bundle, and three goods of it.
+fn listing_worked()
+    ensures right { IsListing (atom (0 ∷ []) 5 ∷ [])
+        (record { place = 0; residues = 1; witness = 0; second = 0; third = 0 }) }
+    ensures no_atom { ¬ IsListing (atom (0 ∷ []) 5 ∷ [])
+        (record { place = 1; residues = 1; witness = 0; second = 0; third = 0 }) }
+    ensures residues { ¬ IsListing (atom (0 ∷ []) 5 ∷ [])
+        (record { place = 0; residues = 2; witness = 0; second = 0; third = 0 }) }
+    ensures third { ¬ IsListing (atom (0 ∷ []) 5 ∷ [])
+        (record { place = 0; residues = 1; witness = 0; second = 0; third = 1 }) }
+{}
+
+/// So many atoms are listed, from the first on, and nothing else.
+fn listings_worked()
+    ensures none_yet { AreListed [] 0 (atom (0 ∷ []) 5 ∷ []) }
+    ensures one { let it : Listing = record { place = 0; residues = 1; witness = 0; second = 0; third = 0 } in
+        AreListed ((it ∷ []) ∷ []) 1 (atom (0 ∷ []) 5 ∷ []) }
+    ensures nowhere { ¬ AreListed [] 1 (atom (0 ∷ []) 5 ∷ []) }
+    ensures too_many { let it : Listing = record { place = 0; residues = 1; witness = 0; second = 0; third = 0 } in
+        ¬ AreListed ((it ∷ []) ∷ []) 0 (atom (0 ∷ []) 5 ∷ []) }
+{}
+
+/// From a place on no atom is inside the bundle.
+fn none_inside_from_worked()
+    ensures no_atoms { NoneInsideFrom 0 [] (0 ∷ []) }
+    ensures behind_it { NoneInsideFrom 1 (atom (0 ∷ []) 3 ∷ atom (1 ∷ []) 4 ∷ []) (0 ∷ []) }
+    ensures from_it { ¬ NoneInsideFrom 0 (atom (0 ∷ []) 3 ∷ atom (1 ∷ []) 4 ∷ []) (0 ∷ []) }
+{}
+
+/// At each place stands what the prices from there on add up to.
+fn prices_left_worked()
+    ensures none { ArePricesLeft [] [] }
+    ensures two { ArePricesLeft (atom (0 ∷ []) 3 ∷ atom (1 ∷ []) 4 ∷ []) (7 ∷ 4 ∷ []) }
+    ensures prices { ¬ ArePricesLeft (atom (0 ∷ []) 3 ∷ atom (1 ∷ []) 4 ∷ []) (3 ∷ 4 ∷ []) }
+    ensures too_few { ¬ ArePricesLeft (atom (0 ∷ []) 3 ∷ atom (1 ∷ []) 4 ∷ []) (7 ∷ []) }
 {}

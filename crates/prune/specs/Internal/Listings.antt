@@ -49,10 +49,9 @@ pub record IsListed (lists : List (List Listing)) (bundle : List ℕ) (place : �
   pub has : has_good bundle good ≡ true
   pub listed : Contains (places_at lists good) place
 
--- what is listed is right: the place is that of an atom with the price, the residues and the three goods
+-- what is listed is right: the place is that of an atom with the residues and the three goods
 pub record IsListing (atoms : List (Atom (List ℕ))) (listing : Listing) : Type 0 where
   pub within : listing.place < length atoms
-  pub price : listing.price ≡ (atom_at atoms listing.place).price
   pub residues : AreResidues (atom_at atoms listing.place).bundle listing.residues
   pub witness : has_good (atom_at atoms listing.place).bundle listing.witness ≡ true
   pub second : has_good (atom_at atoms listing.place).bundle listing.second ≡ true

@@ -18,7 +18,7 @@ is_inside-requires-clause-listing g c =
 pub loop-listing-preserved : goal.loop-listing-preserved
 loop-listing-preserved g c =
     let goods = g.S.GoodsSet.goods in
-    let d : Listing = record { place = 0; price = 0; residues = 0; witness = 0; second = 0; third = 0 } in
+    let d : Listing = record { place = 0; residues = 0; witness = 0; second = 0; third = 0 } in
     let listed = c.deref-listing-items.result.now in
     let p = is_inside_at (atoms_of goods c.args.self.now.atoms.items) (goods c.args.bundle.now) in
     let place = (get_or listed c.loop-listing.listing-index d).place in

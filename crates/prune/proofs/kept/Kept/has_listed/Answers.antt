@@ -21,7 +21,7 @@ returns-then-is_covering g c =
     let kept = c.args.self.now in
     let there = listed_there kept.lists.items c.from-good.result c.index.result.now (omega (arith, c.if-good-len.true, c.len.ensures, kept.lists.ok.0))
     c.index.ensures in
-    let d : Listing = record { place = 0; price = 0; residues = 0; witness = 0; second = 0; third = 0 } in
+    let d : Listing = record { place = 0; residues = 0; witness = 0; second = 0; third = 0 } in
     let atoms = atoms_of goods kept.atoms.items in
     let bundle = goods c.args.bundle.now in
     let listed = c.deref-listing-items.result.now in
@@ -33,7 +33,7 @@ returns-then-is_covering g c =
 pub loop-listing-preserved : goal.loop-listing-preserved
 loop-listing-preserved g c =
     let goods = g.S.GoodsSet.goods in
-    let d : Listing = record { place = 0; price = 0; residues = 0; witness = 0; second = 0; third = 0 } in
+    let d : Listing = record { place = 0; residues = 0; witness = 0; second = 0; third = 0 } in
     let listed = c.deref-listing-items.result.now in
     let i = c.loop-listing.listing-index in
     let at = places_get listed i d c.loop-listing-test.true in

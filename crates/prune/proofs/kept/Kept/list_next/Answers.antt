@@ -39,12 +39,13 @@ returns-clause-listed g c =
     listed-set_same vectors good c.push-2.new.self l ∙ c.in_ok-push-2.ensures.items
     ∙ ap (λ (zs : List Listing). zs ++ c.listing_of-least.result.1 ∷ []) (sym before ∙ c.loop-alloc.invariant.lists good) in
     let atom = c.index.result.now in
-    let has : has_good (goods atom.bundle) good ≡ true = ap (has_good (goods atom.bundle)) c.from-good.ensures ∙ c.listing_of-least.ensures.good in
+    let least : good ≡ c.listing_of-least.result.0 = omega (arith, c.from-good.ensures) in
+    let has : has_good (goods atom.bundle) good ≡ true = ap (has_good (goods atom.bundle)) least ∙ c.listing_of-least.ensures.good in
     let next = c.requires.next in
     let long = length-atoms_of goods old.atoms.items in
     let at = get_or-atoms_of goods old.atoms.items old.listed atom (record { bundle = []; price = 0 }) (omega (arith, next, old.atoms.ok.0)) c.index.ensures in
     rw (c.loop-alloc.invariant.atoms, c.loop-alloc.invariant.listed)
     (AreListed-more (lists_of old.lists.items) _ old.listed (atoms_of goods old.atoms.items) good c.listing_of-least.result.1 c.requires.listed
     (λ k n. listed-set_other vectors good c.push-2.new.self k n ∙ c.loop-alloc.invariant.lists k) there c.listing_of-least.ensures.place
-    (plain_atom goods atom) (sym at) (omega (arith, next, long, old.atoms.ok.0)) has c.listing_of-least.ensures.price
+    (plain_atom goods atom) (sym at) (omega (arith, next, long, old.atoms.ok.0)) has
     c.listing_of-least.ensures.residues c.listing_of-least.ensures.witness c.listing_of-least.ensures.second c.listing_of-least.ensures.third)

@@ -23,7 +23,6 @@ loop-good-preserved g c =
     (sym c.in-Some.ensures) in
     let first : (has_good bundle c.if-from-eq0.best ≡ true) × (has_good bundle c.if-from-eq0.listing.witness ≡ true)
     × (has_good bundle c.if-from-eq0.listing.second ≡ true) × (c.if-from-eq0.listing.place ≡ c.loop-good.listing.place)
-    × (c.if-from-eq0.listing.price ≡ c.loop-good.listing.price)
     × (c.if-from-eq0.listing.residues ≡ c.loop-good.listing.residues) =
     elim c.if-from-eq0.branch [
       | then-from-eq0 w ↦ (
@@ -31,7 +30,6 @@ loop-good-preserved g c =
         ap (λ (z : Listing). has_good bundle z.witness) w.listing-is ∙ had,
         ap (λ (z : Listing). has_good bundle z.second) w.listing-is ∙ had,
         ap (λ (z : Listing). z.place) w.listing-is,
-        ap (λ (z : Listing). z.price) w.listing-is,
         ap (λ (z : Listing). z.residues) w.listing-is,
       )
       | else-from-eq0 w ↦
@@ -42,15 +40,13 @@ loop-good-preserved g c =
             ap (λ (z : Listing). has_good bundle z.witness) w.listing-is ∙ before.1,
             ap (λ (z : Listing). has_good bundle z.second) w.listing-is ∙ before.2,
             ap (λ (z : Listing). z.place) w.listing-is,
-            ap (λ (z : Listing). z.price) w.listing-is,
             ap (λ (z : Listing). z.residues) w.listing-is,
           )
     ] in
     elim c.if-count-fewest.branch [
       | then-count-fewest w ↦ record {
         place = ap (λ (z : Listing). z.place) w.listing-is ∙ first.3 ∙ h.place;
-        price = ap (λ (z : Listing). z.price) w.listing-is ∙ first.4 ∙ h.price;
-        residues = subst (λ bits. AreResidues bundle bits) (sym (ap (λ (z : Listing). z.residues) w.listing-is ∙ first.5)) h.residues;
+        residues = subst (λ bits. AreResidues bundle bits) (sym (ap (λ (z : Listing). z.residues) w.listing-is ∙ first.4)) h.residues;
         chosen = inr (
           ap (has_good bundle) w.best-is ∙ had,
           ap (λ (z : Listing). has_good bundle z.witness) w.listing-is ∙ first.0,
@@ -60,8 +56,7 @@ loop-good-preserved g c =
       }
       | else-count-fewest w ↦ record {
         place = ap (λ (z : Listing). z.place) w.listing-is ∙ first.3 ∙ h.place;
-        price = ap (λ (z : Listing). z.price) w.listing-is ∙ first.4 ∙ h.price;
-        residues = subst (λ bits. AreResidues bundle bits) (sym (ap (λ (z : Listing). z.residues) w.listing-is ∙ first.5)) h.residues;
+        residues = subst (λ bits. AreResidues bundle bits) (sym (ap (λ (z : Listing). z.residues) w.listing-is ∙ first.4)) h.residues;
         chosen = inr (
           ap (has_good bundle) w.best-is ∙ first.0,
           ap (λ (z : Listing). has_good bundle z.witness) w.listing-is ∙ had,

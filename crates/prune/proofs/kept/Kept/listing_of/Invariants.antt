@@ -8,8 +8,7 @@ abbrev pub invariant-loop-good : goal.invariant-loop-good
 invariant-loop-good g l =
     let bundle = g.S.GoodsSet.goods l.atom.bundle in
     record {
-      place : l.listing.place ≡ l.self.listed;
-      price : l.listing.price ≡ l.atom.price;
+      place : l.listing.place ≡ l.place;
       residues : AreResidues bundle l.listing.residues;
       chosen : (l.from ≡ 0) ⊎ ((has_good bundle l.best ≡ true) × (has_good bundle l.listing.witness ≡ true) × (has_good bundle l.listing.second ≡ true)
           × (has_good bundle l.listing.third ≡ true));
