@@ -57,6 +57,10 @@ struct Listing {
     third: u16,
 }
 
+/// Atoms are listed by so many at one good before the next good is taken for having fewer. A search in a wide bundle then
+/// reads a few long lists, and not a short one for each good, the beginning of which it would have to wait for.
+const BLOCK: usize = 32;
+
 /// A bundle of so many goods has about half of all residues.
 const WIDE: usize = 40;
 
@@ -110,8 +114,8 @@ impl<S: GoodsSet> Kept<S> {
         Ok(())
     }
 
-    /// Lists the first atom that is not, at the good of its bundle at which the fewest are listed. There is no room for
-    /// one whose place is past the numbers of 4 bytes; a file has far fewer bids.
+    /// Lists the first atom that is not, at the first good of its bundle at which the fewest blocks are listed. There is no
+    /// room for one whose place is past the numbers of 4 bytes; a file has far fewer bids.
     fn list_next(&mut self, alloc: Global) -> Result<(), AllocError>
         requires next { self.old.listed < vec_len self.old.atoms }
         requires some { All (λ a. 0 < length a.bundle) (atoms_of S.goods self.old.atoms.items) }
@@ -167,16 +171,16 @@ impl<S: GoodsSet> Kept<S> {
         Ok(())
     }
 
-    /// How many atoms are listed at the good.
-    fn count_at(&self, good: u16) -> usize {
+    /// How many blocks of atoms are listed at the good.
+    fn blocks_at(&self, good: u16) -> usize {
         match self.lists.get(usize::from(good)) {
-            Some(list) => list.len(),
+            Some(list) => list.len() / BLOCK,
             None => 0,
         }
     }
 
-    /// The good of the atom's bundle at which the fewest atoms are listed, and what is to be listed there: the atom, as
-    /// that at the place.
+    /// The first good of the atom's bundle at which the fewest blocks are listed, and what is to be listed there: the
+    /// atom, as that at the place.
     fn listing_of(&self, atom: &Atom<S>, place: u32) -> (u16, Listing)
         requires { 0 < length (S.goods atom.now.bundle) }
         ensures good { has_good (S.goods atom.now.bundle) result.0 ≡ true }
@@ -195,22 +199,28 @@ impl<S: GoodsSet> Kept<S> {
             second: 0,
             third: 0,
         };
+        let mut seen = 0;
         let mut from = 0;
         while let Some(good) = atom.bundle.next_from(from) {
-            let count = self.count_at(good);
+            let blocks = self.blocks_at(good);
             if from == 0 {
                 listing.witness = good;
                 listing.second = good;
                 best = good;
-                fewest = count;
+                fewest = blocks;
             }
             listing.third = listing.second;
             listing.second = listing.witness;
             listing.witness = good;
-            if count < fewest {
+            if blocks < fewest {
                 listing.witness = best;
                 best = good;
-                fewest = count;
+                fewest = blocks;
+            }
+            seen += 1;
+            // No good has fewer, and three others are known.
+            if fewest == 0 && seen > 3 {
+                break;
             }
             from = u32::from(good) + 1;
         }
