@@ -8,7 +8,7 @@ use Rattle.std.proofs.lemmas.Bool.{cases_order, cases_lt, lt-ltb, le-ltb}
 use Rattle.goods_set.specs.Bundles.{AreBelow}
 use Rattle.goods_set.specs.Orders.{bundle_cmp}
 use Rattle.goods_set.specs.Lemmas.Orders.{nat_cmp-lt, nat_cmp-gt, nat_cmp-refl, smaller_first, larger_last, same_size}
-use Rattle.goods_set.specs.Internal.Fronts.{front_of, first_goods}
+use Rattle.goods_set.specs.Fronts.{front_of, first_goods}
 
 -- ---- members
 
