@@ -118,11 +118,28 @@ fn tell_residues<S: GoodsSet>(rt: &impl Abort, alloc: Global) -> Result<(), Fail
     Ok(())
 }
 
+// The size and the first three goods, of 16 bits each.
+static FRONTS: [(&'static [u16], u64); 5] = [
+    (&[], 0),
+    (&[5], 0x0001_0005_0000_0000),
+    (&[5, 7], 0x0002_0005_0007_0000),
+    (&[5, 7, 800], 0x0003_0005_0007_0320),
+    (&[0, 7, 63, 64], 0x0004_0000_0007_003f),
+];
+
+fn tell_fronts<S: GoodsSet>(rt: &impl Abort, alloc: Global) -> Result<(), Fail> {
+    for (goods, front) in &FRONTS {
+        assert_eq!(rt; set_of::<S>(rt, alloc, goods)?.front(), *front);
+    }
+    Ok(())
+}
+
 fn hold_goods<S: GoodsSet>(rt: &impl Abort, alloc: Global) -> Result<(), Fail> {
     put_and_ask::<S>(rt, alloc)?;
     copy_and_list::<S>(rt, alloc)?;
     take_a_slice::<S>(rt, alloc)?;
     tell_residues::<S>(rt, alloc)?;
+    tell_fronts::<S>(rt, alloc)?;
     compare_sets::<S>(rt, alloc)
 }
 
@@ -152,6 +169,7 @@ fn hold_many(rt: &impl Abort, alloc: Global, many: &ListSet) -> Result<(), Fail>
     let few = ListSet::from_slice(alloc, &MANY[..8])?;
     assert!(rt; left.order(&few) == Ordering::Equal);
     assert!(rt; left.residues() == few.residues());
+    assert!(rt; left.front() == few.front());
     assert!(rt; left.is_inside(&few) && few.is_inside(&left));
     assert!(rt; few.is_inside(many) && !many.is_inside(&few));
     assert!(rt; few.order(many) == Ordering::Less);

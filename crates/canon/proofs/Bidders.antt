@@ -7,6 +7,7 @@ use Rattle.std.specs.List.Sorted.{IsSortedBy}
 use Rattle.std.specs.Ordering.{is_lt}
 use Rattle.std.proofs.lemmas.Bool.{cases_Bool}
 use Rattle.std.proofs.lemmas.List.{map-append, map_push, append-nil, length-map, get_or-map, nil_from_length}
+use Rattle.std.proofs.lemmas.Simd.{map-map}
 use Rattle.std.proofs.lemmas.List.Elements.{All-contains, All-weaker, Contains-append_right, filter-append}
 use Rattle.std.proofs.lemmas.List.Sorted.{IsPermutation-map}
 use Rattle.cats_text.specs.declared.limits.TheConstants.{MAX_GOODS}
@@ -92,12 +93,10 @@ map-sorted {Y = Y} seen lt (x ∷ xs) up k d l m =
     subst (λ (a : Y). lt a (get_or (map seen (x ∷ xs)) k d) ≡ false) (sym (get_or-map seen (x ∷ xs) (k + 1) x d next))
     (subst (λ (b : Y). lt (seen (get_or (x ∷ xs) (k + 1) x)) b ≡ false) (sym (get_or-map seen (x ∷ xs) k x d here)) (up k x l next))
 
-pub bidders_sorted : {S : Type 0} (goods : S → List ℕ) (old new : List (Vec (Atom S) Global)) → IsPermutation old new
-    → IsSortedBy (λ a b. is_lt (bidder_cmp (atoms_of goods a.items) (atoms_of goods b.items))) new
-    → bidders_of goods new ≡ sort_by bidder_cmp (bidders_of goods old)
-bidders_sorted {S} goods old new p up =
-    let seen : Vec (Atom S) Global → List (Atom (List ℕ)) = λ v. atoms_of goods v.items in
-    sorted_is_sort_by bidder_cmp bidder_cmp_total bidder_cmp_equal (bidders_of goods old) (bidders_of goods new) (IsPermutation-map seen old new p)
+pub bidders_sorted : {X : Type 0} (seen : X → List (Atom (List ℕ))) (old new : List X) → IsPermutation old new
+    → IsSortedBy (λ a b. is_lt (bidder_cmp (seen a) (seen b))) new → map seen new ≡ sort_by bidder_cmp (map seen old)
+bidders_sorted seen old new p up =
+    sorted_is_sort_by bidder_cmp bidder_cmp_total bidder_cmp_equal (map seen old) (map seen new) (IsPermutation-map seen old new p)
     (map-sorted seen (λ a b. is_lt (bidder_cmp a b)) new up)
 
 -- ---- the loop over the bidders
@@ -111,22 +110,23 @@ module _ {S : Type 0} (goods : S → List ℕ) (all done left rest : List (Vec (
   pub bidder_taken : all ≡ (done ++ b ∷ []) ++ rest
   bidder_taken = parts ∙ ap (λ (zs : List (Vec (Atom S) Global)). done ++ zs) next ∙ sym (append_assoc done (b ∷ []) rest)
 
-  module _ (n : ℕ) (atoms : All (All (IsAtom n)) (bidders_of goods all)) (points : List (Vec (Atom S) Global)) (own : Vec (Atom S) Global)
-      (are : All (IsAtom n) (atoms_of goods b.items) → atoms_of goods own.items ≡ xor_points n (atoms_of goods b.items))
-      (so_far : bidders_of goods points ≡ points_of_bidders n (bidders_of goods done)) where
+  -- the points so far, each bidder seen as its atoms
+  module _ {X : Type 0} (seen : X → List (Atom (List ℕ))) (n : ℕ) (atoms : All (All (IsAtom n)) (bidders_of goods all)) (points : List X)
+      (own : Vec (Atom S) Global) (are : All (IsAtom n) (atoms_of goods b.items) → atoms_of goods own.items ≡ xor_points n (atoms_of goods b.items))
+      (so_far : map seen points ≡ points_of_bidders n (bidders_of goods done)) where
     own_atoms : All (IsAtom n) (atoms_of goods b.items)
     own_atoms = bidder_next (All (IsAtom n)) atoms
 
-    pub points_pushed : (more : List (Vec (Atom S) Global)) → more ≡ points ++ own ∷ [] → 0 < length own.items
-        → bidders_of goods more ≡ points_of_bidders n (bidders_of goods (done ++ b ∷ []))
-    points_pushed more e some =
-        ap (bidders_of goods) e ∙ map_push (λ (v : Vec (Atom S) Global). atoms_of goods v.items) points own
-        ∙ ap (λ (zs : List (List (Atom (List ℕ)))). zs ++ atoms_of goods own.items ∷ []) so_far
+    pub points_pushed : (more : List X) (made : X) → more ≡ points ++ made ∷ [] → seen made ≡ atoms_of goods own.items → 0 < length own.items
+        → map seen more ≡ points_of_bidders n (bidders_of goods (done ++ b ∷ []))
+    points_pushed more made e f some =
+        ap (map seen) e ∙ map_push seen points made
+        ∙ ap₂ (λ (zs : List (List (Atom (List ℕ)))) (own : List (Atom (List ℕ))). zs ++ own ∷ []) so_far f
         ∙ sym (ap (points_of_bidders n) (map_push (λ (v : Vec (Atom S) Global). atoms_of goods v.items) done b)
         ∙ points_push n (bidders_of goods done) (atoms_of goods b.items) (atoms_of goods own.items) own_atoms (are own_atoms)
         (λ none. let long = length-atoms_of goods own.items in let zero : length (atoms_of goods own.items) ≡ 0 = ap length none in omega arith))
 
-    pub points_skipped : length own.items ≡ 0 → bidders_of goods points ≡ points_of_bidders n (bidders_of goods (done ++ b ∷ []))
+    pub points_skipped : length own.items ≡ 0 → map seen points ≡ points_of_bidders n (bidders_of goods (done ++ b ∷ []))
     points_skipped zero =
         let none : atoms_of goods own.items ≡ [] = ap (atoms_of goods) (nil_from_length own.items zero) in
         so_far
@@ -134,11 +134,28 @@ module _ {S : Type 0} (goods : S → List ℕ) (all done left rest : List (Vec (
         ∙ points_skip n (bidders_of goods done) (atoms_of goods b.items) (atoms_of goods own.items) own_atoms (are own_atoms) none)
 
 -- no bidder is left
-pub points_done : {S : Type 0} (goods : S → List ℕ) (n : ℕ) (all done left points : List (Vec (Atom S) Global)) → all ≡ done ++ left → left ≡ []
-    → bidders_of goods points ≡ points_of_bidders n (bidders_of goods done) → bidders_of goods points ≡ points_of_bidders n (bidders_of goods all)
-points_done {S} goods n all done left points parts none h =
+pub points_done : {S X : Type 0} (goods : S → List ℕ) (seen : X → List (Atom (List ℕ))) (n : ℕ) (all done left : List (Vec (Atom S) Global))
+    (points : List X) → all ≡ done ++ left → left ≡ [] → map seen points ≡ points_of_bidders n (bidders_of goods done)
+    → map seen points ≡ points_of_bidders n (bidders_of goods all)
+points_done {S} goods seen n all done left points parts none h =
     h ∙ ap (λ (zs : List (Vec (Atom S) Global)). points_of_bidders n (bidders_of goods zs))
     (sym (parts ∙ ap (λ (zs : List (Vec (Atom S) Global)). done ++ zs) none ∙ append-nil done))
+
+-- ---- bidders with more beside them, of which `bare` is the bidder: what is taken out of them one by one
+
+module _ {S X : Type 0} (goods : S → List ℕ) (bare : X → Vec (Atom S) Global) (all done left : List X) (bidders : List (Vec (Atom S) Global))
+    (parts : all ≡ done ++ left) (so_far : bidders ≡ map bare done) where
+  pub bare_pushed : (rest : List X) (b : X) (more : List (Vec (Atom S) Global)) → left ≡ b ∷ rest → more ≡ bidders ++ bare b ∷ []
+      → (all ≡ (done ++ b ∷ []) ++ rest) × (more ≡ map bare (done ++ b ∷ []))
+  bare_pushed rest b more next e = (
+    parts ∙ ap (λ (zs : List X). done ++ zs) next ∙ sym (append_assoc done (b ∷ []) rest),
+    e ∙ ap (λ (zs : List (Vec (Atom S) Global)). zs ++ bare b ∷ []) so_far ∙ sym (map_push bare done b),
+  )
+
+  pub bare_done : left ≡ [] → bidders_of goods bidders ≡ map (λ x. atoms_of goods (bare x).items) all
+  bare_done none =
+      let whole : done ≡ all = sym (parts ∙ ap (λ (zs : List X). done ++ zs) none ∙ append-nil done) in
+      ap (bidders_of goods) (so_far ∙ ap (map bare) whole) ∙ map-map (λ (v : Vec (Atom S) Global). atoms_of goods v.items) bare all
 
 -- ---- the parts of an auction
 

@@ -7,6 +7,7 @@ pub mod Smaller
 pub mod Texts
 pub mod Least
 pub mod Bidders
+pub mod BidderFronts
 pub mod Filing
 pub mod TextLines
 pub mod Answering

@@ -11,11 +11,13 @@ ghost use Rattle.prune.specs.Faults.{IfStepLimit};
 ghost use Rattle.prune.specs.SearchSteps.{first_heavy};
 ghost use Rattle.canon.specs.Canonical.{IsCanonical, canonical_auction, points_of_bidders};
 ghost use Rattle.canon.specs.Sameness.{IsSameAuction};
+ghost use Rattle.canon.specs.Internal.FrontedBidders.{fronted_bidders};
 
+use crate::fronted_bidder::FrontedBidder;
 use goods_set::GoodsSet;
 use prune::{PruneFault, prune_or, prune_xor};
 use std::alloc::{AllocError, Global};
-use valuation::{Atom, Auction, compare_bidders};
+use valuation::{Atom, Auction};
 
 /// The canonical auction of an auction: of each bidder the points, without the XOR bidders of value zero, and the
 /// others in order. It uses the auction up, and copies none of its atoms.
@@ -37,33 +39,48 @@ pub fn canonical<S: GoodsSet>(
     let or_points = prune_or(alloc, or_atoms, limit)?;
     let mut bidders = points_of_each(alloc, xor_bidders)?;
     sort_bidders(&mut bidders);
-    Ok(Auction::new(goods, or_points, bidders))
+    let xor_points = without_fronts(alloc, bidders)?;
+    Ok(Auction::new(goods, or_points, xor_points))
 }
 
 /// The points of each bidder that has any.
 fn points_of_each<S: GoodsSet>(
     alloc: Global,
     bidders: Vec<Vec<Atom<S>>>,
-) -> Result<Vec<Vec<Atom<S>>>, AllocError>
+) -> Result<Vec<FrontedBidder<S>>, AllocError>
     requires { All (All (IsAtom MAX_GOODS)) (bidders_of S.goods bidders.items) }
     // For each number of goods that the atoms are within.
     ensures { let atoms = bidders_of S.goods bidders.items in
         IfOk result (λ points. (goods : ℕ) → All (All (IsAtom goods)) atoms
-        → bidders_of S.goods points.items ≡ points_of_bidders goods atoms) }
+        → fronted_bidders points.items ≡ points_of_bidders goods atoms) }
 {
-    let mut points = Vec::new(alloc);
+    let mut points = Vec::with_capacity(alloc, bidders.len())?;
     for bidder in bidders {
         let own = prune_xor(alloc, bidder)?;
         if !own.is_empty() {
-            points.push(own)?;
+            points.push(FrontedBidder::new(own))?;
         }
     }
     Ok(points)
 }
 
 /// Puts the bidders in the order of their lists of atoms.
-fn sort_bidders<S: GoodsSet>(bidders: &mut Vec<Vec<Atom<S>>>)
-    ensures { bidders_of S.goods bidders.new.items ≡ sort_by bidder_cmp (bidders_of S.goods bidders.old.items) }
+fn sort_bidders<S: GoodsSet>(bidders: &mut Vec<FrontedBidder<S>>)
+    ensures { fronted_bidders bidders.new.items ≡ sort_by bidder_cmp (fronted_bidders bidders.old.items) }
 {
-    bidders.sort_unstable_by(|one, other| compare_bidders(one, other));
+    bidders.sort_unstable_by(|one, other| one.order(other));
+}
+
+/// The bidders without what stands beside them.
+fn without_fronts<S: GoodsSet>(
+    alloc: Global,
+    fronted: Vec<FrontedBidder<S>>,
+) -> Result<Vec<Vec<Atom<S>>>, AllocError>
+    ensures { IfOk result (λ bidders. bidders_of S.goods bidders.items ≡ fronted_bidders fronted.items) }
+{
+    let mut bidders = Vec::with_capacity(alloc, fronted.len())?;
+    for bidder in fronted {
+        bidders.push(bidder.into_atoms())?;
+    }
+    Ok(bidders)
 }

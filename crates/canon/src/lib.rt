@@ -11,6 +11,7 @@ mod comparison;
 mod difference_laws;
 mod fault;
 mod file;
+mod fronted_bidder;
 pub mod laws;
 mod parting;
 mod place_laws;

@@ -22,6 +22,22 @@ const LARGER_BID: &str = "goods 2\nbids 3\ndummy 0\n0\t3\t0\t#\n1\t4\t1\t#\n2\t7
 
 const LARGER_BID_TEXT: &str = "goods 2\nbids 2\ndummy 0\n0\t3\t0\t#\n1\t4\t1\t#\n";
 
+/// Bidders whose first bundles have four goods, the first three of them the same: by the fourth good, the price and the next
+/// bid alone they are in order. The first bidder's bundle has one good fewer.
+const EQUAL_FRONTS: &str = concat!(
+    "goods 6\nbids 7\ndummy 5\n",
+    "0\t1\t0\t1\t2\t5\t6\t#\n1\t3\t0\t1\t2\t4\t7\t#\n2\t2\t0\t1\t2\t4\t8\t#\n",
+    "3\t4\t0\t1\t2\t3\t4\t8\t#\n4\t2\t0\t1\t2\t4\t9\t#\n5\t3\t0\t1\t2\t3\t4\t9\t#\n",
+    "6\t9\t3\t4\t5\t10\t#\n"
+);
+
+const EQUAL_FRONTS_TEXT: &str = concat!(
+    "goods 6\nbids 7\ndummy 5\n",
+    "0\t9\t3\t4\t5\t6\t#\n1\t2\t0\t1\t2\t4\t7\t#\n2\t3\t0\t1\t2\t3\t4\t7\t#\n",
+    "3\t2\t0\t1\t2\t4\t8\t#\n4\t4\t0\t1\t2\t3\t4\t8\t#\n5\t3\t0\t1\t2\t4\t9\t#\n",
+    "6\t1\t0\t1\t2\t5\t10\t#\n"
+);
+
 /// The bytes of a file, as a text.
 fn text_of(alloc: Global, file: &BidFile) -> Result<String, Fail> {
     Ok(String::from_utf8(write(alloc, file)?)?)
@@ -45,6 +61,7 @@ fn canonical_auctions(rt: HostRuntime) -> Result<(), Fail> {
     for (text, expected) in &[
         (EQUAL_BIDDERS, EQUAL_BIDDERS_TEXT),
         (LARGER_BID, LARGER_BID_TEXT),
+        (EQUAL_FRONTS, EQUAL_FRONTS_TEXT),
     ] {
         let file = read(rt.alloc(), text.as_bytes())?;
         assert!(rt; file.goods() <= 64);

@@ -1,7 +1,6 @@
 -- Proofs that several functions of this crate cite.
 pub mod Bits
 pub mod Firsts
-pub mod Fronts
 pub mod Lanes
 pub mod Places
 pub mod Residues

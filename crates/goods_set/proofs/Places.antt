@@ -1,6 +1,6 @@
 -- Where a good stands in a rising list, or where it goes: what a binary search and a partition point tell.
-use Rattle.std.proofs.Common.{◌≡◌, ℕ, zero, suc, ◌<◌, ◌≤◌, true, false, eqb, ltb, List, [], ◌∷◌, length, get_or, refl, sym, ap, ◌∙◌}
-use Rattle.std.proofs.Common.{arith, MatchResult, Bor}
+use Rattle.std.proofs.Common.{◌≡◌, ℕ, zero, suc, ◌+◌, ◌<◌, ◌≤◌, true, false, eqb, ltb, List, [], ◌∷◌, length, get_or, refl, sym, ap, ◌∙◌}
+use Rattle.std.proofs.Common.{arith, subst, MatchResult, Bor}
 use Rattle.std.specs.Prelude.{Result, Ok, Err, Option, Some, None}
 use Rattle.std.proofs.lemmas.Bool.{or_left, or_right, or_from, eq-eqb, ne_eqb, ltb-true, ltb-false, lt-ltb, le-ltb, le-leb, lt-leb}
 use Rattle.std.proofs.lemmas.List.Sorted.{searched}
@@ -78,3 +78,39 @@ next_at (x ∷ xs) g (suc i) l p =
 pub got : (xs : List ℕ) (i : ℕ) (r : Option (Bor ℕ)) → IsItemAt xs i r → option_copied r ≡ slice_get xs i
 got xs i None h = sym (slice_get_past xs i h.3)
 got xs i (Some x) h = sym (slice_get-get_or xs i x.now h.3.0 ∙ ap Some (sym (h.3.1 x.now)))
+
+-- ---- the good behind another
+
+AreAbove-slice_get : (y : ℕ) (xs : List ℕ) (i x : ℕ) → AreAbove y xs → slice_get xs i ≡ Some x → y < x
+AreAbove-slice_get y [] i x a e = absurd (cc)
+AreAbove-slice_get y (z ∷ xs) zero x a e = let s : z ≡ x = cc in let l : y < z = a.0 in omega arith
+AreAbove-slice_get y (z ∷ xs) (suc i) x a e = AreAbove-slice_get y xs i x a.1 e
+
+first_above : (y : ℕ) (xs : List ℕ) → AreAbove y xs → good_from xs (y + 1) ≡ slice_get xs 0
+first_above y [] a = refl
+first_above y (z ∷ xs) a = let l : y < z = a.0 in rw (le-leb (y + 1) z (omega arith)) refl
+
+pub first_good : (xs : List ℕ) → good_from xs 0 ≡ slice_get xs 0
+first_good [] = refl
+first_good (x ∷ xs) = rw (le-leb 0 x (omega arith)) refl
+
+behind : (xs : List ℕ) (i x : ℕ) → IsRising xs → slice_get xs i ≡ Some x → good_from xs (x + 1) ≡ slice_get xs (suc i)
+behind [] i x r e = absurd (cc)
+behind (y ∷ xs) zero x r e =
+    let s : y ≡ x = cc in
+    rw (lt-leb (x + 1) y (omega arith)) (subst (λ n. good_from xs (n + 1) ≡ slice_get xs 0) s (first_above y xs r.0))
+behind (y ∷ xs) (suc i) x r e =
+    let l : y < x = AreAbove-slice_get y xs i x r.0 e in
+    rw (lt-leb (x + 1) y (omega arith)) (behind xs i x r.1 e)
+
+none_behind : (xs : List ℕ) (i : ℕ) → slice_get xs i ≡ None → slice_get xs (suc i) ≡ None
+none_behind [] i e = refl
+none_behind (x ∷ xs) zero e = absurd (cc)
+none_behind (x ∷ xs) (suc i) e = none_behind xs i e
+
+-- behind the good at a place comes the one at the next place
+pub good_behind : (xs : List ℕ) (i x : ℕ) → IsRising xs → slice_get xs i ≡ Some x → good_from xs (x + 1) ≡ slice_get xs (i + 1)
+good_behind xs i x r e = let next : suc i ≡ i + 1 = omega arith in behind xs i x r e ∙ ap (slice_get xs) next
+
+pub no_good_behind : (xs : List ℕ) (i : ℕ) → slice_get xs i ≡ None → slice_get xs (i + 1) ≡ None
+no_good_behind xs i e = let next : suc i ≡ i + 1 = omega arith in sym (ap (slice_get xs) next) ∙ none_behind xs i e

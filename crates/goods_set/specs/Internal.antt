@@ -1,5 +1,4 @@
 -- What the contracts of private functions cite, and the facts that private types keep. No public contract rests on
 -- them.
-pub mod Fronts
 pub mod Held
 pub mod Residues

@@ -1,6 +1,7 @@
 -- What the contracts of this crate cite.
 pub mod Bundles
 pub mod Orders
+pub mod Fronts
 pub mod Residues
 pub mod Words
 pub mod Lemmas

@@ -1,15 +1,18 @@
 //! The laws of bundles, over lists of goods: the sets have them too, as laws of the trait.
-ghost use Rattle.std.specs.Prelude.{◌≡◌, ◌⊎◌, ℕ, List};
+ghost use Rattle.std.specs.Prelude.{◌≡◌, ◌<◌, ◌⊎◌, ℕ, List};
 ghost use Rattle.std.specs.List.{All, AllPairs, Contains};
 ghost use Rattle.std.specs.Cmp.{IsTotalOrder};
 ghost use Rattle.std.specs.declared.cmp.Ordering.TheVariants.{Less, Equal};
-ghost use Rattle.goods_set.specs.Bundles.{IsBundle, IsInside, all_bundles};
+ghost use Rattle.goods_set.specs.Bundles.{IsBundle, IsInside, AreBelow, all_bundles};
+ghost use Rattle.goods_set.specs.Fronts.{front_of};
 ghost use Rattle.goods_set.specs.Orders.{bundle_cmp};
 
-/// The order of bundles is total, and answers Equal only for equal lists.
+/// The order of bundles is total, and answers Equal only for equal lists. One with a lesser front comes before.
 pub fn order_of_bundles()
     ensures total { IsTotalOrder bundle_cmp }
     ensures equal { (xs ys : List ℕ) → bundle_cmp xs ys ≡ Equal → xs ≡ ys }
+    ensures fronts { (xs ys : List ℕ) → AreBelow 65536 xs → AreBelow 65536 ys → front_of xs < front_of ys
+        → bundle_cmp xs ys ≡ Less }
 {}
 
 /// Inside is a partial order on bundles, and a bundle inside another comes before it or equals it.

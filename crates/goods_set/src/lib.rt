@@ -2,6 +2,7 @@
 //! and a bit set that implement it, and the order of bundles.
 #![tactic(auto)]
 
+mod front;
 pub mod inside;
 pub mod laws;
 mod least;

@@ -7,7 +7,7 @@ ghost use Rattle.std.specs.Prelude.{◌≡◌, ℕ, ◌<◌, ◌≤◌, [], leng
 ghost use Rattle.std.specs.List.{insert};
 ghost use Rattle.goods_set.specs.Bundles.{IsBundle, IsInside, IsRising, AreBelow, has_good, with_good, without};
 ghost use Rattle.goods_set.specs.Lemmas.BundleFacts.{IsBundle-prop};
-ghost use Rattle.goods_set.specs.Internal.Fronts.{front_of};
+ghost use Rattle.goods_set.specs.Fronts.{front_of};
 ghost use Rattle.goods_set.specs.Internal.Residues.{residues_of};
 
 use crate::inside::may_be_inside;
@@ -22,7 +22,7 @@ use std::cmp::Ordering;
 #[derive(Debug, Drop)]
 pub struct ListSet {
     goods: Goods,
-    /// The size and the first three goods as one number, by which most sets are in order.
+    /// What `front` answers, kept.
     front: u64,
     /// The goods modulo 64, as bits, which tell most goods that are not there.
     residues: u64,
@@ -145,6 +145,10 @@ impl GoodsSet for ListSet {
 
     fn residues(&self) -> u64 {
         self.residues
+    }
+
+    fn front(&self) -> u64 {
+        self.front
     }
 
     fn list_into(&self, out: &mut Vec<u16>) -> Result<(), AllocError> {

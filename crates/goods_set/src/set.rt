@@ -14,6 +14,7 @@ ghost use Rattle.goods_set.specs.Bundles.{
   with_good,
   good_from,
 };
+ghost use Rattle.goods_set.specs.Fronts.{front_of};
 ghost use Rattle.goods_set.specs.Lemmas.Members.{inside_refl, inside_trans};
 ghost use Rattle.goods_set.specs.Orders.{bundle_cmp};
 ghost use Rattle.goods_set.specs.Residues.{AreResidues};
@@ -66,6 +67,10 @@ pub trait GoodsSet: Sized + Drop {
     /// The goods modulo 64, as the bits of a word: `may_be_inside` tells by them most sets that are not inside another.
     fn residues(&self) -> u64
         ensures { AreResidues (goods self.now) result };
+
+    /// The size and the first three goods as one number, by which most sets are in order.
+    fn front(&self) -> u64
+        ensures { result ≡ front_of (goods self.now) };
 
     /// Appends the goods of the set, rising. Where memory is refused, some of them may stand there.
     fn list_into(&self, out: &mut Vec<u16>) -> Result<(), AllocError>

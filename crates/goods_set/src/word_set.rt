@@ -1,4 +1,5 @@
 //! A set of goods as the bits of words.
+mod first_goods;
 mod lanes;
 mod scans;
 
@@ -93,6 +94,10 @@ impl<const N: usize> GoodsSet for WordSet<N> {
 
     fn residues(&self) -> u64 {
         scans::all_residues(self.used())
+    }
+
+    fn front(&self) -> u64 {
+        first_goods::front(self.used())
     }
 
     fn list_into(&self, out: &mut Vec<u16>) -> Result<(), AllocError> {

@@ -1,5 +1,5 @@
 //! Worked examples of the definitions, which the check computes.
-ghost use Rattle.std.specs.Prelude.{◌≡◌, ℕ, List, [], ◌∷◌, Some, None, true, false};
+ghost use Rattle.std.specs.Prelude.{◌≡◌, ◌<◌, ℕ, List, [], ◌∷◌, Some, None, true, false};
 ghost use Rattle.goods_set.specs.Bundles.{
   IsBundle,
   IsInside,
@@ -12,6 +12,7 @@ ghost use Rattle.goods_set.specs.Bundles.{
   all_bundles,
 };
 ghost use Rattle.goods_set.specs.Orders.{bundle_cmp};
+ghost use Rattle.goods_set.specs.Fronts.{front_of};
 ghost use Rattle.goods_set.specs.Residues.{AreResidues};
 ghost use Rattle.std.specs.declared.cmp.Ordering.TheVariants.{Less, Equal, Greater};
 
@@ -57,4 +58,14 @@ pub fn residues_worked()
     ensures shared { AreResidues (1 ∷ 65 ∷ 130 ∷ []) 6 }
     ensures one_lacks { ¬ AreResidues (1 ∷ 2 ∷ []) 2 }
     ensures one_too_many { ¬ AreResidues (1 ∷ []) 6 }
+{}
+
+/// The size stands in the highest 16 bits of a front, then the first three goods, so that fewer goods come first.
+pub fn fronts_worked()
+    ensures no_goods { front_of [] ≡ 0 }
+    ensures one_good { front_of (5 ∷ []) ≡ 281496451547136 }
+    ensures two_goods { front_of (5 ∷ 7 ∷ []) ≡ 562971428716544 }
+    ensures three_goods { front_of (5 ∷ 7 ∷ 9 ∷ []) ≡ 844446405427209 }
+    ensures size_first { front_of (65535 ∷ []) < front_of (0 ∷ 1 ∷ []) }
+    ensures fourth_left_out { front_of (5 ∷ 7 ∷ 9 ∷ 11 ∷ []) ≡ front_of (5 ∷ 7 ∷ 9 ∷ 12 ∷ []) }
 {}

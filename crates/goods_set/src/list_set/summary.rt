@@ -1,31 +1,30 @@
 //! What is kept beside the goods of a set, so that most sets are told apart without them.
-ghost use Rattle.std.specs.Prelude.{◌≡◌, ◌≤◌, get_or};
-ghost use Rattle.goods_set.specs.Internal.Fronts.{front_of};
+ghost use Rattle.std.specs.Prelude.{◌≡◌, get_or};
+ghost use Rattle.goods_set.specs.Fronts.{front_of};
 ghost use Rattle.goods_set.specs.Internal.Residues.{residues_of};
 
+use crate::front::front_from;
+
 /// The good at a place, or 0 behind the last.
-fn good_at(goods: &[u16], place: usize) -> u64
-    ensures good { result ≡ get_or goods.now place 0 }
-    ensures bound { result ≤ 65535 }
+fn good_at(goods: &[u16], place: usize) -> u16
+    ensures { result ≡ get_or goods.now place 0 }
 {
     match goods.get(place) {
-        Some(good) => u64::from(*good),
+        Some(good) => *good,
         None => 0,
     }
 }
 
-/// How many goods there are and the first three of them, as one number, by which nearly all sets are in order. The
-/// longest lists have no goods in it.
+/// How many goods there are and the first three of them, as one number, by which nearly all sets are in order.
 pub(crate) fn front(goods: &[u16]) -> u64
     ensures { result ≡ front_of goods.now }
 {
-    if goods.len() >= 65_535 {
-        return 65_535 << 48;
-    }
-    let size = (goods.len() as u64) << 48;
-    let first = good_at(goods, 0) << 32;
-    let second = good_at(goods, 1) << 16;
-    size + first + second + good_at(goods, 2)
+    front_from(
+        goods.len(),
+        good_at(goods, 0),
+        good_at(goods, 1),
+        good_at(goods, 2),
+    )
 }
 
 /// The goods modulo 64, as the bits of a word.

@@ -1,6 +1,6 @@
 use Rattle.std.proofs.Common.{◌≡◌, ◌∙◌, nat_cmp, ap}
-use Rattle.goods_set.specs.Internal.Fronts.{front_of}
-use Rattle.goods_set.proofs.Fronts.{order_by_front}
+use Rattle.goods_set.specs.Fronts.{front_of}
+use Rattle.goods_set.specs.Lemmas.Fronts.{order_by_front}
 use Rattle.goods_set.proofs.list_set.ListSetGoodsSet.order.Goals as goal
 
 pub returns-in_default : goal.returns-in_default

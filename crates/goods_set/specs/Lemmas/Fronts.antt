@@ -8,7 +8,7 @@ use Rattle.std.proofs.lemmas.Bool.{cases_order, cases_lt, lt-ltb, le-ltb}
 use Rattle.goods_set.specs.Bundles.{AreBelow}
 use Rattle.goods_set.specs.Orders.{bundle_cmp}
 use Rattle.goods_set.specs.Lemmas.Orders.{nat_cmp-lt, nat_cmp-gt, nat_cmp-refl, smaller_first, larger_last, same_size}
-use Rattle.goods_set.specs.Internal.Fronts.{front_of, first_goods}
+use Rattle.goods_set.specs.Fronts.{front_of, first_goods}
 
 -- ---- members
 
@@ -89,7 +89,8 @@ pub front_of-long : (xs : List ℕ) → 65535 ≤ length xs → front_of xs ≡ 
 unfolding front_of
 front_of-long xs l = ap (λ b. cond b (length xs * 2 ^ 48 + first_goods xs) (65535 * 2 ^ 48)) (le-ltb (length xs) 65535 l)
 
-front_less : (xs ys : List ℕ) → AreBelow 65536 xs → AreBelow 65536 ys → front_of xs < front_of ys → bundle_cmp xs ys ≡ Less
+-- the lesser front comes first
+pub front_less : (xs ys : List ℕ) → AreBelow 65536 xs → AreBelow 65536 ys → front_of xs < front_of ys → bundle_cmp xs ys ≡ Less
 front_less xs ys a b l =
     let f = first_goods-fit xs a in
     let g = first_goods-fit ys b in
