@@ -61,6 +61,9 @@ struct Listing {
 /// reads a few long lists, and not a short one for each good, the beginning of which it would have to wait for.
 const BLOCK: usize = 32;
 
+/// No good of a set is so large.
+const NO_GOOD: u32 = 65_536;
+
 /// A bundle of so many goods has about half of all residues.
 const WIDE: usize = 40;
 
@@ -75,6 +78,17 @@ pub struct Kept<S> {
     listed: usize,
     /// For each good the atoms that are listed there.
     lists: Vec<Vec<Listing>>,
+}
+
+/// Where the goods behind this one begin, or, where these need not be looked at, those behind all goods.
+fn behind(good: u16, enough: bool) -> u32
+    ensures { good < result }
+{
+    if enough {
+        NO_GOOD
+    } else {
+        u32::from(good) + 1
+    }
 }
 
 impl<S: GoodsSet> Kept<S> {
@@ -199,7 +213,8 @@ impl<S: GoodsSet> Kept<S> {
             second: 0,
             third: 0,
         };
-        let mut seen = 0;
+        // The good that it is listed at, and three more.
+        let mut unseen = 4u32;
         let mut from = 0;
         while let Some(good) = atom.bundle.next_from(from) {
             let blocks = self.blocks_at(good);
@@ -217,12 +232,10 @@ impl<S: GoodsSet> Kept<S> {
                 best = good;
                 fewest = blocks;
             }
-            seen += 1;
-            // No good has fewer, and three others are known.
-            if fewest == 0 && seen > 3 {
-                break;
-            }
-            from = u32::from(good) + 1;
+            unseen = unseen.saturating_sub(1);
+            // No good behind this one has fewer than none.
+            let enough = fewest == 0 && unseen == 0;
+            from = behind(good, enough);
         }
         (best, listing)
     }

@@ -12,7 +12,7 @@ loop-good-smaller g c =
     let goods = g.S.GoodsSet.goods in
     let further = next_is_further (goods c.args.atom.now.bundle) c.loop-good.from c.in-Some.good (g.met.S.GoodsSet.is_bundle c.args.atom.now.bundle).0
     (sym c.in-Some.ensures) in
-    omega arith
+    omega (arith, c.behind-from.ensures)
 
 pub loop-good-preserved : goal.loop-good-preserved
 loop-good-preserved g c =
