@@ -12,7 +12,9 @@ ghost use Rattle.cats_cmd.specs.Statuses.{status_of_difference};
 
 use crate::report::{DIFFERENT, DONE, RunFault};
 use crate::run::{read_compact_file, send_text};
-use canon::{CanonFault, Verdict, Which, compare_compact_files, into_normal_file};
+use canon::{
+    CanonFault, Verdict, Which, compare_compact_files, into_normal_file, last_normal_file,
+};
 use cats_text::{CompactFile, Watched};
 use std::alloc::{AllocError, Global};
 use std::io::{Read, Write};
@@ -22,7 +24,8 @@ use text::verdict_text;
 /// part first. `limit` bounds the steps of each search that decides on a bundle of an OR bidder.
 ///
 /// The status is 0 for the same auction, and 1 for a difference. A fault of a file tells which of the two it belongs
-/// to; want of memory that is met while the two are compared belongs to both.
+/// to; want of memory that is met while the two are compared belongs to both. The memory of the second auction is left
+/// to the process's end.
 pub fn run_compare<R: Read, S: Read, W: Write>(
     alloc: Global,
     first: &mut Watched<R>,
@@ -42,7 +45,7 @@ pub fn run_compare<R: Read, S: Read, W: Write>(
         Ok(file) => file,
         Err(fault) => return Err(RunFault::Refused(Which::First, fault)),
     };
-    let right = match read_canonical(alloc, second, limit) {
+    let right = match read_last_canonical(alloc, second, limit) {
         Ok(file) => file,
         Err(fault) => return Err(RunFault::Refused(Which::Second, fault)),
     };
@@ -65,6 +68,22 @@ fn read_canonical<R: Read>(
 {
     let file = read_compact_file(alloc, input)?;
     into_normal_file(alloc, file, limit)
+}
+
+/// Reads the process's last bid file, and gives it up for its canonical file. The memory of its auction is left to the
+/// process's end.
+fn read_last_canonical<R: Read>(
+    alloc: Global,
+    input: &mut Watched<R>,
+    limit: u64,
+) -> Result<CompactFile, CanonFault>
+    requires works { has_failed input.old ≡ false }
+    requires fresh { has_ended input.old ≡ false }
+    ensures answer { ReadsCanonical R.remaining limit input.old input.new result }
+    ensures canonical { IfOk result (λ file. IsCanonicalFile file) }
+{
+    let file = read_compact_file(alloc, input)?;
+    last_normal_file(alloc, file, limit)
 }
 
 /// The status and the text of a comparison.

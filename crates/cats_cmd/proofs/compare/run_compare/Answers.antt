@@ -5,5 +5,5 @@ use Rattle.cats_cmd.proofs.compare.run_compare.Goals as goal
 
 pub returns-in-Ok-told : goal.returns-in-Ok-told
 returns-in-Ok-told g c =
-    run_compared _ _ _ _ _ _ _ _ _ _ c.in-Ok.file c.in-Ok-read_canonical.file c.in-Ok.ensures.answer c.in-Ok-read_canonical.ensures.answer c.in-Ok-told.status _
+    run_compared _ _ _ _ _ _ _ _ _ _ c.in-Ok.file c.in-Ok-read_last_canonical.file c.in-Ok.ensures.answer c.in-Ok-read_last_canonical.ensures.answer c.in-Ok-told.status _
     (c.in-Ok-told.ensures ∙ ap (λ text. Tells c.in-Ok-told.status text) (sym c.as_slice.ensures.value)) _ c.send_text.ensures
