@@ -84,11 +84,7 @@ pub struct Kept<S> {
 fn behind(good: u16, enough: bool) -> u32
     ensures { good < result }
 {
-    if enough {
-        NO_GOOD
-    } else {
-        u32::from(good) + 1
-    }
+    if enough { NO_GOOD } else { u32::from(good) + 1 }
 }
 
 impl<S: GoodsSet> Kept<S> {
