@@ -22,8 +22,8 @@ const LARGER_BID: &str = "goods 2\nbids 3\ndummy 0\n0\t3\t0\t#\n1\t4\t1\t#\n2\t7
 
 const LARGER_BID_TEXT: &str = "goods 2\nbids 2\ndummy 0\n0\t3\t0\t#\n1\t4\t1\t#\n";
 
-/// Bidders whose first bundles have four goods, the first three of them the same: by the fourth good, the price and the next
-/// bid alone they are in order. The first bidder's bundle has one good fewer.
+/// Four bidders whose first bundles have four goods, three of them the same, so that the fourth good, the price and the
+/// next bid settle their order; and one whose bundle has three goods, and comes first.
 const EQUAL_FRONTS: &str = concat!(
     "goods 6\nbids 7\ndummy 5\n",
     "0\t1\t0\t1\t2\t5\t6\t#\n1\t3\t0\t1\t2\t4\t7\t#\n2\t2\t0\t1\t2\t4\t8\t#\n",

@@ -35,8 +35,8 @@ pub returns : goal.returns
 returns g c =
     let none : into_iter_items c.loop-bidder.bidder-iterator ≡ [] =
     nil_from_length (into_iter_items c.loop-bidder.bidder-iterator) (omega (arith, c.in-None.ensures.steps.0, c.loop-bidder.bidder-iterator.rest.ok.0)) in
-    λ n atoms. points_done g.S.GoodsSet.goods fronted_atoms n c.args.bidders.items c.loop-bidder.yielded _ c.loop-bidder.points.items c.loop-bidder.invariant.all none
-    (c.loop-bidder.invariant.points n atoms)
+    λ n atoms. points_done g.S.GoodsSet.goods fronted_atoms n c.args.bidders.items c.loop-bidder.yielded _ c.loop-bidder.points.items
+    c.loop-bidder.invariant.all none (c.loop-bidder.invariant.points n atoms)
 
 pub loop-bidder-preserved-in-Continue-branch-3 : goal.loop-bidder-preserved-in-Continue-branch-3
 loop-bidder-preserved-in-Continue-branch-3 g c =
