@@ -38,6 +38,7 @@ ghost use Rattle.prune.specs.Internal.Listings.{
   NoneInsideFrom,
 };
 
+use crate::commonness::Commonness;
 use goods_set::{GoodsSet, may_be_inside};
 use std::alloc::{AllocError, Global};
 use valuation::Atom;
@@ -57,13 +58,6 @@ struct Listing {
     third: u16,
 }
 
-/// Atoms are listed by so many at one good before the next good is taken for having fewer. A search in a wide bundle then
-/// reads a few long lists, and not a short one for each good, the beginning of which it would have to wait for.
-const BLOCK: usize = 32;
-
-/// No good of a set is so large.
-const NO_GOOD: u32 = 65_536;
-
 /// A bundle of so many goods has about half of all residues.
 const WIDE: usize = 40;
 
@@ -78,26 +72,22 @@ pub struct Kept<S> {
     listed: usize,
     /// For each good the atoms that are listed there.
     lists: Vec<Vec<Listing>>,
-}
-
-/// Where the goods behind this one begin, or, where these need not be looked at, those behind all goods.
-fn behind(good: u16, enough: bool) -> u32
-    ensures { good < result }
-{
-    if enough { NO_GOOD } else { u32::from(good) + 1 }
+    /// How common goods are among all atoms that come.
+    commonness: Commonness,
 }
 
 impl<S: GoodsSet> Kept<S> {
-    /// No atoms, with room for so many.
-    pub fn with_room(alloc: Global, room: usize) -> Result<Kept<S>, AllocError>
+    /// None of these atoms, with room for them.
+    pub fn none_of(alloc: Global, atoms: &[Atom<S>]) -> Result<Kept<S>, AllocError>
         ensures atoms { IfOk result (λ kept. kept.atoms.items ≡ []) }
         ensures listed { IfOk result
             (λ kept. AreListed (lists_of kept.lists.items) kept.listed (atoms_of S.goods kept.atoms.items)) }
     {
         Ok(Kept {
-            atoms: Vec::with_capacity(alloc, room)?,
+            atoms: Vec::with_capacity(alloc, atoms.len())?,
             listed: 0,
             lists: Vec::new(alloc),
+            commonness: Commonness::of(alloc, atoms)?,
         })
     }
 
@@ -109,6 +99,7 @@ impl<S: GoodsSet> Kept<S> {
             atoms,
             listed: _,
             lists: _,
+            commonness: _,
         } = self;
         atoms
     }
@@ -124,8 +115,8 @@ impl<S: GoodsSet> Kept<S> {
         Ok(())
     }
 
-    /// Lists the first atom that is not, at the first good of its bundle at which the fewest blocks are listed. There is no
-    /// room for one whose place is past the numbers of 4 bytes; a file has far fewer bids.
+    /// Lists the first atom that is not, at the least common good of its bundle. There is no room for one whose place is
+    /// past the numbers of 4 bytes; a file has far fewer bids.
     fn list_next(&mut self, alloc: Global) -> Result<(), AllocError>
         requires next { self.old.listed < vec_len self.old.atoms }
         requires some { All (λ a. 0 < length a.bundle) (atoms_of S.goods self.old.atoms.items) }
@@ -181,16 +172,8 @@ impl<S: GoodsSet> Kept<S> {
         Ok(())
     }
 
-    /// How many blocks of atoms are listed at the good.
-    fn blocks_at(&self, good: u16) -> usize {
-        match self.lists.get(usize::from(good)) {
-            Some(list) => list.len() / BLOCK,
-            None => 0,
-        }
-    }
-
-    /// The first good of the atom's bundle at which the fewest blocks are listed, and what is to be listed there: the
-    /// atom, as that at the place.
+    /// The good of the atom's bundle that is the least common, and what is to be listed there: the atom, as that at the
+    /// place.
     fn listing_of(&self, atom: &Atom<S>, place: u32) -> (u16, Listing)
         requires { 0 < length (S.goods atom.now.bundle) }
         ensures good { has_good (S.goods atom.now.bundle) result.0 ≡ true }
@@ -209,29 +192,24 @@ impl<S: GoodsSet> Kept<S> {
             second: 0,
             third: 0,
         };
-        // The good that it is listed at, and three more.
-        let mut unseen = 4u32;
         let mut from = 0;
         while let Some(good) = atom.bundle.next_from(from) {
-            let blocks = self.blocks_at(good);
+            let count = self.commonness.at(good);
             if from == 0 {
                 listing.witness = good;
                 listing.second = good;
                 best = good;
-                fewest = blocks;
+                fewest = count;
             }
             listing.third = listing.second;
             listing.second = listing.witness;
             listing.witness = good;
-            if blocks < fewest {
+            if count < fewest {
                 listing.witness = best;
                 best = good;
-                fewest = blocks;
+                fewest = count;
             }
-            unseen = unseen.saturating_sub(1);
-            // No good behind this one has fewer than none.
-            let enough = fewest == 0 && unseen == 0;
-            from = behind(good, enough);
+            from = u32::from(good) + 1;
         }
         (best, listing)
     }

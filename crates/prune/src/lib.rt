@@ -2,6 +2,7 @@
 #![tactic(auto)]
 
 mod best;
+mod commonness;
 mod fault;
 mod kept;
 mod laws;

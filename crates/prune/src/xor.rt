@@ -100,7 +100,7 @@ pub fn prune_xor<S: GoodsSet>(
         return Ok(atoms);
     }
     let few = atoms.len() <= FEW;
-    let mut kept = Kept::with_room(alloc, atoms.len())?;
+    let mut kept = Kept::none_of(alloc, &atoms)?;
     for bid in atoms {
         if !is_covered(alloc, &mut kept, &bid, few)? {
             kept.push(bid)?;

@@ -5,14 +5,14 @@ use Rattle.goods_set.specs.Residues.{AreResidues}
 use Rattle.prune.specs.declared.kept.Listing.{Listing}
 use Rattle.prune.proofs.ListedAtoms.{next_is_further, next_is_had, some_from_zero}
 use Rattle.prune.proofs.kept.Kept.listing_of.Goals as goal
-use Rattle.prune.proofs.kept.Kept.listing_of.Goals.{then-from-eq0, else-from-eq0, then-blocks-fewest, else-blocks-fewest}
+use Rattle.prune.proofs.kept.Kept.listing_of.Goals.{then-from-eq0, else-from-eq0, then-count-fewest, else-count-fewest}
 
 pub loop-good-smaller : goal.loop-good-smaller
 loop-good-smaller g c =
     let goods = g.S.GoodsSet.goods in
     let further = next_is_further (goods c.args.atom.now.bundle) c.loop-good.from c.in-Some.good (g.met.S.GoodsSet.is_bundle c.args.atom.now.bundle).0
     (sym c.in-Some.ensures) in
-    omega (arith, c.behind-from.ensures)
+    omega arith
 
 pub loop-good-preserved : goal.loop-good-preserved
 loop-good-preserved g c =
@@ -43,8 +43,8 @@ loop-good-preserved g c =
             ap (λ (z : Listing). z.residues) w.listing-is,
           )
     ] in
-    elim c.if-blocks-fewest.branch [
-      | then-blocks-fewest w ↦ record {
+    elim c.if-count-fewest.branch [
+      | then-count-fewest w ↦ record {
         place = ap (λ (z : Listing). z.place) w.listing-is ∙ first.3 ∙ h.place;
         residues = subst (λ bits. AreResidues bundle bits) (sym (ap (λ (z : Listing). z.residues) w.listing-is ∙ first.4)) h.residues;
         chosen = inr (
@@ -54,7 +54,7 @@ loop-good-preserved g c =
           ap (λ (z : Listing). has_good bundle z.third) w.listing-is ∙ first.2,
         );
       }
-      | else-blocks-fewest w ↦ record {
+      | else-count-fewest w ↦ record {
         place = ap (λ (z : Listing). z.place) w.listing-is ∙ first.3 ∙ h.place;
         residues = subst (λ bits. AreResidues bundle bits) (sym (ap (λ (z : Listing). z.residues) w.listing-is ∙ first.4)) h.residues;
         chosen = inr (
