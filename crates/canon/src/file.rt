@@ -9,7 +9,7 @@ ghost use Rattle.canon.specs.Canonical.{bid_from, file_from};
 
 use crate::writing::count_bids;
 use cats_text::{Bid, BidFile, CompactBids, CompactFile};
-use goods_set::{GoodsSet, goods_of};
+use goods_set::{GoodsSet, goods_of, rising_goods};
 use std::alloc::{AllocError, Global};
 use valuation::{Atom, Auction};
 
@@ -78,9 +78,8 @@ fn push_offers<S: GoodsSet>(
     ensures { OnOk result (bids.new ≡ bids.old ++ map (bid_from dummy) (atoms_of S.goods atoms.now)) }
 {
     for atom in atoms {
-        bundle.clear();
-        atom.bundle.list_into(bundle)?;
-        bids.push(atom.price, bundle.as_slice(), dummy, count)?;
+        let goods = rising_goods(&atom.bundle, bundle)?;
+        bids.push(atom.price, goods, dummy, count)?;
     }
     Ok(())
 }

@@ -8,7 +8,7 @@ ghost use Rattle.valuation.specs.Views.{plain_auction};
 ghost use Rattle.canon.specs.Canonical.{bid_from, file_from};
 
 use cats_text::{push_bid, push_header};
-use goods_set::GoodsSet;
+use goods_set::{GoodsSet, rising_goods};
 use std::alloc::{AllocError, Global};
 use valuation::{Atom, Auction};
 
@@ -73,16 +73,8 @@ fn push_atoms<S: GoodsSet>(
         (map (bid_from dummy) (atoms_of S.goods atoms.now))) }
 {
     for (place, atom) in atoms.iter().enumerate() {
-        bundle.clear();
-        atom.bundle.list_into(bundle)?;
-        push_bid(
-            out,
-            goods,
-            first + place,
-            atom.price,
-            bundle.as_slice(),
-            dummy,
-        )?;
+        let own = rising_goods(&atom.bundle, bundle)?;
+        push_bid(out, goods, first + place, atom.price, own, dummy)?;
     }
     Ok(())
 }

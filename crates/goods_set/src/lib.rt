@@ -14,6 +14,6 @@ pub mod worked;
 
 pub use inside::may_be_inside;
 pub use list_set::ListSet;
-pub use listing::goods_of;
+pub use listing::{goods_of, rising_goods};
 pub use set::GoodsSet;
 pub use word_set::WordSet;

@@ -22,11 +22,8 @@ use std::cmp::Ordering;
 #[derive(Debug, Drop)]
 pub struct ListSet {
     goods: Goods,
-    /// What `front` answers, kept.
-    front: u64,
     /// The goods modulo 64, as bits, which tell most goods that are not there.
     residues: u64,
-    ghost fronts: { front ≡ front_of goods },
     ghost marked: { residues ≡ residues_of goods },
     ghost bundle: { IsBundle 65536 goods } by { IsBundle-prop 65536 goods },
 }
@@ -37,12 +34,9 @@ impl ListSet {
         requires { IsBundle 65536 rising }
         ensures { result.goods ≡ rising }
     {
-        let goods = rising.as_slice();
-        let front = summary::front(goods);
-        let residues = summary::residues(goods);
+        let residues = summary::residues(rising.as_slice());
         ListSet {
             goods: rising,
-            front,
             residues,
         }
     }
@@ -122,7 +116,6 @@ impl GoodsSet for ListSet {
             Ok(_) => Ok(false),
             Err(place) => {
                 self.goods.insert(place, good)?;
-                self.front = summary::front(self.goods.as_slice());
                 self.residues = summary::residues(self.goods.as_slice());
                 Ok(true)
             }
@@ -148,11 +141,15 @@ impl GoodsSet for ListSet {
     }
 
     fn front(&self) -> u64 {
-        self.front
+        summary::front(self.goods.as_slice())
     }
 
     fn list_into(&self, out: &mut Vec<u16>) -> Result<(), AllocError> {
         out.extend_from_slice(self.goods.as_slice())
+    }
+
+    fn as_slice(&self) -> Option<&[u16]> {
+        Some(self.goods.as_slice())
     }
 
     fn is_inside(&self, other: &ListSet) -> bool {
@@ -165,12 +162,11 @@ impl GoodsSet for ListSet {
 
     fn take_out(&mut self, other: &ListSet) {
         other.leave(&mut self.goods);
-        self.front = summary::front(self.goods.as_slice());
         self.residues = summary::residues(self.goods.as_slice());
     }
 
     fn order(&self, other: &ListSet) -> Ordering {
-        match self.front.cmp(&other.front) {
+        match self.front().cmp(&other.front()) {
             Ordering::Equal => {
                 let sizes = self.size().cmp(&other.size());
                 sizes.then_with(|| self.goods.as_slice().cmp(other.goods.as_slice()))
@@ -182,7 +178,6 @@ impl GoodsSet for ListSet {
     fn copy(&self) -> Result<ListSet, AllocError> {
         Ok(ListSet {
             goods: self.goods.copy()?,
-            front: self.front,
             residues: self.residues,
         })
     }

@@ -1,5 +1,5 @@
 //! What the crates above know of a set of goods.
-ghost use Rattle.std.specs.Prelude.{◌≡◌, ◌⊎◌, ℕ, ◌<◌, ◌≤◌, List, [], ◌++◌, not, length, IfOk, OnOk, OnErr};
+ghost use Rattle.std.specs.Prelude.{◌≡◌, ◌⊎◌, ℕ, ◌<◌, ◌≤◌, List, [], ◌++◌, not, length, IfOk, IfSome, OnOk, OnErr};
 ghost use Rattle.std.specs.Cmp.{IsTotalOrder};
 ghost use Rattle.std.specs.declared.cmp.Ordering.TheVariants.{Less, Equal};
 ghost use Rattle.goods_set.specs.Bundles.{
@@ -75,6 +75,10 @@ pub trait GoodsSet: Sized + Drop {
     /// Appends the goods of the set, rising. Where memory is refused, some of them may stand there.
     fn list_into(&self, out: &mut Vec<u16>) -> Result<(), AllocError>
         ensures { OnOk result (out.new.items ≡ out.old.items ++ goods self.now) };
+
+    /// The goods, rising, where they stand so in memory.
+    fn as_slice(&self) -> Option<&[u16]>
+        ensures { IfSome result (λ listed. listed.now ≡ goods self.now) };
 
     /// Whether each good of the set is in `other`.
     fn is_inside(&self, other: &Self) -> bool

@@ -104,6 +104,10 @@ impl<const N: usize> GoodsSet for WordSet<N> {
         scans::list_goods(self.used(), out)
     }
 
+    fn as_slice(&self) -> Option<&[u16]> {
+        None
+    }
+
     fn is_inside(&self, other: &WordSet<N>) -> bool {
         lanes::all_inside(self.used(), other.used())
     }

@@ -1,12 +1,10 @@
 //! How common each good is among atoms.
-ghost use Rattle.std.specs.Prelude.{◌≡◌};
-
 use goods_set::GoodsSet;
 use std::alloc::{AllocError, Global};
 use valuation::Atom;
 
 /// No more than about so many atoms are counted: they tell the rare goods of a bundle as well as all would.
-const SAMPLE: usize = 4_096;
+const SAMPLE: usize = 1_024;
 
 /// How many atoms of a sample have each good. It decides where an atom is listed, and so what searches cost, and nothing
 /// that they answer: no clause tells it.

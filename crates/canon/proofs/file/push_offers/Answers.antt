@@ -1,4 +1,4 @@
-use Rattle.std.proofs.Common.{List, ℕ, ◌++◌, arith, ap, ◌∙◌}
+use Rattle.std.proofs.Common.{arith, ◌∙◌}
 use Rattle.valuation.specs.Lemmas.Atoms.{length-atoms_of}
 use Rattle.valuation.specs.Values.{atoms_of}
 use Rattle.canon.specs.Canonical.{bid_from}
@@ -9,9 +9,9 @@ pub loop-atom-preserved : goal.loop-atom-preserved
 loop-atom-preserved g c =
     let goods = g.S.GoodsSet.goods in
     let atom = c.atom-item.result in
-    one_more_bid goods c.args.dummy c.loop-atom.bids c.push.new.self c.as_slice.result.now c.args.atoms.now c.loop-atom.atom-index atom
+    one_more_bid goods c.args.dummy c.loop-atom.bids c.push.new.self c.in_ok-goods.goods.now c.args.atoms.now c.loop-atom.atom-index atom
     c.loop-atom-test.true c.atom-item.is
-    (c.as_slice.ensures.value ∙ c.in_ok-list_into.ensures ∙ ap (λ (zs : List ℕ). zs ++ goods atom.bundle) c.clear.ensures.items)
+    c.in_ok-goods.ensures
     c.in_ok-push.ensures
     ∙ c.loop-atom.invariant
 

@@ -1,4 +1,4 @@
-use Rattle.std.proofs.Common.{List, ℕ, ◌++◌, ap, ◌∙◌, arith}
+use Rattle.std.proofs.Common.{arith}
 use Rattle.canon.proofs.TextLines.{atoms_text_none, atoms_text_more, atoms_text_all}
 use Rattle.canon.proofs.writing.push_atoms.Goals as goal
 
@@ -9,10 +9,10 @@ pub loop-place-preserved : goal.loop-place-preserved
 loop-place-preserved g c =
     let goods = g.S.GoodsSet.goods in
     let atom = c.index-atoms-place.result in
-    atoms_text_more goods c.args.goods c.args.first c.loop-place.place c.args.dummy c.args.atoms.now atom c.as_slice.result.now c.loop-place.out.items
+    atoms_text_more goods c.args.goods c.args.first c.loop-place.place c.args.dummy c.args.atoms.now atom c.in_ok-own.own.now c.loop-place.out.items
     c.push_bid.new.out.items _
     c.loop-place-test.true c.index-atoms-place.is
-    (c.as_slice.ensures.value ∙ c.in_ok-list_into.ensures ∙ ap (λ (zs : List ℕ). zs ++ goods atom.bundle) c.clear.ensures.items)
+    c.in_ok-own.ensures
     c.in_ok-push_bid.ensures.text c.loop-place.invariant
 
 pub returns : goal.returns

@@ -7,8 +7,7 @@ pub invariant_of-self-in-Err : goal.invariant_of-self-in-Err
 invariant_of-self-in-Err c =
     let s = c.args.self.now in
     record {
-      fronts = rw c.as_slice.ensures at c.front-self.ensures;
-      marked = rw c.as_slice-in-Err.ensures at c.residues-self.ensures;
+      marked = rw c.as_slice.ensures at c.residues-self.ensures;
       bundle = subst (λ (zs : List ℕ). IsBundle 65536 zs) (sym (c.in_ok-insert-in-Err.ensures.goods ∙ c.in-Err.ensures.2))
           (IsBundle-with_good 65536 c.args.good s.goods c.ranges.good.fits s.bundle);
     }
