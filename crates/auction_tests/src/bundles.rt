@@ -1,7 +1,7 @@
 //! What is seen of sets of both kinds, at worked examples. Each call is made with ample memory, so
 //! that it has to succeed.
 use crate::bids::{expect_goods, put_good};
-use goods_set::{GoodsSet, ListSet, WordSet, goods_of, may_be_inside};
+use goods_set::{GoodsSet, ListSet, WordSet, goods_of, may_be_inside, rising_goods};
 use std::alloc::Global;
 use std::cmp::Ordering;
 use std::process::Abort;
@@ -37,6 +37,10 @@ fn copy_and_list<S: GoodsSet>(rt: &impl Abort, alloc: Global) -> Result<(), Fail
     let mut listed = [7].to_vec(alloc)?;
     copy.list_into(&mut listed)?;
     expect_goods(rt, &listed, &[7, 3, 5]);
+    expect_goods(rt, rising_goods(&copy, &mut listed)?, &[3, 5]);
+    if let Some(goods) = copy.as_slice() {
+        expect_goods(rt, goods, &[3, 5]);
+    }
     Ok(())
 }
 
@@ -118,6 +122,22 @@ fn tell_residues<S: GoodsSet>(rt: &impl Abort, alloc: Global) -> Result<(), Fail
     Ok(())
 }
 
+// A good, and those of 1, 63, 64, 70, 127 and 128 in its block of 64.
+static BLOCKS: [(u16, u64); 4] = [
+    (5, 1 << 1 | 1 << 63),
+    (70, 1 | 1 << 6 | 1 << 63),
+    (128, 1),
+    (300, 0),
+];
+
+fn tell_blocks<S: GoodsSet>(rt: &impl Abort, alloc: Global) -> Result<(), Fail> {
+    let set = set_of::<S>(rt, alloc, &[1, 63, 64, 70, 127, 128])?;
+    for (good, block) in &BLOCKS {
+        assert_eq!(rt; set.block(*good), *block);
+    }
+    Ok(())
+}
+
 // The size and the first three goods, of 16 bits each.
 static FRONTS: [(&'static [u16], u64); 5] = [
     (&[], 0),
@@ -139,6 +159,7 @@ fn hold_goods<S: GoodsSet>(rt: &impl Abort, alloc: Global) -> Result<(), Fail> {
     copy_and_list::<S>(rt, alloc)?;
     take_a_slice::<S>(rt, alloc)?;
     tell_residues::<S>(rt, alloc)?;
+    tell_blocks::<S>(rt, alloc)?;
     tell_fronts::<S>(rt, alloc)?;
     compare_sets::<S>(rt, alloc)
 }

@@ -1,5 +1,6 @@
 -- Proofs that several functions of this crate cite.
 pub mod Bits
+pub mod Blocks
 pub mod Firsts
 pub mod Lanes
 pub mod Places

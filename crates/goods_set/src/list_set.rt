@@ -3,8 +3,9 @@ mod few;
 mod goods;
 mod summary;
 
-ghost use Rattle.std.specs.Prelude.{◌≡◌, ℕ, ◌<◌, ◌≤◌, [], length, not, true, false, IsOk, IfOk, MatchResult};
+ghost use Rattle.std.specs.Prelude.{◌≡◌, ℕ, ◌<◌, ◌≤◌, [], length, not, nat_lt, true, false, IsOk, IfOk, MatchResult};
 ghost use Rattle.std.specs.List.{insert};
+ghost use Rattle.std.specs.List.Sorted.{IsPartitionPoint};
 ghost use Rattle.goods_set.specs.Bundles.{IsBundle, IsInside, IsRising, AreBelow, has_good, with_good, without};
 ghost use Rattle.goods_set.specs.Lemmas.BundleFacts.{IsBundle-prop};
 ghost use Rattle.goods_set.specs.Fronts.{front_of};
@@ -64,6 +65,16 @@ impl ListSet {
             × (insert self.now.goods i good ≡ with_good good self.now.goods)) }
     {
         self.goods.as_slice().binary_search(&good)
+    }
+
+    // How many goods are below a bound.
+    fn place_from(&self, from: u32) -> usize
+        ensures fits { result ≤ length self.now.goods }
+        ensures parts { IsPartitionPoint (λ good. nat_lt good from ≡ true) (λ good. nat_lt good from ≡ false)
+            self.now.goods result }
+    {
+        let goods = self.goods.as_slice();
+        goods.partition_point(|good| u32::from(*good) < from)
     }
 
     // The few goods that are not in the set.
@@ -131,13 +142,19 @@ impl GoodsSet for ListSet {
     }
 
     fn next_from(&self, from: u32) -> Option<u16> {
-        let goods = self.goods.as_slice();
-        let place = goods.partition_point(|good| u32::from(*good) < from);
-        goods.get(place).copied()
+        let place = self.place_from(from);
+        self.goods.as_slice().get(place).copied()
     }
 
     fn residues(&self) -> u64 {
         self.residues
+    }
+
+    fn block(&self, good: u16) -> u64 {
+        let first = u32::from(good / 64) * 64;
+        let start = self.place_from(first);
+        let end = self.place_from(first + 64);
+        summary::residues(&self.goods.as_slice()[start..end])
     }
 
     fn front(&self) -> u64 {

@@ -13,7 +13,7 @@ ghost use Rattle.goods_set.specs.Bundles.{
 };
 ghost use Rattle.goods_set.specs.Orders.{bundle_cmp};
 ghost use Rattle.goods_set.specs.Fronts.{front_of};
-ghost use Rattle.goods_set.specs.Residues.{AreResidues};
+ghost use Rattle.goods_set.specs.Residues.{AreResidues, block_of};
 ghost use Rattle.std.specs.declared.cmp.Ordering.TheVariants.{Less, Equal, Greater};
 
 /// Bundles are strictly rising lists of goods below the number of goods.
@@ -53,11 +53,13 @@ pub fn order_worked()
     ensures over_none { all_bundles 0 ≡ [] ∷ [] }
 {}
 
-/// Goods that differ by 64 share a residue.
+/// Goods that differ by 64 share a residue. A block holds those from a multiple of 64 up to below the next one.
 pub fn residues_worked()
     ensures shared { AreResidues (1 ∷ 65 ∷ 130 ∷ []) 6 }
     ensures one_lacks { ¬ AreResidues (1 ∷ 2 ∷ []) 2 }
     ensures one_too_many { ¬ AreResidues (1 ∷ []) 6 }
+    ensures block { block_of 70 (1 ∷ 63 ∷ 64 ∷ 127 ∷ 128 ∷ []) ≡ 64 ∷ 127 ∷ [] }
+    ensures no_block { block_of 5 (64 ∷ 70 ∷ []) ≡ [] }
 {}
 
 /// The size stands in the highest 16 bits of a front, then the first three goods, so that fewer goods come first.

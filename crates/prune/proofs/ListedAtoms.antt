@@ -1,29 +1,30 @@
 -- Atoms are found through the goods of a bundle: each atom inside it is listed at one of its goods, which is a good of the bundle.
 -- The places found, sorted, are those of the atoms inside the bundle, since no place is listed twice.
-use Rattle.std.proofs.Common.{◌≡◌, ◌≢◌, ℕ, zero, suc, ◌+◌, ◌<◌, ◌≤◌, Bool, true, ◌&&◌, false, cond, leb, take, set, get_or-set_same, get_or-set_other, append_assoc}
-use Rattle.std.proofs.Common.{Bor, eqb, ◌⊎◌, inl, inr, ⊎_elim, List, [], ◌∷◌, ◌++◌, length, map, get_or, refl, sym, ap, ◌∙◌, subst, arith, Some, None, nat_cmp, Less, Greater}
+use Rattle.std.proofs.Common.{◌≡◌, ◌≢◌, ℕ, zero, suc, ◌+◌, ◌/◌, ◌<◌, ◌≤◌, Bool, true, ◌&&◌, false, cond, leb, take, set, get_or-set_same, get_or-set_other, append_assoc}
+use Rattle.std.proofs.Common.{Bor, eqb, ◌⊎◌, inl, inr, ⊎_elim, List, [], ◌∷◌, ◌++◌, length, map, get_or, refl, sym, ap, ◌∙◌, subst, subst₂, arith, Some, None, nat_cmp, Less, Greater}
 use Rattle.std.specs.Prelude.{All, AllPairs, Contains, IsPermutation}
 use Rattle.std.specs.Global.{Vec}
-use Rattle.std.specs.List.{filter, list_any, range_with_len}
+use Rattle.std.specs.List.{filter, list_any, range_with_len, slice_get}
 use Rattle.std.specs.List.Sorted.{IsSorted}
 use Rattle.std.proofs.lemmas.Bool.{cases_lt, cases_eq, both_ways, and_parts, and_from, and_right, or_from, false_from_ne_true}
-use Rattle.std.proofs.lemmas.Bool.{eqb-true, eq-eqb}
+use Rattle.std.proofs.lemmas.Bool.{eqb-true, eq-eqb, le-leb, lt-leb}
 use Rattle.std.specs.Cmp.{both_ways as same_test}
 use Rattle.std.proofs.lemmas.Bool.Decides.{Decides-eqb}
 use Rattle.std.proofs.lemmas.List.{map-set, map_push, take_more, get_or-map, get_or_append_left, get_or_default, length-map, length_push}
 use Rattle.std.proofs.lemmas.List.Elements.{filter_more, Contains-get_or, All-append, All-contains, All-filter, All-weaker, Contains-append_left}
 use Rattle.std.proofs.lemmas.List.Elements.{Contains-append_right, Contains-push_cases, Contains-push}
 use Rattle.std.proofs.lemmas.List.Folds.{list_any_none, list_any_more}
+use Rattle.std.proofs.lemmas.Option.{slice_get-get_or, slice_get_past}
 use Rattle.std.proofs.lemmas.List.FromFn.{fill_by_all}
 use Rattle.std.proofs.lemmas.List.Kept.{AllPairs-from_increasing, AllPairs-filter}
 use Rattle.std.proofs.lemmas.List.Quantifiers.{all_pairs_push}
 use Rattle.std.proofs.lemmas.List.Sorted.{Contains-permutation, IsPermutation-sym, IsNonDecreasingBy-from_sort}
 use Rattle.std.proofs.lemmas.Map.Keys.{IsDistinct-IsPermutation, IsStrictlyIncreasing-from_distinct}
 use Rattle.std.proofs.lemmas.Map.Made.{IsDistinct-from_AllPairs}
-use Rattle.goods_set.specs.Bundles.{IsRising, has_good, is_inside, good_from}
-use Rattle.goods_set.specs.Lemmas.Members.{has_head, has_cases, has-filter, AreAbove-from_has, IsRising-filter, same_from_has, inside_at}
+use Rattle.goods_set.specs.Bundles.{AreAbove, IsRising, IsInside, has_good, is_inside, good_from}
+use Rattle.goods_set.specs.Lemmas.Members.{has_head, has_cases, has-filter, AreAbove-from_has, IsRising-filter, same_from_has, inside_at, inside_from}
 use Rattle.goods_set.specs.Orders.{bundle_cmp}
-use Rattle.goods_set.specs.Residues.{AreResidues}
+use Rattle.goods_set.specs.Residues.{AreResidues, block_of}
 use Rattle.goods_set.specs.Lemmas.Orders.{larger_last}
 use Rattle.goods_set.specs.Lemmas.Sizes.{IsNextGood, good_from-Some, good_from-None, length_inside, same_from_length}
 use Rattle.goods_set.specs.Lemmas.Words.{range_has, range_rises}
@@ -52,23 +53,20 @@ place_of listing = listing.place
 
 -- what is listed at the place is right
 pub listing_at : (lists : List (List Listing)) (listed : ℕ) (atoms : List (Atom (List ℕ))) (good place : ℕ) → AreListed lists listed atoms → Contains (places_at lists good) place
-    → (listing : Listing) × IsListing atoms listing × (place ≡ listing.place)
+    → (listing : Listing) × IsListing atoms good listing × (place ≡ listing.place)
 listing_at lists listed atoms good place a c = let r = Contains-unmap place_of (listed_at lists good) place c in (r.0, a.right good r.0 r.1, r.2)
 
 pub place_within : (lists : List (List Listing)) (listed : ℕ) (atoms : List (Atom (List ℕ))) (good place : ℕ) → AreListed lists listed atoms → Contains (places_at lists good) place
     → place < length atoms
 place_within lists listed atoms good place a c = let r = listing_at lists listed atoms good place a c in let l = r.1.within in omega (arith, r.2)
 
--- an atom with a good that the bundle lacks is not inside it
-pub lacks_some : (xs bundle : List ℕ) (g m n : ℕ) → has_good xs g ≡ true → has_good xs m ≡ true → has_good xs n ≡ true
-    → (has_good bundle g && has_good bundle m && has_good bundle n) ≡ false → is_inside xs bundle ≡ false
-lacks_some xs bundle g m n h k l none =
-    false_from_ne_true (is_inside xs bundle) (λ i.
-    let p = inside_at xs bundle g i h in
-    let q = inside_at xs bundle m i k in
-    let r = inside_at xs bundle n i l in
-    let all : (has_good bundle g && has_good bundle m && has_good bundle n) ≡ true = simp (p, q, r) in
-    both_ways (has_good bundle g && has_good bundle m && has_good bundle n) none all)
+-- what is inside a bundle is so in each block
+pub inside_block : (good : ℕ) (xs ys : List ℕ) → IsInside xs ys → IsInside (block_of good xs) (block_of good ys)
+inside_block good xs ys i =
+    let p : ℕ → Bool = λ g. eqb (g / 64) (good / 64) in
+    inside_from (filter p xs) (filter p ys) (λ g h.
+    let t = and_parts (p g) (has_good xs g) (sym (has-filter p xs g) ∙ h) in
+    has-filter p ys g ∙ and_from (p g) (has_good ys g) t.0 (inside_at xs ys g i t.1))
 
 pub Contains_from_has : (xs : List ℕ) (g : ℕ) → has_good xs g ≡ true → Contains xs g
 Contains_from_has [] g h = absurd (both_ways false refl h)
@@ -136,15 +134,46 @@ IsFinding-more lists listed atoms bundle from good found more a r next e f =
           absurd (omega arith))));
     })
 
-pub next_is_further : (bundle : List ℕ) (from good : ℕ) → IsRising bundle → good_from bundle from ≡ Some good → from ≤ good
-next_is_further bundle from good r e = (good_from-Some bundle from good r e).from
+-- the number behind the first so many goods of a bundle: as many are below it
+abbrev pub behind_first : List ℕ → ℕ → ℕ
+behind_first xs zero = 0
+behind_first xs (suc i) = get_or xs i 0 + 1
 
-pub next_is_had : (bundle : List ℕ) (from good : ℕ) → IsRising bundle → good_from bundle from ≡ Some good → has_good bundle good ≡ true
-next_is_had bundle from good r e = (good_from-Some bundle from good r e).there
+next_above : (y : ℕ) (xs : List ℕ) → AreAbove y xs → good_from xs (y + 1) ≡ slice_get xs 0
+next_above y [] a = refl
+next_above y (z ∷ xs) a = let l : y < z = a.0 in rw (le-leb (y + 1) z (omega arith)) refl
 
-pub some_from_zero : (bundle : List ℕ) → 0 < length bundle → good_from bundle 0 ≡ None → ⊥
-some_from_zero [] l e = omega arith
-some_from_zero (x ∷ xs) l e = both_ways (has_good (x ∷ xs) x) (good_from-None (x ∷ xs) 0 x e (omega arith)) (has_head x xs)
+above_at : (x : ℕ) (xs : List ℕ) (i : ℕ) → AreAbove x xs → i < length xs → x < get_or xs i 0
+above_at x [] i a l = absurd (omega arith)
+above_at x (y ∷ ys) zero a l = a.0
+above_at x (y ∷ ys) (suc i) a l = above_at x ys i a.1 (omega arith)
+
+-- the next good that is not below it stands behind them
+pub next_behind : (xs : List ℕ) (i : ℕ) → IsRising xs → i ≤ length xs → good_from xs (behind_first xs i) ≡ slice_get xs i
+next_behind [] i r l = refl
+next_behind (x ∷ xs) zero r l = rw (le-leb 0 x (omega arith)) refl
+next_behind (x ∷ xs) (suc zero) r l = rw (lt-leb (x + 1) x (omega arith)) (next_above x xs r.0)
+next_behind (x ∷ xs) (suc (suc i)) r l =
+    let up : x < get_or xs i 0 = above_at x xs i r.0 (omega arith) in
+    rw (lt-leb (get_or xs i 0 + 1) x (omega arith)) (next_behind xs (suc i) r.1 (omega arith))
+
+-- the same of goods that are those of a bundle
+pub next_there : (goods bundle : List ℕ) (i : ℕ) → goods ≡ bundle → IsRising bundle → i < length goods
+    → good_from bundle (behind_first bundle i) ≡ Some (get_or goods i 0)
+next_there goods bundle i e r l =
+    let long = ap length e in
+    next_behind bundle i r (omega (arith, long)) ∙ slice_get-get_or bundle i 0 (omega (arith, long)) ∙ ap (λ (xs : List ℕ). Some (get_or xs i 0)) (sym e)
+
+pub none_there : (goods bundle : List ℕ) (i : ℕ) → goods ≡ bundle → IsRising bundle → i ≤ length goods → length goods ≤ i
+    → good_from bundle (behind_first bundle i) ≡ None
+none_there goods bundle i e r l m =
+    let long = ap length e in
+    next_behind bundle i r (omega (arith, long)) ∙ slice_get_past bundle i (omega (arith, long))
+
+pub behind_next : (goods bundle : List ℕ) (i : ℕ) → goods ≡ bundle → get_or goods i 0 + 1 ≡ behind_first bundle (i + 1)
+behind_next goods bundle i e =
+    let next : suc i ≡ i + 1 = omega arith in
+    ap (λ (xs : List ℕ). get_or xs i 0 + 1) e ∙ ap (behind_first bundle) next
 
 -- an atom inside the bundle is listed
 is_listed : (listed : ℕ) (atoms : List (Atom (List ℕ))) (bundle : List ℕ) → NoneInsideFrom listed atoms bundle → (place : ℕ) → place < length atoms
@@ -265,8 +294,8 @@ AreListed-push lists listed atoms a h =
       one_good = h.one_good;
     }
   where
-    still_right : {listing : Listing} → IsListing atoms listing → IsListing (atoms ++ a ∷ []) listing
-    still_right {listing} r =
+    still_right : {good : ℕ} {listing : Listing} → IsListing atoms good listing → IsListing (atoms ++ a ∷ []) good listing
+    still_right {good} {listing} r =
         let l : listing.place < length atoms = r.within in
         let e : atom_at (atoms ++ a ∷ []) listing.place ≡ atom_at atoms listing.place =
         get_or_append_left atoms (a ∷ []) (record { bundle = []; price = 0 }) listing.place l in
@@ -274,9 +303,7 @@ AreListed-push lists listed atoms a h =
         record {
           within = omega arith;
           residues = subst (λ (b : Atom (List ℕ)). AreResidues b.bundle listing.residues) (sym e) r.residues;
-          witness = ap (λ (b : Atom (List ℕ)). has_good b.bundle listing.witness) e ∙ r.witness;
-          second = ap (λ (b : Atom (List ℕ)). has_good b.bundle listing.second) e ∙ r.second;
-          third = ap (λ (b : Atom (List ℕ)). has_good b.bundle listing.third) e ∙ r.third;
+          block = subst (λ (b : Atom (List ℕ)). AreResidues (block_of good b.bundle) listing.block) (sym e) r.block;
         }
 
 -- ---- one more atom is listed
@@ -315,9 +342,8 @@ module _ (lists more : List (List Listing)) (listed : ℕ) (atoms : List (Atom (
         (subst (λ (zs : List ℕ). Contains zs new.place) (sym (map_push place_of (listed_at lists good) new)) (Contains-push (places_at lists good) new.place)))
 
     pub AreListed-more : (a : Atom (List ℕ)) → a ≡ atom_at atoms listed → listed < length atoms → has_good a.bundle good ≡ true
-        → AreResidues a.bundle new.residues → has_good a.bundle new.witness ≡ true → has_good a.bundle new.second ≡ true → has_good a.bundle new.third ≡ true
-        → AreListed more (listed + 1) atoms
-    AreListed-more a is next has residues witness second third =
+        → AreResidues a.bundle new.residues → AreResidues (block_of good a.bundle) new.block → AreListed more (listed + 1) atoms
+    AreListed-more a is next has residues block =
         let at : atom_at atoms new.place ≡ a = ap (atom_at atoms) place ∙ sym is in
         record {
           most = omega arith;
@@ -333,12 +359,10 @@ module _ (lists more : List (List Listing)) (listed : ℕ) (atoms : List (Atom (
               (cases_lt spot listed);
           right = λ g listing c.
               ⊎_elim (λ (k : Contains (listed_at lists g) listing). h.right g listing k)
-              (λ (k : (g ≡ good) × (new ≡ listing)). subst (λ (z : Listing). IsListing atoms z) k.1 (record {
+              (λ (k : (g ≡ good) × (new ≡ listing)). subst₂ (λ (h : ℕ) (z : Listing). IsListing atoms h z) (sym k.0) k.1 (record {
                 within = omega arith;
                 residues = subst (λ (b : Atom (List ℕ)). AreResidues b.bundle new.residues) (sym at) residues;
-                witness = ap (λ (b : Atom (List ℕ)). has_good b.bundle new.witness) at ∙ witness;
-                second = ap (λ (b : Atom (List ℕ)). has_good b.bundle new.second) at ∙ second;
-                third = ap (λ (b : Atom (List ℕ)). has_good b.bundle new.third) at ∙ third;
+                block = subst (λ (b : Atom (List ℕ)). AreResidues (block_of good b.bundle) new.block) (sym at) block;
               }))
               (listing_cases g listing c);
           no_more = λ g spot c.
@@ -408,7 +432,7 @@ pub places_get : (listed : List Listing) (i : ℕ) (d : Listing) → i < length 
 places_get listed i d l = let long = length-map listed place_of in (omega arith, get_or-map place_of listed i d 0 l)
 
 pub listing_index : (lists : List (List Listing)) (count : ℕ) (atoms : List (Atom (List ℕ))) (good : ℕ) (listed : List Listing) (i : ℕ) (d : Listing)
-    → AreListed lists count atoms → listed_at lists good ≡ listed → i < length listed → IsListing atoms (get_or listed i d)
+    → AreListed lists count atoms → listed_at lists good ≡ listed → i < length listed → IsListing atoms good (get_or listed i d)
 listing_index lists count atoms good listed i d a e l =
     a.right good (get_or listed i d) (subst (λ (zs : List Listing). Contains zs (get_or listed i d)) (sym e) (Contains-get_or listed i d l))
 

@@ -1,9 +1,12 @@
 //! How common each good is among atoms.
-use goods_set::GoodsSet;
+ghost use Rattle.std.specs.Prelude.{◌≡◌, ◌<◌, true, length};
+ghost use Rattle.goods_set.specs.Bundles.{has_good};
+
+use goods_set::{GoodsSet, rising_goods};
 use std::alloc::{AllocError, Global};
 use valuation::Atom;
 
-/// No more than about so many atoms are counted: they tell the rare goods of a bundle as well as all would.
+/// No more than about so many atoms are counted: they tell the rare goods of a bundle nearly as well as all would.
 const SAMPLE: usize = 1_024;
 
 /// How many atoms of a sample have each good. It decides where an atom is listed, and so what searches cost, and nothing
@@ -19,38 +22,48 @@ impl Commonness {
         let mut commonness = Commonness {
             counts: Vec::new(alloc),
         };
+        let mut room = Vec::new(alloc);
         let step = atoms.len() / SAMPLE + 1;
         for atom in atoms.iter().step_by(step) {
-            commonness.count_bundle(&atom.bundle)?;
+            commonness.count_goods(rising_goods(&atom.bundle, &mut room)?)?;
         }
         Ok(commonness)
     }
 
-    /// Counts each good of the bundle once more.
-    fn count_bundle<S: GoodsSet>(&mut self, bundle: &S) -> Result<(), AllocError> {
-        let mut from = 0;
-        while let Some(good) = bundle.next_from(from) {
-            self.count_good(good)?;
-            from = u32::from(good) + 1;
+    /// Counts each of the goods once more.
+    fn count_goods(&mut self, goods: &[u16]) -> Result<(), AllocError> {
+        for good in goods {
+            let place = usize::from(*good);
+            if self.counts.len() <= place {
+                self.counts.resize(place + 1, 0)?;
+            }
+            self.counts[place] = self.counts[place].saturating_add(1);
         }
-        Ok(())
-    }
-
-    /// Counts the good once more.
-    fn count_good(&mut self, good: u16) -> Result<(), AllocError> {
-        let place = usize::from(good);
-        if self.counts.len() <= place {
-            self.counts.resize(place + 1, 0)?;
-        }
-        self.counts[place] = self.counts[place].saturating_add(1);
         Ok(())
     }
 
     /// How many atoms of the sample have the good.
-    pub fn at(&self, good: u16) -> u32 {
+    fn at(&self, good: u16) -> u32 {
         match self.counts.get(usize::from(good)) {
             Some(count) => *count,
             None => 0,
         }
+    }
+
+    /// The first of the goods of which none is less common.
+    pub fn least_common(&self, goods: &[u16]) -> u16
+        requires { 0 < length goods.now }
+        ensures { has_good goods.now result ≡ true }
+    {
+        let mut best = goods[0];
+        let mut fewest = self.at(best);
+        for good in goods {
+            let count = self.at(*good);
+            if count < fewest {
+                best = *good;
+                fewest = count;
+            }
+        }
+        best
     }
 }

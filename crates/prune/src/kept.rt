@@ -2,6 +2,7 @@
 ghost use Rattle.std.specs.Prelude.{
   ◌≡◌,
   ℕ,
+  List,
   ◌+◌,
   ◌<◌,
   ◌≤◌,
@@ -20,8 +21,8 @@ ghost use Rattle.std.specs.Prelude.{
 };
 ghost use Rattle.std.specs.Bool.{OnTrue};
 ghost use Rattle.std.specs.List.{filter, list_any, range_with_len};
-ghost use Rattle.goods_set.specs.Bundles.{has_good};
-ghost use Rattle.goods_set.specs.Residues.{AreResidues};
+ghost use Rattle.goods_set.specs.Bundles.{IsInside, has_good};
+ghost use Rattle.goods_set.specs.Residues.{AreResidues, block_of};
 ghost use Rattle.valuation.specs.Values.{atoms_of};
 ghost use Rattle.prune.specs.InOrder.{IsInOrder};
 ghost use Rattle.prune.specs.Internal.Listings.{
@@ -32,14 +33,15 @@ ghost use Rattle.prune.specs.Internal.Listings.{
   covers_at,
   atoms_inside,
   covers,
-  IsListing,
   AreListed,
+  MayTell,
+  Tells,
   IsBehind,
   NoneInsideFrom,
 };
 
 use crate::commonness::Commonness;
-use goods_set::{GoodsSet, may_be_inside};
+use goods_set::{GoodsSet, may_be_inside, rising_goods};
 use std::alloc::{AllocError, Global};
 use valuation::Atom;
 
@@ -51,11 +53,8 @@ struct Listing {
     place: u32,
     /// The residues of its bundle.
     residues: u64,
-    /// A good of its bundle.
-    witness: u16,
-    /// Other goods of its bundle, where it has so many.
-    second: u16,
-    third: u16,
+    /// The goods of its bundle in the block of the good at which it is listed.
+    block: u64,
 }
 
 /// A bundle of so many goods has about half of all residues.
@@ -116,8 +115,8 @@ impl<S: GoodsSet> Kept<S> {
     }
 
     /// Lists the first atom that is not, at the least common good of its bundle. There is no room for one whose place is
-    /// past the numbers of 4 bytes; a file has far fewer bids.
-    fn list_next(&mut self, alloc: Global) -> Result<(), AllocError>
+    /// past the numbers of 4 bytes; a file has far fewer bids. `room` is for goods.
+    fn list_next(&mut self, alloc: Global, room: &mut Vec<u16>) -> Result<(), AllocError>
         requires next { self.old.listed < vec_len self.old.atoms }
         requires some { All (λ a. 0 < length a.bundle) (atoms_of S.goods self.old.atoms.items) }
         requires listed { AreListed (lists_of self.old.lists.items) self.old.listed
@@ -130,7 +129,7 @@ impl<S: GoodsSet> Kept<S> {
         if self.listed > u32::MAX as usize {
             return Err(AllocError);
         }
-        let (least, listing) = self.listing_of(&self.atoms[self.listed], self.listed as u32);
+        let (least, listing) = self.listing_of(&self.atoms[self.listed], self.listed as u32, room)?;
         let good = usize::from(least);
         while self.lists.len() <= good {
             self.lists.push(Vec::new(alloc))?;
@@ -152,8 +151,13 @@ impl<S: GoodsSet> Kept<S> {
         }
     }
 
-    /// Lists the atoms with fewer goods than the bundle, which comes behind all of them.
-    pub fn list_below(&mut self, alloc: Global, bundle: &S) -> Result<(), AllocError>
+    /// Lists the atoms with fewer goods than the bundle, which comes behind all of them. `room` is for goods.
+    pub fn list_below(
+        &mut self,
+        alloc: Global,
+        bundle: &S,
+        room: &mut Vec<u16>,
+    ) -> Result<(), AllocError>
         requires some { All (λ a. 0 < length a.bundle) (atoms_of S.goods self.old.atoms.items) }
         requires in_order { IsInOrder (atoms_of S.goods self.old.atoms.items) }
         requires behind { IsBehind (S.goods bundle.now) (atoms_of S.goods self.old.atoms.items) }
@@ -167,103 +171,81 @@ impl<S: GoodsSet> Kept<S> {
     {
         let size = bundle.size();
         while self.is_next_smaller(size) {
-            self.list_next(alloc)?;
+            self.list_next(alloc, room)?;
         }
         Ok(())
     }
 
     /// The good of the atom's bundle that is the least common, and what is to be listed there: the atom, as that at the
-    /// place.
-    fn listing_of(&self, atom: &Atom<S>, place: u32) -> (u16, Listing)
+    /// place. `room` is for goods.
+    fn listing_of(
+        &self,
+        atom: &Atom<S>,
+        place: u32,
+        room: &mut Vec<u16>,
+    ) -> Result<(u16, Listing), AllocError>
         requires { 0 < length (S.goods atom.now.bundle) }
-        ensures good { has_good (S.goods atom.now.bundle) result.0 ≡ true }
-        ensures place { result.1.place ≡ place }
-        ensures residues { AreResidues (S.goods atom.now.bundle) result.1.residues }
-        ensures witness { has_good (S.goods atom.now.bundle) result.1.witness ≡ true }
-        ensures second { has_good (S.goods atom.now.bundle) result.1.second ≡ true }
-        ensures third { has_good (S.goods atom.now.bundle) result.1.third ≡ true }
+        ensures good { IfOk result (λ r. has_good (S.goods atom.now.bundle) r.0 ≡ true) }
+        ensures place { IfOk result (λ r. r.1.place ≡ place) }
+        ensures residues { IfOk result (λ r. AreResidues (S.goods atom.now.bundle) r.1.residues) }
+        ensures block { IfOk result (λ r. AreResidues (block_of r.0 (S.goods atom.now.bundle)) r.1.block) }
     {
-        let mut best = 0;
-        let mut fewest = 0;
-        let mut listing = Listing {
+        let good = self
+            .commonness
+            .least_common(rising_goods(&atom.bundle, room)?);
+        let listing = Listing {
             place,
             residues: atom.bundle.residues(),
-            witness: 0,
-            second: 0,
-            third: 0,
+            block: atom.bundle.block(good),
         };
-        let mut from = 0;
-        while let Some(good) = atom.bundle.next_from(from) {
-            let count = self.commonness.at(good);
-            if from == 0 {
-                listing.witness = good;
-                listing.second = good;
-                best = good;
-                fewest = count;
-            }
-            listing.third = listing.second;
-            listing.second = listing.witness;
-            listing.witness = good;
-            if count < fewest {
-                listing.witness = best;
-                best = good;
-                fewest = count;
-            }
-            from = u32::from(good) + 1;
-        }
-        (best, listing)
+        Ok((good, listing))
     }
 
-    /// Whether the bundle has the goods of an atom that are listed with it.
-    fn has_witnesses(bundle: &S, listing: &Listing) -> bool
-        ensures { let has = has_good (S.goods bundle.now) in
-            result ≡ (has listing.now.witness && has listing.now.second && has listing.now.third) }
-    {
-        bundle.has(listing.witness) && bundle.has(listing.second) && bundle.has(listing.third)
-    }
-
-    /// Whether the atom that is listed may be inside the bundle, which has these residues. In a wide bundle, which has
-    /// most of all residues, the goods that are listed with the atom are looked up before its own bundle is read.
+    /// Whether the atom that is listed at a good may be inside the bundle, by the bits that tell of it.
     #[inline(always)]
-    fn may_be_inside(&self, listing: &Listing, bundle: &S, residues: u64, wide: bool) -> bool
-        requires listing { IsListing (atoms_of S.goods self.now.atoms.items) listing.now }
-        requires residues { AreResidues (S.goods bundle.now) residues }
-        ensures { is_inside_at (atoms_of S.goods self.now.atoms.items) (S.goods bundle.now) listing.now.place ≡ true
-            → result ≡ true }
+    fn may_be_inside(listing: &Listing, bits: u64, wide: bool) -> bool
+        ensures { (good : ℕ) (goods other : List ℕ) → AreResidues goods listing.now.residues
+            → AreResidues (block_of good goods) listing.now.block → Tells wide good other bits
+            → IsInside goods other → result ≡ true }
     {
-        may_be_inside(listing.residues, residues) && (!wide || Self::has_witnesses(bundle, listing))
+        let own = if wide {
+            listing.block
+        } else {
+            listing.residues
+        };
+        may_be_inside(own, bits)
     }
 
-    /// Whether the atom that is listed is inside the bundle.
+    /// What tells most of the atoms that are listed at the good from those inside the bundle, which has these residues.
+    /// A wide bundle has most of all residues, but seldom most goods of a block.
+    fn bits_at(bundle: &S, good: u16, residues: u64, wide: bool) -> u64
+        requires { AreResidues (S.goods bundle.now) residues }
+        ensures { Tells wide good (S.goods bundle.now) result }
+    {
+        if wide { bundle.block(good) } else { residues }
+    }
+
+    /// Whether the atom that is listed at a good is inside the bundle.
     #[inline(always)]
-    fn is_inside(&self, listing: &Listing, bundle: &S, residues: u64, wide: bool) -> bool
-        requires listing { IsListing (atoms_of S.goods self.now.atoms.items) listing.now }
-        requires residues { AreResidues (S.goods bundle.now) residues }
+    fn is_inside(&self, listing: &Listing, bundle: &S, bits: u64, wide: bool) -> bool
+        requires { MayTell wide (S.goods bundle.now) bits (atoms_of S.goods self.now.atoms.items) listing.now }
         ensures { result ≡ is_inside_at (atoms_of S.goods self.now.atoms.items) (S.goods bundle.now) listing.now.place }
     {
-        if !self.may_be_inside(listing, bundle, residues, wide) {
+        if !Self::may_be_inside(listing, bits, wide) {
             return false;
         }
         self.atoms[listing.place as usize].bundle.is_inside(bundle)
     }
 
-    /// Whether the atom that is listed is inside the bundle and has at least the price. The price is compared late,
+    /// Whether the atom that is listed at a good is inside the bundle and has at least the price. The price is compared late,
     /// since it says nothing of the next one's, and what says mostly the same costs less.
     #[inline(always)]
-    fn is_covering(
-        &self,
-        listing: &Listing,
-        bundle: &S,
-        residues: u64,
-        wide: bool,
-        price: u64,
-    ) -> bool
-        requires listing { IsListing (atoms_of S.goods self.now.atoms.items) listing.now }
-        requires residues { AreResidues (S.goods bundle.now) residues }
+    fn is_covering(&self, listing: &Listing, bundle: &S, bits: u64, wide: bool, price: u64) -> bool
+        requires { MayTell wide (S.goods bundle.now) bits (atoms_of S.goods self.now.atoms.items) listing.now }
         ensures { result ≡ covers_at (atoms_of S.goods self.now.atoms.items) (S.goods bundle.now) price
             listing.now.place }
     {
-        if !self.may_be_inside(listing, bundle, residues, wide) {
+        if !Self::may_be_inside(listing, bits, wide) {
             return false;
         }
         let atom = &self.atoms[listing.place as usize];
@@ -285,10 +267,11 @@ impl<S: GoodsSet> Kept<S> {
             let listed = places_at (lists_of self.now.lists.items) good in
             OnOk result (found.new.items ≡ found.old.items ++ filter inside listed) }
     {
-        let good = usize::from(good);
-        if good < self.lists.len() {
-            for listing in &self.lists[good] {
-                if self.is_inside(listing, bundle, residues, wide) {
+        let place = usize::from(good);
+        if place < self.lists.len() {
+            let bits = Self::bits_at(bundle, good, residues, wide);
+            for listing in &self.lists[place] {
+                if self.is_inside(listing, bundle, bits, wide) {
                     found.push(listing.place as usize)?;
                 }
             }
@@ -296,8 +279,14 @@ impl<S: GoodsSet> Kept<S> {
         Ok(())
     }
 
-    /// Puts the places of the atoms inside the bundle, rising, where other places stood.
-    fn find_inside(&self, bundle: &S, places: &mut Vec<usize>) -> Result<(), AllocError>
+    /// Puts the places of the atoms inside the bundle, which has these goods, rising, where other places stood.
+    fn find_inside(
+        &self,
+        bundle: &S,
+        goods: &[u16],
+        places: &mut Vec<usize>,
+    ) -> Result<(), AllocError>
+        requires goods { goods.now ≡ S.goods bundle.now }
         requires listed { AreListed (lists_of self.now.lists.items) self.now.listed (atoms_of S.goods self.now.atoms.items) }
         requires unlisted { NoneInsideFrom self.now.listed (atoms_of S.goods self.now.atoms.items) (S.goods bundle.now) }
         ensures { let inside = is_inside_at (atoms_of S.goods self.now.atoms.items) (S.goods bundle.now) in
@@ -305,31 +294,32 @@ impl<S: GoodsSet> Kept<S> {
             OnOk result (places.new.items ≡ filter inside all) }
     {
         let residues = bundle.residues();
-        let wide = bundle.size() > WIDE;
+        let wide = goods.len() > WIDE;
         places.clear();
-        let mut from = 0;
-        while let Some(good) = bundle.next_from(from) {
-            self.find_listed(good, bundle, residues, wide, places)?;
-            from = u32::from(good) + 1;
+        for good in goods {
+            self.find_listed(*good, bundle, residues, wide, places)?;
         }
         places.sort_unstable();
         Ok(())
     }
 
-    /// The atoms inside the bundle, in the order in which they came. `places` is room for their places.
+    /// The atoms inside the bundle, which has these goods, in the order in which they came. `places` is room for their
+    /// places.
     pub fn inside(
         &self,
         alloc: Global,
         bundle: &S,
+        goods: &[u16],
         places: &mut Vec<usize>,
     ) -> Result<Vec<&Atom<S>>, AllocError>
+        requires goods { goods.now ≡ S.goods bundle.now }
         requires listed { AreListed (lists_of self.now.lists.items) self.now.listed (atoms_of S.goods self.now.atoms.items) }
         requires unlisted { NoneInsideFrom self.now.listed (atoms_of S.goods self.now.atoms.items) (S.goods bundle.now) }
         ensures { let atoms = atoms_of S.goods self.now.atoms.items in
             IfOk result (λ inside. atoms_of S.goods (map (λ a. a.now) inside.items)
             ≡ atoms_inside atoms (S.goods bundle.now)) }
     {
-        self.find_inside(bundle, places)?;
+        self.find_inside(bundle, goods, places)?;
         let mut inside = Vec::with_capacity(alloc, places.len())?;
         for place in places.iter() {
             inside.push(&self.atoms[*place])?;
@@ -344,10 +334,11 @@ impl<S: GoodsSet> Kept<S> {
         ensures { let covering = covers_at (atoms_of S.goods self.now.atoms.items) (S.goods bundle.now) price in
             result ≡ list_any covering (places_at (lists_of self.now.lists.items) good) }
     {
-        let good = usize::from(good);
-        if good < self.lists.len() {
-            for listing in &self.lists[good] {
-                if self.is_covering(listing, bundle, residues, wide, price) {
+        let place = usize::from(good);
+        if place < self.lists.len() {
+            let bits = Self::bits_at(bundle, good, residues, wide);
+            for listing in &self.lists[place] {
+                if self.is_covering(listing, bundle, bits, wide, price) {
                     return true;
                 }
             }
@@ -355,20 +346,19 @@ impl<S: GoodsSet> Kept<S> {
         false
     }
 
-    /// Whether an atom inside the bundle has at least the price.
-    pub fn has_inside(&self, bundle: &S, price: u64) -> bool
+    /// Whether an atom inside the bundle, which has these goods, has at least the price.
+    pub fn has_inside(&self, bundle: &S, goods: &[u16], price: u64) -> bool
+        requires goods { goods.now ≡ S.goods bundle.now }
         requires listed { AreListed (lists_of self.now.lists.items) self.now.listed (atoms_of S.goods self.now.atoms.items) }
         requires unlisted { NoneInsideFrom self.now.listed (atoms_of S.goods self.now.atoms.items) (S.goods bundle.now) }
         ensures { result ≡ list_any (covers (S.goods bundle.now) price) (atoms_of S.goods self.now.atoms.items) }
     {
         let residues = bundle.residues();
-        let wide = bundle.size() > WIDE;
-        let mut from = 0;
-        while let Some(good) = bundle.next_from(from) {
-            if self.has_listed(good, bundle, residues, wide, price) {
+        let wide = goods.len() > WIDE;
+        for good in goods {
+            if self.has_listed(*good, bundle, residues, wide, price) {
                 return true;
             }
-            from = u32::from(good) + 1;
         }
         false
     }

@@ -76,33 +76,30 @@ pub fn steps_worked()
 
 /// A place is listed at a good of the bundle.
 fn listed_worked()
-    ensures one { let it : Listing = record { place = 0; residues = 1; witness = 0; second = 0; third = 0 } in
+    ensures one { let it : Listing = record { place = 0; residues = 1; block = 1 } in
         IsListed ((it ∷ []) ∷ []) (0 ∷ []) 0 }
-    ensures other_good { let it : Listing = record { place = 0; residues = 1; witness = 0; second = 0; third = 0 } in
+    ensures other_good { let it : Listing = record { place = 0; residues = 1; block = 1 } in
         ¬ IsListed ((it ∷ []) ∷ []) (1 ∷ []) 0 }
-    ensures other_place { let it : Listing = record { place = 0; residues = 1; witness = 0; second = 0; third = 0 } in
+    ensures other_place { let it : Listing = record { place = 0; residues = 1; block = 1 } in
         ¬ IsListed ((it ∷ []) ∷ []) (0 ∷ []) 1 }
 {}
 
-/// What is listed has the residues of the atom's bundle, and three goods of it.
+/// What is listed at a good has the residues of the atom's bundle, and the goods of it in the good's block.
 fn listing_worked()
-    ensures right { IsListing (atom (0 ∷ []) 5 ∷ [])
-        (record { place = 0; residues = 1; witness = 0; second = 0; third = 0 }) }
-    ensures no_atom { ¬ IsListing (atom (0 ∷ []) 5 ∷ [])
-        (record { place = 1; residues = 1; witness = 0; second = 0; third = 0 }) }
-    ensures residues { ¬ IsListing (atom (0 ∷ []) 5 ∷ [])
-        (record { place = 0; residues = 2; witness = 0; second = 0; third = 0 }) }
-    ensures third { ¬ IsListing (atom (0 ∷ []) 5 ∷ [])
-        (record { place = 0; residues = 1; witness = 0; second = 0; third = 1 }) }
+    ensures right { IsListing (atom (0 ∷ []) 5 ∷ []) 0 (record { place = 0; residues = 1; block = 1 }) }
+    ensures no_atom { ¬ IsListing (atom (0 ∷ []) 5 ∷ []) 0 (record { place = 1; residues = 1; block = 1 }) }
+    ensures residues { ¬ IsListing (atom (0 ∷ []) 5 ∷ []) 0 (record { place = 0; residues = 2; block = 1 }) }
+    ensures block { ¬ IsListing (atom (0 ∷ []) 5 ∷ []) 0 (record { place = 0; residues = 1; block = 2 }) }
+    ensures other_block { ¬ IsListing (atom (0 ∷ []) 5 ∷ []) 64 (record { place = 0; residues = 1; block = 1 }) }
 {}
 
 /// So many atoms are listed, from the first on, and nothing else.
 fn listings_worked()
     ensures none_yet { AreListed [] 0 (atom (0 ∷ []) 5 ∷ []) }
-    ensures one { let it : Listing = record { place = 0; residues = 1; witness = 0; second = 0; third = 0 } in
+    ensures one { let it : Listing = record { place = 0; residues = 1; block = 1 } in
         AreListed ((it ∷ []) ∷ []) 1 (atom (0 ∷ []) 5 ∷ []) }
     ensures nowhere { ¬ AreListed [] 1 (atom (0 ∷ []) 5 ∷ []) }
-    ensures too_many { let it : Listing = record { place = 0; residues = 1; witness = 0; second = 0; third = 0 } in
+    ensures too_many { let it : Listing = record { place = 0; residues = 1; block = 1 } in
         ¬ AreListed ((it ∷ []) ∷ []) 0 (atom (0 ∷ []) 5 ∷ []) }
 {}
 

@@ -10,7 +10,7 @@ ghost use Rattle.prune.specs.Points.{xor_points};
 
 use crate::best::keep_best_bids;
 use crate::kept::Kept;
-use goods_set::GoodsSet;
+use goods_set::{GoodsSet, rising_goods};
 use std::alloc::{AllocError, Global};
 use valuation::Atom;
 
@@ -51,12 +51,13 @@ fn are_few_and_uncovered<S: GoodsSet>(bids: &[Atom<S>]) -> bool
     true
 }
 
-/// Whether a kept atom inside the bid's bundle has at least its price. Few atoms need not be listed.
+/// Whether a kept atom inside the bid's bundle has at least its price. Few atoms need not be listed. `room` is for goods.
 fn is_covered<S: GoodsSet>(
     alloc: Global,
     kept: &mut Kept<S>,
     bid: &Atom<S>,
     few: bool,
+    room: &mut Vec<u16>,
 ) -> Result<bool, AllocError>
     requires some { All (λ a. 0 < length a.bundle) (atoms_of S.goods kept.old.atoms.items) }
     requires in_order { IsInOrder (atoms_of S.goods kept.old.atoms.items) }
@@ -72,8 +73,9 @@ fn is_covered<S: GoodsSet>(
     if few {
         return Ok(is_covered_by_any(bid, kept.atoms.as_slice()));
     }
-    kept.list_below(alloc, &bid.bundle)?;
-    Ok(kept.has_inside(&bid.bundle, bid.price))
+    kept.list_below(alloc, &bid.bundle, room)?;
+    let goods = rising_goods(&bid.bundle, room)?;
+    Ok(kept.has_inside(&bid.bundle, goods, bid.price))
 }
 
 /// The bids that the bidder's values alone ask for, in order: a bid stays where no kept bid inside its bundle has its
@@ -101,8 +103,9 @@ pub fn prune_xor<S: GoodsSet>(
     }
     let few = atoms.len() <= FEW;
     let mut kept = Kept::none_of(alloc, &atoms)?;
+    let mut room = Vec::new(alloc);
     for bid in atoms {
-        if !is_covered(alloc, &mut kept, &bid, few)? {
+        if !is_covered(alloc, &mut kept, &bid, few, &mut room)? {
             kept.push(bid)?;
         }
     }

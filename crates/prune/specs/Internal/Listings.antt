@@ -7,7 +7,7 @@ use Rattle.std.specs.List.{filter, list_any}
 use Rattle.valuation.specs.declared.atom.Atom.{Atom}
 use Rattle.goods_set.specs.Bundles.{has_good, is_inside}
 use Rattle.goods_set.specs.Orders.{bundle_cmp}
-use Rattle.goods_set.specs.Residues.{AreResidues}
+use Rattle.goods_set.specs.Residues.{AreResidues, block_of}
 use Rattle.prune.specs.declared.kept.Listing.{Listing}
 
 -- for each good what is listed there
@@ -49,19 +49,28 @@ pub record IsListed (lists : List (List Listing)) (bundle : List ℕ) (place : �
   pub has : has_good bundle good ≡ true
   pub listed : Contains (places_at lists good) place
 
--- what is listed is right: the place is that of an atom with the residues and the three goods
-pub record IsListing (atoms : List (Atom (List ℕ))) (listing : Listing) : Type 0 where
+-- what is listed at a good is right: the place is that of an atom with these residues and these goods in the good's block
+pub record IsListing (atoms : List (Atom (List ℕ))) (good : ℕ) (listing : Listing) : Type 0 where
   pub within : listing.place < length atoms
   pub residues : AreResidues (atom_at atoms listing.place).bundle listing.residues
-  pub witness : has_good (atom_at atoms listing.place).bundle listing.witness ≡ true
-  pub second : has_good (atom_at atoms listing.place).bundle listing.second ≡ true
-  pub third : has_good (atom_at atoms listing.place).bundle listing.third ≡ true
+  pub block : AreResidues (block_of good (atom_at atoms listing.place).bundle) listing.block
+
+-- the bits tell of a bundle that is wide its goods in the good's block, and else its residues
+pub record Tells (wide : Bool) (good : ℕ) (bundle : List ℕ) (bits : ℕ) : Type 0 where
+  pub block : wide ≡ true → AreResidues (block_of good bundle) bits
+  pub residues : wide ≡ false → AreResidues bundle bits
+
+-- the same at the good at which an atom is listed
+pub record MayTell (wide : Bool) (bundle : List ℕ) (bits : ℕ) (atoms : List (Atom (List ℕ))) (listing : Listing) : Type 0 where
+  pub good : ℕ
+  pub is : IsListing atoms good listing
+  pub tells : Tells wide good bundle bits
 
 -- each of so many atoms, from the first on, is listed at one of its goods, once and at no other good, and nothing else is listed
 pub record AreListed (lists : List (List Listing)) (listed : ℕ) (atoms : List (Atom (List ℕ))) : Type 0 where
   pub most : listed ≤ length atoms
   pub each : (place : ℕ) → place < listed → IsListed lists (atom_at atoms place).bundle place
-  pub right : (good : ℕ) (listing : Listing) → Contains (listed_at lists good) listing → IsListing atoms listing
+  pub right : (good : ℕ) (listing : Listing) → Contains (listed_at lists good) listing → IsListing atoms good listing
   pub no_more : (good place : ℕ) → Contains (places_at lists good) place → place < listed
   pub once : (good : ℕ) → AllPairs (λ one other. one ≢ other) (places_at lists good)
   pub one_good : (good other place : ℕ) → Contains (places_at lists good) place → Contains (places_at lists other) place

@@ -16,9 +16,9 @@ none_yet = search rules
 
 pub returns-clause-one : goal.returns-clause-one
 returns-clause-one c =
-    let it : Listing = record { place = 0; residues = 1; witness = 0; second = 0; third = 0 } in
+    let it : Listing = record { place = 0; residues = 1; block = 1 } in
     AreListed-more [] ((it ∷ []) ∷ []) 0 (atom (0 ∷ []) 5 ∷ []) 0 it none_yet (elsewhere it) refl refl
-    (atom (0 ∷ []) 5) refl (omega arith) refl listed_rightly.residues refl refl refl
+    (atom (0 ∷ []) 5) refl (omega arith) refl listed_rightly.residues listed_rightly.block
 
 pub returns-clause-too_many : goal.returns-clause-too_many
 returns-clause-too_many c h = absurd (omega (arith, h.no_more 0 0 (0, omega arith, refl)))

@@ -11,8 +11,11 @@ use Rattle.prune.proofs.kept.Kept.is_covering.Goals as goal
 pub returns-then-not-may_be_inside : goal.returns-then-not-may_be_inside
 returns-then-not-may_be_inside g c =
     let goods = g.S.GoodsSet.goods in
-    sym (not_inside (atoms_of goods c.args.self.now.atoms.items) (goods c.args.bundle.now) c.args.price c.args.listing.now
-    (false_from_ne_true _ (λ inside. both_ways _ c.if-not-may_be_inside.true (c.may_be_inside.ensures inside))))
+    let atoms = atoms_of goods c.args.self.now.atoms.items in
+    sym (not_inside atoms (goods c.args.bundle.now) c.args.price c.args.listing.now
+    (false_from_ne_true _ (λ inside.
+    both_ways _ c.if-not-may_be_inside.true (c.may_be_inside.ensures c.requires.good (atom_at atoms c.args.listing.now.place).bundle
+    (goods c.args.bundle.now) c.requires.is.residues c.requires.is.block c.requires.tells inside))))
 
 pub returns-then-price-atom : goal.returns-then-price-atom
 returns-then-price-atom g c =
@@ -22,7 +25,7 @@ returns-then-price-atom g c =
     let bundle = goods c.args.bundle.now in
     let place = c.args.listing.now.place in
     let long = length-atoms_of goods items in
-    let within = c.requires.listing.within in
+    let within = c.requires.is.within in
     let at = get_or-atoms_of goods items place c.index-atom.result.now (record { bundle = []; price = 0 }) (omega (arith, within, long))
     c.index-atom.ensures in
     let priced = ap (λ (a : Atom (List ℕ)). a.price) at in
@@ -37,7 +40,7 @@ returns-else-price-atom g c =
     let atoms = atoms_of goods items in
     let place = c.args.listing.now.place in
     let long = length-atoms_of goods items in
-    let within = c.requires.listing.within in
+    let within = c.requires.is.within in
     let at = get_or-atoms_of goods items place c.index-atom.result.now (record { bundle = []; price = 0 }) (omega (arith, within, long))
     c.index-atom.ensures in
     let priced = ap (λ (a : Atom (List ℕ)). a.price) at in

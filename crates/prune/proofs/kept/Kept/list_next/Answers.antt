@@ -1,5 +1,6 @@
 use Rattle.std.proofs.Common.{arith, ◌≡◌, ◌++◌, ◌<◌, ℕ, length, sym, ap, ◌∙◌, subst, set, List, [], ◌∷◌, true}
 use Rattle.goods_set.specs.Bundles.{has_good}
+use Rattle.goods_set.specs.Residues.{AreResidues, block_of}
 use Rattle.valuation.specs.Values.{atoms_of, plain_atom}
 use Rattle.valuation.specs.Lemmas.Atoms.{length-atoms_of, get_or-atoms_of}
 use Rattle.valuation.specs.declared.atom.Atom.{Atom}
@@ -8,8 +9,8 @@ use Rattle.prune.specs.Internal.Listings.{lists_of, listed_at}
 use Rattle.prune.proofs.ListedAtoms.{AreListed-more, listed-set_same, listed-set_other, listed-pushed, listed_there}
 use Rattle.prune.proofs.kept.Kept.list_next.Goals as goal
 
-pub listing_of-least-requires : goal.listing_of-least-requires
-listing_of-least-requires g c =
+pub listing_of-requires : goal.listing_of-requires
+listing_of-requires g c =
     let goods = g.S.GoodsSet.goods in
     let old = c.args.self.now in
     let d : Atom (List ℕ) = record { bundle = []; price = 0 } in
@@ -35,17 +36,17 @@ returns-clause-listed g c =
     let l : good < length vectors = omega (arith, c.loop-alloc-test.false, c.len.ensures, c.loop-alloc.self.lists.ok.0) in
     let before : listed_at (lists_of vectors) good ≡ c.index_mut.result.now.items =
     listed_there vectors good c.index_mut.result.now l c.index_mut.ensures.value in
-    let there : listed_at (lists_of (set vectors good c.push-2.new.self)) good ≡ listed_at (lists_of old.lists.items) good ++ c.listing_of-least.result.1 ∷ [] =
+    let there : listed_at (lists_of (set vectors good c.push-2.new.self)) good ≡ listed_at (lists_of old.lists.items) good ++ c.in_ok-least.listing ∷ [] =
     listed-set_same vectors good c.push-2.new.self l ∙ c.in_ok-push-2.ensures.items
-    ∙ ap (λ (zs : List Listing). zs ++ c.listing_of-least.result.1 ∷ []) (sym before ∙ c.loop-alloc.invariant.lists good) in
+    ∙ ap (λ (zs : List Listing). zs ++ c.in_ok-least.listing ∷ []) (sym before ∙ c.loop-alloc.invariant.lists good) in
     let atom = c.index.result.now in
-    let least : good ≡ c.listing_of-least.result.0 = omega (arith, c.from-good.ensures) in
-    let has : has_good (goods atom.bundle) good ≡ true = ap (has_good (goods atom.bundle)) least ∙ c.listing_of-least.ensures.good in
+    let least : good ≡ c.in_ok-least.least = omega (arith, c.from-good.ensures) in
+    let has : has_good (goods atom.bundle) good ≡ true = ap (has_good (goods atom.bundle)) least ∙ c.in_ok-least.ensures.good in
     let next = c.requires.next in
     let long = length-atoms_of goods old.atoms.items in
     let at = get_or-atoms_of goods old.atoms.items old.listed atom (record { bundle = []; price = 0 }) (omega (arith, next, old.atoms.ok.0)) c.index.ensures in
     rw (c.loop-alloc.invariant.atoms, c.loop-alloc.invariant.listed)
-    (AreListed-more (lists_of old.lists.items) _ old.listed (atoms_of goods old.atoms.items) good c.listing_of-least.result.1 c.requires.listed
-    (λ k n. listed-set_other vectors good c.push-2.new.self k n ∙ c.loop-alloc.invariant.lists k) there c.listing_of-least.ensures.place
+    (AreListed-more (lists_of old.lists.items) _ old.listed (atoms_of goods old.atoms.items) good c.in_ok-least.listing c.requires.listed
+    (λ k n. listed-set_other vectors good c.push-2.new.self k n ∙ c.loop-alloc.invariant.lists k) there c.in_ok-least.ensures.place
     (plain_atom goods atom) (sym at) (omega (arith, next, long, old.atoms.ok.0)) has
-    c.listing_of-least.ensures.residues c.listing_of-least.ensures.witness c.listing_of-least.ensures.second c.listing_of-least.ensures.third)
+    c.in_ok-least.ensures.residues (subst (λ h. AreResidues (block_of h (goods atom.bundle)) c.in_ok-least.listing.block) (sym least) c.in_ok-least.ensures.block))

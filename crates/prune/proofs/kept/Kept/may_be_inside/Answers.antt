@@ -1,17 +1,15 @@
-use Rattle.std.proofs.Common.{sym, ◌∙◌}
-use Rattle.std.proofs.lemmas.Bool.{both_ways, true_from_ne_false}
-use Rattle.valuation.specs.Values.{atoms_of}
-use Rattle.prune.specs.Internal.Listings.{atom_at}
-use Rattle.prune.proofs.ListedAtoms.{lacks_some}
+use Rattle.std.proofs.Common.{subst, sym}
+use Rattle.goods_set.specs.Residues.{AreResidues, block_of}
+use Rattle.prune.proofs.ListedAtoms.{inside_block}
 use Rattle.prune.proofs.kept.Kept.may_be_inside.Goals as goal
+use Rattle.prune.proofs.kept.Kept.may_be_inside.Goals.{then-wide, else-wide}
 
-pub returns-else-not-wide : goal.returns-else-not-wide
-returns-else-not-wide g c =
-    let goods = g.S.GoodsSet.goods in
-    let listing = c.args.listing.now in
-    let atom = atom_at (atoms_of goods c.args.self.now.atoms.items) listing.place in
-    let is = c.requires.listing in
-    λ inside.
-    true_from_ne_false c.has_witnesses.result (λ none.
-    both_ways _ (lacks_some atom.bundle (goods c.args.bundle.now) listing.witness listing.second listing.third is.witness is.second is.third
-    (sym c.has_witnesses.ensures ∙ none)) inside)
+pub returns : goal.returns
+returns g c =
+    λ good goods other residues block tells inside.
+    elim c.if-wide.branch [
+      | then-wide w ↦ c.may_be_inside.ensures (block_of good goods) (block_of good other)
+          (subst (λ bits. AreResidues (block_of good goods) bits) (sym w.own-is) block) (tells.block w.if-wide.true) (inside_block good goods other inside)
+      | else-wide w ↦ c.may_be_inside.ensures goods other
+          (subst (λ bits. AreResidues goods bits) (sym w.own-is) residues) (tells.residues w.if-wide.false) inside
+    ]
