@@ -24,7 +24,7 @@ use Rattle.std.proofs.lemmas.Map.Made.{IsDistinct-from_AllPairs}
 use Rattle.goods_set.specs.Bundles.{AreAbove, IsRising, IsInside, has_good, is_inside, good_from}
 use Rattle.goods_set.specs.Lemmas.Members.{has_head, has_cases, has-filter, AreAbove-from_has, IsRising-filter, same_from_has, inside_at, inside_from}
 use Rattle.goods_set.specs.Orders.{bundle_cmp}
-use Rattle.goods_set.specs.Residues.{AreResidues, block_of}
+use Rattle.goods_set.specs.Residues.{block_of}
 use Rattle.goods_set.specs.Lemmas.Orders.{larger_last}
 use Rattle.goods_set.specs.Lemmas.Sizes.{IsNextGood, good_from-Some, good_from-None, length_inside, same_from_length}
 use Rattle.goods_set.specs.Lemmas.Words.{range_has, range_rises}
@@ -32,9 +32,9 @@ use Rattle.valuation.specs.declared.atom.Atom.{Atom}
 use Rattle.valuation.specs.Values.{atoms_of}
 use Rattle.valuation.specs.Lemmas.Atoms.{get_or-atoms_of}
 use Rattle.valuation.specs.Lemmas.Lists.{AllPairs-head, AllPairs-tail, AllPairs-append, Contains-map, Contains-unmap}
-use Rattle.prune.specs.declared.kept.Listing.{Listing}
+use Rattle.prune.specs.declared.listing.Listing.{Listing}
 use Rattle.prune.specs.InOrder.{IsInOrder}
-use Rattle.prune.specs.Internal.Listings.{lists_of, listed_at, places_at, atom_at, is_inside_at, covers, covers_at, IsListed, IsListing, AreListed}
+use Rattle.prune.specs.Internal.Listings.{lists_of, listed_at, places_at, atom_at, is_inside_at, covers, covers_at, IsListed, IsListing, IsListingOf, AreListed}
 use Rattle.prune.specs.Internal.Listings.{IsBehind, NoneInsideFrom}
 use Rattle.prune.specs.Lemmas.InOrder.{before_itself}
 use Rattle.prune.specs.Lemmas.Lists.{Contains-head, Contains-tail, Contains-filter, Contains-filter_parts, All-from_Contains, list_any_found, list_any_has}
@@ -59,6 +59,13 @@ listing_at lists listed atoms good place a c = let r = Contains-unmap place_of (
 pub place_within : (lists : List (List Listing)) (listed : ℕ) (atoms : List (Atom (List ℕ))) (good place : ℕ) → AreListed lists listed atoms → Contains (places_at lists good) place
     → place < length atoms
 place_within lists listed atoms good place a c = let r = listing_at lists listed atoms good place a c in let l = r.1.within in omega (arith, r.2)
+
+-- the bundle at a place rises as all do
+pub rises_at : {S : Type 0} (goods : S → List ℕ) → ((s : S) → IsRising (goods s)) → (atoms : List (Atom S)) (place : ℕ)
+    → place < length (atoms_of goods atoms) → IsRising (atom_at (atoms_of goods atoms) place).bundle
+rises_at goods rising [] place l = absurd (omega arith)
+rises_at goods rising (a ∷ atoms) zero l = rising a.bundle
+rises_at goods rising (a ∷ atoms) (suc place) l = rises_at goods rising atoms place (omega arith)
 
 -- what is inside a bundle is so in each block
 pub inside_block : (good : ℕ) (xs ys : List ℕ) → IsInside xs ys → IsInside (block_of good xs) (block_of good ys)
@@ -302,8 +309,7 @@ AreListed-push lists listed atoms a h =
         let long = length_push atoms a in
         record {
           within = omega arith;
-          residues = subst (λ (b : Atom (List ℕ)). AreResidues b.bundle listing.residues) (sym e) r.residues;
-          block = subst (λ (b : Atom (List ℕ)). AreResidues (block_of good b.bundle) listing.block) (sym e) r.block;
+          listed = subst (λ (b : Atom (List ℕ)). IsListingOf b.bundle good listing) (sym e) r.listed;
         }
 
 -- ---- one more atom is listed
@@ -342,8 +348,8 @@ module _ (lists more : List (List Listing)) (listed : ℕ) (atoms : List (Atom (
         (subst (λ (zs : List ℕ). Contains zs new.place) (sym (map_push place_of (listed_at lists good) new)) (Contains-push (places_at lists good) new.place)))
 
     pub AreListed-more : (a : Atom (List ℕ)) → a ≡ atom_at atoms listed → listed < length atoms → has_good a.bundle good ≡ true
-        → AreResidues a.bundle new.residues → AreResidues (block_of good a.bundle) new.block → AreListed more (listed + 1) atoms
-    AreListed-more a is next has residues block =
+        → IsListingOf a.bundle good new → AreListed more (listed + 1) atoms
+    AreListed-more a is next has right =
         let at : atom_at atoms new.place ≡ a = ap (atom_at atoms) place ∙ sym is in
         record {
           most = omega arith;
@@ -361,8 +367,7 @@ module _ (lists more : List (List Listing)) (listed : ℕ) (atoms : List (Atom (
               ⊎_elim (λ (k : Contains (listed_at lists g) listing). h.right g listing k)
               (λ (k : (g ≡ good) × (new ≡ listing)). subst₂ (λ (h : ℕ) (z : Listing). IsListing atoms h z) (sym k.0) k.1 (record {
                 within = omega arith;
-                residues = subst (λ (b : Atom (List ℕ)). AreResidues b.bundle new.residues) (sym at) residues;
-                block = subst (λ (b : Atom (List ℕ)). AreResidues (block_of good b.bundle) new.block) (sym at) block;
+                listed = subst (λ (b : Atom (List ℕ)). IsListingOf b.bundle good new) (sym at) right;
               }))
               (listing_cases g listing c);
           no_more = λ g spot c.

@@ -21,5 +21,8 @@ has_bits_good (suc bit) e = let above = bit_at-suc 1 bit ∙ bit_at-zero bit in 
 one_residue : AreResidues (0 ∷ []) 1
 one_residue = record { each = has_bit; only = λ bit l e. has_bits_good bit e }
 
-pub listed_rightly : IsListing (atom (0 ∷ []) 5 ∷ []) 0 (record { place = 0; residues = 1; block = 1 })
-listed_rightly = record { within = omega arith; residues = one_residue; block = one_residue }
+pub listed_rightly : IsListing (atom (0 ∷ []) 5 ∷ []) 0 (record { place = 0; wide = false; block = 1; second = 1 })
+listed_rightly = record {
+  within = omega arith;
+  listed = record { block = one_residue; large = λ e. absurd (cc); beside = λ e. absurd (cc); residues = λ e. one_residue };
+}

@@ -21,8 +21,8 @@ ghost use Rattle.std.specs.Prelude.{
 };
 ghost use Rattle.std.specs.Bool.{OnTrue};
 ghost use Rattle.std.specs.List.{filter, list_any, range_with_len};
-ghost use Rattle.goods_set.specs.Bundles.{IsInside, has_good};
-ghost use Rattle.goods_set.specs.Residues.{AreResidues, block_of};
+ghost use Rattle.goods_set.specs.Bundles.{has_good};
+ghost use Rattle.goods_set.specs.Residues.{AreResidues};
 ghost use Rattle.valuation.specs.Values.{atoms_of};
 ghost use Rattle.prune.specs.InOrder.{IsInOrder};
 ghost use Rattle.prune.specs.Internal.Listings.{
@@ -34,31 +34,17 @@ ghost use Rattle.prune.specs.Internal.Listings.{
   atoms_inside,
   covers,
   AreListed,
-  MayTell,
-  Tells,
+  IsAsked,
+  IsListingOf,
   IsBehind,
   NoneInsideFrom,
 };
 
 use crate::commonness::Commonness;
-use goods_set::{GoodsSet, may_be_inside, rising_goods};
+use crate::listing::{Listing, Sought, WIDE};
+use goods_set::{GoodsSet, rising_goods};
 use std::alloc::{AllocError, Global};
 use valuation::Atom;
-
-/// An atom as it is listed at a good, with what tells most atoms apart before they are read. Searches go through many of
-/// these, and so each is kept small: a place takes 4 bytes, and the price is asked of the atom.
-#[derive(Drop)]
-struct Listing {
-    /// The place of the atom.
-    place: u32,
-    /// The residues of its bundle.
-    residues: u64,
-    /// The goods of its bundle in the block of the good at which it is listed.
-    block: u64,
-}
-
-/// A bundle of so many goods has about half of all residues.
-const WIDE: usize = 40;
 
 /// Atoms, each listed at one of its goods, so that those inside a bundle are found through the bundle's goods. They come
 /// in order, and so the smaller bundles first: an atom is listed once a larger bundle comes, since none of its own size
@@ -187,65 +173,35 @@ impl<S: GoodsSet> Kept<S> {
         requires { 0 < length (S.goods atom.now.bundle) }
         ensures good { IfOk result (λ r. has_good (S.goods atom.now.bundle) r.0 ≡ true) }
         ensures place { IfOk result (λ r. r.1.place ≡ place) }
-        ensures residues { IfOk result (λ r. AreResidues (S.goods atom.now.bundle) r.1.residues) }
-        ensures block { IfOk result (λ r. AreResidues (block_of r.0 (S.goods atom.now.bundle)) r.1.block) }
+        ensures listing { IfOk result (λ r. IsListingOf (S.goods atom.now.bundle) r.0 r.1) }
     {
         let good = self
             .commonness
             .least_common(rising_goods(&atom.bundle, room)?);
-        let listing = Listing {
-            place,
-            residues: atom.bundle.residues(),
-            block: atom.bundle.block(good),
-        };
-        Ok((good, listing))
-    }
-
-    /// Whether the atom that is listed at a good may be inside the bundle, by the bits that tell of it.
-    #[inline(always)]
-    fn may_be_inside(listing: &Listing, bits: u64, wide: bool) -> bool
-        ensures { (good : ℕ) (goods other : List ℕ) → AreResidues goods listing.now.residues
-            → AreResidues (block_of good goods) listing.now.block → Tells wide good other bits
-            → IsInside goods other → result ≡ true }
-    {
-        let own = if wide {
-            listing.block
-        } else {
-            listing.residues
-        };
-        may_be_inside(own, bits)
-    }
-
-    /// What tells most of the atoms that are listed at the good from those inside the bundle, which has these residues.
-    /// A wide bundle has most of all residues, but seldom most goods of a block.
-    fn bits_at(bundle: &S, good: u16, residues: u64, wide: bool) -> u64
-        requires { AreResidues (S.goods bundle.now) residues }
-        ensures { Tells wide good (S.goods bundle.now) result }
-    {
-        if wide { bundle.block(good) } else { residues }
+        Ok((good, Listing::of(atom, good, place)))
     }
 
     /// Whether the atom that is listed at a good is inside the bundle.
     #[inline(always)]
-    fn is_inside(&self, listing: &Listing, bundle: &S, bits: u64, wide: bool) -> bool
-        requires { MayTell wide (S.goods bundle.now) bits (atoms_of S.goods self.now.atoms.items) listing.now }
+    fn is_inside(&self, listing: &Listing, bundle: &S, sought: Sought) -> bool
+        requires { IsAsked (atoms_of S.goods self.now.atoms.items) listing.now (S.goods bundle.now) sought }
         ensures { result ≡ is_inside_at (atoms_of S.goods self.now.atoms.items) (S.goods bundle.now) listing.now.place }
     {
-        if !Self::may_be_inside(listing, bits, wide) {
+        if !listing.may_be_inside(sought) {
             return false;
         }
         self.atoms[listing.place as usize].bundle.is_inside(bundle)
     }
 
-    /// Whether the atom that is listed at a good is inside the bundle and has at least the price. The price is compared late,
-    /// since it says nothing of the next one's, and what says mostly the same costs less.
+    /// Whether the atom that is listed at a good is inside the bundle and has at least the price. The price is compared
+    /// late, since it says nothing of the next one's, and what says mostly the same costs less.
     #[inline(always)]
-    fn is_covering(&self, listing: &Listing, bundle: &S, bits: u64, wide: bool, price: u64) -> bool
-        requires { MayTell wide (S.goods bundle.now) bits (atoms_of S.goods self.now.atoms.items) listing.now }
+    fn is_covering(&self, listing: &Listing, bundle: &S, sought: Sought, price: u64) -> bool
+        requires { IsAsked (atoms_of S.goods self.now.atoms.items) listing.now (S.goods bundle.now) sought }
         ensures { result ≡ covers_at (atoms_of S.goods self.now.atoms.items) (S.goods bundle.now) price
             listing.now.place }
     {
-        if !Self::may_be_inside(listing, bits, wide) {
+        if !listing.may_be_inside(sought) {
             return false;
         }
         let atom = &self.atoms[listing.place as usize];
@@ -263,15 +219,16 @@ impl<S: GoodsSet> Kept<S> {
     ) -> Result<(), AllocError>
         requires listed { AreListed (lists_of self.now.lists.items) self.now.listed (atoms_of S.goods self.now.atoms.items) }
         requires residues { AreResidues (S.goods bundle.now) residues }
+        requires narrow { wide ≡ false → length (S.goods bundle.now) ≤ 40 }
         ensures { let inside = is_inside_at (atoms_of S.goods self.now.atoms.items) (S.goods bundle.now) in
             let listed = places_at (lists_of self.now.lists.items) good in
             OnOk result (found.new.items ≡ found.old.items ++ filter inside listed) }
     {
         let place = usize::from(good);
         if place < self.lists.len() {
-            let bits = Self::bits_at(bundle, good, residues, wide);
+            let sought = Sought::at(bundle, good, residues, wide);
             for listing in &self.lists[place] {
-                if self.is_inside(listing, bundle, bits, wide) {
+                if self.is_inside(listing, bundle, sought) {
                     found.push(listing.place as usize)?;
                 }
             }
@@ -331,14 +288,15 @@ impl<S: GoodsSet> Kept<S> {
     fn has_listed(&self, good: u16, bundle: &S, residues: u64, wide: bool, price: u64) -> bool
         requires listed { AreListed (lists_of self.now.lists.items) self.now.listed (atoms_of S.goods self.now.atoms.items) }
         requires residues { AreResidues (S.goods bundle.now) residues }
+        requires narrow { wide ≡ false → length (S.goods bundle.now) ≤ 40 }
         ensures { let covering = covers_at (atoms_of S.goods self.now.atoms.items) (S.goods bundle.now) price in
             result ≡ list_any covering (places_at (lists_of self.now.lists.items) good) }
     {
         let place = usize::from(good);
         if place < self.lists.len() {
-            let bits = Self::bits_at(bundle, good, residues, wide);
+            let sought = Sought::at(bundle, good, residues, wide);
             for listing in &self.lists[place] {
-                if self.is_covering(listing, bundle, bits, wide, price) {
+                if self.is_covering(listing, bundle, sought, price) {
                     return true;
                 }
             }

@@ -6,6 +6,7 @@ mod commonness;
 mod fault;
 mod kept;
 mod laws;
+mod listing;
 mod marked;
 mod or;
 mod places;

@@ -1,6 +1,6 @@
 -- Atoms listed by their goods, so that those inside a bundle are found through the goods of the bundle.
 use Rattle.std.specs.Prelude.{◌≡◌, ◌≢◌, ℕ, ◌<◌, ◌≤◌, Bool, ◌&&◌, true, false, nat_le, map, slice_index_or, List, [], length}
-use Rattle.std.specs.Prelude.{take, All, AllPairs, Contains}
+use Rattle.std.specs.Prelude.{◌+◌, ◌-◌, cond, nat_lt, take, All, AllPairs, Contains}
 use Rattle.std.proofs.Common.{Less}
 use Rattle.std.specs.Global.{Vec}
 use Rattle.std.specs.List.{filter, list_any}
@@ -8,7 +8,9 @@ use Rattle.valuation.specs.declared.atom.Atom.{Atom}
 use Rattle.goods_set.specs.Bundles.{has_good, is_inside}
 use Rattle.goods_set.specs.Orders.{bundle_cmp}
 use Rattle.goods_set.specs.Residues.{AreResidues, block_of}
-use Rattle.prune.specs.declared.kept.Listing.{Listing}
+use Rattle.prune.specs.declared.listing.Listing.{Listing}
+use Rattle.prune.specs.declared.listing.Sought.{Sought}
+use Rattle.prune.specs.declared.listing.Sought.TheVariants.{Narrow, Wide}
 
 -- for each good what is listed there
 abbrev pub lists_of : List (Vec Listing) → List (List Listing)
@@ -49,22 +51,33 @@ pub record IsListed (lists : List (List Listing)) (bundle : List ℕ) (place : �
   pub has : has_good bundle good ≡ true
   pub listed : Contains (places_at lists good) place
 
--- what is listed at a good is right: the place is that of an atom with these residues and these goods in the good's block
+-- a good of the block of 64 beside that of a good
+abbrev pub beside_of : ℕ → ℕ
+beside_of good = cond (nat_lt good 64) (good + 64) (good - 64)
+
+-- what is listed at a good of a bundle is right: its goods in the good's block and, where there are more than 40 goods, those in the
+-- block beside that one, and else all residues
+pub record IsListingOf (bundle : List ℕ) (good : ℕ) (listing : Listing) : Type 0 where
+  pub block : AreResidues (block_of good bundle) listing.block
+  pub large : listing.wide ≡ true → 40 < length bundle
+  pub beside : listing.wide ≡ true → AreResidues (block_of (beside_of good) bundle) listing.second
+  pub residues : listing.wide ≡ false → AreResidues bundle listing.second
+
+-- the same of the bundle of the atom at the place that is listed
 pub record IsListing (atoms : List (Atom (List ℕ))) (good : ℕ) (listing : Listing) : Type 0 where
   pub within : listing.place < length atoms
-  pub residues : AreResidues (atom_at atoms listing.place).bundle listing.residues
-  pub block : AreResidues (block_of good (atom_at atoms listing.place).bundle) listing.block
+  pub listed : IsListingOf (atom_at atoms listing.place).bundle good listing
 
--- the bits tell of a bundle that is wide its goods in the good's block, and else its residues
-pub record Tells (wide : Bool) (good : ℕ) (bundle : List ℕ) (bits : ℕ) : Type 0 where
-  pub block : wide ≡ true → AreResidues (block_of good bundle) bits
-  pub residues : wide ≡ false → AreResidues bundle bits
+-- what is asked at a good tells of a bundle of at most 40 goods its residues, and else its goods in the two blocks
+abbrev pub Tells : Sought → ℕ → List ℕ → Type 0
+Tells (Narrow residues) good bundle = (length bundle ≤ 40) × AreResidues bundle residues
+Tells (Wide block beside) good bundle = AreResidues (block_of good bundle) block × AreResidues (block_of (beside_of good) bundle) beside
 
--- the same at the good at which an atom is listed
-pub record MayTell (wide : Bool) (bundle : List ℕ) (bits : ℕ) (atoms : List (Atom (List ℕ))) (listing : Listing) : Type 0 where
+-- that is asked of an atom at the good at which it is listed
+pub record IsAsked (atoms : List (Atom (List ℕ))) (listing : Listing) (bundle : List ℕ) (sought : Sought) : Type 0 where
   pub good : ℕ
   pub is : IsListing atoms good listing
-  pub tells : Tells wide good bundle bits
+  pub tells : Tells sought good bundle
 
 -- each of so many atoms, from the first on, is listed at one of its goods, once and at no other good, and nothing else is listed
 pub record AreListed (lists : List (List Listing)) (listed : ℕ) (atoms : List (Atom (List ℕ))) : Type 0 where

@@ -6,4 +6,4 @@ pub returns-clause-right : goal.returns-clause-right
 returns-clause-right c = listed_rightly
 
 pub returns-clause-residues : goal.returns-clause-residues
-returns-clause-residues c h = absurd (omega (arith, h.residues.each 0 refl))
+returns-clause-residues c h = absurd (omega (arith, (h.listed.residues refl).each 0 refl))

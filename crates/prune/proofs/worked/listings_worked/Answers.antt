@@ -1,7 +1,7 @@
 -- The atom is listed where none was before.
-use Rattle.std.proofs.Common.{rules, ◌≡◌, ℕ, zero, suc, refl, arith, [], ◌∷◌}
+use Rattle.std.proofs.Common.{false, rules, ◌≡◌, ℕ, zero, suc, refl, arith, [], ◌∷◌}
 use Rattle.valuation.specs.Examples.{atom}
-use Rattle.prune.specs.declared.kept.Listing.{Listing}
+use Rattle.prune.specs.declared.listing.Listing.{Listing}
 use Rattle.prune.specs.Internal.Listings.{listed_at, AreListed}
 use Rattle.prune.proofs.ListedAtoms.{AreListed-more}
 use Rattle.prune.proofs.WorkedListings.{listed_rightly}
@@ -16,9 +16,9 @@ none_yet = search rules
 
 pub returns-clause-one : goal.returns-clause-one
 returns-clause-one c =
-    let it : Listing = record { place = 0; residues = 1; block = 1 } in
+    let it : Listing = record { place = 0; wide = false; block = 1; second = 1 } in
     AreListed-more [] ((it ∷ []) ∷ []) 0 (atom (0 ∷ []) 5 ∷ []) 0 it none_yet (elsewhere it) refl refl
-    (atom (0 ∷ []) 5) refl (omega arith) refl listed_rightly.residues listed_rightly.block
+    (atom (0 ∷ []) 5) refl (omega arith) refl listed_rightly.listed
 
 pub returns-clause-too_many : goal.returns-clause-too_many
 returns-clause-too_many c h = absurd (omega (arith, h.no_more 0 0 (0, omega arith, refl)))

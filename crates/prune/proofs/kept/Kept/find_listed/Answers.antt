@@ -1,6 +1,6 @@
 use Rattle.std.proofs.Common.{arith, ◌≡◌, ◌++◌, map, get_or, sym, ap, ◌∙◌, true, false, cond, [], ◌∷◌, append-nil}
 use Rattle.valuation.specs.Values.{atoms_of}
-use Rattle.prune.specs.declared.kept.Listing.{Listing}
+use Rattle.prune.specs.declared.listing.Listing.{Listing}
 use Rattle.prune.specs.Internal.Listings.{lists_of, listed_at, is_inside_at}
 use Rattle.prune.proofs.ListedAtoms.{place_of, listed_there, places_get, listing_index, found_more}
 use Rattle.prune.proofs.kept.Kept.find_listed.Goals as goal
@@ -16,13 +16,13 @@ is_inside-requires g c =
       good = c.args.good;
       is = listing_index (lists_of kept.lists.items) kept.listed (atoms_of goods kept.atoms.items) c.args.good c.deref-listing-items.result.now c.loop-listing.listing-index
           _ c.requires.listed (ap (listed_at (lists_of kept.lists.items)) (sym c.from-place.ensures) ∙ there ∙ sym c.deref-listing-items.ensures.value) c.loop-listing-test.true;
-      tells = c.bits_at-bits.ensures;
+      tells = c.at-sought.ensures;
     }
 
 pub loop-listing-preserved : goal.loop-listing-preserved
 loop-listing-preserved g c =
     let goods = g.S.GoodsSet.goods in
-    let d : Listing = record { place = 0; residues = 0; block = 0 } in
+    let d : Listing = record { place = 0; wide = false; block = 0; second = 0 } in
     let listed = c.deref-listing-items.result.now in
     let p = is_inside_at (atoms_of goods c.args.self.now.atoms.items) (goods c.args.bundle.now) in
     let place = (get_or listed c.loop-listing.listing-index d).place in

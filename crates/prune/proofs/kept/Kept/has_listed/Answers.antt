@@ -1,7 +1,7 @@
 -- None of the atoms listed before covers the bid, and the next one does not either, or one that does was found.
-use Rattle.std.proofs.Common.{arith, map, get_or, sym, ap, ◌∙◌}
+use Rattle.std.proofs.Common.{false, arith, map, get_or, sym, ap, ◌∙◌}
 use Rattle.valuation.specs.Values.{atoms_of}
-use Rattle.prune.specs.declared.kept.Listing.{Listing}
+use Rattle.prune.specs.declared.listing.Listing.{Listing}
 use Rattle.prune.specs.Internal.Listings.{lists_of, listed_at, covers_at}
 use Rattle.prune.proofs.ListedAtoms.{place_of, listed_there, places_get, listing_index, one_listed, none_more}
 use Rattle.prune.proofs.kept.Kept.has_listed.Goals as goal
@@ -16,7 +16,7 @@ is_covering-requires g c =
       good = c.args.good;
       is = listing_index (lists_of kept.lists.items) kept.listed (atoms_of goods kept.atoms.items) c.args.good c.deref-listing-items.result.now
           c.loop-listing.listing-index _ c.requires.listed (ap (listed_at (lists_of kept.lists.items)) (sym c.from-place.ensures) ∙ there ∙ sym c.deref-listing-items.ensures.value) c.loop-listing-test.true;
-      tells = c.bits_at-bits.ensures;
+      tells = c.at-sought.ensures;
     }
 
 pub returns-then-is_covering : goal.returns-then-is_covering
@@ -25,7 +25,7 @@ returns-then-is_covering g c =
     let kept = c.args.self.now in
     let there = listed_there kept.lists.items c.from-place.result c.index.result.now (omega (arith, c.if-place-len.true, c.len.ensures, kept.lists.ok.0))
     c.index.ensures in
-    let d : Listing = record { place = 0; residues = 0; block = 0 } in
+    let d : Listing = record { place = 0; wide = false; block = 0; second = 0 } in
     let atoms = atoms_of goods kept.atoms.items in
     let bundle = goods c.args.bundle.now in
     let listed = c.deref-listing-items.result.now in
@@ -37,7 +37,7 @@ returns-then-is_covering g c =
 pub loop-listing-preserved : goal.loop-listing-preserved
 loop-listing-preserved g c =
     let goods = g.S.GoodsSet.goods in
-    let d : Listing = record { place = 0; residues = 0; block = 0 } in
+    let d : Listing = record { place = 0; wide = false; block = 0; second = 0 } in
     let listed = c.deref-listing-items.result.now in
     let i = c.loop-listing.listing-index in
     let at = places_get listed i d c.loop-listing-test.true in

@@ -5,7 +5,7 @@ use Rattle.valuation.specs.declared.atom.Atom.{Atom}
 use Rattle.valuation.specs.Values.{atoms_of}
 use Rattle.valuation.specs.Lemmas.Atoms.{get_or-atoms_of, length-atoms_of}
 use Rattle.prune.specs.Internal.Listings.{atom_at, is_inside_at}
-use Rattle.prune.proofs.ListedAtoms.{not_inside}
+use Rattle.prune.proofs.ListedAtoms.{not_inside, rises_at}
 use Rattle.prune.proofs.kept.Kept.is_covering.Goals as goal
 
 pub returns-then-not-may_be_inside : goal.returns-then-not-may_be_inside
@@ -15,7 +15,9 @@ returns-then-not-may_be_inside g c =
     sym (not_inside atoms (goods c.args.bundle.now) c.args.price c.args.listing.now
     (false_from_ne_true _ (λ inside.
     both_ways _ c.if-not-may_be_inside.true (c.may_be_inside.ensures c.requires.good (atom_at atoms c.args.listing.now.place).bundle
-    (goods c.args.bundle.now) c.requires.is.residues c.requires.is.block c.requires.tells inside))))
+    (goods c.args.bundle.now)
+    (rises_at goods (λ s. (g.met.S.GoodsSet.is_bundle s).0) c.args.self.now.atoms.items c.args.listing.now.place c.requires.is.within)
+    (g.met.S.GoodsSet.is_bundle c.args.bundle.now).0 c.requires.is.listed c.requires.tells inside))))
 
 pub returns-then-price-atom : goal.returns-then-price-atom
 returns-then-price-atom g c =

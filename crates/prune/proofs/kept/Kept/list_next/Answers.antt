@@ -1,11 +1,10 @@
 use Rattle.std.proofs.Common.{arith, ◌≡◌, ◌++◌, ◌<◌, ℕ, length, sym, ap, ◌∙◌, subst, set, List, [], ◌∷◌, true}
 use Rattle.goods_set.specs.Bundles.{has_good}
-use Rattle.goods_set.specs.Residues.{AreResidues, block_of}
 use Rattle.valuation.specs.Values.{atoms_of, plain_atom}
 use Rattle.valuation.specs.Lemmas.Atoms.{length-atoms_of, get_or-atoms_of}
 use Rattle.valuation.specs.declared.atom.Atom.{Atom}
-use Rattle.prune.specs.declared.kept.Listing.{Listing}
-use Rattle.prune.specs.Internal.Listings.{lists_of, listed_at}
+use Rattle.prune.specs.declared.listing.Listing.{Listing}
+use Rattle.prune.specs.Internal.Listings.{lists_of, listed_at, IsListingOf}
 use Rattle.prune.proofs.ListedAtoms.{AreListed-more, listed-set_same, listed-set_other, listed-pushed, listed_there}
 use Rattle.prune.proofs.kept.Kept.list_next.Goals as goal
 
@@ -49,4 +48,4 @@ returns-clause-listed g c =
     (AreListed-more (lists_of old.lists.items) _ old.listed (atoms_of goods old.atoms.items) good c.in_ok-least.listing c.requires.listed
     (λ k n. listed-set_other vectors good c.push-2.new.self k n ∙ c.loop-alloc.invariant.lists k) there c.in_ok-least.ensures.place
     (plain_atom goods atom) (sym at) (omega (arith, next, long, old.atoms.ok.0)) has
-    c.in_ok-least.ensures.residues (subst (λ h. AreResidues (block_of h (goods atom.bundle)) c.in_ok-least.listing.block) (sym least) c.in_ok-least.ensures.block))
+    (subst (λ h. IsListingOf (goods atom.bundle) h c.in_ok-least.listing) (sym least) c.in_ok-least.ensures.listing))
