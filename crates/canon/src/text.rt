@@ -22,7 +22,7 @@ ghost use Rattle.canon.specs.Sameness.{AreSameFiles};
 
 use crate::auction::canonical;
 use crate::fault::CanonFault;
-use crate::file::{compact_file_of, file_of};
+use crate::file::{compact_file_of, file_of, into_compact_file};
 use crate::writing::text_of;
 use cats_text::{BidFile, CompactFile, read_compact};
 use goods_set::{GoodsSet, ListSet, goods_of, on_least_set};
@@ -46,7 +46,7 @@ pub fn normal_file(alloc: Global, file: &BidFile, limit: u64) -> Result<BidFile,
 }
 
 /// The canonical file of a compact file, as `normal_file`. The file is given up before its auction is made canonical,
-/// so the two are never held at once.
+/// so the two are never held at once, and the auction while its own file is made.
 pub fn into_normal_file(
     alloc: Global,
     file: CompactFile,
@@ -165,7 +165,7 @@ fn into_normal_file_on<S: GoodsSet>(
     ensures canonical { IfOk result (λ h. IsCanonicalFile h) }
 {
     let canonical: Auction<S> = into_canonical(alloc, file, limit)?;
-    Ok(compact_file_of(alloc, &canonical)?)
+    Ok(into_compact_file(alloc, canonical)?)
 }
 
 fn last_normal_file_on<S: GoodsSet>(
