@@ -9,6 +9,7 @@ pub mod Least
 pub mod Bidders
 pub mod BidderFronts
 pub mod Filing
+pub mod KnownFiles
 pub mod TextLines
 pub mod Answering
 pub mod Finding

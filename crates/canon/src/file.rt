@@ -1,16 +1,19 @@
 //! The file of an auction.
 
-ghost use Rattle.std.specs.Prelude.{◌≡◌, ◌++◌, IfOk, OnOk, map};
+ghost use Rattle.std.specs.Prelude.{◌≡◌, ◌≤◌, ◌++◌, length, IfOk, OnOk, map};
 ghost use Rattle.cats_text.specs.Files.{plain_bids};
 ghost use Rattle.cats_text.specs.Views.{plain_file};
+ghost use Rattle.cats_text.specs.declared.limits.TheConstants.{MAX_DUMMY};
+ghost use Rattle.valuation.specs.Bidders.{bidders_of};
 ghost use Rattle.valuation.specs.Values.{atoms_of};
 ghost use Rattle.valuation.specs.Views.{plain_auction};
-ghost use Rattle.canon.specs.Canonical.{bid_from, file_from};
+ghost use Rattle.canon.specs.Canonical.{bid_from, dummy_bids, file_from};
 
 use crate::writing::count_bids;
 use cats_text::{Bid, BidFile, CompactBids, CompactFile};
 use goods_set::{GoodsSet, goods_of, rising_goods};
 use std::alloc::{AllocError, Global};
+use std::mem;
 use valuation::{Atom, Auction};
 
 /// The file of any auction, canonical or not: the OR bidder's atoms are bids without a dummy good, and those of the XOR
@@ -45,6 +48,43 @@ pub fn compact_file_of<S: GoodsSet>(
         push_offers(&mut bids, &mut bundle, atoms, Some(dummy as u32), count)?;
     }
     Ok(CompactFile::new(auction.goods(), bidders.len() as u32, bids))
+}
+
+/// The compact file of any auction, as `compact_file_of`. It uses the auction up: the atoms of each bidder are given up
+/// as soon as their bids are there.
+pub(crate) fn into_compact_file<S: GoodsSet>(
+    alloc: Global,
+    auction: Auction<S>,
+) -> Result<CompactFile, AllocError>
+    ensures { IfOk result (λ file. file ≡ file_from (plain_auction auction)) }
+{
+    // No file has more bids than a number of 32 bits counts.
+    let count = count_bids(&auction) as u32;
+    let (goods, or_atoms, bidders) = auction.into_parts();
+    let dummy = bidders.len() as u32;
+    let mut bids = CompactBids::new(alloc);
+    let mut bundle = Vec::new(alloc);
+    push_offers(&mut bids, &mut bundle, or_atoms.as_slice(), None, count)?;
+    mem::drop(or_atoms);
+    push_bidders(&mut bids, &mut bundle, bidders, count)?;
+    Ok(CompactFile::new(goods, dummy, bids))
+}
+
+/// Appends the bids of bidders, which are given up one by one, with the dummy goods 0, 1, and so on, where there will
+/// be so many bids.
+fn push_bidders<S: GoodsSet>(
+    bids: &mut CompactBids,
+    bundle: &mut Vec<u16>,
+    bidders: Vec<Vec<Atom<S>>>,
+    count: u32,
+) -> Result<(), AllocError>
+    requires { length bidders.items ≤ MAX_DUMMY }
+    ensures { OnOk result (bids.new ≡ bids.old ++ dummy_bids 0 (bidders_of S.goods bidders.items)) }
+{
+    for (dummy, bidder) in bidders.into_iter().enumerate() {
+        push_offers(bids, bundle, bidder.as_slice(), Some(dummy as u32), count)?;
+    }
+    Ok(())
 }
 
 /// Appends a bid for each atom, all with the same dummy good.

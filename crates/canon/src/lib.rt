@@ -12,6 +12,7 @@ mod difference_laws;
 mod fault;
 mod file;
 mod fronted_bidder;
+mod known_file;
 pub mod laws;
 mod parting;
 mod place_laws;
@@ -33,6 +34,9 @@ pub use difference_laws::{
 pub use fault::CanonFault;
 pub use file::{compact_file_of, file_of};
 pub use place_laws::first_place_by_text;
-pub use text::{into_normal_file, last_normal_file, normal_file, normal_text, normalise};
+pub use text::{
+    into_normal_file, last_normal_file, last_normal_file_unless, normal_file, normal_text,
+    normalise,
+};
 pub use verdict::{Side, Verdict};
 pub use which::Which;

@@ -13,6 +13,7 @@ ghost use Rattle.canon.specs.Answers.{
   NormalisesFileAs,
   NormalisesPlainAs,
   RefusesAuction,
+  or_known,
   plain_answer,
 };
 ghost use Rattle.canon.specs.Canonical.{IsCanonical, IsCanonicalFile, canonical_auction, canonical_text};
@@ -22,7 +23,8 @@ ghost use Rattle.canon.specs.Sameness.{AreSameFiles};
 
 use crate::auction::canonical;
 use crate::fault::CanonFault;
-use crate::file::{compact_file_of, file_of};
+use crate::file::{compact_file_of, file_of, into_compact_file};
+use crate::known_file::compact_file_unless;
 use crate::writing::text_of;
 use cats_text::{BidFile, CompactFile, read_compact};
 use goods_set::{GoodsSet, ListSet, goods_of, on_least_set};
@@ -46,7 +48,7 @@ pub fn normal_file(alloc: Global, file: &BidFile, limit: u64) -> Result<BidFile,
 }
 
 /// The canonical file of a compact file, as `normal_file`. The file is given up before its auction is made canonical,
-/// so the two are never held at once.
+/// so the two are never held at once, and the auction while its own file is made.
 pub fn into_normal_file(
     alloc: Global,
     file: CompactFile,
@@ -75,6 +77,26 @@ pub fn last_normal_file(
         return last_normal_file_on::<ListSet>(alloc, file, limit);
     }
     on_least_set!(file.goods(), last_normal_file_on(alloc, file, limit))
+}
+
+/// The canonical file of a compact file, as `last_normal_file`, or nothing where it is found to be the known one. Then
+/// no file is made, and the bids are only looked at.
+pub fn last_normal_file_unless(
+    alloc: Global,
+    file: CompactFile,
+    limit: u64,
+    known: &CompactFile,
+) -> Result<Option<CompactFile>, CanonFault>
+    ensures answer { NormalisesPlainAs limit file (or_known known.now result) }
+    ensures canonical { IfOk (or_known known.now result) (λ h. IsCanonicalFile h) }
+{
+    if is_sparse(&file) {
+        return last_normal_file_unless_on::<ListSet>(alloc, file, limit, known);
+    }
+    on_least_set!(
+        file.goods(),
+        last_normal_file_unless_on(alloc, file, limit, known)
+    )
 }
 
 /// The canonical text of a compact file, which is given up before its auction is made canonical.
@@ -165,7 +187,7 @@ fn into_normal_file_on<S: GoodsSet>(
     ensures canonical { IfOk result (λ h. IsCanonicalFile h) }
 {
     let canonical: Auction<S> = into_canonical(alloc, file, limit)?;
-    Ok(compact_file_of(alloc, &canonical)?)
+    Ok(into_compact_file(alloc, canonical)?)
 }
 
 fn last_normal_file_on<S: GoodsSet>(
@@ -179,6 +201,22 @@ fn last_normal_file_on<S: GoodsSet>(
 {
     let canonical: Auction<S> = into_canonical(alloc, file, limit)?;
     let normal = compact_file_of(alloc, &canonical)?;
+    mem::forget(canonical);
+    Ok(normal)
+}
+
+fn last_normal_file_unless_on<S: GoodsSet>(
+    alloc: Global,
+    file: CompactFile,
+    limit: u64,
+    known: &CompactFile,
+) -> Result<Option<CompactFile>, CanonFault>
+    requires { file.goods ≤ S.CAP }
+    ensures answer { NormalisesPlainAs limit file (or_known known.now result) }
+    ensures canonical { IfOk (or_known known.now result) (λ h. IsCanonicalFile h) }
+{
+    let canonical: Auction<S> = into_canonical(alloc, file, limit)?;
+    let normal = compact_file_unless(alloc, &canonical, known)?;
     mem::forget(canonical);
     Ok(normal)
 }

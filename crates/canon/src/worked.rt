@@ -1,9 +1,11 @@
 //! Worked examples of the definitions, computed by the prover.
 
-ghost use Rattle.std.specs.Prelude.{◌≡◌, ℕ, List, [], ◌∷◌, ◌++◌, codes};
+ghost use Rattle.std.specs.Prelude.{◌≡◌, ℕ, List, [], ◌∷◌, ◌++◌, codes, Ok, Err, Some, None};
 ghost use Rattle.valuation.specs.Examples.{atom};
+ghost use Rattle.canon.specs.Answers.{or_known};
 ghost use Rattle.canon.specs.Canonical.{canonical_auction, file_from};
 ghost use Rattle.canon.specs.Examples.{auction};
+ghost use Rattle.canon.specs.declared.fault.CanonFault.TheVariants.{Memory};
 ghost use Rattle.canon.specs.Normalising.{normalised, IsNoFile, ExceedsSteps, IsText};
 ghost use Rattle.cats_text.specs.Faults.{fault_at};
 ghost use Rattle.cats_text.specs.declared.fault.Kind.TheVariants.{TwoDummies, Missing};
@@ -25,4 +27,12 @@ pub fn canonical_auctions()
     ensures bidders_sorted { canonical_auction
         (auction 2 [] ((atom (0 ∷ []) 2 ∷ atom (1 ∷ []) 1 ∷ []) ∷ (atom (0 ∷ []) 1 ∷ atom (1 ∷ []) 2 ∷ []) ∷ []))
         ≡ auction 2 [] ((atom (0 ∷ []) 1 ∷ atom (1 ∷ []) 2 ∷ []) ∷ (atom (0 ∷ []) 2 ∷ atom (1 ∷ []) 1 ∷ []) ∷ []) }
+{}
+
+/// An answer beside a known file: it stands for nothing that was answered, and a file or a fault stays as it is.
+pub fn known_files()
+    ensures left_out { or_known (file_from (auction 2 [] [])) (Ok None) ≡ Ok (file_from (auction 2 [] [])) }
+    ensures another { or_known (file_from (auction 2 [] [])) (Ok (Some (file_from (auction 3 [] []))))
+        ≡ Ok (file_from (auction 3 [] [])) }
+    ensures refused { or_known (file_from (auction 2 [] [])) (Err Memory) ≡ Err Memory }
 {}

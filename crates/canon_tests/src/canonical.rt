@@ -3,7 +3,7 @@
 use crate::refusals::{expect_line, refusal_text};
 use canon::{
     CanonFault, canonical, compact_file_of, file_of, into_normal_file, last_normal_file,
-    normal_file, normal_text, normalise,
+    last_normal_file_unless, normal_file, normal_text, normalise,
 };
 use cats_text::{BidFile, CompactFile, read, read_compact, write};
 use goods_set::{GoodsSet, ListSet, WordSet};
@@ -37,6 +37,41 @@ const EQUAL_FRONTS_TEXT: &str = concat!(
     "3\t2\t0\t1\t2\t4\t8\t#\n4\t4\t0\t1\t2\t3\t4\t8\t#\n5\t3\t0\t1\t2\t4\t9\t#\n",
     "6\t1\t0\t1\t2\t5\t10\t#\n"
 );
+
+/// The larger bid among so many goods that lists of them suit the file best.
+const FEW_OF_MANY: &str = "goods 1024\nbids 3\ndummy 0\n0\t3\t0\t#\n1\t4\t1\t#\n2\t7\t0\t1\t#\n";
+
+const FEW_OF_MANY_TEXT: &str = "goods 1024\nbids 2\ndummy 0\n0\t3\t0\t#\n1\t4\t1\t#\n";
+
+/// A known file, a file and its limit, and what is told. Where as many goods, dummy goods and bids are known, they differ
+/// in one price, bundle or dummy good alone.
+static KNOWN: [(&str, &str, u64, &str); 10] = [
+    (LARGER_BID_TEXT, LARGER_BID, 3, "known"),
+    (LARGER_BID_TEXT, LARGER_BID, 2, "steps [0, 1]"),
+    (LARGER_BID, LARGER_BID, 3, LARGER_BID_TEXT),
+    (
+        "goods 2\nbids 2\ndummy 0\n0\t3\t0\t#\n1\t5\t1\t#\n",
+        LARGER_BID,
+        3,
+        LARGER_BID_TEXT,
+    ),
+    (FEW_OF_MANY_TEXT, LARGER_BID, 3, LARGER_BID_TEXT),
+    (EQUAL_BIDDERS_TEXT, EQUAL_BIDDERS, 1, "known"),
+    (EQUAL_FRONTS_TEXT, EQUAL_FRONTS, 1, "known"),
+    (
+        "goods 2\nbids 4\ndummy 2\n0\t1\t0\t2\t#\n1\t2\t0\t1\t2\t#\n2\t1\t0\t2\t#\n3\t2\t0\t1\t3\t#\n",
+        EQUAL_BIDDERS,
+        1,
+        EQUAL_BIDDERS_TEXT,
+    ),
+    (FEW_OF_MANY_TEXT, FEW_OF_MANY, 3, "known"),
+    (
+        "goods 1024\nbids 2\ndummy 0\n0\t3\t0\t#\n1\t4\t2\t#\n",
+        FEW_OF_MANY,
+        3,
+        FEW_OF_MANY_TEXT,
+    ),
+];
 
 /// The bytes of a file, as a text.
 fn text_of(alloc: Global, file: &BidFile) -> Result<String, Fail> {
@@ -171,6 +206,29 @@ fn canonical_compact_files(rt: HostRuntime) -> Result<(), Fail> {
         let file = read_compact(rt.alloc(), LARGER_BID.as_bytes())?;
         let answer = last_normal_file(rt.alloc(), file, *limit);
         expect_line(&rt, &told_compact_file(rt.alloc(), answer)?, expected);
+    }
+    Ok(())
+}
+
+/// The file that a call answered beside a known one, as its text, or that it is the known one, or why there is none.
+fn told_unless_known(
+    alloc: Global,
+    answer: Result<Option<CompactFile>, CanonFault>,
+) -> Result<String, Fail> {
+    match answer {
+        Ok(Some(file)) => compact_text_of(alloc, &file),
+        Ok(None) => Ok(String::from_str(alloc, "known")?),
+        Err(fault) => refusal_text(alloc, fault),
+    }
+}
+
+#[test]
+fn canonical_files_unless_known(rt: HostRuntime) -> Result<(), Fail> {
+    for (known, text, limit, expected) in &KNOWN {
+        let known = read_compact(rt.alloc(), known.as_bytes())?;
+        let file = read_compact(rt.alloc(), text.as_bytes())?;
+        let answer = last_normal_file_unless(rt.alloc(), file, *limit, &known);
+        expect_line(&rt, &told_unless_known(rt.alloc(), answer)?, expected);
     }
     Ok(())
 }

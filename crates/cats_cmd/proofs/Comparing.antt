@@ -8,7 +8,7 @@ use Rattle.valuation.specs.Auctions.{auction_from}
 use Rattle.canon.proofs.SameDifferences.{difference_of_same_files}
 use Rattle.canon.proofs.Sames.{same_sym}
 use Rattle.canon.proofs.Texts.{canonical_file_is_same, IsPlainFile-canonical}
-use Rattle.canon.specs.Answers.{NormalisesPlainAs}
+use Rattle.canon.specs.Answers.{NormalisesPlainAs, or_known}
 use Rattle.canon.specs.Canonical.{canonical_file}
 use Rattle.canon.specs.declared.fault.CanonFault.{CanonFault}
 use Rattle.cats_cmd.specs.Comparisons.{ReadsLightFile, ReadsCanonicalFile, ReadsCanonical, RunsOnFiles}
@@ -20,6 +20,12 @@ use Rattle.cats_cmd.proofs.Normalised.{refused_by_normalising}
 use Rattle.cats_cmd.proofs.RunsOfOneFile.{refused_in_reading, refused_in_making, told_by_sending}
 
 -- ---- one of the files
+
+-- a fault stays beside a known file
+fault_beside : (known : PlainFile) (answer : Result (Option PlainFile) CanonFault) (P : CanonFault → Type 0) → IsErrAnd answer P
+    → IsErrAnd (or_known known answer) P
+fault_beside known (Err fault) P h = h
+fault_beside known (Ok file) P h = absurd h
 
 module _ {R : Type 0} (remaining : R → Option (List ℕ)) (limit : ℕ) where
   pub canonical_unread : (old new : Watched R) (fault : CanonFault) → ReadsInput remaining old new (Err fault)
@@ -33,6 +39,12 @@ module _ {R : Type 0} (remaining : R → Option (List ℕ)) (limit : ℕ) where
         refused = refused_in_reading remaining (normalise_outcome limit) read_as.bytes new fault read_as.reads;
       })
 
+  pub canonical_unread_beside : (old new : Watched R) (fault : CanonFault) → ReadsInput remaining old new (Err fault)
+      → (known : PlainFile) (answer : Result (Option PlainFile) CanonFault) → IsErrAnd answer (λ told. told ≡ fault)
+      → ReadsCanonical remaining limit old new (or_known known answer)
+  canonical_unread_beside old new fault read_as known answer is =
+      canonical_unread old new fault read_as (or_known known answer) (fault_beside known answer (λ told. told ≡ fault) is)
+
   pub canonical_read : (old new : Watched R) (file : PlainFile) → ReadsInput remaining old new (Ok file)
       → (answer : Result PlainFile CanonFault) → NormalisesPlainAs limit file answer → ReadsCanonical remaining limit old new answer
   canonical_read old new file read_as (Ok canonical) n = record {
@@ -44,6 +56,10 @@ module _ {R : Type 0} (remaining : R → Option (List ℕ)) (limit : ℕ) where
     consumes = read_as.consumes;
     refused = refused_in_making remaining (normalise_outcome limit) read_as.bytes new file read_as.reads fault (refused_by_normalising limit file fault n);
   }
+
+  -- the canonical file keeps the limits of files
+  pub canonical_facts : (old new : Watched R) (canonical : PlainFile) → ReadsCanonicalFile remaining limit old new canonical → IsPlainFile canonical
+  canonical_facts old new canonical h = subst IsPlainFile (sym h.is) (IsPlainFile-canonical h.given.file h.given.reads.spelled.facts)
 
 -- ---- both files
 

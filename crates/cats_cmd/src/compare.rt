@@ -3,8 +3,13 @@
 mod text;
 
 ghost use Rattle.std.specs.Prelude.{◌≡◌, false, IfOk};
+ghost use Rattle.std.specs.Option.{unwrap_or};
+ghost use Rattle.cats_text.specs.Files.{IsPlainFile};
 ghost use Rattle.cats_text.specs.Streams.{has_ended, has_failed};
+ghost use Rattle.valuation.specs.Auctions.{auction_from};
+ghost use Rattle.canon.specs.Answers.{or_known};
 ghost use Rattle.canon.specs.Canonical.{IsCanonicalFile};
+ghost use Rattle.canon.specs.Difference.{first_difference};
 ghost use Rattle.canon.specs.Verdicts.{plain_verdict};
 ghost use Rattle.cats_cmd.specs.Comparisons.{ReadsCanonical, RunsOnFiles};
 ghost use Rattle.cats_cmd.specs.Outcomes.{Tells, compare_outcome};
@@ -13,7 +18,7 @@ ghost use Rattle.cats_cmd.specs.Statuses.{status_of_difference};
 use crate::report::{DIFFERENT, DONE, RunFault};
 use crate::run::{read_compact_file, send_text};
 use canon::{
-    CanonFault, Verdict, Which, compare_compact_files, into_normal_file, last_normal_file,
+    CanonFault, Verdict, Which, compare_compact_files, into_normal_file, last_normal_file_unless,
 };
 use cats_text::{CompactFile, Watched};
 use std::alloc::{AllocError, Global};
@@ -45,7 +50,7 @@ pub fn run_compare<R: Read, S: Read, W: Write>(
         Ok(file) => file,
         Err(fault) => return Err(RunFault::Refused(Which::First, fault)),
     };
-    let right = match read_last_canonical(alloc, second, limit) {
+    let right = match read_last_canonical(alloc, second, limit, &left) {
         Ok(file) => file,
         Err(fault) => return Err(RunFault::Refused(Which::Second, fault)),
     };
@@ -70,30 +75,54 @@ fn read_canonical<R: Read>(
     into_normal_file(alloc, file, limit)
 }
 
-/// Reads the process's last bid file, and gives it up for its canonical file. The memory of its auction is left to the
-/// process's end.
+/// Reads the process's last bid file, and gives it up for its canonical file, or for nothing where that is found to be
+/// the known one. The memory of its auction is left to the process's end.
 fn read_last_canonical<R: Read>(
     alloc: Global,
     input: &mut Watched<R>,
     limit: u64,
-) -> Result<CompactFile, CanonFault>
+    known: &CompactFile,
+) -> Result<Option<CompactFile>, CanonFault>
     requires works { has_failed input.old ≡ false }
     requires fresh { has_ended input.old ≡ false }
-    ensures answer { ReadsCanonical R.remaining limit input.old input.new result }
-    ensures canonical { IfOk result (λ file. IsCanonicalFile file) }
+    ensures answer { ReadsCanonical R.remaining limit input.old input.new (or_known known.now result) }
+    ensures canonical { IfOk (or_known known.now result) (λ file. IsCanonicalFile file) }
 {
     let file = read_compact_file(alloc, input)?;
-    last_normal_file(alloc, file, limit)
+    last_normal_file_unless(alloc, file, limit, known)
 }
 
-/// The status and the text of a comparison.
-fn told(alloc: Global, left: &CompactFile, right: &CompactFile) -> Result<(u8, Vec<u8>), AllocError>
+/// The status and the text of a comparison with another file, or with the same one where there is no other.
+fn told(
+    alloc: Global,
+    left: &CompactFile,
+    right: &Option<CompactFile>,
+) -> Result<(u8, Vec<u8>), AllocError>
+    requires file { IsPlainFile left.now }
     requires left { IsCanonicalFile left.now }
-    requires right { IsCanonicalFile right.now }
-    ensures { IfOk result (λ t. compare_outcome left.now right.now ≡ Tells t.0 t.1.items) }
+    requires right { IsCanonicalFile (unwrap_or right.now left.now) }
+    ensures { IfOk result (λ t. compare_outcome left.now (unwrap_or right.now left.now) ≡ Tells t.0 t.1.items) }
 {
-    let verdict = compare_compact_files(alloc, left, right)?;
+    let verdict = compare_with(alloc, left, right)?;
     Ok((status_of(&verdict), verdict_text(alloc, &verdict)?))
+}
+
+/// Where a file and another part first, which is the same one where there is no other.
+fn compare_with(
+    alloc: Global,
+    left: &CompactFile,
+    right: &Option<CompactFile>,
+) -> Result<Verdict, AllocError>
+    requires file { IsPlainFile left.now }
+    requires left { IsCanonicalFile left.now }
+    requires right { IsCanonicalFile (unwrap_or right.now left.now) }
+    ensures { IfOk result (λ verdict. plain_verdict verdict
+        ≡ first_difference (auction_from left.now) (auction_from (unwrap_or right.now left.now))) }
+{
+    match right {
+        Some(right) => compare_compact_files(alloc, left, right),
+        None => Ok(Verdict::Same),
+    }
 }
 
 fn status_of(verdict: &Verdict) -> u8
