@@ -1,4 +1,4 @@
-use Rattle.std.proofs.Common.{◌≡◌, ◌<◌, ◌≤◌, ◌/◌, ap, ◌∙◌, List, ℕ, subst, sym, get_or, arith}
+use Rattle.std.proofs.Common.{◌≡◌, ◌<◌, ◌≤◌, ◌/◌, subst, sym, get_or, arith}
 use Rattle.goods_set.specs.Residues.{AreResidues, block_of}
 use Rattle.goods_set.specs.Words.{word_cap, word_goods}
 use Rattle.goods_set.proofs.Blocks.{block_of_words, no_block}

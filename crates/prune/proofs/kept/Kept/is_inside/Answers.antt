@@ -1,4 +1,4 @@
-use Rattle.std.proofs.Common.{sym, arith}
+use Rattle.std.proofs.Common.{sym}
 use Rattle.std.proofs.lemmas.Bool.{both_ways, false_from_ne_true}
 use Rattle.valuation.specs.Values.{atoms_of}
 use Rattle.prune.proofs.ListedAtoms.{rises_at}

@@ -1,6 +1,6 @@
 -- A wide bundle is inside no other that is not; else the residues tell, and of two wide ones the goods in a block.
 use Rattle.std.proofs.Common.{◌≡◌, ◌≤◌, length, true, false, ⊎_elim, subst, arith}
-use Rattle.std.proofs.lemmas.Bool.{cases_Bool, both_ways, false_from_ne_true}
+use Rattle.std.proofs.lemmas.Bool.{cases_Bool}
 use Rattle.goods_set.specs.Lemmas.Sizes.{length_inside}
 use Rattle.goods_set.specs.Residues.{AreResidues, block_of}
 use Rattle.prune.specs.Internal.Listings.{Tells, beside_of}
