@@ -4,7 +4,9 @@
 
 With a word, only groups of rows whose name has it. Each time is the least processor seconds of some runs, in which the commands of a
 group take turns; the memory is the most that the kernel counted, and told as at least what this script holds itself. A bound is
-a ratio between two rows of the same group. The script ends with a line for each bound that is broken, and its status is then 1.
+a ratio between two rows of the same group. A group of which a bound is broken is measured again, at most twice, since a machine that
+does something else for a moment breaks some. The script ends with a line for each bound that is broken each time, and its status is
+then 1.
 """
 import os
 import random
@@ -21,15 +23,18 @@ PROGRAM, GENERATE = sys.argv[1:3]
 WORD = sys.argv[3] if len(sys.argv) > 3 else ""
 EMPTY = os.path.join(os.path.dirname(GENERATE), "examples", "empty.cats")
 TIMES = 5
+ROUNDS = 3
 
-broken = []
+broken = {}
 
 
 def bound(what, ratio, most):
-    """Keeps a line for a ratio above the most that it may be."""
+    """Keeps a line for a ratio above the most that it may be, until it is found to be within."""
     print(f"    {what}: {ratio:.2f}, at most {most}")
     if ratio > most:
-        broken.append(f"{what} is {ratio:.2f}, and may be {most}")
+        broken[what] = f"{what} is {ratio:.2f}, and may be {most}"
+    else:
+        broken.pop(what, None)
 
 
 def row(name, path, took):
@@ -299,13 +304,23 @@ GROUPS = {
 }
 
 
+def measure(group):
+    """Measures a group, and again where it breaks a bound."""
+    before = set(broken)
+    for _ in range(ROUNDS):
+        with tempfile.TemporaryDirectory() as folder:
+            group(folder)
+        if set(broken) == before:
+            break
+        print("    a bound is broken", flush=True)
+
+
 def main():
     set_start_method("fork")
     for name, group in GROUPS.items():
         if WORD in name:
-            with tempfile.TemporaryDirectory() as folder:
-                group(folder)
-    for line in broken:
+            measure(group)
+    for line in broken.values():
         print(f"BROKEN: {line}")
     print(f"{len(broken)} bounds broken")
     sys.exit(bool(broken))
