@@ -10,3 +10,4 @@ pub mod FewDigits
 pub mod Fronts
 pub mod WholeWords
 pub mod ManyGoods
+pub mod BidEnds

@@ -64,5 +64,8 @@ pub fn few_digits(bytes: &[u8]) -> Option<(u64, usize)>
         return None;
     }
     let count = others.trailing_zeros() / 8;
+    if count == 0 {
+        return Some((0, 0));
+    }
     Some((value_of_eight(keep_first(lanes, count)), count as usize))
 }

@@ -2,6 +2,7 @@
 #![tactic(auto)]
 
 mod bid;
+mod bid_lines;
 mod compact;
 mod eight;
 mod fault;

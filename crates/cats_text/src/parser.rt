@@ -347,8 +347,9 @@ impl Parser {
         Ok(())
     }
 
+    /// The end of a bid line.
     #[inline(always)]
-    fn end_bid(&mut self) -> Result<(), Stop>
+    pub fn end_bid(&mut self) -> Result<(), Stop>
         ensures reads { Gives (progress self.new) result (bid_read (progress self.old)) }
         ensures memory { (progress self.old).stage ≡ Stage.Bid → AsksOnBidLines (progress self.old) result }
     {

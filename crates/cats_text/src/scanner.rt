@@ -26,6 +26,7 @@ ghost use Rattle.cats_text.specs.Internal.Scanning.{
   halt_of,
   letter_mode,
   state,
+  state_in,
   first_state,
   blank_step,
   words_step,
@@ -33,7 +34,6 @@ ghost use Rattle.cats_text.specs.Internal.Scanning.{
   scan,
   end_of,
   is_before_word,
-  IsGoodDue,
   ScansTo,
   Steps,
   AsksHere,
@@ -50,7 +50,7 @@ ghost use Rattle.cats_text.specs.declared.parser.Keeping.TheVariants as keepings
 use crate::bid::BidFile;
 use crate::compact::CompactFile;
 use crate::fault::{Kind, ReadFault};
-use crate::front::{ends_bid, front, number, with_digits};
+use crate::front::{front, with_digits};
 use crate::parser::{Header, Keeping, Parser, Stop};
 use crate::word::Word;
 use std::alloc::Global;
@@ -66,7 +66,7 @@ pub enum Halt {
 
 impl Halt {
     /// The halt at a line that stopped the parser.
-    fn at(line: u64, stop: Stop) -> Halt
+    pub fn at(line: u64, stop: Stop) -> Halt
         ensures { result ≡ halt_of line stop }
     {
         match stop {
@@ -207,7 +207,26 @@ impl Scanner {
         }
     }
 
-    /// Reads this word, which with its blank has so many bytes in front; tells how many.
+    /// Takes this word, which with its blank has so many bytes in front; tells how many. The mode stays, though it is
+    /// behind a word now.
+    #[inline(always)]
+    pub fn pass_word(&mut self, word: Word, taken: usize) -> Result<usize, Halt>
+        requires { self.old.waiting ≡ false }
+        ensures scanned { (mode : Mode) (bytes : List ℕ) → is_before_word mode ≡ true → IsFront bytes word taken
+            → ScansTo (state_in mode self.old) (state_in Mode.Between self.new) self.new.waiting bytes result }
+        ensures count { IfOk result (λ count. count ≡ taken) }
+        ensures mode { self.new.mode ≡ self.old.mode }
+        ensures stage { self.new.parser.stage ≡ self.old.parser.stage }
+        ensures line { self.new.line ≡ self.old.line }
+        ensures waiting { self.new.waiting ≡ self.old.waiting }
+    {
+        if let Err(stop) = self.parser.take_word(word) {
+            return Err(Halt::at(self.line, stop));
+        }
+        Ok(taken)
+    }
+
+    /// The same, with the mode.
     #[inline(always)]
     fn take_word(&mut self, word: Word, taken: usize) -> Result<usize, Halt>
         requires waits { self.old.waiting ≡ false }
@@ -219,137 +238,9 @@ impl Scanner {
         ensures line { self.new.line ≡ self.old.line }
         ensures waiting { self.new.waiting ≡ self.old.waiting }
     {
-        if let Err(stop) = self.parser.take_word(word) {
-            return Err(Halt::at(self.line, stop));
-        }
+        let passed = self.pass_word(word, taken);
         self.mode = Mode::Between;
-        Ok(taken)
-    }
-
-    /// A word in front; tells how many bytes it and its blank have, 0 where none stands there whole.
-    #[inline(always)]
-    fn read_word(&mut self, bytes: &[u8]) -> Result<usize, Halt>
-        requires waits { self.old.waiting ≡ false }
-        requires before { is_before_word self.old.mode ≡ true }
-        ensures scanned { ScansTo (state self.old) (state self.new) self.new.waiting bytes.now result }
-        ensures before { is_before_word self.new.mode ≡ true }
-        ensures line { self.new.line ≡ self.old.line }
-        ensures waiting { self.new.waiting ≡ self.old.waiting }
-    {
-        match front(bytes) {
-            Some((word, taken)) => self.take_word(word, taken),
-            None => Ok(0),
-        }
-    }
-
-    /// The same of a number with a blank.
-    #[inline(always)]
-    fn read_number(&mut self, bytes: &[u8]) -> Result<usize, Halt>
-        requires waits { self.old.waiting ≡ false }
-        requires before { is_before_word self.old.mode ≡ true }
-        ensures scanned { ScansTo (state self.old) (state self.new) self.new.waiting bytes.now result }
-        ensures before { is_before_word self.new.mode ≡ true }
-        ensures line { self.new.line ≡ self.old.line }
-        ensures waiting { self.new.waiting ≡ self.old.waiting }
-    {
-        match number(bytes) {
-            Some((value, taken)) => self.take_word(Word::Number(value), taken),
-            None => Ok(0),
-        }
-    }
-
-    /// Takes a good that is due, which with its blank has so many bytes in front; tells how many.
-    #[inline(always)]
-    fn take_good(&mut self, good: u64, taken: usize) -> Result<usize, Halt>
-        requires waits { self.old.waiting ≡ false }
-        requires due { IsGoodDue (state self.old) }
-        ensures scanned { (bytes : List ℕ) → IsFront bytes (Word.Number good) taken
-            → ScansTo (state self.old) (state self.new) self.new.waiting bytes result }
-        ensures count { IfOk result (λ count. count ≡ taken) }
-        ensures due { IsGoodDue (state self.new) }
-        ensures line { self.new.line ≡ self.old.line }
-        ensures waiting { self.new.waiting ≡ self.old.waiting }
-    {
-        if let Err(stop) = self.parser.take_good(good) {
-            return Err(Halt::at(self.line, stop));
-        }
-        Ok(taken)
-    }
-
-    /// Goods in front, where goods are due; tells how many bytes they and their blanks have.
-    #[inline(always)]
-    fn read_goods(&mut self, bytes: &[u8]) -> Result<usize, Halt>
-        requires waits { self.old.waiting ≡ false }
-        requires before { is_before_word self.old.mode ≡ true }
-        ensures scanned { ScansTo (state self.old) (state self.new) self.new.waiting bytes.now result }
-        ensures before { is_before_word self.new.mode ≡ true }
-        ensures line { self.new.line ≡ self.old.line }
-        ensures waiting { self.new.waiting ≡ self.old.waiting }
-    {
-        if self.mode != Mode::Between || !self.parser.takes_goods() {
-            return Ok(0);
-        }
-        let mut place = 0;
-        while let Some((good, taken)) = number(&bytes[place..]) {
-            place += self.take_good(good, taken)?;
-        }
-        Ok(place)
-    }
-
-    /// The `#` in front, where the line ends behind it; tells how many bytes it has.
-    #[inline(always)]
-    fn read_bid_end(&mut self, bytes: &[u8]) -> Result<usize, Halt>
-        requires waits { self.old.waiting ≡ false }
-        requires before { is_before_word self.old.mode ≡ true }
-        ensures scanned { ScansTo (state self.old) (state self.new) self.new.waiting bytes.now result }
-        ensures before { is_before_word self.new.mode ≡ true }
-        ensures line { self.new.line ≡ self.old.line }
-        ensures waiting { self.new.waiting ≡ self.old.waiting }
-    {
-        if ends_bid(bytes) {
-            self.take_word(Word::End, 1)
-        } else {
-            Ok(0)
-        }
-    }
-
-    /// The words of a bid line in front, in the order that is usual, as far as they stand there whole: number, price,
-    /// goods, `#`. Tells how many bytes they and their blanks have.
-    #[inline(always)]
-    fn read_bid_words(&mut self, bytes: &[u8]) -> Result<usize, Halt>
-        requires waits { self.old.waiting ≡ false }
-        requires before { is_before_word self.old.mode ≡ true }
-        ensures scanned { ScansTo (state self.old) (state self.new) self.new.waiting bytes.now result }
-        ensures before { is_before_word self.new.mode ≡ true }
-        ensures line { self.new.line ≡ self.old.line }
-        ensures waiting { self.new.waiting ≡ self.old.waiting }
-    {
-        let mut place = self.read_number(bytes)?;
-        place += self.read_word(&bytes[place..])?;
-        place += self.read_goods(&bytes[place..])?;
-        place += self.read_bid_end(&bytes[place..])?;
-        Ok(place)
-    }
-
-    /// Whole bid lines in front, and of one more the words that stand there whole; tells how many bytes they have.
-    fn read_bid_lines(&mut self, bytes: &[u8]) -> Result<usize, Halt>
-        requires waits { self.old.waiting ≡ false }
-        requires before { is_before_word self.old.mode ≡ true }
-        requires room { self.old.line + length bytes.now < 2 ^ 64 }
-        ensures scanned { ScansTo (state self.old) (state self.new) self.new.waiting bytes.now result }
-        ensures line { IfOk result (λ count. self.new.line ≤ self.old.line + count) }
-        ensures most { self.new.line ≤ self.old.line + length bytes.now }
-    {
-        let mut place = 0;
-        'lines: while place < bytes.len() && self.parser.begins_bid() {
-            place += self.read_bid_words(&bytes[place..])?;
-            if place == bytes.len() || bytes[place] != b'\n' {
-                break 'lines;
-            }
-            self.take_byte(b'\n')?;
-            place += 1;
-        }
-        Ok(place)
+        passed
     }
 
     /// Whole words in front; tells how many bytes they and their blanks have.

@@ -19,3 +19,11 @@ returns-clause-value c =
     let s = shifted_is (take 8 bytes) _ c.keep_first.result eight (omega (arith, first.0)) (omega arith)
     (c.keep_first.ensures ∙ rw (lanes_are (take 8 bytes) _ eight is)) in
     c.value_of_eight.ensures s.0 s.1 s.2 ∙ s.3
+
+pub returns-then-count-eq0-clause-count : goal.returns-then-count-eq0-clause-count
+returns-then-count-eq0-clause-count c =
+    let bytes = c.args.bytes.now in
+    let eight = eight_at bytes 0 (λ k. (c.type_inv.bytes k).fits) (omega (arith, c.requires)) in
+    let is = c.first_eight-lanes.ensures ∙ word_at bytes 0 (omega (arith, c.requires)) in
+    let first = first_other (take 8 bytes) _ eight is _ c.flags_from_ten-others.ensures (omega (arith, c.if-others-eq0.false)) in
+    sym c.if-count-eq0.true ∙ sym first.0

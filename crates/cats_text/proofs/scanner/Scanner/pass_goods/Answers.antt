@@ -1,0 +1,32 @@
+use Rattle.std.proofs.Common.{◌∙◌, sym}
+use Rattle.cats_text.specs.Internal.Scanning.{state_in, ScansTo}
+use Rattle.cats_text.specs.declared.scanner.Mode.TheVariants.{Between}
+use Rattle.cats_text.proofs.Scanning.WholeWords.{rest_then, rest_stops_to, residual_is}
+use Rattle.cats_text.proofs.scanner.Scanner.pass_goods.Goals as goal
+
+pub loop-good-preserved : goal.loop-good-preserved
+loop-good-preserved c =
+    let next = rest_then _ (state_in Between c.loop-good.self) (state_in Between c.pass_good.new.self) c.loop-good.self.waiting c.pass_good.new.self.waiting
+    c.args.bytes.now
+    c.loop-good.place c.in_ok-place.field-0
+    c.loop-good.invariant.within (λ q. c.pass_good.ensures.waiting) c.loop-good.invariant.scanned (c.in_ok-place.ensures.scanned _ c.in-Some.ensures) in
+    record {
+      scanned = next.0;
+      due = c.pass_good.ensures.due;
+      within = next.1;
+      mode = c.pass_good.ensures.mode ∙ c.loop-good.invariant.mode;
+      stage = c.pass_good.ensures.due.stage ∙ sym c.loop-good.invariant.due.stage ∙ c.loop-good.invariant.stage;
+      line = c.pass_good.ensures.line ∙ c.loop-good.invariant.line;
+      waits = c.pass_good.ensures.waiting ∙ c.loop-good.invariant.waits;
+    }
+
+pub returns-in_err-place-clause-scanned : goal.returns-in_err-place-clause-scanned
+returns-in_err-place-clause-scanned c =
+    let stop = rest_stops_to _ (state_in Between c.loop-good.self) (state_in Between c.pass_good.new.self) (state_in Between c.pass_good.new.self)
+    c.loop-good.self.waiting
+    c.pass_good.new.self.waiting
+    c.pass_good.new.self.waiting c.args.bytes.now c.loop-good.place c.in_err-place.field-0.0
+    c.loop-good.invariant.scanned (c.in_err-place.ensures.scanned _ c.in-Some.ensures) in
+    residual_is c.from_residual.result c.in_err-place.field-0.0 (λ r. ScansTo (state_in Between c.args.self.now) (state_in Between c.pass_good.new.self)
+    c.pass_good.new.self.waiting
+    c.args.bytes.now r) c.from_residual.ensures.0 c.from_residual.ensures.1 stop

@@ -1,0 +1,18 @@
+use Rattle.std.proofs.Common.{◌≡◌, ◌≤◌, ◌-◌, false, drop, length}
+use Rattle.cats_text.specs.Internal.Scanning.{state_in, IsGoodDue, IsScanned}
+use Rattle.cats_text.specs.declared.scanner.Mode.TheVariants.{Between}
+use Rattle.cats_text.proofs.scanner.Scanner.pass_goods.Given as goal
+
+abbrev pub invariant-loop-good : goal.invariant-loop-good
+invariant-loop-good l = record {
+  scanned : IsScanned (state_in Between l.fn.self) (state_in Between l.self) l.self.waiting l.bytes (drop l.place l.bytes);
+  due : IsGoodDue (state_in Between l.self);
+  within : l.place ≤ length l.bytes;
+  mode : l.self.mode ≡ l.fn.self.mode;
+  stage : l.self.parser.stage ≡ l.fn.self.parser.stage;
+  line : l.self.line ≡ l.fn.self.line;
+  waits : l.self.waiting ≡ false;
+}
+
+abbrev pub decreases-loop-good : goal.decreases-loop-good
+decreases-loop-good l = length l.bytes - l.place

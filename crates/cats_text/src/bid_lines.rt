@@ -1,0 +1,151 @@
+//! Bid lines as they mostly stand, in straight sequence: number, price, goods, `#`, LF.
+//!
+//! Between the words of such a line the scanner's mode is not written: it is behind a word, and the clauses here say so
+//! of it. Where a line goes on in another way the mode is written, and the scanner goes on with it.
+
+ghost use Rattle.std.specs.Prelude.{◌≡◌, ◌+◌, ◌-◌, ◌<◌, ◌≤◌, ◌^◌, false, length, ℕ, List, IfOk, OnErr};
+ghost use Rattle.cats_text.specs.Internal.Front.{IsFront};
+ghost use Rattle.cats_text.specs.declared.parser.Stage.TheVariants.{Bid};
+ghost use Rattle.cats_text.specs.Internal.Scanning.{
+  state,
+  state_in,
+  byte_step,
+  IsGoodDue,
+  ScansTo,
+  Steps,
+  AsksHere,
+};
+
+use crate::front::{ends_bid, front, number};
+use crate::scanner::{Halt, Mode, Scanner};
+use crate::word::Word;
+
+impl Scanner {
+    /// Takes a good that is due, which with its blank has so many bytes in front; tells how many.
+    #[inline(always)]
+    fn pass_good(&mut self, good: u64, taken: usize) -> Result<usize, Halt>
+        requires waits { self.old.waiting ≡ false }
+        requires due { IsGoodDue (state_in Mode.Between self.old) }
+        ensures scanned { (bytes : List ℕ) → IsFront bytes (Word.Number good) taken
+            → ScansTo (state_in Mode.Between self.old) (state_in Mode.Between self.new) self.new.waiting bytes result }
+        ensures count { IfOk result (λ count. count ≡ taken) }
+        ensures due { IsGoodDue (state_in Mode.Between self.new) }
+        ensures mode { self.new.mode ≡ self.old.mode }
+        ensures line { self.new.line ≡ self.old.line }
+        ensures waiting { self.new.waiting ≡ self.old.waiting }
+    {
+        if let Err(stop) = self.parser.take_good(good) {
+            return Err(Halt::at(self.line, stop));
+        }
+        Ok(taken)
+    }
+
+    /// Goods in front, where goods are due; tells how many bytes they and their blanks have. A loop of its own, in which
+    /// the processor's registers are kept for it.
+    #[inline(never)]
+    fn pass_goods(&mut self, bytes: &[u8]) -> Result<usize, Halt>
+        requires { self.old.waiting ≡ false }
+        ensures scanned { ScansTo (state_in Mode.Between self.old) (state_in Mode.Between self.new) self.new.waiting
+            bytes.now result }
+        ensures mode { self.new.mode ≡ self.old.mode }
+        ensures stage { self.new.parser.stage ≡ self.old.parser.stage }
+        ensures line { self.new.line ≡ self.old.line }
+        ensures waiting { self.new.waiting ≡ self.old.waiting }
+    {
+        if !self.parser.takes_goods() {
+            return Ok(0);
+        }
+        let mut place = 0;
+        while let Some((good, taken)) = number(&bytes[place..]) {
+            place += self.pass_good(good, taken)?;
+        }
+        Ok(place)
+    }
+
+    /// The LF behind the `#` of a bid line, behind which a line begins.
+    #[inline(always)]
+    fn end_bid_line(&mut self) -> Result<(), Halt>
+        requires stage { self.old.parser.stage ≡ Bid }
+        requires line { self.old.line < 2 ^ 64 - 1 }
+        ensures steps { Steps (state_in Mode.Start self.new) result (byte_step (state_in Mode.Between self.old) 10) }
+        ensures memory { AsksHere (state_in Mode.Between self.old) result }
+        ensures mode { self.new.mode ≡ self.old.mode }
+        ensures line { self.new.line ≤ self.old.line + 1 }
+        ensures halted { OnErr result (self.new.line ≡ self.old.line) }
+        ensures waiting { self.new.waiting ≡ self.old.waiting }
+    {
+        if let Err(stop) = self.parser.end_bid() {
+            return Err(Halt::at(self.line, stop));
+        }
+        self.line += 1;
+        Ok(())
+    }
+
+    /// The `#` and the LF that stand in front; tells how many bytes they have.
+    #[inline(always)]
+    fn pass_bid_end(&mut self) -> Result<usize, Halt>
+        requires waits { self.old.waiting ≡ false }
+        requires stage { self.old.parser.stage ≡ Bid }
+        requires line { self.old.line < 2 ^ 64 - 1 }
+        ensures scanned { (bytes : List ℕ) → IsFront bytes Word.End 1
+            → ScansTo (state_in Mode.Between self.old) (state_in Mode.Start self.new) self.new.waiting bytes result }
+        ensures mode { self.new.mode ≡ self.old.mode }
+        ensures line { IfOk result (λ count. self.new.line ≤ self.old.line + count) }
+        ensures halted { OnErr result (self.new.line ≡ self.old.line) }
+        ensures waiting { self.new.waiting ≡ self.old.waiting }
+    {
+        let hash = self.pass_word(Word::End, 1)?;
+        self.end_bid_line()?;
+        Ok(hash + 1)
+    }
+
+    /// A bid line in front, with its LF; or, where it does not stand there whole in the usual order, its words as far as
+    /// they do. Tells how many bytes these have.
+    fn read_bid_line(&mut self, bytes: &[u8]) -> Result<usize, Halt>
+        requires waits { self.old.waiting ≡ false }
+        requires start { self.old.mode ≡ Mode.Start }
+        requires stage { self.old.parser.stage ≡ Bid }
+        requires line { self.old.line < 2 ^ 64 - 1 }
+        ensures scanned { ScansTo (state self.old) (state self.new) self.new.waiting bytes.now result }
+        ensures line { IfOk result (λ count. self.new.line ≤ self.old.line + count) }
+        ensures halted { OnErr result (self.new.line ≡ self.old.line) }
+        ensures waiting { self.new.waiting ≡ self.old.waiting }
+    {
+        let Some((number, taken)) = number(bytes) else {
+            return Ok(0);
+        };
+        let mut place = self.pass_word(Word::Number(number), taken)?;
+        let Some((price, taken)) = front(&bytes[place..]) else {
+            self.mode = Mode::Between;
+            return Ok(place);
+        };
+        place += self.pass_word(price, taken)?;
+        place += self.pass_goods(&bytes[place..])?;
+        if !ends_bid(&bytes[place..]) {
+            self.mode = Mode::Between;
+            return Ok(place);
+        }
+        place += self.pass_bid_end()?;
+        Ok(place)
+    }
+
+    /// Whole bid lines in front, and of one more the words that stand there whole; tells how many bytes they have.
+    pub fn read_bid_lines(&mut self, bytes: &[u8]) -> Result<usize, Halt>
+        requires waits { self.old.waiting ≡ false }
+        requires start { self.old.mode ≡ Mode.Start }
+        requires room { self.old.line + length bytes.now < 2 ^ 64 }
+        ensures scanned { ScansTo (state self.old) (state self.new) self.new.waiting bytes.now result }
+        ensures line { IfOk result (λ count. self.new.line ≤ self.old.line + count) }
+        ensures most { self.new.line ≤ self.old.line + length bytes.now }
+    {
+        let mut place = 0;
+        while place < bytes.len() && self.mode == Mode::Start && self.parser.begins_bid() {
+            let taken = self.read_bid_line(&bytes[place..])?;
+            if taken == 0 {
+                break;
+            }
+            place += taken;
+        }
+        Ok(place)
+    }
+}
