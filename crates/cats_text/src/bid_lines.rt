@@ -9,11 +9,8 @@ ghost use Rattle.cats_text.specs.declared.parser.Stage.TheVariants.{Bid};
 ghost use Rattle.cats_text.specs.Internal.Scanning.{
   state,
   state_in,
-  byte_step,
   IsGoodDue,
   ScansTo,
-  Steps,
-  AsksHere,
 };
 
 use crate::front::{ends_bid, front, number};
@@ -40,21 +37,18 @@ impl Scanner {
         Ok(taken)
     }
 
-    /// Goods in front, where goods are due; tells how many bytes they and their blanks have. A loop of its own, in which
-    /// the processor's registers are kept for it.
-    #[inline(never)]
+    /// Goods in front, where a good is due; tells how many bytes they and their blanks have.
+    #[inline(always)]
     fn pass_goods(&mut self, bytes: &[u8]) -> Result<usize, Halt>
-        requires { self.old.waiting ≡ false }
+        requires waits { self.old.waiting ≡ false }
+        requires due { IsGoodDue (state_in Mode.Between self.old) }
         ensures scanned { ScansTo (state_in Mode.Between self.old) (state_in Mode.Between self.new) self.new.waiting
             bytes.now result }
+        ensures due { IsGoodDue (state_in Mode.Between self.new) }
         ensures mode { self.new.mode ≡ self.old.mode }
-        ensures stage { self.new.parser.stage ≡ self.old.parser.stage }
         ensures line { self.new.line ≡ self.old.line }
         ensures waiting { self.new.waiting ≡ self.old.waiting }
     {
-        if !self.parser.takes_goods() {
-            return Ok(0);
-        }
         let mut place = 0;
         while let Some((good, taken)) = number(&bytes[place..]) {
             place += self.pass_good(good, taken)?;
@@ -62,30 +56,11 @@ impl Scanner {
         Ok(place)
     }
 
-    /// The LF behind the `#` of a bid line, behind which a line begins.
-    #[inline(always)]
-    fn end_bid_line(&mut self) -> Result<(), Halt>
-        requires stage { self.old.parser.stage ≡ Bid }
-        requires line { self.old.line < 2 ^ 64 - 1 }
-        ensures steps { Steps (state_in Mode.Start self.new) result (byte_step (state_in Mode.Between self.old) 10) }
-        ensures memory { AsksHere (state_in Mode.Between self.old) result }
-        ensures mode { self.new.mode ≡ self.old.mode }
-        ensures line { self.new.line ≤ self.old.line + 1 }
-        ensures halted { OnErr result (self.new.line ≡ self.old.line) }
-        ensures waiting { self.new.waiting ≡ self.old.waiting }
-    {
-        if let Err(stop) = self.parser.end_bid() {
-            return Err(Halt::at(self.line, stop));
-        }
-        self.line += 1;
-        Ok(())
-    }
-
-    /// The `#` and the LF that stand in front; tells how many bytes they have.
+    /// The `#` and the LF that stand in front, where a good is due; tells how many bytes they have.
     #[inline(always)]
     fn pass_bid_end(&mut self) -> Result<usize, Halt>
         requires waits { self.old.waiting ≡ false }
-        requires stage { self.old.parser.stage ≡ Bid }
+        requires due { IsGoodDue (state_in Mode.Between self.old) }
         requires line { self.old.line < 2 ^ 64 - 1 }
         ensures scanned { (bytes : List ℕ) → IsFront bytes Word.End 1
             → ScansTo (state_in Mode.Between self.old) (state_in Mode.Start self.new) self.new.waiting bytes result }
@@ -94,9 +69,11 @@ impl Scanner {
         ensures halted { OnErr result (self.new.line ≡ self.old.line) }
         ensures waiting { self.new.waiting ≡ self.old.waiting }
     {
-        let hash = self.pass_word(Word::End, 1)?;
-        self.end_bid_line()?;
-        Ok(hash + 1)
+        if let Err(stop) = self.parser.close_bid() {
+            return Err(Halt::at(self.line, stop));
+        }
+        self.line += 1;
+        Ok(2)
     }
 
     /// A bid line in front, with its LF; or, where it does not stand there whole in the usual order, its words as far as
@@ -120,6 +97,10 @@ impl Scanner {
             return Ok(place);
         };
         place += self.pass_word(price, taken)?;
+        if !self.parser.takes_goods() {
+            self.mode = Mode::Between;
+            return Ok(place);
+        }
         place += self.pass_goods(&bytes[place..])?;
         if !ends_bid(&bytes[place..]) {
             self.mode = Mode::Between;

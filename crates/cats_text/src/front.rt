@@ -2,7 +2,7 @@
 
 ghost use Rattle.std.specs.Prelude.{◌≡◌, ◌≤◌, true, fold, length, take, IfSome};
 ghost use Rattle.std.specs.Bool.{OnTrue};
-ghost use Rattle.cats_text.specs.Internal.Front.{IsFront, IsKept};
+ghost use Rattle.cats_text.specs.Internal.Front.{IsFront, IsKept, IsNumberSoFar};
 ghost use Rattle.cats_text.specs.Internal.Machine.{word_with};
 ghost use Rattle.cats_text.specs.Numbers.{digits_alone};
 
@@ -32,9 +32,8 @@ const FEW_DIGITS: usize = 13;
 
 /// The number that the digits in front spell, and how many they are. Few of them are read eight bytes at a time.
 fn many_digits(bytes: &[u8]) -> (u64, usize)
+    ensures number { IsNumberSoFar 0 bytes.now result.1 result.0 }
     ensures bound { result.1 ≤ length bytes.now }
-    ensures digits { digits_alone (take result.1 bytes.now) ≡ true }
-    ensures value { Word.Number result.0 ≡ fold word_with (Word.Number 0) (take result.1 bytes.now) }
 {
     let (count, value) = read_digits(bytes, 0, 0);
     if count > FEW_DIGITS {
@@ -43,19 +42,16 @@ fn many_digits(bytes: &[u8]) -> (u64, usize)
     (value, count)
 }
 
-/// The same, where mostly one of the eight bytes in front is no digit.
+/// The same of digits that are followed by another byte among the first eight, as they mostly are.
 #[inline(always)]
-fn digits(bytes: &[u8]) -> (u64, usize)
-    ensures bound { result.1 ≤ length bytes.now }
-    ensures digits { digits_alone (take result.1 bytes.now) ≡ true }
-    ensures value { Word.Number result.0 ≡ fold word_with (Word.Number 0) (take result.1 bytes.now) }
+fn short_number(bytes: &[u8]) -> Option<(u64, usize)>
+    ensures number { IfSome result (λ r. IsNumberSoFar 0 bytes.now r.1 r.0) }
+    ensures bound { IfSome result (λ r. r.1 ≤ length bytes.now) }
 {
-    if bytes.len() >= 8 {
-        if let Some(few) = few_digits(bytes) {
-            return few;
-        }
+    if bytes.len() < 8 {
+        return None;
     }
-    many_digits(bytes)
+    few_digits(bytes)
 }
 
 /// A decimal with the digits that stand in front, and how many they are.
@@ -74,12 +70,12 @@ fn with_places(decimal: Decimal, bytes: &[u8]) -> (Decimal, usize)
     (decimal, bytes.len())
 }
 
-/// The number in front, with a point and more digits or without, or `#`, and how many bytes it has.
-#[inline(always)]
-fn kept(bytes: &[u8]) -> Option<(Word, usize)>
+/// The digits in front, with a point and more digits or without, or `#`, and how many bytes it has.
+fn kept(bytes: &[u8], value: u64, digits: usize) -> Option<(Word, usize)>
+    requires number { IsNumberSoFar 0 bytes.now digits value }
+    requires bound { digits ≤ length bytes.now }
     ensures { IfSome result (λ r. IsKept bytes.now r.0 r.1) }
 {
-    let (value, digits) = digits(bytes);
     match *bytes.get(digits)? {
         b'#' if digits == 0 => Some((Word::End, 1)),
         _ if digits == 0 => None,
@@ -97,17 +93,47 @@ fn kept(bytes: &[u8]) -> Option<(Word, usize)>
     }
 }
 
+/// The number of these digits in front, where a blank stands behind them, and how many bytes they have.
+#[inline(always)]
+fn with_blank(bytes: &[u8], value: u64, digits: usize) -> Option<(u64, usize)>
+    requires number { IsNumberSoFar 0 bytes.now digits value }
+    requires bound { digits ≤ length bytes.now }
+    ensures { IfSome result (λ r. IsFront bytes.now (Word.Number r.0) r.1) }
+{
+    if digits == 0 {
+        return None;
+    }
+    match *bytes.get(digits)? {
+        b' ' | b'\t' => Some((value, digits + 1)),
+        _ => None,
+    }
+}
+
 /// The number in front, where a blank stands behind it, and how many bytes they have.
 #[inline(always)]
 pub fn number(bytes: &[u8]) -> Option<(u64, usize)>
     ensures { IfSome result (λ r. IsFront bytes.now (Word.Number r.0) r.1) }
 {
-    let (value, count) = digits(bytes);
-    if count == 0 {
-        return None;
+    match short_number(bytes) {
+        Some((value, digits)) => with_blank(bytes, value, digits),
+        None => {
+            let (value, digits) = many_digits(bytes);
+            with_blank(bytes, value, digits)
+        }
     }
+}
+
+/// The number, price or `#` in front, which begins with these digits, where a blank or a line's end stands behind it, and
+/// how many bytes it and the blank have.
+fn with_end(bytes: &[u8], value: u64, digits: usize) -> Option<(Word, usize)>
+    requires number { IsNumberSoFar 0 bytes.now digits value }
+    requires bound { digits ≤ length bytes.now }
+    ensures { IfSome result (λ r. IsFront bytes.now r.0 r.1) }
+{
+    let (word, count) = kept(bytes, value, digits)?;
     match *bytes.get(count)? {
-        b' ' | b'\t' => Some((value, count + 1)),
+        b' ' | b'\t' => Some((word, count + 1)),
+        b'\n' => Some((word, count)),
         _ => None,
     }
 }
@@ -118,12 +144,14 @@ pub fn number(bytes: &[u8]) -> Option<(u64, usize)>
 pub fn front(bytes: &[u8]) -> Option<(Word, usize)>
     ensures { IfSome result (λ r. IsFront bytes.now r.0 r.1) }
 {
-    let (word, count) = kept(bytes)?;
-    match *bytes.get(count)? {
-        b' ' | b'\t' => Some((word, count + 1)),
-        b'\n' => Some((word, count)),
-        _ => None,
+    if let Some((value, digits)) = short_number(bytes) {
+        return match with_blank(bytes, value, digits) {
+            Some((value, taken)) => Some((Word::Number(value), taken)),
+            None => with_end(bytes, value, digits),
+        };
     }
+    let (value, digits) = many_digits(bytes);
+    with_end(bytes, value, digits)
 }
 
 /// Whether `#` stands in front, and a line's end behind it.

@@ -179,6 +179,7 @@ impl GoodList {
     }
 
     /// Forgets the goods.
+    #[inline(always)]
     pub fn clear(&mut self)
         ensures { self.new ≡ [] }
     {

@@ -1,6 +1,6 @@
 //! From words to bids: what is due, and what has come.
 
-ghost use Rattle.std.specs.Prelude.{◌≡◌, ◌<◌, [], length, IfOk, OnOk, OnErr};
+ghost use Rattle.std.specs.Prelude.{◌≡◌, ◌<◌, [], length, Ok, IfOk, OnOk, OnErr};
 ghost use Rattle.std.specs.Bool.{OnTrue};
 ghost use Rattle.cats_text.specs.Files.{IsPlainFile};
 ghost use Rattle.cats_text.specs.FileLines.{put_slot};
@@ -18,7 +18,9 @@ ghost use Rattle.cats_text.specs.Internal.Parsing.{
   drafted,
   with_goods,
   kept_of,
+  with_bid,
   bid_read,
+  bid_closed,
   header_line_read,
   line_read,
   is_due,
@@ -238,9 +240,6 @@ impl Parser {
         ensures column { self.new.column ≡ self.old.column }
     {
         let goods = u64::from(self.header.goods);
-        if value >= goods + u64::from(self.header.dummy) {
-            return Err(Stop::Fault(Kind::GoodRange));
-        }
         if value < goods {
             let good = value as u16;
             if self.goods.put_next(good)? {
@@ -251,6 +250,9 @@ impl Parser {
             } else {
                 Err(Stop::Fault(Kind::RepeatedGood))
             };
+        }
+        if value >= goods + u64::from(self.header.dummy) {
+            return Err(Stop::Fault(Kind::GoodRange));
         }
         let dummy = (value - goods) as u32;
         match self.draft.dummy {
@@ -339,7 +341,7 @@ impl Parser {
         self.sort_goods();
         self.slots.put(
             self.alloc,
-            self.draft,
+            &self.draft,
             self.goods.as_slice(),
             self.header.bids,
         )?;
@@ -347,20 +349,40 @@ impl Parser {
         Ok(())
     }
 
-    /// The end of a bid line.
+    /// Puts what is kept of the bid whose line ends.
     #[inline(always)]
-    pub fn end_bid(&mut self) -> Result<(), Stop>
+    fn put_bid(&mut self) -> Result<(), Stop>
+        ensures reads { Gives (progress self.new) result (Ok (with_bid (progress self.old))) }
+        ensures memory { (progress self.old).stage ≡ Stage.Bid → AsksOnBidLines (progress self.old) result }
+    {
+        self.keep_bid()?;
+        // One is due: the line began where one was.
+        self.due = self.due.saturating_sub(1);
+        self.column = Column::First;
+        Ok(())
+    }
+
+    #[inline(always)]
+    fn end_bid(&mut self) -> Result<(), Stop>
         ensures reads { Gives (progress self.new) result (bid_read (progress self.old)) }
         ensures memory { (progress self.old).stage ≡ Stage.Bid → AsksOnBidLines (progress self.old) result }
     {
         if self.column != Column::Ended {
             return Err(Stop::Fault(Kind::NoEnd));
         }
-        self.keep_bid()?;
-        // One is due: the line began where one was.
-        self.due = self.due.saturating_sub(1);
-        self.column = Column::First;
-        Ok(())
+        self.put_bid()
+    }
+
+    /// The `#` of a bid where a good or `#` is due, and the end of its line behind it.
+    #[inline(always)]
+    pub fn close_bid(&mut self) -> Result<(), Stop>
+        ensures reads { Gives (progress self.new) result (bid_closed (progress self.old)) }
+        ensures memory { (progress self.old).stage ≡ Stage.Bid → AsksOnBidLines (progress self.old) result }
+    {
+        if self.goods.is_empty() {
+            return Err(Stop::Fault(Kind::EmptyBundle));
+        }
+        self.put_bid()
     }
 
     fn end_header_line(&mut self, next: Stage) -> Result<(), Stop>

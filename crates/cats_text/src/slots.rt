@@ -24,8 +24,8 @@ pub enum Front {
 }
 
 /// A bid with a vector of its own for its goods.
-fn new_bid(alloc: Global, draft: Draft, goods: &[u16]) -> Result<Bid, AllocError>
-    ensures { IfOk result (λ bid. plain_bid bid ≡ with_goods draft goods.now) }
+fn new_bid(alloc: Global, draft: &Draft, goods: &[u16]) -> Result<Bid, AllocError>
+    ensures { IfOk result (λ bid. plain_bid bid ≡ with_goods draft.now goods.now) }
 {
     Ok(Bid {
         price: draft.price,
@@ -38,11 +38,11 @@ fn new_bid(alloc: Global, draft: Draft, goods: &[u16]) -> Result<Bid, AllocError
 fn push_bid(
     bids: &mut Vec<Bid>,
     alloc: Global,
-    draft: Draft,
+    draft: &Draft,
     goods: &[u16],
     count: u32,
 ) -> Result<(), AllocError>
-    ensures { OnOk result (plain_bids bids.new.items ≡ plain_bids bids.old.items ++ with_goods draft goods.now ∷ []) }
+    ensures { OnOk result (plain_bids bids.new.items ≡ plain_bids bids.old.items ++ with_goods draft.now goods.now ∷ []) }
 {
     make_room(bids, count)?;
     let bid = new_bid(alloc, draft, goods)?;
@@ -73,8 +73,8 @@ impl Front {
     }
 
     /// What is kept of a bid behind an empty place.
-    fn kept(&self, alloc: Global, draft: Draft, goods: &[u16]) -> Result<Bid, AllocError>
-        ensures { IfOk result (λ bid. plain_bid bid ≡ kept_of (keeping_of self.now) (with_goods draft goods.now)) }
+    fn kept(&self, alloc: Global, draft: &Draft, goods: &[u16]) -> Result<Bid, AllocError>
+        ensures { IfOk result (λ bid. plain_bid bid ≡ kept_of (keeping_of self.now) (with_goods draft.now goods.now)) }
     {
         match self {
             Front::Numbers(_) => Ok(Bid {
@@ -111,12 +111,12 @@ impl Front {
     fn push(
         &mut self,
         alloc: Global,
-        draft: Draft,
+        draft: &Draft,
         goods: &[u16],
         count: u32,
     ) -> Result<(), AllocError>
         requires { length (front_bids self.old) < 2 ^ 32 }
-        ensures bids { let bid = kept_of (keeping_of self.old) (with_goods draft goods.now) in
+        ensures bids { let bid = kept_of (keeping_of self.old) (with_goods draft.now goods.now) in
             OnOk result (front_bids self.new ≡ front_bids self.old ++ bid ∷ []) }
         ensures keeping { OnOk result (keeping_of self.new ≡ keeping_of self.old) }
     {
@@ -212,12 +212,12 @@ impl Slots {
     pub fn put(
         &mut self,
         alloc: Global,
-        draft: Draft,
+        draft: &Draft,
         goods: &[u16],
         count: u32,
     ) -> Result<(), AllocError>
-        ensures slots { let bid = kept_of (keeping_of self.old.front) (with_goods draft goods.now) in
-            OnOk result (slot_list self.new ≡ put_slot (slot_list self.old) draft.number bid) }
+        ensures slots { let bid = kept_of (keeping_of self.old.front) (with_goods draft.now goods.now) in
+            OnOk result (slot_list self.new ≡ put_slot (slot_list self.old) draft.now.number bid) }
         ensures keeping { OnOk result (keeping_of self.new.front ≡ keeping_of self.old.front) }
     {
         let place = draft.number as usize;

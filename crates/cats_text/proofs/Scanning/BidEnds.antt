@@ -1,13 +1,24 @@
 -- The `#` and the LF that end a bid line.
-use Rattle.std.proofs.Common.{◌≡◌, ◌≢◌, ℕ, ◌+◌, ◌<◌, ◌≤◌, Bool, true, false, cond, eqb, List, length, get_or, refl, sym, ap, subst, arith, Result, Ok, Err}
+use Rattle.std.proofs.Common.{◌≡◌, ◌≢◌, ℕ, ◌+◌, ◌<◌, ◌≤◌, Bool, true, false, cond, eqb, List, length, get_or, refl, sym, ap, ap₂, subst, ◌∙◌, arith, Result, Ok, Err, suc, add-one}
 use Rattle.std.proofs.lemmas.Bool.{eqb-true}
 use Rattle.cats_text.specs.Internal.Front.{IsFront}
-use Rattle.cats_text.specs.Internal.Scanning.{State, byte_step, AsksHere, ScansTo, Steps}
+use Rattle.cats_text.specs.Internal.Parsing.{word_read, line_read, end_read, bid_closed, with_bid, Reading}
+use Rattle.cats_text.specs.Internal.Progress.{Progress, Gives, AsksOnBidLines}
+use Rattle.cats_text.specs.Internal.Scanning.{State, byte_step, is_before_word, halt_of, IsGoodDue, ScansTo}
+use Rattle.cats_text.specs.declared.fault.Kind.{Kind}
+use Rattle.cats_text.specs.declared.fault.Kind.TheVariants.{EmptyBundle}
+use Rattle.cats_text.specs.declared.parser.Column.{Column}
+use Rattle.cats_text.specs.declared.parser.Column.TheVariants.{Later, Ended}
+use Rattle.cats_text.specs.declared.parser.Stage.{Stage}
+use Rattle.cats_text.specs.declared.parser.Stage.TheVariants.{Bid}
+use Rattle.cats_text.specs.declared.parser.Stop.{Stop}
+use Rattle.cats_text.specs.declared.parser.Stop.TheVariants.{Fault, Memory}
 use Rattle.cats_text.specs.declared.scanner.Halt.{Halt}
+use Rattle.cats_text.specs.declared.scanner.Mode.TheVariants.{Start}
 use Rattle.cats_text.specs.declared.word.Word.{Word}
-use Rattle.cats_text.proofs.Scanning.ManyBytes.{rest_is}
-use Rattle.cats_text.proofs.Scanning.Rests.{scan_byte_at, scanned_none}
-use Rattle.cats_text.proofs.Scanning.WholeWords.{byte_stops, scans_to}
+use Rattle.cats_text.specs.declared.word.Word.TheVariants.{End}
+use Rattle.cats_text.proofs.Scanning.Rests.{scan_byte_at}
+use Rattle.cats_text.proofs.Scanning.WholeWords.{behind_word, word_taken, word_halts}
 
 -- behind a word of one byte with no blank stands LF
 front_one : (bytes : List ℕ) (w : Word) → IsFront bytes w 1 → (1 < length bytes) × (get_or bytes 1 0 ≡ 10)
@@ -27,27 +38,56 @@ front_one bytes w front =
 no_return : (b : ℕ) → b ≡ 10 → b ≢ 13
 no_return b e q = omega arith
 
--- the word is read, and then LF
-pub end_scanned : (s t u : State) (v w : Bool) (bytes : List ℕ) (word : Word) (count : ℕ) → count ≡ 1 → IsFront bytes word 1 → ScansTo s t v bytes (Ok count)
-    → byte_step t 10 ≡ Ok u → w ≡ v → ScansTo s u w bytes (Ok (count + 1))
-end_scanned s t u v w bytes word count one front so_far step same =
-    let ends = front_one bytes word front in
-    let here : count < length bytes = subst (λ k. k < length bytes) (sym one) ends.0 in
-    let feed : get_or bytes count 0 ≡ 10 = subst (λ k. get_or bytes k 0 ≡ 10) (sym one) ends.1 in (
-      scan_byte_at s t u v w bytes count here (no_return (get_or bytes count 0) feed) so_far.0
-          (subst (λ b. byte_step t b ≡ Ok u) (sym feed) step) same,
-      omega (arith, here),
+-- ---- the parser
+
+abbrev ended : Progress → Progress
+ended p = record p { column = Ended }
+
+end_word : (p : Progress) → p.stage ≡ Bid → p.column ≡ Later → word_read p End ≡ end_read p
+end_word p stage column =
+    let is : p ≡ record p { stage = Bid; column = Later } = ap₂ (λ (s : Stage) (l : Column). record p { stage = s; column = l }) stage column in
+    ap (λ (q : Progress). word_read q End) is ∙ sym (ap end_read is)
+
+end_line : (p : Progress) → p.stage ≡ Bid → line_read (ended p) ≡ Ok (with_bid p)
+end_line p stage = let is : p ≡ record p { stage = Bid } = ap (λ (s : Stage). record p { stage = s }) stage in
+    ap (λ (q : Progress). line_read (ended q)) is ∙ sym (ap (λ (q : Progress). Ok (with_bid q)) is)
+
+-- of a bid with a good the `#` is read, and the bid is put
+put_by : (p q : Progress) (t : Bool) → cond t (Err EmptyBundle) (Ok (with_bid p)) ≡ Ok q → (cond t (Err EmptyBundle) (Ok (ended p)) ≡ Ok (ended p)) × (with_bid p ≡ q)
+put_by p q true h = cc
+put_by p q false h = (refl, cc)
+
+-- of one without a good it is not read
+stopped_by : (p : Progress) (kind : Kind) (t : Bool) → cond t (Err EmptyBundle) (Ok (with_bid p)) ≡ Err kind → cond t (Err EmptyBundle) (Ok (ended p)) ≡ Err kind
+stopped_by p kind true h = h
+stopped_by p kind false h = cc
+
+-- ---- the scanner
+
+pub end_passed : (s : State) (p : Progress) (v w : Bool) (bytes : List ℕ) → IsGoodDue s → IsFront bytes End 1 → bid_closed s.progress ≡ Ok p → v ≡ false → w ≡ v
+    → ScansTo s (record { mode = Start; line = s.line + 1; progress = p }) w bytes (Ok 2)
+end_passed s p v w bytes due front closed e same =
+    let before : is_before_word s.mode ≡ true = ap is_before_word due.mode in
+    let put = put_by s.progress p (eqb (length s.progress.goods) 0) closed in
+    let read : word_read s.progress End ≡ Ok (ended s.progress) = end_word s.progress due.stage due.column ∙ put.0 in
+    let hash : ScansTo s (behind_word s (ended s.progress)) v bytes (Ok 1) = word_taken s (ended s.progress) v bytes End 1 before front read refl e in
+    let ends = front_one bytes End front in
+    let line : byte_step (behind_word s (ended s.progress)) 10 ≡ Ok (record { mode = Start; line = s.line + 1; progress = p }) =
+    rw (end_line s.progress due.stage, put.1, add-one) refl in (
+      scan_byte_at s (behind_word s (ended s.progress)) (record { mode = Start; line = s.line + 1; progress = p }) v w bytes 1 ends.0
+          (no_return (get_or bytes 1 0) ends.1) hash.0
+          (subst (λ b. byte_step (behind_word s (ended s.progress)) b ≡ Ok (record { mode = Start; line = s.line + 1; progress = p })) (sym ends.1) line) same,
+      omega (arith, ends.0),
     )
 
--- or LF stops the scanner
-pub end_halts : (s t u x : State) (v w : Bool) (bytes : List ℕ) (word : Word) (count : ℕ) (halt : Halt) → count ≡ 1 → IsFront bytes word 1
-    → ScansTo s t v bytes (Ok count) → Steps {A = Unit {0}} u (Err halt) (byte_step t 10) → AsksHere {A = Unit {0}} t (Err halt) → ScansTo s x w bytes (Err halt)
-end_halts s t u x v w bytes word count halt one front so_far step asks =
-    let ends = front_one bytes word front in
-    let some : 0 < length bytes = omega (arith, ends.0) in
-    let here : 0 + count < length bytes = subst (λ k. 0 + k < length bytes) (sym one) ends.0 in
-    let feed : get_or bytes (0 + count) 0 ≡ 10 = subst (λ k. get_or bytes (0 + k) 0 ≡ 10) (sym one) ends.1 in
-    let stops = byte_stops s s t u false v bytes 0 count halt some (scanned_none s false bytes refl)
-    (subst (λ ds. ScansTo s t v ds (Ok count)) (sym (rest_is bytes 0)) so_far) here (no_return (get_or bytes (0 + count) 0) feed)
-    (subst (λ b. Steps {A = Unit {0}} u (Err halt) (byte_step t b)) (sym feed) step) asks in
-    scans_to s u x w bytes halt stops.0 stops.1
+gives_end : (s : State) (u : Progress) (stop : Stop) → IsGoodDue s → Gives {A = Unit {0}} u (Err stop) (bid_closed s.progress)
+    → Gives {A = Unit {0}} u (Err stop) (word_read s.progress End)
+gives_end s u (Fault kind) due read = end_word s.progress due.stage due.column ∙ stopped_by s.progress kind (eqb (length s.progress.goods) 0) read
+gives_end s u Memory due read = tt
+
+-- or the parser stops
+pub end_halts : (s t : State) (u : Progress) (v : Bool) (bytes : List ℕ) (stop : Stop) (halt : Halt) → IsGoodDue s → IsFront bytes End 1
+    → Gives {A = Unit {0}} u (Err stop) (bid_closed s.progress) → AsksOnBidLines {A = Unit {0}} s.progress (Err stop)
+    → halt ≡ halt_of s.line stop → ScansTo s t v bytes (Err halt)
+end_halts s t u v bytes stop halt due front read asks e =
+    word_halts s t u v bytes End 1 stop halt (ap is_before_word due.mode) front (gives_end s u stop due read) asks e

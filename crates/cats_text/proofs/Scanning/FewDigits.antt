@@ -1,5 +1,5 @@
 -- The digits in front of bytes and the number that they spell, where they are few.
-use Rattle.std.proofs.Common.{◌≡◌, ℕ, suc, ◌+◌, ◌-◌, ◌*◌, ◌%◌, ◌^◌, ◌<◌, ◌≤◌, min, true, false, cond, List, [], ◌∷◌, length, take, drop, slice_range, fold}
+use Rattle.std.proofs.Common.{◌≡◌, ℕ, suc, ◌+◌, ◌-◌, ◌*◌, ◌%◌, ◌^◌, ◌<◌, ◌≤◌, min, true, false, cond, List, [], ◌∷◌, length, take, drop, slice_range, fold, Option, Some, None, IfSome}
 use Rattle.std.proofs.Common.{refl, sym, ap, ◌∙◌, subst, arith, lt_of_lt_of_le}
 use Rattle.std.proofs.Math.Nat.{pow-suc, pow-le-pow_right, mod-eq_of_lt}
 use Rattle.std.proofs.lemmas.Bool.{and_parts, and_from, lt-ltb}
@@ -13,7 +13,8 @@ use Rattle.cats_text.specs.Internal.Machine.{word_with}
 use Rattle.cats_text.specs.declared.word.Word.TheVariants.{Number}
 use Rattle.cats_text.specs.declared.word.TheConstants.{HELD}
 use Rattle.cats_text.proofs.Words.Places.{digit_bounds}
-use Rattle.cats_text.proofs.Scanning.ManyBytes.{IsNumberSoFar, number_with}
+use Rattle.cats_text.specs.Internal.Front.{IsNumberSoFar}
+use Rattle.cats_text.proofs.Scanning.ManyBytes.{number_with}
 
 digits_in_front : (bs : List ℕ) → digits_alone (take (digits_len bs) bs) ≡ true
 digits_in_front [] = refl
@@ -61,6 +62,12 @@ eight_read bytes count value few is worth =
     let short : digits_len (take 8 bytes) < 8 = omega (arith, is) in
     few_spelt bytes count value (digits_len_short bytes 8 short ∙ sym is) (omega arith)
     (worth ∙ ap (λ ds. digits_value 10 ds) (take-take count 8 bytes (omega arith)))
+
+-- (if they were read)
+pub if_eight_read : (bytes : List ℕ) (r : Option (ℕ × ℕ)) → IfSome r (λ r. r.1 < 8) → IfSome r (λ r. r.1 ≡ digits_len (take 8 bytes))
+    → IfSome r (λ r. r.0 ≡ digits_value 10 (take r.1 (take 8 bytes))) → IfSome r (λ r. IsNumberSoFar 0 bytes r.1 r.0)
+if_eight_read bytes None few is worth = tt
+if_eight_read bytes (Some r) few is worth = eight_read bytes r.1 r.0 few is worth
 
 -- or where the digits were read as one number of 64 bits
 pub few_read : (bytes : List ℕ) (count value : ℕ) → count ≡ 0 + digits_len (drop 0 bytes) → count ≤ 13

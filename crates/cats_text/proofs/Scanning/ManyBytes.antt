@@ -20,15 +20,11 @@ use Rattle.cats_text.proofs.Scanning.Appends.{meets_behind}
 use Rattle.cats_text.proofs.Scanning.Lines.{IsNoEnd, standing, scan-append, in_comment, byte_letter}
 use Rattle.cats_text.specs.Numbers.{is_digit, digits_alone}
 use Rattle.cats_text.specs.Internal.Machine.{word_from, word_with, decimal_with, summary}
-use Rattle.cats_text.specs.Internal.Front.{IsPlain, IsKept}
+use Rattle.cats_text.specs.Internal.Front.{IsPlain, IsKept, IsNumberSoFar}
 use Rattle.cats_text.specs.declared.word.Word.{Word}
 use Rattle.cats_text.specs.declared.word.Word.TheVariants.{Number, Decimal as Fraction}
 use Rattle.cats_text.specs.declared.price.Decimal.{Decimal}
 use Rattle.cats_text.specs.declared.word.TheConstants.{HELD}
-
-pub record IsNumberSoFar (first : ℕ) (bytes : List ℕ) (count sum : ℕ) : Type 0 where
-  pub digits : digits_alone (take count bytes) ≡ true
-  pub value : Number sum ≡ fold word_with (Number first) (take count bytes)
 
 take_push : (bytes : List ℕ) (i : ℕ) → i < length bytes → take (i + 1) bytes ≡ take i bytes ++ get_or bytes i 0 ∷ []
 take_push bytes i l = rw add-one (take-suc bytes i 0 l)

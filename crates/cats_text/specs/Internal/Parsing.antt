@@ -183,6 +183,10 @@ bid_read p = elim p.column [
   | Ended ↦ Ok (with_bid p)
 ]
 
+-- `#` where a good or `#` is due, and the end of the line behind it
+abbrev pub bid_closed : Progress → Reading
+bid_closed p = if length p.goods == 0 then Err kinds.EmptyBundle else Ok (with_bid p)
+
 abbrev pub line_read : Progress → Reading
 line_read p = elim p.stage [
   | Goods ↦ header_line_read p Bids

@@ -1,4 +1,4 @@
-use Rattle.cats_text.proofs.Scanning.ManyBytes.{IsNumberSoFar}
+use Rattle.cats_text.specs.Internal.Front.{IsNumberSoFar}
 use Rattle.cats_text.proofs.front.with_digits.Given as goal
 
 abbrev pub invariant-loop-count : goal.invariant-loop-count

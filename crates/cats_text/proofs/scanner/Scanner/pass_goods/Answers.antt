@@ -1,4 +1,4 @@
-use Rattle.std.proofs.Common.{◌∙◌, sym}
+use Rattle.std.proofs.Common.{◌∙◌}
 use Rattle.cats_text.specs.Internal.Scanning.{state_in, ScansTo}
 use Rattle.cats_text.specs.declared.scanner.Mode.TheVariants.{Between}
 use Rattle.cats_text.proofs.Scanning.WholeWords.{rest_then, rest_stops_to, residual_is}
@@ -15,7 +15,6 @@ loop-good-preserved c =
       due = c.pass_good.ensures.due;
       within = next.1;
       mode = c.pass_good.ensures.mode ∙ c.loop-good.invariant.mode;
-      stage = c.pass_good.ensures.due.stage ∙ sym c.loop-good.invariant.due.stage ∙ c.loop-good.invariant.stage;
       line = c.pass_good.ensures.line ∙ c.loop-good.invariant.line;
       waits = c.pass_good.ensures.waiting ∙ c.loop-good.invariant.waits;
     }

@@ -9,7 +9,6 @@ invariant-loop-good l = record {
   due : IsGoodDue (state_in Between l.self);
   within : l.place ≤ length l.bytes;
   mode : l.self.mode ≡ l.fn.self.mode;
-  stage : l.self.parser.stage ≡ l.fn.self.parser.stage;
   line : l.self.line ≡ l.fn.self.line;
   waits : l.self.waiting ≡ false;
 }

@@ -27,6 +27,13 @@ returns-in_err-place-2-clause-scanned c =
     (λ r. ScansTo (state c.args.self.now) (state c.pass_word-2.new.self) c.pass_word-2.new.self.waiting c.args.bytes.now r)
     c.from_residual-in_err-place-2.ensures.0 c.from_residual-in_err-place-2.ensures.1 stop
 
+pub returns-then-not-takes_goods-clause-scanned : goal.returns-then-not-takes_goods-clause-scanned
+returns-then-not-takes_goods-clause-scanned c =
+    let number = c.in_ok-place.ensures.scanned c.args.self.now.mode c.args.bytes.now (ap is_before_word c.requires.start) c.in-Some.ensures in
+    rest_then (state c.args.self.now) (state_in Between c.pass_word.new.self) (state_in Between c.pass_word-2.new.self)
+    c.pass_word.new.self.waiting c.pass_word-2.new.self.waiting c.args.bytes.now c.in_ok-place.place c.in_ok-place-2.field-0
+    number.1 (λ q. c.pass_word-2.ensures.waiting) number.0 (c.in_ok-place-2.ensures.scanned Between _ refl c.in-Some-front.ensures)
+
 pub returns-then-not-ends_bid-clause-scanned : goal.returns-then-not-ends_bid-clause-scanned
 returns-then-not-ends_bid-clause-scanned c =
     let number = c.in_ok-place.ensures.scanned c.args.self.now.mode c.args.bytes.now (ap is_before_word c.requires.start) c.in-Some.ensures in

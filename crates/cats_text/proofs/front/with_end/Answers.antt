@@ -2,7 +2,7 @@ use Rattle.std.proofs.Common.{◌<◌, ◌≡◌, length, get_or, true, rules, a
 use Rattle.std.proofs.lemmas.Grind.{common_steps}
 use Rattle.cats_text.specs.Lines.{is_blank}
 use Rattle.cats_text.proofs.Scanning.Fronts.{front_blank, front_feed}
-use Rattle.cats_text.proofs.front.front.Goals as goal
+use Rattle.cats_text.proofs.front.with_end.Goals as goal
 
 pub returns-in-32 : goal.returns-in-32
 returns-in-32 c =

@@ -1,11 +1,10 @@
 -- What is kept of the bid stands at its number, and its goods are gone.
-use Rattle.std.proofs.Common.{◌≡◌, ◌∙◌, ℕ, ◌-◌, [], Ok, sym, ap, rules}
+use Rattle.std.proofs.Common.{◌≡◌, ◌∙◌, ℕ, ◌-◌, [], Ok, sym, ap}
 use Rattle.cats_text.specs.FileLines.{put_slot}
 use Rattle.cats_text.specs.Internal.Parsing.{drafted, kept_of}
 use Rattle.cats_text.specs.Internal.Progress.{Progress, progress}
-use Rattle.cats_text.specs.declared.parser.Column.TheVariants.{First, Ended}
-use Rattle.cats_text.proofs.Parsing.EndedBids.{bid_read-ended}
-use Rattle.cats_text.proofs.parser.Parser.end_bid.Goals as goal
+use Rattle.cats_text.specs.declared.parser.Column.TheVariants.{First}
+use Rattle.cats_text.proofs.parser.Parser.put_bid.Goals as goal
 
 pub returns-clause-reads : goal.returns-clause-reads
 returns-clause-reads c =
@@ -14,9 +13,7 @@ returns-clause-reads c =
       slots = put_slot before.slots before.draft.number (kept_of before.keeping (drafted before));
       goods = [];
     } in
-    let ended : c.args.self.now.column ≡ Ended = search rules in
     let now : progress c.keep_bid.new.self ≡ kept = c.in_ok-keep_bid.ensures in
     let due : c.saturating_sub-self.result ≡ before.due - 1 = c.saturating_sub-self.ensures ∙ ap (λ (p : Progress). p.due - 1) now in
     let made : Progress → ℕ → Progress = λ p d. record p { column = First; due = d } in
-    bid_read-ended before ended
-    ∙ ap Ok (ap (λ (d : ℕ). made kept d) (sym due) ∙ ap (λ (p : Progress). made p c.saturating_sub-self.result) (sym now))
+    ap Ok (ap (λ (d : ℕ). made kept d) (sym due) ∙ ap (λ (p : Progress). made p c.saturating_sub-self.result) (sym now))
