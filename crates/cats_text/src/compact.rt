@@ -1,6 +1,8 @@
 //! Bids, and a bid file, in little memory.
 
-ghost use Rattle.std.specs.Prelude.{◌≡◌, ◌↔◌, ◌<◌, [], ◌∷◌, ◌++◌, length, set, slice_get, Some, OnOk, OnErr, IfOk};
+ghost use Rattle.std.specs.Prelude.{
+  ◌≡◌, ◌↔◌, ◌+◌, ◌<◌, ◌≤◌, [], ◌∷◌, ◌++◌, length, set, slice_get, vec_len, vec_capacity, Some, OnOk, OnErr, IfOk,
+};
 ghost use Rattle.std.specs.Prelude.{IsTrue};
 ghost use Rattle.cats_text.specs.Files.{PlainBid, IsBidFile};
 ghost use Rattle.cats_text.specs.Views.{plain_file};
@@ -38,6 +40,48 @@ impl Model for CompactBids {
     ghost invariant = { λ b. AreHeld (length b.goods.items) b.offers.items };
 }
 
+/// So few goods are put one by one, which takes less time than to copy their memory.
+const FEW: usize = 16;
+
+/// Puts goods behind the others, where there is room for them.
+#[inline(always)]
+fn push_each(all: &mut Vec<u16>, goods: &[u16])
+    requires { vec_len all.old + length goods.now ≤ vec_capacity all.old }
+    ensures { all.new.items ≡ all.old.items ++ goods.now }
+{
+    for good in goods {
+        all.push_reserved(*good);
+    }
+}
+
+/// Puts goods behind the others.
+#[inline(always)]
+fn push_goods(all: &mut Vec<u16>, goods: &[u16]) -> Result<(), AllocError>
+    ensures goods { OnOk result (all.new.items ≡ all.old.items ++ goods.now) }
+    ensures same { OnErr result (all.new.items ≡ all.old.items) }
+{
+    if goods.len() <= FEW && all.len() + goods.len() <= all.capacity() {
+        push_each(all, goods);
+        return Ok(());
+    }
+    all.extend_from_slice(goods)?;
+    Ok(())
+}
+
+/// Puts an offer behind the others.
+#[inline(always)]
+fn push_offer(offers: &mut Vec<Offer>, offer: Offer) -> Result<(), AllocError>
+    ensures offers { OnOk result (offers.new.items ≡ offers.old.items ++ offer ∷ []) }
+    ensures same { OnErr result (offers.new.items ≡ offers.old.items) }
+{
+    if offers.len() < offers.capacity() {
+        offers.push_reserved(offer);
+        return Ok(());
+    }
+    offers.push(offer)?;
+    Ok(())
+}
+
 /// Puts goods behind the others, and tells from where to where they stand. Memory is refused too where there would be
 /// 2 to the power 32 goods, as no file has.
 #[inline(always)]
@@ -52,7 +96,7 @@ fn append(all: &mut Vec<u16>, goods: &[u16]) -> Result<(u32, u32), AllocError>
     if end > u32::MAX as usize {
         return Err(AllocError);
     }
-    all.extend_from_slice(goods)?;
+    push_goods(all, goods)?;
     Ok((start as u32, end as u32))
 }
 
@@ -100,12 +144,13 @@ impl CompactBids {
     {
         make_room(&mut self.offers, count)?;
         let (start, end) = append(&mut self.goods, goods)?;
-        self.offers.push(Offer {
+        let offer = Offer {
             price,
             start,
             end,
             dummy,
-        })?;
+        };
+        push_offer(&mut self.offers, offer)?;
         Ok(())
     }
 
