@@ -1,7 +1,23 @@
 //! Bids, and a bid file, in little memory.
 
 ghost use Rattle.std.specs.Prelude.{
-  ◌≡◌, ◌↔◌, ◌+◌, ◌<◌, ◌≤◌, [], ◌∷◌, ◌++◌, length, set, slice_get, vec_len, vec_capacity, Some, OnOk, OnErr, IfOk,
+  ◌≡◌,
+  ◌↔◌,
+  ◌+◌,
+  ◌<◌,
+  ◌≤◌,
+  [],
+  ◌∷◌,
+  ◌++◌,
+  length,
+  set,
+  slice_get,
+  vec_len,
+  vec_capacity,
+  Some,
+  OnOk,
+  OnErr,
+  IfOk,
 };
 ghost use Rattle.std.specs.Prelude.{IsTrue};
 ghost use Rattle.cats_text.specs.Files.{PlainBid, IsBidFile};
