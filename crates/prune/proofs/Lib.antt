@@ -5,6 +5,7 @@ pub mod ListedAtoms
 pub mod SharedGoods
 pub mod ByPlaces
 pub mod Results
+pub mod InFront
 pub mod PruningLoop
 pub mod ReachingLevels
 pub mod ReachingLevelsOfCode

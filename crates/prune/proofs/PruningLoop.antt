@@ -1,11 +1,11 @@
 -- The turns of a pruning's loop, by what the code knows of its variables: each is one of proofs/Results, once the code's lists are seen
 -- by the goods of their sets.
 use Rattle.std.proofs.Common.{◌≡◌, ℕ, zero, suc, ◌+◌, ◌<◌, ◌≤◌, Bool, true, false, ◌||◌, leb, ⊎_elim, List, [], ◌∷◌, ◌++◌, length, map, take, drop, max, get_or}
-use Rattle.std.proofs.Common.{sym, ap, ap₂, ◌∙◌, subst, arith, append_assoc, append-nil, Bor, ltb, None}
+use Rattle.std.proofs.Common.{sym, ap, ap₂, ◌∙◌, subst, arith, Bor, ltb, None}
 use Rattle.std.specs.Prelude.{All, Contains}
 use Rattle.std.specs.List.{filter, list_any}
 use Rattle.std.proofs.lemmas.Bool.{cases_lt, le-leb, lt-leb, and_parts, ltb-true}
-use Rattle.std.proofs.lemmas.List.{map-append, drop_more, take_all, take_more, take-append-drop, take-map}
+use Rattle.std.proofs.lemmas.List.{map-append, map_push, drop_more, take_all, take_more, take-append-drop, take-map}
 use Rattle.std.proofs.lemmas.List.Elements.{All-nil, All-cons, All-head, All-tail, All-contains, All-filter, All-weaker, Contains-append_left, filter_passes}
 use Rattle.goods_set.specs.Bundles.{IsRising, is_inside, IsInside}
 use Rattle.valuation.specs.declared.atom.Atom.{Atom}
@@ -24,6 +24,7 @@ use Rattle.prune.specs.Internal.BestBids.{AreBestBids}
 use Rattle.prune.proofs.Pruning.{HasRisingBundle, IsKept-none}
 use Rattle.prune.proofs.Results.{IsTurn, IsXorKept, IsOrKept, AreXorPoints, AreOrPoints, turn_positive, xor_done, xor_missed, xor_more, xor_fewer, or_done}
 use Rattle.prune.proofs.Results.{Within, none_heavy}
+use Rattle.prune.proofs.InFront.{IsLeft, next_parts, next_taken}
 
 -- ---- atoms of the code
 
@@ -33,38 +34,46 @@ module _ {S : Type 0} (goods : S → List ℕ) (rising : (s : S) → IsRising (g
   all_rising (a ∷ rest) = All-cons HasRisingBundle (plain_atom goods a) (atoms_of goods rest) (rising a.bundle) (all_rising rest)
 
   -- the next bid
-  pub next_turn : (bids : List (Atom (List ℕ))) (yielded all rest : List (Atom S)) (bid : Atom S) → AreBestBids bids (atoms_of goods (yielded ++ all))
-      → all ≡ bid ∷ rest → IsTurn bids (atoms_of goods yielded) (plain_atom goods bid) (atoms_of goods rest)
-  next_turn bids yielded all rest bid b e =
-      let parts : atoms_of goods (yielded ++ all) ≡ atoms_of goods yielded ++ plain_atom goods bid ∷ atoms_of goods rest =
-      ap (λ (zs : List (Atom S)). atoms_of goods (yielded ++ zs)) e ∙ map-append (plain_atom goods) yielded (bid ∷ rest) in
+  pub next_turn : (bids : List (Atom (List ℕ))) (best now : List (Atom S)) (place : ℕ) (bid : Atom S) → AreBestBids bids (atoms_of goods best)
+      → IsLeft best now place → place < length now → bid ≡ get_or now place bid
+      → IsTurn bids (atoms_of goods (take place best)) (plain_atom goods bid) (atoms_of goods (drop (place + 1) best))
+  next_turn bids best now place bid b h l is =
+      let parts : atoms_of goods best ≡ atoms_of goods (take place best) ++ plain_atom goods bid ∷ atoms_of goods (drop (place + 1) best) =
+      ap (atoms_of goods) (next_parts best now place bid h l is) ∙ map-append (plain_atom goods) (take place best) (bid ∷ drop (place + 1) best) in
       record {
         best = subst (λ (zs : List (Atom (List ℕ))). AreBestBids bids zs) parts b;
-        rising = subst (λ (zs : List (Atom (List ℕ))). All HasRisingBundle zs) parts (all_rising (yielded ++ all));
+        rising = subst (λ (zs : List (Atom (List ℕ))). All HasRisingBundle zs) parts (all_rising best);
       }
 
-pub taken : {X : Type 0} (yielded all rest : List X) (x : X) → all ≡ x ∷ rest → yielded ++ all ≡ (yielded ++ x ∷ []) ++ rest
-taken {X} yielded all rest x e = ap (λ (zs : List X). yielded ++ zs) e ∙ sym (append_assoc yielded (x ∷ []) rest)
+-- the next bid is done
+pub one_done : {S : Type 0} (goods : S → List ℕ) (best now : List (Atom S)) (place : ℕ) (bid : Atom S) → IsLeft best now place → place < length now
+    → bid ≡ get_or now place bid → atoms_of goods (take (place + 1) best) ≡ atoms_of goods (take place best) ++ plain_atom goods bid ∷ []
+one_done goods best now place bid h l is =
+    ap (atoms_of goods) (next_taken best now place bid h l is) ∙ map_push (plain_atom goods) (take place best) bid
 
--- no bid is left
-pub none_left : {X : Type 0} (yielded all : List X) → all ≡ [] → yielded ++ all ≡ yielded
-none_left {X} yielded all e = ap (λ (zs : List X). yielded ++ zs) e ∙ append-nil yielded
+-- and it is kept
+pub one_kept : {S : Type 0} (goods : S → List ℕ) (now after : List (Atom S)) (kept place : ℕ) (bid : Atom S) → bid ≡ get_or now place bid
+    → ((d : Atom S) → take (kept + 1) after ≡ take kept now ++ get_or now place d ∷ [])
+    → atoms_of goods (take (kept + 1) after) ≡ atoms_of goods (take kept now) ++ plain_atom goods bid ∷ []
+one_kept {S} goods now after kept place bid is e =
+    ap (atoms_of goods) (e bid) ∙ map_push (plain_atom goods) (take kept now) (get_or now place bid)
+    ∙ ap (λ (a : Atom S). atoms_of goods (take kept now) ++ plain_atom goods a ∷ []) (sym is)
 
 -- ---- the loop's end
 
-pub xor_end : {S : Type 0} (goods : S → List ℕ) (bids : List (Atom (List ℕ))) (yielded all kept result : List (Atom S))
-    → AreBestBids bids (atoms_of goods (yielded ++ all)) → IsXorKept (atoms_of goods yielded) (atoms_of goods kept) → all ≡ [] → result ≡ kept
+pub xor_end : {S : Type 0} (goods : S → List ℕ) (bids : List (Atom (List ℕ))) (best kept result : List (Atom S)) (place : ℕ)
+    → AreBestBids bids (atoms_of goods best) → IsXorKept (atoms_of goods (take place best)) (atoms_of goods kept) → length best ≤ place → result ≡ kept
     → AreXorPoints bids (atoms_of goods result)
-xor_end {S} goods bids yielded all kept result b k none e =
-    let best = subst (λ (zs : List (Atom S)). AreBestBids bids (atoms_of goods zs)) (none_left yielded all none) b in
-    rw e (xor_done bids (atoms_of goods yielded) (atoms_of goods kept) best k)
+xor_end {S} goods bids best kept result place b k l e =
+    let all = subst (λ (zs : List (Atom S)). IsXorKept (atoms_of goods zs) (atoms_of goods kept)) (take_all place best l) k in
+    rw e (xor_done bids (atoms_of goods best) (atoms_of goods kept) b all)
 
-pub or_end : {S : Type 0} (goods : S → List ℕ) (bids : List (Atom (List ℕ))) (yielded all kept result : List (Atom S)) → All (λ a. 0 < length a.bundle) bids
-    → AreBestBids bids (atoms_of goods (yielded ++ all)) → IsOrKept (atoms_of goods yielded) (atoms_of goods kept) → all ≡ [] → result ≡ kept
-    → AreOrPoints bids (atoms_of goods result)
-or_end {S} goods bids yielded all kept result some b k none e =
-    let best = subst (λ (zs : List (Atom S)). AreBestBids bids (atoms_of goods zs)) (none_left yielded all none) b in
-    rw e (or_done bids (atoms_of goods yielded) (atoms_of goods kept) some best k)
+pub or_end : {S : Type 0} (goods : S → List ℕ) (bids : List (Atom (List ℕ))) (best kept result : List (Atom S)) (place : ℕ)
+    → All (λ a. 0 < length a.bundle) bids → AreBestBids bids (atoms_of goods best)
+    → IsOrKept (atoms_of goods (take place best)) (atoms_of goods kept) → length best ≤ place → result ≡ kept → AreOrPoints bids (atoms_of goods result)
+or_end {S} goods bids best kept result place some b k l e =
+    let all = subst (λ (zs : List (Atom S)). IsOrKept (atoms_of goods zs) (atoms_of goods kept)) (take_all place best l) k in
+    rw e (or_done bids (atoms_of goods best) (atoms_of goods kept) some b all)
 
 -- ---- an atom of a list of atoms inside a bundle has a price
 
@@ -111,16 +120,17 @@ pub too_low : {S : Type 0} (goods : S → List ℕ) (inside seen : List (Bor (At
 too_low {S} goods inside seen bundle price kept d e l =
     subst (λ (xs : List (Atom (List ℕ))). price_sum xs < price) (ap (λ (zs : List (Bor (Atom S))). atoms_of goods (map (λ a. a.now) zs)) d ∙ e) l
 
-pub kept_nonempty : {S : Type 0} (goods : S → List ℕ) (n : ℕ) (bids : List (Atom (List ℕ))) (yielded all kept : List (Atom S))
-    → AreBestBids bids (atoms_of goods (yielded ++ all)) → All (IsAtom n) bids → All (Contains (atoms_of goods yielded)) (atoms_of goods kept)
+pub kept_nonempty : {S : Type 0} (goods : S → List ℕ) (n : ℕ) (bids : List (Atom (List ℕ))) (best kept : List (Atom S)) (place : ℕ)
+    → AreBestBids bids (atoms_of goods best) → All (IsAtom n) bids → All (Contains (atoms_of goods (take place best))) (atoms_of goods kept)
     → All (λ a. 0 < length a.bundle) (atoms_of goods kept)
-kept_nonempty {S} goods n bids yielded all kept b are among =
-    All-weaker (Contains (atoms_of goods yielded)) (λ a. 0 < length a.bundle)
+kept_nonempty {S} goods n bids best kept place b are among =
+    let parts : atoms_of goods (take place best) ++ atoms_of goods (drop place best) ≡ atoms_of goods best =
+    sym (map-append (plain_atom goods) (take place best) (drop place best)) ∙ ap (atoms_of goods) (take-append-drop place best) in
+    All-weaker (Contains (atoms_of goods (take place best))) (λ a. 0 < length a.bundle)
     (λ a c.
-    let there : Contains (atoms_of goods (yielded ++ all)) a =
-    subst (λ (zs : List (Atom (List ℕ))). Contains zs a) (sym (map-append (plain_atom goods) yielded all))
-    (Contains-append_left (atoms_of goods yielded) (atoms_of goods all) a c) in
-    (All-contains (IsAtom n) bids a are (All-contains (Contains bids) (atoms_of goods (yielded ++ all)) a b.among there)).nonempty)
+    let there : Contains (atoms_of goods best) a = subst (λ (zs : List (Atom (List ℕ))). Contains zs a) parts
+    (Contains-append_left (atoms_of goods (take place best)) (atoms_of goods (drop place best)) a c) in
+    (All-contains (IsAtom n) bids a are (All-contains (Contains bids) (atoms_of goods best) a b.among there)).nonempty)
     (atoms_of goods kept) among
 
 pub all_some : (n : ℕ) (bids : List (Atom (List ℕ))) → All (IsAtom n) bids → All (λ a. 0 < length a.bundle) bids
@@ -172,12 +182,14 @@ xor_uncovered goods rising bids atoms b free =
     xor_done bids best best b (rw whole at (first_uncovered bids best b (all_rising goods rising atoms) free (length best) (omega arith)))
 
 -- nothing is heavy, and the first heavy bundle
-pub none_heavy_end : {S : Type 0} (goods : S → List ℕ) (n limit : ℕ) (bids : List (Atom (List ℕ))) (yielded all kept : List (Atom S)) → All (IsOnBundle n) bids
-    → AreBestBids bids (atoms_of goods (yielded ++ all)) → IsOrKept (atoms_of goods yielded) (atoms_of goods kept)
-    → Within limit (atoms_of goods kept) (atoms_of goods yielded) → all ≡ [] → first_heavy n limit bids ≡ None
-none_heavy_end {S} goods n limit bids yielded all kept on b k w none =
-    none_heavy n limit bids (atoms_of goods yielded) (atoms_of goods kept) on (subst (λ (zs : List (Atom S)). AreBestBids bids (atoms_of goods zs))
-    (none_left yielded all none) b) k w
+pub none_heavy_end : {S : Type 0} (goods : S → List ℕ) (n limit : ℕ) (bids : List (Atom (List ℕ))) (best kept : List (Atom S)) (place : ℕ)
+    → All (IsOnBundle n) bids → AreBestBids bids (atoms_of goods best) → IsOrKept (atoms_of goods (take place best)) (atoms_of goods kept)
+    → Within limit (atoms_of goods kept) (atoms_of goods (take place best)) → length best ≤ place → first_heavy n limit bids ≡ None
+none_heavy_end {S} goods n limit bids best kept place on b k w l =
+    let all = take_all place best l in
+    none_heavy n limit bids (atoms_of goods best) (atoms_of goods kept) on b
+    (subst (λ (zs : List (Atom S)). IsOrKept (atoms_of goods zs) (atoms_of goods kept)) all k)
+    (subst (λ (zs : List (Atom S)). Within limit (atoms_of goods kept) (atoms_of goods zs)) all w)
 
 -- a heavy bundle has more packings by all bids than the limit
 pub heavy_load : (n limit : ℕ) (bids : List (Atom (List ℕ))) (bundle : List ℕ) → All (IsOnBundle n) bids → is_heavy n limit bids bundle ≡ true

@@ -1,7 +1,6 @@
-//! The atoms that a pruning keeps, found by their goods.
+//! Where the atoms that a pruning keeps are listed, so that they are found by their goods.
 ghost use Rattle.std.specs.Prelude.{
   ◌≡◌,
-  ℕ,
   List,
   ◌+◌,
   ◌<◌,
@@ -11,12 +10,10 @@ ghost use Rattle.std.specs.Prelude.{
   false,
   map,
   length,
-  vec_len,
   All,
   IfOk,
   OnOk,
   [],
-  ◌∷◌,
   ◌++◌,
 };
 ghost use Rattle.std.specs.Bool.{OnTrue};
@@ -46,76 +43,82 @@ use goods_set::{GoodsSet, rising_goods};
 use std::alloc::{AllocError, Global};
 use valuation::Atom;
 
-/// Atoms, each listed at one of its goods, so that those inside a bundle are found through the bundle's goods. They come
-/// in order, and so the smaller bundles first: an atom is listed once a larger bundle comes, since none of its own size
-/// is inside another.
+/// Where atoms are listed, each at one of its goods, so that those inside a bundle are found through the bundle's
+/// goods. The atoms themselves are given with each call: those kept so far, in order, and so the smaller bundles first.
+/// An atom is listed once a larger bundle comes, since none of its own size is inside another.
 #[derive(Drop)]
-pub struct Kept<S> {
-    /// The atoms, in the order in which they came.
-    pub atoms: Vec<Atom<S>>,
-    /// How many of them, from the first on, are listed.
+pub struct KeptIndex {
+    /// How many of the atoms, from the first on, are listed.
     listed: usize,
     /// For each good the atoms that are listed there.
     lists: Vec<Vec<Listing>>,
-    /// How common goods are among all atoms that come.
+    /// How common goods are among all atoms that may be kept.
     commonness: Commonness,
 }
 
-impl<S: GoodsSet> Kept<S> {
-    /// None of these atoms, with room for them.
-    pub fn none_of(alloc: Global, atoms: &[Atom<S>]) -> Result<Kept<S>, AllocError>
-        ensures atoms { IfOk result (λ kept. kept.atoms.items ≡ []) }
-        ensures listed { IfOk result
-            (λ kept. AreListed (lists_of kept.lists.items) kept.listed (atoms_of S.goods kept.atoms.items)) }
+/// Whether the atom that is listed at a good is inside the bundle.
+#[inline(always)]
+fn is_inside<S: GoodsSet>(kept: &[Atom<S>], listing: &Listing, bundle: &S, sought: Sought) -> bool
+    requires { IsAsked (atoms_of S.goods kept.now) listing.now (S.goods bundle.now) sought }
+    ensures { result ≡ is_inside_at (atoms_of S.goods kept.now) (S.goods bundle.now) listing.now.place }
+{
+    if !listing.may_be_inside(sought) {
+        return false;
+    }
+    kept[listing.place as usize].bundle.is_inside(bundle)
+}
+
+/// Whether the atom that is listed at a good is inside the bundle and has at least the price. The price is compared
+/// late, since it says nothing of the next one's, and what says mostly the same costs less.
+#[inline(always)]
+fn is_covering<S: GoodsSet>(
+    kept: &[Atom<S>],
+    listing: &Listing,
+    bundle: &S,
+    sought: Sought,
+    price: u64,
+) -> bool
+    requires { IsAsked (atoms_of S.goods kept.now) listing.now (S.goods bundle.now) sought }
+    ensures { result ≡ covers_at (atoms_of S.goods kept.now) (S.goods bundle.now) price listing.now.place }
+{
+    if !listing.may_be_inside(sought) {
+        return false;
+    }
+    let atom = &kept[listing.place as usize];
+    price <= atom.price && atom.bundle.is_inside(bundle)
+}
+
+impl KeptIndex {
+    /// The index of those of these atoms that will be kept. None is kept so far.
+    pub fn of<S: GoodsSet>(alloc: Global, atoms: &[Atom<S>]) -> Result<KeptIndex, AllocError>
+        ensures { IfOk result (λ index. AreListed (lists_of index.lists.items) index.listed []) }
     {
-        Ok(Kept {
-            atoms: Vec::with_capacity(alloc, atoms.len())?,
+        Ok(KeptIndex {
             listed: 0,
             lists: Vec::new(alloc),
             commonness: Commonness::of(alloc, atoms)?,
         })
     }
 
-    /// The atoms.
-    pub fn into_atoms(self) -> Vec<Atom<S>>
-        ensures { result ≡ self.atoms }
-    {
-        let Kept {
-            atoms,
-            listed: _,
-            lists: _,
-            commonness: _,
-        } = self;
-        atoms
-    }
-
-    /// Adds an atom, which is not listed yet.
-    pub fn push(&mut self, atom: Atom<S>) -> Result<(), AllocError>
-        requires { AreListed (lists_of self.old.lists.items) self.old.listed (atoms_of S.goods self.old.atoms.items) }
-        ensures atoms { OnOk result (self.new.atoms.items ≡ self.old.atoms.items ++ atom ∷ []) }
-        ensures listed { OnOk result (AreListed (lists_of self.new.lists.items) self.new.listed
-            (atoms_of S.goods self.new.atoms.items)) }
-    {
-        self.atoms.push(atom)?;
-        Ok(())
-    }
-
-    /// Lists the first atom that is not, at the least common good of its bundle. There is no room for one whose place is
-    /// past the numbers of 4 bytes; a file has far fewer bids. `room` is for goods.
-    fn list_next(&mut self, alloc: Global, room: &mut Vec<u16>) -> Result<(), AllocError>
-        requires next { self.old.listed < vec_len self.old.atoms }
-        requires some { All (λ a. 0 < length a.bundle) (atoms_of S.goods self.old.atoms.items) }
-        requires listed { AreListed (lists_of self.old.lists.items) self.old.listed
-            (atoms_of S.goods self.old.atoms.items) }
-        ensures atoms { OnOk result (self.new.atoms ≡ self.old.atoms) }
+    /// Lists the first kept atom that is not, at the least common good of its bundle. There is no room for one whose
+    /// place is past the numbers of 4 bytes; a file has far fewer bids. `room` is for goods.
+    fn list_next<S: GoodsSet>(
+        &mut self,
+        alloc: Global,
+        kept: &[Atom<S>],
+        room: &mut Vec<u16>,
+    ) -> Result<(), AllocError>
+        requires next { self.old.listed < length kept.now }
+        requires some { All (λ a. 0 < length a.bundle) (atoms_of S.goods kept.now) }
+        requires listed { AreListed (lists_of self.old.lists.items) self.old.listed (atoms_of S.goods kept.now) }
         ensures count { OnOk result (self.new.listed ≡ self.old.listed + 1) }
         ensures listed { OnOk result (AreListed (lists_of self.new.lists.items) self.new.listed
-            (atoms_of S.goods self.new.atoms.items)) }
+            (atoms_of S.goods kept.now)) }
     {
         if self.listed > u32::MAX as usize {
             return Err(AllocError);
         }
-        let (least, listing) = self.listing_of(&self.atoms[self.listed], self.listed as u32, room)?;
+        let (least, listing) = self.listing_of(&kept[self.listed], self.listed as u32, room)?;
         let good = usize::from(least);
         while self.lists.len() <= good {
             self.lists.push(Vec::new(alloc))?;
@@ -125,46 +128,45 @@ impl<S: GoodsSet> Kept<S> {
         Ok(())
     }
 
-    /// Whether the first atom that is not listed has fewer goods.
-    fn is_next_smaller(&self, size: usize) -> bool
-        ensures next { OnTrue result (self.now.listed < vec_len self.now.atoms) }
-        ensures larger { result ≡ false → self.now.listed < vec_len self.now.atoms
-            → size ≤ length (atom_at (atoms_of S.goods self.now.atoms.items) self.now.listed).bundle }
+    /// Whether the first kept atom that is not listed has fewer goods.
+    fn is_next_smaller<S: GoodsSet>(&self, kept: &[Atom<S>], size: usize) -> bool
+        ensures next { OnTrue result (self.now.listed < length kept.now) }
+        ensures larger { result ≡ false → self.now.listed < length kept.now
+            → size ≤ length (atom_at (atoms_of S.goods kept.now) self.now.listed).bundle }
     {
-        match self.atoms.get(self.listed) {
+        match kept.get(self.listed) {
             Some(atom) => atom.bundle.size() < size,
             None => false,
         }
     }
 
-    /// Lists the atoms with fewer goods than the bundle, which comes behind all of them. `room` is for goods.
-    pub fn list_below(
+    /// Lists the kept atoms with fewer goods than the bundle, which comes behind all of them. `room` is for goods.
+    pub fn list_below<S: GoodsSet>(
         &mut self,
         alloc: Global,
+        kept: &[Atom<S>],
         bundle: &S,
         room: &mut Vec<u16>,
     ) -> Result<(), AllocError>
-        requires some { All (λ a. 0 < length a.bundle) (atoms_of S.goods self.old.atoms.items) }
-        requires in_order { IsInOrder (atoms_of S.goods self.old.atoms.items) }
-        requires behind { IsBehind (S.goods bundle.now) (atoms_of S.goods self.old.atoms.items) }
-        requires listed { AreListed (lists_of self.old.lists.items) self.old.listed
-            (atoms_of S.goods self.old.atoms.items) }
-        ensures atoms { OnOk result (self.new.atoms ≡ self.old.atoms) }
+        requires some { All (λ a. 0 < length a.bundle) (atoms_of S.goods kept.now) }
+        requires in_order { IsInOrder (atoms_of S.goods kept.now) }
+        requires behind { IsBehind (S.goods bundle.now) (atoms_of S.goods kept.now) }
+        requires listed { AreListed (lists_of self.old.lists.items) self.old.listed (atoms_of S.goods kept.now) }
         ensures listed { OnOk result (AreListed (lists_of self.new.lists.items) self.new.listed
-            (atoms_of S.goods self.new.atoms.items)) }
-        ensures unlisted { OnOk result (NoneInsideFrom self.new.listed (atoms_of S.goods self.new.atoms.items)
+            (atoms_of S.goods kept.now)) }
+        ensures unlisted { OnOk result (NoneInsideFrom self.new.listed (atoms_of S.goods kept.now)
             (S.goods bundle.now)) }
     {
         let size = bundle.size();
-        while self.is_next_smaller(size) {
-            self.list_next(alloc, room)?;
+        while self.is_next_smaller(kept, size) {
+            self.list_next(alloc, kept, room)?;
         }
         Ok(())
     }
 
     /// The good of the atom's bundle that is the least common, and what is to be listed there: the atom, as that at the
     /// place. `room` is for goods.
-    fn listing_of(
+    fn listing_of<S: GoodsSet>(
         &self,
         atom: &Atom<S>,
         place: u32,
@@ -181,46 +183,20 @@ impl<S: GoodsSet> Kept<S> {
         Ok((good, Listing::of(atom, good, place)))
     }
 
-    /// Whether the atom that is listed at a good is inside the bundle.
-    #[inline(always)]
-    fn is_inside(&self, listing: &Listing, bundle: &S, sought: Sought) -> bool
-        requires { IsAsked (atoms_of S.goods self.now.atoms.items) listing.now (S.goods bundle.now) sought }
-        ensures { result ≡ is_inside_at (atoms_of S.goods self.now.atoms.items) (S.goods bundle.now) listing.now.place }
-    {
-        if !listing.may_be_inside(sought) {
-            return false;
-        }
-        self.atoms[listing.place as usize].bundle.is_inside(bundle)
-    }
-
-    /// Whether the atom that is listed at a good is inside the bundle and has at least the price. The price is compared
-    /// late, since it says nothing of the next one's, and what says mostly the same costs less.
-    #[inline(always)]
-    fn is_covering(&self, listing: &Listing, bundle: &S, sought: Sought, price: u64) -> bool
-        requires { IsAsked (atoms_of S.goods self.now.atoms.items) listing.now (S.goods bundle.now) sought }
-        ensures { result ≡ covers_at (atoms_of S.goods self.now.atoms.items) (S.goods bundle.now) price
-            listing.now.place }
-    {
-        if !listing.may_be_inside(sought) {
-            return false;
-        }
-        let atom = &self.atoms[listing.place as usize];
-        price <= atom.price && atom.bundle.is_inside(bundle)
-    }
-
-    /// Adds to `found` the places of the atoms inside the bundle that are listed at the good.
-    fn find_listed(
+    /// Adds to `found` the places of the kept atoms inside the bundle that are listed at the good.
+    fn find_listed<S: GoodsSet>(
         &self,
+        kept: &[Atom<S>],
         good: u16,
         bundle: &S,
         residues: u64,
         wide: bool,
         found: &mut Vec<usize>,
     ) -> Result<(), AllocError>
-        requires listed { AreListed (lists_of self.now.lists.items) self.now.listed (atoms_of S.goods self.now.atoms.items) }
+        requires listed { AreListed (lists_of self.now.lists.items) self.now.listed (atoms_of S.goods kept.now) }
         requires residues { AreResidues (S.goods bundle.now) residues }
         requires narrow { wide ≡ false → length (S.goods bundle.now) ≤ 40 }
-        ensures { let inside = is_inside_at (atoms_of S.goods self.now.atoms.items) (S.goods bundle.now) in
+        ensures { let inside = is_inside_at (atoms_of S.goods kept.now) (S.goods bundle.now) in
             let listed = places_at (lists_of self.now.lists.items) good in
             OnOk result (found.new.items ≡ found.old.items ++ filter inside listed) }
     {
@@ -228,7 +204,7 @@ impl<S: GoodsSet> Kept<S> {
         if place < self.lists.len() {
             let sought = Sought::at(bundle, good, residues, wide);
             for listing in &self.lists[place] {
-                if self.is_inside(listing, bundle, sought) {
+                if is_inside(kept, listing, bundle, sought) {
                     found.push(listing.place as usize)?;
                 }
             }
@@ -236,67 +212,76 @@ impl<S: GoodsSet> Kept<S> {
         Ok(())
     }
 
-    /// Puts the places of the atoms inside the bundle, which has these goods, rising, where other places stood.
-    fn find_inside(
+    /// Puts the places of the kept atoms inside the bundle, which has these goods, rising, where other places stood.
+    fn find_inside<S: GoodsSet>(
         &self,
+        kept: &[Atom<S>],
         bundle: &S,
         goods: &[u16],
         places: &mut Vec<usize>,
     ) -> Result<(), AllocError>
         requires goods { goods.now ≡ S.goods bundle.now }
-        requires listed { AreListed (lists_of self.now.lists.items) self.now.listed (atoms_of S.goods self.now.atoms.items) }
-        requires unlisted { NoneInsideFrom self.now.listed (atoms_of S.goods self.now.atoms.items) (S.goods bundle.now) }
-        ensures { let inside = is_inside_at (atoms_of S.goods self.now.atoms.items) (S.goods bundle.now) in
-            let all = range_with_len 0 (length self.now.atoms.items) in
+        requires listed { AreListed (lists_of self.now.lists.items) self.now.listed (atoms_of S.goods kept.now) }
+        requires unlisted { NoneInsideFrom self.now.listed (atoms_of S.goods kept.now) (S.goods bundle.now) }
+        ensures { let inside = is_inside_at (atoms_of S.goods kept.now) (S.goods bundle.now) in
+            let all = range_with_len 0 (length kept.now) in
             OnOk result (places.new.items ≡ filter inside all) }
     {
         let residues = bundle.residues();
         let wide = goods.len() > WIDE;
         places.clear();
         for good in goods {
-            self.find_listed(*good, bundle, residues, wide, places)?;
+            self.find_listed(kept, *good, bundle, residues, wide, places)?;
         }
         places.sort_unstable();
         Ok(())
     }
 
-    /// The atoms inside the bundle, which has these goods, in the order in which they came. `places` is room for their
-    /// places.
-    pub fn inside(
+    /// The kept atoms inside the bundle, which has these goods, in the order in which they came. `places` is room for
+    /// their places.
+    pub fn inside<'a, S: GoodsSet>(
         &self,
         alloc: Global,
+        kept: &'a [Atom<S>],
         bundle: &S,
         goods: &[u16],
         places: &mut Vec<usize>,
-    ) -> Result<Vec<&Atom<S>>, AllocError>
+    ) -> Result<Vec<&'a Atom<S>>, AllocError>
         requires goods { goods.now ≡ S.goods bundle.now }
-        requires listed { AreListed (lists_of self.now.lists.items) self.now.listed (atoms_of S.goods self.now.atoms.items) }
-        requires unlisted { NoneInsideFrom self.now.listed (atoms_of S.goods self.now.atoms.items) (S.goods bundle.now) }
-        ensures { let atoms = atoms_of S.goods self.now.atoms.items in
-            IfOk result (λ inside. atoms_of S.goods (map (λ a. a.now) inside.items)
-            ≡ atoms_inside atoms (S.goods bundle.now)) }
+        requires listed { AreListed (lists_of self.now.lists.items) self.now.listed (atoms_of S.goods kept.now) }
+        requires unlisted { NoneInsideFrom self.now.listed (atoms_of S.goods kept.now) (S.goods bundle.now) }
+        ensures { IfOk result (λ inside. atoms_of S.goods (map (λ a. a.now) inside.items)
+            ≡ atoms_inside (atoms_of S.goods kept.now) (S.goods bundle.now)) }
     {
-        self.find_inside(bundle, goods, places)?;
+        self.find_inside(kept, bundle, goods, places)?;
         let mut inside = Vec::with_capacity(alloc, places.len())?;
         for place in places.iter() {
-            inside.push(&self.atoms[*place])?;
+            inside.push(&kept[*place])?;
         }
         Ok(inside)
     }
 
-    /// Whether an atom inside the bundle that is listed at the good has at least the price.
-    fn has_listed(&self, good: u16, bundle: &S, residues: u64, wide: bool, price: u64) -> bool
-        requires listed { AreListed (lists_of self.now.lists.items) self.now.listed (atoms_of S.goods self.now.atoms.items) }
+    /// Whether a kept atom inside the bundle that is listed at the good has at least the price.
+    fn has_listed<S: GoodsSet>(
+        &self,
+        kept: &[Atom<S>],
+        good: u16,
+        bundle: &S,
+        residues: u64,
+        wide: bool,
+        price: u64,
+    ) -> bool
+        requires listed { AreListed (lists_of self.now.lists.items) self.now.listed (atoms_of S.goods kept.now) }
         requires residues { AreResidues (S.goods bundle.now) residues }
         requires narrow { wide ≡ false → length (S.goods bundle.now) ≤ 40 }
-        ensures { let covering = covers_at (atoms_of S.goods self.now.atoms.items) (S.goods bundle.now) price in
+        ensures { let covering = covers_at (atoms_of S.goods kept.now) (S.goods bundle.now) price in
             result ≡ list_any covering (places_at (lists_of self.now.lists.items) good) }
     {
         let place = usize::from(good);
         if place < self.lists.len() {
             let sought = Sought::at(bundle, good, residues, wide);
             for listing in &self.lists[place] {
-                if self.is_covering(listing, bundle, sought, price) {
+                if is_covering(kept, listing, bundle, sought, price) {
                     return true;
                 }
             }
@@ -304,17 +289,23 @@ impl<S: GoodsSet> Kept<S> {
         false
     }
 
-    /// Whether an atom inside the bundle, which has these goods, has at least the price.
-    pub fn has_inside(&self, bundle: &S, goods: &[u16], price: u64) -> bool
+    /// Whether a kept atom inside the bundle, which has these goods, has at least the price.
+    pub fn has_inside<S: GoodsSet>(
+        &self,
+        kept: &[Atom<S>],
+        bundle: &S,
+        goods: &[u16],
+        price: u64,
+    ) -> bool
         requires goods { goods.now ≡ S.goods bundle.now }
-        requires listed { AreListed (lists_of self.now.lists.items) self.now.listed (atoms_of S.goods self.now.atoms.items) }
-        requires unlisted { NoneInsideFrom self.now.listed (atoms_of S.goods self.now.atoms.items) (S.goods bundle.now) }
-        ensures { result ≡ list_any (covers (S.goods bundle.now) price) (atoms_of S.goods self.now.atoms.items) }
+        requires listed { AreListed (lists_of self.now.lists.items) self.now.listed (atoms_of S.goods kept.now) }
+        requires unlisted { NoneInsideFrom self.now.listed (atoms_of S.goods kept.now) (S.goods bundle.now) }
+        ensures { result ≡ list_any (covers (S.goods bundle.now) price) (atoms_of S.goods kept.now) }
     {
         let residues = bundle.residues();
         let wide = goods.len() > WIDE;
         for good in goods {
-            if self.has_listed(*good, bundle, residues, wide, price) {
+            if self.has_listed(kept, *good, bundle, residues, wide, price) {
                 return true;
             }
         }

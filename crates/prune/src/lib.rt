@@ -4,6 +4,7 @@
 mod best;
 mod commonness;
 mod fault;
+mod front;
 mod kept;
 mod laws;
 mod listing;

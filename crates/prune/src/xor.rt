@@ -9,7 +9,8 @@ ghost use Rattle.prune.specs.Internal.Listings.{lists_of, covers, AreListed, Are
 ghost use Rattle.prune.specs.Points.{xor_points};
 
 use crate::best::keep_best_bids;
-use crate::kept::Kept;
+use crate::front::move_to_front;
+use crate::kept::KeptIndex;
 use goods_set::{GoodsSet, rising_goods};
 use std::alloc::{AllocError, Global};
 use valuation::Atom;
@@ -51,31 +52,31 @@ fn are_few_and_uncovered<S: GoodsSet>(bids: &[Atom<S>]) -> bool
     true
 }
 
-/// Whether a kept atom inside the bid's bundle has at least its price. Few atoms need not be listed. `room` is for goods.
+/// Whether a kept atom inside the bid's bundle has at least its price. Few atoms need not be listed. `room` is for
+/// goods.
 fn is_covered<S: GoodsSet>(
     alloc: Global,
-    kept: &mut Kept<S>,
+    index: &mut KeptIndex,
+    kept: &[Atom<S>],
     bid: &Atom<S>,
     few: bool,
     room: &mut Vec<u16>,
 ) -> Result<bool, AllocError>
-    requires some { All (λ a. 0 < length a.bundle) (atoms_of S.goods kept.old.atoms.items) }
-    requires in_order { IsInOrder (atoms_of S.goods kept.old.atoms.items) }
-    requires behind { IsBehind (S.goods bid.now.bundle) (atoms_of S.goods kept.old.atoms.items) }
-    requires listed { AreListed (lists_of kept.old.lists.items) kept.old.listed
-        (atoms_of S.goods kept.old.atoms.items) }
+    requires some { All (λ a. 0 < length a.bundle) (atoms_of S.goods kept.now) }
+    requires in_order { IsInOrder (atoms_of S.goods kept.now) }
+    requires behind { IsBehind (S.goods bid.now.bundle) (atoms_of S.goods kept.now) }
+    requires listed { AreListed (lists_of index.old.lists.items) index.old.listed (atoms_of S.goods kept.now) }
     ensures answer { IfOk result (λ covered. covered ≡ list_any (covers (S.goods bid.now.bundle) bid.now.price)
-        (atoms_of S.goods kept.old.atoms.items)) }
-    ensures atoms { OnOk result (kept.new.atoms ≡ kept.old.atoms) }
-    ensures listed { OnOk result (AreListed (lists_of kept.new.lists.items) kept.new.listed
-        (atoms_of S.goods kept.new.atoms.items)) }
+        (atoms_of S.goods kept.now)) }
+    ensures listed { OnOk result (AreListed (lists_of index.new.lists.items) index.new.listed
+        (atoms_of S.goods kept.now)) }
 {
     if few {
-        return Ok(is_covered_by_any(bid, kept.atoms.as_slice()));
+        return Ok(is_covered_by_any(bid, kept));
     }
-    kept.list_below(alloc, &bid.bundle, room)?;
+    index.list_below(alloc, kept, &bid.bundle, room)?;
     let goods = rising_goods(&bid.bundle, room)?;
-    Ok(kept.has_inside(&bid.bundle, goods, bid.price))
+    Ok(index.has_inside(kept, &bid.bundle, goods, bid.price))
 }
 
 /// The bids that the bidder's values alone ask for, in order: a bid stays where no kept bid inside its bundle has its
@@ -102,12 +103,16 @@ pub fn prune_xor<S: GoodsSet>(
         return Ok(atoms);
     }
     let few = atoms.len() <= FEW;
-    let mut kept = Kept::none_of(alloc, &atoms)?;
+    let mut index = KeptIndex::of(alloc, &atoms)?;
     let mut room = Vec::new(alloc);
-    for bid in atoms {
-        if !is_covered(alloc, &mut kept, &bid, few, &mut room)? {
-            kept.push(bid)?;
+    let mut kept = 0;
+    for place in 0..atoms.len() {
+        let bid = &atoms[place];
+        if !is_covered(alloc, &mut index, &atoms[..kept], bid, few, &mut room)? {
+            move_to_front(&mut atoms, kept, place);
+            kept += 1;
         }
     }
-    Ok(kept.into_atoms())
+    atoms.truncate(kept);
+    Ok(atoms)
 }

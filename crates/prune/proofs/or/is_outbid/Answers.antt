@@ -14,20 +14,20 @@ use Rattle.prune.proofs.or.is_outbid.Goals as goal
 pub is_reached_by_places-requires-clause-some : goal.is_reached_by_places-requires-clause-some
 is_reached_by_places-requires-clause-some g c =
     let goods = g.S.GoodsSet.goods in
-    nonempty_inside goods c.in_ok-inside.inside.items _ (λ a. is_inside a.bundle (goods c.args.bid.now.bundle)) (atoms_of goods c.args.kept.now.atoms.items)
+    nonempty_inside goods c.in_ok-inside.inside.items _ (λ a. is_inside a.bundle (goods c.args.bid.now.bundle)) (atoms_of goods c.args.kept.now)
     c.deref-then-goods-cap.ensures.value c.in_ok-inside.ensures c.requires.some
 
 pub is_reached_by_places-requires-clause-inside : goal.is_reached_by_places-requires-clause-inside
 is_reached_by_places-requires-clause-inside g c =
     let goods = g.S.GoodsSet.goods in
-    inside_bundle goods c.in_ok-inside.inside.items _ (goods c.args.bid.now.bundle) (atoms_of goods c.args.kept.now.atoms.items)
+    inside_bundle goods c.in_ok-inside.inside.items _ (goods c.args.bid.now.bundle) (atoms_of goods c.args.kept.now)
     c.deref-then-goods-cap.ensures.value
     c.in_ok-inside.ensures
 
 pub is_reached-requires : goal.is_reached-requires
 is_reached-requires g c =
     let goods = g.S.GoodsSet.goods in
-    nonempty_inside goods c.in_ok-inside.inside.items _ (λ a. is_inside a.bundle (goods c.args.bid.now.bundle)) (atoms_of goods c.args.kept.now.atoms.items)
+    nonempty_inside goods c.in_ok-inside.inside.items _ (λ a. is_inside a.bundle (goods c.args.bid.now.bundle)) (atoms_of goods c.args.kept.now)
     c.deref-2.ensures.value c.in_ok-inside.ensures c.requires.some
 
 pub returns-then-all_prices-from-clause-answer : goal.returns-then-all_prices-from-clause-answer
@@ -35,8 +35,8 @@ returns-then-all_prices-from-clause-answer g c =
     let goods = g.S.GoodsSet.goods in
     let bundle = goods c.args.bid.now.bundle in
     let price = c.args.bid.now.price in
-    let inside = atoms_inside (atoms_of goods c.args.kept.now.atoms.items) bundle in
-    let short : price_sum inside < price = too_low goods c.in_ok-inside.inside.items _ bundle price (atoms_of goods c.args.kept.now.atoms.items)
+    let inside = atoms_inside (atoms_of goods c.args.kept.now) bundle in
+    let short : price_sum inside < price = too_low goods c.in_ok-inside.inside.items _ bundle price (atoms_of goods c.args.kept.now)
     c.deref.ensures.value c.in_ok-inside.ensures (omega (arith, c.all_prices.ensures, c.from.ensures, c.if-all_prices-from.true)) in
     sym (lt-leb price (or_value inside bundle) (omega (arith, short, or_value-all_prices inside bundle)))
 
@@ -45,8 +45,8 @@ returns-then-all_prices-from-clause-within g c =
     let goods = g.S.GoodsSet.goods in
     let bundle = goods c.args.bid.now.bundle in
     let price = c.args.bid.now.price in
-    let inside = atoms_inside (atoms_of goods c.args.kept.now.atoms.items) bundle in
-    let short : price_sum inside < price = too_low goods c.in_ok-inside.inside.items _ bundle price (atoms_of goods c.args.kept.now.atoms.items)
+    let inside = atoms_inside (atoms_of goods c.args.kept.now) bundle in
+    let short : price_sum inside < price = too_low goods c.in_ok-inside.inside.items _ bundle price (atoms_of goods c.args.kept.now)
     c.deref.ensures.value c.in_ok-inside.ensures (omega (arith, c.all_prices.ensures, c.from.ensures, c.if-all_prices-from.true)) in
     let steps : cut_steps inside bundle price ≡ 0 = cut_steps-short inside bundle price short in
     let left = c.spend.ensures.left.0 c.if-not-spend.false in

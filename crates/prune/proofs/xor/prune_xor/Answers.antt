@@ -1,82 +1,77 @@
 -- A turn of the loop keeps a bid exactly where no kept bid inside its bundle covers it, which is a turn of proofs/Results; and at the
 -- end the kept bids are the points. Few bids of which none covers another are the points as they are.
-use Rattle.std.proofs.Common.{arith, ◌≡◌, length, vec_len, sym, ap, ◌∙◌, subst, []}
-use Rattle.std.proofs.lemmas.List.{map_push, nil_from_length, length_push}
-use Rattle.std.specs.Vec.Iter.{into_iter_items}
+use Rattle.std.proofs.Common.{◌<◌, ◌≤◌, length, refl, sym, ◌∙◌, subst, take, arith}
 use Rattle.cats_text.specs.declared.limits.TheConstants.{MAX_GOODS}
 use Rattle.valuation.specs.Values.{atoms_of, plain_atom}
-use Rattle.prune.proofs.Results.{turn_positive, turn_behind, xor_reached, xor_missed}
+use Rattle.prune.specs.Internal.Listings.{lists_of, AreUncovered}
 use Rattle.prune.specs.Lemmas.KeptBids.{on_bundles, just_bundles}
-use Rattle.prune.specs.Internal.Listings.{AreUncovered}
-use Rattle.prune.proofs.PruningLoop.{xor_end, xor_uncovered, kept_nonempty, next_turn, taken, covers_is}
+use Rattle.prune.proofs.InFront.{next_left}
+use Rattle.prune.proofs.ListedAtoms.{AreListed-push}
+use Rattle.prune.proofs.PruningLoop.{next_turn, one_done, one_kept, xor_end, xor_uncovered, kept_nonempty, covers_is}
+use Rattle.prune.proofs.Results.{turn_positive, turn_behind, xor_reached, xor_missed}
 use Rattle.prune.proofs.xor.prune_xor.Goals as goal
+use Rattle.prune.proofs.xor.prune_xor.Goals.{then-not-branch, else-not-branch}
 
 pub is_covered-requires-clause-some : goal.is_covered-requires-clause-some
 is_covered-requires-clause-some g c =
     let goods = g.S.GoodsSet.goods in
-    kept_nonempty goods MAX_GOODS (atoms_of goods c.args.atoms.items) c.loop-bid.yielded _ c.loop-bid.kept.atoms.items c.loop-bid.invariant.best c.requires
-    c.loop-bid.invariant.kept.among
+    let h = c.loop-place.invariant in
+    rw c.deref-in-loop-place.ensures.value
+    (kept_nonempty goods MAX_GOODS (atoms_of goods c.args.atoms.items) c.keep_best_bids.new.bids.items _ c.loop-place.place c.keep_best_bids.ensures.best
+    c.requires h.kept.among)
+
+pub is_covered-requires-clause-in_order : goal.is_covered-requires-clause-in_order
+is_covered-requires-clause-in_order g c = rw c.deref-in-loop-place.ensures.value c.loop-place.invariant.kept.in_order
 
 pub is_covered-requires-clause-behind : goal.is_covered-requires-clause-behind
 is_covered-requires-clause-behind g c =
     let goods = g.S.GoodsSet.goods in
-    let h = c.loop-bid.invariant in
-    let turn = next_turn goods (λ s. (g.met.S.GoodsSet.is_bundle s).0) _ c.loop-bid.yielded _ _ c.in-Some.bid h.best c.in-Some.ensures.steps.0 in
-    turn_behind _ _ _ _ (atoms_of goods c.loop-bid.kept.atoms.items) turn h.kept.among
+    let h = c.loop-place.invariant in
+    let best = c.keep_best_bids.new.bids in
+    let now = c.loop-place.atoms in
+    let there : c.loop-place.place < length now.items = omega (arith, c.loop-place-test.true, c.len-place-end.ensures, best.ok.0, h.left.long) in
+    let turn = next_turn goods (λ s. (g.met.S.GoodsSet.is_bundle s).0) _ best.items now.items c.loop-place.place c.index-bid.result.now
+    c.keep_best_bids.ensures.best h.left there c.index-bid.ensures in
+    rw c.deref-in-loop-place.ensures.value (turn_behind _ _ _ _ (atoms_of goods (take c.loop-place.kept now.items)) turn h.kept.among)
 
-pub loop-bid-preserved-in_ok-push : goal.loop-bid-preserved-in_ok-push
-loop-bid-preserved-in_ok-push g c =
+pub loop-place-preserved : goal.loop-place-preserved
+loop-place-preserved g c =
     let goods = g.S.GoodsSet.goods in
-    let h = c.loop-bid.invariant in
-    let bids = atoms_of goods c.args.atoms.items in
-    let yielded = c.loop-bid.yielded in
-    let bid = c.in-Some.bid in
-    let kept = c.loop-bid.kept.atoms.items in
-    let same = c.in_ok-is_covered.ensures.atoms in
-    let step = c.in-Some.ensures.steps.0 in
-    let turn = next_turn goods (λ s. (g.met.S.GoodsSet.is_bundle s).0) bids yielded _ _ bid h.best step in
-    let asked = covers_is bid.price (goods bid.bundle) (atoms_of goods kept) (turn_positive _ _ _ _ turn) in
-    let missed = xor_missed _ _ _ _ (atoms_of goods kept) turn h.kept (sym c.if-not-branch.true ∙ c.in_ok-is_covered.ensures.answer ∙ asked) in
-    let pushed = c.in_ok-push.ensures.atoms in
-    let joined = taken yielded _ _ bid step in
-    record {
-      best = rw joined at h.best;
-      fits = rw joined at h.fits;
-      listed = c.in_ok-push.ensures.listed;
-      kept = rw (map_push (plain_atom goods) yielded bid, pushed, same, map_push (plain_atom goods) kept bid) missed;
-      fewer = omega (
-        arith,
-        h.fewer,
-        c.loop-bid.kept.atoms.ok.0,
-        c.push.new.self.atoms.ok.0,
-        ap length pushed,
-        ap (λ v. length v.items) same,
-        length_push c.is_covered.new.kept.atoms.items bid,
-        length_push yielded bid,
-      );
-    }
-
-pub loop-bid-preserved : goal.loop-bid-preserved
-loop-bid-preserved g c =
-    let goods = g.S.GoodsSet.goods in
-    let h = c.loop-bid.invariant in
-    let bids = atoms_of goods c.args.atoms.items in
-    let yielded = c.loop-bid.yielded in
-    let bid = c.in-Some.bid in
-    let kept = c.loop-bid.kept.atoms.items in
-    let same = c.in_ok-is_covered.ensures.atoms in
-    let step = c.in-Some.ensures.steps.0 in
-    let turn = next_turn goods (λ s. (g.met.S.GoodsSet.is_bundle s).0) bids yielded _ _ bid h.best step in
-    let asked = covers_is bid.price (goods bid.bundle) (atoms_of goods kept) (turn_positive _ _ _ _ turn) in
-    let reached = xor_reached _ _ _ _ (atoms_of goods kept) turn h.kept (sym c.if-not-branch.false ∙ c.in_ok-is_covered.ensures.answer ∙ asked) in
-    let joined = taken yielded _ _ bid step in
-    record {
-      best = rw joined at h.best;
-      fits = rw joined at h.fits;
-      listed = c.in_ok-is_covered.ensures.listed;
-      kept = rw (map_push (plain_atom goods) yielded bid, same) reached;
-      fewer = omega (arith, h.fewer, ap vec_len same, length_push yielded bid);
-    }
+    let h = c.loop-place.invariant in
+    let best = c.keep_best_bids.new.bids in
+    let now = c.loop-place.atoms in
+    let place = c.loop-place.place in
+    let bid = c.index-bid.result.now in
+    let kept = take c.loop-place.kept now.items in
+    let index = c.is_covered.new.index in
+    let there : place < length now.items = omega (arith, c.loop-place-test.true, c.len-place-end.ensures, best.ok.0, h.left.long) in
+    let turn = next_turn goods (λ s. (g.met.S.GoodsSet.is_bundle s).0) (atoms_of goods c.args.atoms.items) best.items now.items place bid
+    c.keep_best_bids.ensures.best h.left there c.index-bid.ensures in
+    let done = one_done goods best.items now.items place bid h.left there c.index-bid.ensures in
+    let same = c.deref-in-loop-place.ensures.value in
+    let answer = rw same at c.in_ok-is_covered.ensures.answer in
+    let asked = answer ∙ covers_is bid.price (goods bid.bundle) (atoms_of goods kept) (turn_positive _ _ _ _ turn) in
+    let listed = rw same at c.in_ok-is_covered.ensures.listed in
+    elim c.if-not-branch.branch [
+      | then-not-branch w ↦
+          let after = w.move_to_front.new.elements in
+          let moved = w.move_to_front.ensures in
+          let more = one_kept goods now.items after.items c.loop-place.kept place bid c.index-bid.ensures moved.front in
+          rw (w.atoms-is, w.kept-is) (record {
+            left = next_left best.items now.items place bid h.left there c.index-bid.ensures after.items (omega (arith, moved.len, after.ok.0, now.ok.0))
+                moved.rest;
+            listed = rw more (AreListed-push (lists_of index.lists.items) index.listed (atoms_of goods kept) (plain_atom goods bid) listed);
+            kept = rw (done, more) (xor_missed _ _ _ _ (atoms_of goods kept) turn h.kept (sym w.if-not-branch.true ∙ asked));
+            fewer = omega (arith, h.fewer);
+          })
+      | else-not-branch w ↦
+          rw (w.atoms-is, w.kept-is) (record {
+            left = next_left best.items now.items place bid h.left there c.index-bid.ensures now.items refl refl;
+            listed = listed;
+            kept = rw done (xor_reached _ _ _ _ (atoms_of goods kept) turn h.kept (sym w.if-not-branch.false ∙ asked));
+            fewer = omega (arith, h.fewer);
+          })
+    ]
 
 pub returns-then-are_few_and_uncovered-clause-points : goal.returns-then-are_few_and_uncovered-clause-points
 returns-then-are_few_and_uncovered-clause-points g c =
@@ -107,32 +102,34 @@ pub returns-clause-points : goal.returns-clause-points
 returns-clause-points g c =
     let goods = g.S.GoodsSet.goods in
     let bids = atoms_of goods c.args.atoms.items in
-    let none : into_iter_items c.loop-bid.bid-iterator ≡ [] =
-    nil_from_length (into_iter_items c.loop-bid.bid-iterator) (omega (arith, c.in-None.ensures.steps.0, c.loop-bid.bid-iterator.rest.ok.0)) in
-    let done = xor_end goods bids c.loop-bid.yielded _ c.loop-bid.kept.atoms.items _ c.loop-bid.invariant.best c.loop-bid.invariant.kept none
-    (ap (λ v. v.items) c.into_atoms.ensures) in
+    let best = c.keep_best_bids.new.bids in
+    let all : length best.items ≤ c.loop-place.place = omega (arith, c.loop-place-test.false, c.len-place-end.ensures, best.ok.0) in
+    let done = xor_end goods bids best.items _ _ c.loop-place.place c.keep_best_bids.ensures.best c.loop-place.invariant.kept all c.truncate.ensures.items in
     λ n are. done.points n (just_bundles n bids (on_bundles n bids are))
 
 pub returns-clause-values : goal.returns-clause-values
 returns-clause-values g c =
     let goods = g.S.GoodsSet.goods in
-    let none : into_iter_items c.loop-bid.bid-iterator ≡ [] =
-    nil_from_length (into_iter_items c.loop-bid.bid-iterator) (omega (arith, c.in-None.ensures.steps.0, c.loop-bid.bid-iterator.rest.ok.0)) in
-    (xor_end goods (atoms_of goods c.args.atoms.items) c.loop-bid.yielded _ c.loop-bid.kept.atoms.items _ c.loop-bid.invariant.best c.loop-bid.invariant.kept
-    none (ap (λ v. v.items) c.into_atoms.ensures)).values
+    let bids = atoms_of goods c.args.atoms.items in
+    let best = c.keep_best_bids.new.bids in
+    let all : length best.items ≤ c.loop-place.place = omega (arith, c.loop-place-test.false, c.len-place-end.ensures, best.ok.0) in
+    let done = xor_end goods bids best.items _ _ c.loop-place.place c.keep_best_bids.ensures.best c.loop-place.invariant.kept all c.truncate.ensures.items in
+    done.values
 
 pub returns-clause-bids : goal.returns-clause-bids
 returns-clause-bids g c =
     let goods = g.S.GoodsSet.goods in
-    let none : into_iter_items c.loop-bid.bid-iterator ≡ [] =
-    nil_from_length (into_iter_items c.loop-bid.bid-iterator) (omega (arith, c.in-None.ensures.steps.0, c.loop-bid.bid-iterator.rest.ok.0)) in
-    (xor_end goods (atoms_of goods c.args.atoms.items) c.loop-bid.yielded _ c.loop-bid.kept.atoms.items _ c.loop-bid.invariant.best c.loop-bid.invariant.kept
-    none (ap (λ v. v.items) c.into_atoms.ensures)).among
+    let bids = atoms_of goods c.args.atoms.items in
+    let best = c.keep_best_bids.new.bids in
+    let all : length best.items ≤ c.loop-place.place = omega (arith, c.loop-place-test.false, c.len-place-end.ensures, best.ok.0) in
+    let done = xor_end goods bids best.items _ _ c.loop-place.place c.keep_best_bids.ensures.best c.loop-place.invariant.kept all c.truncate.ensures.items in
+    done.among
 
 pub returns-clause-in_order : goal.returns-clause-in_order
 returns-clause-in_order g c =
     let goods = g.S.GoodsSet.goods in
-    let none : into_iter_items c.loop-bid.bid-iterator ≡ [] =
-    nil_from_length (into_iter_items c.loop-bid.bid-iterator) (omega (arith, c.in-None.ensures.steps.0, c.loop-bid.bid-iterator.rest.ok.0)) in
-    (xor_end goods (atoms_of goods c.args.atoms.items) c.loop-bid.yielded _ c.loop-bid.kept.atoms.items _ c.loop-bid.invariant.best c.loop-bid.invariant.kept
-    none (ap (λ v. v.items) c.into_atoms.ensures)).in_order
+    let bids = atoms_of goods c.args.atoms.items in
+    let best = c.keep_best_bids.new.bids in
+    let all : length best.items ≤ c.loop-place.place = omega (arith, c.loop-place-test.false, c.len-place-end.ensures, best.ok.0) in
+    let done = xor_end goods bids best.items _ _ c.loop-place.place c.keep_best_bids.ensures.best c.loop-place.invariant.kept all c.truncate.ensures.items in
+    done.in_order

@@ -3,19 +3,20 @@ use Rattle.valuation.specs.Values.{atoms_of}
 use Rattle.prune.specs.declared.listing.Listing.{Listing}
 use Rattle.prune.specs.Internal.Listings.{lists_of, listed_at, is_inside_at}
 use Rattle.prune.proofs.ListedAtoms.{place_of, listed_there, places_get, listing_index, found_more}
-use Rattle.prune.proofs.kept.Kept.find_listed.Goals as goal
-use Rattle.prune.proofs.kept.Kept.find_listed.Goals.{then-is_inside+in_ok-push, else-is_inside}
+use Rattle.prune.proofs.kept.KeptIndex.find_listed.Goals as goal
+use Rattle.prune.proofs.kept.KeptIndex.find_listed.Goals.{then-is_inside+in_ok-push, else-is_inside}
 
 pub is_inside-requires : goal.is_inside-requires
 is_inside-requires g c =
     let goods = g.S.GoodsSet.goods in
-    let kept = c.args.self.now in
-    let there = listed_there kept.lists.items c.from-place.result c.index.result.now (omega (arith, c.if-place-len.true, c.len.ensures, kept.lists.ok.0))
+    let index = c.args.self.now in
+    let there = listed_there index.lists.items c.from-place.result c.index.result.now (omega (arith, c.if-place-len.true, c.len.ensures, index.lists.ok.0))
     c.index.ensures in
     record {
       good = c.args.good;
-      is = listing_index (lists_of kept.lists.items) kept.listed (atoms_of goods kept.atoms.items) c.args.good c.deref-listing-items.result.now c.loop-listing.listing-index
-          _ c.requires.listed (ap (listed_at (lists_of kept.lists.items)) (sym c.from-place.ensures) ∙ there ∙ sym c.deref-listing-items.ensures.value) c.loop-listing-test.true;
+      is = listing_index (lists_of index.lists.items) index.listed (atoms_of goods c.args.kept.now) c.args.good c.deref-listing-items.result.now
+          c.loop-listing.listing-index _ c.requires.listed (ap (listed_at (lists_of index.lists.items)) (sym c.from-place.ensures)
+          ∙ there ∙ sym c.deref-listing-items.ensures.value) c.loop-listing-test.true;
       tells = c.at-sought.ensures;
     }
 
@@ -24,7 +25,7 @@ loop-listing-preserved g c =
     let goods = g.S.GoodsSet.goods in
     let d : Listing = record { place = 0; wide = false; block = 0; second = 0 } in
     let listed = c.deref-listing-items.result.now in
-    let p = is_inside_at (atoms_of goods c.args.self.now.atoms.items) (goods c.args.bundle.now) in
+    let p = is_inside_at (atoms_of goods c.args.kept.now) (goods c.args.bundle.now) in
     let place = (get_or listed c.loop-listing.listing-index d).place in
     let at = places_get listed c.loop-listing.listing-index d c.loop-listing-test.true in
     elim c.if-is_inside.branch [

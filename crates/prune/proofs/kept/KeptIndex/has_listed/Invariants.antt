@@ -3,9 +3,9 @@ use Rattle.std.specs.List.{list_any}
 use Rattle.valuation.specs.Values.{atoms_of}
 use Rattle.prune.specs.Internal.Listings.{covers_at}
 use Rattle.prune.proofs.ListedAtoms.{place_of}
-use Rattle.prune.proofs.kept.Kept.has_listed.Given as goal
+use Rattle.prune.proofs.kept.KeptIndex.has_listed.Given as goal
 
 abbrev pub invariant-loop-listing : goal.invariant-loop-listing
 invariant-loop-listing g l =
     let goods = g.S.GoodsSet.goods in
-    list_any (covers_at (atoms_of goods l.self.atoms.items) (goods l.bundle) l.price) (take l.listing-index (map place_of l.listing-items)) ≡ false
+    list_any (covers_at (atoms_of goods l.kept) (goods l.bundle) l.price) (take l.listing-index (map place_of l.listing-items)) ≡ false

@@ -6,21 +6,21 @@ use Rattle.valuation.specs.declared.atom.Atom.{Atom}
 use Rattle.prune.specs.declared.listing.Listing.{Listing}
 use Rattle.prune.specs.Internal.Listings.{lists_of, listed_at, IsListingOf}
 use Rattle.prune.proofs.ListedAtoms.{AreListed-more, listed-set_same, listed-set_other, listed-pushed, listed_there}
-use Rattle.prune.proofs.kept.Kept.list_next.Goals as goal
+use Rattle.prune.proofs.kept.KeptIndex.list_next.Goals as goal
 
 pub listing_of-requires : goal.listing_of-requires
 listing_of-requires g c =
     let goods = g.S.GoodsSet.goods in
     let old = c.args.self.now in
+    let kept = c.args.kept.now in
     let d : Atom (List ℕ) = record { bundle = []; price = 0 } in
-    let long = length-atoms_of goods old.atoms.items in
+    let long = length-atoms_of goods kept in
     let next = c.requires.next in
-    let at = get_or-atoms_of goods old.atoms.items old.listed c.index.result.now d (omega (arith, next, old.atoms.ok.0)) c.index.ensures in
-    subst (λ (a : Atom (List ℕ)). 0 < length a.bundle) at (c.requires.some old.listed d (omega (arith, next, long, old.atoms.ok.0)))
+    let at = get_or-atoms_of goods kept old.listed c.index-kept-self.result d (omega (arith, next)) c.index-kept-self.is in
+    subst (λ (a : Atom (List ℕ)). 0 < length a.bundle) at (c.requires.some old.listed d (omega (arith, next, long)))
 
 pub loop-alloc-preserved : goal.loop-alloc-preserved
 loop-alloc-preserved g c = record {
-  atoms = c.loop-alloc.invariant.atoms;
   listed = c.loop-alloc.invariant.listed;
   lists = λ k. ap (λ vs. listed_at (lists_of vs) k) c.in_ok-push.ensures.items ∙ listed-pushed c.loop-alloc.self.lists.items c.new.result k c.new.ensures.items
       ∙ c.loop-alloc.invariant.lists k;
@@ -30,6 +30,7 @@ pub returns-clause-listed : goal.returns-clause-listed
 returns-clause-listed g c =
     let goods = g.S.GoodsSet.goods in
     let old = c.args.self.now in
+    let kept = c.args.kept.now in
     let vectors = c.loop-alloc.self.lists.items in
     let good = c.from-good.result in
     let l : good < length vectors = omega (arith, c.loop-alloc-test.false, c.len.ensures, c.loop-alloc.self.lists.ok.0) in
@@ -38,14 +39,14 @@ returns-clause-listed g c =
     let there : listed_at (lists_of (set vectors good c.push-2.new.self)) good ≡ listed_at (lists_of old.lists.items) good ++ c.in_ok-least.listing ∷ [] =
     listed-set_same vectors good c.push-2.new.self l ∙ c.in_ok-push-2.ensures.items
     ∙ ap (λ (zs : List Listing). zs ++ c.in_ok-least.listing ∷ []) (sym before ∙ c.loop-alloc.invariant.lists good) in
-    let atom = c.index.result.now in
+    let atom = c.index-kept-self.result in
     let least : good ≡ c.in_ok-least.least = omega (arith, c.from-good.ensures) in
     let has : has_good (goods atom.bundle) good ≡ true = ap (has_good (goods atom.bundle)) least ∙ c.in_ok-least.ensures.good in
     let next = c.requires.next in
-    let long = length-atoms_of goods old.atoms.items in
-    let at = get_or-atoms_of goods old.atoms.items old.listed atom (record { bundle = []; price = 0 }) (omega (arith, next, old.atoms.ok.0)) c.index.ensures in
-    rw (c.loop-alloc.invariant.atoms, c.loop-alloc.invariant.listed)
-    (AreListed-more (lists_of old.lists.items) _ old.listed (atoms_of goods old.atoms.items) good c.in_ok-least.listing c.requires.listed
+    let long = length-atoms_of goods kept in
+    let at = get_or-atoms_of goods kept old.listed atom (record { bundle = []; price = 0 }) (omega (arith, next)) c.index-kept-self.is in
+    rw c.loop-alloc.invariant.listed
+    (AreListed-more (lists_of old.lists.items) _ old.listed (atoms_of goods kept) good c.in_ok-least.listing c.requires.listed
     (λ k n. listed-set_other vectors good c.push-2.new.self k n ∙ c.loop-alloc.invariant.lists k) there c.in_ok-least.ensures.place
-    (plain_atom goods atom) (sym at) (omega (arith, next, long, old.atoms.ok.0)) has
+    (plain_atom goods atom) (sym at) (omega (arith, next, long)) has
     (subst (λ h. IsListingOf (goods atom.bundle) h c.in_ok-least.listing) (sym least) c.in_ok-least.ensures.listing))

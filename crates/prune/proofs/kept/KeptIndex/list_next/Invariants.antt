@@ -1,11 +1,10 @@
 -- The lists that are added are empty.
 use Rattle.std.proofs.Common.{◌≡◌, ℕ, ◌+◌, ◌-◌, vec_len}
 use Rattle.prune.specs.Internal.Listings.{lists_of, listed_at}
-use Rattle.prune.proofs.kept.Kept.list_next.Given as goal
+use Rattle.prune.proofs.kept.KeptIndex.list_next.Given as goal
 
 abbrev pub invariant-loop-alloc : goal.invariant-loop-alloc
 invariant-loop-alloc g l = record {
-  atoms : l.self.atoms ≡ l.fn.self.atoms;
   listed : l.self.listed ≡ l.fn.self.listed;
   lists : (k : ℕ) → listed_at (lists_of l.self.lists.items) k ≡ listed_at (lists_of l.fn.self.lists.items) k;
 }

@@ -3,10 +3,10 @@ use Rattle.std.specs.List.{filter}
 use Rattle.valuation.specs.Values.{atoms_of}
 use Rattle.prune.specs.Internal.Listings.{is_inside_at}
 use Rattle.prune.proofs.ListedAtoms.{place_of}
-use Rattle.prune.proofs.kept.Kept.find_listed.Given as goal
+use Rattle.prune.proofs.kept.KeptIndex.find_listed.Given as goal
 
 abbrev pub invariant-loop-listing : goal.invariant-loop-listing
 invariant-loop-listing g l =
     let goods = g.S.GoodsSet.goods in
-    l.found.items ≡ l.fn.found.items ++ filter (is_inside_at (atoms_of goods l.self.atoms.items) (goods l.bundle))
+    l.found.items ≡ l.fn.found.items ++ filter (is_inside_at (atoms_of goods l.kept) (goods l.bundle))
     (take l.listing-index (map place_of l.listing-items))

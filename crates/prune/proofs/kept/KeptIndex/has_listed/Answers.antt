@@ -4,34 +4,35 @@ use Rattle.valuation.specs.Values.{atoms_of}
 use Rattle.prune.specs.declared.listing.Listing.{Listing}
 use Rattle.prune.specs.Internal.Listings.{lists_of, listed_at, covers_at}
 use Rattle.prune.proofs.ListedAtoms.{place_of, listed_there, places_get, listing_index, one_listed, none_more}
-use Rattle.prune.proofs.kept.Kept.has_listed.Goals as goal
+use Rattle.prune.proofs.kept.KeptIndex.has_listed.Goals as goal
 
 pub is_covering-requires : goal.is_covering-requires
 is_covering-requires g c =
     let goods = g.S.GoodsSet.goods in
-    let kept = c.args.self.now in
-    let there = listed_there kept.lists.items c.from-place.result c.index.result.now (omega (arith, c.if-place-len.true, c.len.ensures, kept.lists.ok.0))
+    let index = c.args.self.now in
+    let there = listed_there index.lists.items c.from-place.result c.index.result.now (omega (arith, c.if-place-len.true, c.len.ensures, index.lists.ok.0))
     c.index.ensures in
     record {
       good = c.args.good;
-      is = listing_index (lists_of kept.lists.items) kept.listed (atoms_of goods kept.atoms.items) c.args.good c.deref-listing-items.result.now
-          c.loop-listing.listing-index _ c.requires.listed (ap (listed_at (lists_of kept.lists.items)) (sym c.from-place.ensures) ∙ there ∙ sym c.deref-listing-items.ensures.value) c.loop-listing-test.true;
+      is = listing_index (lists_of index.lists.items) index.listed (atoms_of goods c.args.kept.now) c.args.good c.deref-listing-items.result.now
+          c.loop-listing.listing-index _ c.requires.listed (ap (listed_at (lists_of index.lists.items)) (sym c.from-place.ensures)
+          ∙ there ∙ sym c.deref-listing-items.ensures.value) c.loop-listing-test.true;
       tells = c.at-sought.ensures;
     }
 
 pub returns-then-is_covering : goal.returns-then-is_covering
 returns-then-is_covering g c =
     let goods = g.S.GoodsSet.goods in
-    let kept = c.args.self.now in
-    let there = listed_there kept.lists.items c.from-place.result c.index.result.now (omega (arith, c.if-place-len.true, c.len.ensures, kept.lists.ok.0))
+    let index = c.args.self.now in
+    let there = listed_there index.lists.items c.from-place.result c.index.result.now (omega (arith, c.if-place-len.true, c.len.ensures, index.lists.ok.0))
     c.index.ensures in
     let d : Listing = record { place = 0; wide = false; block = 0; second = 0 } in
-    let atoms = atoms_of goods kept.atoms.items in
+    let atoms = atoms_of goods c.args.kept.now in
     let bundle = goods c.args.bundle.now in
     let listed = c.deref-listing-items.result.now in
     let i = c.loop-listing.listing-index in
-    let is = ap (listed_at (lists_of kept.lists.items)) (sym c.from-place.ensures) ∙ there ∙ sym c.deref-listing-items.ensures.value in
-    sym (one_listed (lists_of kept.lists.items) c.args.good listed i d (covers_at atoms bundle c.args.price) is c.loop-listing-test.true
+    let is = ap (listed_at (lists_of index.lists.items)) (sym c.from-place.ensures) ∙ there ∙ sym c.deref-listing-items.ensures.value in
+    sym (one_listed (lists_of index.lists.items) c.args.good listed i d (covers_at atoms bundle c.args.price) is c.loop-listing-test.true
     (sym c.is_covering.ensures ∙ c.if-is_covering.true))
 
 pub loop-listing-preserved : goal.loop-listing-preserved
@@ -41,5 +42,5 @@ loop-listing-preserved g c =
     let listed = c.deref-listing-items.result.now in
     let i = c.loop-listing.listing-index in
     let at = places_get listed i d c.loop-listing-test.true in
-    none_more (covers_at (atoms_of goods c.args.self.now.atoms.items) (goods c.args.bundle.now) c.args.price) (map place_of listed) i (get_or listed i d).place
+    none_more (covers_at (atoms_of goods c.args.kept.now) (goods c.args.bundle.now) c.args.price) (map place_of listed) i (get_or listed i d).place
     at.0 at.1 c.loop-listing.invariant (sym c.is_covering.ensures ∙ c.if-is_covering.false)

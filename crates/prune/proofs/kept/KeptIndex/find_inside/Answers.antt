@@ -4,7 +4,7 @@ use Rattle.valuation.specs.Values.{atoms_of}
 use Rattle.valuation.specs.Lemmas.Atoms.{length-atoms_of}
 use Rattle.prune.specs.Internal.Listings.{lists_of, is_inside_at}
 use Rattle.prune.proofs.ListedAtoms.{next_there, none_there, behind_next, IsFinding-more, IsFinding-all}
-use Rattle.prune.proofs.kept.Kept.find_inside.Goals as goal
+use Rattle.prune.proofs.kept.KeptIndex.find_inside.Goals as goal
 
 pub loop-good-preserved : goal.loop-good-preserved
 loop-good-preserved g c =
@@ -20,7 +20,7 @@ pub returns : goal.returns
 returns g c =
     let goods = g.S.GoodsSet.goods in
     let bundle = goods c.args.bundle.now in
-    let atoms = c.args.self.now.atoms.items in
+    let atoms = c.args.kept.now in
     let none = none_there c.args.goods.now bundle c.loop-good.good-index c.requires.goods (g.met.S.GoodsSet.is_bundle c.args.bundle.now).0
     c.loop-good.auto.good-index-end c.loop-good-test.false in
     IsFinding-all (lists_of c.args.self.now.lists.items) c.args.self.now.listed (atoms_of goods atoms) bundle _ _ _ c.requires.listed
