@@ -13,6 +13,7 @@ mod or;
 mod places;
 mod search;
 mod shared;
+mod sorting;
 mod worked;
 mod xor;
 

@@ -98,7 +98,7 @@ pub fn prune_xor<S: GoodsSet>(
     ensures in_order { IfOk result (λ points. IsInOrder (atoms_of S.goods points.items)) }
     ensures no_longer { IfOk result (λ points. vec_len points ≤ vec_len atoms) }
 {
-    keep_best_bids(&mut atoms);
+    keep_best_bids(alloc, &mut atoms)?;
     if are_few_and_uncovered(atoms.as_slice()) {
         return Ok(atoms);
     }

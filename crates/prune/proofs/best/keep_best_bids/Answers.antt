@@ -1,6 +1,6 @@
 use Rattle.std.proofs.Common.{rules}
 use Rattle.std.proofs.lemmas.Fn.{filter_same, dedup_same, always_returns_same}
-use Rattle.std.proofs.lemmas.List.Sorted.{ranks_by}
+use Rattle.std.proofs.lemmas.List.Sorted.{ranks_by, IsPermutation-trans}
 use Rattle.prune.proofs.BestBids.{is_bid_before, is_same_bundle, has_price, bid_cmp_total, best_from_steps}
 use Rattle.prune.proofs.best.keep_best_bids.Goals as goal
 use Rattle.valuation.specs.Values.{plain_atom}
@@ -13,4 +13,5 @@ returns-clause-best g c =
     (always_returns_same _ _ _ (λ a r f k. search rules)) in
     let best = dedup_same _ (λ a b. is_same_bundle (plain_atom goods a) (plain_atom goods b)) _ (λ x y b f x' y' k. search rules) _ _
     c.dedup_by.ensures.filtered in
-    best_from_steps (plain_atom goods) _ _ _ _ priced c.sort_unstable_by.ensures.permutation sorted best
+    let moved = IsPermutation-trans _ _ _ c.put_in_order.ensures.permutation c.sort_unstable_by.ensures.permutation in
+    best_from_steps (plain_atom goods) _ _ _ _ priced moved sorted best

@@ -17,7 +17,7 @@ list_below-requires-clause-some g c =
     let goods = g.S.GoodsSet.goods in
     let h = c.loop-place.invariant in
     rw c.deref-in-loop-place.ensures.value
-    (kept_nonempty goods MAX_GOODS (atoms_of goods c.args.atoms.items) c.keep_best_bids.new.bids.items _ c.loop-place.place c.keep_best_bids.ensures.best
+    (kept_nonempty goods MAX_GOODS (atoms_of goods c.args.atoms.items) c.keep_best_bids.new.bids.items _ c.loop-place.place c.in_ok-keep_best_bids.ensures.best
     c.requires h.kept.among)
 
 pub list_below-requires-clause-in_order : goal.list_below-requires-clause-in_order
@@ -31,7 +31,7 @@ list_below-requires-clause-behind g c =
     let now = c.loop-place.atoms in
     let there : c.loop-place.place < length now.items = omega (arith, c.loop-place-test.true, c.len-place-end.ensures, best.ok.0, h.left.long) in
     let turn = next_turn goods (λ s. (g.met.S.GoodsSet.is_bundle s).0) _ best.items now.items c.loop-place.place c.index-bid.result.now
-    c.keep_best_bids.ensures.best h.left there c.index-bid.ensures in
+    c.in_ok-keep_best_bids.ensures.best h.left there c.index-bid.ensures in
     rw c.deref-in-loop-place.ensures.value (turn_behind _ _ _ _ (atoms_of goods (take c.loop-place.kept now.items)) turn h.kept.among)
 
 pub is_outbid-requires-clause-some : goal.is_outbid-requires-clause-some
@@ -39,7 +39,7 @@ is_outbid-requires-clause-some g c =
     let goods = g.S.GoodsSet.goods in
     let h = c.loop-place.invariant in
     rw c.deref-in-loop-place.ensures.value
-    (kept_nonempty goods MAX_GOODS (atoms_of goods c.args.atoms.items) c.keep_best_bids.new.bids.items _ c.loop-place.place c.keep_best_bids.ensures.best
+    (kept_nonempty goods MAX_GOODS (atoms_of goods c.args.atoms.items) c.keep_best_bids.new.bids.items _ c.loop-place.place c.in_ok-keep_best_bids.ensures.best
     c.requires h.kept.among)
 
 pub loop-place-preserved-in-Ok-true : goal.loop-place-preserved-in-Ok-true
@@ -53,7 +53,7 @@ loop-place-preserved-in-Ok-true g c =
     let kept = take c.loop-place.kept now.items in
     let there : place < length now.items = omega (arith, c.loop-place-test.true, c.len-place-end.ensures, best.ok.0, h.left.long) in
     let turn = next_turn goods (λ s. (g.met.S.GoodsSet.is_bundle s).0) (atoms_of goods c.args.atoms.items) best.items now.items place bid
-    c.keep_best_bids.ensures.best h.left there c.index-bid.ensures in
+    c.in_ok-keep_best_bids.ensures.best h.left there c.index-bid.ensures in
     let done = one_done goods best.items now.items place bid h.left there c.index-bid.ensures in
     let same = c.deref-in-loop-place.ensures.value in
     let listed = rw same at c.in_ok-list_below.ensures.listed in
@@ -78,7 +78,7 @@ loop-place-preserved g c =
     let kept = take c.loop-place.kept now.items in
     let there : place < length now.items = omega (arith, c.loop-place-test.true, c.len-place-end.ensures, best.ok.0, h.left.long) in
     let turn = next_turn goods (λ s. (g.met.S.GoodsSet.is_bundle s).0) (atoms_of goods c.args.atoms.items) best.items now.items place bid
-    c.keep_best_bids.ensures.best h.left there c.index-bid.ensures in
+    c.in_ok-keep_best_bids.ensures.best h.left there c.index-bid.ensures in
     let done = one_done goods best.items now.items place bid h.left there c.index-bid.ensures in
     let same = c.deref-in-loop-place.ensures.value in
     let listed = rw same at c.in_ok-list_below.ensures.listed in
@@ -107,7 +107,7 @@ returns-in-Err-StepLimit-clause-step_limit g c =
     let place = c.loop-place.place in
     let bid = c.index-bid.result.now in
     let there : place < length now.items = omega (arith, c.loop-place-test.true, c.len-place-end.ensures, best.ok.0, h.left.long) in
-    let turn = next_turn goods (λ s. (g.met.S.GoodsSet.is_bundle s).0) bids best.items now.items place bid c.keep_best_bids.ensures.best h.left there
+    let turn = next_turn goods (λ s. (g.met.S.GoodsSet.is_bundle s).0) bids best.items now.items place bid c.in_ok-keep_best_bids.ensures.best h.left there
     c.index-bid.ensures in
     let heavy = rw c.deref-in-loop-place.ensures.value at (c.in-Err-StepLimit.ensures.step_limit (ap Err c.in-Err-StepLimit.field-0-is)) in
     let told = c.swap_remove-bundle.result in
@@ -126,7 +126,7 @@ returns-in-Err-StepLimit-clause-load g c =
     let place = c.loop-place.place in
     let bid = c.index-bid.result.now in
     let there : place < length now.items = omega (arith, c.loop-place-test.true, c.len-place-end.ensures, best.ok.0, h.left.long) in
-    let turn = next_turn goods (λ s. (g.met.S.GoodsSet.is_bundle s).0) bids best.items now.items place bid c.keep_best_bids.ensures.best h.left there
+    let turn = next_turn goods (λ s. (g.met.S.GoodsSet.is_bundle s).0) bids best.items now.items place bid c.in_ok-keep_best_bids.ensures.best h.left there
     c.index-bid.ensures in
     let heavy = rw c.deref-in-loop-place.ensures.value at (c.in-Err-StepLimit.ensures.step_limit (ap Err c.in-Err-StepLimit.field-0-is)) in
     let told = c.swap_remove-bundle.result in
@@ -143,7 +143,7 @@ returns-clause-points g c =
     let h = c.loop-place.invariant in
     let best = c.keep_best_bids.new.bids in
     let all : length best.items ≤ c.loop-place.place = omega (arith, c.loop-place-test.false, c.len-place-end.ensures, best.ok.0) in
-    let done = or_end goods bids best.items _ _ c.loop-place.place (all_some MAX_GOODS bids c.requires) c.keep_best_bids.ensures.best h.kept all
+    let done = or_end goods bids best.items _ _ c.loop-place.place (all_some MAX_GOODS bids c.requires) c.in_ok-keep_best_bids.ensures.best h.kept all
     c.truncate.ensures.items in
     λ n are. done.points n (on_bundles n bids are)
 
@@ -154,7 +154,7 @@ returns-clause-none_heavy g c =
     let h = c.loop-place.invariant in
     let best = c.keep_best_bids.new.bids in
     let all : length best.items ≤ c.loop-place.place = omega (arith, c.loop-place-test.false, c.len-place-end.ensures, best.ok.0) in
-    λ n are. none_heavy_end goods n c.args.limit bids best.items _ c.loop-place.place (on_bundles n bids are) c.keep_best_bids.ensures.best h.kept h.within all
+    λ n are. none_heavy_end goods n c.args.limit bids best.items _ c.loop-place.place (on_bundles n bids are) c.in_ok-keep_best_bids.ensures.best h.kept h.within all
 
 pub returns-clause-values : goal.returns-clause-values
 returns-clause-values g c =
@@ -163,7 +163,7 @@ returns-clause-values g c =
     let h = c.loop-place.invariant in
     let best = c.keep_best_bids.new.bids in
     let all : length best.items ≤ c.loop-place.place = omega (arith, c.loop-place-test.false, c.len-place-end.ensures, best.ok.0) in
-    let done = or_end goods bids best.items _ _ c.loop-place.place (all_some MAX_GOODS bids c.requires) c.keep_best_bids.ensures.best h.kept all
+    let done = or_end goods bids best.items _ _ c.loop-place.place (all_some MAX_GOODS bids c.requires) c.in_ok-keep_best_bids.ensures.best h.kept all
     c.truncate.ensures.items in
     done.values
 
@@ -174,7 +174,7 @@ returns-clause-bids g c =
     let h = c.loop-place.invariant in
     let best = c.keep_best_bids.new.bids in
     let all : length best.items ≤ c.loop-place.place = omega (arith, c.loop-place-test.false, c.len-place-end.ensures, best.ok.0) in
-    let done = or_end goods bids best.items _ _ c.loop-place.place (all_some MAX_GOODS bids c.requires) c.keep_best_bids.ensures.best h.kept all
+    let done = or_end goods bids best.items _ _ c.loop-place.place (all_some MAX_GOODS bids c.requires) c.in_ok-keep_best_bids.ensures.best h.kept all
     c.truncate.ensures.items in
     done.among
 
@@ -185,6 +185,6 @@ returns-clause-in_order g c =
     let h = c.loop-place.invariant in
     let best = c.keep_best_bids.new.bids in
     let all : length best.items ≤ c.loop-place.place = omega (arith, c.loop-place-test.false, c.len-place-end.ensures, best.ok.0) in
-    let done = or_end goods bids best.items _ _ c.loop-place.place (all_some MAX_GOODS bids c.requires) c.keep_best_bids.ensures.best h.kept all
+    let done = or_end goods bids best.items _ _ c.loop-place.place (all_some MAX_GOODS bids c.requires) c.in_ok-keep_best_bids.ensures.best h.kept all
     c.truncate.ensures.items in
     done.in_order

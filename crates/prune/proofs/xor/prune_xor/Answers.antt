@@ -17,7 +17,7 @@ is_covered-requires-clause-some g c =
     let goods = g.S.GoodsSet.goods in
     let h = c.loop-place.invariant in
     rw c.deref-in-loop-place.ensures.value
-    (kept_nonempty goods MAX_GOODS (atoms_of goods c.args.atoms.items) c.keep_best_bids.new.bids.items _ c.loop-place.place c.keep_best_bids.ensures.best
+    (kept_nonempty goods MAX_GOODS (atoms_of goods c.args.atoms.items) c.keep_best_bids.new.bids.items _ c.loop-place.place c.in_ok-keep_best_bids.ensures.best
     c.requires h.kept.among)
 
 pub is_covered-requires-clause-in_order : goal.is_covered-requires-clause-in_order
@@ -31,7 +31,7 @@ is_covered-requires-clause-behind g c =
     let now = c.loop-place.atoms in
     let there : c.loop-place.place < length now.items = omega (arith, c.loop-place-test.true, c.len-place-end.ensures, best.ok.0, h.left.long) in
     let turn = next_turn goods (λ s. (g.met.S.GoodsSet.is_bundle s).0) _ best.items now.items c.loop-place.place c.index-bid.result.now
-    c.keep_best_bids.ensures.best h.left there c.index-bid.ensures in
+    c.in_ok-keep_best_bids.ensures.best h.left there c.index-bid.ensures in
     rw c.deref-in-loop-place.ensures.value (turn_behind _ _ _ _ (atoms_of goods (take c.loop-place.kept now.items)) turn h.kept.among)
 
 pub loop-place-preserved : goal.loop-place-preserved
@@ -46,7 +46,7 @@ loop-place-preserved g c =
     let index = c.is_covered.new.index in
     let there : place < length now.items = omega (arith, c.loop-place-test.true, c.len-place-end.ensures, best.ok.0, h.left.long) in
     let turn = next_turn goods (λ s. (g.met.S.GoodsSet.is_bundle s).0) (atoms_of goods c.args.atoms.items) best.items now.items place bid
-    c.keep_best_bids.ensures.best h.left there c.index-bid.ensures in
+    c.in_ok-keep_best_bids.ensures.best h.left there c.index-bid.ensures in
     let done = one_done goods best.items now.items place bid h.left there c.index-bid.ensures in
     let same = c.deref-in-loop-place.ensures.value in
     let answer = rw same at c.in_ok-is_covered.ensures.answer in
@@ -76,25 +76,25 @@ loop-place-preserved g c =
 pub returns-then-are_few_and_uncovered-clause-points : goal.returns-then-are_few_and_uncovered-clause-points
 returns-then-are_few_and_uncovered-clause-points g c =
     let bids = atoms_of g.S.GoodsSet.goods c.args.atoms.items in
-    λ n are. (xor_uncovered g.S.GoodsSet.goods (λ s. (g.met.S.GoodsSet.is_bundle s).0) _ c.keep_best_bids.new.bids.items c.keep_best_bids.ensures.best
+    λ n are. (xor_uncovered g.S.GoodsSet.goods (λ s. (g.met.S.GoodsSet.is_bundle s).0) _ c.keep_best_bids.new.bids.items c.in_ok-keep_best_bids.ensures.best
     (subst (λ zs. AreUncovered (atoms_of g.S.GoodsSet.goods zs)) c.as_slice.ensures.value
     (c.are_few_and_uncovered.ensures c.if-are_few_and_uncovered.true))).points n (just_bundles n bids (on_bundles n bids are))
 
 pub returns-then-are_few_and_uncovered-clause-values : goal.returns-then-are_few_and_uncovered-clause-values
 returns-then-are_few_and_uncovered-clause-values g c =
-    (xor_uncovered g.S.GoodsSet.goods (λ s. (g.met.S.GoodsSet.is_bundle s).0) _ c.keep_best_bids.new.bids.items c.keep_best_bids.ensures.best
+    (xor_uncovered g.S.GoodsSet.goods (λ s. (g.met.S.GoodsSet.is_bundle s).0) _ c.keep_best_bids.new.bids.items c.in_ok-keep_best_bids.ensures.best
     (subst (λ zs. AreUncovered (atoms_of g.S.GoodsSet.goods zs)) c.as_slice.ensures.value
     (c.are_few_and_uncovered.ensures c.if-are_few_and_uncovered.true))).values
 
 pub returns-then-are_few_and_uncovered-clause-bids : goal.returns-then-are_few_and_uncovered-clause-bids
 returns-then-are_few_and_uncovered-clause-bids g c =
-    (xor_uncovered g.S.GoodsSet.goods (λ s. (g.met.S.GoodsSet.is_bundle s).0) _ c.keep_best_bids.new.bids.items c.keep_best_bids.ensures.best
+    (xor_uncovered g.S.GoodsSet.goods (λ s. (g.met.S.GoodsSet.is_bundle s).0) _ c.keep_best_bids.new.bids.items c.in_ok-keep_best_bids.ensures.best
     (subst (λ zs. AreUncovered (atoms_of g.S.GoodsSet.goods zs)) c.as_slice.ensures.value
     (c.are_few_and_uncovered.ensures c.if-are_few_and_uncovered.true))).among
 
 pub returns-then-are_few_and_uncovered-clause-in_order : goal.returns-then-are_few_and_uncovered-clause-in_order
 returns-then-are_few_and_uncovered-clause-in_order g c =
-    (xor_uncovered g.S.GoodsSet.goods (λ s. (g.met.S.GoodsSet.is_bundle s).0) _ c.keep_best_bids.new.bids.items c.keep_best_bids.ensures.best
+    (xor_uncovered g.S.GoodsSet.goods (λ s. (g.met.S.GoodsSet.is_bundle s).0) _ c.keep_best_bids.new.bids.items c.in_ok-keep_best_bids.ensures.best
     (subst (λ zs. AreUncovered (atoms_of g.S.GoodsSet.goods zs)) c.as_slice.ensures.value
     (c.are_few_and_uncovered.ensures c.if-are_few_and_uncovered.true))).in_order
 
@@ -104,7 +104,7 @@ returns-clause-points g c =
     let bids = atoms_of goods c.args.atoms.items in
     let best = c.keep_best_bids.new.bids in
     let all : length best.items ≤ c.loop-place.place = omega (arith, c.loop-place-test.false, c.len-place-end.ensures, best.ok.0) in
-    let done = xor_end goods bids best.items _ _ c.loop-place.place c.keep_best_bids.ensures.best c.loop-place.invariant.kept all c.truncate.ensures.items in
+    let done = xor_end goods bids best.items _ _ c.loop-place.place c.in_ok-keep_best_bids.ensures.best c.loop-place.invariant.kept all c.truncate.ensures.items in
     λ n are. done.points n (just_bundles n bids (on_bundles n bids are))
 
 pub returns-clause-values : goal.returns-clause-values
@@ -113,7 +113,7 @@ returns-clause-values g c =
     let bids = atoms_of goods c.args.atoms.items in
     let best = c.keep_best_bids.new.bids in
     let all : length best.items ≤ c.loop-place.place = omega (arith, c.loop-place-test.false, c.len-place-end.ensures, best.ok.0) in
-    let done = xor_end goods bids best.items _ _ c.loop-place.place c.keep_best_bids.ensures.best c.loop-place.invariant.kept all c.truncate.ensures.items in
+    let done = xor_end goods bids best.items _ _ c.loop-place.place c.in_ok-keep_best_bids.ensures.best c.loop-place.invariant.kept all c.truncate.ensures.items in
     done.values
 
 pub returns-clause-bids : goal.returns-clause-bids
@@ -122,7 +122,7 @@ returns-clause-bids g c =
     let bids = atoms_of goods c.args.atoms.items in
     let best = c.keep_best_bids.new.bids in
     let all : length best.items ≤ c.loop-place.place = omega (arith, c.loop-place-test.false, c.len-place-end.ensures, best.ok.0) in
-    let done = xor_end goods bids best.items _ _ c.loop-place.place c.keep_best_bids.ensures.best c.loop-place.invariant.kept all c.truncate.ensures.items in
+    let done = xor_end goods bids best.items _ _ c.loop-place.place c.in_ok-keep_best_bids.ensures.best c.loop-place.invariant.kept all c.truncate.ensures.items in
     done.among
 
 pub returns-clause-in_order : goal.returns-clause-in_order
@@ -131,5 +131,5 @@ returns-clause-in_order g c =
     let bids = atoms_of goods c.args.atoms.items in
     let best = c.keep_best_bids.new.bids in
     let all : length best.items ≤ c.loop-place.place = omega (arith, c.loop-place-test.false, c.len-place-end.ensures, best.ok.0) in
-    let done = xor_end goods bids best.items _ _ c.loop-place.place c.keep_best_bids.ensures.best c.loop-place.invariant.kept all c.truncate.ensures.items in
+    let done = xor_end goods bids best.items _ _ c.loop-place.place c.in_ok-keep_best_bids.ensures.best c.loop-place.invariant.kept all c.truncate.ensures.items in
     done.in_order
