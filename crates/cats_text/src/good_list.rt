@@ -22,7 +22,6 @@ ghost use Rattle.std.specs.Prelude.{
 ghost use Rattle.cats_text.specs.Files.{IsRising};
 ghost use Rattle.cats_text.specs.Grammar.{has_number};
 ghost use Rattle.cats_text.specs.Internal.Marks.{IsMarked};
-ghost use Rattle.std.specs.Bool.{OnTrue};
 
 use std::alloc::{AllocError, Global};
 use std::marker::Model;
@@ -37,7 +36,12 @@ pub struct GoodList {
     bid_mark: u32,
     /// Whether the goods rise so far, and are not marked.
     rises: bool,
+    /// From this one on a good is above all of them, where they rise; else no good is.
+    least: u32,
 }
+
+/// Above all goods.
+const NO_GOOD: u32 = 65_536;
 
 impl Model for GoodList {
     ghost use Rattle.std.specs.Prelude.{ℕ, List};
@@ -47,7 +51,7 @@ impl Model for GoodList {
 
     ghost view = { λ s. s.goods.items };
 
-    ghost invariant = { λ s. IsListed s.goods.items s.marks.items s.bid_mark s.rises };
+    ghost invariant = { λ s. IsListed s.goods.items s.marks.items s.bid_mark s.rises s.least };
 }
 
 /// Lengthens the marks so that there is one at this place.
@@ -102,18 +106,6 @@ fn put_marked(
     Ok(true)
 }
 
-/// Whether the good is above the last one.
-fn goes_on_rising(goods: &[u16], good: u16) -> bool
-    requires { IsRising goods.now }
-    ensures rising { OnTrue result (IsRising (goods.now ++ good ∷ [])) }
-    ensures new { OnTrue result (has_number goods.now good ≡ false) }
-{
-    match goods {
-        [] => true,
-        [.., last] => *last < good,
-    }
-}
-
 impl GoodList {
     /// No goods.
     pub fn new(alloc: Global) -> GoodList
@@ -124,6 +116,7 @@ impl GoodList {
             marks: Vec::new(alloc),
             bid_mark: 1,
             rises: true,
+            least: 0,
         }
     }
 
@@ -140,11 +133,12 @@ impl GoodList {
         ensures new { IfOk result (λ is_put. is_put ≡ true → has_number self.old good ≡ false) }
         ensures goods { IfOk result (λ is_put. self.new ≡ (if is_put then self.old ++ good ∷ [] else self.old)) }
     {
-        if self.rises && goes_on_rising(self.goods.as_slice(), good) {
-            self.goods.push(good)?;
-            return Ok(true);
+        if u32::from(good) < self.least {
+            return Ok(false);
         }
-        Ok(false)
+        self.goods.push(good)?;
+        self.least = u32::from(good) + 1;
+        Ok(true)
     }
 
     /// Puts a good behind the others unless it has come, and tells whether it was new.
@@ -155,6 +149,7 @@ impl GoodList {
         if self.rises {
             mark_all(&mut self.marks, self.goods.as_slice(), self.bid_mark)?;
             self.rises = false;
+            self.least = NO_GOOD;
         }
         put_marked(&mut self.goods, &mut self.marks, self.bid_mark, good)
     }
@@ -184,6 +179,7 @@ impl GoodList {
         ensures { self.new ≡ [] }
     {
         self.goods.clear();
+        self.least = 0;
         if self.rises {
             return;
         }

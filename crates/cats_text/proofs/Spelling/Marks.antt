@@ -1,5 +1,5 @@
 -- The marks of the goods that have come.
-use Rattle.std.proofs.Common.{◌≡◌, ◌≢◌, ℕ, ◌<◌, ◌≤◌, true, false, eqb, List, [], ◌∷◌, ◌++◌, length, get_or, set, refl, sym, ap, ◌∙◌, subst, arith, ◌||◌}
+use Rattle.std.proofs.Common.{◌≡◌, ◌≢◌, ℕ, ◌+◌, ◌<◌, ◌≤◌, Bool, true, false, eqb, List, [], ◌∷◌, ◌++◌, length, get_or, set, refl, sym, ap, ◌∙◌, subst, arith, ◌||◌}
 use Rattle.std.proofs.Common.{get_or-set_same, get_or-set_other}
 use Rattle.std.proofs.lemmas.Bool.{eqb-true, eq-eqb, eqb-false, both_ways, or_left, or_right}
 use Rattle.std.proofs.lemmas.List.Sorted.{list_any-IsPermutation}
@@ -7,8 +7,9 @@ use Rattle.std.specs.List.{AllByRecursion}
 use Rattle.std.specs.List.Sorted.{IsPermutation}
 use Rattle.cats_text.specs.Files.{IsRising}
 use Rattle.cats_text.specs.Grammar.{AreDistinct, has_number}
-use Rattle.cats_text.specs.Internal.Marks.{IsMarked}
+use Rattle.cats_text.specs.Internal.Marks.{IsMarked, IsListed}
 use Rattle.cats_text.proofs.Spelling.Distinct.{distinct_from_rising}
+use Rattle.cats_text.proofs.Spelling.Rising.{IsRising-push}
 
 -- one more number, other than those there
 apart_more : (x : ℕ) (xs : List ℕ) (g : ℕ) → AllByRecursion (λ y. x ≢ y) xs → x ≢ g → AllByRecursion (λ y. x ≢ y) (xs ++ g ∷ [])
@@ -82,3 +83,20 @@ IsMarked-sorted goods sorted marks m old moved rises = record {
   older = old.older;
   distinct = distinct_from_rising sorted rises;
 }
+
+-- one more good from the least on that is above those that rise
+behind_all : (goods : List ℕ) (g k least : ℕ) → ((j : ℕ) → has_number goods j ≡ true → j < least) → least ≤ g → has_number (goods ++ g ∷ []) k ≡ true → k < g + 1
+behind_all goods g k least below le h = elim (has_number goods k) as (λ b. has_number goods k ≡ b → (b || eqb g k) ≡ true → k < g + 1) [
+  | true ↦ λ (e : has_number goods k ≡ true) (q : true ≡ true). let low : k < least = below k e in omega arith
+  | false ↦ λ (e : has_number goods k ≡ false) (q : eqb g k ≡ true). let same : g ≡ k = eqb-true g k q in omega arith
+] refl (sym (has_number-push goods g k) ∙ h)
+
+pub IsListed-push : (goods marks : List ℕ) (m : ℕ) (rises : Bool) (least g : ℕ) → IsListed goods marks m rises least → least ≤ g → g < 65536
+    → IsListed (goods ++ g ∷ []) marks m rises (g + 1)
+IsListed-push goods marks m true least g old le fits = record {
+  marked = old.marked;
+  rising = λ (q : true ≡ true). IsRising-push goods g (old.rising refl) (λ k h. let below : k < least = old.above refl k h in omega arith);
+  above = λ (q : true ≡ true) k h. behind_all goods g k least (old.above refl) le h;
+  none = λ (q : true ≡ false). cc;
+}
+IsListed-push goods marks m false least g old le fits = let none : 65536 ≤ least = old.none refl in absurd (omega arith)

@@ -89,13 +89,6 @@ last_is_most (x ∷ (y ∷ ys)) d k r h =
     omega arith)
     (λ (m : has_number (y ∷ ys) k ≡ true). last_is_most (y ∷ ys) d k r.1 m) (has_cases x (y ∷ ys) k h))
 
--- so what is above it is new, and goes behind
-pub above_last : (xs : List ℕ) (d g : ℕ) → IsRising xs → get_or xs (length xs - 1) d < g → IsRising (xs ++ g ∷ []) × (has_number xs g ≡ false)
-above_last xs d g r above = (
-  IsRising-push xs g r (λ k h. let most : k ≤ get_or xs (length xs - 1) d = last_is_most xs d k r h in omega arith),
-  false_from_ne_true (has_number xs g) (λ h. let most : g ≤ get_or xs (length xs - 1) d = last_is_most xs d g r h in absurd (omega arith)),
-)
-
 -- ---- a list put in order
 
 -- above what all numbers of the list are above

@@ -1,5 +1,5 @@
 -- The marks of the goods that have come in a bid.
-use Rattle.std.specs.Prelude.{◌≡◌, ℕ, ◌<◌, ◌≤◌, ◌==◌, Bool, true, if◌then◌else◌, List, [], slice_index}
+use Rattle.std.specs.Prelude.{◌≡◌, ℕ, ◌<◌, ◌≤◌, ◌==◌, Bool, true, false, if◌then◌else◌, List, [], slice_index}
 use Rattle.cats_text.specs.Files.{IsRising}
 use Rattle.cats_text.specs.Grammar.{has_number, AreDistinct}
 
@@ -10,7 +10,9 @@ pub record IsMarked (goods marks : List ℕ) (bid_mark : ℕ) : Type 0 where
   pub older : (g : ℕ) → slice_index marks g ≤ bid_mark
   pub distinct : AreDistinct goods
 
--- goods that rise so far are not marked, others are
-pub record IsListed (goods marks : List ℕ) (bid_mark : ℕ) (rises : Bool) : Type 0 where
+-- goods that rise so far are not marked, others are; the next good is above those that rise from the least such on
+pub record IsListed (goods marks : List ℕ) (bid_mark : ℕ) (rises : Bool) (least : ℕ) : Type 0 where
   pub marked : IsMarked (if rises then [] else goods) marks bid_mark
   pub rising : rises ≡ true → IsRising goods
+  pub above : rises ≡ true → (g : ℕ) → has_number goods g ≡ true → g < least
+  pub none : rises ≡ false → 65536 ≤ least

@@ -1,5 +1,6 @@
 -- Goods that do not rise are sorted: the marks stay theirs.
-use Rattle.std.proofs.Common.{sym, ap, ◌∙◌, List, ℕ}
+use Rattle.std.proofs.Common.{◌≡◌, true, sym, ap, ◌∙◌, List, ℕ}
+use Rattle.std.proofs.lemmas.Bool.{both_ways}
 use Rattle.std.proofs.lemmas.List.Sorted.{list_any-IsPermutation, IsNonDecreasingBy-from_sort}
 use Rattle.cats_text.specs.Files.{IsRising}
 use Rattle.cats_text.specs.Grammar.{has_number}
@@ -17,6 +18,8 @@ invariant_of-self c =
     record {
       marked = rw c.if-not-self.true (IsMarked-sorted _ _ _ _ marked c.sort_unstable.ensures.permutation rising);
       rising = λ _. rising;
+      above = λ (r : c.self.inside.rises ≡ true). absurd (both_ways c.self.inside.rises c.if-not-self.true r);
+      none = c.self.invariant.none;
     }
 
 pub returns-then-not-self-clause-rising : goal.returns-then-not-self-clause-rising
