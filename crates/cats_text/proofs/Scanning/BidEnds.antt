@@ -1,8 +1,8 @@
 -- The `#` and the LF that end a bid line.
-use Rattle.std.proofs.Common.{◌≡◌, ◌≢◌, ℕ, ◌+◌, ◌<◌, ◌≤◌, Bool, true, false, cond, eqb, List, length, get_or, refl, sym, ap, ap₂, subst, ◌∙◌, arith, Result, Ok, Err, suc, add-one}
+use Rattle.std.proofs.Common.{◌≡◌, ◌≢◌, ℕ, ◌+◌, ◌<◌, Bool, true, false, cond, eqb, List, length, get_or, refl, sym, ap, ap₂, subst, ◌∙◌, arith, Ok, Err, add-one}
 use Rattle.std.proofs.lemmas.Bool.{eqb-true}
 use Rattle.cats_text.specs.Internal.Front.{IsFront}
-use Rattle.cats_text.specs.Internal.Parsing.{word_read, line_read, end_read, bid_closed, with_bid, Reading}
+use Rattle.cats_text.specs.Internal.Parsing.{word_read, line_read, end_read, bid_closed, with_bid}
 use Rattle.cats_text.specs.Internal.Progress.{Progress, Gives, AsksOnBidLines}
 use Rattle.cats_text.specs.Internal.Scanning.{State, byte_step, is_before_word, halt_of, IsGoodDue, ScansTo}
 use Rattle.cats_text.specs.declared.fault.Kind.{Kind}

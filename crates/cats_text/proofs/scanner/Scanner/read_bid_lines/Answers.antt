@@ -1,4 +1,4 @@
-use Rattle.std.proofs.Common.{◌≡◌, ◌+◌, ◌≤◌, length, drop, ◌∙◌, subst, arith}
+use Rattle.std.proofs.Common.{◌≡◌, ◌+◌, ◌≤◌, length, drop, subst, arith}
 use Rattle.cats_text.specs.Internal.Scanning.{state, IsScanned}
 use Rattle.cats_text.proofs.Scanning.WholeWords.{rest_then}
 use Rattle.cats_text.proofs.scanner.Scanner.read_bid_lines.Goals as goal
