@@ -1,6 +1,6 @@
 //! The file of an auction.
 
-ghost use Rattle.std.specs.Prelude.{◌≡◌, ◌≤◌, ◌++◌, length, IfOk, OnOk, map};
+ghost use Rattle.std.specs.Prelude.{◌≡◌, ◌≤◌, ◌++◌, [], length, IfOk, OnOk, map};
 ghost use Rattle.cats_text.specs.Files.{plain_bids};
 ghost use Rattle.cats_text.specs.Views.{plain_file};
 ghost use Rattle.cats_text.specs.declared.limits.TheConstants.{MAX_DUMMY};
@@ -50,19 +50,20 @@ pub fn compact_file_of<S: GoodsSet>(
     Ok(CompactFile::new(auction.goods(), bidders.len() as u32, bids))
 }
 
-/// The compact file of any auction, as `compact_file_of`. It uses the auction up: the atoms of each bidder are given up
-/// as soon as their bids are there.
+/// The compact file of any auction, as `compact_file_of`, in memory that is there. It uses the auction up: the atoms of
+/// each bidder are given up as soon as their bids are there.
 pub(crate) fn into_compact_file<S: GoodsSet>(
     alloc: Global,
     auction: Auction<S>,
+    mut bids: CompactBids,
 ) -> Result<CompactFile, AllocError>
+    requires { bids ≡ [] }
     ensures { IfOk result (λ file. file ≡ file_from (plain_auction auction)) }
 {
     // No file has more bids than a number of 32 bits counts.
     let count = count_bids(&auction) as u32;
     let (goods, or_atoms, bidders) = auction.into_parts();
     let dummy = bidders.len() as u32;
-    let mut bids = CompactBids::new(alloc);
     let mut bundle = Vec::new(alloc);
     push_offers(&mut bids, &mut bundle, or_atoms.as_slice(), None, count)?;
     mem::drop(or_atoms);

@@ -25,8 +25,8 @@ use crate::auction::canonical;
 use crate::fault::CanonFault;
 use crate::file::{compact_file_of, file_of, into_compact_file};
 use crate::known_file::compact_file_unless;
-use crate::writing::text_of;
-use cats_text::{BidFile, CompactFile, read_compact};
+use crate::writing::{count_bids, text_of};
+use cats_text::{BidFile, CompactBids, CompactFile, read_compact};
 use goods_set::{GoodsSet, ListSet, goods_of, on_least_set};
 use prune::PruneFault;
 use std::alloc::Global;
@@ -47,8 +47,9 @@ pub fn normal_file(alloc: Global, file: &BidFile, limit: u64) -> Result<BidFile,
     on_least_set!(file.goods(), normal_file_on(alloc, file, limit))
 }
 
-/// The canonical file of a compact file, as `normal_file`. The file is given up before its auction is made canonical,
-/// so the two are never held at once, and the auction while its own file is made.
+/// The canonical file of a compact file, as `normal_file`. The file's bids are given up before its auction is made
+/// canonical, and their memory is used again where at least half as many bids stay; the auction is given up while its
+/// own file is made.
 pub fn into_normal_file(
     alloc: Global,
     file: CompactFile,
@@ -186,8 +187,16 @@ fn into_normal_file_on<S: GoodsSet>(
     ensures answer { NormalisesPlainAs limit file result }
     ensures canonical { IfOk result (λ h. IsCanonicalFile h) }
 {
-    let canonical: Auction<S> = into_canonical(alloc, file, limit)?;
-    Ok(into_compact_file(alloc, canonical)?)
+    let count = file.bids().len();
+    let auction: Auction<S> = compact_auction(alloc, &file)?;
+    let room = file.into_room();
+    let canonical = light_canonical(alloc, auction, limit)?;
+    let bids = if count_bids(&canonical) < count / 2 {
+        CompactBids::new(alloc)
+    } else {
+        room
+    };
+    Ok(into_compact_file(alloc, canonical, bids)?)
 }
 
 fn last_normal_file_on<S: GoodsSet>(

@@ -304,6 +304,16 @@ impl CompactFile {
         self.bids().is_equal(other.bids())
     }
 
+    /// No bids, in the memory that the file's bids took, so that others may stand there.
+    pub fn into_room(self) -> CompactBids
+        ensures { result ≡ [] }
+    {
+        let CompactFile { mut bids, .. } = self;
+        bids.offers.clear();
+        bids.goods.clear();
+        bids
+    }
+
     /// The same file with a vector for each bid.
     pub fn to_file(&self, alloc: Global) -> Result<BidFile, AllocError>
         ensures { IfOk result (λ f. plain_file f ≡ self.now) }

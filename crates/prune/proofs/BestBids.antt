@@ -6,16 +6,18 @@ use Rattle.std.specs.Cmp.{IsTotalOrder}
 use Rattle.std.specs.List.{filter, dedup, dedup_from}
 use Rattle.std.specs.List.Sorted.{IsSortedBy, IsStrictlySortedBy}
 use Rattle.std.specs.Ordering.{is_eq, ordering_then}
-use Rattle.std.proofs.lemmas.Bool.{cases_Bool, cases_lt, both_ways, ltb-true, lt-ltb, cond-true, cond-false}
+use Rattle.std.proofs.lemmas.Bool.{cases_Bool, cases_lt, both_ways, false_from_ne_true, ltb-true, lt-ltb, cond-true, cond-false}
 use Rattle.std.proofs.lemmas.Cmp.{on_total, then_total, back_total, nat_cmp_total}
 use Rattle.std.proofs.lemmas.List.{length-map, get_or-map}
-use Rattle.std.proofs.lemmas.List.Elements.{All-tail, All-from_recursion}
+use Rattle.std.proofs.lemmas.List.Elements.{All-head, All-tail, All-from_recursion}
 use Rattle.std.proofs.lemmas.List.Kept.{IsStrictlySortedBy-dedup, Contains-from_dedup}
 use Rattle.std.proofs.lemmas.List.Sorted.{sorted_far, ranks_by, Contains-permutation, IsPermutation-sym, IsPermutation-map}
+use Rattle.goods_set.specs.Bundles.{IsInside, is_inside}
+use Rattle.goods_set.specs.Lemmas.Members.{inside_refl}
 use Rattle.goods_set.specs.Orders.{bundle_cmp}
-use Rattle.goods_set.specs.Lemmas.Orders.{bundle_cmp_total, bundle_cmp_equal, nat_cmp-lt}
+use Rattle.goods_set.specs.Lemmas.Orders.{bundle_cmp_total, bundle_cmp_refl, bundle_cmp_equal, nat_cmp-lt}
 use Rattle.valuation.specs.declared.atom.Atom.{Atom}
-use Rattle.valuation.specs.Lemmas.Lists.{Contains-cons_cases, AllPairs-nil, AllPairs-cons, AllPairs-head, AllPairs-tail}
+use Rattle.valuation.specs.Lemmas.Lists.{Contains-cons_cases, AllPairs-nil, AllPairs-cons, AllPairs-head, AllPairs-tail, AllPairs-map}
 use Rattle.prune.specs.Lemmas.Lists.{Contains-nil, Contains-head, Contains-tail, Contains-filter, Contains-filter_parts, All-from_Contains}
 use Rattle.prune.specs.InOrder.{IsBefore, IsInOrder}
 use Rattle.prune.specs.Internal.BestBids.{bid_cmp, AreBestBids}
@@ -25,6 +27,9 @@ is_bid_before a b = is_lt (bid_cmp a b)
 
 abbrev pub is_same_bundle : Atom (List ℕ) → Atom (List ℕ) → Bool
 is_same_bundle a b = is_eq (bundle_cmp a.bundle b.bundle)
+
+abbrev pub is_in_bundle : Atom (List ℕ) → Atom (List ℕ) → Bool
+is_in_bundle a b = is_inside a.bundle b.bundle
 
 abbrev pub has_price : Atom (List ℕ) → Bool
 has_price a = ltb 0 a.price
@@ -57,10 +62,52 @@ equal_from_test a b t = at (bundle_cmp a.bundle b.bundle) t
     at Equal e = refl
     at Greater e = absurd (cc)
 
+-- what does not come before a bid is inside its bundle only where the two are the same
+inside_is_same : (earlier later : Atom (List ℕ)) → (IsInside later.bundle earlier.bundle → (bundle_cmp later.bundle earlier.bundle ≡ Less)
+    ⊎ (later.bundle ≡ earlier.bundle)) → is_bid_before later earlier ≡ false → is_in_bundle later earlier ≡ is_same_bundle later earlier
+inside_is_same earlier later ordered n =
+    elim (cases_Bool (is_in_bundle later earlier)) [
+      | inl i ↦
+          i
+          ∙ sym (⊎_elim
+          (λ (l : bundle_cmp later.bundle earlier.bundle ≡ Less).
+          let f : is_bid_before later earlier ≡ true = ap (λ o. is_lt (ordering_then o (nat_cmp earlier.price later.price))) l in
+          absurd (both_ways (is_bid_before later earlier) n f))
+          (λ (e : later.bundle ≡ earlier.bundle).
+          let f : is_same_bundle later earlier ≡ true = ap (λ zs. is_eq (bundle_cmp zs earlier.bundle)) e ∙ ap is_eq (bundle_cmp_refl earlier.bundle) in
+          f)
+          (ordered i))
+      | inr o ↦
+          o
+          ∙ sym (false_from_ne_true (is_same_bundle later earlier) (λ t.
+          let e : later.bundle ≡ earlier.bundle = bundle_cmp_equal later.bundle earlier.bundle (equal_from_test later earlier t) in
+          both_ways (is_in_bundle later earlier) o (subst (λ zs. IsInside zs earlier.bundle) (sym e) (inside_refl earlier.bundle))))
+    ]
+
 -- ---- what `dedup` keeps
 
 abbrev NotBefore : Atom (List ℕ) → Atom (List ℕ) → Type 0
 NotBefore earlier later = is_bid_before later earlier ≡ false
+
+skip_second : (R : Atom (List ℕ) → Atom (List ℕ) → Type 0) (k x : Atom (List ℕ)) (xs : List (Atom (List ℕ))) → AllPairs R (k ∷ (x ∷ xs)) → AllPairs R (k ∷ xs)
+skip_second R k x xs h = AllPairs-cons R k xs (All-tail (R k) x xs (AllPairs-head R k (x ∷ xs) h))
+    (AllPairs-tail R x xs (AllPairs-tail R k (x ∷ xs) h))
+
+-- two tests that say the same of each element and an earlier one keep the same
+module _ (p q : Atom (List ℕ) → Atom (List ℕ) → Bool) where
+  abbrev Agree : Atom (List ℕ) → Atom (List ℕ) → Type 0
+  Agree earlier later = p later earlier ≡ q later earlier
+
+  dedup_from_agree : (k : Atom (List ℕ)) (xs : List (Atom (List ℕ))) → AllPairs Agree (k ∷ xs) → dedup_from p k xs ≡ dedup_from q k xs
+  dedup_from_agree k [] h = refl
+  dedup_from_agree k (x ∷ xs) h =
+      ap₂ (λ (same other : List (Atom (List ℕ))). cond (p x k) same (k ∷ other)) (dedup_from_agree k xs (skip_second Agree k x xs h))
+      (dedup_from_agree x xs (AllPairs-tail Agree k (x ∷ xs) h))
+      ∙ ap (λ b. cond b (dedup_from q k xs) (k ∷ dedup_from q x xs)) (All-head (Agree k) x xs (AllPairs-head Agree k (x ∷ xs) h))
+
+  dedup_agree : (xs : List (Atom (List ℕ))) → AllPairs Agree xs → dedup p xs ≡ dedup q xs
+  dedup_agree [] h = refl
+  dedup_agree (x ∷ xs) h = dedup_from_agree x xs h
 
 first_kept : (k : Atom (List ℕ)) (xs : List (Atom (List ℕ))) → Contains (dedup_from is_same_bundle k xs) k
 first_kept k [] = Contains-head k []
@@ -93,7 +140,7 @@ covered_from k (y ∷ ys) s x (inr c) =
             sym (bundle_cmp_equal y.bundle k.bundle same),
             price,
           ))
-          (λ (d : Contains ys x). covered_from k ys (skip_second s) x (inr d))
+          (λ (d : Contains ys x). covered_from k ys (skip_second NotBefore k y ys s) x (inr d))
           (Contains-cons_cases y ys x c))
       | inr t ↦
           subst (λ (zs : List (Atom (List ℕ))). Covered zs x)
@@ -101,10 +148,6 @@ covered_from k (y ∷ ys) s x (inr c) =
           (let r = covered_from y ys (AllPairs-tail NotBefore k (y ∷ ys) s) x (Contains-cons_cases y ys x c) in
           (r.0, Contains-tail k (dedup_from is_same_bundle y ys) r.0 r.1, r.2, r.3))
     ]
-  where
-    skip_second : AllPairs NotBefore (k ∷ (y ∷ ys)) → AllPairs NotBefore (k ∷ ys)
-    skip_second h = AllPairs-cons NotBefore k ys (All-tail (NotBefore k) y ys (AllPairs-head NotBefore k (y ∷ ys) h))
-        (AllPairs-tail NotBefore y ys (AllPairs-tail NotBefore k (y ∷ ys) h))
 
 covered : (xs : List (Atom (List ℕ))) → AllPairs NotBefore xs → (x : Atom (List ℕ)) → Contains xs x → Covered (dedup is_same_bundle xs) x
 covered [] s x c = absurd (Contains-nil x c)
@@ -171,12 +214,20 @@ module _ {X : Type 0} (seen : X → Atom (List ℕ)) where
       subst (λ (a : Atom (List ℕ)). lt a (get_or (map seen (x ∷ xs)) k d) ≡ false) (sym (get_or-map seen (x ∷ xs) (k + 1) x d next))
       (subst (λ (b : Atom (List ℕ)). lt (seen (get_or (x ∷ xs) (k + 1) x)) b ≡ false) (sym (get_or-map seen (x ∷ xs) k x d here)) (up k x l next))
 
-  pub best_from_steps : (bids priced sorted best : List X) → priced ≡ filter (λ x. has_price (seen x)) bids → IsPermutation priced sorted
-      → IsSortedBy (λ x y. is_bid_before (seen x) (seen y)) sorted → best ≡ dedup (λ x y. is_same_bundle (seen x) (seen y)) sorted
-      → AreBestBids (map seen bids) (map seen best)
-  best_from_steps bids priced sorted best e p up d =
+  pub best_from_steps : (bids priced sorted best : List X)
+      → ((later earlier : X) → IsInside (seen later).bundle (seen earlier).bundle → (bundle_cmp (seen later).bundle (seen earlier).bundle ≡ Less)
+      ⊎ ((seen later).bundle ≡ (seen earlier).bundle))
+      → priced ≡ filter (λ x. has_price (seen x)) bids → IsPermutation priced sorted → IsSortedBy (λ x y. is_bid_before (seen x) (seen y)) sorted
+      → best ≡ dedup (λ x y. is_in_bundle (seen x) (seen y)) sorted → AreBestBids (map seen bids) (map seen best)
+  best_from_steps bids priced sorted best ordered e p up d =
       let moved : IsPermutation (filter has_price (map seen bids)) (map seen sorted) =
       subst (λ (zs : List (Atom (List ℕ))). IsPermutation zs (map seen sorted)) (ap (map seen) e ∙ map-filter has_price bids)
       (IsPermutation-map seen priced sorted p) in
-      subst (λ (zs : List (Atom (List ℕ))). AreBestBids (map seen bids) zs) (sym (ap (map seen) d ∙ map-dedup is_same_bundle sorted))
+      let pairs : AllPairs (λ earlier later. is_bid_before (seen later) (seen earlier) ≡ false) sorted =
+      λ i j z l m. sorted_far (λ x y. is_bid_before (seen x) (seen y)) (ranks_by bid_cmp_total seen) sorted up i j z (omega arith) m in
+      let agree : AllPairs (Agree is_in_bundle is_same_bundle) (map seen sorted) =
+      AllPairs-map (λ earlier later. is_bid_before (seen later) (seen earlier) ≡ false) (Agree is_in_bundle is_same_bundle) seen
+      (λ earlier later n. inside_is_same (seen earlier) (seen later) (ordered later earlier) n) sorted pairs in
+      subst (λ (zs : List (Atom (List ℕ))). AreBestBids (map seen bids) zs)
+      (sym (ap (map seen) d ∙ map-dedup is_in_bundle sorted ∙ dedup_agree is_in_bundle is_same_bundle (map seen sorted) agree))
       (best_from_sorted (map seen bids) (map seen sorted) moved (map-sorted is_bid_before sorted up))

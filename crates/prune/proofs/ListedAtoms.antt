@@ -10,7 +10,7 @@ use Rattle.std.proofs.lemmas.Bool.{cases_lt, cases_eq, both_ways, and_parts, and
 use Rattle.std.proofs.lemmas.Bool.{eqb-true, eq-eqb, le-leb, lt-leb}
 use Rattle.std.specs.Cmp.{both_ways as same_test}
 use Rattle.std.proofs.lemmas.Bool.Decides.{Decides-eqb}
-use Rattle.std.proofs.lemmas.List.{map-set, map_push, take_more, get_or-map, get_or_append_left, get_or_default, length-map, length_push}
+use Rattle.std.proofs.lemmas.List.{map-set, map_push, take_more, get_or-map, get_or_append_left, get_or_push, get_or_default, length-map, length_push}
 use Rattle.std.proofs.lemmas.List.Elements.{filter_more, Contains-get_or, All-append, All-contains, All-filter, All-weaker, Contains-append_left}
 use Rattle.std.proofs.lemmas.List.Elements.{Contains-append_right, Contains-push_cases, Contains-push}
 use Rattle.std.proofs.lemmas.List.Folds.{list_any_none, list_any_more}
@@ -35,7 +35,7 @@ use Rattle.valuation.specs.Lemmas.Lists.{AllPairs-head, AllPairs-tail, AllPairs-
 use Rattle.prune.specs.declared.listing.Listing.{Listing}
 use Rattle.prune.specs.InOrder.{IsInOrder}
 use Rattle.prune.specs.Internal.Listings.{lists_of, listed_at, places_at, atom_at, is_inside_at, covers, covers_at, IsListed, IsListing, IsListingOf, AreListed}
-use Rattle.prune.specs.Internal.Listings.{IsBehind, NoneInsideFrom}
+use Rattle.prune.specs.Internal.Listings.{AreGoodsOf, IsBehind, NoneInsideFrom}
 use Rattle.prune.specs.Lemmas.InOrder.{before_itself}
 use Rattle.prune.specs.Lemmas.Lists.{Contains-head, Contains-tail, Contains-filter, Contains-filter_parts, All-from_Contains, list_any_found, list_any_has}
 use Rattle.prune.specs.Lemmas.Lists.{list_any_fails}
@@ -311,6 +311,31 @@ AreListed-push lists listed atoms a h =
           within = omega arith;
           listed = subst (λ (b : Atom (List ℕ)). IsListingOf b.bundle good listing) (sym e) r.listed;
         }
+
+-- ---- a good of each atom
+
+pub AreGoodsOf-nil : AreGoodsOf [] []
+AreGoodsOf-nil = record { long = refl; each = λ place l. absurd (omega (arith, l)) }
+
+-- and of one more
+pub AreGoodsOf-push : (goods : List ℕ) (atoms : List (Atom (List ℕ))) (good : ℕ) (a : Atom (List ℕ)) → has_good a.bundle good ≡ true → AreGoodsOf goods atoms
+    → AreGoodsOf (goods ++ good ∷ []) (atoms ++ a ∷ [])
+AreGoodsOf-push goods atoms good a has h =
+    let d : Atom (List ℕ) = record { bundle = []; price = 0 } in
+    let long = h.long in
+    let more = length_push goods good in
+    let longer = length_push atoms a in
+    record {
+      long = omega arith;
+      each = λ place l.
+          ⊎_elim
+          (λ (m : place < length atoms). subst₂ (λ (b : Atom (List ℕ)) (n : ℕ). has_good b.bundle n ≡ true) (sym (get_or_append_left atoms (a ∷ []) d place m))
+          (sym (get_or_append_left goods (good ∷ []) 0 place (omega arith))) (h.each place m))
+          (λ (m : length atoms ≤ place).
+          subst₂ (λ (b : Atom (List ℕ)) (n : ℕ). has_good b.bundle n ≡ true) (sym (get_or_push atoms a d place (omega arith)))
+          (sym (get_or_push goods good 0 place (omega arith))) has)
+          (cases_lt place (length atoms));
+    }
 
 -- ---- one more atom is listed
 

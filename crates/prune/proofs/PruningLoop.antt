@@ -22,7 +22,7 @@ use Rattle.prune.specs.Internal.Listings.{covers, atom_at, atoms_inside, AreUnco
 use Rattle.prune.specs.Lemmas.OnBundles.{IsOnBundle}
 use Rattle.prune.specs.Internal.BestBids.{AreBestBids}
 use Rattle.prune.proofs.Pruning.{HasRisingBundle, IsKept-none}
-use Rattle.prune.proofs.Results.{IsTurn, IsXorKept, IsOrKept, AreXorPoints, AreOrPoints, turn_positive, xor_done, xor_missed, xor_more, xor_fewer, or_done}
+use Rattle.prune.proofs.Results.{IsTurn, IsXorKept, IsOrKept, AreXorPoints, AreOrPoints, turn_among, turn_positive, xor_done, xor_missed, xor_more, xor_fewer, or_done}
 use Rattle.prune.proofs.Results.{Within, none_heavy}
 use Rattle.prune.proofs.InFront.{IsLeft, next_parts, next_taken}
 
@@ -132,6 +132,10 @@ kept_nonempty {S} goods n bids best kept place b are among =
     (Contains-append_left (atoms_of goods (take place best)) (atoms_of goods (drop place best)) a c) in
     (All-contains (IsAtom n) bids a are (All-contains (Contains bids) (atoms_of goods best) a b.among there)).nonempty)
     (atoms_of goods kept) among
+
+pub turn_nonempty : (n : ℕ) (bids done : List (Atom (List ℕ))) (bid : Atom (List ℕ)) (rest : List (Atom (List ℕ))) → IsTurn bids done bid rest
+    → All (IsAtom n) bids → 0 < length bid.bundle
+turn_nonempty n bids done bid rest turn are = (All-contains (IsAtom n) bids bid are (turn_among bids done bid rest turn)).nonempty
 
 pub all_some : (n : ℕ) (bids : List (Atom (List ℕ))) → All (IsAtom n) bids → All (λ a. 0 < length a.bundle) bids
 all_some n bids are = All-weaker (IsAtom n) (λ a. 0 < length a.bundle) (λ a i. i.nonempty) bids are

@@ -6,7 +6,6 @@ ghost use Rattle.prune.specs.Internal.BestBids.{AreBestBids};
 use crate::sorting::{order_of_bids, put_in_order};
 use goods_set::GoodsSet;
 use std::alloc::{AllocError, Global};
-use std::cmp::Ordering;
 use valuation::Atom;
 
 /// Keeps of each bundle the bid of the greatest price, if that is above 0, and puts the bids in order.
@@ -17,6 +16,7 @@ pub fn keep_best_bids<S: GoodsSet>(alloc: Global, bids: &mut Vec<Atom<S>>) -> Re
     bids.retain(|bid| bid.price > 0);
     put_in_order(alloc, bids)?;
     bids.sort_unstable_by(|a, b| order_of_bids(a, b));
-    bids.dedup_by(|later, best| later.bundle.order(&best.bundle) == Ordering::Equal);
+    // In order, a later bid's bundle is inside that of the one before it only where the two are the same.
+    bids.dedup_by(|later, best| later.bundle.is_inside(&best.bundle));
     Ok(())
 }

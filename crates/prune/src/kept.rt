@@ -1,6 +1,7 @@
 //! Where the atoms that a pruning keeps are listed, so that they are found by their goods.
 ghost use Rattle.std.specs.Prelude.{
   ◌≡◌,
+  ℕ,
   List,
   ◌+◌,
   ◌<◌,
@@ -14,6 +15,7 @@ ghost use Rattle.std.specs.Prelude.{
   IfOk,
   OnOk,
   [],
+  ◌∷◌,
   ◌++◌,
 };
 ghost use Rattle.std.specs.Bool.{OnTrue};
@@ -21,6 +23,7 @@ ghost use Rattle.std.specs.List.{filter, list_any, range_with_len};
 ghost use Rattle.goods_set.specs.Bundles.{has_good};
 ghost use Rattle.goods_set.specs.Residues.{AreResidues};
 ghost use Rattle.valuation.specs.Values.{atoms_of};
+ghost use Rattle.valuation.specs.declared.atom.Atom.{Atom};
 ghost use Rattle.prune.specs.InOrder.{IsInOrder};
 ghost use Rattle.prune.specs.Internal.Listings.{
   atom_at,
@@ -31,6 +34,7 @@ ghost use Rattle.prune.specs.Internal.Listings.{
   atoms_inside,
   covers,
   AreListed,
+  AreGoodsOf,
   IsAsked,
   IsListingOf,
   IsBehind,
@@ -39,7 +43,7 @@ ghost use Rattle.prune.specs.Internal.Listings.{
 
 use crate::commonness::Commonness;
 use crate::listing::{Listing, Sought, WIDE};
-use goods_set::{GoodsSet, rising_goods};
+use goods_set::GoodsSet;
 use std::alloc::{AllocError, Global};
 use valuation::Atom;
 
@@ -48,6 +52,8 @@ use valuation::Atom;
 /// An atom is listed once a larger bundle comes, since none of its own size is inside another.
 #[derive(Drop)]
 pub struct KeptIndex {
+    /// Of each kept atom the good at which it is listed, or will be: the least common of its bundle.
+    goods: Vec<u16>,
     /// How many of the atoms, from the first on, are listed.
     listed: usize,
     /// For each good the atoms that are listed there.
@@ -91,34 +97,45 @@ fn is_covering<S: GoodsSet>(
 impl KeptIndex {
     /// The index of those of these atoms that will be kept. None is kept so far.
     pub fn of<S: GoodsSet>(alloc: Global, atoms: &[Atom<S>]) -> Result<KeptIndex, AllocError>
-        ensures { IfOk result (λ index. AreListed (lists_of index.lists.items) index.listed []) }
+        ensures listed { IfOk result (λ index. AreListed (lists_of index.lists.items) index.listed []) }
+        ensures goods { IfOk result (λ index. AreGoodsOf index.goods.items []) }
     {
         Ok(KeptIndex {
+            goods: Vec::new(alloc),
             listed: 0,
             lists: Vec::new(alloc),
             commonness: Commonness::of(alloc, atoms)?,
         })
     }
 
-    /// Lists the first kept atom that is not, at the least common good of its bundle. There is no room for one whose
-    /// place is past the numbers of 4 bytes; a file has far fewer bids. `room` is for goods.
-    fn list_next<S: GoodsSet>(
-        &mut self,
-        alloc: Global,
-        kept: &[Atom<S>],
-        room: &mut Vec<u16>,
-    ) -> Result<(), AllocError>
+    /// Takes in that an atom is kept, the bundle of which has these goods.
+    pub fn keep(&mut self, goods: &[u16]) -> Result<(), AllocError>
+        requires { 0 < length goods.now }
+        ensures listed { OnOk result (self.new.listed ≡ self.old.listed) }
+        ensures lists { OnOk result (self.new.lists ≡ self.old.lists) }
+        ensures goods { OnOk result ((kept : List (Atom (List ℕ))) (atom : Atom (List ℕ)) → atom.bundle ≡ goods.now
+            → AreGoodsOf self.old.goods.items kept → AreGoodsOf self.new.goods.items (kept ++ atom ∷ [])) }
+    {
+        self.goods.push(self.commonness.least_common(goods))?;
+        Ok(())
+    }
+
+    /// Lists the first kept atom that is not. There is no room for one whose place is past the numbers of 4 bytes; a
+    /// file has far fewer bids.
+    fn list_next<S: GoodsSet>(&mut self, alloc: Global, kept: &[Atom<S>]) -> Result<(), AllocError>
         requires next { self.old.listed < length kept.now }
-        requires some { All (λ a. 0 < length a.bundle) (atoms_of S.goods kept.now) }
         requires listed { AreListed (lists_of self.old.lists.items) self.old.listed (atoms_of S.goods kept.now) }
+        requires goods { AreGoodsOf self.old.goods.items (atoms_of S.goods kept.now) }
         ensures count { OnOk result (self.new.listed ≡ self.old.listed + 1) }
         ensures listed { OnOk result (AreListed (lists_of self.new.lists.items) self.new.listed
             (atoms_of S.goods kept.now)) }
+        ensures goods { OnOk result (self.new.goods ≡ self.old.goods) }
     {
         if self.listed > u32::MAX as usize {
             return Err(AllocError);
         }
-        let (least, listing) = self.listing_of(&kept[self.listed], self.listed as u32, room)?;
+        let least = self.goods[self.listed];
+        let listing = Listing::of(&kept[self.listed], least, self.listed as u32);
         let good = usize::from(least);
         while self.lists.len() <= good {
             self.lists.push(Vec::new(alloc))?;
@@ -140,47 +157,28 @@ impl KeptIndex {
         }
     }
 
-    /// Lists the kept atoms with fewer goods than the bundle, which comes behind all of them. `room` is for goods.
+    /// Lists the kept atoms with fewer goods than the bundle, which comes behind all of them.
     pub fn list_below<S: GoodsSet>(
         &mut self,
         alloc: Global,
         kept: &[Atom<S>],
         bundle: &S,
-        room: &mut Vec<u16>,
     ) -> Result<(), AllocError>
-        requires some { All (λ a. 0 < length a.bundle) (atoms_of S.goods kept.now) }
         requires in_order { IsInOrder (atoms_of S.goods kept.now) }
         requires behind { IsBehind (S.goods bundle.now) (atoms_of S.goods kept.now) }
         requires listed { AreListed (lists_of self.old.lists.items) self.old.listed (atoms_of S.goods kept.now) }
+        requires goods { AreGoodsOf self.old.goods.items (atoms_of S.goods kept.now) }
         ensures listed { OnOk result (AreListed (lists_of self.new.lists.items) self.new.listed
             (atoms_of S.goods kept.now)) }
+        ensures goods { OnOk result (self.new.goods ≡ self.old.goods) }
         ensures unlisted { OnOk result (NoneInsideFrom self.new.listed (atoms_of S.goods kept.now)
             (S.goods bundle.now)) }
     {
         let size = bundle.size();
         while self.is_next_smaller(kept, size) {
-            self.list_next(alloc, kept, room)?;
+            self.list_next(alloc, kept)?;
         }
         Ok(())
-    }
-
-    /// The good of the atom's bundle that is the least common, and what is to be listed there: the atom, as that at the
-    /// place. `room` is for goods.
-    fn listing_of<S: GoodsSet>(
-        &self,
-        atom: &Atom<S>,
-        place: u32,
-        room: &mut Vec<u16>,
-    ) -> Result<(u16, Listing), AllocError>
-        requires { 0 < length (S.goods atom.now.bundle) }
-        ensures good { IfOk result (λ r. has_good (S.goods atom.now.bundle) r.0 ≡ true) }
-        ensures place { IfOk result (λ r. r.1.place ≡ place) }
-        ensures listing { IfOk result (λ r. IsListingOf (S.goods atom.now.bundle) r.0 r.1) }
-    {
-        let good = self
-            .commonness
-            .least_common(rising_goods(&atom.bundle, room)?);
-        Ok((good, Listing::of(atom, good, place)))
     }
 
     /// Adds to `found` the places of the kept atoms inside the bundle that are listed at the good.

@@ -1,11 +1,29 @@
 //! Pruning the bids of an XOR bidder.
-ghost use Rattle.std.specs.Prelude.{◌≡◌, ℕ, ◌<◌, ◌≤◌, true, List, All, Contains, IfOk, OnOk, vec_len, length};
+ghost use Rattle.std.specs.Prelude.{
+  ◌≡◌,
+  ℕ,
+  ◌<◌,
+  ◌≤◌,
+  true,
+  false,
+  cond,
+  List,
+  [],
+  ◌∷◌,
+  ◌++◌,
+  All,
+  Contains,
+  IfOk,
+  OnOk,
+  vec_len,
+  length,
+};
 ghost use Rattle.std.specs.List.{list_any};
 ghost use Rattle.cats_text.specs.declared.limits.TheConstants.{MAX_GOODS};
 ghost use Rattle.valuation.specs.Auctions.{IsAtom};
 ghost use Rattle.valuation.specs.Values.{atoms_of, plain_atom, xor_value};
 ghost use Rattle.prune.specs.InOrder.{IsInOrder};
-ghost use Rattle.prune.specs.Internal.Listings.{lists_of, covers, AreListed, AreUncovered, IsBehind};
+ghost use Rattle.prune.specs.Internal.Listings.{lists_of, covers, AreListed, AreGoodsOf, AreUncovered, IsBehind};
 ghost use Rattle.prune.specs.Points.{xor_points};
 
 use crate::best::keep_best_bids;
@@ -52,8 +70,8 @@ fn are_few_and_uncovered<S: GoodsSet>(bids: &[Atom<S>]) -> bool
     true
 }
 
-/// Whether a kept atom inside the bid's bundle has at least its price. Few atoms need not be listed. `room` is for
-/// goods.
+/// Whether a kept atom inside the bid's bundle has at least its price. Where none has, the index takes in that the bid
+/// is kept. Few atoms need no index. `room` is for goods.
 fn is_covered<S: GoodsSet>(
     alloc: Global,
     index: &mut KeptIndex,
@@ -62,21 +80,28 @@ fn is_covered<S: GoodsSet>(
     few: bool,
     room: &mut Vec<u16>,
 ) -> Result<bool, AllocError>
-    requires some { All (λ a. 0 < length a.bundle) (atoms_of S.goods kept.now) }
+    requires some { 0 < length (S.goods bid.now.bundle) }
     requires in_order { IsInOrder (atoms_of S.goods kept.now) }
     requires behind { IsBehind (S.goods bid.now.bundle) (atoms_of S.goods kept.now) }
     requires listed { AreListed (lists_of index.old.lists.items) index.old.listed (atoms_of S.goods kept.now) }
+    requires goods { few ≡ false → AreGoodsOf index.old.goods.items (atoms_of S.goods kept.now) }
     ensures answer { IfOk result (λ covered. covered ≡ list_any (covers (S.goods bid.now.bundle) bid.now.price)
         (atoms_of S.goods kept.now)) }
     ensures listed { OnOk result (AreListed (lists_of index.new.lists.items) index.new.listed
         (atoms_of S.goods kept.now)) }
+    ensures goods { few ≡ false → IfOk result (λ covered. AreGoodsOf index.new.goods.items
+        (atoms_of S.goods kept.now ++ cond covered [] (plain_atom S.goods bid.now ∷ []))) }
 {
     if few {
         return Ok(is_covered_by_any(bid, kept));
     }
-    index.list_below(alloc, kept, &bid.bundle, room)?;
+    index.list_below(alloc, kept, &bid.bundle)?;
     let goods = rising_goods(&bid.bundle, room)?;
-    Ok(index.has_inside(kept, &bid.bundle, goods, bid.price))
+    if index.has_inside(kept, &bid.bundle, goods, bid.price) {
+        return Ok(true);
+    }
+    index.keep(goods)?;
+    Ok(false)
 }
 
 /// The bids that the bidder's values alone ask for, in order: a bid stays where no kept bid inside its bundle has its

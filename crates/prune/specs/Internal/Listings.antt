@@ -89,6 +89,11 @@ pub record AreListed (lists : List (List Listing)) (listed : ℕ) (atoms : List 
   pub one_good : (good other place : ℕ) → Contains (places_at lists good) place → Contains (places_at lists other) place
       → good ≡ other
 
+-- of each atom a good of its bundle
+pub record AreGoodsOf (goods : List ℕ) (atoms : List (Atom (List ℕ))) : Type 0 where
+  pub long : length goods ≡ length atoms
+  pub each : (place : ℕ) → place < length atoms → has_good (atom_at atoms place).bundle (slice_index_or goods place 0) ≡ true
+
 -- the bundle comes behind those of all atoms
 abbrev pub IsBehind : List ℕ → List (Atom (List ℕ)) → Type 0
 IsBehind bundle atoms = All (λ a. bundle_cmp a.bundle bundle ≡ Less) atoms

@@ -206,5 +206,6 @@ fn makes_a_compact_file(rt: HostRuntime) -> Result<(), Fail> {
     let file = CompactFile::new(3, 1, bids);
     assert_eq!(rt; (file.goods(), file.dummy(), file.bids().len()), (3, 1, 2));
     assert!(&rt; file.is_equal(&read_compact(alloc, CATS)?));
+    assert_eq!(rt; file.into_room().len(), 0);
     Ok(())
 }

@@ -29,7 +29,7 @@ new-requires g c =
     let parts = c.into_parts-goods.ensures in
     let long : c.len-dummy.result ≡ length c.into_parts-goods.result.2.items = omega (arith, c.len-dummy.ensures, c.into_parts-goods.result.2.ok.0) in
     file_limits g.S.GoodsSet.CAP a c.args.auction.facts _ _ _ (goods_of_parts goods a _ _ _ parts) (count_of_parts goods a _ _ _ parts c.len-dummy.result long)
-    (bids_of_parts goods a _ _ _ parts c.new-bids.result c.push_offers.new.bids c.push_bidders.new.bids c.as_slice.result.now c.new-bids.ensures
+    (bids_of_parts goods a _ _ _ parts c.args.bids c.push_offers.new.bids c.push_bidders.new.bids c.as_slice.result.now c.requires
     c.as_slice.ensures.value c.in_ok-push_offers.ensures c.in_ok-push_bidders.ensures)
 
 pub returns : goal.returns
@@ -40,5 +40,5 @@ returns g c =
     let long : c.len-dummy.result ≡ length c.into_parts-goods.result.2.items = omega (arith, c.len-dummy.ensures, c.into_parts-goods.result.2.ok.0) in
     c.new.ensures
     ∙ file_parts a _ _ _ (goods_of_parts goods a _ _ _ parts) (count_of_parts goods a _ _ _ parts c.len-dummy.result long)
-    (bids_of_parts goods a _ _ _ parts c.new-bids.result c.push_offers.new.bids c.push_bidders.new.bids c.as_slice.result.now c.new-bids.ensures
+    (bids_of_parts goods a _ _ _ parts c.args.bids c.push_offers.new.bids c.push_bidders.new.bids c.as_slice.result.now c.requires
     c.as_slice.ensures.value c.in_ok-push_offers.ensures c.in_ok-push_bidders.ensures)

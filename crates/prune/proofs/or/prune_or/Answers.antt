@@ -1,24 +1,17 @@
 -- A turn of the loop keeps a bid exactly where the search does not reach its price, which is a turn of proofs/Results; a search that
 -- gives up has found a heavy bundle; and at the end the kept bids are the points.
-use Rattle.std.proofs.Common.{Err, ◌≡◌, ◌<◌, ◌≤◌, length, refl, sym, ap, ◌∙◌, take, arith}
+use Rattle.std.proofs.Common.{Err, ◌≡◌, ◌<◌, ◌≤◌, ℕ, List, length, refl, sym, ap, ◌∙◌, subst, take, arith}
 use Rattle.std.proofs.lemmas.List.{get_or_read}
 use Rattle.cats_text.specs.declared.limits.TheConstants.{MAX_GOODS}
 use Rattle.valuation.specs.Values.{atoms_of, plain_atom}
-use Rattle.prune.specs.Internal.Listings.{lists_of}
+use Rattle.std.specs.Global.{Vec}
+use Rattle.prune.specs.Internal.Listings.{lists_of, AreGoodsOf}
 use Rattle.prune.specs.Lemmas.KeptBids.{on_bundles}
 use Rattle.prune.proofs.InFront.{next_left}
 use Rattle.prune.proofs.ListedAtoms.{AreListed-push}
-use Rattle.prune.proofs.PruningLoop.{next_turn, one_done, one_kept, or_end, kept_nonempty, all_some, none_heavy_end, heavy_load}
+use Rattle.prune.proofs.PruningLoop.{next_turn, one_done, one_kept, or_end, kept_nonempty, turn_nonempty, all_some, none_heavy_end, heavy_load}
 use Rattle.prune.proofs.Results.{turn_behind, or_reached, or_missed, within_reached, within_missed, heavy_found}
 use Rattle.prune.proofs.or.prune_or.Goals as goal
-
-pub list_below-requires-clause-some : goal.list_below-requires-clause-some
-list_below-requires-clause-some g c =
-    let goods = g.S.GoodsSet.goods in
-    let h = c.loop-place.invariant in
-    rw c.deref-in-loop-place.ensures.value
-    (kept_nonempty goods MAX_GOODS (atoms_of goods c.args.atoms.items) c.keep_best_bids.new.bids.items _ c.loop-place.place c.in_ok-keep_best_bids.ensures.best
-    c.requires h.kept.among)
 
 pub list_below-requires-clause-in_order : goal.list_below-requires-clause-in_order
 list_below-requires-clause-in_order g c = rw c.deref-in-loop-place.ensures.value c.loop-place.invariant.kept.in_order
@@ -33,6 +26,20 @@ list_below-requires-clause-behind g c =
     let turn = next_turn goods (λ s. (g.met.S.GoodsSet.is_bundle s).0) _ best.items now.items c.loop-place.place c.index-bid.result.now
     c.in_ok-keep_best_bids.ensures.best h.left there c.index-bid.ensures in
     rw c.deref-in-loop-place.ensures.value (turn_behind _ _ _ _ (atoms_of goods (take c.loop-place.kept now.items)) turn h.kept.among)
+
+pub list_below-requires-clause-goods : goal.list_below-requires-clause-goods
+list_below-requires-clause-goods g c = rw c.deref-in-loop-place.ensures.value c.loop-place.invariant.noted
+
+pub keep-requires : goal.keep-requires
+keep-requires g c =
+    let goods = g.S.GoodsSet.goods in
+    let h = c.loop-place.invariant in
+    let best = c.keep_best_bids.new.bids in
+    let now = c.loop-place.atoms in
+    let there : c.loop-place.place < length now.items = omega (arith, c.loop-place-test.true, c.len-place-end.ensures, best.ok.0, h.left.long) in
+    let turn = next_turn goods (λ s. (g.met.S.GoodsSet.is_bundle s).0) _ best.items now.items c.loop-place.place c.index-bid.result.now
+    c.in_ok-keep_best_bids.ensures.best h.left there c.index-bid.ensures in
+    subst (λ (xs : List ℕ). 0 < length xs) (sym c.in_ok-goods.ensures) (turn_nonempty MAX_GOODS _ _ _ _ turn c.requires)
 
 pub is_outbid-requires-clause-some : goal.is_outbid-requires-clause-some
 is_outbid-requires-clause-some g c =
@@ -62,6 +69,7 @@ loop-place-preserved-in-Ok-true g c =
     record {
       left = next_left best.items now.items place bid h.left there c.index-bid.ensures now.items refl refl;
       listed = listed;
+      noted = subst (λ (v : Vec ℕ). AreGoodsOf v.items (atoms_of goods kept)) (sym c.in_ok-list_below.ensures.goods) h.noted;
       kept = rw done (or_reached _ _ _ _ (atoms_of goods kept) turn h.kept (sym c.in-Ok-true.field-0-test ∙ answer));
       within = rw done (within_reached c.args.limit _ _ _ _ (atoms_of goods kept) turn h.kept h.within within);
       fewer = omega (arith, h.fewer);
@@ -83,6 +91,8 @@ loop-place-preserved g c =
     let same = c.deref-in-loop-place.ensures.value in
     let listed = rw same at c.in_ok-list_below.ensures.listed in
     let index = c.list_below.new.self in
+    let next = c.keep.new.self in
+    let noted = c.in_ok-keep-in-Ok-false.ensures in
     let after = c.move_to_front.new.elements in
     let moved = c.move_to_front.ensures in
     let more = one_kept goods now.items after.items c.loop-place.kept place bid c.index-bid.ensures moved.front in
@@ -91,7 +101,9 @@ loop-place-preserved g c =
     record {
       left = next_left best.items now.items place bid h.left there c.index-bid.ensures after.items (omega (arith, moved.len, after.ok.0, now.ok.0))
           moved.rest;
-      listed = rw more (AreListed-push (lists_of index.lists.items) index.listed (atoms_of goods kept) (plain_atom goods bid) listed);
+      listed = rw (more, noted.listed, noted.lists) (AreListed-push (lists_of index.lists.items) index.listed (atoms_of goods kept) (plain_atom goods bid) listed);
+      noted = rw more (noted.goods (atoms_of goods kept) (plain_atom goods bid) (sym c.in_ok-goods.ensures)
+          (subst (λ (v : Vec ℕ). AreGoodsOf v.items (atoms_of goods kept)) (sym c.in_ok-list_below.ensures.goods) h.noted));
       kept = rw (done, more) (or_missed _ _ _ _ (atoms_of goods kept) turn h.kept (sym c.in-Ok-false.field-0-test ∙ answer));
       within = rw (done, more) (within_missed c.args.limit _ _ _ _ (atoms_of goods kept) turn h.kept h.within within);
       fewer = omega (arith, h.fewer);

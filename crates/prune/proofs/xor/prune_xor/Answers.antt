@@ -1,13 +1,13 @@
 -- A turn of the loop keeps a bid exactly where no kept bid inside its bundle covers it, which is a turn of proofs/Results; and at the
 -- end the kept bids are the points. Few bids of which none covers another are the points as they are.
-use Rattle.std.proofs.Common.{◌<◌, ◌≤◌, length, refl, sym, ◌∙◌, subst, take, arith}
+use Rattle.std.proofs.Common.{◌<◌, ◌≤◌, cond, [], ◌∷◌, ◌++◌, append-nil, length, refl, sym, ◌∙◌, subst, take, arith}
 use Rattle.cats_text.specs.declared.limits.TheConstants.{MAX_GOODS}
 use Rattle.valuation.specs.Values.{atoms_of, plain_atom}
-use Rattle.prune.specs.Internal.Listings.{lists_of, AreUncovered}
+use Rattle.prune.specs.Internal.Listings.{lists_of, AreGoodsOf, AreUncovered}
 use Rattle.prune.specs.Lemmas.KeptBids.{on_bundles, just_bundles}
 use Rattle.prune.proofs.InFront.{next_left}
 use Rattle.prune.proofs.ListedAtoms.{AreListed-push}
-use Rattle.prune.proofs.PruningLoop.{next_turn, one_done, one_kept, xor_end, xor_uncovered, kept_nonempty, covers_is}
+use Rattle.prune.proofs.PruningLoop.{next_turn, one_done, one_kept, xor_end, xor_uncovered, turn_nonempty, covers_is}
 use Rattle.prune.proofs.Results.{turn_positive, turn_behind, xor_reached, xor_missed}
 use Rattle.prune.proofs.xor.prune_xor.Goals as goal
 use Rattle.prune.proofs.xor.prune_xor.Goals.{then-not-branch, else-not-branch}
@@ -16,9 +16,15 @@ pub is_covered-requires-clause-some : goal.is_covered-requires-clause-some
 is_covered-requires-clause-some g c =
     let goods = g.S.GoodsSet.goods in
     let h = c.loop-place.invariant in
-    rw c.deref-in-loop-place.ensures.value
-    (kept_nonempty goods MAX_GOODS (atoms_of goods c.args.atoms.items) c.keep_best_bids.new.bids.items _ c.loop-place.place c.in_ok-keep_best_bids.ensures.best
-    c.requires h.kept.among)
+    let best = c.keep_best_bids.new.bids in
+    let now = c.loop-place.atoms in
+    let there : c.loop-place.place < length now.items = omega (arith, c.loop-place-test.true, c.len-place-end.ensures, best.ok.0, h.left.long) in
+    let turn = next_turn goods (λ s. (g.met.S.GoodsSet.is_bundle s).0) _ best.items now.items c.loop-place.place c.index-bid.result.now
+    c.in_ok-keep_best_bids.ensures.best h.left there c.index-bid.ensures in
+    turn_nonempty MAX_GOODS _ _ _ _ turn c.requires
+
+pub is_covered-requires-clause-goods : goal.is_covered-requires-clause-goods
+is_covered-requires-clause-goods g c = λ f. rw c.deref-in-loop-place.ensures.value (c.loop-place.invariant.noted f)
 
 pub is_covered-requires-clause-in_order : goal.is_covered-requires-clause-in_order
 is_covered-requires-clause-in_order g c = rw c.deref-in-loop-place.ensures.value c.loop-place.invariant.kept.in_order
@@ -52,6 +58,7 @@ loop-place-preserved g c =
     let answer = rw same at c.in_ok-is_covered.ensures.answer in
     let asked = answer ∙ covers_is bid.price (goods bid.bundle) (atoms_of goods kept) (turn_positive _ _ _ _ turn) in
     let listed = rw same at c.in_ok-is_covered.ensures.listed in
+    let noted = rw same at c.in_ok-is_covered.ensures.goods in
     elim c.if-not-branch.branch [
       | then-not-branch w ↦
           let after = w.move_to_front.new.elements in
@@ -61,6 +68,9 @@ loop-place-preserved g c =
             left = next_left best.items now.items place bid h.left there c.index-bid.ensures after.items (omega (arith, moved.len, after.ok.0, now.ok.0))
                 moved.rest;
             listed = rw more (AreListed-push (lists_of index.lists.items) index.listed (atoms_of goods kept) (plain_atom goods bid) listed);
+            noted = λ f.
+                rw more
+                (subst (λ b. AreGoodsOf index.goods.items (atoms_of goods kept ++ cond b [] (plain_atom goods bid ∷ []))) w.if-not-branch.true (noted f));
             kept = rw (done, more) (xor_missed _ _ _ _ (atoms_of goods kept) turn h.kept (sym w.if-not-branch.true ∙ asked));
             fewer = omega (arith, h.fewer);
           })
@@ -68,6 +78,9 @@ loop-place-preserved g c =
           rw (w.atoms-is, w.kept-is) (record {
             left = next_left best.items now.items place bid h.left there c.index-bid.ensures now.items refl refl;
             listed = listed;
+            noted = λ f.
+                subst (λ zs. AreGoodsOf index.goods.items zs) (append-nil (atoms_of goods kept))
+                (subst (λ b. AreGoodsOf index.goods.items (atoms_of goods kept ++ cond b [] (plain_atom goods bid ∷ []))) w.if-not-branch.false (noted f));
             kept = rw done (xor_reached _ _ _ _ (atoms_of goods kept) turn h.kept (sym w.if-not-branch.false ∙ asked));
             fewer = omega (arith, h.fewer);
           })

@@ -1,4 +1,5 @@
-use Rattle.std.proofs.Common.{arith, ◌≡◌, ◌++◌, ◌<◌, ℕ, length, sym, ap, ◌∙◌, subst, set, List, [], ◌∷◌, true}
+use Rattle.std.proofs.Common.{arith, ◌≡◌, ◌++◌, ◌<◌, ℕ, length, get_or, sym, ap, ◌∙◌, subst, set, List, [], ◌∷◌, true}
+use Rattle.std.proofs.lemmas.Grind.{get_or_default_zero}
 use Rattle.goods_set.specs.Bundles.{has_good}
 use Rattle.valuation.specs.Values.{atoms_of, plain_atom}
 use Rattle.valuation.specs.Lemmas.Atoms.{length-atoms_of, get_or-atoms_of}
@@ -8,19 +9,9 @@ use Rattle.prune.specs.Internal.Listings.{lists_of, listed_at, IsListingOf}
 use Rattle.prune.proofs.ListedAtoms.{AreListed-more, listed-set_same, listed-set_other, listed-pushed, listed_there}
 use Rattle.prune.proofs.kept.KeptIndex.list_next.Goals as goal
 
-pub listing_of-requires : goal.listing_of-requires
-listing_of-requires g c =
-    let goods = g.S.GoodsSet.goods in
-    let old = c.args.self.now in
-    let kept = c.args.kept.now in
-    let d : Atom (List ℕ) = record { bundle = []; price = 0 } in
-    let long = length-atoms_of goods kept in
-    let next = c.requires.next in
-    let at = get_or-atoms_of goods kept old.listed c.index-kept-self.result d (omega (arith, next)) c.index-kept-self.is in
-    subst (λ (a : Atom (List ℕ)). 0 < length a.bundle) at (c.requires.some old.listed d (omega (arith, next, long)))
-
 pub loop-alloc-preserved : goal.loop-alloc-preserved
 loop-alloc-preserved g c = record {
+  goods = c.loop-alloc.invariant.goods;
   listed = c.loop-alloc.invariant.listed;
   lists = λ k. ap (λ vs. listed_at (lists_of vs) k) c.in_ok-push.ensures.items ∙ listed-pushed c.loop-alloc.self.lists.items c.new.result k c.new.ensures.items
       ∙ c.loop-alloc.invariant.lists k;
@@ -33,20 +24,26 @@ returns-clause-listed g c =
     let kept = c.args.kept.now in
     let vectors = c.loop-alloc.self.lists.items in
     let good = c.from-good.result in
+    let listing = c.of-listing.result in
     let l : good < length vectors = omega (arith, c.loop-alloc-test.false, c.len.ensures, c.loop-alloc.self.lists.ok.0) in
     let before : listed_at (lists_of vectors) good ≡ c.index_mut.result.now.items =
     listed_there vectors good c.index_mut.result.now l c.index_mut.ensures.value in
-    let there : listed_at (lists_of (set vectors good c.push-2.new.self)) good ≡ listed_at (lists_of old.lists.items) good ++ c.in_ok-least.listing ∷ [] =
+    let there : listed_at (lists_of (set vectors good c.push-2.new.self)) good ≡ listed_at (lists_of old.lists.items) good ++ listing ∷ [] =
     listed-set_same vectors good c.push-2.new.self l ∙ c.in_ok-push-2.ensures.items
-    ∙ ap (λ (zs : List Listing). zs ++ c.in_ok-least.listing ∷ []) (sym before ∙ c.loop-alloc.invariant.lists good) in
+    ∙ ap (λ (zs : List Listing). zs ++ listing ∷ []) (sym before ∙ c.loop-alloc.invariant.lists good) in
     let atom = c.index-kept-self.result in
-    let least : good ≡ c.in_ok-least.least = omega (arith, c.from-good.ensures) in
-    let has : has_good (goods atom.bundle) good ≡ true = ap (has_good (goods atom.bundle)) least ∙ c.in_ok-least.ensures.good in
     let next = c.requires.next in
     let long = length-atoms_of goods kept in
     let at = get_or-atoms_of goods kept old.listed atom (record { bundle = []; price = 0 }) (omega (arith, next)) c.index-kept-self.is in
+    let own = c.index-least.result.now in
+    let least : good ≡ own = omega (arith, c.from-good.ensures) in
+    let noted : own ≡ get_or old.goods.items old.listed 0 =
+    c.index-least.ensures ∙ get_or_default_zero old.goods.items old.listed own (omega (arith, next, long, c.requires.goods.long)) in
+    let has : has_good (goods atom.bundle) good ≡ true =
+    ap (has_good (goods atom.bundle)) (least ∙ noted) ∙ ap (λ (b : Atom (List ℕ)). has_good b.bundle (get_or old.goods.items old.listed 0)) (sym at)
+    ∙ c.requires.goods.each old.listed (omega (arith, next, long)) in
     rw c.loop-alloc.invariant.listed
-    (AreListed-more (lists_of old.lists.items) _ old.listed (atoms_of goods kept) good c.in_ok-least.listing c.requires.listed
-    (λ k n. listed-set_other vectors good c.push-2.new.self k n ∙ c.loop-alloc.invariant.lists k) there c.in_ok-least.ensures.place
+    (AreListed-more (lists_of old.lists.items) _ old.listed (atoms_of goods kept) good listing c.requires.listed
+    (λ k n. listed-set_other vectors good c.push-2.new.self k n ∙ c.loop-alloc.invariant.lists k) there c.of-listing.ensures.place
     (plain_atom goods atom) (sym at) (omega (arith, next, long)) has
-    (subst (λ h. IsListingOf (goods atom.bundle) h c.in_ok-least.listing) (sym least) c.in_ok-least.ensures.listing))
+    (subst (λ h. IsListingOf (goods atom.bundle) h listing) (sym least) c.of-listing.ensures.of))

@@ -5,6 +5,7 @@ use Rattle.prune.proofs.kept.KeptIndex.list_next.Given as goal
 
 abbrev pub invariant-loop-alloc : goal.invariant-loop-alloc
 invariant-loop-alloc g l = record {
+  goods : l.self.goods ≡ l.fn.self.goods;
   listed : l.self.listed ≡ l.fn.self.listed;
   lists : (k : ℕ) → listed_at (lists_of l.self.lists.items) k ≡ listed_at (lists_of l.fn.self.lists.items) k;
 }
