@@ -1,14 +1,15 @@
 -- The goods of words, listed: those of one word after another, and in a word the place of its lowest bit that is set, and then
 -- those of the word without it.
-use Rattle.std.proofs.Common.{◌≡◌, ℕ, zero, suc, ◌+◌, ◌*◌, ◌/◌, ◌%◌, ◌^◌, ◌<◌, ◌≤◌, ◌≢◌, Bool, true, false, cond, eqb, ⊎_elim, List, [], ◌∷◌, ◌++◌, map, length}
+use Rattle.std.proofs.Common.{◌≡◌, ℕ, zero, suc, ◌+◌, ◌-◌, ◌*◌, ◌/◌, ◌%◌, ◌^◌, ◌<◌, ◌≤◌, ◌≢◌, Bool, true, false, cond, eqb, ⊎_elim, List, [], ◌∷◌, ◌++◌, map, length}
 use Rattle.std.proofs.Common.{get_or, refl, sym, ap, ap₂, ◌∙◌, arith, append_assoc, w64}
 use Rattle.std.specs.List.{filter, range_with_len}
-use Rattle.std.specs.Int.{bit_at, bit_not, trailing_zeros}
+use Rattle.std.specs.Int.{bit_at, trailing_zeros}
 use Rattle.std.specs.Int.RustNames.{bit_and}
 use Rattle.std.proofs.lemmas.Bool.{cases_eq, cases_lt, eq-eqb, or_left, or_right}
 use Rattle.std.proofs.lemmas.List.{append-nil}
-use Rattle.std.proofs.lemmas.Nat.Bits.{bit_at-trailing_zeros, bit_at_clear_same, bit_at_clear_other}
+use Rattle.std.proofs.lemmas.Nat.Bits.{bit_at-trailing_zeros}
 use Rattle.goods_set.specs.Bundles.{AreAbove, has_good}
+use Rattle.goods_set.specs.Lemmas.LowestBits.{without_lowest}
 use Rattle.goods_set.specs.Lemmas.Members.{AreAbove-from_has, has_cases, same_from_has}
 use Rattle.goods_set.specs.Words.{word_bit, word_goods}
 use Rattle.goods_set.specs.Lemmas.Words.{word_bit_at, word_goods_bundle, word_goods_has, word_goods_parts}
@@ -30,50 +31,50 @@ one_word_parts w i h =
     let p : (i < 64) × (word_bit (w ∷ []) i ≡ 1) = word_goods_parts 64 (w ∷ []) i h in
     (p.0, sym (one_word w i p.0) ∙ p.1)
 
--- the word without the bit at t
-abbrev without_bit : ℕ → ℕ → ℕ
-without_bit w t = bit_and w (bit_not w64 (1 * 2 ^ t % 2 ^ 64))
+-- the word without its lowest bit
+abbrev later_bits : ℕ → ℕ
+later_bits w = bit_and w (w - 1)
 
-lowest_first : (w t : ℕ) → t < 64 → bit_at w t ≡ 1 → ((i : ℕ) → i < t → bit_at w i ≡ 0) → word_goods 64 (w ∷ []) ≡ t ∷ word_goods 64 (without_bit w t ∷ [])
+lowest_first : (w t : ℕ) → t < 64 → bit_at w t ≡ 1 → ((i : ℕ) → i < t → bit_at w i ≡ 0) → word_goods 64 (w ∷ []) ≡ t ∷ word_goods 64 (later_bits w ∷ [])
 lowest_first w t l here low =
-    same_from_has (word_goods 64 (w ∷ [])) (t ∷ word_goods 64 (without_bit w t ∷ [])) (word_goods_bundle 64 (w ∷ [])).0 (
+    same_from_has (word_goods 64 (w ∷ [])) (t ∷ word_goods 64 (later_bits w ∷ [])) (word_goods_bundle 64 (w ∷ [])).0 (
       above,
-      (word_goods_bundle 64 (without_bit w t ∷ [])).0,
+      (word_goods_bundle 64 (later_bits w ∷ [])).0,
     )
     (λ g h. let p : (g < 64) × (bit_at w g ≡ 1) = one_word_parts w g h in
-    ⊎_elim (λ (e : t ≡ g). or_left (eqb t g) (has_good (word_goods 64 (without_bit w t ∷ [])) g) (eq-eqb t g e))
-    (λ (n : t ≡ g → ⊥). or_right (eqb t g) (has_good (word_goods 64 (without_bit w t ∷ [])) g) (one_word_has (without_bit w t) g p.0 (other g p.0 n ∙ p.1)))
+    ⊎_elim (λ (e : t ≡ g). or_left (eqb t g) (has_good (word_goods 64 (later_bits w ∷ [])) g) (eq-eqb t g e))
+    (λ (n : t ≡ g → ⊥). or_right (eqb t g) (has_good (word_goods 64 (later_bits w ∷ [])) g) (one_word_has (later_bits w) g p.0 (other g p.0 n ∙ p.1)))
     (cases_eq t g))
     (λ g h. ⊎_elim (λ (e : t ≡ g). one_word_has w g (omega arith) (ap (bit_at w) (sym e) ∙ here))
-    (λ (k : has_good (word_goods 64 (without_bit w t ∷ [])) g ≡ true). (left g k).1) (has_cases t (word_goods 64 (without_bit w t ∷ [])) g h))
+    (λ (k : has_good (word_goods 64 (later_bits w ∷ [])) g ≡ true). (left g k).1) (has_cases t (word_goods 64 (later_bits w ∷ [])) g h))
   where
-    other : (g : ℕ) → g < 64 → (t ≡ g → ⊥) → bit_at (without_bit w t) g ≡ bit_at w g
-    other g m n = bit_at_clear_other w64 w t l g m (λ e. n (sym e))
+    other : (g : ℕ) → g < 64 → (t ≡ g → ⊥) → bit_at (later_bits w) g ≡ bit_at w g
+    other g m n = (without_lowest w t here low).1 g n
 
     -- a bit of the word without it is a later bit of the word
-    left : (g : ℕ) → has_good (word_goods 64 (without_bit w t ∷ [])) g ≡ true → (t < g) × (has_good (word_goods 64 (w ∷ [])) g ≡ true)
+    left : (g : ℕ) → has_good (word_goods 64 (later_bits w ∷ [])) g ≡ true → (t < g) × (has_good (word_goods 64 (w ∷ [])) g ≡ true)
     left g k =
-        let p : (g < 64) × (bit_at (without_bit w t) g ≡ 1) = one_word_parts (without_bit w t) g k in
-        let gone : bit_at (without_bit w t) t ≡ 0 = bit_at_clear_same w64 w t l in
-        let n : t ≢ g = λ e. (let z : bit_at (without_bit w t) g ≡ 0 = ap (bit_at (without_bit w t)) (sym e) ∙ gone in omega arith) in
+        let p : (g < 64) × (bit_at (later_bits w) g ≡ 1) = one_word_parts (later_bits w) g k in
+        let gone : bit_at (later_bits w) t ≡ 0 = (without_lowest w t here low).0 in
+        let n : t ≢ g = λ e. (let z : bit_at (later_bits w) g ≡ 0 = ap (bit_at (later_bits w)) (sym e) ∙ gone in omega arith) in
         let b : bit_at w g ≡ 1 = sym (other g p.0 n) ∙ p.1 in (
           ⊎_elim (λ (m : g < t). let z : bit_at w g ≡ 0 = low g m in absurd (omega arith)) (λ (m : t ≤ g). let r : t < g = omega arith in r) (cases_lt g t),
           one_word_has w g p.0 b,
         )
 
-    above : AreAbove t (word_goods 64 (without_bit w t ∷ []))
-    above = AreAbove-from_has t (word_goods 64 (without_bit w t ∷ [])) (λ g k. (left g k).0)
+    above : AreAbove t (word_goods 64 (later_bits w ∷ []))
+    above = AreAbove-from_has t (word_goods 64 (later_bits w ∷ [])) (λ g k. (left g k).0)
 
 -- the step of a loop over the bits of a word
 pub bits_more : (w t first : ℕ) (out new all : List ℕ) → w ≢ 0 → w < 2 ^ 64 → t ≡ trailing_zeros w64 w → new ≡ out ++ (first + t) ∷ []
     → out ++ map (λ place. first + place) (word_goods 64 (w ∷ [])) ≡ all
-    → new ++ map (λ place. first + place) (word_goods 64 (bit_and w (bit_not w64 (1 * 2 ^ t % 2 ^ 64)) ∷ [])) ≡ all
+    → new ++ map (λ place. first + place) (word_goods 64 (later_bits w ∷ [])) ≡ all
 bits_more w t first out new all some fits is more before =
     let low : (trailing_zeros w64 w < 64) × (bit_at w (trailing_zeros w64 w) ≡ 1) × ((i : ℕ) → i < trailing_zeros w64 w → bit_at w i ≡ 0) =
     bit_at-trailing_zeros w64 w (omega arith) fits in
-    let next : word_goods 64 (w ∷ []) ≡ t ∷ word_goods 64 (without_bit w t ∷ []) =
+    let next : word_goods 64 (w ∷ []) ≡ t ∷ word_goods 64 (later_bits w ∷ []) =
     lowest_first w t (omega arith) (ap (bit_at w) is ∙ low.1) (λ i l. low.2 i (omega arith)) in
-    let rest : List ℕ = map (λ place. first + place) (word_goods 64 (without_bit w t ∷ [])) in
+    let rest : List ℕ = map (λ place. first + place) (word_goods 64 (later_bits w ∷ [])) in
     ap (λ (xs : List ℕ). xs ++ rest) more ∙ append_assoc out ((first + t) ∷ []) rest
     ∙ ap (λ (xs : List ℕ). out ++ map (λ place. first + place) xs) (sym next) ∙ before
 
@@ -84,12 +85,12 @@ bits_all first out all w none before =
     sym (append-nil out) ∙ ap (λ (xs : List ℕ). out ++ map (λ place. first + place) xs) (sym empty) ∙ before
 
 -- how many bits are left falls
-pub fewer_bits : (w t : ℕ) → w ≢ 0 → w < 2 ^ 64 → t ≡ trailing_zeros w64 w → length (word_goods 64 (bit_and w (bit_not w64 (1 * 2 ^ t % 2 ^ 64)) ∷ []))
+pub fewer_bits : (w t : ℕ) → w ≢ 0 → w < 2 ^ 64 → t ≡ trailing_zeros w64 w → length (word_goods 64 (later_bits w ∷ []))
     < length (word_goods 64 (w ∷ []))
 fewer_bits w t some fits is =
     let low : (trailing_zeros w64 w < 64) × (bit_at w (trailing_zeros w64 w) ≡ 1) × ((i : ℕ) → i < trailing_zeros w64 w → bit_at w i ≡ 0) =
     bit_at-trailing_zeros w64 w (omega arith) fits in
-    let next : word_goods 64 (w ∷ []) ≡ t ∷ word_goods 64 (without_bit w t ∷ []) =
+    let next : word_goods 64 (w ∷ []) ≡ t ∷ word_goods 64 (later_bits w ∷ []) =
     lowest_first w t (omega arith) (ap (bit_at w) is ∙ low.1) (λ i l. low.2 i (omega arith)) in
     omega (arith, ap length next)
 

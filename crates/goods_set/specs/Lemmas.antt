@@ -4,6 +4,7 @@ pub mod BundleFacts
 pub mod Fronts
 pub mod GoodByGood
 pub mod Laws
+pub mod LowestBits
 pub mod Members
 pub mod Orders
 pub mod Sizes

@@ -18,6 +18,20 @@ use crate::set::GoodsSet;
 use std::alloc::{AllocError, Global};
 use std::cmp::Ordering;
 
+/// In a list of no more goods than these each is looked at, where it is asked for one.
+const LOOKED_AT: usize = 64;
+
+// Whether the good is one of these.
+fn is_among(goods: &[u16], good: u16) -> bool
+    ensures { result ≡ has_good goods.now good }
+{
+    let mut found = false;
+    for each in goods {
+        found |= *each == good;
+    }
+    found
+}
+
 /// A set of goods as the rising list of them: for few goods, of any number below 65,536. Up to 11 take no memory of
 /// their own.
 #[derive(Debug, Drop)]
@@ -54,6 +68,19 @@ impl ListSet {
         ensures { IsInside self.now.goods other.now.goods → result ≡ true }
     {
         may_be_inside(self.residues, other.residues)
+    }
+
+    // Whether the good is there. Among few goods all are looked at, since no branch but the loop's depends on them: a search takes
+    // one for each step, and it is seldom foreseen.
+    fn holds(&self, good: u16) -> bool
+        ensures { result ≡ has_good self.now.goods good }
+    {
+        let goods = self.goods.as_slice();
+        if goods.len() <= LOOKED_AT {
+            is_among(goods, good)
+        } else {
+            self.place(good).is_ok()
+        }
     }
 
     // Where the good stands, or else where it goes.
@@ -134,7 +161,7 @@ impl GoodsSet for ListSet {
     }
 
     fn has(&self, good: u16) -> bool {
-        self.may_have(good) && self.place(good).is_ok()
+        self.may_have(good) && self.holds(good)
     }
 
     fn size(&self) -> usize {

@@ -74,7 +74,7 @@ fn list_bits(word: u64, first: u16, out: &mut Vec<u16>) -> Result<(), AllocError
     while rest != 0 {
         let place = rest.trailing_zeros();
         out.push(first + place as u16)?;
-        rest &= !(1 << place);
+        rest &= rest - 1;
     }
     Ok(())
 }
