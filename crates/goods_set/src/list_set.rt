@@ -197,7 +197,16 @@ impl GoodsSet for ListSet {
     }
 
     fn is_inside(&self, other: &ListSet) -> bool {
-        self.may_be_inside(other) && self.goods.as_slice().iter().all(|good| other.has(*good))
+        if !self.may_be_inside(other) {
+            return false;
+        }
+        let own = self.goods.as_slice();
+        let others = other.goods.as_slice();
+        // A set is inside one that is not larger only where the two are the same.
+        if own.len() >= others.len() {
+            return own == others;
+        }
+        own.iter().all(|good| other.has(*good))
     }
 
     fn is_apart(&self, other: &ListSet) -> bool {

@@ -2,12 +2,12 @@
 use Rattle.std.proofs.Common.{◌≡◌, ℕ, ◌+◌, ◌<◌, ◌≤◌, Bool, true, false, not, cond, ◌&&◌, ◌||◌, eqb, ltb, leb, ◌⊎◌, inl, inr, ⊎_elim, List, [], ◌∷◌, length}
 use Rattle.std.proofs.Common.{refl, sym, ap, ap₂, ◌∙◌, subst, arith}
 use Rattle.std.proofs.lemmas.Bool.{and_parts, and_from, or_cases, or_right, both_ways, not_from_true, false_from_ne_true}
-use Rattle.std.proofs.lemmas.Bool.{true_from_ne_false, or_from, eqb-true, eqb-false, ne_eqb, ltb-true, ltb-false, leb-true, leb-false, cases_order}
-use Rattle.std.specs.Prelude.{Option, Some, None}
+use Rattle.std.proofs.lemmas.Bool.{true_from_ne_false, or_from, eqb-true, eqb-false, ne_eqb, ltb-true, ltb-false, leb-true, leb-false, cases_Bool, cases_order}
+use Rattle.std.specs.Prelude.{Option, Some, None, Decides}
 use Rattle.std.specs.List.{filter}
 use Rattle.goods_set.specs.Bundles.{is_inside, are_apart, AreAbove, AreBelow, IsRising, IsBundle, IsInside, AreApart, has_good, without, with_good, good_from}
 use Rattle.goods_set.specs.Lemmas.Members.{has_head, has_tail, has_cases, has_above, has_below, has_not_head, AreAbove-lower, AreAbove-from_has}
-use Rattle.goods_set.specs.Lemmas.Members.{AreBelow-from_has, same_from_has, inside_at, inside_from, inside_antisymm}
+use Rattle.goods_set.specs.Lemmas.Members.{AreBelow-from_has, same_from_has, inside_at, inside_from, inside_refl, inside_antisymm}
 use Rattle.goods_set.specs.Lemmas.Members.{has_without_from, inside_without, inside_without_parts}
 
 -- ---- what is left of nothing, and of a list whose goods are all taken, or none
@@ -122,6 +122,18 @@ inside_from_without xs ys e =
 
 pub same_from_length : (xs ys : List ℕ) → IsRising xs → IsRising ys → IsInside xs ys → length xs ≡ length ys → xs ≡ ys
 same_from_length xs ys r s i e = inside_antisymm xs ys r s i (inside_from_without ys xs (no_goods (without ys xs) (omega (arith, length-without ys xs s r i))))
+
+-- a bundle is inside one that is not larger only where the two are the same
+pub inside_not_larger : (xs ys : List ℕ) (same : Bool) → IsRising xs → IsRising ys → length ys ≤ length xs → Decides same (xs ≡ ys) → same ≡ is_inside xs ys
+inside_not_larger xs ys same r s l d =
+    elim (cases_Bool same) [
+      | inl e ↦ e ∙ sym (subst (λ zs. IsInside xs zs) (d.0 e) (inside_refl xs))
+      | inr e ↦
+          e
+          ∙ sym (false_from_ne_true (is_inside xs ys) (λ i.
+          let sizes : length xs ≡ length ys = omega (arith, l, length_inside xs ys r s i) in
+          both_ways same e (d.1 (same_from_length xs ys r s i sizes))))
+    ]
 
 -- ---- put
 
