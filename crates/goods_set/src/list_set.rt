@@ -6,7 +6,7 @@ mod summary;
 ghost use Rattle.std.specs.Prelude.{◌≡◌, ℕ, ◌<◌, ◌≤◌, [], length, not, nat_lt, true, false, IsOk, IfOk, MatchResult};
 ghost use Rattle.std.specs.List.{insert};
 ghost use Rattle.std.specs.List.Sorted.{IsPartitionPoint};
-ghost use Rattle.goods_set.specs.Bundles.{IsBundle, IsInside, IsRising, AreBelow, has_good, with_good, without};
+ghost use Rattle.goods_set.specs.Bundles.{IsBundle, IsInside, IsRising, AreBelow, has_good, is_inside, with_good, without};
 ghost use Rattle.goods_set.specs.Lemmas.BundleFacts.{IsBundle-prop};
 ghost use Rattle.goods_set.specs.Fronts.{front_of};
 ghost use Rattle.goods_set.specs.Internal.Residues.{residues_of};
@@ -104,6 +104,21 @@ impl ListSet {
         goods.partition_point(|good| u32::from(*good) < from)
     }
 
+    // Whether each good is in `other`, the goods told one by one. (Inlined, it would keep the question of residues, which mostly tells,
+    // from being inlined.)
+    #[inline(never)]
+    fn is_list_inside(&self, other: &ListSet) -> bool
+        ensures { result ≡ is_inside self.now.goods other.now.goods }
+    {
+        let own = self.goods.as_slice();
+        let others = other.goods.as_slice();
+        // A set is inside one that is not larger only where the two are the same.
+        if own.len() >= others.len() {
+            return own == others;
+        }
+        own.iter().all(|good| other.has(*good))
+    }
+
     // The few goods that are not in the set.
     fn left_of(&self, goods: &[u16]) -> FewGoods
         requires { length goods.now ≤ 11 }
@@ -197,16 +212,7 @@ impl GoodsSet for ListSet {
     }
 
     fn is_inside(&self, other: &ListSet) -> bool {
-        if !self.may_be_inside(other) {
-            return false;
-        }
-        let own = self.goods.as_slice();
-        let others = other.goods.as_slice();
-        // A set is inside one that is not larger only where the two are the same.
-        if own.len() >= others.len() {
-            return own == others;
-        }
-        own.iter().all(|good| other.has(*good))
+        self.may_be_inside(other) && self.is_list_inside(other)
     }
 
     fn is_apart(&self, other: &ListSet) -> bool {
