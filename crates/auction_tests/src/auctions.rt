@@ -1,7 +1,7 @@
 //! Auctions of files, and the orders of atoms and bidders, on both kinds of sets.
 
 use crate::bids::{Offer, UNIT, atoms_on, expect_bid};
-use cats_text::{Bid, BidFile, CompactBids, CompactFile};
+use bid_file::{Bid, BidFile, CompactBids, CompactFile};
 use goods_set::{GoodsSet, ListSet, WordSet};
 use std::alloc::Global;
 use std::cmp::Ordering;

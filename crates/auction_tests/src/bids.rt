@@ -1,10 +1,10 @@
 //! Bids on both kinds of sets, for the tests of values and of pruning.
 ghost use Rattle.std.specs.Prelude.{All, IfOk};
-ghost use Rattle.cats_text.specs.declared.limits.TheConstants.{MAX_GOODS};
+ghost use Rattle.bid_file.specs.declared.limits.TheConstants.{MAX_GOODS};
 ghost use Rattle.valuation.specs.Auctions.{IsAtom};
 ghost use Rattle.valuation.specs.Values.{atoms_of};
 
-use cats_text::MAX_GOODS;
+use bid_file::MAX_GOODS;
 use goods_set::GoodsSet;
 use std::alloc::{AllocError, Global};
 use std::cmp::Ordering;

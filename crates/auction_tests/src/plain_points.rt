@@ -1,6 +1,6 @@
 //! The points once more, by their definition over the list of all bundles: slow, and what the tests compare with.
 ghost use Rattle.std.specs.Prelude.{◌≡◌, ℕ, All, IfOk, map};
-ghost use Rattle.cats_text.specs.declared.limits.TheConstants.{MAX_GOODS};
+ghost use Rattle.bid_file.specs.declared.limits.TheConstants.{MAX_GOODS};
 ghost use Rattle.goods_set.specs.Bundles.{IsBundle, without, all_bundles};
 ghost use Rattle.valuation.specs.Auctions.{IsAtom};
 ghost use Rattle.valuation.specs.Values.{atoms_of};

@@ -1,6 +1,6 @@
 //! Pruning, on both kinds of sets. Each call is made with ample memory, so that it has to succeed.
 ghost use Rattle.std.specs.Prelude.{All, IfOk};
-ghost use Rattle.cats_text.specs.declared.limits.TheConstants.{MAX_GOODS};
+ghost use Rattle.bid_file.specs.declared.limits.TheConstants.{MAX_GOODS};
 ghost use Rattle.valuation.specs.Auctions.{IsAtom};
 ghost use Rattle.valuation.specs.Values.{atoms_of};
 
@@ -8,7 +8,7 @@ use crate::bids::{
     Offer, UNIT, add_atom, atoms_on, bundle_of, expect_bid, expect_bundle, goods_below, next_number,
 };
 use crate::plain_points as plain;
-use cats_text::MAX_GOODS;
+use bid_file::MAX_GOODS;
 use goods_set::{GoodsSet, ListSet, WordSet};
 use prune::{PruneFault, prune_or, prune_xor};
 use std::alloc::{AllocError, Global};

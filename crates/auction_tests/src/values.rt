@@ -1,12 +1,12 @@
 //! Values, on both kinds of sets. Each call is made with ample memory, so that it has to succeed.
 ghost use Rattle.std.specs.Prelude.{All, IfOk};
-ghost use Rattle.cats_text.specs.declared.limits.TheConstants.{MAX_GOODS};
+ghost use Rattle.bid_file.specs.declared.limits.TheConstants.{MAX_GOODS};
 ghost use Rattle.valuation.specs.Auctions.{IsAtom};
 ghost use Rattle.valuation.specs.Values.{atoms_of};
 
 use crate::bids::{Offer, add_atom, atoms_on, bundle_of, next_number, put_good};
 use crate::plain_values as plain;
-use cats_text::{MAX_GOODS, MAX_PRICE};
+use bid_file::{MAX_GOODS, MAX_PRICE};
 use goods_set::{GoodsSet, ListSet, WordSet};
 use std::alloc::Global;
 use std::process::Abort;

@@ -2,13 +2,13 @@
 
 ghost use Rattle.std.specs.Prelude.{◌≡◌, ◌+◌, ◌<◌, ◌^◌, map, IfOk};
 ghost use Rattle.std.specs.List.{range_with_len};
-ghost use Rattle.cats_text.specs.Files.{plain_bid, plain_bids};
-ghost use Rattle.cats_text.specs.Views.{plain_file};
+ghost use Rattle.bid_file.specs.Files.{plain_bid, plain_bids};
+ghost use Rattle.bid_file.specs.Views.{plain_file};
 ghost use Rattle.valuation.specs.Auctions.{atom_of, auction_from, is_dummy, or_atoms_of, xor_atoms_of};
 ghost use Rattle.by_definition.specs.Lists.{atom_in, atoms_in, auction_in, bidders_in};
 
 use crate::list::prepend;
-use cats_text::{Bid, BidFile};
+use bid_file::{Bid, BidFile};
 use std::alloc::{AllocError, Global};
 use valuation::Atom;
 

@@ -1,7 +1,7 @@
 //! The canonical auction of an auction, and the canonical text of a file.
 
 ghost use Rattle.std.specs.Prelude.{◌≡◌, ◌+◌, ◌<◌, ◌^◌, IfOk};
-ghost use Rattle.cats_text.specs.Views.{plain_file};
+ghost use Rattle.bid_file.specs.Views.{plain_file};
 ghost use Rattle.canon.specs.Canonical.{canonical_auction, canonical_text, points_of_bidders};
 ghost use Rattle.by_definition.specs.Lists.{auction_in, bidders_in};
 
@@ -13,7 +13,8 @@ use crate::order::sort_bidders;
 use crate::points::{or_points, xor_points};
 use crate::values::{is_nonzero, xor_table};
 use canon::laws::{canonical_is_same, file_reads_back};
-use cats_text::{BidFile, write};
+use bid_file::BidFile;
+use cats_text::write;
 use std::alloc::{AllocError, Global};
 
 /// The points of each bidder whose value is not 0 on every bundle.

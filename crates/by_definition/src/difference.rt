@@ -3,7 +3,7 @@
 ghost use Rattle.std.specs.Prelude.{◌≡◌, ◌==◌, ◌+◌, ◌<◌, ◌^◌, not, IfOk, option_map};
 ghost use Rattle.std.specs.List.{find};
 ghost use Rattle.goods_set.specs.Bundles.{all_bundles};
-ghost use Rattle.cats_text.specs.Views.{plain_file};
+ghost use Rattle.bid_file.specs.Views.{plain_file};
 ghost use Rattle.valuation.specs.Auctions.{auction_from};
 ghost use Rattle.valuation.specs.Orders.{bidder_cmp};
 ghost use Rattle.valuation.specs.Sorting.{count_of};
@@ -22,7 +22,7 @@ use crate::order::{compare_bidders, sort_bidders};
 use crate::points::is_or_point;
 use crate::values::or_value;
 use canon::{Side, Verdict};
-use cats_text::BidFile;
+use bid_file::BidFile;
 use std::alloc::{AllocError, Global};
 
 /// The first of the bundles on which the OR values differ.

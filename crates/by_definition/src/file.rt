@@ -1,14 +1,14 @@
 //! The file of an auction.
 
 ghost use Rattle.std.specs.Prelude.{◌≡◌, ◌+◌, ◌<◌, ◌^◌, length, map, IfOk};
-ghost use Rattle.cats_text.specs.Files.{IsPlainFile, plain_bids};
-ghost use Rattle.cats_text.specs.Views.{plain_file};
+ghost use Rattle.bid_file.specs.Files.{IsPlainFile, plain_bids};
+ghost use Rattle.bid_file.specs.Views.{plain_file};
 ghost use Rattle.canon.specs.Canonical.{bid_from, dummy_bids, file_from};
 ghost use Rattle.by_definition.specs.Lists.{atoms_in, auction_in, bidders_in};
 
 use crate::auction::{Bidder, ListAtom, ListedAuction};
 use crate::list::prepend;
-use cats_text::{Bid, BidFile};
+use bid_file::{Bid, BidFile};
 use std::alloc::{AllocError, Global};
 
 /// The bids of one bidder, with its dummy good, if it has one.

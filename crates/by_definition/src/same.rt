@@ -4,7 +4,7 @@ ghost use Rattle.std.specs.Prelude.{◌≡◌, ◌+◌, ◌<◌, ◌^◌, ◌↔
 ghost use Rattle.std.specs.Cmp.Lexicographic.{slice_cmp};
 ghost use Rattle.std.specs.List.{count_by, list_all};
 ghost use Rattle.std.specs.Ordering.{nat_cmp, is_eq};
-ghost use Rattle.cats_text.specs.Views.{plain_file};
+ghost use Rattle.bid_file.specs.Views.{plain_file};
 ghost use Rattle.canon.specs.Sameness.{has_table, AreSameFiles, IsSameAuction};
 ghost use Rattle.by_definition.specs.Lists.{atoms_in, auction_in, bidders_in};
 ghost use Rattle.by_definition.specs.Internal.Tables.{is_as_frequent};
@@ -12,7 +12,7 @@ ghost use Rattle.by_definition.specs.Internal.Tables.{is_as_frequent};
 use crate::auction::{Bidder, ListAtom, ListedAuction, auction_from};
 use crate::fault::{NoAnswer, sum};
 use crate::values::{is_nonzero, or_table, xor_table};
-use cats_text::BidFile;
+use bid_file::BidFile;
 use std::alloc::Global;
 
 /// Whether the tables have the same values.

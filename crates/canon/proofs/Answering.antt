@@ -1,10 +1,10 @@
 -- What the calls answer, from what the calls below them answered: each kind of answer of one is, by the definitions, one of the other.
 use Rattle.std.proofs.Common.{◌≡◌, ℕ, List, None, Result, Ok, Err, sym, ap, ◌∙◌, subst, Global}
 use Rattle.std.specs.Prelude.{Vec, ◌↔◌, IfOk}
-use Rattle.cats_text.specs.Files.{PlainFile, IsPlainFile}
+use Rattle.bid_file.specs.Files.{PlainFile, IsPlainFile}
 use Rattle.cats_text.specs.Grammar.{Spells}
-use Rattle.cats_text.specs.Views.{plain_file}
-use Rattle.cats_text.specs.declared.bid.BidFile.{BidFile}
+use Rattle.bid_file.specs.Views.{plain_file}
+use Rattle.bid_file.specs.declared.bid.BidFile.{BidFile}
 use Rattle.cats_text.proofs.Spelling.Files.{spells_one}
 use Rattle.valuation.specs.Auctions.{PlainAuction, auction_from}
 use Rattle.canon.specs.Answers.{RefusesAs, NormalisesAs, RefusesAuction, NormalisesAuctionAs, NormalisesFileAs, IsNormalFile, plain_answer}

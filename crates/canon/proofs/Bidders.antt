@@ -10,7 +10,7 @@ use Rattle.std.proofs.lemmas.List.{map-append, map_push, append-nil, length-map,
 use Rattle.std.proofs.lemmas.Simd.{map-map}
 use Rattle.std.proofs.lemmas.List.Elements.{All-contains, All-weaker, Contains-append_right, filter-append}
 use Rattle.std.proofs.lemmas.List.Sorted.{IsPermutation-map}
-use Rattle.cats_text.specs.declared.limits.TheConstants.{MAX_GOODS}
+use Rattle.bid_file.specs.declared.limits.TheConstants.{MAX_GOODS}
 use Rattle.goods_set.specs.Lemmas.Members.{AreBelow-higher}
 use Rattle.valuation.specs.declared.atom.Atom.{Atom}
 use Rattle.valuation.specs.Auctions.{PlainAuction, IsAtom, IsAuction}

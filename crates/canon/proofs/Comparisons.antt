@@ -8,9 +8,9 @@ use Rattle.std.proofs.lemmas.List.{length-map}
 use Rattle.std.proofs.lemmas.Option.{MatchOption-at_some, MatchOption-at_none}
 use Rattle.std.proofs.lemmas.Result.{IfOk-weaker}
 use Rattle.std.proofs.Math.Seq.{take-append_seam, drop-append_seam}
-use Rattle.cats_text.specs.declared.bid.Bid.{Bid}
-use Rattle.cats_text.specs.declared.limits.TheConstants.{MAX_BIDS, MAX_GOODS}
-use Rattle.cats_text.specs.Files.{PlainBid, PlainFile, IsPlainFile, plain_bid, plain_bids}
+use Rattle.bid_file.specs.declared.bid.Bid.{Bid}
+use Rattle.bid_file.specs.declared.limits.TheConstants.{MAX_BIDS, MAX_GOODS}
+use Rattle.bid_file.specs.Files.{PlainBid, PlainFile, IsPlainFile, plain_bid, plain_bids}
 use Rattle.cats_text.specs.Grammar.{Spells}
 use Rattle.cats_text.proofs.Spelling.Files.{says_spelled, spells_one}
 use Rattle.valuation.specs.declared.atom.Atom.{Atom}

@@ -7,8 +7,8 @@ use Rattle.std.proofs.lemmas.List.{map-append, append-nil, length-append, length
 use Rattle.std.proofs.lemmas.List.Elements.{All-head, All-tail, filter-append}
 use Rattle.std.proofs.lemmas.List.Sums.{sum_by-cons}
 use Rattle.goods_set.specs.Bundles.{IsRising, AreAbove, AreBelow}
-use Rattle.cats_text.specs.Files as files
-use Rattle.cats_text.specs.Files.{PlainBid, PlainFile, IsBid, IsPlainFile}
+use Rattle.bid_file.specs.Files as files
+use Rattle.bid_file.specs.Files.{PlainBid, PlainFile, IsBid, IsPlainFile}
 use Rattle.valuation.specs.declared.atom.Atom.{Atom}
 use Rattle.valuation.specs.Auctions.{PlainAuction, IsAtom, IsAuction, atom_of, is_dummy, or_atoms_of, xor_atoms_of, auction_from}
 use Rattle.prune.specs.Lemmas.Lists.{filter-kept, filter-lost}

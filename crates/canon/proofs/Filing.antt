@@ -3,7 +3,7 @@ use Rattle.std.proofs.Common.{◌≡◌, ℕ, ◌+◌, ◌<◌, ◌≤◌, List,
 use Rattle.std.proofs.Common.{Global}
 use Rattle.std.specs.Prelude.{Vec}
 use Rattle.std.proofs.lemmas.List.{drop-map, drop_more, append-nil, drop_all, length-map}
-use Rattle.cats_text.specs.Files.{PlainBid, PlainFile, IsBidFile, IsPlainFile}
+use Rattle.bid_file.specs.Files.{PlainBid, PlainFile, IsBidFile, IsPlainFile}
 use Rattle.valuation.specs.declared.atom.Atom.{Atom}
 use Rattle.valuation.specs.Auctions.{PlainAuction, IsAuction}
 use Rattle.valuation.specs.Lemmas.Atoms.{drop-atoms_of}

@@ -4,8 +4,8 @@ use Rattle.std.proofs.Common.{Global}
 use Rattle.std.specs.Prelude.{Vec}
 use Rattle.std.specs.List.{slice_get}
 use Rattle.std.proofs.lemmas.List.{take_all}
-use Rattle.cats_text.specs.Files.{PlainBid, PlainFile}
-use Rattle.cats_text.proofs.Parsing.CompactBids.{take_bid}
+use Rattle.bid_file.specs.Files.{PlainBid, PlainFile}
+use Rattle.bid_file.proofs.Offers.{take_bid}
 use Rattle.valuation.specs.declared.atom.Atom.{Atom}
 use Rattle.valuation.specs.Auctions.{PlainAuction}
 use Rattle.valuation.specs.Bidders.{bidders_of}

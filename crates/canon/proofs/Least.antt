@@ -6,7 +6,7 @@ use Rattle.std.proofs.lemmas.Bool.{cases_Bool}
 use Rattle.std.proofs.lemmas.List.{length-append, length-map}
 use Rattle.std.proofs.lemmas.List.FromFn.{length-map-range_with_len}
 use Rattle.std.proofs.lemmas.List.Elements.{All-head, All-tail, All-weaker}
-use Rattle.cats_text.specs.Files.{PlainFile, IsPlainFile}
+use Rattle.bid_file.specs.Files.{PlainFile, IsPlainFile}
 use Rattle.valuation.specs.declared.atom.Atom.{Atom}
 use Rattle.valuation.specs.Auctions.{PlainAuction, IsAtom, auction_from, xor_atoms_of}
 use Rattle.valuation.specs.Lemmas.AuctionsOfFiles.{count_atoms}

@@ -6,7 +6,7 @@ use Rattle.std.specs.List.{find}
 use Rattle.std.proofs.lemmas.Bool.{cases_Bool, eqb-true, eqb-false}
 use Rattle.goods_set.specs.Bundles.{IsBundle, all_bundles}
 use Rattle.goods_set.specs.Lemmas.AllBundles.{all_bundles_has}
-use Rattle.cats_text.specs.Files.{PlainFile, IsPlainFile}
+use Rattle.bid_file.specs.Files.{PlainFile, IsPlainFile}
 use Rattle.valuation.specs.declared.atom.Atom.{Atom}
 use Rattle.valuation.specs.Auctions.{PlainAuction, IsAtom, auction_from}
 use Rattle.valuation.specs.Orders.{bidder_cmp}

@@ -1,7 +1,7 @@
 -- Files of the same auction have one text, and only these: the layout spells the file, the file stands for its auction, and the
 -- canonical auction is the same auction.
 use Rattle.std.proofs.Common.{◌≡◌, ℕ, List, Option, Some, None, refl, sym, ap, ◌∙◌, subst, le_refl}
-use Rattle.cats_text.specs.Files.{PlainFile, IsPlainFile}
+use Rattle.bid_file.specs.Files.{PlainFile, IsPlainFile}
 use Rattle.cats_text.specs.Grammar.{Spells}
 use Rattle.cats_text.specs.Faults.{first_fault}
 use Rattle.cats_text.specs.FileLines.{spelled_file}

@@ -3,9 +3,9 @@
 use Rattle.std.specs.Prelude.{◌≡◌, ℕ, Result, Ok, Err, Option, Some, None, Vec}
 use Rattle.std.specs.Option.{unwrap_or}
 use Rattle.std.specs.Global.{Global}
-use Rattle.cats_text.specs.Files.{PlainFile}
-use Rattle.cats_text.specs.Views.{plain_file}
-use Rattle.cats_text.specs.declared.bid.BidFile.{BidFile}
+use Rattle.bid_file.specs.Files.{PlainFile}
+use Rattle.bid_file.specs.Views.{plain_file}
+use Rattle.bid_file.specs.declared.bid.BidFile.{BidFile}
 use Rattle.valuation.specs.Auctions.{PlainAuction, auction_from}
 use Rattle.prune.specs.SearchSteps.{first_heavy}
 use Rattle.canon.specs.Canonical.{canonical_auction, file_from}

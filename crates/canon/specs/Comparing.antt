@@ -2,7 +2,7 @@
 -- first is told.
 use Rattle.std.specs.Prelude.{◌≡◌, ℕ, List, Result, Ok, Err}
 use Rattle.cats_text.specs.FileLines.{spelled_file}
-use Rattle.cats_text.specs.Files.{PlainFile}
+use Rattle.bid_file.specs.Files.{PlainFile}
 use Rattle.cats_text.specs.Grammar.{Spells}
 use Rattle.valuation.specs.Auctions.{auction_from}
 use Rattle.canon.specs.Answers.{IsNormalFile, RefusesAs}

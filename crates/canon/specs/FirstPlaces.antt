@@ -2,7 +2,7 @@
 use Rattle.std.specs.Prelude.{◌≡◌, ◌⊎◌, ℕ, ◌<◌, List, [], ◌∷◌, ◌++◌, position, Option, Some, slice_get, bytes_eq}
 use Rattle.std.specs.Prelude.{Result, Ok, Err}
 use Rattle.std.specs.Io.KnownBytes.{Consumes}
-use Rattle.cats_text.specs.Files.{PlainFile}
+use Rattle.bid_file.specs.Files.{PlainFile}
 use Rattle.cats_text.specs.Streams.{inner_of, ReadsAs, ReadsFile}
 use Rattle.cats_text.specs.declared.fault.ReadFault.{ReadFault}
 use Rattle.cats_text.specs.declared.stream.Watched.{Watched}

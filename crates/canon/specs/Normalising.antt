@@ -1,6 +1,6 @@
 -- What normalising a text answers.
 use Rattle.std.specs.Prelude.{ℕ, List, Option, Some, None}
-use Rattle.cats_text.specs.Files.{PlainFile}
+use Rattle.bid_file.specs.Files.{PlainFile}
 use Rattle.cats_text.specs.Faults.{first_fault}
 use Rattle.cats_text.specs.FileLines.{spelled_file}
 use Rattle.cats_text.specs.declared.fault.ReadFault.{ReadFault}

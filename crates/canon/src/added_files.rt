@@ -2,9 +2,9 @@
 
 ghost use Rattle.std.specs.Prelude.{◌≡◌, List, [], ◌∷◌, ◌++◌};
 ghost use Rattle.std.specs.Borrow.{ftrue};
-ghost use Rattle.cats_text.specs.Files.{PlainFile};
+ghost use Rattle.bid_file.specs.Files.{PlainFile};
 
-use cats_text::CompactFile;
+use bid_file::CompactFile;
 use std::marker::Model;
 
 /// Files that no code holds.

@@ -1,7 +1,7 @@
 //! The canonical auction.
 
 ghost use Rattle.std.specs.Prelude.{◌≡◌, ℕ, None, Some, All, IfOk, IfErr, OnOk};
-ghost use Rattle.cats_text.specs.declared.limits.TheConstants.{MAX_GOODS};
+ghost use Rattle.bid_file.specs.declared.limits.TheConstants.{MAX_GOODS};
 ghost use Rattle.valuation.specs.Auctions.{IsAtom};
 ghost use Rattle.valuation.specs.Bidders.{bidders_of};
 ghost use Rattle.valuation.specs.Orders.{bidder_cmp};

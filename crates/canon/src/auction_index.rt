@@ -17,7 +17,7 @@ ghost use Rattle.std.specs.Prelude.{
   OnErr,
   false,
 };
-ghost use Rattle.cats_text.specs.Files.{PlainFile};
+ghost use Rattle.bid_file.specs.Files.{PlainFile};
 ghost use Rattle.cats_text.specs.Streams.{has_ended, has_failed};
 ghost use Rattle.canon.specs.Answers.{RefusesAs};
 ghost use Rattle.canon.specs.Canonical.{canonical_text};
@@ -28,7 +28,8 @@ ghost use Rattle.canon.specs.Internal.TextPlaces.{place_of};
 use crate::added_files::AddedFiles;
 use crate::fault::CanonFault;
 use crate::text::normal_text;
-use cats_text::{CompactFile, Watched, read_compact_from};
+use bid_file::CompactFile;
+use cats_text::{Watched, read_compact_from};
 use std::alloc::{AllocError, Global};
 use std::collections::HashMap;
 use std::io::Read;
@@ -47,7 +48,7 @@ pub struct AuctionIndex {
 
 impl Model for AuctionIndex {
     ghost use Rattle.std.specs.Prelude.{List};
-    ghost use Rattle.cats_text.specs.Files.{PlainFile};
+    ghost use Rattle.bid_file.specs.Files.{PlainFile};
     ghost use Rattle.canon.specs.Internal.TextPlaces.{IsIndex};
 
     ghost Value = { List PlainFile };

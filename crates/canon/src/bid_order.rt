@@ -1,12 +1,12 @@
 //! The orders of bids, by what they offer.
 
 ghost use Rattle.std.specs.Prelude.{◌≡◌};
-ghost use Rattle.cats_text.specs.Files.{plain_bid};
+ghost use Rattle.bid_file.specs.Files.{plain_bid};
 ghost use Rattle.goods_set.specs.Orders.{bundle_cmp};
 ghost use Rattle.valuation.specs.Auctions.{atom_of};
 ghost use Rattle.valuation.specs.Orders.{atom_cmp};
 
-use cats_text::Bid;
+use bid_file::Bid;
 use std::cmp::Ordering;
 
 /// The order of the bids' bundles: by size, then by goods.

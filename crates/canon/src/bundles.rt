@@ -4,7 +4,7 @@
 //! walked side by side up to the first place where they part, and the lesser of the two bundles there is the one.
 
 ghost use Rattle.std.specs.Prelude.{◌≡◌, ℕ, IfOk, OnErr, MatchOption, None};
-ghost use Rattle.cats_text.specs.Files.{plain_bids};
+ghost use Rattle.bid_file.specs.Files.{plain_bids};
 ghost use Rattle.valuation.specs.Auctions.{PlainAuction};
 ghost use Rattle.canon.specs.Difference.{InOr, first_unequal_bundle, or_difference};
 ghost use Rattle.canon.specs.Internal.OrBids.{HasOrBids};
@@ -13,7 +13,7 @@ ghost use Rattle.canon.specs.declared.verdict.Side.TheVariants.{Exactly, Below};
 
 use crate::bid_order::order_of_bundles;
 use crate::verdict::{Side, Verdict};
-use cats_text::Bid;
+use bid_file::Bid;
 use std::alloc::{AllocError, Global};
 use std::cmp::Ordering;
 

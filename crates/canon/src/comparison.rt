@@ -3,8 +3,8 @@
 ghost use Rattle.std.specs.Prelude.{◌≡◌, ◌↔◌, ◌≤◌, length, map, None, IfOk, OnErr};
 ghost use Rattle.std.specs.List.{prefix_len};
 ghost use Rattle.std.specs.Option.{is_none};
-ghost use Rattle.cats_text.specs.Files.{plain_bids};
-ghost use Rattle.cats_text.specs.Views.{plain_file};
+ghost use Rattle.bid_file.specs.Files.{plain_bids};
+ghost use Rattle.bid_file.specs.Views.{plain_file};
 ghost use Rattle.valuation.specs.Auctions.{PlainAuction, auction_from};
 ghost use Rattle.canon.specs.Canonical.{IsCanonicalFile, bid_from, dummy_bids, file_from};
 ghost use Rattle.canon.specs.Comparing.{ComparesAs, ReadsNormalAs, compared};
@@ -19,7 +19,8 @@ use crate::parting::bidder_verdict;
 use crate::text::into_normal_file;
 use crate::verdict::Verdict;
 use crate::which::Which;
-use cats_text::{Bid, BidFile, CompactFile, read_compact};
+use bid_file::{Bid, BidFile, CompactFile};
+use cats_text::read_compact;
 use std::alloc::{AllocError, Global};
 
 /// Where the auctions of two texts' files part first. The first text is read and made canonical, and what was read of

@@ -3,7 +3,7 @@ ghost use Rattle.std.specs.Prelude.{◌≡◌, ℕ, ◌<◌, ◌↔◌, List, So
 ghost use Rattle.goods_set.specs.Bundles.{IsBundle};
 ghost use Rattle.goods_set.specs.Orders.{bundle_cmp};
 ghost use Rattle.std.specs.declared.cmp.Ordering.TheVariants.{Less};
-ghost use Rattle.cats_text.specs.Files.{PlainFile, IsPlainFile};
+ghost use Rattle.bid_file.specs.Files.{PlainFile, IsPlainFile};
 ghost use Rattle.valuation.specs.declared.atom.Atom.{Atom};
 ghost use Rattle.valuation.specs.Auctions.{PlainAuction, IsAuction, auction_from};
 ghost use Rattle.valuation.specs.Orders.{bidder_cmp};

@@ -1,16 +1,16 @@
 //! The file of an auction.
 
 ghost use Rattle.std.specs.Prelude.{◌≡◌, ◌≤◌, ◌++◌, [], length, IfOk, OnOk, map};
-ghost use Rattle.cats_text.specs.Files.{plain_bids};
-ghost use Rattle.cats_text.specs.Views.{plain_file};
-ghost use Rattle.cats_text.specs.declared.limits.TheConstants.{MAX_DUMMY};
+ghost use Rattle.bid_file.specs.Files.{plain_bids};
+ghost use Rattle.bid_file.specs.Views.{plain_file};
+ghost use Rattle.bid_file.specs.declared.limits.TheConstants.{MAX_DUMMY};
 ghost use Rattle.valuation.specs.Bidders.{bidders_of};
 ghost use Rattle.valuation.specs.Values.{atoms_of};
 ghost use Rattle.valuation.specs.Views.{plain_auction};
 ghost use Rattle.canon.specs.Canonical.{bid_from, dummy_bids, file_from};
 
 use crate::writing::count_bids;
-use cats_text::{Bid, BidFile, CompactBids, CompactFile};
+use bid_file::{Bid, BidFile, CompactBids, CompactFile};
 use goods_set::{GoodsSet, goods_of, rising_goods};
 use std::alloc::{AllocError, Global};
 use std::mem;

@@ -2,15 +2,15 @@
 
 ghost use Rattle.std.specs.Prelude.{◌≡◌, ◌+◌, ◌<◌, ◌≤◌, ◌++◌, IfOk, IsTrue, Some, length, map, slice_get, take};
 ghost use Rattle.std.specs.Option.{unwrap_or};
-ghost use Rattle.cats_text.specs.Files.{PlainBid};
-ghost use Rattle.cats_text.specs.declared.limits.TheConstants.{MAX_BIDS};
+ghost use Rattle.bid_file.specs.Files.{PlainBid};
+ghost use Rattle.bid_file.specs.declared.limits.TheConstants.{MAX_BIDS};
 ghost use Rattle.valuation.specs.Values.{atoms_of};
 ghost use Rattle.valuation.specs.Views.{plain_auction};
 ghost use Rattle.canon.specs.Canonical.{bid_from, file_from};
 
 use crate::file::compact_file_of;
 use crate::writing::count_bids;
-use cats_text::{CompactBids, CompactFile};
+use bid_file::{CompactBids, CompactFile};
 use goods_set::{GoodsSet, rising_goods};
 use std::alloc::{AllocError, Global};
 use valuation::{Atom, Auction};

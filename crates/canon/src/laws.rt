@@ -1,7 +1,7 @@
 //! What is promised, over the definitions alone.
 
 ghost use Rattle.std.specs.Prelude.{◌≡◌, ◌↔◌, ℕ, List, None, true};
-ghost use Rattle.cats_text.specs.Files.{PlainFile, IsPlainFile};
+ghost use Rattle.bid_file.specs.Files.{PlainFile, IsPlainFile};
 ghost use Rattle.valuation.specs.Auctions.{PlainAuction, IsAuction, auction_from};
 ghost use Rattle.prune.specs.SearchSteps.{first_heavy, is_heavy};
 ghost use Rattle.canon.specs.Canonical.{canonical_auction, canonical_text, file_from};

@@ -5,8 +5,8 @@
 //! bidder there is the one.
 
 ghost use Rattle.std.specs.Prelude.{◌≡◌, ℕ, ◌≤◌, length, List, IfOk, OnErr, MatchOption};
-ghost use Rattle.cats_text.specs.Files.{plain_bids};
-ghost use Rattle.cats_text.specs.declared.limits.TheConstants.{MAX_BIDS};
+ghost use Rattle.bid_file.specs.Files.{plain_bids};
+ghost use Rattle.bid_file.specs.declared.limits.TheConstants.{MAX_BIDS};
 ghost use Rattle.valuation.specs.declared.atom.Atom.{Atom};
 ghost use Rattle.valuation.specs.Auctions.{PlainAuction};
 ghost use Rattle.valuation.specs.Orders.{bidder_cmp};
@@ -17,7 +17,7 @@ ghost use Rattle.canon.specs.Verdicts.{NamesGoods, plain_verdict, told_atoms};
 
 use crate::bid_order::order_of_bids;
 use crate::verdict::Verdict;
-use cats_text::Bid;
+use bid_file::Bid;
 use std::alloc::{AllocError, Global};
 use std::cmp::Ordering;
 

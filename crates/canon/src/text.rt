@@ -1,9 +1,9 @@
 //! The canonical file of a file, and the canonical text of a text.
 
 ghost use Rattle.std.specs.Prelude.{◌≡◌, ◌≤◌, ◌↔◌, None, IfOk, IfErr, OnOk};
-ghost use Rattle.cats_text.specs.Files.{PlainFile, IsPlainFile};
+ghost use Rattle.bid_file.specs.Files.{PlainFile, IsPlainFile};
 ghost use Rattle.cats_text.specs.Grammar.{Spells};
-ghost use Rattle.cats_text.specs.Views.{plain_file};
+ghost use Rattle.bid_file.specs.Views.{plain_file};
 ghost use Rattle.valuation.specs.Auctions.{auction_from};
 ghost use Rattle.valuation.specs.Views.{plain_auction};
 ghost use Rattle.prune.specs.SearchSteps.{first_heavy};
@@ -26,7 +26,8 @@ use crate::fault::CanonFault;
 use crate::file::{compact_file_of, file_of, into_compact_file};
 use crate::known_file::compact_file_unless;
 use crate::writing::{count_bids, text_of};
-use cats_text::{BidFile, CompactBids, CompactFile, read_compact};
+use bid_file::{BidFile, CompactBids, CompactFile};
+use cats_text::read_compact;
 use goods_set::{GoodsSet, ListSet, goods_of, on_least_set};
 use prune::PruneFault;
 use std::alloc::Global;

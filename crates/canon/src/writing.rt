@@ -2,7 +2,7 @@
 
 ghost use Rattle.std.specs.Prelude.{◌≡◌, ◌+◌, ◌≤◌, ◌++◌, map, length, IfOk, OnOk};
 ghost use Rattle.cats_text.specs.Layout.{bids_text, layout};
-ghost use Rattle.cats_text.specs.declared.limits.TheConstants.{MAX_BIDS};
+ghost use Rattle.bid_file.specs.declared.limits.TheConstants.{MAX_BIDS};
 ghost use Rattle.valuation.specs.Values.{atoms_of};
 ghost use Rattle.valuation.specs.Views.{plain_auction};
 ghost use Rattle.canon.specs.Canonical.{bid_from, file_from};

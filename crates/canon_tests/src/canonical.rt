@@ -5,7 +5,8 @@ use canon::{
     CanonFault, canonical, compact_file_of, file_of, into_normal_file, last_normal_file,
     last_normal_file_unless, normal_file, normal_text, normalise,
 };
-use cats_text::{BidFile, CompactFile, read, read_compact, write};
+use bid_file::{BidFile, CompactFile};
+use cats_text::{read, read_compact, write};
 use goods_set::{GoodsSet, ListSet, WordSet};
 use std::alloc::Global;
 use std::process::Abort;

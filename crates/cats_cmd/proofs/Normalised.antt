@@ -1,6 +1,6 @@
 -- What is made of a file by normalising it, in the words of the runs: a text, a heavy bundle, or want of memory.
 use Rattle.std.proofs.Common.{◌≡◌, ℕ, Err, sym, ap, ◌∙◌}
-use Rattle.cats_text.specs.Files.{PlainFile}
+use Rattle.bid_file.specs.Files.{PlainFile}
 use Rattle.cats_text.specs.Layout.{layout}
 use Rattle.valuation.specs.Auctions.{auction_from}
 use Rattle.canon.specs.Answers.{IsNormalFile, RefusesAuction}

@@ -7,7 +7,7 @@ use Rattle.std.specs.List.{range_with_len}
 use Rattle.std.proofs.lemmas.Bool.{cases_eq, ne_eqb, eq-eqb}
 use Rattle.std.proofs.lemmas.List.{take_more, length-set, get_or-set_same, get_or-set_other, length-map, length-take-le, get_or-map, map-set}
 use Rattle.std.proofs.lemmas.List.FromFn.{fill_by_all, length-map-range_with_len, get_or-map-range_with_len}
-use Rattle.cats_text.specs.Files.{PlainBid}
+use Rattle.bid_file.specs.Files.{PlainBid}
 use Rattle.valuation.specs.Auctions.{atom_of, is_dummy, or_atoms_of, xor_atoms_of}
 use Rattle.cats_cmd.specs.ValueTexts.{numbers_from, or_numbers, xor_numbers, lists_of}
 

@@ -7,7 +7,7 @@ use Rattle.std.proofs.lemmas.Grind.{flat_map-append}
 use Rattle.std.proofs.lemmas.List.{get_or-map}
 use Rattle.std.proofs.lemmas.List.Elements.{All-weaker}
 use Rattle.std.proofs.lemmas.List.FromFn.{get_or-map-range_with_len}
-use Rattle.cats_text.specs.Files.{PlainBid, PlainFile}
+use Rattle.bid_file.specs.Files.{PlainBid, PlainFile}
 use Rattle.cats_text.specs.Layout.{price_text}
 use Rattle.valuation.specs.declared.atom.Atom.{Atom}
 use Rattle.valuation.specs.Auctions.{or_atoms_of, xor_atoms_of}

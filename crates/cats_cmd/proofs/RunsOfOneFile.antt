@@ -2,7 +2,7 @@
 use Rattle.std.proofs.Common.{◌≡◌, ℕ, List, Option, Result, Ok, Err, refl, sym, ap, ◌∙◌, subst, inl, inr}
 use Rattle.std.specs.Prelude.{IsErrAnd}
 use Rattle.std.proofs.lemmas.Result.{err_from_is_err_and}
-use Rattle.cats_text.specs.Files.{PlainFile}
+use Rattle.bid_file.specs.Files.{PlainFile}
 use Rattle.cats_text.specs.Streams.{ReadsFile}
 use Rattle.cats_text.specs.declared.stream.Watched.{Watched}
 use Rattle.cats_cmd.specs.Outcomes.{Outcome, Tells}

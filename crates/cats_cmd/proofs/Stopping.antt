@@ -5,7 +5,7 @@ use Rattle.std.proofs.Math.Seq.{take-length}
 use Rattle.std.specs.Io.KnownBytes.{Appends}
 use Rattle.std.specs.Prelude.{nat_lt, OnOk, IfErr, IsErrAnd, bytes_eq, codes}
 use Rattle.std.proofs.lemmas.Result.{err_from_is_err_and}
-use Rattle.cats_text.specs.Files.{PlainFile}
+use Rattle.bid_file.specs.Files.{PlainFile}
 use Rattle.cats_text.specs.Streams.{inner_of, SendsWhole, SendsPart}
 use Rattle.cats_text.specs.declared.fault.SendFault.{SendFault}
 use Rattle.cats_text.specs.declared.stream.Watched.{Watched}

@@ -1,7 +1,7 @@
 -- What a run of two files does, by the bytes that it read. The first file is read and normalised before the second is.
 use Rattle.std.specs.Prelude.{◌≡◌, ℕ, List, Option, Result, Ok, Err, None}
 use Rattle.std.specs.Io.KnownBytes.{Consumes}
-use Rattle.cats_text.specs.Files.{PlainFile}
+use Rattle.bid_file.specs.Files.{PlainFile}
 use Rattle.cats_text.specs.Streams.{inner_of, ReadsFile}
 use Rattle.cats_text.specs.declared.stream.Watched.{Watched}
 use Rattle.valuation.specs.Auctions.{or_atoms_of}

@@ -1,7 +1,7 @@
 -- What `cats duplicates` finds among the files at some paths, and what becomes of its output.
 use Rattle.std.specs.Prelude.{◌≡◌, ℕ, ◌==◌, max, List, [], ◌∷◌, ◌++◌, fold, map, filter, Option, Result, Err}
 use Rattle.std.specs.List.{AllZip}
-use Rattle.cats_text.specs.Files.{PlainFile}
+use Rattle.bid_file.specs.Files.{PlainFile}
 use Rattle.cats_text.specs.declared.stream.Watched.{Watched}
 use Rattle.canon.specs.Canonical.{canonical_text}
 use Rattle.canon.specs.FirstPlaces.{IsFirstPlace}

@@ -1,6 +1,6 @@
 -- Files for worked examples.
 use Rattle.std.specs.Prelude.{ℕ, List, [], ◌∷◌, Option, Some, None}
-use Rattle.cats_text.specs.Files.{PlainBid, PlainFile}
+use Rattle.bid_file.specs.Files.{PlainBid, PlainFile}
 
 abbrev bid : ℕ → List ℕ → Option ℕ → PlainBid
 bid price goods dummy = record { price = price; goods = goods; dummy = dummy }

@@ -1,6 +1,6 @@
 -- What a run makes of the files that it read: a text with a status, or why there is none.
 use Rattle.std.specs.Prelude.{ℕ, List, Option, Some, None, find, nat_le, nat_lt, if◌then◌else◌}
-use Rattle.cats_text.specs.Files.{PlainFile}
+use Rattle.bid_file.specs.Files.{PlainFile}
 use Rattle.cats_text.specs.Layout.{layout}
 use Rattle.valuation.specs.Auctions.{or_atoms_of, auction_from}
 use Rattle.valuation.specs.Packings.{count_packings}

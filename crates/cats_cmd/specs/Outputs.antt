@@ -1,7 +1,7 @@
 -- What the runs print.
 use Rattle.std.specs.Prelude.{ℕ, List, [], ◌∷◌, ◌++◌, length, codes, decimal}
 use Rattle.std.specs.List.{flat_map}
-use Rattle.cats_text.specs.Files.{PlainFile}
+use Rattle.bid_file.specs.Files.{PlainFile}
 
 -- each good after a comma
 abbrev pub after_commas : List ℕ → List ℕ

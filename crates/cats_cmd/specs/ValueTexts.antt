@@ -4,7 +4,7 @@ use Rattle.std.specs.Prelude.{is_none, fold, map, position, slice_index, codes, 
 use Rattle.std.specs.Global.{Global}
 use Rattle.std.specs.List.{flat_map, range_with_len}
 use Rattle.goods_set.specs.Bundles.{is_inside, with_good}
-use Rattle.cats_text.specs.Files.{PlainBid, PlainFile}
+use Rattle.bid_file.specs.Files.{PlainBid, PlainFile}
 use Rattle.cats_text.specs.Layout.{price_text}
 use Rattle.valuation.specs.declared.atom.Atom.{Atom}
 use Rattle.valuation.specs.Auctions.{is_dummy, or_atoms_of, xor_atoms_of}

@@ -4,7 +4,7 @@ mod text;
 
 ghost use Rattle.std.specs.Prelude.{◌≡◌, false, IfOk};
 ghost use Rattle.std.specs.Option.{unwrap_or};
-ghost use Rattle.cats_text.specs.Files.{IsPlainFile};
+ghost use Rattle.bid_file.specs.Files.{IsPlainFile};
 ghost use Rattle.cats_text.specs.Streams.{has_ended, has_failed};
 ghost use Rattle.valuation.specs.Auctions.{auction_from};
 ghost use Rattle.canon.specs.Answers.{or_known};
@@ -20,7 +20,8 @@ use crate::run::{read_compact_file, send_text};
 use canon::{
     CanonFault, Verdict, Which, compare_compact_files, into_normal_file, last_normal_file_unless,
 };
-use cats_text::{CompactFile, Watched};
+use bid_file::CompactFile;
+use cats_text::Watched;
 use std::alloc::{AllocError, Global};
 use std::io::{Read, Write};
 use text::verdict_text;

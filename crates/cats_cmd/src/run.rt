@@ -8,7 +8,8 @@ ghost use Rattle.cats_cmd.specs.Runs.{ReadsInput, SendsAs, SendsFileAs};
 
 use crate::report::{DONE, RunFault};
 use canon::CanonFault;
-use cats_text::{BidFile, CompactFile, Watched, read_compact_from, read_from, send, send_file};
+use bid_file::{BidFile, CompactFile};
+use cats_text::{Watched, read_compact_from, read_from, send, send_file};
 use std::alloc::Global;
 use std::io::{Read, Write};
 

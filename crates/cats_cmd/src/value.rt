@@ -6,7 +6,7 @@ mod numbers;
 
 ghost use Rattle.std.specs.Prelude.{◌≡◌, ◌≤◌, None, false};
 ghost use Rattle.cats_text.specs.Streams.{has_ended, has_failed};
-ghost use Rattle.cats_text.specs.Views.{plain_file};
+ghost use Rattle.bid_file.specs.Views.{plain_file};
 ghost use Rattle.valuation.specs.Views.{plain_auction};
 ghost use Rattle.cats_cmd.specs.Outcomes.{missing_good, value_outcome, values_within};
 ghost use Rattle.cats_cmd.specs.Runs.{MakesAs, RunsOnFile};
@@ -17,7 +17,8 @@ use crate::report::{DONE, RunFault};
 use crate::run::{read_file, send_text};
 use bundles::bundle_of;
 use canon::CanonFault;
-use cats_text::{BidFile, Watched};
+use bid_file::BidFile;
+use cats_text::Watched;
 use goods_set::{GoodsSet, goods_of, on_least_set};
 use lines::{push_or_line, push_xor_lines};
 use numbers::bid_numbers;

@@ -9,4 +9,3 @@ pub mod Goods
 pub mod Lines
 pub mod WholeLines
 pub mod BidsByNumber
-pub mod CompactBids

@@ -14,7 +14,7 @@ use Rattle.cats_text.specs.declared.fault.Kind.TheVariants.{RepeatedNumber, TooF
 use Rattle.cats_text.specs.declared.fault.Kind.TheVariants.{TwoDummies, EmptyBundle, NoEnd, AfterEnd, Missing, TooLong}
 use Rattle.cats_text.specs.declared.fault.Kind.TheVariants.{Device, Memory}
 use Rattle.cats_text.specs.declared.fault.ReadFault.{ReadFault}
-use Rattle.cats_text.specs.declared.limits.TheConstants.{MAX_GOODS, MAX_BIDS, MAX_DUMMY}
+use Rattle.bid_file.specs.declared.limits.TheConstants.{MAX_GOODS, MAX_BIDS, MAX_DUMMY}
 
 -- this kind if the test holds, and else what the later tests say
 abbrev pub when : Bool → Kind → Option Kind → Option Kind

@@ -6,7 +6,7 @@ use Rattle.cats_text.specs.Lines.{Word}
 use Rattle.cats_text.specs.Numbers.{number_of, price_of}
 use Rattle.cats_text.specs.Grammar.{line_number, significant_words}
 use Rattle.cats_text.specs.Faults.{is_end, header_value}
-use Rattle.cats_text.specs.Files.{PlainBid, PlainFile}
+use Rattle.bid_file.specs.Files.{PlainBid, PlainFile}
 
 -- ---- a bid
 

@@ -5,7 +5,7 @@ use Rattle.std.specs.Prelude.{codes}
 use Rattle.std.specs.List.{AllByRecursion, list_any}
 use Rattle.cats_text.specs.Lines.{Word, significant_lines}
 use Rattle.cats_text.specs.Numbers.{is_number, number_of, is_price, is_too_fine, price_of}
-use Rattle.cats_text.specs.Files.{PlainBid, PlainFile, IsPlainFile, goods_of}
+use Rattle.bid_file.specs.Files.{PlainBid, PlainFile, IsPlainFile, goods_of}
 
 -- the word is a number of this value
 pub record SpellsNumber (w : Word) (n : ℕ) : Type 0 where

@@ -1,6 +1,5 @@
 -- What the contracts of private functions cite, and the facts that private types keep. No public contract rests on
 -- them.
-pub mod Compact
 pub mod Front
 pub mod Keywords
 pub mod Machine

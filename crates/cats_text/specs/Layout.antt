@@ -3,7 +3,7 @@ use Rattle.std.specs.Prelude.{ℕ, suc, ◌/◌, ◌%◌, ◌+◌, ◌*◌, ◌=
 use Rattle.std.specs.Prelude.{decimal}
 use Rattle.std.specs.List.{flat_map}
 use Rattle.cats_text.specs.Lines.{Word}
-use Rattle.cats_text.specs.Files.{PlainBid, PlainFile, goods_of}
+use Rattle.bid_file.specs.Files.{PlainBid, PlainFile, goods_of}
 
 -- the digits without the zeros at their end
 abbrev pub with_place : ℕ → Word → Word

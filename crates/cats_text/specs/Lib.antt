@@ -1,7 +1,6 @@
 -- What the contracts of this crate cite.
 pub mod Lines
 pub mod Numbers
-pub mod Files
 pub mod Views
 pub mod Grammar
 pub mod Faults
@@ -11,5 +10,4 @@ pub mod Examples
 pub mod FileLines
 pub mod Fed
 pub mod Reading
-pub mod Lemmas
 pub mod Internal

@@ -2,10 +2,10 @@
 use Rattle.std.specs.Prelude.{◌≡◌, ◌⊎◌, ℕ, List, ◌++◌, take, true, Some, None, Result, Ok, Err, MatchOption}
 use Rattle.cats_text.specs.Faults.{first_fault, has_bid_line, fault_at}
 use Rattle.cats_text.specs.Grammar.{Spells}
-use Rattle.cats_text.specs.Files.{PlainFile}
-use Rattle.cats_text.specs.Views.{plain_file}
+use Rattle.bid_file.specs.Files.{PlainFile}
+use Rattle.bid_file.specs.Views.{plain_file}
 use Rattle.cats_text.specs.Fed.{fed_fault, Fed}
-use Rattle.cats_text.specs.declared.bid.BidFile.{BidFile}
+use Rattle.bid_file.specs.declared.bid.BidFile.{BidFile}
 use Rattle.cats_text.specs.declared.fault.ReadFault.{ReadFault}
 use Rattle.cats_text.specs.declared.fault.Kind.TheVariants.{Memory as NoMemory}
 

@@ -4,8 +4,8 @@ ghost use Rattle.std.specs.Prelude.{◌≡◌, ◌^◌, ◌<◌, [], None};
 ghost use Rattle.cats_text.specs.Faults.{fault_at};
 ghost use Rattle.cats_text.specs.Internal.Reading.{fault_told};
 
-use crate::bid::BidFile;
-use crate::compact::CompactFile;
+use bid_file::BidFile;
+use bid_file::CompactFile;
 use crate::fault::{Kind, ReadFault};
 use crate::history::History;
 use crate::parser::{Header, Keeping};

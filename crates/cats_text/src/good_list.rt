@@ -19,7 +19,7 @@ ghost use Rattle.std.specs.Prelude.{
   slice_index,
   vec_len,
 };
-ghost use Rattle.cats_text.specs.Files.{IsRising};
+ghost use Rattle.bid_file.specs.Files.{IsRising};
 ghost use Rattle.cats_text.specs.Grammar.{has_number};
 ghost use Rattle.cats_text.specs.Internal.Marks.{IsMarked};
 

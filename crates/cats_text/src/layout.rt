@@ -17,8 +17,8 @@ ghost use Rattle.std.specs.Prelude.{
   OnOk,
   decimal,
 };
-ghost use Rattle.cats_text.specs.Files.{PlainBid, plain_bids, dummy_good};
-ghost use Rattle.cats_text.specs.Views.{plain_file};
+ghost use Rattle.bid_file.specs.Files.{PlainBid, plain_bids, dummy_good};
+ghost use Rattle.bid_file.specs.Views.{plain_file};
 ghost use Rattle.cats_text.specs.Grammar.{Spells};
 ghost use Rattle.cats_text.specs.Layout.{
   line_room,
@@ -31,7 +31,7 @@ ghost use Rattle.cats_text.specs.Layout.{
   price_text,
 };
 
-use crate::bid::{Bid, BidFile};
+use bid_file::{Bid, BidFile};
 use crate::price::write_price;
 use itoa::{Buffer, Integer, write_digits};
 use std::alloc::{AllocError, Global};

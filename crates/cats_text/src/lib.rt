@@ -1,9 +1,7 @@
 //! CATS 2.0 bid files as text: reading, writing, and the streams that they come from and go to.
 #![tactic(auto)]
 
-mod bid;
 mod bid_lines;
-mod compact;
 mod eight;
 mod fault;
 mod feeder;
@@ -24,11 +22,10 @@ mod word;
 pub mod worked;
 pub mod worked_streams;
 
-pub use bid::{Bid, BidFile};
-pub use compact::{CompactBids, CompactFile};
+pub use bid_file::{Bid, BidFile, CompactBids, CompactFile, MAX_BIDS, MAX_DUMMY, MAX_GOODS, MAX_PRICE};
 pub use fault::{Kind, ReadFault, SendFault};
 pub use layout::{push_bid, push_header, write};
-pub use limits::{MAX_BIDS, MAX_DUMMY, MAX_GOODS, MAX_PRICE, MAX_STREAM};
+pub use limits::MAX_STREAM;
 pub use parser::Header;
 pub use price::push_price;
 pub use reader::{Reader, read, read_compact};

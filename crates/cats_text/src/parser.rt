@@ -2,9 +2,9 @@
 
 ghost use Rattle.std.specs.Prelude.{◌≡◌, ◌<◌, [], length, Ok, IfOk, OnOk, OnErr};
 ghost use Rattle.std.specs.Bool.{OnTrue};
-ghost use Rattle.cats_text.specs.Files.{IsPlainFile};
+ghost use Rattle.bid_file.specs.Files.{IsPlainFile};
 ghost use Rattle.cats_text.specs.FileLines.{put_slot};
-ghost use Rattle.cats_text.specs.Views.{plain_file};
+ghost use Rattle.bid_file.specs.Views.{plain_file};
 ghost use Rattle.cats_text.specs.Internal.Progress.{progress, Gives, AsksOnBidLines};
 ghost use Rattle.cats_text.specs.Internal.Parsing.{
   start,
@@ -28,11 +28,11 @@ ghost use Rattle.cats_text.specs.Internal.Parsing.{
 };
 ghost use Rattle.cats_text.specs.declared.parser.Keeping.TheVariants as keepings;
 
-use crate::bid::BidFile;
-use crate::compact::CompactFile;
+use bid_file::BidFile;
+use bid_file::CompactFile;
 use crate::fault::Kind;
 use crate::good_list::GoodList;
-use crate::limits::{MAX_BIDS, MAX_DUMMY, MAX_GOODS};
+use bid_file::{MAX_BIDS, MAX_DUMMY, MAX_GOODS};
 use crate::price::price_of;
 use crate::slots::{Front, Slots};
 use crate::word::{Keyword, Word};

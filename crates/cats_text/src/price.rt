@@ -7,7 +7,7 @@ ghost use Rattle.cats_text.specs.Internal.Parsing.{price_parts};
 ghost use Rattle.cats_text.specs.Internal.Progress.{Answers};
 
 use crate::fault::Kind;
-use crate::limits::MAX_PRICE;
+use bid_file::MAX_PRICE;
 use crate::parser::Stop;
 use itoa::{Buffer, write_digits};
 use std::alloc::AllocError;

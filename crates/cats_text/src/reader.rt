@@ -3,8 +3,8 @@
 ghost use Rattle.std.specs.Prelude.{◌≡◌, ◌^◌, ◌<◌, [], None};
 ghost use Rattle.cats_text.specs.Reading.{FinishAnswer, CompactAnswer};
 
-use crate::bid::BidFile;
-use crate::compact::CompactFile;
+use bid_file::BidFile;
+use bid_file::CompactFile;
 use crate::fault::ReadFault;
 use crate::feeder::Feeder;
 use crate::parser::Keeping;

@@ -18,7 +18,7 @@ ghost use Rattle.std.specs.Prelude.{
   ℕ,
   List,
 };
-ghost use Rattle.cats_text.specs.Files.{IsPlainFile};
+ghost use Rattle.bid_file.specs.Files.{IsPlainFile};
 ghost use Rattle.cats_text.specs.Internal.Front.{IsFront};
 ghost use Rattle.cats_text.specs.Internal.Parsing.{file_from};
 ghost use Rattle.cats_text.specs.Internal.Returns.{settled, waits, carried, return_byte};
@@ -47,8 +47,8 @@ ghost use Rattle.cats_text.specs.Internal.Scanning.{
 };
 ghost use Rattle.cats_text.specs.declared.parser.Keeping.TheVariants as keepings;
 
-use crate::bid::BidFile;
-use crate::compact::CompactFile;
+use bid_file::BidFile;
+use bid_file::CompactFile;
 use crate::fault::{Kind, ReadFault};
 use crate::front::{front, with_digits};
 use crate::parser::{Header, Keeping, Parser, Stop};

@@ -1,14 +1,14 @@
 //! The bids that have come, each at its number.
 
 ghost use Rattle.std.specs.Prelude.{◌≡◌, ◌<◌, ◌^◌, [], ◌∷◌, ◌++◌, length, set, slice_get, IfOk, OnOk, OnErr};
-ghost use Rattle.cats_text.specs.Files.{plain_bid, plain_bids};
+ghost use Rattle.bid_file.specs.Files.{plain_bid, plain_bids};
 ghost use Rattle.cats_text.specs.FileLines.{put_slot, filled};
 ghost use Rattle.cats_text.specs.Internal.Parsing.{is_some_bid, kept_of, with_goods};
 ghost use Rattle.cats_text.specs.Internal.Progress.{plain_slots, keeping_of, front_bids, slot_list};
 ghost use Rattle.cats_text.specs.declared.parser.Keeping.TheVariants as keepings;
 
-use crate::bid::Bid;
-use crate::compact::CompactBids;
+use bid_file::Bid;
+use bid_file::CompactBids;
 use crate::parser::{Draft, Keeping};
 use std::alloc::{AllocError, Global};
 

@@ -39,8 +39,8 @@ ghost use Rattle.cats_text.specs.Streams.{
   SendsWhole,
 };
 
-use crate::bid::BidFile;
-use crate::compact::CompactFile;
+use bid_file::BidFile;
+use bid_file::CompactFile;
 use crate::fault::{Kind, ReadFault};
 use crate::feeder::Feeder;
 use crate::limits::MAX_STREAM;

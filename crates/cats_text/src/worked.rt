@@ -19,12 +19,12 @@ ghost use Rattle.std.specs.Prelude.{
 };
 ghost use Rattle.cats_text.specs.Lines.{line_words, blank_returns, significant_lines};
 ghost use Rattle.cats_text.specs.Numbers.{number_of, is_number, is_price, is_too_large, is_too_fine, price_of};
-ghost use Rattle.cats_text.specs.Files.{PlainBid, PlainFile};
+ghost use Rattle.bid_file.specs.Files.{PlainBid, PlainFile};
 ghost use Rattle.cats_text.specs.Grammar.{Spells};
 ghost use Rattle.cats_text.specs.Faults.{first_fault, complete_fault, fault_at};
 ghost use Rattle.cats_text.specs.FileLines.{spelled_file};
 ghost use Rattle.cats_text.specs.Layout.{layout, line_room, price_text};
-ghost use Rattle.cats_text.specs.declared.limits.TheConstants.{MAX_GOODS, MAX_BIDS, MAX_DUMMY, MAX_PRICE, MAX_STREAM};
+ghost use Rattle.cats_text.specs.declared.limits.TheConstants.{MAX_STREAM};
 ghost use Rattle.cats_text.specs.declared.fault.Kind.TheVariants.{
   Header,
   NotANumber,
@@ -42,13 +42,9 @@ ghost use Rattle.cats_text.specs.declared.fault.Kind.TheVariants.{
   Missing,
 };
 
-/// The limits that the definitions cite.
+/// The limit that the definitions cite.
 pub fn limits()
-    ensures goods { MAX_GOODS ≡ 4096 }
-    ensures bids { MAX_BIDS ≡ 65536 }
-    ensures dummies { MAX_DUMMY ≡ 65536 }
-    ensures price { MAX_PRICE ≡ 1000000000000 * 1000000 }
-    ensures stream { MAX_STREAM ≡ 2 ^ 31 }
+    ensures { MAX_STREAM ≡ 2 ^ 31 }
 {}
 
 /// Lines and words: blanks, a CR at a line's end and elsewhere, comments of any bytes.

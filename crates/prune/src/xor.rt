@@ -19,7 +19,7 @@ ghost use Rattle.std.specs.Prelude.{
   length,
 };
 ghost use Rattle.std.specs.List.{list_any};
-ghost use Rattle.cats_text.specs.declared.limits.TheConstants.{MAX_GOODS};
+ghost use Rattle.bid_file.specs.declared.limits.TheConstants.{MAX_GOODS};
 ghost use Rattle.valuation.specs.Auctions.{IsAtom};
 ghost use Rattle.valuation.specs.Values.{atoms_of, plain_atom, xor_value};
 ghost use Rattle.prune.specs.InOrder.{IsInOrder};

@@ -1,10 +1,11 @@
 //! Files whose text is known, written.
 
 ghost use Rattle.std.specs.Prelude.{◌≡◌, ◌≤◌, List, [], ◌∷◌, IfOk, None};
-ghost use Rattle.cats_text.specs.Files.{PlainBid, IsBidFile, plain_bid, plain_bids};
+ghost use Rattle.bid_file.specs.Files.{PlainBid, IsBidFile, plain_bid, plain_bids};
 
 use crate::texts::assert_bytes;
-use cats_text::{Bid, BidFile, push_bid, push_header, push_price, write};
+use bid_file::{Bid, BidFile};
+use cats_text::{push_bid, push_header, push_price, write};
 use std::alloc::{AllocError, Global};
 use std::test::Fail;
 

@@ -7,7 +7,8 @@ mod long_words;
 mod pieces;
 mod whole_files;
 
-use cats_text::{BidFile, Kind, MAX_STREAM, ReadFault, Reader, read, read_compact, write};
+use bid_file::BidFile;
+use cats_text::{Kind, MAX_STREAM, ReadFault, Reader, read, read_compact, write};
 use std::alloc::{AllocError, Global};
 use std::process::Abort;
 use std::test::Fail;

@@ -6,8 +6,8 @@ use Rattle.std.specs.Prelude.{filter, All, sum_by}
 use Rattle.std.specs.List.{range_with_len}
 use Rattle.valuation.specs.declared.atom.Atom.{Atom}
 use Rattle.goods_set.specs.Bundles.{IsBundle}
-use Rattle.cats_text.specs.Files.{PlainBid, PlainFile}
-use Rattle.cats_text.specs.declared.limits.TheConstants.{MAX_GOODS, MAX_BIDS, MAX_DUMMY, MAX_PRICE}
+use Rattle.bid_file.specs.Files.{PlainBid, PlainFile}
+use Rattle.bid_file.specs.declared.limits.TheConstants.{MAX_GOODS, MAX_BIDS, MAX_DUMMY, MAX_PRICE}
 
 -- an atom of an auction with that many goods: it asks for a bundle of some of them, at a price within the limit
 pub record IsAtom (goods : ℕ) (a : Atom (List ℕ)) : Type 0 where

@@ -1,13 +1,13 @@
 //! The auction of a bid file in little memory.
 ghost use Rattle.std.specs.Prelude.{◌≡◌, ◌≤◌, vec_len, IfOk};
-ghost use Rattle.cats_text.specs.Files.{IsPlainFile};
+ghost use Rattle.bid_file.specs.Files.{IsPlainFile};
 ghost use Rattle.valuation.specs.Auctions.{auction_from};
 ghost use Rattle.valuation.specs.Views.{plain_auction};
 
 use crate::atom::Atom;
 use crate::auction::Auction;
 use crate::from_file::empty_bidders;
-use cats_text::CompactFile;
+use bid_file::CompactFile;
 use goods_set::GoodsSet;
 use std::alloc::{AllocError, Global};
 

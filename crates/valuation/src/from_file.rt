@@ -1,14 +1,14 @@
 //! The auction of a bid file.
 ghost use Rattle.std.specs.Prelude.{◌≡◌, ◌≤◌, List, [], length, replicate, vec_len, IfOk};
 ghost use Rattle.goods_set.specs.Bundles.{IsRising, AreBelow};
-ghost use Rattle.cats_text.specs.Views.{plain_file};
+ghost use Rattle.bid_file.specs.Views.{plain_file};
 ghost use Rattle.valuation.specs.Auctions.{auction_from};
 ghost use Rattle.valuation.specs.Bidders.{bidders_of};
 ghost use Rattle.valuation.specs.Views.{plain_auction};
 
 use crate::atom::Atom;
 use crate::auction::Auction;
-use cats_text::{Bid, BidFile};
+use bid_file::{Bid, BidFile};
 use goods_set::GoodsSet;
 use std::alloc::{AllocError, Global};
 

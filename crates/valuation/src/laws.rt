@@ -3,7 +3,7 @@ ghost use Rattle.std.specs.Prelude.{◌≡◌, ℕ, ◌+◌, ◌<◌, ◌≤◌,
 ghost use Rattle.std.specs.Cmp.{IsTotalOrder};
 ghost use Rattle.std.specs.declared.cmp.Ordering.TheVariants.{Equal};
 ghost use Rattle.goods_set.specs.Bundles.{IsInside, AreApart};
-ghost use Rattle.cats_text.specs.Files.{PlainFile, IsPlainFile};
+ghost use Rattle.bid_file.specs.Files.{PlainFile, IsPlainFile};
 ghost use Rattle.valuation.specs.declared.atom.Atom.{Atom};
 ghost use Rattle.valuation.specs.Values.{xor_value, or_value, chosen_places};
 ghost use Rattle.valuation.specs.Packings.{atoms_at, price_sum, count_packings, IsBestPacking, AreThePackings};

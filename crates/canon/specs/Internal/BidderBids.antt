@@ -1,8 +1,8 @@
 -- The bids of XOR bidders, as they stand in a canonical file.
 use Rattle.std.specs.Prelude.{◌≡◌, ℕ, ◌+◌, ◌<◌, ◌≤◌, List, ◌∷◌, map, length, drop}
 use Rattle.std.specs.List.{AllByRecursion}
-use Rattle.cats_text.specs.declared.bid.Bid.{Bid}
-use Rattle.cats_text.specs.Files.{PlainBid, plain_bids}
+use Rattle.bid_file.specs.declared.bid.Bid.{Bid}
+use Rattle.bid_file.specs.Files.{PlainBid, plain_bids}
 use Rattle.valuation.specs.declared.atom.Atom.{Atom}
 use Rattle.valuation.specs.Auctions.{PlainAuction, IsAuction, atom_of}
 use Rattle.canon.specs.Canonical.{IsCanonical, dummy_bids}

@@ -1,6 +1,6 @@
 -- The bids of the OR bidder, as they stand in a canonical file.
 use Rattle.std.specs.Prelude.{◌≡◌, ℕ, List, map, None}
-use Rattle.cats_text.specs.Files.{PlainBid}
+use Rattle.bid_file.specs.Files.{PlainBid}
 use Rattle.valuation.specs.Auctions.{PlainAuction, IsAuction}
 use Rattle.canon.specs.Canonical.{IsCanonical, bid_from}
 

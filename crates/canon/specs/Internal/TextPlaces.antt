@@ -2,7 +2,7 @@
 use Rattle.std.specs.Prelude.{◌≡◌, ℕ, ◌<◌, List, length, Option, Some, None, slice_get, Vec, bytes_eq}
 use Rattle.std.specs.Global.{Global}
 use Rattle.std.specs.HashMap.{HashMap, get_by}
-use Rattle.cats_text.specs.Files.{PlainFile, IsPlainFile}
+use Rattle.bid_file.specs.Files.{PlainFile, IsPlainFile}
 use Rattle.canon.specs.Canonical.{canonical_text}
 
 module _ {S : Type 0} where

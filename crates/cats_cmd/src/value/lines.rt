@@ -3,13 +3,14 @@
 ghost use Rattle.std.specs.Prelude.{◌≡◌, ◌<◌, ◌++◌, ◌∷◌, [], All, IfSome, OnOk, codes, decimal, length, map};
 ghost use Rattle.std.specs.List.{flat_map, range_with_len};
 ghost use Rattle.cats_text.specs.Layout.{price_text};
-ghost use Rattle.cats_text.specs.Views.{plain_file};
+ghost use Rattle.bid_file.specs.Views.{plain_file};
 ghost use Rattle.valuation.specs.Auctions.{xor_atoms_of};
 ghost use Rattle.valuation.specs.Bidders.{bidders_of};
 ghost use Rattle.valuation.specs.Values.{atoms_of};
 ghost use Rattle.cats_cmd.specs.ValueTexts.{dummy_line, lists_of, numbers_text, option_places, xor_line, xor_numbers};
 
-use cats_text::{BidFile, push_price};
+use bid_file::BidFile;
+use cats_text::push_price;
 use goods_set::GoodsSet;
 use itoa::{Buffer, Integer};
 use std::alloc::AllocError;

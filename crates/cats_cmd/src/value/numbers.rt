@@ -2,10 +2,10 @@
 
 ghost use Rattle.std.specs.Prelude.{◌≡◌, List, [], IfOk, map, replicate};
 ghost use Rattle.std.specs.List.{range_with_len};
-ghost use Rattle.cats_text.specs.Views.{plain_file};
+ghost use Rattle.bid_file.specs.Views.{plain_file};
 ghost use Rattle.cats_cmd.specs.ValueTexts.{lists_of, or_numbers, xor_numbers};
 
-use cats_text::BidFile;
+use bid_file::BidFile;
 use std::alloc::{AllocError, Global};
 
 /// The numbers of the bids of the OR bidder, and of each XOR bidder: each list is in the order of the bidder's atoms.

@@ -7,7 +7,7 @@ use Rattle.std.proofs.lemmas.Bool.{le-leb, lt-leb}
 use Rattle.std.proofs.lemmas.Bool.Decides.{leb_tells}
 use Rattle.cats_text.specs.Faults.{complete_fault, first_fault, has_bid_line, fault_at}
 use Rattle.cats_text.specs.Fed.{Fed, fed_fault}
-use Rattle.cats_text.specs.Files.{PlainFile, IsPlainFile}
+use Rattle.bid_file.specs.Files.{PlainFile, IsPlainFile}
 use Rattle.cats_text.specs.Grammar.{Spells}
 use Rattle.cats_text.specs.Internal.Parsing.{file_from, KeepsBids}
 use Rattle.cats_text.specs.Internal.Reading.{HasTaken, IsReading, SpellsSizes, fault_told}
@@ -40,7 +40,7 @@ use Rattle.cats_text.proofs.Scanning.Lines.{scan-append}
 use Rattle.cats_text.proofs.Texts.MachineAnswers.{stops_at_complete_fault, goes_on_without_fault, meets_bid_line, complete_fault_is_first, ends_at_file}
 use Rattle.cats_text.proofs.Texts.MachineAnswers.{ends_at_sizes, ends_at_first_fault, ends_in_bid_line}
 use Rattle.cats_text.proofs.Scanning.Pieces.{settled-append, waits-append}
-use Rattle.cats_text.proofs.Feeding.Streams.{take-within}
+use Rattle.std.proofs.lemmas.List.{take_all}
 use Rattle.cats_text.proofs.Scanning.Appends.{meets_behind, scan-line, settled-length}
 
 -- ---- the bytes that are judged
@@ -83,7 +83,7 @@ fed-beyond limit bytes h = rw (lt-leb (length bytes) limit h) refl
 -- a fault that is complete in what is judged
 pub fed-judged : (limit : ℕ) (bytes : List ℕ) (e : ReadFault) → complete_fault (take limit bytes) ≡ Some e → fed_fault limit bytes ≡ Some e
 fed-judged limit bytes e h = elim (leb_tells (length bytes) limit) [
-  | inl within ↦ fed-within limit bytes within.1 ∙ ap complete_fault (sym (take-within limit bytes within.1)) ∙ h
+  | inl within ↦ fed-within limit bytes within.1 ∙ ap complete_fault (sym (take_all limit bytes within.1)) ∙ h
   | inr beyond ↦ fed-beyond limit bytes beyond.1 ∙ ap (λ f. option_or f (Some (fault_at 0 TooLong))) h
 ]
 
@@ -232,5 +232,5 @@ whole_told text bytes limit e most same (inl fault) =
     inl (complete_fault_is_first text e (sym (fed-within limit text within) ∙ told))
 whole_told text bytes limit e most same (inr want) =
     let within : length bytes ≤ limit = rw same (omega arith) in
-    let all : take limit bytes ≡ text = take-within limit bytes within ∙ same in
+    let all : take limit bytes ≡ text = take_all limit bytes within ∙ same in
     inr (rw (← all) want)

@@ -1,12 +1,13 @@
 -- Reading a stream answers as the reader that was fed the bytes.
 use Rattle.std.proofs.Common.{◌≡◌, ◌≤◌, ℕ, zero, suc, false, List, [], ◌∷◌, length, take, Option, Some, IfSome, Result, Ok, Err, ◌⊎◌, inl, inr, refl, ap, arith}
+use Rattle.std.proofs.lemmas.List.{take_all}
 use Rattle.cats_text.specs.Faults.{first_fault, fault_at}
 use Rattle.cats_text.specs.Fed.{fed_fault}
-use Rattle.cats_text.specs.Files.{PlainFile}
+use Rattle.bid_file.specs.Files.{PlainFile}
 use Rattle.cats_text.specs.Reading.{CompactAnswer, WantsMemory, FinishAnswer}
 use Rattle.cats_text.specs.Internal.Reading.{SizesAnswer}
 use Rattle.cats_text.specs.Streams.{has_failed, IsWhole, IsTextFault, FaultsAt, ReadsAs, ReadsPlainAs, ChecksAs}
-use Rattle.cats_text.specs.declared.bid.BidFile.{BidFile}
+use Rattle.bid_file.specs.declared.bid.BidFile.{BidFile}
 use Rattle.cats_text.specs.declared.fault.Kind.{Kind}
 use Rattle.cats_text.specs.declared.fault.Kind.TheVariants.{Device, Memory}
 use Rattle.cats_text.specs.declared.fault.ReadFault.{ReadFault}
@@ -17,12 +18,6 @@ use Rattle.cats_text.proofs.Texts.FaultKinds.{IsFaultOfBytes, first_fault-of_byt
 
 found : (fault : Option ReadFault) (e : ReadFault) → IfSome fault IsFaultOfBytes → fault ≡ Some e → IsFaultOfBytes e
 found fault e h is = rw is at h
-
-pub take-within : (n : ℕ) (xs : List ℕ) → length xs ≤ n → take n xs ≡ xs
-take-within zero [] h = refl
-take-within (suc n) [] h = refl
-take-within zero (x ∷ xs) h = absurd (omega arith)
-take-within (suc n) (x ∷ xs) h = ap (λ l. x ∷ l) (take-within n xs (omega arith))
 
 module _ {R : Type 0} (remaining : R → Option (List ℕ)) where
   fault_told : (bytes : List ℕ) (input : Watched R) (line : ℕ) (kind : Kind) → has_failed input ≡ false → IsFaultOfBytes (fault_at line kind)
@@ -48,7 +43,7 @@ module _ {R : Type 0} (remaining : R → Option (List ℕ)) where
   ended_told bytes input e works whole (inl is) =
       fault_told bytes input e.line e.kind works (found (first_fault bytes) e (first_fault-of_bytes bytes) is) (inr (whole, is))
   ended_told bytes input e works whole (inr want) =
-      memory_told bytes input e works (rw (take-within MAX_STREAM bytes (fed_within MAX_STREAM bytes whole.no_fault)) want)
+      memory_told bytes input e works (rw (take_all MAX_STREAM bytes (fed_within MAX_STREAM bytes whole.no_fault)) want)
 
   -- the answers at the end of the bytes
   pub finished_told : (bytes : List ℕ) (input : Watched R) (answer : Result BidFile ReadFault) → has_failed input ≡ false → IsWhole remaining bytes input

@@ -18,7 +18,7 @@ use Rattle.cats_text.specs.declared.word.Word.TheVariants.{Keyword, Number, Deci
 use Rattle.cats_text.specs.declared.word.TheConstants.{HELD}
 use Rattle.cats_text.specs.declared.parser.Header.{Header}
 use Rattle.cats_text.specs.declared.parser.Column.TheVariants.{Later}
-use Rattle.cats_text.specs.declared.limits.TheConstants.{MAX_BIDS}
+use Rattle.bid_file.specs.declared.limits.TheConstants.{MAX_BIDS}
 use Rattle.cats_text.proofs.Words.Places.{digit_bounds, places_from, places-six, places_below_one, place_not_zero}
 use Rattle.cats_text.proofs.Words.Kept.{Tells, Holds, whole-digits, whole-point, places-point}
 use Rattle.cats_text.proofs.Words.Tests.{IsTold, tells_number}

@@ -3,10 +3,10 @@ use Rattle.std.proofs.Common.{◌≡◌, ℕ, zero, suc, ◌+◌, ◌-◌, ◌<�
 use Rattle.std.proofs.Common.{true, map, append-nil, refl, sym, ap, ap₂, ◌∙◌, arith, append_assoc, length-append}
 use Rattle.std.proofs.lemmas.List.{length-replicate, replicate-append-replicate, map-set, map-append, length-map, set-append_left, set-append_right}
 use Rattle.std.specs.List.{slice_get}
-use Rattle.cats_text.specs.declared.bid.Bid.{Bid}
+use Rattle.bid_file.specs.declared.bid.Bid.{Bid}
 use Rattle.cats_text.specs.declared.slots.Front.{Front}
 use Rattle.cats_text.specs.declared.slots.Front.TheVariants.{Numbers}
-use Rattle.cats_text.specs.Files.{PlainBid, plain_bid}
+use Rattle.bid_file.specs.Files.{PlainBid, plain_bid}
 use Rattle.cats_text.specs.Internal.Parsing.{is_some_bid, kept_of}
 use Rattle.cats_text.specs.Internal.Progress.{plain_slot, plain_slots, number_alone, keeping_of, front_bids}
 use Rattle.std.proofs.lemmas.List.Elements.{filter_map-append}

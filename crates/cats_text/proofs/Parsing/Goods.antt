@@ -15,7 +15,7 @@ use Rattle.cats_text.specs.declared.fault.Kind.TheVariants as kinds
 use Rattle.cats_text.specs.declared.word.Word.{Word}
 use Rattle.cats_text.specs.declared.word.Word.TheVariants.{Keyword, Number, Decimal as Fraction, End, Other}
 use Rattle.cats_text.specs.declared.parser.Header.{Header}
-use Rattle.cats_text.specs.declared.limits.TheConstants.{MAX_GOODS, MAX_DUMMY}
+use Rattle.bid_file.specs.declared.limits.TheConstants.{MAX_GOODS, MAX_DUMMY}
 use Rattle.cats_text.proofs.Words.Kept.{Tells}
 use Rattle.cats_text.proofs.Words.Tests.{IsTold, tells_number, tells_end}
 use Rattle.cats_text.proofs.Parsing.States.{IsAt, WordFollows, HasOneDummy, ended_column}

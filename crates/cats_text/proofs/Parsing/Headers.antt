@@ -19,7 +19,7 @@ use Rattle.cats_text.specs.declared.parser.Stage.{Stage}
 use Rattle.cats_text.specs.declared.parser.Stage.TheVariants.{Goods, Bids, Dummy, Bid}
 use Rattle.cats_text.specs.declared.parser.Column.{Column}
 use Rattle.cats_text.specs.declared.parser.Column.TheVariants.{First, Second, Later, Ended}
-use Rattle.cats_text.specs.declared.limits.TheConstants.{MAX_GOODS, MAX_BIDS, MAX_DUMMY}
+use Rattle.bid_file.specs.declared.limits.TheConstants.{MAX_GOODS, MAX_BIDS, MAX_DUMMY}
 use Rattle.cats_text.proofs.Words.Kept.{Tells, Holds}
 use Rattle.cats_text.proofs.Words.Tests.{IsTold, tells_number, tells_keyword}
 use Rattle.cats_text.proofs.Parsing.States.{IsAt, WordFollows}

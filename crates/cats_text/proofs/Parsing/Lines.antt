@@ -7,7 +7,7 @@ use Rattle.cats_text.specs.Numbers.{number_of, price_of}
 use Rattle.cats_text.specs.Grammar.{line_number}
 use Rattle.cats_text.specs.Faults.{is_line_due, when, has_end}
 use Rattle.cats_text.specs.FileLines.{rising_of, put_slot, before_end, real_goods, bid_of}
-use Rattle.cats_text.specs.Files.{PlainBid}
+use Rattle.bid_file.specs.Files.{PlainBid}
 use Rattle.cats_text.specs.Internal.Progress.{Progress}
 use Rattle.cats_text.specs.Internal.Parsing.{Reading, word_read, line_read, with_bid, drafted, kept_of, is_due}
 use Rattle.cats_text.specs.declared.fault.Kind.TheVariants as kinds

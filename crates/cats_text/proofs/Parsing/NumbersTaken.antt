@@ -5,7 +5,7 @@ use Rattle.std.proofs.lemmas.Bool.{eqb-true, eqb-false, eq-eqb, ne_eqb}
 use Rattle.std.proofs.lemmas.List.{length-replicate}
 use Rattle.std.specs.List.{slice_get, list_any}
 use Rattle.cats_text.specs.Lines.{Word}
-use Rattle.cats_text.specs.Files.{PlainBid}
+use Rattle.bid_file.specs.Files.{PlainBid}
 use Rattle.cats_text.specs.Grammar.{line_number}
 use Rattle.cats_text.specs.Internal.Parsing.{is_some_bid}
 use Rattle.cats_text.specs.FileLines.{put_slot}

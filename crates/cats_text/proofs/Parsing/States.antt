@@ -6,7 +6,7 @@ use Rattle.cats_text.specs.Numbers.{number_of, price_of}
 use Rattle.cats_text.specs.Grammar.{has_number, line_number}
 use Rattle.cats_text.specs.Faults.{header_value, has_end, word_fault, end_fault}
 use Rattle.cats_text.specs.FileLines.{before_end, real_goods, dummy_in, bid_of, put_slot}
-use Rattle.cats_text.specs.Files.{PlainBid}
+use Rattle.bid_file.specs.Files.{PlainBid}
 use Rattle.cats_text.specs.Internal.Progress.{Progress}
 use Rattle.cats_text.specs.Internal.Parsing.{Reading, kept_of}
 use Rattle.cats_text.specs.declared.parser.Keeping.{Keeping}
@@ -15,7 +15,7 @@ use Rattle.cats_text.specs.declared.parser.Stage.TheVariants.{Goods, Bids, Dummy
 use Rattle.cats_text.specs.declared.parser.Column.{Column}
 use Rattle.cats_text.specs.declared.parser.Column.TheVariants.{First, Second, Later, Ended}
 use Rattle.cats_text.specs.declared.parser.Header.{Header}
-use Rattle.cats_text.specs.declared.limits.TheConstants.{MAX_GOODS, MAX_BIDS, MAX_DUMMY}
+use Rattle.bid_file.specs.declared.limits.TheConstants.{MAX_GOODS, MAX_BIDS, MAX_DUMMY}
 
 abbrev pub stage_of : List (List Word) → Stage
 stage_of [] = Goods

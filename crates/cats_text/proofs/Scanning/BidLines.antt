@@ -19,7 +19,7 @@ use Rattle.cats_text.specs.declared.word.Word.TheVariants.{Keyword, Number, Deci
 use Rattle.cats_text.specs.declared.parser.Keeping.{Keeping}
 use Rattle.cats_text.specs.declared.parser.Column.{Column}
 use Rattle.cats_text.specs.declared.parser.Column.TheVariants.{First, Second, Later, Ended}
-use Rattle.cats_text.specs.declared.limits.TheConstants.{MAX_GOODS, MAX_BIDS, MAX_DUMMY}
+use Rattle.bid_file.specs.declared.limits.TheConstants.{MAX_GOODS, MAX_BIDS, MAX_DUMMY}
 use Rattle.cats_text.proofs.Parsing.Headers.{read_at}
 use Rattle.cats_text.proofs.Parsing.Lines.{line_at}
 use Rattle.cats_text.specs.Internal.Scanning.{State, Scan, and_then, byte_step, blank_step, words_step, line_step, next_line, with_reading, letter_mode}

@@ -8,11 +8,11 @@ use Rattle.std.specs.List.{AllByRecursion, list_any, slice_get}
 use Rattle.std.specs.Prelude.{codes}
 use Rattle.cats_text.specs.Lines.{Word}
 use Rattle.cats_text.specs.Numbers.{is_number, number_of, price_of}
-use Rattle.cats_text.specs.Files.{PlainBid, PlainFile, IsBid, IsPlainFile, goods_of}
+use Rattle.bid_file.specs.Files.{PlainBid, PlainFile, IsBid, IsPlainFile, goods_of}
 use Rattle.cats_text.specs.Grammar.{SpellsBid, has_number, line_number}
 use Rattle.cats_text.specs.Faults.{Bounds, is_end}
 use Rattle.cats_text.specs.FileLines.{before_end, bid_of}
-use Rattle.cats_text.specs.declared.limits.TheConstants.{MAX_PRICE}
+use Rattle.bid_file.specs.declared.limits.TheConstants.{MAX_PRICE}
 use Rattle.cats_text.proofs.Spelling.Rising.{has_head, has_tail, has_cases, IsRising-of}
 use Rattle.cats_text.proofs.Spelling.Members.{bid_on, bid_on_same, bid_on_below, bid_on_real, bid_on_dummy, goods_are, rising_goods, same_dummy, has_real_good}
 use Rattle.cats_text.proofs.Spelling.Members.{real, dummy_of}

@@ -10,7 +10,7 @@ use Rattle.cats_text.specs.Lines.{Word, Line}
 use Rattle.cats_text.specs.Grammar.{AreDistinct, line_number}
 use Rattle.cats_text.specs.Faults.{Bounds, bounds_of, words_fault, end_fault, is_line_due, fault_at, line_fault, lines_fault}
 use Rattle.cats_text.specs.declared.fault.Kind.TheVariants.{Missing}
-use Rattle.cats_text.specs.declared.limits.TheConstants.{MAX_GOODS, MAX_BIDS, MAX_DUMMY}
+use Rattle.bid_file.specs.declared.limits.TheConstants.{MAX_GOODS, MAX_BIDS, MAX_DUMMY}
 use Rattle.cats_text.proofs.Spelling.Marks.{AreDistinct-push}
 use Rattle.cats_text.proofs.Spelling.Members.{new_at}
 use Rattle.cats_text.proofs.Spelling.Slots.{FillPlaces}

@@ -5,7 +5,7 @@ use Rattle.std.proofs.lemmas.Bool.{eqb-true, eq-eqb, eqb-false, both_ways, or_le
 use Rattle.std.proofs.lemmas.List.Sorted.{list_any-IsPermutation}
 use Rattle.std.specs.List.{AllByRecursion}
 use Rattle.std.specs.List.Sorted.{IsPermutation}
-use Rattle.cats_text.specs.Files.{IsRising}
+use Rattle.bid_file.specs.Files.{IsRising}
 use Rattle.cats_text.specs.Grammar.{AreDistinct, has_number}
 use Rattle.cats_text.specs.Internal.Marks.{IsMarked, IsListed}
 use Rattle.cats_text.proofs.Spelling.Distinct.{distinct_from_rising}

@@ -7,7 +7,7 @@ use Rattle.std.proofs.lemmas.Bool.{cases_lt, cases_Bool}
 use Rattle.std.proofs.lemmas.List.Folds.{list_any-append}
 use Rattle.std.specs.List.{AllByRecursion, list_any, filter, find}
 use Rattle.std.specs.Option.{option_map}
-use Rattle.cats_text.specs.Files.{PlainBid, IsRising, IsDummyBelow, dummy_good, goods_of}
+use Rattle.bid_file.specs.Files.{PlainBid, IsRising, IsDummyBelow, dummy_good, goods_of}
 use Rattle.cats_text.specs.Grammar.{AreDistinct, has_number}
 use Rattle.cats_text.specs.FileLines.{rising_of}
 use Rattle.cats_text.proofs.Spelling.Rising.{has_head, has_tail, has_cases, has_rising_of, rising_of_is}

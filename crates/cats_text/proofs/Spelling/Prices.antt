@@ -10,7 +10,7 @@ use Rattle.std.specs.List.{list_any, list_all, fold}
 use Rattle.cats_text.specs.Lines.{Word}
 use Rattle.cats_text.specs.Numbers.{is_digit, digits_alone, is_number, number_of, whole_part, has_point, places, is_price, has_place_from, is_too_large}
 use Rattle.cats_text.specs.Numbers.{is_too_fine, six_places, price_of, GREATEST_PRICE}
-use Rattle.cats_text.specs.declared.limits.TheConstants.{MAX_PRICE}
+use Rattle.bid_file.specs.declared.limits.TheConstants.{MAX_PRICE}
 
 -- ---- what digits are worth
 

@@ -2,7 +2,7 @@
 use Rattle.std.proofs.Common.{◌≡◌, ◌≢◌, ℕ, ◌<◌, ◌≤◌, Bool, true, false, cond, ◌||◌, eqb, ltb, ◌⊎◌, inl, inr, ⊎_elim, List, [], ◌∷◌, ◌++◌, ◌-◌, zero, suc, length, take, get_or, refl, sym, ap, ap₂, ◌∙◌}
 use Rattle.std.proofs.Common.{subst, arith}
 use Rattle.std.proofs.lemmas.Bool.{or_cases, or_left, or_right, both_ways, eqb-true, eqb-false, eq-eqb, ne_eqb, ltb-true, ltb-false, false_from_ne_true}
-use Rattle.cats_text.specs.Files.{IsRising, AreAbove}
+use Rattle.bid_file.specs.Files.{IsRising, AreAbove}
 use Rattle.cats_text.specs.Grammar.{has_number}
 use Rattle.cats_text.specs.FileLines.{rising_with, rising_of}
 

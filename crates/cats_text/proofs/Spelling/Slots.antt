@@ -6,7 +6,7 @@ use Rattle.std.proofs.lemmas.Bool.{cases_eq}
 use Rattle.std.proofs.lemmas.List.{length-replicate, length-set}
 use Rattle.std.specs.List.{AllByRecursion, fold, slice_get}
 use Rattle.cats_text.specs.Lines.{Word}
-use Rattle.cats_text.specs.Files.{PlainBid}
+use Rattle.bid_file.specs.Files.{PlainBid}
 use Rattle.cats_text.specs.Grammar.{AreDistinct, line_number}
 use Rattle.cats_text.specs.FileLines.{put_slot, filled, bid_of, slots_of}
 

@@ -3,7 +3,7 @@ use Rattle.std.proofs.Common.{◌≡◌, ℕ, ◌<◌, true, false, List, [], �
 use Rattle.std.proofs.Common.{subst, arith, refl}
 use Rattle.std.proofs.lemmas.Bool.{both_ways, lt-ltb}
 use Rattle.std.proofs.lemmas.List.{length-map}
-use Rattle.cats_text.specs.Files.{PlainFile, PlainBid}
+use Rattle.bid_file.specs.Files.{PlainFile, PlainBid}
 use Rattle.cats_text.specs.Lines.{Word, Line, significant_lines}
 use Rattle.cats_text.specs.Grammar.{Spells, significant_words}
 use Rattle.cats_text.specs.Faults.{first_fault, complete_fault, has_bid_line, is_line_due}

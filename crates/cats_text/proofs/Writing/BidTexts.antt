@@ -2,8 +2,8 @@
 use Rattle.std.proofs.Common.{◌≡◌, ℕ, zero, suc, ◌+◌, ◌<◌, ◌≤◌, List, [], ◌∷◌, ◌++◌, Some, length, subst, get_or, drop, sym, ap, ◌∙◌, arith, add-one, append_assoc, drop-cons}
 use Rattle.std.proofs.lemmas.List.{get_or-map, length-map, drop_all, append-nil}
 use Rattle.std.specs.List.{AllByRecursion, slice_get}
-use Rattle.cats_text.specs.declared.bid.Bid.{Bid}
-use Rattle.cats_text.specs.Files.{PlainBid, plain_bid, plain_bids}
+use Rattle.bid_file.specs.declared.bid.Bid.{Bid}
+use Rattle.bid_file.specs.Files.{PlainBid, plain_bid, plain_bids}
 use Rattle.cats_text.specs.Layout.{bid_text, bids_text}
 
 -- one more bid is written

@@ -7,7 +7,7 @@ use Rattle.std.proofs.lemmas.List.{append-nil}
 use Rattle.cats_text.specs.Lines.{Word, line_words, is_significant}
 use Rattle.cats_text.specs.Numbers.{is_digit, digits_alone, is_number}
 use Rattle.cats_text.specs.Grammar.{significant_words}
-use Rattle.cats_text.specs.Files.{PlainBid, PlainFile, IsBid, IsDummyBelow, dummy_good, goods_of}
+use Rattle.bid_file.specs.Files.{PlainBid, PlainFile, IsBid, IsDummyBelow, dummy_good, goods_of}
 use Rattle.cats_text.specs.Layout.{price_text, header_text, tabbed, bid_text, bids_text, layout}
 use Rattle.cats_text.proofs.Words.Places.{digit_bounds}
 use Rattle.cats_text.proofs.Writing.Numerals.{decimal_spells}

@@ -9,7 +9,7 @@ use Rattle.std.proofs.lemmas.List.{drop-drop, take-append-le, drop-append-le, le
 use Rattle.std.proofs.lemmas.Result.{err_from_is_err_and}
 use Rattle.std.specs.Io.KnownBytes.{Appends}
 use Rattle.std.specs.List.{AllByRecursion, slice_get}
-use Rattle.cats_text.specs.Files.{PlainBid, PlainFile, IsRising, AreAbove, IsBid, IsPlainFile}
+use Rattle.bid_file.specs.Files.{PlainBid, PlainFile, IsRising, AreAbove, IsBid, IsPlainFile}
 use Rattle.cats_text.specs.Layout.{bid_text, bids_text, header_text, headers_text}
 use Rattle.cats_text.specs.Streams.{inner_of, Sends, SendsPart}
 use Rattle.cats_text.specs.declared.fault.SendFault.{SendFault}

@@ -5,7 +5,7 @@ use Rattle.std.specs.List.{AllByRecursion, slice_get}
 use Rattle.std.proofs.lemmas.List.{append-nil}
 use Rattle.cats_text.specs.Numbers.{is_number, number_of}
 use Rattle.cats_text.specs.Grammar.{SpellsBid, Spells, AreDistinct, has_number, line_number}
-use Rattle.cats_text.specs.Files.{PlainBid, PlainFile, IsPlainFile, AreAbove, IsRising, dummy_good, goods_of}
+use Rattle.bid_file.specs.Files.{PlainBid, PlainFile, IsPlainFile, AreAbove, IsRising, dummy_good, goods_of}
 use Rattle.cats_text.specs.Layout.{price_text, layout}
 use Rattle.cats_text.proofs.Writing.Numerals.{decimal_spells}
 use Rattle.cats_text.proofs.Writing.Prices.{price_text_spells}

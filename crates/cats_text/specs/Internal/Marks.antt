@@ -1,6 +1,6 @@
 -- The marks of the goods that have come in a bid.
 use Rattle.std.specs.Prelude.{◌≡◌, ℕ, ◌<◌, ◌≤◌, ◌==◌, Bool, true, false, if◌then◌else◌, List, [], slice_index}
-use Rattle.cats_text.specs.Files.{IsRising}
+use Rattle.bid_file.specs.Files.{IsRising}
 use Rattle.cats_text.specs.Grammar.{has_number, AreDistinct}
 
 -- those marked as this bid's are the goods, none of which stands twice, and no mark is of a later bid

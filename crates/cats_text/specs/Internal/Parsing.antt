@@ -3,7 +3,7 @@ use Rattle.std.specs.Prelude.{ℕ, ◌+◌, ◌-◌, ◌*◌, ◌^◌, ◌==◌,
 use Rattle.std.specs.Prelude.{if◌then◌else◌, List, [], ◌∷◌, ◌++◌, length, slice_get, Option, Some, None, Result, Ok, Err}
 use Rattle.cats_text.specs.Numbers.{GREATEST_PRICE}
 use Rattle.cats_text.specs.Grammar.{has_number}
-use Rattle.cats_text.specs.Files.{PlainBid, PlainFile}
+use Rattle.bid_file.specs.Files.{PlainBid, PlainFile}
 use Rattle.cats_text.specs.FileLines.{rising_of, put_slot, filled}
 use Rattle.cats_text.specs.Internal.Keywords.{keyword_text}
 use Rattle.cats_text.specs.Internal.Progress.{Progress, number_alone}
@@ -19,7 +19,7 @@ use Rattle.cats_text.specs.declared.word.Word.TheVariants as words
 use Rattle.cats_text.specs.declared.parser.Stage.{Stage}
 use Rattle.cats_text.specs.declared.parser.Stage.TheVariants.{Goods, Bids, Dummy, Bid}
 use Rattle.cats_text.specs.declared.parser.Column.TheVariants.{First, Second, Later, Ended}
-use Rattle.cats_text.specs.declared.limits.TheConstants.{MAX_GOODS, MAX_BIDS, MAX_DUMMY}
+use Rattle.bid_file.specs.declared.limits.TheConstants.{MAX_GOODS, MAX_BIDS, MAX_DUMMY}
 
 abbrev pub Reading : Type 0
 Reading = Result Progress Kind

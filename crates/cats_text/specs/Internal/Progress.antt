@@ -1,7 +1,7 @@
 -- What the parser keeps of the lines so far, without where it lies in memory.
 use Rattle.std.specs.Prelude.{◌≡◌, ℕ, List, [], ◌++◌, map, replicate, Option, Some, None, option_map, Result, Ok, Err}
-use Rattle.cats_text.specs.Files.{PlainBid, plain_bid, plain_bids}
-use Rattle.cats_text.specs.declared.bid.Bid.{Bid as FileBid}
+use Rattle.bid_file.specs.Files.{PlainBid, plain_bid, plain_bids}
+use Rattle.bid_file.specs.declared.bid.Bid.{Bid as FileBid}
 use Rattle.cats_text.specs.declared.fault.Kind.{Kind}
 use Rattle.cats_text.specs.declared.parser.Keeping.{Keeping}
 use Rattle.cats_text.specs.declared.parser.Keeping.TheVariants as keepings

@@ -4,12 +4,12 @@ use Rattle.std.specs.Prelude.{Ok, Err, length, ◌<◌, ◌≤◌, drop}
 use Rattle.cats_text.specs.Lines.{is_blank}
 use Rattle.cats_text.specs.Internal.Returns.{settled, waits}
 use Rattle.cats_text.specs.Faults.{fault_at}
-use Rattle.cats_text.specs.Files.{PlainFile}
-use Rattle.cats_text.specs.Views.{plain_file}
+use Rattle.bid_file.specs.Files.{PlainFile}
+use Rattle.bid_file.specs.Views.{plain_file}
 use Rattle.cats_text.specs.Internal.Machine.{word_from, word_with}
 use Rattle.cats_text.specs.Internal.Progress.{Progress, progress}
 use Rattle.cats_text.specs.Internal.Parsing.{Reading, start, word_read, line_read, is_due, file_from}
-use Rattle.cats_text.specs.declared.bid.BidFile.{BidFile}
+use Rattle.bid_file.specs.declared.bid.BidFile.{BidFile}
 use Rattle.cats_text.specs.declared.fault.Kind.TheVariants.{Missing}
 use Rattle.cats_text.specs.declared.fault.ReadFault.{ReadFault}
 use Rattle.cats_text.specs.declared.parser.Header.{Header}

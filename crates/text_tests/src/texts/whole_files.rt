@@ -1,9 +1,8 @@
 //! Files that are accepted, and what is written of them.
 
 use super::{assert_bytes, assert_written, sizes};
-use cats_text::{
-    Bid, CompactBids, CompactFile, MAX_STREAM, Reader, Watched, read, read_compact, read_from, send,
-};
+use bid_file::{Bid, CompactBids, CompactFile};
+use cats_text::{MAX_STREAM, Reader, Watched, read, read_compact, read_from, send};
 use std::alloc::Global;
 use std::process::Abort;
 use std::test::Fail;
@@ -199,7 +198,8 @@ fn makes_a_compact_file(rt: HostRuntime) -> Result<(), Fail> {
     let alloc = rt.alloc();
     let mut bids = CompactBids::new(alloc);
     bids.push(20_000_000, &[0, 2], Some(0), 2)?;
-    bids.push(7_000_000, &[1], None, 2)?;
+    bids.push(9_000_000, &[0], None, 2)?;
+    bids.replace(1, 7_000_000, &[1], None)?;
     assert_eq!(rt; bids.len(), 2);
     let (price, goods, dummy) = bids.at(1);
     assert_eq!(rt; (price, goods.len(), dummy), (7_000_000, 1, None));

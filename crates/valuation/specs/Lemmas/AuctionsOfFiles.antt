@@ -11,9 +11,9 @@ use Rattle.std.proofs.lemmas.List.Sums.{sum_by-cons}
 use Rattle.std.proofs.lemmas.Option.{get_or_from_slice_get, slice_get_within}
 use Rattle.std.proofs.lemmas.List.FromFn.{fill_by_all, length-map-range_with_len, get_or-map-range_with_len}
 use Rattle.goods_set.specs.Bundles.{IsRising, AreAbove, AreBelow}
-use Rattle.cats_text.specs.Files as files
-use Rattle.cats_text.specs.declared.bid.Bid.{Bid}
-use Rattle.cats_text.specs.Files.{plain_bid, plain_bids, PlainBid, PlainFile, IsBid, IsBidFile, IsPlainFile}
+use Rattle.bid_file.specs.Files as files
+use Rattle.bid_file.specs.declared.bid.Bid.{Bid}
+use Rattle.bid_file.specs.Files.{plain_bid, plain_bids, PlainBid, PlainFile, IsBid, IsBidFile, IsPlainFile}
 use Rattle.valuation.specs.declared.atom.Atom.{Atom}
 use Rattle.valuation.specs.Auctions.{IsAtom, IsAuction, atom_of, is_dummy, or_atoms_of, xor_atoms_of, auction_from}
 

@@ -1,5 +1,5 @@
 use Rattle.std.proofs.Common.{◌≡◌, true, rules}
-use Rattle.cats_text.specs.declared.limits.TheConstants.{MAX_GOODS}
+use Rattle.bid_file.specs.declared.limits.TheConstants.{MAX_GOODS}
 use Rattle.valuation.specs.Auctions.{IsAtom}
 use Rattle.valuation.specs.Lemmas.Atoms.{All-atoms_of-push}
 use Rattle.auction_tests.proofs.bids.add_atom.Goals as goal

@@ -1,5 +1,5 @@
 use Rattle.std.proofs.Common.{All}
-use Rattle.cats_text.specs.declared.limits.TheConstants.{MAX_GOODS}
+use Rattle.bid_file.specs.declared.limits.TheConstants.{MAX_GOODS}
 use Rattle.valuation.specs.Auctions.{IsAtom}
 use Rattle.valuation.specs.Values.{atoms_of}
 use Rattle.auction_tests.proofs.bids.atoms_on.Given as goal

@@ -1,5 +1,5 @@
 use Rattle.std.proofs.Common.{sym, subst, le_refl}
-use Rattle.cats_text.specs.Views.{plain_file}
+use Rattle.bid_file.specs.Views.{plain_file}
 use Rattle.valuation.specs.Auctions.{PlainAuction, IsAuction}
 use Rattle.valuation.specs.Lemmas.AuctionsOfFiles.{IsAuction-auction_from}
 use Rattle.by_definition.specs.Lists.{auction_in}

@@ -4,7 +4,7 @@ use Rattle.std.specs.Prelude.{All, Vec}
 use Rattle.std.specs.Vec.Iter.{into_iter_items}
 use Rattle.std.proofs.lemmas.Bool.{eqb-true, eqb-false}
 use Rattle.std.proofs.lemmas.List.{nil_from_length}
-use Rattle.cats_text.specs.declared.limits.TheConstants.{MAX_GOODS}
+use Rattle.bid_file.specs.declared.limits.TheConstants.{MAX_GOODS}
 use Rattle.valuation.specs.declared.atom.Atom.{Atom}
 use Rattle.valuation.specs.Auctions.{IsAtom}
 use Rattle.valuation.specs.Values.{atoms_of}

@@ -2,7 +2,7 @@
 -- the copies stand for the files.
 use Rattle.std.proofs.Common.{◌≡◌, refl, sym, arith, subst, subst₂}
 use Rattle.std.specs.Prelude.{◌↔◌, IfOk, OnErr}
-use Rattle.cats_text.specs.Files.{PlainFile}
+use Rattle.bid_file.specs.Files.{PlainFile}
 use Rattle.valuation.specs.Auctions.{auction_from}
 use Rattle.canon.specs.Difference.{first_difference}
 use Rattle.canon.specs.Sameness.{AreSameFiles}

@@ -1,7 +1,7 @@
 use Rattle.std.proofs.Common.{◌≡◌}
 use Rattle.std.specs.Prelude.{◌↔◌}
 use Rattle.std.proofs.lemmas.Result.{IfOk-weaker}
-use Rattle.cats_text.specs.Views.{plain_file}
+use Rattle.bid_file.specs.Views.{plain_file}
 use Rattle.valuation.specs.Auctions.{auction_from}
 use Rattle.canon.specs.Difference.{first_difference}
 use Rattle.canon.specs.Sameness.{AreSameFiles}

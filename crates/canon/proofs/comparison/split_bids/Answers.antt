@@ -1,7 +1,7 @@
 use Rattle.std.proofs.Common.{◌≤◌, length, is_none, sym, ap, ◌∙◌, subst}
 use Rattle.std.proofs.lemmas.List.Sums.{prefix_len-le-length}
-use Rattle.cats_text.specs.declared.bid.Bid.{Bid}
-use Rattle.cats_text.specs.Files.{plain_bids}
+use Rattle.bid_file.specs.declared.bid.Bid.{Bid}
+use Rattle.bid_file.specs.Files.{plain_bids}
 use Rattle.canon.proofs.Comparisons.{or_part, xor_part}
 use Rattle.canon.proofs.comparison.split_bids.Goals as goal
 

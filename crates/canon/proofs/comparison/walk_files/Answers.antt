@@ -1,9 +1,9 @@
 -- The two parts of each file's bids are those of its auction, so what the walks over them answer is the first difference of the
 -- auctions: a bundle of the OR bidders, or else the least XOR bidder.
 use Rattle.std.proofs.Common.{◌≡◌, ◌∙◌, arith}
-use Rattle.cats_text.specs.declared.limits.TheConstants.{MAX_GOODS}
-use Rattle.cats_text.specs.Files.{plain_bids}
-use Rattle.cats_text.specs.Views.{plain_file}
+use Rattle.bid_file.specs.declared.limits.TheConstants.{MAX_GOODS}
+use Rattle.bid_file.specs.Files.{plain_bids}
+use Rattle.bid_file.specs.Views.{plain_file}
 use Rattle.valuation.specs.Auctions.{auction_from}
 use Rattle.canon.proofs.Comparisons.{bids_count, or_bids_of, or_named, or_told, stands_for, xor_bids_of, xor_named, xor_told}
 use Rattle.canon.proofs.OrWalks.{on_err}

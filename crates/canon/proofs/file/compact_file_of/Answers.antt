@@ -1,7 +1,7 @@
 -- The bids so far, with those of the bidders still to come, are the bids of the auction's file (proofs/Filing), so in the end they
 -- are all of them and keep its limits.
 use Rattle.std.proofs.Common.{List, ◌++◌, None, Some, map, refl, ap, ap₂, ◌∙◌, arith}
-use Rattle.cats_text.specs.Files.{PlainBid}
+use Rattle.bid_file.specs.Files.{PlainBid}
 use Rattle.valuation.specs.Bidders.{bidders_of}
 use Rattle.valuation.specs.Values.{atoms_of}
 use Rattle.valuation.specs.Views.{plain_auction}

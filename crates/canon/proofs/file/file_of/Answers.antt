@@ -1,8 +1,8 @@
 -- The bids so far, with those of the bidders still to come, are the bids of the auction's file (proofs/Filing), so in the end they
 -- are all of them and keep its limits.
 use Rattle.std.proofs.Common.{List, ◌++◌, None, Some, map, refl, ap, ap₂, ◌∙◌, arith}
-use Rattle.cats_text.specs.Files.{PlainBid, plain_bids}
-use Rattle.cats_text.specs.declared.bid.Bid.{Bid}
+use Rattle.bid_file.specs.Files.{PlainBid, plain_bids}
+use Rattle.bid_file.specs.declared.bid.Bid.{Bid}
 use Rattle.valuation.specs.Bidders.{bidders_of}
 use Rattle.valuation.specs.Values.{atoms_of}
 use Rattle.valuation.specs.Views.{plain_auction}

@@ -1,6 +1,6 @@
 -- The bids so far, and those of the bidders still to come, are the bids of the file.
 use Rattle.std.proofs.Common.{◌≡◌, ◌++◌, drop}
-use Rattle.cats_text.specs.Files.{plain_bids}
+use Rattle.bid_file.specs.Files.{plain_bids}
 use Rattle.valuation.specs.Bidders.{bidders_of}
 use Rattle.valuation.specs.Views.{plain_auction}
 use Rattle.canon.specs.Canonical.{dummy_bids, file_from}

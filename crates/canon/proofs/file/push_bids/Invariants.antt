@@ -1,6 +1,6 @@
 -- The bids so far, and those of the atoms still to come, are all bids.
 use Rattle.std.proofs.Common.{◌≡◌, ◌++◌, map, drop}
-use Rattle.cats_text.specs.Files.{plain_bids}
+use Rattle.bid_file.specs.Files.{plain_bids}
 use Rattle.valuation.specs.Values.{atoms_of}
 use Rattle.canon.specs.Canonical.{bid_from}
 use Rattle.canon.proofs.file.push_bids.Given as goal

@@ -1,5 +1,5 @@
 use Rattle.std.proofs.Common.{ℕ, List, Option, sym, ap, subst}
-use Rattle.cats_text.specs.Files.{plain_bids}
+use Rattle.bid_file.specs.Files.{plain_bids}
 use Rattle.valuation.specs.declared.atom.Atom.{Atom}
 use Rattle.canon.specs.Internal.BidderBids.{offers}
 use Rattle.canon.specs.Difference.{xor_difference}

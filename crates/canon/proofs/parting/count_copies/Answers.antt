@@ -3,8 +3,8 @@
 use Rattle.std.proofs.Common.{◌≡◌, ℕ, ◌+◌, ◌≤◌, cond, List, length, sym, ap, ◌∙◌, subst, arith}
 use Rattle.std.specs.Ordering.{is_eq}
 use Rattle.std.proofs.lemmas.List.{length-drop}
-use Rattle.cats_text.specs.Files.{plain_bids}
-use Rattle.cats_text.specs.declared.bid.Bid.{Bid}
+use Rattle.bid_file.specs.Files.{plain_bids}
+use Rattle.bid_file.specs.declared.bid.Bid.{Bid}
 use Rattle.valuation.specs.Orders.{bidder_cmp}
 use Rattle.canon.specs.Internal.BidderBids.{offers}
 use Rattle.canon.proofs.BidderWalks.{IsCounted, from_place, one_more_counted, all_counted}

@@ -1,5 +1,5 @@
 use Rattle.std.proofs.Common.{ℕ, ◌+◌, ◌≤◌, List, length}
-use Rattle.cats_text.specs.Files.{plain_bids}
+use Rattle.bid_file.specs.Files.{plain_bids}
 use Rattle.valuation.specs.declared.atom.Atom.{Atom}
 use Rattle.canon.specs.Internal.BidderBids.{offers, AreBidsOf}
 use Rattle.canon.proofs.BidderWalks.{IsCounted}

@@ -4,7 +4,7 @@ use Rattle.std.proofs.lemmas.Iterator.{YieldsList-from_slice}
 use Rattle.std.proofs.lemmas.Iterator.Consumers.{count_from_yields_List}
 use Rattle.std.proofs.lemmas.Iterator.Search.{YieldsList-from_take_while}
 use Rattle.std.proofs.lemmas.List.Folds.{length-prefix_len}
-use Rattle.cats_text.specs.declared.bid.Bid.{Bid}
+use Rattle.bid_file.specs.declared.bid.Bid.{Bid}
 use Rattle.canon.specs.Internal.BidderBids.{IsFirstBidder}
 use Rattle.canon.proofs.BidderWalks.{leading, leading_bids}
 use Rattle.canon.proofs.parting.first_bidder.Goals as goal

@@ -2,8 +2,8 @@
 -- front, of which the lesser is the least uneven one, or at the end of one list.
 use Rattle.std.proofs.Common.{◌≡◌, ◌-◌, ◌⊎◌, inl, inr, List, length, take, drop, Option, Some, None, sym, subst, Bor}
 use Rattle.std.specs.Prelude.{MatchOption}
-use Rattle.cats_text.specs.Files.{plain_bids}
-use Rattle.cats_text.specs.declared.bid.Bid.{Bid}
+use Rattle.bid_file.specs.Files.{plain_bids}
+use Rattle.bid_file.specs.declared.bid.Bid.{Bid}
 use Rattle.canon.specs.Internal.BidderBids.{offers}
 use Rattle.canon.specs.Difference.{least_unequal_bidder}
 use Rattle.canon.proofs.BidderWalks.{AreAlike, from_place, alike_further, alike_canonical, least_left, least_right, least_at_end}

@@ -1,5 +1,5 @@
 use Rattle.std.proofs.Common.{ℕ, length}
-use Rattle.cats_text.specs.Files.{plain_bids}
+use Rattle.bid_file.specs.Files.{plain_bids}
 use Rattle.valuation.specs.Auctions.{PlainAuction}
 use Rattle.canon.specs.Internal.BidderBids.{HasBidders}
 use Rattle.canon.proofs.BidderWalks.{AreAlike}

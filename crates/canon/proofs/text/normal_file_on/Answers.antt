@@ -1,4 +1,4 @@
-use Rattle.cats_text.specs.Views.{plain_file}
+use Rattle.bid_file.specs.Views.{plain_file}
 use Rattle.valuation.specs.Views.{plain_auction}
 use Rattle.canon.proofs.Answering.{answered_as_auction, same_if_file, canonical_if_file, least_if_file}
 use Rattle.canon.specs.Answers.{NormalisesFileAs}

@@ -1,5 +1,5 @@
 use Rattle.std.proofs.lemmas.List.Elements.{All-weaker}
-use Rattle.cats_text.specs.declared.limits.TheConstants.{MAX_GOODS}
+use Rattle.bid_file.specs.declared.limits.TheConstants.{MAX_GOODS}
 use Rattle.goods_set.specs.Lemmas.Members.{AreBelow-higher}
 use Rattle.valuation.specs.Auctions.{IsAtom}
 use Rattle.cats_cmd.proofs.value.best_packing.Goals as goal

@@ -1,6 +1,6 @@
 use Rattle.std.proofs.Common.{rules, ◌≡◌, ℕ, List, Option, None, Err, sym, ap, ◌∙◌, subst}
-use Rattle.cats_text.specs.Files.{PlainFile}
-use Rattle.cats_text.specs.Views.{plain_file}
+use Rattle.bid_file.specs.Files.{PlainFile}
+use Rattle.bid_file.specs.Views.{plain_file}
 use Rattle.cats_cmd.specs.Outcomes.{Outcome, Tells, missing_good, outcome_unless, value_outcome, values_within}
 use Rattle.cats_cmd.specs.Runs.{MakesAs}
 use Rattle.cats_cmd.specs.ValueTexts.{bundle_from}

@@ -1,6 +1,6 @@
 use Rattle.std.proofs.Common.{arith, ◌<◌, ap, ◌∙◌}
 use Rattle.std.proofs.lemmas.List.Elements.{All-weaker}
-use Rattle.cats_text.specs.Views.{plain_file}
+use Rattle.bid_file.specs.Views.{plain_file}
 use Rattle.valuation.specs.Auctions.{PlainAuction}
 use Rattle.cats_cmd.proofs.Bundling.{below_none_missing}
 use Rattle.cats_cmd.proofs.Printing.{places_within}

@@ -1,5 +1,5 @@
 use Rattle.std.proofs.Common.{◌++◌, ◌∷◌, codes, decimal}
-use Rattle.cats_text.specs.Files.{dummy_good}
+use Rattle.bid_file.specs.Files.{dummy_good}
 use Rattle.cats_text.specs.Layout.{price_text}
 use Rattle.cats_text.proofs.Writing.Ends.{line_ended}
 use Rattle.cats_text.proofs.layout.push_bid.Goals as goal

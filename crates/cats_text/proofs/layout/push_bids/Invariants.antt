@@ -1,5 +1,5 @@
 use Rattle.std.proofs.Common.{◌≡◌, ◌++◌, drop}
-use Rattle.cats_text.specs.Files.{plain_bids}
+use Rattle.bid_file.specs.Files.{plain_bids}
 use Rattle.cats_text.specs.Layout.{bids_text}
 use Rattle.cats_text.proofs.layout.push_bids.Given as goal
 

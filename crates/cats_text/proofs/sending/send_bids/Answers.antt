@@ -2,7 +2,7 @@ use Rattle.std.proofs.Common.{◌≡◌, ◌++◌, ◌+◌, ◌*◌, ◌-◌, �
 use Rattle.std.proofs.lemmas.Bool.{false≢true}
 use Rattle.std.proofs.KnownBytes.{Appends-nil}
 use Rattle.std.specs.List.{slice_get}
-use Rattle.cats_text.specs.Files.{PlainBid, PlainFile}
+use Rattle.bid_file.specs.Files.{PlainBid, PlainFile}
 use Rattle.cats_text.specs.Layout.{bids_text, layout}
 use Rattle.cats_text.proofs.Writing.Pieces.{sent_on, within_on, line_held, failed_in_piece, bundle_within, headers_short}
 use Rattle.cats_text.proofs.sending.send_bids.Goals as goal

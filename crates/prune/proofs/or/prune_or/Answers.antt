@@ -2,7 +2,7 @@
 -- gives up has found a heavy bundle; and at the end the kept bids are the points.
 use Rattle.std.proofs.Common.{Err, ◌≡◌, ◌<◌, ◌≤◌, ℕ, List, length, refl, sym, ap, ◌∙◌, subst, take, arith}
 use Rattle.std.proofs.lemmas.List.{get_or_read}
-use Rattle.cats_text.specs.declared.limits.TheConstants.{MAX_GOODS}
+use Rattle.bid_file.specs.declared.limits.TheConstants.{MAX_GOODS}
 use Rattle.valuation.specs.Values.{atoms_of, plain_atom}
 use Rattle.std.specs.Global.{Vec}
 use Rattle.prune.specs.Internal.Listings.{lists_of, AreGoodsOf}

@@ -1,7 +1,7 @@
 -- A turn of the loop keeps a bid exactly where no kept bid inside its bundle covers it, which is a turn of proofs/Results; and at the
 -- end the kept bids are the points. Few bids of which none covers another are the points as they are.
 use Rattle.std.proofs.Common.{◌<◌, ◌≤◌, cond, [], ◌∷◌, ◌++◌, append-nil, length, refl, sym, ◌∙◌, subst, take, arith}
-use Rattle.cats_text.specs.declared.limits.TheConstants.{MAX_GOODS}
+use Rattle.bid_file.specs.declared.limits.TheConstants.{MAX_GOODS}
 use Rattle.valuation.specs.Values.{atoms_of, plain_atom}
 use Rattle.prune.specs.Internal.Listings.{lists_of, AreGoodsOf, AreUncovered}
 use Rattle.prune.specs.Lemmas.KeptBids.{on_bundles, just_bundles}

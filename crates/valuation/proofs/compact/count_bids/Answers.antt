@@ -1,6 +1,6 @@
 use Rattle.std.proofs.Common.{arith, ◌≡◌, ◌<◌, Some}
 use Rattle.std.specs.List.{slice_get}
-use Rattle.cats_text.specs.Files.{PlainBid, PlainFile}
+use Rattle.bid_file.specs.Files.{PlainBid, PlainFile}
 use Rattle.valuation.specs.Lemmas.AuctionsOfFiles.{IsBid-there}
 use Rattle.valuation.proofs.compact.count_bids.Goals as goal
 

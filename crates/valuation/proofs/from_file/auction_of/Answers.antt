@@ -2,8 +2,8 @@
 -- whose limits follow from those of the file.
 use Rattle.std.proofs.Common.{arith, ◌≡◌, ◌<◌, length, take, refl, sym, ap, ◌∙◌}
 use Rattle.goods_set.specs.Lemmas.Members.{AreBelow-higher}
-use Rattle.cats_text.specs.Files.{plain_bid, plain_bids}
-use Rattle.cats_text.specs.Views.{plain_file}
+use Rattle.bid_file.specs.Files.{plain_bid, plain_bids}
+use Rattle.bid_file.specs.Views.{plain_file}
 use Rattle.std.proofs.lemmas.List.{length-map}
 use Rattle.valuation.specs.Values.{atoms_of}
 use Rattle.valuation.specs.Lemmas.AuctionsOfFiles.{rising-from, below-from, plain_bid_at, IsBid-at, or_atoms_of-same, xor_bidders-same, IsAuction-auction_from}

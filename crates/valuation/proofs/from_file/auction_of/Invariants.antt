@@ -1,7 +1,7 @@
 use Rattle.std.proofs.Common.{◌≡◌, map, take}
 use Rattle.std.specs.List.{range_with_len}
-use Rattle.cats_text.specs.Files.{plain_bids}
-use Rattle.cats_text.specs.Views.{plain_file}
+use Rattle.bid_file.specs.Files.{plain_bids}
+use Rattle.bid_file.specs.Views.{plain_file}
 use Rattle.valuation.specs.Values.{atoms_of}
 use Rattle.valuation.specs.Auctions.{or_atoms_of, xor_atoms_of}
 use Rattle.valuation.specs.Bidders.{bidders_of}

@@ -1,7 +1,7 @@
 -- The text so far has the lines of the bidders before; the next bidder's atoms and numbers are as many, and its line is put behind.
 use Rattle.std.proofs.Common.{arith, ◌≡◌, ◌<◌, ◌+◌, ◌++◌, ℕ, List, length, sym, ap, ◌∙◌}
 use Rattle.std.specs.List.{flat_map, range_with_len}
-use Rattle.cats_text.specs.Views.{plain_file}
+use Rattle.bid_file.specs.Views.{plain_file}
 use Rattle.valuation.specs.declared.atom.Atom.{Atom}
 use Rattle.valuation.specs.Lemmas.Atoms.{length-atoms_of}
 use Rattle.valuation.specs.Values.{atoms_of}

@@ -1,6 +1,6 @@
 use Rattle.std.proofs.Common.{◌≡◌, ◌++◌}
 use Rattle.std.specs.List.{flat_map, range_with_len}
-use Rattle.cats_text.specs.Views.{plain_file}
+use Rattle.bid_file.specs.Views.{plain_file}
 use Rattle.cats_cmd.specs.ValueTexts.{dummy_line}
 use Rattle.cats_cmd.proofs.value.lines.push_xor_lines.Given as goal
 

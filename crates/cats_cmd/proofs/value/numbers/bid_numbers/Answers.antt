@@ -1,7 +1,7 @@
 -- The lists hold the numbers of the bids so far, bidder by bidder, and the next bid's number goes to the end of its bidder's list
 -- (proofs/Numbering).
 use Rattle.std.proofs.Common.{arith, ◌<◌, length, take, refl, sym, ◌∙◌}
-use Rattle.cats_text.specs.Files.{plain_bid, plain_bids}
+use Rattle.bid_file.specs.Files.{plain_bid, plain_bids}
 use Rattle.std.proofs.lemmas.List.{length-map}
 use Rattle.valuation.specs.Lemmas.AuctionsOfFiles.{plain_bid_at, IsBid-at}
 use Rattle.cats_cmd.proofs.Numbering.{number-or, number-xor, or_numbers-same, xor_numbers-same, no_numbers, length-lists_of}

@@ -1,7 +1,7 @@
 use Rattle.std.proofs.Common.{◌≡◌, map, take}
 use Rattle.std.specs.List.{range_with_len}
-use Rattle.cats_text.specs.Files.{plain_bids}
-use Rattle.cats_text.specs.Views.{plain_file}
+use Rattle.bid_file.specs.Files.{plain_bids}
+use Rattle.bid_file.specs.Views.{plain_file}
 use Rattle.cats_cmd.specs.ValueTexts.{lists_of, or_numbers, xor_numbers}
 use Rattle.cats_cmd.proofs.value.numbers.bid_numbers.Given as goal
 

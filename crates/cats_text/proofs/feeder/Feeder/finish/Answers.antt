@@ -3,7 +3,7 @@ use Rattle.std.proofs.Common.{◌≡◌, ◌∙◌, sym, subst, arith}
 use Rattle.cats_text.specs.Internal.Parsing.{KeepsBids}
 use Rattle.cats_text.specs.Internal.Returns.{settled}
 use Rattle.cats_text.specs.Internal.Scanning.{IsFileOf, state, first_state}
-use Rattle.cats_text.specs.Views.{plain_file}
+use Rattle.bid_file.specs.Views.{plain_file}
 use Rattle.cats_text.specs.declared.parser.Keeping.TheVariants.{Bids}
 use Rattle.cats_text.proofs.Keeping.{scan_keeping}
 use Rattle.cats_text.proofs.Feeding.Pieces.{ended_fact, ended_file, ended_fault, few_lines}

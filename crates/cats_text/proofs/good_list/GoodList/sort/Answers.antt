@@ -2,7 +2,7 @@
 use Rattle.std.proofs.Common.{◌≡◌, true, sym, ap, ◌∙◌, List, ℕ}
 use Rattle.std.proofs.lemmas.Bool.{both_ways}
 use Rattle.std.proofs.lemmas.List.Sorted.{list_any-IsPermutation, IsNonDecreasingBy-from_sort}
-use Rattle.cats_text.specs.Files.{IsRising}
+use Rattle.bid_file.specs.Files.{IsRising}
 use Rattle.cats_text.specs.Grammar.{has_number}
 use Rattle.cats_text.specs.Internal.Marks.{IsMarked}
 use Rattle.cats_text.proofs.Spelling.Distinct.{rising_from_sort}

@@ -1,6 +1,6 @@
 use Rattle.std.proofs.Common.{◌∙◌, sym, ap, set}
 use Rattle.std.proofs.lemmas.List.{map-set}
-use Rattle.cats_text.specs.Files.{plain_bid}
+use Rattle.bid_file.specs.Files.{plain_bid}
 use Rattle.cats_text.specs.Internal.Progress.{front_bids}
 use Rattle.cats_text.proofs.Parsing.BidsByNumber.{set-numbers}
 use Rattle.cats_text.proofs.slots.Front.replace.Goals as goal

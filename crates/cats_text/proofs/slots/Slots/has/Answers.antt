@@ -2,7 +2,7 @@ use Rattle.std.proofs.Common.{◌∙◌, ◌-◌, ◌<◌, ◌≤◌, List, Opti
 use Rattle.std.specs.List.{slice_get}
 use Rattle.cats_text.specs.Internal.Parsing.{is_some_bid}
 use Rattle.cats_text.specs.Internal.Progress.{plain_slots, front_bids}
-use Rattle.cats_text.specs.declared.bid.Bid.{Bid}
+use Rattle.bid_file.specs.declared.bid.Bid.{Bid}
 use Rattle.cats_text.proofs.Parsing.BidsByNumber.{has_front, has_rest}
 use Rattle.cats_text.proofs.slots.Slots.has.Goals as goal
 

@@ -1,7 +1,7 @@
 use Rattle.std.proofs.Common.{◌∙◌, ◌++◌, ◌∷◌, [], List, Option, Some, map, sym, ap, append-nil}
 use Rattle.std.proofs.lemmas.List.{map-append}
-use Rattle.cats_text.specs.declared.bid.Bid.{Bid}
-use Rattle.cats_text.specs.Files.{PlainBid, plain_bid, plain_bids}
+use Rattle.bid_file.specs.declared.bid.Bid.{Bid}
+use Rattle.bid_file.specs.Files.{PlainBid, plain_bid, plain_bids}
 use Rattle.cats_text.specs.Internal.Progress.{plain_slots, plain_slot, front_bids}
 use Rattle.cats_text.specs.FileLines.{filled}
 use Rattle.std.specs.Option.{option_to_list}

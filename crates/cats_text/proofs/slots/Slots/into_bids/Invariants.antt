@@ -1,5 +1,5 @@
 use Rattle.std.proofs.Common.{◌≡◌, ◌++◌, map, Some}
-use Rattle.cats_text.specs.Files.{plain_bids}
+use Rattle.bid_file.specs.Files.{plain_bids}
 use Rattle.cats_text.specs.Internal.Progress.{plain_slots, front_bids}
 use Rattle.cats_text.specs.FileLines.{filled}
 use Rattle.cats_text.proofs.slots.Slots.into_bids.Given as goal

@@ -1,6 +1,6 @@
 use Rattle.std.proofs.Common.{◌∙◌, ◌++◌, ◌∷◌, [], ℕ, List, Option, Some, map, sym, ap, append-nil}
-use Rattle.cats_text.specs.declared.bid.Bid.{Bid}
-use Rattle.cats_text.specs.Files.{PlainBid, plain_bid}
+use Rattle.bid_file.specs.declared.bid.Bid.{Bid}
+use Rattle.bid_file.specs.Files.{PlainBid, plain_bid}
 use Rattle.cats_text.specs.Internal.Progress.{plain_slots, plain_slot, front_bids}
 use Rattle.cats_text.specs.FileLines.{filled}
 use Rattle.std.specs.Option.{option_to_list}

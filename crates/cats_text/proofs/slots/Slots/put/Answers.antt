@@ -1,6 +1,6 @@
 use Rattle.std.proofs.Common.{◌≡◌, ◌∙◌, ◌-◌, ◌<◌, ◌≤◌, length, set, ap, rules, arith}
 use Rattle.std.proofs.lemmas.Grind.{common_steps}
-use Rattle.cats_text.specs.Files.{PlainBid}
+use Rattle.bid_file.specs.Files.{PlainBid}
 use Rattle.cats_text.specs.FileLines.{put_slot}
 use Rattle.cats_text.specs.Internal.Parsing.{kept_of, with_goods}
 use Rattle.cats_text.specs.Internal.Progress.{plain_slots, front_bids, keeping_of}

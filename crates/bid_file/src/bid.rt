@@ -1,8 +1,8 @@
 //! A bid file as a value.
 
 ghost use Rattle.std.specs.Prelude.{◌≡◌};
-ghost use Rattle.cats_text.specs.Files.{IsBidFile, plain_bids};
-ghost use Rattle.cats_text.specs.Lemmas.FileFacts.{IsBidFile-prop};
+ghost use Rattle.bid_file.specs.Files.{IsBidFile, plain_bids};
+ghost use Rattle.bid_file.specs.Lemmas.FileFacts.{IsBidFile-prop};
 
 /// One bid: a price for a bundle of goods.
 #[derive(Debug, Drop)]
@@ -25,7 +25,7 @@ pub struct BidFile {
 }
 
 impl BidFile {
-    ghost use Rattle.cats_text.specs.Views.{plain_file};
+    ghost use Rattle.bid_file.specs.Views.{plain_file};
 
     pub fn new(goods: u16, dummy: u32, bids: Vec<Bid>) -> BidFile
         requires { IsBidFile goods dummy (plain_bids bids.items) }

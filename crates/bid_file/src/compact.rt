@@ -20,8 +20,8 @@ ghost use Rattle.std.specs.Prelude.{
   IfOk,
 };
 ghost use Rattle.std.specs.Prelude.{IsTrue};
-ghost use Rattle.cats_text.specs.Files.{PlainBid, IsBidFile};
-ghost use Rattle.cats_text.specs.Views.{plain_file};
+ghost use Rattle.bid_file.specs.Files.{PlainBid, IsBidFile};
+ghost use Rattle.bid_file.specs.Views.{plain_file};
 
 use crate::bid::{Bid, BidFile};
 use std::alloc::{AllocError, Global};
@@ -45,9 +45,9 @@ pub struct CompactBids {
 
 impl Model for CompactBids {
     ghost use Rattle.std.specs.Prelude.{List, length, map};
-    ghost use Rattle.cats_text.specs.Files.{PlainBid};
-    ghost use Rattle.cats_text.specs.Views.{offered};
-    ghost use Rattle.cats_text.specs.Internal.Compact.{AreHeld};
+    ghost use Rattle.bid_file.specs.Files.{PlainBid};
+    ghost use Rattle.bid_file.specs.Views.{offered};
+    ghost use Rattle.bid_file.specs.Internal.Compact.{AreHeld};
 
     ghost Value = { List PlainBid };
 
@@ -171,7 +171,7 @@ impl CompactBids {
     }
 
     /// Puts a bid in the place of another.
-    pub(crate) fn replace(
+    pub fn replace(
         &mut self,
         place: usize,
         price: u64,
@@ -248,7 +248,7 @@ pub struct CompactFile {
 }
 
 impl Model for CompactFile {
-    ghost use Rattle.cats_text.specs.Files.{PlainFile, IsBidFile};
+    ghost use Rattle.bid_file.specs.Files.{PlainFile, IsBidFile};
 
     ghost Value = { PlainFile };
 
@@ -258,7 +258,7 @@ impl Model for CompactFile {
 }
 
 impl CompactFile {
-    ghost use Rattle.cats_text.specs.Files.{IsPlainFile};
+    ghost use Rattle.bid_file.specs.Files.{IsPlainFile};
 
     /// The file of these parts.
     pub fn new(goods: u16, dummy: u32, bids: CompactBids) -> CompactFile

@@ -1,8 +1,8 @@
 use Rattle.std.proofs.Common.{◌∙◌, ◌++◌, ◌∷◌, [], List, ap}
-use Rattle.cats_text.specs.Files.{PlainBid}
-use Rattle.cats_text.specs.declared.compact.Offer.{Offer}
-use Rattle.cats_text.proofs.Parsing.CompactBids.{offers_push}
-use Rattle.cats_text.proofs.compact.CompactBids.push.Goals as goal
+use Rattle.bid_file.specs.Files.{PlainBid}
+use Rattle.bid_file.specs.declared.compact.Offer.{Offer}
+use Rattle.bid_file.proofs.Offers.{offers_push}
+use Rattle.bid_file.proofs.compact.CompactBids.push.Goals as goal
 
 pub returns : goal.returns
 returns c =

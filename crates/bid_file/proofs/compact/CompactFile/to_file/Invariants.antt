@@ -1,6 +1,6 @@
 use Rattle.std.proofs.Common.{◌≡◌, take}
-use Rattle.cats_text.specs.Files.{plain_bids}
-use Rattle.cats_text.proofs.compact.CompactFile.to_file.Given as goal
+use Rattle.bid_file.specs.Files.{plain_bids}
+use Rattle.bid_file.proofs.compact.CompactFile.to_file.Given as goal
 
 -- the bids so far are there
 abbrev pub invariant-loop-number : goal.invariant-loop-number

@@ -2,7 +2,7 @@
 use Rattle.std.specs.Prelude.{ℕ, ◌<◌, List, [], ◌∷◌, Option, Some, None}
 use Rattle.std.specs.List.{AllByRecursion, AllByRecursion-prop}
 use Rattle.std.specs.Coded.{×_prop, Unit-prop, le_prop}
-use Rattle.cats_text.specs.Files.{PlainBid, IsRising, IsDummyBelow, IsBid, IsBidFile}
+use Rattle.bid_file.specs.Files.{PlainBid, IsRising, IsDummyBelow, IsBid, IsBidFile}
 
 -- these facts have one proof at most, as a fact that a struct keeps has to
 pub IsRising-prop : (xs : List ℕ) → IsProp (IsRising xs)

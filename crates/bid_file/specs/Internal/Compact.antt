@@ -1,7 +1,7 @@
 -- That the goods of bids stand in one list.
 use Rattle.std.specs.Prelude.{ℕ, ◌≤◌, List}
 use Rattle.std.specs.List.{AllByRecursion}
-use Rattle.cats_text.specs.declared.compact.Offer.{Offer}
+use Rattle.bid_file.specs.declared.compact.Offer.{Offer}
 
 -- the goods of an offer stand among the first n
 pub record IsHeld (n : ℕ) (o : Offer) : Type 0 where

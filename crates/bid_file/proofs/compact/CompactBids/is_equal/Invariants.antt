@@ -1,5 +1,5 @@
 use Rattle.std.proofs.Common.{◌≡◌, take}
-use Rattle.cats_text.proofs.compact.CompactBids.is_equal.Given as goal
+use Rattle.bid_file.proofs.compact.CompactBids.is_equal.Given as goal
 
 -- the bids so far are the same
 abbrev pub invariant-loop-place : goal.invariant-loop-place

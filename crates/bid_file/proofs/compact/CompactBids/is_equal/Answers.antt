@@ -1,9 +1,9 @@
 -- Each turn adds one bid that both have.
 use Rattle.std.proofs.Common.{◌≡◌, ◌∙◌, ◌++◌, ◌∷◌, [], List, Some, ap, sym}
 use Rattle.std.specs.List.{slice_get}
-use Rattle.cats_text.specs.Files.{PlainBid}
-use Rattle.cats_text.proofs.Parsing.CompactBids.{take_bid}
-use Rattle.cats_text.proofs.compact.CompactBids.is_equal.Goals as goal
+use Rattle.bid_file.specs.Files.{PlainBid}
+use Rattle.bid_file.proofs.Offers.{take_bid}
+use Rattle.bid_file.proofs.compact.CompactBids.is_equal.Goals as goal
 
 pub loop-place-preserved : goal.loop-place-preserved
 loop-place-preserved c =

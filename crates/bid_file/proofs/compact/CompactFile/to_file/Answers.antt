@@ -2,10 +2,10 @@
 use Rattle.std.proofs.Common.{◌≡◌, ◌∙◌, List, ℕ, Some, ap, arith, length, sym}
 use Rattle.std.proofs.lemmas.List.{map_push, take_all}
 use Rattle.std.specs.List.{slice_get}
-use Rattle.cats_text.specs.declared.bid.Bid.{Bid}
-use Rattle.cats_text.specs.Files.{IsBidFile, PlainBid, PlainFile, plain_bid, plain_bids}
-use Rattle.cats_text.proofs.Parsing.CompactBids.{take_bid}
-use Rattle.cats_text.proofs.compact.CompactFile.to_file.Goals as goal
+use Rattle.bid_file.specs.declared.bid.Bid.{Bid}
+use Rattle.bid_file.specs.Files.{IsBidFile, PlainBid, PlainFile, plain_bid, plain_bids}
+use Rattle.bid_file.proofs.Offers.{take_bid}
+use Rattle.bid_file.proofs.compact.CompactFile.to_file.Goals as goal
 
 pub loop-number-preserved : goal.loop-number-preserved
 loop-number-preserved c =

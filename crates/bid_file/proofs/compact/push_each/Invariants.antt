@@ -1,6 +1,6 @@
 -- The goods so far stand behind the others, and there is room for the rest.
 use Rattle.std.proofs.Common.{◌≡◌, ◌+◌, ◌≤◌, ◌++◌, length, take, vec_len, vec_capacity}
-use Rattle.cats_text.proofs.compact.push_each.Given as goal
+use Rattle.bid_file.proofs.compact.push_each.Given as goal
 
 abbrev pub invariant-loop-good : goal.invariant-loop-good
 invariant-loop-good l = record {

@@ -1,13 +1,12 @@
 -- Bids whose goods stand in one list: those of one more bid are put behind the others.
 use Rattle.std.proofs.Common.{◌≡◌, ℕ, ◌+◌, ◌-◌, ◌≤◌, List, [], ◌∷◌, ◌++◌, length, map, set, take, drop, Some, refl, ap, ap₂, ◌∙◌, arith, length-append, length-drop}
-use Rattle.std.proofs.lemmas.List.{drop_all, take-append-le, take_more, drop-append-le, map-append, map-set}
+use Rattle.std.proofs.lemmas.List.{drop_all, take_all, take-append-le, take_more, drop-append-le, map-append, map-set}
 use Rattle.std.proofs.lemmas.Option.{get_or_from_slice_get, slice_get_within}
 use Rattle.std.specs.List.{slice_get}
-use Rattle.cats_text.specs.declared.compact.Offer.{Offer}
-use Rattle.cats_text.specs.Files.{PlainBid}
-use Rattle.cats_text.specs.Internal.Compact.{IsHeld, AreHeld}
-use Rattle.cats_text.specs.Views.{offered}
-use Rattle.cats_text.proofs.Feeding.Streams.{take-within}
+use Rattle.bid_file.specs.declared.compact.Offer.{Offer}
+use Rattle.bid_file.specs.Files.{PlainBid}
+use Rattle.bid_file.specs.Internal.Compact.{IsHeld, AreHeld}
+use Rattle.bid_file.specs.Views.{offered}
 
 -- the bid of an offer that has these goods
 abbrev bid_with : Offer → List ℕ → PlainBid
@@ -33,7 +32,7 @@ offered_last goods more o start end =
     let long : length (goods ++ more) ≡ length goods + length more = length-append goods more in
     ap (λ (gs : List ℕ). bid_with o (take (o.end - o.start) gs))
     (drop-append-le o.start goods more (omega arith) ∙ ap (λ (gs : List ℕ). gs ++ more) (drop_all o.start goods (omega arith)))
-    ∙ ap (bid_with o) (take-within (o.end - o.start) more (omega arith))
+    ∙ ap (bid_with o) (take_all (o.end - o.start) more (omega arith))
 
 -- one more bid
 pub offers_push : (goods more all : List ℕ) (offers next : List Offer) (o : Offer) → AreHeld (length goods) offers → all ≡ goods ++ more

@@ -1,0 +1,5 @@
+-- What the contracts of this crate cite.
+pub mod Files
+pub mod Views
+pub mod Lemmas
+pub mod Internal

@@ -1,0 +1,11 @@
+//! CATS 2.0 bid files as values: their bids, their limits, and what holds of each file.
+#![tactic(auto)]
+
+mod bid;
+mod compact;
+mod limits;
+pub mod worked;
+
+pub use bid::{Bid, BidFile};
+pub use compact::{CompactBids, CompactFile};
+pub use limits::{MAX_BIDS, MAX_DUMMY, MAX_GOODS, MAX_PRICE};

@@ -1,0 +1,21 @@
+//! Worked examples of the definitions, computed by the prover.
+
+ghost use Rattle.std.specs.Prelude.{◌≡◌, ◌*◌, [], ◌∷◌, Some, None};
+ghost use Rattle.bid_file.specs.Files.{PlainBid, goods_of};
+ghost use Rattle.bid_file.specs.declared.limits.TheConstants.{MAX_GOODS, MAX_BIDS, MAX_DUMMY, MAX_PRICE};
+
+/// The limits that the definitions cite.
+pub fn limits()
+    ensures goods { MAX_GOODS ≡ 4096 }
+    ensures bids { MAX_BIDS ≡ 65536 }
+    ensures dummies { MAX_DUMMY ≡ 65536 }
+    ensures price { MAX_PRICE ≡ 1000000000000 * 1000000 }
+{}
+
+/// The goods of a bid as a file numbers them: of 3 goods, dummy good 1 is good 4.
+pub fn numbered_goods()
+    ensures dummy { let bid : PlainBid = record { price = 5; goods = 0 ∷ 2 ∷ []; dummy = Some 1 } in
+        goods_of 3 bid ≡ 0 ∷ 2 ∷ 4 ∷ [] }
+    ensures none { let bid : PlainBid = record { price = 5; goods = 0 ∷ 2 ∷ []; dummy = None } in
+        goods_of 3 bid ≡ 0 ∷ 2 ∷ [] }
+{}
