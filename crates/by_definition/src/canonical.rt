@@ -12,8 +12,8 @@ use crate::list::prepend;
 use crate::order::sort_bidders;
 use crate::points::{or_points, xor_points};
 use crate::values::{is_nonzero, xor_table};
-use canon::laws::{canonical_is_same, file_reads_back};
 use bid_file::BidFile;
+use canon::laws::{canonical_is_same, file_reads_back};
 use cats_text::write;
 use std::alloc::{AllocError, Global};
 

@@ -21,8 +21,8 @@ use crate::list::prepend;
 use crate::order::{compare_bidders, sort_bidders};
 use crate::points::is_or_point;
 use crate::values::or_value;
-use canon::{Side, Verdict};
 use bid_file::BidFile;
+use canon::{Side, Verdict};
 use std::alloc::{AllocError, Global};
 
 /// The first of the bundles on which the OR values differ.

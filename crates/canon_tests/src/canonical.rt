@@ -1,11 +1,11 @@
 //! Each public call once, with ample memory, on worked rows.
 
 use crate::refusals::{expect_line, refusal_text};
+use bid_file::{BidFile, CompactFile};
 use canon::{
     CanonFault, canonical, compact_file_of, file_of, into_normal_file, last_normal_file,
     last_normal_file_unless, normal_file, normal_text, normalise,
 };
-use bid_file::{BidFile, CompactFile};
 use cats_text::{read, read_compact, write};
 use goods_set::{GoodsSet, ListSet, WordSet};
 use std::alloc::Global;

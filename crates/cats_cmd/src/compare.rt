@@ -17,10 +17,10 @@ ghost use Rattle.cats_cmd.specs.Statuses.{status_of_difference};
 
 use crate::report::{DIFFERENT, DONE, RunFault};
 use crate::run::{read_compact_file, send_text};
+use bid_file::CompactFile;
 use canon::{
     CanonFault, Verdict, Which, compare_compact_files, into_normal_file, last_normal_file_unless,
 };
-use bid_file::CompactFile;
 use cats_text::Watched;
 use std::alloc::{AllocError, Global};
 use std::io::{Read, Write};

@@ -7,8 +7,8 @@ ghost use Rattle.canon.specs.Answers.{plain_answer};
 ghost use Rattle.cats_cmd.specs.Runs.{ReadsInput, SendsAs, SendsFileAs};
 
 use crate::report::{DONE, RunFault};
-use canon::CanonFault;
 use bid_file::{BidFile, CompactFile};
+use canon::CanonFault;
 use cats_text::{Watched, read_compact_from, read_from, send, send_file};
 use std::alloc::Global;
 use std::io::{Read, Write};

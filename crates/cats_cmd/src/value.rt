@@ -15,9 +15,9 @@ ghost use Rattle.cats_cmd.specs.ValueTexts.{bundle_from};
 
 use crate::report::{DONE, RunFault};
 use crate::run::{read_file, send_text};
+use bid_file::BidFile;
 use bundles::bundle_of;
 use canon::CanonFault;
-use bid_file::BidFile;
 use cats_text::Watched;
 use goods_set::{GoodsSet, goods_of, on_least_set};
 use lines::{push_or_line, push_xor_lines};

@@ -4,12 +4,11 @@ ghost use Rattle.std.specs.Prelude.{◌≡◌, ◌^◌, ◌<◌, [], None};
 ghost use Rattle.cats_text.specs.Faults.{fault_at};
 ghost use Rattle.cats_text.specs.Internal.Reading.{fault_told};
 
-use bid_file::BidFile;
-use bid_file::CompactFile;
 use crate::fault::{Kind, ReadFault};
 use crate::history::History;
 use crate::parser::{Header, Keeping};
 use crate::scanner::{Halt, Scanner};
+use bid_file::{BidFile, CompactFile};
 use std::alloc::Global;
 use std::marker::Model;
 

@@ -31,8 +31,8 @@ ghost use Rattle.cats_text.specs.Layout.{
   price_text,
 };
 
-use bid_file::{Bid, BidFile};
 use crate::price::write_price;
+use bid_file::{Bid, BidFile};
 use itoa::{Buffer, Integer, write_digits};
 use std::alloc::{AllocError, Global};
 

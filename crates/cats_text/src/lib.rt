@@ -22,7 +22,9 @@ mod word;
 pub mod worked;
 pub mod worked_streams;
 
-pub use bid_file::{Bid, BidFile, CompactBids, CompactFile, MAX_BIDS, MAX_DUMMY, MAX_GOODS, MAX_PRICE};
+pub use bid_file::{
+    Bid, BidFile, CompactBids, CompactFile, MAX_BIDS, MAX_DUMMY, MAX_GOODS, MAX_PRICE,
+};
 pub use fault::{Kind, ReadFault, SendFault};
 pub use layout::{push_bid, push_header, write};
 pub use limits::MAX_STREAM;

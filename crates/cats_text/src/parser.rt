@@ -28,14 +28,12 @@ ghost use Rattle.cats_text.specs.Internal.Parsing.{
 };
 ghost use Rattle.cats_text.specs.declared.parser.Keeping.TheVariants as keepings;
 
-use bid_file::BidFile;
-use bid_file::CompactFile;
 use crate::fault::Kind;
 use crate::good_list::GoodList;
-use bid_file::{MAX_BIDS, MAX_DUMMY, MAX_GOODS};
 use crate::price::price_of;
 use crate::slots::{Front, Slots};
 use crate::word::{Keyword, Word};
+use bid_file::{BidFile, CompactFile, MAX_BIDS, MAX_DUMMY, MAX_GOODS};
 use std::alloc::{AllocError, AllocFailed, Global};
 
 /// Why parsing stops.

@@ -7,8 +7,8 @@ ghost use Rattle.cats_text.specs.Internal.Parsing.{price_parts};
 ghost use Rattle.cats_text.specs.Internal.Progress.{Answers};
 
 use crate::fault::Kind;
-use bid_file::MAX_PRICE;
 use crate::parser::Stop;
+use bid_file::MAX_PRICE;
 use itoa::{Buffer, write_digits};
 use std::alloc::AllocError;
 

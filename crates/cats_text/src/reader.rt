@@ -3,11 +3,10 @@
 ghost use Rattle.std.specs.Prelude.{◌≡◌, ◌^◌, ◌<◌, [], None};
 ghost use Rattle.cats_text.specs.Reading.{FinishAnswer, CompactAnswer};
 
-use bid_file::BidFile;
-use bid_file::CompactFile;
 use crate::fault::ReadFault;
 use crate::feeder::Feeder;
 use crate::parser::Keeping;
+use bid_file::{BidFile, CompactFile};
 use std::alloc::Global;
 use std::marker::Model;
 

@@ -47,12 +47,11 @@ ghost use Rattle.cats_text.specs.Internal.Scanning.{
 };
 ghost use Rattle.cats_text.specs.declared.parser.Keeping.TheVariants as keepings;
 
-use bid_file::BidFile;
-use bid_file::CompactFile;
 use crate::fault::{Kind, ReadFault};
 use crate::front::{front, with_digits};
 use crate::parser::{Header, Keeping, Parser, Stop};
 use crate::word::Word;
+use bid_file::{BidFile, CompactFile};
 use std::alloc::Global;
 
 /// Why scanning stops.

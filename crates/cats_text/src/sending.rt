@@ -22,10 +22,10 @@ ghost use Rattle.std.specs.Io.KnownBytes.{Keeps};
 ghost use Rattle.cats_text.specs.Layout.{headers_text, layout};
 ghost use Rattle.cats_text.specs.Streams.{inner_of, has_failed, has_ended, Sends, SendsPart, SendsWhole};
 
-use bid_file::CompactFile;
 use crate::fault::SendFault;
 use crate::layout::{push_bid, push_header};
 use crate::stream::Watched;
+use bid_file::CompactFile;
 use std::alloc::{AllocError, Global};
 use std::io::Write;
 

@@ -7,9 +7,8 @@ ghost use Rattle.cats_text.specs.Internal.Parsing.{is_some_bid, kept_of, with_go
 ghost use Rattle.cats_text.specs.Internal.Progress.{plain_slots, keeping_of, front_bids, slot_list};
 ghost use Rattle.cats_text.specs.declared.parser.Keeping.TheVariants as keepings;
 
-use bid_file::Bid;
-use bid_file::CompactBids;
 use crate::parser::{Draft, Keeping};
+use bid_file::{Bid, CompactBids};
 use std::alloc::{AllocError, Global};
 
 /// The bids in front, which came in order, from number 0 on.

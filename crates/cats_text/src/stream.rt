@@ -39,12 +39,11 @@ ghost use Rattle.cats_text.specs.Streams.{
   SendsWhole,
 };
 
-use bid_file::BidFile;
-use bid_file::CompactFile;
 use crate::fault::{Kind, ReadFault};
 use crate::feeder::Feeder;
 use crate::limits::MAX_STREAM;
 use crate::parser::{Header, Keeping};
+use bid_file::{BidFile, CompactFile};
 use std::alloc::Global;
 use std::io;
 use std::io::{ErrorKind, Read, Write};

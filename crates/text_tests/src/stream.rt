@@ -3,7 +3,10 @@ ghost use Rattle.cats_text.specs.Streams.{has_ended, has_failed};
 
 use crate::texts::assert_bytes;
 use bid_file::{BidFile, CompactFile};
-use cats_text::{Header, Kind, MAX_STREAM, ReadFault, SendFault, Watched, check_from, push_bid, push_header, read_compact_from, read_from, send, send_file};
+use cats_text::{
+    Header, Kind, MAX_STREAM, ReadFault, SendFault, Watched, check_from, push_bid, push_header,
+    read_compact_from, read_from, send, send_file,
+};
 use std::alloc::{AllocError, Global};
 use std::io;
 use std::io::{ErrorKind, Read, Write};

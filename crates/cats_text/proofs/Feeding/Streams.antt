@@ -1,5 +1,5 @@
 -- Reading a stream answers as the reader that was fed the bytes.
-use Rattle.std.proofs.Common.{◌≡◌, ◌≤◌, ℕ, zero, suc, false, List, [], ◌∷◌, length, take, Option, Some, IfSome, Result, Ok, Err, ◌⊎◌, inl, inr, refl, ap, arith}
+use Rattle.std.proofs.Common.{◌≡◌, ℕ, false, List, take, Option, Some, IfSome, Result, Ok, Err, ◌⊎◌, inl, inr, refl}
 use Rattle.std.proofs.lemmas.List.{take_all}
 use Rattle.cats_text.specs.Faults.{first_fault, fault_at}
 use Rattle.cats_text.specs.Fed.{fed_fault}
