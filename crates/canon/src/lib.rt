@@ -8,6 +8,7 @@ mod auction_index;
 mod bid_order;
 mod bundles;
 mod comparison;
+mod density;
 mod difference_laws;
 mod fault;
 mod file;

@@ -22,6 +22,7 @@ ghost use Rattle.canon.specs.Normalising.{IsText, normalised, normalised_file};
 ghost use Rattle.canon.specs.Sameness.{AreSameFiles};
 
 use crate::auction::canonical;
+use crate::density::{has_sparse_bids, is_sparse};
 use crate::fault::CanonFault;
 use crate::file::{compact_file_of, file_of, into_compact_file};
 use crate::known_file::compact_file_unless;
@@ -123,45 +124,6 @@ pub fn normalise(alloc: Global, text: &[u8], limit: u64) -> Result<Vec<u8>, Cano
 {
     let file = read_compact(alloc, text)?;
     normal_text(alloc, file, limit)
-}
-
-/// Whether lists of its goods suit a compact file best.
-fn is_sparse(file: &CompactFile) -> bool {
-    let bids = file.bids();
-    // No file has so many goods, or bids, that it saturates.
-    let mut listed: usize = 0;
-    let mut or_bids: usize = 0;
-    for place in 0..bids.len() {
-        let (_, goods, dummy) = bids.at(place);
-        listed = listed.saturating_add(goods.len());
-        if dummy.is_none() {
-            or_bids = or_bids.saturating_add(1);
-        }
-    }
-    suits_lists(file.goods(), bids.len(), or_bids, listed)
-}
-
-/// Whether lists of its goods suit a file best, as `is_sparse`.
-fn has_sparse_bids(file: &BidFile) -> bool {
-    let bids = file.bids();
-    let mut listed: usize = 0;
-    let mut or_bids: usize = 0;
-    for bid in bids {
-        listed = listed.saturating_add(bid.goods.len());
-        if bid.dummy.is_none() {
-            or_bids = or_bids.saturating_add(1);
-        }
-    }
-    suits_lists(file.goods(), bids.len(), or_bids, listed)
-}
-
-/// Whether so many bids have so few goods that lists of them take less memory than words with a bit for each good.
-/// Where most bids are the OR bidder's, whose searches ask sets the most and words answer faster, they have to be fewer
-/// still.
-fn suits_lists(goods: u16, bids: usize, or_bids: usize, listed: usize) -> bool {
-    let words = usize::from(goods / 64);
-    let most = if or_bids > bids / 2 { words / 4 } else { words };
-    listed < bids.saturating_mul(most)
 }
 
 fn normal_file_on<S: GoodsSet>(
