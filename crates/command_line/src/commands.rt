@@ -1,4 +1,4 @@
-//! The commands as `clap` takes them: their arguments, options and help.
+//! The commands as `clap` takes them: their arguments, options and help. The subcommands are a table.
 
 use crate::help;
 use clap::{Arg, ArgAction, Command, value_parser};
@@ -21,71 +21,121 @@ const MAX_STEPS: i64 = 1_000_000_000;
 /// The steps that a search may make where the command line says nothing.
 const DEFAULT_STEPS: &str = "1000000";
 
+/// What may stand behind the name of a subcommand.
+#[derive(Clone, Copy)]
+enum Argument {
+    File,
+    SecondFile,
+    Files,
+    Goods,
+    /// The option for a limit, with what its help says.
+    Steps(&'static str),
+    Progress,
+}
+
+/// A subcommand of `cats`.
+#[derive(Clone, Copy)]
+struct Subcommand {
+    name: &'static str,
+    /// What it is for, in a line.
+    about: &'static str,
+    /// What its help says behind its arguments.
+    help: &'static str,
+    arguments: &'static [Argument],
+}
+
+/// What the limit counts of a subcommand that normalises files.
+const STEPS_OF_BUNDLE: &str = "The most steps that the search on a bundle may take";
+
+/// The subcommands, as the help lists them.
+static SUBCOMMANDS: [Subcommand; 6] = [
+    Subcommand {
+        name: "check",
+        about: "Reads a bid file and prints how many goods, bids and dummy goods it has",
+        help: help::CHECK,
+        arguments: &[Argument::File],
+    },
+    Subcommand {
+        name: "show",
+        about: "Prints a bid file in its one layout, with its bids in order of number",
+        help: help::SHOW,
+        arguments: &[Argument::File],
+    },
+    Subcommand {
+        name: "value",
+        about: "Prints what the bidders of a bid file offer for a bundle of goods",
+        help: help::VALUE,
+        arguments: &[
+            Argument::Steps("The most packings that a search may enter"),
+            Argument::File,
+            Argument::Goods,
+        ],
+    },
+    Subcommand {
+        name: "normalise",
+        about: "Prints the one canonical text of a bid file's auction",
+        help: help::NORMALISE,
+        arguments: &[Argument::Steps(STEPS_OF_BUNDLE), Argument::File],
+    },
+    Subcommand {
+        name: "compare",
+        about: "Tells whether two bid files are the same auction, and else where they part first",
+        help: help::COMPARE,
+        arguments: &[
+            Argument::Steps(STEPS_OF_BUNDLE),
+            Argument::File,
+            Argument::SecondFile,
+        ],
+    },
+    Subcommand {
+        name: "duplicates",
+        about: "Prints which of many bid files are the same auction",
+        help: help::DUPLICATES,
+        arguments: &[
+            Argument::Steps(STEPS_OF_BUNDLE),
+            Argument::Progress,
+            Argument::Files,
+        ],
+    },
+];
+
 pub(crate) fn cats_command<'a>(alloc: Global) -> Result<Command<'a>, AllocError> {
-    Command::new(alloc, "cats")
+    let mut cats = Command::new(alloc, "cats")
         .about("Reads auction bid files in the format of CATS 2.0")
         .version(help::VERSION)
         .after_help(help::CATS)
-        .subcommand_required(true)
-        .subcommand(check_command(alloc)?)?
-        .subcommand(show_command(alloc)?)?
-        .subcommand(value_command(alloc)?)?
-        .subcommand(normalise_command(alloc)?)?
-        .subcommand(compare_command(alloc)?)?
-        .subcommand(duplicates_command(alloc)?)
+        .subcommand_required(true);
+    for subcommand in &SUBCOMMANDS {
+        cats = cats.subcommand(subcommand.command(alloc)?)?;
+    }
+    Ok(cats)
 }
 
-fn check_command<'a>(alloc: Global) -> Result<Command<'a>, AllocError> {
-    Command::new(alloc, "check")
-        .about("Reads a bid file and prints how many goods, bids and dummy goods it has")
-        .after_help(help::CHECK)
-        .arg(file_argument(alloc, FILE))
+impl Subcommand {
+    fn command<'a>(&self, alloc: Global) -> Result<Command<'a>, AllocError> {
+        let mut command = Command::new(alloc, self.name)
+            .about(self.about)
+            .after_help(self.help);
+        for argument in self.arguments {
+            command = command.arg(argument.arg(alloc))?;
+        }
+        Ok(command)
+    }
 }
 
-fn show_command<'a>(alloc: Global) -> Result<Command<'a>, AllocError> {
-    Command::new(alloc, "show")
-        .about("Prints a bid file in its one layout, with its bids in order of number")
-        .after_help(help::SHOW)
-        .arg(file_argument(alloc, FILE))
-}
-
-fn value_command<'a>(alloc: Global) -> Result<Command<'a>, AllocError> {
-    Command::new(alloc, "value")
-        .about("Prints what the bidders of a bid file offer for a bundle of goods")
-        .after_help(help::VALUE)
-        .arg(steps_option(alloc, "The most packings that a search may enter"))?
-        .arg(file_argument(alloc, FILE))?
-        .arg(goods_argument(alloc))
-}
-
-fn normalise_command<'a>(alloc: Global) -> Result<Command<'a>, AllocError> {
-    Command::new(alloc, "normalise")
-        .about("Prints the one canonical text of a bid file's auction")
-        .after_help(help::NORMALISE)
-        .arg(steps_option(alloc, "The most steps that the search on a bundle may take"))?
-        .arg(file_argument(alloc, FILE))
-}
-
-fn compare_command<'a>(alloc: Global) -> Result<Command<'a>, AllocError> {
-    Command::new(alloc, "compare")
-        .about("Tells whether two bid files are the same auction, and else where they part first")
-        .after_help(help::COMPARE)
-        .arg(steps_option(alloc, "The most steps that the search on a bundle may take"))?
-        .arg(file_argument(alloc, FILE))?
-        .arg(file_argument(alloc, SECOND_FILE).value_name(FILE))
-}
-
-fn duplicates_command<'a>(alloc: Global) -> Result<Command<'a>, AllocError> {
-    Command::new(alloc, "duplicates")
-        .about("Prints which of many bid files are the same auction")
-        .after_help(help::DUPLICATES)
-        .arg(steps_option(alloc, "The most steps that the search on a bundle may take"))?
-        .arg(progress_flag(alloc))?
-        .arg(
-            file_argument(alloc, FILE)
+impl Argument {
+    fn arg<'a>(&self, alloc: Global) -> Arg<'a> {
+        match self {
+            Argument::File => file_argument(alloc, FILE),
+            Argument::SecondFile => file_argument(alloc, SECOND_FILE).value_name(FILE),
+            Argument::Files => file_argument(alloc, FILE)
                 .num_args(2..)
                 .help("The paths of two or more bid files"),
-        )
+            Argument::Goods => goods_argument(alloc),
+            Argument::Steps(help) => steps_option(alloc, help),
+            Argument::Progress => progress_flag(alloc),
+        }
+    }
 }
 
 fn progress_flag<'a>(alloc: Global) -> Arg<'a> {

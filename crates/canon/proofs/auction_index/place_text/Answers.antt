@@ -1,4 +1,4 @@
-use Rattle.std.proofs.Common.{◌≡◌, ℕ, List, cond, bytes_eq, Some, subst}
+use Rattle.std.proofs.Common.{rules, ◌≡◌, ℕ, List, cond, bytes_eq, Some, subst}
 use Rattle.canon.specs.Internal.TextPlaces.{place_of}
 use Rattle.canon.proofs.Indexing.{updated}
 use Rattle.canon.proofs.auction_index.place_text.Goals as goal
@@ -8,3 +8,9 @@ returns-clause-placed c =
     subst (λ (text : List ℕ). (other : List ℕ) → place_of c.insert.new.self other ≡ cond (bytes_eq text other) (Some c.args.place)
     (place_of c.args.places.now other)) c.shrink_to_fit.ensures.items
     (updated c.args.places.now c.insert.new.self c.shrink_to_fit.new.self.items c.args.place c.in_ok-insert.ensures.updates)
+
+pub returns-in-Some-clause-answer : goal.returns-in-Some-clause-answer
+returns-in-Some-clause-answer c = search rules
+
+pub returns-in-Some-clause-placed : goal.returns-in-Some-clause-placed
+returns-in-Some-clause-placed c = search rules

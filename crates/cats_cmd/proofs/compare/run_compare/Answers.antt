@@ -1,4 +1,4 @@
-use Rattle.std.proofs.Common.{ap, sym, ◌∙◌}
+use Rattle.std.proofs.Common.{rules, ap, sym, ◌∙◌}
 use Rattle.std.specs.Option.{unwrap_or}
 use Rattle.cats_cmd.specs.Outcomes.{Tells}
 use Rattle.cats_cmd.proofs.Comparing.{canonical_facts, run_compared}
@@ -12,3 +12,6 @@ returns-in-Ok-told g c =
     run_compared _ _ _ _ _ _ _ _ _ _ c.in-Ok.file (unwrap_or c.in-Ok-read_last_canonical.file c.in-Ok.file) c.in-Ok.ensures.answer
     c.in-Ok-read_last_canonical.ensures.answer c.in-Ok-told.status _
     (c.in-Ok-told.ensures ∙ ap (λ text. Tells c.in-Ok-told.status text) (sym c.as_slice.ensures.value)) _ c.send_text.ensures
+
+pub returns : goal.returns
+returns g c = search rules

@@ -1,3 +1,4 @@
+use Rattle.std.proofs.Common.{rules}
 use Rattle.std.proofs.lemmas.List.Elements.{All-weaker}
 use Rattle.bid_file.specs.declared.limits.TheConstants.{MAX_GOODS}
 use Rattle.goods_set.specs.Lemmas.Members.{AreBelow-higher}
@@ -13,3 +14,6 @@ or_value-requires g c =
       bundle = (h.bundle.0, AreBelow-higher c.args.auction.now.goods MAX_GOODS a.bundle facts.goods h.bundle.1);
       price = h.price;
     }) _ facts.or_atoms)
+
+pub returns-in-Ok : goal.returns-in-Ok
+returns-in-Ok g c = search rules

@@ -1,5 +1,5 @@
 -- A bid that all kept bids inside its bundle together do not reach is not reached by a packing of them, and that is known after one step.
-use Rattle.std.proofs.Common.{arith, ◌≡◌, ◌<◌, sym}
+use Rattle.std.proofs.Common.{rules, arith, ◌≡◌, ◌<◌, sym}
 use Rattle.std.proofs.lemmas.Bool.{lt-leb}
 use Rattle.goods_set.specs.Bundles.{is_inside}
 use Rattle.valuation.specs.Values.{atoms_of, or_value}
@@ -45,3 +45,15 @@ returns-then-all_prices-from-clause-within g c =
     let steps : cut_steps inside bundle price ≡ 0 = cut_steps-short inside bundle price short in
     let left = c.spend.ensures.left.0 c.if-not-spend.false in
     omega (arith, steps, left, c.new-budget.ensures.used, c.new-budget.ensures.limit)
+
+pub returns-clause-answer : goal.returns-clause-answer
+returns-clause-answer g c = search rules
+
+pub returns-clause-within : goal.returns-clause-within
+returns-clause-within g c = search rules
+
+pub returns-clause-step_limit : goal.returns-clause-step_limit
+returns-clause-step_limit g c = search rules
+
+pub returns-then-not-spend-clause-step_limit : goal.returns-then-not-spend-clause-step_limit
+returns-then-not-spend-clause-step_limit g c = search rules

@@ -1,4 +1,4 @@
-use Rattle.std.proofs.Common.{arith, ◌<◌}
+use Rattle.std.proofs.Common.{rules, arith, ◌<◌}
 use Rattle.valuation.specs.Lemmas.AuctionsOfFiles.{IsBid-at}
 use Rattle.valuation.proofs.from_file.bids_of_dummies.Goals as goal
 
@@ -9,3 +9,6 @@ index_mut-count-requires c =
     c.bid-item.is (rw c.bids-bids.ensures facts.each) in
     let below : c.in-Some.dummy < c.args.file.now.dummy = rw c.in-Some.is at bid.dummy in
     omega (arith, c.loop-bid.invariant, c.loop-bid.counts.ok.0)
+
+pub loop-bid-init : goal.loop-bid-init
+loop-bid-init c = search rules

@@ -1,5 +1,5 @@
 -- Each turn makes the next bid, with a vector of its goods.
-use Rattle.std.proofs.Common.{◌≡◌, ◌∙◌, List, ℕ, Some, ap, arith, length, sym}
+use Rattle.std.proofs.Common.{rules, ◌≡◌, ◌∙◌, List, ℕ, Some, ap, arith, length, sym}
 use Rattle.std.proofs.lemmas.List.{map_push, take_all}
 use Rattle.std.specs.List.{slice_get}
 use Rattle.bid_file.specs.declared.bid.Bid.{Bid}
@@ -26,3 +26,6 @@ new-requires c =
     ∙ take_all c.loop-number.number file.bids (omega (arith, c.len-number-end.ensures, ap length c.bids-held.ensures, c.loop-number-test.false)) in
     let facts : IsBidFile file.goods file.dummy file.bids = c.goods-goods.ensures.file in
     rw (all, c.goods-goods.ensures.value, c.dummy-dummy.ensures) facts
+
+pub loop-number-init : goal.loop-number-init
+loop-number-init c = search rules

@@ -1,4 +1,5 @@
 -- It has taken no bytes.
+use Rattle.std.proofs.Common.{refl}
 use Rattle.cats_text.proofs.Feeding.Pieces.{nothing_taken}
 use Rattle.cats_text.proofs.feeder.Feeder.new.Goals as goal
 
@@ -7,3 +8,6 @@ invariant_of-result c = record {
   limit = c.requires;
   taken = λ none. nothing_taken c.args.keeping c.args.limit c.new.result c.new-2.result.bytes c.new.ensures.state c.new.ensures.waiting c.new-2.ensures;
 }
+
+pub returns : goal.returns
+returns c = rw c.new-2.ensures refl

@@ -1,4 +1,4 @@
-use Rattle.std.proofs.Common.{◌∙◌, List, ℕ, sym, subst}
+use Rattle.std.proofs.Common.{rules, ◌∙◌, List, ℕ, sym, subst}
 use Rattle.goods_set.specs.Bundles.{IsBundle}
 use Rattle.goods_set.specs.Lemmas.Sizes.{IsBundle-with_good, with_good_there}
 use Rattle.goods_set.proofs.list_set.ListSetGoodsSet.put.Goals as goal
@@ -15,3 +15,6 @@ invariant_of-self-in-Err c =
 pub returns-in-Ok-clause-goods : goal.returns-in-Ok-clause-goods
 returns-in-Ok-clause-goods c =
     sym (with_good_there c.args.good c.args.self.now.goods c.args.self.now.bundle.0 c.in-Ok.ensures)
+
+pub returns-in-Ok-clause-added : goal.returns-in-Ok-clause-added
+returns-in-Ok-clause-added c = search rules

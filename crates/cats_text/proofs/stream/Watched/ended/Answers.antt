@@ -1,0 +1,5 @@
+use Rattle.std.proofs.Common.{refl}
+use Rattle.cats_text.proofs.stream.Watched.ended.Goals as goal
+
+pub returns : goal.returns
+returns g c = refl
