@@ -369,6 +369,54 @@ fn nested_bids_on_both_sets(rt: HostRuntime) -> Result<(), Fail> {
     nested::<WordSet<16>>(&rt, rt.alloc())
 }
 
+// The goods from the first on to the one before the last.
+fn goods_between(alloc: Global, first: u16, last: u16) -> Result<Vec<u16>, AllocError> {
+    (first..last).collect(alloc)
+}
+
+// The bids on both halves of so many goods at 3 and 4, and one on all of them.
+fn halves_and_all<S: GoodsSet>(
+    rt: &impl Abort,
+    alloc: Global,
+    n: u16,
+    price: u64,
+) -> Result<Vec<Atom<S>>, Fail>
+    ensures { IfOk result (λ bids. All (IsAtom MAX_GOODS) (atoms_of S.goods bids.items)) }
+{
+    let mut bids = Vec::new(alloc);
+    add_atom(rt, alloc, &mut bids, &goods_between(alloc, 0, n / 2)?, 3)?;
+    add_atom(rt, alloc, &mut bids, &goods_between(alloc, n / 2, n)?, 4)?;
+    add_atom(rt, alloc, &mut bids, &goods_between(alloc, 0, n)?, price)?;
+    Ok(bids)
+}
+
+// Sizes of bundles on both sides of what one set of places holds.
+static SIZES: [u16; 5] = [64, 65, 1024, 1025, 4096];
+
+// The whole at what the halves bring is reached in three steps; at one more it stays.
+fn large_bundles<S: GoodsSet>(rt: &impl Abort, alloc: Global) -> Result<(), Fail> {
+    for n in &SIZES {
+        let kept = pruned_bids(
+            rt,
+            prune_or(alloc, halves_and_all::<S>(rt, alloc, *n, 7)?, 3),
+        );
+        assert_eq!(rt; kept.len(), 2);
+        let kept = pruned_bids(
+            rt,
+            prune_or(alloc, halves_and_all::<S>(rt, alloc, *n, 8)?, 3),
+        );
+        assert_eq!(rt; kept.len(), 3);
+        assert!(rt; prune_or(alloc, halves_and_all::<S>(rt, alloc, *n, 7)?, 2).is_err());
+    }
+    Ok(())
+}
+
+#[test]
+fn large_bundles_on_both_sets(rt: HostRuntime) -> Result<(), Fail> {
+    large_bundles::<ListSet>(&rt, rt.alloc())?;
+    large_bundles::<WordSet<64>>(&rt, rt.alloc())
+}
+
 // Of more XOR bids than are compared one by one, each inside the next, only one that the bid before it covers goes.
 fn nested_xor<S: GoodsSet>(rt: &impl Abort, alloc: Global) -> Result<(), Fail> {
     let mut bids = nested_bids::<S>(rt, alloc, 60)?;

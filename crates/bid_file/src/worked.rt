@@ -1,7 +1,7 @@
 //! Worked examples of the definitions, computed by the prover.
 
-ghost use Rattle.std.specs.Prelude.{◌≡◌, ◌*◌, [], ◌∷◌, Some, None};
-ghost use Rattle.bid_file.specs.Files.{PlainBid, goods_of};
+ghost use Rattle.std.specs.Prelude.{◌≡◌, ◌+◌, ◌*◌, [], ◌∷◌, Some, None};
+ghost use Rattle.bid_file.specs.Files.{PlainBid, IsBidFile, goods_of};
 ghost use Rattle.bid_file.specs.declared.limits.TheConstants.{MAX_GOODS, MAX_BIDS, MAX_DUMMY, MAX_PRICE};
 
 /// The limits that the definitions cite.
@@ -18,4 +18,23 @@ pub fn numbered_goods()
         goods_of 3 bid ≡ 0 ∷ 2 ∷ 4 ∷ [] }
     ensures none { let bid : PlainBid = record { price = 5; goods = 0 ∷ 2 ∷ []; dummy = None } in
         goods_of 3 bid ≡ 0 ∷ 2 ∷ [] }
+{}
+
+/// What is a bid file, and what lies just behind each of its limits.
+pub fn files_within_limits()
+    ensures least { IsBidFile 0 0 [] }
+    ensures bid { let bid : PlainBid = record { price = MAX_PRICE; goods = 0 ∷ 2 ∷ []; dummy = Some 1 } in
+        IsBidFile 3 2 (bid ∷ []) }
+    ensures good { let bid : PlainBid = record { price = 5; goods = 0 ∷ 2 ∷ []; dummy = None } in
+        IsBidFile 2 0 (bid ∷ []) → ⊥ }
+    ensures dummy { let bid : PlainBid = record { price = 5; goods = 0 ∷ []; dummy = Some 2 } in
+        IsBidFile 3 2 (bid ∷ []) → ⊥ }
+    ensures price { let bid : PlainBid = record { price = MAX_PRICE + 1; goods = 0 ∷ []; dummy = None } in
+        IsBidFile 3 2 (bid ∷ []) → ⊥ }
+    ensures goodless { let bid : PlainBid = record { price = 5; goods = []; dummy = None } in
+        IsBidFile 3 2 (bid ∷ []) → ⊥ }
+    ensures falling { let bid : PlainBid = record { price = 5; goods = 2 ∷ 0 ∷ []; dummy = None } in
+        IsBidFile 3 2 (bid ∷ []) → ⊥ }
+    ensures goods { IsBidFile 4097 0 [] → ⊥ }
+    ensures dummies { IsBidFile 0 65537 [] → ⊥ }
 {}

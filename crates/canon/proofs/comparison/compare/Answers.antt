@@ -1,7 +1,10 @@
-use Rattle.std.proofs.Common.{sym, ap, ◌∙◌}
+use Rattle.std.proofs.Common.{sym, ap, ◌∙◌, rules}
 use Rattle.canon.specs.Comparing.{ComparedBy}
 use Rattle.canon.proofs.Comparisons.{both_refused, canonical_of_text, compared_is, same_by_texts, second_refused}
 use Rattle.canon.proofs.comparison.compare.Goals as goal
+
+pub returns-in-Err-clause-answer : goal.returns-in-Err-clause-answer
+returns-in-Err-clause-answer c = search rules
 
 pub returns-in-Err-read_normal-clause-answer : goal.returns-in-Err-read_normal-clause-answer
 returns-in-Err-read_normal-clause-answer c =
