@@ -64,11 +64,6 @@ pub fn expect_bid<S: GoodsSet>(
     expect_bundle(rt, alloc, &bid.bundle, goods)
 }
 
-// These are the goods.
-pub fn expect_goods(rt: &impl Abort, goods: &[u16], expected: &[u16]) {
-    assert_eq!(rt; goods, expected);
-}
-
 // The goods below `count`.
 pub fn goods_below(alloc: Global, count: u16) -> Result<Vec<u16>, AllocError> {
     let mut goods = Vec::new(alloc);

@@ -1,4 +1,4 @@
-//! Tests of `goods_set`, `valuation` and `prune`, on worked rows and beside slow programs. They stand in a
+//! Tests of `valuation` and `prune`, on worked rows and beside slow programs. They stand in a
 //! crate of their own, since a crate's functions are proved with its tests once more.
 #![tactic(auto)]
 
@@ -6,8 +6,6 @@
 mod auctions;
 #[cfg(test)]
 mod bids;
-#[cfg(test)]
-mod bundles;
 #[cfg(test)]
 mod plain_points;
 #[cfg(test)]

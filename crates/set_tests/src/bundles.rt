@@ -1,19 +1,25 @@
 //! What is seen of sets of both kinds, at worked examples. Each call is made with ample memory, so
 //! that it has to succeed.
-use crate::bids::{expect_goods, put_good};
 use goods_set::{GoodsSet, ListSet, WordSet, goods_of, may_be_inside, rising_goods};
 use std::alloc::Global;
 use std::cmp::Ordering;
 use std::process::Abort;
 use std::test::Fail;
 
+// The set of these goods, of which none comes twice.
 fn set_of<S: GoodsSet>(rt: &impl Abort, alloc: Global, goods: &[u16]) -> Result<S, Fail> {
     let mut set = S::empty(alloc)?;
     for good in goods {
-        let is_new = put_good(rt, &mut set, *good)?;
+        assert!(rt; u32::from(*good) < S::cap());
+        let is_new = set.put(*good)?;
         assert!(rt; is_new);
     }
     Ok(set)
+}
+
+// These are the goods.
+fn expect_goods(rt: &impl Abort, goods: &[u16], expected: &[u16]) {
+    assert_eq!(rt; goods, expected);
 }
 
 fn put_and_ask<S: GoodsSet>(rt: &impl Abort, alloc: Global) -> Result<(), Fail> {

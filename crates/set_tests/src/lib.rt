@@ -1,0 +1,6 @@
+//! Tests of `goods_set`, on worked rows. They stand in a crate of their own, since a crate's functions are proved with its
+//! tests once more.
+#![tactic(auto)]
+
+#[cfg(test)]
+mod bundles;
