@@ -11,13 +11,17 @@ use Rattle.canon.proofs.Texts.{canonical_file_is_same, IsPlainFile-canonical}
 use Rattle.canon.specs.Answers.{NormalisesPlainAs, or_known}
 use Rattle.canon.specs.Canonical.{canonical_file}
 use Rattle.canon.specs.declared.fault.CanonFault.{CanonFault}
-use Rattle.cats_cmd.specs.Comparisons.{ReadsLightFile, ReadsCanonicalFile, ReadsCanonical, RunsOnFiles}
-use Rattle.cats_cmd.specs.Outcomes.{Outcome, Tells, normalise_outcome, outcome_of_difference, compare_outcome}
-use Rattle.cats_cmd.specs.Runs.{ReadsInput, SendsAs}
+use Rattle.canon.specs.declared.which.Which.{Which}
+use Rattle.canon.specs.declared.which.Which.TheVariants.{Both, Second}
+use Rattle.cats_cmd.specs.Comparisons.{Compares, ReadsBoth, ReadsCanonicalFile, ReadsCanonical}
+use Rattle.cats_cmd.specs.Inputs.{ReadsInput}
+use Rattle.cats_cmd.specs.Internal.Differences.{SendsDifference}
+use Rattle.cats_cmd.specs.Outcomes.{Tells, normalise_outcome, outcome_of_difference, compare_outcome}
+use Rattle.cats_cmd.specs.Runs.{SendsMadeAs}
 use Rattle.cats_cmd.specs.declared.report.RunFault.{RunFault}
 use Rattle.cats_cmd.specs.declared.report.RunFault.TheVariants.{Refused, GoodRange, Sent}
 use Rattle.cats_cmd.proofs.Normalised.{refused_by_normalising}
-use Rattle.cats_cmd.proofs.RunsOfOneFile.{refused_in_reading, refused_in_making, told_by_sending}
+use Rattle.cats_cmd.proofs.RunsOfOneFile.{refused_in_reading, refused_in_making, wrote}
 
 -- ---- one of the files
 
@@ -30,36 +34,31 @@ fault_beside known (Ok file) P h = absurd h
 module _ {R : Type 0} (remaining : R → Option (List ℕ)) (limit : ℕ) where
   pub canonical_unread : (old new : Watched R) (fault : CanonFault) → ReadsInput remaining old new (Err fault)
       → (answer : Result PlainFile CanonFault) → IsErrAnd answer (λ told. told ≡ fault) → ReadsCanonical remaining limit old new answer
-  canonical_unread old new fault read_as answer is =
+  canonical_unread old new fault reads answer is =
       let told = err_from_is_err_and answer is in
       let only : answer ≡ Err fault = told.1 ∙ ap (λ (f : CanonFault). Err f) told.2 in
-      subst (λ (r : Result PlainFile CanonFault). ReadsCanonical remaining limit old new r) (sym only) (record {
-        bytes = read_as.bytes;
-        consumes = read_as.consumes;
-        refused = refused_in_reading remaining (normalise_outcome limit) read_as.bytes new fault read_as.reads;
-      })
+      subst (λ (r : Result PlainFile CanonFault). ReadsCanonical remaining limit old new r) (sym only)
+      (refused_in_reading remaining (normalise_outcome limit) old new fault reads)
 
   pub canonical_unread_beside : (old new : Watched R) (fault : CanonFault) → ReadsInput remaining old new (Err fault)
       → (known : PlainFile) (answer : Result (Option PlainFile) CanonFault) → IsErrAnd answer (λ told. told ≡ fault)
       → ReadsCanonical remaining limit old new (or_known known answer)
-  canonical_unread_beside old new fault read_as known answer is =
-      canonical_unread old new fault read_as (or_known known answer) (fault_beside known answer (λ told. told ≡ fault) is)
+  canonical_unread_beside old new fault reads known answer is =
+      canonical_unread old new fault reads (or_known known answer) (fault_beside known answer (λ told. told ≡ fault) is)
 
   pub canonical_read : (old new : Watched R) (file : PlainFile) → ReadsInput remaining old new (Ok file)
       → (answer : Result PlainFile CanonFault) → NormalisesPlainAs limit file answer → ReadsCanonical remaining limit old new answer
-  canonical_read old new file read_as (Ok canonical) n = record {
-    given = record { bytes = read_as.bytes; consumes = read_as.consumes; file = file; reads = read_as.reads; light = n.light };
+  canonical_read old new file reads (Ok canonical) n = record {
+    file = file;
+    given = record { reads = reads; light = n.light };
     is = n.canonical;
   }
-  canonical_read old new file read_as (Err fault) n = record {
-    bytes = read_as.bytes;
-    consumes = read_as.consumes;
-    refused = refused_in_making remaining (normalise_outcome limit) read_as.bytes new file read_as.reads fault (refused_by_normalising limit file fault n);
-  }
+  canonical_read old new file reads (Err fault) n =
+      refused_in_making remaining (normalise_outcome limit) old new file reads fault (refused_by_normalising limit file fault n)
 
   -- the canonical file keeps the limits of files
   pub canonical_facts : (old new : Watched R) (canonical : PlainFile) → ReadsCanonicalFile remaining limit old new canonical → IsPlainFile canonical
-  canonical_facts old new canonical h = subst IsPlainFile (sym h.is) (IsPlainFile-canonical h.given.file h.given.reads.spelled.facts)
+  canonical_facts old new canonical h = subst IsPlainFile (sym h.is) (IsPlainFile-canonical h.file h.given.reads.reads.spelled.facts)
 
 -- ---- both files
 
@@ -70,33 +69,41 @@ canonical_outcome f g h k =
     (same_sym (auction_from f) (auction_from (canonical_file f)) (canonical_file_is_same f h))
     (same_sym (auction_from g) (auction_from (canonical_file g)) (canonical_file_is_same g k)))
 
-module _ {R S W : Type 0} (remaining_first : R → Option (List ℕ)) (remaining_second : S → Option (List ℕ)) (contents : W → Option (List ℕ)) (limit : ℕ) where
-  files_told : (outcome : PlainFile → PlainFile → Outcome) (first first_after : Watched R) (second second_after : Watched S) (out out_after : Watched W)
-      → (left : ReadsLightFile remaining_first limit first first_after) (right : ReadsLightFile remaining_second limit second second_after)
-      → (status : ℕ) (text : List ℕ) → outcome left.file right.file ≡ Tells status text
-      → (answer : Result ℕ RunFault) → SendsAs contents status text out out_after answer
-      → RunsOnFiles remaining_first remaining_second contents limit outcome first first_after second second_after out out_after answer
-  files_told outcome first first_after second second_after out out_after left right status text is (Ok told) sends = record {
-    left = left;
-    right = right;
-    tells = told_by_sending contents (outcome left.file right.file) out out_after status text is (Ok told) sends;
-  }
-  files_told outcome first first_after second second_after out out_after left right status text is (Err (Refused which fault)) sends = absurd sends
-  files_told outcome first first_after second second_after out out_after left right status text is (Err (GoodRange good)) sends = absurd sends
-  files_told outcome first first_after second second_after out out_after left right status text is (Err (Sent fault)) sends = record {
-    left = left;
-    right = right;
-    tells = told_by_sending contents (outcome left.file right.file) out out_after status text is (Err (Sent fault)) sends;
+module _ {R S W : Type 0} (remaining_first : R → Option (List ℕ)) (remaining_second : S → Option (List ℕ)) (contents : W → Option (List ℕ)) (limit : ℕ)
+    (first first_after : Watched R) (second second_after : Watched S) (out out_after : Watched W) where
+  files_told : (left right : PlainFile) → ReadsBoth remaining_first remaining_second contents limit first first_after second second_after (left, right)
+      → (status : ℕ) (text : List ℕ) → compare_outcome left right ≡ Tells status text
+      → (answer : Result ℕ RunFault) → SendsMadeAs contents Both status text out out_after answer
+      → Compares remaining_first remaining_second contents limit first first_after second second_after out out_after answer
+  files_told left right both status text is (Ok told) sends =
+      wrote contents (ReadsBoth remaining_first remaining_second contents limit first first_after second second_after)
+      (λ (files : PlainFile × PlainFile). compare_outcome files.0 files.1) out out_after (left, right) both status text is told sends
+  files_told left right both status text is (Err (Refused which fault)) sends =
+      subst (λ (w : Which). Compares remaining_first remaining_second contents limit first first_after second second_after out out_after (Err (Refused w fault)))
+      (sym sends.0) (record { files = (left, right); reads = both; memory = sends.1; silent = sends.2 })
+  files_told left right both status text is (Err (GoodRange good)) sends = absurd sends
+  files_told left right both status text is (Err (Sent fault)) sends = record {
+    given = (left, right);
+    reads = both;
+    status = status;
+    text = text;
+    made = is;
+    sent = sends;
   }
 
-  -- a run that sent what the canonical files tell
-  pub run_compared : (first first_after : Watched R) (second second_after : Watched S) (out out_after : Watched W) (left right : PlainFile)
-      → ReadsCanonicalFile remaining_first limit first first_after left
+  -- a run that sent the difference of the canonical files
+  pub run_compared : (left right : PlainFile) → ReadsCanonicalFile remaining_first limit first first_after left
       → ReadsCanonicalFile remaining_second limit second second_after right
-      → (status : ℕ) (text : List ℕ) → compare_outcome left right ≡ Tells status text
-      → (answer : Result ℕ RunFault) → SendsAs contents status text out out_after answer
-      → RunsOnFiles remaining_first remaining_second contents limit compare_outcome first first_after second second_after out out_after answer
-  run_compared first first_after second second_after out out_after left right one other status text is answer sends =
-      let given : compare_outcome left right ≡ compare_outcome one.given.file other.given.file =
-      ap₂ compare_outcome one.is other.is ∙ (canonical_outcome one.given.file other.given.file one.given.reads.spelled.facts other.given.reads.spelled.facts) in
-      files_told compare_outcome first first_after second second_after out out_after one.given other.given status text (sym given ∙ is) answer sends
+      → (answer : Result ℕ RunFault) → SendsDifference contents left right out out_after answer
+      → Compares remaining_first remaining_second contents limit first first_after second second_after out out_after answer
+  run_compared left right one other answer d =
+      let given : compare_outcome left right ≡ compare_outcome one.file other.file =
+      ap₂ compare_outcome one.is other.is
+      ∙ (canonical_outcome one.file other.file one.given.reads.reads.spelled.facts other.given.reads.reads.spelled.facts) in
+      files_told one.file other.file (one.given, other.given) d.status d.text (sym given ∙ d.made) answer d.sends
+
+  -- a run whose second file was refused
+  pub run_second_refused : (left : PlainFile) → ReadsCanonicalFile remaining_first limit first first_after left → (fault : CanonFault)
+      → ReadsCanonical remaining_second limit second second_after (Err fault) → out_after ≡ out
+      → Compares remaining_first remaining_second contents limit first first_after second second_after out out_after (Err (Refused Second fault))
+  run_second_refused left one fault refused silent = record { left = one.file; reads = one.given; refused = refused; silent = silent }

@@ -12,7 +12,7 @@ use Rattle.std.proofs.lemmas.List.Elements.{filter_more}
 use Rattle.std.proofs.lemmas.List.FromFn.{fill_by_all, length-map-range_with_len, get_or-map-range_with_len}
 use Rattle.cats_cmd.specs.DuplicateTexts.{after_empty_lines, behind, duplicates_text, groups_of, groups_text, is_repeated, lines_of, paths_at, plain_group}
 use Rattle.cats_cmd.specs.DuplicateTexts.{plain_groups, with_group}
-use Rattle.cats_cmd.proofs.FindingPlaces.{fold_push}
+use Rattle.std.proofs.lemmas.List.Sums.{fold_push}
 
 abbrev Found : Type 0
 Found = List ℕ × ℕ

@@ -8,5 +8,7 @@ mod Printing
 mod Stopping
 mod Comparing
 mod Grouping
+mod Judging
 mod FindingPlaces
+mod RunsOfPaths
 pub mod RunsOfOneFile

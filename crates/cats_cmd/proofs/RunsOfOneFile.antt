@@ -3,102 +3,79 @@ use Rattle.std.proofs.Common.{◌≡◌, ℕ, List, Option, Result, Ok, Err, ref
 use Rattle.std.specs.Prelude.{IsErrAnd}
 use Rattle.std.proofs.lemmas.Result.{err_from_is_err_and}
 use Rattle.bid_file.specs.Files.{PlainFile}
-use Rattle.cats_text.specs.Streams.{ReadsFile}
 use Rattle.cats_text.specs.declared.stream.Watched.{Watched}
+use Rattle.cats_cmd.specs.Inputs.{ReadsInput, IsRefusedFile}
 use Rattle.cats_cmd.specs.Outcomes.{Outcome, Tells}
-use Rattle.cats_cmd.specs.Runs.{ReadsInput, RunsOnFile, RunsAs, SendsAs, SendsFileAs, TellsAs, IsRefusedByReading, IsRefusedFile, MakesAs}
+use Rattle.cats_cmd.specs.Runs.{RunsOnFile, SendsAs, SendsMadeAs, MakesAs, WritesText}
 use Rattle.canon.specs.declared.fault.CanonFault.{CanonFault}
 use Rattle.canon.specs.declared.fault.CanonFault.TheVariants.{Read, StepLimit, Memory}
 use Rattle.canon.specs.declared.which.Which.TheVariants.{Only}
 use Rattle.cats_cmd.specs.declared.report.RunFault.{RunFault}
 use Rattle.cats_cmd.specs.declared.report.RunFault.TheVariants.{Refused, GoodRange, Sent}
 
--- the text that was made is sent
-pub told_by_sending : {W : Type 0} (contents : W → Option (List ℕ)) (made : Outcome) (old new : Watched W) (status : ℕ) (text : List ℕ)
-    → made ≡ Tells status text
-    → (answer : Result ℕ RunFault) → SendsAs contents status text old new answer → TellsAs contents made old new answer
-told_by_sending contents made old new status text is (Ok told) sends =
-    subst (λ (s : ℕ). TellsAs contents made old new (Ok s)) (sym sends.0) (record { text = text; is_made = is; sends = sends.1 })
-told_by_sending contents made old new status text is (Err (Refused which fault)) sends = absurd sends
-told_by_sending contents made old new status text is (Err (GoodRange good)) sends = absurd sends
-told_by_sending contents made old new status text is (Err (Sent fault)) sends = record { status = status; text = text; is_made = is; sends = sends }
+-- the status that was answered is that of the text
+pub wrote : {A W : Type 0} (contents : W → Option (List ℕ)) (Reads : A → Type 0) (outcome : A → Outcome) (old new : Watched W) (given : A) → Reads given
+    → (status : ℕ) (text : List ℕ) → outcome given ≡ Tells status text
+    → (told : ℕ) → SendsAs contents status text old new (Ok told) → WritesText contents Reads outcome old new told
+wrote contents Reads outcome old new given reads status text is told sends =
+    subst (λ (s : ℕ). WritesText contents Reads outcome old new s) (sym sends.0)
+    (record { given = given; reads = reads; text = text; made = is; sent = sends.1 })
 
 module _ {R : Type 0} (remaining : R → Option (List ℕ)) (outcome : PlainFile → Outcome) where
-  pub refused_in_reading : (bytes : List ℕ) (input : Watched R) (fault : CanonFault) → IsRefusedByReading remaining bytes input fault
-      → IsRefusedFile remaining outcome bytes input fault
-  refused_in_reading bytes input (Read why) refused = refused
-  refused_in_reading bytes input (StepLimit goods) refused = absurd refused
-  refused_in_reading bytes input Memory refused = inl refused
+  pub refused_in_reading : (old new : Watched R) (fault : CanonFault) → ReadsInput remaining old new (Err fault) → IsRefusedFile remaining outcome old new fault
+  refused_in_reading old new (Read why) refused = refused
+  refused_in_reading old new (StepLimit goods) refused = absurd refused.reads
+  refused_in_reading old new Memory refused = inl refused
 
-  pub refused_in_making : (bytes : List ℕ) (input : Watched R) (file : PlainFile) → ReadsFile remaining bytes input file
-      → (fault : CanonFault) → MakesAs (outcome file) (Err fault) → IsRefusedFile remaining outcome bytes input fault
-  refused_in_making bytes input file reads (Read why) made = absurd made
-  refused_in_making bytes input file reads (StepLimit goods) made = record { file = file; reads = reads; made = made }
-  refused_in_making bytes input file reads Memory made = inr (record { file = file; reads = reads })
+  pub refused_in_making : (old new : Watched R) (file : PlainFile) → ReadsInput remaining old new (Ok file)
+      → (fault : CanonFault) → MakesAs (outcome file) (Err fault) → IsRefusedFile remaining outcome old new fault
+  refused_in_making old new file reads (Read why) made = absurd made
+  refused_in_making old new file reads (StepLimit goods) made = record { file = file; reads = reads; made = made }
+  refused_in_making old new file reads Memory made = inr (record { file = file; reads = reads })
 
 module _ {R W : Type 0} (remaining : R → Option (List ℕ)) (contents : W → Option (List ℕ)) (outcome : PlainFile → Outcome) where
-  pub runs_by_telling : (bytes : List ℕ) (input : Watched R) (file : PlainFile) → ReadsFile remaining bytes input file
-      → (old new : Watched W) (answer : Result ℕ RunFault) → TellsAs contents (outcome file) old new answer
-      → RunsAs remaining contents outcome bytes input old new answer
-  runs_by_telling bytes input file reads old new (Ok status) tells = record { file = file; reads = reads; tells = tells }
-  runs_by_telling bytes input file reads old new (Err (Refused which fault)) tells = absurd tells
-  runs_by_telling bytes input file reads old new (Err (GoodRange good)) tells = record { file = file; reads = reads; tells = tells }
-  runs_by_telling bytes input file reads old new (Err (Sent fault)) tells = record { file = file; reads = reads; tells = tells }
-
-  -- nothing was written, and this fault of the file is told
-  pub runs_by_refusing : (bytes : List ℕ) (input : Watched R) (out : Watched W) (fault : CanonFault) → IsRefusedFile remaining outcome bytes input fault
-      → (answer : Result ℕ RunFault) → IsErrAnd answer (λ told. told ≡ Refused Only fault) → RunsAs remaining contents outcome bytes input out out answer
-  runs_by_refusing bytes input out fault refused answer is =
+  -- nothing was written, and this fault of the file is answered
+  run_refused : (old new : Watched R) (out : Watched W) (fault : CanonFault) → IsRefusedFile remaining outcome old new fault
+      → (answer : Result ℕ RunFault) → IsErrAnd answer (λ told. told ≡ Refused Only fault) → RunsOnFile remaining contents outcome old new out out answer
+  run_refused old new out fault refused answer is =
       let told = err_from_is_err_and answer is in
       let only : answer ≡ Err (Refused Only fault) = told.1 ∙ ap (λ (f : RunFault). Err f) told.2 in
-      subst (λ (r : Result ℕ RunFault). RunsAs remaining contents outcome bytes input out out r) (sym only)
+      subst (λ (r : Result ℕ RunFault). RunsOnFile remaining contents outcome old new out out r) (sym only)
       (record { only = refl; refused = refused; silent = refl })
 
   -- a run whose file was refused in reading
-  pub run_unread : (input read : Watched R) (out : Watched W) (fault : CanonFault) → ReadsInput remaining input read (Err fault)
-      → (answer : Result ℕ RunFault) → IsErrAnd answer (λ told. told ≡ Refused Only fault) → RunsOnFile remaining contents outcome input read out out answer
-  run_unread input read out fault read_as answer is = record {
-    bytes = read_as.bytes;
-    consumes = read_as.consumes;
-    runs = runs_by_refusing read_as.bytes read out fault (refused_in_reading remaining outcome read_as.bytes read fault read_as.reads) answer is;
-  }
+  pub run_unread : (old new : Watched R) (out : Watched W) (fault : CanonFault) → ReadsInput remaining old new (Err fault)
+      → (answer : Result ℕ RunFault) → IsErrAnd answer (λ told. told ≡ Refused Only fault) → RunsOnFile remaining contents outcome old new out out answer
+  run_unread old new out fault reads answer is = run_refused old new out fault (refused_in_reading remaining outcome old new fault reads) answer is
 
   -- a run whose text was refused
-  pub run_unmade : (input read : Watched R) (out : Watched W) (file : PlainFile) → ReadsInput remaining input read (Ok file) → (fault : CanonFault)
+  pub run_unmade : (old new : Watched R) (out : Watched W) (file : PlainFile) → ReadsInput remaining old new (Ok file) → (fault : CanonFault)
       → MakesAs (outcome file) (Err fault)
-      → (answer : Result ℕ RunFault) → IsErrAnd answer (λ told. told ≡ Refused Only fault) → RunsOnFile remaining contents outcome input read out out answer
-  run_unmade input read out file read_as fault made answer is = record {
-    bytes = read_as.bytes;
-    consumes = read_as.consumes;
-    runs = runs_by_refusing read_as.bytes read out fault (refused_in_making remaining outcome read_as.bytes read file read_as.reads fault made)
-        answer is;
-  }
+      → (answer : Result ℕ RunFault) → IsErrAnd answer (λ told. told ≡ Refused Only fault) → RunsOnFile remaining contents outcome old new out out answer
+  run_unmade old new out file reads fault made answer is =
+      run_refused old new out fault (refused_in_making remaining outcome old new file reads fault made) answer is
 
   -- a run that sent its text
-  pub run_told : (input read : Watched R) (old new : Watched W) (file : PlainFile) → ReadsInput remaining input read (Ok file)
+  pub run_told : (old new : Watched R) (out out_after : Watched W) (file : PlainFile) → ReadsInput remaining old new (Ok file)
       → (status : ℕ) (text : List ℕ) → outcome file ≡ Tells status text
-      → (answer : Result ℕ RunFault) → SendsAs contents status text old new answer → RunsOnFile remaining contents outcome input read old new answer
-  run_told input read old new file read_as status text made answer sends = record {
-    bytes = read_as.bytes;
-    consumes = read_as.consumes;
-    runs = runs_by_telling read_as.bytes read file read_as.reads old new answer
-        (told_by_sending contents (outcome file) old new status text made answer sends);
-  }
+      → (answer : Result ℕ RunFault) → SendsAs contents status text out out_after answer → RunsOnFile remaining contents outcome old new out out_after answer
+  run_told old new out out_after file reads status text made (Ok told) sends =
+      wrote contents (λ f. ReadsInput remaining old new (Ok f)) outcome out out_after file reads status text made told sends
+  run_told old new out out_after file reads status text made (Err (Refused which fault)) sends = absurd sends
+  run_told old new out out_after file reads status text made (Err (GoodRange good)) sends = absurd sends
+  run_told old new out out_after file reads status text made (Err (Sent fault)) sends =
+      record { given = file; reads = reads; status = status; text = text; made = made; sent = sends }
 
   -- a run that sent a file's text by pages, or was refused the memory for one
-  pub run_sent : (input read : Watched R) (old new : Watched W) (file : PlainFile) → ReadsInput remaining input read (Ok file)
+  pub run_sent : (old new : Watched R) (out out_after : Watched W) (file : PlainFile) → ReadsInput remaining old new (Ok file)
       → (text : List ℕ) → outcome file ≡ Tells 0 text
-      → (answer : Result ℕ RunFault) → SendsFileAs contents text old new answer → RunsOnFile remaining contents outcome input read old new answer
-  run_sent input read old new file read_as text made (Ok status) sends = run_told input read old new file read_as 0 text made (Ok status) sends
-  run_sent input read old new file read_as text made (Err (Refused which fault)) sends = record {
-    bytes = read_as.bytes;
-    consumes = read_as.consumes;
-    runs = record {
-      only = sends.0;
-      refused = subst (λ (f : CanonFault). IsRefusedFile remaining outcome read_as.bytes read f) (sym sends.1)
-          (inr (record { file = file; reads = read_as.reads }));
-      silent = sends.2;
-    };
+      → (answer : Result ℕ RunFault) → SendsMadeAs contents Only 0 text out out_after answer
+      → RunsOnFile remaining contents outcome old new out out_after answer
+  run_sent old new out out_after file reads text made (Ok status) sends = run_told old new out out_after file reads 0 text made (Ok status) sends
+  run_sent old new out out_after file reads text made (Err (Refused which fault)) sends = record {
+    only = sends.0;
+    refused = subst (λ (f : CanonFault). IsRefusedFile remaining outcome old new f) (sym sends.1) (inr (record { file = file; reads = reads }));
+    silent = sends.2;
   }
-  run_sent input read old new file read_as text made (Err (GoodRange good)) sends = absurd sends
-  run_sent input read old new file read_as text made (Err (Sent fault)) sends = run_told input read old new file read_as 0 text made (Err (Sent fault)) sends
+  run_sent old new out out_after file reads text made (Err (GoodRange good)) sends = absurd sends
+  run_sent old new out out_after file reads text made (Err (Sent fault)) sends = run_told old new out out_after file reads 0 text made (Err (Sent fault)) sends

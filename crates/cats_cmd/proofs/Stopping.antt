@@ -1,41 +1,40 @@
--- The statuses that the runs answer, and what of a line goes out where sending it may fail.
-use Rattle.std.proofs.Common.{◌≡◌, ℕ, List, length, Option, None, Some, Result, Ok, Err, Bool, true, false, cond, sym, ap, ◌∙◌, subst, arith, ◌≤◌, [], ◌∷◌}
-use Rattle.std.proofs.Common.{refl}
-use Rattle.std.proofs.Math.Seq.{take-length}
-use Rattle.std.specs.Io.KnownBytes.{Appends}
-use Rattle.std.specs.Prelude.{nat_lt, OnOk, IfErr, IsErrAnd, bytes_eq, codes}
+-- What holds of each answer to a request: the statuses of a run that answered, what a request that stopped has written, and that only
+-- `duplicates` reports before it stops.
+use Rattle.std.proofs.Common.{◌≡◌, ◌≢◌, ℕ, List, Option, None, Some, Result, Ok, Err, Bool, true, false, cond, sym, ap, ◌∙◌, subst, arith, ◌≤◌, [], ◌∷◌}
+use Rattle.std.proofs.Common.{refl, ⊎_elim, ◌⊎◌}
+use Rattle.std.specs.Prelude.{nat_lt, IfErr, IsErrAnd, bytes_eq, codes}
 use Rattle.std.proofs.lemmas.Result.{err_from_is_err_and}
 use Rattle.bid_file.specs.Files.{PlainFile}
-use Rattle.cats_text.specs.Streams.{inner_of, SendsWhole, SendsPart}
-use Rattle.cats_text.specs.declared.fault.SendFault.{SendFault}
+use Rattle.cats_text.specs.declared.fault.Kind.{Kind}
+use Rattle.cats_text.specs.declared.fault.Kind.TheVariants.{Device, Memory as NoMemory}
 use Rattle.cats_text.specs.declared.stream.Watched.{Watched}
 use Rattle.valuation.specs.Auctions.{or_atoms_of, auction_from}
 use Rattle.valuation.specs.Packings.{count_packings}
 use Rattle.prune.specs.SearchSteps.{first_heavy}
 use Rattle.canon.specs.Difference.{Difference, NoDifference, InGoods, InOr, InXor, first_difference}
-use Rattle.cats_cmd.specs.Comparisons.{RunsOnFiles}
-use Rattle.cats_cmd.specs.Outcomes.{Outcome, Tells, ExceedsSteps, normalise_outcome, value_outcome, values_within, missing_good, outcome_unless}
-use Rattle.cats_cmd.specs.Outcomes.{text_unless_heavy, outcome_of_difference, compare_outcome}
-use Rattle.cats_cmd.specs.ValueTexts.{bundle_from, value_text}
-use Rattle.cats_cmd.specs.Runs.{RunsOnFile}
-use Rattle.cats_cmd.specs.Internal.Requests.{CarriesOut, ComparesSome, RunsFor, RunsOnSome}
-use Rattle.cats_cmd.specs.Stops.{SendsBeginning, IsSilent, is_for_many_files, names_duplicates}
-use Rattle.command_line.specs.declared.request.Request.{Request}
-use Rattle.cats_cmd.specs.declared.program.Stop.{Stop}
-use Rattle.cats_cmd.specs.declared.program.Stop.TheVariants.{Run}
-use Rattle.cats_cmd.specs.declared.report.RunFault.{RunFault}
+use Rattle.canon.specs.declared.fault.CanonFault.{CanonFault}
+use Rattle.canon.specs.declared.fault.CanonFault.TheVariants.{Read, StepLimit, Memory}
 use Rattle.canon.specs.declared.which.Which.TheVariants.{Only, First, Second, Both}
+use Rattle.cats_cmd.specs.Comparisons.{Compares}
 use Rattle.cats_cmd.specs.Duplicates.{RunsOnPaths}
+use Rattle.cats_cmd.specs.Outcomes.{Outcome, Tells, ExceedsSteps, check_outcome, show_outcome, normalise_outcome, value_outcome, values_within, missing_good}
+use Rattle.cats_cmd.specs.Outcomes.{outcome_unless, text_unless_heavy, outcome_of_difference}
+use Rattle.cats_cmd.specs.Inputs.{IsOpened}
+use Rattle.cats_cmd.specs.Requests.{AnswersRequest, CarriesOut, ComparesAt, RunsAt, RunsFor, StopsRequest}
+use Rattle.cats_cmd.specs.Runs.{RunsOnFile}
+use Rattle.cats_cmd.specs.Statuses.{status_of_canon_fault, status_of_read_fault}
+use Rattle.cats_cmd.specs.Stops.{IsSilent, Reports, is_for_many_files, line_of_stop, names_duplicates, status_of_stop}
+use Rattle.cats_cmd.specs.ValueTexts.{bundle_from, value_text}
+use Rattle.cats_cmd.specs.declared.program.Stop.{Stop}
+use Rattle.cats_cmd.specs.declared.program.Stop.TheVariants.{CannotOpen, Run}
+use Rattle.cats_cmd.specs.declared.report.RunFault.{RunFault}
 use Rattle.cats_cmd.specs.declared.report.RunFault.TheVariants.{Refused, GoodRange, Sent}
-use Rattle.std.specs.Borrow.{Bor}
 use Rattle.command_line.specs.Requests.{IsNamedIn}
-use Rattle.command_line.specs.declared.request.Request.TheVariants.{Duplicates}
+use Rattle.command_line.specs.declared.request.Request.{Request}
+use Rattle.command_line.specs.declared.request.Request.TheVariants.{Check, Show, Value, Normalise, Compare, Duplicates}
+use Rattle.std.specs.Borrow.{Bor}
 
--- a run that answered has the status that its outcome tells
-pub told_run : {R W : Type 0} (remaining : R → Option (List ℕ)) (contents : W → Option (List ℕ)) (outcome : PlainFile → Outcome)
-    → ((file : PlainFile) (status : ℕ) (text : List ℕ) → outcome file ≡ Tells status text → status ≡ 0)
-    → (before after : Watched R) (old new : Watched W) (status : ℕ) → RunsOnFile remaining contents outcome before after old new (Ok status) → status ≡ 0
-told_run remaining contents outcome only before after old new status ran = only ran.runs.file status ran.runs.tells.text ran.runs.tells.is_made
+-- ---- the outcomes that have a text
 
 within_tells : (exceeds : Bool) (bundle told : List ℕ) (status : ℕ) (text : List ℕ) → cond exceeds (ExceedsSteps bundle) (Tells 0 told) ≡ Tells status text
     → status ≡ 0
@@ -60,16 +59,6 @@ value_tells goods limit file status text is =
     (λ e. within_tells (nat_lt limit (count_packings (or_atoms_of file.bids) (bundle_from goods))) (bundle_from goods) (value_text file (bundle_from goods))
     status text e) is
 
--- sending sends a beginning, or all
-pub sends_beginning : {W : Type 0} (contents : W → Option (List ℕ)) (old new : Watched W) (text : List ℕ) (answer : Result (Unit {0}) SendFault)
-    → OnOk answer (SendsWhole contents old new text) → IfErr answer (λ fault. SendsPart contents old new text fault.written)
-    → SendsBeginning contents old new text
-sends_beginning contents old new text (Ok done) whole part = record {
-  sent = length text;
-  appended = subst (Appends (contents (inner_of old)) (contents (inner_of new))) (sym (take-length text)) whole.appended;
-}
-sends_beginning contents old new text (Err fault) whole part = record { sent = fault.written; appended = part.appended }
-
 -- ---- a comparison
 
 differs_or_same : (difference : Difference) (status : ℕ) (text : List ℕ) → outcome_of_difference difference ≡ Tells status text → status ≤ 1
@@ -77,14 +66,6 @@ differs_or_same NoDifference status text is = let same : 0 ≡ status = cc in om
 differs_or_same (InGoods left right) status text is = let same : 1 ≡ status = cc in omega arith
 differs_or_same (InOr bundle left right) status text is = let same : 1 ≡ status = cc in omega arith
 differs_or_same (InXor bidder left right) status text is = let same : 1 ≡ status = cc in omega arith
-
--- a comparison that answered has the status 0 or 1
-pub told_comparison : {R S W : Type 0} (remaining_first : R → Option (List ℕ)) (remaining_second : S → Option (List ℕ)) (contents : W → Option (List ℕ))
-    (limit : ℕ)
-    → (first first_after : Watched R) (second second_after : Watched S) (old new : Watched W) (status : ℕ)
-    → RunsOnFiles remaining_first remaining_second contents limit compare_outcome first first_after second second_after old new (Ok status) → status ≤ 1
-told_comparison remaining_first remaining_second contents limit first first_after second second_after old new status ran =
-    differs_or_same (first_difference (auction_from ran.left.file) (auction_from ran.right.file)) status ran.tells.text ran.tells.is_made
 
 -- only `duplicates` names a request for many files
 pub few_files : (words : List (Bor (List ℕ))) (request : Request) → IsNamedIn words request → names_duplicates words ≡ false → is_for_many_files request ≡ false
@@ -94,60 +75,178 @@ few_files (program ∷ []) (Duplicates files limit progress) named few = absurd 
 few_files [] (Duplicates files limit progress) named few = absurd (named)
 few_files words request named few = refl
 
--- a run of many files that stopped has written nothing, unless its output failed
-pub silent_paths : {W : Type 0} (contents : W → Option (List ℕ)) (limit : ℕ) (paths : List (List ℕ)) (old new : Watched W) (fault : RunFault)
-    → RunsOnPaths contents limit paths old new (Err fault) → IsSilent (Run fault) old new
-silent_paths contents limit paths old new (Refused which fault) ran = ran.2
-silent_paths contents limit paths old new (GoodRange good) ran = ran.tells.1
-silent_paths contents limit paths old new (Sent fault) ran = tt
+-- ---- runs
 
--- a run of one file that stopped, likewise
-pub silent_run : {R W : Type 0} (remaining : R → Option (List ℕ)) (contents : W → Option (List ℕ)) (outcome : PlainFile → Outcome) (before after : Watched R)
-    (old new : Watched W) (fault : RunFault)
-    → RunsOnFile remaining contents outcome before after old new (Err fault) → IsSilent (Run fault) old new
-silent_run remaining contents outcome before after old new (Refused which fault) ran = ran.runs.silent
-silent_run remaining contents outcome before after old new (GoodRange good) ran = ran.runs.tells.1
-silent_run remaining contents outcome before after old new (Sent fault) ran = tt
+module _ {R W : Type 0} (remaining : R → Option (List ℕ)) (contents : W → Option (List ℕ)) (outcome : PlainFile → Outcome) (before after : Watched R)
+    (old new : Watched W) where
+  -- a run that answered has the status of its outcome
+  told_run : ((file : PlainFile) (status : ℕ) (text : List ℕ) → outcome file ≡ Tells status text → status ≡ 0)
+      → (status : ℕ) → RunsOnFile remaining contents outcome before after old new (Ok status) → status ≤ 1
+  told_run only status ran = let none = only ran.given status ran.text ran.made in omega (arith, none)
 
--- a comparison that stopped, likewise
-pub silent_comparison : {R S W : Type 0} (remaining_first : R → Option (List ℕ)) (remaining_second : S → Option (List ℕ)) (contents : W → Option (List ℕ))
-    (limit : ℕ)
-    → (first first_after : Watched R) (second second_after : Watched S) (old new : Watched W) (fault : RunFault)
-    → RunsOnFiles remaining_first remaining_second contents limit compare_outcome first first_after second second_after old new (Err fault)
-    → IsSilent (Run fault) old new
-silent_comparison remaining_first remaining_second contents limit first first_after second second_after old new (Refused First fault) ran = ran.silent
-silent_comparison remaining_first remaining_second contents limit first first_after second second_after old new (Refused Second fault) ran = ran.silent
-silent_comparison remaining_first remaining_second contents limit first first_after second second_after old new (Refused Both fault) ran = ran.silent
-silent_comparison remaining_first remaining_second contents limit first first_after second second_after old new (Refused Only fault) ran = absurd ran
-silent_comparison remaining_first remaining_second contents limit first first_after second second_after old new (GoodRange good) ran = absurd ran
-silent_comparison remaining_first remaining_second contents limit first first_after second second_after old new (Sent fault) ran = tt
+  -- a run that stopped has written nothing, unless its output failed
+  silent_run : (fault : RunFault) → RunsOnFile remaining contents outcome before after old new (Err fault) → IsSilent (Run fault) old new
+  silent_run (Refused which fault) ran = ran.silent
+  silent_run (GoodRange good) ran = ran.silent
+  silent_run (Sent fault) ran = tt
 
--- and its request, which stops with the run's fault
-pub silent_stop : {W : Type 0} (old new : Watched W) (fault : RunFault) (answer : Result ℕ Stop) → IsErrAnd answer (λ stop. stop ≡ Run fault)
-    → IsSilent (Run fault) old new → IfErr answer (λ stop. IsSilent stop old new)
-silent_stop old new fault (Ok status) is silent = tt
-silent_stop old new fault (Err stop) is silent = subst (λ (s : Stop). IsSilent s old new) (sym is) silent
+module _ {R S W : Type 0} (remaining_first : R → Option (List ℕ)) (remaining_second : S → Option (List ℕ)) (contents : W → Option (List ℕ)) (limit : ℕ)
+    (first first_after : Watched R) (second second_after : Watched S) (old new : Watched W) where
+  -- a comparison that answered has the status 0 or 1
+  told_comparison : (status : ℕ) → Compares remaining_first remaining_second contents limit first first_after second second_after old new (Ok status)
+      → status ≤ 1
+  told_comparison status ran =
+      differs_or_same (first_difference (auction_from ran.given.0) (auction_from ran.given.1)) status ran.text ran.made
 
--- ---- a request
+  -- a comparison that stopped has written nothing, unless its output failed
+  silent_comparison : (fault : RunFault) → Compares remaining_first remaining_second contents limit first first_after second second_after old new (Err fault)
+      → IsSilent (Run fault) old new
+  silent_comparison (Refused First fault) ran = ran.silent
+  silent_comparison (Refused Second fault) ran = ran.silent
+  silent_comparison (Refused Both fault) ran = ran.silent
+  silent_comparison (Refused Only fault) ran = absurd ran
+  silent_comparison (GoodRange good) ran = absurd ran
+  silent_comparison (Sent fault) ran = tt
 
-module _ {F W : Type 0} (remaining : F → Option (List ℕ)) (contents : W → Option (List ℕ)) where
-  -- the run of a file that was opened
-  pub ran_on_some : (outcome : PlainFile → Outcome) (before after : Watched F) (old new : Watched W) (answer : Result ℕ RunFault)
-      → RunsOnFile remaining contents outcome before after old new answer
-      → RunsOnSome remaining contents outcome old new answer
-  ran_on_some outcome before after old new answer ran = record { before = before; after = after; runs = ran }
+-- ---- stops
 
-  pub compared_some : (limit : ℕ) (first first_after second second_after : Watched F) (old new : Watched W) (answer : Result ℕ RunFault)
-      → RunsOnFiles remaining remaining contents limit compare_outcome first first_after second second_after old new answer
-      → ComparesSome remaining contents limit old new answer
-  compared_some limit first first_after second second_after old new answer ran =
-      record { first = first; first_after = first_after; second = second; second_after = second_after; runs = ran }
+read_status_above : (kind : Kind) → 2 ≤ status_of_read_fault kind
+read_status_above Device = omega arith
+read_status_above NoMemory = omega arith
+read_status_above kind = omega arith
+
+canon_status_above : (fault : CanonFault) → 2 ≤ status_of_canon_fault fault
+canon_status_above (Read fault) = read_status_above fault.kind
+canon_status_above (StepLimit goods) = omega arith
+canon_status_above Memory = omega arith
+
+-- no stop has the status of an answer
+stop_status_above : (stop : Stop) → 2 ≤ status_of_stop stop
+stop_status_above (CannotOpen which) = omega arith
+stop_status_above (Run (Refused which fault)) = canon_status_above fault
+stop_status_above (Run (GoodRange good)) = omega arith
+stop_status_above (Run (Sent fault)) = omega arith
+
+silent_unless_failed : {W : Type 0} (stop : Stop) (old new : Watched W) → IsSilent stop old new → (status_of_stop stop ≡ 5 → ⊥) → new ≡ old
+silent_unless_failed (CannotOpen which) old new silent failed = silent
+silent_unless_failed (Run (Refused which fault)) old new silent failed = silent
+silent_unless_failed (Run (GoodRange good)) old new silent failed = silent
+silent_unless_failed (Run (Sent fault)) old new silent failed = absurd (failed refl)
+
+-- ---- requests
+
+module _ {F W E : Type 0} (may_open : List ℕ → F → Type 0) (may_refuse : List ℕ → Type 0) (remaining : F → Option (List ℕ))
+    (contents : W → Option (List ℕ)) (messages : E → Option (List ℕ)) (out out_after : Watched W) (err : Watched E) where
+  -- a request for one or two files that answered has the status 0 or 1, and has reported nothing
+  answered : (request : Request) (err_after : Watched E) (status : ℕ)
+      → RunsFor may_open may_refuse remaining contents messages request out out_after err err_after (Ok status) → is_for_many_files request ≡ false
+      → (status ≤ 1) × (err_after ≡ err)
+  answered (Check file) err_after status ran few =
+      (told_run remaining contents check_outcome ran.0.before ran.0.after out out_after (λ file s text is. cc) status ran.0.runs, ran.1)
+  answered (Show file) err_after status ran few =
+      (told_run remaining contents show_outcome ran.0.before ran.0.after out out_after (λ file s text is. cc) status ran.0.runs, ran.1)
+  answered (Value file goods limit) err_after status ran few = (
+    told_run remaining contents (value_outcome goods.items limit) ran.0.before ran.0.after out out_after (value_tells goods.items limit) status ran.0.runs,
+    ran.1,
+  )
+  answered (Normalise file limit) err_after status ran few =
+      (told_run remaining contents (normalise_outcome limit) ran.0.before ran.0.after out out_after (normalise_tells limit) status ran.0.runs, ran.1)
+  answered (Compare first second limit) err_after status ran few = (
+    told_comparison remaining remaining contents limit ran.0.left ran.0.left_after ran.0.right ran.0.right_after out out_after status ran.0.runs,
+    ran.1,
+  )
+  answered (Duplicates files limit progress) err_after status ran few = absurd (cc)
+
+  -- a request that stopped has written nothing, unless its output failed
+  silent_fault : (request : Request) (err_after : Watched E) (fault : RunFault)
+      → RunsFor may_open may_refuse remaining contents messages request out out_after err err_after (Err fault) → is_for_many_files request ≡ false
+      → IsSilent (Run fault) out out_after
+  silent_fault (Check file) err_after fault ran few =
+      silent_run remaining contents check_outcome ran.0.before ran.0.after out out_after fault ran.0.runs
+  silent_fault (Show file) err_after fault ran few =
+      silent_run remaining contents show_outcome ran.0.before ran.0.after out out_after fault ran.0.runs
+  silent_fault (Value file goods limit) err_after fault ran few =
+      silent_run remaining contents (value_outcome goods.items limit) ran.0.before ran.0.after out out_after fault ran.0.runs
+  silent_fault (Normalise file limit) err_after fault ran few =
+      silent_run remaining contents (normalise_outcome limit) ran.0.before ran.0.after out out_after fault ran.0.runs
+  silent_fault (Compare first second limit) err_after fault ran few =
+      silent_comparison remaining remaining contents limit ran.0.left ran.0.left_after ran.0.right ran.0.right_after out out_after fault ran.0.runs
+  silent_fault (Duplicates files limit progress) err_after fault ran few = absurd (cc)
+
+  silent_request : (request : Request) (err_after : Watched E) (stop : Stop)
+      → CarriesOut may_open may_refuse remaining contents messages request out out_after err err_after (Err stop) → is_for_many_files request ≡ false
+      → IsSilent stop out out_after
+  silent_request request err_after (CannotOpen which) ran few = ran.1
+  silent_request request err_after (Run fault) ran few = silent_fault request err_after fault ran few
+
+  -- a status but 0, 1 and 5 says that nothing was written
+  pub silent_answer : (request : Request) (err_after : Watched E) (status : ℕ)
+      → AnswersRequest may_open may_refuse remaining contents messages request out out_after err err_after status → is_for_many_files request ≡ false
+      → status ≢ 0 → status ≢ 1 → status ≢ 5 → out_after ≡ out
+  silent_answer request err_after status answers few a b c =
+      ⊎_elim
+      (λ (ran : CarriesOut may_open may_refuse remaining contents messages request out out_after err err_after (Ok status)).
+        let most = (answered request err_after status ran few).0 in absurd (omega (arith, most, a, b)))
+      (λ (s : StopsRequest may_open may_refuse remaining contents messages request out out_after err err_after status).
+        silent_unless_failed s.stop out out_after (silent_request request s.between s.stop s.carries few) (λ five. c (s.is_status ∙ five)))
+      answers
+
+  -- the statuses 0 and 1 say that nothing was reported
+  pub done_answer : (request : Request) (err_after : Watched E) (status : ℕ)
+      → AnswersRequest may_open may_refuse remaining contents messages request out out_after err err_after status → is_for_many_files request ≡ false
+      → status ≤ 1 → err_after ≡ err
+  done_answer request err_after status answers few most =
+      ⊎_elim
+      (λ (ran : CarriesOut may_open may_refuse remaining contents messages request out out_after err err_after (Ok status)).
+        (answered request err_after status ran few).1)
+      (λ (s : StopsRequest may_open may_refuse remaining contents messages request out out_after err err_after status).
+        let least = stop_status_above s.stop in let is = s.is_status in absurd (omega (arith, least, is, most)))
+      answers
+
+  pub stopped_request : (request : Request) (stop : Stop) (between err_after : Watched E) (status : ℕ)
+      → CarriesOut may_open may_refuse remaining contents messages request out out_after err between (Err stop)
+      → Reports messages (line_of_stop stop) between err_after → status ≡ status_of_stop stop
+      → StopsRequest may_open may_refuse remaining contents messages request out out_after err err_after status
+  stopped_request request stop between err_after status carries reports is =
+      record { stop = stop; between = between; carries = carries; reports = reports; is_status = is }
 
   -- the fault of a run is that of its request
-  pub stopped_run : (request : Request) (old new : Watched W) (fault : RunFault) (answer : Result ℕ Stop)
-      → IsErrAnd answer (λ stop. stop ≡ Run fault) → RunsFor remaining contents request old new (Err fault)
-      → CarriesOut remaining contents request old new answer
-  stopped_run request old new fault answer is ran =
+  pub stopped_run : (request : Request) (err_after : Watched E) (fault : RunFault) (answer : Result ℕ Stop)
+      → IsErrAnd answer (λ stop. stop ≡ Run fault)
+      → RunsFor may_open may_refuse remaining contents messages request out out_after err err_after (Err fault)
+      → CarriesOut may_open may_refuse remaining contents messages request out out_after err err_after answer
+  stopped_run request err_after fault answer is ran =
       let told = err_from_is_err_and answer is in
       let only : answer ≡ Err (Run fault) = told.1 ∙ ap (λ (stop : Stop). Err stop) told.2 in
-      subst (λ (r : Result ℕ Stop). CarriesOut remaining contents request old new r) (sym only) ran
+      subst (λ (r : Result ℕ Stop). CarriesOut may_open may_refuse remaining contents messages request out out_after err err_after r) (sym only) ran
+
+-- ---- the streams of a run are those that were opened
+
+module _ {F W : Type 0} (may_open : List ℕ → F → Type 0) (remaining : F → Option (List ℕ)) (contents : W → Option (List ℕ)) where
+  pub ran_at : (path : List ℕ) (outcome : PlainFile → Outcome) (before after : Watched F) (out out_after : Watched W) (answer : Result ℕ RunFault)
+      → IsOpened may_open path before → RunsOnFile remaining contents outcome before after out out_after answer
+      → RunsAt may_open remaining contents path outcome out out_after answer
+  ran_at path outcome before after out out_after answer opened runs = record { before = before; after = after; opened = opened; runs = runs }
+
+  pub valued_at : (path goods given : List ℕ) (limit : ℕ) → given ≡ goods → (before after : Watched F) (out out_after : Watched W)
+      (answer : Result ℕ RunFault) → IsOpened may_open path before
+      → RunsOnFile remaining contents (value_outcome given limit) before after out out_after answer
+      → RunsAt may_open remaining contents path (value_outcome goods limit) out out_after answer
+  valued_at path goods given limit same before after out out_after answer opened runs =
+      subst (λ (gs : List ℕ). RunsAt may_open remaining contents path (value_outcome gs limit) out out_after answer) same
+      (ran_at path (value_outcome given limit) before after out out_after answer opened runs)
+
+  pub compared_at : (first second : List ℕ) (limit : ℕ) (left left_after right right_after : Watched F) (out out_after : Watched W)
+      (answer : Result ℕ RunFault)
+      → IsOpened may_open first left → IsOpened may_open second right
+      → Compares remaining remaining contents limit left left_after right right_after out out_after answer
+      → ComparesAt may_open remaining contents first second limit out out_after answer
+  compared_at first second limit left left_after right right_after out out_after answer one other runs = record {
+    left = left;
+    left_after = left_after;
+    right = right;
+    right_after = right_after;
+    left_opened = one;
+    right_opened = other;
+    runs = runs;
+  }

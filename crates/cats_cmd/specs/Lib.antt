@@ -7,9 +7,11 @@ pub mod ValueTexts
 pub mod DifferenceTexts
 pub mod Outcomes
 pub mod Examples
+pub mod Inputs
 pub mod Stops
 pub mod Runs
 pub mod Comparisons
 pub mod DuplicateTexts
 pub mod Duplicates
+pub mod Requests
 pub mod Internal

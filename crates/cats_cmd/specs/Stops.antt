@@ -1,15 +1,13 @@
--- With which statuses the program answers, why it stops without an answer of its own, and how it tells that.
-use Rattle.std.specs.Prelude.{◌≡◌, ◌≤◌, ◌⊎◌, ◌++◌, ℕ, Bool, true, false, List, ◌∷◌, Option, take, codes, bytes_eq}
+-- Why the program stops without an answer of a run, with which status, and what standard error gets.
+use Rattle.std.specs.Prelude.{◌≡◌, ◌⊎◌, ◌++◌, ℕ, Bool, true, false, List, [], ◌∷◌, Option, Result, codes, bytes_eq}
 use Rattle.std.specs.Borrow.{Bor}
-use Rattle.std.specs.Io.KnownBytes.{Appends}
-use Rattle.cats_text.specs.Streams.{inner_of}
+use Rattle.cats_text.specs.Streams.{has_failed, Sends}
+use Rattle.cats_text.specs.declared.fault.SendFault.{SendFault}
 use Rattle.cats_text.specs.declared.stream.Watched.{Watched}
 use Rattle.cats_cmd.specs.FaultLines.{line_of_fault, prefix_of}
 use Rattle.cats_cmd.specs.Statuses.{status_of_fault}
-use Rattle.command_line.specs.declared.request.NoRequest.{NoRequest}
-use Rattle.command_line.specs.declared.request.NoRequest.TheVariants.{Help, WrongUsage, NoMemory}
 use Rattle.command_line.specs.declared.request.Request.{Request}
-use Rattle.command_line.specs.declared.request.Request.TheVariants.{Compare, Duplicates}
+use Rattle.command_line.specs.declared.request.Request.TheVariants.{Duplicates}
 use Rattle.cats_cmd.specs.declared.program.Stop.{Stop}
 use Rattle.cats_cmd.specs.declared.program.Stop.TheVariants.{CannotOpen, Run}
 use Rattle.cats_cmd.specs.declared.report.RunFault.TheVariants.{Refused, GoodRange, Sent}
@@ -23,18 +21,6 @@ is_for_many_files request = false
 abbrev pub names_duplicates : List (Bor (List ℕ)) → Bool
 names_duplicates (name ∷ (word ∷ words)) = bytes_eq word.now (codes "duplicates")
 names_duplicates words = false
-
--- the statuses with which a request may be answered
-abbrev pub IsAnswer : Request → ℕ → Type 0
-IsAnswer (Compare first second limit) status = status ≤ 1
-IsAnswer (Duplicates files limit progress) status = Unit {0}
-IsAnswer request status = status ≡ 0
-
--- the statuses with which a command line is answered that asks for no run
-abbrev pub IsAnswerToNoRequest : NoRequest → ℕ → Type 0
-IsAnswerToNoRequest (Help text) status = (status ≡ 0) ⊎ (status ≡ 5)
-IsAnswerToNoRequest (WrongUsage text) status = status ≡ 64
-IsAnswerToNoRequest (NoMemory text) status = status ≡ 4
 
 abbrev pub status_of_stop : Stop → ℕ
 status_of_stop (CannotOpen which) = 5
@@ -52,8 +38,21 @@ module _ {W : Type 0} where
   IsSilent (Run (GoodRange good)) old new = new ≡ old
   IsSilent (Run (Sent fault)) old new = Unit {0}
 
-module _ {W : Type 0} (contents : W → Option (List ℕ)) where
-  -- so many of the first bytes of the text went out: all of them, or fewer where memory or the writer failed
-  pub record SendsBeginning (old new : Watched W) (text : List ℕ) : Type 0 where
-    pub sent : ℕ
-    pub appended : Appends (contents (inner_of old)) (contents (inner_of new)) (take sent text)
+-- ---- what is sent to a stream for messages
+
+module _ {E : Type 0} (contents : E → Option (List ℕ)) where
+  -- the text was sent: whole, or its beginning, in which the stream failed
+  pub record SendsText (text : List ℕ) (old new : Watched E) : Type 0 where
+    pub answer : Result (Unit {0}) SendFault
+    pub sends : Sends contents old new text answer
+
+  -- A line was sent, or, when memory for it was refused, a line that says so. Nothing is sent to a stream that has
+  -- failed.
+  abbrev pub Reports : List ℕ → Watched E → Watched E → Type 0
+  Reports line old new = ((has_failed old ≡ true) × (new ≡ old))
+      ⊎ (SendsText line old new ⊎ SendsText (codes "want of memory\n") old new)
+
+  -- lines were reported, one after the other
+  abbrev pub ReportsAll : List (List ℕ) → Watched E → Watched E → Type 0
+  ReportsAll [] old new = new ≡ old
+  ReportsAll (line ∷ lines) old new = (between : Watched E) × Reports line old between × ReportsAll lines between new

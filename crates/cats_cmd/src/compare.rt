@@ -11,7 +11,8 @@ ghost use Rattle.canon.specs.Answers.{or_known};
 ghost use Rattle.canon.specs.Canonical.{IsCanonicalFile};
 ghost use Rattle.canon.specs.Difference.{first_difference};
 ghost use Rattle.canon.specs.Verdicts.{plain_verdict};
-ghost use Rattle.cats_cmd.specs.Comparisons.{ReadsCanonical, RunsOnFiles};
+ghost use Rattle.cats_cmd.specs.Comparisons.{Compares, ReadsCanonical};
+ghost use Rattle.cats_cmd.specs.Internal.Differences.{SendsDifference};
 ghost use Rattle.cats_cmd.specs.Outcomes.{Tells, compare_outcome};
 ghost use Rattle.cats_cmd.specs.Statuses.{status_of_difference};
 
@@ -44,8 +45,8 @@ pub fn run_compare<R: Read, S: Read, W: Write>(
     requires second_works { has_failed second.old ≡ false }
     requires second_fresh { has_ended second.old ≡ false }
     requires out_works { has_failed out.old ≡ false }
-    ensures { RunsOnFiles R.remaining S.remaining W.contents limit compare_outcome first.old first.new second.old
-        second.new out.old out.new result }
+    ensures { Compares R.remaining S.remaining W.contents limit first.old first.new second.old second.new out.old
+        out.new result }
 {
     let left = match read_canonical(alloc, first, limit) {
         Ok(file) => file,
@@ -55,10 +56,7 @@ pub fn run_compare<R: Read, S: Read, W: Write>(
         Ok(file) => file,
         Err(fault) => return Err(RunFault::Refused(Which::Second, fault)),
     };
-    match told(alloc, &left, &right) {
-        Ok((status, text)) => send_text(out, status, text.as_slice()),
-        Err(AllocError) => Err(RunFault::Refused(Which::Both, CanonFault::Memory)),
-    }
+    send_difference(alloc, &left, &right, out)
 }
 
 /// Reads a bid file, and gives it up for its canonical file.
@@ -93,8 +91,28 @@ fn read_last_canonical<R: Read>(
     last_normal_file_unless(alloc, file, limit, known)
 }
 
-/// The status and the text of a comparison with another file, or with the same one where there is no other.
-fn told(
+/// Sends what a file and another are found to be, or it and the same one if there is no other. Memory that is refused
+/// here belongs to both files.
+fn send_difference<W: Write>(
+    alloc: Global,
+    left: &CompactFile,
+    right: &Option<CompactFile>,
+    out: &mut Watched<W>,
+) -> Result<u8, RunFault>
+    requires file { IsPlainFile left.now }
+    requires left { IsCanonicalFile left.now }
+    requires right { IsCanonicalFile (unwrap_or right.now left.now) }
+    requires works { has_failed out.old ≡ false }
+    ensures { SendsDifference W.contents left.now (unwrap_or right.now left.now) out.old out.new result }
+{
+    match difference_text(alloc, left, right) {
+        Ok((status, text)) => send_text(out, status, text.as_slice()),
+        Err(AllocError) => Err(RunFault::Refused(Which::Both, CanonFault::Memory)),
+    }
+}
+
+/// The status and the text of a comparison with another file, or with the same one if there is no other.
+fn difference_text(
     alloc: Global,
     left: &CompactFile,
     right: &Option<CompactFile>,

@@ -2,20 +2,19 @@
 
 mod text;
 
-ghost use Rattle.std.specs.Prelude.{◌≡◌, ◌≢◌, ◌++◌, codes, decimal, map, IfOk, IfErr, OnErr, false};
+ghost use Rattle.std.specs.Prelude.{◌≡◌, map, IfOk, false};
 ghost use Rattle.cats_text.specs.Streams.{has_failed};
-ghost use Rattle.cats_cmd.specs.DuplicateTexts.{found_paths};
-ghost use Rattle.cats_cmd.specs.Duplicates.{FindsSome, Judges, RunsOnPaths};
-ghost use Rattle.cats_cmd.specs.Stops.{line_of_stop, status_of_stop};
+ghost use Rattle.cats_cmd.specs.Duplicates.{RunsOnPaths, progress_line, refusal_line};
+ghost use Rattle.cats_cmd.specs.Internal.Judging.{FindsAs, JudgesAs, JudgesPathAs};
 
-use crate::program::{Stop, open, status_of, stop_line};
+use crate::program::{Stop, open, report, status_of, stop_line};
 use crate::report::{DONE, RunFault};
 use crate::run::send_text;
+use crate::source::Source;
 use canon::{AuctionIndex, Which};
-use cats_text::{Watched, send};
-use std::alloc::{AllocError, Global};
+use cats_text::Watched;
+use std::alloc::{AllocError, AllocGlobal, Global};
 use std::io::Write;
-use std::rt::Files;
 use text::duplicates_text;
 
 /// What was found among the files at some paths.
@@ -30,11 +29,11 @@ struct Findings<'a> {
 /// Reads the files at these paths, one after the other, and sends the paths of those that are the same auction. `limit`
 /// bounds the steps of each search that decides on a bundle of an OR bidder.
 ///
-/// A file that cannot be judged is told on `err` at once, and the others go on; with `progress`, each file is told
-/// there once it was read. The status is 0 where every file was judged, and else the greatest of the statuses of those
-/// that were not.
-pub fn run_duplicates<F: Files + AllocGlobal, W: Write, E: Write>(
-    rt: &F,
+/// A file that cannot be judged is reported on `err` at once, and the others go on; with `progress`, each file is
+/// reported there once it was read. The status is 0 if every file was judged, and else the greatest of the statuses of
+/// those that were not.
+pub fn run_duplicates<S: Source + AllocGlobal, W: Write, E: Write>(
+    source: &S,
     paths: &[&str],
     limit: u64,
     progress: bool,
@@ -42,94 +41,97 @@ pub fn run_duplicates<F: Files + AllocGlobal, W: Write, E: Write>(
     err: &mut Watched<E>,
 ) -> Result<u8, RunFault>
     requires { has_failed out.old ≡ false }
-    ensures { RunsOnPaths W.contents limit (map (λ path. path.now) paths.now) out.old out.new result }
+    ensures { RunsOnPaths (S.may_open source.now) (S.may_refuse source.now) S.Stream.remaining W.contents E.contents limit
+        (map (λ path. path.now) paths.now) progress out.old out.new err.old err.new result }
 {
-    let alloc = rt.alloc();
-    let findings = find_places(rt, paths, limit, progress, err)?;
+    let alloc = source.alloc();
+    let findings = find_places(source, paths, limit, progress, err)?;
     let text = duplicates_text(alloc, findings.found.as_slice())?;
     send_text(out, findings.greatest, text.as_slice())
 }
 
-fn find_places<'a, F: Files + AllocGlobal, E: Write>(
-    rt: &F,
+fn find_places<'a, S: Source + AllocGlobal, E: Write>(
+    source: &S,
     paths: &[&'a str],
     limit: u64,
     progress: bool,
     err: &mut Watched<E>,
 ) -> Result<Findings<'a>, AllocError>
-    ensures { IfOk result (λ f. FindsSome limit (map (λ path. path.now) paths.now) (found_paths f.found.items)
-        f.greatest) }
+    ensures { FindsAs (S.may_open source.now) (S.may_refuse source.now) S.Stream.remaining limit E.contents
+        (map (λ path. path.now) paths.now) progress err.old err.new result }
 {
-    let alloc = rt.alloc();
+    let alloc = source.alloc();
     let mut index = AuctionIndex::new(alloc);
     let mut found = Vec::new(alloc);
     let mut greatest = DONE;
     for (number, path) in paths.iter().enumerate() {
-        match judge(rt, &mut index, path, limit) {
+        match judge_path(source, &mut index, path, limit, err) {
             Ok(place) => found.push((*path, place))?,
-            Err(stop) => greatest = greatest.max(tell_refusal(alloc, path, stop, err)),
+            Err(status) => greatest = greatest.max(status),
         }
         if progress {
-            tell(err, progress_line(alloc, number + 1, paths.len(), path));
+            report(err, &path_progress(alloc, number + 1, paths.len(), path));
         }
     }
     Ok(Findings { found, greatest })
 }
 
+/// Reads the file at a path and adds it to the others. If it cannot be judged, that is reported, and its status is
+/// answered.
+fn judge_path<S: Source + AllocGlobal, E: Write>(
+    source: &S,
+    index: &mut AuctionIndex,
+    path: &str,
+    limit: u64,
+    err: &mut Watched<E>,
+) -> Result<usize, u8>
+    ensures { JudgesPathAs (S.may_open source.now) (S.may_refuse source.now) S.Stream.remaining limit E.contents index.old
+        index.new path.now err.old err.new result }
+{
+    match judge(source, index, path, limit) {
+        Ok(place) => Ok(place),
+        Err(stop) => {
+            report(err, &path_refusal(source.alloc(), path, &stop));
+            Err(status_of(&stop))
+        }
+    }
+}
+
 /// Reads the file at a path and adds it to the others.
-fn judge<F: Files + AllocGlobal>(
-    rt: &F,
+fn judge<S: Source + AllocGlobal>(
+    source: &S,
     index: &mut AuctionIndex,
     path: &str,
     limit: u64,
 ) -> Result<usize, Stop>
-    ensures judged { IfOk result (λ place. Judges limit index.old index.new place) }
-    ensures status { IfErr result (λ stop. status_of_stop stop ≢ 0) }
-    ensures unchanged { OnErr result (index.new ≡ index.old) }
+    ensures { JudgesAs (S.may_open source.now) (S.may_refuse source.now) S.Stream.remaining limit index.old index.new
+        path.now result }
 {
-    let mut input = open(rt, path, Which::Only)?;
-    match index.add_from(rt.alloc(), &mut input, limit) {
+    let mut input = open(source, path, Which::Only)?;
+    match index.add_from(source.alloc(), &mut input, limit) {
         Ok(place) => Ok(place),
         Err(fault) => Err(Stop::Run(RunFault::from(fault))),
     }
 }
 
-/// Tells why the file at a path was not judged, and answers the status of that.
-fn tell_refusal<E: Write>(alloc: Global, path: &str, stop: Stop, err: &mut Watched<E>) -> u8
-    ensures { result ≡ status_of_stop stop }
-{
-    tell(err, refusal_line(alloc, path, &stop));
-    status_of(&stop)
-}
-
-/// Sends a line, where it could be made and nothing that was sent before it failed.
-fn tell<E: Write>(err: &mut Watched<E>, line: Result<Vec<u8>, AllocError>) {
-    if err.failed() {
-        return;
-    }
-    if let Ok(line) = line {
-        let _ = send(err, line.as_slice());
-    }
-}
-
-fn refusal_line(alloc: Global, path: &str, stop: &Stop) -> Result<Vec<u8>, AllocError>
-    ensures { IfOk result (λ line. line.items ≡ path.now ++ codes ": " ++ line_of_stop stop.now) }
+/// The line that says why the file at a path was not judged.
+fn path_refusal(alloc: Global, path: &str, stop: &Stop) -> Result<Vec<u8>, AllocError>
+    ensures { IfOk result (λ line. line.items ≡ refusal_line path.now stop.now) }
 {
     let mut line = Vec::from_slice(alloc, path.as_bytes())?;
     line.extend_from_slice(b": ")?;
-    let told = stop_line(alloc, stop)?;
-    line.extend_from_slice(told.as_slice())?;
+    line.extend_from_slice(stop_line(alloc, stop)?.as_slice())?;
     Ok(line)
 }
 
-fn progress_line(
+/// The line that says how many files were read.
+fn path_progress(
     alloc: Global,
     number: usize,
     count: usize,
     path: &str,
 ) -> Result<Vec<u8>, AllocError>
-    ensures { IfOk result (λ line. line.items ≡ decimal number ++ codes " of " ++ decimal count ++ codes " " ++ path.now
-        ++ codes "\n") }
+    ensures { IfOk result (λ line. line.items ≡ progress_line number count path.now) }
 {
     let line = format!(in alloc; "{number} of {count} {path}\n")?;
     Ok(line.into_bytes())

@@ -9,6 +9,7 @@ mod program;
 mod report;
 mod run;
 mod show;
+mod source;
 mod value;
 pub mod worked;
 
@@ -17,7 +18,8 @@ pub use check::run_check;
 pub use compare::run_compare;
 pub use duplicates::run_duplicates;
 pub use normalise::run_normalise;
-pub use program::run_cats;
+pub use program::{run_cats, run_program};
 pub use report::{NO_MEMORY, RunFault, WRONG_USAGE, fault_line, status};
 pub use show::run_show;
+pub use source::{Source, SystemFiles, Unopened};
 pub use value::run_value;

@@ -1,13 +1,12 @@
 //! The program `cats`, but for its process: a command line, two output streams and an exit status.
 
-ghost use Rattle.std.specs.Prelude.{◌≡◌, ◌≢◌, ◌≤◌, IfErr, IfOk, false};
-ghost use Rattle.cats_text.specs.Streams.{has_ended, has_failed};
-ghost use Rattle.cats_cmd.specs.Internal.Requests.{CarriesOut};
+ghost use Rattle.std.specs.Prelude.{◌≡◌, ◌≢◌, ◌≤◌, ℕ, List, IfErr, IfOk, false};
+ghost use Rattle.cats_text.specs.Streams.{has_failed};
+ghost use Rattle.cats_cmd.specs.Inputs.{IsOpened};
+ghost use Rattle.cats_cmd.specs.Requests.{AnswersLine, AnswersNoRequest, AnswersRequest, CarriesOut};
 ghost use Rattle.cats_cmd.specs.Stops.{
-  IsAnswer,
-  IsAnswerToNoRequest,
   IsSilent,
-  SendsBeginning,
+  Reports,
   is_for_many_files,
   line_of_stop,
   names_duplicates,
@@ -20,12 +19,12 @@ use crate::duplicates::run_duplicates;
 use crate::normalise::run_normalise;
 use crate::report::{DEVICE_FAILED, DONE, NO_MEMORY, RunFault, WRONG_USAGE, fault_line, status};
 use crate::show::run_show;
+use crate::source::{Source, SystemFiles, Unopened};
 use crate::value::run_value;
 use canon::Which;
 use cats_text::{Watched, send};
 use command_line::{NoRequest, Request, parse};
-use std::alloc::{AllocError, Global};
-use std::fs;
+use std::alloc::{AllocError, AllocGlobal, Global};
 use std::io::Write;
 use std::rt::Files;
 
@@ -47,11 +46,7 @@ impl From<RunFault> for Stop {
     }
 }
 
-/// Does what a command line asks for and answers its exit status. The line's first word is the program's name; `out`
-/// and `err` stand for the standard streams.
-///
-/// A fault's line goes to `err`. Where that line cannot be made or written, the status stays what it is.
-#[tactic(auto, using(crate::proofs::Stopping::few_files))]
+/// Does what a command line says, on the files of the system, and answers the exit status. It is `run_program` on them.
 pub fn run_cats<F: Files + AllocGlobal, W: Write, E: Write>(
     rt: &F,
     words: &[&str],
@@ -60,56 +55,82 @@ pub fn run_cats<F: Files + AllocGlobal, W: Write, E: Write>(
 ) -> u8
     requires out_works { has_failed out.old ≡ false }
     requires err_works { has_failed err.old ≡ false }
+    ensures answers { AnswersLine (λ path stream. Unit {0}) (λ path. Unit {0}) F.File.remaining W.contents E.contents
+        words.now out.old out.new err.old err.new result }
     ensures silent { names_duplicates words.now ≡ false → result ≢ 0 → result ≢ 1 → result ≢ 5 → out.new ≡ out.old }
     ensures done { names_duplicates words.now ≡ false → result ≤ 1 → err.new ≡ err.old }
 {
-    match parse(rt.alloc(), words) {
-        Ok(request) => answer_request(rt, &request, out, err),
-        Err(no_request) => answer_no_request(&no_request, out, err),
-    }
+    run_program(&SystemFiles::new(rt), words, out, err)
 }
 
-fn answer_request<F: Files + AllocGlobal, W: Write, E: Write>(
-    rt: &F,
-    request: &Request<'_>,
+/// Does what a command line says, on the files of a source, and answers the exit status. The line's first word is the
+/// program's name; `out` and `err` are the standard streams.
+///
+/// A fault's line is sent to `err`. If memory for it is refused, `want of memory` is sent in its place; the status is
+/// that of the fault in any case.
+#[tactic(auto, using(crate::proofs::Stopping::few_files))]
+pub fn run_program<S: Source + AllocGlobal, W: Write, E: Write>(
+    source: &S,
+    words: &[&str],
     out: &mut Watched<W>,
     err: &mut Watched<E>,
 ) -> u8
     requires out_works { has_failed out.old ≡ false }
     requires err_works { has_failed err.old ≡ false }
-    ensures silent { is_for_many_files request.now ≡ false → result ≢ 0 → result ≢ 1 → result ≢ 5 → out.new ≡ out.old }
-    ensures done { is_for_many_files request.now ≡ false → result ≤ 1 → err.new ≡ err.old }
+    ensures answers { AnswersLine (S.may_open source.now) (S.may_refuse source.now) S.Stream.remaining W.contents
+        E.contents words.now out.old out.new err.old err.new result }
+    ensures silent { names_duplicates words.now ≡ false → result ≢ 0 → result ≢ 1 → result ≢ 5 → out.new ≡ out.old }
+    ensures done { names_duplicates words.now ≡ false → result ≤ 1 → err.new ≡ err.old }
 {
-    match carry_out(rt, request, out, err) {
-        Ok(status) => status,
-        Err(stop) if err.failed() => status_of(&stop),
-        Err(stop) => tell(rt.alloc(), &stop, err),
+    match parse(source.alloc(), words) {
+        Ok(request) => answer_request(source, &request, out, err),
+        Err(no_request) => answer_no_request(&no_request, out, err),
     }
 }
 
-/// `err` is for requests that tell faults and go on.
-fn carry_out<F: Files + AllocGlobal, W: Write, E: Write>(
-    rt: &F,
+fn answer_request<S: Source + AllocGlobal, W: Write, E: Write>(
+    source: &S,
+    request: &Request<'_>,
+    out: &mut Watched<W>,
+    err: &mut Watched<E>,
+) -> u8
+    requires out_works { has_failed out.old ≡ false }
+    ensures answers { AnswersRequest (S.may_open source.now) (S.may_refuse source.now) S.Stream.remaining W.contents
+        E.contents request.now out.old out.new err.old err.new result }
+    ensures silent { is_for_many_files request.now ≡ false → result ≢ 0 → result ≢ 1 → result ≢ 5 → out.new ≡ out.old }
+    ensures done { is_for_many_files request.now ≡ false → result ≤ 1 → err.new ≡ err.old }
+{
+    match carry_out(source, request, out, err) {
+        Ok(status) => status,
+        Err(stop) => report_stop(source.alloc(), &stop, err),
+    }
+}
+
+/// `err` is for requests that report faults and go on.
+fn carry_out<S: Source + AllocGlobal, W: Write, E: Write>(
+    source: &S,
     request: &Request<'_>,
     out: &mut Watched<W>,
     err: &mut Watched<E>,
 ) -> Result<u8, Stop>
     requires { has_failed out.old ≡ false }
-    ensures runs { CarriesOut F.File.remaining W.contents request.now out.old out.new result }
-    ensures done { IfOk result (λ status. IsAnswer request.now status) }
-    ensures stopped { IfErr result (λ stop. IsSilent stop out.old out.new) }
-    ensures quiet { is_for_many_files request.now ≡ false → err.new ≡ err.old }
+    ensures { CarriesOut (S.may_open source.now) (S.may_refuse source.now) S.Stream.remaining W.contents E.contents
+        request.now out.old out.new err.old err.new result }
 {
-    let alloc = rt.alloc();
+    let alloc = source.alloc();
     match request {
-        Request::Check { file } => Ok(run_check(alloc, &mut open(rt, file, Which::Only)?, out)?),
-        Request::Show { file } => Ok(run_show(alloc, &mut open(rt, file, Which::Only)?, out)?),
+        Request::Check { file } => Ok(run_check(
+            alloc,
+            &mut open(source, file, Which::Only)?,
+            out,
+        )?),
+        Request::Show { file } => Ok(run_show(alloc, &mut open(source, file, Which::Only)?, out)?),
         Request::Value { file, goods, limit } => {
-            let mut input = open(rt, file, Which::Only)?;
+            let mut input = open(source, file, Which::Only)?;
             Ok(run_value(alloc, &mut input, goods.as_slice(), *limit, out)?)
         }
         Request::Normalise { file, limit } => {
-            let mut input = open(rt, file, Which::Only)?;
+            let mut input = open(source, file, Which::Only)?;
             Ok(run_normalise(alloc, &mut input, *limit, out)?)
         }
         Request::Compare {
@@ -117,30 +138,33 @@ fn carry_out<F: Files + AllocGlobal, W: Write, E: Write>(
             second,
             limit,
         } => {
-            let mut left = open(rt, first, Which::First)?;
-            let mut right = open(rt, second, Which::Second)?;
+            let mut left = open(source, first, Which::First)?;
+            let mut right = open(source, second, Which::Second)?;
             Ok(run_compare(alloc, &mut left, &mut right, *limit, out)?)
         }
         Request::Duplicates {
             files,
             limit,
             progress,
-        } => Ok(run_duplicates(rt, files.as_slice(), *limit, *progress, out, err)?),
+        } => Ok(run_duplicates(source, files.as_slice(), *limit, *progress, out, err)?),
     }
 }
 
-pub(crate) fn open<F: Files>(rt: &F, path: &str, which: Which) -> Result<Watched<F::File>, Stop>
-    ensures works { IfOk result (λ file. has_failed file ≡ false) }
-    ensures fresh { IfOk result (λ file. has_ended file ≡ false) }
-    ensures refused { IfErr result (λ stop. stop ≡ Stop.CannotOpen which) }
+pub(crate) fn open<S: Source>(
+    source: &S,
+    path: &str,
+    which: Which,
+) -> Result<Watched<S::Stream>, Stop>
+    ensures opened { IfOk result (IsOpened (S.may_open source.now) path.now) }
+    ensures refused { IfErr result (λ stop. (stop ≡ Stop.CannotOpen which) × S.may_refuse source.now path.now) }
 {
-    match fs::open(rt, path) {
-        Ok(file) => Ok(Watched::new(file)),
-        Err(_) => Err(Stop::CannotOpen(which)),
+    match source.open(path) {
+        Ok(stream) => Ok(Watched::new(stream)),
+        Err(Unopened) => Err(Stop::CannotOpen(which)),
     }
 }
 
-/// Help goes to `out`, and what is wrong with a command line to `err`.
+/// Sends help to `out`, and what is wrong with a command line to `err`.
 fn answer_no_request<W: Write, E: Write>(
     no_request: &NoRequest,
     out: &mut Watched<W>,
@@ -148,9 +172,7 @@ fn answer_no_request<W: Write, E: Write>(
 ) -> u8
     requires out_works { has_failed out.old ≡ false }
     requires err_works { has_failed err.old ≡ false }
-    ensures status { IsAnswerToNoRequest no_request.now result }
-    ensures silent { result ≢ 0 → result ≢ 5 → out.new ≡ out.old }
-    ensures done { result ≤ 1 → err.new ≡ err.old }
+    ensures { AnswersNoRequest W.contents E.contents no_request.now out.old out.new err.old err.new result }
 {
     match no_request {
         NoRequest::Help(text) => match send(out, text.as_bytes()) {
@@ -168,26 +190,38 @@ fn answer_no_request<W: Write, E: Write>(
     }
 }
 
-fn tell<E: Write>(alloc: Global, stop: &Stop, err: &mut Watched<E>) -> u8
-    requires { has_failed err.old ≡ false }
+/// Reports why a request has no answer, and answers the exit status for it.
+fn report_stop<E: Write>(alloc: Global, stop: &Stop, err: &mut Watched<E>) -> u8
     ensures status { result ≡ status_of_stop stop.now }
-    ensures line { SendsBeginning E.contents err.old err.new (line_of_stop stop.now) }
+    ensures line { Reports E.contents (line_of_stop stop.now) err.old err.new }
 {
     match stop {
-        Stop::CannotOpen(which) => {
-            let _ = send(err, unopened(*which).as_bytes());
-            DEVICE_FAILED
-        }
-        Stop::Run(why) => {
-            if let Ok(line) = fault_line(alloc, why) {
-                let _ = send(err, line.as_slice());
-            }
-            status(why)
-        }
+        Stop::CannotOpen(which) => report_text(err, unopened(*which).as_bytes()),
+        Stop::Run(why) => report(err, &fault_line(alloc, why)),
+    }
+    status_of(stop)
+}
+
+/// Sends a line, unless the stream has failed. If memory for the line was refused, the stream gets that in its place.
+pub(crate) fn report<E: Write>(err: &mut Watched<E>, line: &Result<Vec<u8>, AllocError>)
+    ensures { (text : List ℕ) → IfOk line.now (λ made. made.items ≡ text) → Reports E.contents text err.old err.new }
+{
+    match line {
+        Ok(line) => report_text(err, line.as_slice()),
+        Err(AllocError) => report_text(err, b"want of memory\n"),
     }
 }
 
-/// The exit status that tells why a request has no answer.
+/// Sends a text, unless the stream has failed.
+fn report_text<E: Write>(err: &mut Watched<E>, text: &[u8])
+    ensures { Reports E.contents text.now err.old err.new }
+{
+    if !err.failed() {
+        let _ = send(err, text);
+    }
+}
+
+/// The exit status that says why a request has no answer.
 pub(crate) fn status_of(stop: &Stop) -> u8
     ensures { result ≡ status_of_stop stop.now }
 {
@@ -197,7 +231,7 @@ pub(crate) fn status_of(stop: &Stop) -> u8
     }
 }
 
-/// The line that tells it, with its LF.
+/// The line that says it, with its LF.
 pub(crate) fn stop_line(alloc: Global, stop: &Stop) -> Result<Vec<u8>, AllocError>
     ensures { IfOk result (λ line. line.items ≡ line_of_stop stop.now) }
 {

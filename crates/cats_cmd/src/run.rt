@@ -4,7 +4,9 @@ ghost use Rattle.std.specs.Prelude.{◌≡◌, false};
 ghost use Rattle.cats_text.specs.Layout.{layout};
 ghost use Rattle.cats_text.specs.Streams.{has_ended, has_failed};
 ghost use Rattle.canon.specs.Answers.{plain_answer};
-ghost use Rattle.cats_cmd.specs.Runs.{ReadsInput, SendsAs, SendsFileAs};
+ghost use Rattle.canon.specs.declared.which.Which.TheVariants.{Only};
+ghost use Rattle.cats_cmd.specs.Inputs.{ReadsInput};
+ghost use Rattle.cats_cmd.specs.Runs.{SendsAs, SendsMadeAs};
 
 use crate::report::{DONE, RunFault};
 use bid_file::{BidFile, CompactFile};
@@ -65,7 +67,7 @@ pub(crate) fn send_compact_file<W: Write>(
     file: &CompactFile,
 ) -> Result<u8, RunFault>
     requires { has_failed out.old ≡ false }
-    ensures { SendsFileAs W.contents (layout file.now) out.old out.new result }
+    ensures { SendsMadeAs W.contents Only 0 (layout file.now) out.old out.new result }
 {
     match send_file(alloc, out, file)? {
         Ok(()) => Ok(DONE),

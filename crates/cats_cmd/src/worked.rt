@@ -19,7 +19,7 @@ ghost use Rattle.cats_cmd.specs.Outputs.{bundle_text, sizes_text};
 ghost use Rattle.cats_cmd.specs.ValueTexts.{bundle_from};
 ghost use Rattle.cats_cmd.specs.FaultLines.{line_of_fault};
 ghost use Rattle.cats_text.specs.Examples.{known, watched};
-ghost use Rattle.cats_cmd.specs.Runs.{SendsFileAs};
+ghost use Rattle.cats_cmd.specs.Runs.{SendsMadeAs};
 ghost use Rattle.cats_cmd.specs.Statuses.{status_of_difference, status_of_fault};
 ghost use Rattle.canon.specs.declared.which.Which.TheVariants.{Only, First, Second, Both};
 ghost use Rattle.canon.specs.declared.fault.CanonFault.TheVariants.{Read, StepLimit, Memory};
@@ -106,13 +106,13 @@ pub fn differences()
 /// What becomes of a file's text: all of it went out, or so many of its first bytes, or, where memory for a page was
 /// refused, nothing was written.
 pub fn files_sent()
-    ensures whole { SendsFileAs known (codes "ab") (watched [] false false) (watched (codes "ab") false false) (Ok 0) }
-    ensures part { SendsFileAs known (codes "ab") (watched [] false false) (watched (codes "a") true false)
+    ensures whole { SendsMadeAs known Only 0 (codes "ab") (watched [] false false) (watched (codes "ab") false false) (Ok 0) }
+    ensures part { SendsMadeAs known Only 0 (codes "ab") (watched [] false false) (watched (codes "a") true false)
         (Err (Sent (record { written = 1 }))) }
-    ensures no_memory { SendsFileAs known (codes "ab") (watched [] false false) (watched [] false false)
+    ensures no_memory { SendsMadeAs known Only 0 (codes "ab") (watched [] false false) (watched [] false false)
         (Err (Refused Only Memory)) }
-    ensures other_status { SendsFileAs known (codes "ab") (watched [] false false) (watched (codes "ab") false false)
+    ensures other_status { SendsMadeAs known Only 0 (codes "ab") (watched [] false false) (watched (codes "ab") false false)
         (Ok 1) → ⊥ }
-    ensures some_written { SendsFileAs known (codes "ab") (watched [] false false) (watched (codes "a") false false)
+    ensures some_written { SendsMadeAs known Only 0 (codes "ab") (watched [] false false) (watched (codes "a") false false)
         (Err (Refused Only Memory)) → ⊥ }
 {}

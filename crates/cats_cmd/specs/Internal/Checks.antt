@@ -5,7 +5,7 @@ use Rattle.cats_text.specs.Streams.{inner_of, ReadsSizes}
 use Rattle.cats_text.specs.declared.parser.Header.{Header}
 use Rattle.cats_text.specs.declared.stream.Watched.{Watched}
 use Rattle.canon.specs.declared.fault.CanonFault.{CanonFault}
-use Rattle.cats_cmd.specs.Runs.{IsRefusedByReading}
+use Rattle.cats_cmd.specs.Inputs.{IsRefusedByReading}
 
 module _ {R : Type 0} (remaining : R → Option (List ℕ)) where
   abbrev pub ChecksOrRefuses : List ℕ → Watched R → Result Header CanonFault → Type 0

@@ -1,9 +1,8 @@
-use Rattle.std.proofs.Common.{rules}
-use Rattle.cats_cmd.proofs.FindingPlaces.{refused_status_above}
+use Rattle.cats_cmd.proofs.Judging.{file_judged, file_refused}
 use Rattle.cats_cmd.proofs.duplicates.judge.Goals as goal
 
-pub returns-clause-status : goal.returns-clause-status
-returns-clause-status g c = rw c.from.ensures (refused_status_above c.in-Err.fault)
+pub returns-in-Ok : goal.returns-in-Ok
+returns-in-Ok g c = file_judged _ _ _ _ _ _ _ _ _ c.in_ok-input.ensures.opened _ c.in-Ok.ensures
 
-pub returns-in-Ok-clause-judged : goal.returns-in-Ok-clause-judged
-returns-in-Ok-clause-judged g c = search rules
+pub returns : goal.returns
+returns g c = rw c.from.ensures (file_refused _ _ _ _ _ _ _ _ _ c.in_ok-input.ensures.opened _ c.in-Err.ensures)

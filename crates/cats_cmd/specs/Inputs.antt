@@ -1,0 +1,61 @@
+-- What a run does with its inputs: which stream was opened at a path, what reading it gave, and why its file was refused.
+use Rattle.std.specs.Prelude.{◌≡◌, ◌≢◌, ◌⊎◌, ℕ, true, false, List, Option, None, Result, Ok, Err}
+use Rattle.std.specs.Io.KnownBytes.{Consumes}
+use Rattle.bid_file.specs.Files.{PlainFile}
+use Rattle.cats_text.specs.Streams.{inner_of, has_failed, has_ended, ReadsFile, FaultsAt}
+use Rattle.cats_text.specs.declared.fault.Kind.TheVariants.{Memory as NoMemory}
+use Rattle.cats_text.specs.declared.stream.Watched.{Watched}
+use Rattle.valuation.specs.Auctions.{or_atoms_of}
+use Rattle.prune.specs.SearchSteps.{first_heavy}
+use Rattle.canon.specs.declared.fault.CanonFault.{CanonFault}
+use Rattle.canon.specs.declared.fault.CanonFault.TheVariants.{Read, StepLimit, Memory}
+use Rattle.cats_cmd.specs.Outcomes.{Outcome, ExceedsSteps, normalise_outcome}
+
+-- a stream that was opened at this path and that no call has failed or ended yet
+pub record IsOpened {R : Type 0} (may_open : List ℕ → R → Type 0) (path : List ℕ) (stream : Watched R) : Type 0 where
+  pub opened : may_open path (inner_of stream)
+  pub works : has_failed stream ≡ false
+  pub fresh : has_ended stream ≡ false
+
+module _ {R : Type 0} (remaining : R → Option (List ℕ)) where
+  -- Reading the bytes refused the file. Memory that a reader was refused is reported as the run's own.
+  abbrev pub IsRefusedByReading : List ℕ → Watched R → CanonFault → Type 0
+  IsRefusedByReading bytes input (Read fault) = (fault.kind ≢ NoMemory)
+      × FaultsAt remaining bytes input fault.line fault.kind
+  IsRefusedByReading bytes input (StepLimit goods) = ⊥
+  IsRefusedByReading bytes input Memory = FaultsAt remaining bytes input 0 NoMemory
+
+  abbrev pub ReadsOrRefuses : List ℕ → Watched R → Result PlainFile CanonFault → Type 0
+  ReadsOrRefuses bytes input (Ok file) = ReadsFile remaining bytes input file
+  ReadsOrRefuses bytes input (Err fault) = IsRefusedByReading bytes input fault
+
+  -- the contract of reading a file, from its input before to that after
+  pub record ReadsInput (old new : Watched R) (answer : Result PlainFile CanonFault) : Type 0 where
+    pub bytes : List ℕ
+    pub consumes : Consumes (remaining (inner_of old)) (remaining (inner_of new)) bytes
+    pub reads : ReadsOrRefuses bytes new answer
+
+  -- the bytes that were read spell some file
+  pub record ReadsSomeFile (old new : Watched R) : Type 0 where
+    pub file : PlainFile
+    pub reads : ReadsInput old new (Ok file)
+
+  -- the bytes that were read spell a file without a heavy bundle
+  pub record ReadsLightFile (limit : ℕ) (old new : Watched R) (file : PlainFile) : Type 0 where
+    pub reads : ReadsInput old new (Ok file)
+    pub light : first_heavy file.goods limit (or_atoms_of file.bids) ≡ None
+
+-- A file that is read, where `outcome` says what is made of it.
+module _ {R : Type 0} (remaining : R → Option (List ℕ)) (outcome : PlainFile → Outcome) where
+  -- a file was read, of which this is made
+  pub record HasOutcome (old new : Watched R) (expected : Outcome) : Type 0 where
+    pub file : PlainFile
+    pub reads : ReadsInput remaining old new (Ok file)
+    pub made : outcome file ≡ expected
+
+  -- Reading or making refused the file. Memory is refused in reading, when a bid line has begun, or in what is made of
+  -- a file that was read.
+  abbrev pub IsRefusedFile : Watched R → Watched R → CanonFault → Type 0
+  IsRefusedFile old new (Read fault) = ReadsInput remaining old new (Err (Read fault))
+  IsRefusedFile old new (StepLimit goods) = HasOutcome old new (ExceedsSteps goods.items)
+  IsRefusedFile old new Memory = ReadsInput remaining old new (Err Memory) ⊎ ReadsSomeFile remaining old new

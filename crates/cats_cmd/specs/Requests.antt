@@ -1,0 +1,128 @@
+-- What the program does for a command line: the run of its request, on the files at its paths, what is sent where, and
+-- with which status.
+use Rattle.std.specs.Prelude.{◌≡◌, ◌⊎◌, ℕ, List, map, Option, Result, Ok, Err, IfOk, string_bytes}
+use Rattle.std.specs.Borrow.{Bor}
+use Rattle.bid_file.specs.Files.{PlainFile}
+use Rattle.cats_text.specs.Streams.{SendsWhole, SendsPart}
+use Rattle.cats_text.specs.declared.stream.Watched.{Watched}
+use Rattle.canon.specs.declared.which.Which.{Which}
+use Rattle.canon.specs.declared.which.Which.TheVariants.{Only, First, Second, Both}
+use Rattle.cats_cmd.specs.Comparisons.{Compares}
+use Rattle.cats_cmd.specs.Duplicates.{RunsOnPaths}
+use Rattle.cats_cmd.specs.Inputs.{IsOpened}
+use Rattle.cats_cmd.specs.Outcomes.{Outcome, check_outcome, show_outcome, value_outcome, normalise_outcome}
+use Rattle.cats_cmd.specs.Runs.{RunsOnFile}
+use Rattle.cats_cmd.specs.Stops.{Reports, SendsText, line_of_stop, status_of_stop}
+use Rattle.command_line.specs.Requests.{IsNamedIn}
+use Rattle.command_line.specs.declared.request.NoRequest.{NoRequest}
+use Rattle.command_line.specs.declared.request.NoRequest.TheVariants.{Help, WrongUsage, NoMemory}
+use Rattle.command_line.specs.declared.request.Request.{Request}
+use Rattle.command_line.specs.declared.request.Request.TheVariants.{Check, Show, Value, Normalise, Compare, Duplicates}
+use Rattle.cats_cmd.specs.declared.program.Stop.{Stop}
+use Rattle.cats_cmd.specs.declared.program.Stop.TheVariants.{CannotOpen, Run}
+use Rattle.cats_cmd.specs.declared.report.RunFault.{RunFault}
+
+-- ---- a command line without a request
+
+module _ {W E : Type 0} (contents : W → Option (List ℕ)) (messages : E → Option (List ℕ)) where
+  -- the text was written, and the status says whether all of it was
+  pub record SendsHelp (text : List ℕ) (out out_after : Watched W) (status : ℕ) : Type 0 where
+    pub sends : (status ≡ 0) × SendsWhole contents out out_after text
+        ⊎ (status ≡ 5) × ((written : ℕ) × SendsPart contents out out_after text written)
+
+  -- help is for the output, and what is wrong for standard error
+  abbrev pub AnswersNoRequest : NoRequest → Watched W → Watched W → Watched E → Watched E → ℕ → Type 0
+  AnswersNoRequest (Help text) out out_after err err_after status =
+      SendsHelp (string_bytes text) out out_after status × (err_after ≡ err)
+  AnswersNoRequest (WrongUsage text) out out_after err err_after status =
+      (status ≡ 64) × (out_after ≡ out) × SendsText messages (string_bytes text) err err_after
+  AnswersNoRequest (NoMemory text) out out_after err err_after status =
+      (status ≡ 4) × (out_after ≡ out) × SendsText messages (string_bytes text) err err_after
+
+-- ---- a request, and any command line
+
+module _ {F W : Type 0} (may_open : List ℕ → F → Type 0) (remaining : F → Option (List ℕ))
+    (contents : W → Option (List ℕ)) where
+  -- a run on a stream that was opened at the path
+  pub record RunsAt (path : List ℕ) (outcome : PlainFile → Outcome) (out out_after : Watched W)
+      (answer : Result ℕ RunFault) : Type 0 where
+    pub before : Watched F
+    pub after : Watched F
+    pub opened : IsOpened may_open path before
+    pub runs : RunsOnFile remaining contents outcome before after out out_after answer
+
+  -- a comparison of the streams that were opened at the two paths
+  pub record ComparesAt (first second : List ℕ) (limit : ℕ) (out out_after : Watched W)
+      (answer : Result ℕ RunFault) : Type 0 where
+    pub left : Watched F
+    pub left_after : Watched F
+    pub right : Watched F
+    pub right_after : Watched F
+    pub left_opened : IsOpened may_open first left
+    pub right_opened : IsOpened may_open second right
+    pub runs : Compares remaining remaining contents limit left left_after right right_after out out_after answer
+
+module _ {F W E : Type 0} (may_open : List ℕ → F → Type 0) (may_refuse : List ℕ → Type 0)
+    (remaining : F → Option (List ℕ)) (contents : W → Option (List ℕ)) (messages : E → Option (List ℕ)) where
+  -- the run of each request, on its files and goods and under its limit
+  abbrev pub RunsFor : Request → Watched W → Watched W → Watched E → Watched E → Result ℕ RunFault → Type 0
+  RunsFor (Check file) out out_after err err_after answer =
+      RunsAt may_open remaining contents file.now check_outcome out out_after answer × (err_after ≡ err)
+  RunsFor (Show file) out out_after err err_after answer =
+      RunsAt may_open remaining contents file.now show_outcome out out_after answer × (err_after ≡ err)
+  RunsFor (Value file goods limit) out out_after err err_after answer =
+      RunsAt may_open remaining contents file.now (value_outcome goods.items limit) out out_after answer × (err_after ≡ err)
+  RunsFor (Normalise file limit) out out_after err err_after answer =
+      RunsAt may_open remaining contents file.now (normalise_outcome limit) out out_after answer × (err_after ≡ err)
+  RunsFor (Compare first second limit) out out_after err err_after answer =
+      ComparesAt may_open remaining contents first.now second.now limit out out_after answer × (err_after ≡ err)
+  RunsFor (Duplicates files limit progress) out out_after err err_after answer =
+      RunsOnPaths may_open may_refuse remaining contents messages limit (map (λ path. path.now) files.items) progress
+      out out_after err err_after answer
+
+  -- the file of a request that cannot be opened. Each file of `duplicates` is reported by itself
+  abbrev pub CannotOpenOf : Request → Which → Type 0
+  CannotOpenOf (Check file) which = (which ≡ Only) × may_refuse file.now
+  CannotOpenOf (Show file) which = (which ≡ Only) × may_refuse file.now
+  CannotOpenOf (Value file goods limit) which = (which ≡ Only) × may_refuse file.now
+  CannotOpenOf (Normalise file limit) which = (which ≡ Only) × may_refuse file.now
+  CannotOpenOf (Compare first second limit) which =
+      ((which ≡ First) × may_refuse first.now) ⊎ ((which ≡ Second) × may_refuse second.now)
+  CannotOpenOf (Duplicates files limit progress) which = ⊥
+
+  -- the request's run answers, or a file of it cannot be opened, and then nothing was read, written or reported
+  abbrev pub CarriesOut : Request → Watched W → Watched W → Watched E → Watched E → Result ℕ Stop → Type 0
+  CarriesOut request out out_after err err_after (Ok status) = RunsFor request out out_after err err_after (Ok status)
+  CarriesOut request out out_after err err_after (Err (Run fault)) =
+      RunsFor request out out_after err err_after (Err fault)
+  CarriesOut request out out_after err err_after (Err (CannotOpen which)) =
+      CannotOpenOf request which × (out_after ≡ out) × (err_after ≡ err)
+
+  -- the request stopped; its line was reported after what its run reported, and the status is its own
+  pub record StopsRequest (request : Request) (out out_after : Watched W) (err err_after : Watched E) (status : ℕ)
+      : Type 0 where
+    pub stop : Stop
+    pub between : Watched E
+    pub carries : CarriesOut request out out_after err between (Err stop)
+    pub reports : Reports messages (line_of_stop stop) between err_after
+    pub is_status : status ≡ status_of_stop stop
+
+  abbrev pub AnswersRequest : Request → Watched W → Watched W → Watched E → Watched E → ℕ → Type 0
+  AnswersRequest request out out_after err err_after status =
+      CarriesOut request out out_after err err_after (Ok status)
+      ⊎ StopsRequest request out out_after err err_after status
+
+  -- ---- any command line
+
+  abbrev pub AnswersParsed : Result Request NoRequest → Watched W → Watched W → Watched E → Watched E → ℕ → Type 0
+  AnswersParsed (Ok request) out out_after err err_after status =
+      AnswersRequest request out out_after err err_after status
+  AnswersParsed (Err no_request) out out_after err err_after status =
+      AnswersNoRequest contents messages no_request out out_after err err_after status
+
+  -- the contract of the program: the line is a request of the subcommand that it names, or none, and is answered so
+  pub record AnswersLine (words : List (Bor (List ℕ))) (out out_after : Watched W) (err err_after : Watched E)
+      (status : ℕ) : Type 0 where
+    pub parsed : Result Request NoRequest
+    pub named : IfOk parsed (IsNamedIn words)
+    pub answers : AnswersParsed parsed out out_after err err_after status
