@@ -8,5 +8,6 @@ mod duplicates;
 mod normalise;
 mod program;
 mod show;
+mod sources;
 mod streams;
 mod value;

@@ -1,0 +1,117 @@
+//! The program on files in memory, of which its contract says what it does for a command line.
+
+ghost use Rattle.std.specs.List.{Any};
+ghost use Rattle.std.specs.Prelude.{◌≡◌};
+
+use super::streams::{RunAnswer, expect, text_taken, writer};
+use cats_cmd::{Source, Unopened, run_program};
+use std::alloc::{Alloc, Global};
+use std::test::Fail;
+
+/// Files with their paths.
+struct FilesInMemory<'a> {
+    files: &'a [(&'a str, &'a [u8])],
+    alloc: Global,
+}
+
+impl<'a> Source for FilesInMemory<'a> {
+    type Stream = &'a [u8];
+
+    ghost may_open = { λ source path stream. Any (λ f. (f.0.now ≡ path) × (f.1.now ≡ stream.now)) source.files.now };
+
+    ghost may_refuse = { λ source path. Unit {0} };
+
+    fn open(&self, path: &str) -> Result<&'a [u8], Unopened> {
+        for (name, text) in self.files {
+            if *name == path {
+                return Ok(*text);
+            }
+        }
+        Err(Unopened)
+    }
+}
+
+impl Alloc for FilesInMemory<'_> {
+    type A = Global;
+
+    fn alloc(&self) -> Global {
+        self.alloc
+    }
+}
+
+static FILES: [(&str, &[u8]); 4] = [
+    ("one", b"goods 1\nbids 1\ndummy 0\n0 3 0 #\n"),
+    ("same", b"goods 1\nbids 2\ndummy 0\n0 3 0 #\n1 2 0 #\n"),
+    ("other", b"goods 1\nbids 1\ndummy 0\n0 4 0 #\n"),
+    ("bad", b"goods 1\n"),
+];
+
+/// A command line's words, and what it answers: its status, its output and its faults' lines.
+type Row<'a> = (&'a [&'a str], u8, &'a str, &'a str);
+
+static ROWS: [Row<'static>; 8] = [
+    (
+        &["cats", "check", "same"],
+        0,
+        "goods 1 bids 2 dummy 0\n",
+        "",
+    ),
+    (
+        &["cats", "normalise", "same"],
+        0,
+        "goods 1\nbids 1\ndummy 0\n0\t3\t0\t#\n",
+        "",
+    ),
+    (
+        &["cats", "compare", "one", "other"],
+        1,
+        "different\nor 0\nleft 3\nright 4\n",
+        "",
+    ),
+    (
+        &["cats", "compare", "other", "one"],
+        1,
+        "different\nor 0\nleft 4\nright 3\n",
+        "",
+    ),
+    (
+        &["cats", "compare", "one", "none"],
+        5,
+        "",
+        "second: cannot open\n",
+    ),
+    (&["cats", "show", "bad"], 2, "", "line 2: Missing\n"),
+    (
+        &["cats", "duplicates", "one", "bad", "other", "same"],
+        2,
+        "one\nsame\n",
+        "bad: line 2: Missing\n",
+    ),
+    (
+        &["cats", "duplicates", "--progress", "none", "one"],
+        5,
+        "",
+        "none: cannot open\n1 of 2 none\n2 of 2 one\n",
+    ),
+];
+
+#[test]
+fn files_in_memory(rt: HostRuntime) -> Result<(), Fail> {
+    let alloc = rt.alloc();
+    let source = FilesInMemory {
+        files: &FILES,
+        alloc,
+    };
+    for (words, status, sent, told) in &ROWS {
+        let mut out = writer(alloc, 4096, 4096);
+        let mut err = writer(alloc, 4096, 4096);
+        let status_answered = run_program(&source, words, &mut out, &mut err);
+        let answer = RunAnswer {
+            status: status_answered,
+            sent: text_taken(out)?,
+            line: text_taken(err)?,
+        };
+        expect(&rt, &answer, *status, sent, told);
+    }
+    Ok(())
+}
