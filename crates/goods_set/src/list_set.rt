@@ -3,12 +3,11 @@ mod few;
 mod goods;
 mod summary;
 
-ghost use Rattle.std.specs.Prelude.{◌≡◌, ℕ, ◌<◌, ◌≤◌, [], length, not, nat_lt, true, false, IsOk, IfOk, MatchResult};
+ghost use Rattle.std.specs.Prelude.{◌≡◌, ◌<◌, ◌≤◌, [], length, nat_lt, true, false, IsOk, IfOk, MatchResult};
 ghost use Rattle.std.specs.List.{insert};
 ghost use Rattle.std.specs.List.Sorted.{IsPartitionPoint};
-ghost use Rattle.goods_set.specs.Bundles.{IsBundle, IsInside, IsRising, AreBelow, has_good, is_inside, with_good, without};
+ghost use Rattle.goods_set.specs.Bundles.{IsBundle, IsInside, has_good, is_inside, with_good, without};
 ghost use Rattle.goods_set.specs.Lemmas.BundleFacts.{IsBundle-prop};
-ghost use Rattle.goods_set.specs.Fronts.{front_of};
 ghost use Rattle.goods_set.specs.Internal.Residues.{residues_of};
 
 use crate::inside::may_be_inside;

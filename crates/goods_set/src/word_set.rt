@@ -3,7 +3,7 @@ mod first_goods;
 mod lanes;
 mod scans;
 
-ghost use Rattle.std.specs.Prelude.{◌≡◌, ℕ, ◌*◌, ◌<◌, ◌≤◌, min, [], not, length, take, IsOk, IfOk, OnErr};
+ghost use Rattle.std.specs.Prelude.{◌≡◌, ◌*◌, ◌<◌, min, [], not, length, IsOk, IfOk, OnErr};
 ghost use Rattle.goods_set.specs.Bundles.{IsRising, AreBelow, has_good, with_good};
 ghost use Rattle.goods_set.specs.Words.{word_goods, word_cap};
 ghost use Rattle.goods_set.specs.Lemmas.Words.{word_goods_bundle, word_cap_fits};

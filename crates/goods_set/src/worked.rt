@@ -1,16 +1,6 @@
 //! Worked examples of the definitions, which the check computes.
-ghost use Rattle.std.specs.Prelude.{◌≡◌, ◌<◌, ℕ, List, [], ◌∷◌, Some, None, true, false};
-ghost use Rattle.goods_set.specs.Bundles.{
-  IsBundle,
-  IsInside,
-  AreApart,
-  has_good,
-  is_inside,
-  without,
-  with_good,
-  good_from,
-  all_bundles,
-};
+ghost use Rattle.std.specs.Prelude.{◌≡◌, ◌<◌, [], ◌∷◌, Some, None, false};
+ghost use Rattle.goods_set.specs.Bundles.{IsBundle, IsInside, AreApart, is_inside, without, with_good, good_from, all_bundles};
 ghost use Rattle.goods_set.specs.Orders.{bundle_cmp};
 ghost use Rattle.goods_set.specs.Fronts.{front_of};
 ghost use Rattle.goods_set.specs.Residues.{AreResidues, block_of};

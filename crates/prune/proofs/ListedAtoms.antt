@@ -314,10 +314,7 @@ AreListed-push lists listed atoms a h =
 
 -- ---- a good of each atom
 
-pub AreGoodsOf-nil : AreGoodsOf [] []
-AreGoodsOf-nil = record { long = refl; each = λ place l. absurd (omega (arith, l)) }
-
--- and of one more
+-- of one more atom
 pub AreGoodsOf-push : (goods : List ℕ) (atoms : List (Atom (List ℕ))) (good : ℕ) (a : Atom (List ℕ)) → has_good a.bundle good ≡ true → AreGoodsOf goods atoms
     → AreGoodsOf (goods ++ good ∷ []) (atoms ++ a ∷ [])
 AreGoodsOf-push goods atoms good a has h =

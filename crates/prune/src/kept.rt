@@ -1,45 +1,12 @@
 //! Where the atoms that a pruning keeps are listed, so that they are found by their goods.
-ghost use Rattle.std.specs.Prelude.{
-  ◌≡◌,
-  ℕ,
-  List,
-  ◌+◌,
-  ◌<◌,
-  ◌≤◌,
-  ◌&&◌,
-  true,
-  false,
-  map,
-  length,
-  All,
-  IfOk,
-  OnOk,
-  [],
-  ◌∷◌,
-  ◌++◌,
-};
+ghost use Rattle.std.specs.Prelude.{◌≡◌, ℕ, List, ◌+◌, ◌<◌, ◌≤◌, ◌&&◌, true, false, map, length, IfOk, OnOk, [], ◌∷◌, ◌++◌};
 ghost use Rattle.std.specs.Bool.{OnTrue};
 ghost use Rattle.std.specs.List.{filter, list_any, range_with_len};
-ghost use Rattle.goods_set.specs.Bundles.{has_good};
 ghost use Rattle.goods_set.specs.Residues.{AreResidues};
 ghost use Rattle.valuation.specs.Values.{atoms_of};
 ghost use Rattle.valuation.specs.declared.atom.Atom.{Atom};
 ghost use Rattle.prune.specs.InOrder.{IsInOrder};
-ghost use Rattle.prune.specs.Internal.Listings.{
-  atom_at,
-  lists_of,
-  places_at,
-  is_inside_at,
-  covers_at,
-  atoms_inside,
-  covers,
-  AreListed,
-  AreGoodsOf,
-  IsAsked,
-  IsListingOf,
-  IsBehind,
-  NoneInsideFrom,
-};
+ghost use Rattle.prune.specs.Internal.Listings.{atom_at, lists_of, places_at, is_inside_at, covers_at, atoms_inside, covers, AreListed, AreGoodsOf, IsAsked, IsBehind, NoneInsideFrom};
 
 use crate::commonness::Commonness;
 use crate::listing::{Listing, Sought, WIDE};

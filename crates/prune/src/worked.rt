@@ -1,5 +1,5 @@
 //! Worked examples of the definitions, which the check computes.
-ghost use Rattle.std.specs.Prelude.{◌≡◌, List, [], ◌∷◌, true, false, Some, None};
+ghost use Rattle.std.specs.Prelude.{◌≡◌, [], ◌∷◌, true, false, Some, None};
 ghost use Rattle.valuation.specs.Examples.{atom};
 ghost use Rattle.prune.specs.declared.listing.Listing.{Listing};
 ghost use Rattle.prune.specs.Internal.Listings.{IsListed, IsListing, AreListed, NoneInsideFrom};

@@ -1,5 +1,5 @@
 //! The auction of a bid file.
-ghost use Rattle.std.specs.Prelude.{◌≡◌, ◌≤◌, List, [], length, replicate, vec_len, IfOk};
+ghost use Rattle.std.specs.Prelude.{◌≡◌, ◌≤◌, [], length, replicate, vec_len, IfOk};
 ghost use Rattle.goods_set.specs.Bundles.{IsRising, AreBelow};
 ghost use Rattle.bid_file.specs.Views.{plain_file};
 ghost use Rattle.valuation.specs.Auctions.{auction_from};

@@ -1,5 +1,5 @@
 //! Worked examples of the definitions, which the check computes.
-ghost use Rattle.std.specs.Prelude.{◌≡◌, ℕ, List, [], ◌∷◌, true, false};
+ghost use Rattle.std.specs.Prelude.{◌≡◌, [], ◌∷◌, true, false};
 ghost use Rattle.std.specs.declared.cmp.Ordering.TheVariants.{Less, Equal, Greater};
 ghost use Rattle.valuation.specs.Examples.{atom};
 ghost use Rattle.valuation.specs.Values.{xor_value, or_value, chosen_places};

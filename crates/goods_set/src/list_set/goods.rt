@@ -1,5 +1,5 @@
 //! The goods of a set: a few of them in the value itself, more in a vector.
-ghost use Rattle.std.specs.Prelude.{◌≡◌, ◌≤◌, [], length, IsOk, IfOk, OnOk, OnErr};
+ghost use Rattle.std.specs.Prelude.{◌≡◌, ◌≤◌, [], length, IfOk, OnOk, OnErr};
 ghost use Rattle.std.specs.List.{insert};
 
 use crate::list_set::few::{FEW, FewGoods};
