@@ -4,7 +4,7 @@
 # A file that is refused is told on standard error, as `cats duplicates` tells it, and the others go on. Status 1: `cats` or `sha256sum`
 # could not be run or was ended by the system, or the output failed; the files from that one on have no line.
 for path; do
-    text=$(cats normalise "$path" 2>&1)
+    text=$(cats normalise -- "$path" 2>&1)
     case $? in
         0)
             # The shell took the line feed from the end of the text.
