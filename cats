@@ -3,4 +3,4 @@
 # failed. It may be called through a symbolic link.
 root=$(dirname "$(readlink -f -- "$0")") || exit 70
 "$root/build" || exit 70
-exec "$root/crates/cats/out/cats" "$@"
+exec "$root/out/cats" "$@"
