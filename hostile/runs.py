@@ -183,11 +183,15 @@ def prefixes(one):
     return [b"first: ", b"second: "] if len(one.files) == 2 else [b""]
 
 
-def is_want_of_memory(answer, rest):
-    """Whether a run told want of memory: in whole, or, where the rest is refused too, as far as memory was there."""
-    lines = [which + b"want of memory\n" for which in (b"", b"first: ", b"second: ")] + [b"error: out of memory\n"]
-    is_told = any(line.startswith(answer.err) if rest else line == answer.err for line in lines)
-    return answer.status == NO_MEMORY and answer.out == b"" and is_told
+def is_want_of_memory(one, answer):
+    """Whether a run printed want of memory, of one of its files or of neither, or of the command line."""
+    lines = [which + b"want of memory\n" for which in (b"", *prefixes(one))] + [b"error: out of memory\n"]
+    return answer.status == NO_MEMORY and answer.out == b"" and answer.err in lines
+
+
+def lacks_line(one, answer):
+    """Whether a run found the fault of its file, and had no memory for the line on it."""
+    return one.own.status == FILE_REFUSED and answer.told() == (FILE_REFUSED, b"", b"want of memory\n")
 
 
 def places(answers):
@@ -200,19 +204,24 @@ def places(answers):
 
 def memory(one, rest):
     """Each allocation is refused, alone or with all that come after it."""
-    wants, what = [], f"{one}: allocation{' and all later' if rest else ''}"
+    wants, lacking, what = [], 0, f"{one}: allocation{' and all later' if rest else ''}"
     for number in count(1):
         answer = run(one.words(), call="allocation", number=number, rest=rest)
         if not answer.failures:
             break
-        is_want = is_want_of_memory(answer, rest)
-        TALLY.judge(is_want or answer.told() == one.own.told(), f"{what} {number}", answer)
+        is_want, lacks = is_want_of_memory(one, answer), lacks_line(one, answer)
+        TALLY.judge(is_want or lacks or answer.told() == one.own.told(), f"{what} {number}", answer)
         wants += [answer] * is_want
+        lacking += lacks
     TALLY.judge(answer.told() == one.own.told(), f"{what}: none", answer)
-    TALLY.judge(wants, f"{what}: no want of memory was told", None)
-    if len(one.files) == 2 and not rest:
+    TALLY.judge(wants, f"{what}: no want of memory was printed", None)
+    if one.own.status == FILE_REFUSED:
+        TALLY.judge(lacking, f"{what}: the line on the fault never lacked memory", None)
+    elif len(one.files) == 2 and not rest:
         found = places(wants)
-        TALLY.judge(found == sorted(found), f"{what}: the files are told out of order", found)
+        TALLY.judge(found == sorted(found), f"{what}: the files are reported out of order", found)
+        # the text is made once both files are canonical, so memory that is refused for it is reported of neither
+        TALLY.judge(found[-1:] == [3], f"{what}: the last is reported of a file", found)
 
 
 def reads_of(one, piece):
@@ -388,6 +397,7 @@ def work(folder):
     calls = [call for one, piece in pieces.items() for call in side_by_side(one, piece)]
     for one, counts in refused.items():
         calls += [lambda it=one, counts=counts: reads(it, 1, counts), lambda it=one: writes(it, 1, rest=False)]
+        calls += [lambda it=one, rest=rest: memory(it, rest) for rest in (False, True)]
     with ThreadPoolExecutor(os.cpu_count()) as pool:
         list(pool.map(lambda call: call(), calls))
     for one, piece in pieces.items():
