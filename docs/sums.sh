@@ -1,8 +1,8 @@
 #!/bin/sh
 # Prints of each file that is named the SHA-256 of its canonical text and, after two spaces, its path:
 #     sh sums.sh [FILE]...
-# A file that is refused is told on standard error, as `cats duplicates` tells it, and the others go on. Status 1: `cats` or `sha256sum`
-# could not be run or was ended by the system, or the output failed; the files from that one on have no line.
+# If a file is refused, its path and its fault are printed on standard error, as by `cats duplicates`, and the others go on. Status 1:
+# `cats` or `sha256sum` could not be run or was ended by the system, or the output failed; the files from that one on have no line.
 for path; do
     text=$(cats normalise -- "$path" 2>&1)
     case $? in
