@@ -1,4 +1,4 @@
-"""Measures the program on texts of common kinds, and says where a bound is broken.
+"""Measures the program on texts of common kinds, and says which bounds are broken.
 
     bench.py PROGRAM GENERATE [WORD]
 
