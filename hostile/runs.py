@@ -203,7 +203,7 @@ def places(answers):
 
 
 def memory(one, rest):
-    """Each allocation is refused, alone or with all that come after it."""
+    """Each allocation is refused, alone or with all that come after it. Answers the want of memory that was printed."""
     wants, lacking, what = [], 0, f"{one}: allocation{' and all later' if rest else ''}"
     for number in count(1):
         answer = run(one.words(), call="allocation", number=number, rest=rest)
@@ -222,6 +222,17 @@ def memory(one, rest):
         TALLY.judge(found == sorted(found), f"{what}: the files are reported out of order", found)
         # the text is made once both files are canonical, so memory that is refused for it is reported of neither
         TALLY.judge(found[-1:] == [3], f"{what}: the last is reported of a file", found)
+    return wants
+
+
+def both_orders(one):
+    """Each allocation of a comparison, in either order of the files. A file needs about as much memory as the second that it needs as
+    the first. So what is refused while the files are compared is not reported of the second: it would have many more."""
+    turned = case(one.command, one.files[::-1], one.goods)
+    found, found_turned = places(memory(one, rest=False)), places(memory(turned, rest=False))
+    for it, this, other in ((one, found, found_turned), (turned, found_turned, found)):
+        more = this.count(2) - other.count(1)
+        TALLY.judge(2 * more < this.count(3), f"{it}: want of memory is reported of the second file {more} times too often", this)
 
 
 def reads_of(one, piece):
@@ -368,7 +379,7 @@ def large_cases(folder):
 
 def side_by_side(one, piece):
     """The runs on a case that may go on beside others."""
-    yield lambda: memory(one, rest=False)
+    yield lambda: both_orders(one) if len(one.files) == 2 else memory(one, rest=False)
     yield lambda: memory(one, rest=True)
     yield lambda: reads(one, PIECE)
     yield lambda: reads(one, piece)
