@@ -123,9 +123,11 @@ def sharing_a_good(count):
     return ((7, [0, *pair]) for pair in islice(combinations(range(1, GOODS), 2), count))
 
 
-def halves(count):
-    """Different bundles of 10 of 20 goods, at one price: none is inside another, and each shares goods with nearly all."""
-    return ((7, half) for half in shuffled(list(combinations(range(20), 10)))[:count])
+def near_halves(count):
+    """Different bundles of 9 to 11 of 20 goods, the larger ones dearer: no bid makes another needless, and each shares goods with nearly
+    all."""
+    halves = [half for size in (9, 10, 11) for half in combinations(range(20), size)]
+    return ((len(half), half) for half in shuffled(halves)[:count])
 
 
 def one_bidder(family, is_xor, count):
@@ -173,7 +175,7 @@ FAMILIES = {
     "nested": (nested, BY_GOODS),
     "pairwise apart": (apart, BY_BIDS),
     "sharing one good": (sharing_a_good, BY_BIDS),
-    "10 of 20 goods": (halves, BY_BIDS),
+    "9 to 11 of 20 goods": (near_halves, BY_BIDS),
 }
 
 INPUTS = [
@@ -220,7 +222,7 @@ def row(name, size, command, path, before):
     now = (os.path.getsize(path), took.seconds)
     words = " ".join(command[: command.index(FILE)])
     figures = f"{now[0]:14,} {took.seconds:9.3f} s {growth(before, now)} {took.held / MEBIBYTE:6.0f} MiB"
-    print(f"{name:24} {words:28} {size:6} {figures}  {took.told}", flush=True)
+    print(f"{name:30} {words:28} {size:6} {figures}  {took.told}", flush=True)
     return now
 
 
@@ -238,7 +240,7 @@ def rows(given, folder):
 
 def main():
     set_start_method("fork")
-    print(f"{'input':24} {'command':28} {'size':>6} {'bytes':>14} {'time':>11} {'grew':>5} {'held':>10}  told")
+    print(f"{"input":30} {'command':28} {'size':>6} {'bytes':>14} {'time':>11} {'grew':>5} {'held':>10}  told")
     with tempfile.TemporaryDirectory() as folder:
         for given in INPUTS:
             if WORD in given.name:
