@@ -240,7 +240,7 @@ def rows(given, folder):
 
 def main():
     set_start_method("fork")
-    print(f"{"input":30} {'command':28} {'size':>6} {'bytes':>14} {'time':>11} {'grew':>5} {'held':>10}  told")
+    print(f"{'input':30} {'command':28} {'size':>6} {'bytes':>14} {'time':>11} {'grew':>5} {'held':>10}  told")
     with tempfile.TemporaryDirectory() as folder:
         for given in INPUTS:
             if WORD in given.name:
