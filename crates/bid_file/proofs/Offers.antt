@@ -3,6 +3,7 @@ use Rattle.std.proofs.Common.{◌≡◌, ℕ, ◌+◌, ◌-◌, ◌≤◌, List,
 use Rattle.std.proofs.lemmas.List.{drop_all, take_all, take-append-le, take_more, drop-append-le, map-append, map-set}
 use Rattle.std.proofs.lemmas.Option.{get_or_from_slice_get, slice_get_within}
 use Rattle.std.specs.List.{slice_get}
+use Rattle.std.specs.Prelude.{OnErr, Result, Ok, Err}
 use Rattle.bid_file.specs.declared.compact.Offer.{Offer}
 use Rattle.bid_file.specs.Files.{PlainBid}
 use Rattle.bid_file.specs.Internal.Compact.{IsHeld, AreHeld}
@@ -43,6 +44,22 @@ offers_push goods more all offers next o held is start end put =
     ∙ map-append (offered (goods ++ more)) offers (o ∷ [])
     ∙ ap₂ (λ (bs : List PlainBid) (b : PlainBid). bs ++ b ∷ []) (all_offered_more goods more offers held)
     (offered_last goods more o start (end ∙ ap length is))
+
+-- goods that belong to no bid
+pub offers_kept : (goods more all : List ℕ) (offers next : List Offer) → AreHeld (length goods) offers → all ≡ goods ++ more → next ≡ offers
+    → map (offered all) next ≡ map (offered goods) offers
+offers_kept goods more all offers next held is same =
+    ap₂ (λ (gs : List ℕ) (os : List Offer). map (offered gs) os) is same ∙ all_offered_more goods more offers held
+
+-- each offer's goods stand in the longer list
+pub held_push : (n m : ℕ) (offers : List Offer) (o : Offer) → AreHeld n offers → n ≤ m → IsHeld m o → AreHeld m (offers ++ o ∷ [])
+held_push n m [] o held le new = (new, tt)
+held_push n m (p ∷ offers) o held le new =
+    (record { order = held.0.order; within = omega (arith, held.0.within, le) }, held_push n m offers o held.1 le new)
+
+pub on_err : {T E P : Type 0} (r : Result T E) → P → OnErr r P
+on_err (Ok x) p = tt
+on_err (Err e) p = p
 
 -- a bid in the place of another
 pub offers_set : (goods more all : List ℕ) (offers : List Offer) (place : ℕ) (o : Offer) → AreHeld (length goods) offers → all ≡ goods ++ more

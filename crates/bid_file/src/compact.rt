@@ -146,7 +146,8 @@ impl CompactBids {
         self.offers.len()
     }
 
-    /// Puts a bid behind the others. At the first one, room is made for so many bids.
+    /// Puts a bid behind the others. At the first one, room is made for so many bids. Where memory is refused, the bids
+    /// are those that were there.
     #[inline(always)]
     pub fn push(
         &mut self,
@@ -155,8 +156,9 @@ impl CompactBids {
         dummy: Option<u32>,
         count: u32,
     ) -> Result<(), AllocError>
-        ensures { let bid : PlainBid = record { price = price; goods = goods.now; dummy = dummy } in
+        ensures bids { let bid : PlainBid = record { price = price; goods = goods.now; dummy = dummy } in
             OnOk result (self.new ≡ self.old ++ bid ∷ []) }
+        ensures same { OnErr result (self.new ≡ self.old) }
     {
         make_room(&mut self.offers, count)?;
         let (start, end) = append(&mut self.goods, goods)?;

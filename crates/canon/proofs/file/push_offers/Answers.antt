@@ -12,7 +12,7 @@ loop-atom-preserved g c =
     one_more_bid goods c.args.dummy c.loop-atom.bids c.push.new.self c.in_ok-goods.goods.now c.args.atoms.now c.loop-atom.atom-index atom
     c.loop-atom-test.true c.atom-item.is
     c.in_ok-goods.ensures
-    c.in_ok-push.ensures
+    c.in_ok-push.ensures.bids
     ∙ c.loop-atom.invariant
 
 pub returns : goal.returns

@@ -14,7 +14,7 @@ pub loop-slot-preserved-in-Some-slot : goal.loop-slot-preserved-in-Some-slot
 loop-slot-preserved-in-Some-slot c =
     let sofar : List PlainBid = filled (map (λ b. Some b) (front_bids c.args.self.front) ++ plain_slots c.loop-slot.yielded) in
     let same : List ℕ → PlainBid = λ gs. record { price = c.in-Some-slot.bid.price; goods = gs; dummy = c.in-Some-slot.bid.dummy } in
-    c.in_ok-push.ensures
+    c.in_ok-push.ensures.bids
     ∙ ap (λ (gs : List ℕ). c.loop-slot.bids ++ same gs ∷ []) c.as_slice.ensures.value
     ∙ ap (λ (bs : List PlainBid). bs ++ plain_bid c.in-Some-slot.bid ∷ []) c.loop-slot.invariant
     ∙ ap (λ (s : Option Bid). sofar ++ option_to_list (plain_slot s)) (sym c.in-Some-slot.is)
