@@ -1,5 +1,5 @@
 -- The one layout that is written: header lines, then a line for each bid, by number.
-use Rattle.std.specs.Prelude.{ℕ, suc, ◌/◌, ◌%◌, ◌+◌, ◌*◌, ◌==◌, if◌then◌else◌, List, [], ◌∷◌, ◌++◌, length, drop, codes}
+use Rattle.std.specs.Prelude.{ℕ, suc, ◌/◌, ◌%◌, ◌+◌, ◌*◌, ◌==◌, if◌then◌else◌, List, [], ◌∷◌, ◌++◌, length, map, codes}
 use Rattle.std.specs.Prelude.{decimal}
 use Rattle.std.specs.List.{flat_map}
 use Rattle.cats_text.specs.Lines.{Word}
@@ -14,9 +14,13 @@ abbrev pub without_zeros : Word → Word
 without_zeros [] = []
 without_zeros (b ∷ bs) = with_place b (without_zeros bs)
 
--- six digits
+-- the digit of a number at the place that counts so much
+abbrev pub digit_at : ℕ → ℕ → ℕ
+digit_at n place = 48 + n / place % 10
+
+-- the last six digits of a number, with zeros before them where it has fewer
 abbrev pub six_digits : ℕ → Word
-six_digits n = drop 1 (decimal (1000000 + n))
+six_digits n = map (digit_at n) (100000 ∷ 10000 ∷ 1000 ∷ 100 ∷ 10 ∷ 1 ∷ [])
 
 abbrev pub behind_point : Word → Word
 behind_point [] = []

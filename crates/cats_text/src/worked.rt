@@ -23,7 +23,7 @@ ghost use Rattle.bid_file.specs.Files.{PlainBid, PlainFile};
 ghost use Rattle.cats_text.specs.Grammar.{Spells};
 ghost use Rattle.cats_text.specs.Faults.{first_fault, complete_fault, fault_at};
 ghost use Rattle.cats_text.specs.FileLines.{spelled_file};
-ghost use Rattle.cats_text.specs.Layout.{layout, line_room, price_text};
+ghost use Rattle.cats_text.specs.Layout.{layout, line_room, price_text, six_digits};
 ghost use Rattle.cats_text.specs.declared.limits.TheConstants.{MAX_STREAM};
 ghost use Rattle.cats_text.specs.declared.fault.Kind.TheVariants.{
   Header,
@@ -76,8 +76,12 @@ pub fn numbers_and_prices()
     ensures millionths { map price_of (codes "0.12345600" ∷ codes "02.25" ∷ codes "1000000000000.0000000"
         ∷ codes "0.000" ∷ []) ≡
         123456 ∷ 2250000 ∷ 1000000000000000000 ∷ 0 ∷ [] }
+    ensures six { map six_digits (1 ∷ 999999 ∷ 250000 ∷ 0 ∷ []) ≡
+        codes "000001" ∷ codes "999999" ∷ codes "250000" ∷ codes "000000" ∷ [] }
     ensures written { map price_text (123456 ∷ 2250000 ∷ 1500000 ∷ 1000000000000000000 ∷ 0 ∷ 3750001 ∷ []) ≡
         codes "0.123456" ∷ codes "2.25" ∷ codes "1.5" ∷ codes "1000000000000" ∷ codes "0" ∷ codes "3.750001" ∷ [] }
+    ensures places { map price_text (1 ∷ 999999 ∷ 4000010 ∷ []) ≡ codes "0.000001" ∷ codes "0.999999"
+        ∷ codes "4.00001" ∷ [] }
 {}
 
 /// Faults of header lines.

@@ -1,15 +1,14 @@
 -- The six digits behind the point: what they spell, and that taking away the zeros at their end loses nothing.
-use Rattle.std.proofs.Common.{◌≡◌, ℕ, zero, suc, ◌+◌, ◌-◌, ◌*◌, ◌^◌, ◌<◌, ◌≤◌, true, eqb, [], ◌∷◌, ◌++◌, length, take, drop, replicate, decimal, refl, sym, ap}
+use Rattle.std.proofs.Common.{◌≡◌, ℕ, zero, suc, ◌+◌, nat_le, List, map, ◌<◌, ◌≤◌, true, eqb, [], ◌∷◌, ◌++◌, length, take, drop, replicate, decimal, refl, sym, ap}
 use Rattle.std.proofs.Common.{subst, ◌∙◌, inl, inr, arith}
 use Rattle.std.specs.Fmt.{digits}
-use Rattle.std.proofs.lemmas.Bool.{and_parts, and_from, cases_lt, cases_eq, cond-false, cond_both, ne_eqb}
-use Rattle.std.proofs.lemmas.Str.Parse.{digits_value_short}
-use Rattle.std.proofs.lemmas.Fmt.{length-decimal-le, digits_decimal}
+use Rattle.std.proofs.lemmas.Bool.{le-leb, and_parts, and_from, cases_eq, cond-false, cond_both, ne_eqb}
+use Rattle.std.proofs.lemmas.Fmt.{decimal-digits_value}
 use Rattle.cats_text.specs.Lines.{Word}
 use Rattle.cats_text.specs.Numbers.{is_digit, digits_alone, number_of, six_places}
-use Rattle.cats_text.specs.Layout.{with_place, without_zeros, six_digits, behind_point, places_text}
+use Rattle.cats_text.specs.Layout.{with_place, without_zeros, digit_at, six_digits, behind_point, places_text}
 use Rattle.cats_text.proofs.Writing.Zeros.{drop_without_zeros}
-use Rattle.cats_text.proofs.Writing.Numerals.{numerals, decimal_spells, number_of-cons}
+use Rattle.cats_text.proofs.Writing.Numerals.{numerals, number_of-cons}
 
 -- six digits of this value
 pub record SpellsPlaces (w : Word) (n : ℕ) : Type 0 where
@@ -17,33 +16,31 @@ pub record SpellsPlaces (w : Word) (n : ℕ) : Type 0 where
   pub digits : digits_alone w ≡ true
   pub value : number_of w ≡ n
 
-value_behind : (d v n p : ℕ) → p ≡ 1000000 → (d - 48) * p + v ≡ 1000000 + n → v < p → n < 1000000 → v ≡ n
-value_behind d v n p million value small places =
-    let e : (d - 48) * 1000000 + v ≡ 1000000 + n = subst (λ (q : ℕ). (d - 48) * q + v ≡ 1000000 + n) million value in
-    omega arith
+is_digit_at : (n place : ℕ) → is_digit (digit_at n place) ≡ true
+is_digit_at n place =
+    and_from (nat_le 48 (digit_at n place)) (nat_le (digit_at n place) 57) (le-leb 48 (digit_at n place) (omega arith))
+    (le-leb (digit_at n place) 57 (omega arith))
 
-seven_digits : (w : Word) (n : ℕ) → digits_alone w ≡ true → number_of w ≡ 1000000 + n → n < 1000000 → length w ≤ 7 → SpellsPlaces (drop 1 w) n
-seven_digits [] n digits value places few = absurd (omega (arith, value))
-seven_digits (d ∷ ds) n digits value places few =
-    let behind : digits_alone ds ≡ true = (and_parts (is_digit d) (digits_alone ds) digits).1 in
-    elim (cases_lt (length ds) 6) as (λ _. SpellsPlaces ds n) [
-      | inl short ↦ absurd (omega (arith, value, digits_value_short numerals (d ∷ ds) 6 digits (omega arith)))
-      | inr long ↦
-          let six : length ds ≡ 6 = omega arith in
-          record {
-            long = six;
-            digits = behind;
-            value = value_behind d (number_of ds) n (10 ^ length ds) (ap (λ k. 10 ^ k) six) (sym (number_of-cons d ds)
-                ∙ value) (digits_value_short numerals ds (length ds) behind (omega arith)) places;
-          }
-    ]
+digits_at : (n : ℕ) (at : List ℕ) → digits_alone (map (digit_at n) at) ≡ true
+digits_at n [] = refl
+digits_at n (place ∷ at) = and_from (is_digit (digit_at n place)) (digits_alone (map (digit_at n) at)) (is_digit_at n place) (digits_at n at)
 
 -- millionths
 pub six_digits_spell : (n : ℕ) → n < 1000000 → SpellsPlaces (six_digits n) n
-six_digits_spell n places =
-    let spelled = decimal_spells (1000000 + n) (omega arith) in
-    seven_digits (decimal (1000000 + n)) n (digits_decimal numerals (1000000 + n) (omega arith)) spelled.value places
-    (length-decimal-le 7 (1000000 + n) (omega arith) (omega arith) (omega arith))
+six_digits_spell n places = record {
+  long = refl;
+  digits = digits_at n (100000 ∷ 10000 ∷ 1000 ∷ 100 ∷ 10 ∷ 1 ∷ []);
+  value = omega arith;
+}
+
+-- a leading 1 counts a million
+seven_digits : (n : ℕ) → n < 1000000 → decimal (1000000 + n) ≡ 49 ∷ six_digits n
+seven_digits n places =
+    let six = six_digits_spell n places in
+    let value : number_of (49 ∷ six_digits n) ≡ 1000000 + n = number_of-cons 49 (six_digits n) ∙ ap (λ m. 1000000 + m) six.value in
+    sym (ap decimal value)
+    ∙ decimal-digits_value numerals (49 ∷ six_digits n) (and_from true (digits_alone (six_digits n)) refl six.digits) (omega arith)
+    (λ e. absurd (omega (arith, e))) (omega (arith, value))
 
 -- ---- with zeros behind it again
 
@@ -110,4 +107,5 @@ places_text_some n some places =
 pub places_written : (shown n : ℕ) → 0 < n → n < 1000000 → decimal shown ≡ without_zeros (decimal (1000000 + n))
     → 46 ∷ drop 1 (decimal shown) ≡ places_text n
 places_written shown n some places e =
-    ap (λ ds. 46 ∷ drop 1 ds) e ∙ ap (λ ds. 46 ∷ ds) (drop_without_zeros (decimal (1000000 + n))) ∙ sym (places_text_some n some places)
+    ap (λ ds. 46 ∷ drop 1 ds) e ∙ ap (λ ds. 46 ∷ ds) (drop_without_zeros (decimal (1000000 + n)))
+    ∙ ap (λ ds. 46 ∷ without_zeros (drop 1 ds)) (seven_digits n places) ∙ sym (places_text_some n some places)
