@@ -2,7 +2,7 @@
 //! `read_digits` goes on behind the eight, and that loop is a third of the instructions where a number is short.
 
 ghost use Rattle.core.specs.Prelude.{◌≡◌, ℕ, ◌-◌, ◌*◌, ◌%◌, ◌^◌, ◌<◌, ◌≤◌, List, length, take, nat_le, IfSome};
-ghost use Rattle.core.specs.Dec2flt.Digits.{IsEightBytes, IsEightDigits};
+ghost use Rattle.core.specs.Dec2flt.Digits.{IsEightDigits};
 ghost use Rattle.core.specs.Float.Numeral.{digits_len};
 ghost use Rattle.core.specs.Int.Digits.{number_from_digits};
 ghost use Rattle.core.specs.Slice.Scan.{digits_from, flag_word, little_endian};

@@ -1,23 +1,6 @@
 //! From bytes to words and line ends.
 
-ghost use Rattle.std.specs.Prelude.{
-  ◌≡◌,
-  ◌+◌,
-  ◌-◌,
-  ◌<◌,
-  ◌≤◌,
-  ◌^◌,
-  ◌==◌,
-  true,
-  position,
-  unwrap_or,
-  length,
-  false,
-  OnOk,
-  IfOk,
-  ℕ,
-  List,
-};
+ghost use Rattle.std.specs.Prelude.{◌≡◌, ◌+◌, ◌-◌, ◌<◌, ◌≤◌, ◌^◌, ◌==◌, true, position, length, false, OnOk, IfOk, ℕ, List};
 ghost use Rattle.bid_file.specs.Files.{IsPlainFile};
 ghost use Rattle.cats_text.specs.Internal.Front.{IsFront};
 ghost use Rattle.cats_text.specs.Internal.Parsing.{file_from};

@@ -1,25 +1,8 @@
 //! Worked examples of the definitions, computed by the prover.
 
-ghost use Rattle.std.specs.Prelude.{
-  ◌≡◌,
-  ℕ,
-  ◌*◌,
-  ◌^◌,
-  ◌++◌,
-  List,
-  [],
-  ◌∷◌,
-  Some,
-  None,
-  map,
-  replicate,
-  true,
-  false,
-  codes,
-};
+ghost use Rattle.std.specs.Prelude.{◌≡◌, ◌^◌, ◌++◌, [], ◌∷◌, Some, None, map, true, false, codes};
 ghost use Rattle.cats_text.specs.Lines.{line_words, blank_returns, significant_lines};
 ghost use Rattle.cats_text.specs.Numbers.{number_of, is_number, is_price, is_too_large, is_too_fine, price_of};
-ghost use Rattle.bid_file.specs.Files.{PlainBid, PlainFile};
 ghost use Rattle.cats_text.specs.Grammar.{Spells};
 ghost use Rattle.cats_text.specs.Faults.{first_fault, complete_fault, fault_at};
 ghost use Rattle.cats_text.specs.FileLines.{spelled_file};

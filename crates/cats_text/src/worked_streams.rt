@@ -1,6 +1,6 @@
 //! Worked examples of what reading and sending answer, on streams that are lists of bytes.
 
-ghost use Rattle.std.specs.Prelude.{◌≡◌, ℕ, List, [], ◌∷◌, Ok, Err, true, false, codes};
+ghost use Rattle.std.specs.Prelude.{[], Ok, Err, true, false, codes};
 ghost use Rattle.cats_text.specs.Examples.{known, watched};
 ghost use Rattle.cats_text.specs.Faults.{fault_at};
 ghost use Rattle.cats_text.specs.FileLines.{spelled_file};

@@ -1,7 +1,7 @@
 //! Files whose text is known, written.
 
-ghost use Rattle.std.specs.Prelude.{◌≡◌, ◌≤◌, List, [], ◌∷◌, IfOk, None};
-ghost use Rattle.bid_file.specs.Files.{PlainBid, IsBidFile, plain_bid, plain_bids};
+ghost use Rattle.std.specs.Prelude.{◌≡◌, IfOk};
+ghost use Rattle.bid_file.specs.Files.{plain_bid};
 
 use crate::texts::assert_bytes;
 use bid_file::{Bid, BidFile};

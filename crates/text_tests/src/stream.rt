@@ -13,7 +13,8 @@ use std::io::{ErrorKind, Read, Write};
 use std::process::Abort;
 use std::test::Fail;
 
-/// Gives its text byte by byte, fails once with `kind` after `cut` bytes, and counts the calls.
+/// Gives its text byte by byte, and counts the calls. After `cut` bytes a read fails with `kind`, once: a read after that
+/// one would give the next byte.
 #[derive(Drop)]
 struct ByteReader<'a> {
     text: &'a [u8],
@@ -54,14 +55,15 @@ fn reader(text: &[u8], cut: Option<usize>, kind: ErrorKind) -> Watched<ByteReade
     })
 }
 
-/// What a writer does once it has no room.
+/// What a writer does when it has no room.
 #[derive(Clone, Copy, PartialEq, Eq, Drop)]
 enum Full {
     Fails(ErrorKind),
     TakesNothing,
 }
 
-/// Takes at most `step` bytes a call and `room` in all, and counts the calls. Its flush fails where it is to.
+/// Takes at most `step` bytes a call, and counts the calls. After `room` bytes in all a write fails, once: a write after
+/// that one would be taken. Its flush fails where it is to, once too.
 #[derive(Drop)]
 struct StepWriter {
     taken: Vec<u8>,
@@ -82,6 +84,7 @@ impl Write for StepWriter {
             self.taken.extend_from_slice(&piece[..count])?;
             return Ok(count);
         }
+        self.room = usize::MAX;
         match self.full {
             Full::Fails(kind) => Err(io::Error::from(kind)),
             Full::TakesNothing => Ok(0),
@@ -91,6 +94,7 @@ impl Write for StepWriter {
     fn flush(&mut self) -> io::Result<()> {
         self.flushes = self.flushes.saturating_add(1);
         if self.flush_fails {
+            self.flush_fails = false;
             return Err(io::Error::from(ErrorKind::BrokenPipe));
         }
         Ok(())
