@@ -2,7 +2,6 @@
 pub mod States
 pub mod NumbersTaken
 pub mod Headers
-pub mod EndedBids
 pub mod Bids
 pub mod GoodsSoFar
 pub mod Goods
