@@ -1,23 +1,31 @@
 -- What the calls answer, from what the calls below them answered: each kind of answer of one is, by the definitions, one of the other.
-use Rattle.std.proofs.Common.{◌≡◌, ℕ, List, None, Result, Ok, Err, sym, ap, ◌∙◌, subst, Global}
+use Rattle.std.proofs.Common.{◌≡◌, ℕ, ◌⊎◌, inl, inr, true, List, Option, Some, None, Result, Ok, Err, refl, sym, ap, ◌∙◌, subst, Global, IfSome}
+use Rattle.std.specs.Prelude.{IsErrAnd}
 use Rattle.std.specs.Prelude.{Vec, ◌↔◌, IfOk}
 use Rattle.bid_file.specs.Files.{PlainFile, IsPlainFile}
 use Rattle.cats_text.specs.Grammar.{Spells}
+use Rattle.cats_text.specs.Faults.{first_fault, is_text_kind}
+use Rattle.cats_text.specs.Reading.{WantsMemory}
+use Rattle.cats_text.specs.declared.fault.Kind.{Kind}
+use Rattle.cats_text.specs.declared.fault.Kind.TheVariants.{Memory as NoMemory}
+use Rattle.cats_text.specs.declared.fault.ReadFault.{ReadFault}
+use Rattle.cats_text.proofs.Texts.FaultKinds.{IsFound, first_fault-found}
 use Rattle.bid_file.specs.Views.{plain_file}
 use Rattle.bid_file.specs.declared.bid.BidFile.{BidFile}
 use Rattle.cats_text.proofs.Spelling.Files.{spells_one}
-use Rattle.valuation.specs.Auctions.{PlainAuction, auction_from}
-use Rattle.canon.specs.Answers.{RefusesAs, NormalisesAs, RefusesAuction, NormalisesAuctionAs, NormalisesFileAs, IsNormalFile, plain_answer}
+use Rattle.valuation.specs.Auctions.{PlainAuction, auction_from, or_atoms_of}
+use Rattle.canon.specs.Answers.{RefusesAs, RefusesText, NormalisesAs, NormalisesTextAs, RefusesAuction, NormalisesAuctionAs, NormalisesFileAs, IsNormalFile, plain_answer}
 use Rattle.canon.specs.Canonical.{IsCanonical, IsCanonicalFile, canonical_auction, canonical_text, file_from}
 use Rattle.canon.specs.Least.{IsLeastFor}
-use Rattle.canon.specs.Normalising.{Normalised, IsText, unless_heavy, normalised, normalised_file}
+use Rattle.canon.specs.Normalising.{IsNoFile, IsText, Normalises, unless_heavy, normalised_file}
+use Rattle.canon.specs.Refusals.{refusal_by_kind, refusal_of}
 use Rattle.canon.specs.Sameness.{AreSameFiles}
 use Rattle.canon.specs.declared.fault.CanonFault.{CanonFault}
 use Rattle.canon.specs.declared.fault.CanonFault.TheVariants.{Read, StepLimit, Memory}
 use Rattle.prune.specs.SearchSteps.{first_heavy}
 use Rattle.canon.proofs.Files.{auction_from-file_from}
 use Rattle.canon.proofs.Least.{canonical_is_least}
-use Rattle.canon.proofs.Texts.{normalised_spelled, text_from_normalised, normalised_from_text, normalised_again, same_text, same_from_text}
+use Rattle.canon.proofs.Texts.{text_from_normalised, normalised_from_text, normalised_again, same_text, same_from_text}
 use Rattle.canon.proofs.Texts.{canonical_file_is_same, canonical_file_is_fixed}
 
 -- ---- a search that takes too many steps
@@ -29,13 +37,41 @@ refused_file limit f Memory r = tt
 
 -- ---- the text
 
+-- a text that cannot be read
+pub unread_text : (limit : ℕ) (text : List ℕ) (why : ReadFault) → (first_fault text ≡ Some why) ⊎ WantsMemory text why
+    → RefusesText limit text (refusal_of why)
+unread_text limit text why h = by why.kind refl h
+  where
+    of_text : first_fault text ≡ Some why → is_text_kind why.kind ≡ true
+    of_text e = let found = subst (λ fault. IfSome fault (IsFound true)) e (first_fault-found text) in found.0.kind
+    by : (kind : Kind) → why.kind ≡ kind → (first_fault text ≡ Some why) ⊎ WantsMemory text why → RefusesText limit text (refusal_by_kind why kind)
+    by NoMemory e (inl first) = let none = subst (λ (k : Kind). is_text_kind k ≡ true) e (of_text first) in absurd (cc)
+    by NoMemory e (inr wants) = inl wants.1
+    by kind e (inl first) = first
+    by kind e (inr wants) = let none = sym e ∙ ap (λ (w : ReadFault). w.kind) wants.0 in absurd (cc)
+
+pub unread_answer : (limit : ℕ) (text : List ℕ) (why : ReadFault) → (first_fault text ≡ Some why) ⊎ WantsMemory text why
+    → (r : Result (Vec ℕ Global) CanonFault) → IsErrAnd r (λ fault. fault ≡ refusal_of why) → NormalisesTextAs limit text r
+unread_answer limit text why h (Ok out) is = absurd is
+unread_answer limit text why h (Err fault) is = subst (RefusesText limit text) (sym is) (unread_text limit text why h)
+
 -- a text that spells a file is answered as the file is
-pub answered_as_file : (limit : ℕ) (text : List ℕ) (f : PlainFile) → Spells text f → (r : Result (Vec ℕ Global) CanonFault)
-    → NormalisesAs (normalised_file limit f) r → NormalisesAs (normalised limit text) r
-answered_as_file limit text f s r h = subst (λ (n : Normalised). NormalisesAs n r) (sym (normalised_spelled limit text f s)) h
+module _ (limit : ℕ) (text : List ℕ) (f : PlainFile) (s : Spells text f) where
+  no_read_fault : (why : ReadFault) (o : Option (List ℕ)) → unless_heavy f o ≡ IsNoFile why → ⊥
+  no_read_fault why None e = absurd (cc)
+  no_read_fault why (Some goods) e = absurd (cc)
+
+  pub refused_text : (fault : CanonFault) → RefusesAs (normalised_file limit f) fault → RefusesText limit text fault
+  refused_text (Read why) r = absurd (no_read_fault why (first_heavy f.goods limit (or_atoms_of f.bids)) r)
+  refused_text (StepLimit goods) r = record { file = f; spelled = s; is = r }
+  refused_text Memory r = inr (record { file = f; spelled = s })
+
+  pub answered_as_file : (r : Result (Vec ℕ Global) CanonFault) → NormalisesAs (normalised_file limit f) r → NormalisesTextAs limit text r
+  answered_as_file (Ok out) h = record { file = f; spelled = s; is = h }
+  answered_as_file (Err fault) h = refused_text fault h
 
 -- equal texts come of files of the same auction, and of these alone
-pub same_exactly : (limit : ℕ) (text out : List ℕ) → normalised limit text ≡ IsText out → (f g : PlainFile) → Spells text f → IsPlainFile g
+pub same_exactly : (limit : ℕ) (text out : List ℕ) → Normalises limit text (IsText out) → (f g : PlainFile) → Spells text f → IsPlainFile g
     → (out ≡ canonical_text g ↔ AreSameFiles f g)
 same_exactly limit text out e f g s facts =
     let n = text_from_normalised limit text out e in
@@ -43,13 +79,13 @@ same_exactly limit text out e f g s facts =
     let is : out ≡ canonical_text f = n.is ∙ ap canonical_text d in
     (λ q. same_from_text f g s.facts facts (sym is ∙ q), λ q. is ∙ same_text f g s.facts facts q)
 
-pub same_if_text : (limit : ℕ) (text : List ℕ) (r : Result (Vec ℕ Global) CanonFault) → NormalisesAs (normalised limit text) r
+pub same_if_text : (limit : ℕ) (text : List ℕ) (r : Result (Vec ℕ Global) CanonFault) → NormalisesTextAs limit text r
     → IfOk r (λ out. (f g : PlainFile) → Spells text f → IsPlainFile g → (out.items ≡ canonical_text g ↔ AreSameFiles f g))
 same_if_text limit text (Ok out) h = same_exactly limit text out.items h
 same_if_text limit text (Err fault) h = tt
 
-pub again_if_text : (limit : ℕ) (text : List ℕ) (r : Result (Vec ℕ Global) CanonFault) → NormalisesAs (normalised limit text) r
-    → IfOk r (λ out. normalised limit out.items ≡ IsText out.items)
+pub again_if_text : (limit : ℕ) (text : List ℕ) (r : Result (Vec ℕ Global) CanonFault) → NormalisesTextAs limit text r
+    → IfOk r (λ out. Normalises limit out.items (IsText out.items))
 again_if_text limit text (Ok out) h =
     normalised_from_text limit out.items out.items (normalised_again limit text out.items (text_from_normalised limit text out.items h))
 again_if_text limit text (Err fault) h = tt
@@ -83,3 +119,8 @@ normal_file_is limit a c h is e light = record { canonical = is ∙ ap file_from
 pub canonical_file_is : (c : PlainAuction) (h : PlainFile) → h ≡ file_from c → IsCanonical c → IsCanonicalFile h
 canonical_file_is c h is fixed =
     subst IsCanonicalFile (sym is) (ap (λ (a : PlainAuction). file_from (canonical_auction a)) (auction_from-file_from c) ∙ ap file_from fixed)
+
+pub canonical_auction_is : (a : PlainAuction) → IsCanonicalFile (file_from a) → IsCanonical a
+canonical_auction_is a h =
+    ap canonical_auction (sym (auction_from-file_from a))
+    ∙ sym (auction_from-file_from (canonical_auction (auction_from (file_from a)))) ∙ ap auction_from h ∙ auction_from-file_from a

@@ -1,7 +1,7 @@
 -- What comparing answers: of two canonical files, by their OR bids and their XOR bids, and of two texts, by the files that they spell.
-use Rattle.std.proofs.Common.{◌≡◌, ℕ, zero, suc, ◌+◌, ◌≤◌, Bool, true, cond, List, [], ◌∷◌, ◌++◌, length, map, take, drop, Option, Some, None, is_none, Result}
+use Rattle.std.proofs.Common.{◌≡◌, ℕ, zero, suc, ◌+◌, ◌≤◌, ◌⊎◌, Bool, true, cond, List, [], ◌∷◌, ◌++◌, length, map, take, drop, Option, Some, None, is_none, Result}
 use Rattle.std.proofs.Common.{Ok, Err, refl, sym, ap, ap₂, ◌∙◌, subst, arith}
-use Rattle.std.specs.Prelude.{◌↔◌, IfOk, OnErr, MatchOption}
+use Rattle.std.specs.Prelude.{◌↔◌, IfOk, IfErr, OnErr, MatchOption, IsErrAnd}
 use Rattle.std.specs.List.{prefix_len}
 use Rattle.std.proofs.lemmas.Bool.{cond-true}
 use Rattle.std.proofs.lemmas.List.{length-map}
@@ -12,31 +12,35 @@ use Rattle.bid_file.specs.declared.bid.Bid.{Bid}
 use Rattle.bid_file.specs.declared.limits.TheConstants.{MAX_BIDS, MAX_GOODS}
 use Rattle.bid_file.specs.Files.{PlainBid, PlainFile, IsPlainFile, plain_bid, plain_bids}
 use Rattle.cats_text.specs.Grammar.{Spells}
-use Rattle.cats_text.proofs.Spelling.Files.{says_spelled, spells_one}
+use Rattle.cats_text.specs.Faults.{first_fault}
+use Rattle.cats_text.specs.Reading.{WantsMemory}
+use Rattle.cats_text.specs.declared.fault.ReadFault.{ReadFault}
+use Rattle.canon.specs.Refusals.{refusal_of}
+use Rattle.cats_text.proofs.Spelling.Files.{spells_one}
 use Rattle.valuation.specs.declared.atom.Atom.{Atom}
 use Rattle.valuation.specs.Lemmas.AuctionsOfFiles.{IsAuction-auction_from}
 use Rattle.valuation.specs.Auctions.{PlainAuction, IsAuction, auction_from}
-use Rattle.canon.specs.Answers.{RefusesAs, NormalisesPlainAs}
+use Rattle.canon.specs.Answers.{NormalisesPlainAs, RefusesText}
 use Rattle.canon.specs.Internal.BidderBids.{HasBidders}
-use Rattle.canon.specs.Canonical.{IsCanonical, IsCanonicalFile, bid_from, canonical_auction, canonical_text, dummy_bids, file_from}
-use Rattle.canon.specs.Comparing.{Compared, ComparedBy, IsNormalFileOf, ReadsNormalAs, RefusesOf, compared, unless_first_refused, unless_second_refused}
+use Rattle.canon.specs.Canonical.{IsCanonical, IsCanonicalFile, bid_from, canonical_auction, dummy_bids, file_from}
+use Rattle.canon.specs.Comparing.{ComparesAs, Differ, IsNormalFileOf, ReadsNormalAs, RefusesOf, SpellsLight}
 use Rattle.canon.specs.Difference.{Difference, NoDifference, InGoods, InOr, InXor, first_difference, first_unequal_bundle, least_unequal_bidder, or_difference, xor_difference}
-use Rattle.canon.specs.Normalising.{Normalised, IsNoFile, ExceedsSteps, IsText, normalised}
 use Rattle.canon.specs.Internal.OrBids.{HasOrBids}
 use Rattle.canon.specs.Sameness.{AreSameFiles, AreSameTexts, IsSameAuction}
 use Rattle.canon.specs.Verdicts.{NamesGoods, plain_verdict}
 use Rattle.canon.specs.declared.fault.CanonFault.{CanonFault}
-use Rattle.canon.specs.declared.fault.CanonFault.TheVariants.{Read, StepLimit, Memory}
+use Rattle.canon.specs.declared.fault.CanonFault.TheVariants.{Memory}
 use Rattle.canon.specs.declared.verdict.Verdict.{Verdict}
 use Rattle.canon.specs.declared.verdict.Verdict.TheVariants.{Same, Goods, Or, Xor}
-use Rattle.canon.specs.declared.which.Which.TheVariants.{Second, Both}
-use Rattle.canon.proofs.Answering.{refused_file}
+use Rattle.canon.specs.declared.which.Which.{Which}
+use Rattle.canon.specs.declared.which.Which.TheVariants.{First, Second, Both}
+use Rattle.canon.proofs.Answering.{refused_file, refused_text, unread_text}
 use Rattle.canon.proofs.Atoms.{HasAtoms}
 use Rattle.canon.proofs.Differences.{at_same_goods, same_from_no_difference, no_difference_from_same}
 use Rattle.canon.proofs.Files.{auction_from-file_from}
 use Rattle.canon.proofs.SameDifferences.{difference_of_same_files}
 use Rattle.canon.proofs.Sames.{same_canonical, same_refl, same_sym, same_trans}
-use Rattle.canon.proofs.Texts.{HasAtoms-file, IsPlainFile-canonical, canonical_file_is_same, canonical_file_is_fixed, normalised_from_text, normalised_spelled}
+use Rattle.canon.proofs.Texts.{HasAtoms-file, IsPlainFile-canonical, canonical_file_is_same, canonical_file_is_fixed}
 
 -- ---- the bids of a canonical file
 
@@ -130,12 +134,16 @@ same_exactly_by_difference a b h k v d = (
 pub normal_from_file : (limit : ℕ) (text : List ℕ) (f : PlainFile) → Spells text f → (r : Result PlainFile CanonFault) → NormalisesPlainAs limit f r
     → ReadsNormalAs limit text r
 normal_from_file limit text f s (Ok h) n = record { file = f; spelled = s; normal = n }
-normal_from_file limit text f s (Err fault) n =
-    subst (λ (e : Normalised). RefusesAs e fault) (sym (normalised_spelled limit text f s)) (refused_file limit f fault n)
+normal_from_file limit text f s (Err fault) n = refused_text limit text f s fault (refused_file limit f fault n)
+
+pub normal_unread : (limit : ℕ) (text : List ℕ) (why : ReadFault) → (first_fault text ≡ Some why) ⊎ WantsMemory text why
+    → (r : Result PlainFile CanonFault) → IsErrAnd r (λ fault. fault ≡ refusal_of why) → ReadsNormalAs limit text r
+normal_unread limit text why h (Ok file) is = absurd is
+normal_unread limit text why h (Err fault) is = subst (RefusesText limit text) (sym is) (unread_text limit text why h)
 
 module _ (limit : ℕ) (text : List ℕ) (h : PlainFile) (n : IsNormalFileOf limit text h) where
-  pub text_is : normalised limit text ≡ IsText (canonical_text n.file)
-  text_is = normalised_from_text limit text (canonical_text n.file) (record { file = n.file; spelled = n.spelled; light = n.normal.light; is = refl })
+  pub light_text : SpellsLight limit text
+  light_text = record { file = n.file; spelled = n.spelled; light = n.normal.light }
 
   pub canonical_of_text : IsCanonicalFile h
   canonical_of_text = subst (λ (g : PlainFile). IsCanonicalFile g) (sym n.normal.canonical) (canonical_file_is_fixed n.file n.spelled.facts)
@@ -149,15 +157,27 @@ module _ (limit : ℕ) (text : List ℕ) (h : PlainFile) (n : IsNormalFileOf lim
 -- ---- both texts have a canonical file
 
 module _ (limit : ℕ) (one other : List ℕ) (h k : PlainFile) (n : IsNormalFileOf limit one h) (m : IsNormalFileOf limit other k) where
-  pub compared_is : compared limit one other ≡ ComparedBy (first_difference (auction_from h) (auction_from k))
-  compared_is =
-      ap (unless_first_refused limit one other) (text_is limit one h n)
-      ∙ ap (unless_second_refused one other) (text_is limit other k m)
-      ∙ ap ComparedBy
-      (ap₂ (λ (f g : PlainFile). first_difference (auction_from f) (auction_from g)) (sym (says_spelled one n.file n.spelled))
-      (sym (says_spelled other m.file m.spelled))
-      ∙ difference_of_same_files n.file h m.file k n.spelled.facts (plain_of_text limit one h n) m.spelled.facts (plain_of_text limit other k m)
-      (same_of_text limit one h n) (same_of_text limit other k m))
+  same_difference : first_difference (auction_from n.file) (auction_from m.file) ≡ first_difference (auction_from h) (auction_from k)
+  same_difference =
+      difference_of_same_files n.file h m.file k n.spelled.facts (plain_of_text limit one h n) m.spelled.facts (plain_of_text limit other k m)
+      (same_of_text limit one h n) (same_of_text limit other k m)
+
+  differ_by : (difference : Difference) → difference ≡ first_difference (auction_from h) (auction_from k) → Differ limit one other difference
+  unfolding light_text
+  differ_by difference d = record { first = light_text limit one h n; second = light_text limit other k m; is = same_difference ∙ sym d }
+
+  both_refused : (refusal : Which × CanonFault) → (refusal.0 ≡ Both) × (refusal.1 ≡ Memory)
+      → NamesGoods (first_difference (auction_from h) (auction_from k)) → RefusesOf limit one other refusal.0 refusal.1
+  both_refused (which, fault) e named =
+      subst (λ (w : Which). RefusesOf limit one other w fault) (sym e.0)
+      (record { difference = first_difference (auction_from h) (auction_from k); differ = differ_by _ refl; named = named }, e.1)
+
+  pub compared_as : (r : Result Verdict (Which × CanonFault))
+      → IfOk r (λ verdict. plain_verdict verdict ≡ first_difference (auction_from h) (auction_from k))
+      → IfErr r (λ refusal. (refusal.0 ≡ Both) × (refusal.1 ≡ Memory))
+      → OnErr r (NamesGoods (first_difference (auction_from h) (auction_from k))) → ComparesAs limit one other r
+  compared_as (Ok verdict) d e named = differ_by (plain_verdict verdict) d
+  compared_as (Err refusal) d e named = both_refused refusal e named
 
   same_texts : AreSameFiles h k → AreSameTexts one other
   same_texts s = record {
@@ -178,31 +198,32 @@ module _ (limit : ℕ) (one other : List ℕ) (h k : PlainFile) (n : IsNormalFil
       same_trans (auction_from h) (auction_from n.file) (auction_from k) (same_sym (auction_from n.file) (auction_from h) (same_of_text limit one h n))
       (same_trans (auction_from n.file) (auction_from m.file) (auction_from k) files (same_of_text limit other k m))
 
-  pub same_by_texts : (v : Verdict) → (v ≡ Same ↔ AreSameFiles h k) → (v ≡ Same ↔ AreSameTexts one other)
-  same_by_texts v e = (λ p. same_texts (e.0 p), λ t. e.1 (same_files t))
-
-  pub both_refused : RefusesOf Both (compared limit one other) Memory
-  both_refused = subst (λ (c : Compared). RefusesOf Both c Memory) (sym compared_is) refl
+  pub same_by_texts : {E : Type 0} (r : Result Verdict E) → IfOk r (λ verdict. verdict ≡ Same ↔ AreSameFiles h k)
+      → IfOk r (λ verdict. verdict ≡ Same ↔ AreSameTexts one other)
+  same_by_texts r e = IfOk-weaker r (λ verdict. verdict ≡ Same ↔ AreSameFiles h k) (λ verdict. verdict ≡ Same ↔ AreSameTexts one other)
+      (λ v same. (λ p. same_texts (same.0 p), λ t. same.1 (same_files t))) e
 
 -- ---- one text has none
 
 module _ (limit : ℕ) (one other : List ℕ) where
-  second_in_place : (text : List ℕ) (fault : CanonFault) → RefusesAs (IsText text) fault
-      → RefusesOf Second (unless_second_refused one other (IsText text)) fault
-  second_in_place text (Read fault) r = absurd (cc)
-  second_in_place text (StepLimit goods) r = absurd (cc)
-  second_in_place text Memory r = refl
+  first_of : (refusal : Which × CanonFault) → (refusal.0 ≡ First) × RefusesText limit one refusal.1 → RefusesOf limit one other refusal.0 refusal.1
+  first_of (which, fault) e = subst (λ (w : Which). RefusesOf limit one other w fault) (sym e.0) e.1
 
-  second_by : (fault : CanonFault) (o : Normalised) → RefusesAs o fault → RefusesOf Second (unless_second_refused one other o) fault
-  second_by fault (IsText text) r = second_in_place text fault r
-  second_by fault (IsNoFile why) r = r
-  second_by fault (ExceedsSteps goods) r = r
+  second_of : SpellsLight limit one → (refusal : Which × CanonFault) → (refusal.0 ≡ Second) × RefusesText limit other refusal.1
+      → RefusesOf limit one other refusal.0 refusal.1
+  second_of light (which, fault) e = subst (λ (w : Which). RefusesOf limit one other w fault) (sym e.0) (light, e.1)
 
-  pub second_refused : (h : PlainFile) → IsNormalFileOf limit one h → (fault : CanonFault) → RefusesAs (normalised limit other) fault
-      → RefusesOf Second (compared limit one other) fault
-  second_refused h n fault r =
-      subst (λ (c : Compared). RefusesOf Second c fault) (sym (ap (unless_first_refused limit one other) (text_is limit one h n)))
-      (second_by fault (normalised limit other) r)
+  pub first_refused : (refusal : Which × CanonFault) → (refusal.0 ≡ First) × RefusesText limit one refusal.1
+      → (r : Result Verdict (Which × CanonFault)) → IsErrAnd r (λ told. told ≡ refusal) → ComparesAs limit one other r
+  first_refused refusal e (Ok verdict) is = absurd is
+  first_refused refusal e (Err told) is = subst (λ (t : Which × CanonFault). RefusesOf limit one other t.0 t.1) (sym is) (first_of refusal e)
+
+  pub second_refused : (h : PlainFile) → IsNormalFileOf limit one h → (refusal : Which × CanonFault)
+      → (refusal.0 ≡ Second) × RefusesText limit other refusal.1
+      → (r : Result Verdict (Which × CanonFault)) → IsErrAnd r (λ told. told ≡ refusal) → ComparesAs limit one other r
+  second_refused h n refusal e (Ok verdict) is = absurd is
+  second_refused h n refusal e (Err told) is =
+      subst (λ (t : Which × CanonFault). RefusesOf limit one other t.0 t.1) (sym is) (second_of (light_text limit one h n) refusal e)
 
 -- ---- the walk over two files
 

@@ -8,7 +8,7 @@ use Rattle.cats_text.specs.FileLines.{spelled_file}
 use Rattle.cats_text.specs.Layout.{layout}
 use Rattle.cats_text.specs.declared.fault.ReadFault.{ReadFault}
 use Rattle.cats_text.proofs.Writing.Spells as laid_out
-use Rattle.cats_text.proofs.Spelling.Files.{spells_from_no_fault, no_fault_from_spells, says_spelled, spells_one}
+use Rattle.cats_text.proofs.Spelling.Files.{spells_from_no_fault, no_fault_from_spells, spells_one}
 use Rattle.valuation.specs.Auctions.{PlainAuction, IsAuction, or_atoms_of, auction_from}
 use Rattle.valuation.specs.Lemmas.AuctionsOfFiles.{IsAuction-auction_from}
 use Rattle.prune.specs.Points.{or_points}
@@ -17,7 +17,7 @@ use Rattle.prune.specs.Lemmas.SearchSteps.{no_heavy_point}
 use Rattle.prune.specs.Lemmas.KeptBids.{on_bundles}
 use Rattle.canon.specs.Sameness.{IsSameAuction, AreSameFiles, AreSameTexts}
 use Rattle.canon.specs.Canonical.{canonical_auction, file_from, canonical_file, canonical_text}
-use Rattle.canon.specs.Normalising.{IsText, unless_heavy, normalised_file, unless_fault, normalised}
+use Rattle.canon.specs.Normalising.{Normalised, IsNoFile, ExceedsSteps, IsText, HasOutcome, IsNormalised, Normalises, SpellsCanonicalFile, unless_heavy, normalised_file}
 use Rattle.canon.proofs.Atoms.{HasAtoms}
 use Rattle.canon.proofs.Sames.{HasAtoms-auction, canonical_is_same, same_canonical, same_from_canonical, canonical_is_fixed}
 use Rattle.canon.proofs.Files.{auction_from-file_from, IsPlainFile-file_from}
@@ -78,26 +78,49 @@ text_of_file limit f out = by (first_heavy f.goods limit (or_atoms_of f.bids)) r
     by None e q = (e, cc)
     by (Some goods) e q = absurd (cc)
 
-pub text_from_normalised : (limit : ℕ) (text out : List ℕ) → normalised limit text ≡ IsText out → IsNormalText limit text out
-text_from_normalised limit text out = by (first_fault text) refl
+pub text_from_normalised : (limit : ℕ) (text out : List ℕ) → Normalises limit text (IsText out) → IsNormalText limit text out
+text_from_normalised limit text out n = let r = text_of_file limit n.file out n.is in record {
+  file = n.file;
+  spelled = n.spelled;
+  light = r.0;
+  is = r.1;
+}
+
+pub normalised_from_text : (limit : ℕ) (text out : List ℕ) → IsNormalText limit text out → Normalises limit text (IsText out)
+normalised_from_text limit text out n = record {
+  file = n.file;
+  spelled = n.spelled;
+  is = ap (unless_heavy n.file) n.light ∙ ap IsText (sym n.is);
+}
+
+-- each text has one outcome
+pub has_outcome : (limit : ℕ) (text : List ℕ) → IsNormalised limit text
+has_outcome limit text = by (first_fault text) refl
   where
-    by : (o : Option ReadFault) → first_fault text ≡ o → unless_fault limit text o ≡ IsText out → IsNormalText limit text out
-    by None e q = let r = text_of_file limit (spelled_file text) out q in record {
-      file = spelled_file text;
-      spelled = spells_from_no_fault text e;
-      light = r.0;
-      is = r.1;
-    }
-    by (Some fault) e q = absurd (cc)
+    of_file : (f : PlainFile) → Spells text f → (o : Option (List ℕ)) → first_heavy f.goods limit (or_atoms_of f.bids) ≡ o → IsNormalised limit text
+    of_file f s None e = record { outcome = IsText (canonical_text f); normalises = record { file = f; spelled = s; is = ap (unless_heavy f) e } }
+    of_file f s (Some goods) e = record { outcome = ExceedsSteps goods; normalises = record { file = f; spelled = s; is = ap (unless_heavy f) e } }
+    by : (o : Option ReadFault) → first_fault text ≡ o → IsNormalised limit text
+    by None e = of_file (spelled_file text) (spells_from_no_fault text e) (first_heavy (spelled_file text).goods limit (or_atoms_of (spelled_file text).bids)) refl
+    by (Some fault) e = record { outcome = IsNoFile fault; normalises = e }
 
--- the answer for a text that spells a file
-pub normalised_spelled : (limit : ℕ) (text : List ℕ) (f : PlainFile) → Spells text f → normalised limit text ≡ normalised_file limit f
-normalised_spelled limit text f s =
-    ap (unless_fault limit text) (no_fault_from_spells text f s) ∙ ap (normalised_file limit) (sym (says_spelled text f s))
+module _ (limit : ℕ) (text : List ℕ) where
+  no_outcome : (fault : ReadFault) (o : Normalised) → first_fault text ≡ Some fault → HasOutcome limit text o → ⊥
+  no_outcome fault o e n = let none = no_fault_from_spells text n.file n.spelled in absurd (cc)
 
-pub normalised_from_text : (limit : ℕ) (text out : List ℕ) → IsNormalText limit text out → normalised limit text ≡ IsText out
-normalised_from_text limit text out n =
-    normalised_spelled limit text n.file n.spelled ∙ ap (unless_heavy n.file) n.light ∙ ap IsText (sym n.is)
+  same_outcome : (one other : Normalised) → HasOutcome limit text one → HasOutcome limit text other → one ≡ other
+  same_outcome one other p q = sym p.is ∙ ap (normalised_file limit) (spells_one text p.file q.file p.spelled q.spelled) ∙ q.is
+
+  pub one_outcome : (one other : Normalised) → Normalises limit text one → Normalises limit text other → one ≡ other
+  one_outcome (IsNoFile a) (IsNoFile b) p q = cc
+  one_outcome (IsNoFile a) (ExceedsSteps goods) p q = absurd (no_outcome a (ExceedsSteps goods) p q)
+  one_outcome (IsNoFile a) (IsText out) p q = absurd (no_outcome a (IsText out) p q)
+  one_outcome (ExceedsSteps goods) (IsNoFile b) p q = absurd (no_outcome b (ExceedsSteps goods) q p)
+  one_outcome (ExceedsSteps goods) (ExceedsSteps other) p q = same_outcome (ExceedsSteps goods) (ExceedsSteps other) p q
+  one_outcome (ExceedsSteps goods) (IsText out) p q = same_outcome (ExceedsSteps goods) (IsText out) p q
+  one_outcome (IsText out) (IsNoFile b) p q = absurd (no_outcome b (IsText out) q p)
+  one_outcome (IsText out) (ExceedsSteps goods) p q = same_outcome (IsText out) (ExceedsSteps goods) p q
+  one_outcome (IsText out) (IsText other) p q = same_outcome (IsText out) (IsText other) p q
 
 -- what normalising gives, normalised again
 pub normalised_again : (limit : ℕ) (text out : List ℕ) → IsNormalText limit text out → IsNormalText limit out out
@@ -133,13 +156,12 @@ texts_equal m n one other s t p q same =
     subst (λ (x : PlainFile). AreSameFiles x q.file) f (subst (λ (x : PlainFile). AreSameFiles same.first x) g same.same) in
     p.is ∙ same_text p.file q.file p.spelled.facts q.spelled.facts files ∙ sym q.is
 
--- the text that normalising gives spells a file of the same auction
-pub same_as_its_text : (limit : ℕ) (text out : List ℕ) → IsNormalText limit text out → AreSameTexts text out
+-- the text that normalising gives spells the canonical file
+pub spells_canonical : (limit : ℕ) (text out : List ℕ) → IsNormalText limit text out → SpellsCanonicalFile text out
 unfolding normalised_again
-same_as_its_text limit text out n = record {
-  first = n.file;
-  second = canonical_file n.file;
-  first_spelled = n.spelled;
-  second_spelled = (normalised_again limit text out n).spelled;
+spells_canonical limit text out n = record {
+  file = n.file;
+  spelled = n.spelled;
+  canonical_spelled = (normalised_again limit text out n).spelled;
   same = canonical_file_is_same n.file n.spelled.facts;
 }

@@ -1,15 +1,17 @@
 -- What the calls answer, by what normalising a file or a text gives. Want of memory may come in the place of each
 -- answer.
-use Rattle.std.specs.Prelude.{◌≡◌, ℕ, Result, Ok, Err, Option, Some, None, Vec}
+use Rattle.std.specs.Prelude.{◌≡◌, ◌⊎◌, ℕ, true, List, Result, Ok, Err, Option, Some, None, Vec}
 use Rattle.std.specs.Option.{unwrap_or}
 use Rattle.std.specs.Global.{Global}
 use Rattle.bid_file.specs.Files.{PlainFile}
 use Rattle.bid_file.specs.Views.{plain_file}
 use Rattle.bid_file.specs.declared.bid.BidFile.{BidFile}
+use Rattle.cats_text.specs.Faults.{has_bid_line}
+use Rattle.cats_text.specs.Grammar.{Spells}
 use Rattle.valuation.specs.Auctions.{PlainAuction, auction_from}
 use Rattle.prune.specs.SearchSteps.{first_heavy}
 use Rattle.canon.specs.Canonical.{canonical_auction, file_from}
-use Rattle.canon.specs.Normalising.{Normalised, IsNoFile, ExceedsSteps, IsText}
+use Rattle.canon.specs.Normalising.{Normalised, IsNoFile, ExceedsSteps, IsText, Normalises}
 use Rattle.canon.specs.declared.fault.CanonFault.{CanonFault}
 use Rattle.canon.specs.declared.fault.CanonFault.TheVariants.{Read, StepLimit, Memory}
 
@@ -23,6 +25,25 @@ RefusesAs expected Memory = Unit {0}
 abbrev pub NormalisesAs : Normalised → Result (Vec ℕ Global) CanonFault → Type 0
 NormalisesAs expected (Ok text) = expected ≡ IsText text.items
 NormalisesAs expected (Err fault) = RefusesAs expected fault
+
+-- ---- a text
+
+pub record SpellsFile (text : List ℕ) : Type 0 where
+  pub file : PlainFile
+  pub spelled : Spells text file
+
+-- Why a text has no canonical text. Memory is refused only where a bid line has begun, as in reading it, or where the
+-- text spells a file, of which the canonical text is made.
+abbrev pub RefusesText : ℕ → List ℕ → CanonFault → Type 0
+RefusesText limit text (Read fault) = Normalises limit text (IsNoFile fault)
+RefusesText limit text (StepLimit goods) = Normalises limit text (ExceedsSteps goods.items)
+RefusesText limit text Memory = (has_bid_line text ≡ true) ⊎ SpellsFile text
+
+abbrev pub NormalisesTextAs : ℕ → List ℕ → Result (Vec ℕ Global) CanonFault → Type 0
+NormalisesTextAs limit text (Ok out) = Normalises limit text (IsText out.items)
+NormalisesTextAs limit text (Err fault) = RefusesText limit text fault
+
+-- ---- a file
 
 -- the file of the canonical auction where no bundle is heavy, and else the first heavy bundle
 pub record IsNormalFile (limit : ℕ) (a : PlainAuction) (h : PlainFile) : Type 0 where

@@ -1,57 +1,50 @@
 -- What comparing two texts answers. The first text comes first: of two texts that both have no canonical text, the
 -- first is told.
-use Rattle.std.specs.Prelude.{◌≡◌, ℕ, List, Result, Ok, Err}
-use Rattle.cats_text.specs.FileLines.{spelled_file}
+use Rattle.std.specs.Prelude.{◌≡◌, ℕ, List, Option, None, Result, Ok, Err}
 use Rattle.bid_file.specs.Files.{PlainFile}
 use Rattle.cats_text.specs.Grammar.{Spells}
-use Rattle.valuation.specs.Auctions.{auction_from}
-use Rattle.canon.specs.Answers.{IsNormalFile, RefusesAs}
+use Rattle.valuation.specs.Auctions.{auction_from, or_atoms_of}
+use Rattle.prune.specs.SearchSteps.{first_heavy}
+use Rattle.canon.specs.Answers.{IsNormalFile, RefusesText}
 use Rattle.canon.specs.Difference.{Difference, first_difference}
-use Rattle.canon.specs.Normalising.{Normalised, IsText, normalised}
-use Rattle.canon.specs.Verdicts.{plain_verdict}
+use Rattle.canon.specs.Verdicts.{NamesGoods, plain_verdict}
 use Rattle.canon.specs.declared.fault.CanonFault.{CanonFault}
 use Rattle.canon.specs.declared.fault.CanonFault.TheVariants.{Memory}
 use Rattle.canon.specs.declared.verdict.Verdict.{Verdict}
 use Rattle.canon.specs.declared.which.Which.{Which}
 use Rattle.canon.specs.declared.which.Which.TheVariants.{Only, First, Second, Both}
 
-pub data Compared : Type 0 where
-  -- the first text has no canonical text: this is what normalising it answers
-  FirstRefused : Normalised → Compared
-  -- the first text has one, and the second has none
-  SecondRefused : Normalised → Compared
-  -- both have one, and this is the first difference of their auctions
-  ComparedBy : Difference → Compared
+-- the text spells a file without a heavy bundle
+pub record SpellsLight (limit : ℕ) (text : List ℕ) : Type 0 where
+  pub file : PlainFile
+  pub spelled : Spells text file
+  pub light : first_heavy file.goods limit (or_atoms_of file.bids) ≡ None
 
-abbrev pub unless_second_refused : List ℕ → List ℕ → Normalised → Compared
-unless_second_refused one other (IsText text) =
-    ComparedBy (first_difference (auction_from (spelled_file one)) (auction_from (spelled_file other)))
-unless_second_refused one other refusal = SecondRefused refusal
+-- both texts do, and this is the first difference of the auctions of their files
+pub record Differ (limit : ℕ) (one other : List ℕ) (difference : Difference) : Type 0 where
+  pub first : SpellsLight limit one
+  pub second : SpellsLight limit other
+  pub is : first_difference (auction_from first.file) (auction_from second.file) ≡ difference
 
-abbrev pub unless_first_refused : ℕ → List ℕ → List ℕ → Normalised → Compared
-unless_first_refused limit one other (IsText text) = unless_second_refused one other (normalised limit other)
-unless_first_refused limit one other refusal = FirstRefused refusal
+-- they differ in a bundle or in a bidder, of which the verdict names the goods
+pub record DifferInGoods (limit : ℕ) (one other : List ℕ) : Type 0 where
+  pub difference : Difference
+  pub differ : Differ limit one other difference
+  pub named : NamesGoods difference
 
-abbrev pub compared : ℕ → List ℕ → List ℕ → Compared
-compared limit one other = unless_first_refused limit one other (normalised limit one)
+-- Which text is refused, and why. The second is refused only where the first is not, and both only where neither is: by
+-- want of memory, for the goods that their verdict names.
+abbrev pub RefusesOf : ℕ → List ℕ → List ℕ → Which → CanonFault → Type 0
+RefusesOf limit one other Only fault = ⊥
+RefusesOf limit one other First fault = RefusesText limit one fault
+RefusesOf limit one other Second fault = SpellsLight limit one × RefusesText limit other fault
+RefusesOf limit one other Both fault = DifferInGoods limit one other × (fault ≡ Memory)
 
--- which text a refusal may be told of, and why. Want of memory may come in the place of any answer, of the first text,
--- then of the second, then of neither alone.
-abbrev pub RefusesOf : Which → Compared → CanonFault → Type 0
-RefusesOf Only expected fault = ⊥
-RefusesOf First (FirstRefused refusal) fault = RefusesAs refusal fault
-RefusesOf First expected fault = fault ≡ Memory
-RefusesOf Second (FirstRefused refusal) fault = ⊥
-RefusesOf Second (SecondRefused refusal) fault = RefusesAs refusal fault
-RefusesOf Second (ComparedBy _) fault = fault ≡ Memory
-RefusesOf Both (ComparedBy _) fault = fault ≡ Memory
-RefusesOf Both expected fault = ⊥
+abbrev pub ComparesAs : ℕ → List ℕ → List ℕ → Result Verdict (Which × CanonFault) → Type 0
+ComparesAs limit one other (Ok verdict) = Differ limit one other (plain_verdict verdict)
+ComparesAs limit one other (Err refusal) = RefusesOf limit one other refusal.0 refusal.1
 
-abbrev pub ComparesAs : Compared → Result Verdict (Which × CanonFault) → Type 0
-ComparesAs expected (Ok verdict) = expected ≡ ComparedBy (plain_verdict verdict)
-ComparesAs expected (Err refusal) = RefusesOf refusal.0 expected refusal.1
-
--- ---- the first step
+-- ---- the steps
 
 -- the canonical file of the file that the text spells, which has no heavy bundle
 pub record IsNormalFileOf (limit : ℕ) (text : List ℕ) (h : PlainFile) : Type 0 where
@@ -61,4 +54,9 @@ pub record IsNormalFileOf (limit : ℕ) (text : List ℕ) (h : PlainFile) : Type
 
 abbrev pub ReadsNormalAs : ℕ → List ℕ → Result PlainFile CanonFault → Type 0
 ReadsNormalAs limit text (Ok h) = IsNormalFileOf limit text h
-ReadsNormalAs limit text (Err fault) = RefusesAs (normalised limit text) fault
+ReadsNormalAs limit text (Err fault) = RefusesText limit text fault
+
+-- the same, of the text of which a refusal is told
+abbrev pub ReadsOneAs : Which → ℕ → List ℕ → Result PlainFile (Which × CanonFault) → Type 0
+ReadsOneAs which limit text (Ok h) = IsNormalFileOf limit text h
+ReadsOneAs which limit text (Err refusal) = (refusal.0 ≡ which) × RefusesText limit text refusal.1

@@ -1,17 +1,19 @@
 //! Where two files part first, and whether two texts ask for the same things.
 
-ghost use Rattle.std.specs.Prelude.{◌≡◌, ◌↔◌, ◌≤◌, length, map, None, IfOk, OnErr};
+ghost use Rattle.std.specs.Prelude.{◌≡◌, ◌↔◌, ◌≤◌, length, map, None, IfOk, IfErr, OnErr};
 ghost use Rattle.std.specs.List.{prefix_len};
 ghost use Rattle.std.specs.Option.{is_none};
 ghost use Rattle.bid_file.specs.Files.{plain_bids};
 ghost use Rattle.bid_file.specs.Views.{plain_file};
 ghost use Rattle.valuation.specs.Auctions.{PlainAuction, auction_from};
 ghost use Rattle.canon.specs.Canonical.{IsCanonicalFile, bid_from, dummy_bids, file_from};
-ghost use Rattle.canon.specs.Comparing.{ComparesAs, ReadsNormalAs, compared};
+ghost use Rattle.canon.specs.Comparing.{ComparesAs, ReadsNormalAs, ReadsOneAs};
 ghost use Rattle.canon.specs.Difference.{first_difference};
 ghost use Rattle.canon.specs.Sameness.{AreSameFiles, AreSameTexts};
 ghost use Rattle.canon.specs.Verdicts.{NamesGoods, plain_verdict};
+ghost use Rattle.canon.specs.declared.fault.CanonFault.TheVariants.{Memory};
 ghost use Rattle.canon.specs.declared.verdict.Verdict.TheVariants.{Same};
+ghost use Rattle.canon.specs.declared.which.Which.TheVariants.{First, Second, Both};
 
 use crate::bundles::bundle_verdict;
 use crate::fault::CanonFault;
@@ -31,21 +33,12 @@ pub fn compare(
     right: &[u8],
     limit: u64,
 ) -> Result<Verdict, (Which, CanonFault)>
-    ensures answer { ComparesAs (compared limit left.now right.now) result }
+    ensures answer { ComparesAs limit left.now right.now result }
     ensures same { IfOk result (λ verdict. verdict ≡ Same ↔ AreSameTexts left.now right.now) }
 {
-    let first = match read_normal(alloc, left, limit) {
-        Ok(file) => file,
-        Err(fault) => return Err((Which::First, fault)),
-    };
-    let second = match read_normal(alloc, right, limit) {
-        Ok(file) => file,
-        Err(fault) => return Err((Which::Second, fault)),
-    };
-    match compare_compact_files(alloc, &first, &second) {
-        Ok(verdict) => Ok(verdict),
-        Err(_) => Err((Which::Both, CanonFault::Memory)),
-    }
+    let first = read_first(alloc, left, limit)?;
+    let second = read_second(alloc, right, limit)?;
+    compare_read(alloc, &first, &second)
 }
 
 /// Where the auctions of two canonical files part first. Nothing of the files is copied but what the verdict names, so
@@ -107,6 +100,55 @@ fn walk_files(alloc: Global, left: &BidFile, right: &BidFile) -> Result<Verdict,
     match bundle_verdict(alloc, left_or, right_or)? {
         Some(verdict) => Ok(verdict),
         None => bidder_verdict(alloc, left_xor, right_xor),
+    }
+}
+
+/// Where two canonical files part first. Memory that is refused meanwhile is told of both.
+fn compare_read(
+    alloc: Global,
+    first: &CompactFile,
+    second: &CompactFile,
+) -> Result<Verdict, (Which, CanonFault)>
+    requires first_canonical { IsCanonicalFile first.now }
+    requires second_canonical { IsCanonicalFile second.now }
+    ensures difference { IfOk result (λ verdict. plain_verdict verdict
+        ≡ first_difference (auction_from first.now) (auction_from second.now)) }
+    ensures same { IfOk result (λ verdict. verdict ≡ Same ↔ AreSameFiles first.now second.now) }
+    ensures both { IfErr result (λ refusal. (refusal.0 ≡ Both) × (refusal.1 ≡ Memory)) }
+    ensures memory { let difference = first_difference (auction_from first.now) (auction_from second.now) in
+        OnErr result (NamesGoods difference) }
+{
+    match compare_compact_files(alloc, first, second) {
+        Ok(verdict) => Ok(verdict),
+        Err(_) => Err((Which::Both, CanonFault::Memory)),
+    }
+}
+
+/// The canonical file of the first text's file. A refusal is told of the first.
+fn read_first(
+    alloc: Global,
+    text: &[u8],
+    limit: u64,
+) -> Result<CompactFile, (Which, CanonFault)>
+    ensures { ReadsOneAs First limit text.now result }
+{
+    match read_normal(alloc, text, limit) {
+        Ok(file) => Ok(file),
+        Err(fault) => Err((Which::First, fault)),
+    }
+}
+
+/// The canonical file of the second text's file. A refusal is told of the second.
+fn read_second(
+    alloc: Global,
+    text: &[u8],
+    limit: u64,
+) -> Result<CompactFile, (Which, CanonFault)>
+    ensures { ReadsOneAs Second limit text.now result }
+{
+    match read_normal(alloc, text, limit) {
+        Ok(file) => Ok(file),
+        Err(fault) => Err((Which::Second, fault)),
     }
 }
 

@@ -4,20 +4,27 @@ ghost use Rattle.std.specs.Prelude.{◌≡◌, ◌↔◌, ℕ, List, None, true}
 ghost use Rattle.bid_file.specs.Files.{PlainFile, IsPlainFile};
 ghost use Rattle.valuation.specs.Auctions.{PlainAuction, IsAuction, auction_from};
 ghost use Rattle.prune.specs.SearchSteps.{first_heavy, is_heavy};
-ghost use Rattle.canon.specs.Canonical.{canonical_auction, canonical_text, file_from};
-ghost use Rattle.canon.specs.Normalising.{normalised, IsText};
+ghost use Rattle.canon.specs.Canonical.{IsCanonical, IsCanonicalFile, canonical_auction, canonical_text, file_from};
+ghost use Rattle.canon.specs.Normalising.{IsNormalised, IsText, Normalised, Normalises, SpellsCanonicalFile};
 ghost use Rattle.canon.specs.Sameness.{AreSameFiles, AreSameTexts, IsSameAuction};
 
 /// The headline. Where neither of two texts is refused, each under a limit of its own, their canonical texts are equal
 /// exactly if their files have the same number of goods, the same OR value on every bundle and the same multiset of
-/// nonzero XOR valuations. The canonical text spells a file with these same three, and normalising it under the same
-/// limit gives it back.
+/// nonzero XOR valuations. The canonical text spells the canonical file of the file that the text spells, which is the
+/// same auction; and normalising it under the same limit gives it back.
 pub fn equal_text_exactly_for_the_same_auction()
-    ensures equal { (m n : ℕ) (one other s t : List ℕ) → normalised m one ≡ IsText s → normalised n other ≡ IsText t
+    ensures equal { (m n : ℕ) (one other s t : List ℕ) → Normalises m one (IsText s) → Normalises n other (IsText t)
         → (s ≡ t ↔ AreSameTexts one other) }
-    ensures spelled { (limit : ℕ) (text out : List ℕ) → normalised limit text ≡ IsText out → AreSameTexts text out }
-    ensures again { (limit : ℕ) (text out : List ℕ) → normalised limit text ≡ IsText out
-        → normalised limit out ≡ IsText out }
+    ensures spelled { (limit : ℕ) (text out : List ℕ) → Normalises limit text (IsText out) → SpellsCanonicalFile text out }
+    ensures again { (limit : ℕ) (text out : List ℕ) → Normalises limit text (IsText out)
+        → Normalises limit out (IsText out) }
+{}
+
+/// What normalising a text gives is there for each text and each limit, and is one.
+pub fn each_text_has_one_outcome()
+    ensures some { (limit : ℕ) (text : List ℕ) → IsNormalised limit text }
+    ensures one { (limit : ℕ) (text : List ℕ) (one other : Normalised) → Normalises limit text one
+        → Normalises limit text other → one ≡ other }
 {}
 
 /// Files of the same auction have one canonical text, and no others have it.
@@ -38,6 +45,11 @@ pub fn canonical_is_same()
 pub fn file_reads_back()
     ensures facts { (cap : ℕ) (a : PlainAuction) → IsAuction cap a → IsPlainFile (file_from a) }
     ensures auction { (a : PlainAuction) → auction_from (file_from a) ≡ a }
+{}
+
+/// The file of an auction is a canonical file exactly if the auction is canonical.
+pub fn canonical_auctions_have_canonical_files()
+    ensures { (a : PlainAuction) → (IsCanonical a ↔ IsCanonicalFile (file_from a)) }
 {}
 
 /// To be the same auction is an equivalence.

@@ -12,13 +12,14 @@ ghost use Rattle.canon.specs.Answers.{
   NormalisesAuctionAs,
   NormalisesFileAs,
   NormalisesPlainAs,
+  NormalisesTextAs,
   RefusesAuction,
   or_known,
   plain_answer,
 };
 ghost use Rattle.canon.specs.Canonical.{IsCanonical, IsCanonicalFile, canonical_auction, canonical_text};
 ghost use Rattle.canon.specs.Least.{IsLeastFor};
-ghost use Rattle.canon.specs.Normalising.{IsText, normalised, normalised_file};
+ghost use Rattle.canon.specs.Normalising.{IsText, Normalises, normalised_file};
 ghost use Rattle.canon.specs.Sameness.{AreSameFiles};
 
 use crate::auction::canonical;
@@ -114,13 +115,14 @@ pub fn normal_text(alloc: Global, file: CompactFile, limit: u64) -> Result<Vec<u
     on_least_set!(goods, normal_text_on(alloc, file, limit))
 }
 
-/// The canonical text of the file that a text spells: the one text of its auction.
+/// The canonical text of the file that a text spells: the one text of its auction. Memory is refused only where a bid
+/// line has begun, or where the text spells a file.
 pub fn normalise(alloc: Global, text: &[u8], limit: u64) -> Result<Vec<u8>, CanonFault>
-    ensures answer { NormalisesAs (normalised limit text.now) result }
+    ensures answer { NormalisesTextAs limit text.now result }
     // Equal texts come of files of the same auction, and of these alone.
     ensures same { IfOk result (λ out. (f g : PlainFile) → Spells text.now f → IsPlainFile g
         → (out.items ≡ canonical_text g ↔ AreSameFiles f g)) }
-    ensures again { IfOk result (λ out. normalised limit out.items ≡ IsText out.items) }
+    ensures again { IfOk result (λ out. Normalises limit out.items (IsText out.items)) }
 {
     let file = read_compact(alloc, text)?;
     normal_text(alloc, file, limit)
@@ -187,7 +189,7 @@ fn last_normal_file_unless_on<S: GoodsSet>(
     ensures answer { NormalisesPlainAs limit file (or_known known.now result) }
     ensures canonical { IfOk (or_known known.now result) (λ h. IsCanonicalFile h) }
 {
-    let canonical: Auction<S> = into_canonical(alloc, file, limit)?;
+    let canonical = into_canonical::<S>(alloc, file, limit)?;
     let normal = compact_file_unless(alloc, &canonical, known)?;
     mem::forget(canonical);
     Ok(normal)

@@ -1,14 +1,11 @@
 //! Worked examples of the definitions, computed by the prover.
 
-ghost use Rattle.std.specs.Prelude.{◌≡◌, ℕ, List, [], ◌∷◌, ◌++◌, codes, Ok, Err, Some, None};
+ghost use Rattle.std.specs.Prelude.{◌≡◌, [], ◌∷◌, Ok, Err, Some, None};
 ghost use Rattle.valuation.specs.Examples.{atom};
 ghost use Rattle.canon.specs.Answers.{or_known};
 ghost use Rattle.canon.specs.Canonical.{canonical_auction, file_from};
 ghost use Rattle.canon.specs.Examples.{auction};
 ghost use Rattle.canon.specs.declared.fault.CanonFault.TheVariants.{Memory};
-ghost use Rattle.canon.specs.Normalising.{normalised, IsNoFile, ExceedsSteps, IsText};
-ghost use Rattle.cats_text.specs.Faults.{fault_at};
-ghost use Rattle.cats_text.specs.declared.fault.Kind.TheVariants.{TwoDummies, Missing};
 
 /// The canonical auction: points stay, zero bidders go, and equal bidders stay beside one another.
 #[tactic(auto, unfolding(prune::specs::Points::points_where, prune::specs::Points::is_xor_point, prune::specs::Points::is_or_point, valuation::specs::Values::xor_value, valuation::specs::Values::or_value))]

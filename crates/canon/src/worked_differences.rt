@@ -1,6 +1,6 @@
 //! Worked examples of the first difference, computed by the prover.
 
-ghost use Rattle.std.specs.Prelude.{◌≡◌, ℕ, List, [], ◌∷◌};
+ghost use Rattle.std.specs.Prelude.{◌≡◌, [], ◌∷◌};
 ghost use Rattle.valuation.specs.Examples.{atom};
 ghost use Rattle.canon.specs.Difference.{first_difference, NoDifference, InGoods, InOr, InXor};
 ghost use Rattle.canon.specs.Examples.{auction};

@@ -1,6 +1,6 @@
 //! Worked examples of the first place of a file, computed by the prover.
 
-ghost use Rattle.std.specs.Prelude.{◌≡◌, List, [], ◌∷◌, Some, None};
+ghost use Rattle.std.specs.Prelude.{◌≡◌, [], ◌∷◌, Some, None};
 ghost use Rattle.valuation.specs.Examples.{atom};
 ghost use Rattle.canon.specs.Canonical.{file_from};
 ghost use Rattle.canon.specs.Examples.{auction};

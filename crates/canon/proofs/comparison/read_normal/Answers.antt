@@ -1,5 +1,9 @@
-use Rattle.canon.proofs.Comparisons.{normal_from_file}
+use Rattle.canon.proofs.Comparisons.{normal_from_file, normal_unread}
 use Rattle.canon.proofs.comparison.read_normal.Goals as goal
+
+pub returns-in_err-file : goal.returns-in_err-file
+returns-in_err-file c =
+    normal_unread c.args.limit c.args.text.now c.in_err-file.field-0.0 c.in_err-file.ensures c.from_residual.result c.from_residual.ensures.1
 
 pub returns : goal.returns
 returns c = normal_from_file c.args.limit c.args.text.now c.in_ok-file.file c.in_ok-file.ensures c.into_normal_file.result

@@ -1,0 +1,7 @@
+use Rattle.std.proofs.Common.{refl}
+use Rattle.canon.specs.Canonical.{file_from}
+use Rattle.canon.proofs.Answering.{canonical_file_is, canonical_auction_is}
+use Rattle.canon.proofs.laws.canonical_auctions_have_canonical_files.Goals as goal
+
+pub returns : goal.returns
+returns c a = (canonical_file_is a (file_from a) refl, canonical_auction_is a)
