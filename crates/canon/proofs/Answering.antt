@@ -44,6 +44,7 @@ unread_text limit text why h = by why.kind refl h
   where
     of_text : first_fault text ≡ Some why → is_text_kind why.kind ≡ true
     of_text e = let found = subst (λ fault. IfSome fault (IsFound true)) e (first_fault-found text) in found.0.kind
+
     by : (kind : Kind) → why.kind ≡ kind → (first_fault text ≡ Some why) ⊎ WantsMemory text why → RefusesText limit text (refusal_by_kind why kind)
     by NoMemory e (inl first) = let none = subst (λ (k : Kind). is_text_kind k ≡ true) e (of_text first) in absurd (cc)
     by NoMemory e (inr wants) = inl wants.1

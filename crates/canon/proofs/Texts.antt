@@ -100,6 +100,7 @@ has_outcome limit text = by (first_fault text) refl
     of_file : (f : PlainFile) → Spells text f → (o : Option (List ℕ)) → first_heavy f.goods limit (or_atoms_of f.bids) ≡ o → IsNormalised limit text
     of_file f s None e = record { outcome = IsText (canonical_text f); normalises = record { file = f; spelled = s; is = ap (unless_heavy f) e } }
     of_file f s (Some goods) e = record { outcome = ExceedsSteps goods; normalises = record { file = f; spelled = s; is = ap (unless_heavy f) e } }
+
     by : (o : Option ReadFault) → first_fault text ≡ o → IsNormalised limit text
     by None e = of_file (spelled_file text) (spells_from_no_fault text e) (first_heavy (spelled_file text).goods limit (or_atoms_of (spelled_file text).bids)) refl
     by (Some fault) e = record { outcome = IsNoFile fault; normalises = e }

@@ -1,6 +1,6 @@
 -- What comparing two texts answers. The first text comes first: of two texts that both have no canonical text, the
 -- first is told.
-use Rattle.std.specs.Prelude.{◌≡◌, ℕ, List, Option, None, Result, Ok, Err}
+use Rattle.std.specs.Prelude.{◌≡◌, ℕ, List, None, Result, Ok, Err}
 use Rattle.bid_file.specs.Files.{PlainFile}
 use Rattle.cats_text.specs.Grammar.{Spells}
 use Rattle.valuation.specs.Auctions.{auction_from, or_atoms_of}

@@ -125,11 +125,7 @@ fn compare_read(
 }
 
 /// The canonical file of the first text's file. A refusal is told of the first.
-fn read_first(
-    alloc: Global,
-    text: &[u8],
-    limit: u64,
-) -> Result<CompactFile, (Which, CanonFault)>
+fn read_first(alloc: Global, text: &[u8], limit: u64) -> Result<CompactFile, (Which, CanonFault)>
     ensures { ReadsOneAs First limit text.now result }
 {
     match read_normal(alloc, text, limit) {
@@ -139,11 +135,7 @@ fn read_first(
 }
 
 /// The canonical file of the second text's file. A refusal is told of the second.
-fn read_second(
-    alloc: Global,
-    text: &[u8],
-    limit: u64,
-) -> Result<CompactFile, (Which, CanonFault)>
+fn read_second(alloc: Global, text: &[u8], limit: u64) -> Result<CompactFile, (Which, CanonFault)>
     ensures { ReadsOneAs Second limit text.now result }
 {
     match read_normal(alloc, text, limit) {

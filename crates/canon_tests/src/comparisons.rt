@@ -1,13 +1,21 @@
 //! Comparisons on worked rows. Texts have prices in units, verdicts in millionths.
 
+ghost use Rattle.std.specs.Prelude.{IfOk};
+ghost use Rattle.bid_file.specs.Views.{plain_file};
+ghost use Rattle.canon.specs.Canonical.{IsCanonicalFile};
+
 use crate::refusals::{expect_line, refusal_text};
+use bid_file::BidFile;
+use canon::laws::canonical_auctions_have_canonical_files;
 use canon::{
-    CanonFault, Verdict, Which, compare, compare_compact_files, compare_files, into_normal_file,
-    normal_file,
+    CanonFault, Verdict, Which, canonical, compare, compare_compact_files, compare_files, file_of,
+    into_normal_file, normal_file,
 };
 use cats_text::{read, read_compact};
+use goods_set::ListSet;
 use std::alloc::{AllocError, Global};
 use std::test::Fail;
+use valuation::{Auction, auction_of};
 
 const TWICE: &str =
     "goods 2\nbids 4\ndummy 2\n0\t1\t0\t2\t#\n1\t2\t0\t1\t2\t#\n2\t1\t0\t3\t#\n3\t2\t0\t1\t3\t#\n";
@@ -134,6 +142,28 @@ fn difference(alloc: Global, left: &str, right: &str) -> Result<Verdict, Fail> {
 fn canonical_files_part(rt: HostRuntime) -> Result<(), Fail> {
     for (left, right, expected) in &ROWS {
         let verdict = difference(rt.alloc(), left, right)?;
+        expect_line(&rt, &verdict_text(rt.alloc(), &verdict)?, expected);
+    }
+    Ok(())
+}
+
+/// The file of the canonical auction of a text's file.
+fn file_of_canonical(alloc: Global, text: &str) -> Result<BidFile, Fail>
+    ensures { IfOk result (λ file. IsCanonicalFile (plain_file file)) }
+{
+    let file = read(alloc, text.as_bytes())?;
+    let auction: Auction<ListSet> = auction_of(alloc, &file)?;
+    let auction = canonical(alloc, auction, 100)?;
+    canonical_auctions_have_canonical_files();
+    Ok(file_of(alloc, &auction)?)
+}
+
+#[test]
+fn files_of_canonical_auctions_part(rt: HostRuntime) -> Result<(), Fail> {
+    for (left, right, expected) in &ROWS {
+        let one = file_of_canonical(rt.alloc(), left)?;
+        let other = file_of_canonical(rt.alloc(), right)?;
+        let verdict = compare_files(rt.alloc(), &one, &other)?;
         expect_line(&rt, &verdict_text(rt.alloc(), &verdict)?, expected);
     }
     Ok(())

@@ -2,7 +2,7 @@ use Rattle.canon.proofs.Comparisons.{canonical_of_text, compared_as, first_refus
 use Rattle.canon.proofs.comparison.compare.Goals as goal
 
 pub returns-in_err-first-clause-answer : goal.returns-in_err-first-clause-answer
-returns-in_err-first-clause-answer c = 
+returns-in_err-first-clause-answer c =
     first_refused c.args.limit c.args.left.now c.args.right.now c.in_err-first.field-0.0 c.in_err-first.ensures c.from_residual.result c.from_residual.ensures.1
 
 pub returns-in_err-second-clause-answer : goal.returns-in_err-second-clause-answer
