@@ -173,7 +173,7 @@ module _ {F E : Type 0} (may_open : List ℕ → F → Type 0) (may_refuse : Lis
     (messages : E → Option (List ℕ)) (progress : Bool) (paths : List (Bor (List ℕ))) (err : Watched E) (i : ℕ) (d : Bor (List ℕ)) (l : i < length paths)
     (files : List PlainFile) (found : List (Bor (List ℕ) × ℕ)) (greatest : ℕ) (before : Watched E)
     (h : HasJudged may_open may_refuse remaining limit messages progress (length paths) err (map (λ p. p.now) (take i paths)) files (found_paths found) greatest
-      before) where
+    before) where
   numbered : (between after : Watched E) → ReportsAll messages (progress_lines progress (i + 1) (length paths) (get_or paths i d).now) between after
       → ReportsAll messages (progress_lines progress (length (map (λ (p : Bor (List ℕ)). p.now) (take i paths)) + 1) (length paths) (get_or paths i d).now)
       between after
@@ -194,7 +194,7 @@ module _ {F E : Type 0} (may_open : List ℕ → F → Type 0) (may_refuse : Lis
       let own : ReportsAll messages (progress_lines progress (length (map (λ (p : Bor (List ℕ)). p.now) (take i paths)) + 1) (length paths) path.now) before after =
       subst
       (λ (w : Watched E).
-        ReportsAll messages (progress_lines progress (length (map (λ (p : Bor (List ℕ)). p.now) (take i paths)) + 1) (length paths) path.now) w after)
+      ReportsAll messages (progress_lines progress (length (map (λ (p : Bor (List ℕ)). p.now) (take i paths)) + 1) (length paths) path.now) w after)
       j.1 (numbered between after reports) in
       rw s (rw told (rw (one_more_path paths i d l) (judged_more may_open may_refuse remaining limit messages progress (length paths) err
       (map (λ (p : Bor (List ℕ)). p.now) (take i paths)) files (found_paths found) greatest before h path.now more place after j.0 own)))
@@ -213,7 +213,7 @@ module _ {F E : Type 0} (may_open : List ℕ → F → Type 0) (may_refuse : Lis
     (messages : E → Option (List ℕ)) (progress : Bool) (paths : List (Bor (List ℕ))) (err : Watched E) (i : ℕ)
     (files : List PlainFile) (f : Findings) (before : Watched E)
     (h : HasJudged may_open may_refuse remaining limit messages progress (length paths) err (map (λ p. p.now) (take i paths)) files (found_paths f.found.items)
-      f.greatest before) where
+    f.greatest before) where
   reported : ReportsAll messages (report_lines progress (length (map (λ (p : Bor (List ℕ)). p.now) paths)) h.judgements) err before
   reported =
       subst (λ (n : ℕ). ReportsAll messages (report_lines progress n h.judgements) err before) (sym (length-map paths (λ (p : Bor (List ℕ)). p.now))) h.reports
@@ -225,8 +225,8 @@ module _ {F E : Type 0} (may_open : List ℕ → F → Type 0) (may_refuse : Lis
     finds = record {
       finds = subst
           (λ (ps : List (Bor (List ℕ))).
-            FindsPlaces may_open may_refuse remaining limit (map (λ p. p.now) ps)
-            (record { judgements = h.judgements; found = found_paths f.found.items; greatest = f.greatest }))
+          FindsPlaces may_open may_refuse remaining limit (map (λ p. p.now) ps)
+          (record { judgements = h.judgements; found = found_paths f.found.items; greatest = f.greatest }))
           (take_all i paths l) h.finds;
       reports = reported;
     };
@@ -241,8 +241,8 @@ module _ {F E : Type 0} (may_open : List ℕ → F → Type 0) (may_refuse : Lis
     findings = record { judgements = h.judgements; found = found_paths f.found.items; greatest = f.greatest };
     finds = subst
         (λ (ps : List (List ℕ)).
-          FindsPlaces may_open may_refuse remaining limit ps
-          (record { judgements = h.judgements; found = found_paths f.found.items; greatest = f.greatest }))
+        FindsPlaces may_open may_refuse remaining limit ps
+        (record { judgements = h.judgements; found = found_paths f.found.items; greatest = f.greatest }))
         (sym (take-map (λ (p : Bor (List ℕ)). p.now) i paths)) h.finds;
     reports = reported;
   })

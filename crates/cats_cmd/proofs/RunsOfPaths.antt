@@ -38,8 +38,8 @@ module _ {F W E : Type 0} (may_open : List ℕ → F → Type 0) (may_refuse : L
         findings = record { judgements = h.judgements; found = found_paths f.found.items; greatest = f.greatest };
         finds = subst
             (λ (ps : List (List ℕ)).
-              FindsPlaces may_open may_refuse remaining limit ps
-              (record { judgements = h.judgements; found = found_paths f.found.items; greatest = f.greatest }))
+            FindsPlaces may_open may_refuse remaining limit ps
+            (record { judgements = h.judgements; found = found_paths f.found.items; greatest = f.greatest }))
             (sym (take_all (length paths) paths (omega arith))) h.finds.finds;
         reports = h.finds.reports;
       }) answer is

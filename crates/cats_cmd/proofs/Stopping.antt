@@ -186,9 +186,9 @@ module _ {F W E : Type 0} (may_open : List ℕ → F → Type 0) (may_refuse : L
   silent_answer request err_after status answers few a b c =
       ⊎_elim
       (λ (ran : CarriesOut may_open may_refuse remaining contents messages request out out_after err err_after (Ok status)).
-        let most = (answered request err_after status ran few).0 in absurd (omega (arith, most, a, b)))
+      let most = (answered request err_after status ran few).0 in absurd (omega (arith, most, a, b)))
       (λ (s : StopsRequest may_open may_refuse remaining contents messages request out out_after err err_after status).
-        silent_unless_failed s.stop out out_after (silent_request request s.between s.stop s.carries few) (λ five. c (s.is_status ∙ five)))
+      silent_unless_failed s.stop out out_after (silent_request request s.between s.stop s.carries few) (λ five. c (s.is_status ∙ five)))
       answers
 
   -- the statuses 0 and 1 say that nothing was reported
@@ -198,9 +198,9 @@ module _ {F W E : Type 0} (may_open : List ℕ → F → Type 0) (may_refuse : L
   done_answer request err_after status answers few most =
       ⊎_elim
       (λ (ran : CarriesOut may_open may_refuse remaining contents messages request out out_after err err_after (Ok status)).
-        (answered request err_after status ran few).1)
+      (answered request err_after status ran few).1)
       (λ (s : StopsRequest may_open may_refuse remaining contents messages request out out_after err err_after status).
-        let least = stop_status_above s.stop in let is = s.is_status in absurd (omega (arith, least, is, most)))
+      let least = stop_status_above s.stop in let is = s.is_status in absurd (omega (arith, least, is, most)))
       answers
 
   pub stopped_request : (request : Request) (stop : Stop) (between err_after : Watched E) (status : ℕ)

@@ -19,7 +19,10 @@ ghost use Rattle.cats_cmd.specs.Outputs.{bundle_text, sizes_text};
 ghost use Rattle.cats_cmd.specs.ValueTexts.{bundle_from};
 ghost use Rattle.cats_cmd.specs.FaultLines.{line_of_fault};
 ghost use Rattle.cats_text.specs.Examples.{known, watched};
+ghost use Rattle.cats_cmd.specs.Duplicates.{IsJudged, IsStopped, greatest_status, judged_paths, report_lines};
 ghost use Rattle.cats_cmd.specs.Runs.{SendsMadeAs};
+ghost use Rattle.cats_cmd.specs.Stops.{Reports};
+ghost use Rattle.cats_cmd.specs.declared.program.Stop.TheVariants.{CannotOpen};
 ghost use Rattle.cats_cmd.specs.Statuses.{status_of_difference, status_of_fault};
 ghost use Rattle.canon.specs.declared.which.Which.TheVariants.{Only, First, Second, Both};
 ghost use Rattle.canon.specs.declared.fault.CanonFault.TheVariants.{Read, StepLimit, Memory};
@@ -101,6 +104,25 @@ pub fn differences()
         ≡ codes "different\nxor 0:1 0,1:2\nleft 2\nright 1\n" }
     ensures statuses { map status_of_difference (NoDifference ∷ InGoods 1 2 ∷ InOr [] (Exactly 1) (Exactly 2)
         ∷ InXor [] 0 1 ∷ []) ≡ 0 ∷ 1 ∷ 1 ∷ 1 ∷ [] }
+{}
+
+/// What `cats duplicates` reports of two paths: the reason for the one that was not judged, and, with progress, both.
+pub fn paths_reported()
+    ensures reason { report_lines false 2 ((codes "a", IsStopped (CannotOpen Only)) ∷ (codes "b", IsJudged larger_bid) ∷ [])
+        ≡ codes "a: cannot open\n" ∷ [] }
+    ensures progress { report_lines true 2 ((codes "a", IsStopped (CannotOpen Only)) ∷ (codes "b", IsJudged larger_bid) ∷ [])
+        ≡ codes "a: cannot open\n" ∷ codes "1 of 2 a\n" ∷ codes "2 of 2 b\n" ∷ [] }
+    ensures status { greatest_status ((codes "a", IsStopped (CannotOpen Only)) ∷ (codes "b", IsJudged larger_bid) ∷ []) ≡ 5 }
+    ensures judged { judged_paths ((codes "a", IsStopped (CannotOpen Only)) ∷ (codes "b", IsJudged larger_bid) ∷ [])
+        ≡ codes "b" ∷ [] }
+{}
+
+/// What becomes of a line for standard error: it is sent, or `want of memory` is; after a failure nothing is.
+pub fn lines_reported()
+    ensures sent { Reports known (codes "x\n") (watched [] false false) (watched (codes "x\n") false false) }
+    ensures memory { Reports known (codes "x\n") (watched [] false false) (watched (codes "want of memory\n") false false) }
+    ensures failed_before { Reports known (codes "x\n") (watched [] true false) (watched [] true false) }
+    ensures nothing_sent { Reports known (codes "x\n") (watched [] false false) (watched [] false false) → ⊥ }
 {}
 
 /// What becomes of a file's text: all of it went out, or so many of its first bytes, or, where memory for a page was

@@ -25,14 +25,20 @@ returns-in_err-run_show-in-Show g c =
 
 pub returns-in_ok-run_value-in-Value : goal.returns-in_ok-run_value-in-Value
 returns-in_ok-run_value-in-Value g c =
-    rw c.in-Value.is (valued_at _ _ _ c.in-Value.file.now c.in-Value.goods.items _ c.in-Value.limit c.as_slice.ensures.value _ _ _ _ _
-    c.in_ok-input-in-Value.ensures.opened c.in_ok-run_value-in-Value.ensures, refl)
+    rw c.in-Value.is (
+      valued_at _ _ _ c.in-Value.file.now c.in-Value.goods.items _ c.in-Value.limit c.as_slice.ensures.value _ _ _ _ _
+          c.in_ok-input-in-Value.ensures.opened c.in_ok-run_value-in-Value.ensures,
+      refl,
+    )
 
 pub returns-in_err-run_value-in-Value : goal.returns-in_err-run_value-in-Value
 returns-in_err-run_value-in-Value g c =
     stopped_run _ _ _ _ _ _ _ _ c.args.request.now _ _ _ c.from_residual-in_err-run_value-in-Value.ensures.1
-    (rw c.in-Value.is (valued_at _ _ _ c.in-Value.file.now c.in-Value.goods.items _ c.in-Value.limit c.as_slice.ensures.value _ _ _ _ _
-    c.in_ok-input-in-Value.ensures.opened c.in_err-run_value-in-Value.ensures, refl))
+    (rw c.in-Value.is (
+      valued_at _ _ _ c.in-Value.file.now c.in-Value.goods.items _ c.in-Value.limit c.as_slice.ensures.value _ _ _ _ _
+          c.in_ok-input-in-Value.ensures.opened c.in_err-run_value-in-Value.ensures,
+      refl,
+    ))
 
 pub returns-in_ok-run_normalise-in-Normalise : goal.returns-in_ok-run_normalise-in-Normalise
 returns-in_ok-run_normalise-in-Normalise g c =
@@ -45,11 +51,17 @@ returns-in_err-run_normalise-in-Normalise g c =
 
 pub returns-in_ok-run_compare-in-Compare : goal.returns-in_ok-run_compare-in-Compare
 returns-in_ok-run_compare-in-Compare g c =
-    rw c.in-Compare.is (compared_at _ _ _ c.in-Compare.first.now c.in-Compare.second.now c.in-Compare.limit _ _ _ _ _ _ _
-    c.in_ok-left-in-Compare.ensures.opened c.in_ok-right-in-Compare.ensures.opened c.in_ok-run_compare-in-Compare.ensures, refl)
+    rw c.in-Compare.is (
+      compared_at _ _ _ c.in-Compare.first.now c.in-Compare.second.now c.in-Compare.limit _ _ _ _ _ _ _
+          c.in_ok-left-in-Compare.ensures.opened c.in_ok-right-in-Compare.ensures.opened c.in_ok-run_compare-in-Compare.ensures,
+      refl,
+    )
 
 pub returns-in_err-run_compare-in-Compare : goal.returns-in_err-run_compare-in-Compare
 returns-in_err-run_compare-in-Compare g c =
     stopped_run _ _ _ _ _ _ _ _ c.args.request.now _ _ _ c.from_residual-in_err-run_compare-in-Compare.ensures.1
-    (rw c.in-Compare.is (compared_at _ _ _ c.in-Compare.first.now c.in-Compare.second.now c.in-Compare.limit _ _ _ _ _ _ _
-    c.in_ok-left-in-Compare.ensures.opened c.in_ok-right-in-Compare.ensures.opened c.in_err-run_compare-in-Compare.ensures, refl))
+    (rw c.in-Compare.is (
+      compared_at _ _ _ c.in-Compare.first.now c.in-Compare.second.now c.in-Compare.limit _ _ _ _ _ _ _
+          c.in_ok-left-in-Compare.ensures.opened c.in_ok-right-in-Compare.ensures.opened c.in_err-run_compare-in-Compare.ensures,
+      refl,
+    ))
