@@ -1,9 +1,9 @@
 -- One more path, whose file was judged or was not: what was found of the paths before it stays found, and the path adds a place, or a
 -- status that may be the greatest, and its lines.
 use Rattle.std.proofs.Common.{◌≡◌, ℕ, suc, All, ◌+◌, ◌<◌, max, Bool, true, false, List, [], ◌∷◌, ◌++◌, length, map, get_or, take, refl, sym}
-use Rattle.std.proofs.Common.{ap, ap₂, ◌∙◌, subst, arith, append-nil, ◌≤◌, Option, Result, Ok, Err}
+use Rattle.std.proofs.Common.{ap, ◌∙◌, subst, arith, append-nil, ◌≤◌, Option, Result, Ok, Err}
 use Rattle.std.specs.Borrow.{Bor}
-use Rattle.std.specs.List.{AllByRecursion, AllZip, flat_map}
+use Rattle.std.specs.List.{AllByRecursion, AllZip}
 use Rattle.std.proofs.lemmas.Grind.{flat_map-append}
 use Rattle.std.proofs.lemmas.List.{map-append, take_more, take_all, append_assoc, length-map, length-take-le, take-map}
 use Rattle.std.proofs.lemmas.List.Elements.{All-from_recursion}

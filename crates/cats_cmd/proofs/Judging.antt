@@ -1,5 +1,5 @@
 -- The file at one path: what adding a stream to the index says of it, in the words of the run.
-use Rattle.std.proofs.Common.{◌≡◌, ℕ, List, Option, None, Some, Result, Ok, Err, refl, sym, ap, subst, ⊎_elim, ◌⊎◌}
+use Rattle.std.proofs.Common.{◌≡◌, ℕ, List, Option, None, Some, Ok, Err, refl, sym, subst, ⊎_elim}
 use Rattle.std.specs.Io.KnownBytes.{Consumes}
 use Rattle.bid_file.specs.Files.{PlainFile}
 use Rattle.cats_text.specs.Streams.{inner_of, FaultsAt}
@@ -17,12 +17,10 @@ use Rattle.canon.specs.Refusals.{refusal_by_kind, refusal_of}
 use Rattle.canon.specs.declared.fault.CanonFault.{CanonFault}
 use Rattle.canon.specs.declared.fault.CanonFault.TheVariants.{Read, StepLimit, Memory}
 use Rattle.canon.specs.declared.which.Which.TheVariants.{Only}
-use Rattle.cats_cmd.specs.Duplicates.{RefusesStream}
-use Rattle.cats_cmd.specs.Inputs.{IsOpened, IsRefusedByReading, IsRefusedFile, ReadsInput}
-use Rattle.cats_cmd.specs.Internal.Judging.{JudgesAs, JudgesNext}
-use Rattle.cats_cmd.specs.Outcomes.{Outcome, ExceedsSteps, normalise_outcome, text_unless_heavy}
+use Rattle.cats_cmd.specs.Inputs.{IsOpened, IsRefusedByReading, IsRefusedFile}
+use Rattle.cats_cmd.specs.Internal.Judging.{JudgesAs}
+use Rattle.cats_cmd.specs.Outcomes.{ExceedsSteps, normalise_outcome, text_unless_heavy}
 use Rattle.cats_cmd.specs.Runs.{MakesAs}
-use Rattle.cats_cmd.specs.declared.program.Stop.{Stop}
 use Rattle.cats_cmd.specs.declared.program.Stop.TheVariants.{Run}
 use Rattle.cats_cmd.specs.declared.report.RunFault.TheVariants.{Refused}
 use Rattle.cats_cmd.proofs.RunsOfOneFile.{refused_in_reading, refused_in_making}

@@ -1,8 +1,8 @@
 -- What holds of each answer to a request: the statuses of a run that answered, what a request that stopped has written, and that only
 -- `duplicates` reports before it stops.
 use Rattle.std.proofs.Common.{◌≡◌, ◌≢◌, ℕ, List, Option, None, Some, Result, Ok, Err, Bool, true, false, cond, sym, ap, ◌∙◌, subst, arith, ◌≤◌, [], ◌∷◌}
-use Rattle.std.proofs.Common.{refl, ⊎_elim, ◌⊎◌}
-use Rattle.std.specs.Prelude.{nat_lt, IfErr, IsErrAnd, bytes_eq, codes}
+use Rattle.std.proofs.Common.{refl, ⊎_elim}
+use Rattle.std.specs.Prelude.{nat_lt, IsErrAnd, bytes_eq, codes}
 use Rattle.std.proofs.lemmas.Result.{err_from_is_err_and}
 use Rattle.bid_file.specs.Files.{PlainFile}
 use Rattle.cats_text.specs.declared.fault.Kind.{Kind}
@@ -16,7 +16,6 @@ use Rattle.canon.specs.declared.fault.CanonFault.{CanonFault}
 use Rattle.canon.specs.declared.fault.CanonFault.TheVariants.{Read, StepLimit, Memory}
 use Rattle.canon.specs.declared.which.Which.TheVariants.{Only, First, Second, Both}
 use Rattle.cats_cmd.specs.Comparisons.{Compares}
-use Rattle.cats_cmd.specs.Duplicates.{RunsOnPaths}
 use Rattle.cats_cmd.specs.Outcomes.{Outcome, Tells, ExceedsSteps, check_outcome, show_outcome, normalise_outcome, value_outcome, values_within, missing_good}
 use Rattle.cats_cmd.specs.Outcomes.{outcome_unless, text_unless_heavy, outcome_of_difference}
 use Rattle.cats_cmd.specs.Inputs.{IsOpened}

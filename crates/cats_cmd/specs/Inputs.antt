@@ -1,5 +1,5 @@
 -- What a run does with its inputs: which stream was opened at a path, what reading it gave, and why its file was refused.
-use Rattle.std.specs.Prelude.{◌≡◌, ◌≢◌, ◌⊎◌, ℕ, true, false, List, Option, None, Result, Ok, Err}
+use Rattle.std.specs.Prelude.{◌≡◌, ◌≢◌, ◌⊎◌, ℕ, false, List, Option, None, Result, Ok, Err}
 use Rattle.std.specs.Io.KnownBytes.{Consumes}
 use Rattle.bid_file.specs.Files.{PlainFile}
 use Rattle.cats_text.specs.Streams.{inner_of, has_failed, has_ended, ReadsFile, FaultsAt}
@@ -9,7 +9,7 @@ use Rattle.valuation.specs.Auctions.{or_atoms_of}
 use Rattle.prune.specs.SearchSteps.{first_heavy}
 use Rattle.canon.specs.declared.fault.CanonFault.{CanonFault}
 use Rattle.canon.specs.declared.fault.CanonFault.TheVariants.{Read, StepLimit, Memory}
-use Rattle.cats_cmd.specs.Outcomes.{Outcome, ExceedsSteps, normalise_outcome}
+use Rattle.cats_cmd.specs.Outcomes.{Outcome, ExceedsSteps}
 
 -- a stream that was opened at this path and that no call has failed or ended yet
 pub record IsOpened {R : Type 0} (may_open : List ℕ → R → Type 0) (path : List ℕ) (stream : Watched R) : Type 0 where
@@ -34,6 +34,10 @@ module _ {R : Type 0} (remaining : R → Option (List ℕ)) where
     pub bytes : List ℕ
     pub consumes : Consumes (remaining (inner_of old)) (remaining (inner_of new)) bytes
     pub reads : ReadsOrRefuses bytes new answer
+
+  -- the bytes that were read spell this file
+  abbrev pub ReadsFrom : Watched R → Watched R → PlainFile → Type 0
+  ReadsFrom old new file = ReadsInput old new (Ok file)
 
   -- the bytes that were read spell some file
   pub record ReadsSomeFile (old new : Watched R) : Type 0 where

@@ -6,7 +6,7 @@ use Rattle.bid_file.specs.Files.{PlainFile}
 use Rattle.cats_text.specs.Streams.{SendsWhole, SendsPart}
 use Rattle.cats_text.specs.declared.stream.Watched.{Watched}
 use Rattle.canon.specs.declared.which.Which.{Which}
-use Rattle.canon.specs.declared.which.Which.TheVariants.{Only, First, Second, Both}
+use Rattle.canon.specs.declared.which.Which.TheVariants.{Only, First, Second}
 use Rattle.cats_cmd.specs.Comparisons.{Compares}
 use Rattle.cats_cmd.specs.Duplicates.{RunsOnPaths}
 use Rattle.cats_cmd.specs.Inputs.{IsOpened}

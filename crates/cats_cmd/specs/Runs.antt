@@ -8,7 +8,7 @@ use Rattle.canon.specs.declared.fault.CanonFault.{CanonFault}
 use Rattle.canon.specs.declared.fault.CanonFault.TheVariants.{Read, StepLimit, Memory}
 use Rattle.canon.specs.declared.which.Which.{Which}
 use Rattle.canon.specs.declared.which.Which.TheVariants.{Only}
-use Rattle.cats_cmd.specs.Inputs.{ReadsInput, IsRefusedFile}
+use Rattle.cats_cmd.specs.Inputs.{ReadsFrom, IsRefusedFile}
 use Rattle.cats_cmd.specs.Outcomes.{Outcome, Tells, LacksGood, ExceedsSteps}
 use Rattle.cats_cmd.specs.declared.report.RunFault.{RunFault}
 use Rattle.cats_cmd.specs.declared.report.RunFault.TheVariants.{Refused, GoodRange, Sent}
@@ -69,9 +69,6 @@ module _ {A W : Type 0} (contents : W → Option (List ℕ)) (Reads : A → Type
 
 module _ {R W : Type 0} (remaining : R → Option (List ℕ)) (contents : W → Option (List ℕ))
     (outcome : PlainFile → Outcome) where
-  abbrev pub ReadsGiven : Watched R → Watched R → PlainFile → Type 0
-  ReadsGiven before after file = ReadsInput remaining before after (Ok file)
-
   -- the file was refused, and nothing was written
   pub record RefusesFile (before after : Watched R) (old new : Watched W) (which : Which) (fault : CanonFault)
       : Type 0 where
@@ -81,9 +78,9 @@ module _ {R W : Type 0} (remaining : R → Option (List ℕ)) (contents : W → 
 
   -- the contract of such a run, from its input and its output before to those after it
   abbrev pub RunsOnFile : Watched R → Watched R → Watched W → Watched W → Result ℕ RunFault → Type 0
-  RunsOnFile before after old new (Ok status) = WritesText contents (ReadsGiven before after) outcome old new status
+  RunsOnFile before after old new (Ok status) = WritesText contents (ReadsFrom remaining before after) outcome old new status
   RunsOnFile before after old new (Err (Refused which fault)) = RefusesFile before after old new which fault
   RunsOnFile before after old new (Err (GoodRange good)) =
-      MissesGood contents (ReadsGiven before after) outcome old new good
+      MissesGood contents (ReadsFrom remaining before after) outcome old new good
   RunsOnFile before after old new (Err (Sent fault)) =
-      FailsInText contents (ReadsGiven before after) outcome old new fault.written
+      FailsInText contents (ReadsFrom remaining before after) outcome old new fault.written

@@ -1,6 +1,5 @@
 use Rattle.std.proofs.Common.{ℕ, ◌+◌, List, [], arith, length, get_or, ◌∙◌}
 use Rattle.std.specs.Borrow.{Bor}
-use Rattle.cats_cmd.specs.DuplicateTexts.{found_paths}
 use Rattle.cats_cmd.specs.Duplicates.{progress_line, progress_lines}
 use Rattle.cats_cmd.specs.Stops.{ReportsAll}
 use Rattle.cats_cmd.proofs.FindingPlaces.{none_judged, found_more, not_found, found_all, found_first, with_progress, without_progress}
