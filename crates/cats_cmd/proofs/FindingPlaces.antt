@@ -199,13 +199,13 @@ module _ {F E : Type 0} (may_open : List ℕ → F → Type 0) (may_refuse : Lis
       rw s (rw told (rw (one_more_path paths i d l) (judged_more may_open may_refuse remaining limit messages progress (length paths) err
       (map (λ (p : Bor (List ℕ)). p.now) (take i paths)) files (found_paths found) greatest before h path.now more place after j.0 own)))
 
-  pub not_found : (more : List PlainFile) (status last : ℕ) (between after : Watched E)
+  pub not_found : (more : List PlainFile) (status greater last : ℕ) (between after : Watched E)
       → JudgesPathAs may_open may_refuse remaining limit messages files more (get_or paths i d).now before between (Err status)
-      → last ≡ max greatest status → ReportsAll messages (progress_lines progress (i + 1) (length paths) (get_or paths i d).now) between after
+      → last ≡ greater → greater ≡ max greatest status → ReportsAll messages (progress_lines progress (i + 1) (length paths) (get_or paths i d).now) between after
       → HasJudged may_open may_refuse remaining limit messages progress (length paths) err (map (λ p. p.now) (take (i + 1) paths)) more (found_paths found) last
       after
-  not_found more status last between after j e reports =
-      rw e (rw (one_more_path paths i d l) (stopped_more may_open may_refuse remaining limit messages progress (length paths) err
+  not_found more status greater last between after j same e reports =
+      rw (same ∙ e) (rw (one_more_path paths i d l) (stopped_more may_open may_refuse remaining limit messages progress (length paths) err
       (map (λ (p : Bor (List ℕ)). p.now) (take i paths)) files (found_paths found) greatest before h (get_or paths i d).now status more between after j
       (numbered between after reports)))
 

@@ -9,6 +9,7 @@ use std::alloc::{Alloc, Global};
 use std::test::Fail;
 
 /// Files with their paths.
+#[derive(Drop)]
 struct FilesInMemory<'a> {
     files: &'a [(&'a str, &'a [u8])],
     alloc: Global,

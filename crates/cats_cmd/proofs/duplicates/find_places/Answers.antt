@@ -35,7 +35,7 @@ loop-number-preserved g c =
       | in-Err w ↦
           rw w.found-is
           (not_found _ _ _ _ _ _ paths _ i nowhere c.loop-number-test.true _ c.loop-number.found.items c.loop-number.greatest _ c.loop-number.invariant
-          c.judge_path.new.index w.in-Err.status c.match-judge_path.greatest _ _ w.in-Err.ensures (w.greatest-is ∙ w.max-greatest.ensures) reports)
+          c.judge_path.new.index w.in-Err.status w.max-greatest.result c.match-judge_path.greatest _ _ w.in-Err.ensures w.greatest-is w.max-greatest.ensures reports)
     ]
 
 pub returns-in_err-push-in-Ok : goal.returns-in_err-push-in-Ok
