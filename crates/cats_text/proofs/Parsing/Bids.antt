@@ -21,7 +21,7 @@ use Rattle.cats_text.specs.declared.parser.Column.TheVariants.{Later}
 use Rattle.bid_file.specs.declared.limits.TheConstants.{MAX_BIDS}
 use Rattle.cats_text.proofs.Words.Places.{digit_bounds, places_from, places-six, places_below_one, place_not_zero}
 use Rattle.cats_text.proofs.Words.Kept.{Tells, Holds, whole-digits, whole-point, places-point}
-use Rattle.cats_text.proofs.Words.Tests.{IsTold, tells_number}
+use Rattle.cats_text.proofs.Words.Tests.{IsTold}
 use Rattle.cats_text.proofs.Parsing.States.{IsAt, WordFollows}
 use Rattle.cats_text.proofs.Parsing.Headers.{holds_le, holds_same}
 use Rattle.cats_text.proofs.Parsing.NumbersTaken.{taken}
@@ -52,13 +52,6 @@ none_due bids count = elim (leb bids count) as (λ b. leb bids count ≡ b → e
   | true ↦ λ (h : leb bids count ≡ true). let l : bids ≤ count = leb-true bids count h in eq-eqb (bids - count) 0 (omega arith)
   | false ↦ λ (h : leb bids count ≡ false). let l : count < bids = leb-false bids count h in ne_eqb (bids - count) 0 (λ e. absurd (omega arith))
 ] refl
-
-not_number : (p : Progress) (s : Word) → tells_number s ≡ false → number_read p s ≡ Err kinds.NotANumber
-not_number p (Number v) h = absurd (both_ways true h refl)
-not_number p (Keyword j n) h = refl
-not_number p (Fraction d) h = refl
-not_number p End h = refl
-not_number p Other h = refl
 
 number_follows : (g b d : List (List ℕ)) (lines : List (List (List ℕ))) (w : List ℕ) (v : ℕ) (p : Progress) → Tells w (Number v) → IsAt (g ∷ b ∷ d ∷ lines) [] p
     → WordFollows (g ∷ b ∷ d ∷ lines) [] w (number_read p (Number v))

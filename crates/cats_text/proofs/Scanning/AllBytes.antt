@@ -161,14 +161,6 @@ state_ok s t h = cc
 no_state : (e : ReadFault) (t : State) → fails e ≡ done t → ⊥
 no_state e t h = cc
 
--- behind a line feed a line begins
-pub behind_feed : (s t : State) → byte_step s 10 ≡ Ok t → t.mode ≡ Start
-behind_feed s t e = by_words (and_then (blank_step s) words_step) e
-  where
-    by_words : (r : Scan) → and_then r next_line ≡ Ok t → t.mode ≡ Start
-    by_words (Ok u) f = ap (λ (v : State). v.mode) (sym (state_ok (record u { mode = Start; line = suc u.line }) t f))
-    by_words (Err c) f = absurd (no_state c t f)
-
 begun_reading : (s t : State) (r : Reading) → with_reading s Between r ≡ done t → HasBegun s t
 begun_reading s t (Ok q) e = subst (HasBegun s) (state_ok (record s { mode = Between; progress = q }) t e) (record { line = refl; behind = refl })
 begun_reading s t (Err kind) e = absurd (no_state (fault_at s.line kind) t e)

@@ -96,10 +96,6 @@ scan_return_at s0 s t w v bytes place l e p step q =
 
 -- ---- several bytes at once
 
--- nothing yet
-pub scanned_none : (s : State) (w : Bool) (bytes : List ℕ) → w ≡ false → IsScanned s s w bytes bytes
-scanned_none s w bytes e = record { steps = refl; asks = λ m. m; last = λ l. refl; going = λ l. e; ended = λ q. e ∙ sym (ap waits q) }
-
 -- one scan behind another
 pub scanned_then : (s0 s t : State) (w v : Bool) (bytes mid rest : List ℕ) → IsScanned s0 s w bytes mid → IsScanned s t v mid rest
     → (0 < length rest → 0 < length mid) → (mid ≡ [] → rest ≡ [] → v ≡ w) → IsScanned s0 t v bytes rest

@@ -160,31 +160,6 @@ word_halts s t u v bytes word taken Memory halt before front read asks e =
 
 -- ---- one word after another
 
-front_some : (bytes : List ℕ) (w : Word) (taken : ℕ) → IsFront bytes w taken → (0 < taken) × (0 < length bytes)
-front_some bytes w taken front =
-    let some : 0 < front.count = front.kept.some in
-    let within : front.count < length bytes = front.within in
-    let is : taken ≡ front.count + cond (eqb (get_or bytes front.count 0) 10) 0 1 = front.is in
-    (omega arith, omega arith)
-
-pub word_more : (s0 s : State) (p : Progress) (w v : Bool) (bytes : List ℕ) (place : ℕ) (word : Word) (taken : ℕ) → IsScanned s0 s w bytes (drop place bytes)
-    → is_before_word s.mode ≡ true → IsFront (drop place bytes) word taken
-    → word_read s.progress word ≡ Ok p → p.stage ≡ s.progress.stage → v ≡ false → IsScanned s0 (behind_word s p) v bytes (drop (place + taken) bytes)
-    × (place + taken ≤ length bytes) × (0 < taken)
-word_more s0 s p w v bytes place word taken so_far before front read stage e =
-    let some = front_some (drop place bytes) word taken front in
-    let long : 0 < length (drop place bytes) = some.1 in
-    let left : length (drop place bytes) ≡ length bytes - place = length-drop place bytes in
-    let here : IsScanned s (behind_word s p) v (drop place bytes) (drop taken (drop place bytes)) × (taken ≤ length (drop place bytes)) =
-    word_taken s p v (drop place bytes) word taken before front read stage e in
-    let most : taken ≤ length (drop place bytes) = here.1 in (
-      subst (IsScanned s0 (behind_word s p) v bytes) (drop-drop taken place bytes)
-          (scanned_then s0 s (behind_word s p) w v bytes (drop place bytes) (drop taken (drop place bytes)) so_far here.0 (λ l. omega arith)
-          (λ q l. absurd (let none : length (drop place bytes) ≡ 0 = ap length q in omega arith))),
-      omega arith,
-      some.0,
-    )
-
 -- ---- a call on the rest of the bytes
 
 -- (where none is left, whether a CR waits stays)
@@ -215,12 +190,6 @@ pub rest_stops_to : (s0 s t u : State) (w v x : Bool) (bytes : List ℕ) (place 
 rest_stops_to s0 s t u w v x bytes place (halts.Fault e) so_far stop = sym so_far.steps ∙ subst (λ ds. scan s (settled ds) ≡ Err e) (rest_is bytes place) stop
 rest_stops_to s0 s t u w v x bytes place halts.Memory so_far stop = so_far.asks (subst (λ ds. MeetsBidLine s (settled ds)) (rest_is bytes place) stop)
 
-pub rest_stops : (s0 s t u : State) (w v : Bool) (bytes : List ℕ) (place : ℕ) (halt : Halt) → IsScanned s0 s w bytes (drop place bytes)
-    → ScansTo s t v (take (length bytes - place) (drop place bytes)) (Err halt)
-    → Steps {A = Unit {0}} u (Err halt) (scan s0 (settled bytes)) × Asks {A = Unit {0}} s0 (settled bytes) (Err halt)
-rest_stops s0 s t u w v bytes place (halts.Fault e) so_far stop = (sym so_far.steps ∙ subst (λ ds. scan s (settled ds) ≡ Err e) (rest_is bytes place) stop, tt)
-rest_stops s0 s t u w v bytes place halts.Memory so_far stop = (tt, so_far.asks (subst (λ ds. MeetsBidLine s (settled ds)) (rest_is bytes place) stop))
-
 -- behind that call a byte stopped
 pub byte_stops : (s0 s t u : State) (w v : Bool) (bytes : List ℕ) (place count : ℕ) (halt : Halt) → place < length bytes
     → IsScanned s0 s w bytes (drop place bytes) → ScansTo s t v (take (length bytes - place) (drop place bytes)) (Ok count)
@@ -240,12 +209,6 @@ byte_stops s0 s t u w v bytes place count halt l so_far next here ne steps asks 
     at_byte s0 t u v bytes rest b later (halts.Fault e) so_far split steps asks =
         (sym so_far.steps ∙ ap (scan t) split ∙ ap (λ r. and_then r (λ x. scan x later)) steps, tt)
     at_byte s0 t u v bytes rest b later halts.Memory so_far split steps asks = (tt, so_far.asks (subst (MeetsBidLine t) (sym split) (inl asks)))
-
--- as a scan that stopped
-pub scans_to : (s0 u t : State) (v : Bool) (bytes : List ℕ) (halt : Halt) → Steps {A = Unit {0}} u (Err halt) (scan s0 (settled bytes))
-    → Asks {A = Unit {0}} s0 (settled bytes) (Err halt) → ScansTo s0 t v bytes (Err halt)
-scans_to s0 u t v bytes (halts.Fault e) steps asks = steps
-scans_to s0 u t v bytes halts.Memory steps asks = asks
 
 -- what a `?` answers
 pub residual_is : {A : Type 0} (r : Result A Halt) (halt : Halt) (P : Result A Halt → Type 0) → IsErr r → IsErrAnd r (λ h. h ≡ halt) → P (Err halt) → P r

@@ -25,9 +25,6 @@ one_at-same x = rw (eq-eqb x x refl) refl
 one_at-other : (x g : ℕ) → x ≢ g → one_at g x ≡ 0
 one_at-other x g ne = rw (ne_eqb x g ne) refl
 
-one_at-le : (x g : ℕ) → one_at g x ≤ 1
-one_at-le x g = elim (eqb x g) as (λ b. cond b 1 0 ≤ 1) [ true ↦ omega arith | false ↦ omega arith ]
-
 times-none : (x : ℕ) (xs : List ℕ) → AllByRecursion (λ y. x ≢ y) xs → times xs x ≡ 0
 times-none x [] h = refl
 times-none x (y ∷ ys) h =

@@ -171,10 +171,6 @@ EndsFinal [] = Unit {0}
 EndsFinal (b ∷ []) = is_final b ≡ true
 EndsFinal (b ∷ c ∷ cs) = EndsFinal (c ∷ cs)
 
-tail_final : (b : ℕ) (bs : List ℕ) → EndsFinal (b ∷ bs) → EndsFinal bs
-tail_final b [] h = tt
-tail_final b (c ∷ cs) h = h
-
 blank_front : (l : RawLine) (ls : List RawLine) → l.ended ≡ true → EndsBlank ls → EndsBlank (l ∷ ls)
 blank_front l [] e h = λ f. absurd (both_ways l.ended f e)
 blank_front l (m ∷ ls) e h = h

@@ -213,10 +213,6 @@ is_number-not : (w : List ℕ) → digits_alone w ≡ false → is_number w ≡ 
 is_number-not [] h = refl
 is_number-not (a ∷ w) h = h
 
-is_number-digits : (w : List ℕ) → is_number w ≡ true → digits_alone w ≡ true
-is_number-digits [] h = refl
-is_number-digits (a ∷ w) h = h
-
 -- behind digits, a point and digits, a byte that is no digit
 fraction_other : (a : ℕ) (w behind : List ℕ) (b : ℕ) (t : List ℕ) → digits_alone (a ∷ w) ≡ true → is_digit b ≡ false
     → IsOther ((a ∷ w) ++ 46 ∷ (behind ++ b ∷ t))

@@ -72,9 +72,6 @@ places_below_one bs h = at 6 0 bs h refl
 
 -- ---- places that are not 0
 
-six_later : (n : ℕ) → n < 6 → 6 - n ≡ suc (6 - suc n)
-six_later n l = omega arith
-
 place_value_pos : (n : ℕ) → n < 6 → 0 < place_value_of n
 place_value_pos zero l = omega arith
 place_value_pos (suc zero) l = omega arith
