@@ -1,11 +1,37 @@
 //! Readers and writers that are watched for failures, and reading a stream.
 
-ghost use Rattle.std.specs.Prelude.{◌≡◌, ℕ, List, ◌≢◌, ◌||◌, false, true, IsTrue, IsErr, is_err, IfErr, [], None, Ok, codes};
+ghost use Rattle.std.specs.Prelude.{
+  ◌≡◌,
+  ℕ,
+  List,
+  ◌≢◌,
+  ◌||◌,
+  false,
+  true,
+  IsTrue,
+  IsErr,
+  is_err,
+  IfErr,
+  [],
+  None,
+  Ok,
+  codes,
+};
 ghost use Rattle.std.specs.Io.{ReadsAtMost, WritesAtMost};
 ghost use Rattle.std.specs.Io.KnownBytes.{Consumes, Keeps, ReadConsumes, WriteAppends};
 ghost use Rattle.std.specs.IoError.{error_kind};
 ghost use Rattle.cats_text.specs.Faults.{fault_at};
-ghost use Rattle.cats_text.specs.Streams.{inner_of, has_failed, has_ended, moved_nothing, failed_to_write, ReadsAs, ReadsPlainAs, ChecksAs, FeedsFrom};
+ghost use Rattle.cats_text.specs.Streams.{
+  inner_of,
+  has_failed,
+  has_ended,
+  moved_nothing,
+  failed_to_write,
+  ReadsAs,
+  ReadsPlainAs,
+  ChecksAs,
+  FeedsFrom,
+};
 
 use crate::fault::{Kind, ReadFault};
 use crate::feeder::Feeder;
