@@ -22,7 +22,7 @@ use Rattle.cats_cmd.specs.Inputs.{IsOpened}
 use Rattle.cats_cmd.specs.Requests.{AnswersRequest, CarriesOut, ComparesAt, RunsAt, RunsFor, StopsRequest}
 use Rattle.cats_cmd.specs.Runs.{RunsOnFile}
 use Rattle.cats_cmd.specs.Statuses.{status_of_canon_fault, status_of_read_fault}
-use Rattle.cats_cmd.specs.Stops.{IsSilent, Reports, is_for_many_files, line_of_stop, names_duplicates, status_of_stop}
+use Rattle.cats_cmd.specs.Stops.{Reports, is_for_many_files, line_of_stop, names_duplicates, status_of_stop}
 use Rattle.cats_cmd.specs.ValueTexts.{bundle_from, value_text}
 use Rattle.cats_cmd.specs.declared.program.Stop.{Stop}
 use Rattle.cats_cmd.specs.declared.program.Stop.TheVariants.{CannotOpen, Run}
@@ -75,6 +75,13 @@ few_files [] (Duplicates files limit progress) named few = absurd (named)
 few_files words request named few = refl
 
 -- ---- runs
+
+-- nothing was written, unless it is the output that failed
+abbrev IsSilent : {W : Type 0} → Stop → Watched W → Watched W → Type 0
+IsSilent (CannotOpen which) old new = new ≡ old
+IsSilent (Run (Refused which fault)) old new = new ≡ old
+IsSilent (Run (GoodRange good)) old new = new ≡ old
+IsSilent (Run (Sent fault)) old new = Unit {0}
 
 module _ {R W : Type 0} (remaining : R → Option (List ℕ)) (contents : W → Option (List ℕ)) (outcome : PlainFile → Outcome) (before after : Watched R)
     (old new : Watched W) where

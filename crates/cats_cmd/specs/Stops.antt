@@ -10,7 +10,6 @@ use Rattle.command_line.specs.declared.request.Request.{Request}
 use Rattle.command_line.specs.declared.request.Request.TheVariants.{Duplicates}
 use Rattle.cats_cmd.specs.declared.program.Stop.{Stop}
 use Rattle.cats_cmd.specs.declared.program.Stop.TheVariants.{CannotOpen, Run}
-use Rattle.cats_cmd.specs.declared.report.RunFault.TheVariants.{Refused, GoodRange, Sent}
 
 -- whether each of a request's files may be refused, and the others go on
 abbrev pub is_for_many_files : Request → Bool
@@ -29,14 +28,6 @@ status_of_stop (Run fault) = status_of_fault fault
 abbrev pub line_of_stop : Stop → List ℕ
 line_of_stop (CannotOpen which) = prefix_of which ++ codes "cannot open\n"
 line_of_stop (Run fault) = line_of_fault fault
-
-module _ {W : Type 0} where
-  -- nothing was written, unless it is the output that failed
-  abbrev pub IsSilent : Stop → Watched W → Watched W → Type 0
-  IsSilent (CannotOpen which) old new = new ≡ old
-  IsSilent (Run (Refused which fault)) old new = new ≡ old
-  IsSilent (Run (GoodRange good)) old new = new ≡ old
-  IsSilent (Run (Sent fault)) old new = Unit {0}
 
 -- ---- what is sent to a stream for messages
 

@@ -4,14 +4,7 @@ ghost use Rattle.std.specs.Prelude.{◌≡◌, ◌≢◌, ◌≤◌, ℕ, List, 
 ghost use Rattle.cats_text.specs.Streams.{has_failed};
 ghost use Rattle.cats_cmd.specs.Inputs.{IsOpened};
 ghost use Rattle.cats_cmd.specs.Requests.{AnswersLine, AnswersNoRequest, AnswersRequest, CarriesOut};
-ghost use Rattle.cats_cmd.specs.Stops.{
-  IsSilent,
-  Reports,
-  is_for_many_files,
-  line_of_stop,
-  names_duplicates,
-  status_of_stop,
-};
+ghost use Rattle.cats_cmd.specs.Stops.{Reports, is_for_many_files, line_of_stop, names_duplicates, status_of_stop};
 
 use crate::check::run_check;
 use crate::compare::run_compare;

@@ -1,6 +1,6 @@
 //! Worked examples of what the runs print, computed by the prover.
 
-ghost use Rattle.std.specs.Prelude.{◌≡◌, ℕ, List, [], ◌∷◌, map, codes, Vec, Ok, Err, true, false};
+ghost use Rattle.std.specs.Prelude.{◌≡◌, ℕ, [], ◌∷◌, map, codes, Vec, Ok, Err, true, false};
 ghost use Rattle.std.specs.Global.{Global};
 ghost use Rattle.cats_text.specs.declared.fault.Kind.TheVariants.{
   TwoDummies,

@@ -1,6 +1,6 @@
 //! The text that `cats compare` prints.
 
-ghost use Rattle.std.specs.Prelude.{◌≡◌, ◌++◌, IfOk, OnOk, codes};
+ghost use Rattle.std.specs.Prelude.{◌≡◌, ◌++◌, IfOk, codes};
 ghost use Rattle.canon.specs.Verdicts.{plain_verdict, told_atoms};
 ghost use Rattle.cats_cmd.specs.DifferenceTexts.{bidder_text, difference_text, parted_text, side_text};
 

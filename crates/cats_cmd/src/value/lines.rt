@@ -1,6 +1,6 @@
 //! The lines that `cats value` prints.
 
-ghost use Rattle.std.specs.Prelude.{◌≡◌, ◌<◌, ◌++◌, ◌∷◌, [], All, IfSome, OnOk, codes, decimal, length, map};
+ghost use Rattle.std.specs.Prelude.{◌≡◌, ◌<◌, ◌++◌, ◌∷◌, All, IfSome, OnOk, codes, length, map};
 ghost use Rattle.std.specs.List.{flat_map, range_with_len};
 ghost use Rattle.cats_text.specs.Layout.{price_text};
 ghost use Rattle.bid_file.specs.Views.{plain_file};

@@ -1,6 +1,6 @@
 //! The numbers of the bids behind an auction's atoms.
 
-ghost use Rattle.std.specs.Prelude.{◌≡◌, List, [], IfOk, map, replicate};
+ghost use Rattle.std.specs.Prelude.{◌≡◌, [], IfOk, map, replicate};
 ghost use Rattle.std.specs.List.{range_with_len};
 ghost use Rattle.bid_file.specs.Views.{plain_file};
 ghost use Rattle.cats_cmd.specs.ValueTexts.{lists_of, or_numbers, xor_numbers};
