@@ -1,0 +1,69 @@
+-- Decimals as words: one or more digits with at most one point before, among or behind them; then perhaps `e` or `E`, a
+-- sign or none, and one or more digits. The value is exact, however long the word is.
+use Rattle.std.specs.Prelude.{ℕ, suc, ◌+◌, ◌-◌, ◌*◌, ◌^◌, ◌==◌, Bool, true, false, not, ◌&&◌, ◌||◌, if◌then◌else◌}
+use Rattle.std.specs.Prelude.{[], ◌∷◌, ◌++◌, length, min}
+use Rattle.std.specs.List.{list_any}
+use Rattle.cats_text.specs.Lines.{Word}
+use Rattle.cats_text.specs.Numbers.{is_number, number_of, whole_part, places}
+
+-- ---- the parts of a word
+
+-- `e` or `E`
+abbrev pub is_exponent_mark : ℕ → Bool
+is_exponent_mark b = (b == 101) || (b == 69)
+
+-- the bytes before the first `e` or `E`, and those behind it
+abbrev pub significand : Word → Word
+significand [] = []
+significand (b ∷ bs) = if is_exponent_mark b then [] else b ∷ significand bs
+
+abbrev pub exponent : Word → Word
+exponent [] = []
+exponent (b ∷ bs) = if is_exponent_mark b then bs else exponent bs
+
+abbrev pub has_exponent : Word → Bool
+has_exponent w = list_any is_exponent_mark w
+
+-- `+` or `-`
+abbrev pub is_sign : ℕ → Bool
+is_sign b = (b == 43) || (b == 45)
+
+abbrev pub without_sign : Word → Word
+without_sign [] = []
+without_sign (b ∷ bs) = if is_sign b then bs else b ∷ bs
+
+abbrev pub has_minus : Word → Bool
+has_minus [] = false
+has_minus (b ∷ bs) = b == 45
+
+-- the digits before the point and those behind it, as one run
+abbrev pub digits : Word → Word
+digits w = whole_part (significand w) ++ places (significand w)
+
+abbrev pub is_decimal : Word → Bool
+is_decimal w = is_number (digits w) && (not (has_exponent w) || is_number (without_sign (exponent w)))
+
+-- ---- the value of a decimal
+
+-- The number that the digits spell. In millionths the value is this number, ten times as large as often as `raised`
+-- says, and a tenth as large as often as `lowered` says.
+abbrev pub mantissa : Word → ℕ
+mantissa w = number_of (digits w)
+
+abbrev pub exponent_size : Word → ℕ
+exponent_size w = number_of (without_sign (exponent w))
+
+abbrev pub raised : Word → ℕ
+raised w = 6 + (if has_minus (exponent w) then 0 else exponent_size w)
+
+abbrev pub lowered : Word → ℕ
+lowered w = length (places (significand w)) + (if has_minus (exponent w) then exponent_size w else 0)
+
+-- The same as a fraction, in which one of the two powers of ten is 1. They are cut where a greater one has the same
+-- replacement, by the law `laws::cut_powers`: 10^19 millionths are above the greatest price, and a number of some digits is
+-- less than half of the power that has one place more than it has digits. So a long exponent makes no large number.
+abbrev pub top : Word → ℕ
+top w = mantissa w * 10 ^ min 19 (raised w - lowered w)
+
+abbrev pub bottom : Word → ℕ
+bottom w = 10 ^ min (suc (length (digits w))) (lowered w - raised w)

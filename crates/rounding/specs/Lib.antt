@@ -1,0 +1,5 @@
+-- What the contracts of this crate cite.
+pub mod Decimals
+pub mod Nearest
+pub mod Replacements
+pub mod Texts

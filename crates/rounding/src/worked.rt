@@ -1,0 +1,83 @@
+//! Worked rows of the definitions, computed by the prover.
+
+ghost use Rattle.std.specs.Prelude.{◌≡◌, ◌^◌, List, [], ◌∷◌, ◌++◌, map, true, false, codes, Some, None};
+ghost use Rattle.cats_text.specs.Faults.{first_fault, fault_at};
+ghost use Rattle.cats_text.specs.declared.fault.Kind.TheVariants.{TooLarge as IsTooLarge, TooFine as IsTooFine, NotANumber};
+ghost use Rattle.rounding.specs.Decimals.{is_decimal, top, bottom};
+ghost use Rattle.rounding.specs.Nearest.{nearest};
+ghost use Rattle.rounding.specs.Replacements.{replacement, rounded_word};
+ghost use Rattle.rounding.specs.Texts.{rounded_text, rounded_prices};
+ghost use Rattle.rounding.specs.declared.replacement.FinePrices.TheVariants.{Round, Refuse};
+ghost use Rattle.rounding.specs.declared.replacement.Replacement.TheVariants.{Itself, Exact, Rounded, TooLarge, TooFine};
+
+/// Words that are decimals, and words that are none.
+pub fn decimals()
+    ensures decimals { map is_decimal (codes "1e6" ∷ codes "1.02345e+06" ∷ codes "1E-3" ∷ codes ".5" ∷ codes "5."
+        ∷ codes "0e999999999" ∷ codes "007" ∷ []) ≡ true ∷ true ∷ true ∷ true ∷ true ∷ true ∷ true ∷ [] }
+    ensures others { map is_decimal (codes "1,5" ∷ codes "-1" ∷ codes "+1" ∷ codes "." ∷ codes "" ∷ codes "1e"
+        ∷ codes "e5" ∷ codes "1e+" ∷ codes "1e5.0" ∷ codes "1.2.3" ∷ codes "0x1p3" ∷ codes "nan" ∷ codes "1e--5" ∷ []) ≡
+        false ∷ false ∷ false ∷ false ∷ false ∷ false ∷ false ∷ false ∷ false ∷ false ∷ false ∷ false ∷ false ∷ [] }
+{}
+
+/// Values in millionths, as a fraction.
+pub fn values()
+    ensures tops { map top (codes "1e6" ∷ codes "1.02345e+06" ∷ codes "1E-3" ∷ codes "0.0123456" ∷ codes "1e-7"
+        ∷ codes "0e999999999" ∷ codes "1e999999999" ∷ []) ≡
+        1000000000000 ∷ 1023450000000 ∷ 1000 ∷ 123456 ∷ 1 ∷ 0 ∷ 10 ^ 19 ∷ [] }
+    ensures bottoms { map bottom (codes "1e6" ∷ codes "1.02345e+06" ∷ codes "1E-3" ∷ codes "0.0123456" ∷ codes "1e-7"
+        ∷ codes "12e-999999999" ∷ []) ≡ 1 ∷ 1 ∷ 1 ∷ 10 ∷ 10 ∷ 1000 ∷ [] }
+{}
+
+/// Fractions and the nearest whole numbers.
+pub fn nearest_numbers()
+    ensures { nearest 4 10 ∷ nearest 5 10 ∷ nearest 6 10 ∷ nearest 15 10 ∷ nearest 25 10 ∷ nearest 251 100 ∷ nearest 7 1 ∷ [] ≡
+        0 ∷ 0 ∷ 1 ∷ 2 ∷ 2 ∷ 3 ∷ 7 ∷ [] }
+{}
+
+/// What is written in the place of words, if fine prices are rounded.
+pub fn replacements()
+    ensures exact { map (replacement Round) (codes "1e6" ∷ codes "1.02345e+06" ∷ codes "1E-3" ∷ codes ".5" ∷ codes "5."
+        ∷ codes "0e999999999" ∷ codes "1e12" ∷ []) ≡ Exact 1000000000000 ∷ Exact 1023450000000 ∷ Exact 1000 ∷ Exact 500000
+        ∷ Exact 5000000 ∷ Exact 0 ∷ Exact (10 ^ 18) ∷ [] }
+    ensures rounded { map (replacement Round) (codes "0.0123456" ∷ codes "0.00000049" ∷ codes "0.0000005" ∷ codes "0.0000015"
+        ∷ codes "1e-7" ∷ codes "1000000000000.0000001" ∷ codes "12e-999999999" ∷ []) ≡ Rounded 12346 ∷ Rounded 0 ∷ Rounded 0
+        ∷ Rounded 2 ∷ Rounded 0 ∷ Rounded (10 ^ 18) ∷ Rounded 0 ∷ [] }
+    ensures large { map (replacement Round) (codes "1e13" ∷ codes "1e999999999" ∷ codes "1000000000000.0000006" ∷ []) ≡
+        TooLarge ∷ TooLarge ∷ TooLarge ∷ [] }
+    ensures kept { map (replacement Round) (codes "1,5" ∷ codes "-1" ∷ codes "007.50" ∷ codes "1000000000000.0000000" ∷ []) ≡
+        Itself ∷ Itself ∷ Itself ∷ Itself ∷ [] }
+{}
+
+/// The same, if fine prices are refused.
+pub fn refusals()
+    ensures exact { map (replacement Refuse) (codes "1e6" ∷ codes "1.02345e+06" ∷ codes "1E-3" ∷ codes ".5" ∷ codes "5."
+        ∷ codes "0e999999999" ∷ codes "1e12" ∷ []) ≡ Exact 1000000000000 ∷ Exact 1023450000000 ∷ Exact 1000 ∷ Exact 500000
+        ∷ Exact 5000000 ∷ Exact 0 ∷ Exact (10 ^ 18) ∷ [] }
+    ensures fine { map (replacement Refuse) (codes "0.0123456" ∷ codes "0.00000049" ∷ codes "0.0000005" ∷ codes "0.0000015"
+        ∷ codes "1e-7" ∷ codes "12e-999999999" ∷ []) ≡ TooFine ∷ TooFine ∷ TooFine ∷ TooFine ∷ TooFine ∷ TooFine ∷ [] }
+    ensures large { map (replacement Refuse) (codes "1e13" ∷ codes "1e999999999" ∷ codes "1000000000000.0000001" ∷ []) ≡
+        TooLarge ∷ TooLarge ∷ TooLarge ∷ [] }
+    ensures kept { map (replacement Refuse) (codes "1,5" ∷ codes "-1" ∷ codes "007.50" ∷ []) ≡ Itself ∷ Itself ∷ Itself ∷ [] }
+{}
+
+/// The words that are written.
+pub fn words()
+    ensures { map (rounded_word Round) (codes "1e6" ∷ codes "1.02345e+06" ∷ codes "0.0123456" ∷ codes "007.50" ∷ codes "1,5"
+        ∷ []) ≡ codes "1000000" ∷ codes "1023450" ∷ codes "0.012346" ∷ codes "007.50" ∷ codes "1,5" ∷ [] }
+{}
+
+/// A text whose lines end with CR and LF, with a comment, tabs, and no LF at its end.
+pub fn texts()
+    ensures text { rounded_text Round (codes "goods 1e0\r\nbids 2\ndummy 0 1e1\n% 0 1e3\r\n\t1 \t1E-3\t0 1e2 #\r\n0 0.0123456\r") ≡
+        codes "goods 1e0\r\nbids 2\ndummy 0 1e1\n% 0 1e3\r\n\t1 \t0.001\t0 1e2 #\r\n0 0.012346\r" }
+    ensures prices { rounded_prices Round (codes "goods 1e0\r\nbids 2\ndummy 0 1e1\n% 0 1e3\r\n\t1 \t1E-3\t0 1e2 #\r\n0 0.0123456\r") ≡
+        record { line = 6; word = codes "0.0123456"; price = 12346 } ∷ [] }
+{}
+
+/// The first faults of texts with a price that is refused.
+pub fn faults()
+    ensures large { first_fault (rounded_text Round (codes "goods 1\nbids 1\ndummy 0\n0 1e13 0 #\n")) ≡ Some (fault_at 4 IsTooLarge) }
+    ensures fine { first_fault (rounded_text Refuse (codes "goods 1\nbids 1\ndummy 0\n0 1e-7 0 #\n")) ≡ Some (fault_at 4 IsTooFine) }
+    ensures none { first_fault (rounded_text Round (codes "goods 1\nbids 1\ndummy 0\n0 1e-7 0 #\n")) ≡ None }
+    ensures no_decimal { first_fault (rounded_text Round (codes "goods 1\nbids 1\ndummy 0\n0 1,5 0 #\n")) ≡ Some (fault_at 4 NotANumber) }
+{}
