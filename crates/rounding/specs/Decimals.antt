@@ -1,6 +1,6 @@
 -- Decimals as words: one or more digits with at most one point before, among or behind them; then perhaps `e` or `E`, a
 -- sign or none, and one or more digits. The value is exact, however long the word is.
-use Rattle.std.specs.Prelude.{ℕ, suc, ◌+◌, ◌-◌, ◌*◌, ◌^◌, ◌==◌, Bool, true, false, not, ◌&&◌, ◌||◌, if◌then◌else◌}
+use Rattle.std.specs.Prelude.{ℕ, suc, ◌+◌, ◌-◌, ◌*◌, ◌^◌, ◌==◌, Bool, false, not, ◌&&◌, ◌||◌, if◌then◌else◌}
 use Rattle.std.specs.Prelude.{[], ◌∷◌, ◌++◌, length, min}
 use Rattle.std.specs.List.{list_any}
 use Rattle.cats_text.specs.Lines.{Word}

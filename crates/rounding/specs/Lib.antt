@@ -3,3 +3,6 @@ pub mod Decimals
 pub mod Nearest
 pub mod Replacements
 pub mod Texts
+pub mod Views
+pub mod Answers
+pub mod Internal

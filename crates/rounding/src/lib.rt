@@ -2,7 +2,13 @@
 //! it reads, and where it is finer than a millionth it is rounded.
 #![tactic(auto)]
 
+mod decimal;
+mod digits;
+mod line;
 mod replacement;
+mod text;
+mod value;
 pub mod worked;
 
-pub use replacement::{FinePrices, Replacement};
+pub use replacement::{FinePrices, Replacement, replacement_of};
+pub use text::{RoundedPrice, RoundedText, round};

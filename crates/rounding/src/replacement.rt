@@ -1,5 +1,15 @@
 //! What is written in the place of a price.
 
+ghost use Rattle.std.specs.Prelude.{◌≡◌, is_none};
+ghost use Rattle.cats_text.specs.Faults.{price_word};
+ghost use Rattle.cats_text.specs.Numbers.{is_price, is_too_large, is_too_fine};
+ghost use Rattle.rounding.specs.Replacements.{replacement};
+
+use crate::decimal::{is_decimal, places, whole_part};
+use crate::digits::{has_place, held_number, is_number};
+use crate::value::value_of;
+use bid_file::MAX_PRICE;
+
 /// What becomes of a decimal that is no whole number of millionths.
 #[derive(Clone, Copy, PartialEq, Eq, Debug, Drop)]
 pub enum FinePrices {
@@ -22,4 +32,54 @@ pub enum Replacement {
     TooLarge,
     /// A price that is too fine.
     TooFine,
+}
+
+/// The greatest price, in whole units.
+const GREATEST_UNITS: u64 = MAX_PRICE / 1_000_000;
+
+/// Whether a word is digits, or digits, a point, and digits.
+fn is_price(word: &[u8]) -> bool
+    ensures { result ≡ is_price word.now }
+{
+    let whole = whole_part(word);
+    if !is_number(whole) {
+        return false;
+    }
+    whole.len() == word.len() || is_number(places(word))
+}
+
+/// Whether a price is above the greatest one.
+fn is_too_large(word: &[u8]) -> bool
+    ensures { result ≡ is_too_large word.now }
+{
+    let units = held_number(whole_part(word), 0, GREATEST_UNITS + 1);
+    units > GREATEST_UNITS || (units == GREATEST_UNITS && has_place(places(word)))
+}
+
+/// Whether a price has a digit other than 0 behind its sixth place.
+fn is_too_fine(word: &[u8]) -> bool
+    ensures { result ≡ is_too_fine word.now }
+{
+    let places = places(word);
+    places.len() > 6 && has_place(&places[6..])
+}
+
+/// Whether a word is a price that is read without a fault.
+fn is_exact_price(word: &[u8]) -> bool
+    ensures { result ≡ is_none (price_word word.now) }
+{
+    is_price(word) && !is_too_large(word) && !is_too_fine(word)
+}
+
+/// What is written in the place of a word that has to be a price.
+pub fn replacement_of(word: &[u8], fine: FinePrices) -> Replacement
+    ensures { result ≡ replacement fine word.now }
+{
+    if is_exact_price(word) || !is_decimal(word) {
+        return Replacement::Itself;
+    }
+    match fine {
+        FinePrices::Round => value_of(word).rounded(),
+        FinePrices::Refuse => value_of(word).exact(),
+    }
 }

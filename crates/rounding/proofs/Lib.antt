@@ -1,0 +1,5 @@
+pub mod Spans
+pub mod Words
+pub mod Worth
+pub mod Deciding
+pub mod TextLines

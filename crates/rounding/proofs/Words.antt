@@ -1,0 +1,143 @@
+-- Words and lines: digits in two runs, blanks, the first word and the second.
+use Rattle.std.specs.Prelude.{if◌then◌else◌}
+use Rattle.std.proofs.Common.{◌≡◌, ℕ, zero, suc, ◌+◌, ◌-◌, ◌<◌, ◌≤◌, Bool, true, false, not, ◌&&◌, ◌||◌, eqb, List, [], ◌∷◌, ◌++◌, length, take, drop, get_or, refl, sym, ap, ◌∙◌, ⊎_elim}
+use Rattle.std.proofs.Common.{arith, drop-cons, length-append, append_assoc}
+use Rattle.std.proofs.lemmas.Bool.{both_ways, cases_Bool, and_from, eq-eqb}
+use Rattle.std.proofs.lemmas.List.{take-append-drop, drop_all, take_rest}
+use Rattle.std.proofs.lemmas.List.Folds.{list_all-append}
+use Rattle.std.proofs.Math.Seq.{take-append_seam, drop-nil}
+use Rattle.cats_text.specs.Lines.{Word, is_blank, line_byte, line_ends, blank_returns, line_words, with_letter, begins_word, is_significant}
+use Rattle.cats_text.specs.Numbers.{is_number, digits_alone, is_digit, whole_part, places, has_point, is_price}
+use Rattle.rounding.specs.Decimals.{significand, exponent, has_exponent, without_sign, is_decimal, digits}
+use Rattle.rounding.specs.Texts.{blanks, behind_blanks, front_word, behind_word, from_second, before_second}
+use Rattle.rounding.proofs.Spans.{blanks_taken, blanks_dropped, word_taken, word_dropped, mark_has, mark_has_none, point_has, point_has_none, point_within}
+
+-- ---- digits in two runs
+
+pub number_front : (b : ℕ) (bs ds : Word) → is_number (b ∷ bs ++ ds) ≡ (digits_alone (b ∷ bs) && digits_alone ds)
+number_front b bs ds = list_all-append is_digit (b ∷ bs) ds
+
+pub digits_both : (a b : Word) → eqb (length a) 0 ≡ false → is_number (a ++ b) ≡ (digits_alone a && digits_alone b)
+digits_both [] b h = absurd (both_ways (eqb 0 0) h refl)
+digits_both (x ∷ xs) b h = number_front x xs b
+
+-- ---- decimals
+
+pub digits_known : (w s a b : Word) (r : Bool) → s ≡ significand w → a ≡ whole_part s → b ≡ places s → r ≡ is_number (a ++ b) → r ≡ true
+    → is_number (digits w) ≡ true
+digits_known w s a b r es ea eb er e =
+    sym (ap is_number (ap (λ (t : Word). t ++ b) (ea ∙ ap whole_part es) ∙ ap (λ (t : Word). whole_part (significand w) ++ t) (eb ∙ ap places es)))
+    ∙ sym er ∙ e
+
+pub decimal_without : (w : Word) (k : ℕ) → is_number (digits w) ≡ true → k ≡ length (significand w) → k ≡ length w → eqb k (length w) ≡ is_decimal w
+decimal_without w k d e h =
+    eq-eqb k (length w) h ∙ sym (and_from (is_number (digits w)) (not (has_exponent w) || is_number (without_sign (exponent w))) d
+    (ap (λ v. not v || is_number (without_sign (exponent w))) (mark_has_none w (omega arith))))
+
+pub decimal_with : (w : Word) (k : ℕ) (r : Bool) → is_number (digits w) ≡ true → k ≡ length (significand w) → k ≤ length w → (k ≡ length w → ⊥)
+    → r ≡ is_number (without_sign (exponent w)) → r ≡ is_decimal w
+decimal_with w k r d e le ne er =
+    er ∙ sym (ap (λ v. v && (not (has_exponent w) || is_number (without_sign (exponent w)))) d
+    ∙ ap (λ v. not v || is_number (without_sign (exponent w))) (mark_has w (omega arith)))
+
+-- ---- prices
+
+pub price_without : (w : Word) (k : ℕ) (r : Bool) → k ≡ length (whole_part w) → r ≡ is_number (whole_part w) → r ≡ true → k ≡ length w
+    → eqb k (length w) ≡ is_price w
+price_without w k r e er t h =
+    eq-eqb k (length w) h ∙ sym (and_from (is_number (whole_part w)) (not (has_point w) || is_number (places w)) (sym er ∙ t)
+    (ap (λ v. not v || is_number (places w)) (point_has_none w (omega arith))))
+
+pub price_with : (w : Word) (k : ℕ) (r s : Bool) → k ≡ length (whole_part w) → r ≡ is_number (whole_part w) → r ≡ true → (k ≡ length w → ⊥)
+    → s ≡ is_number (places w) → s ≡ is_price w
+price_with w k r s e er t ne es =
+    es ∙ sym (ap (λ v. v && (not (has_point w) || is_number (places w))) (sym er ∙ t)
+    ∙ ap (λ v. not v || is_number (places w)) (point_has w (omega (arith, point_within w))))
+
+-- ---- a line is its parts
+
+pub blanks_both : (l : List ℕ) → blanks l ++ behind_blanks l ≡ l
+blanks_both l = sym (ap (λ (t : List ℕ). t ++ behind_blanks l) (blanks_taken l)) ∙ ap (λ (t : List ℕ). take (length (blanks l)) l ++ t) (sym (blanks_dropped l))
+    ∙ take-append-drop (length (blanks l)) l
+
+pub word_both : (l : List ℕ) → front_word l ++ behind_word l ≡ l
+word_both l = sym (ap (λ (t : List ℕ). t ++ behind_word l) (word_taken l)) ∙ ap (λ (t : List ℕ). take (length (front_word l)) l ++ t) (sym (word_dropped l))
+    ∙ take-append-drop (length (front_word l)) l
+
+pub second_both : (l : List ℕ) → before_second l ++ from_second l ≡ l
+second_both l =
+    append_assoc (blanks l ++ front_word (behind_blanks l)) (blanks (behind_word (behind_blanks l))) (from_second l)
+    ∙ ap (λ (t : List ℕ). (blanks l ++ front_word (behind_blanks l)) ++ t) (blanks_both (behind_word (behind_blanks l)))
+    ∙ append_assoc (blanks l) (front_word (behind_blanks l)) (behind_word (behind_blanks l))
+    ∙ ap (λ (t : List ℕ). blanks l ++ t) (word_both (behind_blanks l))
+    ∙ blanks_both l
+
+pub second_taken : (l : List ℕ) → take (length (before_second l)) l ≡ before_second l
+second_taken l = sym (ap (take (length (before_second l))) (second_both l)) ∙ take-append_seam (before_second l) (from_second l)
+
+-- ---- blanks
+
+pub return_blank : (bs : List ℕ) → is_blank (line_byte 13 bs) ≡ line_ends bs
+return_blank bs = elim (line_ends bs) as (λ v. is_blank (if v then 32 else 13) ≡ v) [ true ↦ refl | false ↦ refl ]
+
+pub byte_stays : (b : ℕ) (bs : List ℕ) → is_blank (line_byte b bs) ≡ false → line_byte b bs ≡ b
+byte_stays b bs = elim ((eqb b 13) && line_ends bs) as (λ v. is_blank (if v then 32 else b) ≡ false → (if v then 32 else b) ≡ b)
+    [ true ↦ λ (h : true ≡ false). absurd (both_ways true h refl) | false ↦ λ h. refl ]
+
+pub blank_if_return : (l : List ℕ) (i : ℕ) (r : Bool) → get_or l i 0 ≡ 13 → r ≡ line_ends (take (length l - (i + 1)) (drop (i + 1) l))
+    → r ≡ is_blank (line_byte (get_or l i 0) (drop (suc i) l))
+blank_if_return l i r e er =
+    let one : i + 1 ≡ suc i = omega arith in
+    er ∙ ap line_ends (take_rest l (i + 1) ∙ ap (λ n. drop n l) one)
+    ∙ sym (ap (λ b. is_blank (line_byte b (drop (suc i) l))) e ∙ return_blank (drop (suc i) l))
+
+-- ---- where the second word begins
+
+pub drop_more : (l : List ℕ) (a b : ℕ) → drop (a + b) l ≡ drop b (drop a l)
+drop_more l zero b = let same : 0 + b ≡ b = omega arith in ap (λ n. drop n l) same
+drop_more [] (suc a) b = drop-nil (suc a + b) ∙ sym (drop-nil b)
+drop_more (x ∷ xs) (suc a) b = let same : suc a + b ≡ suc (a + b) = omega arith in ap (λ n. drop n (x ∷ xs)) same ∙ drop_more xs a b
+
+pub second_count : (l : List ℕ) (a b c : ℕ) → a ≡ length (blanks l) → b ≡ length (front_word (take (length l - a) (drop a l)))
+    → c ≡ length (blanks (take (length l - (a + b)) (drop (a + b) l))) → a + b + c ≡ length (before_second l)
+second_count l a b c ea eb ec =
+    let first : drop a l ≡ behind_blanks l = ap (λ n. drop n l) ea ∙ blanks_dropped l in
+    let word : b ≡ length (front_word (behind_blanks l)) = eb ∙ ap (λ (t : List ℕ). length (front_word t)) (take_rest l a ∙ first) in
+    let rest : drop (a + b) l ≡ behind_word (behind_blanks l) =
+    drop_more l a b ∙ ap (drop b) first ∙ ap (λ n. drop n (behind_blanks l)) word ∙ word_dropped (behind_blanks l) in
+    let last : c ≡ length (blanks (behind_word (behind_blanks l))) = ec ∙ ap (λ (t : List ℕ). length (blanks t)) (take_rest l (a + b) ∙ rest) in
+    omega (
+      arith,
+      length-append (blanks l ++ front_word (behind_blanks l)) (blanks (behind_word (behind_blanks l))),
+      length-append (blanks l) (front_word (behind_blanks l)),
+    )
+
+-- ---- significant lines
+
+abbrev pub begins : List ℕ → Bool
+begins [] = false
+begins (b ∷ bs) = not (eqb b 37)
+
+pub significant_letter : (x : ℕ) (ws : List Word) → is_significant (with_letter x ws) ≡ not (eqb x 37)
+significant_letter x [] = refl
+significant_letter x (w ∷ ws) = refl
+
+pub significant_byte : (x : ℕ) (xs : List ℕ) → is_blank x ≡ false → is_significant (line_words (x ∷ xs)) ≡ not (eqb x 37)
+significant_byte x xs e = rw e (elim (begins_word xs) as (λ v. is_significant (if v then with_letter x (line_words xs) else ((x ∷ []) ∷ line_words xs)) ≡ not (eqb x 37))
+    [ true ↦ significant_letter x (line_words xs) | false ↦ refl ])
+
+pub significant_line : (l : List ℕ) → is_significant (line_words (blank_returns l)) ≡ begins (behind_blanks l)
+significant_line [] = refl
+significant_line (b ∷ bs) = ⊎_elim
+    (λ (e : is_blank (line_byte b bs) ≡ true). rw e (significant_line bs))
+    (λ (e : is_blank (line_byte b bs) ≡ false). significant_byte (line_byte b bs) (blank_returns bs) e ∙ ap (λ n. not (eqb n 37)) (byte_stays b bs e)
+    ∙ rw e refl)
+    (cases_Bool (is_blank (line_byte b bs)))
+
+pub significant_at : (l : List ℕ) (k : ℕ) → k ≡ length (blanks l) → k < length l → not (eqb (get_or l k 0) 37) ≡ is_significant (line_words (blank_returns l))
+significant_at l k e h =
+    let is : behind_blanks l ≡ get_or l k 0 ∷ drop (suc k) l = sym (blanks_dropped l) ∙ ap (λ n. drop n l) (sym e) ∙ drop-cons l k 0 h in
+    sym (significant_line l ∙ ap begins is)
+
+pub significant_none : (l : List ℕ) (k : ℕ) → k ≡ length (blanks l) → length l ≤ k → is_significant (line_words (blank_returns l)) ≡ false
+significant_none l k e h = significant_line l ∙ ap begins (sym (blanks_dropped l) ∙ ap (λ n. drop n l) (sym e) ∙ drop_all k l h)

@@ -1,0 +1,340 @@
+-- What digits are worth: numbers that are held, cut and raised.
+use Rattle.std.specs.Prelude.{if◌then◌else◌}
+use Rattle.std.proofs.Common.{◌≡◌, ℕ, suc, ◌+◌, ◌-◌, ◌*◌, ◌/◌, ◌%◌, ◌^◌, ◌<◌, ◌≤◌, min, true, false, not, ◌||◌, eqb, leb, [], ◌∷◌, ◌++◌, length, take, drop, refl, sym, ap, ◌∙◌, subst, ◌⊎◌, inl, inr, ⊎_elim}
+use Rattle.std.proofs.Common.{arith, length-append, append_assoc, fold}
+use Rattle.std.proofs.lemmas.Bool.{cases_lt, and_parts, cases_Bool, eqb-true, eqb-false, leb-true, leb-false}
+use Rattle.std.proofs.lemmas.List.{take-append-drop, take_rest, length-drop, append-nil}
+use Rattle.std.proofs.lemmas.List.Sums.{fold-append}
+use Rattle.std.proofs.lemmas.List.Folds.{list_all-append}
+use Rattle.std.proofs.lemmas.Nat.{mul-le, div-mul-add, mod-mul-add}
+use Rattle.std.proofs.Math.Seq.{take-length, drop-length}
+use Rattle.std.proofs.Math.Nat.{mul-le-mul_left, pow-succ', one-le-pow, pow-suc}
+use Rattle.cats_text.specs.Lines.{Word}
+use Rattle.cats_text.specs.Numbers.{is_digit, digits_alone, number_of, is_number, whole_part, places}
+use Rattle.rounding.specs.Decimals.{significand, exponent, has_exponent, without_sign, has_minus, digits, is_decimal, mantissa, top, bottom}
+use Rattle.rounding.proofs.Spans.{mark_within}
+use Rattle.bid_file.specs.declared.limits.TheConstants.{MAX_PRICE}
+use Rattle.rounding.specs.Internal.Rests.{rest_with}
+use Rattle.rounding.specs.Internal.Values.{IsRest, Holds}
+use Rattle.rounding.specs.declared.value.Value.{Value}
+use Rattle.rounding.specs.declared.digits.Rest.{Rest}
+use Rattle.rounding.specs.declared.digits.Rest.TheVariants.{Nothing, Zeros, BelowHalf, Half, AboveHalf}
+
+-- ---- what digits are worth
+
+abbrev pub value : ℕ → Word → ℕ
+value n w = fold (λ m b. 10 * m + (b - 48)) n w
+
+pub digit_range : (b : ℕ) → is_digit b ≡ true → (48 ≤ b) × (b ≤ 57)
+digit_range b h = let p : (leb 48 b ≡ true) × (leb b 57 ≡ true) = and_parts (leb 48 b) (leb b 57) h in (leb-true 48 b p.0, leb-true b 57 p.1)
+
+one_digit : (power n d v : ℕ) → d ≤ 9 → v < (10 * n + d + 1) * power → v < (n + 1) * (10 * power)
+one_digit power n d v l h = let factor : 10 * n + d + 1 ≤ 10 * n + 10 = omega arith in omega (arith, mul-le-mul_left power factor)
+
+below_from : (n : ℕ) (w : Word) → digits_alone w ≡ true → value n w < (n + 1) * 10 ^ length w
+below_from n [] h = omega arith
+below_from n (b ∷ bs) h =
+    let p : (is_digit b ≡ true) × (digits_alone bs ≡ true) = and_parts (is_digit b) (digits_alone bs) h in
+    let range : (48 ≤ b) × (b ≤ 57) = digit_range b p.0 in
+    let small : b ≤ 57 = range.1 in
+    let rest : value (10 * n + (b - 48)) bs < (10 * n + (b - 48) + 1) * 10 ^ length bs = below_from (10 * n + (b - 48)) bs p.1 in
+    let power : 10 ^ (suc (length bs)) ≡ 10 * 10 ^ length bs = pow-succ' 10 (length bs) in
+    subst (λ k. value n (b ∷ bs) < (n + 1) * k) (sym power) (one_digit (10 ^ length bs) n (b - 48) (value n (b ∷ bs)) (omega arith) rest)
+
+pub value_below : (w : Word) → digits_alone w ≡ true → value 0 w < 10 ^ length w
+value_below w h = omega (arith, below_from 0 w h)
+
+regroup : (power n d v : ℕ) → (10 * n + d) * power + v ≡ n * (10 * power) + ((10 * 0 + d) * power + v)
+regroup power n d v = omega arith
+
+pub value_from : (n : ℕ) (w : Word) → value n w ≡ n * 10 ^ length w + value 0 w
+value_from n [] = omega arith
+value_from n (b ∷ bs) =
+    let power : 10 ^ (suc (length bs)) ≡ 10 * 10 ^ length bs = pow-succ' 10 (length bs) in
+    let zero_part : (10 * 0 + (b - 48)) * 10 ^ length bs + value 0 bs ≡ value 0 (b ∷ bs) = sym (value_from (10 * 0 + (b - 48)) bs) in
+    value_from (10 * n + (b - 48)) bs ∙ regroup (10 ^ length bs) n (b - 48) (value 0 bs)
+    ∙ ap (λ k. k + ((10 * 0 + (b - 48)) * 10 ^ length bs + value 0 bs)) (ap (λ k. n * k) (sym power))
+    ∙ ap (λ k. n * 10 ^ (suc (length bs)) + k) zero_part
+
+pub number_append : (xs ys : Word) → value 0 (xs ++ ys) ≡ value 0 xs * 10 ^ length ys + value 0 ys
+number_append xs ys = fold-append (λ m b. 10 * m + (b - 48)) 0 xs ys ∙ value_from (value 0 xs) ys
+
+-- ---- numbers that are held
+
+pub hold_same : (bound u v : ℕ) (w : Word) → min bound u ≡ min bound v → min bound (value u w) ≡ min bound (value v w)
+hold_same bound u v [] h = h
+hold_same bound u v (b ∷ bs) h = hold_same bound (10 * u + (b - 48)) (10 * v + (b - 48)) bs (omega arith)
+
+pub held_two : (bound m k : ℕ) (xs ys : Word) → m ≡ min bound (value 0 xs) → k ≡ min bound (value m ys) → k ≡ min bound (value 0 (xs ++ ys))
+held_two bound m k xs ys em ek =
+    ek ∙ hold_same bound m (value 0 xs) ys (omega arith) ∙ ap (min bound) (sym (fold-append (λ n b. 10 * n + (b - 48)) 0 xs ys))
+
+-- ---- what is behind a cut
+
+even_ten : (p : ℕ) → (10 * p) % 2 ≡ 0
+even_ten p = omega arith
+
+rest_step : (s : Rest) (x p b : ℕ) → is_digit b ≡ true → x < p → IsRest s x p → IsRest (rest_with s b) (10 * x + (b - 48)) (10 * p)
+rest_step Nothing x p b h l r =
+    let range : (48 ≤ b) × (b ≤ 57) = digit_range b h in
+    let low : 48 ≤ b = range.0 in
+    let high : b ≤ 57 = range.1 in
+    let none : x ≡ 0 = r.0 in
+    let one : p ≡ 1 = r.1 in
+    ⊎_elim
+    (λ (e : eqb b 48 ≡ true). let is : b ≡ 48 = eqb-true b 48 e in rw e (omega arith, even_ten p))
+    (λ (e : eqb b 48 ≡ false). let ne : b ≡ 48 → ⊥ = eqb-false b 48 e in rw e (⊎_elim
+    (λ (f : eqb b 53 ≡ true). let is : b ≡ 53 = eqb-true b 53 f in rw f (omega arith, omega arith))
+    (λ (f : eqb b 53 ≡ false). let nf : b ≡ 53 → ⊥ = eqb-false b 53 f in rw f (⊎_elim
+    (λ (g : leb b 52 ≡ true). let is : b ≤ 52 = leb-true b 52 g in rw g (omega arith, omega arith, even_ten p))
+    (λ (g : leb b 52 ≡ false). let is : 52 < b = leb-false b 52 g in rw g (omega arith))
+    (cases_Bool (leb b 52))))
+    (cases_Bool (eqb b 53))))
+    (cases_Bool (eqb b 48))
+rest_step Zeros x p b h l r =
+    let range : (48 ≤ b) × (b ≤ 57) = digit_range b h in
+    let low : 48 ≤ b = range.0 in
+    let high : b ≤ 57 = range.1 in
+    let none : x ≡ 0 = r.0 in
+    let even : p % 2 ≡ 0 = r.1 in
+    ⊎_elim
+    (λ (e : eqb b 48 ≡ true). let is : b ≡ 48 = eqb-true b 48 e in rw e (omega arith, even_ten p))
+    (λ (e : eqb b 48 ≡ false). let ne : b ≡ 48 → ⊥ = eqb-false b 48 e in rw e (omega arith, omega arith, even_ten p))
+    (cases_Bool (eqb b 48))
+rest_step BelowHalf x p b h l r =
+    let range : (48 ≤ b) × (b ≤ 57) = digit_range b h in
+    let low : 48 ≤ b = range.0 in
+    let high : b ≤ 57 = range.1 in
+    let some : 0 < x = r.0 in
+    let small : 2 * x < p = r.1 in
+    let even : p % 2 ≡ 0 = r.2 in
+    (omega arith, omega arith, even_ten p)
+rest_step Half x p b h l r =
+    let range : (48 ≤ b) × (b ≤ 57) = digit_range b h in
+    let low : 48 ≤ b = range.0 in
+    let some : 0 < x = r.0 in
+    let half : 2 * x ≡ p = r.1 in
+    ⊎_elim
+    (λ (e : eqb b 48 ≡ true). let is : b ≡ 48 = eqb-true b 48 e in rw e (omega arith, omega arith))
+    (λ (e : eqb b 48 ≡ false). let ne : b ≡ 48 → ⊥ = eqb-false b 48 e in rw e (omega arith))
+    (cases_Bool (eqb b 48))
+rest_step AboveHalf x p b h l r = omega arith
+
+pub rest_all : (s : Rest) (x p : ℕ) (w : Word) → digits_alone w ≡ true → x < p → IsRest s x p
+    → IsRest (fold rest_with s w) (value x w) (p * 10 ^ length w)
+rest_all s x p [] h l r = let one : p ≡ p * 1 = omega arith in subst (IsRest s x) one r
+rest_all s x p (b ∷ bs) h l r =
+    let q : (is_digit b ≡ true) × (digits_alone bs ≡ true) = and_parts (is_digit b) (digits_alone bs) h in
+    let range : (48 ≤ b) × (b ≤ 57) = digit_range b q.0 in
+    let high : b ≤ 57 = range.1 in
+    let power : 10 ^ (suc (length bs)) ≡ 10 * 10 ^ length bs = pow-succ' 10 (length bs) in
+    let same : (10 * p) * 10 ^ length bs ≡ p * 10 ^ (suc (length bs)) = turned p (10 ^ length bs) ∙ ap (λ k. p * k) (sym power) in
+    subst (IsRest (fold rest_with (rest_with s b) bs) (value (10 * x + (b - 48)) bs)) same
+    (rest_all (rest_with s b) (10 * x + (b - 48)) (10 * p) bs q.1 (omega arith) (rest_step s x p b q.0 l r))
+  where
+    turned : (a k : ℕ) → (10 * a) * k ≡ a * (10 * k)
+    turned a k = omega arith
+
+-- ---- a number that is cut
+
+digits_behind : (xs ys : Word) → digits_alone (xs ++ ys) ≡ true → digits_alone ys ≡ true
+digits_behind xs ys h =
+    let p : (digits_alone xs ≡ true) × (digits_alone ys ≡ true) = and_parts (digits_alone xs) (digits_alone ys) (sym (list_all-append is_digit xs ys) ∙ h) in p.1
+
+pub cut_front : (xs ys : Word) (m : ℕ) (r : Rest) → digits_alone (xs ++ ys) ≡ true → m ≡ min (suc MAX_PRICE) (value 0 xs)
+    → r ≡ fold rest_with Nothing ys → Holds (record { whole = m; rest = r }) (number_of (xs ++ ys)) (10 ^ length ys)
+cut_front xs ys m r h em er =
+    let behind : digits_alone ys ≡ true = digits_behind xs ys h in
+    let small : value 0 ys < 10 ^ length ys = value_below ys behind in
+    let is : number_of (xs ++ ys) ≡ value 0 xs * 10 ^ length ys + value 0 ys = number_append xs ys in
+    let part : number_of (xs ++ ys) / 10 ^ length ys ≡ value 0 xs = ap (λ n. n / 10 ^ length ys) is ∙ div-mul-add (value 0 xs) (10 ^ length ys) (value 0 ys) small in
+    let left : number_of (xs ++ ys) % 10 ^ length ys ≡ value 0 ys = ap (λ n. n % 10 ^ length ys) is ∙ mod-mul-add (value 0 xs) (10 ^ length ys) (value 0 ys) small in
+    let one : 1 * 10 ^ length ys ≡ 10 ^ length ys = omega arith in
+    record {
+      whole = em ∙ ap (min (suc MAX_PRICE)) (sym part);
+      bottom = omega arith;
+      rest = subst (λ (s : Rest). IsRest s (number_of (xs ++ ys) % 10 ^ length ys) (10 ^ length ys)) (sym er)
+          (subst (λ k. IsRest (fold rest_with Nothing ys) k (10 ^ length ys)) (sym left)
+          (subst (IsRest (fold rest_with Nothing ys) (value 0 ys)) one (rest_all Nothing 0 1 ys behind (omega arith) (refl, refl))));
+    }
+
+pub cut_far : (ds : Word) (r : Rest) → digits_alone ds ≡ true → r ≡ fold rest_with Zeros ds
+    → Holds (record { whole = 0; rest = r }) (number_of ds) (10 ^ suc (length ds))
+cut_far ds r h er =
+    let small : value 0 ds < 10 ^ length ds = value_below ds h in
+    let power : 10 ^ (suc (length ds)) ≡ 10 * 10 ^ length ds = pow-succ' 10 (length ds) in
+    let sum : value 0 ds ≡ 0 * 10 ^ suc (length ds) + value 0 ds = omega arith in
+    let part : number_of ds / 10 ^ suc (length ds) ≡ 0 = ap (λ n. n / 10 ^ suc (length ds)) sum ∙ div-mul-add 0 (10 ^ suc (length ds)) (value 0 ds) (omega arith) in
+    let left : number_of ds % 10 ^ suc (length ds) ≡ value 0 ds = ap (λ n. n % 10 ^ suc (length ds)) sum ∙ mod-mul-add 0 (10 ^ suc (length ds)) (value 0 ds) (omega arith) in
+    record {
+      whole = ap (min (suc MAX_PRICE)) (sym part);
+      bottom = omega arith;
+      rest = subst (λ (s : Rest). IsRest s (number_of ds % 10 ^ suc (length ds)) (10 ^ suc (length ds))) (sym er)
+          (subst (λ k. IsRest (fold rest_with Zeros ds) k (10 ^ suc (length ds))) (sym left)
+          (subst (IsRest (fold rest_with Zeros ds) (value 0 ds)) (sym power) (rest_all Zeros 0 10 ds h (omega arith) (refl, refl))));
+    }
+
+-- ---- two runs of digits, cut at one place
+
+split_two : (a b : Word) (i j : ℕ) → (i ≡ length a) ⊎ (j ≡ 0) → (take i a ++ take j b) ++ (drop i a ++ drop j b) ≡ a ++ b
+split_two a b i j (inl e) =
+    ap (λ (t : Word). (t ++ take j b) ++ (drop i a ++ drop j b)) (ap (λ n. take n a) e ∙ take-length a)
+    ∙ ap (λ (t : Word). (a ++ take j b) ++ (t ++ drop j b)) (ap (λ n. drop n a) e ∙ drop-length a)
+    ∙ append_assoc a (take j b) (drop j b)
+    ∙ ap (λ (t : Word). a ++ t) (take-append-drop j b)
+split_two a b i j (inr e) =
+    ap (λ n. (take i a ++ take n b) ++ (drop i a ++ drop n b)) e
+    ∙ ap (λ (t : Word). t ++ (drop i a ++ b)) (append-nil (take i a))
+    ∙ sym (append_assoc (take i a) (drop i a) b)
+    ∙ ap (λ (t : Word). t ++ b) (take-append-drop i a)
+
+pub cut_two : (a b : Word) (power i j front whole : ℕ) (behind rest : Rest) → digits_alone (a ++ b) ≡ true
+    → power ≤ length a + length b → i ≡ min (length a + length b - power) (length a) → j ≡ length a + length b - power - i
+    → front ≡ min (suc MAX_PRICE) (value 0 (take i a)) → whole ≡ min (suc MAX_PRICE) (value front (take j b))
+    → behind ≡ fold rest_with Nothing (take (length a - i) (drop i a)) → rest ≡ fold rest_with behind (take (length b - j) (drop j b))
+    → Holds (record { whole = whole; rest = rest }) (number_of (a ++ b)) (10 ^ power)
+cut_two a b power i j front whole behind rest h le ei ej ef ew eb er =
+    let which : (i ≡ length a) ⊎ (j ≡ 0) = either (length a) (length a + length b - power) i j ei ej in
+    let is : (take i a ++ take j b) ++ (drop i a ++ drop j b) ≡ a ++ b = split_two a b i j which in
+    let size : length (drop i a ++ drop j b) ≡ power = omega (arith, length-append (drop i a) (drop j b), length-drop i a, length-drop j b) in
+    let behind_is : behind ≡ fold rest_with Nothing (drop i a) = eb ∙ ap (fold rest_with Nothing) (take_rest a i) in
+    let rest_is : rest ≡ fold rest_with Nothing (drop i a ++ drop j b) = er ∙ ap (fold rest_with behind) (take_rest b j)
+    ∙ ap (λ (s : Rest). fold rest_with s (drop j b)) behind_is ∙ sym (fold-append rest_with Nothing (drop i a) (drop j b)) in
+    subst (λ k. Holds (record { whole = whole; rest = rest }) (number_of (a ++ b)) (10 ^ k)) size
+    (subst (λ (t : Word). Holds (record { whole = whole; rest = rest }) (number_of t) (10 ^ length (drop i a ++ drop j b))) is
+    (cut_front (take i a ++ take j b) (drop i a ++ drop j b) whole rest (ap digits_alone is ∙ h)
+    (held_two (suc MAX_PRICE) front whole (take i a) (take j b) ef ew) rest_is))
+  where
+    either : (la kept i j : ℕ) → i ≡ min kept la → j ≡ kept - i → (i ≡ la) ⊎ (j ≡ 0)
+    either la kept i j ei ej = ⊎_elim (λ (l : la < kept). inl (omega arith)) (λ (l : kept ≤ la). inr (omega arith)) (cases_lt la kept)
+
+pub cut_none : (a b : Word) (power : ℕ) (behind rest : Rest) → digits_alone (a ++ b) ≡ true → length a + length b < power
+    → power ≤ suc (length a + length b) → behind ≡ fold rest_with Zeros a → rest ≡ fold rest_with behind b
+    → Holds (record { whole = 0; rest = rest }) (number_of (a ++ b)) (10 ^ power)
+cut_none a b power behind rest h lt le eb er =
+    let size : suc (length (a ++ b)) ≡ power = omega (arith, length-append a b) in
+    subst (λ k. Holds (record { whole = 0; rest = rest }) (number_of (a ++ b)) (10 ^ k)) size
+    (cut_far (a ++ b) rest h (er ∙ ap (λ (s : Rest). fold rest_with s b) eb ∙ sym (fold-append rest_with Zeros a b)))
+
+-- ---- a number that is raised
+
+held_times : (bound m q : ℕ) → 1 ≤ q → min bound (min bound m * q) ≡ min bound (m * q)
+held_times bound m q h = ⊎_elim
+    (λ (l : m < bound). let is : min bound m ≡ m = omega arith in ap (λ k. min bound (k * q)) is)
+    (λ (l : bound ≤ m). let is : min bound m ≡ bound = omega arith in
+    let some : bound * 1 ≤ bound * q = mul-le bound 1 bound q (omega arith) h in
+    let more : bound * 1 ≤ m * q = mul-le bound 1 m q l h in
+    ap (λ k. min bound (k * q)) is ∙ least bound (bound * q) (omega arith) ∙ sym (least bound (m * q) (omega arith)))
+    (cases_lt m bound)
+  where
+    least : (b k : ℕ) → b ≤ k → min b k ≡ b
+    least b k l = omega arith
+
+pub raised_once : (m k held : ℕ) → held ≡ min (suc MAX_PRICE) (m * 10 ^ k) → min (suc MAX_PRICE) (held * 10) ≡ min (suc MAX_PRICE) (m * 10 ^ (k + 1))
+raised_once m k held e =
+    ap (λ n. min (suc MAX_PRICE) (n * 10)) e ∙ held_times (suc MAX_PRICE) (m * 10 ^ k) 10 (omega arith)
+    ∙ ap (min (suc MAX_PRICE)) (grouped m (10 ^ k) ∙ ap (λ n. m * n) (sym (pow-suc 10 k)) ∙ ap (λ n. m * 10 ^ n) one)
+  where
+    grouped : (a b : ℕ) → a * b * 10 ≡ a * (b * 10)
+    grouped a b = omega arith
+
+    one : suc k ≡ k + 1
+    one = omega arith
+
+pub raised_value : (a b : Word) (up front number whole : ℕ) → front ≡ min (suc MAX_PRICE) (value 0 a) → number ≡ min (suc MAX_PRICE) (value front b)
+    → whole ≡ min (suc MAX_PRICE) (number * 10 ^ up) → Holds (record { whole = whole; rest = Nothing }) (number_of (a ++ b) * 10 ^ up) 1
+raised_value a b up front number whole ef en ew =
+    let is : number ≡ min (suc MAX_PRICE) (value 0 (a ++ b)) = held_two (suc MAX_PRICE) front number a b ef en in
+    let all : number_of (a ++ b) * 10 ^ up / 1 ≡ number_of (a ++ b) * 10 ^ up = div-one (number_of (a ++ b) * 10 ^ up) in
+    record {
+      whole = ew ∙ ap (λ n. min (suc MAX_PRICE) (n * 10 ^ up)) is ∙ held_times (suc MAX_PRICE) (value 0 (a ++ b)) (10 ^ up) (one-le-pow up 10 (omega arith))
+          ∙ ap (min (suc MAX_PRICE)) (sym all);
+      bottom = omega arith;
+      rest = (mod-one (number_of (a ++ b) * 10 ^ up), refl);
+    }
+  where
+    div-one : (n : ℕ) → n / 1 ≡ n
+    div-one n = omega arith
+
+    mod-one : (n : ℕ) → n % 1 ≡ 0
+    mod-one n = omega arith
+
+-- the same value, of an equal fraction
+pub held_of : (v : Value) (n m d e : ℕ) → n ≡ m → d ≡ e → Holds v n d → Holds v m e
+held_of v n m d e p q h = subst (λ k. Holds v m k) q (subst (λ k. Holds v k d) p h)
+
+-- ---- the value of a word
+
+pub sizes : (w : Word) → length (whole_part w) + length (places w) ≤ length w
+sizes [] = omega arith
+sizes (b ∷ bs) = elim (eqb b 46) as (λ v. length (if v then [] else (b ∷ whole_part bs)) + length (if v then bs else places bs) ≤ suc (length bs))
+    [ true ↦ omega arith | false ↦ omega (arith, sizes bs) ]
+
+pub sizes_in : (w s a b : Word) → s ≡ significand w → a ≡ whole_part s → b ≡ places s → length a + length b ≤ length w
+sizes_in w s a b es ea eb = omega (arith, ap length ea, ap length eb, sizes s, ap length es, mark_within w)
+
+digits_are : (w s a b : Word) → s ≡ significand w → a ≡ whole_part s → b ≡ places s → a ++ b ≡ digits w
+digits_are w s a b es ea eb = ap (λ (t : Word). t ++ b) (ea ∙ ap whole_part es) ∙ ap (λ (t : Word). whole_part (significand w) ++ t) (eb ∙ ap places es)
+
+pub decimal_digits : (w s a b : Word) → is_decimal w ≡ true → s ≡ significand w → a ≡ whole_part s → b ≡ places s → digits_alone (a ++ b) ≡ true
+decimal_digits w s a b h es ea eb =
+    let p : (is_number (digits w) ≡ true) × ((not (has_exponent w) || is_number (without_sign (exponent w))) ≡ true) =
+    and_parts (is_number (digits w)) (not (has_exponent w) || is_number (without_sign (exponent w))) h in
+    ap digits_alone (digits_are w s a b es ea eb) ∙ number_digits (digits w) p.0
+  where
+    number_digits : (w : Word) → is_number w ≡ true → digits_alone w ≡ true
+    number_digits [] h = refl
+    number_digits (b ∷ bs) h = h
+
+abbrev pub shift_up : Word → ℕ → ℕ
+shift_up x places = (6 + (if has_minus x then 0 else number_of (without_sign x))) - (places + (if has_minus x then number_of (without_sign x) else 0))
+
+abbrev pub shift_down : Word → ℕ → ℕ
+shift_down x places = (places + (if has_minus x then number_of (without_sign x) else 0)) - (6 + (if has_minus x then 0 else number_of (without_sign x)))
+
+-- the parts of a word and its powers of ten, as the code has them
+pub record IsSplit (w s a b x : Word) (up down : ℕ) : Type 0 where
+  pub significand_is : s ≡ significand w
+  pub whole_is : a ≡ whole_part s
+  pub places_are : b ≡ places s
+  pub exponent_is : x ≡ exponent w
+  pub up_is : up ≡ min 19 (shift_up x (length b))
+  pub down_is : down ≡ min (suc (length a + length b)) (shift_down x (length b))
+
+places_in : (w s b : Word) → s ≡ significand w → b ≡ places s → length b ≡ length (places (significand w))
+places_in w s b es eb = ap length (eb ∙ ap places es)
+
+bottom_is : (w s a b x : Word) (up down : ℕ) → IsSplit w s a b x up down → 10 ^ down ≡ bottom w
+bottom_is w s a b x up down h =
+    let size : length a + length b ≡ length (digits w) = sym (length-append a b) ∙ ap length (digits_are w s a b h.significand_is h.whole_is h.places_are) in
+    ap (λ k. 10 ^ k) (h.down_is ∙ ap (λ k. min (suc k) (shift_down x (length b))) size
+    ∙ ap (λ k. min (suc (length (digits w))) k) (ap (shift_down x) (places_in w s b h.significand_is h.places_are)
+    ∙ ap (λ (y : Word). shift_down y (length (places (significand w)))) h.exponent_is))
+
+top_is : (w s a b x : Word) (up down : ℕ) → IsSplit w s a b x up down → number_of (a ++ b) * 10 ^ up ≡ top w
+top_is w s a b x up down h =
+    ap (λ (t : Word). number_of t * 10 ^ up) (digits_are w s a b h.significand_is h.whole_is h.places_are)
+    ∙ ap (λ k. mantissa w * 10 ^ k) (h.up_is ∙ ap (min 19) (ap (shift_up x) (places_in w s b h.significand_is h.places_are)
+    ∙ ap (λ (y : Word). shift_up y (length (places (significand w)))) h.exponent_is))
+
+pub cut_in : (w s a b x : Word) (up down : ℕ) (v : Value) → IsSplit w s a b x up down → 0 < down → Holds v (number_of (a ++ b)) (10 ^ down) → Holds v (top w) (bottom w)
+cut_in w s a b x up down v h some held =
+    let none : up ≡ 0 = no_up (length a + length b) up down (shift_up x (length b)) (shift_down x (length b)) (6 + (if has_minus x then 0 else number_of (without_sign x)))
+    (length b + (if has_minus x then number_of (without_sign x) else 0)) refl refl h.up_is h.down_is some in
+    let one : number_of (a ++ b) ≡ number_of (a ++ b) * 10 ^ up = sym (ap (λ k. number_of (a ++ b) * 10 ^ k) none ∙ once (number_of (a ++ b))) in
+    held_of v (number_of (a ++ b)) (top w) (10 ^ down) (bottom w) (one ∙ top_is w s a b x up down h) (bottom_is w s a b x up down h) held
+  where
+    no_up : (size up down u d p q : ℕ) → u ≡ p - q → d ≡ q - p → up ≡ min 19 u → down ≡ min (suc size) d → 0 < down → up ≡ 0
+    no_up size up down u d p q eu ed e f some = omega arith
+
+    once : (n : ℕ) → n * 10 ^ 0 ≡ n
+    once n = omega arith
+
+pub raised_in : (w s a b x : Word) (up down front number whole : ℕ) → IsSplit w s a b x up down → down ≤ 0
+    → front ≡ min (suc MAX_PRICE) (value 0 a) → number ≡ min (suc MAX_PRICE) (value front b) → whole ≡ min (suc MAX_PRICE) (number * 10 ^ up)
+    → Holds (record { whole = whole; rest = Nothing }) (top w) (bottom w)
+raised_in w s a b x up down front number whole h none ef en ew =
+    let zero_down : down ≡ 0 = omega arith in
+    let one : 1 ≡ bottom w = sym (ap (λ k. 10 ^ k) zero_down) ∙ bottom_is w s a b x up down h in
+    held_of (record { whole = whole; rest = Nothing }) (number_of (a ++ b) * 10 ^ up) (top w) 1 (bottom w) (top_is w s a b x up down h) one
+    (raised_value a b up front number whole ef en ew)

@@ -1,0 +1,17 @@
+use Rattle.std.proofs.Common.{arith, add-one, length}
+use Rattle.std.proofs.lemmas.Bool.{ne_eqb, eq-eqb}
+use Rattle.std.proofs.lemmas.List.{at_drop_all}
+use Rattle.cats_text.specs.Numbers.{whole_part}
+use Rattle.rounding.proofs.Spans.{point_further, point_found}
+use Rattle.rounding.proofs.decimal.point_in.Goals as goal
+
+pub loop-place-preserved : goal.loop-place-preserved
+loop-place-preserved c =
+    rw add-one (omega (arith, c.loop-place.invariant, point_further c.args.word.now c.loop-place.place c.loop-place-test.true (ne_eqb _ _ c.if-byte-eq46.false)))
+
+pub returns-then-byte-eq46-clause-count : goal.returns-then-byte-eq46-clause-count
+returns-then-byte-eq46-clause-count c =
+    omega (arith, c.loop-place.invariant, point_found c.args.word.now c.loop-place.place c.loop-place-test.true (eq-eqb _ _ c.if-byte-eq46.true))
+
+pub returns-clause-count : goal.returns-clause-count
+returns-clause-count c = omega (arith, c.loop-place.invariant, at_drop_all (λ ws. length (whole_part ws)) c.args.word.now c.loop-place.place (omega arith))

@@ -1,0 +1,6 @@
+use Rattle.std.proofs.Common.{◌≡◌, true, take}
+use Rattle.cats_text.specs.Numbers.{digits_alone}
+use Rattle.rounding.proofs.digits.digits_alone.Given as goal
+
+abbrev pub invariant-loop-byte : goal.invariant-loop-byte
+invariant-loop-byte l = digits_alone (take l.byte-index l.word) ≡ true

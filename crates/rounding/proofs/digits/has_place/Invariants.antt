@@ -1,0 +1,6 @@
+use Rattle.std.proofs.Common.{◌≡◌, false, not, eqb, take}
+use Rattle.std.specs.List.{list_any}
+use Rattle.rounding.proofs.digits.has_place.Given as goal
+
+abbrev pub invariant-loop-digit : goal.invariant-loop-digit
+invariant-loop-digit l = list_any (λ b. not (eqb b 48)) (take l.digit-index l.digits) ≡ false

@@ -1,0 +1,10 @@
+use Rattle.std.proofs.Common.{sym, ◌∙◌}
+use Rattle.std.proofs.lemmas.Bool.{le-ltb}
+use Rattle.rounding.proofs.Words.{significant_at, significant_none}
+use Rattle.rounding.proofs.line.is_significant.Goals as goal
+
+pub returns-then-start-line : goal.returns-then-start-line
+returns-then-start-line c = significant_at c.args.line.now c.count_blanks-start.result c.count_blanks-start.ensures.count c.if-start-line.true
+
+pub returns-else-start-line : goal.returns-else-start-line
+returns-else-start-line c = le-ltb _ _ c.if-start-line.false ∙ sym (significant_none c.args.line.now c.count_blanks-start.result c.count_blanks-start.ensures.count c.if-start-line.false)

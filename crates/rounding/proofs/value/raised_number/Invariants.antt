@@ -1,0 +1,6 @@
+use Rattle.std.proofs.Common.{◌≡◌, ◌*◌, ◌^◌, suc, min}
+use Rattle.bid_file.specs.declared.limits.TheConstants.{MAX_PRICE}
+use Rattle.rounding.proofs.value.raised_number.Given as goal
+
+abbrev pub invariant-loop : goal.invariant-loop
+invariant-loop l = l.held ≡ min (suc MAX_PRICE) (l.number * 10 ^ l.counter)

@@ -1,0 +1,23 @@
+-- What rounding a text answers.
+use Rattle.std.specs.Prelude.{◌≡◌, ◌⊎◌, ℕ, List, Some, Result, Ok, Err}
+use Rattle.cats_text.specs.Faults.{first_fault, fault_at}
+use Rattle.cats_text.specs.Grammar.{Spells}
+use Rattle.bid_file.specs.Files.{PlainFile}
+use Rattle.cats_text.specs.declared.fault.ReadFault.{ReadFault}
+use Rattle.cats_text.specs.declared.fault.Kind.TheVariants.{Memory as NoMemory}
+use Rattle.rounding.specs.Texts.{rounded_text, rounded_prices}
+use Rattle.rounding.specs.Views.{plain_changes}
+use Rattle.rounding.specs.declared.replacement.FinePrices.{FinePrices}
+use Rattle.rounding.specs.declared.text.RoundedText.{RoundedText}
+
+-- the rounded text, which spells a file, and the prices that were rounded
+pub record IsRounded (fine : FinePrices) (text : List ℕ) (r : RoundedText) : Type 0 where
+  pub text_is : r.text.items ≡ rounded_text fine text
+  pub prices_are : plain_changes r.prices.items ≡ rounded_prices fine text
+  pub file : PlainFile
+  pub spells : Spells r.text.items file
+
+-- the rounded text and its rounded prices; or the first fault of the rounded text; or want of memory
+abbrev pub RoundAnswer : FinePrices → List ℕ → Result RoundedText ReadFault → Type 0
+RoundAnswer fine text (Ok r) = IsRounded fine text r
+RoundAnswer fine text (Err e) = (first_fault (rounded_text fine text) ≡ Some e) ⊎ (e ≡ fault_at 0 NoMemory)

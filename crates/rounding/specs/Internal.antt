@@ -1,0 +1,4 @@
+-- What only this crate cites.
+pub mod Rests
+pub mod Values
+pub mod RawTexts
