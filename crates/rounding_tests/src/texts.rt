@@ -1,0 +1,34 @@
+//! Whole texts.
+
+use cats_text::Kind;
+use rounding::{FinePrices, round};
+use std::test::Fail;
+
+/// A text with CR and LF, comments, tabs, and no LF at its end, and what it becomes.
+static TEXT: &[u8] =
+    b"% 0 1e3\r\ngoods 2\nbids 3 \ndummy\t0\r\n\n\t1 \t1E-3\t0 #\r\n2 1.50 1 #\n% 0 1e3\n0 0.0123456  1 #";
+
+static WANT: &[u8] =
+    b"% 0 1e3\r\ngoods 2\nbids 3 \ndummy\t0\r\n\n\t1 \t0.001\t0 #\r\n2 1.50 1 #\n% 0 1e3\n0 0.012346  1 #";
+
+#[test]
+fn prices_of_a_text(rt: HostRuntime) -> Result<(), Fail> {
+    match round(rt.alloc(), TEXT, FinePrices::Round) {
+        Ok(rounded) => {
+            assert!(rt; rounded.text.as_slice() == WANT);
+            assert_eq!(rt; rounded.prices.len(), 1);
+            assert_eq!(rt; rounded.prices[0].line, 9);
+            assert_eq!(rt; rounded.prices[0].price, 12_346);
+            assert!(rt; rounded.prices[0].word.as_slice() == b"0.0123456".as_slice());
+        }
+        Err(fault) => assert_eq!(rt; fault.line, 1_000),
+    }
+    match round(rt.alloc(), TEXT, FinePrices::Refuse) {
+        Ok(_) => assert!(rt; false),
+        Err(fault) => {
+            assert_eq!(rt; fault.line, 9);
+            assert!(rt; fault.kind == Kind::TooFine);
+        }
+    }
+    Ok(())
+}
