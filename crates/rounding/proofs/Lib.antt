@@ -1,5 +1,8 @@
+-- Proofs that several functions of this crate cite.
 pub mod Spans
 pub mod Words
 pub mod Worth
 pub mod Deciding
 pub mod TextLines
+pub mod Exactness
+pub mod FileLines

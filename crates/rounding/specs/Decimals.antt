@@ -67,3 +67,10 @@ top w = mantissa w * 10 ^ min 19 (raised w - lowered w)
 
 abbrev pub bottom : Word → ℕ
 bottom w = 10 ^ min (suc (length (digits w))) (lowered w - raised w)
+
+-- with whole powers, one of which is 1
+abbrev pub exact_top : Word → ℕ
+exact_top w = mantissa w * 10 ^ (raised w - lowered w)
+
+abbrev pub exact_bottom : Word → ℕ
+exact_bottom w = 10 ^ (lowered w - raised w)

@@ -4,6 +4,7 @@
 
 mod decimal;
 mod digits;
+pub mod laws;
 mod line;
 mod replacement;
 mod text;

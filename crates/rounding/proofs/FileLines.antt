@@ -1,0 +1,295 @@
+-- The words of lines, and a bid file that is rounded.
+use Rattle.std.specs.Prelude.{if◌then◌else◌}
+use Rattle.std.proofs.Common.{◌≡◌, ℕ, zero, suc, ◌-◌, ◌<◌, ◌≤◌, true, false, ◌&&◌, eqb, leb, List, [], ◌∷◌, ◌++◌, map, filter, drop, refl, sym, ap, ◌∙◌, arith, ⊎_elim, Some, None, append_assoc, subst, slice_get, codes}
+use Rattle.std.proofs.lemmas.Bool.{cases_Bool, both_ways, and_parts, eqb-true, cases_lt, lt-leb}
+use Rattle.std.specs.List.{AllByRecursion}
+use Rattle.cats_text.specs.Lines.{Word, RawLine, Line, is_blank, line_byte, line_ends, blank_returns, raw_lines, lines_with, with_byte, line_words, words_with, with_letter, is_significant, numbered}
+use Rattle.cats_text.specs.Faults.{price_word}
+use Rattle.cats_text.specs.Grammar.{Spells, SpellsBid, significant_words}
+use Rattle.cats_text.specs.Numbers.{number_of, is_price, price_of, is_too_large, is_too_fine}
+use Rattle.cats_text.proofs.Spelling.Prices.{price_small}
+use Rattle.bid_file.specs.declared.limits.TheConstants.{MAX_PRICE}
+use Rattle.bid_file.specs.Files.{PlainFile, PlainBid, IsPlainFile, IsBid}
+use Rattle.rounding.specs.Replacements.{replacement, rounded_word}
+use Rattle.rounding.specs.Texts.{behind_blanks, front_word, behind_word, from_second, before_second, second_word, behind_second, with_rounded, is_significant_line, is_bid_line, before_next}
+use Rattle.rounding.specs.Texts.{rounded_line, rounded_lines, lines_text, line_changes, lines_changes, rounded_text, rounded_prices, change_by, PlainChange}
+use Rattle.rounding.specs.declared.replacement.FinePrices.{FinePrices}
+use Rattle.rounding.proofs.Words.{byte_stays, word_both, second_both}
+
+-- ---- the words of a line
+
+abbrev line_of : List ℕ → List Word
+line_of l = line_words (blank_returns l)
+
+-- the front word, and the words behind it
+abbrev split_first : List ℕ → List Word
+split_first [] = []
+split_first (b ∷ bs) = front_word (b ∷ bs) ∷ line_of (behind_word (b ∷ bs))
+
+-- one byte in front of words
+blank_skips : (x : ℕ) (bs : List ℕ) (ws : List Word) → is_blank x ≡ true → words_with x bs ws ≡ ws
+blank_skips x bs ws e = rw e refl
+
+letter_last : (x : ℕ) → is_blank x ≡ false → words_with x [] [] ≡ (x ∷ []) ∷ []
+letter_last x e = rw e refl
+
+letter_alone : (x c : ℕ) (cs : List ℕ) (ws : List Word) → is_blank x ≡ false → is_blank c ≡ true → words_with x (c ∷ cs) ws ≡ (x ∷ []) ∷ ws
+letter_alone x c cs ws e f = rw e (rw f refl)
+
+letter_joins : (x c : ℕ) (cs : List ℕ) (ws : List Word) → is_blank x ≡ false → is_blank c ≡ false → words_with x (c ∷ cs) ws ≡ with_letter x ws
+letter_joins x c cs ws e f = rw e (rw f refl)
+
+front_letter : (b : ℕ) (xs : List ℕ) → is_blank (line_byte b xs) ≡ false → front_word (b ∷ xs) ≡ b ∷ front_word xs
+front_letter b xs e = rw e refl
+
+behind_letter : (b : ℕ) (xs : List ℕ) → is_blank (line_byte b xs) ≡ false → behind_word (b ∷ xs) ≡ behind_word xs
+behind_letter b xs e = rw e refl
+
+front_blank : (c : ℕ) (cs : List ℕ) → is_blank (line_byte c cs) ≡ true → front_word (c ∷ cs) ≡ []
+front_blank c cs e = rw e refl
+
+behind_blank : (c : ℕ) (cs : List ℕ) → is_blank (line_byte c cs) ≡ true → behind_word (c ∷ cs) ≡ c ∷ cs
+behind_blank c cs e = rw e refl
+
+letter_stays : (b : ℕ) (bs : List ℕ) → is_blank (line_byte b bs) ≡ false → behind_blanks (b ∷ bs) ≡ b ∷ bs
+letter_stays b bs e = rw e refl
+
+blank_passed : (b : ℕ) (bs : List ℕ) → is_blank (line_byte b bs) ≡ true → behind_blanks (b ∷ bs) ≡ behind_blanks bs
+blank_passed b bs e = rw e refl
+
+split_letter : (b : ℕ) (xs : List ℕ) → is_blank (line_byte b xs) ≡ false → (b ∷ front_word xs) ∷ line_of (behind_word xs) ≡ split_first (b ∷ xs)
+split_letter b xs e = sym (ap (λ (w : Word). w ∷ line_of (behind_word (b ∷ xs))) (front_letter b xs e)
+    ∙ ap (λ (t : List ℕ). (b ∷ front_word xs) ∷ line_of t) (behind_letter b xs e))
+
+first_word : (b : ℕ) (bs : List ℕ) → is_blank (line_byte b bs) ≡ false → line_of (b ∷ bs) ≡ split_first (b ∷ bs)
+first_word b [] e = letter_last (line_byte b []) e ∙ ap (λ x. (x ∷ []) ∷ []) (byte_stays b [] e) ∙ split_letter b [] e
+first_word b (c ∷ cs) e = ⊎_elim
+    (λ (f : is_blank (line_byte c cs) ≡ true).
+    letter_alone (line_byte b (c ∷ cs)) (line_byte c cs) (blank_returns cs) (line_of (c ∷ cs)) e f
+    ∙ ap (λ x. (x ∷ []) ∷ line_of (c ∷ cs)) (byte_stays b (c ∷ cs) e)
+    ∙ sym (ap (λ (w : Word). (b ∷ w) ∷ line_of (behind_word (c ∷ cs))) (front_blank c cs f) ∙ ap (λ (t : List ℕ). (b ∷ []) ∷ line_of t) (behind_blank c cs f))
+    ∙ split_letter b (c ∷ cs) e)
+    (λ (f : is_blank (line_byte c cs) ≡ false).
+    letter_joins (line_byte b (c ∷ cs)) (line_byte c cs) (blank_returns cs) (line_of (c ∷ cs)) e f
+    ∙ ap (with_letter (line_byte b (c ∷ cs))) (first_word c cs f)
+    ∙ ap (λ x. (x ∷ front_word (c ∷ cs)) ∷ line_of (behind_word (c ∷ cs))) (byte_stays b (c ∷ cs) e)
+    ∙ split_letter b (c ∷ cs) e)
+    (cases_Bool (is_blank (line_byte c cs)))
+
+pub words_split : (l : List ℕ) → line_of l ≡ split_first (behind_blanks l)
+words_split [] = refl
+words_split (b ∷ bs) = ⊎_elim
+    (λ (e : is_blank (line_byte b bs) ≡ true). blank_skips (line_byte b bs) (blank_returns bs) (line_of bs) e ∙ words_split bs ∙ ap split_first (sym (blank_passed b bs e)))
+    (λ (e : is_blank (line_byte b bs) ≡ false). first_word b bs e ∙ ap split_first (sym (letter_stays b bs e)))
+    (cases_Bool (is_blank (line_byte b bs)))
+
+heads : (x : List ℕ) (n : Word) (ws : List Word) → split_first x ≡ n ∷ ws → line_of (behind_word x) ≡ ws
+heads [] n ws e = absurd (cc)
+heads (b ∷ bs) n ws e = cc
+
+head_word : (x : List ℕ) (n : Word) (ws : List Word) → split_first x ≡ n ∷ ws → front_word x ≡ n
+head_word [] n ws e = absurd (cc)
+head_word (b ∷ bs) n ws e = cc
+
+pub second_is : (l : List ℕ) (n p : Word) (ws : List Word) → line_of l ≡ n ∷ p ∷ ws → second_word l ≡ p
+second_is l n p ws e =
+    let rest : line_of (behind_word (behind_blanks l)) ≡ p ∷ ws = heads (behind_blanks l) n (p ∷ ws) (sym (words_split l) ∙ e) in
+    head_word (from_second l) p ws (sym (words_split (behind_word (behind_blanks l))) ∙ rest)
+
+pub line_parts : (l : List ℕ) → before_second l ++ second_word l ++ behind_second l ≡ l
+line_parts l = append_assoc (before_second l) (second_word l) (behind_second l)
+    ∙ ap (λ (t : List ℕ). before_second l ++ t) (word_both (from_second l))
+    ∙ second_both l
+
+-- ---- lines with their returns as blanks
+
+abbrev blanked : RawLine → RawLine
+blanked l = record { bytes = blank_returns l.bytes; ended = l.ended }
+
+abbrev first_bytes : List RawLine → List ℕ
+first_bytes [] = []
+first_bytes (l ∷ ls) = l.bytes
+
+ends_same : (bs : List ℕ) → line_ends bs ≡ line_ends (first_bytes (raw_lines bs))
+ends_same [] = refl
+ends_same (c ∷ cs) = ⊎_elim
+    (λ (e : eqb c 10 ≡ true). rw e refl)
+    (λ (e : eqb c 10 ≡ false). rw e (byte_first e (raw_lines cs)))
+    (cases_Bool (eqb c 10))
+  where
+    byte_first : eqb c 10 ≡ false → (ls : List RawLine) → false ≡ line_ends (first_bytes (with_byte c ls))
+    byte_first e [] = sym e
+    byte_first e (l ∷ ls) = sym e
+
+feed_stays : (bs : List ℕ) (b : ℕ) → eqb b 10 ≡ true → line_byte b bs ≡ 10
+feed_stays bs b e = let is : b ≡ 10 = eqb-true b 10 e in rw is refl
+
+other_stays : (bs : List ℕ) (b : ℕ) → eqb b 10 ≡ false → eqb (line_byte b bs) 10 ≡ false
+other_stays bs b e = elim ((eqb b 13) && line_ends bs) as (λ v. eqb (if v then 32 else b) 10 ≡ false) [ true ↦ refl | false ↦ e ]
+
+with_blanked : (b : ℕ) (ls : List RawLine) → with_byte (line_byte b (first_bytes ls)) (map blanked ls) ≡ map blanked (with_byte b ls)
+with_blanked b [] = refl
+with_blanked b (l ∷ ls) = refl
+
+pub lines_blanked : (t : List ℕ) → raw_lines (blank_returns t) ≡ map blanked (raw_lines t)
+lines_blanked [] = refl
+lines_blanked (b ∷ bs) = ⊎_elim
+    (λ (e : eqb b 10 ≡ true). ap (λ x. lines_with x (raw_lines (blank_returns bs))) (feed_stays bs b e) ∙ rw e (ap (λ (ls : List RawLine). record { bytes = []; ended = true } ∷ ls) (lines_blanked bs)))
+    (λ (e : eqb b 10 ≡ false). rw e (rw (other_stays bs b e)
+    (ap (with_byte (line_byte b bs)) (lines_blanked bs)
+    ∙ ap (λ v. with_byte (if (eqb b 13) && v then 32 else b) (map blanked (raw_lines bs))) (ends_same bs)
+    ∙ with_blanked b (raw_lines bs))))
+    (cases_Bool (eqb b 10))
+
+-- ---- the words of significant lines
+
+abbrev words_from : List RawLine → List (List Word)
+words_from [] = []
+words_from (l ∷ ls) = if is_significant_line l then line_of l.bytes ∷ words_from ls else words_from ls
+
+kept_words : (n : ℕ) (ls : List RawLine) → map (λ (l : Line). l.words) (filter (λ (l : Line). is_significant l.words) (numbered n (map blanked ls))) ≡ words_from ls
+kept_words n [] = refl
+kept_words n (l ∷ ls) = ⊎_elim
+    (λ (e : is_significant_line l ≡ true). rw e (ap (λ (ws : List (List Word)). line_of l.bytes ∷ ws) (kept_words (suc n) ls)))
+    (λ (e : is_significant_line l ≡ false). rw e (kept_words (suc n) ls))
+    (cases_Bool (is_significant_line l))
+
+pub significant_from : (t : List ℕ) → significant_words t ≡ words_from (raw_lines t)
+significant_from t = ap (λ (ls : List RawLine). map (λ (l : Line). l.words) (filter (λ (l : Line). is_significant l.words) (numbered 1 ls))) (lines_blanked t)
+    ∙ kept_words 1 (raw_lines t)
+
+-- ---- a text is its lines
+
+lines_joined : (b : ℕ) (ls : List RawLine) → lines_text (with_byte b ls) ≡ b ∷ lines_text ls
+lines_joined b [] = refl
+lines_joined b (l ∷ ls) = refl
+
+pub text_of_lines : (t : List ℕ) → lines_text (raw_lines t) ≡ t
+text_of_lines [] = refl
+text_of_lines (b ∷ bs) = ⊎_elim
+    (λ (e : eqb b 10 ≡ true). let is : b ≡ 10 = eqb-true b 10 e in rw e (ap (λ (u : List ℕ). 10 ∷ u) (text_of_lines bs) ∙ ap (λ x. x ∷ bs) (sym is)))
+    (λ (e : eqb b 10 ≡ false). rw e (lines_joined b (raw_lines bs) ∙ ap (λ (u : List ℕ). b ∷ u) (text_of_lines bs)))
+    (cases_Bool (eqb b 10))
+
+-- ---- lines whose prices are valid
+
+HasPrice : List Word → Type 0
+HasPrice words = (n : Word) × (p : Word) × (ws : List Word) × (words ≡ n ∷ p ∷ ws) × (price_word p ≡ None)
+
+-- each bid line has a valid price as its second word
+abbrev Valid : ℕ → List RawLine → Type 0
+Valid before [] = Unit {0}
+Valid before (l ∷ ls) = (is_bid_line before l ≡ true → price_word (second_word l.bytes) ≡ None) × Valid (before_next before l) ls
+
+word_stays : (fine : FinePrices) (w : Word) → price_word w ≡ None → rounded_word fine w ≡ w
+word_stays fine w e = rw e refl
+
+change_none : (fine : FinePrices) (number : ℕ) (w : Word) → price_word w ≡ None → change_by number w (replacement fine w) ≡ []
+change_none fine number w e = rw e refl
+
+bytes_stay : (fine : FinePrices) (l : List ℕ) → price_word (second_word l) ≡ None → with_rounded fine l ≡ l
+bytes_stay fine l e =
+    ap (λ (w : Word). before_second l ++ w ++ behind_second l) (word_stays fine (second_word l) e) ∙ line_parts l
+
+pub line_stays : (fine : FinePrices) (before : ℕ) (l : RawLine) → (is_bid_line before l ≡ true → price_word (second_word l.bytes) ≡ None) → rounded_line fine before l ≡ l
+line_stays fine before l h = ⊎_elim
+    (λ (e : is_bid_line before l ≡ true). rw e (ap (λ (bs : List ℕ). record { bytes = bs; ended = l.ended }) (bytes_stay fine l.bytes (h e))))
+    (λ (e : is_bid_line before l ≡ false). rw e refl)
+    (cases_Bool (is_bid_line before l))
+
+line_unchanged : (fine : FinePrices) (number before : ℕ) (l : RawLine) → (is_bid_line before l ≡ true → price_word (second_word l.bytes) ≡ None) → line_changes fine number before l ≡ []
+line_unchanged fine number before l h = ⊎_elim
+    (λ (e : is_bid_line before l ≡ true). rw e (change_none fine number (second_word l.bytes) (h e)))
+    (λ (e : is_bid_line before l ≡ false). rw e refl)
+    (cases_Bool (is_bid_line before l))
+
+pub lines_stay : (fine : FinePrices) (before : ℕ) (ls : List RawLine) → Valid before ls → rounded_lines fine before ls ≡ ls
+lines_stay fine before [] h = refl
+lines_stay fine before (l ∷ ls) h = ap (λ (m : RawLine). m ∷ rounded_lines fine (before_next before l) ls) (line_stays fine before l h.0)
+    ∙ ap (λ (ms : List RawLine). l ∷ ms) (lines_stay fine (before_next before l) ls h.1)
+
+pub lines_unchanged : (fine : FinePrices) (number before : ℕ) (ls : List RawLine) → Valid before ls → lines_changes fine number before ls ≡ []
+lines_unchanged fine number before [] h = refl
+lines_unchanged fine number before (l ∷ ls) h = ap (λ (cs : List PlainChange). cs ++ lines_changes fine (suc number) (before_next before l) ls) (line_unchanged fine number before l h.0)
+    ∙ lines_unchanged fine (suc number) (before_next before l) ls h.1
+
+-- ---- the bid lines of a file
+
+price_of_line : (l : List ℕ) → HasPrice (line_of l) → price_word (second_word l) ≡ None
+unfolding HasPrice
+price_of_line l h = ap price_word (second_is l h.0 h.1 h.2 h.3) ∙ h.4
+
+words_more : (l : RawLine) (ls : List RawLine) → is_significant_line l ≡ true → words_from (l ∷ ls) ≡ line_of l.bytes ∷ words_from ls
+words_more l ls e = rw e refl
+
+words_same : (l : RawLine) (ls : List RawLine) → is_significant_line l ≡ false → words_from (l ∷ ls) ≡ words_from ls
+words_same l ls e = rw e refl
+
+-- one significant line, from what holds of the lines behind it
+valid_more : (before : ℕ) (l : RawLine) (ls : List RawLine) → ((n : ℕ) → AllByRecursion HasPrice (drop (3 - n) (words_from ls)) → Valid n ls)
+    → is_significant_line l ≡ true → AllByRecursion HasPrice (drop (3 - before) (line_of l.bytes ∷ words_from ls)) → Valid before (l ∷ ls)
+valid_more before l ls rest e g =
+    let next : before_next before l ≡ suc before = ap (λ v. if v then suc before else before) e in
+    ⊎_elim
+    (λ (s : before < 3). let left : 3 - before ≡ suc (3 - suc before) = omega arith in
+    let low : leb 3 before ≡ false = lt-leb 3 before s in (
+      λ (b : is_bid_line before l ≡ true). absurd (both_ways (leb 3 before) low (and_parts (leb 3 before) (is_significant_line l) b).0),
+      subst (λ n. Valid n ls) (sym next) (rest (suc before) (subst (λ n. AllByRecursion HasPrice (drop n (line_of l.bytes ∷ words_from ls))) left g)),
+    ))
+    (λ (s : 3 ≤ before). let none : 3 - before ≡ 0 = omega arith in
+    let still : 0 ≡ 3 - suc before = omega arith in
+    let all : AllByRecursion HasPrice (line_of l.bytes ∷ words_from ls) = subst (λ n. AllByRecursion HasPrice (drop n (line_of l.bytes ∷ words_from ls))) none g in (
+      λ (b : is_bid_line before l ≡ true). price_of_line l.bytes all.0,
+      subst (λ n. Valid n ls) (sym next) (rest (suc before) (subst (λ n. AllByRecursion HasPrice (drop n (words_from ls))) still all.1)),
+    ))
+    (cases_lt before 3)
+
+-- after so many significant lines, all further ones have prices, but for the headers that are still to come
+valid_from : (before : ℕ) (ls : List RawLine) → AllByRecursion HasPrice (drop (3 - before) (words_from ls)) → Valid before ls
+valid_from before [] h = tt
+valid_from before (l ∷ ls) h = ⊎_elim
+    (λ (e : is_significant_line l ≡ true). valid_more before l ls (λ (n : ℕ) (g : AllByRecursion HasPrice (drop (3 - n) (words_from ls))). valid_from n ls g) e
+    (subst (λ (ws : List (List Word)). AllByRecursion HasPrice (drop (3 - before) ws)) (words_more l ls e) h))
+    (λ (e : is_significant_line l ≡ false).
+    let next : before_next before l ≡ before = ap (λ v. if v then suc before else before) e in (
+      λ (b : is_bid_line before l ≡ true). absurd (both_ways (is_significant_line l) e (and_parts (leb 3 before) (is_significant_line l) b).1),
+      subst (λ n. Valid n ls) (sym next) (valid_from before ls
+          (subst (λ (ws : List (List Word)). AllByRecursion HasPrice (drop (3 - before) ws)) (words_same l ls e) h)),
+    ))
+    (cases_Bool (is_significant_line l))
+
+found_price : (n : ℕ) (bids : List PlainBid) (b : PlainBid) (G D : ℕ) → AllByRecursion (IsBid G D) bids → slice_get bids n ≡ Some b → b.price ≤ MAX_PRICE
+found_price n [] b G D all e = absurd (cc)
+found_price zero (x ∷ xs) b G D all e = let same : x ≡ b = cc in subst (λ (y : PlainBid). y.price ≤ MAX_PRICE) same all.0.price
+found_price (suc n) (x ∷ xs) b G D all e = found_price n xs b G D all.1 e
+
+valid_word : (p : Word) → is_price p ≡ true → is_too_large p ≡ false → is_too_fine p ≡ false → price_word p ≡ None
+valid_word p a b c = rw a (rw b (rw c refl))
+
+spelled_price : (f : PlainFile) (words : List Word) → IsPlainFile f → SpellsBid f words → HasPrice words
+unfolding HasPrice
+spelled_price f words facts s =
+    let small : s.bid.price ≤ MAX_PRICE = found_price (number_of s.number) f.bids s.bid f.goods f.dummy facts.each s.stands in
+    let within : price_of s.price ≤ MAX_PRICE = omega (arith, s.price_spelled.value) in (
+      s.number,
+      s.price,
+      s.goods ++ codes "#" ∷ [],
+      s.words_are,
+      valid_word s.price s.price_spelled.price (price_small s.price s.price_spelled.price s.price_spelled.exact within) s.price_spelled.exact,
+    )
+
+spelled_prices : (f : PlainFile) (lines : List (List Word)) → IsPlainFile f → AllByRecursion (SpellsBid f) lines → AllByRecursion HasPrice lines
+spelled_prices f [] facts h = tt
+spelled_prices f (l ∷ ls) facts h = (spelled_price f l facts h.0, spelled_prices f ls facts h.1)
+
+valid_file : (text : List ℕ) (f : PlainFile) → Spells text f → Valid 0 (raw_lines text)
+valid_file text f s =
+    let words : words_from (raw_lines text) ≡ (codes "goods" ∷ s.goods ∷ []) ∷ (codes "bids" ∷ s.bids ∷ []) ∷ (codes "dummy" ∷ s.dummy ∷ []) ∷ s.bid_lines =
+    sym (significant_from text) ∙ s.lines_are in
+    valid_from 0 (raw_lines text) (subst (λ (ws : List (List Word)). AllByRecursion HasPrice (drop 3 ws)) (sym words) (spelled_prices f s.bid_lines s.facts s.each))
+
+pub file_stays : (fine : FinePrices) (text : List ℕ) (f : PlainFile) → Spells text f → rounded_text fine text ≡ text
+file_stays fine text f s = ap lines_text (lines_stay fine 0 (raw_lines text) (valid_file text f s)) ∙ text_of_lines text
+
+pub file_unchanged : (fine : FinePrices) (text : List ℕ) (f : PlainFile) → Spells text f → rounded_prices fine text ≡ []
+file_unchanged fine text f s = lines_unchanged fine 1 0 (raw_lines text) (valid_file text f s)
