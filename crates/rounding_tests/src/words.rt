@@ -1,6 +1,7 @@
 //! Words in the place of a price.
 
 use rounding::{FinePrices, Replacement, replacement_of};
+use std::alloc::{AllocError, Global};
 use std::test::Fail;
 
 /// Words, and their replacements where fine prices are rounded and where they are refused.
@@ -100,5 +101,41 @@ fn words_and_replacements(rt: HostRuntime) -> Result<(), Fail> {
         assert_eq!(rt; replacement_of(word, FinePrices::Round), *rounded);
         assert_eq!(rt; replacement_of(word, FinePrices::Refuse), *refused);
     }
+    Ok(())
+}
+
+/// A word of a one, a million zeros, and an exponent.
+fn long_word(alloc: Global, exponent: &[u8]) -> Result<Vec<u8>, AllocError> {
+    let mut word = Vec::new(alloc);
+    word.push(b'1')?;
+    for _ in 0..1_000_000 {
+        word.push(b'0')?;
+    }
+    word.extend_from_slice(exponent)?;
+    Ok(word)
+}
+
+#[test]
+fn long_words(rt: HostRuntime) -> Result<(), Fail> {
+    let one = long_word(rt.alloc(), b"e-1000000")?;
+    assert_eq!(rt;
+        replacement_of(&one, FinePrices::Round),
+        Replacement::Exact(1_000_000)
+    );
+    let fine = long_word(rt.alloc(), b"1e-1000000")?;
+    assert_eq!(rt;
+        replacement_of(&fine, FinePrices::Round),
+        Replacement::Rounded(10_000_000)
+    );
+    let near = long_word(rt.alloc(), b"5e-1000007")?;
+    assert_eq!(rt;
+        replacement_of(&near, FinePrices::Round),
+        Replacement::Rounded(1)
+    );
+    let large = long_word(rt.alloc(), b"")?;
+    assert_eq!(rt;
+        replacement_of(&large, FinePrices::Round),
+        Replacement::TooLarge
+    );
     Ok(())
 }
