@@ -5,9 +5,11 @@ use Rattle.std.proofs.lemmas.Bool.{cases_Bool, both_ways, and_parts, eqb-true, c
 use Rattle.std.specs.List.{AllByRecursion}
 use Rattle.cats_text.specs.Lines.{Word, RawLine, Line, is_blank, line_byte, line_ends, blank_returns, raw_lines, lines_with, with_byte, line_words, words_with, with_letter, is_significant, numbered}
 use Rattle.cats_text.specs.Faults.{price_word}
-use Rattle.cats_text.specs.Grammar.{Spells, SpellsBid, significant_words}
+use Rattle.cats_text.specs.Grammar.{Spells, SpellsPrice, SpellsBid, significant_words}
 use Rattle.cats_text.specs.Numbers.{number_of, is_price, price_of, is_too_large, is_too_fine}
+use Rattle.cats_text.specs.Layout.{price_text}
 use Rattle.cats_text.proofs.Spelling.Prices.{price_small}
+use Rattle.cats_text.proofs.Writing.Prices.{price_text_spells}
 use Rattle.bid_file.specs.declared.limits.TheConstants.{MAX_PRICE}
 use Rattle.bid_file.specs.Files.{PlainFile, PlainBid, IsPlainFile, IsBid}
 use Rattle.rounding.specs.Replacements.{replacement, rounded_word}
@@ -293,3 +295,14 @@ file_stays fine text f s = ap lines_text (lines_stay fine 0 (raw_lines text) (va
 
 pub file_unchanged : (fine : FinePrices) (text : List ℕ) (f : PlainFile) → Spells text f → rounded_prices fine text ≡ []
 file_unchanged fine text f s = lines_unchanged fine 1 0 (raw_lines text) (valid_file text f s)
+
+-- ---- prices that are written
+
+pub written_spells : (p : ℕ) → p ≤ MAX_PRICE → SpellsPrice (price_text p) p
+written_spells p l = price_text_spells p (omega arith)
+
+pub written_faultless : (p : ℕ) → p ≤ MAX_PRICE → price_word (price_text p) ≡ None
+written_faultless p l =
+    let s : SpellsPrice (price_text p) p = written_spells p l in
+    let within : price_of (price_text p) ≤ MAX_PRICE = omega (arith, s.value) in
+    valid_word (price_text p) s.price (price_small (price_text p) s.price s.exact within) s.exact

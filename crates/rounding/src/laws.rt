@@ -1,9 +1,11 @@
 //! Laws of the definitions: what rounding means over whole numbers, and which texts it leaves as they are.
 
-ghost use Rattle.std.specs.Prelude.{◌≡◌, ◌⊎◌, ◌*◌, ◌<◌, ◌≤◌, ◌∷◌, ◌++◌, ℕ, List, [], true};
+ghost use Rattle.std.specs.Prelude.{◌≡◌, ◌⊎◌, ◌*◌, ◌<◌, ◌≤◌, ◌∷◌, ◌++◌, ℕ, List, [], true, None};
 ghost use Rattle.bid_file.specs.Files.{PlainFile};
 ghost use Rattle.bid_file.specs.declared.limits.TheConstants.{MAX_PRICE};
-ghost use Rattle.cats_text.specs.Grammar.{Spells};
+ghost use Rattle.cats_text.specs.Faults.{price_word};
+ghost use Rattle.cats_text.specs.Grammar.{Spells, SpellsPrice};
+ghost use Rattle.cats_text.specs.Layout.{price_text};
 ghost use Rattle.cats_text.specs.Lines.{Word, line_words, blank_returns};
 ghost use Rattle.rounding.specs.Decimals.{is_decimal, top, bottom, exact_top, exact_bottom};
 ghost use Rattle.rounding.specs.Nearest.{IsNearest, nearest};
@@ -28,6 +30,12 @@ pub fn cut_powers()
 pub fn whole_millionths_are_kept()
     ensures { (fine : FinePrices) (w : Word) (m : ℕ) → is_decimal w ≡ true → exact_top w ≡ m * exact_bottom w
         → m ≤ MAX_PRICE → (replacement fine w ≡ Itself) ⊎ (replacement fine w ≡ Exact m) }
+{}
+
+/// The price text of a number of millionths is read as that number, without a fault.
+pub fn written_prices_are_read()
+    ensures value { (millionths : ℕ) → millionths ≤ MAX_PRICE → SpellsPrice (price_text millionths) millionths }
+    ensures faultless { (millionths : ℕ) → millionths ≤ MAX_PRICE → price_word (price_text millionths) ≡ None }
 {}
 
 /// A line is what is before its second word, that word, and what is behind it; and that word is the second of its words.
