@@ -36,7 +36,7 @@ zip_push R S (a ∷ xs) (b ∷ ys) x y weaker h s = (weaker a b h.0, zip_push R 
 
 -- ---- what is reported
 
-reports_more : {E : Type 0} (messages : E → Option (List ℕ)) (lines more : List (List ℕ)) (a b c : Watched E) → ReportsAll messages lines a b
+pub reports_more : {E : Type 0} (messages : E → Option (List ℕ)) (lines more : List (List ℕ)) (a b c : Watched E) → ReportsAll messages lines a b
     → ReportsAll messages more b c → ReportsAll messages (lines ++ more) a c
 reports_more {E = E} messages [] more a b c first then = subst (λ (e : Watched E). ReportsAll messages more e c) first then
 reports_more messages (line ∷ lines) more a b c first then = (first.0, first.1, reports_more messages lines more first.0 b c first.2 then)

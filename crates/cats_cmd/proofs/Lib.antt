@@ -8,6 +8,7 @@ mod Printing
 mod Stopping
 mod Comparing
 mod Grouping
+mod Rounding
 mod Judging
 mod FindingPlaces
 mod RunsOfPaths

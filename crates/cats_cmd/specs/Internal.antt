@@ -3,4 +3,5 @@
 pub mod Checks
 pub mod Differences
 pub mod Judging
+pub mod Roundings
 pub mod Searches

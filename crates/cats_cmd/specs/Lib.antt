@@ -13,5 +13,6 @@ pub mod Runs
 pub mod Comparisons
 pub mod DuplicateTexts
 pub mod Duplicates
+pub mod Rounding
 pub mod Requests
 pub mod Internal

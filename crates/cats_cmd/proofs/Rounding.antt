@@ -1,0 +1,173 @@
+-- `cats round`: the bytes that came so far, the prices that were reported so far, and the ways in which the run ends.
+use Rattle.std.proofs.Common.{◌≡◌, ◌≢◌, ◌<◌, ◌≤◌, ◌+◌, ℕ, Bool, true, false, ◌||◌, List, [], ◌∷◌, ◌++◌, length, take, map, get_or, refl, sym, ap, ◌∙◌, subst, arith}
+use Rattle.std.proofs.Common.{append-nil, length-append, Option, None, Some, Result, Ok, Err, inl, inr, ⊎_elim, ◌⊎◌}
+use Rattle.std.specs.Prelude.{IsErrAnd}
+use Rattle.std.specs.Io.KnownBytes.{Consumes}
+use Rattle.std.proofs.KnownBytes.{Consumes-trans}
+use Rattle.std.proofs.lemmas.List.{map-append, take_more, take_all}
+use Rattle.std.proofs.lemmas.Result.{err_from_is_err_and}
+use Rattle.cats_text.specs.Faults.{first_fault, fault_at}
+use Rattle.cats_text.specs.Streams.{inner_of, moved_nothing}
+use Rattle.cats_text.specs.declared.fault.Kind.{Kind}
+use Rattle.cats_text.specs.declared.fault.Kind.TheVariants.{Memory as NoMemory, Device, TooLong}
+use Rattle.cats_text.specs.declared.fault.ReadFault.{ReadFault}
+use Rattle.cats_text.specs.declared.limits.TheConstants.{MAX_STREAM}
+use Rattle.cats_text.specs.declared.stream.Watched.{Watched}
+use Rattle.canon.specs.Refusals.{refusal_by_kind, refusal_of}
+use Rattle.canon.specs.declared.fault.CanonFault.{CanonFault}
+use Rattle.canon.specs.declared.fault.CanonFault.TheVariants.{Read, StepLimit, Memory}
+use Rattle.canon.specs.declared.which.Which.TheVariants.{Only}
+use Rattle.rounding.specs.Answers.{IsRounded, RoundAnswer}
+use Rattle.rounding.specs.Texts.{rounded_prices, rounded_text}
+use Rattle.rounding.specs.Views.{plain_change, plain_changes}
+use Rattle.rounding.specs.declared.replacement.FinePrices.{FinePrices}
+use Rattle.rounding.specs.declared.text.RoundedPrice.{RoundedPrice}
+use Rattle.rounding.specs.declared.text.RoundedText.{RoundedText}
+use Rattle.cats_cmd.specs.Internal.Roundings.{RoundsText}
+use Rattle.cats_cmd.specs.Outcomes.{Tells}
+use Rattle.cats_cmd.specs.Rounding.{IsUnrounded, ReadsAll, ReadsBytes, ReadsTooMany, Rounds, StopsReading, round_outcome, rounded_line}
+use Rattle.cats_cmd.specs.Runs.{SendsAs}
+use Rattle.cats_cmd.specs.Stops.{Reports, ReportsAll}
+use Rattle.cats_cmd.specs.declared.report.RunFault.{RunFault}
+use Rattle.cats_cmd.specs.declared.report.RunFault.TheVariants.{Refused, GoodRange, Sent}
+use Rattle.cats_cmd.proofs.FindingPlaces.{reports_more}
+use Rattle.cats_cmd.proofs.RunsOfOneFile.{wrote}
+
+-- ---- bytes
+
+-- a read that gave nothing
+pub no_more : (a b c : Option (List ℕ)) (bytes piece : List ℕ) (n : ℕ) → n ≡ 0 → Consumes a b bytes → Consumes b c (take n piece) → Consumes a c bytes
+no_more a b c bytes piece n none came gave =
+    let joined = Consumes-trans a b c bytes [] came (rw none at gave) in rw append-nil at joined
+
+pub at_the_end : (before : Bool) (n : ℕ) (piece : List ℕ) → n ≡ 0 → 0 < length piece → (before || moved_nothing (Ok n) piece) ≡ true
+at_the_end before n [] none room = absurd (omega arith)
+at_the_end before n (byte ∷ piece) none room = grind arith
+
+-- a read that gave a piece
+pub came_more : (a b c : Option (List ℕ)) (bytes piece all : List ℕ) → Consumes a b bytes → Consumes b c piece → all ≡ bytes ++ piece → Consumes a c all
+came_more a b c bytes piece all came gave joined = rw joined (Consumes-trans a b c bytes piece came gave)
+
+-- so many bytes came
+pub so_many_bytes : (bytes piece : List ℕ) (n : ℕ) → n ≡ length piece → length (bytes ++ piece) ≡ length bytes + n
+so_many_bytes bytes piece n count = length-append bytes piece ∙ ap (λ (m : ℕ). length bytes + m) (sym count)
+
+module _ {R : Type 0} (remaining : R → Option (List ℕ)) where
+  pub too_many : (old between new : Watched R) (bytes piece : List ℕ) (n : ℕ) → Consumes (remaining (inner_of old)) (remaining (inner_of between)) bytes
+      → Consumes (remaining (inner_of between)) (remaining (inner_of new)) piece → n ≡ length piece → MAX_STREAM < length bytes + n
+      → StopsReading remaining old new 0 TooLong
+  too_many old between new bytes piece n came gave count beyond = (
+    refl,
+    record {
+      bytes = bytes ++ piece;
+      consumes = Consumes-trans (remaining (inner_of old)) (remaining (inner_of between)) (remaining (inner_of new)) bytes piece came gave;
+      beyond = rw (so_many_bytes bytes piece n count) beyond;
+    },
+  )
+
+-- ---- reports
+
+pub reported_more : {E : Type 0} (messages : E → Option (List ℕ)) (prices : List RoundedPrice) (i : ℕ) (d : RoundedPrice) → i < length prices
+    → (a b c : Watched E) → ReportsAll messages (map rounded_line (plain_changes (take i prices))) a b
+    → Reports messages (rounded_line (plain_change (get_or prices i d))) b c
+    → ReportsAll messages (map rounded_line (plain_changes (take (i + 1) prices))) a c
+reported_more {E = E} messages prices i d l a b c before now =
+    let last = rounded_line (plain_change (get_or prices i d)) in
+    let all : map rounded_line (plain_changes (take (i + 1) prices)) ≡ map rounded_line (plain_changes (take i prices)) ++ last ∷ [] =
+    ap (λ (ps : List RoundedPrice). map rounded_line (plain_changes ps)) (take_more prices i d l)
+    ∙ ap (map rounded_line) (map-append plain_change (take i prices) (get_or prices i d ∷ []))
+    ∙ map-append rounded_line (plain_changes (take i prices)) (plain_change (get_or prices i d) ∷ []) in
+    subst (λ (lines : List (List ℕ)). ReportsAll messages lines a c) (sym all)
+    (reports_more messages (map rounded_line (plain_changes (take i prices))) (last ∷ []) a b c before (c, now, refl))
+
+pub reported_all : {E : Type 0} (messages : E → Option (List ℕ)) (prices : List RoundedPrice) (i : ℕ) → length prices ≤ i
+    → (a b : Watched E) → ReportsAll messages (map rounded_line (plain_changes (take i prices))) a b
+    → ReportsAll messages (map rounded_line (plain_changes prices)) a b
+reported_all messages prices i l a b reports =
+    subst (λ (ps : List RoundedPrice). ReportsAll messages (map rounded_line (plain_changes ps)) a b) (take_all i prices l) reports
+
+-- ---- rounding
+
+refused_by_kind : (fine : FinePrices) (text : List ℕ) (why : ReadFault) (kind : Kind) → first_fault (rounded_text fine text) ≡ Some why
+    → RoundsText fine text (Err (refusal_by_kind why kind))
+refused_by_kind fine text why NoMemory first = tt
+refused_by_kind fine text why kind first = first
+
+-- a fault of rounding, as the run has it
+pub rounding_refused : (fine : FinePrices) (text : List ℕ) (why : ReadFault) → RoundAnswer fine text (Err why)
+    → (fault : CanonFault) → fault ≡ refusal_of why → RoundsText fine text (Err fault)
+rounding_refused fine text why answer fault is =
+    subst (λ (f : CanonFault). RoundsText fine text (Err f)) (sym is)
+    (⊎_elim
+    (λ (first : first_fault (rounded_text fine text) ≡ Some why). refused_by_kind fine text why why.kind first)
+    (λ (memory : why ≡ fault_at 0 NoMemory). subst (λ (w : ReadFault). RoundsText fine text (Err (refusal_of w))) (sym memory) tt)
+    answer)
+
+-- ---- the run
+
+module _ {R W E : Type 0} (remaining : R → Option (List ℕ)) (contents : W → Option (List ℕ)) (messages : E → Option (List ℕ)) (fine : FinePrices)
+    (old new : Watched R) where
+  run_refused : (out : Watched W) (err : Watched E) (fault : CanonFault) → IsUnrounded remaining contents messages fine old new fault
+      → (answer : Result ℕ RunFault) → IsErrAnd answer (λ told. told ≡ Refused Only fault)
+      → Rounds remaining contents messages fine old new out out err err answer
+  run_refused out err fault refused answer is =
+      let told = err_from_is_err_and answer is in
+      let only : answer ≡ Err (Refused Only fault) = told.1 ∙ ap (λ (f : RunFault). Err f) told.2 in
+      subst (λ (r : Result ℕ RunFault). Rounds remaining contents messages fine old new out out err err r) (sym only)
+      (record { only = refl; refused = refused; silent = refl; quiet = refl })
+
+  unread : (fault : CanonFault) → ReadsBytes remaining old new (Err fault) → IsUnrounded remaining contents messages fine old new fault
+  unread (Read fault) stops = inl stops
+  unread (StepLimit goods) stops = absurd stops
+  unread Memory stops = tt
+
+  unmade : (bytes : List ℕ) → ReadsAll remaining old new bytes → (fault : CanonFault) → RoundsText fine bytes (Err fault)
+      → IsUnrounded remaining contents messages fine old new fault
+  unmade bytes all (Read fault) first = inr (record { bytes = bytes; all = all; first = first })
+  unmade bytes all (StepLimit goods) first = absurd first
+  unmade bytes all Memory first = tt
+
+  pub round_unread : (out : Watched W) (err : Watched E) (fault : CanonFault) → ReadsBytes remaining old new (Err fault)
+      → (answer : Result ℕ RunFault) → IsErrAnd answer (λ told. told ≡ Refused Only fault)
+      → Rounds remaining contents messages fine old new out out err err answer
+  round_unread out err fault stops answer is = run_refused out err fault (unread fault stops) answer is
+
+  pub round_unmade : (out : Watched W) (err : Watched E) (bytes : List ℕ) → ReadsAll remaining old new bytes → (fault : CanonFault)
+      → RoundsText fine bytes (Err fault) → (answer : Result ℕ RunFault) → IsErrAnd answer (λ told. told ≡ Refused Only fault)
+      → Rounds remaining contents messages fine old new out out err err answer
+  round_unmade out err bytes all fault first answer is = run_refused out err fault (unmade bytes all fault first) answer is
+
+  -- the output failed in the text
+  pub round_unsent : (out out_after : Watched W) (err : Watched E) (bytes : List ℕ) → ReadsAll remaining old new bytes → (rounded : RoundedText)
+      → IsRounded fine bytes rounded → (fault : RunFault) → SendsAs contents 0 (rounded_text fine bytes) out out_after (Err fault)
+      → (answer : Result ℕ RunFault) → IsErrAnd answer (λ told. told ≡ fault)
+      → Rounds remaining contents messages fine old new out out_after err err answer
+  round_unsent out out_after err bytes all rounded r (Refused which fault) sends answer is = absurd sends
+  round_unsent out out_after err bytes all rounded r (GoodRange good) sends answer is = absurd sends
+  round_unsent out out_after err bytes all rounded r (Sent fault) sends answer is =
+      let told = err_from_is_err_and answer is in
+      let only : answer ≡ Err (Sent fault) = told.1 ∙ ap (λ (f : RunFault). Err f) told.2 in
+      subst (λ (a : Result ℕ RunFault). Rounds remaining contents messages fine old new out out_after err err a) (sym only) (record {
+        fails = record {
+          given = bytes;
+          reads = record { all = all; file = r.file; spells = rw r.text_is at r.spells };
+          status = 0;
+          text = rounded_text fine bytes;
+          made = refl;
+          sent = sends;
+        };
+        quiet = refl;
+      })
+
+  -- the text was sent, and the prices whose values changed were reported
+  pub round_told : (out out_after : Watched W) (err err_after : Watched E) (bytes : List ℕ) → ReadsAll remaining old new bytes → (rounded : RoundedText)
+      → IsRounded fine bytes rounded → (status : ℕ) → SendsAs contents 0 (rounded_text fine bytes) out out_after (Ok status)
+      → ReportsAll messages (map rounded_line (plain_changes rounded.prices.items)) err err_after
+      → Rounds remaining contents messages fine old new out out_after err err_after (Ok status)
+  round_told out out_after err err_after bytes all rounded r status sends reports =
+      wrote contents _ (round_outcome fine) out out_after bytes
+      (record {
+        reads = record { all = all; file = r.file; spells = rw r.text_is at r.spells };
+        reports = rw r.prices_are at reports;
+      })
+      0 (rounded_text fine bytes) refl status sends

@@ -1,0 +1,26 @@
+use Rattle.std.proofs.Common.{arith, ◌<◌, length, refl, ◌∙◌}
+use Rattle.cats_cmd.proofs.Rounding.{no_more, at_the_end, came_more, so_many_bytes, too_many}
+use Rattle.cats_cmd.proofs.round.bytes.read_bytes.Goals as goal
+
+pub returns-in-Ok-eq0 : goal.returns-in-Ok-eq0
+returns-in-Ok-eq0 g c =
+    let none = c.in-Ok-eq0.field-0-test in
+    let kept = c.loop-text.invariant in
+    let gave = c.in-Ok-eq0.ensures in
+    let room : 0 < length c.read.new.piece = rw c.read.auto.piece kept.room in
+    record {
+      consumes = no_more _ _ _ c.loop-text.text.items c.read.new.piece c.in-Ok-eq0.field-0 none kept.came gave.bytes.0;
+      within = kept.within;
+      ended = gave.ended ∙ at_the_end _ c.in-Ok-eq0.field-0 c.read.new.piece none room;
+      at_end = gave.bytes.1 none room;
+      works = gave.failed;
+    }
+
+pub returns-then-count-len : goal.returns-then-count-len
+returns-then-count-len g c =
+    rw c.whole_fault.ensures
+    (too_many g.R.Read.remaining c.args.input.now c.loop-text.input c.read.new.self c.loop-text.text.items _ c.in-Ok.count c.loop-text.invariant.came c.in-Ok.ensures.bytes.0 c.in-Ok.ensures.bound.1
+    (omega (arith, c.if-count-len.true, c.len.ensures, c.loop-text.invariant.within)))
+
+pub returns-in-Err : goal.returns-in-Err
+returns-in-Err g c = rw c.whole_fault-in-Err.ensures (refl, c.in-Err.ensures.failed)

@@ -1,0 +1,17 @@
+use Rattle.std.proofs.Common.{◌≡◌, ◌<◌, ◌≤◌, ◌+◌, ◌-◌, length, false}
+use Rattle.std.specs.Io.KnownBytes.{Consumes}
+use Rattle.cats_text.specs.declared.limits.TheConstants.{MAX_STREAM}
+use Rattle.cats_text.specs.Streams.{inner_of, has_failed}
+use Rattle.cats_cmd.proofs.round.bytes.read_bytes.Given as goal
+
+-- the bytes that came so far are kept
+abbrev pub invariant-loop-text : goal.invariant-loop-text
+invariant-loop-text g l = record {
+  came : Consumes (g.R.Read.remaining (inner_of l.fn.input)) (g.R.Read.remaining (inner_of l.input)) l.text.items;
+  within : length l.text.items ≤ MAX_STREAM;
+  device : has_failed l.input ≡ false;
+  room : 0 < length l.piece;
+}
+
+abbrev pub decreases-loop-text : goal.decreases-loop-text
+decreases-loop-text g l = (MAX_STREAM + 1) - length l.text.items

@@ -1,0 +1,117 @@
+-- What `cats round` does: the bytes that it read, the text with their prices rounded, and what it reports.
+use Rattle.std.specs.Prelude.{◌≡◌, ◌⊎◌, ◌<◌, ◌≤◌, ℕ, true, false, List, ◌++◌, length, map, Some, Option, Result, Ok, Err}
+use Rattle.std.specs.Prelude.{codes, decimal, Vec}
+use Rattle.std.specs.Global.{Global}
+use Rattle.std.specs.Io.KnownBytes.{Consumes, IsAtEnd}
+use Rattle.bid_file.specs.Files.{PlainFile}
+use Rattle.cats_text.specs.Faults.{first_fault}
+use Rattle.cats_text.specs.Grammar.{Spells}
+use Rattle.cats_text.specs.Layout.{price_text}
+use Rattle.cats_text.specs.Streams.{inner_of, has_failed, has_ended}
+use Rattle.cats_text.specs.declared.fault.Kind.{Kind}
+use Rattle.cats_text.specs.declared.fault.Kind.TheVariants.{Device, TooLong}
+use Rattle.cats_text.specs.declared.fault.ReadFault.{ReadFault}
+use Rattle.cats_text.specs.declared.limits.TheConstants.{MAX_STREAM}
+use Rattle.cats_text.specs.declared.stream.Watched.{Watched}
+use Rattle.canon.specs.declared.fault.CanonFault.{CanonFault}
+use Rattle.canon.specs.declared.fault.CanonFault.TheVariants.{Read, StepLimit, Memory}
+use Rattle.canon.specs.declared.which.Which.{Which}
+use Rattle.canon.specs.declared.which.Which.TheVariants.{Only}
+use Rattle.rounding.specs.Texts.{PlainChange, rounded_prices, rounded_text}
+use Rattle.rounding.specs.declared.replacement.FinePrices.{FinePrices}
+use Rattle.cats_cmd.specs.Outcomes.{Outcome, Tells}
+use Rattle.cats_cmd.specs.Runs.{FailsInText, WritesText}
+use Rattle.cats_cmd.specs.Stops.{ReportsAll}
+use Rattle.cats_cmd.specs.declared.report.RunFault.{RunFault}
+use Rattle.cats_cmd.specs.declared.report.RunFault.TheVariants.{Refused, GoodRange, Sent}
+
+-- the line of a price whose value changed
+abbrev pub rounded_line : PlainChange → List ℕ
+rounded_line change = codes "line " ++ decimal change.line ++ codes ": " ++ change.word ++ codes " rounded to "
+    ++ price_text change.price ++ codes "\n"
+
+-- the text with its prices rounded, with status 0
+abbrev pub round_outcome : FinePrices → List ℕ → Outcome
+round_outcome fine bytes = Tells 0 (rounded_text fine bytes)
+
+-- ---- reading bytes
+
+module _ {R : Type 0} (remaining : R → Option (List ℕ)) where
+  -- these bytes are all that the stream had, and no more than are read of one
+  pub record ReadsAll (old new : Watched R) (bytes : List ℕ) : Type 0 where
+    pub consumes : Consumes (remaining (inner_of old)) (remaining (inner_of new)) bytes
+    pub within : length bytes ≤ MAX_STREAM
+    pub ended : has_ended new ≡ true
+    pub at_end : IsAtEnd (remaining (inner_of new))
+    pub works : has_failed new ≡ false
+
+  -- more bytes came than are read of a stream
+  pub record ReadsTooMany (old new : Watched R) : Type 0 where
+    pub bytes : List ℕ
+    pub consumes : Consumes (remaining (inner_of old)) (remaining (inner_of new)) bytes
+    pub beyond : MAX_STREAM < length bytes
+
+  -- the stream failed, or more bytes came than are read of one
+  abbrev pub StopsReading : Watched R → Watched R → ℕ → Kind → Type 0
+  StopsReading old new line Device = (line ≡ 0) × (has_failed new ≡ true)
+  StopsReading old new line TooLong = (line ≡ 0) × ReadsTooMany old new
+  StopsReading old new line kind = ⊥
+
+  -- the contract of reading the bytes of a stream; memory may be refused
+  abbrev pub ReadsBytes : Watched R → Watched R → Result (Vec ℕ Global) CanonFault → Type 0
+  ReadsBytes old new (Ok text) = ReadsAll old new text.items
+  ReadsBytes old new (Err (Read fault)) = StopsReading old new fault.line fault.kind
+  ReadsBytes old new (Err (StepLimit goods)) = ⊥
+  ReadsBytes old new (Err Memory) = Unit {0}
+
+-- ---- the run
+
+module _ {R W E : Type 0} (remaining : R → Option (List ℕ)) (contents : W → Option (List ℕ))
+    (messages : E → Option (List ℕ)) (fine : FinePrices) where
+  -- the bytes that were read, with their prices rounded, spell a file
+  pub record ReadsRoundable (old new : Watched R) (bytes : List ℕ) : Type 0 where
+    pub all : ReadsAll remaining old new bytes
+    pub file : PlainFile
+    pub spells : Spells (rounded_text fine bytes) file
+
+  -- and the prices whose values changed were reported
+  pub record ReadsAndReports (old new : Watched R) (err err_after : Watched E) (bytes : List ℕ) : Type 0 where
+    pub reads : ReadsRoundable old new bytes
+    pub reports : ReportsAll messages (map rounded_line (rounded_prices fine bytes)) err err_after
+
+  -- the bytes that were read, with their prices rounded, have this first fault
+  pub record HasFault (old new : Watched R) (fault : ReadFault) : Type 0 where
+    pub bytes : List ℕ
+    pub all : ReadsAll remaining old new bytes
+    pub first : first_fault (rounded_text fine bytes) ≡ Some fault
+
+  -- Why the file was refused: the stream failed or was too long, or the rounded text has a fault, or memory was refused.
+  abbrev pub IsUnrounded : Watched R → Watched R → CanonFault → Type 0
+  IsUnrounded old new (Read fault) = StopsReading remaining old new fault.line fault.kind ⊎ HasFault old new fault
+  IsUnrounded old new (StepLimit goods) = ⊥
+  IsUnrounded old new Memory = Unit {0}
+
+  -- the file was refused, and nothing was written or reported
+  pub record RefusesRounding (old new : Watched R) (out out_after : Watched W) (err err_after : Watched E)
+      (which : Which) (fault : CanonFault) : Type 0 where
+    pub only : which ≡ Only
+    pub refused : IsUnrounded old new fault
+    pub silent : out_after ≡ out
+    pub quiet : err_after ≡ err
+
+  -- the text was written in part, as the output failed, and nothing was reported
+  pub record FailsInRounding (old new : Watched R) (out out_after : Watched W) (err err_after : Watched E)
+      (written : ℕ) : Type 0 where
+    pub fails : FailsInText contents (ReadsRoundable old new) (round_outcome fine) out out_after written
+    pub quiet : err_after ≡ err
+
+  -- the contract of the run, from its input, its output and standard error before to those after it
+  abbrev pub Rounds : Watched R → Watched R → Watched W → Watched W → Watched E → Watched E → Result ℕ RunFault
+      → Type 0
+  Rounds old new out out_after err err_after (Ok status) =
+      WritesText contents (ReadsAndReports old new err err_after) (round_outcome fine) out out_after status
+  Rounds old new out out_after err err_after (Err (Refused which fault)) =
+      RefusesRounding old new out out_after err err_after which fault
+  Rounds old new out out_after err err_after (Err (GoodRange good)) = ⊥
+  Rounds old new out out_after err err_after (Err (Sent fault)) =
+      FailsInRounding old new out out_after err err_after fault.written

@@ -1,0 +1,75 @@
+//! `cats round`: a bid file's text with every price made valid.
+
+mod bytes;
+
+ghost use Rattle.std.specs.Prelude.{◌≡◌, map, IfOk, false};
+ghost use Rattle.cats_text.specs.Streams.{has_ended, has_failed};
+ghost use Rattle.rounding.specs.Views.{plain_change, plain_changes};
+ghost use Rattle.cats_cmd.specs.Rounding.{Rounds, rounded_line};
+ghost use Rattle.cats_cmd.specs.Internal.Roundings.{RoundsText};
+ghost use Rattle.cats_cmd.specs.Stops.{ReportsAll};
+
+use crate::program::report;
+use crate::report::{DONE, RunFault};
+use crate::run::send_text;
+use bytes::read_bytes;
+use canon::CanonFault;
+use cats_text::{Watched, push_price};
+use rounding::{FinePrices, RoundedPrice, RoundedText, round};
+use std::alloc::{AllocError, Global};
+use std::io::{Read, Write};
+
+/// Reads a text, rounds each price of it that is finer than a millionth, or refuses it, and writes each that is written
+/// otherwise as a price. Sends that text if it is a bid file, and then reports on `err` each price whose value changed.
+///
+/// A fault is the first of the text that results, as `run_check` has it.
+pub fn run_round<R: Read, W: Write, E: Write>(
+    alloc: Global,
+    input: &mut Watched<R>,
+    fine: FinePrices,
+    out: &mut Watched<W>,
+    err: &mut Watched<E>,
+) -> Result<u8, RunFault>
+    requires input_works { has_failed input.old ≡ false }
+    requires input_fresh { has_ended input.old ≡ false }
+    requires out_works { has_failed out.old ≡ false }
+    ensures { Rounds R.remaining W.contents E.contents fine input.old input.new out.old out.new err.old err.new result }
+{
+    let text = read_bytes(alloc, input)?;
+    let rounded = round_bytes(alloc, text.as_slice(), fine)?;
+    let status = send_text(out, DONE, rounded.text.as_slice())?;
+    report_prices(alloc, rounded.prices.as_slice(), err);
+    Ok(status)
+}
+
+/// The text with its prices rounded. Memory that the rounding is refused is the run's want of memory.
+fn round_bytes(alloc: Global, text: &[u8], fine: FinePrices) -> Result<RoundedText, CanonFault>
+    ensures { RoundsText fine text.now result }
+{
+    match round(alloc, text, fine) {
+        Ok(rounded) => Ok(rounded),
+        Err(fault) => Err(CanonFault::from(fault)),
+    }
+}
+
+/// Reports prices whose values changed, each on a line.
+fn report_prices<E: Write>(alloc: Global, prices: &[RoundedPrice], err: &mut Watched<E>)
+    ensures { ReportsAll E.contents (map rounded_line (plain_changes prices.now)) err.old err.new }
+{
+    for price in prices {
+        report(err, &price_line(alloc, price));
+    }
+}
+
+fn price_line(alloc: Global, price: &RoundedPrice) -> Result<Vec<u8>, AllocError>
+    ensures { IfOk result (λ line. line.items ≡ rounded_line (plain_change price.now)) }
+{
+    let number = price.line;
+    let start = format!(in alloc; "line {number}: ")?;
+    let mut line = start.into_bytes();
+    line.extend_from_slice(price.word.as_slice())?;
+    line.extend_from_slice(b" rounded to ")?;
+    push_price(&mut line, u128::from(price.price))?;
+    line.push(b'\n')?;
+    Ok(line)
+}

@@ -1,0 +1,47 @@
+//! The bytes of a stream, all of them.
+
+ghost use Rattle.std.specs.Prelude.{◌≡◌, false};
+ghost use Rattle.cats_text.specs.Faults.{fault_at};
+ghost use Rattle.cats_text.specs.Streams.{has_ended, has_failed};
+ghost use Rattle.canon.specs.declared.fault.CanonFault.TheVariants.{Read as IsRead};
+ghost use Rattle.cats_cmd.specs.Rounding.{ReadsBytes};
+
+use canon::CanonFault;
+use cats_text::{Kind, MAX_STREAM, ReadFault, Watched};
+use std::alloc::Global;
+use std::io::Read;
+
+/// How many bytes are read at once.
+const PIECE: usize = 65_536;
+
+/// Reads a stream to its end. No more than `MAX_STREAM` bytes are kept.
+pub(super) fn read_bytes<R: Read>(
+    alloc: Global,
+    input: &mut Watched<R>,
+) -> Result<Vec<u8>, CanonFault>
+    requires works { has_failed input.old ≡ false }
+    requires fresh { has_ended input.old ≡ false }
+    ensures { ReadsBytes R.remaining input.old input.new result }
+{
+    let mut text = Vec::new(alloc);
+    let mut piece = [0; PIECE];
+    loop {
+        match input.read(&mut piece) {
+            Ok(0) => return Ok(text),
+            Ok(count) => {
+                if count as u64 > MAX_STREAM - text.len() as u64 {
+                    return Err(whole_fault(Kind::TooLong));
+                }
+                text.extend_from_slice(&piece[..count])?;
+            }
+            Err(_) => return Err(whole_fault(Kind::Device)),
+        }
+    }
+}
+
+/// A fault of the whole stream.
+fn whole_fault(kind: Kind) -> CanonFault
+    ensures { result ≡ IsRead (fault_at 0 kind) }
+{
+    CanonFault::Read(ReadFault { line: 0, kind })
+}
