@@ -15,6 +15,8 @@ pub(crate) const STEPS: &str = "steps";
 
 pub(crate) const PROGRESS: &str = "progress";
 
+pub(crate) const EXACT: &str = "exact";
+
 /// The most steps that a command line may allow a search.
 const MAX_STEPS: i64 = 1_000_000_000;
 
@@ -31,6 +33,7 @@ enum Argument {
     /// The option for a limit, with what its help says.
     Steps(&'static str),
     Progress,
+    Exact,
 }
 
 /// A subcommand of `cats`.
@@ -48,7 +51,7 @@ struct Subcommand {
 const STEPS_OF_BUNDLE: &str = "The most steps that the search on a bundle may take";
 
 /// The subcommands, as the help lists them.
-static SUBCOMMANDS: [Subcommand; 6] = [
+static SUBCOMMANDS: [Subcommand; 7] = [
     Subcommand {
         name: "check",
         about: "Reads a bid file and prints how many goods, bids and dummy goods it has",
@@ -76,6 +79,12 @@ static SUBCOMMANDS: [Subcommand; 6] = [
         about: "Prints the one canonical text of a bid file's auction",
         help: help::NORMALISE,
         arguments: &[Argument::Steps(STEPS_OF_BUNDLE), Argument::File],
+    },
+    Subcommand {
+        name: "round",
+        about: "Prints a bid file with its prices rounded to millionths, and reports which changed",
+        help: help::ROUND,
+        arguments: &[Argument::Exact, Argument::File],
     },
     Subcommand {
         name: "compare",
@@ -134,6 +143,7 @@ impl Argument {
             Argument::Goods => goods_argument(alloc),
             Argument::Steps(help) => steps_option(alloc, help),
             Argument::Progress => progress_flag(alloc),
+            Argument::Exact => exact_flag(alloc),
         }
     }
 }
@@ -143,6 +153,13 @@ fn progress_flag<'a>(alloc: Global) -> Arg<'a> {
         .long(PROGRESS)
         .action(ArgAction::SetTrue)
         .help("Tells on standard error how many files were read, after each")
+}
+
+fn exact_flag<'a>(alloc: Global) -> Arg<'a> {
+    Arg::new(alloc, EXACT)
+        .long(EXACT)
+        .action(ArgAction::SetTrue)
+        .help("Refuses a price that would be rounded")
 }
 
 fn steps_option<'a>(alloc: Global, help: &'a str) -> Arg<'a> {

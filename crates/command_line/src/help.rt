@@ -71,6 +71,24 @@ takes more, 'step limit at GOODS' is told with it, with status 3, and a greater 
 
 Statuses: 0; 2 for a file that is no bid file; 3 for the step limit; 4, 5 and 64 as 'cats --help' tells";
 
+pub(crate) const ROUND: &str = "\
+Prints the text of a bid file in which each price that is a decimal, such as 1.02345e+06, .5 or 0.0123456, is written so
+that it is read: rounded to the nearest millionth, and halfway between two to the even one. A valid price and every
+other byte stay as they are. For example:
+  $ cats round examples/six_digits.cats
+
+Each price whose value changed is one line on standard error:
+  line 8: 0.0123456 rounded to 0.012346
+If there is no such line, each price has the value that it had. With --exact, a price that would be rounded is refused
+as TooFine, and nothing is printed.
+
+The output is always a bid file. If the text with its prices rounded is none, its first fault is reported as by
+'cats check', and nothing is printed. Another command takes the output from standard input:
+  $ cats round auction.txt | cats normalise /dev/stdin
+
+Statuses: 0, whether or not a price was rounded; 2 for a text that is no bid file with its prices rounded; 4, 5 and 64
+as 'cats --help' tells";
+
 pub(crate) const COMPARE: &str = "\
 Prints 'same', or 'different' and where the two part first: in their goods, in the OR value of a bundle, or in how often
 they have an XOR bidder. For example:

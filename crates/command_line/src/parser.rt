@@ -5,7 +5,7 @@ ghost use Rattle.clap.specs.Words.{kind_of};
 ghost use Rattle.clap.specs.declared.error.kind.ErrorKind.TheVariants.{DisplayHelp, DisplayVersion, OutOfMemory};
 ghost use Rattle.command_line.specs.Requests.{IsNamedIn, is_no_memory, is_wrong_usage, name_of};
 
-use crate::commands::{FILE, GOOD, PROGRESS, SECOND_FILE, STEPS, cats_command};
+use crate::commands::{EXACT, FILE, GOOD, PROGRESS, SECOND_FILE, STEPS, cats_command};
 use crate::request::{NoRequest, Request};
 use clap::error::ErrorKind;
 use clap::{ArgMatches, Error};
@@ -73,6 +73,7 @@ fn find_named_request<'a>(
         "show" => Ok(find_show_request(given)),
         "value" => find_value_request(alloc, given),
         "normalise" => Ok(find_normalise_request(given)),
+        "round" => Ok(find_round_request(given)),
         "compare" => Ok(find_compare_request(given)),
         "duplicates" => find_duplicates_request(alloc, given),
         _ => Ok(None),
@@ -118,6 +119,14 @@ fn find_normalise_request<'a>(given: &ArgMatches<'a>) -> Option<Request<'a>>
     let file = given.get_str(FILE)?;
     let limit = given.get_one::<u64>(STEPS)?;
     Some(Request::Normalise { file, limit })
+}
+
+fn find_round_request<'a>(given: &ArgMatches<'a>) -> Option<Request<'a>>
+    ensures { IfSome result (λ request. name_of request ≡ codes "round") }
+{
+    let file = given.get_str(FILE)?;
+    let exact = given.get_flag(EXACT);
+    Some(Request::Round { file, exact })
 }
 
 fn find_compare_request<'a>(given: &ArgMatches<'a>) -> Option<Request<'a>>
