@@ -2,7 +2,7 @@
 -- `duplicates` reports before it stops.
 use Rattle.std.proofs.Common.{◌≡◌, ◌≢◌, ℕ, List, Option, None, Some, Result, Ok, Err, Bool, true, false, cond, sym, ap, ◌∙◌, subst, arith, ◌≤◌, [], ◌∷◌}
 use Rattle.std.proofs.Common.{refl, ⊎_elim}
-use Rattle.std.specs.Prelude.{nat_lt, IsErrAnd, bytes_eq, codes}
+use Rattle.std.specs.Prelude.{◌||◌, nat_lt, IsErrAnd, bytes_eq, codes}
 use Rattle.std.proofs.lemmas.Result.{err_from_is_err_and}
 use Rattle.bid_file.specs.Files.{PlainFile}
 use Rattle.cats_text.specs.declared.fault.Kind.{Kind}
@@ -19,10 +19,12 @@ use Rattle.cats_cmd.specs.Comparisons.{Compares}
 use Rattle.cats_cmd.specs.Outcomes.{Outcome, Tells, ExceedsSteps, check_outcome, show_outcome, normalise_outcome, value_outcome, values_within, missing_good}
 use Rattle.cats_cmd.specs.Outcomes.{outcome_unless, text_unless_heavy, outcome_of_difference}
 use Rattle.cats_cmd.specs.Inputs.{IsOpened}
-use Rattle.cats_cmd.specs.Requests.{AnswersRequest, CarriesOut, ComparesAt, RunsAt, RunsFor, StopsRequest}
+use Rattle.cats_cmd.specs.Requests.{AnswersRequest, CarriesOut, ComparesAt, RoundsAt, RunsAt, RunsFor, StopsRequest, fine_of}
+use Rattle.rounding.specs.declared.replacement.FinePrices.{FinePrices}
 use Rattle.cats_cmd.specs.Runs.{RunsOnFile}
 use Rattle.cats_cmd.specs.Statuses.{status_of_canon_fault, status_of_read_fault}
-use Rattle.cats_cmd.specs.Stops.{Reports, is_for_many_files, line_of_stop, names_duplicates, status_of_stop}
+use Rattle.cats_cmd.specs.Rounding.{Rounds}
+use Rattle.cats_cmd.specs.Stops.{Reports, is_for_many_files, is_reporting, line_of_stop, names_duplicates, names_reporting, status_of_stop}
 use Rattle.cats_cmd.specs.ValueTexts.{bundle_from, value_text}
 use Rattle.cats_cmd.specs.declared.program.Stop.{Stop}
 use Rattle.cats_cmd.specs.declared.program.Stop.TheVariants.{CannotOpen, Run}
@@ -30,7 +32,7 @@ use Rattle.cats_cmd.specs.declared.report.RunFault.{RunFault}
 use Rattle.cats_cmd.specs.declared.report.RunFault.TheVariants.{Refused, GoodRange, Sent}
 use Rattle.command_line.specs.Requests.{IsNamedIn}
 use Rattle.command_line.specs.declared.request.Request.{Request}
-use Rattle.command_line.specs.declared.request.Request.TheVariants.{Check, Show, Value, Normalise, Compare, Duplicates}
+use Rattle.command_line.specs.declared.request.Request.TheVariants.{Check, Show, Value, Normalise, Round, Compare, Duplicates}
 use Rattle.std.specs.Borrow.{Bor}
 
 -- ---- the outcomes that have a text
@@ -74,6 +76,18 @@ few_files (program ∷ []) (Duplicates files limit progress) named few = absurd 
 few_files [] (Duplicates files limit progress) named few = absurd (named)
 few_files words request named few = refl
 
+-- only `round` and `duplicates` name a request that reports before it ends
+pub quiet_request : (words : List (Bor (List ℕ))) (request : Request) → IsNamedIn words request → names_reporting words ≡ false → is_reporting request ≡ false
+quiet_request (program ∷ (word ∷ words)) (Duplicates files limit progress) named quiet =
+    subst (λ (name : List ℕ). (bytes_eq name (codes "round") || bytes_eq name (codes "duplicates")) ≡ false) named quiet
+quiet_request (program ∷ []) (Duplicates files limit progress) named quiet = absurd (named)
+quiet_request [] (Duplicates files limit progress) named quiet = absurd (named)
+quiet_request (program ∷ (word ∷ words)) (Round file exact) named quiet =
+    subst (λ (name : List ℕ). (bytes_eq name (codes "round") || bytes_eq name (codes "duplicates")) ≡ false) named quiet
+quiet_request (program ∷ []) (Round file exact) named quiet = absurd (named)
+quiet_request [] (Round file exact) named quiet = absurd (named)
+quiet_request words request named quiet = refl
+
 -- ---- runs
 
 -- nothing was written, unless it is the output that failed
@@ -114,6 +128,14 @@ module _ {R S W : Type 0} (remaining_first : R → Option (List ℕ)) (remaining
   silent_comparison (GoodRange good) ran = absurd ran
   silent_comparison (Sent fault) ran = tt
 
+-- a rounding that stopped has written nothing, unless its output failed
+silent_rounding : {R W E : Type 0} (remaining : R → Option (List ℕ)) (contents : W → Option (List ℕ)) (messages : E → Option (List ℕ)) (fine : FinePrices)
+    (before after : Watched R) (out out_after : Watched W) (err err_after : Watched E) (fault : RunFault)
+    → Rounds remaining contents messages fine before after out out_after err err_after (Err fault) → IsSilent (Run fault) out out_after
+silent_rounding remaining contents messages fine before after out out_after err err_after (Refused which fault) ran = ran.silent
+silent_rounding remaining contents messages fine before after out out_after err err_after (GoodRange good) ran = absurd ran
+silent_rounding remaining contents messages fine before after out out_after err err_after (Sent fault) ran = tt
+
 -- ---- stops
 
 read_status_above : (kind : Kind) → 2 ≤ status_of_read_fault kind
@@ -143,25 +165,34 @@ silent_unless_failed (Run (Sent fault)) old new silent failed = absurd (failed r
 
 module _ {F W E : Type 0} (may_open : List ℕ → F → Type 0) (may_refuse : List ℕ → Type 0) (remaining : F → Option (List ℕ))
     (contents : W → Option (List ℕ)) (messages : E → Option (List ℕ)) (out out_after : Watched W) (err : Watched E) where
-  -- a request for one or two files that answered has the status 0 or 1, and has reported nothing
+  -- a request for one or two files that answered has the status 0 or 1
   answered : (request : Request) (err_after : Watched E) (status : ℕ)
       → RunsFor may_open may_refuse remaining contents messages request out out_after err err_after (Ok status) → is_for_many_files request ≡ false
-      → (status ≤ 1) × (err_after ≡ err)
+      → status ≤ 1
   answered (Check file) err_after status ran few =
-      (told_run remaining contents check_outcome ran.0.before ran.0.after out out_after (λ file s text is. cc) status ran.0.runs, ran.1)
+      told_run remaining contents check_outcome ran.0.before ran.0.after out out_after (λ file s text is. cc) status ran.0.runs
   answered (Show file) err_after status ran few =
-      (told_run remaining contents show_outcome ran.0.before ran.0.after out out_after (λ file s text is. cc) status ran.0.runs, ran.1)
-  answered (Value file goods limit) err_after status ran few = (
-    told_run remaining contents (value_outcome goods.items limit) ran.0.before ran.0.after out out_after (value_tells goods.items limit) status ran.0.runs,
-    ran.1,
-  )
+      told_run remaining contents show_outcome ran.0.before ran.0.after out out_after (λ file s text is. cc) status ran.0.runs
+  answered (Value file goods limit) err_after status ran few =
+      told_run remaining contents (value_outcome goods.items limit) ran.0.before ran.0.after out out_after (value_tells goods.items limit) status ran.0.runs
   answered (Normalise file limit) err_after status ran few =
-      (told_run remaining contents (normalise_outcome limit) ran.0.before ran.0.after out out_after (normalise_tells limit) status ran.0.runs, ran.1)
-  answered (Compare first second limit) err_after status ran few = (
-    told_comparison remaining remaining contents limit ran.0.left ran.0.left_after ran.0.right ran.0.right_after out out_after status ran.0.runs,
-    ran.1,
-  )
+      told_run remaining contents (normalise_outcome limit) ran.0.before ran.0.after out out_after (normalise_tells limit) status ran.0.runs
+  answered (Round file exact) err_after status ran few = let made = ran.runs.made in let none : 0 ≡ status = cc in omega (arith, none)
+  answered (Compare first second limit) err_after status ran few =
+      told_comparison remaining remaining contents limit ran.0.left ran.0.left_after ran.0.right ran.0.right_after out out_after status ran.0.runs
   answered (Duplicates files limit progress) err_after status ran few = absurd (cc)
+
+  -- a request that answered has reported nothing, unless it is one that reports
+  quiet : (request : Request) (err_after : Watched E) (answer : Result ℕ RunFault)
+      → RunsFor may_open may_refuse remaining contents messages request out out_after err err_after answer → is_reporting request ≡ false
+      → err_after ≡ err
+  quiet (Check file) err_after answer ran silent = ran.1
+  quiet (Show file) err_after answer ran silent = ran.1
+  quiet (Value file goods limit) err_after answer ran silent = ran.1
+  quiet (Normalise file limit) err_after answer ran silent = ran.1
+  quiet (Round file exact) err_after answer ran silent = absurd (cc)
+  quiet (Compare first second limit) err_after answer ran silent = ran.1
+  quiet (Duplicates files limit progress) err_after answer ran silent = absurd (cc)
 
   -- a request that stopped has written nothing, unless its output failed
   silent_fault : (request : Request) (err_after : Watched E) (fault : RunFault)
@@ -175,6 +206,8 @@ module _ {F W E : Type 0} (may_open : List ℕ → F → Type 0) (may_refuse : L
       silent_run remaining contents (value_outcome goods.items limit) ran.0.before ran.0.after out out_after fault ran.0.runs
   silent_fault (Normalise file limit) err_after fault ran few =
       silent_run remaining contents (normalise_outcome limit) ran.0.before ran.0.after out out_after fault ran.0.runs
+  silent_fault (Round file exact) err_after fault ran few =
+      silent_rounding remaining contents messages (fine_of exact) ran.before ran.after out out_after err err_after fault ran.runs
   silent_fault (Compare first second limit) err_after fault ran few =
       silent_comparison remaining remaining contents limit ran.0.left ran.0.left_after ran.0.right ran.0.right_after out out_after fault ran.0.runs
   silent_fault (Duplicates files limit progress) err_after fault ran few = absurd (cc)
@@ -192,19 +225,19 @@ module _ {F W E : Type 0} (may_open : List ℕ → F → Type 0) (may_refuse : L
   silent_answer request err_after status answers few a b c =
       ⊎_elim
       (λ (ran : CarriesOut may_open may_refuse remaining contents messages request out out_after err err_after (Ok status)).
-      let most = (answered request err_after status ran few).0 in absurd (omega (arith, most, a, b)))
+      let most = answered request err_after status ran few in absurd (omega (arith, most, a, b)))
       (λ (s : StopsRequest may_open may_refuse remaining contents messages request out out_after err err_after status).
       silent_unless_failed s.stop out out_after (silent_request request s.between s.stop s.carries few) (λ five. c (s.is_status ∙ five)))
       answers
 
   -- the statuses 0 and 1 say that nothing was reported
   pub done_answer : (request : Request) (err_after : Watched E) (status : ℕ)
-      → AnswersRequest may_open may_refuse remaining contents messages request out out_after err err_after status → is_for_many_files request ≡ false
+      → AnswersRequest may_open may_refuse remaining contents messages request out out_after err err_after status → is_reporting request ≡ false
       → status ≤ 1 → err_after ≡ err
   done_answer request err_after status answers few most =
       ⊎_elim
       (λ (ran : CarriesOut may_open may_refuse remaining contents messages request out out_after err err_after (Ok status)).
-      (answered request err_after status ran few).1)
+      quiet request err_after (Ok status) ran few)
       (λ (s : StopsRequest may_open may_refuse remaining contents messages request out out_after err err_after status).
       let least = stop_status_above s.stop in let is = s.is_status in absurd (omega (arith, least, is, most)))
       answers
@@ -227,6 +260,15 @@ module _ {F W E : Type 0} (may_open : List ℕ → F → Type 0) (may_refuse : L
       subst (λ (r : Result ℕ Stop). CarriesOut may_open may_refuse remaining contents messages request out out_after err err_after r) (sym only) ran
 
 -- ---- the streams of a run are those that were opened
+
+pub rounded_at : {F W E : Type 0} (may_open : List ℕ → F → Type 0) (may_refuse : List ℕ → Type 0) (remaining : F → Option (List ℕ))
+    (contents : W → Option (List ℕ)) (messages : E → Option (List ℕ)) (path : List ℕ) (exact : Bool) (fine : FinePrices) → fine ≡ fine_of exact
+    → (before after : Watched F) (out out_after : Watched W) (err err_after : Watched E) (answer : Result ℕ RunFault) → IsOpened may_open path before
+    → Rounds remaining contents messages fine before after out out_after err err_after answer
+    → RoundsAt may_open may_refuse remaining contents messages path (fine_of exact) out out_after err err_after answer
+rounded_at may_open may_refuse remaining contents messages path exact fine is before after out out_after err err_after answer opened runs =
+    subst (λ (f : FinePrices). RoundsAt may_open may_refuse remaining contents messages path f out out_after err err_after answer) is
+    (record { before = before; after = after; opened = opened; runs = runs })
 
 module _ {F W : Type 0} (may_open : List ℕ → F → Type 0) (remaining : F → Option (List ℕ)) (contents : W → Option (List ℕ)) where
   pub ran_at : (path : List ℕ) (outcome : PlainFile → Outcome) (before after : Watched F) (out out_after : Watched W) (answer : Result ℕ RunFault)

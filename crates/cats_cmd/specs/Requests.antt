@@ -1,6 +1,6 @@
 -- What the program does for a command line: the run of its request, on the files at its paths, what is sent where, and
 -- with which status.
-use Rattle.std.specs.Prelude.{◌≡◌, ◌⊎◌, ℕ, List, map, Option, Result, Ok, Err, IfOk, string_bytes}
+use Rattle.std.specs.Prelude.{◌≡◌, ◌⊎◌, ℕ, Bool, true, false, List, map, Option, Result, Ok, Err, IfOk, string_bytes}
 use Rattle.std.specs.Borrow.{Bor}
 use Rattle.bid_file.specs.Files.{PlainFile}
 use Rattle.cats_text.specs.Streams.{SendsWhole, SendsPart}
@@ -11,13 +11,17 @@ use Rattle.cats_cmd.specs.Comparisons.{Compares}
 use Rattle.cats_cmd.specs.Duplicates.{RunsOnPaths}
 use Rattle.cats_cmd.specs.Inputs.{IsOpened}
 use Rattle.cats_cmd.specs.Outcomes.{Outcome, check_outcome, show_outcome, value_outcome, normalise_outcome}
+use Rattle.cats_cmd.specs.Rounding.{Rounds}
 use Rattle.cats_cmd.specs.Runs.{RunsOnFile}
+use Rattle.rounding.specs.declared.replacement.FinePrices.{FinePrices}
+use Rattle.rounding.specs.declared.replacement.FinePrices.TheVariants.{Round as RoundFine, Refuse}
 use Rattle.cats_cmd.specs.Stops.{Reports, SendsText, line_of_stop, status_of_stop}
 use Rattle.command_line.specs.Requests.{IsNamedIn}
 use Rattle.command_line.specs.declared.request.NoRequest.{NoRequest}
 use Rattle.command_line.specs.declared.request.NoRequest.TheVariants.{Help, WrongUsage, NoMemory}
 use Rattle.command_line.specs.declared.request.Request.{Request}
-use Rattle.command_line.specs.declared.request.Request.TheVariants.{Check, Show, Value, Normalise, Compare, Duplicates}
+use Rattle.command_line.specs.declared.request.Request.TheVariants.{Check, Show, Value, Normalise, Round, Compare}
+use Rattle.command_line.specs.declared.request.Request.TheVariants.{Duplicates}
 use Rattle.cats_cmd.specs.declared.program.Stop.{Stop}
 use Rattle.cats_cmd.specs.declared.program.Stop.TheVariants.{CannotOpen, Run}
 use Rattle.cats_cmd.specs.declared.report.RunFault.{RunFault}
@@ -40,6 +44,11 @@ module _ {W E : Type 0} (contents : W → Option (List ℕ)) (messages : E → O
       (status ≡ 4) × (out_after ≡ out) × SendsText messages (string_bytes text) err err_after
 
 -- ---- a request, and any command line
+
+-- what becomes of fine prices, with `--exact` and without
+abbrev pub fine_of : Bool → FinePrices
+fine_of true = Refuse
+fine_of false = RoundFine
 
 module _ {F W : Type 0} (may_open : List ℕ → F → Type 0) (remaining : F → Option (List ℕ))
     (contents : W → Option (List ℕ)) where
@@ -64,6 +73,14 @@ module _ {F W : Type 0} (may_open : List ℕ → F → Type 0) (remaining : F �
 
 module _ {F W E : Type 0} (may_open : List ℕ → F → Type 0) (may_refuse : List ℕ → Type 0)
     (remaining : F → Option (List ℕ)) (contents : W → Option (List ℕ)) (messages : E → Option (List ℕ)) where
+  -- a rounding of the stream that was opened at the path
+  pub record RoundsAt (path : List ℕ) (fine : FinePrices) (out out_after : Watched W) (err err_after : Watched E)
+      (answer : Result ℕ RunFault) : Type 0 where
+    pub before : Watched F
+    pub after : Watched F
+    pub opened : IsOpened may_open path before
+    pub runs : Rounds remaining contents messages fine before after out out_after err err_after answer
+
   -- the run of each request, on its files and goods and under its limit
   abbrev pub RunsFor : Request → Watched W → Watched W → Watched E → Watched E → Result ℕ RunFault → Type 0
   RunsFor (Check file) out out_after err err_after answer =
@@ -74,6 +91,8 @@ module _ {F W E : Type 0} (may_open : List ℕ → F → Type 0) (may_refuse : L
       RunsAt may_open remaining contents file.now (value_outcome goods.items limit) out out_after answer × (err_after ≡ err)
   RunsFor (Normalise file limit) out out_after err err_after answer =
       RunsAt may_open remaining contents file.now (normalise_outcome limit) out out_after answer × (err_after ≡ err)
+  RunsFor (Round file exact) out out_after err err_after answer =
+      RoundsAt file.now (fine_of exact) out out_after err err_after answer
   RunsFor (Compare first second limit) out out_after err err_after answer =
       ComparesAt may_open remaining contents first.now second.now limit out out_after answer × (err_after ≡ err)
   RunsFor (Duplicates files limit progress) out out_after err err_after answer =
@@ -86,6 +105,7 @@ module _ {F W E : Type 0} (may_open : List ℕ → F → Type 0) (may_refuse : L
   CannotOpenOf (Show file) which = (which ≡ Only) × may_refuse file.now
   CannotOpenOf (Value file goods limit) which = (which ≡ Only) × may_refuse file.now
   CannotOpenOf (Normalise file limit) which = (which ≡ Only) × may_refuse file.now
+  CannotOpenOf (Round file exact) which = (which ≡ Only) × may_refuse file.now
   CannotOpenOf (Compare first second limit) which =
       ((which ≡ First) × may_refuse first.now) ⊎ ((which ≡ Second) × may_refuse second.now)
   CannotOpenOf (Duplicates files limit progress) which = ⊥

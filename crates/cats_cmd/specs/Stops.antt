@@ -1,5 +1,5 @@
 -- Why the program stops without an answer of a run, with which status, and what standard error gets.
-use Rattle.std.specs.Prelude.{◌≡◌, ◌⊎◌, ◌++◌, ℕ, Bool, true, false, List, [], ◌∷◌, Option, Result, codes, bytes_eq}
+use Rattle.std.specs.Prelude.{◌≡◌, ◌⊎◌, ◌++◌, ◌||◌, ℕ, Bool, true, false, List, [], ◌∷◌, Option, Result, codes, bytes_eq}
 use Rattle.std.specs.Borrow.{Bor}
 use Rattle.cats_text.specs.Streams.{has_failed, Sends}
 use Rattle.cats_text.specs.declared.fault.SendFault.{SendFault}
@@ -7,7 +7,7 @@ use Rattle.cats_text.specs.declared.stream.Watched.{Watched}
 use Rattle.cats_cmd.specs.FaultLines.{line_of_fault, prefix_of}
 use Rattle.cats_cmd.specs.Statuses.{status_of_fault}
 use Rattle.command_line.specs.declared.request.Request.{Request}
-use Rattle.command_line.specs.declared.request.Request.TheVariants.{Duplicates}
+use Rattle.command_line.specs.declared.request.Request.TheVariants.{Round, Duplicates}
 use Rattle.cats_cmd.specs.declared.program.Stop.{Stop}
 use Rattle.cats_cmd.specs.declared.program.Stop.TheVariants.{CannotOpen, Run}
 
@@ -20,6 +20,17 @@ is_for_many_files request = false
 abbrev pub names_duplicates : List (Bor (List ℕ)) → Bool
 names_duplicates (name ∷ (word ∷ words)) = bytes_eq word.now (codes "duplicates")
 names_duplicates words = false
+
+-- whether a request may report something before it ends
+abbrev pub is_reporting : Request → Bool
+is_reporting (Round file exact) = true
+is_reporting (Duplicates files limit progress) = true
+is_reporting request = false
+
+-- whether a command line's subcommand is `round` or `duplicates`
+abbrev pub names_reporting : List (Bor (List ℕ)) → Bool
+names_reporting (name ∷ (word ∷ words)) = bytes_eq word.now (codes "round") || bytes_eq word.now (codes "duplicates")
+names_reporting words = false
 
 abbrev pub status_of_stop : Stop → ℕ
 status_of_stop (CannotOpen which) = 5

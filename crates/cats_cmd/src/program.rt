@@ -3,20 +3,22 @@
 ghost use Rattle.std.specs.Prelude.{◌≡◌, ◌≢◌, ◌≤◌, ℕ, List, IfErr, IfOk, false};
 ghost use Rattle.cats_text.specs.Streams.{has_failed};
 ghost use Rattle.cats_cmd.specs.Inputs.{IsOpened};
-ghost use Rattle.cats_cmd.specs.Requests.{AnswersLine, AnswersNoRequest, AnswersRequest, CarriesOut};
-ghost use Rattle.cats_cmd.specs.Stops.{Reports, is_for_many_files, line_of_stop, names_duplicates, status_of_stop};
+ghost use Rattle.cats_cmd.specs.Requests.{AnswersLine, AnswersNoRequest, AnswersRequest, CarriesOut, fine_of};
+ghost use Rattle.cats_cmd.specs.Stops.{Reports, is_for_many_files, is_reporting, line_of_stop, names_duplicates, names_reporting, status_of_stop};
 
 use crate::check::run_check;
 use crate::compare::run_compare;
 use crate::duplicates::run_duplicates;
 use crate::normalise::run_normalise;
 use crate::report::{DEVICE_FAILED, DONE, NO_MEMORY, RunFault, WRONG_USAGE, fault_line, status};
+use crate::round::run_round;
 use crate::show::run_show;
 use crate::source::{Source, SystemFiles, Unopened};
 use crate::value::run_value;
 use canon::Which;
 use cats_text::{Watched, send};
 use command_line::{NoRequest, Request, parse};
+use rounding::FinePrices;
 use std::alloc::{AllocError, AllocGlobal, Global};
 use std::io::Write;
 use std::rt::Files;
@@ -51,7 +53,7 @@ pub fn run_cats<F: Files + AllocGlobal, W: Write, E: Write>(
     ensures answers { AnswersLine (λ path stream. Unit {0}) (λ path. Unit {0}) F.File.remaining W.contents E.contents
         words.now out.old out.new err.old err.new result }
     ensures silent { names_duplicates words.now ≡ false → result ≢ 0 → result ≢ 1 → result ≢ 5 → out.new ≡ out.old }
-    ensures done { names_duplicates words.now ≡ false → result ≤ 1 → err.new ≡ err.old }
+    ensures done { names_reporting words.now ≡ false → result ≤ 1 → err.new ≡ err.old }
 {
     run_program(&SystemFiles::new(rt), words, out, err)
 }
@@ -61,7 +63,7 @@ pub fn run_cats<F: Files + AllocGlobal, W: Write, E: Write>(
 ///
 /// A fault's line is sent to `err`. If memory for it is refused, `want of memory` is sent in its place; the status is
 /// that of the fault in any case.
-#[tactic(auto, using(crate::proofs::Stopping::few_files))]
+#[tactic(auto, using(crate::proofs::Stopping::few_files, crate::proofs::Stopping::quiet_request))]
 pub fn run_program<S: Source + AllocGlobal, W: Write, E: Write>(
     source: &S,
     words: &[&str],
@@ -73,7 +75,7 @@ pub fn run_program<S: Source + AllocGlobal, W: Write, E: Write>(
     ensures answers { AnswersLine (S.may_open source.now) (S.may_refuse source.now) S.Stream.remaining W.contents
         E.contents words.now out.old out.new err.old err.new result }
     ensures silent { names_duplicates words.now ≡ false → result ≢ 0 → result ≢ 1 → result ≢ 5 → out.new ≡ out.old }
-    ensures done { names_duplicates words.now ≡ false → result ≤ 1 → err.new ≡ err.old }
+    ensures done { names_reporting words.now ≡ false → result ≤ 1 → err.new ≡ err.old }
 {
     match parse(source.alloc(), words) {
         Ok(request) => answer_request(source, &request, out, err),
@@ -91,7 +93,7 @@ fn answer_request<S: Source + AllocGlobal, W: Write, E: Write>(
     ensures answers { AnswersRequest (S.may_open source.now) (S.may_refuse source.now) S.Stream.remaining W.contents
         E.contents request.now out.old out.new err.old err.new result }
     ensures silent { is_for_many_files request.now ≡ false → result ≢ 0 → result ≢ 1 → result ≢ 5 → out.new ≡ out.old }
-    ensures done { is_for_many_files request.now ≡ false → result ≤ 1 → err.new ≡ err.old }
+    ensures done { is_reporting request.now ≡ false → result ≤ 1 → err.new ≡ err.old }
 {
     match carry_out(source, request, out, err) {
         Ok(status) => status,
@@ -126,6 +128,10 @@ fn carry_out<S: Source + AllocGlobal, W: Write, E: Write>(
             let mut input = open(source, file, Which::Only)?;
             Ok(run_normalise(alloc, &mut input, *limit, out)?)
         }
+        Request::Round { file, exact } => {
+            let mut input = open(source, file, Which::Only)?;
+            Ok(run_round(alloc, &mut input, fine_prices(*exact), out, err)?)
+        }
         Request::Compare {
             first,
             second,
@@ -140,6 +146,17 @@ fn carry_out<S: Source + AllocGlobal, W: Write, E: Write>(
             limit,
             progress,
         } => Ok(run_duplicates(source, files.as_slice(), *limit, *progress, out, err)?),
+    }
+}
+
+/// What becomes of prices that are finer than a millionth.
+fn fine_prices(exact: bool) -> FinePrices
+    ensures { result ≡ fine_of exact }
+{
+    if exact {
+        FinePrices::Refuse
+    } else {
+        FinePrices::Round
     }
 }
 

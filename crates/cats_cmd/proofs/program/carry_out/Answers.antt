@@ -1,7 +1,7 @@
 -- A request is carried out by its one run, on the streams that were opened at its paths: what the run's contract says, at the run's
 -- arguments, is what the request needs.
 use Rattle.std.proofs.Common.{refl}
-use Rattle.cats_cmd.proofs.Stopping.{ran_at, valued_at, compared_at, stopped_run}
+use Rattle.cats_cmd.proofs.Stopping.{ran_at, valued_at, compared_at, rounded_at, stopped_run}
 use Rattle.cats_cmd.specs.Outcomes.{check_outcome, show_outcome, normalise_outcome}
 use Rattle.cats_cmd.proofs.program.carry_out.Goals as goal
 
@@ -65,3 +65,14 @@ returns-in_err-run_compare-in-Compare g c =
           c.in_ok-left-in-Compare.ensures.opened c.in_ok-right-in-Compare.ensures.opened c.in_err-run_compare-in-Compare.ensures,
       refl,
     ))
+
+pub returns-in_ok-run_round-in-Round : goal.returns-in_ok-run_round-in-Round
+returns-in_ok-run_round-in-Round g c =
+    rw c.in-Round.is (rounded_at _ _ _ _ _ c.in-Round.file.now c.in-Round.exact _ c.fine_prices.ensures _ _ _ _ _ _ _
+    c.in_ok-input-in-Round.ensures.opened c.in_ok-run_round-in-Round.ensures)
+
+pub returns-in_err-run_round-in-Round : goal.returns-in_err-run_round-in-Round
+returns-in_err-run_round-in-Round g c =
+    stopped_run _ _ _ _ _ _ _ _ c.args.request.now _ _ _ c.from_residual-in_err-run_round-in-Round.ensures.1
+    (rw c.in-Round.is (rounded_at _ _ _ _ _ c.in-Round.file.now c.in-Round.exact _ c.fine_prices.ensures _ _ _ _ _ _ _
+    c.in_ok-input-in-Round.ensures.opened c.in_err-run_round-in-Round.ensures))

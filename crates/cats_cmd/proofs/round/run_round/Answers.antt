@@ -39,5 +39,5 @@ returns g c =
     (c.as_slice-2.ensures.value ∙ is.text_is) c.in_ok-status.ensures)
     (subst
     (λ (prices : List RoundedPrice).
-      ReportsAll g.E.Write.contents (map rounded_line (plain_changes prices)) c.args.err.now c.report_prices.new.err)
+    ReportsAll g.E.Write.contents (map rounded_line (plain_changes prices)) c.args.err.now c.report_prices.new.err)
     c.as_slice-3.ensures.value c.report_prices.ensures)
