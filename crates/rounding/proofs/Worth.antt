@@ -15,7 +15,7 @@ use Rattle.rounding.specs.Decimals.{significand, exponent, has_exponent, without
 use Rattle.rounding.proofs.Spans.{mark_within}
 use Rattle.bid_file.specs.declared.limits.TheConstants.{MAX_PRICE}
 use Rattle.rounding.specs.Internal.Rests.{rest_with}
-use Rattle.rounding.specs.Internal.Values.{IsRest, Holds}
+use Rattle.rounding.specs.Internal.Values.{IsRest, Holds, shift_up, shift_down}
 use Rattle.rounding.specs.declared.value.Value.{Value}
 use Rattle.rounding.specs.declared.digits.Rest.{Rest}
 use Rattle.rounding.specs.declared.digits.Rest.TheVariants.{Nothing, Zeros, BelowHalf, Half, AboveHalf}
@@ -285,12 +285,6 @@ decimal_digits w s a b h es ea eb =
     number_digits : (w : Word) → is_number w ≡ true → digits_alone w ≡ true
     number_digits [] h = refl
     number_digits (b ∷ bs) h = h
-
-abbrev pub shift_up : Word → ℕ → ℕ
-shift_up x places = (6 + (if has_minus x then 0 else number_of (without_sign x))) - (places + (if has_minus x then number_of (without_sign x) else 0))
-
-abbrev pub shift_down : Word → ℕ → ℕ
-shift_down x places = (places + (if has_minus x then number_of (without_sign x) else 0)) - (6 + (if has_minus x then 0 else number_of (without_sign x)))
 
 -- the parts of a word and its powers of ten, as the code has them
 pub record IsSplit (w s a b x : Word) (up down : ℕ) : Type 0 where

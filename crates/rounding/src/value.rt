@@ -1,11 +1,11 @@
 //! The value of a decimal, as far as its replacement depends on it.
 
-ghost use Rattle.std.specs.Prelude.{◌≡◌, ℕ, suc, ◌%◌, ◌==◌, nat_lt, if◌then◌else◌, ◌+◌, ◌-◌, ◌*◌, ◌^◌, ◌<◌, ◌≤◌, ◌++◌, length, min, true};
+ghost use Rattle.std.specs.Prelude.{◌≡◌, ℕ, suc, ◌%◌, ◌==◌, nat_lt, ◌+◌, ◌*◌, ◌^◌, ◌<◌, ◌≤◌, ◌++◌, length, min, true};
 ghost use Rattle.cats_text.specs.Numbers.{number_of, digits_alone};
-ghost use Rattle.rounding.specs.Decimals.{is_decimal, top, bottom, has_minus, without_sign};
+ghost use Rattle.rounding.specs.Decimals.{is_decimal, top, bottom};
 ghost use Rattle.rounding.specs.Nearest.{nearest};
 ghost use Rattle.rounding.specs.Replacements.{replacement_of};
-ghost use Rattle.rounding.specs.Internal.Values.{Holds};
+ghost use Rattle.rounding.specs.Internal.Values.{Holds, shift_up, shift_down};
 ghost use Rattle.rounding.specs.declared.replacement.FinePrices.TheVariants.{Round, Refuse};
 
 use crate::decimal::{exponent, has_minus, places, significand, whole_part, without_sign};
@@ -143,10 +143,8 @@ fn shift_of(exponent: &[u8], places: u64, size: u64, limit: u64) -> Shift
     requires places { places ≤ size }
     requires size { size ≤ limit }
     requires limit { limit < 2 ^ 63 }
-    ensures up { result.up ≡ min 19 ((6 + (if has_minus exponent.now then 0 else number_of (without_sign exponent.now)))
-        - (places + (if has_minus exponent.now then number_of (without_sign exponent.now) else 0))) }
-    ensures down { result.down ≡ min (suc size) ((places + (if has_minus exponent.now then number_of (without_sign exponent.now) else 0))
-        - (6 + (if has_minus exponent.now then 0 else number_of (without_sign exponent.now)))) }
+    ensures up { result.up ≡ min 19 (shift_up exponent.now places) }
+    ensures down { result.down ≡ min (suc size) (shift_down exponent.now places) }
 {
     let power = held_number(without_sign(exponent), 0, limit + GREATEST_POWER + 1);
     if has_minus(exponent) {

@@ -1,6 +1,9 @@
 -- What a held value has of a fraction.
-use Rattle.std.specs.Prelude.{◌≡◌, ℕ, suc, ◌*◌, ◌/◌, ◌%◌, ◌<◌, min}
+use Rattle.std.specs.Prelude.{◌≡◌, ℕ, suc, ◌+◌, ◌-◌, ◌*◌, ◌/◌, ◌%◌, ◌<◌, if◌then◌else◌, min}
 use Rattle.bid_file.specs.declared.limits.TheConstants.{MAX_PRICE}
+use Rattle.cats_text.specs.Lines.{Word}
+use Rattle.cats_text.specs.Numbers.{number_of}
+use Rattle.rounding.specs.Decimals.{has_minus, without_sign}
 use Rattle.rounding.specs.declared.digits.Rest.{Rest}
 use Rattle.rounding.specs.declared.digits.Rest.TheVariants.{Nothing, Zeros, BelowHalf, Half, AboveHalf}
 use Rattle.rounding.specs.declared.value.Value.{Value}
@@ -18,3 +21,13 @@ pub record Holds (v : Value) (n d : ℕ) : Type 0 where
   pub whole : v.whole ≡ min (suc MAX_PRICE) (n / d)
   pub bottom : 0 < d
   pub rest : IsRest v.rest (n % d) d
+
+-- by which powers of ten the number that the digits spell is raised and lowered, to be millionths: of the bytes behind
+-- the exponent's mark, and of how many digits are behind the point
+abbrev pub shift_up : Word → ℕ → ℕ
+shift_up x places = (6 + (if has_minus x then 0 else number_of (without_sign x)))
+    - (places + (if has_minus x then number_of (without_sign x) else 0))
+
+abbrev pub shift_down : Word → ℕ → ℕ
+shift_down x places = (places + (if has_minus x then number_of (without_sign x) else 0))
+    - (6 + (if has_minus x then 0 else number_of (without_sign x)))
