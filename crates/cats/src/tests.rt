@@ -7,6 +7,7 @@ mod devices;
 mod duplicates;
 mod normalise;
 mod program;
+mod round;
 mod show;
 mod sources;
 mod streams;

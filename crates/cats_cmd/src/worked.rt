@@ -20,6 +20,8 @@ ghost use Rattle.cats_cmd.specs.ValueTexts.{bundle_from};
 ghost use Rattle.cats_cmd.specs.FaultLines.{line_of_fault};
 ghost use Rattle.cats_text.specs.Examples.{known, watched};
 ghost use Rattle.cats_cmd.specs.Duplicates.{IsJudged, IsStopped, greatest_status, judged_paths, report_lines};
+ghost use Rattle.cats_cmd.specs.Rounding.{round_outcome, rounded_line};
+ghost use Rattle.rounding.specs.declared.replacement.FinePrices.TheVariants.{Round};
 ghost use Rattle.cats_cmd.specs.Runs.{SendsMadeAs};
 ghost use Rattle.cats_cmd.specs.Stops.{Reports};
 ghost use Rattle.cats_cmd.specs.declared.program.Stop.TheVariants.{CannotOpen};
@@ -115,6 +117,14 @@ pub fn paths_reported()
     ensures status { greatest_status ((codes "a", IsStopped (CannotOpen Only)) ∷ (codes "b", IsJudged larger_bid) ∷ []) ≡ 5 }
     ensures judged { judged_paths ((codes "a", IsStopped (CannotOpen Only)) ∷ (codes "b", IsJudged larger_bid) ∷ [])
         ≡ codes "b" ∷ [] }
+{}
+
+/// What `cats round` makes of bytes, and the line of a price whose value changed.
+pub fn rounded_texts()
+    ensures text { round_outcome Round (codes "goods 1\nbids 1\ndummy 0\n0 0.0123456 0 #\n")
+        ≡ Tells 0 (codes "goods 1\nbids 1\ndummy 0\n0 0.012346 0 #\n") }
+    ensures line { rounded_line (record { line = 12; word = codes "0.0123456"; price = 12346 })
+        ≡ codes "line 12: 0.0123456 rounded to 0.012346\n" }
 {}
 
 /// What becomes of a line for standard error: it is sent, or `want of memory` is; after a failure nothing is.

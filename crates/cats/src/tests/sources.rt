@@ -40,17 +40,18 @@ impl Alloc for FilesInMemory<'_> {
     }
 }
 
-static FILES: [(&str, &[u8]); 4] = [
+static FILES: [(&str, &[u8]); 5] = [
     ("one", b"goods 1\nbids 1\ndummy 0\n0 3 0 #\n"),
     ("same", b"goods 1\nbids 2\ndummy 0\n0 3 0 #\n1 2 0 #\n"),
     ("other", b"goods 1\nbids 1\ndummy 0\n0 4 0 #\n"),
     ("bad", b"goods 1\n"),
+    ("fine", b"goods 1\nbids 1\ndummy 0\n0 1e-7 0 #\n"),
 ];
 
 /// A command line's words, and what it answers: its status, its output and its faults' lines.
 type Row<'a> = (&'a [&'a str], u8, &'a str, &'a str);
 
-static ROWS: [Row<'static>; 8] = [
+static ROWS: [Row<'static>; 10] = [
     (
         &["cats", "check", "same"],
         0,
@@ -93,6 +94,18 @@ static ROWS: [Row<'static>; 8] = [
         5,
         "",
         "none: cannot open\n1 of 2 none\n2 of 2 one\n",
+    ),
+    (
+        &["cats", "round", "fine"],
+        0,
+        "goods 1\nbids 1\ndummy 0\n0 0 0 #\n",
+        "line 4: 1e-7 rounded to 0\n",
+    ),
+    (
+        &["cats", "round", "--exact", "fine"],
+        2,
+        "",
+        "line 4: TooFine\n",
     ),
 ];
 

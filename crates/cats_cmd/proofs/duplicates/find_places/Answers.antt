@@ -1,4 +1,4 @@
-use Rattle.std.proofs.Common.{ℕ, ◌+◌, List, [], arith, length, get_or, ◌∙◌}
+use Rattle.std.proofs.Common.{ℕ, ◌+◌, List, [], arith, length, get_or}
 use Rattle.std.specs.Borrow.{Bor}
 use Rattle.cats_cmd.specs.Duplicates.{progress_line, progress_lines}
 use Rattle.cats_cmd.specs.Stops.{ReportsAll}

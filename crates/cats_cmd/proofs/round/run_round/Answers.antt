@@ -1,4 +1,4 @@
-use Rattle.std.proofs.Common.{ℕ, List, Result, Ok, Err, map, ◌∙◌, subst}
+use Rattle.std.proofs.Common.{ℕ, List, Ok, Err, map, ◌∙◌, subst}
 use Rattle.rounding.specs.Answers.{IsRounded}
 use Rattle.rounding.specs.Views.{plain_changes}
 use Rattle.rounding.specs.declared.text.RoundedPrice.{RoundedPrice}

@@ -1,5 +1,5 @@
 use Rattle.std.proofs.Common.{arith, ◌<◌, length, refl, ◌∙◌}
-use Rattle.cats_cmd.proofs.Rounding.{no_more, at_the_end, came_more, so_many_bytes, too_many}
+use Rattle.cats_cmd.proofs.Rounding.{no_more, at_the_end, too_many}
 use Rattle.cats_cmd.proofs.round.bytes.read_bytes.Goals as goal
 
 pub returns-in-Ok-eq0 : goal.returns-in-Ok-eq0
