@@ -1,6 +1,6 @@
 -- What the program does for a command line: the run of its request, on the files at its paths, what is sent where, and
 -- with which status.
-use Rattle.std.specs.Prelude.{◌≡◌, ◌⊎◌, ℕ, Bool, true, false, List, map, Option, Result, Ok, Err, IfOk, string_bytes}
+use Rattle.std.specs.Prelude.{◌≡◌, ◌⊎◌, ℕ, Bool, true, false, List, [], ◌∷◌, map, Option, Result, Ok, Err, IfOk, codes, string_bytes}
 use Rattle.std.specs.Borrow.{Bor}
 use Rattle.bid_file.specs.Files.{PlainFile}
 use Rattle.cats_text.specs.Streams.{SendsWhole, SendsPart}
@@ -28,6 +28,11 @@ use Rattle.cats_cmd.specs.declared.report.RunFault.{RunFault}
 
 -- ---- a command line without a request
 
+-- a text of want of memory, or another if memory for it was refused too
+abbrev pub memory_text : List ℕ → List ℕ
+memory_text [] = codes "want of memory\n"
+memory_text (b ∷ bs) = b ∷ bs
+
 module _ {W E : Type 0} (contents : W → Option (List ℕ)) (messages : E → Option (List ℕ)) where
   -- the text was written, and the status says whether all of it was
   pub record SendsHelp (text : List ℕ) (out out_after : Watched W) (status : ℕ) : Type 0 where
@@ -41,7 +46,7 @@ module _ {W E : Type 0} (contents : W → Option (List ℕ)) (messages : E → O
   AnswersNoRequest (WrongUsage text) out out_after err err_after status =
       (status ≡ 64) × (out_after ≡ out) × SendsText messages (string_bytes text) err err_after
   AnswersNoRequest (NoMemory text) out out_after err err_after status =
-      (status ≡ 4) × (out_after ≡ out) × SendsText messages (string_bytes text) err err_after
+      (status ≡ 4) × (out_after ≡ out) × SendsText messages (memory_text (string_bytes text)) err err_after
 
 -- ---- a request, and any command line
 

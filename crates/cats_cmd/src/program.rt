@@ -3,7 +3,7 @@
 ghost use Rattle.std.specs.Prelude.{◌≡◌, ◌≢◌, ◌≤◌, ℕ, List, IfErr, IfOk, false};
 ghost use Rattle.cats_text.specs.Streams.{has_failed};
 ghost use Rattle.cats_cmd.specs.Inputs.{IsOpened};
-ghost use Rattle.cats_cmd.specs.Requests.{AnswersLine, AnswersNoRequest, AnswersRequest, CarriesOut, fine_of};
+ghost use Rattle.cats_cmd.specs.Requests.{AnswersLine, AnswersNoRequest, AnswersRequest, CarriesOut, fine_of, memory_text};
 ghost use Rattle.cats_cmd.specs.Stops.{Reports, is_for_many_files, is_reporting, line_of_stop, names_duplicates, names_reporting, status_of_stop};
 
 use crate::check::run_check;
@@ -22,6 +22,9 @@ use rounding::FinePrices;
 use std::alloc::{AllocError, AllocGlobal, Global};
 use std::io::Write;
 use std::rt::Files;
+
+/// What is sent in the place of a line for which memory is refused.
+const NO_MEMORY_LINE: &str = "want of memory\n";
 
 /// Why a request has no answer.
 #[derive(Drop)]
@@ -194,9 +197,20 @@ fn answer_no_request<W: Write, E: Write>(
             WRONG_USAGE
         }
         NoRequest::NoMemory(text) => {
-            let _ = send(err, text.as_bytes());
+            let _ = send(err, memory_text(text.as_str()).as_bytes());
             NO_MEMORY
         }
+    }
+}
+
+/// The text of want of memory, in whose place there is one if memory for it was refused too.
+fn memory_text(text: &str) -> &str
+    ensures { result.now ≡ memory_text text.now }
+{
+    if text.is_empty() {
+        NO_MEMORY_LINE
+    } else {
+        text
     }
 }
 
@@ -218,7 +232,7 @@ pub(crate) fn report<E: Write>(err: &mut Watched<E>, line: &Result<Vec<u8>, Allo
 {
     match line {
         Ok(line) => report_text(err, line.as_slice()),
-        Err(AllocError) => report_text(err, b"want of memory\n"),
+        Err(AllocError) => report_text(err, NO_MEMORY_LINE.as_bytes()),
     }
 }
 
