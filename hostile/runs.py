@@ -147,6 +147,9 @@ AUCTIONS = {
     "together": (TOGETHER, LARGER_BID, ("1",)),
 }
 
+# A file two of whose prices are rounded. `round --exact` refuses it.
+SIX_DIGITS = header(2, 4, 0) + "0\t1.02345e+06\t0\t#\n1\t0.0123456\t1\t#\n2\t2.5e-07\t0\t1\t#\n3\t7\t0\t#\n"
+
 # A file with a fault, and how many of its bytes are read before that is told.
 FAULTY = header(2, 2, 2) + "0 1 0 2 #\n1 1 1 2 3 #\n"
 FAULT_AT = 43
@@ -166,6 +169,7 @@ def cases_of(path, other, goods):
         case(("show",), (path,)),
         case(("value",), (path,), goods),
         case(("normalise",), (path,)),
+        case(("round",), (path,)),
         case(("compare",), (path, other)),
     ]
 
@@ -175,7 +179,7 @@ def small_cases(folder):
     for name, (text, other, goods) in AUCTIONS.items():
         path = write_file(folder, name, text)
         cases += cases_of(path, write_file(folder, f"{name}_other", other), goods)
-    return cases
+    return [*cases, case(("round",), (write_file(folder, "six_digits", SIX_DIGITS),))]
 
 
 def prefixes(one):
@@ -190,8 +194,10 @@ def is_want_of_memory(one, answer):
 
 
 def lacks_line(one, answer):
-    """Whether a run found the fault of its file, and had no memory for the line on it."""
-    return one.own.status == FILE_REFUSED and answer.told() == (FILE_REFUSED, b"", b"want of memory\n")
+    """Whether a run found the fault of its file or printed its text, and had no memory for a line on the fault or on a rounded price."""
+    lines, own = answer.err.splitlines(True), one.own.err.splitlines(True)
+    is_lacking = len(lines) == len(own) and all(line in (b"want of memory\n", its) for line, its in zip(lines, own))
+    return is_lacking and lines != own and answer.told()[:2] == one.own.told()[:2]
 
 
 def places(answers):
@@ -215,8 +221,8 @@ def memory(one, rest):
         lacking += lacks
     TALLY.judge(answer.told() == one.own.told(), f"{what}: none", answer)
     TALLY.judge(wants, f"{what}: no want of memory was printed", None)
-    if one.own.status == FILE_REFUSED:
-        TALLY.judge(lacking, f"{what}: the line on the fault never lacked memory", None)
+    if one.own.err:
+        TALLY.judge(lacking, f"{what}: no line on standard error ever lacked memory", None)
     elif len(one.files) == 2 and not rest:
         found = places(wants)
         TALLY.judge(found == sorted(found), f"{what}: the files are reported out of order", found)
@@ -252,21 +258,29 @@ def reads(one, piece, counts=None):
     TALLY.judge(answer == one.own, f"{one}: no read of {piece} bytes", answer)
 
 
-def cut_off(one, at, rest):
-    """What is told where the output fails after so many bytes, or, where there is no output, standard error. With the rest refused
-    too, nothing more is told."""
-    if one.own.out:
+def cut_off(one, is_output, at, rest):
+    """What is printed if the output, or else standard error, fails after so many bytes. If the rest fails too, nothing more is."""
+    if is_output:
         return (DEVICE_FAILED, one.own.out[:at], b"" if rest else b"output failed after %d bytes\n" % at)
-    return (one.own.status, b"", one.own.err[:at])
+    return (one.own.status, one.own.out, one.own.err[:at])
+
+
+def writes_of(one, piece):
+    """Where each write begins, of so many bytes: in the output and then, line by line, in standard error."""
+    found, begin = [(True, at) for at in range(0, len(one.own.out), piece)], 0
+    for line in one.own.err.splitlines(True):
+        found += [(False, at) for at in range(begin, begin + len(line), piece)]
+        begin += len(line)
+    return found
 
 
 def writes(one, piece, rest):
     """Each write fails, of so many bytes each, alone or with all that come after it."""
-    places = range(0, len(one.own.out or one.own.err), piece)
-    for number, at in enumerate(places, 1):
+    begun = writes_of(one, piece)
+    for number, (is_output, at) in enumerate(begun, 1):
         answer = run(one.words(), call="write", number=number, piece=piece, rest=rest)
-        TALLY.judge(answer.told() == cut_off(one, at, rest), f"{one}: write {number} of {piece} bytes", answer)
-    answer = run(one.words(), call="write", number=len(places) + 1, piece=piece, rest=rest)
+        TALLY.judge(answer.told() == cut_off(one, is_output, at, rest), f"{one}: write {number} of {piece} bytes", answer)
+    answer = run(one.words(), call="write", number=len(begun) + 1, piece=piece, rest=rest)
     TALLY.judge(answer == one.own, f"{one}: no write of {piece} bytes", answer)
 
 
@@ -286,8 +300,7 @@ def short(one):
 
 def full(one):
     """The output is a full device, and then standard error too."""
-    status = cut_off(one, 0, False)[0]
-    line = cut_off(one, 0, False)[2] if one.own.out else one.own.err
+    status, _, line = cut_off(one, True, 0, False) if one.own.out else one.own.told()
     with open("/dev/full", "wb") as device:
         answer = run(one.words(), out=device)
         TALLY.judge(answer.told() == (status, None, line), f"{one}: a full output", answer)
@@ -319,7 +332,7 @@ def closed(one, size):
     answer = ended(process, report)
     most = size + PIPE if size else 0
     lines = {b"output failed after %d bytes\n" % at for at in range(size, min(most + 1, len(one.own.out)))}
-    is_whole = answer.told() == (one.own.status, None, b"") and len(one.own.out) <= most
+    is_whole = answer.told() == (one.own.status, None, one.own.err) and len(one.own.out) <= most
     is_cut_off = answer.status == DEVICE_FAILED and answer.err in lines
     is_right = (is_whole or is_cut_off) and came == one.own.out[:size]
     TALLY.judge(is_right, f"{one}: an output that is closed after {size} bytes", answer)
@@ -365,16 +378,19 @@ def refused_cases(folder):
     """Each subcommand on a file with a fault, and how many reads of a byte it takes of each file until that is told."""
     faulty = write_file(folder, "faulty", FAULTY)
     nothing = write_file(folder, "nothing", header(0, 0, 0))
+    fine = write_file(folder, "fine", SIX_DIGITS)
     ended = os.path.getsize(nothing) + 1
     one_file = [case((command,), (faulty,)) for command in ("check", "show", "value", "normalise")]
     compared = {case(("compare",), (faulty, nothing)): (FAULT_AT, 0), case(("compare",), (nothing, faulty)): (ended, FAULT_AT)}
-    return {**{one: (FAULT_AT,) for one in one_file}, **compared}
+    # `round` reads the whole file
+    rounded = {case(("round",), (faulty,)): (len(FAULTY) + 1,), case(("round", "--exact"), (fine,)): (len(SIX_DIGITS) + 1,)}
+    return {**{one: (FAULT_AT,) for one in one_file}, **rounded, **compared}
 
 
 def large_cases(folder):
     """Runs whose text does not fit into a pipe."""
     bidders = write_file(folder, "many_bidders", header(1, 0, 65_536))
-    return [case(("show",), (LARGE,)), case(("normalise",), (LARGE,)), case(("value",), (bidders,))]
+    return [*(case((command,), (LARGE,)) for command in ("show", "normalise", "round")), case(("value",), (bidders,))]
 
 
 def side_by_side(one, piece):
