@@ -12,7 +12,7 @@ function __cats_takes_path
             test $many -lt 1
         case compare
             test $many -lt 2
-        case duplicates
+        case duplicates sizes
             true
         case '*'
             false
@@ -29,9 +29,10 @@ complete -c cats -n __fish_use_subcommand -a normalise -d 'Print the canonical t
 complete -c cats -n __fish_use_subcommand -a round -d 'Print a bid file with its prices rounded to millionths'
 complete -c cats -n __fish_use_subcommand -a compare -d 'Tell whether two bid files are the same auction'
 complete -c cats -n __fish_use_subcommand -a duplicates -d 'Print which of many bid files are the same auction'
+complete -c cats -n __fish_use_subcommand -a sizes -d 'Print a table of the numbers of bid files and of their canonical files'
 complete -c cats -n __fish_use_subcommand -a help -d 'Print help'
-complete -c cats -n '__fish_seen_subcommand_from help' -a 'check show value normalise round compare duplicates'
+complete -c cats -n '__fish_seen_subcommand_from help' -a 'check show value normalise round compare duplicates sizes'
 complete -c cats -n __cats_takes_path -F
-complete -c cats -n '__fish_seen_subcommand_from value normalise compare duplicates' -x -l steps -d 'The most steps of a search'
+complete -c cats -n '__fish_seen_subcommand_from value normalise compare duplicates sizes' -x -l steps -d 'The most steps of a search'
 complete -c cats -n '__fish_seen_subcommand_from round' -l exact -d 'Refuse a price that would be rounded'
-complete -c cats -n '__fish_seen_subcommand_from duplicates' -l progress -d 'Tell how many files were read'
+complete -c cats -n '__fish_seen_subcommand_from duplicates sizes' -l progress -d 'Tell how many files were read'

@@ -1,5 +1,8 @@
--- The file at one path: what adding a stream to the index says of it, in the words of the run.
-use Rattle.std.proofs.Common.{◌≡◌, ℕ, List, Option, None, Some, Ok, Err, refl, sym, subst, ⊎_elim}
+-- The file at one path: what reading its stream says of it, in the words of the run.
+use Rattle.std.proofs.Common.{◌≡◌, ℕ, List, [], ◌∷◌, ◌++◌, Option, None, Some, Result, Ok, Err, refl, sym, ap, ◌∙◌, subst, ⊎_elim}
+use Rattle.std.specs.Prelude.{IfOk}
+use Rattle.std.specs.Borrow.{Bor}
+use Rattle.std.specs.declared.alloc.AllocError.{AllocError}
 use Rattle.std.specs.Io.KnownBytes.{Consumes}
 use Rattle.bid_file.specs.Files.{PlainFile}
 use Rattle.cats_text.specs.Streams.{inner_of, FaultsAt}
@@ -17,12 +20,18 @@ use Rattle.canon.specs.Refusals.{refusal_by_kind, refusal_of}
 use Rattle.canon.specs.declared.fault.CanonFault.{CanonFault}
 use Rattle.canon.specs.declared.fault.CanonFault.TheVariants.{Read, StepLimit, Memory}
 use Rattle.canon.specs.declared.which.Which.TheVariants.{Only}
+use Rattle.cats_cmd.specs.DuplicateTexts.{found_paths}
 use Rattle.cats_cmd.specs.Inputs.{IsOpened, IsRefusedByReading, IsRefusedFile}
-use Rattle.cats_cmd.specs.Internal.Judging.{JudgesAs}
+use Rattle.cats_cmd.specs.Internal.Judging.{AddsFile, AddsOpened, AddsPath, KeepsGroups}
+use Rattle.cats_cmd.specs.Paths.{Judgement, IsHeavy, IsJudged, IsStopped, Judges, JudgesStream, refusal_line, refusal_lines, status_if, stop_of}
+use Rattle.cats_cmd.proofs.Skipping.{nothing_more}
 use Rattle.cats_cmd.specs.Outcomes.{ExceedsSteps, normalise_outcome, text_unless_heavy}
 use Rattle.cats_cmd.specs.Runs.{MakesAs}
-use Rattle.cats_cmd.specs.declared.program.Stop.TheVariants.{Run}
+use Rattle.cats_cmd.specs.Stops.{Reports, ReportsAll, status_of_stop}
+use Rattle.cats_cmd.specs.declared.program.Stop.{Stop}
+use Rattle.cats_cmd.specs.declared.program.Stop.TheVariants.{CannotOpen, Run}
 use Rattle.cats_cmd.specs.declared.report.RunFault.TheVariants.{Refused}
+use Rattle.cats_cmd.proofs.FindingPlaces.{groups_more}
 use Rattle.cats_cmd.proofs.RunsOfOneFile.{refused_in_reading, refused_in_making}
 
 -- ---- heavy bundles
@@ -39,6 +48,10 @@ same_excess : (file : PlainFile) (heavy : Option (List ℕ)) (goods : List ℕ) 
     → text_unless_heavy file heavy ≡ ExceedsSteps goods
 same_excess file None goods is = cc
 same_excess file (Some heavy) goods is = cc
+
+heavy_bundle : (file : PlainFile) (heavy : Option (List ℕ)) (goods : List ℕ) → text_unless_heavy file heavy ≡ ExceedsSteps goods → heavy ≡ Some goods
+heavy_bundle file None goods is = cc
+heavy_bundle file (Some heavy) goods is = cc
 
 made_by_normalising : (limit : ℕ) (file : PlainFile) (fault : CanonFault) → RefusesAs (normalised_file limit file) fault
     → MakesAs (normalise_outcome limit file) (Err fault)
@@ -76,30 +89,125 @@ module _ {R : Type 0} (remaining : R → Option (List ℕ)) where
       (λ (u : IsUnmade remaining limit added.bytes new fault). unmade limit old new added.bytes added.consumes fault u)
       added.adds.1
 
--- ---- the file at a path
+-- ---- a stream
 
-module _ {F : Type 0} (may_open : List ℕ → F → Type 0) (may_refuse : List ℕ → Type 0) (remaining : F → Option (List ℕ)) (limit : ℕ)
-    (files more : List PlainFile) (path : List ℕ) (old new : Watched F) (opened : IsOpened may_open path old) where
-  pub file_judged : (place : ℕ) → AddsStream remaining limit files more old new (Ok place)
-      → JudgesAs may_open may_refuse remaining limit files more path (Ok place)
-  file_judged place added =
+-- what became of a file that was refused so
+module _ {R : Type 0} (remaining : R → Option (List ℕ)) (limit : ℕ) (old new : Watched R) where
+  abbrev refused_judgement : (fault : CanonFault) → IsRefusedFile remaining (normalise_outcome limit) old new fault → Judgement
+  refused_judgement (Read why) refused = IsStopped (Run (Refused Only (Read why)))
+  refused_judgement (StepLimit goods) refused = IsHeavy refused.file goods
+  refused_judgement Memory refused = IsStopped (Run (Refused Only Memory))
+
+  refused_judges : (fault : CanonFault) (refused : IsRefusedFile remaining (normalise_outcome limit) old new fault)
+      → JudgesStream remaining limit old new (refused_judgement fault refused)
+  refused_judges (Read why) refused = (refl, refused)
+  refused_judges (StepLimit goods) refused = record {
+    reads = refused.reads;
+    heavy = heavy_bundle refused.file (first_heavy refused.file.goods limit (or_atoms_of refused.file.bids)) goods.items refused.made;
+  }
+  refused_judges Memory refused = (refl, refused)
+
+  refused_stop : (fault : CanonFault) (refused : IsRefusedFile remaining (normalise_outcome limit) old new fault)
+      → Some (Run (Refused Only fault)) ≡ stop_of (refused_judgement fault refused)
+  refused_stop (Read why) refused = refl
+  refused_stop (StepLimit goods) refused = refl
+  refused_stop Memory refused = refl
+
+  -- no group has the file
+  refused_groups : (fault : CanonFault) (refused : IsRefusedFile remaining (normalise_outcome limit) old new fault) (files : List PlainFile)
+      (found : List (List ℕ × ℕ)) (path : List ℕ) (js : List (List ℕ × Judgement)) → KeepsGroups files found js
+      → KeepsGroups files found (js ++ (path, refused_judgement fault refused) ∷ [])
+  refused_groups (Read why) refused files found path js h = nothing_more files found js path (IsStopped (Run (Refused Only (Read why)))) refl refl h
+  refused_groups (StepLimit goods) refused files found path js h = nothing_more files found js path (IsHeavy refused.file goods) refl refl h
+  refused_groups Memory refused files found path js h = nothing_more files found js path (IsStopped (Run (Refused Only Memory))) refl refl h
+
+  -- the file was added to the groups
+  pub groups_judged : {C : Type 0} (Has : C → List (List ℕ × Judgement) → Type 0) (before after : C) (files more : List PlainFile)
+      (found longer : List (Bor (List ℕ) × ℕ)) (path : Bor (List ℕ)) (place : ℕ)
+      → ((js : List (List ℕ × Judgement)) → Has before js → KeepsGroups files (found_paths found) js)
+      → ((js : List (List ℕ × Judgement)) → KeepsGroups more (found_paths longer) js → Has after js)
+      → AddsStream remaining limit files more old new (Ok place) → longer ≡ found ++ (path, place) ∷ []
+      → AddsOpened Has remaining limit path.now before after old new None
+  groups_judged Has before after files more found longer path place has has_after added put =
       let a = added.adds in
       record {
-        file = a.file;
+        judgement = IsJudged a.file;
         judges = record {
-          before = old;
-          after = new;
-          opened = opened;
-          reads = record {
-            reads = record { bytes = added.bytes; consumes = added.consumes; reads = a.reads };
-            light = light_text a.file (first_heavy a.file.goods limit (or_atoms_of a.file.bids)) (canonical_text a.file) a.light;
-          };
+          reads = record { bytes = added.bytes; consumes = added.consumes; reads = a.reads };
+          light = light_text a.file (first_heavy a.file.goods limit (or_atoms_of a.file.bids)) (canonical_text a.file) a.light;
         };
-        added = a.added;
-        first = a.first;
+        adds = λ js h. has_after (js ++ (path.now, IsJudged a.file) ∷ []) (groups_more files more found longer path a.file place a.added a.first put js (has js h));
+        is_stop = refl;
       }
 
-  pub file_refused : (fault : CanonFault) → AddsStream remaining limit files more old new (Err fault)
-      → JudgesAs may_open may_refuse remaining limit files more path (Err (Run (Refused Only fault)))
-  file_refused fault added =
-      ((refl, record { before = old; after = new; opened = opened; refused = stream_refused remaining limit files more old new fault added }), added.adds.0)
+  pub groups_refused : {C : Type 0} (Has : C → List (List ℕ × Judgement) → Type 0) (before after : C) (files more : List PlainFile)
+      (found : List (List ℕ × ℕ)) (path : List ℕ) (fault : CanonFault)
+      → ((js : List (List ℕ × Judgement)) → Has before js → KeepsGroups files found js)
+      → ((js : List (List ℕ × Judgement)) → KeepsGroups more found js → Has after js)
+      → AddsStream remaining limit files more old new (Err fault)
+      → AddsOpened Has remaining limit path before after old new (Some (Run (Refused Only fault)))
+  groups_refused Has before after files more found path fault has has_after added =
+      let refused = stream_refused remaining limit files more old new fault added in
+      record {
+        judgement = refused_judgement fault refused;
+        judges = refused_judges fault refused;
+        adds = λ js h. has_after (js ++ (path, refused_judgement fault refused) ∷ [])
+            (subst (λ (fs : List PlainFile). KeepsGroups fs found (js ++ (path, refused_judgement fault refused) ∷ [])) (sym added.adds.0)
+            (refused_groups fault refused files found path js (has js h)));
+        is_stop = refused_stop fault refused;
+      }
+
+-- ---- the file at a path
+
+module _ {C F : Type 0} (Has : C → List (List ℕ × Judgement) → Type 0) (may_open : List ℕ → F → Type 0) (may_refuse : List ℕ → Type 0)
+    (remaining : F → Option (List ℕ)) (limit : ℕ) (path : List ℕ) (kept more : C) where
+  opened_judges : (before after : Watched F) → IsOpened may_open path before → (j : Judgement) → JudgesStream remaining limit before after j
+      → Judges may_open may_refuse remaining limit (path, j)
+  opened_judges before after opened (IsJudged file) judges = record { before = before; after = after; opened = opened; judges = judges }
+  opened_judges before after opened (IsHeavy file goods) judges = record { before = before; after = after; opened = opened; judges = judges }
+  opened_judges before after opened (IsStopped (CannotOpen which)) judges = absurd judges
+  opened_judges before after opened (IsStopped (Run fault)) judges = record { before = before; after = after; opened = opened; judges = judges }
+
+  pub file_added : (before after : Watched F) → IsOpened may_open path before → (stop : Option Stop)
+      → AddsOpened Has remaining limit path kept more before after stop → AddsFile Has may_open may_refuse remaining limit path kept more stop
+  file_added before after opened stop a = record {
+    judgement = a.judgement;
+    judges = opened_judges before after opened a.judgement a.judges;
+    adds = a.adds;
+    is_stop = a.is_stop;
+  }
+
+  pub file_if_added : (before after : Watched F) → IsOpened may_open path before → (answer : Result (Option Stop) AllocError)
+      → IfOk answer (λ stop. AddsOpened Has remaining limit path kept more before after stop)
+      → IfOk answer (AddsFile Has may_open may_refuse remaining limit path kept more)
+  file_if_added before after opened (Ok stop) a = file_added before after opened stop a
+  file_if_added before after opened (Err e) a = tt
+
+-- no stream was opened at the path
+pub file_unopened : {C F : Type 0} (Has : C → List (List ℕ × Judgement) → Type 0) (may_open : List ℕ → F → Type 0) (may_refuse : List ℕ → Type 0)
+    (remaining : F → Option (List ℕ)) (limit : ℕ) (path : List ℕ) (kept : C)
+    → ((js : List (List ℕ × Judgement)) (p : List ℕ) (stop : Stop) → Has kept js → Has kept (js ++ (p, IsStopped stop) ∷ []))
+    → (stop : Stop) → stop ≡ CannotOpen Only → may_refuse path → AddsFile Has may_open may_refuse remaining limit path kept kept (Some stop)
+file_unopened Has may_open may_refuse remaining limit path kept skips stop is refuses =
+    rw is (record {
+      judgement = IsStopped (CannotOpen Only);
+      judges = (refl, refuses);
+      adds = λ js h. skips js path (CannotOpen Only) h;
+      is_stop = refl;
+    })
+
+-- the file was not judged, and that was reported
+pub path_stopped : {C F E : Type 0} (Has : C → List (List ℕ × Judgement) → Type 0) (may_open : List ℕ → F → Type 0) (may_refuse : List ℕ → Type 0)
+    (remaining : F → Option (List ℕ)) (limit : ℕ) (messages : E → Option (List ℕ)) (path : List ℕ) (kept more : C) (err err_after : Watched E)
+    (stop : Option Stop) (why : Stop) (status : ℕ) → AddsFile Has may_open may_refuse remaining limit path kept more stop → stop ≡ Some why
+    → Reports messages (refusal_line path why) err err_after → status ≡ status_of_stop why
+    → AddsPath Has may_open may_refuse remaining limit messages path kept more err err_after status
+path_stopped Has may_open may_refuse remaining limit messages path kept more err err_after stop why status a is reports st =
+    let e : stop_of a.judgement ≡ Some why = sym a.is_stop ∙ is in
+    record {
+      judgement = a.judgement;
+      judges = a.judges;
+      adds = a.adds;
+      reports = subst (λ (s : Option Stop). ReportsAll messages (refusal_lines path s) err err_after) (sym e) (err_after, reports, refl);
+      is_status = st ∙ ap status_if (sym e);
+    }

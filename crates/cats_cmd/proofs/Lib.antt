@@ -10,6 +10,9 @@ mod Comparing
 mod Grouping
 mod Rounding
 mod Judging
+mod JudgingPaths
+mod Skipping
 mod FindingPlaces
+mod Tabling
 mod RunsOfPaths
 pub mod RunsOfOneFile

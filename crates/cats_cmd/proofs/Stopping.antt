@@ -1,5 +1,5 @@
 -- What holds of each answer to a request: the statuses of a run that answered, what a request that stopped has written, and that only
--- `duplicates` reports before it stops.
+-- `round`, `duplicates` and `sizes` report before they stop.
 use Rattle.std.proofs.Common.{◌≡◌, ◌≢◌, ℕ, List, Option, None, Some, Result, Ok, Err, Bool, true, false, cond, sym, ap, ◌∙◌, subst, arith, ◌≤◌, [], ◌∷◌}
 use Rattle.std.proofs.Common.{refl, ⊎_elim}
 use Rattle.std.specs.Prelude.{◌||◌, nat_lt, IsErrAnd, bytes_eq, codes}
@@ -24,7 +24,7 @@ use Rattle.rounding.specs.declared.replacement.FinePrices.{FinePrices}
 use Rattle.cats_cmd.specs.Runs.{RunsOnFile}
 use Rattle.cats_cmd.specs.Statuses.{status_of_canon_fault, status_of_read_fault}
 use Rattle.cats_cmd.specs.Rounding.{Rounds}
-use Rattle.cats_cmd.specs.Stops.{Reports, is_for_many_files, is_reporting, line_of_stop, names_duplicates, names_reporting, status_of_stop}
+use Rattle.cats_cmd.specs.Stops.{Reports, is_for_many_files, is_reporting, line_of_stop, names_many_files, names_reporting, status_of_stop}
 use Rattle.cats_cmd.specs.ValueTexts.{bundle_from, value_text}
 use Rattle.cats_cmd.specs.declared.program.Stop.{Stop}
 use Rattle.cats_cmd.specs.declared.program.Stop.TheVariants.{CannotOpen, Run}
@@ -32,7 +32,7 @@ use Rattle.cats_cmd.specs.declared.report.RunFault.{RunFault}
 use Rattle.cats_cmd.specs.declared.report.RunFault.TheVariants.{Refused, GoodRange, Sent}
 use Rattle.command_line.specs.Requests.{IsNamedIn}
 use Rattle.command_line.specs.declared.request.Request.{Request}
-use Rattle.command_line.specs.declared.request.Request.TheVariants.{Check, Show, Value, Normalise, Round, Compare, Duplicates}
+use Rattle.command_line.specs.declared.request.Request.TheVariants.{Check, Show, Value, Normalise, Round, Compare, Duplicates, Sizes}
 use Rattle.std.specs.Borrow.{Bor}
 
 -- ---- the outcomes that have a text
@@ -68,22 +68,30 @@ differs_or_same (InGoods left right) status text is = let same : 1 ≡ status = 
 differs_or_same (InOr bundle left right) status text is = let same : 1 ≡ status = cc in omega arith
 differs_or_same (InXor bidder left right) status text is = let same : 1 ≡ status = cc in omega arith
 
--- only `duplicates` names a request for many files
-pub few_files : (words : List (Bor (List ℕ))) (request : Request) → IsNamedIn words request → names_duplicates words ≡ false → is_for_many_files request ≡ false
+-- only `duplicates` and `sizes` name a request for many files
+pub few_files : (words : List (Bor (List ℕ))) (request : Request) → IsNamedIn words request → names_many_files words ≡ false → is_for_many_files request ≡ false
 few_files (program ∷ (word ∷ words)) (Duplicates files limit progress) named few =
-    subst (λ (name : List ℕ). bytes_eq name (codes "duplicates") ≡ false) named few
+    subst (λ (name : List ℕ). (bytes_eq name (codes "duplicates") || bytes_eq name (codes "sizes")) ≡ false) named few
 few_files (program ∷ []) (Duplicates files limit progress) named few = absurd (named)
 few_files [] (Duplicates files limit progress) named few = absurd (named)
+few_files (program ∷ (word ∷ words)) (Sizes files limit progress) named few =
+    subst (λ (name : List ℕ). (bytes_eq name (codes "duplicates") || bytes_eq name (codes "sizes")) ≡ false) named few
+few_files (program ∷ []) (Sizes files limit progress) named few = absurd (named)
+few_files [] (Sizes files limit progress) named few = absurd (named)
 few_files words request named few = refl
 
--- only `round` and `duplicates` name a request that reports before it ends
+-- only `round`, `duplicates` and `sizes` name a request that reports before it ends
 pub quiet_request : (words : List (Bor (List ℕ))) (request : Request) → IsNamedIn words request → names_reporting words ≡ false → is_reporting request ≡ false
 quiet_request (program ∷ (word ∷ words)) (Duplicates files limit progress) named quiet =
-    subst (λ (name : List ℕ). (bytes_eq name (codes "round") || bytes_eq name (codes "duplicates")) ≡ false) named quiet
+    subst (λ (name : List ℕ). (bytes_eq name (codes "round") || (bytes_eq name (codes "duplicates") || bytes_eq name (codes "sizes"))) ≡ false) named quiet
 quiet_request (program ∷ []) (Duplicates files limit progress) named quiet = absurd (named)
 quiet_request [] (Duplicates files limit progress) named quiet = absurd (named)
+quiet_request (program ∷ (word ∷ words)) (Sizes files limit progress) named quiet =
+    subst (λ (name : List ℕ). (bytes_eq name (codes "round") || (bytes_eq name (codes "duplicates") || bytes_eq name (codes "sizes"))) ≡ false) named quiet
+quiet_request (program ∷ []) (Sizes files limit progress) named quiet = absurd (named)
+quiet_request [] (Sizes files limit progress) named quiet = absurd (named)
 quiet_request (program ∷ (word ∷ words)) (Round file exact) named quiet =
-    subst (λ (name : List ℕ). (bytes_eq name (codes "round") || bytes_eq name (codes "duplicates")) ≡ false) named quiet
+    subst (λ (name : List ℕ). (bytes_eq name (codes "round") || (bytes_eq name (codes "duplicates") || bytes_eq name (codes "sizes"))) ≡ false) named quiet
 quiet_request (program ∷ []) (Round file exact) named quiet = absurd (named)
 quiet_request [] (Round file exact) named quiet = absurd (named)
 quiet_request words request named quiet = refl
@@ -181,6 +189,7 @@ module _ {F W E : Type 0} (may_open : List ℕ → F → Type 0) (may_refuse : L
   answered (Compare first second limit) err_after status ran few =
       told_comparison remaining remaining contents limit ran.0.left ran.0.left_after ran.0.right ran.0.right_after out out_after status ran.0.runs
   answered (Duplicates files limit progress) err_after status ran few = absurd (cc)
+  answered (Sizes files limit progress) err_after status ran few = absurd (cc)
 
   -- a request that answered has reported nothing, unless it is one that reports
   quiet : (request : Request) (err_after : Watched E) (answer : Result ℕ RunFault)
@@ -193,6 +202,7 @@ module _ {F W E : Type 0} (may_open : List ℕ → F → Type 0) (may_refuse : L
   quiet (Round file exact) err_after answer ran silent = absurd (cc)
   quiet (Compare first second limit) err_after answer ran silent = ran.1
   quiet (Duplicates files limit progress) err_after answer ran silent = absurd (cc)
+  quiet (Sizes files limit progress) err_after answer ran silent = absurd (cc)
 
   -- a request that stopped has written nothing, unless its output failed
   silent_fault : (request : Request) (err_after : Watched E) (fault : RunFault)
@@ -211,6 +221,7 @@ module _ {F W E : Type 0} (may_open : List ℕ → F → Type 0) (may_refuse : L
   silent_fault (Compare first second limit) err_after fault ran few =
       silent_comparison remaining remaining contents limit ran.0.left ran.0.left_after ran.0.right ran.0.right_after out out_after fault ran.0.runs
   silent_fault (Duplicates files limit progress) err_after fault ran few = absurd (cc)
+  silent_fault (Sizes files limit progress) err_after fault ran few = absurd (cc)
 
   silent_request : (request : Request) (err_after : Watched E) (stop : Stop)
       → CarriesOut may_open may_refuse remaining contents messages request out out_after err err_after (Err stop) → is_for_many_files request ≡ false

@@ -1,5 +1,5 @@
 -- What a run does with its inputs: which stream was opened at a path, what reading it gave, and why its file was refused.
-use Rattle.std.specs.Prelude.{◌≡◌, ◌≢◌, ◌⊎◌, ℕ, false, List, Option, None, Result, Ok, Err}
+use Rattle.std.specs.Prelude.{◌≡◌, ◌≢◌, ◌⊎◌, ℕ, false, List, Option, Some, None, Result, Ok, Err}
 use Rattle.std.specs.Io.KnownBytes.{Consumes}
 use Rattle.bid_file.specs.Files.{PlainFile}
 use Rattle.cats_text.specs.Streams.{inner_of, has_failed, has_ended, ReadsFile, FaultsAt}
@@ -48,6 +48,11 @@ module _ {R : Type 0} (remaining : R → Option (List ℕ)) where
   pub record ReadsLightFile (limit : ℕ) (old new : Watched R) (file : PlainFile) : Type 0 where
     pub reads : ReadsInput old new (Ok file)
     pub light : first_heavy file.goods limit (or_atoms_of file.bids) ≡ None
+
+  -- the bytes that were read spell a file, of which the bundle of these goods is the first heavy one
+  pub record ReadsHeavyFile (limit : ℕ) (old new : Watched R) (file : PlainFile) (goods : List ℕ) : Type 0 where
+    pub reads : ReadsInput old new (Ok file)
+    pub heavy : first_heavy file.goods limit (or_atoms_of file.bids) ≡ Some goods
 
 -- A file that is read, where `outcome` says what is made of it.
 module _ {R : Type 0} (remaining : R → Option (List ℕ)) (outcome : PlainFile → Outcome) where

@@ -12,7 +12,9 @@ pub mod Stops
 pub mod Runs
 pub mod Comparisons
 pub mod DuplicateTexts
+pub mod Paths
 pub mod Duplicates
+pub mod SizesTables
 pub mod Rounding
 pub mod Requests
 pub mod Internal

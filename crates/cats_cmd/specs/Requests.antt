@@ -8,11 +8,13 @@ use Rattle.cats_text.specs.declared.stream.Watched.{Watched}
 use Rattle.canon.specs.declared.which.Which.{Which}
 use Rattle.canon.specs.declared.which.Which.TheVariants.{Only, First, Second}
 use Rattle.cats_cmd.specs.Comparisons.{Compares}
-use Rattle.cats_cmd.specs.Duplicates.{RunsOnPaths}
+use Rattle.cats_cmd.specs.Duplicates.{MakesGroups}
 use Rattle.cats_cmd.specs.Inputs.{IsOpened}
 use Rattle.cats_cmd.specs.Outcomes.{Outcome, check_outcome, show_outcome, value_outcome, normalise_outcome}
+use Rattle.cats_cmd.specs.Paths.{RunsOnPaths}
 use Rattle.cats_cmd.specs.Rounding.{Rounds}
 use Rattle.cats_cmd.specs.Runs.{RunsOnFile}
+use Rattle.cats_cmd.specs.SizesTables.{MakesTable}
 use Rattle.rounding.specs.declared.replacement.FinePrices.{FinePrices}
 use Rattle.rounding.specs.declared.replacement.FinePrices.TheVariants.{Round as RoundFine, Refuse}
 use Rattle.cats_cmd.specs.Stops.{Reports, SendsText, line_of_stop, status_of_stop}
@@ -21,7 +23,7 @@ use Rattle.command_line.specs.declared.request.NoRequest.{NoRequest}
 use Rattle.command_line.specs.declared.request.NoRequest.TheVariants.{Help, WrongUsage, NoMemory}
 use Rattle.command_line.specs.declared.request.Request.{Request}
 use Rattle.command_line.specs.declared.request.Request.TheVariants.{Check, Show, Value, Normalise, Round, Compare}
-use Rattle.command_line.specs.declared.request.Request.TheVariants.{Duplicates}
+use Rattle.command_line.specs.declared.request.Request.TheVariants.{Duplicates, Sizes}
 use Rattle.cats_cmd.specs.declared.program.Stop.{Stop}
 use Rattle.cats_cmd.specs.declared.program.Stop.TheVariants.{CannotOpen, Run}
 use Rattle.cats_cmd.specs.declared.report.RunFault.{RunFault}
@@ -101,10 +103,13 @@ module _ {F W E : Type 0} (may_open : List ℕ → F → Type 0) (may_refuse : L
   RunsFor (Compare first second limit) out out_after err err_after answer =
       ComparesAt may_open remaining contents first.now second.now limit out out_after answer × (err_after ≡ err)
   RunsFor (Duplicates files limit progress) out out_after err err_after answer =
-      RunsOnPaths may_open may_refuse remaining contents messages limit (map (λ path. path.now) files.items) progress
-      out out_after err err_after answer
+      RunsOnPaths may_open may_refuse remaining contents messages limit MakesGroups
+      (map (λ path. path.now) files.items) progress out out_after err err_after answer
+  RunsFor (Sizes files limit progress) out out_after err err_after answer =
+      RunsOnPaths may_open may_refuse remaining contents messages limit MakesTable
+      (map (λ path. path.now) files.items) progress out out_after err err_after answer
 
-  -- the file of a request that cannot be opened. Each file of `duplicates` is reported by itself
+  -- the file of a request that cannot be opened. Each file of `duplicates` and `sizes` is reported by itself
   abbrev pub CannotOpenOf : Request → Which → Type 0
   CannotOpenOf (Check file) which = (which ≡ Only) × may_refuse file.now
   CannotOpenOf (Show file) which = (which ≡ Only) × may_refuse file.now
@@ -114,6 +119,7 @@ module _ {F W E : Type 0} (may_open : List ℕ → F → Type 0) (may_refuse : L
   CannotOpenOf (Compare first second limit) which =
       ((which ≡ First) × may_refuse first.now) ⊎ ((which ≡ Second) × may_refuse second.now)
   CannotOpenOf (Duplicates files limit progress) which = ⊥
+  CannotOpenOf (Sizes files limit progress) which = ⊥
 
   -- the request's run answers, or a file of it cannot be opened, and then nothing was read, written or reported
   abbrev pub CarriesOut : Request → Watched W → Watched W → Watched E → Watched E → Result ℕ Stop → Type 0

@@ -7,29 +7,31 @@ use Rattle.cats_text.specs.declared.stream.Watched.{Watched}
 use Rattle.cats_cmd.specs.FaultLines.{line_of_fault, prefix_of}
 use Rattle.cats_cmd.specs.Statuses.{status_of_fault}
 use Rattle.command_line.specs.declared.request.Request.{Request}
-use Rattle.command_line.specs.declared.request.Request.TheVariants.{Round, Duplicates}
+use Rattle.command_line.specs.declared.request.Request.TheVariants.{Round, Duplicates, Sizes}
 use Rattle.cats_cmd.specs.declared.program.Stop.{Stop}
 use Rattle.cats_cmd.specs.declared.program.Stop.TheVariants.{CannotOpen, Run}
 
 -- whether each of a request's files may be refused, and the others go on
 abbrev pub is_for_many_files : Request → Bool
 is_for_many_files (Duplicates files limit progress) = true
+is_for_many_files (Sizes files limit progress) = true
 is_for_many_files request = false
 
--- whether a command line's subcommand is `duplicates`
-abbrev pub names_duplicates : List (Bor (List ℕ)) → Bool
-names_duplicates (name ∷ (word ∷ words)) = bytes_eq word.now (codes "duplicates")
-names_duplicates words = false
+-- whether a command line's subcommand is `duplicates` or `sizes`
+abbrev pub names_many_files : List (Bor (List ℕ)) → Bool
+names_many_files (name ∷ (word ∷ words)) = bytes_eq word.now (codes "duplicates") || bytes_eq word.now (codes "sizes")
+names_many_files words = false
 
 -- whether a request may report something before it ends
 abbrev pub is_reporting : Request → Bool
 is_reporting (Round file exact) = true
 is_reporting (Duplicates files limit progress) = true
+is_reporting (Sizes files limit progress) = true
 is_reporting request = false
 
--- whether a command line's subcommand is `round` or `duplicates`
+-- whether a command line's subcommand is `round`, `duplicates` or `sizes`
 abbrev pub names_reporting : List (Bor (List ℕ)) → Bool
-names_reporting (name ∷ (word ∷ words)) = bytes_eq word.now (codes "round") || bytes_eq word.now (codes "duplicates")
+names_reporting (name ∷ (word ∷ words)) = bytes_eq word.now (codes "round") || names_many_files (name ∷ (word ∷ words))
 names_reporting words = false
 
 abbrev pub status_of_stop : Stop → ℕ

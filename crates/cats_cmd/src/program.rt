@@ -4,7 +4,7 @@ ghost use Rattle.std.specs.Prelude.{◌≡◌, ◌≢◌, ◌≤◌, ℕ, List, 
 ghost use Rattle.cats_text.specs.Streams.{has_failed};
 ghost use Rattle.cats_cmd.specs.Inputs.{IsOpened};
 ghost use Rattle.cats_cmd.specs.Requests.{AnswersLine, AnswersNoRequest, AnswersRequest, CarriesOut, fine_of, memory_text};
-ghost use Rattle.cats_cmd.specs.Stops.{Reports, is_for_many_files, is_reporting, line_of_stop, names_duplicates, names_reporting, status_of_stop};
+ghost use Rattle.cats_cmd.specs.Stops.{Reports, is_for_many_files, is_reporting, line_of_stop, names_many_files, names_reporting, status_of_stop};
 
 use crate::check::run_check;
 use crate::compare::run_compare;
@@ -13,6 +13,7 @@ use crate::normalise::run_normalise;
 use crate::report::{DEVICE_FAILED, DONE, NO_MEMORY, RunFault, WRONG_USAGE, fault_line, status};
 use crate::round::run_round;
 use crate::show::run_show;
+use crate::sizes::run_sizes;
 use crate::source::{Source, SystemFiles, Unopened};
 use crate::value::run_value;
 use canon::Which;
@@ -55,7 +56,7 @@ pub fn run_cats<F: Files + AllocGlobal, W: Write, E: Write>(
     requires err_works { has_failed err.old ≡ false }
     ensures answers { AnswersLine (λ path stream. Unit {0}) (λ path. Unit {0}) F.File.remaining W.contents E.contents
         words.now out.old out.new err.old err.new result }
-    ensures silent { names_duplicates words.now ≡ false → result ≢ 0 → result ≢ 1 → result ≢ 5 → out.new ≡ out.old }
+    ensures silent { names_many_files words.now ≡ false → result ≢ 0 → result ≢ 1 → result ≢ 5 → out.new ≡ out.old }
     ensures done { names_reporting words.now ≡ false → result ≤ 1 → err.new ≡ err.old }
 {
     run_program(&SystemFiles::new(rt), words, out, err)
@@ -77,7 +78,7 @@ pub fn run_program<S: Source + AllocGlobal, W: Write, E: Write>(
     requires err_works { has_failed err.old ≡ false }
     ensures answers { AnswersLine (S.may_open source.now) (S.may_refuse source.now) S.Stream.remaining W.contents
         E.contents words.now out.old out.new err.old err.new result }
-    ensures silent { names_duplicates words.now ≡ false → result ≢ 0 → result ≢ 1 → result ≢ 5 → out.new ≡ out.old }
+    ensures silent { names_many_files words.now ≡ false → result ≢ 0 → result ≢ 1 → result ≢ 5 → out.new ≡ out.old }
     ensures done { names_reporting words.now ≡ false → result ≤ 1 → err.new ≡ err.old }
 {
     match parse(source.alloc(), words) {
@@ -149,6 +150,11 @@ fn carry_out<S: Source + AllocGlobal, W: Write, E: Write>(
             limit,
             progress,
         } => Ok(run_duplicates(source, files.as_slice(), *limit, *progress, out, err)?),
+        Request::Sizes {
+            files,
+            limit,
+            progress,
+        } => Ok(run_sizes(source, files.as_slice(), *limit, *progress, out, err)?),
     }
 }
 

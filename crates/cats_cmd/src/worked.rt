@@ -19,7 +19,9 @@ ghost use Rattle.cats_cmd.specs.Outputs.{bundle_text, sizes_text};
 ghost use Rattle.cats_cmd.specs.ValueTexts.{bundle_from};
 ghost use Rattle.cats_cmd.specs.FaultLines.{line_of_fault};
 ghost use Rattle.cats_text.specs.Examples.{known, watched};
-ghost use Rattle.cats_cmd.specs.Duplicates.{IsJudged, IsStopped, greatest_status, judged_paths, report_lines};
+ghost use Rattle.cats_cmd.specs.Duplicates.{judged_paths};
+ghost use Rattle.cats_cmd.specs.Paths.{IsHeavy, IsJudged, IsStopped, greatest_status, report_lines};
+ghost use Rattle.cats_cmd.specs.SizesTables.{MakesTable, counts_of, line_if_read, sizes_of};
 ghost use Rattle.cats_cmd.specs.Rounding.{round_outcome, rounded_line};
 ghost use Rattle.rounding.specs.declared.replacement.FinePrices.TheVariants.{Round};
 ghost use Rattle.cats_cmd.specs.Runs.{SendsMadeAs};
@@ -117,6 +119,17 @@ pub fn paths_reported()
     ensures status { greatest_status ((codes "a", IsStopped (CannotOpen Only)) ∷ (codes "b", IsJudged larger_bid) ∷ []) ≡ 5 }
     ensures judged { judged_paths ((codes "a", IsStopped (CannotOpen Only)) ∷ (codes "b", IsJudged larger_bid) ∷ [])
         ≡ codes "b" ∷ [] }
+{}
+
+/// The numbers of a file, and the lines of `cats sizes`: of no files, of a file with a heavy bundle, and of one that was
+/// not judged.
+pub fn table_lines()
+    ensures numbers { sizes_of xor_ladder ≡ 2 ∷ 3 ∷ 1 ∷ 1 ∷ 1 ∷ [] }
+    ensures no_bidders { counts_of larger_bid ≡ 3 ∷ 3 ∷ 0 ∷ [] }
+    ensures header { MakesTable [] (codes "goods\tbids\tor\txor\tdummy\tkept\tkept_or\tkept_xor\tfile\n") }
+    ensures heavy { (goods : Vec ℕ Global) → line_if_read (codes "a b") (IsHeavy larger_bid goods)
+        ≡ codes "2\t3\t3\t0\t0\t-\t-\t-\ta b\n" }
+    ensures refused { line_if_read (codes "a") (IsStopped (CannotOpen Only)) ≡ [] }
 {}
 
 /// What `cats round` makes of bytes, and the line of a price whose value changed.

@@ -4,7 +4,7 @@ use Rattle.std.specs.Borrow.{Bor}
 use Rattle.command_line.specs.declared.request.NoRequest.{NoRequest}
 use Rattle.command_line.specs.declared.request.NoRequest.TheVariants.{WrongUsage, NoMemory}
 use Rattle.command_line.specs.declared.request.Request.{Request}
-use Rattle.command_line.specs.declared.request.Request.TheVariants.{Check, Show, Value, Normalise, Round, Compare, Duplicates}
+use Rattle.command_line.specs.declared.request.Request.TheVariants.{Check, Show, Value, Normalise, Round, Compare, Duplicates, Sizes}
 
 -- the word for which a request stands
 abbrev pub name_of : Request → List ℕ
@@ -15,6 +15,7 @@ name_of (Normalise file limit) = codes "normalise"
 name_of (Round file exact) = codes "round"
 name_of (Compare first second limit) = codes "compare"
 name_of (Duplicates files limit progress) = codes "duplicates"
+name_of (Sizes files limit progress) = codes "sizes"
 
 -- the word behind the program's name is the request's
 abbrev pub IsNamedIn : List (Bor (List ℕ)) → Request → Type 0

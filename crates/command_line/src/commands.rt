@@ -51,7 +51,7 @@ struct Subcommand {
 const STEPS_OF_BUNDLE: &str = "The most steps that the search on a bundle may take";
 
 /// The subcommands, as the help lists them.
-static SUBCOMMANDS: [Subcommand; 7] = [
+static SUBCOMMANDS: [Subcommand; 8] = [
     Subcommand {
         name: "check",
         about: "Reads a bid file and prints how many goods, bids and dummy goods it has",
@@ -106,6 +106,16 @@ static SUBCOMMANDS: [Subcommand; 7] = [
             Argument::Files,
         ],
     },
+    Subcommand {
+        name: "sizes",
+        about: "Prints a table of the numbers of bid files and of their canonical files",
+        help: help::SIZES,
+        arguments: &[
+            Argument::Steps(STEPS_OF_BUNDLE),
+            Argument::Progress,
+            Argument::Files,
+        ],
+    },
 ];
 
 pub(crate) fn cats_command<'a>(alloc: Global) -> Result<Command<'a>, AllocError> {
@@ -138,8 +148,8 @@ impl Argument {
             Argument::File => file_argument(alloc, FILE),
             Argument::SecondFile => file_argument(alloc, SECOND_FILE).value_name(FILE),
             Argument::Files => file_argument(alloc, FILE)
-                .num_args(2..)
-                .help("The paths of two or more bid files"),
+                .num_args(1..)
+                .help("The paths of bid files"),
             Argument::Goods => goods_argument(alloc),
             Argument::Steps(help) => steps_option(alloc, help),
             Argument::Progress => progress_flag(alloc),

@@ -112,3 +112,20 @@ A file that is refused is told at once, with its path before the fault, and the 
 
 Statuses: 0 where every file was judged, whether or not some are one auction; else the greatest status of those that
 were not: 2 for a file that is no bid file, 3 for the step limit, 4, 5 and 64 as 'cats --help' tells";
+
+pub(crate) const SIZES: &str = "\
+Prints a header and a line for each file, in the order given, with tabs between the words. For example:
+  $ cats sizes examples/ladder.cats examples/two_bids.cats
+HELP_EXAMPLE
+
+  goods, bids, dummy       as in the file
+  or                       bids without a dummy good
+  xor                      dummy goods that some bid has
+  kept, kept_or, kept_xor  bids, OR bids and XOR bidders of the canonical file
+
+The table is printed once all files were read. A file that is refused is reported at once, with its path before the
+fault, and the others go on. If only the step limit stops a file, its line has '-' for the numbers of its canonical
+file. A step is that of 'cats normalise', to which each file is put.
+
+Statuses: 0 if every file was judged; else the greatest status of those that were not: 2 for a file that is no bid file,
+3 for the step limit, 4, 5 and 64 as 'cats --help' tells";

@@ -76,6 +76,7 @@ fn find_named_request<'a>(
         "round" => Ok(find_round_request(given)),
         "compare" => Ok(find_compare_request(given)),
         "duplicates" => find_duplicates_request(alloc, given),
+        "sizes" => find_sizes_request(alloc, given),
         _ => Ok(None),
     }
 }
@@ -152,6 +153,22 @@ fn find_duplicates_request<'a>(
         return Ok(None);
     };
     Ok(Some(Request::Duplicates {
+        files: Vec::from_slice(alloc, files)?,
+        limit,
+        progress: given.get_flag(PROGRESS),
+    }))
+}
+
+fn find_sizes_request<'a>(
+    alloc: Global,
+    given: &ArgMatches<'a>,
+) -> Result<Option<Request<'a>>, AllocError>
+    ensures { IfOk result (λ found. IfSome found (λ request. name_of request ≡ codes "sizes")) }
+{
+    let (Some(limit), Some(files)) = (given.get_one::<u64>(STEPS), given.get_strs(FILE)) else {
+        return Ok(None);
+    };
+    Ok(Some(Request::Sizes {
         files: Vec::from_slice(alloc, files)?,
         limit,
         progress: given.get_flag(PROGRESS),

@@ -32,6 +32,11 @@ pub enum Request<'a> {
         limit: u64,
         progress: bool,
     },
+    Sizes {
+        files: Vec<&'a str>,
+        limit: u64,
+        progress: bool,
+    },
 }
 
 /// Why a command line asks for no run. Each has its text, which is empty where memory for it was refused.

@@ -5,7 +5,7 @@ use std::process::Abort;
 use std::test::Fail;
 
 /// Command lines, and what they ask for.
-static REQUESTS: [(&[&str], &str); 10] = [
+static REQUESTS: [(&[&str], &str); 12] = [
     (&["cats", "check", "a"], "Check { file: \"a\" }"),
     (&["cats", "show", "a"], "Show { file: \"a\" }"),
     (
@@ -39,6 +39,14 @@ static REQUESTS: [(&[&str], &str); 10] = [
     (
         &["cats", "duplicates", "--progress", "a", "b", "--steps=9"],
         "Duplicates { files: [\"a\", \"b\"], limit: 9, progress: true }",
+    ),
+    (
+        &["cats", "sizes", "a"],
+        "Sizes { files: [\"a\"], limit: 1000000, progress: false }",
+    ),
+    (
+        &["cats", "sizes", "--steps=9", "a", "--progress", "b"],
+        "Sizes { files: [\"a\", \"b\"], limit: 9, progress: true }",
     ),
 ];
 
@@ -76,14 +84,15 @@ fn help_and_version(rt: HostRuntime) {
 }
 
 /// Command lines that ask for nothing that the program does.
-static WRONG_LINES: [&[&str]; 7] = [
+static WRONG_LINES: [&[&str]; 8] = [
     &[],
     &["cats"],
     &["cats", "check"],
     &["cats", "Check", "a"],
     &["cats", "value", "--steps", "0", "a"],
     &["cats", "value", "a", "65536"],
-    &["cats", "duplicates", "a"],
+    &["cats", "duplicates"],
+    &["cats", "sizes"],
 ];
 
 #[test]

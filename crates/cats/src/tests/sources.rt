@@ -40,18 +40,26 @@ impl Alloc for FilesInMemory<'_> {
     }
 }
 
-static FILES: [(&str, &[u8]); 5] = [
+static FILES: [(&str, &[u8]); 7] = [
     ("one", b"goods 1\nbids 1\ndummy 0\n0 3 0 #\n"),
     ("same", b"goods 1\nbids 2\ndummy 0\n0 3 0 #\n1 2 0 #\n"),
     ("other", b"goods 1\nbids 1\ndummy 0\n0 4 0 #\n"),
     ("bad", b"goods 1\n"),
     ("fine", b"goods 1\nbids 1\ndummy 0\n0 1e-7 0 #\n"),
+    (
+        "sum",
+        b"goods 2\nbids 3\ndummy 0\n0 3 0 #\n1 4 1 #\n2 7 0 1 #\n",
+    ),
+    (
+        "bidders",
+        b"goods 2\nbids 4\ndummy 3\n0 1 0 2 #\n1 1 0 4 #\n2 2 1 4 #\n3 9 1 #\n",
+    ),
 ];
 
 /// A command line's words, and what it answers: its status, its output and its faults' lines.
 type Row<'a> = (&'a [&'a str], u8, &'a str, &'a str);
 
-static ROWS: [Row<'static>; 10] = [
+static ROWS: [Row<'static>; 14] = [
     (
         &["cats", "check", "same"],
         0,
@@ -94,6 +102,27 @@ static ROWS: [Row<'static>; 10] = [
         5,
         "",
         "none: cannot open\n1 of 2 none\n2 of 2 one\n",
+    ),
+    (&["cats", "duplicates", "one"], 0, "", ""),
+    (
+        &["cats", "sizes", "same", "bidders", "same"],
+        0,
+        "goods\tbids\tor\txor\tdummy\tkept\tkept_or\tkept_xor\tfile\n1\t2\t2\t0\t0\t1\t1\t0\tsame\n\
+2\t4\t1\t2\t3\t4\t1\t2\tbidders\n1\t2\t2\t0\t0\t1\t1\t0\tsame\n",
+        "",
+    ),
+    (
+        &["cats", "sizes", "--steps", "2", "bad", "sum", "one"],
+        3,
+        "goods\tbids\tor\txor\tdummy\tkept\tkept_or\tkept_xor\tfile\n2\t3\t3\t0\t0\t-\t-\t-\tsum\n\
+1\t1\t1\t0\t0\t1\t1\t0\tone\n",
+        "bad: line 2: Missing\nsum: step limit at 0,1\n",
+    ),
+    (
+        &["cats", "sizes", "none", "--progress"],
+        5,
+        "goods\tbids\tor\txor\tdummy\tkept\tkept_or\tkept_xor\tfile\n",
+        "none: cannot open\n1 of 1 none\n",
     ),
     (
         &["cats", "round", "fine"],

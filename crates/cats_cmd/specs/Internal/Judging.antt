@@ -1,51 +1,74 @@
--- What judging the file at one path does, among files that are judged one after the other.
-use Rattle.std.specs.Prelude.{◌≡◌, ℕ, Bool, List, [], ◌∷◌, ◌++◌, Option, Result, Ok, Err}
+-- What judging the file at one path does, among files that are judged one after the other, and what is kept of them.
+use Rattle.std.specs.Prelude.{◌≡◌, ℕ, Bool, List, [], ◌∷◌, ◌++◌, length, Option, Result, Ok, Err}
+use Rattle.std.specs.declared.alloc.AllocError.{AllocError}
 use Rattle.bid_file.specs.Files.{PlainFile}
 use Rattle.cats_text.specs.declared.stream.Watched.{Watched}
-use Rattle.canon.specs.FirstPlaces.{IsFirstPlace}
-use Rattle.cats_cmd.specs.DuplicateTexts.{found_paths}
-use Rattle.cats_cmd.specs.Duplicates.{BeginsPaths, FindsAndReports, Judgement, JudgesFile, StopsAt, refusal_line}
-use Rattle.cats_cmd.specs.Stops.{Reports, status_of_stop}
-use Rattle.cats_cmd.specs.declared.duplicates.Findings.{Findings}
+use Rattle.cats_cmd.specs.Duplicates.{FindsPlaces, judged_files}
+use Rattle.cats_cmd.specs.Paths.{BeginsPaths, Judgement, Judges, JudgesPaths, JudgesStream, greatest_status, refusal_lines}
+use Rattle.cats_cmd.specs.Paths.{status_of_judgement, stop_of}
+use Rattle.cats_cmd.specs.Stops.{ReportsAll}
 use Rattle.cats_cmd.specs.declared.program.Stop.{Stop}
-use Rattle.std.specs.declared.alloc.AllocError.{AllocError}
 
-module _ {F : Type 0} (may_open : List ℕ → F → Type 0) (may_refuse : List ℕ → Type 0) (remaining : F → Option (List ℕ))
-    (limit : ℕ) where
-  -- one more file was judged: it is after the others, and this is the place of the first that is the same auction
-  pub record JudgesNext (old new : List PlainFile) (path : List ℕ) (place : ℕ) : Type 0 where
-    pub file : PlainFile
-    pub judges : JudgesFile may_open may_refuse remaining limit path file
-    pub added : new ≡ old ++ file ∷ []
-    pub first : IsFirstPlace new file place
+-- what `cats duplicates` keeps: an index of the files that were judged, and what was found of them
+pub record KeepsGroups (files : List PlainFile) (found : List (List ℕ × ℕ)) (judgements : List (List ℕ × Judgement))
+    : Type 0 where
+  pub index : files ≡ judged_files judgements
+  pub finds : FindsPlaces judgements found
 
-  abbrev pub JudgesAs : List PlainFile → List PlainFile → List ℕ → Result ℕ Stop → Type 0
-  JudgesAs old new path (Ok place) = JudgesNext old new path place
-  JudgesAs old new path (Err stop) = StopsAt may_open may_refuse remaining limit path stop × (new ≡ old)
-
-  -- the file was not judged, which was reported, and the status is that of the reason
-  pub record ReportsRefusal {E : Type 0} (messages : E → Option (List ℕ)) (path : List ℕ) (err err_after : Watched E)
-      (status : ℕ) : Type 0 where
-    pub stop : Stop
-    pub stops : StopsAt may_open may_refuse remaining limit path stop
-    pub reports : Reports messages (refusal_line path stop) err err_after
-    pub is_status : status ≡ status_of_stop stop
-
-  abbrev pub JudgesPathAs : {E : Type 0} → (E → Option (List ℕ)) → List PlainFile → List PlainFile → List ℕ → Watched E
-      → Watched E → Result ℕ ℕ → Type 0
-  JudgesPathAs messages old new path err err_after (Ok place) = JudgesNext old new path place × (err_after ≡ err)
-  JudgesPathAs messages old new path err err_after (Err status) =
-      ReportsRefusal messages path err err_after status × (new ≡ old)
-
-  -- the files at all paths, or, when memory is refused, those at the first of them
-  pub record FindsSome {E : Type 0} (messages : E → Option (List ℕ)) (paths : List (List ℕ)) (progress : Bool)
-      (err err_after : Watched E) (f : Findings) : Type 0 where
+-- What is kept, in the words of the collection that keeps it: `Has` says of which files' judgements it is.
+module _ {C : Type 0} (Has : C → List (List ℕ × Judgement) → Type 0) where
+  pub record HasSome (kept : C) : Type 0 where
     pub judgements : List (List ℕ × Judgement)
-    pub finds : FindsAndReports may_open may_refuse remaining limit messages paths progress err err_after
-        (record { judgements = judgements; found = found_paths f.found.items; greatest = f.greatest })
+    pub has : Has kept judgements
 
-  abbrev pub FindsAs : {E : Type 0} → (E → Option (List ℕ)) → List (List ℕ) → Bool → Watched E → Watched E
-      → Result Findings AllocError → Type 0
-  FindsAs messages paths progress err err_after (Ok f) = FindsSome messages paths progress err err_after f
-  FindsAs messages paths progress err err_after (Err e) =
-      BeginsPaths may_open may_refuse remaining limit messages paths progress err err_after
+  abbrev pub AddsJudgement : List ℕ → Judgement → C → C → Type 0
+  AddsJudgement path judgement old new = (judgements : List (List ℕ × Judgement)) → Has old judgements
+      → Has new (judgements ++ (path, judgement) ∷ [])
+
+  -- the stream was judged, and this is why it was not
+  pub record AddsOpened {F : Type 0} (remaining : F → Option (List ℕ)) (limit : ℕ) (path : List ℕ) (old new : C)
+      (before after : Watched F) (stop : Option Stop) : Type 0 where
+    pub judgement : Judgement
+    pub judges : JudgesStream remaining limit before after judgement
+    pub adds : AddsJudgement path judgement old new
+    pub is_stop : stop ≡ stop_of judgement
+
+  module _ {F : Type 0} (may_open : List ℕ → F → Type 0) (may_refuse : List ℕ → Type 0)
+      (remaining : F → Option (List ℕ)) (limit : ℕ) where
+    -- the file at the path was judged
+    pub record AddsFile (path : List ℕ) (old new : C) (stop : Option Stop) : Type 0 where
+      pub judgement : Judgement
+      pub judges : Judges may_open may_refuse remaining limit (path, judgement)
+      pub adds : AddsJudgement path judgement old new
+      pub is_stop : stop ≡ stop_of judgement
+
+    -- the file at the path was judged, and if it was not, that was reported
+    pub record AddsPath {E : Type 0} (messages : E → Option (List ℕ)) (path : List ℕ) (old new : C)
+        (err err_after : Watched E) (status : ℕ) : Type 0 where
+      pub judgement : Judgement
+      pub judges : Judges may_open may_refuse remaining limit (path, judgement)
+      pub adds : AddsJudgement path judgement old new
+      pub reports : ReportsAll messages (refusal_lines path (stop_of judgement)) err err_after
+      pub is_status : status ≡ status_of_judgement judgement
+
+    abbrev pub AddsPathAs : {E : Type 0} → (E → Option (List ℕ)) → List ℕ → C → C → Watched E → Watched E
+        → Result ℕ AllocError → Type 0
+    AddsPathAs messages path old new err err_after (Ok status) = AddsPath messages path old new err err_after status
+    AddsPathAs messages path old new err err_after (Err e) = err_after ≡ err
+
+    -- so far
+    pub record HasJudged {E : Type 0} (messages : E → Option (List ℕ)) (progress : Bool) (count : ℕ)
+        (paths : List (List ℕ)) (kept : C) (err err_after : Watched E) (greatest : ℕ) : Type 0 where
+      pub judgements : List (List ℕ × Judgement)
+      pub judges : JudgesPaths may_open may_refuse remaining messages limit progress count paths err err_after
+          judgements
+      pub has : Has kept judgements
+      pub is_greatest : greatest ≡ greatest_status judgements
+
+    -- the files at all paths, or, when memory is refused, those at the first of them
+    abbrev pub JudgesAllAs : {E : Type 0} → (E → Option (List ℕ)) → List (List ℕ) → Bool → C → Watched E → Watched E
+        → Result ℕ AllocError → Type 0
+    JudgesAllAs messages paths progress kept err err_after (Ok greatest) =
+        HasJudged messages progress (length paths) paths kept err err_after greatest
+    JudgesAllAs messages paths progress kept err err_after (Err e) =
+        BeginsPaths may_open may_refuse remaining messages limit progress paths err err_after

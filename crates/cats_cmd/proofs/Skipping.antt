@@ -1,0 +1,44 @@
+-- A file that was not judged adds nothing to what a run on many files makes.
+use Rattle.std.proofs.Common.{◌≡◌, ℕ, List, [], ◌∷◌, ◌++◌, refl, sym, ap, ◌∙◌, subst, append-nil}
+use Rattle.std.specs.List.{AllZip}
+use Rattle.std.proofs.lemmas.Grind.{flat_map-append}
+use Rattle.bid_file.specs.Files.{PlainFile}
+use Rattle.canon.specs.FirstPlaces.{IsFirstPlace}
+use Rattle.cats_cmd.specs.Duplicates.{files_if_judged, judged_files, judged_paths, paths_if_judged}
+use Rattle.cats_cmd.specs.Internal.Judging.{KeepsGroups}
+use Rattle.cats_cmd.specs.Paths.{Judgement, IsStopped}
+use Rattle.cats_cmd.specs.SizesTables.{line_if_read, lines_of_table}
+use Rattle.cats_cmd.specs.declared.program.Stop.{Stop}
+
+-- a judgement of which no file was judged
+pub nothing_more : (files : List PlainFile) (found : List (List ℕ × ℕ)) (js : List (List ℕ × Judgement)) (path : List ℕ) (j : Judgement)
+    → files_if_judged j ≡ [] → paths_if_judged path j ≡ [] → KeepsGroups files found js → KeepsGroups files found (js ++ (path, j) ∷ [])
+nothing_more files found js path j no_file no_path h =
+    let all : judged_files (js ++ (path, j) ∷ []) ≡ judged_files js =
+    flat_map-append (λ (x : List ℕ × Judgement). files_if_judged x.1) js ((path, j) ∷ [])
+    ∙ ap (λ (fs : List PlainFile). judged_files js ++ (fs ++ [])) no_file ∙ append-nil (judged_files js) in
+    let told : judged_paths (js ++ (path, j) ∷ []) ≡ judged_paths js =
+    flat_map-append (λ (x : List ℕ × Judgement). paths_if_judged x.0 x.1) js ((path, j) ∷ [])
+    ∙ ap (λ (ps : List (List ℕ)). judged_paths js ++ (ps ++ [])) no_path ∙ append-nil (judged_paths js) in
+    record {
+      index = h.index ∙ sym all;
+      finds = record {
+        judged = h.finds.judged ∙ sym told;
+        places = subst (λ (fs : List PlainFile). AllZip (λ f g. IsFirstPlace fs g f.1) found fs) (sym all) h.finds.places;
+      };
+    }
+
+pub groups_skip : (files : List PlainFile) (found : List (List ℕ × ℕ)) (js : List (List ℕ × Judgement)) (path : List ℕ) (stop : Stop)
+    → KeepsGroups files found js → KeepsGroups files found (js ++ (path, IsStopped stop) ∷ [])
+groups_skip files found js path stop h = nothing_more files found js path (IsStopped stop) refl refl h
+
+-- ---- a table
+
+pub line_more : (js : List (List ℕ × Judgement)) (path : List ℕ) (j : Judgement)
+    → lines_of_table (js ++ (path, j) ∷ []) ≡ lines_of_table js ++ line_if_read path j
+line_more js path j = flat_map-append (λ (x : List ℕ × Judgement). line_if_read x.0 x.1) js ((path, j) ∷ [])
+    ∙ ap (λ (line : List ℕ). lines_of_table js ++ line) (append-nil (line_if_read path j))
+
+pub table_skips : (lines : List ℕ) (js : List (List ℕ × Judgement)) (path : List ℕ) (stop : Stop) → lines ≡ lines_of_table js
+    → lines ≡ lines_of_table (js ++ (path, IsStopped stop) ∷ [])
+table_skips lines js path stop h = h ∙ sym (line_more js path (IsStopped stop) ∙ append-nil (lines_of_table js))

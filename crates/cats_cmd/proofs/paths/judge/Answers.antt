@@ -1,0 +1,8 @@
+use Rattle.cats_cmd.proofs.Judging.{file_if_added, file_unopened}
+use Rattle.cats_cmd.proofs.paths.judge.Goals as goal
+
+pub returns-in-Ok : goal.returns-in-Ok
+returns-in-Ok g c = file_if_added _ _ _ _ _ _ _ _ _ _ c.in-Ok.ensures.opened c.add.result c.add.ensures
+
+pub returns-in-Err : goal.returns-in-Err
+returns-in-Err g c = file_unopened _ _ _ _ _ _ _ c.skip.ensures c.in-Err.stop c.in-Err.ensures.refused.0 c.in-Err.ensures.refused.1

@@ -1,0 +1,10 @@
+use Rattle.cats_cmd.proofs.RunsOfPaths.{text_refused, text_told}
+use Rattle.cats_cmd.proofs.paths.run_on_paths.Goals as goal
+
+pub returns-in_err-text : goal.returns-in_err-text
+returns-in_err-text g c = text_refused _ _ _ _ _ _ _ _ _ _ _ _ _ _ c.in_ok-greatest.ensures _ _ c.from_residual-in_err-text.ensures.1
+
+pub returns : goal.returns
+returns g c =
+    text_told _ _ _ _ _ _ _ _ _ _ _ _ _ _ c.in_ok-greatest.ensures _ _ c.as_slice.result.now
+    (rw c.as_slice.ensures.value (c.in_ok-text.ensures c.in_ok-greatest.ensures.judgements c.in_ok-greatest.ensures.has)) _ c.send_text.ensures

@@ -1,0 +1,159 @@
+-- A run on many files: what became of the file at each path, what is reported of it, and the text that is made of all.
+use Rattle.std.specs.Prelude.{◌≡◌, ℕ, suc, max, Bool, true, false, List, [], ◌∷◌, ◌++◌, length, fold, map, take, Vec}
+use Rattle.std.specs.Prelude.{Option, Some, None, Result, Ok, Err, codes, decimal}
+use Rattle.std.specs.Global.{Global}
+use Rattle.std.specs.List.{AllByRecursion}
+use Rattle.bid_file.specs.Files.{PlainFile}
+use Rattle.cats_text.specs.declared.stream.Watched.{Watched}
+use Rattle.canon.specs.declared.fault.CanonFault.{CanonFault}
+use Rattle.canon.specs.declared.fault.CanonFault.TheVariants.{Read, StepLimit, Memory}
+use Rattle.canon.specs.declared.which.Which.{Which}
+use Rattle.canon.specs.declared.which.Which.TheVariants.{Only}
+use Rattle.cats_cmd.specs.Inputs.{IsOpened, IsRefusedFile, ReadsHeavyFile, ReadsLightFile}
+use Rattle.cats_cmd.specs.Outcomes.{Outcome, Tells, normalise_outcome}
+use Rattle.cats_cmd.specs.Runs.{FailsInText, WritesText}
+use Rattle.cats_cmd.specs.Stops.{ReportsAll, line_of_stop, status_of_stop}
+use Rattle.cats_cmd.specs.declared.program.Stop.{Stop}
+use Rattle.cats_cmd.specs.declared.program.Stop.TheVariants.{CannotOpen, Run}
+use Rattle.cats_cmd.specs.declared.report.RunFault.{RunFault}
+use Rattle.cats_cmd.specs.declared.report.RunFault.TheVariants.{Refused, GoodRange, Sent}
+
+-- what became of the file at a path
+pub data Judgement : Type 0 where
+  -- it was judged: it spells this file, which has no heavy bundle
+  IsJudged : PlainFile → Judgement
+  -- it spells this file, of which the bundle of these goods is the first heavy one
+  IsHeavy : PlainFile → Vec ℕ Global → Judgement
+  -- it was not judged, for this reason
+  IsStopped : Stop → Judgement
+
+-- why the file was not judged
+abbrev pub stop_of : Judgement → Option Stop
+stop_of (IsJudged file) = None
+stop_of (IsHeavy file goods) = Some (Run (Refused Only (StepLimit goods)))
+stop_of (IsStopped stop) = Some stop
+
+abbrev pub status_if : Option Stop → ℕ
+status_if None = 0
+status_if (Some stop) = status_of_stop stop
+
+abbrev pub status_of_judgement : Judgement → ℕ
+status_of_judgement judgement = status_if (stop_of judgement)
+
+abbrev pub greatest_status : List (List ℕ × Judgement) → ℕ
+greatest_status judgements = fold (λ greatest j. max greatest (status_of_judgement j.1)) 0 judgements
+
+-- ---- what is reported
+
+abbrev pub refusal_line : List ℕ → Stop → List ℕ
+refusal_line path stop = path ++ codes ": " ++ line_of_stop stop
+
+abbrev pub progress_line : ℕ → ℕ → List ℕ → List ℕ
+progress_line number count path = decimal number ++ codes " of " ++ decimal count ++ codes " " ++ path ++ codes "\n"
+
+abbrev pub refusal_lines : List ℕ → Option Stop → List (List ℕ)
+refusal_lines path None = []
+refusal_lines path (Some stop) = refusal_line path stop ∷ []
+
+abbrev pub progress_lines : Bool → ℕ → ℕ → List ℕ → List (List ℕ)
+progress_lines true number count path = progress_line number count path ∷ []
+progress_lines false number count path = []
+
+-- of the path with this number, among so many
+abbrev pub lines_of_path : Bool → ℕ → ℕ → List ℕ × Judgement → List (List ℕ)
+lines_of_path progress count number j = refusal_lines j.0 (stop_of j.1) ++ progress_lines progress number count j.0
+
+-- of paths of which the first has this number
+abbrev pub lines_from : Bool → ℕ → ℕ → List (List ℕ × Judgement) → List (List ℕ)
+lines_from progress count number [] = []
+lines_from progress count number (j ∷ judgements) =
+    lines_of_path progress count number j ++ lines_from progress count (suc number) judgements
+
+-- of all paths
+abbrev pub report_lines : Bool → ℕ → List (List ℕ × Judgement) → List (List ℕ)
+report_lines progress count judgements = lines_from progress count 1 judgements
+
+-- ---- the file at a path
+
+module _ {F : Type 0} (remaining : F → Option (List ℕ)) (limit : ℕ) where
+  -- Reading the stream gives this. Of no stream but one that spells a file is a bundle heavy.
+  abbrev pub JudgesStream : Watched F → Watched F → Judgement → Type 0
+  JudgesStream before after (IsJudged file) = ReadsLightFile remaining limit before after file
+  JudgesStream before after (IsHeavy file goods) = ReadsHeavyFile remaining limit before after file goods.items
+  JudgesStream before after (IsStopped (CannotOpen which)) = ⊥
+  JudgesStream before after (IsStopped (Run (Refused which (Read fault)))) =
+      (which ≡ Only) × IsRefusedFile remaining (normalise_outcome limit) before after (Read fault)
+  JudgesStream before after (IsStopped (Run (Refused which (StepLimit goods)))) = ⊥
+  JudgesStream before after (IsStopped (Run (Refused which Memory))) =
+      (which ≡ Only) × IsRefusedFile remaining (normalise_outcome limit) before after Memory
+  JudgesStream before after (IsStopped (Run (GoodRange good))) = ⊥
+  JudgesStream before after (IsStopped (Run (Sent fault))) = ⊥
+
+module _ {F : Type 0} (may_open : List ℕ → F → Type 0) (may_refuse : List ℕ → Type 0) (remaining : F → Option (List ℕ))
+    (limit : ℕ) where
+  -- this became of a stream that was opened at the path
+  pub record JudgesOpened (path : List ℕ) (judgement : Judgement) : Type 0 where
+    pub before : Watched F
+    pub after : Watched F
+    pub opened : IsOpened may_open path before
+    pub judges : JudgesStream remaining limit before after judgement
+
+  abbrev pub Judges : List ℕ × Judgement → Type 0
+  Judges (path, IsJudged file) = JudgesOpened path (IsJudged file)
+  Judges (path, IsHeavy file goods) = JudgesOpened path (IsHeavy file goods)
+  Judges (path, IsStopped (CannotOpen which)) = (which ≡ Only) × may_refuse path
+  Judges (path, IsStopped (Run fault)) = JudgesOpened path (IsStopped (Run fault))
+
+-- ---- the files at all paths
+
+-- what became of the file at each path, and the text that is made of them
+pub record Made : Type 0 where
+  pub judgements : List (List ℕ × Judgement)
+  pub text : List ℕ
+
+module _ {F E : Type 0} (may_open : List ℕ → F → Type 0) (may_refuse : List ℕ → Type 0)
+    (remaining : F → Option (List ℕ)) (messages : E → Option (List ℕ)) (limit : ℕ) (progress : Bool) where
+  -- this became of the files at these paths, which are the first of so many, and it was reported
+  pub record JudgesPaths (count : ℕ) (paths : List (List ℕ)) (err err_after : Watched E)
+      (judgements : List (List ℕ × Judgement)) : Type 0 where
+    pub of_paths : map (λ j. j.0) judgements ≡ paths
+    pub each : AllByRecursion (Judges may_open may_refuse remaining limit) judgements
+    pub reports : ReportsAll messages (report_lines progress count judgements) err err_after
+
+  -- this became of the files at the first so many of the paths
+  pub record BeginsPaths (paths : List (List ℕ)) (err err_after : Watched E) : Type 0 where
+    pub count : ℕ
+    pub judgements : List (List ℕ × Judgement)
+    pub judges : JudgesPaths (length paths) (take count paths) err err_after judgements
+
+-- ---- the run
+
+abbrev pub outcome_of_paths : Made → Outcome
+outcome_of_paths made = Tells (greatest_status made.judgements) made.text
+
+-- `Makes` says which text is made of what became of the files
+module _ {F W E : Type 0} (may_open : List ℕ → F → Type 0) (may_refuse : List ℕ → Type 0)
+    (remaining : F → Option (List ℕ)) (contents : W → Option (List ℕ)) (messages : E → Option (List ℕ)) (limit : ℕ)
+    (Makes : List (List ℕ × Judgement) → List ℕ → Type 0) (paths : List (List ℕ)) (progress : Bool) where
+  pub record MakesOfPaths (err err_after : Watched E) (made : Made) : Type 0 where
+    pub judges : JudgesPaths may_open may_refuse remaining messages limit progress (length paths) paths err err_after
+        made.judgements
+    pub makes : Makes made.judgements made.text
+
+  -- memory was refused to all files together: nothing was written, and the paths after some were not opened
+  pub record RefusesPaths (out out_after : Watched W) (err err_after : Watched E) (which : Which) (fault : CanonFault)
+      : Type 0 where
+    pub only : which ≡ Only
+    pub memory : fault ≡ Memory
+    pub silent : out_after ≡ out
+    pub begins : BeginsPaths may_open may_refuse remaining messages limit progress paths err err_after
+
+  -- the contract of the run, from its output and standard error before to those after it
+  abbrev pub RunsOnPaths : Watched W → Watched W → Watched E → Watched E → Result ℕ RunFault → Type 0
+  RunsOnPaths out out_after err err_after (Ok status) =
+      WritesText contents (MakesOfPaths err err_after) outcome_of_paths out out_after status
+  RunsOnPaths out out_after err err_after (Err (Refused which fault)) =
+      RefusesPaths out out_after err err_after which fault
+  RunsOnPaths out out_after err err_after (Err (GoodRange good)) = ⊥
+  RunsOnPaths out out_after err err_after (Err (Sent fault)) =
+      FailsInText contents (MakesOfPaths err err_after) outcome_of_paths out out_after fault.written

@@ -1,0 +1,164 @@
+//! Runs on many files: the files at some paths are judged one after the other, and a text is made of all.
+
+ghost use Rattle.std.specs.Prelude.{◌≡◌, ◌++◌, ℕ, List, [], ◌∷◌, map, IfOk, false};
+ghost use Rattle.cats_text.specs.Streams.{has_ended, has_failed};
+ghost use Rattle.cats_cmd.specs.Paths.{Judgement, IsStopped, RunsOnPaths, progress_line, refusal_line};
+ghost use Rattle.cats_cmd.specs.Internal.Judging.{AddsFile, AddsPathAs, AddsOpened, HasSome, JudgesAllAs};
+ghost use Rattle.cats_cmd.specs.declared.program.Stop.{Stop};
+
+use crate::program::{Stop, open, report, status_of, stop_line};
+use crate::report::{DONE, RunFault};
+use crate::run::send_text;
+use crate::source::Source;
+use canon::Which;
+use cats_text::Watched;
+use std::alloc::{AllocError, AllocGlobal, Global};
+use std::io::{Read, Write};
+
+/// What a run makes of the files at some paths, which are judged one after the other.
+pub(crate) trait Collection<'a>: Sized + Drop {
+    ghost has: { Self → List (List ℕ × Judgement) → Type 0 };
+
+    ghost Makes: { List (List ℕ × Judgement) → List ℕ → Type 0 };
+
+    /// What is made of no files.
+    fn none(alloc: Global) -> Self
+        ensures { has result [] };
+
+    /// Judges the file at one more path from its stream, and answers why it is not judged.
+    fn add<R: Read>(
+        &mut self,
+        alloc: Global,
+        path: &'a str,
+        input: &mut Watched<R>,
+        limit: u64,
+    ) -> Result<Option<Stop>, AllocError>
+        requires works { has_failed input.old ≡ false }
+        requires fresh { has_ended input.old ≡ false }
+        ensures { IfOk result (λ stop. AddsOpened has R.remaining limit path.now self.old self.new input.old input.new
+            stop) };
+
+    /// The text of all.
+    fn text(&self, alloc: Global) -> Result<Vec<u8>, AllocError>
+        requires { HasSome has self.now }
+        ensures { (judgements : List (List ℕ × Judgement)) → has self.now judgements
+            → IfOk result (λ text. Makes judgements text.items) };
+
+    /// A path at which no file was opened adds nothing.
+    fn skip(&self)
+        ensures { (judgements : List (List ℕ × Judgement)) (path : List ℕ) (stop : Stop) → has self.now judgements
+            → has self.now (judgements ++ (path, IsStopped stop) ∷ []) };
+}
+
+/// Judges the files at these paths, one after the other, and sends the text that is made of them. `limit` bounds the
+/// steps of each search that decides on a bundle of an OR bidder.
+///
+/// A file that cannot be judged is reported on `err` at once, and the others go on; with `progress`, each file is
+/// reported there once it was read. The status is 0 if every file was judged, and else the greatest of the statuses of
+/// those that were not.
+pub(crate) fn run_on_paths<'a, C: Collection<'a>, S: Source + AllocGlobal, W: Write, E: Write>(
+    source: &S,
+    paths: &[&'a str],
+    limit: u64,
+    progress: bool,
+    out: &mut Watched<W>,
+    err: &mut Watched<E>,
+) -> Result<u8, RunFault>
+    requires { has_failed out.old ≡ false }
+    ensures { RunsOnPaths (S.may_open source.now) (S.may_refuse source.now) S.Stream.remaining W.contents E.contents limit
+        C.Makes (map (λ path. path.now) paths.now) progress out.old out.new err.old err.new result }
+{
+    let mut collection = C::none(source.alloc());
+    let greatest = judge_all(source, &mut collection, paths, limit, progress, err)?;
+    let text = collection.text(source.alloc())?;
+    send_text(out, greatest, text.as_slice())
+}
+
+/// Judges the files at these paths, and answers the greatest status.
+fn judge_all<'a, C: Collection<'a>, S: Source + AllocGlobal, E: Write>(
+    source: &S,
+    collection: &mut C,
+    paths: &[&'a str],
+    limit: u64,
+    progress: bool,
+    err: &mut Watched<E>,
+) -> Result<u8, AllocError>
+    requires { C.has collection.old [] }
+    ensures { JudgesAllAs C.has (S.may_open source.now) (S.may_refuse source.now) S.Stream.remaining limit E.contents
+        (map (λ path. path.now) paths.now) progress collection.new err.old err.new result }
+{
+    let mut greatest = DONE;
+    for (number, path) in paths.iter().enumerate() {
+        let status = judge_path(source, collection, path, limit, err)?;
+        greatest = greatest.max(status);
+        if progress {
+            report(
+                err,
+                &path_progress(source.alloc(), number + 1, paths.len(), path),
+            );
+        }
+    }
+    Ok(greatest)
+}
+
+/// Judges the file at a path, and answers its status. If it is not judged, that is reported.
+fn judge_path<'a, C: Collection<'a>, S: Source + AllocGlobal, E: Write>(
+    source: &S,
+    collection: &mut C,
+    path: &'a str,
+    limit: u64,
+    err: &mut Watched<E>,
+) -> Result<u8, AllocError>
+    ensures { AddsPathAs C.has (S.may_open source.now) (S.may_refuse source.now) S.Stream.remaining limit E.contents
+        path.now collection.old collection.new err.old err.new result }
+{
+    match judge(source, collection, path, limit)? {
+        None => Ok(DONE),
+        Some(stop) => {
+            report(err, &path_refusal(source.alloc(), path, &stop));
+            Ok(status_of(&stop))
+        }
+    }
+}
+
+/// Judges the file at a path, and answers why it is not judged.
+fn judge<'a, C: Collection<'a>, S: Source + AllocGlobal>(
+    source: &S,
+    collection: &mut C,
+    path: &'a str,
+    limit: u64,
+) -> Result<Option<Stop>, AllocError>
+    ensures { IfOk result (AddsFile C.has (S.may_open source.now) (S.may_refuse source.now) S.Stream.remaining limit
+        path.now collection.old collection.new) }
+{
+    match open(source, path, Which::Only) {
+        Ok(mut input) => collection.add(source.alloc(), path, &mut input, limit),
+        Err(stop) => {
+            collection.skip();
+            Ok(Some(stop))
+        }
+    }
+}
+
+/// The line that says why the file at a path was not judged.
+fn path_refusal(alloc: Global, path: &str, stop: &Stop) -> Result<Vec<u8>, AllocError>
+    ensures { IfOk result (λ line. line.items ≡ refusal_line path.now stop.now) }
+{
+    let mut line = Vec::from_slice(alloc, path.as_bytes())?;
+    line.extend_from_slice(b": ")?;
+    line.extend_from_slice(stop_line(alloc, stop)?.as_slice())?;
+    Ok(line)
+}
+
+/// The line that says how many files were read.
+fn path_progress(
+    alloc: Global,
+    number: usize,
+    count: usize,
+    path: &str,
+) -> Result<Vec<u8>, AllocError>
+    ensures { IfOk result (λ line. line.items ≡ progress_line number count path.now) }
+{
+    let line = format!(in alloc; "{number} of {count} {path}\n")?;
+    Ok(line.into_bytes())
+}

@@ -1,0 +1,116 @@
+//! `cats sizes`: the numbers of many bid files and of their canonical files, in a table.
+
+mod count;
+
+ghost use Rattle.std.specs.Prelude.{◌≡◌, ◌++◌, List, ℕ, map, OnOk, codes, false};
+ghost use Rattle.cats_text.specs.Streams.{has_failed};
+ghost use Rattle.cats_cmd.specs.Paths.{RunsOnPaths};
+ghost use Rattle.cats_cmd.specs.SizesTables.{MakesTable};
+
+use crate::paths::{Collection, run_on_paths};
+use crate::program::Stop;
+use crate::report::RunFault;
+use crate::run::read_compact_file;
+use crate::source::Source;
+use canon::{CanonFault, into_normal_file};
+use cats_text::Watched;
+use count::{push_counts, push_sizes};
+use std::alloc::{AllocError, AllocGlobal, Global};
+use std::io::{Read, Write};
+
+/// The line above the others.
+const HEADER: &str = "goods\tbids\tor\txor\tdummy\tkept\tkept_or\tkept_xor\tfile\n";
+
+/// What is in the place of the numbers of a canonical file that is not known.
+const UNKNOWN: &str = "-\t-\t-\t";
+
+/// The lines of the files that were read.
+#[derive(Drop)]
+struct Table {
+    lines: Vec<u8>,
+}
+
+impl<'a> Collection<'a> for Table {
+    ghost use Rattle.std.specs.Prelude.{◌≡◌};
+    ghost use Rattle.cats_cmd.specs.SizesTables.{MakesTable, lines_of_table};
+
+    ghost has = { λ table judgements. table.lines.items ≡ lines_of_table judgements };
+
+    ghost Makes = { MakesTable };
+
+    fn none(alloc: Global) -> Table {
+        Table {
+            lines: Vec::new(alloc),
+        }
+    }
+
+    fn add<R: Read>(
+        &mut self,
+        alloc: Global,
+        path: &'a str,
+        input: &mut Watched<R>,
+        limit: u64,
+    ) -> Result<Option<Stop>, AllocError> {
+        let file = match read_compact_file(alloc, input) {
+            Ok(file) => file,
+            Err(fault) => return Ok(Some(Stop::Run(RunFault::from(fault)))),
+        };
+        let mut line = Vec::new(alloc);
+        push_sizes(alloc, &mut line, &file)?;
+        match into_normal_file(alloc, file, limit) {
+            Ok(normal) => {
+                push_counts(alloc, &mut line, &normal)?;
+                push_line(&mut self.lines, line.as_slice(), path)?;
+                Ok(None)
+            }
+            Err(CanonFault::StepLimit { goods }) => {
+                line.extend_from_slice(UNKNOWN.as_bytes())?;
+                push_line(&mut self.lines, line.as_slice(), path)?;
+                Ok(Some(Stop::Run(RunFault::from(CanonFault::StepLimit { goods }))))
+            }
+            // a file that was read is refused for nothing else
+            Err(_) => Ok(Some(Stop::Run(RunFault::from(CanonFault::Memory)))),
+        }
+    }
+
+    fn skip(&self) {}
+
+    fn text(&self, alloc: Global) -> Result<Vec<u8>, AllocError> {
+        let mut text = Vec::from_slice(alloc, HEADER.as_bytes())?;
+        text.extend_from_slice(self.lines.as_slice())?;
+        Ok(text)
+    }
+}
+
+/// Puts a line behind the others: numbers with a tab after each, and then the path.
+fn push_line(lines: &mut Vec<u8>, numbers: &[u8], path: &str) -> Result<(), AllocError>
+    ensures { let more : List ℕ = numbers.now ++ path.now ++ codes "\n" in
+        OnOk result (lines.new.items ≡ lines.old.items ++ more) }
+{
+    lines.extend_from_slice(numbers)?;
+    lines.extend_from_slice(path.as_bytes())?;
+    lines.push(b'\n')?;
+    Ok(())
+}
+
+/// Reads the files at these paths, one after the other, and sends a table of their numbers: how many goods and bids
+/// each has, and how many bids are left in its canonical file. `limit` bounds the steps of each search that decides on
+/// a bundle of an OR bidder.
+///
+/// A file that cannot be judged is reported on `err` at once, and the others go on; if only the step limit stops it, its
+/// line has no numbers of the canonical file. With `progress`, each file is reported on `err` once it was read. The
+/// status is 0 if every file was judged, and else the greatest of the statuses of those that were not.
+pub fn run_sizes<S: Source + AllocGlobal, W: Write, E: Write>(
+    source: &S,
+    paths: &[&str],
+    limit: u64,
+    progress: bool,
+    out: &mut Watched<W>,
+    err: &mut Watched<E>,
+) -> Result<u8, RunFault>
+    requires { has_failed out.old ≡ false }
+    ensures { RunsOnPaths (S.may_open source.now) (S.may_refuse source.now) S.Stream.remaining W.contents E.contents limit
+        MakesTable (map (λ path. path.now) paths.now) progress out.old out.new err.old err.new result }
+{
+    run_on_paths::<Table, S, W, E>(source, paths, limit, progress, out, err)
+}
