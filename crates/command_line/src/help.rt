@@ -116,7 +116,9 @@ were not: 2 for a file that is no bid file, 3 for the step limit, 4, 5 and 64 as
 pub(crate) const SIZES: &str = "\
 Prints a header and a line for each file, in the order given, with tabs between the words. For example:
   $ cats sizes examples/ladder.cats examples/two_bids.cats
-HELP_EXAMPLE
+  goods\tbids\tor\txor\tdummy\tkept\tkept_or\tkept_xor\tfile
+  2\t5\t3\t1\t1\t3\t2\t1\texamples/ladder.cats
+  3\t2\t1\t1\t1\t2\t1\t1\texamples/two_bids.cats
 
   goods, bids, dummy       as in the file
   or                       bids without a dummy good
