@@ -245,6 +245,16 @@ def measure_duplicates(folder):
     print(f"{'2,000 files: cats duplicates':50} {took.seconds:8.3f} s")
 
 
+def measure_sizes(folder):
+    """A table of 2,000 files, beside which of them are the same auction."""
+    paths = [f"{folder}/{number}" for number in range(2000)]
+    made(pairs, paths[:1000], paths[1000:], 250, 64, 5, 20)
+    table, groups = measure_alternately([cats("sizes", *paths), cats("duplicates", *paths)], TIMES)
+    name = "2,000 files: cats sizes"
+    print(f"{name:50} {table.seconds:8.3f} s")
+    bound(f"{name}, times cats duplicates", table.seconds / groups.seconds, 1.1)
+
+
 def measure_large_duplicates(folder):
     """The same of 200 files, beside normalising each of them. (Of smaller ones a process's own time would be most of it.)"""
     paths = [f"{folder}/{number}" for number in range(200)]
@@ -298,6 +308,7 @@ GROUPS = {
     "value on a large file": measure_value,
     "steps": measure_steps,
     "duplicates": measure_duplicates,
+    "sizes": measure_sizes,
     "duplicates of larger files": measure_large_duplicates,
     "what duplicates holds": measure_held_duplicates,
     **{name: partial(measure_pruning, name=name, write_bids=write_bids, most=most) for name, write_bids, most in PRUNINGS},
