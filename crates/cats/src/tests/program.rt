@@ -75,7 +75,7 @@ static WRONG_LINES: [&str; 31] = [
     "cats compare a b c",
     "cats compare --steps 0 a b",
     "cats duplicates",
-    "cats duplicates a",
+    "cats sizes",
     "cats duplicates --steps 0 a b",
     "cats duplicates --progress=yes a b",
 ];
