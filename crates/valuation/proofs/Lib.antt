@@ -3,4 +3,3 @@ pub mod PlaceMarks
 pub mod FirstBestAtoms
 pub mod Placing
 pub mod BestPackingLevels
-pub mod MarkedPackingLevels

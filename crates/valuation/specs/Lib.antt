@@ -5,6 +5,8 @@ pub mod Tables
 pub mod Orders
 pub mod Auctions
 pub mod Bidders
+pub mod Conflicts
+pub mod Paths
 pub mod PlaceMarks
 pub mod Rows
 pub mod Views

@@ -7,7 +7,6 @@ ghost use Rattle.valuation.specs.Packings.{count_packings};
 ghost use Rattle.valuation.specs.PlaceMarks.{is_inside_at, is_apart_behind};
 ghost use Rattle.valuation.specs.Tables.{or_table, xor_table, is_nonzero};
 ghost use Rattle.valuation.specs.Rows.{IsRow};
-ghost use Rattle.valuation.specs.Internal.Rivals.{AreRivals};
 ghost use Rattle.valuation.specs.Orders.{atom_cmp, bidder_cmp};
 ghost use Rattle.valuation.specs.Sorting.{sort_by};
 
@@ -100,11 +99,4 @@ pub fn rows_worked()
         IsRow a 0 (record { apart = 2; price = 4 }) → ⊥ }
     ensures other_marks { let a = atom (0 ∷ []) 3 ∷ atom (1 ∷ []) 4 ∷ [] in
         IsRow a 0 (record { apart = 3; price = 3 }) → ⊥ }
-{}
-
-// One atom, or two of which the later is not apart from the first, are rivals.
-fn rivals_worked()
-    ensures one { AreRivals [] 4 1 }
-    ensures two { AreRivals (record { apart = 4; price = 1 } ∷ record { apart = 0; price = 1 } ∷ []) 3 2 }
-    ensures apart { AreRivals (record { apart = 2; price = 1 } ∷ record { apart = 0; price = 1 } ∷ []) 3 2 → ⊥ }
 {}
