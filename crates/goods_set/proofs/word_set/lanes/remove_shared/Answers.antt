@@ -1,4 +1,4 @@
-use Rattle.std.proofs.Common.{◌<◌, ◌∙◌, length, take, arith}
+use Rattle.std.proofs.Common.{arith}
 use Rattle.std.proofs.lemmas.List.{length-take}
 use Rattle.goods_set.proofs.LongWords.{shared_removed}
 use Rattle.goods_set.proofs.word_set.lanes.remove_shared.Goals as goal
