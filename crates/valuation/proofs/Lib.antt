@@ -3,3 +3,5 @@ pub mod PlaceMarks
 pub mod FirstBestAtoms
 pub mod Placing
 pub mod BestPackingLevels
+pub mod Paths
+pub mod BestPath
