@@ -6,3 +6,4 @@ pub mod Placing
 pub mod BestPackingLevels
 pub mod Paths
 pub mod BestPath
+pub mod FewerAtoms
