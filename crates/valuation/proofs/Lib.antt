@@ -1,5 +1,4 @@
 -- Proofs that several functions of this crate cite.
-pub mod PlaceMarks
 pub mod ConflictMasks
 pub mod FirstBestAtoms
 pub mod Placing

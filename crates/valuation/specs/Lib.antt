@@ -7,8 +7,6 @@ pub mod Auctions
 pub mod Bidders
 pub mod Conflicts
 pub mod Paths
-pub mod PlaceMarks
-pub mod Rows
 pub mod Views
 pub mod Examples
 pub mod Sorting
