@@ -18,6 +18,7 @@ from itertools import combinations
 from multiprocessing import Process, set_start_method
 
 from process import MEBIBYTE, measure_alternately
+from searches import SEARCHES
 
 PROGRAM, GENERATE = sys.argv[1:3]
 WORD = sys.argv[3] if len(sys.argv) > 3 else ""
@@ -131,11 +132,6 @@ def subsets(path, count):
     write(path, [f"goods 16\nbids {len(chosen)}\ndummy 1\n", *bid_lines(chosen)])
 
 
-def packings(path):
-    """8 goods that have 9 bids each, and so 10 to the 8 packings of all goods: each good is sold by one of 9 bids or by none."""
-    write(path, ["goods 8\nbids 72\ndummy 0\n", *bid_lines((1 + number * 7 % 11, [number % 8]) for number in range(72))])
-
-
 # Groups of rows.
 
 
@@ -221,12 +217,14 @@ def measure_value(folder):
     bound("value of 4 goods, times check", value.seconds / check.seconds, 9)
 
 
-def measure_steps(folder):
-    """The search for the OR value, step by step."""
-    path = f"{folder}/packings"
-    made(packings, path)
-    (took,) = measure_alternately([cats("value", "--steps", "100000000", path, *"01234567")], 3)
-    print(f"{'a step of cats value':40} {took.seconds * 10:8.1f} ns")
+def measure_search(folder, name, write_text, words, goods, steps):
+    """A command whose time is that of its searches, and of a step where the number of steps is known."""
+    path = f"{folder}/bids"
+    made(write_text, path)
+    (took,) = measure_alternately([[*cats(*words), path, *map(str, goods)]], 3)
+    row(name, path, took)
+    if steps:
+        print(f"{'a step':50} {took.seconds * 1e9 / steps:8.1f} ns")
 
 
 def pairs(paths, others, *words):
@@ -306,7 +304,7 @@ GROUPS = {
     "300 goods a bid": partial(measure_bids, name="300 goods a bid", goods=300),
     "layouts": measure_layouts,
     "value on a large file": measure_value,
-    "steps": measure_steps,
+    **{f"searches: {search[0]}": partial(measure_search, name=search[0], write_text=search[1], words=search[2], goods=search[3], steps=search[4]) for search in SEARCHES},
     "duplicates": measure_duplicates,
     "sizes": measure_sizes,
     "duplicates of larger files": measure_large_duplicates,

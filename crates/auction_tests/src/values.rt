@@ -11,7 +11,7 @@ use goods_set::{GoodsSet, ListSet, WordSet};
 use std::alloc::Global;
 use std::process::Abort;
 use std::test::Fail;
-use valuation::{Atom, MAX_MARKS, Packing, ValueFault, marks_inside, or_value, rows_of, xor_value};
+use valuation::{Atom, Packing, ValueFault, or_value, xor_value};
 
 // The atoms i:price, for each good i below `count`.
 fn singles<S: GoodsSet>(
@@ -70,36 +70,6 @@ fn xor_values_on_both_sets(rt: HostRuntime) -> Result<(), Fail> {
     xor_values::<ListSet>(&rt, rt.alloc())?;
     xor_values::<WordSet<16>>(&rt, rt.alloc())?;
     xor_values::<WordSet<64>>(&rt, rt.alloc())
-}
-
-// The marks of the atoms inside a bundle, and of those behind each that share no good with it.
-fn marked_places<S: GoodsSet>(rt: &impl Abort, alloc: Global) -> Result<(), Fail> {
-    let atoms = atoms_on::<S>(rt, alloc, PAIR)?;
-    assert!(rt; atoms.len() <= MAX_MARKS);
-    assert_eq!(rt;
-        marks_inside(&atoms, &bundle_of::<S>(rt, alloc, &[0])?),
-        0b001
-    );
-    assert_eq!(rt;
-        marks_inside(&atoms, &bundle_of::<S>(rt, alloc, &[0, 1])?),
-        0b111
-    );
-    let rows = rows_of(alloc, &atoms)?;
-    let apart = [0b010u128, 0, 0];
-    let prices = [3_000_000u64, 4_000_000, 7_000_000];
-    assert_eq!(rt; rows.len(), 3);
-    for place in 0..3 {
-        assert_eq!(rt; rows[place].apart, apart[place]);
-        assert_eq!(rt; rows[place].price, prices[place]);
-    }
-    Ok(())
-}
-
-#[test]
-fn marked_places_on_both_sets(rt: HostRuntime) -> Result<(), Fail> {
-    marked_places::<ListSet>(&rt, rt.alloc())?;
-    marked_places::<WordSet<16>>(&rt, rt.alloc())?;
-    marked_places::<WordSet<64>>(&rt, rt.alloc())
 }
 
 // What a search for a value answers: the value and the places of the atoms, or nothing where its steps do not suffice.

@@ -94,7 +94,7 @@ with_bit cap ws g p e l m = one_more cap ws (set ws p (bit_or (get_or ws p 0) (1
 
 -- ---- no bit set
 
-zeros : (n k : ℕ) → get_or {A = ℕ} (replicate n 0) k 0 ≡ 0
+pub zeros : (n k : ℕ) → get_or {A = ℕ} (replicate n 0) k 0 ≡ 0
 zeros n k = ⊎_elim (λ (t : ltb k n ≡ true). get_or-replicate {A = ℕ} n k 0 0 (ltb-true k n t)) (λ (t : ltb k n ≡ false). let l : n ≤ k = ltb-false k n t in
     get_or_past (replicate n 0) k 0 (omega (arith, length-replicate {A = ℕ} n 0))) (cases_Bool (ltb k n))
 

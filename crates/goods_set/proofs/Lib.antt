@@ -7,3 +7,4 @@ pub mod Places
 pub mod Residues
 pub mod Scans
 pub mod Listed
+pub mod LongWords

@@ -16,9 +16,9 @@ use Rattle.std.proofs.lemmas.Nat.Bits.{same_from_bits_below}
 use Rattle.std.proofs.lemmas.Nat.{and_le_l}
 use Rattle.std.proofs.lemmas.Simd.{mask_l-lt, bit_mask_l, ones-mask_l}
 use Rattle.goods_set.specs.Bundles.{good_from}
-use Rattle.goods_set.specs.Lemmas.Sizes.{good_from_next, good_from_none}
+use Rattle.goods_set.specs.Lemmas.Sizes.{good_from-Some, good_from_next, good_from_none}
 use Rattle.goods_set.specs.Words.{word_bit, word_goods}
-use Rattle.goods_set.specs.Lemmas.Words.{word_bit_at, word_goods_bundle, word_goods_has, word_goods_lacks, word_goods_past}
+use Rattle.goods_set.specs.Lemmas.Words.{word_bit_at, word_goods_bundle, word_goods_has, word_goods_parts, word_goods_lacks, word_goods_past}
 
 -- ---- how many
 
@@ -191,3 +191,7 @@ scan_found n ws from place rest s z l =
           ∙ sym (s.above (g - 64 * place) (omega arith) (omega arith)) ∙ low (g - 64 * place) (omega arith) in
           subst (λ x. word_bit ws x ≡ 0) m e) (cases_lt g (64 * place)));
     })
+
+-- the next good is below the bound
+pub next_below : (cap : ℕ) (ws : List ℕ) (from good : ℕ) → good_from (word_goods cap ws) from ≡ Some good → good < cap
+next_below cap ws from good e = (word_goods_parts cap ws good (good_from-Some (word_goods cap ws) from good (word_goods_bundle cap ws).0 e).there).0

@@ -1,7 +1,8 @@
 //! A set of goods as the bits of words.
+mod as_mask;
 mod first_goods;
-mod lanes;
-mod scans;
+pub(crate) mod lanes;
+pub(crate) mod scans;
 
 ghost use Rattle.std.specs.Prelude.{◌≡◌, ◌*◌, ◌<◌, min, [], not, length, IsOk, IfOk, OnErr};
 ghost use Rattle.goods_set.specs.Bundles.{IsRising, AreBelow, has_good, with_good};

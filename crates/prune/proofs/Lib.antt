@@ -2,12 +2,10 @@
 pub mod Pruning
 pub mod BestBids
 pub mod ListedAtoms
-pub mod SharedGoods
-pub mod ByPlaces
 pub mod Results
 pub mod InFront
 pub mod PruningLoop
 pub mod ReachingLevels
-pub mod ReachingLevelsOfCode
-pub mod MarkedReaching
+pub mod PathPackings
+pub mod ReachingPath
 pub mod WorkedListings

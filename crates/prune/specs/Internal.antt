@@ -2,5 +2,5 @@
 -- them.
 pub mod BestBids
 pub mod Listings
-pub mod Places
 pub mod PricesLeft
+pub mod Reaching

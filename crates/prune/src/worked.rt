@@ -1,9 +1,10 @@
 //! Worked examples of the definitions, which the check computes.
-ghost use Rattle.std.specs.Prelude.{◌≡◌, [], ◌∷◌, true, false, Some, None};
+ghost use Rattle.std.specs.Prelude.{◌≡◌, ◌+◌, [], ◌∷◌, true, false, Some, None, Ok};
 ghost use Rattle.valuation.specs.Examples.{atom};
 ghost use Rattle.prune.specs.declared.listing.Listing.{Listing};
 ghost use Rattle.prune.specs.Internal.Listings.{IsListed, IsListing, AreListed, NoneInsideFrom};
 ghost use Rattle.prune.specs.Internal.PricesLeft.{ArePricesLeft};
+ghost use Rattle.prune.specs.Internal.Reaching.{IsReaching, IsSearched};
 ghost use Rattle.prune.specs.Points.{xor_points, or_points};
 ghost use Rattle.prune.specs.SearchSteps.{
   atoms_below,
@@ -14,6 +15,8 @@ ghost use Rattle.prune.specs.SearchSteps.{
   is_heavy,
   first_heavy,
 };
+
+use valuation::Budget;
 
 /// The XOR points: a bid stays where no bid inside its bundle has its price.
 #[tactic(auto, unfolding(crate::specs::Points::points_where, crate::specs::Points::is_xor_point, valuation::specs::Values::xor_value))]
@@ -117,4 +120,23 @@ fn prices_left_worked()
     ensures two { ArePricesLeft (atom (0 ∷ []) 3 ∷ atom (1 ∷ []) 4 ∷ []) (7 ∷ 4 ∷ []) }
     ensures prices { ¬ ArePricesLeft (atom (0 ∷ []) 3 ∷ atom (1 ∷ []) 4 ∷ []) (3 ∷ 4 ∷ []) }
     ensures too_few { ¬ ArePricesLeft (atom (0 ∷ []) 3 ∷ atom (1 ∷ []) 4 ∷ []) (7 ∷ []) }
+{}
+
+/// A packing that reaches a price, of bids that are given by their indices.
+fn reaching_worked()
+    ensures none { IsReaching [] [] 0 [] 0 }
+    ensures two { IsReaching (atom (0 ∷ []) 3 ∷ atom (1 ∷ []) 4 ∷ []) (0 ∷ 1 ∷ []) 7 (0 ∷ 1 ∷ []) 7 }
+    ensures price { ¬ IsReaching (atom (0 ∷ []) 3 ∷ atom (1 ∷ []) 4 ∷ []) (0 ∷ 1 ∷ []) 8 (0 ∷ 1 ∷ []) 7 }
+    ensures other_sum { ¬ IsReaching (atom (0 ∷ []) 3 ∷ atom (1 ∷ []) 4 ∷ []) (0 ∷ 1 ∷ []) 7 (0 ∷ 1 ∷ []) 8 }
+    ensures shared_good { ¬ IsReaching (atom (0 ∷ []) 3 ∷ atom (0 ∷ []) 4 ∷ []) (0 ∷ []) 7 (0 ∷ 1 ∷ []) 7 }
+{}
+
+/// What a search for a price answers, and what it uses of a budget.
+#[tactic(auto, unfolding(crate::specs::SearchSteps::cut_steps, valuation::specs::Values::or_value))]
+fn searched_worked(before: &Budget, after: &Budget)
+    requires used { after.now.used ≡ before.now.used + 2 }
+    requires limit { after.now.limit ≡ before.now.limit }
+    ensures reached { IsSearched (λ reached. reached) (atom (0 ∷ []) 3 ∷ []) (0 ∷ []) 3 before.now after.now (Ok true) }
+    ensures answer { ¬ IsSearched (λ reached. reached) (atom (0 ∷ []) 3 ∷ []) (0 ∷ []) 3 before.now after.now (Ok false) }
+    ensures fewer_steps { ¬ IsSearched (λ reached. reached) (atom (0 ∷ []) 3 ∷ []) (0 ∷ []) 4 before.now after.now (Ok false) }
 {}

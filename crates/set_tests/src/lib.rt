@@ -4,3 +4,5 @@
 
 #[cfg(test)]
 mod bundles;
+#[cfg(test)]
+mod masks;

@@ -1,6 +1,8 @@
 -- Proofs that several functions of this crate cite.
-pub mod PlaceMarks
+pub mod ConflictMasks
 pub mod FirstBestAtoms
 pub mod Placing
 pub mod BestPackingLevels
-pub mod MarkedPackingLevels
+pub mod Paths
+pub mod BestPath
+pub mod FewerAtoms

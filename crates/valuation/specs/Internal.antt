@@ -1,3 +1,3 @@
 -- What the contracts of private functions cite, and the facts that private types keep. No public contract rests on
 -- them.
-pub mod Rivals
+pub mod Inside

@@ -5,8 +5,8 @@ pub mod Tables
 pub mod Orders
 pub mod Auctions
 pub mod Bidders
-pub mod PlaceMarks
-pub mod Rows
+pub mod Conflicts
+pub mod Paths
 pub mod Views
 pub mod Examples
 pub mod Sorting

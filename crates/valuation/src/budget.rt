@@ -30,17 +30,4 @@ impl Budget {
         self.used += 1;
         true
     }
-
-    /// Uses so many steps at once and answers true, if as many are left.
-    pub(crate) fn spend_many(&mut self, steps: u64) -> bool
-        ensures left { IsTrue result ↔ (self.old.used + steps ≤ self.old.limit) }
-        ensures used { self.new.used ≡ (if result then self.old.used + steps else self.old.used) }
-        ensures limit { self.new.limit ≡ self.old.limit }
-    {
-        if self.limit - self.used < steps {
-            return false;
-        }
-        self.used += steps;
-        true
-    }
 }

@@ -4,10 +4,7 @@ ghost use Rattle.std.specs.declared.cmp.Ordering.TheVariants.{Less, Equal, Great
 ghost use Rattle.valuation.specs.Examples.{atom};
 ghost use Rattle.valuation.specs.Values.{xor_value, or_value, chosen_places};
 ghost use Rattle.valuation.specs.Packings.{count_packings};
-ghost use Rattle.valuation.specs.PlaceMarks.{is_inside_at, is_apart_behind};
 ghost use Rattle.valuation.specs.Tables.{or_table, xor_table, is_nonzero};
-ghost use Rattle.valuation.specs.Rows.{IsRow};
-ghost use Rattle.valuation.specs.Internal.Rivals.{AreRivals};
 ghost use Rattle.valuation.specs.Orders.{atom_cmp, bidder_cmp};
 ghost use Rattle.valuation.specs.Sorting.{sort_by};
 
@@ -51,20 +48,6 @@ pub fn packings_worked()
         count_packings a (0 ∷ 1 ∷ []) ≡ 6 }
 {}
 
-/// The places that are marked: of the atoms inside a bundle, and of those behind an atom that share no good with it.
-pub fn marked_places_worked()
-    ensures inside { let a = atom (0 ∷ []) 3 ∷ atom (1 ∷ []) 4 ∷ atom (0 ∷ 1 ∷ []) 7 ∷ [] in
-        is_inside_at a (1 ∷ []) 1 ≡ true }
-    ensures not_inside { let a = atom (0 ∷ []) 3 ∷ atom (1 ∷ []) 4 ∷ atom (0 ∷ 1 ∷ []) 7 ∷ [] in
-        is_inside_at a (1 ∷ []) 2 ≡ false }
-    ensures apart { let a = atom (0 ∷ []) 3 ∷ atom (1 ∷ []) 4 ∷ atom (0 ∷ 1 ∷ []) 7 ∷ [] in
-        is_apart_behind a 0 1 ≡ true }
-    ensures before { let a = atom (0 ∷ []) 3 ∷ atom (1 ∷ []) 4 ∷ atom (0 ∷ 1 ∷ []) 7 ∷ [] in
-        is_apart_behind a 1 0 ≡ false }
-    ensures one_good_shared { let a = atom (0 ∷ []) 3 ∷ atom (1 ∷ []) 4 ∷ atom (0 ∷ 1 ∷ []) 7 ∷ [] in
-        is_apart_behind a 0 2 ≡ false }
-{}
-
 /// A table has the values on all bundles, in order.
 #[tactic(auto, unfolding(crate::specs::Values::xor_value, crate::specs::Values::or_value))]
 pub fn tables_worked()
@@ -90,21 +73,4 @@ pub fn sorting_worked()
     ensures all { let one = atom (0 ∷ []) 9 ∷ [] in let two = atom (1 ∷ []) 8 ∷ [] in
         let both = atom (0 ∷ []) 9 ∷ atom (1 ∷ []) 8 ∷ [] in
         sort_by bidder_cmp (two ∷ both ∷ one ∷ two ∷ []) ≡ one ∷ both ∷ two ∷ two ∷ [] }
-{}
-
-/// What a search with marks reads of an atom: the marks of those behind it that share no good with it, and its price.
-pub fn rows_worked()
-    ensures marked { let a = atom (0 ∷ []) 3 ∷ atom (1 ∷ []) 4 ∷ [] in IsRow a 0 (record { apart = 2; price = 3 }) }
-    ensures before { let a = atom (0 ∷ []) 3 ∷ atom (1 ∷ []) 4 ∷ [] in IsRow a 1 (record { apart = 0; price = 4 }) }
-    ensures other_price { let a = atom (0 ∷ []) 3 ∷ atom (1 ∷ []) 4 ∷ [] in
-        IsRow a 0 (record { apart = 2; price = 4 }) → ⊥ }
-    ensures other_marks { let a = atom (0 ∷ []) 3 ∷ atom (1 ∷ []) 4 ∷ [] in
-        IsRow a 0 (record { apart = 3; price = 3 }) → ⊥ }
-{}
-
-// One atom, or two of which the later is not apart from the first, are rivals.
-fn rivals_worked()
-    ensures one { AreRivals [] 4 1 }
-    ensures two { AreRivals (record { apart = 4; price = 1 } ∷ record { apart = 0; price = 1 } ∷ []) 3 2 }
-    ensures apart { AreRivals (record { apart = 2; price = 1 } ∷ record { apart = 0; price = 1 } ∷ []) 3 2 → ⊥ }
 {}

@@ -45,6 +45,9 @@ word_goods_bundle cap ws =
     below : AreBelow cap (range_with_len 0 cap) → AreBelow cap (filter (λ g. eqb (word_bit ws g) 1) (range_with_len 0 cap))
     below h = AreBelow-filter (λ g. eqb (word_bit ws g) 1) cap (range_with_len 0 cap) h
 
+pub word_goods_rise : (cap : ℕ) (ws : List ℕ) → IsRising (word_goods cap ws)
+word_goods_rise cap ws = (word_goods_bundle cap ws).0
+
 pub word_goods_has : (cap : ℕ) (ws : List ℕ) (g : ℕ) → g < cap → word_bit ws g ≡ 1 → has_good (word_goods cap ws) g ≡ true
 unfolding word_goods
 word_goods_has cap ws g l e = has-filter (λ x. eqb (word_bit ws x) 1) (range_with_len 0 cap) g

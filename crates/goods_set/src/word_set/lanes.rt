@@ -1,5 +1,7 @@
 //! The kernels: what is said of two bundles of words, eight words at a time and then one by one.
-ghost use Rattle.std.specs.Prelude.{◌≡◌, ℕ, ◌*◌, ◌≤◌, length};
+ghost use Rattle.std.specs.Prelude.{◌≡◌, ℕ, ◌*◌, ◌<◌, ◌≤◌, length, get_or};
+ghost use Rattle.std.specs.Int.{bit_not, w64};
+ghost use Rattle.std.specs.Int.RustNames.{bit_and};
 ghost use Rattle.goods_set.specs.Bundles.{is_inside, are_apart, without};
 ghost use Rattle.goods_set.specs.Words.{word_goods};
 
@@ -54,8 +56,10 @@ pub(crate) fn all_apart(one: &[u64], other: &[u64]) -> bool
 /// Takes the goods of `taken` out of `words`.
 pub(crate) fn remove_all(words: &mut [u64], taken: &[u64])
     requires { length words.old ≡ length taken.now }
-    ensures { (cap : ℕ) → cap ≤ 64 * length words.old → word_goods cap words.new
+    ensures goods { (cap : ℕ) → cap ≤ 64 * length words.old → word_goods cap words.new
         ≡ without (word_goods cap words.old) (word_goods cap taken.now) }
+    ensures words { (k : ℕ) → k < length words.old
+        → get_or words.new k 0 ≡ bit_and (get_or words.old k 0) (bit_not w64 (get_or taken.now k 0)) }
 {
     let mut i = 0;
     while words.len() - i >= LANES {
@@ -66,4 +70,13 @@ pub(crate) fn remove_all(words: &mut [u64], taken: &[u64])
     for k in i..words.len() {
         words[k] &= !taken[k];
     }
+}
+
+/// Takes the goods of `taken` out of `words`, of which there may be more or fewer.
+pub(crate) fn remove_shared(words: &mut [u64], taken: &[u64])
+    ensures { word_goods (64 * length words.new) words.new
+        ≡ without (word_goods (64 * length words.old) words.old) (word_goods (64 * length taken.now) taken.now) }
+{
+    let shared = words.len().min(taken.len());
+    remove_all(&mut words[..shared], &taken[..shared]);
 }

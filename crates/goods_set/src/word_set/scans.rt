@@ -1,6 +1,6 @@
 //! What goes through the words of a set from the first: how many goods they hold, their residues, the next
 //! good, all goods, and which of two sets comes first.
-ghost use Rattle.std.specs.Prelude.{◌≡◌, ◌+◌, ◌*◌, ◌≤◌, [], ◌∷◌, ◌++◌, map, length, OnOk};
+ghost use Rattle.std.specs.Prelude.{◌≡◌, ◌+◌, ◌*◌, ◌^◌, ◌≤◌, [], ◌∷◌, ◌++◌, map, length, OnOk};
 ghost use Rattle.std.specs.Ordering.{nat_cmp};
 ghost use Rattle.std.specs.Cmp.Lexicographic.{slice_cmp};
 ghost use Rattle.goods_set.specs.Bundles.{good_from};
@@ -38,11 +38,21 @@ pub(crate) fn next_good(words: &[u64], from: u32) -> Option<u16>
     requires { length words.now ≤ 1024 }
     ensures { result ≡ good_from (word_goods (64 * length words.now) words.now) from }
 {
-    let mut place = (from / 64) as usize;
+    let good = next_bit(words, from as usize)?;
+    Some(good as u16)
+}
+
+/// The least place that is at least `from` of a bit that is set, of any number of words.
+#[inline]
+pub(crate) fn next_bit(words: &[u64], from: usize) -> Option<usize>
+    requires { 64 * length words.now ≤ 2 ^ 64 }
+    ensures { result ≡ good_from (word_goods (64 * length words.now) words.now) from }
+{
+    let mut place = from / 64;
     if place >= words.len() {
         return None;
     }
-    // The goods of the first word that are below `from` are left out.
+    // The bits of the first word that are below `from` are left out.
     let mut rest = words[place] & (u64::MAX << (from % 64));
     while rest == 0 {
         place += 1;
@@ -51,7 +61,7 @@ pub(crate) fn next_good(words: &[u64], from: u32) -> Option<u16>
         }
         rest = words[place];
     }
-    Some((64 * place) as u16 + rest.trailing_zeros() as u16)
+    Some(64 * place + rest.trailing_zeros() as usize)
 }
 
 /// Appends the goods that the words hold, rising.

@@ -11,18 +11,18 @@ use Rattle.prune.proofs.PruningLoop.{nonempty_inside, inside_bundle, too_low}
 use Rattle.prune.proofs.ReachingLevels.{or_value-all_prices}
 use Rattle.prune.proofs.or.is_outbid.Goals as goal
 
-pub is_reached_inside-requires-clause-some : goal.is_reached_inside-requires-clause-some
-is_reached_inside-requires-clause-some g c =
+pub is_reached-requires-clause-some : goal.is_reached-requires-clause-some
+is_reached-requires-clause-some g c =
     let goods = g.S.GoodsSet.goods in
     nonempty_inside goods c.in_ok-inside.inside.items _ (λ a. is_inside a.bundle (goods c.args.bid.now.bundle)) (atoms_of goods c.args.kept.now)
     c.deref-2.ensures.value c.in_ok-inside.ensures c.requires.some
 
-pub is_reached_inside-requires-clause-inside : goal.is_reached_inside-requires-clause-inside
-is_reached_inside-requires-clause-inside g c =
+pub is_reached-requires-clause-inside : goal.is_reached-requires-clause-inside
+is_reached-requires-clause-inside g c =
     let goods = g.S.GoodsSet.goods in
-    inside_bundle goods c.in_ok-inside.inside.items _ (goods c.args.bid.now.bundle) (atoms_of goods c.args.kept.now)
-    c.deref-2.ensures.value
-    c.in_ok-inside.ensures
+    rw c.requires.goods
+    (inside_bundle goods c.in_ok-inside.inside.items _ (goods c.args.bid.now.bundle) (atoms_of goods c.args.kept.now) c.deref-2.ensures.value
+    c.in_ok-inside.ensures)
 
 pub returns-then-all_prices-from-clause-answer : goal.returns-then-all_prices-from-clause-answer
 returns-then-all_prices-from-clause-answer g c =

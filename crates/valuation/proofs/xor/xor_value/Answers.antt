@@ -7,7 +7,7 @@ use Rattle.valuation.proofs.FirstBestAtoms.{Scanned-take, Scanned-outside, Scann
 use Rattle.valuation.proofs.xor.xor_value.Goals as goal
 use Rattle.valuation.proofs.xor.xor_value.Goals.{then-is_none, else-is_none, then-value-atom+then-is_inside, else-value-atom}
 use Rattle.valuation.proofs.xor.xor_value.Goals.{else-value-atom-via-then-value-atom+else-is_inside, else-value-atom-via-else-value-atom}
-use Rattle.valuation.specs.PlaceMarks.{atom_at}
+use Rattle.valuation.specs.Conflicts.{atom_at}
 
 pub loop-i-preserved : goal.loop-i-preserved
 loop-i-preserved g c =

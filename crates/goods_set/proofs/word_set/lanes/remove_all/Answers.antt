@@ -19,6 +19,9 @@ loop-words-preserved c =
       rest = unwritten_more (λ x y. bit_and x (bit_not w64 y)) c.args.words.now xs ys i _ lanes c.loop-words.invariant.rest;
     }
 
-pub returns : goal.returns
-returns c = λ cap l. words_without cap c.args.words.now c.args.taken.now c.loop-k.words (λ k. (c.type_inv.taken k).fits)
+pub returns-clause-goods : goal.returns-clause-goods
+returns-clause-goods c = λ cap l. words_without cap c.args.words.now c.args.taken.now c.loop-k.words (λ k. (c.type_inv.taken k).fits)
     (λ k m. c.loop-k.invariant.done k (omega arith))
+
+pub returns-clause-words : goal.returns-clause-words
+returns-clause-words c = λ k l. c.loop-k.invariant.done k (omega arith)
