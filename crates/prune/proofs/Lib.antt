@@ -10,4 +10,4 @@ pub mod PruningLoop
 pub mod ReachingLevels
 pub mod ReachingLevelsOfCode
 pub mod MarkedReaching
-pub mod WorkedListings
+pub mod WorkedPostings
