@@ -438,6 +438,11 @@ found_more p old found more xs i place l is e f =
     ∙ append_assoc old (filter p (take i xs)) (cond (p (get_or xs i 0)) (get_or xs i 0 ∷ []) [])
     ∙ ap (λ (zs : List ℕ). old ++ zs) (sym (filter_more p xs i 0 l))
 
+-- the bundle that is read at a place
+pub bundle_there : {S : Type 0} (goods : S → List ℕ) (atoms : List (Atom S)) (i : ℕ) (a : Atom S) → a ≡ get_or atoms i a
+    → goods (get_or atoms i a).bundle ≡ goods a.bundle
+bundle_there {S} goods atoms i a e = ap (λ (b : Atom S). goods b.bundle) (sym e)
+
 -- the place at an index, and what is listed there
 pub places_get : (listed : List Posting) (i : ℕ) (d : Posting) → i < length listed → (i < length (map place_of listed))
     × (get_or (map place_of listed) i 0 ≡ (get_or listed i d).index)

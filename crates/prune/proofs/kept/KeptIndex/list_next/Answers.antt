@@ -7,7 +7,7 @@ use Rattle.valuation.specs.Lemmas.Atoms.{length-atoms_of, get_or-atoms_of}
 use Rattle.valuation.specs.declared.atom.Atom.{Atom}
 use Rattle.prune.specs.declared.posting.Posting.{Posting}
 use Rattle.prune.specs.Internal.Listings.{lists_of, listed_at}
-use Rattle.prune.proofs.ListedAtoms.{AreListed-more, listed-set_same, listed-set_other, listed-pushed, listed_there}
+use Rattle.prune.proofs.ListedAtoms.{AreListed-more, listed-set_same, listed-set_other, listed-pushed, listed_there, bundle_there}
 use Rattle.prune.proofs.kept.KeptIndex.list_next.Goals as goal
 
 pub loop-alloc-preserved : goal.loop-alloc-preserved
@@ -47,4 +47,5 @@ returns-clause-listed g c =
     (AreListed-more (lists_of old.lists.items) _ old.listed (atoms_of goods kept) good posting c.requires.listed
     (λ k n. listed-set_other vectors good c.push-2.new.self k n ∙ c.loop-alloc.invariant.lists k) there refl
     (plain_atom goods atom) (sym at) (omega (arith, next, long)) has
-    (subst (λ (zs : List ℕ). AreMarks zs c.fingerprint-marks.result) c.in_ok-rising_goods.ensures c.fingerprint-marks.ensures))
+    (subst (λ (zs : List ℕ). AreMarks zs c.fingerprint-marks.result) (c.in_ok-rising_goods.ensures ∙ bundle_there goods kept old.listed atom c.index-kept-self.is)
+    c.fingerprint-marks.ensures))
