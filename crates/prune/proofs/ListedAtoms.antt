@@ -1,6 +1,6 @@
 -- Atoms are found through the goods of a bundle: each atom inside it is listed at one of its goods, which is a good of the bundle.
 -- The places found, sorted, are those of the atoms inside the bundle, since no place is listed twice.
-use Rattle.std.proofs.Common.{◌≡◌, ◌≢◌, ℕ, zero, suc, ◌+◌, ◌/◌, ◌<◌, ◌≤◌, Bool, true, false, cond, leb, take, set, get_or-set_same, get_or-set_other, append_assoc}
+use Rattle.std.proofs.Common.{◌≡◌, ◌≢◌, ℕ, zero, suc, ◌+◌, ◌<◌, ◌≤◌, Bool, true, false, cond, leb, take, set, get_or-set_same, get_or-set_other, append_assoc}
 use Rattle.std.proofs.Common.{Bor, eqb, ◌⊎◌, inl, inr, ⊎_elim, List, [], ◌∷◌, ◌++◌, length, map, get_or, refl, sym, ap, ◌∙◌, subst, subst₂, arith, Some, None, nat_cmp, Less, Greater}
 use Rattle.std.specs.Prelude.{All, AllPairs, Contains, IsPermutation}
 use Rattle.std.specs.Global.{Vec}
@@ -21,8 +21,8 @@ use Rattle.std.proofs.lemmas.List.Quantifiers.{all_pairs_push}
 use Rattle.std.proofs.lemmas.List.Sorted.{Contains-permutation, IsPermutation-sym, IsNonDecreasingBy-from_sort}
 use Rattle.std.proofs.lemmas.Map.Keys.{IsDistinct-IsPermutation, IsStrictlyIncreasing-from_distinct}
 use Rattle.std.proofs.lemmas.Map.Made.{IsDistinct-from_AllPairs}
-use Rattle.goods_set.specs.Bundles.{AreAbove, IsRising, IsInside, has_good, is_inside, good_from}
-use Rattle.goods_set.specs.Lemmas.Members.{has_cases, has-filter, AreAbove-from_has, IsRising-filter, same_from_has, inside_at, inside_from}
+use Rattle.goods_set.specs.Bundles.{AreAbove, IsRising, has_good, is_inside, good_from}
+use Rattle.goods_set.specs.Lemmas.Members.{has_cases, has-filter, AreAbove-from_has, IsRising-filter, same_from_has, inside_at}
 use Rattle.goods_set.specs.Orders.{bundle_cmp}
 use Rattle.goods_set.specs.Fingerprints.{AreMarks}
 use Rattle.goods_set.specs.Lemmas.Orders.{larger_last}

@@ -1,5 +1,5 @@
 -- None of the atoms listed before covers the bid, and the next one does not either, or one that does was found.
-use Rattle.std.proofs.Common.{false, arith, map, get_or, sym, ap, ◌∙◌}
+use Rattle.std.proofs.Common.{arith, map, get_or, sym, ap, ◌∙◌}
 use Rattle.valuation.specs.Values.{atoms_of}
 use Rattle.prune.specs.declared.posting.Posting.{Posting}
 use Rattle.prune.specs.Internal.Listings.{lists_of, listed_at, covers_at}
