@@ -1,4 +1,3 @@
 -- What the contracts of private functions cite, and the facts that private types keep. No public contract rests on
 -- them.
 pub mod Held
-pub mod Residues

@@ -2,7 +2,7 @@
 pub mod Bundles
 pub mod Orders
 pub mod Fronts
-pub mod Residues
+pub mod Fingerprints
 pub mod Words
 pub mod Lemmas
 pub mod Internal

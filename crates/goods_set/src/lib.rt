@@ -2,8 +2,8 @@
 //! and a bit set that implement it, and the order of bundles.
 #![tactic(auto)]
 
+pub mod fingerprints;
 mod front;
-pub mod inside;
 pub mod laws;
 mod least;
 pub mod list_set;
@@ -14,7 +14,7 @@ pub mod set;
 pub mod word_set;
 pub mod worked;
 
-pub use inside::may_be_inside;
+pub use fingerprints::{fingerprint, may_be_subset};
 pub use list_set::ListSet;
 pub use listing::{goods_of, rising_goods};
 pub use long_mask::LongMask;

@@ -6,11 +6,9 @@ mod summary;
 ghost use Rattle.std.specs.Prelude.{◌≡◌, ◌<◌, ◌≤◌, [], length, nat_lt, true, false, IsOk, IfOk, MatchResult};
 ghost use Rattle.std.specs.List.{insert};
 ghost use Rattle.std.specs.List.Sorted.{IsPartitionPoint};
-ghost use Rattle.goods_set.specs.Bundles.{IsBundle, IsInside, has_good, is_inside, with_good, without};
+ghost use Rattle.goods_set.specs.Bundles.{IsBundle, has_good, is_inside, with_good, without};
 ghost use Rattle.goods_set.specs.Lemmas.BundleFacts.{IsBundle-prop};
-ghost use Rattle.goods_set.specs.Internal.Residues.{residues_of};
 
-use crate::inside::may_be_inside;
 use crate::list_set::few::FewGoods;
 use crate::list_set::goods::{Goods, Held};
 use crate::set::GoodsSet;
@@ -36,9 +34,6 @@ fn is_among(goods: &[u16], good: u16) -> bool
 #[derive(Debug, Drop)]
 pub struct ListSet {
     goods: Goods,
-    /// The goods modulo 64, as bits, which tell most goods that are not there.
-    residues: u64,
-    ghost marked: { residues ≡ residues_of goods },
     ghost bundle: { IsBundle 65536 goods } by { IsBundle-prop 65536 goods },
 }
 
@@ -48,38 +43,7 @@ impl ListSet {
         requires { IsBundle 65536 rising }
         ensures { result.goods ≡ rising }
     {
-        let residues = summary::residues(rising.as_slice());
-        ListSet {
-            goods: rising,
-            residues,
-        }
-    }
-
-    // Whether a good with the same residue is there.
-    fn may_have(&self, good: u16) -> bool
-        ensures { has_good self.now.goods good ≡ true → result ≡ true }
-    {
-        (self.residues >> (good % 64)) & 1 == 1
-    }
-
-    // Whether the goods have no residue that those of `other` lack.
-    fn may_be_inside(&self, other: &ListSet) -> bool
-        ensures { IsInside self.now.goods other.now.goods → result ≡ true }
-    {
-        may_be_inside(self.residues, other.residues)
-    }
-
-    // Whether the good is there. Among few goods all are looked at, since no branch but the loop's depends on them: a search takes
-    // one for each step, and it is seldom foreseen.
-    fn holds(&self, good: u16) -> bool
-        ensures { result ≡ has_good self.now.goods good }
-    {
-        let goods = self.goods.as_slice();
-        if goods.len() <= LOOKED_AT {
-            is_among(goods, good)
-        } else {
-            self.place(good).is_ok()
-        }
+        ListSet { goods: rising }
     }
 
     // Where the good stands, or else where it goes.
@@ -101,21 +65,6 @@ impl ListSet {
     {
         let goods = self.goods.as_slice();
         goods.partition_point(|good| u32::from(*good) < from)
-    }
-
-    // Whether each good is in `other`, the goods told one by one. (Inlined, it would keep the question of residues, which mostly tells,
-    // from being inlined.)
-    #[inline(never)]
-    fn is_list_inside(&self, other: &ListSet) -> bool
-        ensures { result ≡ is_inside self.now.goods other.now.goods }
-    {
-        let own = self.goods.as_slice();
-        let others = other.goods.as_slice();
-        // A set is inside one that is not larger only where the two are the same.
-        if own.len() >= others.len() {
-            return own == others;
-        }
-        own.iter().all(|good| other.has(*good))
     }
 
     // The few goods that are not in the set.
@@ -168,14 +117,20 @@ impl GoodsSet for ListSet {
             Ok(_) => Ok(false),
             Err(place) => {
                 self.goods.insert(place, good)?;
-                self.residues = summary::residues(self.goods.as_slice());
                 Ok(true)
             }
         }
     }
 
+    // Among few goods all are looked at, since no branch but the loop's depends on them: a search takes
+    // one for each step, and it is seldom foreseen.
     fn has(&self, good: u16) -> bool {
-        self.may_have(good) && self.holds(good)
+        let goods = self.goods.as_slice();
+        if goods.len() <= LOOKED_AT {
+            is_among(goods, good)
+        } else {
+            self.place(good).is_ok()
+        }
     }
 
     fn size(&self) -> usize {
@@ -185,17 +140,6 @@ impl GoodsSet for ListSet {
     fn next_from(&self, from: u32) -> Option<u16> {
         let place = self.place_from(from);
         self.goods.as_slice().get(place).copied()
-    }
-
-    fn residues(&self) -> u64 {
-        self.residues
-    }
-
-    fn block(&self, good: u16) -> u64 {
-        let first = u32::from(good / 64) * 64;
-        let start = self.place_from(first);
-        let end = self.place_from(first + 64);
-        summary::residues(&self.goods.as_slice()[start..end])
     }
 
     fn front(&self) -> u64 {
@@ -211,7 +155,13 @@ impl GoodsSet for ListSet {
     }
 
     fn is_inside(&self, other: &ListSet) -> bool {
-        self.may_be_inside(other) && self.is_list_inside(other)
+        let own = self.goods.as_slice();
+        let others = other.goods.as_slice();
+        // A set is inside one that is not larger only where the two are the same.
+        if own.len() >= others.len() {
+            return own == others;
+        }
+        own.iter().all(|good| other.has(*good))
     }
 
     fn is_apart(&self, other: &ListSet) -> bool {
@@ -220,7 +170,6 @@ impl GoodsSet for ListSet {
 
     fn take_out(&mut self, other: &ListSet) {
         other.leave(&mut self.goods);
-        self.residues = summary::residues(self.goods.as_slice());
     }
 
     fn order(&self, other: &ListSet) -> Ordering {
@@ -236,7 +185,6 @@ impl GoodsSet for ListSet {
     fn copy(&self) -> Result<ListSet, AllocError> {
         Ok(ListSet {
             goods: self.goods.copy()?,
-            residues: self.residues,
         })
     }
 

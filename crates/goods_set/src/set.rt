@@ -17,7 +17,6 @@ ghost use Rattle.goods_set.specs.Bundles.{
 ghost use Rattle.goods_set.specs.Fronts.{front_of};
 ghost use Rattle.goods_set.specs.Lemmas.Members.{inside_refl, inside_trans};
 ghost use Rattle.goods_set.specs.Orders.{bundle_cmp};
-ghost use Rattle.goods_set.specs.Residues.{AreResidues, block_of};
 ghost use Rattle.goods_set.specs.Lemmas.Orders.{bundle_cmp_total, bundle_cmp_equal};
 ghost use Rattle.goods_set.specs.Lemmas.Laws.{inside_antisymm_law, inside_ordered_law};
 
@@ -63,15 +62,6 @@ pub trait GoodsSet: Sized + Drop {
     /// The least good that is at least `from`.
     fn next_from(&self, from: u32) -> Option<u16>
         ensures { result ≡ good_from (goods self.now) from };
-
-    /// The goods modulo 64, as the bits of a word: `may_be_inside` tells by them most sets that are not inside another.
-    fn residues(&self) -> u64
-        ensures { AreResidues (goods self.now) result };
-
-    /// The goods in the block of 64 that this good is in, modulo 64, as the bits of a word. Where a set has most of all
-    /// residues, `may_be_inside` tells more by these.
-    fn block(&self, good: u16) -> u64
-        ensures { AreResidues (block_of good (goods self.now)) result };
 
     /// The size and the first three goods as one number, by which most sets are in order.
     fn front(&self) -> u64

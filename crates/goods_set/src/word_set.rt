@@ -93,15 +93,6 @@ impl<const N: usize> GoodsSet for WordSet<N> {
         scans::next_good(self.used(), from)
     }
 
-    fn residues(&self) -> u64 {
-        scans::all_residues(self.used())
-    }
-
-    fn block(&self, good: u16) -> u64 {
-        let place = usize::from(good / 64);
-        if place < N { self.words[place] } else { 0 }
-    }
-
     fn front(&self) -> u64 {
         first_goods::front(self.used())
     }

@@ -3,7 +3,7 @@ ghost use Rattle.std.specs.Prelude.{◌≡◌, ◌<◌, [], ◌∷◌, Some, Non
 ghost use Rattle.goods_set.specs.Bundles.{IsBundle, IsInside, AreApart, is_inside, without, with_good, good_from, all_bundles};
 ghost use Rattle.goods_set.specs.Orders.{bundle_cmp};
 ghost use Rattle.goods_set.specs.Fronts.{front_of};
-ghost use Rattle.goods_set.specs.Residues.{AreResidues, block_of};
+ghost use Rattle.goods_set.specs.Fingerprints.{AreMarks, mark_of};
 ghost use Rattle.std.specs.declared.cmp.Ordering.TheVariants.{Less, Equal, Greater};
 
 /// Bundles are strictly rising lists of goods below the number of goods.
@@ -43,13 +43,18 @@ pub fn order_worked()
     ensures over_none { all_bundles 0 ≡ [] ∷ [] }
 {}
 
-/// Goods that differ by 64 share a residue. A block holds those from a multiple of 64 up to below the next one.
-pub fn residues_worked()
-    ensures shared { AreResidues (1 ∷ 65 ∷ 130 ∷ []) 6 }
-    ensures one_lacks { ¬ AreResidues (1 ∷ 2 ∷ []) 2 }
-    ensures one_too_many { ¬ AreResidues (1 ∷ []) 6 }
-    ensures block { block_of 70 (1 ∷ 63 ∷ 64 ∷ 127 ∷ 128 ∷ []) ≡ 64 ∷ 127 ∷ [] }
-    ensures no_block { block_of 5 (64 ∷ 70 ∷ []) ≡ [] }
+/// Goods near one another, and those that differ by 64 or 65, mark different bits. Some goods share one.
+pub fn fingerprints_worked()
+    ensures highest { mark_of 0 ≡ 96 }
+    ensures low { mark_of 1 ≡ 39 }
+    ensures high { mark_of 2 ≡ 79 }
+    ensures by_64 { mark_of 65 ≡ 10 }
+    ensures by_65 { mark_of 66 ≡ 50 }
+    ensures shared { mark_of 90 ≡ mark_of 1 }
+    ensures no_goods { AreMarks [] 0 }
+    ensures one_good { AreMarks (5 ∷ []) 32 }
+    ensures one_lacks { ¬ AreMarks (5 ∷ 65 ∷ []) 32 }
+    ensures one_too_many { ¬ AreMarks (5 ∷ []) 33 }
 {}
 
 /// The size stands in the highest 16 bits of a front, then the first three goods, so that fewer goods come first.

@@ -8,4 +8,4 @@ pub mod PruningLoop
 pub mod ReachingLevels
 pub mod PathPackings
 pub mod ReachingPath
-pub mod WorkedListings
+pub mod WorkedPostings

@@ -1,6 +1,6 @@
 -- Atoms are found through the goods of a bundle: each atom inside it is listed at one of its goods, which is a good of the bundle.
 -- The places found, sorted, are those of the atoms inside the bundle, since no place is listed twice.
-use Rattle.std.proofs.Common.{◌≡◌, ◌≢◌, ℕ, zero, suc, ◌+◌, ◌/◌, ◌<◌, ◌≤◌, Bool, true, false, cond, leb, take, set, get_or-set_same, get_or-set_other, append_assoc}
+use Rattle.std.proofs.Common.{◌≡◌, ◌≢◌, ℕ, zero, suc, ◌+◌, ◌<◌, ◌≤◌, Bool, true, false, cond, leb, take, set, get_or-set_same, get_or-set_other, append_assoc}
 use Rattle.std.proofs.Common.{Bor, eqb, ◌⊎◌, inl, inr, ⊎_elim, List, [], ◌∷◌, ◌++◌, length, map, get_or, refl, sym, ap, ◌∙◌, subst, subst₂, arith, Some, None, nat_cmp, Less, Greater}
 use Rattle.std.specs.Prelude.{All, AllPairs, Contains, IsPermutation}
 use Rattle.std.specs.Global.{Vec}
@@ -21,10 +21,10 @@ use Rattle.std.proofs.lemmas.List.Quantifiers.{all_pairs_push}
 use Rattle.std.proofs.lemmas.List.Sorted.{Contains-permutation, IsPermutation-sym, IsNonDecreasingBy-from_sort}
 use Rattle.std.proofs.lemmas.Map.Keys.{IsDistinct-IsPermutation, IsStrictlyIncreasing-from_distinct}
 use Rattle.std.proofs.lemmas.Map.Made.{IsDistinct-from_AllPairs}
-use Rattle.goods_set.specs.Bundles.{AreAbove, IsRising, IsInside, has_good, is_inside, good_from}
-use Rattle.goods_set.specs.Lemmas.Members.{has_cases, has-filter, AreAbove-from_has, IsRising-filter, same_from_has, inside_at, inside_from}
+use Rattle.goods_set.specs.Bundles.{AreAbove, IsRising, has_good, is_inside, good_from}
+use Rattle.goods_set.specs.Lemmas.Members.{has_cases, has-filter, AreAbove-from_has, IsRising-filter, same_from_has, inside_at}
 use Rattle.goods_set.specs.Orders.{bundle_cmp}
-use Rattle.goods_set.specs.Residues.{block_of}
+use Rattle.goods_set.specs.Fingerprints.{AreMarks}
 use Rattle.goods_set.specs.Lemmas.Orders.{larger_last}
 use Rattle.goods_set.specs.Lemmas.Sizes.{IsNextGood, good_from-Some, good_from-None, length_inside, same_from_length}
 use Rattle.goods_set.specs.Lemmas.Words.{range_has, range_rises}
@@ -32,9 +32,9 @@ use Rattle.valuation.specs.declared.atom.Atom.{Atom}
 use Rattle.valuation.specs.Values.{atoms_of}
 use Rattle.valuation.specs.Lemmas.Atoms.{get_or-atoms_of}
 use Rattle.valuation.specs.Lemmas.Lists.{AllPairs-head, AllPairs-tail, AllPairs-append, Contains-map, Contains-unmap}
-use Rattle.prune.specs.declared.listing.Listing.{Listing}
+use Rattle.prune.specs.declared.posting.Posting.{Posting}
 use Rattle.prune.specs.InOrder.{IsInOrder}
-use Rattle.prune.specs.Internal.Listings.{lists_of, listed_at, places_at, atom_at, is_inside_at, covers, covers_at, IsListed, IsListing, IsListingOf, AreListed}
+use Rattle.prune.specs.Internal.Listings.{lists_of, listed_at, places_at, atom_at, is_inside_at, covers, covers_at, IsListed, IsPosting, AreListed}
 use Rattle.prune.specs.Internal.Listings.{AreGoodsOf, IsBehind, NoneInsideFrom}
 use Rattle.prune.specs.Lemmas.InOrder.{before_itself}
 use Rattle.prune.specs.Lemmas.Lists.{Contains-head, Contains-tail, Contains-filter, Contains-filter_parts, All-from_Contains, list_any_found, list_any_has}
@@ -44,36 +44,21 @@ use Rattle.prune.proofs.BestBids.{map-filter}
 
 -- ---- lists of places
 
-pub listed_there : (vectors : List (Vec Listing)) (good : ℕ) (v : Vec Listing) → good < length vectors → v ≡ get_or vectors good v
+pub listed_there : (vectors : List (Vec Posting)) (good : ℕ) (v : Vec Posting) → good < length vectors → v ≡ get_or vectors good v
     → listed_at (lists_of vectors) good ≡ v.items
-listed_there vectors good v l e = get_or-map (λ (v : Vec Listing). v.items) vectors good v [] l ∙ ap (λ (v : Vec Listing). v.items) (sym e)
+listed_there vectors good v l e = get_or-map (λ (v : Vec Posting). v.items) vectors good v [] l ∙ ap (λ (v : Vec Posting). v.items) (sym e)
 
-abbrev pub place_of : Listing → ℕ
-place_of listing = listing.place
+abbrev pub place_of : Posting → ℕ
+place_of posting = posting.index
 
 -- what is listed at the place is right
-pub listing_at : (lists : List (List Listing)) (listed : ℕ) (atoms : List (Atom (List ℕ))) (good place : ℕ) → AreListed lists listed atoms → Contains (places_at lists good) place
-    → (listing : Listing) × IsListing atoms good listing × (place ≡ listing.place)
-listing_at lists listed atoms good place a c = let r = Contains-unmap place_of (listed_at lists good) place c in (r.0, a.right good r.0 r.1, r.2)
+pub posting_at : (lists : List (List Posting)) (listed : ℕ) (atoms : List (Atom (List ℕ))) (good place : ℕ) → AreListed lists listed atoms → Contains (places_at lists good) place
+    → (posting : Posting) × IsPosting atoms posting × (place ≡ posting.index)
+posting_at lists listed atoms good place a c = let r = Contains-unmap place_of (listed_at lists good) place c in (r.0, a.right good r.0 r.1, r.2)
 
-pub place_within : (lists : List (List Listing)) (listed : ℕ) (atoms : List (Atom (List ℕ))) (good place : ℕ) → AreListed lists listed atoms → Contains (places_at lists good) place
+pub place_within : (lists : List (List Posting)) (listed : ℕ) (atoms : List (Atom (List ℕ))) (good place : ℕ) → AreListed lists listed atoms → Contains (places_at lists good) place
     → place < length atoms
-place_within lists listed atoms good place a c = let r = listing_at lists listed atoms good place a c in let l = r.1.within in omega (arith, r.2)
-
--- the bundle at a place rises as all do
-pub rises_at : {S : Type 0} (goods : S → List ℕ) → ((s : S) → IsRising (goods s)) → (atoms : List (Atom S)) (place : ℕ)
-    → place < length (atoms_of goods atoms) → IsRising (atom_at (atoms_of goods atoms) place).bundle
-rises_at goods rising [] place l = absurd (omega arith)
-rises_at goods rising (a ∷ atoms) zero l = rising a.bundle
-rises_at goods rising (a ∷ atoms) (suc place) l = rises_at goods rising atoms place (omega arith)
-
--- what is inside a bundle is so in each block
-pub inside_block : (good : ℕ) (xs ys : List ℕ) → IsInside xs ys → IsInside (block_of good xs) (block_of good ys)
-inside_block good xs ys i =
-    let p : ℕ → Bool = λ g. eqb (g / 64) (good / 64) in
-    inside_from (filter p xs) (filter p ys) (λ g h.
-    let t = and_parts (p g) (has_good xs g) (sym (has-filter p xs g) ∙ h) in
-    has-filter p ys g ∙ and_from (p g) (has_good ys g) t.0 (inside_at xs ys g i t.1))
+place_within lists listed atoms good place a c = let r = posting_at lists listed atoms good place a c in let l = r.1.within in omega (arith, r.2)
 
 pub Contains_from_has : (xs : List ℕ) (g : ℕ) → has_good xs g ≡ true → Contains xs g
 Contains_from_has [] g h = absurd (both_ways false refl h)
@@ -99,14 +84,14 @@ has_range a (suc n) g h =
 -- ---- the search through the goods of a bundle
 
 -- what was found at the goods below `from`
-pub record IsFinding (lists : List (List Listing)) (atoms : List (Atom (List ℕ))) (bundle : List ℕ) (from : ℕ) (found : List ℕ) : Type 0 where
+pub record IsFinding (lists : List (List Posting)) (atoms : List (Atom (List ℕ))) (bundle : List ℕ) (from : ℕ) (found : List ℕ) : Type 0 where
   pub sound : All (λ place. (is_inside_at atoms bundle place ≡ true) × (place < length atoms)) found
   pub complete : (good place : ℕ) → has_good bundle good ≡ true → good < from → Contains (places_at lists good) place → is_inside_at atoms bundle place ≡ true
       → Contains found place
   pub earlier : All (λ place. (good : ℕ) × (good < from) × Contains (places_at lists good) place) found
   pub once : AllPairs (λ one other. one ≢ other) found
 
-pub IsFinding-more : (lists : List (List Listing)) (listed : ℕ) (atoms : List (Atom (List ℕ))) (bundle : List ℕ) (from good : ℕ) (found more : List ℕ)
+pub IsFinding-more : (lists : List (List Posting)) (listed : ℕ) (atoms : List (Atom (List ℕ))) (bundle : List ℕ) (from good : ℕ) (found more : List ℕ)
     → AreListed lists listed atoms → IsRising bundle → good_from bundle from ≡ Some good → more ≡ found ++ filter (is_inside_at atoms bundle) (places_at lists good)
     → IsFinding lists atoms bundle from found → IsFinding lists atoms bundle (good + 1) more
 IsFinding-more lists listed atoms bundle from good found more a r next e f =
@@ -191,7 +176,7 @@ is_listed listed atoms bundle unlisted place l t =
     (cases_lt place listed)
 
 -- the good at which an atom inside the bundle is listed has been gone through
-listed_before : (lists : List (List Listing)) (listed : ℕ) (atoms : List (Atom (List ℕ))) (bundle : List ℕ) (from place : ℕ) → AreListed lists listed atoms
+listed_before : (lists : List (List Posting)) (listed : ℕ) (atoms : List (Atom (List ℕ))) (bundle : List ℕ) (from place : ℕ) → AreListed lists listed atoms
     → good_from bundle from ≡ None → place < listed → is_inside_at atoms bundle place ≡ true → (good : ℕ) × (has_good bundle good ≡ true) × (good < from)
     × Contains (places_at lists good) place
 listed_before lists listed atoms bundle from place a none l t =
@@ -208,7 +193,7 @@ eqb_flips : (x y : ℕ) → eqb x y ≡ eqb y x
 eqb_flips x y = same_test (eqb x y) (eqb y x) (λ t. eq-eqb y x (sym (eqb-true x y t))) (λ t. eq-eqb x y (sym (eqb-true y x t)))
 
 -- all goods are done: the places found are those of the atoms inside the bundle
-pub IsFinding-all : (lists : List (List Listing)) (listed : ℕ) (atoms : List (Atom (List ℕ))) (bundle : List ℕ) (from : ℕ) (found sorted : List ℕ) → AreListed lists listed atoms
+pub IsFinding-all : (lists : List (List Posting)) (listed : ℕ) (atoms : List (Atom (List ℕ))) (bundle : List ℕ) (from : ℕ) (found sorted : List ℕ) → AreListed lists listed atoms
     → NoneInsideFrom listed atoms bundle → good_from bundle from ≡ None → IsFinding lists atoms bundle from found
     → IsPermutation found sorted → IsSorted nat_cmp sorted → sorted ≡ filter (is_inside_at atoms bundle) (range_with_len 0 (length atoms))
 IsFinding-all lists listed atoms bundle from found sorted a unlisted none f p up =
@@ -233,11 +218,11 @@ IsFinding-all lists listed atoms bundle from found sorted a unlisted none f p up
 -- ---- an atom inside the bundle of at least a price
 
 -- none is listed at the goods below `from`
-abbrev pub NoneCovers : List (List Listing) → List (Atom (List ℕ)) → List ℕ → ℕ → ℕ → Type 0
+abbrev pub NoneCovers : List (List Posting) → List (Atom (List ℕ)) → List ℕ → ℕ → ℕ → Type 0
 NoneCovers lists atoms bundle price from = (good place : ℕ) → has_good bundle good ≡ true → good < from → Contains (places_at lists good) place
     → covers_at atoms bundle price place ≡ false
 
-pub NoneCovers-more : (lists : List (List Listing)) (atoms : List (Atom (List ℕ))) (bundle : List ℕ) (price from good : ℕ) → IsRising bundle
+pub NoneCovers-more : (lists : List (List Posting)) (atoms : List (Atom (List ℕ))) (bundle : List ℕ) (price from good : ℕ) → IsRising bundle
     → good_from bundle from ≡ Some good → list_any (covers_at atoms bundle price) (places_at lists good) ≡ false → NoneCovers lists atoms bundle price from
     → NoneCovers lists atoms bundle price (good + 1)
 NoneCovers-more lists atoms bundle price from good r next e h g place has l c =
@@ -249,7 +234,7 @@ NoneCovers-more lists atoms bundle price from good r next e h g place has l c =
     (cases_eq g good)
 
 -- all goods are done: none is there
-pub NoneCovers-all : (lists : List (List Listing)) (listed : ℕ) (atoms : List (Atom (List ℕ))) (bundle : List ℕ) (price from : ℕ) → AreListed lists listed atoms
+pub NoneCovers-all : (lists : List (List Posting)) (listed : ℕ) (atoms : List (Atom (List ℕ))) (bundle : List ℕ) (price from : ℕ) → AreListed lists listed atoms
     → NoneInsideFrom listed atoms bundle → good_from bundle from ≡ None → NoneCovers lists atoms bundle price from → list_any (covers bundle price) atoms ≡ false
 NoneCovers-all lists listed atoms bundle price from a unlisted none h =
     list_any_none (covers bundle price) atoms (λ place d l.
@@ -260,7 +245,7 @@ NoneCovers-all lists listed atoms bundle price from a unlisted none h =
     both_ways (covers_at atoms bundle price place) (h at.0 place at.1 at.2 at.3) here))
 
 -- one is listed at a good
-pub one_covers : (lists : List (List Listing)) (listed : ℕ) (atoms : List (Atom (List ℕ))) (bundle : List ℕ) (price good : ℕ) → AreListed lists listed atoms
+pub one_covers : (lists : List (List Posting)) (listed : ℕ) (atoms : List (Atom (List ℕ))) (bundle : List ℕ) (price good : ℕ) → AreListed lists listed atoms
     → list_any (covers_at atoms bundle price) (places_at lists good) ≡ true → list_any (covers bundle price) atoms ≡ true
 one_covers lists listed atoms bundle price good a e =
     let r = list_any_found (covers_at atoms bundle price) (places_at lists good) e in
@@ -285,7 +270,7 @@ atoms_at_places atoms bundle places e =
 
 -- ---- one more atom
 
-pub AreListed-push : (lists : List (List Listing)) (listed : ℕ) (atoms : List (Atom (List ℕ))) (a : Atom (List ℕ)) → AreListed lists listed atoms
+pub AreListed-push : (lists : List (List Posting)) (listed : ℕ) (atoms : List (Atom (List ℕ))) (a : Atom (List ℕ)) → AreListed lists listed atoms
     → AreListed lists listed (atoms ++ a ∷ [])
 AreListed-push lists listed atoms a h =
     let d : Atom (List ℕ) = record { bundle = []; price = 0 } in
@@ -295,21 +280,21 @@ AreListed-push lists listed atoms a h =
       most = omega arith;
       each = λ place l.
           subst (λ (b : Atom (List ℕ)). IsListed lists b.bundle place) (sym (get_or_append_left atoms (a ∷ []) d place (omega arith))) (h.each place l);
-      right = λ g listing c. still_right (h.right g listing c);
+      right = λ g posting c. still_right (h.right g posting c);
       no_more = h.no_more;
       once = h.once;
       one_good = h.one_good;
     }
   where
-    still_right : {good : ℕ} {listing : Listing} → IsListing atoms good listing → IsListing (atoms ++ a ∷ []) good listing
-    still_right {good} {listing} r =
-        let l : listing.place < length atoms = r.within in
-        let e : atom_at (atoms ++ a ∷ []) listing.place ≡ atom_at atoms listing.place =
-        get_or_append_left atoms (a ∷ []) (record { bundle = []; price = 0 }) listing.place l in
+    still_right : {posting : Posting} → IsPosting atoms posting → IsPosting (atoms ++ a ∷ []) posting
+    still_right {posting} r =
+        let l : posting.index < length atoms = r.within in
+        let e : atom_at (atoms ++ a ∷ []) posting.index ≡ atom_at atoms posting.index =
+        get_or_append_left atoms (a ∷ []) (record { bundle = []; price = 0 }) posting.index l in
         let long = length_push atoms a in
         record {
           within = omega arith;
-          listed = subst (λ (b : Atom (List ℕ)). IsListingOf b.bundle good listing) (sym e) r.listed;
+          marks = subst (λ (b : Atom (List ℕ)). AreMarks b.bundle posting.fingerprint) (sym e) r.marks;
         }
 
 -- ---- a good of each atom
@@ -336,18 +321,18 @@ AreGoodsOf-push goods atoms good a has h =
 
 -- ---- one more atom is listed
 
-module _ (lists more : List (List Listing)) (listed : ℕ) (atoms : List (Atom (List ℕ))) (good : ℕ) (new : Listing) (h : AreListed lists listed atoms)
+module _ (lists more : List (List Posting)) (listed : ℕ) (atoms : List (Atom (List ℕ))) (good : ℕ) (new : Posting) (h : AreListed lists listed atoms)
     (others : (g : ℕ) → (g ≡ good → ⊥) → listed_at more g ≡ listed_at lists g) (there : listed_at more good ≡ listed_at lists good ++ new ∷ [])
-    (place : new.place ≡ listed)
+    (place : new.index ≡ listed)
   where
     -- what is listed now was listed before, or is new
-    listing_cases : (g : ℕ) (listing : Listing) → Contains (listed_at more g) listing → Contains (listed_at lists g) listing ⊎ ((g ≡ good) × (new ≡ listing))
-    listing_cases g listing c =
+    posting_cases : (g : ℕ) (posting : Posting) → Contains (listed_at more g) posting → Contains (listed_at lists g) posting ⊎ ((g ≡ good) × (new ≡ posting))
+    posting_cases g posting c =
         ⊎_elim
-        (λ (e : g ≡ good). ⊎_elim (λ (k : Contains (listed_at lists good) listing). inl (subst (λ m. Contains (listed_at lists m) listing) (sym e) k))
-        (λ (k : new ≡ listing). inr (e, k))
-        (Contains-push_cases (listed_at lists good) new listing (subst (λ (zs : List Listing). Contains zs listing) (ap (listed_at more) e ∙ there) c)))
-        (λ (n : g ≡ good → ⊥). inl (subst (λ (zs : List Listing). Contains zs listing) (others g n) c))
+        (λ (e : g ≡ good). ⊎_elim (λ (k : Contains (listed_at lists good) posting). inl (subst (λ m. Contains (listed_at lists m) posting) (sym e) k))
+        (λ (k : new ≡ posting). inr (e, k))
+        (Contains-push_cases (listed_at lists good) new posting (subst (λ (zs : List Posting). Contains zs posting) (ap (listed_at more) e ∙ there) c)))
+        (λ (n : g ≡ good → ⊥). inl (subst (λ (zs : List Posting). Contains zs posting) (others g n) c))
         (cases_eq g good)
 
     place_cases : (g spot : ℕ) → Contains (places_at more g) spot → Contains (places_at lists g) spot ⊎ ((g ≡ good) × (spot ≡ listed))
@@ -355,24 +340,24 @@ module _ (lists more : List (List Listing)) (listed : ℕ) (atoms : List (Atom (
         let r = Contains-unmap place_of (listed_at more g) spot c in
         ⊎_elim (λ (k : Contains (listed_at lists g) r.0). inl
         (subst (λ n. Contains (places_at lists g) n) (sym r.2) (Contains-map place_of (listed_at lists g) r.0 k)))
-        (λ (k : (g ≡ good) × (new ≡ r.0)). inr (k.0, r.2 ∙ ap place_of (sym k.1) ∙ place)) (listing_cases g r.0 r.1)
+        (λ (k : (g ≡ good) × (new ≡ r.0)). inr (k.0, r.2 ∙ ap place_of (sym k.1) ∙ place)) (posting_cases g r.0 r.1)
 
     still : (g spot : ℕ) → Contains (places_at lists g) spot → Contains (places_at more g) spot
     still g spot c =
-        ⊎_elim (λ (e : g ≡ good). subst (λ (zs : List Listing). Contains (map place_of zs) spot) (sym (ap (listed_at more) e ∙ there))
+        ⊎_elim (λ (e : g ≡ good). subst (λ (zs : List Posting). Contains (map place_of zs) spot) (sym (ap (listed_at more) e ∙ there))
         (subst (λ (zs : List ℕ). Contains zs spot) (sym (map_push place_of (listed_at lists good) new))
-        (Contains-append_left (places_at lists good) (new.place ∷ []) spot (subst (λ m. Contains (places_at lists m) spot) e c))))
-        (λ (n : g ≡ good → ⊥). subst (λ (zs : List Listing). Contains (map place_of zs) spot) (sym (others g n)) c)
+        (Contains-append_left (places_at lists good) (new.index ∷ []) spot (subst (λ m. Contains (places_at lists m) spot) e c))))
+        (λ (n : g ≡ good → ⊥). subst (λ (zs : List Posting). Contains (map place_of zs) spot) (sym (others g n)) c)
         (cases_eq g good)
 
     here : Contains (places_at more good) (listed)
-    here = subst (λ n. Contains (places_at more good) n) place (subst (λ (zs : List Listing). Contains (map place_of zs) new.place) (sym there)
-        (subst (λ (zs : List ℕ). Contains zs new.place) (sym (map_push place_of (listed_at lists good) new)) (Contains-push (places_at lists good) new.place)))
+    here = subst (λ n. Contains (places_at more good) n) place (subst (λ (zs : List Posting). Contains (map place_of zs) new.index) (sym there)
+        (subst (λ (zs : List ℕ). Contains zs new.index) (sym (map_push place_of (listed_at lists good) new)) (Contains-push (places_at lists good) new.index)))
 
     pub AreListed-more : (a : Atom (List ℕ)) → a ≡ atom_at atoms listed → listed < length atoms → has_good a.bundle good ≡ true
-        → IsListingOf a.bundle good new → AreListed more (listed + 1) atoms
-    AreListed-more a is next has right =
-        let at : atom_at atoms new.place ≡ a = ap (atom_at atoms) place ∙ sym is in
+        → AreMarks a.bundle new.fingerprint → AreListed more (listed + 1) atoms
+    AreListed-more a is next has marks =
+        let at : atom_at atoms new.index ≡ a = ap (atom_at atoms) place ∙ sym is in
         record {
           most = omega arith;
           each = λ spot l.
@@ -385,13 +370,13 @@ module _ (lists more : List (List Listing)) (listed : ℕ) (atoms : List (Atom (
               subst (λ n. IsListed more (atom_at atoms n).bundle n) e
               (record { good = good; has = ap (λ (b : Atom (List ℕ)). has_good b.bundle good) (sym is) ∙ has; listed = here }))
               (cases_lt spot listed);
-          right = λ g listing c.
-              ⊎_elim (λ (k : Contains (listed_at lists g) listing). h.right g listing k)
-              (λ (k : (g ≡ good) × (new ≡ listing)). subst₂ (λ (h : ℕ) (z : Listing). IsListing atoms h z) (sym k.0) k.1 (record {
+          right = λ g posting c.
+              ⊎_elim (λ (k : Contains (listed_at lists g) posting). h.right g posting k)
+              (λ (k : (g ≡ good) × (new ≡ posting)). subst (λ (z : Posting). IsPosting atoms z) k.1 (record {
                 within = omega arith;
-                listed = subst (λ (b : Atom (List ℕ)). IsListingOf b.bundle good new) (sym at) right;
+                marks = subst (λ (b : Atom (List ℕ)). AreMarks b.bundle new.fingerprint) (sym at) marks;
               }))
-              (listing_cases g listing c);
+              (posting_cases g posting c);
           no_more = λ g spot c.
               ⊎_elim (λ (k : Contains (places_at lists g) spot). let l = h.no_more g spot k in omega (arith, l))
               (λ (k : (g ≡ good) × (spot ≡ listed)). let e : spot ≡ listed = k.1 in omega arith)
@@ -400,10 +385,10 @@ module _ (lists more : List (List Listing)) (listed : ℕ) (atoms : List (Atom (
               ⊎_elim
               (λ (e : g ≡ good). subst (λ (zs : List ℕ). AllPairs (λ one other. one ≢ other) zs) (sym (ap (λ m. places_at more m) e ∙ ap (map place_of) there
               ∙ map_push place_of (listed_at lists good) new))
-              (all_pairs_push (λ one other. one ≢ other) (places_at lists good) new.place (h.once good) (λ k d l q.
+              (all_pairs_push (λ one other. one ≢ other) (places_at lists good) new.index (h.once good) (λ k d l q.
               let w = h.no_more good (get_or (places_at lists good) k d) (Contains-get_or (places_at lists good) k d l) in
               omega (arith, w))))
-              (λ (n : g ≡ good → ⊥). subst (λ (zs : List Listing). AllPairs (λ one other. one ≢ other) (map place_of zs)) (sym (others g n)) (h.once g))
+              (λ (n : g ≡ good → ⊥). subst (λ (zs : List Posting). AllPairs (λ one other. one ≢ other) (map place_of zs)) (sym (others g n)) (h.once g))
               (cases_eq g good);
           one_good = λ g o spot c k. both g o spot (place_cases g spot c) (place_cases o spot k);
         }
@@ -453,26 +438,31 @@ found_more p old found more xs i place l is e f =
     ∙ append_assoc old (filter p (take i xs)) (cond (p (get_or xs i 0)) (get_or xs i 0 ∷ []) [])
     ∙ ap (λ (zs : List ℕ). old ++ zs) (sym (filter_more p xs i 0 l))
 
+-- the bundle that is read at a place
+pub bundle_there : {S : Type 0} (goods : S → List ℕ) (atoms : List (Atom S)) (i : ℕ) (a : Atom S) → a ≡ get_or atoms i a
+    → goods (get_or atoms i a).bundle ≡ goods a.bundle
+bundle_there {S} goods atoms i a e = ap (λ (b : Atom S). goods b.bundle) (sym e)
+
 -- the place at an index, and what is listed there
-pub places_get : (listed : List Listing) (i : ℕ) (d : Listing) → i < length listed → (i < length (map place_of listed))
-    × (get_or (map place_of listed) i 0 ≡ (get_or listed i d).place)
+pub places_get : (listed : List Posting) (i : ℕ) (d : Posting) → i < length listed → (i < length (map place_of listed))
+    × (get_or (map place_of listed) i 0 ≡ (get_or listed i d).index)
 places_get listed i d l = let long = length-map listed place_of in (omega arith, get_or-map place_of listed i d 0 l)
 
-pub listing_index : (lists : List (List Listing)) (count : ℕ) (atoms : List (Atom (List ℕ))) (good : ℕ) (listed : List Listing) (i : ℕ) (d : Listing)
-    → AreListed lists count atoms → listed_at lists good ≡ listed → i < length listed → IsListing atoms good (get_or listed i d)
-listing_index lists count atoms good listed i d a e l =
-    a.right good (get_or listed i d) (subst (λ (zs : List Listing). Contains zs (get_or listed i d)) (sym e) (Contains-get_or listed i d l))
+pub posting_index : (lists : List (List Posting)) (count : ℕ) (atoms : List (Atom (List ℕ))) (good : ℕ) (listed : List Posting) (i : ℕ) (d : Posting)
+    → AreListed lists count atoms → listed_at lists good ≡ listed → i < length listed → IsPosting atoms (get_or listed i d)
+posting_index lists count atoms good listed i d a e l =
+    a.right good (get_or listed i d) (subst (λ (zs : List Posting). Contains zs (get_or listed i d)) (sym e) (Contains-get_or listed i d l))
 
 -- an atom that is not inside the bundle does not cover it
-pub not_inside : (atoms : List (Atom (List ℕ))) (bundle : List ℕ) (price : ℕ) (listing : Listing) → is_inside_at atoms bundle listing.place ≡ false
-    → covers_at atoms bundle price listing.place ≡ false
-not_inside atoms bundle price listing t = and_right (leb price (atom_at atoms listing.place).price) (is_inside_at atoms bundle listing.place) t
+pub not_inside : (atoms : List (Atom (List ℕ))) (bundle : List ℕ) (price : ℕ) (posting : Posting) → is_inside_at atoms bundle posting.index ≡ false
+    → covers_at atoms bundle price posting.index ≡ false
+not_inside atoms bundle price posting t = and_right (leb price (atom_at atoms posting.index).price) (is_inside_at atoms bundle posting.index) t
 
-pub one_listed : (lists : List (List Listing)) (good : ℕ) (listed : List Listing) (i : ℕ) (d : Listing) (p : ℕ → Bool) → listed_at lists good ≡ listed
-    → i < length listed → p (get_or listed i d).place ≡ true → list_any p (places_at lists good) ≡ true
+pub one_listed : (lists : List (List Posting)) (good : ℕ) (listed : List Posting) (i : ℕ) (d : Posting) (p : ℕ → Bool) → listed_at lists good ≡ listed
+    → i < length listed → p (get_or listed i d).index ≡ true → list_any p (places_at lists good) ≡ true
 one_listed lists good listed i d p e l t =
-    list_any_has p (places_at lists good) (get_or listed i d).place (Contains-map place_of (listed_at lists good) (get_or listed i d)
-    (subst (λ (zs : List Listing). Contains zs (get_or listed i d)) (sym e) (Contains-get_or listed i d l))) t
+    list_any_has p (places_at lists good) (get_or listed i d).index (Contains-map place_of (listed_at lists good) (get_or listed i d)
+    (subst (λ (zs : List Posting). Contains zs (get_or listed i d)) (sym e) (Contains-get_or listed i d l))) t
 
 pub none_more : (p : ℕ → Bool) (xs : List ℕ) (i place : ℕ) → i < length xs → get_or xs i 0 ≡ place → list_any p (take i xs) ≡ false → p place ≡ false
     → list_any p (take (i + 1) xs) ≡ false
@@ -500,24 +490,24 @@ seen_more {S} goods atoms inside more places i a l m e h f =
 
 -- ---- the list at one good is written
 
-pub listed-set_same : (vectors : List (Vec Listing)) (good : ℕ) (v : Vec Listing) → good < length vectors → listed_at (lists_of (set vectors good v)) good
+pub listed-set_same : (vectors : List (Vec Posting)) (good : ℕ) (v : Vec Posting) → good < length vectors → listed_at (lists_of (set vectors good v)) good
     ≡ v.items
 listed-set_same vectors good v l =
-    let long = length-map vectors (λ (v : Vec Listing). v.items) in
+    let long = length-map vectors (λ (v : Vec Posting). v.items) in
     let m : good < length (lists_of vectors) = omega arith in
-    ap (λ (zs : List (List Listing)). get_or zs good []) (map-set (λ (v : Vec Listing). v.items) vectors good v)
+    ap (λ (zs : List (List Posting)). get_or zs good []) (map-set (λ (v : Vec Posting). v.items) vectors good v)
     ∙ get_or-set_same (lists_of vectors) good v.items [] m
 
 -- a list that is added is empty
-pub listed-pushed : (vectors : List (Vec Listing)) (v : Vec Listing) (k : ℕ) → v.items ≡ [] → listed_at (lists_of (vectors ++ v ∷ [])) k
+pub listed-pushed : (vectors : List (Vec Posting)) (v : Vec Posting) (k : ℕ) → v.items ≡ [] → listed_at (lists_of (vectors ++ v ∷ [])) k
     ≡ listed_at (lists_of vectors) k
 listed-pushed [] v zero e = e
 listed-pushed [] v (suc k) e = refl
 listed-pushed (x ∷ xs) v zero e = refl
 listed-pushed (x ∷ xs) v (suc k) e = listed-pushed xs v k e
 
-pub listed-set_other : (vectors : List (Vec Listing)) (good : ℕ) (v : Vec Listing) (g : ℕ) → (g ≡ good → ⊥) → listed_at (lists_of (set vectors good v)) g
+pub listed-set_other : (vectors : List (Vec Posting)) (good : ℕ) (v : Vec Posting) (g : ℕ) → (g ≡ good → ⊥) → listed_at (lists_of (set vectors good v)) g
     ≡ listed_at (lists_of vectors) g
 listed-set_other vectors good v g n =
-    ap (λ (zs : List (List Listing)). get_or zs g []) (map-set (λ (v : Vec Listing). v.items) vectors good v)
+    ap (λ (zs : List (List Posting)). get_or zs g []) (map-set (λ (v : Vec Posting). v.items) vectors good v)
     ∙ get_or-set_other (lists_of vectors) good g v.items [] n

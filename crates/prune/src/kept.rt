@@ -2,15 +2,15 @@
 ghost use Rattle.std.specs.Prelude.{◌≡◌, ℕ, List, ◌+◌, ◌<◌, ◌≤◌, ◌&&◌, true, false, map, length, IfOk, OnOk, [], ◌∷◌, ◌++◌};
 ghost use Rattle.std.specs.Bool.{OnTrue};
 ghost use Rattle.std.specs.List.{filter, list_any, range_with_len};
-ghost use Rattle.goods_set.specs.Residues.{AreResidues};
+ghost use Rattle.goods_set.specs.Fingerprints.{AreMarks};
 ghost use Rattle.valuation.specs.Values.{atoms_of};
 ghost use Rattle.valuation.specs.declared.atom.Atom.{Atom};
 ghost use Rattle.prune.specs.InOrder.{IsInOrder};
-ghost use Rattle.prune.specs.Internal.Listings.{atom_at, lists_of, places_at, is_inside_at, covers_at, atoms_inside, covers, AreListed, AreGoodsOf, IsAsked, IsBehind, NoneInsideFrom};
+ghost use Rattle.prune.specs.Internal.Listings.{atom_at, lists_of, places_at, is_inside_at, covers_at, atoms_inside, covers, AreListed, AreGoodsOf, IsPosting, IsBehind, NoneInsideFrom};
 
 use crate::commonness::Commonness;
-use crate::listing::{Listing, Sought, WIDE};
-use goods_set::GoodsSet;
+use crate::posting::Posting;
+use goods_set::{GoodsSet, fingerprint, may_be_subset, rising_goods};
 use std::alloc::{AllocError, Global};
 use valuation::Atom;
 
@@ -24,21 +24,24 @@ pub struct KeptIndex {
     /// How many of the atoms, from the first on, are listed.
     listed: usize,
     /// For each good the atoms that are listed there.
-    lists: Vec<Vec<Listing>>,
+    lists: Vec<Vec<Posting>>,
     /// How common goods are among all atoms that may be kept.
     commonness: Commonness,
+    /// Room for the goods of an atom.
+    room: Vec<u16>,
 }
 
 /// Whether the atom that is listed at a good is inside the bundle.
 #[inline(always)]
-fn is_inside<S: GoodsSet>(kept: &[Atom<S>], listing: &Listing, bundle: &S, sought: Sought) -> bool
-    requires { IsAsked (atoms_of S.goods kept.now) listing.now (S.goods bundle.now) sought }
-    ensures { result ≡ is_inside_at (atoms_of S.goods kept.now) (S.goods bundle.now) listing.now.place }
+fn is_inside<S: GoodsSet>(kept: &[Atom<S>], posting: &Posting, bundle: &S, marks: u128) -> bool
+    requires listed { IsPosting (atoms_of S.goods kept.now) posting.now }
+    requires marks { AreMarks (S.goods bundle.now) marks }
+    ensures { result ≡ is_inside_at (atoms_of S.goods kept.now) (S.goods bundle.now) posting.now.index }
 {
-    if !listing.may_be_inside(sought) {
+    if !may_be_subset(posting.fingerprint, marks) {
         return false;
     }
-    kept[listing.place as usize].bundle.is_inside(bundle)
+    kept[posting.index as usize].bundle.is_inside(bundle)
 }
 
 /// Whether the atom that is listed at a good is inside the bundle and has at least the price. The price is compared
@@ -46,18 +49,19 @@ fn is_inside<S: GoodsSet>(kept: &[Atom<S>], listing: &Listing, bundle: &S, sough
 #[inline(always)]
 fn is_covering<S: GoodsSet>(
     kept: &[Atom<S>],
-    listing: &Listing,
+    posting: &Posting,
     bundle: &S,
-    sought: Sought,
+    marks: u128,
     price: u64,
 ) -> bool
-    requires { IsAsked (atoms_of S.goods kept.now) listing.now (S.goods bundle.now) sought }
-    ensures { result ≡ covers_at (atoms_of S.goods kept.now) (S.goods bundle.now) price listing.now.place }
+    requires listed { IsPosting (atoms_of S.goods kept.now) posting.now }
+    requires marks { AreMarks (S.goods bundle.now) marks }
+    ensures { result ≡ covers_at (atoms_of S.goods kept.now) (S.goods bundle.now) price posting.now.index }
 {
-    if !listing.may_be_inside(sought) {
+    if !may_be_subset(posting.fingerprint, marks) {
         return false;
     }
-    let atom = &kept[listing.place as usize];
+    let atom = &kept[posting.index as usize];
     price <= atom.price && atom.bundle.is_inside(bundle)
 }
 
@@ -72,6 +76,7 @@ impl KeptIndex {
             listed: 0,
             lists: Vec::new(alloc),
             commonness: Commonness::of(alloc, atoms)?,
+            room: Vec::new(alloc),
         })
     }
 
@@ -102,12 +107,16 @@ impl KeptIndex {
             return Err(AllocError);
         }
         let least = self.goods[self.listed];
-        let listing = Listing::of(&kept[self.listed], least, self.listed as u32);
+        let marks = fingerprint(rising_goods(&kept[self.listed].bundle, &mut self.room)?);
+        let posting = Posting {
+            index: self.listed as u32,
+            fingerprint: marks,
+        };
         let good = usize::from(least);
         while self.lists.len() <= good {
             self.lists.push(Vec::new(alloc))?;
         }
-        self.lists[good].push(listing)?;
+        self.lists[good].push(posting)?;
         self.listed += 1;
         Ok(())
     }
@@ -154,23 +163,20 @@ impl KeptIndex {
         kept: &[Atom<S>],
         good: u16,
         bundle: &S,
-        residues: u64,
-        wide: bool,
+        marks: u128,
         found: &mut Vec<usize>,
     ) -> Result<(), AllocError>
         requires listed { AreListed (lists_of self.now.lists.items) self.now.listed (atoms_of S.goods kept.now) }
-        requires residues { AreResidues (S.goods bundle.now) residues }
-        requires narrow { wide ≡ false → length (S.goods bundle.now) ≤ 40 }
+        requires marks { AreMarks (S.goods bundle.now) marks }
         ensures { let inside = is_inside_at (atoms_of S.goods kept.now) (S.goods bundle.now) in
             let listed = places_at (lists_of self.now.lists.items) good in
             OnOk result (found.new.items ≡ found.old.items ++ filter inside listed) }
     {
         let place = usize::from(good);
         if place < self.lists.len() {
-            let sought = Sought::at(bundle, good, residues, wide);
-            for listing in &self.lists[place] {
-                if is_inside(kept, listing, bundle, sought) {
-                    found.push(listing.place as usize)?;
+            for posting in &self.lists[place] {
+                if is_inside(kept, posting, bundle, marks) {
+                    found.push(posting.index as usize)?;
                 }
             }
         }
@@ -192,11 +198,10 @@ impl KeptIndex {
             let all = range_with_len 0 (length kept.now) in
             OnOk result (places.new.items ≡ filter inside all) }
     {
-        let residues = bundle.residues();
-        let wide = goods.len() > WIDE;
+        let marks = fingerprint(goods);
         places.clear();
         for good in goods {
-            self.find_listed(kept, *good, bundle, residues, wide, places)?;
+            self.find_listed(kept, *good, bundle, marks, places)?;
         }
         places.sort_unstable();
         Ok(())
@@ -232,21 +237,18 @@ impl KeptIndex {
         kept: &[Atom<S>],
         good: u16,
         bundle: &S,
-        residues: u64,
-        wide: bool,
+        marks: u128,
         price: u64,
     ) -> bool
         requires listed { AreListed (lists_of self.now.lists.items) self.now.listed (atoms_of S.goods kept.now) }
-        requires residues { AreResidues (S.goods bundle.now) residues }
-        requires narrow { wide ≡ false → length (S.goods bundle.now) ≤ 40 }
+        requires marks { AreMarks (S.goods bundle.now) marks }
         ensures { let covering = covers_at (atoms_of S.goods kept.now) (S.goods bundle.now) price in
             result ≡ list_any covering (places_at (lists_of self.now.lists.items) good) }
     {
         let place = usize::from(good);
         if place < self.lists.len() {
-            let sought = Sought::at(bundle, good, residues, wide);
-            for listing in &self.lists[place] {
-                if is_covering(kept, listing, bundle, sought, price) {
+            for posting in &self.lists[place] {
+                if is_covering(kept, posting, bundle, marks, price) {
                     return true;
                 }
             }
@@ -267,10 +269,9 @@ impl KeptIndex {
         requires unlisted { NoneInsideFrom self.now.listed (atoms_of S.goods kept.now) (S.goods bundle.now) }
         ensures { result ≡ list_any (covers (S.goods bundle.now) price) (atoms_of S.goods kept.now) }
     {
-        let residues = bundle.residues();
-        let wide = goods.len() > WIDE;
+        let marks = fingerprint(goods);
         for good in goods {
-            if self.has_listed(kept, *good, bundle, residues, wide, price) {
+            if self.has_listed(kept, *good, bundle, marks, price) {
                 return true;
             }
         }

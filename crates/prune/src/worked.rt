@@ -1,8 +1,8 @@
 //! Worked examples of the definitions, which the check computes.
-ghost use Rattle.std.specs.Prelude.{◌≡◌, ◌+◌, [], ◌∷◌, true, false, Some, None, Ok};
+ghost use Rattle.std.specs.Prelude.{◌≡◌, ◌+◌, ◌^◌, [], ◌∷◌, true, false, Some, None, Ok};
 ghost use Rattle.valuation.specs.Examples.{atom};
-ghost use Rattle.prune.specs.declared.listing.Listing.{Listing};
-ghost use Rattle.prune.specs.Internal.Listings.{IsListed, IsListing, AreListed, NoneInsideFrom};
+ghost use Rattle.prune.specs.declared.posting.Posting.{Posting};
+ghost use Rattle.prune.specs.Internal.Listings.{IsListed, IsPosting, AreListed, NoneInsideFrom};
 ghost use Rattle.prune.specs.Internal.PricesLeft.{ArePricesLeft};
 ghost use Rattle.prune.specs.Internal.Reaching.{IsReaching, IsSearched};
 ghost use Rattle.prune.specs.Points.{xor_points, or_points};
@@ -79,31 +79,28 @@ pub fn steps_worked()
 
 /// A place is listed at a good of the bundle.
 fn listed_worked()
-    ensures one { let it : Listing = record { place = 0; wide = false; block = 1; second = 1 } in
+    ensures one { let it : Posting = record { index = 0; fingerprint = 2 ^ 96 } in
         IsListed ((it ∷ []) ∷ []) (0 ∷ []) 0 }
-    ensures other_good { let it : Listing = record { place = 0; wide = false; block = 1; second = 1 } in
+    ensures other_good { let it : Posting = record { index = 0; fingerprint = 2 ^ 96 } in
         ¬ IsListed ((it ∷ []) ∷ []) (1 ∷ []) 0 }
-    ensures other_place { let it : Listing = record { place = 0; wide = false; block = 1; second = 1 } in
+    ensures other_place { let it : Posting = record { index = 0; fingerprint = 2 ^ 96 } in
         ¬ IsListed ((it ∷ []) ∷ []) (0 ∷ []) 1 }
 {}
 
-/// What is listed at a good has the goods of the atom's bundle in the good's block, and where these are few its residues.
-fn listing_worked()
-    ensures right { IsListing (atom (0 ∷ []) 5 ∷ []) 0 (record { place = 0; wide = false; block = 1; second = 1 }) }
-    ensures no_atom { ¬ IsListing (atom (0 ∷ []) 5 ∷ []) 0 (record { place = 1; wide = false; block = 1; second = 1 }) }
-    ensures residues { ¬ IsListing (atom (0 ∷ []) 5 ∷ []) 0 (record { place = 0; wide = false; block = 1; second = 2 }) }
-    ensures block { ¬ IsListing (atom (0 ∷ []) 5 ∷ []) 0 (record { place = 0; wide = false; block = 2; second = 1 }) }
-    ensures few { ¬ IsListing (atom (0 ∷ []) 5 ∷ []) 0 (record { place = 0; wide = true; block = 1; second = 0 }) }
-    ensures other_block { ¬ IsListing (atom (0 ∷ []) 5 ∷ []) 64 (record { place = 0; wide = false; block = 1; second = 1 }) }
+/// What is listed is the index of an atom, with the fingerprint of its bundle.
+fn posting_worked()
+    ensures right { IsPosting (atom (0 ∷ []) 5 ∷ []) (record { index = 0; fingerprint = 2 ^ 96 }) }
+    ensures no_atom { ¬ IsPosting (atom (0 ∷ []) 5 ∷ []) (record { index = 1; fingerprint = 2 ^ 96 }) }
+    ensures no_mark { ¬ IsPosting (atom (0 ∷ []) 5 ∷ []) (record { index = 0; fingerprint = 0 }) }
 {}
 
 /// So many atoms are listed, from the first on, and nothing else.
-fn listings_worked()
+fn postings_worked()
     ensures none_yet { AreListed [] 0 (atom (0 ∷ []) 5 ∷ []) }
-    ensures one { let it : Listing = record { place = 0; wide = false; block = 1; second = 1 } in
+    ensures one { let it : Posting = record { index = 0; fingerprint = 2 ^ 96 } in
         AreListed ((it ∷ []) ∷ []) 1 (atom (0 ∷ []) 5 ∷ []) }
     ensures nowhere { ¬ AreListed [] 1 (atom (0 ∷ []) 5 ∷ []) }
-    ensures too_many { let it : Listing = record { place = 0; wide = false; block = 1; second = 1 } in
+    ensures too_many { let it : Posting = record { index = 0; fingerprint = 2 ^ 96 } in
         ¬ AreListed ((it ∷ []) ∷ []) 0 (atom (0 ∷ []) 5 ∷ []) }
 {}
 

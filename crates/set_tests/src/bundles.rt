@@ -1,6 +1,6 @@
 //! What is seen of sets of both kinds, at worked examples. Each call is made with ample memory, so
 //! that it has to succeed.
-use goods_set::{GoodsSet, ListSet, WordSet, goods_of, may_be_inside, rising_goods};
+use goods_set::{GoodsSet, ListSet, WordSet, fingerprint, goods_of, may_be_subset, rising_goods};
 use std::alloc::Global;
 use std::cmp::Ordering;
 use std::process::Abort;
@@ -119,28 +119,13 @@ fn compare_sets<S: GoodsSet>(rt: &impl Abort, alloc: Global) -> Result<(), Fail>
     Ok(())
 }
 
-fn tell_residues<S: GoodsSet>(rt: &impl Abort, alloc: Global) -> Result<(), Fail> {
-    let set = set_of::<S>(rt, alloc, &[1, 66])?;
-    let other = set_of::<S>(rt, alloc, &[3])?;
-    assert_eq!(rt; set.residues(), 6);
-    assert_eq!(rt; other.residues(), 8);
-    assert!(rt; !may_be_inside(other.residues(), set.residues()));
-    Ok(())
-}
-
-// A good, and those of 1, 63, 64, 70, 127 and 128 in its block of 64.
-static BLOCKS: [(u16, u64); 4] = [
-    (5, 1 << 1 | 1 << 63),
-    (70, 1 | 1 << 6 | 1 << 63),
-    (128, 1),
-    (300, 0),
-];
-
-fn tell_blocks<S: GoodsSet>(rt: &impl Abort, alloc: Global) -> Result<(), Fail> {
-    let set = set_of::<S>(rt, alloc, &[1, 63, 64, 70, 127, 128])?;
-    for (good, block) in &BLOCKS {
-        assert_eq!(rt; set.block(*good), *block);
-    }
+// Goods 0 and 1 mark bits 96 and 39, and good 2 bit 79.
+#[test]
+fn fingerprints_reject_what_is_not_inside(rt: HostRuntime) -> Result<(), Fail> {
+    let marks = fingerprint(&[0, 1]);
+    assert!(&rt; marks == 1 << 96 | 1 << 39);
+    assert!(&rt; may_be_subset(fingerprint(&[1]), marks));
+    assert!(&rt; !may_be_subset(fingerprint(&[1, 2]), marks));
     Ok(())
 }
 
@@ -164,8 +149,6 @@ fn hold_goods<S: GoodsSet>(rt: &impl Abort, alloc: Global) -> Result<(), Fail> {
     put_and_ask::<S>(rt, alloc)?;
     copy_and_list::<S>(rt, alloc)?;
     take_a_slice::<S>(rt, alloc)?;
-    tell_residues::<S>(rt, alloc)?;
-    tell_blocks::<S>(rt, alloc)?;
     tell_fronts::<S>(rt, alloc)?;
     compare_sets::<S>(rt, alloc)
 }
@@ -195,7 +178,6 @@ fn hold_many(rt: &impl Abort, alloc: Global, many: &ListSet) -> Result<(), Fail>
     let left = left_of_many(rt, alloc, many)?;
     let few = ListSet::from_slice(alloc, &MANY[..8])?;
     assert!(rt; left.order(&few) == Ordering::Equal);
-    assert!(rt; left.residues() == few.residues());
     assert!(rt; left.front() == few.front());
     assert!(rt; left.is_inside(&few) && few.is_inside(&left));
     assert!(rt; few.is_inside(many) && !many.is_inside(&few));

@@ -1,7 +1,6 @@
 //! What is kept beside the goods of a set, so that most sets are told apart without them.
 ghost use Rattle.std.specs.Prelude.{◌≡◌, get_or};
 ghost use Rattle.goods_set.specs.Fronts.{front_of};
-ghost use Rattle.goods_set.specs.Internal.Residues.{residues_of};
 
 use crate::front::front_from;
 
@@ -25,15 +24,4 @@ pub(crate) fn front(goods: &[u16]) -> u64
         good_at(goods, 1),
         good_at(goods, 2),
     )
-}
-
-/// The goods modulo 64, as the bits of a word.
-pub(crate) fn residues(goods: &[u16]) -> u64
-    ensures { result ≡ residues_of goods.now }
-{
-    let mut bits = 0;
-    for good in goods {
-        bits |= 1u64 << (*good % 64);
-    }
-    bits
 }

@@ -1,10 +1,9 @@
-//! What goes through the words of a set from the first: how many goods they hold, their residues, the next
-//! good, all goods, and which of two sets comes first.
+//! What goes through the words of a set from the first: how many goods they hold, the next good, all
+//! goods, and which of two sets comes first.
 ghost use Rattle.std.specs.Prelude.{◌≡◌, ◌+◌, ◌*◌, ◌^◌, ◌≤◌, [], ◌∷◌, ◌++◌, map, length, OnOk};
 ghost use Rattle.std.specs.Ordering.{nat_cmp};
 ghost use Rattle.std.specs.Cmp.Lexicographic.{slice_cmp};
 ghost use Rattle.goods_set.specs.Bundles.{good_from};
-ghost use Rattle.goods_set.specs.Residues.{AreResidues};
 ghost use Rattle.goods_set.specs.Words.{word_goods};
 
 use std::alloc::AllocError;
@@ -20,17 +19,6 @@ pub(crate) fn count_goods(words: &[u64]) -> usize
         count += word.count_ones() as usize;
     }
     count
-}
-
-/// The goods that the words hold modulo 64, as bits: those that are set in some word.
-pub(crate) fn all_residues(words: &[u64]) -> u64
-    ensures { AreResidues (word_goods (64 * length words.now) words.now) result }
-{
-    let mut bits = 0;
-    for word in words {
-        bits |= *word;
-    }
-    bits
 }
 
 /// The least good that is at least `from`.

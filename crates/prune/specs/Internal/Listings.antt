@@ -1,28 +1,26 @@
 -- Atoms listed by their goods, so that those inside a bundle are found through the goods of the bundle.
 use Rattle.std.specs.Prelude.{◌≡◌, ◌≢◌, ℕ, ◌<◌, ◌≤◌, Bool, ◌&&◌, true, false, nat_le, map, slice_index_or, List, [], length}
-use Rattle.std.specs.Prelude.{◌+◌, ◌-◌, cond, nat_lt, take, All, AllPairs, Contains}
+use Rattle.std.specs.Prelude.{take, All, AllPairs, Contains}
 use Rattle.std.proofs.Common.{Less}
 use Rattle.std.specs.Global.{Vec}
 use Rattle.std.specs.List.{filter, list_any}
 use Rattle.valuation.specs.declared.atom.Atom.{Atom}
 use Rattle.goods_set.specs.Bundles.{has_good, is_inside}
 use Rattle.goods_set.specs.Orders.{bundle_cmp}
-use Rattle.goods_set.specs.Residues.{AreResidues, block_of}
-use Rattle.prune.specs.declared.listing.Listing.{Listing}
-use Rattle.prune.specs.declared.listing.Sought.{Sought}
-use Rattle.prune.specs.declared.listing.Sought.TheVariants.{Narrow, Wide}
+use Rattle.goods_set.specs.Fingerprints.{AreMarks}
+use Rattle.prune.specs.declared.posting.Posting.{Posting}
 
 -- for each good what is listed there
-abbrev pub lists_of : List (Vec Listing) → List (List Listing)
+abbrev pub lists_of : List (Vec Posting) → List (List Posting)
 lists_of vectors = map (λ v. v.items) vectors
 
 -- what is listed at a good
-abbrev pub listed_at : List (List Listing) → ℕ → List Listing
+abbrev pub listed_at : List (List Posting) → ℕ → List Posting
 listed_at lists good = slice_index_or lists good []
 
 -- the places that are listed at a good
-abbrev pub places_at : List (List Listing) → ℕ → List ℕ
-places_at lists good = map (λ listing. listing.place) (listed_at lists good)
+abbrev pub places_at : List (List Posting) → ℕ → List ℕ
+places_at lists good = map (λ posting. posting.index) (listed_at lists good)
 
 -- the atom at a place
 abbrev pub atom_at : List (Atom (List ℕ)) → ℕ → Atom (List ℕ)
@@ -46,44 +44,21 @@ abbrev pub covers_at : List (Atom (List ℕ)) → List ℕ → ℕ → ℕ → B
 covers_at atoms bundle price place = covers bundle price (atom_at atoms place)
 
 -- the place is listed at a good of the bundle
-pub record IsListed (lists : List (List Listing)) (bundle : List ℕ) (place : ℕ) : Type 0 where
+pub record IsListed (lists : List (List Posting)) (bundle : List ℕ) (place : ℕ) : Type 0 where
   pub good : ℕ
   pub has : has_good bundle good ≡ true
   pub listed : Contains (places_at lists good) place
 
--- a good of the block of 64 beside that of a good
-abbrev pub beside_of : ℕ → ℕ
-beside_of good = cond (nat_lt good 64) (good + 64) (good - 64)
-
--- what is listed at a good of a bundle is right: its goods in the good's block and, where there are more than 40 goods, those in the
--- block beside that one, and else all residues
-pub record IsListingOf (bundle : List ℕ) (good : ℕ) (listing : Listing) : Type 0 where
-  pub block : AreResidues (block_of good bundle) listing.block
-  pub large : listing.wide ≡ true → 40 < length bundle
-  pub beside : listing.wide ≡ true → AreResidues (block_of (beside_of good) bundle) listing.second
-  pub residues : listing.wide ≡ false → AreResidues bundle listing.second
-
--- the same of the bundle of the atom at the place that is listed
-pub record IsListing (atoms : List (Atom (List ℕ))) (good : ℕ) (listing : Listing) : Type 0 where
-  pub within : listing.place < length atoms
-  pub listed : IsListingOf (atom_at atoms listing.place).bundle good listing
-
--- what is asked at a good tells of a bundle of at most 40 goods its residues, and else its goods in the two blocks
-abbrev pub Tells : Sought → ℕ → List ℕ → Type 0
-Tells (Narrow residues) good bundle = (length bundle ≤ 40) × AreResidues bundle residues
-Tells (Wide block beside) good bundle = AreResidues (block_of good bundle) block × AreResidues (block_of (beside_of good) bundle) beside
-
--- that is asked of an atom at the good at which it is listed
-pub record IsAsked (atoms : List (Atom (List ℕ))) (listing : Listing) (bundle : List ℕ) (sought : Sought) : Type 0 where
-  pub good : ℕ
-  pub is : IsListing atoms good listing
-  pub tells : Tells sought good bundle
+-- what is listed is one of the atoms, with the fingerprint of its bundle
+pub record IsPosting (atoms : List (Atom (List ℕ))) (posting : Posting) : Type 0 where
+  pub within : posting.index < length atoms
+  pub marks : AreMarks (atom_at atoms posting.index).bundle posting.fingerprint
 
 -- each of so many atoms, from the first on, is listed at one of its goods, once and at no other good, and nothing else is listed
-pub record AreListed (lists : List (List Listing)) (listed : ℕ) (atoms : List (Atom (List ℕ))) : Type 0 where
+pub record AreListed (lists : List (List Posting)) (listed : ℕ) (atoms : List (Atom (List ℕ))) : Type 0 where
   pub most : listed ≤ length atoms
   pub each : (place : ℕ) → place < listed → IsListed lists (atom_at atoms place).bundle place
-  pub right : (good : ℕ) (listing : Listing) → Contains (listed_at lists good) listing → IsListing atoms good listing
+  pub right : (good : ℕ) (posting : Posting) → Contains (listed_at lists good) posting → IsPosting atoms posting
   pub no_more : (good place : ℕ) → Contains (places_at lists good) place → place < listed
   pub once : (good : ℕ) → AllPairs (λ one other. one ≢ other) (places_at lists good)
   pub one_good : (good other place : ℕ) → Contains (places_at lists good) place → Contains (places_at lists other) place

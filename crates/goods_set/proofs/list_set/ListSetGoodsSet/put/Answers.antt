@@ -1,15 +1,22 @@
-use Rattle.std.proofs.Common.{rules, ◌∙◌, List, ℕ, sym, subst}
+use Rattle.std.proofs.Common.{◌≡◌, rules, List, ℕ, sym, subst}
+use Rattle.std.specs.Prelude.{Result, Ok, Err, OnOk, OnErr}
 use Rattle.goods_set.specs.Bundles.{IsBundle}
 use Rattle.goods_set.specs.Lemmas.Sizes.{IsBundle-with_good, with_good_there}
 use Rattle.goods_set.proofs.list_set.ListSetGoodsSet.put.Goals as goal
 
-pub invariant_of-self-in-Err : goal.invariant_of-self-in-Err
-invariant_of-self-in-Err c =
-    let s = c.args.self.now in
+-- the goods are a bundle, whether the good was put in or memory was refused
+either : {T E : Type 0} (r : Result T E) (new old other : List ℕ) → OnOk r (new ≡ other) → OnErr r (new ≡ old) → IsBundle 65536 old → IsBundle 65536 other
+    → IsBundle 65536 new
+either (Ok x) new old other put same before after = subst (λ (zs : List ℕ). IsBundle 65536 zs) (sym put) after
+either (Err x) new old other put same before after = subst (λ (zs : List ℕ). IsBundle 65536 zs) (sym same) before
+
+pub invariant_of-self : goal.invariant_of-self
+invariant_of-self c =
+    let goods = c.args.self.now.goods in
+    let bundle = c.args.self.now.bundle in
     record {
-      marked = rw c.as_slice.ensures at c.residues-self.ensures;
-      bundle = subst (λ (zs : List ℕ). IsBundle 65536 zs) (sym (c.in_ok-insert-in-Err.ensures.goods ∙ c.in-Err.ensures.2))
-          (IsBundle-with_good 65536 c.args.good s.goods c.ranges.good.fits s.bundle);
+      bundle = either c.insert.result _ goods _ c.insert.ensures.goods c.insert.ensures.same bundle
+          (subst (λ (zs : List ℕ). IsBundle 65536 zs) (sym c.in-Err.ensures.2) (IsBundle-with_good 65536 c.args.good goods c.ranges.good.fits bundle));
     }
 
 pub returns-in-Ok-clause-goods : goal.returns-in-Ok-clause-goods

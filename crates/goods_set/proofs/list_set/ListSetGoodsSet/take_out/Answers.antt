@@ -8,6 +8,5 @@ invariant_of-self c =
     let xs : List ℕ = c.args.self.now.goods in
     let ys : List ℕ = c.args.other.now.goods in
     record {
-      marked = rw c.as_slice.ensures at c.residues-self.ensures;
       bundle = subst (λ (zs : List ℕ). IsBundle 65536 zs) (sym c.leave.ensures) (IsBundle-without 65536 xs ys c.args.self.now.bundle);
     }

@@ -5,8 +5,8 @@ use Rattle.prune.specs.Internal.Listings.{is_inside_at}
 use Rattle.prune.proofs.ListedAtoms.{place_of}
 use Rattle.prune.proofs.kept.KeptIndex.find_listed.Given as goal
 
-abbrev pub invariant-loop-listing : goal.invariant-loop-listing
-invariant-loop-listing g l =
+abbrev pub invariant-loop-posting : goal.invariant-loop-posting
+invariant-loop-posting g l =
     let goods = g.S.GoodsSet.goods in
     l.found.items ≡ l.fn.found.items ++ filter (is_inside_at (atoms_of goods l.kept) (goods l.bundle))
-    (take l.listing-index (map place_of l.listing-items))
+    (take l.posting-index (map place_of l.posting-items))

@@ -1,12 +1,13 @@
-use Rattle.std.proofs.Common.{arith, ◌≡◌, ◌++◌, ◌<◌, ℕ, length, get_or, sym, ap, ◌∙◌, subst, set, List, [], ◌∷◌, true}
+use Rattle.std.proofs.Common.{arith, refl, ◌≡◌, ◌++◌, ◌<◌, ℕ, length, get_or, sym, ap, ◌∙◌, subst, set, List, [], ◌∷◌, true}
 use Rattle.std.proofs.lemmas.Grind.{get_or_default_zero}
 use Rattle.goods_set.specs.Bundles.{has_good}
+use Rattle.goods_set.specs.Fingerprints.{AreMarks}
 use Rattle.valuation.specs.Values.{atoms_of, plain_atom}
 use Rattle.valuation.specs.Lemmas.Atoms.{length-atoms_of, get_or-atoms_of}
 use Rattle.valuation.specs.declared.atom.Atom.{Atom}
-use Rattle.prune.specs.declared.listing.Listing.{Listing}
-use Rattle.prune.specs.Internal.Listings.{lists_of, listed_at, IsListingOf}
-use Rattle.prune.proofs.ListedAtoms.{AreListed-more, listed-set_same, listed-set_other, listed-pushed, listed_there}
+use Rattle.prune.specs.declared.posting.Posting.{Posting}
+use Rattle.prune.specs.Internal.Listings.{lists_of, listed_at}
+use Rattle.prune.proofs.ListedAtoms.{AreListed-more, listed-set_same, listed-set_other, listed-pushed, listed_there, bundle_there}
 use Rattle.prune.proofs.kept.KeptIndex.list_next.Goals as goal
 
 pub loop-alloc-preserved : goal.loop-alloc-preserved
@@ -24,13 +25,13 @@ returns-clause-listed g c =
     let kept = c.args.kept.now in
     let vectors = c.loop-alloc.self.lists.items in
     let good = c.from-good.result in
-    let listing = c.of-listing.result in
+    let posting : Posting = record { index = old.listed; fingerprint = c.fingerprint-marks.result } in
     let l : good < length vectors = omega (arith, c.loop-alloc-test.false, c.len.ensures, c.loop-alloc.self.lists.ok.0) in
     let before : listed_at (lists_of vectors) good ≡ c.index_mut.result.now.items =
     listed_there vectors good c.index_mut.result.now l c.index_mut.ensures.value in
-    let there : listed_at (lists_of (set vectors good c.push-2.new.self)) good ≡ listed_at (lists_of old.lists.items) good ++ listing ∷ [] =
+    let there : listed_at (lists_of (set vectors good c.push-2.new.self)) good ≡ listed_at (lists_of old.lists.items) good ++ posting ∷ [] =
     listed-set_same vectors good c.push-2.new.self l ∙ c.in_ok-push-2.ensures.items
-    ∙ ap (λ (zs : List Listing). zs ++ listing ∷ []) (sym before ∙ c.loop-alloc.invariant.lists good) in
+    ∙ ap (λ (zs : List Posting). zs ++ posting ∷ []) (sym before ∙ c.loop-alloc.invariant.lists good) in
     let atom = c.index-kept-self.result in
     let next = c.requires.next in
     let long = length-atoms_of goods kept in
@@ -43,7 +44,8 @@ returns-clause-listed g c =
     ap (has_good (goods atom.bundle)) (least ∙ noted) ∙ ap (λ (b : Atom (List ℕ)). has_good b.bundle (get_or old.goods.items old.listed 0)) (sym at)
     ∙ c.requires.goods.each old.listed (omega (arith, next, long)) in
     rw c.loop-alloc.invariant.listed
-    (AreListed-more (lists_of old.lists.items) _ old.listed (atoms_of goods kept) good listing c.requires.listed
-    (λ k n. listed-set_other vectors good c.push-2.new.self k n ∙ c.loop-alloc.invariant.lists k) there c.of-listing.ensures.place
+    (AreListed-more (lists_of old.lists.items) _ old.listed (atoms_of goods kept) good posting c.requires.listed
+    (λ k n. listed-set_other vectors good c.push-2.new.self k n ∙ c.loop-alloc.invariant.lists k) there refl
     (plain_atom goods atom) (sym at) (omega (arith, next, long)) has
-    (subst (λ h. IsListingOf (goods atom.bundle) h listing) (sym least) c.of-listing.ensures.of))
+    (subst (λ (zs : List ℕ). AreMarks zs c.fingerprint-marks.result) (c.in_ok-rising_goods.ensures ∙ bundle_there goods kept old.listed atom c.index-kept-self.is)
+    c.fingerprint-marks.ensures))

@@ -1,0 +1,98 @@
+-- The marks of goods: one more for each good, and what a mark that is missing says.
+use Rattle.std.proofs.Common.{◌≡◌, ◌≢◌, ℕ, ◌+◌, ◌*◌, ◌/◌, ◌%◌, ◌-◌, ◌^◌, ◌<◌, ◌≤◌, min, Bool, true, false, eqb, ltb, cond, ◌⊎◌, inl, inr, ⊎_elim, List, [], ◌∷◌, ◌++◌, length, get_or, take, refl, sym, ap, ◌∙◌, subst}
+use Rattle.std.proofs.Common.{arith}
+use Rattle.std.specs.Int.{bit_at, bit_not, trailing_zeros, w128}
+use Rattle.std.specs.Int.RustNames.{bit_and, bit_or}
+use Rattle.std.proofs.lemmas.Bool.{cases_eq, eq-eqb, both_ways}
+use Rattle.std.proofs.lemmas.List.{take_more}
+use Rattle.std.proofs.lemmas.Nat.{and_le_l}
+use Rattle.std.proofs.lemmas.Nat.Bits.{bit_at-lt, bit_at_and, bit_at_not, bit_at-zero, bit_at-trailing_zeros, bit_at_set_same, bit_at_set_other}
+use Rattle.goods_set.specs.Bundles.{IsInside, has_good}
+use Rattle.goods_set.specs.Fingerprints.{AreMarks, mark_of, mixed}
+use Rattle.goods_set.specs.Lemmas.Members.{has_head, has_tail, has_cases, inside_at}
+
+-- ---- the bit of a good
+
+one_of : (b c : Bool) (x y z : ℕ) → x < 128 → y < 128 → z < 128 → cond b x (cond c y z) < 128
+one_of true c x y z l m n = l
+one_of false true x y z l m n = m
+one_of false false x y z l m n = n
+
+pub mark_below : (good : ℕ) → mark_of good < 128
+mark_below good =
+    let spread : ℕ = mixed good / 1024 in
+    one_of (eqb (mixed good / 16 % 64) 0) (ltb (mixed good / 16 % 64) 8) (96 + spread % 32) (64 + spread % 32) spread (omega arith) (omega arith) (omega arith)
+
+-- ---- one good more
+
+pub no_marks : AreMarks [] 0
+no_marks = record { each = λ g h. absurd (both_ways false refl h); only = λ k e. absurd (omega (arith, bit_at-zero k, e)) }
+
+has_last : (xs : List ℕ) (x : ℕ) → has_good (xs ++ x ∷ []) x ≡ true
+has_last [] x = has_head x []
+has_last (y ∷ ys) x = has_tail y (ys ++ x ∷ []) x (has_last ys x)
+
+has_before : (xs : List ℕ) (x g : ℕ) → has_good xs g ≡ true → has_good (xs ++ x ∷ []) g ≡ true
+has_before [] x g h = absurd (both_ways false refl h)
+has_before (y ∷ ys) x g h =
+    ⊎_elim (λ (e : y ≡ g). subst (λ n. has_good (y ∷ (ys ++ x ∷ [])) n ≡ true) e (has_head y (ys ++ x ∷ [])))
+    (λ (k : has_good ys g ≡ true). has_tail y (ys ++ x ∷ []) g (has_before ys x g k)) (has_cases y ys g h)
+
+last_cases : (xs : List ℕ) (x g : ℕ) → has_good (xs ++ x ∷ []) g ≡ true → (x ≡ g) ⊎ (has_good xs g ≡ true)
+last_cases [] x g h = has_cases x [] g h
+last_cases (y ∷ ys) x g h =
+    ⊎_elim (λ (e : y ≡ g). inr (subst (λ n. has_good (y ∷ ys) n ≡ true) e (has_head y ys)))
+    (λ (k : has_good (ys ++ x ∷ []) g ≡ true). ⊎_elim (λ (e : x ≡ g). inl e) (λ (m : has_good ys g ≡ true). inr (has_tail y ys g m)) (last_cases ys x g k))
+    (has_cases y (ys ++ x ∷ []) g h)
+
+pub one_more : (bits x : ℕ) (xs : List ℕ) → AreMarks xs bits → AreMarks (xs ++ x ∷ []) (bit_or bits (1 * 2 ^ mark_of x % 2 ^ 128))
+one_more bits x xs old = record { each = each; only = only }
+  where
+    marked : ℕ
+    marked = bit_or bits (1 * 2 ^ mark_of x % 2 ^ 128)
+
+    same : bit_at marked (mark_of x) ≡ 1
+    same = bit_at_set_same w128 bits (mark_of x) (mark_below x)
+
+    other : (k : ℕ) → k ≢ mark_of x → bit_at marked k ≡ bit_at bits k
+    other k n = bit_at_set_other w128 bits (mark_of x) (mark_below x) k n
+
+    each : (g : ℕ) → has_good (xs ++ x ∷ []) g ≡ true → bit_at marked (mark_of g) ≡ 1
+    each g h =
+        ⊎_elim (λ (e : x ≡ g). subst (λ n. bit_at marked (mark_of n) ≡ 1) e same)
+        (λ (k : has_good xs g ≡ true). ⊎_elim (λ (e : mark_of g ≡ mark_of x). ap (bit_at marked) e ∙ same)
+        (λ (n : mark_of g ≡ mark_of x → ⊥). other (mark_of g) n ∙ old.each g k) (cases_eq (mark_of g) (mark_of x))) (last_cases xs x g h)
+
+    only : (k : ℕ) → bit_at marked k ≡ 1 → (g : ℕ) × (has_good (xs ++ x ∷ []) g ≡ true) × (mark_of g ≡ k)
+    only k e =
+        ⊎_elim (λ (d : k ≡ mark_of x). (x, has_last xs x, sym d))
+        (λ (n : k ≡ mark_of x → ⊥). let r = old.only k (sym (other k n) ∙ e) in (r.0, has_before xs x r.0 r.1, r.2)) (cases_eq k (mark_of x))
+
+-- the turn of the loop
+pub marks_more : (bits mark : ℕ) (xs : List ℕ) (i : ℕ) → i < length xs → mark ≡ mark_of (get_or xs i 0) → AreMarks (take i xs) bits
+    → AreMarks (take (i + 1) xs) (bit_or bits (1 * 2 ^ mark % 2 ^ 128))
+marks_more bits mark xs i l e old =
+    subst (λ (ys : List ℕ). AreMarks ys (bit_or bits (1 * 2 ^ mark % 2 ^ 128))) (sym (take_more xs i 0 l))
+    (subst (λ m. AreMarks (take i xs ++ get_or xs i 0 ∷ []) (bit_or bits (1 * 2 ^ m % 2 ^ 128))) (sym e) (one_more bits (get_or xs i 0) (take i xs) old))
+
+-- ---- the test `marks & !others == 0`
+
+pub may_be_subset : (bits others : ℕ) (xs ys : List ℕ) → bits < 2 ^ 128 → others < 2 ^ 128 → AreMarks xs bits → AreMarks ys others → IsInside xs ys
+    → eqb (bit_and bits (bit_not w128 others)) 0 ≡ true
+may_be_subset bits others xs ys fits fit is are inside =
+    ⊎_elim (λ (none : rest ≡ 0). eq-eqb rest 0 none) (λ (some : rest ≡ 0 → ⊥). absurd (clash some)) (cases_eq rest 0)
+  where
+    rest : ℕ
+    rest = bit_and bits (bit_not w128 others)
+
+    clash : (rest ≡ 0 → ⊥) → ⊥
+    clash some =
+        let small : rest ≤ bits = and_le_l bits (bit_not w128 others) in
+        let k : ℕ = trailing_zeros w128 rest in
+        let t = bit_at-trailing_zeros w128 rest (omega arith) (omega arith) in
+        let both : min (bit_at bits k) (bit_at (bit_not w128 others) k) ≡ 1 = sym (bit_at_and bits (bit_not w128 others) k) ∙ t.1 in
+        let turned : bit_at (bit_not w128 others) k ≡ 1 - bit_at others k = bit_at_not w128 others k fit t.0 in
+        let own : bit_at bits k < 2 = bit_at-lt bits k in
+        let r = is.only k (omega arith) in
+        let theirs : bit_at others k ≡ 1 = ap (bit_at others) (sym r.2) ∙ are.each r.0 (inside_at xs ys r.0 inside r.1) in
+        omega arith

@@ -1,0 +1,9 @@
+use Rattle.goods_set.proofs.Marks.{no_marks, marks_more}
+use Rattle.goods_set.proofs.fingerprints.fingerprint.Goals as goal
+
+pub loop-good-init : goal.loop-good-init
+loop-good-init c = no_marks
+
+pub loop-good-preserved : goal.loop-good-preserved
+loop-good-preserved c =
+    marks_more c.loop-good.marks c.mark_of.result c.args.goods.now c.loop-good.good-index c.loop-good-test.true c.mark_of.ensures c.loop-good.invariant

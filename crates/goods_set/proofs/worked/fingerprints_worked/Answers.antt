@@ -1,0 +1,23 @@
+-- Good 5 marks bit 5, which is 32.
+use Rattle.std.proofs.Common.{◌≡◌, true, false, [], ⊎_elim, refl, arith, ap, ◌∙◌}
+use Rattle.std.proofs.lemmas.Bool.{both_ways}
+use Rattle.goods_set.specs.Bundles.{has_good}
+use Rattle.goods_set.specs.Fingerprints.{mark_of}
+use Rattle.goods_set.specs.Lemmas.Members.{has_cases}
+use Rattle.goods_set.proofs.Marks.{no_marks, one_more}
+use Rattle.goods_set.proofs.worked.fingerprints_worked.Goals as goal
+
+pub returns-clause-no_goods : goal.returns-clause-no_goods
+returns-clause-no_goods c = no_marks
+
+pub returns-clause-one_good : goal.returns-clause-one_good
+returns-clause-one_good c = one_more 0 5 [] no_marks
+
+pub returns-clause-one_lacks : goal.returns-clause-one_lacks
+returns-clause-one_lacks c h = absurd (omega (arith, h.each 65 refl))
+
+pub returns-clause-one_too_many : goal.returns-clause-one_too_many
+returns-clause-one_too_many c h =
+    let found = h.only 0 refl in
+    ⊎_elim (λ (e : 5 ≡ found.0). let bit : mark_of 5 ≡ 0 = ap mark_of e ∙ found.2 in absurd (omega (arith, bit)))
+    (λ (none : has_good [] found.0 ≡ true). absurd (both_ways false refl none)) (has_cases 5 [] found.0 found.1)

@@ -1,0 +1,25 @@
+-- The atom of the worked rows is listed rightly: its one good marks bit 96.
+use Rattle.std.proofs.Common.{◌≡◌, ℕ, ◌^◌, true, false, [], ◌∷◌, ⊎_elim, refl, sym, subst, arith}
+use Rattle.std.specs.Int.{bit_at}
+use Rattle.std.proofs.lemmas.Nat.Bits.{bit_at-pow_same, bit_at-pow_other}
+use Rattle.std.proofs.lemmas.Bool.{both_ways, cases_eq}
+use Rattle.goods_set.specs.Bundles.{has_good}
+use Rattle.goods_set.specs.Fingerprints.{AreMarks, mark_of}
+use Rattle.goods_set.specs.Lemmas.Members.{has_cases}
+use Rattle.valuation.specs.Examples.{atom}
+use Rattle.prune.specs.Internal.Listings.{IsPosting}
+
+has_bit : (good : ℕ) → has_good (0 ∷ []) good ≡ true → bit_at (2 ^ 96) (mark_of good) ≡ 1
+has_bit good has = ⊎_elim (λ (e : 0 ≡ good). subst (λ g. bit_at (2 ^ 96) (mark_of g) ≡ 1) e (bit_at-pow_same 96))
+    (λ (none : has_good [] good ≡ true). absurd (both_ways false refl none))
+    (has_cases 0 [] good has)
+
+pub one_mark : AreMarks (0 ∷ []) (2 ^ 96)
+one_mark = record {
+  each = has_bit;
+  only = λ bit e. ⊎_elim (λ (is : bit ≡ 96). (0, refl, sym is))
+      (λ (n : bit ≡ 96 → ⊥). absurd (omega (arith, e, bit_at-pow_other 96 bit n))) (cases_eq bit 96);
+}
+
+pub listed_rightly : IsPosting (atom (0 ∷ []) 5 ∷ []) (record { index = 0; fingerprint = 2 ^ 96 })
+listed_rightly = record { within = omega arith; marks = one_mark }

@@ -1,0 +1,24 @@
+-- The atom is listed where none was before.
+use Rattle.std.proofs.Common.{rules, ◌≡◌, ℕ, ◌^◌, zero, suc, refl, arith, [], ◌∷◌}
+use Rattle.valuation.specs.Examples.{atom}
+use Rattle.prune.specs.declared.posting.Posting.{Posting}
+use Rattle.prune.specs.Internal.Listings.{listed_at, AreListed}
+use Rattle.prune.proofs.ListedAtoms.{AreListed-more}
+use Rattle.prune.proofs.WorkedPostings.{listed_rightly}
+use Rattle.prune.proofs.worked.postings_worked.Goals as goal
+
+elsewhere : (it : Posting) (good : ℕ) → (good ≡ 0 → ⊥) → listed_at ((it ∷ []) ∷ []) good ≡ listed_at [] good
+elsewhere it zero n = absurd (n refl)
+elsewhere it (suc good) n = refl
+
+none_yet : AreListed [] 0 (atom (0 ∷ []) 5 ∷ [])
+none_yet = search rules
+
+pub returns-clause-one : goal.returns-clause-one
+returns-clause-one c =
+    let it : Posting = record { index = 0; fingerprint = 2 ^ 96 } in
+    AreListed-more [] ((it ∷ []) ∷ []) 0 (atom (0 ∷ []) 5 ∷ []) 0 it none_yet (elsewhere it) refl refl
+    (atom (0 ∷ []) 5) refl (omega arith) refl listed_rightly.marks
+
+pub returns-clause-too_many : goal.returns-clause-too_many
+returns-clause-too_many c h = absurd (omega (arith, h.no_more 0 0 (0, omega arith, refl)))
