@@ -28,6 +28,7 @@ mod writing;
 pub use auction::canonical;
 pub use auction_index::AuctionIndex;
 pub use comparison::{compare, compare_compact_files, compare_files};
+pub use density::has_sparse_bids;
 pub use difference_laws::{
     difference_is_a_point, difference_is_the_least_bidder, differences_exchanged,
     no_difference_of_the_same, same_auctions_have_one_difference,

@@ -17,9 +17,9 @@ use crate::report::{DONE, RunFault};
 use crate::run::{read_file, send_text};
 use bid_file::BidFile;
 use bundles::bundle_of;
-use canon::CanonFault;
+use canon::{CanonFault, has_sparse_bids};
 use cats_text::Watched;
-use goods_set::{GoodsSet, goods_of, on_least_set};
+use goods_set::{GoodsSet, ListSet, goods_of, on_least_set};
 use lines::{push_or_line, push_xor_lines};
 use numbers::bid_numbers;
 use std::alloc::Global;
@@ -48,7 +48,7 @@ pub fn run_value<R: Read, W: Write>(
     if let Some(good) = first_missing(goods, file.goods()) {
         return Err(RunFault::GoodRange(good));
     }
-    let text = text_on_least_sets(alloc, &file, goods, limit)?;
+    let text = text_on_sets(alloc, &file, goods, limit)?;
     send_text(out, DONE, text.as_slice())
 }
 
@@ -59,8 +59,8 @@ fn first_missing(goods: &[u16], count: u16) -> Option<u16>
     goods.iter().copied().find(|good| *good >= count)
 }
 
-/// The values of the bundle of these goods, as they are printed, by the least set that holds the file's goods.
-fn text_on_least_sets(
+/// The values of the bundle of these goods, as they are printed, by the kind of sets that suits the file's bids.
+fn text_on_sets(
     alloc: Global,
     file: &BidFile,
     goods: &[u16],
@@ -69,6 +69,9 @@ fn text_on_least_sets(
     requires { missing_good (plain_file file.now).goods goods.now ≡ None }
     ensures { MakesAs (values_within limit (bundle_from goods.now) (plain_file file.now)) result }
 {
+    if has_sparse_bids(file) {
+        return text_of_values::<ListSet>(alloc, file, goods, limit);
+    }
     on_least_set!(file.goods(), text_of_values(alloc, file, goods, limit))
 }
 

@@ -53,9 +53,9 @@ numbers of these bids; then for each dummy good 'xor', the dummy good, the great
 bundle, and the number of the first that has it. For example, for all goods of a file with 40:
   $ cats value auction.txt $(seq 0 39)
 
-A step is one packing: one family of the bids without a dummy good that lie in the bundle and share no good. Each
-packing takes one step, mostly of 5 to 20 nanoseconds. Where there are more than N, 'step limit at GOODS' is told, with
-status 3, and a greater N lets the search go on:
+A step is one packing: one family of the bids without a dummy good that lie in the bundle and share no good. A step
+takes 5 to 20 nanoseconds with up to 128 such bids, and some 50 nanoseconds more for each 1,000. If there are more than
+N packings, the program prints 'step limit at GOODS', with status 3, and a greater N lets the search go on:
   $ cats value --steps 1000000000 auction.txt $(seq 0 39)
 
 Statuses: 0; 2 for a file that is no bid file; 3 for the step limit; 64 for a good that the file does not have; 4 and 5
