@@ -241,20 +241,44 @@ fn some_atoms<S: GoodsSet>(
     Ok(atoms)
 }
 
-// Appends so many atoms on a good that no bundle of the tests has.
-fn add_others<S: GoodsSet>(
+// Appends so many atoms on one good.
+fn add_alike<S: GoodsSet>(
     rt: &impl Abort,
     alloc: Global,
     atoms: &mut Vec<Atom<S>>,
-    count: u8,
+    good: u16,
+    count: usize,
 ) -> Result<(), Fail>
-    requires { All (IsAtom MAX_GOODS) (atoms_of S.goods atoms.old.items) }
+    requires good { good < 6 }
+    requires atoms { All (IsAtom MAX_GOODS) (atoms_of S.goods atoms.old.items) }
     ensures { IfOk result (λ _. All (IsAtom MAX_GOODS) (atoms_of S.goods atoms.new.items)) }
 {
     for _i in 0..count {
-        add_atom(rt, alloc, atoms, &[6], 1)?;
+        add_atom(rt, alloc, atoms, &[good], 1)?;
     }
     Ok(())
+}
+
+// Of so many atoms on one good a packing has one or none, and the last is the one that is chosen.
+fn many_alike<S: GoodsSet>(rt: &impl Abort, alloc: Global, count: usize) -> Result<(), Fail> {
+    assert!(rt; count > 0 && count < 10_000);
+    let mut atoms: Vec<Atom<S>> = Vec::new(alloc);
+    add_alike(rt, alloc, &mut atoms, 0, count)?;
+    let bundle = bundle_of::<S>(rt, alloc, &[0, 1])?;
+    let packing = or_value(alloc, &atoms, &bundle, count as u64 + 1).expect(rt, "a value");
+    assert_eq!(rt; packing.value, 1);
+    expect_places(rt, &packing.members, &[count - 1]);
+    expect_step_limit(rt, or_value(alloc, &atoms, &bundle, count as u64));
+    Ok(())
+}
+
+// Up to 128 atoms have a row each, more have a mask for each good, and more than 4,096 have masks that grow.
+#[test]
+fn lists_of_each_length(rt: HostRuntime) -> Result<(), Fail> {
+    for count in [1, 64, 65, 128, 129, 1025, 4097] {
+        many_alike::<ListSet>(&rt, rt.alloc(), count)?;
+    }
+    many_alike::<WordSet<1>>(&rt, rt.alloc(), 129)
 }
 
 // The bundle of the goods whose bits the number has.
@@ -263,13 +287,14 @@ fn bundle_of_bits<S: GoodsSet>(rt: &impl Abort, alloc: Global, bits: u64) -> Res
     Ok(bundle_of::<S>(rt, alloc, &goods)?)
 }
 
-// With more than 128 atoms the search is the one by sets of goods, and else the one by marks.
-fn agree<S: GoodsSet>(rt: &impl Abort, alloc: Global, others: u8) -> Result<(), Fail> {
+// On all bundles of six goods, or with others on the last of them, so that they are more than 128, on all goods.
+fn agree<S: GoodsSet>(rt: &impl Abort, alloc: Global, others: usize) -> Result<(), Fail> {
     let mut state = 7;
-    for _ in 0..40 {
+    let (lists, first) = if others == 0 { (40, 0) } else { (2, 63) };
+    for _ in 0..lists {
         let mut atoms = some_atoms(rt, alloc, &mut state)?;
-        add_others(rt, alloc, &mut atoms, others)?;
-        for bits in 0..64 {
+        add_alike(rt, alloc, &mut atoms, 5, others)?;
+        for bits in first..64 {
             let bundle = bundle_of_bits::<S>(rt, alloc, bits)?;
             agree_on(rt, alloc, &atoms, &bundle)?;
         }
