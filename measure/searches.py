@@ -6,11 +6,11 @@ import random
 from itertools import combinations
 
 
-def write(path, goods, bids):
-    """Bids, each a price and its goods, none with a dummy good."""
+def write(path, goods, bids, dummy=0):
+    """Bids, each a price and its goods, and with a number of dummy goods perhaps one of these behind them."""
     bids = list(bids)
     with open(path, "w", encoding="ascii", newline="") as file:
-        file.write(f"goods {goods}\nbids {len(bids)}\ndummy 0\n")
+        file.write(f"goods {goods}\nbids {len(bids)}\ndummy {dummy}\n")
         for number, (price, own) in enumerate(bids):
             file.write(f"{number}\t{price}\t" + "\t".join(map(str, sorted(own))) + "\t#\n")
 
@@ -36,6 +36,12 @@ def per_good(path, goods, each):
 def ordinary(path, goods, sizes=(1, 2, 3, 4, 5, 6, 7, 8)):
     """65,536 bids."""
     write(path, goods, random_bids(65_536, goods, sizes, goods))
+
+
+def bidders(path):
+    """65,536 bids of 8,192 XOR bidders."""
+    bids = random_bids(65_536, 4096, (1, 2, 3, 4, 5), 3)
+    write(path, 4096, ((price, [*own, 4096 + number // 8]) for number, (price, own) in enumerate(bids)), 8192)
 
 
 def short(path):
@@ -85,8 +91,10 @@ SEARCHES = (
     ("a packing bomb of 22 goods, normalise", lambda path: bomb(path, 22), ("normalise", "--steps", "100000000"), (), None),
     ("65,536 OR bids on 4,096 goods, value of 6", lambda path: ordinary(path, 4096), ("value",), range(6), None),
     ("65,536 OR bids on 4,096 goods, value of 10", lambda path: ordinary(path, 4096), ("value",), range(10), None),
+    ("65,536 XOR bids, value of 4", bidders, ("value",), range(4), None),
     ("20,000 short OR bids, value of 4, refused", short, ("value",), range(4), 10 ** 6),
     ("16 large above 3,712 small, normalise", lambda path: groups(path, 16, 14, 232), ("normalise",), (), None),
+    ("13 large above 3,718 small, normalise", lambda path: groups(path, 13, 13, 286), ("normalise",), (), None),
     ("200 on 1,000 goods above 64,000 short", lambda path: above(path, 200, (1000,), 64_000), ("normalise",), (), None),
     ("one good of each block, normalise", one_of_each_block, ("normalise",), (), None),
     ("65,536 OR bids on 64 goods, normalise", lambda path: ordinary(path, 64), ("normalise",), (), None),
