@@ -49,16 +49,14 @@ def short(path):
     write(path, 40, random_bids(20_000, 40, (1, 2, 3), 7))
 
 
-def groups(path, count, goods, below):
-    """So many large bids on goods of their own, each above so many bids on three of its goods, whose packings never reach its price."""
-    chosen = random.Random(count)
-    small, large = [], []
-    for group in range(count):
-        first = group * goods
-        triples = chosen.sample(list(combinations(range(first, first + goods), 3)), below)
-        small += [(chosen.randrange(900, 1100), own) for own in triples]
-        large.append((1100 * goods // 3 + 1, range(first, first + goods)))
-    write(path, count * goods, small + large)
+def above_all(path, large, small, size, goods):
+    """Large bids, each on all of so many goods and on one more, above so many bids of one size, whose packings never reach their price."""
+    chosen = random.Random(size)
+    families = set()
+    while len(families) < small:
+        families.add(tuple(sorted(chosen.sample(range(goods), size))))
+    below = [(chosen.randrange(900, 1100), own) for own in sorted(families)]
+    write(path, goods + large, [*below, *((1100 * goods // size + 1, [*range(goods), goods + number]) for number in range(large))])
 
 
 def above(path, large, sizes, small):
@@ -93,8 +91,8 @@ SEARCHES = (
     ("65,536 OR bids on 4,096 goods, value of 10", lambda path: ordinary(path, 4096), ("value",), range(10), None),
     ("65,536 XOR bids, value of 4", bidders, ("value",), range(4), None),
     ("20,000 short OR bids, value of 4, refused", short, ("value",), range(4), 10 ** 6),
-    ("16 large above 3,712 small, normalise", lambda path: groups(path, 16, 14, 232), ("normalise",), (), None),
-    ("13 large above 3,718 small, normalise", lambda path: groups(path, 13, 13, 286), ("normalise",), (), None),
+    ("16 large above 3,718 of 7 goods, normalise", lambda path: above_all(path, 16, 3718, 7, 20), ("normalise",), (), None),
+    ("16 large above 3,718 of 6 goods, normalise", lambda path: above_all(path, 16, 3718, 6, 19), ("normalise",), (), None),
     ("200 on 1,000 goods above 64,000 short", lambda path: above(path, 200, (1000,), 64_000), ("normalise",), (), None),
     ("one good of each block, normalise", one_of_each_block, ("normalise",), (), None),
     ("65,536 OR bids on 64 goods, normalise", lambda path: ordinary(path, 64), ("normalise",), (), None),
