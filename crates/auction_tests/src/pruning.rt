@@ -286,7 +286,7 @@ fn all_pairs(alloc: Global) -> Result<Vec<(u16, u16)>, AllocError> {
     Ok(pairs)
 }
 
-// All pairs of 17 goods at 1 each, more than can be marked, and the bundle of all 17 goods at 8, which eight pairs reach.
+// All pairs of 17 goods at 1 each, more than have a row each, and the bundle of all 17 goods at 8, which eight pairs reach.
 fn pairs_and_all<S: GoodsSet>(rt: &impl Abort, alloc: Global) -> Result<Vec<Atom<S>>, Fail>
     ensures { IfOk result (λ bids. All (IsAtom MAX_GOODS) (atoms_of S.goods bids.items)) }
 {
