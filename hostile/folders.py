@@ -1,0 +1,120 @@
+"""Runs the commands on many files where memory, reads, writes and opening fail, and judges each answer: such a run reports the file
+and goes on with the others.
+
+    folders.py PROGRAM CALLS GENERATED LARGE
+
+The words are those of runs.py. Prints what is wrong and 'N runs, M wrong'; the status is 0 where M is 0, and else 1.
+"""
+import os
+import resource
+import sys
+import tempfile
+from concurrent.futures import ThreadPoolExecutor
+from itertools import count
+
+from runs import BIDDERS, DEVICE_FAILED, FILE_REFUSED, LADDER, LARGER_BID, NO_MEMORY, PIECE, SINGLES, TALLY, Answer, case, full, reads_of, run, write_file
+
+WANT = b"want of memory\n"
+
+
+def beside(one, left_out):
+    """What the run answers on the other files."""
+    return run([*one.command, *(path for path in one.files if path != left_out)])
+
+
+def reported(one, path, status, line):
+    """What a run answers that cannot judge one of its files: the line on it stands among those on the others, by the order of the files."""
+    others = beside(one, path)
+    lines = {its.split(b": ")[0]: its for its in others.err.splitlines(True)}
+    lines[os.fsencode(path)] = os.fsencode(path) + b": " + line
+    err = b"".join(lines[name] for name in map(os.fsencode, one.files) if name in lines)
+    return (max(status, others.status), others.out, err)
+
+
+def opens(one):
+    """Each file cannot be opened, though it is there."""
+    for number, path in enumerate(one.files, 1):
+        answer = run(one.words(), call="open", number=number)
+        TALLY.judge(answer.told() == reported(one, path, DEVICE_FAILED, b"cannot open\n"), f"{one}: open {number}", answer)
+
+
+def reads(one, piece):
+    """Each read fails. Where a file has a fault no more of it is read, so such files are not among these."""
+    number = 0
+    for path, many in zip(one.files, reads_of(one, piece)):
+        for _ in range(many):
+            number += 1
+            answer = run(one.words(), call="read", number=number, piece=piece)
+            TALLY.judge(answer.told() == reported(one, path, DEVICE_FAILED, b"Device\n"), f"{one}: read {number}", answer)
+    answer = run(one.words(), call="read", number=number + 1, piece=piece)
+    TALLY.judge(answer == one.own, f"{one}: no read of {piece} bytes", answer)
+
+
+def is_whole_run_refused(answer):
+    """Whether the run ended for want of memory, before a file was read or when all were."""
+    lines = answer.err.splitlines(True)
+    return answer.status == NO_MEMORY and answer.out == b"" and bool(lines) and lines[-1] in (WANT, b"error: out of memory\n")
+
+
+def memory(one, rest):
+    """Each allocation is refused, alone or with all that come after it: a file is reported and the others are judged, or the run ends."""
+    refused = {reported(one, path, NO_MEMORY, WANT) for path in one.files}
+    # where memory for the line on a file is refused, want of memory is printed in its place
+    lacking = {(own.status, own.out, WANT) for own in (beside(one, path) for path in one.files) if not own.err}
+    whats, what = set(), f"{one}: allocation{' and all later' if rest else ''}"
+    for number in count(1):
+        answer = run(one.words(), call="allocation", number=number, rest=rest)
+        if not answer.failures:
+            break
+        told = answer.told()
+        is_right = is_whole_run_refused(answer) or told == one.own.told() or (not rest and (told in refused or told in lacking))
+        TALLY.judge(is_right, f"{what} {number}", answer)
+        whats.add(told)
+    TALLY.judge(answer.told() == one.own.told(), f"{what}: none", answer)
+    if not rest:
+        TALLY.judge(refused <= whats, f"{what}: a file was never reported for want of memory", refused - whats)
+    TALLY.judge(any(told[0] == NO_MEMORY for told in whats), f"{what}: no want of memory was reported", None)
+
+
+def writes(one):
+    """The output fails at its first byte, alone or with all that comes after it."""
+    for rest in (False, True):
+        answer = run(one.words(), call="write", number=1, piece=PIECE, rest=rest)
+        wanted = (DEVICE_FAILED, b"", b"" if rest else b"output failed after 0 bytes\n")
+        TALLY.judge(answer.told() == wanted, f"{one}: the first write", answer)
+
+
+def other_inputs(one):
+    """A folder, a device that gives nothing and a path where nothing is stand among the files."""
+    for path, status, line in (("/", DEVICE_FAILED, b"Device\n"), ("/dev/null", FILE_REFUSED, b"line 1: Missing\n"), ("/nothing", DEVICE_FAILED, b"cannot open\n")):
+        for at in range(len(one.files) + 1):
+            files = [*one.files[:at], path, *one.files[at:]]
+            answer = run([*one.command, *files])
+            wanted = Answer(max(status, one.own.status), one.own.out, os.fsencode(path) + b": " + line)
+            TALLY.judge(answer == wanted, f"{one}: {path} as file {at + 1}", answer)
+
+
+def work(folder):
+    files = tuple(
+        write_file(folder, name, text)
+        for name, text in (("larger", LARGER_BID), ("singles", SINGLES), ("ladder", LADDER), ("bidders", BIDDERS), ("again", LADDER))
+    )
+    for command in ("sizes", "duplicates"):
+        one = case((command,), files)
+        calls = [lambda: opens(one), lambda: reads(one, PIECE), lambda: reads(one, 7), lambda: writes(one), lambda: other_inputs(one)]
+        calls += [lambda rest=rest: memory(one, rest) for rest in (False, True)]
+        with ThreadPoolExecutor(os.cpu_count()) as pool:
+            list(pool.map(lambda call: call(), calls))
+        full(one)
+
+
+def main():
+    resource.setrlimit(resource.RLIMIT_CORE, (0, 0))
+    with tempfile.TemporaryDirectory() as folder:
+        work(folder)
+    print(f"{TALLY.runs} runs, {TALLY.wrong} wrong")
+    return 1 if TALLY.wrong else 0
+
+
+if __name__ == "__main__":
+    sys.exit(main())
