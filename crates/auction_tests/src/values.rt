@@ -249,8 +249,7 @@ fn add_alike<S: GoodsSet>(
     good: u16,
     count: usize,
 ) -> Result<(), Fail>
-    requires good { good < 6 }
-    requires atoms { All (IsAtom MAX_GOODS) (atoms_of S.goods atoms.old.items) }
+    requires { All (IsAtom MAX_GOODS) (atoms_of S.goods atoms.old.items) }
     ensures { IfOk result (λ _. All (IsAtom MAX_GOODS) (atoms_of S.goods atoms.new.items)) }
 {
     for _i in 0..count {
