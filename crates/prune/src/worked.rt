@@ -133,7 +133,7 @@ fn reaching_worked()
 fn searched_worked(before: &Budget, after: &Budget)
     requires used { after.now.used ≡ before.now.used + 2 }
     requires limit { after.now.limit ≡ before.now.limit }
-    ensures reached { IsSearched (λ reached. reached) (atom (0 ∷ []) 3 ∷ []) (0 ∷ []) 3 before.now after.now (Ok true) }
-    ensures answer { ¬ IsSearched (λ reached. reached) (atom (0 ∷ []) 3 ∷ []) (0 ∷ []) 3 before.now after.now (Ok false) }
-    ensures fewer_steps { ¬ IsSearched (λ reached. reached) (atom (0 ∷ []) 3 ∷ []) (0 ∷ []) 4 before.now after.now (Ok false) }
+    ensures reached { IsSearched (atom (0 ∷ []) 3 ∷ []) (0 ∷ []) 3 before.now after.now (Ok true) }
+    ensures answer { ¬ IsSearched (atom (0 ∷ []) 3 ∷ []) (0 ∷ []) 3 before.now after.now (Ok false) }
+    ensures fewer_steps { ¬ IsSearched (atom (0 ∷ []) 3 ∷ []) (0 ∷ []) 4 before.now after.now (Ok false) }
 {}
