@@ -8,6 +8,7 @@ pub mod Orders
 pub mod PackingCounts
 pub mod Packings
 pub mod Permutations
+pub mod Searches
 pub mod Sorting
 pub mod XorValues
 pub mod Comparing

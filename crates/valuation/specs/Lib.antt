@@ -7,6 +7,7 @@ pub mod Auctions
 pub mod Bidders
 pub mod Conflicts
 pub mod Paths
+pub mod Searches
 pub mod Views
 pub mod Examples
 pub mod Sorting
