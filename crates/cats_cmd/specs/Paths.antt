@@ -1,8 +1,9 @@
 -- A run on many files: what became of the file at each path, what is reported of it, and the text that is made of all.
-use Rattle.std.specs.Prelude.{◌≡◌, ℕ, suc, max, Bool, true, false, List, [], ◌∷◌, ◌++◌, length, fold, map, take, Vec}
+use Rattle.std.specs.Prelude.{◌≡◌, ◌⊎◌, ℕ, suc, max, Bool, true, false, List, [], ◌∷◌, ◌++◌, length, fold, map, take, Vec}
 use Rattle.std.specs.Prelude.{Option, Some, None, Result, Ok, Err, codes, decimal}
 use Rattle.std.specs.Global.{Global}
 use Rattle.std.specs.List.{AllByRecursion}
+use Rattle.std.specs.Str.{IsUtf8}
 use Rattle.bid_file.specs.Files.{PlainFile}
 use Rattle.cats_text.specs.declared.stream.Watched.{Watched}
 use Rattle.canon.specs.declared.fault.CanonFault.{CanonFault}
@@ -75,6 +76,10 @@ report_lines progress count judgements = lines_from progress count 1 judgements
 
 -- ---- the file at a path
 
+-- no file was opened at the path: it may be refused, or it is not UTF-8
+abbrev pub IsUnopened : (List ℕ → Type 0) → List ℕ → Type 0
+IsUnopened may_refuse path = may_refuse path ⊎ (IsUtf8 path → ⊥)
+
 module _ {F : Type 0} (remaining : F → Option (List ℕ)) (limit : ℕ) where
   -- Reading the stream gives this. Of no stream but one that spells a file is a bundle heavy.
   abbrev pub JudgesStream : Watched F → Watched F → Judgement → Type 0
@@ -101,7 +106,7 @@ module _ {F : Type 0} (may_open : List ℕ → F → Type 0) (may_refuse : List 
   abbrev pub Judges : List ℕ × Judgement → Type 0
   Judges (path, IsJudged file) = JudgesOpened path (IsJudged file)
   Judges (path, IsHeavy file goods) = JudgesOpened path (IsHeavy file goods)
-  Judges (path, IsStopped (CannotOpen which)) = (which ≡ Only) × may_refuse path
+  Judges (path, IsStopped (CannotOpen which)) = (which ≡ Only) × IsUnopened may_refuse path
   Judges (path, IsStopped (Run fault)) = JudgesOpened path (IsStopped (Run fault))
 
 -- ---- the files at all paths

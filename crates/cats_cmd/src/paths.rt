@@ -1,10 +1,13 @@
 //! Runs on many files: the files at some paths are judged one after the other, and a text is made of all.
 
-ghost use Rattle.std.specs.Prelude.{◌≡◌, ◌++◌, ℕ, List, [], ◌∷◌, map, IfOk, false};
+ghost use Rattle.std.specs.Prelude.{◌≡◌, ◌++◌, ℕ, List, [], ◌∷◌, map, IfErr, IfOk, false};
 ghost use Rattle.cats_text.specs.Streams.{has_ended, has_failed};
-ghost use Rattle.cats_cmd.specs.Paths.{Judgement, IsStopped, RunsOnPaths, progress_line, refusal_line};
+ghost use Rattle.cats_cmd.specs.Inputs.{IsOpened};
+ghost use Rattle.cats_cmd.specs.Paths.{Judgement, IsStopped, IsUnopened, RunsOnPaths, progress_line, refusal_line};
 ghost use Rattle.cats_cmd.specs.Internal.Judging.{AddsFile, AddsPathAs, AddsOpened, HasSome, JudgesAllAs};
+ghost use Rattle.canon.specs.declared.which.Which.TheVariants.{Only};
 ghost use Rattle.cats_cmd.specs.declared.program.Stop.{Stop};
+ghost use Rattle.cats_cmd.specs.declared.program.Stop.TheVariants.{CannotOpen};
 
 use crate::program::{Stop, open, report, status_of, stop_line};
 use crate::report::{DONE, RunFault};
@@ -14,6 +17,25 @@ use canon::Which;
 use cats_text::Watched;
 use std::alloc::{AllocError, AllocGlobal, Global};
 use std::io::{Read, Write};
+
+/// How a run on many files reads them, reports and prints.
+#[derive(Clone, Copy)]
+pub struct ManyFiles {
+    /// Bounds the steps of each search that decides on a bundle of an OR bidder.
+    pub limit: u64,
+    /// Whether the files that were read are reported.
+    pub progress: bool,
+    pub ending: Ending,
+}
+
+/// How the paths of the output end.
+#[derive(Clone, Copy)]
+pub enum Ending {
+    /// With LF.
+    Line,
+    /// With NUL.
+    Null,
+}
 
 /// What a run makes of the files at some paths, which are judged one after the other.
 pub(crate) trait Collection<'a>: Sized + Drop {
@@ -29,7 +51,7 @@ pub(crate) trait Collection<'a>: Sized + Drop {
     fn add<R: Read>(
         &mut self,
         alloc: Global,
-        path: &'a str,
+        path: &'a [u8],
         input: &mut Watched<R>,
         limit: u64,
     ) -> Result<Option<Stop>, AllocError>
@@ -50,26 +72,24 @@ pub(crate) trait Collection<'a>: Sized + Drop {
             → has self.now (judgements ++ (path, IsStopped stop) ∷ []) };
 }
 
-/// Judges the files at these paths, one after the other, and sends the text that is made of them. `limit` bounds the
-/// steps of each search that decides on a bundle of an OR bidder.
+/// Judges the files at these paths, one after the other, and sends the text that is made of them.
 ///
 /// A file that cannot be judged is reported on `err` at once, and the others go on; with `progress`, each file is
 /// reported there once it was read. The status is 0 if every file was judged, and else the greatest of the statuses of
 /// those that were not.
 pub(crate) fn run_on_paths<'a, C: Collection<'a>, S: Source + AllocGlobal, W: Write, E: Write>(
     source: &S,
-    paths: &[&'a str],
-    limit: u64,
-    progress: bool,
+    paths: &[&'a [u8]],
+    many: ManyFiles,
     out: &mut Watched<W>,
     err: &mut Watched<E>,
 ) -> Result<u8, RunFault>
     requires { has_failed out.old ≡ false }
-    ensures { RunsOnPaths (S.may_open source.now) (S.may_refuse source.now) S.Stream.remaining W.contents E.contents limit
-        C.Makes (map (λ path. path.now) paths.now) progress out.old out.new err.old err.new result }
+    ensures { RunsOnPaths (S.may_open source.now) (S.may_refuse source.now) S.Stream.remaining W.contents E.contents many.limit
+        C.Makes (map (λ path. path.now) paths.now) many.progress out.old out.new err.old err.new result }
 {
     let mut collection = C::none(source.alloc());
-    let greatest = judge_all(source, &mut collection, paths, limit, progress, err)?;
+    let greatest = judge_all(source, &mut collection, paths, many, err)?;
     let text = collection.text(source.alloc())?;
     send_text(out, greatest, text.as_slice())
 }
@@ -78,20 +98,19 @@ pub(crate) fn run_on_paths<'a, C: Collection<'a>, S: Source + AllocGlobal, W: Wr
 fn judge_all<'a, C: Collection<'a>, S: Source + AllocGlobal, E: Write>(
     source: &S,
     collection: &mut C,
-    paths: &[&'a str],
-    limit: u64,
-    progress: bool,
+    paths: &[&'a [u8]],
+    many: ManyFiles,
     err: &mut Watched<E>,
 ) -> Result<u8, AllocError>
     requires { C.has collection.old [] }
-    ensures { JudgesAllAs C.has (S.may_open source.now) (S.may_refuse source.now) S.Stream.remaining limit E.contents
-        (map (λ path. path.now) paths.now) progress collection.new err.old err.new result }
+    ensures { JudgesAllAs C.has (S.may_open source.now) (S.may_refuse source.now) S.Stream.remaining many.limit E.contents
+        (map (λ path. path.now) paths.now) many.progress collection.new err.old err.new result }
 {
     let mut greatest = DONE;
     for (number, path) in paths.iter().enumerate() {
-        let status = judge_path(source, collection, path, limit, err)?;
+        let status = judge_path(source, collection, path, many.limit, err)?;
         greatest = greatest.max(status);
-        if progress {
+        if many.progress {
             report(
                 err,
                 &path_progress(source.alloc(), number + 1, paths.len(), path),
@@ -105,7 +124,7 @@ fn judge_all<'a, C: Collection<'a>, S: Source + AllocGlobal, E: Write>(
 fn judge_path<'a, C: Collection<'a>, S: Source + AllocGlobal, E: Write>(
     source: &S,
     collection: &mut C,
-    path: &'a str,
+    path: &'a [u8],
     limit: u64,
     err: &mut Watched<E>,
 ) -> Result<u8, AllocError>
@@ -125,13 +144,13 @@ fn judge_path<'a, C: Collection<'a>, S: Source + AllocGlobal, E: Write>(
 fn judge<'a, C: Collection<'a>, S: Source + AllocGlobal>(
     source: &S,
     collection: &mut C,
-    path: &'a str,
+    path: &'a [u8],
     limit: u64,
 ) -> Result<Option<Stop>, AllocError>
     ensures { IfOk result (AddsFile C.has (S.may_open source.now) (S.may_refuse source.now) S.Stream.remaining limit
         path.now collection.old collection.new) }
 {
-    match open(source, path, Which::Only) {
+    match open_path(source, path) {
         Ok(mut input) => collection.add(source.alloc(), path, &mut input, limit),
         Err(stop) => {
             collection.skip();
@@ -140,11 +159,22 @@ fn judge<'a, C: Collection<'a>, S: Source + AllocGlobal>(
     }
 }
 
+/// Opens the file at a path. There is none at a path that is not UTF-8, as the library opens no such path.
+fn open_path<S: Source>(source: &S, path: &[u8]) -> Result<Watched<S::Stream>, Stop>
+    ensures opened { IfOk result (IsOpened (S.may_open source.now) path.now) }
+    ensures refused { IfErr result (λ stop. (stop ≡ CannotOpen Only) × IsUnopened (S.may_refuse source.now) path.now) }
+{
+    match str::from_utf8(path) {
+        Ok(path) => open(source, path, Which::Only),
+        Err(_) => Err(Stop::CannotOpen(Which::Only)),
+    }
+}
+
 /// The line that says why the file at a path was not judged.
-fn path_refusal(alloc: Global, path: &str, stop: &Stop) -> Result<Vec<u8>, AllocError>
+pub(crate) fn path_refusal(alloc: Global, path: &[u8], stop: &Stop) -> Result<Vec<u8>, AllocError>
     ensures { IfOk result (λ line. line.items ≡ refusal_line path.now stop.now) }
 {
-    let mut line = Vec::from_slice(alloc, path.as_bytes())?;
+    let mut line = Vec::from_slice(alloc, path)?;
     line.extend_from_slice(b": ")?;
     line.extend_from_slice(stop_line(alloc, stop)?.as_slice())?;
     Ok(line)
@@ -155,10 +185,12 @@ fn path_progress(
     alloc: Global,
     number: usize,
     count: usize,
-    path: &str,
+    path: &[u8],
 ) -> Result<Vec<u8>, AllocError>
     ensures { IfOk result (λ line. line.items ≡ progress_line number count path.now) }
 {
-    let line = format!(in alloc; "{number} of {count} {path}\n")?;
-    Ok(line.into_bytes())
+    let mut line = format!(in alloc; "{number} of {count} ")?.into_bytes();
+    line.extend_from_slice(path)?;
+    line.push(b'\n')?;
+    Ok(line)
 }

@@ -7,7 +7,7 @@ ghost use Rattle.cats_text.specs.Streams.{has_failed};
 ghost use Rattle.cats_cmd.specs.Paths.{RunsOnPaths};
 ghost use Rattle.cats_cmd.specs.SizesTables.{MakesTable};
 
-use crate::paths::{Collection, run_on_paths};
+use crate::paths::{Collection, ManyFiles, run_on_paths};
 use crate::program::Stop;
 use crate::report::RunFault;
 use crate::run::read_compact_file;
@@ -47,7 +47,7 @@ impl<'a> Collection<'a> for Table {
     fn add<R: Read>(
         &mut self,
         alloc: Global,
-        path: &'a str,
+        path: &'a [u8],
         input: &mut Watched<R>,
         limit: u64,
     ) -> Result<Option<Stop>, AllocError> {
@@ -83,34 +83,32 @@ impl<'a> Collection<'a> for Table {
 }
 
 /// Puts a line behind the others: numbers with a tab after each, and then the path.
-fn push_line(lines: &mut Vec<u8>, numbers: &[u8], path: &str) -> Result<(), AllocError>
+fn push_line(lines: &mut Vec<u8>, numbers: &[u8], path: &[u8]) -> Result<(), AllocError>
     ensures { let more : List ℕ = numbers.now ++ path.now ++ codes "\n" in
         OnOk result (lines.new.items ≡ lines.old.items ++ more) }
 {
     lines.extend_from_slice(numbers)?;
-    lines.extend_from_slice(path.as_bytes())?;
+    lines.extend_from_slice(path)?;
     lines.push(b'\n')?;
     Ok(())
 }
 
 /// Reads the files at these paths, one after the other, and sends a table of their numbers: how many goods and bids
-/// each has, and how many bids are left in its canonical file. `limit` bounds the steps of each search that decides on
-/// a bundle of an OR bidder.
+/// each has, and how many bids are left in its canonical file.
 ///
 /// A file that cannot be judged is reported on `err` at once, and the others go on; if only the step limit stops it, its
 /// line has no numbers of the canonical file. With `progress`, each file is reported on `err` once it was read. The
 /// status is 0 if every file was judged, and else the greatest of the statuses of those that were not.
 pub fn run_sizes<S: Source + AllocGlobal, W: Write, E: Write>(
     source: &S,
-    paths: &[&str],
-    limit: u64,
-    progress: bool,
+    paths: &[&[u8]],
+    many: ManyFiles,
     out: &mut Watched<W>,
     err: &mut Watched<E>,
 ) -> Result<u8, RunFault>
     requires { has_failed out.old ≡ false }
-    ensures { RunsOnPaths (S.may_open source.now) (S.may_refuse source.now) S.Stream.remaining W.contents E.contents limit
-        MakesTable (map (λ path. path.now) paths.now) progress out.old out.new err.old err.new result }
+    ensures { RunsOnPaths (S.may_open source.now) (S.may_refuse source.now) S.Stream.remaining W.contents E.contents many.limit
+        MakesTable (map (λ path. path.now) paths.now) many.progress out.old out.new err.old err.new result }
 {
-    run_on_paths::<Table, S, W, E>(source, paths, limit, progress, out, err)
+    run_on_paths::<Table, S, W, E>(source, paths, many, out, err)
 }

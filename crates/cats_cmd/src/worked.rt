@@ -20,6 +20,7 @@ ghost use Rattle.cats_cmd.specs.ValueTexts.{bundle_from};
 ghost use Rattle.cats_cmd.specs.FaultLines.{line_of_fault};
 ghost use Rattle.cats_text.specs.Examples.{known, watched};
 ghost use Rattle.cats_cmd.specs.Duplicates.{judged_paths};
+ghost use Rattle.cats_cmd.specs.PathLists.{paths_in};
 ghost use Rattle.cats_cmd.specs.Paths.{IsHeavy, IsJudged, IsStopped, greatest_status, report_lines};
 ghost use Rattle.cats_cmd.specs.SizesTables.{MakesTable, counts_of, line_if_read, sizes_of};
 ghost use Rattle.cats_cmd.specs.Rounding.{round_outcome, rounded_line};
@@ -160,4 +161,12 @@ pub fn files_sent()
         (Ok 1) → ⊥ }
     ensures some_written { SendsMadeAs known Only 0 (codes "ab") (watched [] false false) (watched (codes "a") false false)
         (Err (Refused Only Memory)) → ⊥ }
+{}
+
+/// Lists of paths: with the last NUL and without it, an empty path between two NUL, a path twice, and no path.
+pub fn paths_listed()
+    ensures { map paths_in ((97 ∷ 0 ∷ 98 ∷ 0 ∷ []) ∷ (97 ∷ 0 ∷ 98 ∷ []) ∷ (97 ∷ 0 ∷ 0 ∷ 98 ∷ 0 ∷ []) ∷ (0 ∷ [])
+        ∷ (97 ∷ 0 ∷ 97 ∷ 0 ∷ []) ∷ (97 ∷ 10 ∷ 98 ∷ []) ∷ [] ∷ []) ≡
+        (codes "a" ∷ codes "b" ∷ []) ∷ (codes "a" ∷ codes "b" ∷ []) ∷ (codes "a" ∷ [] ∷ codes "b" ∷ [])
+        ∷ ([] ∷ []) ∷ (codes "a" ∷ codes "a" ∷ []) ∷ (codes "a\nb" ∷ []) ∷ [] ∷ [] }
 {}
