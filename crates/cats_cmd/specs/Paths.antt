@@ -1,5 +1,6 @@
 -- A run on many files: what became of the file at each path, what is reported of it, and the text that is made of all.
-use Rattle.std.specs.Prelude.{◌≡◌, ◌⊎◌, ℕ, suc, max, Bool, true, false, List, [], ◌∷◌, ◌++◌, length, fold, map, take, Vec}
+use Rattle.std.specs.Prelude.{◌≡◌, ◌⊎◌, ◌==◌, ◌||◌, ◌%◌, if◌then◌else◌, ℕ, suc, max, Bool, true, false}
+use Rattle.std.specs.Prelude.{List, [], ◌∷◌, ◌++◌, length, fold, map, take, Vec}
 use Rattle.std.specs.Prelude.{Option, Some, None, Result, Ok, Err, codes, decimal}
 use Rattle.std.specs.Global.{Global}
 use Rattle.std.specs.List.{AllByRecursion}
@@ -56,8 +57,14 @@ abbrev pub refusal_lines : List ℕ → Option Stop → List (List ℕ)
 refusal_lines path None = []
 refusal_lines path (Some stop) = refusal_line path stop ∷ []
 
+-- whether it is reported how many files were read, after the one with this number among so many: after each hundredth,
+-- and after the last
+abbrev pub is_counted : ℕ → ℕ → Bool
+is_counted number count = (number % 100 == 0) || (number == count)
+
 abbrev pub progress_lines : Bool → ℕ → ℕ → List ℕ → List (List ℕ)
-progress_lines true number count path = progress_line number count path ∷ []
+progress_lines true number count path =
+    if is_counted number count then progress_line number count path ∷ [] else []
 progress_lines false number count path = []
 
 -- of the path with this number, among so many

@@ -66,9 +66,9 @@ impl<'a> Collection<'a> for Groups<'a> {
 
 /// Reads the files at these paths, one after the other, and sends the paths of those that are the same auction.
 ///
-/// A file that cannot be judged is reported on `err` at once, and the others go on; with `progress`, each file is
-/// reported there once it was read. The status is 0 if every file was judged, and else the greatest of the statuses of
-/// those that were not.
+/// A file that cannot be judged is reported on `err` at once, and the others go on; with `progress`, it is
+/// reported there after each hundredth file, and after the last, how many were read. The status is 0 if every file was
+/// judged, and else the greatest of the statuses of those that were not.
 pub fn run_duplicates<S: Source + AllocGlobal, W: Write, E: Write>(
     source: &S,
     paths: &[&[u8]],

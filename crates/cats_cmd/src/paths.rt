@@ -1,9 +1,10 @@
 //! Runs on many files: the files at some paths are judged one after the other, and a text is made of all.
 
-ghost use Rattle.std.specs.Prelude.{◌≡◌, ◌++◌, ℕ, List, [], ◌∷◌, map, IfErr, IfOk, false};
+ghost use Rattle.std.specs.Prelude.{◌≡◌, ◌++◌, ℕ, List, [], ◌∷◌, map, IfErr, IfOk, false, true};
 ghost use Rattle.cats_text.specs.Streams.{has_ended, has_failed};
 ghost use Rattle.cats_cmd.specs.Inputs.{IsOpened};
-ghost use Rattle.cats_cmd.specs.Paths.{Judgement, IsStopped, IsUnopened, RunsOnPaths, progress_line, refusal_line};
+ghost use Rattle.cats_cmd.specs.Paths.{Judgement, IsStopped, IsUnopened, RunsOnPaths, progress_line, progress_lines, refusal_line};
+ghost use Rattle.cats_cmd.specs.Stops.{ReportsAll};
 ghost use Rattle.cats_cmd.specs.Internal.Judging.{AddsFile, AddsPathAs, AddsOpened, HasSome, JudgesAllAs};
 ghost use Rattle.canon.specs.declared.which.Which.TheVariants.{Only};
 ghost use Rattle.cats_cmd.specs.declared.program.Stop.{Stop};
@@ -74,8 +75,8 @@ pub(crate) trait Collection<'a>: Sized + Drop {
 
 /// Judges the files at these paths, one after the other, and sends the text that is made of them.
 ///
-/// A file that cannot be judged is reported on `err` at once, and the others go on; with `progress`, each file is
-/// reported there once it was read. The status is 0 if every file was judged, and else the greatest of the statuses of
+/// A file that cannot be judged is reported on `err` at once, and the others go on; with `progress`, it is
+/// reported there after each hundredth file, and after the last, how many were read. The status is 0 if every file was judged, and else the greatest of the statuses of
 /// those that were not.
 pub(crate) fn run_on_paths<'a, C: Collection<'a>, S: Source + AllocGlobal, W: Write, E: Write>(
     source: &S,
@@ -111,10 +112,7 @@ fn judge_all<'a, C: Collection<'a>, S: Source + AllocGlobal, E: Write>(
         let status = judge_path(source, collection, path, many.limit, err)?;
         greatest = greatest.max(status);
         if many.progress {
-            report(
-                err,
-                &path_progress(source.alloc(), number + 1, paths.len(), path),
-            );
+            report_progress(source.alloc(), number + 1, paths.len(), path, err);
         }
     }
     Ok(greatest)
@@ -178,6 +176,21 @@ pub(crate) fn path_refusal(alloc: Global, path: &[u8], stop: &Stop) -> Result<Ve
     line.extend_from_slice(b": ")?;
     line.extend_from_slice(stop_line(alloc, stop)?.as_slice())?;
     Ok(line)
+}
+
+/// Reports how many files were read, if the last of them is a hundredth one or the last of all.
+fn report_progress<E: Write>(
+    alloc: Global,
+    number: usize,
+    count: usize,
+    path: &[u8],
+    err: &mut Watched<E>,
+)
+    ensures { ReportsAll E.contents (progress_lines true number count path.now) err.old err.new }
+{
+    if number % 100 == 0 || number == count {
+        report(err, &path_progress(alloc, number, count, path));
+    }
 }
 
 /// The line that says how many files were read.

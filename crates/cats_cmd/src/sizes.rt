@@ -97,8 +97,9 @@ fn push_line(lines: &mut Vec<u8>, numbers: &[u8], path: &[u8]) -> Result<(), All
 /// each has, and how many bids are left in its canonical file.
 ///
 /// A file that cannot be judged is reported on `err` at once, and the others go on; if only the step limit stops it, its
-/// line has no numbers of the canonical file. With `progress`, each file is reported on `err` once it was read. The
-/// status is 0 if every file was judged, and else the greatest of the statuses of those that were not.
+/// line has no numbers of the canonical file. With `progress`, it is reported on `err` after each hundredth file,
+/// and after the last, how many were read. The status is 0 if every file was judged, and else the greatest of the
+/// statuses of those that were not.
 pub fn run_sizes<S: Source + AllocGlobal, W: Write, E: Write>(
     source: &S,
     paths: &[&[u8]],

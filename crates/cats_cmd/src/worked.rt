@@ -21,7 +21,7 @@ ghost use Rattle.cats_cmd.specs.FaultLines.{line_of_fault};
 ghost use Rattle.cats_text.specs.Examples.{known, watched};
 ghost use Rattle.cats_cmd.specs.Duplicates.{judged_paths};
 ghost use Rattle.cats_cmd.specs.PathLists.{paths_in};
-ghost use Rattle.cats_cmd.specs.Paths.{IsHeavy, IsJudged, IsStopped, greatest_status, report_lines};
+ghost use Rattle.cats_cmd.specs.Paths.{IsHeavy, IsJudged, IsStopped, greatest_status, progress_lines, report_lines};
 ghost use Rattle.cats_cmd.specs.SizesTables.{MakesTable, counts_of, line_if_read, sizes_of};
 ghost use Rattle.cats_cmd.specs.Rounding.{round_outcome, rounded_line};
 ghost use Rattle.rounding.specs.declared.replacement.FinePrices.TheVariants.{Round};
@@ -111,12 +111,16 @@ pub fn differences()
         ∷ InXor [] 0 1 ∷ []) ≡ 0 ∷ 1 ∷ 1 ∷ 1 ∷ [] }
 {}
 
-/// What `cats duplicates` reports of two paths: the reason for the one that was not judged, and, with progress, both.
+/// What `cats duplicates` reports of two paths: the reason for the one that was not judged, and, with progress, how many
+/// were read. Of 250 files that is reported after the hundredth, the two hundredth and the last.
 pub fn paths_reported()
     ensures reason { report_lines false 2 ((codes "a", IsStopped (CannotOpen Only)) ∷ (codes "b", IsJudged larger_bid) ∷ [])
         ≡ codes "a: cannot open\n" ∷ [] }
     ensures progress { report_lines true 2 ((codes "a", IsStopped (CannotOpen Only)) ∷ (codes "b", IsJudged larger_bid) ∷ [])
-        ≡ codes "a: cannot open\n" ∷ codes "1 of 2 a\n" ∷ codes "2 of 2 b\n" ∷ [] }
+        ≡ codes "a: cannot open\n" ∷ codes "2 of 2 b\n" ∷ [] }
+    ensures counted { map (λ number. progress_lines true number 250 (codes "a")) (1 ∷ 99 ∷ 100 ∷ 200 ∷ 249 ∷ 250 ∷ [])
+        ≡ [] ∷ [] ∷ (codes "100 of 250 a\n" ∷ []) ∷ (codes "200 of 250 a\n" ∷ []) ∷ []
+        ∷ (codes "250 of 250 a\n" ∷ []) ∷ [] }
     ensures status { greatest_status ((codes "a", IsStopped (CannotOpen Only)) ∷ (codes "b", IsJudged larger_bid) ∷ []) ≡ 5 }
     ensures judged { judged_paths ((codes "a", IsStopped (CannotOpen Only)) ∷ (codes "b", IsJudged larger_bid) ∷ [])
         ≡ codes "b" ∷ [] }

@@ -108,7 +108,7 @@ static ROWS: [Row<'static>; 22] = [
         &["cats", "duplicates", "--progress", "none", "one"],
         5,
         "",
-        "none: cannot open\n1 of 2 none\n2 of 2 one\n",
+        "none: cannot open\n2 of 2 one\n",
     ),
     (&["cats", "duplicates", "one"], 0, "", ""),
     (
