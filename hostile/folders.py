@@ -94,7 +94,69 @@ def other_inputs(one):
             TALLY.judge(answer == wanted, f"{one}: {path} as file {at + 1}", answer)
 
 
+# Names of files, and how the lines show them.
+NAMES = {
+    b"l\nf": b"l\\nf",
+    b"esc\x1b[2J": b"esc\\x1b[2J",
+    b"back\\slash": b"back\\\\slash",
+    b"a\ttab": b"a\\ttab",
+    "\u00e9\u4e2d".encode(): "\u00e9\u4e2d".encode(),
+    b" -x": b" -x",
+}
+
+
+def lists(folder):
+    """Paths of any bytes, on the command line and in a list, with and without NUL in the output."""
+    names = os.path.join(os.fsencode(folder), b"names")
+    os.mkdir(names)
+    shown = {os.path.join(names, name): os.path.join(names, its) for name, its in NAMES.items()}
+    for path in shown:
+        with open(path, "wb") as file:
+            file.write(LADDER.encode() if isinstance(LADDER, str) else LADDER)
+    paths = list(shown)
+    groups = b"".join(its + b"\n" for its in shown.values())
+    raw = b"".join(path + b"\0" for path in paths)
+    path = os.path.join(os.fsencode(folder), b"list")
+    broken = os.path.join(names, b"\xff")
+    missing = os.path.join(names, b"none\n")
+    refused = names + b"/\xff: cannot open\n"
+    rows = [
+        # options, the list (none: the paths are on the command line), the wanted status, output and lines
+        ((), None, (0, groups, b"")),
+        (("-0",), None, (0, raw, b"")),
+        ((), raw, (0, groups, b"")),
+        (("--null",), raw, (0, raw, b"")),
+        (("-0",), raw[:-1], (0, raw, b"")),
+        ((), b"", (0, b"", b"")),
+        (("-0",), b"", (0, b"", b"")),
+        (("-0",), (paths[0] + b"\0") * 2, (0, (paths[0] + b"\0") * 2, b"")),
+        ((), paths[0] + b"\0" + broken + b"\0" + paths[0], (DEVICE_FAILED, (shown[paths[0]] + b"\n") * 2, refused)),
+        ((), paths[0] + b"\0\0" + paths[0], (DEVICE_FAILED, (shown[paths[0]] + b"\n") * 2, b": cannot open: no such file\n")),
+        ((), missing + b"\0", (DEVICE_FAILED, b"", names + b"/none\\n: cannot open: no such file\n")),
+        ((), paths[0] + b"\0" + names + b"\0" + paths[0], (DEVICE_FAILED, (shown[paths[0]] + b"\n") * 2, names + b": cannot open: is a folder\n")),
+    ]
+    for options, listed, wanted in rows:
+        words = ["duplicates", *options]
+        if listed is None:
+            words += paths
+        else:
+            with open(path, "wb") as file:
+                file.write(listed)
+            words += ["--files0-from", path]
+        answer = run(words)
+        TALLY.judge(answer.told() == wanted, f"{options} {listed}", answer)
+    # a list that is none, a list that is a folder, and words that are not UTF-8
+    for words, wanted in (
+        (["sizes", "--files0-from", missing], (DEVICE_FAILED, b"", names + b"/none\\n: cannot open: no such file\n")),
+        (["sizes", "--files0-from", names], (DEVICE_FAILED, b"", names + b": cannot open: is a folder\n")),
+        (["sizes", paths[0], b"\xff", b"\xfe"], (64, b"", b"argument 3 is not UTF-8; with --files0-from LIST, duplicates and sizes report such a path and go on\n")),
+    ):
+        answer = run(words)
+        TALLY.judge(answer.told() == wanted, f"{words}", answer)
+
+
 def work(folder):
+    lists(folder)
     files = tuple(
         write_file(folder, name, text)
         for name, text in (("larger", LARGER_BID), ("singles", SINGLES), ("ladder", LADDER), ("bidders", BIDDERS), ("again", LADDER))
