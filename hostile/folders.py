@@ -14,6 +14,8 @@ from itertools import count
 
 from runs import BIDDERS, DEVICE_FAILED, FILE_REFUSED, LADDER, LARGER_BID, NO_MEMORY, PIECE, SINGLES, TALLY, Answer, case, full, reads_of, run, write_file
 
+WRONG_USAGE = 64
+
 WANT = b"want of memory\n"
 
 
@@ -94,65 +96,55 @@ def other_inputs(one):
             TALLY.judge(answer == wanted, f"{one}: {path} as file {at + 1}", answer)
 
 
-# Names of files, and how the lines show them.
-NAMES = {
-    b"l\nf": b"l\\nf",
-    b"esc\x1b[2J": b"esc\\x1b[2J",
-    b"back\\slash": b"back\\\\slash",
-    b"a\ttab": b"a\\ttab",
-    "\u00e9\u4e2d".encode(): "\u00e9\u4e2d".encode(),
-    b" -x": b" -x",
-}
+def is_told(answer, status, out, lines):
+    """Whether the run answered this, with a line on standard error for each of these beginnings."""
+    told = answer.err.splitlines(True)
+    return answer.told()[:2] == (status, out) and len(told) == len(lines) and all(map(bytes.startswith, told, lines))
 
 
 def lists(folder):
-    """Paths of any bytes, on the command line and in a list, with and without NUL in the output."""
+    """Paths in a list: with the last NUL and without it, none, one twice, an empty one, and such as cannot be opened."""
     names = os.path.join(os.fsencode(folder), b"names")
     os.mkdir(names)
-    shown = {os.path.join(names, name): os.path.join(names, its) for name, its in NAMES.items()}
-    for path in shown:
-        with open(path, "wb") as file:
-            file.write(LADDER.encode() if isinstance(LADDER, str) else LADDER)
-    paths = list(shown)
-    groups = b"".join(its + b"\n" for its in shown.values())
-    raw = b"".join(path + b"\0" for path in paths)
-    path = os.path.join(os.fsencode(folder), b"list")
-    broken = os.path.join(names, b"\xff")
-    missing = os.path.join(names, b"none\n")
-    refused = names + b"/\xff: cannot open\n"
+    paths = [os.path.join(names, name.encode()) for name in ("a b", "\u00e9\u4e2d", "$x;*'\"")]
+    for path in paths:
+        with open(path, "w", encoding="ascii") as file:
+            file.write(LADDER)
+    one, listed, folder_of_files = paths[0], b"".join(path + b"\0" for path in paths), names + b"/"
+    groups, pair = b"".join(path + b"\n" for path in paths), one + b"\n" + one + b"\n"
     rows = [
-        # options, the list (none: the paths are on the command line), the wanted status, output and lines
-        ((), None, (0, groups, b"")),
-        (("-0",), None, (0, raw, b"")),
-        ((), raw, (0, groups, b"")),
-        (("--null",), raw, (0, raw, b"")),
-        (("-0",), raw[:-1], (0, raw, b"")),
-        ((), b"", (0, b"", b"")),
-        (("-0",), b"", (0, b"", b"")),
-        (("-0",), (paths[0] + b"\0") * 2, (0, (paths[0] + b"\0") * 2, b"")),
-        ((), paths[0] + b"\0" + broken + b"\0" + paths[0], (DEVICE_FAILED, (shown[paths[0]] + b"\n") * 2, refused)),
-        ((), paths[0] + b"\0\0" + paths[0], (DEVICE_FAILED, (shown[paths[0]] + b"\n") * 2, b": cannot open: no such file\n")),
-        ((), missing + b"\0", (DEVICE_FAILED, b"", names + b"/none\\n: cannot open: no such file\n")),
-        ((), paths[0] + b"\0" + names + b"\0" + paths[0], (DEVICE_FAILED, (shown[paths[0]] + b"\n") * 2, names + b": cannot open: is a folder\n")),
+        (listed, 0, groups, []),
+        (listed[:-1], 0, groups, []),
+        (b"", 0, b"", []),
+        (one, 0, b"", []),
+        (one + b"\0" + one + b"\0", 0, pair, []),
+        (one + b"\0\0" + one, DEVICE_FAILED, pair, [b": cannot open"]),
+        (b"\0", DEVICE_FAILED, b"", [b": cannot open"]),
+        (one + b"\0" + names + b"/none\0" + one, DEVICE_FAILED, pair, [names + b"/none: cannot open"]),
+        (one + b"\0" + names + b"/b\xff\0" + one, DEVICE_FAILED, pair, [names + b"/b\xff: cannot open"]),
+        (one + b"\0" + folder_of_files + b"\0" + one, DEVICE_FAILED, pair, [folder_of_files + b": "]),
     ]
-    for options, listed, wanted in rows:
-        words = ["duplicates", *options]
-        if listed is None:
-            words += paths
-        else:
-            with open(path, "wb") as file:
-                file.write(listed)
-            words += ["--files0-from", path]
-        answer = run(words)
-        TALLY.judge(answer.told() == wanted, f"{options} {listed}", answer)
-    # a list that is none, a list that is a folder, and words that are not UTF-8
-    for words, wanted in (
-        (["sizes", "--files0-from", missing], (DEVICE_FAILED, b"", names + b"/none\\n: cannot open: no such file\n")),
-        (["sizes", "--files0-from", names], (DEVICE_FAILED, b"", names + b": cannot open: is a folder\n")),
-        (["sizes", paths[0], b"\xff", b"\xfe"], (64, b"", b"argument 3 is not UTF-8; with --files0-from LIST, duplicates and sizes report such a path and go on\n")),
+    path = os.path.join(os.fsencode(folder), b"list")
+    for text, status, out, lines in rows:
+        with open(path, "wb") as file:
+            file.write(text)
+        answer = run(["duplicates", "--files0-from", path])
+        TALLY.judge(is_told(answer, status, out, lines), f"the list {text}", answer)
+    header = b"goods\tbids\tor\txor\tdummy\tkept\tkept_or\tkept_xor\tfile\n"
+    answer = run(["sizes", "--files0-from", "/dev/null"])
+    TALLY.judge(is_told(answer, 0, header, []), "no path", answer)
+    # lists that are not read, and words that are not UTF-8
+    for words, status, line in (
+        (["sizes", "--files0-from", names + b"/none"], DEVICE_FAILED, names + b"/none: cannot open"),
+        (["duplicates", "--files0-from", folder_of_files], DEVICE_FAILED, folder_of_files + b": "),
+        (["sizes", one, b"\xff", b"\xfe"], WRONG_USAGE, b"argument 3 is not UTF-8; with --files0-from LIST, "),
+        ([b"\xc3", one], WRONG_USAGE, b"argument 1 is not UTF-8; with --files0-from LIST, "),
     ):
         answer = run(words)
-        TALLY.judge(answer.told() == wanted, f"{words}", answer)
+        TALLY.judge(is_told(answer, status, b"", [line]), f"{words}", answer)
+    for words in (["sizes", "--files0-from", path, one], ["duplicates", "--files0-from", path, "--files0-from", path], ["sizes"]):
+        answer = run(words)
+        TALLY.judge(answer.told()[:2] == (WRONG_USAGE, b"") and answer.err.startswith(b"error: "), f"{words}", answer)
 
 
 def work(folder):
