@@ -15,6 +15,8 @@ use Rattle.cats_cmd.specs.Inputs.{IsOpened, IsRefusedFile, ReadsHeavyFile, Reads
 use Rattle.cats_cmd.specs.Outcomes.{Outcome, Tells, normalise_outcome}
 use Rattle.cats_cmd.specs.Runs.{FailsInText, WritesText}
 use Rattle.cats_cmd.specs.Stops.{ReportsAll, line_of_stop, status_of_stop}
+use Rattle.cats_cmd.specs.declared.paths.Ending.{Ending}
+use Rattle.cats_cmd.specs.declared.paths.Ending.TheVariants.{Line, Null}
 use Rattle.cats_cmd.specs.declared.program.Stop.{Stop}
 use Rattle.cats_cmd.specs.declared.program.Stop.TheVariants.{CannotOpen, Run}
 use Rattle.cats_cmd.specs.declared.report.RunFault.{RunFault}
@@ -44,6 +46,11 @@ status_of_judgement judgement = status_if (stop_of judgement)
 
 abbrev pub greatest_status : List (List ℕ × Judgement) → ℕ
 greatest_status judgements = fold (λ greatest j. max greatest (status_of_judgement j.1)) 0 judgements
+
+-- the byte at the end of each line of the output
+abbrev pub end_of : Ending → ℕ
+end_of Line = 10
+end_of Null = 0
 
 -- ---- what is reported
 

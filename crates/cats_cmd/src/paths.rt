@@ -3,7 +3,7 @@
 ghost use Rattle.std.specs.Prelude.{◌≡◌, ◌++◌, ℕ, List, [], ◌∷◌, map, IfErr, IfOk, false, true};
 ghost use Rattle.cats_text.specs.Streams.{has_ended, has_failed};
 ghost use Rattle.cats_cmd.specs.Inputs.{IsOpened};
-ghost use Rattle.cats_cmd.specs.Paths.{Judgement, IsStopped, IsUnopened, RunsOnPaths, progress_line, progress_lines, refusal_line};
+ghost use Rattle.cats_cmd.specs.Paths.{Judgement, IsStopped, IsUnopened, RunsOnPaths, end_of, progress_line, progress_lines, refusal_line};
 ghost use Rattle.cats_cmd.specs.Stops.{ReportsAll};
 ghost use Rattle.cats_cmd.specs.Internal.Judging.{AddsFile, AddsPathAs, AddsOpened, HasSome, JudgesAllAs};
 ghost use Rattle.canon.specs.declared.which.Which.TheVariants.{Only};
@@ -29,7 +29,7 @@ pub struct ManyFiles {
     pub ending: Ending,
 }
 
-/// How the paths of the output end.
+/// How each line of the output ends.
 #[derive(Clone, Copy)]
 pub enum Ending {
     /// With LF.
@@ -38,15 +38,25 @@ pub enum Ending {
     Null,
 }
 
+/// The byte at the end of each line of the output.
+pub(crate) fn end_byte(ending: Ending) -> u8
+    ensures { result ≡ end_of ending }
+{
+    match ending {
+        Ending::Line => b'\n',
+        Ending::Null => 0,
+    }
+}
+
 /// What a run makes of the files at some paths, which are judged one after the other.
 pub(crate) trait Collection<'a>: Sized + Drop {
-    ghost has: { Self → List (List ℕ × Judgement) → Type 0 };
+    ghost has: { ℕ → Self → List (List ℕ × Judgement) → Type 0 };
 
-    ghost Makes: { List (List ℕ × Judgement) → List ℕ → Type 0 };
+    ghost Makes: { ℕ → List (List ℕ × Judgement) → List ℕ → Type 0 };
 
     /// What is made of no files.
     fn none(alloc: Global) -> Self
-        ensures { has result [] };
+        ensures { (end : ℕ) → has end result [] };
 
     /// Judges the file at one more path from its stream, and answers why it is not judged.
     fn add<R: Read>(
@@ -54,23 +64,23 @@ pub(crate) trait Collection<'a>: Sized + Drop {
         alloc: Global,
         path: &'a [u8],
         input: &mut Watched<R>,
-        limit: u64,
+        many: ManyFiles,
     ) -> Result<Option<Stop>, AllocError>
         requires works { has_failed input.old ≡ false }
         requires fresh { has_ended input.old ≡ false }
-        ensures { IfOk result (λ stop. AddsOpened has R.remaining limit path.now self.old self.new input.old input.new
+        ensures { IfOk result (λ stop. AddsOpened (has (end_of many.ending)) R.remaining many.limit path.now self.old self.new input.old input.new
             stop) };
 
     /// The text of all.
-    fn text(&self, alloc: Global) -> Result<Vec<u8>, AllocError>
-        requires { HasSome has self.now }
-        ensures { (judgements : List (List ℕ × Judgement)) → has self.now judgements
-            → IfOk result (λ text. Makes judgements text.items) };
+    fn text(&self, alloc: Global, ending: Ending) -> Result<Vec<u8>, AllocError>
+        requires { HasSome (has (end_of ending)) self.now }
+        ensures { (judgements : List (List ℕ × Judgement)) → has (end_of ending) self.now judgements
+            → IfOk result (λ text. Makes (end_of ending) judgements text.items) };
 
     /// A path at which no file was opened adds nothing.
     fn skip(&self)
-        ensures { (judgements : List (List ℕ × Judgement)) (path : List ℕ) (stop : Stop) → has self.now judgements
-            → has self.now (judgements ++ (path, IsStopped stop) ∷ []) };
+        ensures { (end : ℕ) (judgements : List (List ℕ × Judgement)) (path : List ℕ) (stop : Stop)
+            → has end self.now judgements → has end self.now (judgements ++ (path, IsStopped stop) ∷ []) };
 }
 
 /// Judges the files at these paths, one after the other, and sends the text that is made of them.
@@ -87,11 +97,11 @@ pub(crate) fn run_on_paths<'a, C: Collection<'a>, S: Source + AllocGlobal, W: Wr
 ) -> Result<u8, RunFault>
     requires { has_failed out.old ≡ false }
     ensures { RunsOnPaths (S.may_open source.now) (S.may_refuse source.now) S.Stream.remaining W.contents E.contents many.limit
-        C.Makes (map (λ path. path.now) paths.now) many.progress out.old out.new err.old err.new result }
+        (C.Makes (end_of many.ending)) (map (λ path. path.now) paths.now) many.progress out.old out.new err.old err.new result }
 {
     let mut collection = C::none(source.alloc());
     let greatest = judge_all(source, &mut collection, paths, many, err)?;
-    let text = collection.text(source.alloc())?;
+    let text = collection.text(source.alloc(), many.ending)?;
     send_text(out, greatest, text.as_slice())
 }
 
@@ -103,13 +113,13 @@ fn judge_all<'a, C: Collection<'a>, S: Source + AllocGlobal, E: Write>(
     many: ManyFiles,
     err: &mut Watched<E>,
 ) -> Result<u8, AllocError>
-    requires { C.has collection.old [] }
-    ensures { JudgesAllAs C.has (S.may_open source.now) (S.may_refuse source.now) S.Stream.remaining many.limit E.contents
+    requires { C.has (end_of many.ending) collection.old [] }
+    ensures { JudgesAllAs (C.has (end_of many.ending)) (S.may_open source.now) (S.may_refuse source.now) S.Stream.remaining many.limit E.contents
         (map (λ path. path.now) paths.now) many.progress collection.new err.old err.new result }
 {
     let mut greatest = DONE;
     for (number, path) in paths.iter().enumerate() {
-        let status = judge_path(source, collection, path, many.limit, err)?;
+        let status = judge_path(source, collection, path, many, err)?;
         greatest = greatest.max(status);
         if many.progress {
             report_progress(source.alloc(), number + 1, paths.len(), path, err);
@@ -123,13 +133,13 @@ fn judge_path<'a, C: Collection<'a>, S: Source + AllocGlobal, E: Write>(
     source: &S,
     collection: &mut C,
     path: &'a [u8],
-    limit: u64,
+    many: ManyFiles,
     err: &mut Watched<E>,
 ) -> Result<u8, AllocError>
-    ensures { AddsPathAs C.has (S.may_open source.now) (S.may_refuse source.now) S.Stream.remaining limit E.contents
+    ensures { AddsPathAs (C.has (end_of many.ending)) (S.may_open source.now) (S.may_refuse source.now) S.Stream.remaining many.limit E.contents
         path.now collection.old collection.new err.old err.new result }
 {
-    match judge(source, collection, path, limit)? {
+    match judge(source, collection, path, many)? {
         None => Ok(DONE),
         Some(stop) => {
             report(err, &path_refusal(source.alloc(), path, &stop));
@@ -143,13 +153,13 @@ fn judge<'a, C: Collection<'a>, S: Source + AllocGlobal>(
     source: &S,
     collection: &mut C,
     path: &'a [u8],
-    limit: u64,
+    many: ManyFiles,
 ) -> Result<Option<Stop>, AllocError>
-    ensures { IfOk result (AddsFile C.has (S.may_open source.now) (S.may_refuse source.now) S.Stream.remaining limit
+    ensures { IfOk result (AddsFile (C.has (end_of many.ending)) (S.may_open source.now) (S.may_refuse source.now) S.Stream.remaining many.limit
         path.now collection.old collection.new) }
 {
     match open_path(source, path) {
-        Ok(mut input) => collection.add(source.alloc(), path, &mut input, limit),
+        Ok(mut input) => collection.add(source.alloc(), path, &mut input, many),
         Err(stop) => {
             collection.skip();
             Ok(Some(stop))

@@ -2,12 +2,12 @@
 
 mod count;
 
-ghost use Rattle.std.specs.Prelude.{◌≡◌, ◌++◌, List, ℕ, map, OnOk, codes, false};
+ghost use Rattle.std.specs.Prelude.{◌≡◌, ◌++◌, ◌∷◌, [], List, ℕ, map, OnOk, false};
 ghost use Rattle.cats_text.specs.Streams.{has_failed};
-ghost use Rattle.cats_cmd.specs.Paths.{RunsOnPaths};
+ghost use Rattle.cats_cmd.specs.Paths.{RunsOnPaths, end_of};
 ghost use Rattle.cats_cmd.specs.SizesTables.{MakesTable};
 
-use crate::paths::{Collection, ManyFiles, run_on_paths};
+use crate::paths::{Collection, Ending, ManyFiles, end_byte, run_on_paths};
 use crate::program::Stop;
 use crate::report::RunFault;
 use crate::run::read_compact_file;
@@ -19,7 +19,7 @@ use std::alloc::{AllocError, AllocGlobal, Global};
 use std::io::{Read, Write};
 
 /// The line above the others.
-const HEADER: &str = "goods\tbids\tor\txor\tdummy\tkept\tkept_or\tkept_xor\tfile\n";
+const HEADER: &str = "goods\tbids\tor\txor\tdummy\tkept\tkept_or\tkept_xor\tfile";
 
 /// What is in the place of the numbers of a canonical file that is not known.
 const UNKNOWN: &str = "-\t-\t-\t";
@@ -34,7 +34,7 @@ impl<'a> Collection<'a> for Table {
     ghost use Rattle.std.specs.Prelude.{◌≡◌};
     ghost use Rattle.cats_cmd.specs.SizesTables.{MakesTable, lines_of_table};
 
-    ghost has = { λ table judgements. table.lines.items ≡ lines_of_table judgements };
+    ghost has = { λ end table judgements. table.lines.items ≡ lines_of_table end judgements };
 
     ghost Makes = { MakesTable };
 
@@ -49,23 +49,24 @@ impl<'a> Collection<'a> for Table {
         alloc: Global,
         path: &'a [u8],
         input: &mut Watched<R>,
-        limit: u64,
+        many: ManyFiles,
     ) -> Result<Option<Stop>, AllocError> {
         let file = match read_compact_file(alloc, input) {
             Ok(file) => file,
             Err(fault) => return Ok(Some(Stop::Run(RunFault::from(fault)))),
         };
+        let end = end_byte(many.ending);
         let mut line = Vec::new(alloc);
         push_sizes(alloc, &mut line, &file)?;
-        match into_normal_file(alloc, file, limit) {
+        match into_normal_file(alloc, file, many.limit) {
             Ok(normal) => {
                 push_counts(alloc, &mut line, &normal)?;
-                push_line(&mut self.lines, line.as_slice(), path)?;
+                push_line(&mut self.lines, line.as_slice(), path, end)?;
                 Ok(None)
             }
             Err(CanonFault::StepLimit { goods }) => {
                 line.extend_from_slice(UNKNOWN.as_bytes())?;
-                push_line(&mut self.lines, line.as_slice(), path)?;
+                push_line(&mut self.lines, line.as_slice(), path, end)?;
                 Ok(Some(Stop::Run(RunFault::from(CanonFault::StepLimit { goods }))))
             }
             // a file that was read is refused for nothing else
@@ -75,21 +76,22 @@ impl<'a> Collection<'a> for Table {
 
     fn skip(&self) {}
 
-    fn text(&self, alloc: Global) -> Result<Vec<u8>, AllocError> {
+    fn text(&self, alloc: Global, ending: Ending) -> Result<Vec<u8>, AllocError> {
         let mut text = Vec::from_slice(alloc, HEADER.as_bytes())?;
+        text.push(end_byte(ending))?;
         text.extend_from_slice(self.lines.as_slice())?;
         Ok(text)
     }
 }
 
-/// Puts a line behind the others: numbers with a tab after each, and then the path.
-fn push_line(lines: &mut Vec<u8>, numbers: &[u8], path: &[u8]) -> Result<(), AllocError>
-    ensures { let more : List ℕ = numbers.now ++ path.now ++ codes "\n" in
+/// Puts a line behind the others: numbers with a tab after each, the path, and then the end of the line.
+fn push_line(lines: &mut Vec<u8>, numbers: &[u8], path: &[u8], end: u8) -> Result<(), AllocError>
+    ensures { let more : List ℕ = numbers.now ++ path.now ++ end ∷ [] in
         OnOk result (lines.new.items ≡ lines.old.items ++ more) }
 {
     lines.extend_from_slice(numbers)?;
     lines.extend_from_slice(path)?;
-    lines.push(b'\n')?;
+    lines.push(end)?;
     Ok(())
 }
 
@@ -109,7 +111,7 @@ pub fn run_sizes<S: Source + AllocGlobal, W: Write, E: Write>(
 ) -> Result<u8, RunFault>
     requires { has_failed out.old ≡ false }
     ensures { RunsOnPaths (S.may_open source.now) (S.may_refuse source.now) S.Stream.remaining W.contents E.contents many.limit
-        MakesTable (map (λ path. path.now) paths.now) many.progress out.old out.new err.old err.new result }
+        (MakesTable (end_of many.ending)) (map (λ path. path.now) paths.now) many.progress out.old out.new err.old err.new result }
 {
     run_on_paths::<Table, S, W, E>(source, paths, many, out, err)
 }
