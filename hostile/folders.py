@@ -130,6 +130,12 @@ def lists(folder):
             file.write(text)
         answer = run(["duplicates", "--files0-from", path])
         TALLY.judge(is_told(answer, status, out, lines), f"the list {text}", answer)
+    # the output of one run is the list of another
+    with open(path, "wb") as file:
+        file.write(listed)
+    for option in ("-0", "--null"):
+        answer = run(["duplicates", option, "--files0-from", path])
+        TALLY.judge(is_told(answer, 0, listed, []), f"the list with {option}", answer)
     header = b"goods\tbids\tor\txor\tdummy\tkept\tkept_or\tkept_xor\tfile\n"
     answer = run(["sizes", "--files0-from", "/dev/null"])
     TALLY.judge(is_told(answer, 0, header, []), "no path", answer)

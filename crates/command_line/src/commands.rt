@@ -186,7 +186,7 @@ fn null_flag<'a>(alloc: Global) -> Arg<'a> {
         .short('0')
         .long(NULL)
         .action(ArgAction::SetTrue)
-        .help("Prints each path as it is, with NUL after it")
+        .help("Prints each path as it is, and ends each line with NUL")
 }
 
 /// A list takes the place of the paths on the command line.

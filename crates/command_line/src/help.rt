@@ -111,7 +111,7 @@ All files below a folder, however many there are:
   $ find folder -name '*.cats' -print0 | cats duplicates --files0-from /dev/stdin
 
 A control byte in a path is printed as \\n, \\t or \\x1b, with its two hexadecimal digits, and a backslash as \\\\. With -0 each
-path of the output is printed as it is and ends with NUL, and one more NUL is between two auctions.
+path of the output is printed as it is, and each line ends with NUL.
 
 A file that is refused is reported at once, with its path before the fault, and the others go on. So is a list that
 cannot be read, and then no file is. With --progress a line says how many files were read, after each hundred and at the
@@ -134,8 +134,8 @@ Prints a header and a line for each file, in the order given, with tabs between 
 
 The table is printed once all files were read. A file that is refused is reported at once, with its path before the
 fault, and the others go on. If only the step limit stops a file, its line has '-' for the numbers of its canonical
-file. A step is that of 'cats normalise', to which each file is put. Paths and progress are as 'cats help duplicates'
-says; with -0 NUL is in the place of the line feed after each path.
+file. A step is that of 'cats normalise', to which each file is put. 'cats help duplicates' says how paths are printed,
+and what --progress reports.
 
 All files below a folder, however many there are:
   $ find folder -name '*.cats' -print0 | cats sizes --files0-from /dev/stdin

@@ -66,7 +66,7 @@ static FILES: [(&str, &[u8]); 13] = [
 /// A command line's words, and what it answers: its status, its output and its faults' lines.
 type Row<'a> = (&'a [&'a str], u8, &'a str, &'a str);
 
-static ROWS: [Row<'static>; 22] = [
+static ROWS: [Row<'static>; 25] = [
     (
         &["cats", "check", "same"],
         0,
@@ -131,6 +131,21 @@ static ROWS: [Row<'static>; 22] = [
         "goods\tbids\tor\txor\tdummy\tkept\tkept_or\tkept_xor\tfile\n",
         "none: cannot open\n1 of 1 none\n",
     ),
+    // NUL at the end of each line
+    (
+        &["cats", "duplicates", "-0", "one", "other", "same", "other"],
+        0,
+        "one\0same\0\0other\0other\0",
+        "",
+    ),
+    (
+        &["cats", "sizes", "--null", "same", "none", "one"],
+        5,
+        "goods\tbids\tor\txor\tdummy\tkept\tkept_or\tkept_xor\tfile\0\
+1\t2\t2\t0\t0\t1\t1\t0\tsame\01\t1\t1\t0\t0\t1\t1\t0\tone\0",
+        "none: cannot open\n",
+    ),
+    (&["cats", "duplicates", "-0", "one", "other"], 0, "", ""),
     (
         &["cats", "duplicates", "--files0-from", "list"],
         0,
