@@ -1,6 +1,6 @@
 -- The paths of the files for each place: each goes behind those of its place. And the text of the groups: a group of two paths has
 -- lines, so the next group stands behind an empty line.
-use Rattle.std.proofs.Common.{append_assoc, codes, fold, length-append, ◌≡◌, ℕ, zero, suc, ◌+◌, ◌<◌, ◌≤◌, ◌==◌, Bool, true, false, cond, ⊎_elim, List, [], ◌∷◌}
+use Rattle.std.proofs.Common.{append_assoc, fold, length-append, ◌≡◌, ℕ, zero, suc, ◌+◌, ◌<◌, ◌≤◌, ◌==◌, Bool, true, false, cond, ⊎_elim, List, [], ◌∷◌}
 use Rattle.std.proofs.Common.{◌++◌, length, map, get_or, set, take, replicate, Global, refl, sym, ap, ap₂, ◌∙◌, arith, append-nil, zero-add}
 use Rattle.std.specs.Borrow.{Bor}
 use Rattle.std.specs.Prelude.{Vec, filter}

@@ -1,7 +1,7 @@
 -- The lines of `cats sizes`, and the numbers in them: how many bids have no dummy good, and which dummy goods the bids so far have.
 use Rattle.std.proofs.Common.{◌≡◌, ℕ, suc, zero, ◌+◌, ◌<◌, Bool, true, false, cond, List, [], ◌∷◌, ◌++◌, length, map, get_or, set, take, refl, sym}
 use Rattle.std.proofs.Common.{ap, ◌∙◌, arith, Option, Some, None, Ok, Err, ⊎_elim, zero-add, replicate}
-use Rattle.std.proofs.Common.{inl, inr, codes, Global}
+use Rattle.std.proofs.Common.{inl, inr, Global}
 use Rattle.std.specs.Prelude.{filter, is_none, is_some, ◌||◌, Vec}
 use Rattle.std.specs.List.{range_with_len, slice_get}
 use Rattle.std.proofs.Math.Bool.{or-false, or-true}
