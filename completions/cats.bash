@@ -11,7 +11,7 @@ _cats() {
         value | normalise) _cats_operands 1 "--steps -h --help" ;;
         round) _cats_operands 1 "--exact -h --help" ;;
         compare) _cats_operands 2 "--steps -h --help" ;;
-        duplicates | sizes) _cats_operands COMP_CWORD "--steps --progress -h --help" ;;
+        duplicates | sizes) _cats_operands COMP_CWORD "--steps --progress -0 --null --files0-from -h --help" ;;
     esac
 }
 
@@ -20,24 +20,33 @@ _cats_words() {
     mapfile -t COMPREPLY < <(compgen -W "$1" -- "$word")
 }
 
-# FILES OPTIONS: offers options to a word with a hyphen, and paths while fewer than FILES operands stand before the cursor. What follows
-# `--steps` is a number, and so is a good, and neither is offered.
+# FILES OPTIONS: offers options to a word with a hyphen, and paths if fewer than FILES operands come before the cursor. What follows
+# `--steps` is a number, and so is a good, and neither is offered. What follows `--files0-from` is a path, and then no other path is.
 _cats_operands() {
-    local at operands=0 is_value=
+    local at operands=0 value= is_listed=
     for ((at = 2; at < COMP_CWORD; at++)); do
         case ${COMP_WORDS[at]} in
-            --steps | =) is_value=1 ;;
-            -*) ;;
-            *) if [[ $is_value ]]; then is_value=; else ((operands += 1)); fi ;;
+            --steps) value=number ;;
+            --files0-from) value=path is_listed=1 ;;
+            =) ;;
+            -*) value= ;;
+            *) if [[ $value ]]; then value=; else ((operands += 1)); fi ;;
         esac
     done
-    if [[ $is_value || $word == = ]]; then return; fi
-    if [[ $word == -* ]]; then
+    if [[ $word == = ]]; then word=; fi
+    if [[ $value == number ]]; then return; fi
+    if [[ $value == path ]]; then
+        _cats_paths
+    elif [[ $word == -* ]]; then
         _cats_words "$2"
-    elif ((operands < $1)); then
-        compopt -o filenames 2> /dev/null
-        mapfile -t COMPREPLY < <(compgen -f -- "$word")
+    elif [[ ! $is_listed ]] && ((operands < $1)); then
+        _cats_paths
     fi
+}
+
+_cats_paths() {
+    compopt -o filenames 2> /dev/null
+    mapfile -t COMPREPLY < <(compgen -f -- "$word")
 }
 
 complete -F _cats cats

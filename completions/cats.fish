@@ -13,7 +13,7 @@ function __cats_takes_path
         case compare
             test $many -lt 2
         case duplicates sizes
-            true
+            not string match -q -- '--files0-from*' $words
         case '*'
             false
     end
@@ -35,4 +35,6 @@ complete -c cats -n '__fish_seen_subcommand_from help' -a 'check show value norm
 complete -c cats -n __cats_takes_path -F
 complete -c cats -n '__fish_seen_subcommand_from value normalise compare duplicates sizes' -x -l steps -d 'The most steps of a search'
 complete -c cats -n '__fish_seen_subcommand_from round' -l exact -d 'Refuse a price that would be rounded'
-complete -c cats -n '__fish_seen_subcommand_from duplicates sizes' -l progress -d 'Tell how many files were read'
+complete -c cats -n '__fish_seen_subcommand_from duplicates sizes' -l progress -d 'Print how many files were read'
+complete -c cats -n '__fish_seen_subcommand_from duplicates sizes' -s 0 -l null -d 'End each path of the output with NUL'
+complete -c cats -n '__fish_seen_subcommand_from duplicates sizes' -r -F -l files0-from -d 'Take the paths from a file, in which each ends with NUL'

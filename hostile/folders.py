@@ -14,6 +14,8 @@ from itertools import count
 
 from runs import BIDDERS, DEVICE_FAILED, FILE_REFUSED, LADDER, LARGER_BID, NO_MEMORY, PIECE, SINGLES, TALLY, Answer, case, full, reads_of, run, write_file
 
+WRONG_USAGE = 64
+
 WANT = b"want of memory\n"
 
 
@@ -94,7 +96,65 @@ def other_inputs(one):
             TALLY.judge(answer == wanted, f"{one}: {path} as file {at + 1}", answer)
 
 
+def is_told(answer, status, out, lines):
+    """Whether the run answered this, with a line on standard error for each of these beginnings."""
+    told = answer.err.splitlines(True)
+    return answer.told()[:2] == (status, out) and len(told) == len(lines) and all(map(bytes.startswith, told, lines))
+
+
+def lists(folder):
+    """Paths in a list: with the last NUL and without it, none, one twice, an empty one, and such as cannot be opened."""
+    names = os.path.join(os.fsencode(folder), b"names")
+    os.mkdir(names)
+    paths = [os.path.join(names, name.encode()) for name in ("a b", "\u00e9\u4e2d", "$x;*'\"")]
+    for path in paths:
+        with open(path, "w", encoding="ascii") as file:
+            file.write(LADDER)
+    one, listed, folder_of_files = paths[0], b"".join(path + b"\0" for path in paths), names + b"/"
+    groups, pair = b"".join(path + b"\n" for path in paths), one + b"\n" + one + b"\n"
+    rows = [
+        (listed, 0, groups, []),
+        (listed[:-1], 0, groups, []),
+        (b"", 0, b"", []),
+        (one, 0, b"", []),
+        (one + b"\0" + one + b"\0", 0, pair, []),
+        (one + b"\0\0" + one, DEVICE_FAILED, pair, [b": cannot open"]),
+        (b"\0", DEVICE_FAILED, b"", [b": cannot open"]),
+        (one + b"\0" + names + b"/none\0" + one, DEVICE_FAILED, pair, [names + b"/none: cannot open"]),
+        (one + b"\0" + names + b"/b\xff\0" + one, DEVICE_FAILED, pair, [names + b"/b\xff: cannot open"]),
+        (one + b"\0" + folder_of_files + b"\0" + one, DEVICE_FAILED, pair, [folder_of_files + b": "]),
+    ]
+    path = os.path.join(os.fsencode(folder), b"list")
+    for text, status, out, lines in rows:
+        with open(path, "wb") as file:
+            file.write(text)
+        answer = run(["duplicates", "--files0-from", path])
+        TALLY.judge(is_told(answer, status, out, lines), f"the list {text}", answer)
+    # the output of one run is the list of another
+    with open(path, "wb") as file:
+        file.write(listed)
+    for option in ("-0", "--null"):
+        answer = run(["duplicates", option, "--files0-from", path])
+        TALLY.judge(is_told(answer, 0, listed, []), f"the list with {option}", answer)
+    header = b"goods\tbids\tor\txor\tdummy\tkept\tkept_or\tkept_xor\tfile\n"
+    answer = run(["sizes", "--files0-from", "/dev/null"])
+    TALLY.judge(is_told(answer, 0, header, []), "no path", answer)
+    # lists that are not read, and words that are not UTF-8
+    for words, status, line in (
+        (["sizes", "--files0-from", names + b"/none"], DEVICE_FAILED, names + b"/none: cannot open"),
+        (["duplicates", "--files0-from", folder_of_files], DEVICE_FAILED, folder_of_files + b": "),
+        (["sizes", one, b"\xff", b"\xfe"], WRONG_USAGE, b"argument 3 is not UTF-8; with --files0-from LIST, "),
+        ([b"\xc3", one], WRONG_USAGE, b"argument 1 is not UTF-8; with --files0-from LIST, "),
+    ):
+        answer = run(words)
+        TALLY.judge(is_told(answer, status, b"", [line]), f"{words}", answer)
+    for words in (["sizes", "--files0-from", path, one], ["duplicates", "--files0-from", path, "--files0-from", path], ["sizes"]):
+        answer = run(words)
+        TALLY.judge(answer.told()[:2] == (WRONG_USAGE, b"") and answer.err.startswith(b"error: "), f"{words}", answer)
+
+
 def work(folder):
+    lists(folder)
     files = tuple(
         write_file(folder, name, text)
         for name, text in (("larger", LARGER_BID), ("singles", SINGLES), ("ladder", LADDER), ("bidders", BIDDERS), ("again", LADDER))

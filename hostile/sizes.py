@@ -124,18 +124,23 @@ def bids_on(count, size):
 
 
 def judge_files(folder):
-    """3,000 files, of which the last 1,000 are rewritings of others, and then one file 70,000 times."""
-    print("3,000 files, and one file 70,000 times", flush=True)
+    """3,000 files, of which the last 1,000 are rewritings of others, and then one file 70,000 times; all listed too, and one file
+    300,000 times, whose paths are more than one command takes."""
+    print("3,000 files, one file 70,000 times, and lists of these and of 300,000 paths", flush=True)
     for number in range(2000):
         write(folder, str(number), text_of(2, [Bid(5, (0, 1)), Bid(1 + number, (1,))], MANY_XOR))
     for number in range(1000):
         write(folder, str(2000 + number), text_of(2, [Bid(1 + 2 * number, (1,)), Bid(5, (0, 1))], MANY_XOR))
     paths = [str(number) for number in range(3000)]
     groups = "\n".join(f"{2 * number}\n{2000 + number}\n" for number in range(1000))
-    progress = "".join(f"{1 + number} of 3000 {number}\n" for number in range(3000))
+    progress = "".join(f"{number} of 3000 {number - 1}\n" for number in range(100, 3001, 100))
     run(["duplicates", *paths], (0, groups, ""), folder)
     run(["duplicates", "--progress", *paths], (0, groups, progress), folder)
     run(["duplicates", *["0"] * 70_000], (0, "0\n" * 70_000, ""), folder)
+    write(folder, "list", "".join(path + "\0" for path in paths))
+    run(["duplicates", "--progress", "--files0-from", "list"], (0, groups, progress), folder)
+    write(folder, "list", "\0".join(["./0"] * 300_000))
+    run(["duplicates", "--files0-from", "list"], (0, "./0\n" * 300_000, ""), folder)
 
 
 def main():

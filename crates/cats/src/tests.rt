@@ -12,3 +12,4 @@ mod show;
 mod sources;
 mod streams;
 mod value;
+mod words;

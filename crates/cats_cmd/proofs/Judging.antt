@@ -23,7 +23,7 @@ use Rattle.canon.specs.declared.which.Which.TheVariants.{Only}
 use Rattle.cats_cmd.specs.DuplicateTexts.{found_paths}
 use Rattle.cats_cmd.specs.Inputs.{IsOpened, IsRefusedByReading, IsRefusedFile}
 use Rattle.cats_cmd.specs.Internal.Judging.{AddsFile, AddsOpened, AddsPath, KeepsGroups}
-use Rattle.cats_cmd.specs.Paths.{Judgement, IsHeavy, IsJudged, IsStopped, Judges, JudgesStream, refusal_line, refusal_lines, status_if, stop_of}
+use Rattle.cats_cmd.specs.Paths.{IsUnopened, Judgement, IsHeavy, IsJudged, IsStopped, Judges, JudgesStream, refusal_line, refusal_lines, status_if, stop_of}
 use Rattle.cats_cmd.proofs.Skipping.{nothing_more}
 use Rattle.cats_cmd.specs.Outcomes.{ExceedsSteps, normalise_outcome, text_unless_heavy}
 use Rattle.cats_cmd.specs.Runs.{MakesAs}
@@ -187,7 +187,7 @@ module _ {C F : Type 0} (Has : C → List (List ℕ × Judgement) → Type 0) (m
 pub file_unopened : {C F : Type 0} (Has : C → List (List ℕ × Judgement) → Type 0) (may_open : List ℕ → F → Type 0) (may_refuse : List ℕ → Type 0)
     (remaining : F → Option (List ℕ)) (limit : ℕ) (path : List ℕ) (kept : C)
     → ((js : List (List ℕ × Judgement)) (p : List ℕ) (stop : Stop) → Has kept js → Has kept (js ++ (p, IsStopped stop) ∷ []))
-    → (stop : Stop) → stop ≡ CannotOpen Only → may_refuse path → AddsFile Has may_open may_refuse remaining limit path kept kept (Some stop)
+    → (stop : Stop) → stop ≡ CannotOpen Only → IsUnopened may_refuse path → AddsFile Has may_open may_refuse remaining limit path kept kept (Some stop)
 file_unopened Has may_open may_refuse remaining limit path kept skips stop is refuses =
     rw is (record {
       judgement = IsStopped (CannotOpen Only);

@@ -10,7 +10,7 @@ use Rattle.std.proofs.lemmas.List.{map-append, take_more, take_all, append_assoc
 use Rattle.std.proofs.lemmas.List.Sums.{fold_push}
 use Rattle.cats_text.specs.declared.stream.Watched.{Watched}
 use Rattle.cats_cmd.specs.Internal.Judging.{AddsPath, HasJudged, JudgesAllAs}
-use Rattle.cats_cmd.specs.Paths.{Judgement, Judges, JudgesPaths, greatest_status, lines_from, lines_of_path, progress_line, progress_lines}
+use Rattle.cats_cmd.specs.Paths.{is_counted, Judgement, Judges, JudgesPaths, greatest_status, lines_from, lines_of_path, progress_line, progress_lines}
 use Rattle.cats_cmd.specs.Paths.{refusal_lines, report_lines, status_of_judgement, stop_of}
 use Rattle.cats_cmd.specs.Stops.{Reports, ReportsAll}
 
@@ -39,9 +39,13 @@ lines_push progress count number (i ∷ js) j =
     (lines_of_path progress count (number + suc (length js)) j))
 
 module _ {E : Type 0} (messages : E → Option (List ℕ)) (progress : Bool) (number count : ℕ) (path : List ℕ) (old new : Watched E) where
-  pub with_progress : progress ≡ true → Reports messages (progress_line number count path) old new
+  pub progress_reported : is_counted number count ≡ true → Reports messages (progress_line number count path) old new
+      → ReportsAll messages (progress_lines true number count path) old new
+  progress_reported is reports = rw is (new, reports, refl)
+
+  pub with_progress : progress ≡ true → ReportsAll messages (progress_lines true number count path) old new
       → ReportsAll messages (progress_lines progress number count path) old new
-  with_progress is reports = rw is (new, reports, refl)
+  with_progress is reports = rw is reports
 
   pub without_progress : progress ≡ false → new ≡ old → ReportsAll messages (progress_lines progress number count path) old new
   without_progress is same = rw is same

@@ -11,8 +11,10 @@ mod Grouping
 mod Rounding
 mod Judging
 mod JudgingPaths
+mod ListingPaths
 mod Skipping
 mod FindingPlaces
 mod Tabling
+mod RunsOfLists
 mod RunsOfPaths
 pub mod RunsOfOneFile

@@ -24,7 +24,8 @@ use Rattle.rounding.specs.declared.replacement.FinePrices.{FinePrices}
 use Rattle.rounding.specs.declared.text.RoundedPrice.{RoundedPrice}
 use Rattle.rounding.specs.declared.text.RoundedText.{RoundedText}
 use Rattle.cats_cmd.specs.Internal.Roundings.{RoundsText}
-use Rattle.cats_cmd.specs.Rounding.{IsUnrounded, ReadsAll, ReadsBytes, Rounds, StopsReading, round_outcome, rounded_line}
+use Rattle.cats_cmd.specs.Inputs.{ReadsAll, ReadsBytes, StopsReading}
+use Rattle.cats_cmd.specs.Rounding.{IsUnrounded, Rounds, round_outcome, rounded_line}
 use Rattle.cats_cmd.specs.Runs.{SendsAs}
 use Rattle.cats_cmd.specs.Stops.{Reports, ReportsAll}
 use Rattle.cats_cmd.specs.declared.report.RunFault.{RunFault}

@@ -34,11 +34,11 @@ groups_skip files found js path stop h = nothing_more files found js path (IsSto
 
 -- ---- a table
 
-pub line_more : (js : List (List ℕ × Judgement)) (path : List ℕ) (j : Judgement)
-    → lines_of_table (js ++ (path, j) ∷ []) ≡ lines_of_table js ++ line_if_read path j
-line_more js path j = flat_map-append (λ (x : List ℕ × Judgement). line_if_read x.0 x.1) js ((path, j) ∷ [])
-    ∙ ap (λ (line : List ℕ). lines_of_table js ++ line) (append-nil (line_if_read path j))
+pub line_more : (end : ℕ) (js : List (List ℕ × Judgement)) (path : List ℕ) (j : Judgement)
+    → lines_of_table end (js ++ (path, j) ∷ []) ≡ lines_of_table end js ++ line_if_read end path j
+line_more end js path j = flat_map-append (λ (x : List ℕ × Judgement). line_if_read end x.0 x.1) js ((path, j) ∷ [])
+    ∙ ap (λ (line : List ℕ). lines_of_table end js ++ line) (append-nil (line_if_read end path j))
 
-pub table_skips : (lines : List ℕ) (js : List (List ℕ × Judgement)) (path : List ℕ) (stop : Stop) → lines ≡ lines_of_table js
-    → lines ≡ lines_of_table (js ++ (path, IsStopped stop) ∷ [])
-table_skips lines js path stop h = h ∙ sym (line_more js path (IsStopped stop) ∙ append-nil (lines_of_table js))
+pub table_skips : (end : ℕ) (lines : List ℕ) (js : List (List ℕ × Judgement)) (path : List ℕ) (stop : Stop) → lines ≡ lines_of_table end js
+    → lines ≡ lines_of_table end (js ++ (path, IsStopped stop) ∷ [])
+table_skips end lines js path stop h = h ∙ sym (line_more end js path (IsStopped stop) ∙ append-nil (lines_of_table end js))

@@ -70,26 +70,26 @@ differs_or_same (InXor bidder left right) status text is = let same : 1 ≡ stat
 
 -- only `duplicates` and `sizes` name a request for many files
 pub few_files : (words : List (Bor (List ℕ))) (request : Request) → IsNamedIn words request → names_many_files words ≡ false → is_for_many_files request ≡ false
-few_files (program ∷ (word ∷ words)) (Duplicates files limit progress) named few =
+few_files (program ∷ (word ∷ words)) (Duplicates files limit progress null) named few =
     subst (λ (name : List ℕ). (bytes_eq name (codes "duplicates") || bytes_eq name (codes "sizes")) ≡ false) named few
-few_files (program ∷ []) (Duplicates files limit progress) named few = absurd (named)
-few_files [] (Duplicates files limit progress) named few = absurd (named)
-few_files (program ∷ (word ∷ words)) (Sizes files limit progress) named few =
+few_files (program ∷ []) (Duplicates files limit progress null) named few = absurd (named)
+few_files [] (Duplicates files limit progress null) named few = absurd (named)
+few_files (program ∷ (word ∷ words)) (Sizes files limit progress null) named few =
     subst (λ (name : List ℕ). (bytes_eq name (codes "duplicates") || bytes_eq name (codes "sizes")) ≡ false) named few
-few_files (program ∷ []) (Sizes files limit progress) named few = absurd (named)
-few_files [] (Sizes files limit progress) named few = absurd (named)
+few_files (program ∷ []) (Sizes files limit progress null) named few = absurd (named)
+few_files [] (Sizes files limit progress null) named few = absurd (named)
 few_files words request named few = refl
 
 -- only `round`, `duplicates` and `sizes` name a request that reports before it ends
 pub quiet_request : (words : List (Bor (List ℕ))) (request : Request) → IsNamedIn words request → names_reporting words ≡ false → is_reporting request ≡ false
-quiet_request (program ∷ (word ∷ words)) (Duplicates files limit progress) named quiet =
+quiet_request (program ∷ (word ∷ words)) (Duplicates files limit progress null) named quiet =
     subst (λ (name : List ℕ). (bytes_eq name (codes "round") || (bytes_eq name (codes "duplicates") || bytes_eq name (codes "sizes"))) ≡ false) named quiet
-quiet_request (program ∷ []) (Duplicates files limit progress) named quiet = absurd (named)
-quiet_request [] (Duplicates files limit progress) named quiet = absurd (named)
-quiet_request (program ∷ (word ∷ words)) (Sizes files limit progress) named quiet =
+quiet_request (program ∷ []) (Duplicates files limit progress null) named quiet = absurd (named)
+quiet_request [] (Duplicates files limit progress null) named quiet = absurd (named)
+quiet_request (program ∷ (word ∷ words)) (Sizes files limit progress null) named quiet =
     subst (λ (name : List ℕ). (bytes_eq name (codes "round") || (bytes_eq name (codes "duplicates") || bytes_eq name (codes "sizes"))) ≡ false) named quiet
-quiet_request (program ∷ []) (Sizes files limit progress) named quiet = absurd (named)
-quiet_request [] (Sizes files limit progress) named quiet = absurd (named)
+quiet_request (program ∷ []) (Sizes files limit progress null) named quiet = absurd (named)
+quiet_request [] (Sizes files limit progress null) named quiet = absurd (named)
 quiet_request (program ∷ (word ∷ words)) (Round file exact) named quiet =
     subst (λ (name : List ℕ). (bytes_eq name (codes "round") || (bytes_eq name (codes "duplicates") || bytes_eq name (codes "sizes"))) ≡ false) named quiet
 quiet_request (program ∷ []) (Round file exact) named quiet = absurd (named)
@@ -188,8 +188,8 @@ module _ {F W E : Type 0} (may_open : List ℕ → F → Type 0) (may_refuse : L
   answered (Round file exact) err_after status ran few = let made = ran.runs.made in let none : 0 ≡ status = cc in omega (arith, none)
   answered (Compare first second limit) err_after status ran few =
       told_comparison remaining remaining contents limit ran.0.left ran.0.left_after ran.0.right ran.0.right_after out out_after status ran.0.runs
-  answered (Duplicates files limit progress) err_after status ran few = absurd (cc)
-  answered (Sizes files limit progress) err_after status ran few = absurd (cc)
+  answered (Duplicates files limit progress null) err_after status ran few = absurd (cc)
+  answered (Sizes files limit progress null) err_after status ran few = absurd (cc)
 
   -- a request that answered has reported nothing, unless it is one that reports
   quiet : (request : Request) (err_after : Watched E) (answer : Result ℕ RunFault)
@@ -201,8 +201,8 @@ module _ {F W E : Type 0} (may_open : List ℕ → F → Type 0) (may_refuse : L
   quiet (Normalise file limit) err_after answer ran silent = ran.1
   quiet (Round file exact) err_after answer ran silent = absurd (cc)
   quiet (Compare first second limit) err_after answer ran silent = ran.1
-  quiet (Duplicates files limit progress) err_after answer ran silent = absurd (cc)
-  quiet (Sizes files limit progress) err_after answer ran silent = absurd (cc)
+  quiet (Duplicates files limit progress null) err_after answer ran silent = absurd (cc)
+  quiet (Sizes files limit progress null) err_after answer ran silent = absurd (cc)
 
   -- a request that stopped has written nothing, unless its output failed
   silent_fault : (request : Request) (err_after : Watched E) (fault : RunFault)
@@ -220,8 +220,8 @@ module _ {F W E : Type 0} (may_open : List ℕ → F → Type 0) (may_refuse : L
       silent_rounding remaining contents messages (fine_of exact) ran.before ran.after out out_after err err_after fault ran.runs
   silent_fault (Compare first second limit) err_after fault ran few =
       silent_comparison remaining remaining contents limit ran.0.left ran.0.left_after ran.0.right ran.0.right_after out out_after fault ran.0.runs
-  silent_fault (Duplicates files limit progress) err_after fault ran few = absurd (cc)
-  silent_fault (Sizes files limit progress) err_after fault ran few = absurd (cc)
+  silent_fault (Duplicates files limit progress null) err_after fault ran few = absurd (cc)
+  silent_fault (Sizes files limit progress null) err_after fault ran few = absurd (cc)
 
   silent_request : (request : Request) (err_after : Watched E) (stop : Stop)
       → CarriesOut may_open may_refuse remaining contents messages request out out_after err err_after (Err stop) → is_for_many_files request ≡ false

@@ -28,8 +28,8 @@ pub record FindsPlaces (judgements : List (List ℕ × Judgement)) (found : List
   pub judged : map (λ p. p.0) found ≡ judged_paths judgements
   pub places : AllZip (λ p file. IsFirstPlace (judged_files judgements) file p.1) found (judged_files judgements)
 
--- the text is that of the groups of paths whose files are one auction
-pub record MakesGroups (judgements : List (List ℕ × Judgement)) (text : List ℕ) : Type 0 where
+-- the text is that of the groups of paths whose files are one auction, with this byte at the end of each line
+pub record MakesGroups (end : ℕ) (judgements : List (List ℕ × Judgement)) (text : List ℕ) : Type 0 where
   pub found : List (List ℕ × ℕ)
   pub finds : FindsPlaces judgements found
-  pub is_text : text ≡ duplicates_text found
+  pub is_text : text ≡ duplicates_text end found

@@ -1,9 +1,13 @@
 -- What a run does with its inputs: which stream was opened at a path, what reading it gave, and why its file was refused.
-use Rattle.std.specs.Prelude.{◌≡◌, ◌≢◌, ◌⊎◌, ℕ, false, List, Option, Some, None, Result, Ok, Err}
-use Rattle.std.specs.Io.KnownBytes.{Consumes}
+use Rattle.std.specs.Prelude.{◌≡◌, ◌≢◌, ◌⊎◌, ◌<◌, ◌≤◌, ℕ, true, false, List, length, Option, Some, None, Result, Ok, Err}
+use Rattle.std.specs.Prelude.{Vec}
+use Rattle.std.specs.Global.{Global}
+use Rattle.std.specs.Io.KnownBytes.{Consumes, IsAtEnd}
 use Rattle.bid_file.specs.Files.{PlainFile}
 use Rattle.cats_text.specs.Streams.{inner_of, has_failed, has_ended, ReadsFile, FaultsAt}
-use Rattle.cats_text.specs.declared.fault.Kind.TheVariants.{Memory as NoMemory}
+use Rattle.cats_text.specs.declared.fault.Kind.{Kind}
+use Rattle.cats_text.specs.declared.fault.Kind.TheVariants.{Device, TooLong, Memory as NoMemory}
+use Rattle.cats_text.specs.declared.limits.TheConstants.{MAX_STREAM}
 use Rattle.cats_text.specs.declared.stream.Watched.{Watched}
 use Rattle.valuation.specs.Auctions.{or_atoms_of}
 use Rattle.prune.specs.SearchSteps.{first_heavy}
@@ -68,3 +72,33 @@ module _ {R : Type 0} (remaining : R → Option (List ℕ)) (outcome : PlainFile
   IsRefusedFile old new (Read fault) = ReadsInput remaining old new (Err (Read fault))
   IsRefusedFile old new (StepLimit goods) = HasOutcome old new (ExceedsSteps goods.items)
   IsRefusedFile old new Memory = ReadsInput remaining old new (Err Memory) ⊎ ReadsSomeFile remaining old new
+
+-- ---- the bytes of a stream, all of them
+
+module _ {R : Type 0} (remaining : R → Option (List ℕ)) where
+  -- these bytes are all that the stream had, and no more than are read of one
+  pub record ReadsAll (old new : Watched R) (bytes : List ℕ) : Type 0 where
+    pub consumes : Consumes (remaining (inner_of old)) (remaining (inner_of new)) bytes
+    pub within : length bytes ≤ MAX_STREAM
+    pub ended : has_ended new ≡ true
+    pub at_end : IsAtEnd (remaining (inner_of new))
+    pub works : has_failed new ≡ false
+
+  -- more bytes came than are read of a stream
+  pub record ReadsTooMany (old new : Watched R) : Type 0 where
+    pub bytes : List ℕ
+    pub consumes : Consumes (remaining (inner_of old)) (remaining (inner_of new)) bytes
+    pub beyond : MAX_STREAM < length bytes
+
+  -- the stream failed, or more bytes came than are read of one
+  abbrev pub StopsReading : Watched R → Watched R → ℕ → Kind → Type 0
+  StopsReading old new line Device = (line ≡ 0) × (has_failed new ≡ true)
+  StopsReading old new line TooLong = (line ≡ 0) × ReadsTooMany old new
+  StopsReading old new line kind = ⊥
+
+  -- the contract of reading the bytes of a stream; memory may be refused
+  abbrev pub ReadsBytes : Watched R → Watched R → Result (Vec ℕ Global) CanonFault → Type 0
+  ReadsBytes old new (Ok text) = ReadsAll old new text.items
+  ReadsBytes old new (Err (Read fault)) = StopsReading old new fault.line fault.kind
+  ReadsBytes old new (Err (StepLimit goods)) = ⊥
+  ReadsBytes old new (Err Memory) = Unit {0}

@@ -13,8 +13,10 @@ pub mod Runs
 pub mod Comparisons
 pub mod DuplicateTexts
 pub mod Paths
+pub mod PathLists
 pub mod Duplicates
 pub mod SizesTables
 pub mod Rounding
+pub mod FileLists
 pub mod Requests
 pub mod Internal

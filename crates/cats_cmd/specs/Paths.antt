@@ -1,8 +1,10 @@
 -- A run on many files: what became of the file at each path, what is reported of it, and the text that is made of all.
-use Rattle.std.specs.Prelude.{◌≡◌, ℕ, suc, max, Bool, true, false, List, [], ◌∷◌, ◌++◌, length, fold, map, take, Vec}
+use Rattle.std.specs.Prelude.{◌≡◌, ◌⊎◌, ◌==◌, ◌||◌, ◌%◌, if◌then◌else◌, ℕ, suc, max, Bool, true, false}
+use Rattle.std.specs.Prelude.{List, [], ◌∷◌, ◌++◌, length, fold, map, take, Vec}
 use Rattle.std.specs.Prelude.{Option, Some, None, Result, Ok, Err, codes, decimal}
 use Rattle.std.specs.Global.{Global}
 use Rattle.std.specs.List.{AllByRecursion}
+use Rattle.std.specs.Str.{IsUtf8}
 use Rattle.bid_file.specs.Files.{PlainFile}
 use Rattle.cats_text.specs.declared.stream.Watched.{Watched}
 use Rattle.canon.specs.declared.fault.CanonFault.{CanonFault}
@@ -13,6 +15,8 @@ use Rattle.cats_cmd.specs.Inputs.{IsOpened, IsRefusedFile, ReadsHeavyFile, Reads
 use Rattle.cats_cmd.specs.Outcomes.{Outcome, Tells, normalise_outcome}
 use Rattle.cats_cmd.specs.Runs.{FailsInText, WritesText}
 use Rattle.cats_cmd.specs.Stops.{ReportsAll, line_of_stop, status_of_stop}
+use Rattle.cats_cmd.specs.declared.paths.Ending.{Ending}
+use Rattle.cats_cmd.specs.declared.paths.Ending.TheVariants.{Line, Null}
 use Rattle.cats_cmd.specs.declared.program.Stop.{Stop}
 use Rattle.cats_cmd.specs.declared.program.Stop.TheVariants.{CannotOpen, Run}
 use Rattle.cats_cmd.specs.declared.report.RunFault.{RunFault}
@@ -43,6 +47,11 @@ status_of_judgement judgement = status_if (stop_of judgement)
 abbrev pub greatest_status : List (List ℕ × Judgement) → ℕ
 greatest_status judgements = fold (λ greatest j. max greatest (status_of_judgement j.1)) 0 judgements
 
+-- the byte at the end of each line of the output
+abbrev pub end_of : Ending → ℕ
+end_of Line = 10
+end_of Null = 0
+
 -- ---- what is reported
 
 abbrev pub refusal_line : List ℕ → Stop → List ℕ
@@ -55,8 +64,14 @@ abbrev pub refusal_lines : List ℕ → Option Stop → List (List ℕ)
 refusal_lines path None = []
 refusal_lines path (Some stop) = refusal_line path stop ∷ []
 
+-- whether it is reported how many files were read, after the one with this number among so many: after each hundredth,
+-- and after the last
+abbrev pub is_counted : ℕ → ℕ → Bool
+is_counted number count = (number % 100 == 0) || (number == count)
+
 abbrev pub progress_lines : Bool → ℕ → ℕ → List ℕ → List (List ℕ)
-progress_lines true number count path = progress_line number count path ∷ []
+progress_lines true number count path =
+    if is_counted number count then progress_line number count path ∷ [] else []
 progress_lines false number count path = []
 
 -- of the path with this number, among so many
@@ -74,6 +89,10 @@ abbrev pub report_lines : Bool → ℕ → List (List ℕ × Judgement) → List
 report_lines progress count judgements = lines_from progress count 1 judgements
 
 -- ---- the file at a path
+
+-- no file was opened at the path: it may be refused, or it is not UTF-8
+abbrev pub IsUnopened : (List ℕ → Type 0) → List ℕ → Type 0
+IsUnopened may_refuse path = may_refuse path ⊎ (IsUtf8 path → ⊥)
 
 module _ {F : Type 0} (remaining : F → Option (List ℕ)) (limit : ℕ) where
   -- Reading the stream gives this. Of no stream but one that spells a file is a bundle heavy.
@@ -101,7 +120,7 @@ module _ {F : Type 0} (may_open : List ℕ → F → Type 0) (may_refuse : List 
   abbrev pub Judges : List ℕ × Judgement → Type 0
   Judges (path, IsJudged file) = JudgesOpened path (IsJudged file)
   Judges (path, IsHeavy file goods) = JudgesOpened path (IsHeavy file goods)
-  Judges (path, IsStopped (CannotOpen which)) = (which ≡ Only) × may_refuse path
+  Judges (path, IsStopped (CannotOpen which)) = (which ≡ Only) × IsUnopened may_refuse path
   Judges (path, IsStopped (Run fault)) = JudgesOpened path (IsStopped (Run fault))
 
 -- ---- the files at all paths

@@ -1,6 +1,6 @@
 -- What the program does for a command line: the run of its request, on the files at its paths, what is sent where, and
 -- with which status.
-use Rattle.std.specs.Prelude.{◌≡◌, ◌⊎◌, ℕ, Bool, true, false, List, [], ◌∷◌, map, Option, Result, Ok, Err, IfOk, codes, string_bytes}
+use Rattle.std.specs.Prelude.{◌≡◌, ◌⊎◌, ℕ, Bool, true, false, List, [], ◌∷◌, Option, Result, Ok, Err, IfOk, codes, string_bytes}
 use Rattle.std.specs.Borrow.{Bor}
 use Rattle.bid_file.specs.Files.{PlainFile}
 use Rattle.cats_text.specs.Streams.{SendsWhole, SendsPart}
@@ -9,9 +9,10 @@ use Rattle.canon.specs.declared.which.Which.{Which}
 use Rattle.canon.specs.declared.which.Which.TheVariants.{Only, First, Second}
 use Rattle.cats_cmd.specs.Comparisons.{Compares}
 use Rattle.cats_cmd.specs.Duplicates.{MakesGroups}
+use Rattle.cats_cmd.specs.FileLists.{RunsOnFiles}
 use Rattle.cats_cmd.specs.Inputs.{IsOpened}
 use Rattle.cats_cmd.specs.Outcomes.{Outcome, check_outcome, show_outcome, value_outcome, normalise_outcome}
-use Rattle.cats_cmd.specs.Paths.{RunsOnPaths}
+use Rattle.cats_cmd.specs.Paths.{RunsOnPaths, end_of}
 use Rattle.cats_cmd.specs.Rounding.{Rounds}
 use Rattle.cats_cmd.specs.Runs.{RunsOnFile}
 use Rattle.cats_cmd.specs.SizesTables.{MakesTable}
@@ -24,6 +25,8 @@ use Rattle.command_line.specs.declared.request.NoRequest.TheVariants.{Help, Wron
 use Rattle.command_line.specs.declared.request.Request.{Request}
 use Rattle.command_line.specs.declared.request.Request.TheVariants.{Check, Show, Value, Normalise, Round, Compare}
 use Rattle.command_line.specs.declared.request.Request.TheVariants.{Duplicates, Sizes}
+use Rattle.cats_cmd.specs.declared.paths.Ending.{Ending}
+use Rattle.cats_cmd.specs.declared.paths.Ending.TheVariants.{Line, Null}
 use Rattle.cats_cmd.specs.declared.program.Stop.{Stop}
 use Rattle.cats_cmd.specs.declared.program.Stop.TheVariants.{CannotOpen, Run}
 use Rattle.cats_cmd.specs.declared.report.RunFault.{RunFault}
@@ -51,6 +54,11 @@ module _ {W E : Type 0} (contents : W → Option (List ℕ)) (messages : E → O
       (status ≡ 4) × (out_after ≡ out) × SendsText messages (memory_text (string_bytes text)) err err_after
 
 -- ---- a request, and any command line
+
+-- how the paths of the output end, with `--null` and without
+abbrev pub ending_of : Bool → Ending
+ending_of true = Null
+ending_of false = Line
 
 -- what becomes of fine prices, with `--exact` and without
 abbrev pub fine_of : Bool → FinePrices
@@ -102,12 +110,16 @@ module _ {F W E : Type 0} (may_open : List ℕ → F → Type 0) (may_refuse : L
       RoundsAt file.now (fine_of exact) out out_after err err_after answer
   RunsFor (Compare first second limit) out out_after err err_after answer =
       ComparesAt may_open remaining contents first.now second.now limit out out_after answer × (err_after ≡ err)
-  RunsFor (Duplicates files limit progress) out out_after err err_after answer =
-      RunsOnPaths may_open may_refuse remaining contents messages limit MakesGroups
-      (map (λ path. path.now) files.items) progress out out_after err err_after answer
-  RunsFor (Sizes files limit progress) out out_after err err_after answer =
-      RunsOnPaths may_open may_refuse remaining contents messages limit MakesTable
-      (map (λ path. path.now) files.items) progress out out_after err err_after answer
+  RunsFor (Duplicates files limit progress null) out out_after err err_after answer =
+      RunsOnFiles may_open may_refuse remaining messages
+      (λ paths. RunsOnPaths may_open may_refuse remaining contents messages limit (MakesGroups (end_of (ending_of null)))
+      paths progress)
+      files out out_after err err_after answer
+  RunsFor (Sizes files limit progress null) out out_after err err_after answer =
+      RunsOnFiles may_open may_refuse remaining messages
+      (λ paths. RunsOnPaths may_open may_refuse remaining contents messages limit (MakesTable (end_of (ending_of null)))
+      paths progress)
+      files out out_after err err_after answer
 
   -- the file of a request that cannot be opened. Each file of `duplicates` and `sizes` is reported by itself
   abbrev pub CannotOpenOf : Request → Which → Type 0
@@ -118,8 +130,8 @@ module _ {F W E : Type 0} (may_open : List ℕ → F → Type 0) (may_refuse : L
   CannotOpenOf (Round file exact) which = (which ≡ Only) × may_refuse file.now
   CannotOpenOf (Compare first second limit) which =
       ((which ≡ First) × may_refuse first.now) ⊎ ((which ≡ Second) × may_refuse second.now)
-  CannotOpenOf (Duplicates files limit progress) which = ⊥
-  CannotOpenOf (Sizes files limit progress) which = ⊥
+  CannotOpenOf (Duplicates files limit progress null) which = ⊥
+  CannotOpenOf (Sizes files limit progress null) which = ⊥
 
   -- the request's run answers, or a file of it cannot be opened, and then nothing was read, written or reported
   abbrev pub CarriesOut : Request → Watched W → Watched W → Watched E → Watched E → Result ℕ Stop → Type 0

@@ -1,17 +1,10 @@
 -- What `cats round` does: the bytes that it read, the text with their prices rounded, and what it reports.
-use Rattle.std.specs.Prelude.{◌≡◌, ◌⊎◌, ◌<◌, ◌≤◌, ℕ, true, false, List, ◌++◌, length, map, Some, Option, Result, Ok, Err}
-use Rattle.std.specs.Prelude.{codes, decimal, Vec}
-use Rattle.std.specs.Global.{Global}
-use Rattle.std.specs.Io.KnownBytes.{Consumes, IsAtEnd}
+use Rattle.std.specs.Prelude.{◌≡◌, ◌⊎◌, ℕ, List, ◌++◌, map, Some, Option, Result, Ok, Err, codes, decimal}
 use Rattle.bid_file.specs.Files.{PlainFile}
 use Rattle.cats_text.specs.Faults.{first_fault}
 use Rattle.cats_text.specs.Grammar.{Spells}
 use Rattle.cats_text.specs.Layout.{price_text}
-use Rattle.cats_text.specs.Streams.{inner_of, has_failed, has_ended}
-use Rattle.cats_text.specs.declared.fault.Kind.{Kind}
-use Rattle.cats_text.specs.declared.fault.Kind.TheVariants.{Device, TooLong}
 use Rattle.cats_text.specs.declared.fault.ReadFault.{ReadFault}
-use Rattle.cats_text.specs.declared.limits.TheConstants.{MAX_STREAM}
 use Rattle.cats_text.specs.declared.stream.Watched.{Watched}
 use Rattle.canon.specs.declared.fault.CanonFault.{CanonFault}
 use Rattle.canon.specs.declared.fault.CanonFault.TheVariants.{Read, StepLimit, Memory}
@@ -19,6 +12,7 @@ use Rattle.canon.specs.declared.which.Which.{Which}
 use Rattle.canon.specs.declared.which.Which.TheVariants.{Only}
 use Rattle.rounding.specs.Texts.{PlainChange, rounded_prices, rounded_text}
 use Rattle.rounding.specs.declared.replacement.FinePrices.{FinePrices}
+use Rattle.cats_cmd.specs.Inputs.{ReadsAll, StopsReading}
 use Rattle.cats_cmd.specs.Outcomes.{Outcome, Tells}
 use Rattle.cats_cmd.specs.Runs.{FailsInText, WritesText}
 use Rattle.cats_cmd.specs.Stops.{ReportsAll}
@@ -33,36 +27,6 @@ rounded_line change = codes "line " ++ decimal change.line ++ codes ": " ++ chan
 -- the text with its prices rounded, with status 0
 abbrev pub round_outcome : FinePrices → List ℕ → Outcome
 round_outcome fine bytes = Tells 0 (rounded_text fine bytes)
-
--- ---- reading bytes
-
-module _ {R : Type 0} (remaining : R → Option (List ℕ)) where
-  -- these bytes are all that the stream had, and no more than are read of one
-  pub record ReadsAll (old new : Watched R) (bytes : List ℕ) : Type 0 where
-    pub consumes : Consumes (remaining (inner_of old)) (remaining (inner_of new)) bytes
-    pub within : length bytes ≤ MAX_STREAM
-    pub ended : has_ended new ≡ true
-    pub at_end : IsAtEnd (remaining (inner_of new))
-    pub works : has_failed new ≡ false
-
-  -- more bytes came than are read of a stream
-  pub record ReadsTooMany (old new : Watched R) : Type 0 where
-    pub bytes : List ℕ
-    pub consumes : Consumes (remaining (inner_of old)) (remaining (inner_of new)) bytes
-    pub beyond : MAX_STREAM < length bytes
-
-  -- the stream failed, or more bytes came than are read of one
-  abbrev pub StopsReading : Watched R → Watched R → ℕ → Kind → Type 0
-  StopsReading old new line Device = (line ≡ 0) × (has_failed new ≡ true)
-  StopsReading old new line TooLong = (line ≡ 0) × ReadsTooMany old new
-  StopsReading old new line kind = ⊥
-
-  -- the contract of reading the bytes of a stream; memory may be refused
-  abbrev pub ReadsBytes : Watched R → Watched R → Result (Vec ℕ Global) CanonFault → Type 0
-  ReadsBytes old new (Ok text) = ReadsAll old new text.items
-  ReadsBytes old new (Err (Read fault)) = StopsReading old new fault.line fault.kind
-  ReadsBytes old new (Err (StepLimit goods)) = ⊥
-  ReadsBytes old new (Err Memory) = Unit {0}
 
 -- ---- the run
 

@@ -31,16 +31,17 @@ sizes_of f = f.goods ∷ length f.bids ∷ count_or f.bids ∷ count_xor f.dummy
 abbrev pub counts_of : PlainFile → List ℕ
 counts_of f = length f.bids ∷ count_or f.bids ∷ count_xor f.dummy f.bids ∷ []
 
-abbrev pub line_if_read : List ℕ → Judgement → List ℕ
-line_if_read path (IsJudged file) = with_tabs (sizes_of file) ++ with_tabs (counts_of (canonical_file file)) ++ path ++ codes "\n"
-line_if_read path (IsHeavy file goods) = with_tabs (sizes_of file) ++ codes "-\t-\t-\t" ++ path ++ codes "\n"
-line_if_read path (IsStopped stop) = []
+-- with this byte at the end
+abbrev pub line_if_read : ℕ → List ℕ → Judgement → List ℕ
+line_if_read end path (IsJudged file) = with_tabs (sizes_of file) ++ with_tabs (counts_of (canonical_file file)) ++ path ++ end ∷ []
+line_if_read end path (IsHeavy file goods) = with_tabs (sizes_of file) ++ codes "-\t-\t-\t" ++ path ++ end ∷ []
+line_if_read end path (IsStopped stop) = []
 
-abbrev pub lines_of_table : List (List ℕ × Judgement) → List ℕ
-lines_of_table judgements = flat_map (λ j. line_if_read j.0 j.1) judgements
+abbrev pub lines_of_table : ℕ → List (List ℕ × Judgement) → List ℕ
+lines_of_table end judgements = flat_map (λ j. line_if_read end j.0 j.1) judgements
 
-abbrev pub sizes_header : List ℕ
-sizes_header = codes "goods\tbids\tor\txor\tdummy\tkept\tkept_or\tkept_xor\tfile\n"
+abbrev pub sizes_header : ℕ → List ℕ
+sizes_header end = codes "goods\tbids\tor\txor\tdummy\tkept\tkept_or\tkept_xor\tfile" ++ end ∷ []
 
-abbrev pub MakesTable : List (List ℕ × Judgement) → List ℕ → Type 0
-MakesTable judgements text = text ≡ sizes_header ++ lines_of_table judgements
+abbrev pub MakesTable : ℕ → List (List ℕ × Judgement) → List ℕ → Type 0
+MakesTable end judgements text = text ≡ sizes_header end ++ lines_of_table end judgements

@@ -13,8 +13,8 @@ use Rattle.cats_cmd.specs.declared.program.Stop.TheVariants.{CannotOpen, Run}
 
 -- whether each of a request's files may be refused, and the others go on
 abbrev pub is_for_many_files : Request → Bool
-is_for_many_files (Duplicates files limit progress) = true
-is_for_many_files (Sizes files limit progress) = true
+is_for_many_files (Duplicates files limit progress null) = true
+is_for_many_files (Sizes files limit progress null) = true
 is_for_many_files request = false
 
 -- whether a command line's subcommand is `duplicates` or `sizes`
@@ -25,8 +25,8 @@ names_many_files words = false
 -- whether a request may report something before it ends
 abbrev pub is_reporting : Request → Bool
 is_reporting (Round file exact) = true
-is_reporting (Duplicates files limit progress) = true
-is_reporting (Sizes files limit progress) = true
+is_reporting (Duplicates files limit progress null) = true
+is_reporting (Sizes files limit progress null) = true
 is_reporting request = false
 
 -- whether a command line's subcommand is `round`, `duplicates` or `sizes`

@@ -5,9 +5,9 @@ mod text;
 ghost use Rattle.std.specs.Prelude.{◌≡◌, map, false};
 ghost use Rattle.cats_text.specs.Streams.{has_failed};
 ghost use Rattle.cats_cmd.specs.Duplicates.{MakesGroups};
-ghost use Rattle.cats_cmd.specs.Paths.{RunsOnPaths};
+ghost use Rattle.cats_cmd.specs.Paths.{RunsOnPaths, end_of};
 
-use crate::paths::{Collection, run_on_paths};
+use crate::paths::{Collection, Ending, ManyFiles, end_byte, run_on_paths};
 use crate::program::Stop;
 use crate::report::RunFault;
 use crate::source::Source;
@@ -22,7 +22,7 @@ use text::duplicates_text;
 struct Groups<'a> {
     index: AuctionIndex,
     /// The path of each file, with the place of the first file of its auction.
-    found: Vec<(&'a str, usize)>,
+    found: Vec<(&'a [u8], usize)>,
 }
 
 impl<'a> Collection<'a> for Groups<'a> {
@@ -30,7 +30,7 @@ impl<'a> Collection<'a> for Groups<'a> {
     ghost use Rattle.cats_cmd.specs.Duplicates.{MakesGroups};
     ghost use Rattle.cats_cmd.specs.Internal.Judging.{KeepsGroups};
 
-    ghost has = { λ groups judgements. KeepsGroups groups.index (found_paths groups.found.items) judgements };
+    ghost has = { λ _ groups judgements. KeepsGroups groups.index (found_paths groups.found.items) judgements };
 
     ghost Makes = { MakesGroups };
 
@@ -44,11 +44,11 @@ impl<'a> Collection<'a> for Groups<'a> {
     fn add<R: Read>(
         &mut self,
         alloc: Global,
-        path: &'a str,
+        path: &'a [u8],
         input: &mut Watched<R>,
-        limit: u64,
+        many: ManyFiles,
     ) -> Result<Option<Stop>, AllocError> {
-        match self.index.add_from(alloc, input, limit) {
+        match self.index.add_from(alloc, input, many.limit) {
             Ok(place) => {
                 self.found.push((path, place))?;
                 Ok(None)
@@ -59,28 +59,26 @@ impl<'a> Collection<'a> for Groups<'a> {
 
     fn skip(&self) {}
 
-    fn text(&self, alloc: Global) -> Result<Vec<u8>, AllocError> {
-        duplicates_text(alloc, self.found.as_slice())
+    fn text(&self, alloc: Global, ending: Ending) -> Result<Vec<u8>, AllocError> {
+        duplicates_text(alloc, self.found.as_slice(), end_byte(ending))
     }
 }
 
-/// Reads the files at these paths, one after the other, and sends the paths of those that are the same auction. `limit`
-/// bounds the steps of each search that decides on a bundle of an OR bidder.
+/// Reads the files at these paths, one after the other, and sends the paths of those that are the same auction.
 ///
-/// A file that cannot be judged is reported on `err` at once, and the others go on; with `progress`, each file is
-/// reported there once it was read. The status is 0 if every file was judged, and else the greatest of the statuses of
-/// those that were not.
+/// A file that cannot be judged is reported on `err` at once, and the others go on; with `progress`, it is
+/// reported there after each hundredth file, and after the last, how many were read. The status is 0 if every file was
+/// judged, and else the greatest of the statuses of those that were not.
 pub fn run_duplicates<S: Source + AllocGlobal, W: Write, E: Write>(
     source: &S,
-    paths: &[&str],
-    limit: u64,
-    progress: bool,
+    paths: &[&[u8]],
+    many: ManyFiles,
     out: &mut Watched<W>,
     err: &mut Watched<E>,
 ) -> Result<u8, RunFault>
     requires { has_failed out.old ≡ false }
-    ensures { RunsOnPaths (S.may_open source.now) (S.may_refuse source.now) S.Stream.remaining W.contents E.contents limit
-        MakesGroups (map (λ path. path.now) paths.now) progress out.old out.new err.old err.new result }
+    ensures { RunsOnPaths (S.may_open source.now) (S.may_refuse source.now) S.Stream.remaining W.contents E.contents many.limit
+        (MakesGroups (end_of many.ending)) (map (λ path. path.now) paths.now) many.progress out.old out.new err.old err.new result }
 {
-    run_on_paths::<Groups<'_>, S, W, E>(source, paths, limit, progress, out, err)
+    run_on_paths::<Groups<'_>, S, W, E>(source, paths, many, out, err)
 }

@@ -1,10 +1,14 @@
 //! The runs of the program `cats`: each reads bid files, makes its text and sends it.
 #![tactic(auto)]
 
+mod bytes;
 mod check;
 mod compare;
 mod duplicates;
+pub mod laws;
+mod many_files;
 mod normalise;
+mod path_list;
 mod paths;
 mod program;
 mod report;
@@ -21,6 +25,7 @@ pub use check::run_check;
 pub use compare::run_compare;
 pub use duplicates::run_duplicates;
 pub use normalise::run_normalise;
+pub use paths::{Ending, ManyFiles};
 pub use program::{run_cats, run_program};
 pub use report::{NO_MEMORY, RunFault, WRONG_USAGE, fault_line, status};
 pub use round::run_round;

@@ -1,10 +1,14 @@
 //! Runs on many files: the files at some paths are judged one after the other, and a text is made of all.
 
-ghost use Rattle.std.specs.Prelude.{◌≡◌, ◌++◌, ℕ, List, [], ◌∷◌, map, IfOk, false};
+ghost use Rattle.std.specs.Prelude.{◌≡◌, ◌++◌, ℕ, List, [], ◌∷◌, map, IfErr, IfOk, false, true};
 ghost use Rattle.cats_text.specs.Streams.{has_ended, has_failed};
-ghost use Rattle.cats_cmd.specs.Paths.{Judgement, IsStopped, RunsOnPaths, progress_line, refusal_line};
+ghost use Rattle.cats_cmd.specs.Inputs.{IsOpened};
+ghost use Rattle.cats_cmd.specs.Paths.{Judgement, IsStopped, IsUnopened, RunsOnPaths, end_of, progress_line, progress_lines, refusal_line};
+ghost use Rattle.cats_cmd.specs.Stops.{ReportsAll};
 ghost use Rattle.cats_cmd.specs.Internal.Judging.{AddsFile, AddsPathAs, AddsOpened, HasSome, JudgesAllAs};
+ghost use Rattle.canon.specs.declared.which.Which.TheVariants.{Only};
 ghost use Rattle.cats_cmd.specs.declared.program.Stop.{Stop};
+ghost use Rattle.cats_cmd.specs.declared.program.Stop.TheVariants.{CannotOpen};
 
 use crate::program::{Stop, open, report, status_of, stop_line};
 use crate::report::{DONE, RunFault};
@@ -15,62 +19,89 @@ use cats_text::Watched;
 use std::alloc::{AllocError, AllocGlobal, Global};
 use std::io::{Read, Write};
 
+/// How a run on many files reads them, reports and prints.
+#[derive(Clone, Copy)]
+pub struct ManyFiles {
+    /// Bounds the steps of each search that decides on a bundle of an OR bidder.
+    pub limit: u64,
+    /// Whether the files that were read are reported.
+    pub progress: bool,
+    pub ending: Ending,
+}
+
+/// How each line of the output ends.
+#[derive(Clone, Copy)]
+pub enum Ending {
+    /// With LF.
+    Line,
+    /// With NUL.
+    Null,
+}
+
+/// The byte at the end of each line of the output.
+pub(crate) fn end_byte(ending: Ending) -> u8
+    ensures { result ≡ end_of ending }
+{
+    match ending {
+        Ending::Line => b'\n',
+        Ending::Null => 0,
+    }
+}
+
 /// What a run makes of the files at some paths, which are judged one after the other.
 pub(crate) trait Collection<'a>: Sized + Drop {
-    ghost has: { Self → List (List ℕ × Judgement) → Type 0 };
+    ghost has: { ℕ → Self → List (List ℕ × Judgement) → Type 0 };
 
-    ghost Makes: { List (List ℕ × Judgement) → List ℕ → Type 0 };
+    ghost Makes: { ℕ → List (List ℕ × Judgement) → List ℕ → Type 0 };
 
     /// What is made of no files.
     fn none(alloc: Global) -> Self
-        ensures { has result [] };
+        ensures { (end : ℕ) → has end result [] };
 
     /// Judges the file at one more path from its stream, and answers why it is not judged.
     fn add<R: Read>(
         &mut self,
         alloc: Global,
-        path: &'a str,
+        path: &'a [u8],
         input: &mut Watched<R>,
-        limit: u64,
+        many: ManyFiles,
     ) -> Result<Option<Stop>, AllocError>
         requires works { has_failed input.old ≡ false }
         requires fresh { has_ended input.old ≡ false }
-        ensures { IfOk result (λ stop. AddsOpened has R.remaining limit path.now self.old self.new input.old input.new
+        ensures { IfOk result (λ stop. AddsOpened (has (end_of many.ending)) R.remaining many.limit path.now self.old self.new input.old input.new
             stop) };
 
     /// The text of all.
-    fn text(&self, alloc: Global) -> Result<Vec<u8>, AllocError>
-        requires { HasSome has self.now }
-        ensures { (judgements : List (List ℕ × Judgement)) → has self.now judgements
-            → IfOk result (λ text. Makes judgements text.items) };
+    fn text(&self, alloc: Global, ending: Ending) -> Result<Vec<u8>, AllocError>
+        requires { HasSome (has (end_of ending)) self.now }
+        ensures { (judgements : List (List ℕ × Judgement)) → has (end_of ending) self.now judgements
+            → IfOk result (λ text. Makes (end_of ending) judgements text.items) };
 
     /// A path at which no file was opened adds nothing.
     fn skip(&self)
-        ensures { (judgements : List (List ℕ × Judgement)) (path : List ℕ) (stop : Stop) → has self.now judgements
-            → has self.now (judgements ++ (path, IsStopped stop) ∷ []) };
+        ensures { (end : ℕ) (judgements : List (List ℕ × Judgement)) (path : List ℕ) (stop : Stop)
+            → has end self.now judgements → has end self.now (judgements ++ (path, IsStopped stop) ∷ []) };
 }
 
-/// Judges the files at these paths, one after the other, and sends the text that is made of them. `limit` bounds the
-/// steps of each search that decides on a bundle of an OR bidder.
+/// Judges the files at these paths, one after the other, and sends the text that is made of them.
 ///
-/// A file that cannot be judged is reported on `err` at once, and the others go on; with `progress`, each file is
-/// reported there once it was read. The status is 0 if every file was judged, and else the greatest of the statuses of
+/// A file that cannot be judged is reported on `err` at once, and the others go on; with `progress`, it is
+/// reported there after each hundredth file, and after the last, how many were read. The status is 0 if every file was judged, and else the greatest of the statuses of
 /// those that were not.
 pub(crate) fn run_on_paths<'a, C: Collection<'a>, S: Source + AllocGlobal, W: Write, E: Write>(
     source: &S,
-    paths: &[&'a str],
-    limit: u64,
-    progress: bool,
+    paths: &[&'a [u8]],
+    many: ManyFiles,
     out: &mut Watched<W>,
     err: &mut Watched<E>,
 ) -> Result<u8, RunFault>
     requires { has_failed out.old ≡ false }
-    ensures { RunsOnPaths (S.may_open source.now) (S.may_refuse source.now) S.Stream.remaining W.contents E.contents limit
-        C.Makes (map (λ path. path.now) paths.now) progress out.old out.new err.old err.new result }
+    ensures { RunsOnPaths (S.may_open source.now) (S.may_refuse source.now) S.Stream.remaining W.contents E.contents many.limit
+        (C.Makes (end_of many.ending)) (map (λ path. path.now) paths.now) many.progress out.old out.new err.old err.new result }
 {
     let mut collection = C::none(source.alloc());
-    let greatest = judge_all(source, &mut collection, paths, limit, progress, err)?;
-    let text = collection.text(source.alloc())?;
+    let greatest = judge_all(source, &mut collection, paths, many, err)?;
+    let text = collection.text(source.alloc(), many.ending)?;
     send_text(out, greatest, text.as_slice())
 }
 
@@ -78,24 +109,20 @@ pub(crate) fn run_on_paths<'a, C: Collection<'a>, S: Source + AllocGlobal, W: Wr
 fn judge_all<'a, C: Collection<'a>, S: Source + AllocGlobal, E: Write>(
     source: &S,
     collection: &mut C,
-    paths: &[&'a str],
-    limit: u64,
-    progress: bool,
+    paths: &[&'a [u8]],
+    many: ManyFiles,
     err: &mut Watched<E>,
 ) -> Result<u8, AllocError>
-    requires { C.has collection.old [] }
-    ensures { JudgesAllAs C.has (S.may_open source.now) (S.may_refuse source.now) S.Stream.remaining limit E.contents
-        (map (λ path. path.now) paths.now) progress collection.new err.old err.new result }
+    requires { C.has (end_of many.ending) collection.old [] }
+    ensures { JudgesAllAs (C.has (end_of many.ending)) (S.may_open source.now) (S.may_refuse source.now) S.Stream.remaining many.limit E.contents
+        (map (λ path. path.now) paths.now) many.progress collection.new err.old err.new result }
 {
     let mut greatest = DONE;
     for (number, path) in paths.iter().enumerate() {
-        let status = judge_path(source, collection, path, limit, err)?;
+        let status = judge_path(source, collection, path, many, err)?;
         greatest = greatest.max(status);
-        if progress {
-            report(
-                err,
-                &path_progress(source.alloc(), number + 1, paths.len(), path),
-            );
+        if many.progress {
+            report_progress(source.alloc(), number + 1, paths.len(), path, err);
         }
     }
     Ok(greatest)
@@ -105,14 +132,14 @@ fn judge_all<'a, C: Collection<'a>, S: Source + AllocGlobal, E: Write>(
 fn judge_path<'a, C: Collection<'a>, S: Source + AllocGlobal, E: Write>(
     source: &S,
     collection: &mut C,
-    path: &'a str,
-    limit: u64,
+    path: &'a [u8],
+    many: ManyFiles,
     err: &mut Watched<E>,
 ) -> Result<u8, AllocError>
-    ensures { AddsPathAs C.has (S.may_open source.now) (S.may_refuse source.now) S.Stream.remaining limit E.contents
+    ensures { AddsPathAs (C.has (end_of many.ending)) (S.may_open source.now) (S.may_refuse source.now) S.Stream.remaining many.limit E.contents
         path.now collection.old collection.new err.old err.new result }
 {
-    match judge(source, collection, path, limit)? {
+    match judge(source, collection, path, many)? {
         None => Ok(DONE),
         Some(stop) => {
             report(err, &path_refusal(source.alloc(), path, &stop));
@@ -125,14 +152,14 @@ fn judge_path<'a, C: Collection<'a>, S: Source + AllocGlobal, E: Write>(
 fn judge<'a, C: Collection<'a>, S: Source + AllocGlobal>(
     source: &S,
     collection: &mut C,
-    path: &'a str,
-    limit: u64,
+    path: &'a [u8],
+    many: ManyFiles,
 ) -> Result<Option<Stop>, AllocError>
-    ensures { IfOk result (AddsFile C.has (S.may_open source.now) (S.may_refuse source.now) S.Stream.remaining limit
+    ensures { IfOk result (AddsFile (C.has (end_of many.ending)) (S.may_open source.now) (S.may_refuse source.now) S.Stream.remaining many.limit
         path.now collection.old collection.new) }
 {
-    match open(source, path, Which::Only) {
-        Ok(mut input) => collection.add(source.alloc(), path, &mut input, limit),
+    match open_path(source, path) {
+        Ok(mut input) => collection.add(source.alloc(), path, &mut input, many),
         Err(stop) => {
             collection.skip();
             Ok(Some(stop))
@@ -140,14 +167,40 @@ fn judge<'a, C: Collection<'a>, S: Source + AllocGlobal>(
     }
 }
 
+/// Opens the file at a path. There is none at a path that is not UTF-8, as the library opens no such path.
+fn open_path<S: Source>(source: &S, path: &[u8]) -> Result<Watched<S::Stream>, Stop>
+    ensures opened { IfOk result (IsOpened (S.may_open source.now) path.now) }
+    ensures refused { IfErr result (λ stop. (stop ≡ CannotOpen Only) × IsUnopened (S.may_refuse source.now) path.now) }
+{
+    match str::from_utf8(path) {
+        Ok(path) => open(source, path, Which::Only),
+        Err(_) => Err(Stop::CannotOpen(Which::Only)),
+    }
+}
+
 /// The line that says why the file at a path was not judged.
-fn path_refusal(alloc: Global, path: &str, stop: &Stop) -> Result<Vec<u8>, AllocError>
+pub(crate) fn path_refusal(alloc: Global, path: &[u8], stop: &Stop) -> Result<Vec<u8>, AllocError>
     ensures { IfOk result (λ line. line.items ≡ refusal_line path.now stop.now) }
 {
-    let mut line = Vec::from_slice(alloc, path.as_bytes())?;
+    let mut line = Vec::from_slice(alloc, path)?;
     line.extend_from_slice(b": ")?;
     line.extend_from_slice(stop_line(alloc, stop)?.as_slice())?;
     Ok(line)
+}
+
+/// Reports how many files were read, if the last of them is a hundredth one or the last of all.
+fn report_progress<E: Write>(
+    alloc: Global,
+    number: usize,
+    count: usize,
+    path: &[u8],
+    err: &mut Watched<E>,
+)
+    ensures { ReportsAll E.contents (progress_lines true number count path.now) err.old err.new }
+{
+    if number % 100 == 0 || number == count {
+        report(err, &path_progress(alloc, number, count, path));
+    }
 }
 
 /// The line that says how many files were read.
@@ -155,10 +208,12 @@ fn path_progress(
     alloc: Global,
     number: usize,
     count: usize,
-    path: &str,
+    path: &[u8],
 ) -> Result<Vec<u8>, AllocError>
     ensures { IfOk result (λ line. line.items ≡ progress_line number count path.now) }
 {
-    let line = format!(in alloc; "{number} of {count} {path}\n")?;
-    Ok(line.into_bytes())
+    let mut line = format!(in alloc; "{number} of {count} ")?.into_bytes();
+    line.extend_from_slice(path)?;
+    line.push(b'\n')?;
+    Ok(line)
 }

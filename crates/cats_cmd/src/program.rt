@@ -3,17 +3,17 @@
 ghost use Rattle.std.specs.Prelude.{◌≡◌, ◌≢◌, ◌≤◌, ℕ, List, IfErr, IfOk, false};
 ghost use Rattle.cats_text.specs.Streams.{has_failed};
 ghost use Rattle.cats_cmd.specs.Inputs.{IsOpened};
-ghost use Rattle.cats_cmd.specs.Requests.{AnswersLine, AnswersNoRequest, AnswersRequest, CarriesOut, fine_of, memory_text};
+ghost use Rattle.cats_cmd.specs.Requests.{AnswersLine, AnswersNoRequest, AnswersRequest, CarriesOut, ending_of, fine_of, memory_text};
 ghost use Rattle.cats_cmd.specs.Stops.{Reports, is_for_many_files, is_reporting, line_of_stop, names_many_files, names_reporting, status_of_stop};
 
 use crate::check::run_check;
 use crate::compare::run_compare;
-use crate::duplicates::run_duplicates;
+use crate::many_files::{run_duplicates_of, run_sizes_of};
 use crate::normalise::run_normalise;
+use crate::paths::{Ending, ManyFiles};
 use crate::report::{DEVICE_FAILED, DONE, NO_MEMORY, RunFault, WRONG_USAGE, fault_line, status};
 use crate::round::run_round;
 use crate::show::run_show;
-use crate::sizes::run_sizes;
 use crate::source::{Source, SystemFiles, Unopened};
 use crate::value::run_value;
 use canon::Which;
@@ -149,12 +149,32 @@ fn carry_out<S: Source + AllocGlobal, W: Write, E: Write>(
             files,
             limit,
             progress,
-        } => Ok(run_duplicates(source, files.as_slice(), *limit, *progress, out, err)?),
+            null,
+        } => {
+            let many = many_files(*limit, *progress, *null);
+            Ok(run_duplicates_of(source, files, many, out, err)?)
+        }
         Request::Sizes {
             files,
             limit,
             progress,
-        } => Ok(run_sizes(source, files.as_slice(), *limit, *progress, out, err)?),
+            null,
+        } => {
+            let many = many_files(*limit, *progress, *null);
+            Ok(run_sizes_of(source, files, many, out, err)?)
+        }
+    }
+}
+
+/// How a run on many files reads them and reports.
+fn many_files(limit: u64, progress: bool, null: bool) -> ManyFiles
+    ensures { (result.limit ≡ limit) × (result.progress ≡ progress) × (result.ending ≡ ending_of null) }
+{
+    let ending = if null { Ending::Null } else { Ending::Line };
+    ManyFiles {
+        limit,
+        progress,
+        ending,
     }
 }
 

@@ -1,7 +1,5 @@
 //! `cats round`: a bid file's text with every price made valid.
 
-mod bytes;
-
 ghost use Rattle.std.specs.Prelude.{◌≡◌, map, IfOk, false};
 ghost use Rattle.cats_text.specs.Streams.{has_ended, has_failed};
 ghost use Rattle.rounding.specs.Views.{plain_change, plain_changes};
@@ -9,10 +7,10 @@ ghost use Rattle.cats_cmd.specs.Rounding.{Rounds, rounded_line};
 ghost use Rattle.cats_cmd.specs.Internal.Roundings.{RoundsText};
 ghost use Rattle.cats_cmd.specs.Stops.{ReportsAll};
 
+use crate::bytes::read_bytes;
 use crate::program::report;
 use crate::report::{DONE, RunFault};
 use crate::run::send_text;
-use bytes::read_bytes;
 use canon::CanonFault;
 use cats_text::{Watched, push_price};
 use rounding::{FinePrices, RoundedPrice, RoundedText, round};

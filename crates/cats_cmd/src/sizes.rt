@@ -2,12 +2,12 @@
 
 mod count;
 
-ghost use Rattle.std.specs.Prelude.{◌≡◌, ◌++◌, List, ℕ, map, OnOk, codes, false};
+ghost use Rattle.std.specs.Prelude.{◌≡◌, ◌++◌, ◌∷◌, [], List, ℕ, map, OnOk, false};
 ghost use Rattle.cats_text.specs.Streams.{has_failed};
-ghost use Rattle.cats_cmd.specs.Paths.{RunsOnPaths};
+ghost use Rattle.cats_cmd.specs.Paths.{RunsOnPaths, end_of};
 ghost use Rattle.cats_cmd.specs.SizesTables.{MakesTable};
 
-use crate::paths::{Collection, run_on_paths};
+use crate::paths::{Collection, Ending, ManyFiles, end_byte, run_on_paths};
 use crate::program::Stop;
 use crate::report::RunFault;
 use crate::run::read_compact_file;
@@ -19,7 +19,7 @@ use std::alloc::{AllocError, AllocGlobal, Global};
 use std::io::{Read, Write};
 
 /// The line above the others.
-const HEADER: &str = "goods\tbids\tor\txor\tdummy\tkept\tkept_or\tkept_xor\tfile\n";
+const HEADER: &str = "goods\tbids\tor\txor\tdummy\tkept\tkept_or\tkept_xor\tfile";
 
 /// What is in the place of the numbers of a canonical file that is not known.
 const UNKNOWN: &str = "-\t-\t-\t";
@@ -34,7 +34,7 @@ impl<'a> Collection<'a> for Table {
     ghost use Rattle.std.specs.Prelude.{◌≡◌};
     ghost use Rattle.cats_cmd.specs.SizesTables.{MakesTable, lines_of_table};
 
-    ghost has = { λ table judgements. table.lines.items ≡ lines_of_table judgements };
+    ghost has = { λ end table judgements. table.lines.items ≡ lines_of_table end judgements };
 
     ghost Makes = { MakesTable };
 
@@ -47,25 +47,26 @@ impl<'a> Collection<'a> for Table {
     fn add<R: Read>(
         &mut self,
         alloc: Global,
-        path: &'a str,
+        path: &'a [u8],
         input: &mut Watched<R>,
-        limit: u64,
+        many: ManyFiles,
     ) -> Result<Option<Stop>, AllocError> {
         let file = match read_compact_file(alloc, input) {
             Ok(file) => file,
             Err(fault) => return Ok(Some(Stop::Run(RunFault::from(fault)))),
         };
+        let end = end_byte(many.ending);
         let mut line = Vec::new(alloc);
         push_sizes(alloc, &mut line, &file)?;
-        match into_normal_file(alloc, file, limit) {
+        match into_normal_file(alloc, file, many.limit) {
             Ok(normal) => {
                 push_counts(alloc, &mut line, &normal)?;
-                push_line(&mut self.lines, line.as_slice(), path)?;
+                push_line(&mut self.lines, line.as_slice(), path, end)?;
                 Ok(None)
             }
             Err(CanonFault::StepLimit { goods }) => {
                 line.extend_from_slice(UNKNOWN.as_bytes())?;
-                push_line(&mut self.lines, line.as_slice(), path)?;
+                push_line(&mut self.lines, line.as_slice(), path, end)?;
                 Ok(Some(Stop::Run(RunFault::from(CanonFault::StepLimit { goods }))))
             }
             // a file that was read is refused for nothing else
@@ -75,42 +76,42 @@ impl<'a> Collection<'a> for Table {
 
     fn skip(&self) {}
 
-    fn text(&self, alloc: Global) -> Result<Vec<u8>, AllocError> {
+    fn text(&self, alloc: Global, ending: Ending) -> Result<Vec<u8>, AllocError> {
         let mut text = Vec::from_slice(alloc, HEADER.as_bytes())?;
+        text.push(end_byte(ending))?;
         text.extend_from_slice(self.lines.as_slice())?;
         Ok(text)
     }
 }
 
-/// Puts a line behind the others: numbers with a tab after each, and then the path.
-fn push_line(lines: &mut Vec<u8>, numbers: &[u8], path: &str) -> Result<(), AllocError>
-    ensures { let more : List ℕ = numbers.now ++ path.now ++ codes "\n" in
+/// Puts a line behind the others: numbers with a tab after each, the path, and then the end of the line.
+fn push_line(lines: &mut Vec<u8>, numbers: &[u8], path: &[u8], end: u8) -> Result<(), AllocError>
+    ensures { let more : List ℕ = numbers.now ++ path.now ++ end ∷ [] in
         OnOk result (lines.new.items ≡ lines.old.items ++ more) }
 {
     lines.extend_from_slice(numbers)?;
-    lines.extend_from_slice(path.as_bytes())?;
-    lines.push(b'\n')?;
+    lines.extend_from_slice(path)?;
+    lines.push(end)?;
     Ok(())
 }
 
 /// Reads the files at these paths, one after the other, and sends a table of their numbers: how many goods and bids
-/// each has, and how many bids are left in its canonical file. `limit` bounds the steps of each search that decides on
-/// a bundle of an OR bidder.
+/// each has, and how many bids are left in its canonical file.
 ///
 /// A file that cannot be judged is reported on `err` at once, and the others go on; if only the step limit stops it, its
-/// line has no numbers of the canonical file. With `progress`, each file is reported on `err` once it was read. The
-/// status is 0 if every file was judged, and else the greatest of the statuses of those that were not.
+/// line has no numbers of the canonical file. With `progress`, it is reported on `err` after each hundredth file,
+/// and after the last, how many were read. The status is 0 if every file was judged, and else the greatest of the
+/// statuses of those that were not.
 pub fn run_sizes<S: Source + AllocGlobal, W: Write, E: Write>(
     source: &S,
-    paths: &[&str],
-    limit: u64,
-    progress: bool,
+    paths: &[&[u8]],
+    many: ManyFiles,
     out: &mut Watched<W>,
     err: &mut Watched<E>,
 ) -> Result<u8, RunFault>
     requires { has_failed out.old ≡ false }
-    ensures { RunsOnPaths (S.may_open source.now) (S.may_refuse source.now) S.Stream.remaining W.contents E.contents limit
-        MakesTable (map (λ path. path.now) paths.now) progress out.old out.new err.old err.new result }
+    ensures { RunsOnPaths (S.may_open source.now) (S.may_refuse source.now) S.Stream.remaining W.contents E.contents many.limit
+        (MakesTable (end_of many.ending)) (map (λ path. path.now) paths.now) many.progress out.old out.new err.old err.new result }
 {
-    run_on_paths::<Table, S, W, E>(source, paths, limit, progress, out, err)
+    run_on_paths::<Table, S, W, E>(source, paths, many, out, err)
 }

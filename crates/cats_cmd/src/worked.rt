@@ -19,8 +19,10 @@ ghost use Rattle.cats_cmd.specs.Outputs.{bundle_text, sizes_text};
 ghost use Rattle.cats_cmd.specs.ValueTexts.{bundle_from};
 ghost use Rattle.cats_cmd.specs.FaultLines.{line_of_fault};
 ghost use Rattle.cats_text.specs.Examples.{known, watched};
+ghost use Rattle.cats_cmd.specs.DuplicateTexts.{duplicates_text};
 ghost use Rattle.cats_cmd.specs.Duplicates.{judged_paths};
-ghost use Rattle.cats_cmd.specs.Paths.{IsHeavy, IsJudged, IsStopped, greatest_status, report_lines};
+ghost use Rattle.cats_cmd.specs.PathLists.{paths_in};
+ghost use Rattle.cats_cmd.specs.Paths.{IsHeavy, IsJudged, IsStopped, greatest_status, progress_lines, report_lines};
 ghost use Rattle.cats_cmd.specs.SizesTables.{MakesTable, counts_of, line_if_read, sizes_of};
 ghost use Rattle.cats_cmd.specs.Rounding.{round_outcome, rounded_line};
 ghost use Rattle.rounding.specs.declared.replacement.FinePrices.TheVariants.{Round};
@@ -110,15 +112,28 @@ pub fn differences()
         ∷ InXor [] 0 1 ∷ []) ≡ 0 ∷ 1 ∷ 1 ∷ 1 ∷ [] }
 {}
 
-/// What `cats duplicates` reports of two paths: the reason for the one that was not judged, and, with progress, both.
+/// What `cats duplicates` reports of two paths: the reason for the one that was not judged, and, with progress, how many
+/// were read. Of 250 files that is reported after the hundredth, the two hundredth and the last.
 pub fn paths_reported()
     ensures reason { report_lines false 2 ((codes "a", IsStopped (CannotOpen Only)) ∷ (codes "b", IsJudged larger_bid) ∷ [])
         ≡ codes "a: cannot open\n" ∷ [] }
     ensures progress { report_lines true 2 ((codes "a", IsStopped (CannotOpen Only)) ∷ (codes "b", IsJudged larger_bid) ∷ [])
-        ≡ codes "a: cannot open\n" ∷ codes "1 of 2 a\n" ∷ codes "2 of 2 b\n" ∷ [] }
+        ≡ codes "a: cannot open\n" ∷ codes "2 of 2 b\n" ∷ [] }
+    ensures counted { map (λ number. progress_lines true number 250 (codes "a")) (1 ∷ 99 ∷ 100 ∷ 200 ∷ 249 ∷ 250 ∷ [])
+        ≡ [] ∷ [] ∷ (codes "100 of 250 a\n" ∷ []) ∷ (codes "200 of 250 a\n" ∷ []) ∷ []
+        ∷ (codes "250 of 250 a\n" ∷ []) ∷ [] }
     ensures status { greatest_status ((codes "a", IsStopped (CannotOpen Only)) ∷ (codes "b", IsJudged larger_bid) ∷ []) ≡ 5 }
     ensures judged { judged_paths ((codes "a", IsStopped (CannotOpen Only)) ∷ (codes "b", IsJudged larger_bid) ∷ [])
         ≡ codes "b" ∷ [] }
+{}
+
+/// The text of `cats duplicates` of two auctions with two files each and one with one, with LF at the end of each line
+/// and with NUL.
+pub fn groups_printed()
+    ensures lines { duplicates_text 10 ((codes "a", 0) ∷ (codes "b", 1) ∷ (codes "c", 0) ∷ (codes "d", 3) ∷ (codes "e", 1) ∷ [])
+        ≡ codes "a\nc\n\nb\ne\n" }
+    ensures nulls { duplicates_text 0 ((codes "a", 0) ∷ (codes "b", 1) ∷ (codes "c", 0) ∷ (codes "d", 3) ∷ (codes "e", 1) ∷ [])
+        ≡ 97 ∷ 0 ∷ 99 ∷ 0 ∷ 0 ∷ 98 ∷ 0 ∷ 101 ∷ 0 ∷ [] }
 {}
 
 /// The numbers of a file, and the lines of `cats sizes`: of no files, of a file with a heavy bundle, and of one that was
@@ -126,10 +141,10 @@ pub fn paths_reported()
 pub fn table_lines()
     ensures numbers { sizes_of xor_ladder ≡ 2 ∷ 3 ∷ 1 ∷ 1 ∷ 1 ∷ [] }
     ensures no_bidders { counts_of larger_bid ≡ 3 ∷ 3 ∷ 0 ∷ [] }
-    ensures header { MakesTable [] (codes "goods\tbids\tor\txor\tdummy\tkept\tkept_or\tkept_xor\tfile\n") }
-    ensures heavy { (goods : Vec ℕ Global) → line_if_read (codes "a b") (IsHeavy larger_bid goods)
+    ensures header { MakesTable 10 [] (codes "goods\tbids\tor\txor\tdummy\tkept\tkept_or\tkept_xor\tfile\n") }
+    ensures heavy { (goods : Vec ℕ Global) → line_if_read 10 (codes "a b") (IsHeavy larger_bid goods)
         ≡ codes "2\t3\t3\t0\t0\t-\t-\t-\ta b\n" }
-    ensures refused { line_if_read (codes "a") (IsStopped (CannotOpen Only)) ≡ [] }
+    ensures refused { line_if_read 0 (codes "a") (IsStopped (CannotOpen Only)) ≡ [] }
 {}
 
 /// What `cats round` makes of bytes, and the line of a price whose value changed.
@@ -160,4 +175,12 @@ pub fn files_sent()
         (Ok 1) → ⊥ }
     ensures some_written { SendsMadeAs known Only 0 (codes "ab") (watched [] false false) (watched (codes "a") false false)
         (Err (Refused Only Memory)) → ⊥ }
+{}
+
+/// Lists of paths: with the last NUL and without it, an empty path between two NUL, a path twice, and no path.
+pub fn paths_listed()
+    ensures { map paths_in ((97 ∷ 0 ∷ 98 ∷ 0 ∷ []) ∷ (97 ∷ 0 ∷ 98 ∷ []) ∷ (97 ∷ 0 ∷ 0 ∷ 98 ∷ 0 ∷ []) ∷ (0 ∷ [])
+        ∷ (97 ∷ 0 ∷ 97 ∷ 0 ∷ []) ∷ (97 ∷ 10 ∷ 98 ∷ []) ∷ [] ∷ []) ≡
+        (codes "a" ∷ codes "b" ∷ []) ∷ (codes "a" ∷ codes "b" ∷ []) ∷ (codes "a" ∷ [] ∷ codes "b" ∷ [])
+        ∷ ([] ∷ []) ∷ (codes "a" ∷ codes "a" ∷ []) ∷ (codes "a\nb" ∷ []) ∷ [] ∷ [] }
 {}

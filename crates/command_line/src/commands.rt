@@ -15,6 +15,12 @@ pub(crate) const STEPS: &str = "steps";
 
 pub(crate) const PROGRESS: &str = "progress";
 
+/// The flag for NUL after each path of the output.
+pub(crate) const NULL: &str = "null";
+
+/// The option for a file that has the paths.
+pub(crate) const FILES0_FROM: &str = "files0-from";
+
 pub(crate) const EXACT: &str = "exact";
 
 /// The most steps that a command line may allow a search.
@@ -28,11 +34,14 @@ const DEFAULT_STEPS: &str = "1000000";
 enum Argument {
     File,
     SecondFile,
+    /// The paths of many files, and the option for a list of them.
     Files,
+    List,
     Goods,
     /// The option for a limit, with what its help says.
     Steps(&'static str),
     Progress,
+    Null,
     Exact,
 }
 
@@ -103,6 +112,8 @@ static SUBCOMMANDS: [Subcommand; 8] = [
         arguments: &[
             Argument::Steps(STEPS_OF_BUNDLE),
             Argument::Progress,
+            Argument::Null,
+            Argument::List,
             Argument::Files,
         ],
     },
@@ -113,6 +124,8 @@ static SUBCOMMANDS: [Subcommand; 8] = [
         arguments: &[
             Argument::Steps(STEPS_OF_BUNDLE),
             Argument::Progress,
+            Argument::Null,
+            Argument::List,
             Argument::Files,
         ],
     },
@@ -136,24 +149,27 @@ impl Subcommand {
             .about(self.about)
             .after_help(self.help);
         for argument in self.arguments {
-            command = command.arg(argument.arg(alloc))?;
+            command = command.arg(argument.arg(alloc)?)?;
         }
         Ok(command)
     }
 }
 
 impl Argument {
-    fn arg<'a>(&self, alloc: Global) -> Arg<'a> {
+    fn arg<'a>(&self, alloc: Global) -> Result<Arg<'a>, AllocError> {
         match self {
-            Argument::File => file_argument(alloc, FILE),
-            Argument::SecondFile => file_argument(alloc, SECOND_FILE).value_name(FILE),
-            Argument::Files => file_argument(alloc, FILE)
-                .num_args(1..)
-                .help("The paths of bid files"),
-            Argument::Goods => goods_argument(alloc),
-            Argument::Steps(help) => steps_option(alloc, help),
-            Argument::Progress => progress_flag(alloc),
-            Argument::Exact => exact_flag(alloc),
+            Argument::File => Ok(file_argument(alloc, FILE).required(true)),
+            Argument::SecondFile => {
+                let second = file_argument(alloc, SECOND_FILE).value_name(FILE);
+                Ok(second.required(true))
+            }
+            Argument::Files => files_argument(alloc),
+            Argument::List => list_option(alloc),
+            Argument::Goods => Ok(goods_argument(alloc)),
+            Argument::Steps(help) => Ok(steps_option(alloc, help)),
+            Argument::Progress => Ok(progress_flag(alloc)),
+            Argument::Null => Ok(null_flag(alloc)),
+            Argument::Exact => Ok(exact_flag(alloc)),
         }
     }
 }
@@ -162,7 +178,24 @@ fn progress_flag<'a>(alloc: Global) -> Arg<'a> {
     Arg::new(alloc, PROGRESS)
         .long(PROGRESS)
         .action(ArgAction::SetTrue)
-        .help("Tells on standard error how many files were read, after each")
+        .help("Reports on standard error how many files were read")
+}
+
+fn null_flag<'a>(alloc: Global) -> Arg<'a> {
+    Arg::new(alloc, NULL)
+        .short('0')
+        .long(NULL)
+        .action(ArgAction::SetTrue)
+        .help("Prints each path as it is, and ends each line with NUL")
+}
+
+/// A list takes the place of the paths on the command line.
+fn list_option<'a>(alloc: Global) -> Result<Arg<'a>, AllocError> {
+    Arg::new(alloc, FILES0_FROM)
+        .long(FILES0_FROM)
+        .value_name("LIST")
+        .help("The paths are in this file, each with NUL after it")
+        .conflicts_with(FILE)
 }
 
 fn exact_flag<'a>(alloc: Global) -> Arg<'a> {
@@ -182,9 +215,14 @@ fn steps_option<'a>(alloc: Global, help: &'a str) -> Arg<'a> {
 }
 
 fn file_argument<'a>(alloc: Global, id: &'a str) -> Arg<'a> {
-    Arg::new(alloc, id)
-        .required(true)
-        .help("The path of a bid file")
+    Arg::new(alloc, id).help("The path of a bid file")
+}
+
+fn files_argument<'a>(alloc: Global) -> Result<Arg<'a>, AllocError> {
+    Arg::new(alloc, FILE)
+        .num_args(1..)
+        .help("The paths of bid files")
+        .required_unless_present(FILES0_FROM)
 }
 
 fn goods_argument<'a>(alloc: Global) -> Arg<'a> {

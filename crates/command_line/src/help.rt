@@ -107,8 +107,15 @@ an empty line between two auctions. For example:
   examples/ladder.cats
   examples/ladder_rewritten.cats
 
-A file that is refused is told at once, with its path before the fault, and the others go on. A step is that of
-'cats normalise', to which each file is put.
+All files below a folder, however many there are:
+  $ find folder -name '*.cats' -print0 | cats duplicates --files0-from /dev/stdin
+
+A control byte in a path is printed as \\n, \\t or \\x1b, with its two hexadecimal digits, and a backslash as \\\\. With -0 each
+path of the output is printed as it is, and each line ends with NUL.
+
+A file that is refused is reported at once, with its path before the fault, and the others go on. So is a list that
+cannot be read, and then no file is. With --progress a line says how many files were read, after each hundred and at the
+end. A step is that of 'cats normalise', to which each file is put.
 
 Statuses: 0 where every file was judged, whether or not some are one auction; else the greatest status of those that
 were not: 2 for a file that is no bid file, 3 for the step limit, 4, 5 and 64 as 'cats --help' tells";
@@ -127,7 +134,11 @@ Prints a header and a line for each file, in the order given, with tabs between 
 
 The table is printed once all files were read. A file that is refused is reported at once, with its path before the
 fault, and the others go on. If only the step limit stops a file, its line has '-' for the numbers of its canonical
-file. A step is that of 'cats normalise', to which each file is put.
+file. A step is that of 'cats normalise', to which each file is put. 'cats help duplicates' says how paths are printed,
+and what --progress reports.
+
+All files below a folder, however many there are:
+  $ find folder -name '*.cats' -print0 | cats sizes --files0-from /dev/stdin
 
 Statuses: 0 if every file was judged; else the greatest status of those that were not: 2 for a file that is no bid file,
 3 for the step limit, 4, 5 and 64 as 'cats --help' tells";

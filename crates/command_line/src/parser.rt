@@ -5,8 +5,10 @@ ghost use Rattle.clap.specs.Words.{kind_of};
 ghost use Rattle.clap.specs.declared.error.kind.ErrorKind.TheVariants.{DisplayHelp, DisplayVersion, OutOfMemory};
 ghost use Rattle.command_line.specs.Requests.{IsNamedIn, is_no_memory, is_wrong_usage, name_of};
 
-use crate::commands::{EXACT, FILE, GOOD, PROGRESS, SECOND_FILE, STEPS, cats_command};
-use crate::request::{NoRequest, Request};
+use crate::commands::{
+    EXACT, FILE, FILES0_FROM, GOOD, NULL, PROGRESS, SECOND_FILE, STEPS, cats_command,
+};
+use crate::request::{FilePaths, NoRequest, Request};
 use clap::error::ErrorKind;
 use clap::{ArgMatches, Error};
 use std::alloc::{AllocError, Global};
@@ -149,13 +151,14 @@ fn find_duplicates_request<'a>(
 ) -> Result<Option<Request<'a>>, AllocError>
     ensures { IfOk result (λ found. IfSome found (λ request. name_of request ≡ codes "duplicates")) }
 {
-    let (Some(limit), Some(files)) = (given.get_one::<u64>(STEPS), given.get_strs(FILE)) else {
+    let (Some(limit), Some(files)) = (given.get_one::<u64>(STEPS), find_paths(alloc, given)?) else {
         return Ok(None);
     };
     Ok(Some(Request::Duplicates {
-        files: Vec::from_slice(alloc, files)?,
+        files,
         limit,
         progress: given.get_flag(PROGRESS),
+        null: given.get_flag(NULL),
     }))
 }
 
@@ -165,12 +168,28 @@ fn find_sizes_request<'a>(
 ) -> Result<Option<Request<'a>>, AllocError>
     ensures { IfOk result (λ found. IfSome found (λ request. name_of request ≡ codes "sizes")) }
 {
-    let (Some(limit), Some(files)) = (given.get_one::<u64>(STEPS), given.get_strs(FILE)) else {
+    let (Some(limit), Some(files)) = (given.get_one::<u64>(STEPS), find_paths(alloc, given)?) else {
         return Ok(None);
     };
     Ok(Some(Request::Sizes {
-        files: Vec::from_slice(alloc, files)?,
+        files,
         limit,
         progress: given.get_flag(PROGRESS),
+        null: given.get_flag(NULL),
     }))
+}
+
+/// Where the paths are: `clap` takes a list or words, and not both.
+fn find_paths<'a>(
+    alloc: Global,
+    given: &ArgMatches<'a>,
+) -> Result<Option<FilePaths<'a>>, AllocError> {
+    if let Some(list) = given.get_str(FILES0_FROM) {
+        return Ok(Some(FilePaths::ListedIn(list)));
+    }
+    let Some(words) = given.get_strs(FILE) else {
+        return Ok(None);
+    };
+    let paths = words.iter().map(|word| word.as_bytes()).collect(alloc)?;
+    Ok(Some(FilePaths::Given(paths)))
 }

@@ -28,15 +28,26 @@ pub enum Request<'a> {
         limit: u64,
     },
     Duplicates {
-        files: Vec<&'a str>,
+        files: FilePaths<'a>,
         limit: u64,
         progress: bool,
+        null: bool,
     },
     Sizes {
-        files: Vec<&'a str>,
+        files: FilePaths<'a>,
         limit: u64,
         progress: bool,
+        null: bool,
     },
+}
+
+/// Where the paths of many files are.
+#[derive(Debug, Drop)]
+pub enum FilePaths<'a> {
+    /// They are words of the command line.
+    Given(Vec<&'a [u8]>),
+    /// They are in the file at this path, in which each ends with NUL.
+    ListedIn(&'a str),
 }
 
 /// Why a command line asks for no run. Each has its text, which is empty where memory for it was refused.

@@ -5,7 +5,7 @@ use std::process::Abort;
 use std::test::Fail;
 
 /// Command lines, and what they ask for.
-static REQUESTS: [(&[&str], &str); 12] = [
+static REQUESTS: [(&[&str], &str); 17] = [
     (&["cats", "check", "a"], "Check { file: \"a\" }"),
     (&["cats", "show", "a"], "Show { file: \"a\" }"),
     (
@@ -34,19 +34,45 @@ static REQUESTS: [(&[&str], &str); 12] = [
     ),
     (
         &["cats", "duplicates", "a", "b", "a"],
-        "Duplicates { files: [\"a\", \"b\", \"a\"], limit: 1000000, progress: false }",
+        "Duplicates { files: Given([[97], [98], [97]]), limit: 1000000, progress: false, null: false }",
     ),
     (
         &["cats", "duplicates", "--progress", "a", "b", "--steps=9"],
-        "Duplicates { files: [\"a\", \"b\"], limit: 9, progress: true }",
+        "Duplicates { files: Given([[97], [98]]), limit: 9, progress: true, null: false }",
+    ),
+    (
+        &["cats", "duplicates", "-0", "a"],
+        "Duplicates { files: Given([[97]]), limit: 1000000, progress: false, null: true }",
+    ),
+    (
+        &["cats", "duplicates", "a", "--", "-0"],
+        "Duplicates { files: Given([[97], [45, 48]]), limit: 1000000, progress: false, null: false }",
+    ),
+    (
+        &["cats", "duplicates", "--files0-from", "a"],
+        "Duplicates { files: ListedIn(\"a\"), limit: 1000000, progress: false, null: false }",
     ),
     (
         &["cats", "sizes", "a"],
-        "Sizes { files: [\"a\"], limit: 1000000, progress: false }",
+        "Sizes { files: Given([[97]]), limit: 1000000, progress: false, null: false }",
     ),
     (
         &["cats", "sizes", "--steps=9", "a", "--progress", "b"],
-        "Sizes { files: [\"a\", \"b\"], limit: 9, progress: true }",
+        "Sizes { files: Given([[97], [98]]), limit: 9, progress: true, null: false }",
+    ),
+    (
+        &["cats", "sizes", "a", "--null", "é"],
+        "Sizes { files: Given([[97], [195, 169]]), limit: 1000000, progress: false, null: true }",
+    ),
+    (
+        &[
+            "cats",
+            "sizes",
+            "--files0-from=/dev/stdin",
+            "-0",
+            "--progress",
+        ],
+        "Sizes { files: ListedIn(\"/dev/stdin\"), limit: 1000000, progress: true, null: true }",
     ),
 ];
 
@@ -84,7 +110,7 @@ fn help_and_version(rt: HostRuntime) {
 }
 
 /// Command lines that ask for nothing that the program does.
-static WRONG_LINES: [&[&str]; 8] = [
+static WRONG_LINES: [&[&str]; 15] = [
     &[],
     &["cats"],
     &["cats", "check"],
@@ -93,6 +119,14 @@ static WRONG_LINES: [&[&str]; 8] = [
     &["cats", "value", "a", "65536"],
     &["cats", "duplicates"],
     &["cats", "sizes"],
+    // a path after a list, before it, two lists, a list without its path, and `-0` twice
+    &["cats", "sizes", "--files0-from", "a", "b"],
+    &["cats", "duplicates", "b", "--files0-from", "a"],
+    &["cats", "duplicates", "--files0-from=a", "--files0-from=b"],
+    &["cats", "sizes", "--files0-from"],
+    &["cats", "sizes", "-0", "--null", "a"],
+    &["cats", "normalise", "-0", "a"],
+    &["cats", "check", "--files0-from", "a"],
 ];
 
 #[test]

@@ -124,7 +124,7 @@ static ROWS: [Row; 16] = [
         ROOM,
         2,
         "@a\n@a2\n",
-        "1 of 3 @a\n@bad: line 2: Missing\n2 of 3 @bad\n3 of 3 @a2\n",
+        "@bad: line 2: Missing\n3 of 3 @a2\n",
     ),
     (
         "cats duplicates @c @c2",
@@ -150,7 +150,7 @@ static ROWS: [Row; 16] = [
         ROOM,
         0,
         "@c\n@c2\n",
-        "1 of 3 @c\n2 of 3 @a\n3 of 3 @c2\n",
+        "3 of 3 @c2\n",
     ),
 ];
 

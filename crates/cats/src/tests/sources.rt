@@ -40,7 +40,7 @@ impl Alloc for FilesInMemory<'_> {
     }
 }
 
-static FILES: [(&str, &[u8]); 7] = [
+static FILES: [(&str, &[u8]); 13] = [
     ("one", b"goods 1\nbids 1\ndummy 0\n0 3 0 #\n"),
     ("same", b"goods 1\nbids 2\ndummy 0\n0 3 0 #\n1 2 0 #\n"),
     ("other", b"goods 1\nbids 1\ndummy 0\n0 4 0 #\n"),
@@ -54,12 +54,19 @@ static FILES: [(&str, &[u8]); 7] = [
         "bidders",
         b"goods 2\nbids 4\ndummy 3\n0 1 0 2 #\n1 1 0 4 #\n2 2 1 4 #\n3 9 1 #\n",
     ),
+    // lists of paths
+    ("list", b"one\0other\0same\0"),
+    ("list without its last NUL", b"one\0other\0same"),
+    ("empty list", b""),
+    ("list with a path twice", b"same\0other\0same\0"),
+    ("list with an empty path", b"one\0\0same\0"),
+    ("list with LF", b"one\nother\nsame\n"),
 ];
 
 /// A command line's words, and what it answers: its status, its output and its faults' lines.
 type Row<'a> = (&'a [&'a str], u8, &'a str, &'a str);
 
-static ROWS: [Row<'static>; 14] = [
+static ROWS: [Row<'static>; 25] = [
     (
         &["cats", "check", "same"],
         0,
@@ -101,7 +108,7 @@ static ROWS: [Row<'static>; 14] = [
         &["cats", "duplicates", "--progress", "none", "one"],
         5,
         "",
-        "none: cannot open\n1 of 2 none\n2 of 2 one\n",
+        "none: cannot open\n2 of 2 one\n",
     ),
     (&["cats", "duplicates", "one"], 0, "", ""),
     (
@@ -123,6 +130,80 @@ static ROWS: [Row<'static>; 14] = [
         5,
         "goods\tbids\tor\txor\tdummy\tkept\tkept_or\tkept_xor\tfile\n",
         "none: cannot open\n1 of 1 none\n",
+    ),
+    // NUL at the end of each line
+    (
+        &["cats", "duplicates", "-0", "one", "other", "same", "other"],
+        0,
+        "one\0same\0\0other\0other\0",
+        "",
+    ),
+    (
+        &["cats", "sizes", "--null", "same", "none", "one"],
+        5,
+        "goods\tbids\tor\txor\tdummy\tkept\tkept_or\tkept_xor\tfile\0\
+1\t2\t2\t0\t0\t1\t1\t0\tsame\01\t1\t1\t0\t0\t1\t1\t0\tone\0",
+        "none: cannot open\n",
+    ),
+    (&["cats", "duplicates", "-0", "one", "other"], 0, "", ""),
+    (
+        &["cats", "duplicates", "--files0-from", "list"],
+        0,
+        "one\nsame\n",
+        "",
+    ),
+    (
+        &[
+            "cats",
+            "duplicates",
+            "--files0-from=list without its last NUL",
+        ],
+        0,
+        "one\nsame\n",
+        "",
+    ),
+    (
+        &["cats", "duplicates", "--files0-from", "empty list"],
+        0,
+        "",
+        "",
+    ),
+    (
+        &["cats", "sizes", "--files0-from", "empty list"],
+        0,
+        "goods\tbids\tor\txor\tdummy\tkept\tkept_or\tkept_xor\tfile\n",
+        "",
+    ),
+    (
+        &["cats", "sizes", "--files0-from", "list with a path twice"],
+        0,
+        "goods\tbids\tor\txor\tdummy\tkept\tkept_or\tkept_xor\tfile\n1\t2\t2\t0\t0\t1\t1\t0\tsame\n\
+1\t1\t1\t0\t0\t1\t1\t0\tother\n1\t2\t2\t0\t0\t1\t1\t0\tsame\n",
+        "",
+    ),
+    (
+        &[
+            "cats",
+            "duplicates",
+            "--files0-from",
+            "list with an empty path",
+        ],
+        5,
+        "one\nsame\n",
+        ": cannot open\n",
+    ),
+    (
+        &["cats", "sizes", "--files0-from", "no list"],
+        5,
+        "",
+        "no list: cannot open\n",
+    ),
+    (
+        &["cats", "duplicates", "--files0-from", "list", "one"],
+        64,
+        "",
+        "error: the argument '--files0-from <LIST>' cannot be used with '[FILE]...'\n\n\
+Usage: cats duplicates --files0-from <LIST> [FILE]...\n\nFor more information, try '--help'.\n",
     ),
     (
         &["cats", "round", "fine"],

@@ -13,37 +13,41 @@ ghost use Rattle.cats_cmd.specs.DuplicateTexts.{
 use std::alloc::{AllocError, Global};
 
 /// For each auction that two or more of the files are, their paths, each on a line, and an empty line between two
-/// auctions. With each path is given the place of the first file of its auction.
-pub(super) fn duplicates_text(alloc: Global, found: &[(&str, usize)]) -> Result<Vec<u8>, AllocError>
+/// auctions. With each path is given the place of the first file of its auction. `end` is the end of each line.
+pub(super) fn duplicates_text(
+    alloc: Global,
+    found: &[(&[u8], usize)],
+    end: u8,
+) -> Result<Vec<u8>, AllocError>
     requires { All (λ f. f.1 < length found.now) found.now }
-    ensures { IfOk result (λ text. text.items ≡ duplicates_text (found_paths found.now)) }
+    ensures { IfOk result (λ text. text.items ≡ duplicates_text end (found_paths found.now)) }
 {
     let groups = group_by_place(alloc, found)?;
     let mut text = Vec::new(alloc);
     for group in &groups {
-        push_group(&mut text, group.as_slice())?;
+        push_group(&mut text, group.as_slice(), end)?;
     }
     Ok(text)
 }
 
 /// Puts the lines of a group of two or more behind the text, with an empty line between them.
-fn push_group(text: &mut Vec<u8>, paths: &[&str]) -> Result<(), AllocError>
-    ensures { OnOk result (text.new.items ≡ with_group text.old.items (map (λ path. path.now) paths.now)) }
+fn push_group(text: &mut Vec<u8>, paths: &[&[u8]], end: u8) -> Result<(), AllocError>
+    ensures { OnOk result (text.new.items ≡ with_group end text.old.items (map (λ path. path.now) paths.now)) }
 {
     if paths.len() < 2 {
         return Ok(());
     }
     if !text.is_empty() {
-        text.push(b'\n')?;
+        text.push(end)?;
     }
-    push_lines(text, paths)
+    push_lines(text, paths, end)
 }
 
 /// The paths of the files for each place.
 fn group_by_place<'a>(
     alloc: Global,
-    found: &[(&'a str, usize)],
-) -> Result<Vec<Vec<&'a str>>, AllocError>
+    found: &[(&'a [u8], usize)],
+) -> Result<Vec<Vec<&'a [u8]>>, AllocError>
     requires { All (λ f. f.1 < length found.now) found.now }
     ensures { IfOk result (λ groups. plain_groups groups.items ≡ groups_of (found_paths found.now)) }
 {
@@ -56,7 +60,7 @@ fn group_by_place<'a>(
 }
 
 /// So many groups without a path.
-fn empty_groups<'a>(alloc: Global, count: usize) -> Result<Vec<Vec<&'a str>>, AllocError>
+fn empty_groups<'a>(alloc: Global, count: usize) -> Result<Vec<Vec<&'a [u8]>>, AllocError>
     ensures { IfOk result (λ groups. plain_groups groups.items ≡ replicate count []) }
 {
     let mut groups = Vec::new(alloc);
@@ -67,12 +71,12 @@ fn empty_groups<'a>(alloc: Global, count: usize) -> Result<Vec<Vec<&'a str>>, Al
 }
 
 /// Puts each path on a line.
-fn push_lines(text: &mut Vec<u8>, paths: &[&str]) -> Result<(), AllocError>
-    ensures { OnOk result (text.new.items ≡ text.old.items ++ lines_of (map (λ path. path.now) paths.now)) }
+fn push_lines(text: &mut Vec<u8>, paths: &[&[u8]], end: u8) -> Result<(), AllocError>
+    ensures { OnOk result (text.new.items ≡ text.old.items ++ lines_of end (map (λ path. path.now) paths.now)) }
 {
     for path in paths {
-        text.extend_from_slice(path.as_bytes())?;
-        text.push(b'\n')?;
+        text.extend_from_slice(path)?;
+        text.push(end)?;
     }
     Ok(())
 }

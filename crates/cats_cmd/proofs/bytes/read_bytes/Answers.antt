@@ -1,6 +1,6 @@
 use Rattle.std.proofs.Common.{arith, ◌<◌, length, refl, ◌∙◌}
 use Rattle.cats_cmd.proofs.Rounding.{no_more, at_the_end, too_many}
-use Rattle.cats_cmd.proofs.round.bytes.read_bytes.Goals as goal
+use Rattle.cats_cmd.proofs.bytes.read_bytes.Goals as goal
 
 pub returns-in-Ok-eq0 : goal.returns-in-Ok-eq0
 returns-in-Ok-eq0 g c =

@@ -4,7 +4,7 @@ ghost use Rattle.std.specs.Prelude.{◌≡◌, false};
 ghost use Rattle.cats_text.specs.Faults.{fault_at};
 ghost use Rattle.cats_text.specs.Streams.{has_ended, has_failed};
 ghost use Rattle.canon.specs.declared.fault.CanonFault.TheVariants.{Read as IsRead};
-ghost use Rattle.cats_cmd.specs.Rounding.{ReadsBytes};
+ghost use Rattle.cats_cmd.specs.Inputs.{ReadsBytes};
 
 use canon::CanonFault;
 use cats_text::{Kind, MAX_STREAM, ReadFault, Watched};
@@ -15,7 +15,7 @@ use std::io::Read;
 const PIECE: usize = 65_536;
 
 /// Reads a stream to its end. No more than `MAX_STREAM` bytes are kept.
-pub(super) fn read_bytes<R: Read>(
+pub(crate) fn read_bytes<R: Read>(
     alloc: Global,
     input: &mut Watched<R>,
 ) -> Result<Vec<u8>, CanonFault>

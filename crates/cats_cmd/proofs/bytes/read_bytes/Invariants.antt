@@ -2,7 +2,7 @@ use Rattle.std.proofs.Common.{◌≡◌, ◌<◌, ◌≤◌, ◌+◌, ◌-◌, l
 use Rattle.std.specs.Io.KnownBytes.{Consumes}
 use Rattle.cats_text.specs.declared.limits.TheConstants.{MAX_STREAM}
 use Rattle.cats_text.specs.Streams.{inner_of, has_failed}
-use Rattle.cats_cmd.proofs.round.bytes.read_bytes.Given as goal
+use Rattle.cats_cmd.proofs.bytes.read_bytes.Given as goal
 
 -- the bytes that came so far are kept
 abbrev pub invariant-loop-text : goal.invariant-loop-text

@@ -1,0 +1,90 @@
+-- The parts of a list of paths: what is behind its last NUL is a path only if it is not empty.
+use Rattle.std.proofs.Common.{◌≡◌, ◌≢◌, ℕ, List, [], ◌∷◌, ◌++◌, length, refl, sym, ap, ◌∙◌, subst, arith, map, ◌<◌, false, Bor, Option, Err}
+use Rattle.std.specs.List.{All, slice_split}
+use Rattle.std.specs.Prelude.{◌==◌}
+use Rattle.std.proofs.lemmas.List.{append_assoc, length-map, map-append}
+use Rattle.std.proofs.lemmas.List.Splits.{length-slice_split, slice_split_at}
+use Rattle.std.proofs.lemmas.List.Elements.{All-head, All-tail}
+use Rattle.cats_text.specs.declared.stream.Watched.{Watched}
+use Rattle.canon.specs.declared.fault.CanonFault.{CanonFault}
+use Rattle.canon.specs.declared.fault.CanonFault.TheVariants.{Read, StepLimit, Memory}
+use Rattle.canon.specs.declared.which.Which.TheVariants.{Only}
+use Rattle.cats_cmd.specs.FileLists.{IsUnread}
+use Rattle.cats_cmd.specs.Inputs.{IsOpened, ReadsBytes}
+use Rattle.cats_cmd.specs.declared.program.Stop.TheVariants.{Run}
+use Rattle.cats_cmd.specs.declared.report.RunFault.TheVariants.{Refused}
+use Rattle.cats_cmd.specs.PathLists.{listed, paths_in, without_empty_end}
+
+end_dropped : (parts : List (List ℕ)) → without_empty_end (parts ++ [] ∷ []) ≡ parts
+end_dropped [] = refl
+end_dropped ([] ∷ []) = refl
+end_dropped ((b ∷ bs) ∷ []) = refl
+end_dropped (part ∷ next ∷ more) = ap (λ (rest : List (List ℕ)). part ∷ rest) (end_dropped (next ∷ more))
+
+end_kept : (parts : List (List ℕ)) (b : ℕ) (bs : List ℕ) → without_empty_end (parts ++ (b ∷ bs) ∷ []) ≡ parts ++ (b ∷ bs) ∷ []
+end_kept [] b bs = refl
+end_kept ([] ∷ []) b bs = refl
+end_kept ((x ∷ xs) ∷ []) b bs = refl
+end_kept (part ∷ next ∷ more) b bs = ap (λ (rest : List (List ℕ)). part ∷ rest) (end_kept (next ∷ more) b bs)
+
+any_end_dropped : (parts : List (List ℕ)) (end : List ℕ) → length end ≡ 0 → without_empty_end (parts ++ end ∷ []) ≡ parts
+any_end_dropped parts [] none = end_dropped parts
+any_end_dropped parts (b ∷ bs) none = absurd (omega (arith, none))
+
+any_end_kept : (parts : List (List ℕ)) (end : List ℕ) → length end ≢ 0 → without_empty_end (parts ++ end ∷ []) ≡ parts ++ end ∷ []
+any_end_kept parts [] some = absurd (some refl)
+any_end_kept parts (b ∷ bs) some = end_kept parts b bs
+
+abbrev pub plain : List (Bor (List ℕ)) → List (List ℕ)
+plain paths = map (λ path. path.now) paths
+
+-- the parts of a text whose last one is empty
+pub rest_dropped : (all paths : List (Bor (List ℕ))) (rest : Bor (List ℕ)) (text : List ℕ) → plain all ≡ slice_split (λ b. b == 0) text
+    → all ≡ paths ++ rest ∷ [] → length rest.now ≡ 0 → plain paths ≡ paths_in text
+rest_dropped all paths rest text split last none =
+    sym (ap without_empty_end (sym split ∙ ap plain last ∙ map-append (λ path. path.now) paths (rest ∷ [])) ∙ any_end_dropped (plain paths) rest.now none)
+
+-- the parts of a text whose last one is not empty
+pub rest_kept : (all paths : List (Bor (List ℕ))) (rest : Bor (List ℕ)) (text : List ℕ) → plain all ≡ slice_split (λ b. b == 0) text
+    → all ≡ paths ++ rest ∷ [] → length rest.now ≢ 0 → plain all ≡ paths_in text
+rest_kept all paths rest text split last some =
+    let parts : plain all ≡ plain paths ++ rest.now ∷ [] = ap plain last ∙ map-append (λ path. path.now) paths (rest ∷ []) in
+    parts ∙ sym (any_end_kept (plain paths) rest.now some) ∙ ap without_empty_end (sym parts ∙ split)
+
+-- a text has a part
+pub some_part : (text : List ℕ) → 0 < length (slice_split (λ b. b == 0) text)
+some_part text = let count = length-slice_split (λ b. b == 0) text in omega (arith, count)
+
+pub no_rest : (all paths : List (Bor (List ℕ))) (text : List ℕ) → plain all ≡ slice_split (λ b. b == 0) text → (0 < length all → ⊥) → plain paths ≡ paths_in text
+no_rest all paths text split none =
+    absurd (none (subst (λ (n : ℕ). 0 < n) (sym (ap length split) ∙ length-map all (λ (path : Bor (List ℕ)). path.now)) (some_part text)))
+
+-- ---- the text that lists some paths
+
+first_whole : (path next : List ℕ) (more : List (List ℕ)) → without_empty_end (path ∷ next ∷ more) ≡ path ∷ without_empty_end (next ∷ more)
+first_whole [] next more = refl
+first_whole (b ∷ bs) next more = refl
+
+first_of_more : (path : List ℕ) (parts : List (List ℕ)) → 0 < length parts → without_empty_end (path ∷ parts) ≡ path ∷ without_empty_end parts
+first_of_more path [] some = absurd (omega (arith, some))
+first_of_more path (next ∷ more) some = first_whole path next more
+
+pub read_back : (paths : List (List ℕ)) → All (λ path. All (λ b. (b == 0) ≡ false) path) paths → paths_in (listed paths) ≡ paths
+read_back [] plain = refl
+read_back (path ∷ paths) plain =
+    let cut : slice_split (λ b. b == 0) (listed (path ∷ paths)) ≡ path ∷ slice_split (λ b. b == 0) (listed paths) =
+    ap (slice_split (λ b. b == 0)) (append_assoc path (0 ∷ []) (listed paths))
+    ∙ slice_split_at (λ b. b == 0) path 0 (listed paths) (All-head (λ path. All (λ b. (b == 0) ≡ false) path) path paths plain) refl in
+    ap without_empty_end cut ∙ first_of_more path (slice_split (λ b. b == 0) (listed paths)) (some_part (listed paths))
+    ∙ ap (λ (rest : List (List ℕ)). path ∷ rest) (read_back paths (All-tail (λ path. All (λ b. (b == 0) ≡ false) path) path paths plain))
+
+-- ---- the stream of a list
+
+-- why the bytes of the list were not read
+pub stopped_reading : {F : Type 0} (may_open : List ℕ → F → Type 0) (may_refuse : List ℕ → Type 0) (remaining : F → Option (List ℕ)) (list : List ℕ)
+    (fault : CanonFault) (before after : Watched F) → IsOpened may_open list before → ReadsBytes remaining before after (Err fault)
+    → IsUnread may_open may_refuse remaining list (Run (Refused Only fault))
+stopped_reading may_open may_refuse remaining list (Read fault) before after opened stops =
+    (refl, record { before = before; after = after; opened = opened; stops = stops })
+stopped_reading may_open may_refuse remaining list (StepLimit goods) before after opened stops = absurd stops
+stopped_reading may_open may_refuse remaining list Memory before after opened stops = refl

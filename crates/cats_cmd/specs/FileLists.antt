@@ -1,0 +1,73 @@
+-- A run on many files whose paths are words of the command line, or are in a list of paths.
+use Rattle.std.specs.Prelude.{◌≡◌, ◌⊎◌, ℕ, List, map, Option, Result, Ok, Err}
+use Rattle.cats_text.specs.declared.fault.ReadFault.{ReadFault}
+use Rattle.cats_text.specs.declared.stream.Watched.{Watched}
+use Rattle.canon.specs.declared.fault.CanonFault.TheVariants.{Read, StepLimit, Memory}
+use Rattle.canon.specs.declared.which.Which.TheVariants.{Only}
+use Rattle.command_line.specs.declared.request.FilePaths.{FilePaths}
+use Rattle.command_line.specs.declared.request.FilePaths.TheVariants.{Given, ListedIn}
+use Rattle.cats_cmd.specs.Inputs.{IsOpened, ReadsAll, StopsReading}
+use Rattle.cats_cmd.specs.PathLists.{paths_in}
+use Rattle.cats_cmd.specs.Paths.{refusal_line}
+use Rattle.cats_cmd.specs.Stops.{Reports, status_of_stop}
+use Rattle.cats_cmd.specs.declared.program.Stop.{Stop}
+use Rattle.cats_cmd.specs.declared.program.Stop.TheVariants.{CannotOpen, Run}
+use Rattle.cats_cmd.specs.declared.report.RunFault.{RunFault}
+use Rattle.cats_cmd.specs.declared.report.RunFault.TheVariants.{Refused, GoodRange, Sent}
+
+module _ {F : Type 0} (may_open : List ℕ → F → Type 0) (may_refuse : List ℕ → Type 0)
+    (remaining : F → Option (List ℕ)) (list : List ℕ) where
+  -- these bytes are all of the stream that was opened at the path of the list
+  pub record ReadsList (bytes : List ℕ) : Type 0 where
+    pub before : Watched F
+    pub after : Watched F
+    pub opened : IsOpened may_open list before
+    pub reads : ReadsAll remaining before after bytes
+
+  -- the stream that was opened at the path of the list failed, or was longer than is read
+  pub record StopsList (fault : ReadFault) : Type 0 where
+    pub before : Watched F
+    pub after : Watched F
+    pub opened : IsOpened may_open list before
+    pub stops : StopsReading remaining before after fault.line fault.kind
+
+  -- why the list was not read; memory may be refused
+  abbrev pub IsUnread : Stop → Type 0
+  IsUnread (CannotOpen which) = (which ≡ Only) × may_refuse list
+  IsUnread (Run (Refused which (Read fault))) = (which ≡ Only) × StopsList fault
+  IsUnread (Run (Refused which (StepLimit goods))) = ⊥
+  IsUnread (Run (Refused which Memory)) = which ≡ Only
+  IsUnread (Run (GoodRange good)) = ⊥
+  IsUnread (Run (Sent fault)) = ⊥
+
+-- `Runs` is the run on the files at some paths.
+module _ {F W E : Type 0} (may_open : List ℕ → F → Type 0) (may_refuse : List ℕ → Type 0)
+    (remaining : F → Option (List ℕ)) (messages : E → Option (List ℕ))
+    (Runs : List (List ℕ) → Watched W → Watched W → Watched E → Watched E → Result ℕ RunFault → Type 0) where
+  -- the list was read, and the run is on the paths in it
+  pub record RunsOnListed (list : List ℕ) (out out_after : Watched W) (err err_after : Watched E)
+      (answer : Result ℕ RunFault) : Type 0 where
+    pub bytes : List ℕ
+    pub reads : ReadsList may_open may_refuse remaining list bytes
+    pub runs : Runs (paths_in bytes) out out_after err err_after answer
+
+  -- the list was not read, which was reported as of a file, and nothing was written
+  pub record RefusesList (list : List ℕ) (out out_after : Watched W) (err err_after : Watched E) (status : ℕ)
+      : Type 0 where
+    pub stop : Stop
+    pub unread : IsUnread may_open may_refuse remaining list stop
+    pub reports : Reports messages (refusal_line list stop) err err_after
+    pub silent : out_after ≡ out
+    pub is_status : status ≡ status_of_stop stop
+
+  abbrev pub RunsOnList : List ℕ → Watched W → Watched W → Watched E → Watched E → Result ℕ RunFault → Type 0
+  RunsOnList list out out_after err err_after (Ok status) =
+      RunsOnListed list out out_after err err_after (Ok status) ⊎ RefusesList list out out_after err err_after status
+  RunsOnList list out out_after err err_after (Err fault) = RunsOnListed list out out_after err err_after (Err fault)
+
+  -- the run on the paths that are given, or that are listed
+  abbrev pub RunsOnFiles : FilePaths → Watched W → Watched W → Watched E → Watched E → Result ℕ RunFault → Type 0
+  RunsOnFiles (Given paths) out out_after err err_after answer =
+      Runs (map (λ path. path.now) paths.items) out out_after err err_after answer
+  RunsOnFiles (ListedIn list) out out_after err err_after answer =
+      RunsOnList list.now out out_after err err_after answer

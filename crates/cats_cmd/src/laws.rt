@@ -1,0 +1,11 @@
+//! Laws of what the runs read and print.
+
+ghost use Rattle.std.specs.List.{All};
+ghost use Rattle.std.specs.Prelude.{◌≡◌, ◌==◌, ℕ, List, false};
+ghost use Rattle.cats_cmd.specs.PathLists.{listed, paths_in};
+
+/// The paths in a text that lists some paths are these: any paths without NUL can be listed.
+pub fn listed_paths_are_read_back()
+    ensures { (paths : List (List ℕ)) → All (λ path. All (λ b. (b == 0) ≡ false) path) paths
+        → paths_in (listed paths) ≡ paths }
+{}

@@ -1,0 +1,102 @@
+//! Runs on many files whose paths are words of the command line, or are in a list of paths.
+
+ghost use Rattle.std.specs.Prelude.{◌≡◌, IfErr, IfOk, false};
+ghost use Rattle.cats_text.specs.Streams.{has_failed};
+ghost use Rattle.cats_cmd.specs.Duplicates.{MakesGroups};
+ghost use Rattle.cats_cmd.specs.FileLists.{IsUnread, ReadsList, RunsOnFiles};
+ghost use Rattle.cats_cmd.specs.Paths.{RunsOnPaths, end_of, refusal_line};
+ghost use Rattle.cats_cmd.specs.SizesTables.{MakesTable};
+ghost use Rattle.cats_cmd.specs.Stops.{Reports, status_of_stop};
+
+use crate::bytes::read_bytes;
+use crate::duplicates::run_duplicates;
+use crate::path_list::split_paths;
+use crate::paths::{ManyFiles, path_refusal};
+use crate::program::{Stop, open, report, status_of};
+use crate::report::RunFault;
+use crate::sizes::run_sizes;
+use crate::source::Source;
+use canon::Which;
+use cats_text::Watched;
+use command_line::FilePaths;
+use std::alloc::{AllocGlobal, Global};
+use std::io::Write;
+
+/// `run_duplicates` on the files of a request. A list that is not read is reported as a file that is not judged.
+pub(crate) fn run_duplicates_of<S: Source + AllocGlobal, W: Write, E: Write>(
+    source: &S,
+    files: &FilePaths<'_>,
+    many: ManyFiles,
+    out: &mut Watched<W>,
+    err: &mut Watched<E>,
+) -> Result<u8, RunFault>
+    requires { has_failed out.old ≡ false }
+    ensures { RunsOnFiles (S.may_open source.now) (S.may_refuse source.now) S.Stream.remaining E.contents
+        (λ paths. RunsOnPaths (S.may_open source.now) (S.may_refuse source.now) S.Stream.remaining W.contents E.contents
+        many.limit (MakesGroups (end_of many.ending)) paths many.progress) files.now out.old out.new err.old err.new result }
+{
+    let list = match files {
+        FilePaths::Given(paths) => {
+            return run_duplicates(source, paths.as_slice(), many, out, err);
+        }
+        FilePaths::ListedIn(list) => list,
+    };
+    match read_list(source, list) {
+        Ok(text) => {
+            let paths = split_paths(source.alloc(), text.as_slice())?;
+            run_duplicates(source, paths.as_slice(), many, out, err)
+        }
+        Err(stop) => Ok(refuse_list(source.alloc(), list, &stop, err)),
+    }
+}
+
+/// `run_sizes` on the files of a request. A list that is not read is reported as a file that is not judged.
+pub(crate) fn run_sizes_of<S: Source + AllocGlobal, W: Write, E: Write>(
+    source: &S,
+    files: &FilePaths<'_>,
+    many: ManyFiles,
+    out: &mut Watched<W>,
+    err: &mut Watched<E>,
+) -> Result<u8, RunFault>
+    requires { has_failed out.old ≡ false }
+    ensures { RunsOnFiles (S.may_open source.now) (S.may_refuse source.now) S.Stream.remaining E.contents
+        (λ paths. RunsOnPaths (S.may_open source.now) (S.may_refuse source.now) S.Stream.remaining W.contents E.contents
+        many.limit (MakesTable (end_of many.ending)) paths many.progress) files.now out.old out.new err.old err.new result }
+{
+    let list = match files {
+        FilePaths::Given(paths) => {
+            return run_sizes(source, paths.as_slice(), many, out, err);
+        }
+        FilePaths::ListedIn(list) => list,
+    };
+    match read_list(source, list) {
+        Ok(text) => {
+            let paths = split_paths(source.alloc(), text.as_slice())?;
+            run_sizes(source, paths.as_slice(), many, out, err)
+        }
+        Err(stop) => Ok(refuse_list(source.alloc(), list, &stop, err)),
+    }
+}
+
+/// Reads the list of paths in the file at this path.
+fn read_list<S: Source + AllocGlobal>(source: &S, list: &str) -> Result<Vec<u8>, Stop>
+    ensures read { IfOk result (λ text. ReadsList (S.may_open source.now) (S.may_refuse source.now) S.Stream.remaining
+        list.now text.items) }
+    ensures unread { IfErr result (IsUnread (S.may_open source.now) (S.may_refuse source.now) S.Stream.remaining
+        list.now) }
+{
+    let mut input = open(source, list, Which::Only)?;
+    match read_bytes(source.alloc(), &mut input) {
+        Ok(text) => Ok(text),
+        Err(fault) => Err(Stop::Run(RunFault::from(fault))),
+    }
+}
+
+/// Reports why the list at this path was not read, and answers the status.
+fn refuse_list<E: Write>(alloc: Global, list: &str, stop: &Stop, err: &mut Watched<E>) -> u8
+    ensures reports { Reports E.contents (refusal_line list.now stop.now) err.old err.new }
+    ensures status { result ≡ status_of_stop stop.now }
+{
+    report(err, &path_refusal(alloc, list.as_bytes(), stop));
+    status_of(stop)
+}
