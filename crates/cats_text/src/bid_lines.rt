@@ -1,17 +1,10 @@
-//! Bid lines as they mostly stand, in straight sequence: number, price, goods, `#`, LF.
-//!
-//! Between the words of such a line the scanner's mode is not written: it is behind a word, and the clauses here say so
-//! of it. Where a line goes on in another way the mode is written, and the scanner goes on with it.
+//! Bid lines as they mostly stand, in straight sequence: number, price, goods, `#`, LF. Where a line goes on in another
+//! way, the scanner goes on with it.
 
 ghost use Rattle.std.specs.Prelude.{◌≡◌, ◌+◌, ◌-◌, ◌<◌, ◌≤◌, ◌^◌, false, length, ℕ, List, IfOk, OnErr};
 ghost use Rattle.cats_text.specs.Internal.Front.{IsFront};
 ghost use Rattle.cats_text.specs.declared.parser.Stage.TheVariants.{Bid};
-ghost use Rattle.cats_text.specs.Internal.Scanning.{
-  state,
-  state_in,
-  IsGoodDue,
-  ScansTo,
-};
+ghost use Rattle.cats_text.specs.Internal.Scanning.{state, IsGoodDue, ScansTo};
 
 use crate::front::{ends_bid, front, number};
 use crate::scanner::{Halt, Mode, Scanner};
@@ -20,14 +13,13 @@ use crate::word::Word;
 impl Scanner {
     /// Takes a good that is due, which with its blank has so many bytes in front; tells how many.
     #[inline(always)]
-    fn pass_good(&mut self, good: u64, taken: usize) -> Result<usize, Halt>
+    fn take_good(&mut self, good: u64, taken: usize) -> Result<usize, Halt>
         requires waits { self.old.waiting ≡ false }
-        requires due { IsGoodDue (state_in Mode.Between self.old) }
+        requires due { IsGoodDue (state self.old) }
         ensures scanned { (bytes : List ℕ) → IsFront bytes (Word.Number good) taken
-            → ScansTo (state_in Mode.Between self.old) (state_in Mode.Between self.new) self.new.waiting bytes result }
+            → ScansTo (state self.old) (state self.new) self.new.waiting bytes result }
         ensures count { IfOk result (λ count. count ≡ taken) }
-        ensures due { IsGoodDue (state_in Mode.Between self.new) }
-        ensures mode { self.new.mode ≡ self.old.mode }
+        ensures due { IsGoodDue (state self.new) }
         ensures line { self.new.line ≡ self.old.line }
         ensures waiting { self.new.waiting ≡ self.old.waiting }
     {
@@ -39,32 +31,30 @@ impl Scanner {
 
     /// Goods in front, where a good is due; tells how many bytes they and their blanks have.
     #[inline(always)]
-    fn pass_goods(&mut self, bytes: &[u8]) -> Result<usize, Halt>
+    fn take_goods(&mut self, bytes: &[u8]) -> Result<usize, Halt>
         requires waits { self.old.waiting ≡ false }
-        requires due { IsGoodDue (state_in Mode.Between self.old) }
-        ensures scanned { ScansTo (state_in Mode.Between self.old) (state_in Mode.Between self.new) self.new.waiting
+        requires due { IsGoodDue (state self.old) }
+        ensures scanned { ScansTo (state self.old) (state self.new) self.new.waiting
             bytes.now result }
-        ensures due { IsGoodDue (state_in Mode.Between self.new) }
-        ensures mode { self.new.mode ≡ self.old.mode }
+        ensures due { IsGoodDue (state self.new) }
         ensures line { self.new.line ≡ self.old.line }
         ensures waiting { self.new.waiting ≡ self.old.waiting }
     {
         let mut place = 0;
         while let Some((good, taken)) = number(&bytes[place..]) {
-            place += self.pass_good(good, taken)?;
+            place += self.take_good(good, taken)?;
         }
         Ok(place)
     }
 
     /// The `#` and the LF that stand in front, where a good is due; tells how many bytes they have.
     #[inline(always)]
-    fn pass_bid_end(&mut self) -> Result<usize, Halt>
+    fn take_bid_end(&mut self) -> Result<usize, Halt>
         requires waits { self.old.waiting ≡ false }
-        requires due { IsGoodDue (state_in Mode.Between self.old) }
+        requires due { IsGoodDue (state self.old) }
         requires line { self.old.line < 2 ^ 64 - 1 }
         ensures scanned { (bytes : List ℕ) → IsFront bytes Word.End 1
-            → ScansTo (state_in Mode.Between self.old) (state_in Mode.Start self.new) self.new.waiting bytes result }
-        ensures mode { self.new.mode ≡ self.old.mode }
+            → ScansTo (state self.old) (state self.new) self.new.waiting bytes result }
         ensures line { IfOk result (λ count. self.new.line ≤ self.old.line + count) }
         ensures halted { OnErr result (self.new.line ≡ self.old.line) }
         ensures waiting { self.new.waiting ≡ self.old.waiting }
@@ -72,6 +62,7 @@ impl Scanner {
         if let Err(stop) = self.parser.close_bid() {
             return Err(Halt::at(self.line, stop));
         }
+        self.mode = Mode::Start;
         self.line += 1;
         Ok(2)
     }
@@ -91,22 +82,19 @@ impl Scanner {
         let Some((number, taken)) = number(bytes) else {
             return Ok(0);
         };
-        let mut place = self.pass_word(Word::Number(number), taken)?;
+        let mut place = self.take_word(Word::Number(number), taken)?;
         let Some((price, taken)) = front(&bytes[place..]) else {
-            self.mode = Mode::Between;
             return Ok(place);
         };
-        place += self.pass_word(price, taken)?;
+        place += self.take_word(price, taken)?;
         if !self.parser.takes_goods() {
-            self.mode = Mode::Between;
             return Ok(place);
         }
-        place += self.pass_goods(&bytes[place..])?;
+        place += self.take_goods(&bytes[place..])?;
         if !ends_bid(&bytes[place..]) {
-            self.mode = Mode::Between;
             return Ok(place);
         }
-        place += self.pass_bid_end()?;
+        place += self.take_bid_end()?;
         Ok(place)
     }
 

@@ -9,7 +9,6 @@ ghost use Rattle.cats_text.specs.Internal.Scanning.{
   halt_of,
   letter_mode,
   state,
-  state_in,
   first_state,
   blank_step,
   words_step,
@@ -189,15 +188,15 @@ impl Scanner {
         }
     }
 
-    /// Takes this word, which with its blank has so many bytes in front; tells how many. The mode stays, though it is
-    /// behind a word now.
+    /// Takes this word, which with its blank has so many bytes in front; tells how many.
     #[inline(always)]
-    pub fn pass_word(&mut self, word: Word, taken: usize) -> Result<usize, Halt>
-        requires { self.old.waiting ≡ false }
-        ensures scanned { (mode : Mode) (bytes : List ℕ) → is_before_word mode ≡ true → IsFront bytes word taken
-            → ScansTo (state_in mode self.old) (state_in Mode.Between self.new) self.new.waiting bytes result }
+    pub fn take_word(&mut self, word: Word, taken: usize) -> Result<usize, Halt>
+        requires waits { self.old.waiting ≡ false }
+        requires before { is_before_word self.old.mode ≡ true }
+        ensures scanned { (bytes : List ℕ) → IsFront bytes word taken
+            → ScansTo (state self.old) (state self.new) self.new.waiting bytes result }
         ensures count { IfOk result (λ count. count ≡ taken) }
-        ensures mode { self.new.mode ≡ self.old.mode }
+        ensures mode { OnOk result (self.new.mode ≡ Mode.Between) }
         ensures stage { self.new.parser.stage ≡ self.old.parser.stage }
         ensures line { self.new.line ≡ self.old.line }
         ensures waiting { self.new.waiting ≡ self.old.waiting }
@@ -205,24 +204,8 @@ impl Scanner {
         if let Err(stop) = self.parser.take_word(word) {
             return Err(Halt::at(self.line, stop));
         }
-        Ok(taken)
-    }
-
-    /// The same, with the mode.
-    #[inline(always)]
-    fn take_word(&mut self, word: Word, taken: usize) -> Result<usize, Halt>
-        requires waits { self.old.waiting ≡ false }
-        requires before { is_before_word self.old.mode ≡ true }
-        ensures scanned { (bytes : List ℕ) → IsFront bytes word taken
-            → ScansTo (state self.old) (state self.new) self.new.waiting bytes result }
-        ensures count { IfOk result (λ count. count ≡ taken) }
-        ensures before { is_before_word self.new.mode ≡ true }
-        ensures line { self.new.line ≡ self.old.line }
-        ensures waiting { self.new.waiting ≡ self.old.waiting }
-    {
-        let passed = self.pass_word(word, taken);
         self.mode = Mode::Between;
-        passed
+        Ok(taken)
     }
 
     /// Whole words in front; tells how many bytes they and their blanks have.

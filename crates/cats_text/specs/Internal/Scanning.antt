@@ -29,12 +29,9 @@ pub record State : Type 0 where
   pub line : ℕ
   pub progress : Progress
 
--- what is seen of a scanner of which this is said to be the mode
-abbrev pub state_in : Mode → Scanner → State
-state_in mode s = record { mode = mode; line = s.line; progress = progress s.parser }
-
+-- what is seen of a scanner
 abbrev pub state : Scanner → State
-state s = state_in s.mode s
+state s = record { mode = s.mode; line = s.line; progress = progress s.parser }
 
 abbrev pub first_state : Keeping → State
 first_state keeping = record { mode = Start; line = 1; progress = start keeping }

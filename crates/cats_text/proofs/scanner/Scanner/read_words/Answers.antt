@@ -1,5 +1,5 @@
-use Rattle.std.proofs.Common.{◌∙◌}
-use Rattle.cats_text.specs.Internal.Scanning.{state, ScansTo}
+use Rattle.std.proofs.Common.{◌∙◌, ap}
+use Rattle.cats_text.specs.Internal.Scanning.{state, is_before_word, ScansTo}
 use Rattle.cats_text.proofs.Scanning.WholeWords.{rest_then, rest_stops_to, residual_is}
 use Rattle.cats_text.proofs.scanner.Scanner.read_words.Goals as goal
 
@@ -10,7 +10,7 @@ loop-word-preserved c =
     c.loop-word.invariant.within (λ q. c.take_word.ensures.waiting) c.loop-word.invariant.scanned (c.in_ok-place.ensures.scanned _ c.in-Some.ensures) in
     record {
       scanned = next.0;
-      before = c.take_word.ensures.before;
+      before = ap is_before_word c.in_ok-place.ensures.mode;
       within = next.1;
       line = c.take_word.ensures.line ∙ c.loop-word.invariant.line;
       waits = c.take_word.ensures.waiting ∙ c.loop-word.invariant.waits;

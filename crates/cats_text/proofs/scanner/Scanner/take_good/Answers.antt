@@ -1,15 +1,14 @@
 use Rattle.cats_text.specs.Internal.Progress.{progress}
-use Rattle.cats_text.specs.Internal.Scanning.{state_in}
-use Rattle.cats_text.specs.declared.scanner.Mode.TheVariants.{Between}
+use Rattle.cats_text.specs.Internal.Scanning.{state}
 use Rattle.cats_text.proofs.Scanning.ManyGoods.{good_taken, good_halts}
-use Rattle.cats_text.proofs.scanner.Scanner.pass_good.Goals as goal
+use Rattle.cats_text.proofs.scanner.Scanner.take_good.Goals as goal
 
 pub returns-clause-scanned : goal.returns-clause-scanned
-returns-clause-scanned c bytes front = good_taken (state_in Between c.args.self.now) (progress c.take_good.new.self) c.args.self.now.waiting bytes c.args.good
+returns-clause-scanned c bytes front = good_taken (state c.args.self.now) (progress c.take_good.new.self) c.args.self.now.waiting bytes c.args.good
     c.args.taken c.requires.due front c.in_default.ensures.reads c.in_default.ensures.stage c.requires.waits
 
 pub returns-in-Err-clause-scanned : goal.returns-in-Err-clause-scanned
-returns-in-Err-clause-scanned c bytes front = good_halts (state_in Between c.args.self.now)
-    (state_in Between (record c.args.self.now { parser = c.take_good.new.self }))
+returns-in-Err-clause-scanned c bytes front = good_halts (state c.args.self.now)
+    (state (record c.args.self.now { parser = c.take_good.new.self }))
     (progress c.take_good.new.self) c.args.self.now.waiting bytes c.args.good c.args.taken c.in-Err.stop c.at.result
     c.requires.due front c.in-Err.ensures.reads (c.in-Err.ensures.memory c.requires.due.stage) c.at.ensures
