@@ -7,7 +7,7 @@ use Rattle.cats_text.specs.Internal.Parsing.{Reading, word_read, line_read, is_d
 use Rattle.cats_text.specs.Internal.Scanning.{State, Scan, and_then, with_reading, blank_step_at, blank_step, words_step_at, words_step, missing_step}
 use Rattle.cats_text.specs.Internal.Scanning.{line_behind, line_step, byte_step, scan, end_step, end_of}
 use Rattle.cats_text.specs.declared.fault.Kind.TheVariants.{Missing}
-use Rattle.cats_text.specs.declared.parser.Keeping.{Keeping}
+use Rattle.bid_file.specs.Files.{PlainBid}
 use Rattle.cats_text.specs.declared.parser.Column.{Column}
 use Rattle.cats_text.specs.declared.parser.Column.TheVariants.{First, Second, Later, Ended}
 use Rattle.cats_text.specs.declared.parser.Stage.{Stage}
@@ -17,19 +17,19 @@ use Rattle.cats_text.specs.declared.scanner.Mode.TheVariants.{Start, Blank, Comm
 use Rattle.cats_text.proofs.Parsing.Lines.{line_at}
 use Rattle.cats_text.proofs.Scanning.BidLines.{Keeps, keeps_word}
 
-abbrev ReadKeeps : Keeping → Reading → Type 0
-ReadKeeps k (Ok p) = p.keeping ≡ k
+abbrev ReadKeeps : (PlainBid → PlainBid) → Reading → Type 0
+ReadKeeps k (Ok p) = p.keep ≡ k
 ReadKeeps k (Err kind) = Unit {0}
 
-abbrev ScanKeeps : Keeping → Scan → Type 0
-ScanKeeps k (Ok s) = s.progress.keeping ≡ k
+abbrev ScanKeeps : (PlainBid → PlainBid) → Scan → Type 0
+ScanKeeps k (Ok s) = s.progress.keep ≡ k
 ScanKeeps k (Err e) = Unit {0}
 
-word_keeps : (p : Progress) (r : Reading) → Keeps p r → ReadKeeps p.keeping r
+word_keeps : (p : Progress) (r : Reading) → Keeps p r → ReadKeeps p.keep r
 word_keeps p (Ok q) h = h.keeping q refl
 word_keeps p (Err kind) h = tt
 
-line_keeps : (column : Column) (stage : Stage) (p : Progress) → ReadKeeps p.keeping (line_at column stage p)
+line_keeps : (column : Column) (stage : Stage) (p : Progress) → ReadKeeps p.keep (line_at column stage p)
 line_keeps First Goods p = tt
 line_keeps Second Goods p = tt
 line_keeps Later Goods p = refl
@@ -47,60 +47,60 @@ line_keeps Second Bid p = tt
 line_keeps Later Bid p = tt
 line_keeps Ended Bid p = refl
 
-reading_keeps : (s : State) (m : Mode) (r : Reading) → ReadKeeps s.progress.keeping r → ScanKeeps s.progress.keeping (with_reading s m r)
+reading_keeps : (s : State) (m : Mode) (r : Reading) → ReadKeeps s.progress.keep r → ScanKeeps s.progress.keep (with_reading s m r)
 reading_keeps s m (Ok p) h = h
 reading_keeps s m (Err kind) h = tt
 
-blank_keeps : (m : Mode) (s : State) → ScanKeeps s.progress.keeping (blank_step_at m s)
+blank_keeps : (m : Mode) (s : State) → ScanKeeps s.progress.keep (blank_step_at m s)
 blank_keeps Start s = refl
 blank_keeps Blank s = refl
 blank_keeps Comment s = refl
 blank_keeps Between s = refl
 blank_keeps (Inside w) s = reading_keeps s Between (word_read s.progress w) (word_keeps s.progress (word_read s.progress w) (keeps_word s.progress w))
 
-words_keep : (m : Mode) (s : State) → ScanKeeps s.progress.keeping (words_step_at m s)
+words_keep : (m : Mode) (s : State) → ScanKeeps s.progress.keep (words_step_at m s)
 words_keep Start s = refl
 words_keep Blank s = refl
 words_keep Comment s = refl
 words_keep Between s = reading_keeps s Between (line_read s.progress) (line_keeps s.progress.column s.progress.stage s.progress)
 words_keep (Inside w) s = refl
 
-either_keeps : (k : Keeping) (test : Bool) (a b : Scan) → ScanKeeps k a → ScanKeeps k b → ScanKeeps k (if test then a else b)
+either_keeps : (k : PlainBid → PlainBid) (test : Bool) (a b : Scan) → ScanKeeps k a → ScanKeeps k b → ScanKeeps k (if test then a else b)
 either_keeps k true a b h g = h
 either_keeps k false a b h g = g
 
-missing_keeps : (behind : ℕ) (s : State) → ScanKeeps s.progress.keeping (missing_step behind s)
-missing_keeps behind s = either_keeps s.progress.keeping (is_due s.progress) (Err (fault_at behind Missing)) (Ok s) tt refl
+missing_keeps : (behind : ℕ) (s : State) → ScanKeeps s.progress.keep (missing_step behind s)
+missing_keeps behind s = either_keeps s.progress.keep (is_due s.progress) (Err (fault_at behind Missing)) (Ok s) tt refl
 
-then_keeps : (k : Keeping) (r : Scan) (f : State → Scan) → ScanKeeps k r → ((s : State) → ScanKeeps s.progress.keeping (f s)) → ScanKeeps k (and_then r f)
-then_keeps k (Ok s) f h g = subst (λ (j : Keeping). ScanKeeps j (f s)) h (g s)
+then_keeps : (k : PlainBid → PlainBid) (r : Scan) (f : State → Scan) → ScanKeeps k r → ((s : State) → ScanKeeps s.progress.keep (f s)) → ScanKeeps k (and_then r f)
+then_keeps k (Ok s) f h g = subst (λ (j : PlainBid → PlainBid). ScanKeeps j (f s)) h (g s)
 then_keeps k (Err e) f h g = tt
 
-line_step_keeps : (s : State) → ScanKeeps s.progress.keeping (line_step s)
+line_step_keeps : (s : State) → ScanKeeps s.progress.keep (line_step s)
 line_step_keeps s =
-    then_keeps s.progress.keeping (and_then (blank_step s) words_step) _
-    (then_keeps s.progress.keeping (blank_step s) words_step (blank_keeps s.mode s) (λ t. words_keep t.mode t)) (λ t. refl)
+    then_keeps s.progress.keep (and_then (blank_step s) words_step) _
+    (then_keeps s.progress.keep (blank_step s) words_step (blank_keeps s.mode s) (λ t. words_keep t.mode t)) (λ t. refl)
 
-byte_keeps : (s : State) (b : ℕ) → ScanKeeps s.progress.keeping (byte_step s b)
-byte_keeps s b = either_keeps s.progress.keeping (b == 10) (line_step s) _ (line_step_keeps s)
-    (either_keeps s.progress.keeping (is_blank b) (blank_step s) _ (blank_keeps s.mode s) refl)
+byte_keeps : (s : State) (b : ℕ) → ScanKeeps s.progress.keep (byte_step s b)
+byte_keeps s b = either_keeps s.progress.keep (b == 10) (line_step s) _ (line_step_keeps s)
+    (either_keeps s.progress.keep (is_blank b) (blank_step s) _ (blank_keeps s.mode s) refl)
 
-scan_keeps : (s : State) (bytes : List ℕ) → ScanKeeps s.progress.keeping (scan s bytes)
+scan_keeps : (s : State) (bytes : List ℕ) → ScanKeeps s.progress.keep (scan s bytes)
 scan_keeps s [] = refl
-scan_keeps s (b ∷ bytes) = then_keeps s.progress.keeping (byte_step s b) (λ t. scan t bytes) (byte_keeps s b) (λ t. scan_keeps t bytes)
+scan_keeps s (b ∷ bytes) = then_keeps s.progress.keep (byte_step s b) (λ t. scan t bytes) (byte_keeps s b) (λ t. scan_keeps t bytes)
 
-end_step_keeps : (s : State) → ScanKeeps s.progress.keeping (end_step s)
+end_step_keeps : (s : State) → ScanKeeps s.progress.keep (end_step s)
 end_step_keeps s =
-    then_keeps s.progress.keeping (and_then (blank_step s) words_step) (missing_step (line_behind s))
-    (then_keeps s.progress.keeping (blank_step s) words_step (blank_keeps s.mode s) (λ t. words_keep t.mode t)) (missing_keeps (line_behind s))
+    then_keeps s.progress.keep (and_then (blank_step s) words_step) (missing_step (line_behind s))
+    (then_keeps s.progress.keep (blank_step s) words_step (blank_keeps s.mode s) (λ t. words_keep t.mode t)) (missing_keeps (line_behind s))
 
-end_keeps : (waiting : Bool) (s : State) → ScanKeeps s.progress.keeping (end_of waiting s)
-end_keeps true s = then_keeps s.progress.keeping (byte_step s 32) end_step (byte_keeps s 32) end_step_keeps
+end_keeps : (waiting : Bool) (s : State) → ScanKeeps s.progress.keep (end_of waiting s)
+end_keeps true s = then_keeps s.progress.keep (byte_step s 32) end_step (byte_keeps s 32) end_step_keeps
 end_keeps false s = end_step_keeps s
 
 -- the bytes and the end of the input keep it
-pub scan_keeping : (s t : State) (bytes : List ℕ) → scan s bytes ≡ Ok t → t.progress.keeping ≡ s.progress.keeping
-scan_keeping s t bytes e = subst (ScanKeeps s.progress.keeping) e (scan_keeps s bytes)
+pub scan_keeping : (s t : State) (bytes : List ℕ) → scan s bytes ≡ Ok t → t.progress.keep ≡ s.progress.keep
+scan_keeping s t bytes e = subst (ScanKeeps s.progress.keep) e (scan_keeps s bytes)
 
-pub end_keeping : (waiting : Bool) (s t : State) → end_of waiting s ≡ Ok t → t.progress.keeping ≡ s.progress.keeping
-end_keeping waiting s t e = subst (ScanKeeps s.progress.keeping) e (end_keeps waiting s)
+pub end_keeping : (waiting : Bool) (s t : State) → end_of waiting s ≡ Ok t → t.progress.keep ≡ s.progress.keep
+end_keeping waiting s t e = subst (ScanKeeps s.progress.keep) e (end_keeps waiting s)

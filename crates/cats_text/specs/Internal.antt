@@ -1,6 +1,7 @@
 -- What the contracts of private functions cite, and the facts that private types keep. No public contract rests on
 -- them.
 pub mod Front
+pub mod Kept
 pub mod Keywords
 pub mod Machine
 pub mod Marks

@@ -7,19 +7,20 @@ ghost use Rattle.cats_text.specs.declared.parser.Stage.TheVariants.{Bid};
 ghost use Rattle.cats_text.specs.Internal.Scanning.{state, IsGoodDue, ScansTo};
 
 use crate::front::{ends_bid, front, number};
+use crate::keep::Keep;
 use crate::scanner::{Halt, Mode, Scanner};
 use crate::word::Word;
 
-impl Scanner {
+impl<K: Keep> Scanner<K> {
     /// Takes a good that is due, which with its blank has so many bytes in front; tells how many.
     #[inline(always)]
     fn take_good(&mut self, good: u64, taken: usize) -> Result<usize, Halt>
         requires waits { self.old.waiting ≡ false }
-        requires due { IsGoodDue (state self.old) }
+        requires due { IsGoodDue (state K.keep self.old) }
         ensures scanned { (bytes : List ℕ) → IsFront bytes (Word.Number good) taken
-            → ScansTo (state self.old) (state self.new) self.new.waiting bytes result }
+            → ScansTo (state K.keep self.old) (state K.keep self.new) self.new.waiting bytes result }
         ensures count { IfOk result (λ count. count ≡ taken) }
-        ensures due { IsGoodDue (state self.new) }
+        ensures due { IsGoodDue (state K.keep self.new) }
         ensures line { self.new.line ≡ self.old.line }
         ensures waiting { self.new.waiting ≡ self.old.waiting }
     {
@@ -33,10 +34,10 @@ impl Scanner {
     #[inline(always)]
     fn take_goods(&mut self, bytes: &[u8]) -> Result<usize, Halt>
         requires waits { self.old.waiting ≡ false }
-        requires due { IsGoodDue (state self.old) }
-        ensures scanned { ScansTo (state self.old) (state self.new) self.new.waiting
+        requires due { IsGoodDue (state K.keep self.old) }
+        ensures scanned { ScansTo (state K.keep self.old) (state K.keep self.new) self.new.waiting
             bytes.now result }
-        ensures due { IsGoodDue (state self.new) }
+        ensures due { IsGoodDue (state K.keep self.new) }
         ensures line { self.new.line ≡ self.old.line }
         ensures waiting { self.new.waiting ≡ self.old.waiting }
     {
@@ -51,10 +52,10 @@ impl Scanner {
     #[inline(always)]
     fn take_bid_end(&mut self) -> Result<usize, Halt>
         requires waits { self.old.waiting ≡ false }
-        requires due { IsGoodDue (state self.old) }
+        requires due { IsGoodDue (state K.keep self.old) }
         requires line { self.old.line < 2 ^ 64 - 1 }
         ensures scanned { (bytes : List ℕ) → IsFront bytes Word.End 1
-            → ScansTo (state self.old) (state self.new) self.new.waiting bytes result }
+            → ScansTo (state K.keep self.old) (state K.keep self.new) self.new.waiting bytes result }
         ensures line { IfOk result (λ count. self.new.line ≤ self.old.line + count) }
         ensures halted { OnErr result (self.new.line ≡ self.old.line) }
         ensures waiting { self.new.waiting ≡ self.old.waiting }
@@ -74,7 +75,7 @@ impl Scanner {
         requires start { self.old.mode ≡ Mode.Start }
         requires stage { self.old.parser.stage ≡ Bid }
         requires line { self.old.line < 2 ^ 64 - 1 }
-        ensures scanned { ScansTo (state self.old) (state self.new) self.new.waiting bytes.now result }
+        ensures scanned { ScansTo (state K.keep self.old) (state K.keep self.new) self.new.waiting bytes.now result }
         ensures line { IfOk result (λ count. self.new.line ≤ self.old.line + count) }
         ensures halted { OnErr result (self.new.line ≡ self.old.line) }
         ensures waiting { self.new.waiting ≡ self.old.waiting }
@@ -103,7 +104,7 @@ impl Scanner {
         requires waits { self.old.waiting ≡ false }
         requires start { self.old.mode ≡ Mode.Start }
         requires room { self.old.line + length bytes.now < 2 ^ 64 }
-        ensures scanned { ScansTo (state self.old) (state self.new) self.new.waiting bytes.now result }
+        ensures scanned { ScansTo (state K.keep self.old) (state K.keep self.new) self.new.waiting bytes.now result }
         ensures line { IfOk result (λ count. self.new.line ≤ self.old.line + count) }
         ensures most { self.new.line ≤ self.old.line + length bytes.now }
     {

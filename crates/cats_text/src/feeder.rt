@@ -2,56 +2,50 @@
 
 ghost use Rattle.std.specs.Prelude.{◌≡◌, ◌^◌, ◌<◌, [], None};
 ghost use Rattle.cats_text.specs.Faults.{fault_at};
-ghost use Rattle.cats_text.specs.Internal.Reading.{fault_told};
+ghost use Rattle.cats_text.specs.Internal.Reading.{fault_told, PartsAs, CompactAs};
+ghost use Rattle.cats_text.specs.Reading.{FeedsAs, FinishesAs};
 
 use crate::fault::{Kind, ReadFault};
 use crate::history::History;
-use crate::parser::{Header, Keeping};
+use crate::keep::Keep;
+use crate::parser::Header;
 use crate::scanner::{Halt, Scanner};
-use bid_file::{BidFile, CompactFile};
+use bid_file::{Bid, BidFile, CompactBids, CompactFile};
 use std::alloc::Global;
 use std::marker::Model;
 
 /// Judges the bytes that it is fed, and remembers the fault that it found.
 #[derive(Drop)]
-pub struct Feeder {
-    keeping: Keeping,
+pub struct Feeder<K: Keep> {
     limit: u64,
     /// How many bytes came.
     count: u64,
-    scanner: Scanner,
+    scanner: Scanner<K>,
     failed: Option<ReadFault>,
     history: History,
 }
 
-impl Model for Feeder {
-    ghost use Rattle.cats_text.specs.Internal.Reading.{Feeding, IsReading};
+impl<K: Keep> Model for Feeder<K> {
+    ghost use Rattle.cats_text.specs.Fed.{Fed};
+    ghost use Rattle.cats_text.specs.Internal.Reading.{IsReading};
 
-    ghost Value = { Feeding };
+    ghost Value = { Fed };
 
-    ghost view = { λ r. record {
-      fed = record { limit = r.limit; bytes = r.history.bytes; failed = r.failed };
-      keeping = r.keeping;
-    } };
+    ghost view = { λ r. record { limit = r.limit; bytes = r.history.bytes; failed = r.failed } };
 
-    ghost invariant = { λ r. IsReading r.keeping r.limit r.count r.scanner r.failed r.history.bytes };
+    ghost invariant = { λ r. IsReading K.keep r.limit r.count r.scanner r.failed r.history.bytes };
 }
 
-impl Feeder {
-    ghost use Rattle.cats_text.specs.Reading.{FeedsAs, FinishesAs};
-    ghost use Rattle.cats_text.specs.Internal.Reading.{SizesAs, CompactAs};
-    ghost use Rattle.cats_text.specs.declared.parser.Keeping.TheVariants.{Bids, Compact};
-
+impl<K: Keep> Feeder<K> {
     /// Takes at most `limit` bytes.
-    pub fn new(alloc: Global, limit: u64, keeping: Keeping) -> Feeder
+    pub fn new(alloc: Global, limit: u64) -> Feeder<K>
         requires { limit < 2 ^ 63 }
-        ensures { result ≡ record { fed = record { limit = limit; bytes = []; failed = None }; keeping = keeping } }
+        ensures { result ≡ record { limit = limit; bytes = []; failed = None } }
     {
         Feeder {
-            keeping,
             limit,
             count: 0,
-            scanner: Scanner::new(alloc, keeping),
+            scanner: Scanner::new(alloc),
             failed: None,
             history: History::new(),
         }
@@ -59,8 +53,7 @@ impl Feeder {
 
     /// Judges what is complete in the bytes so far. After a fault each call answers that fault again.
     pub fn feed(&mut self, piece: &[u8]) -> Result<(), ReadFault>
-        ensures feeds { FeedsAs self.old.fed piece.now self.new.fed result }
-        ensures keeping { self.new.keeping ≡ self.old.keeping }
+        ensures { FeedsAs self.old piece.now self.new result }
     {
         if let Some(fault) = self.failed {
             return Err(fault);
@@ -78,46 +71,34 @@ impl Feeder {
         judged
     }
 
-    /// Judges the rest as the end of the input, and gives the file.
-    pub fn finish(self) -> Result<BidFile, ReadFault>
-        requires { self.keeping ≡ Bids }
-        ensures { FinishesAs self.fed result }
+    /// Judges the rest as the end of the input, and answers what the header lines said and what is kept of the bids.
+    pub fn finish(self) -> Result<(Header, K), ReadFault>
+        ensures { PartsAs K.keep K.bids self result }
     {
         if let Some(fault) = self.failed {
             return Err(fault);
         }
         match self.scanner.finish() {
-            Ok(file) => Ok(file),
+            Ok(parts) => Ok(parts),
             Err(stopped) => Err(told(stopped)),
         }
     }
+}
 
-    /// Judges the rest as the end of the input, and gives the file in little memory.
-    pub fn finish_compact(self) -> Result<CompactFile, ReadFault>
-        requires { self.keeping ≡ Compact }
-        ensures { CompactAs self.fed result }
-    {
-        if let Some(fault) = self.failed {
-            return Err(fault);
-        }
-        match self.scanner.finish_compact() {
-            Ok(file) => Ok(file),
-            Err(stopped) => Err(told(stopped)),
-        }
-    }
+/// Judges the rest as the end of the input, and gives the file.
+pub fn finish_file(feeder: Feeder<Vec<Bid>>) -> Result<BidFile, ReadFault>
+    ensures { FinishesAs feeder result }
+{
+    let (header, bids) = feeder.finish()?;
+    Ok(BidFile::new(header.goods, header.dummy, bids))
+}
 
-    /// Judges the rest as the end of the input, and gives what the header lines said.
-    pub fn finish_header(self) -> Result<Header, ReadFault>
-        ensures { SizesAs self.fed result }
-    {
-        if let Some(fault) = self.failed {
-            return Err(fault);
-        }
-        match self.scanner.finish_header() {
-            Ok(header) => Ok(header),
-            Err(stopped) => Err(told(stopped)),
-        }
-    }
+/// Judges the rest as the end of the input, and gives the packed file.
+pub fn finish_compact(feeder: Feeder<CompactBids>) -> Result<CompactFile, ReadFault>
+    ensures { CompactAs feeder result }
+{
+    let (header, bids) = feeder.finish()?;
+    Ok(CompactFile::new(header.goods, header.dummy, bids))
 }
 
 /// How a reader tells what stopped it.

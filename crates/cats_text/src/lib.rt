@@ -8,6 +8,7 @@ mod feeder;
 mod front;
 mod good_list;
 mod history;
+mod keep;
 pub mod laws;
 mod layout;
 mod limits;

@@ -2,9 +2,7 @@
 
 ghost use Rattle.std.specs.Prelude.{◌≡◌, ◌<◌, [], length, Ok, IfOk, OnOk, OnErr};
 ghost use Rattle.std.specs.Bool.{OnTrue};
-ghost use Rattle.bid_file.specs.Files.{IsPlainFile};
-ghost use Rattle.cats_text.specs.FileLines.{put_slot};
-ghost use Rattle.bid_file.specs.Views.{plain_file};
+ghost use Rattle.cats_text.specs.FileLines.{put_slot, filled};
 ghost use Rattle.cats_text.specs.Internal.Progress.{progress, Gives, AsksOnBidLines};
 ghost use Rattle.cats_text.specs.Internal.Parsing.{
   start,
@@ -16,24 +14,21 @@ ghost use Rattle.cats_text.specs.Internal.Parsing.{
   good_or_end_read,
   word_read,
   drafted,
-  with_goods,
-  kept_of,
   with_bid,
   bid_read,
   bid_closed,
   header_line_read,
   line_read,
   is_due,
-  file_from,
 };
-ghost use Rattle.cats_text.specs.declared.parser.Keeping.TheVariants as keepings;
 
 use crate::fault::Kind;
 use crate::good_list::GoodList;
+use crate::keep::Keep;
 use crate::price::price_of;
-use crate::slots::{Front, Slots};
+use crate::slots::Slots;
 use crate::word::{Keyword, Word};
-use bid_file::{BidFile, CompactFile, MAX_BIDS, MAX_DUMMY, MAX_GOODS};
+use bid_file::{MAX_BIDS, MAX_DUMMY, MAX_GOODS};
 use std::alloc::{AllocError, AllocFailed, Global};
 
 /// Why parsing stops.
@@ -65,17 +60,6 @@ impl<T: Drop> From<AllocFailed<T>> for Stop {
     fn from(_refused: AllocFailed<T>) -> Stop {
         Stop::Memory
     }
-}
-
-/// What is kept of the bids that come.
-#[derive(Clone, Copy)]
-pub enum Keeping {
-    /// The bids.
-    Bids,
-    /// The bids in little memory.
-    Compact,
-    /// That their numbers came.
-    Numbers,
 }
 
 /// Which significant line it is.
@@ -115,22 +99,22 @@ pub struct Draft {
 
 /// The lines so far: the header, the bids by number, and of the line that has begun what its words said.
 #[derive(Drop)]
-pub struct Parser {
+pub struct Parser<K: Keep> {
     alloc: Global,
     pub stage: Stage,
     pub column: Column,
     pub header: Header,
     /// How many bid lines are still due.
     pub due: u32,
-    pub slots: Slots,
+    pub slots: Slots<K>,
     pub draft: Draft,
     pub goods: GoodList,
 }
 
-impl Parser {
+impl<K: Keep> Parser<K> {
     /// Before the first line.
-    pub fn new(alloc: Global, keeping: Keeping) -> Parser
-        ensures { progress result ≡ start keeping }
+    pub fn new(alloc: Global) -> Parser<K>
+        ensures { progress K.keep result ≡ start K.keep }
     {
         Parser {
             alloc,
@@ -142,7 +126,7 @@ impl Parser {
                 dummy: 0,
             },
             due: 0,
-            slots: Slots::new(alloc, keeping),
+            slots: Slots::new(alloc),
             draft: Draft {
                 number: 0,
                 price: 0,
@@ -153,8 +137,8 @@ impl Parser {
     }
 
     fn take_keyword(&mut self, keyword: Keyword, word: Word) -> Result<(), Stop>
-        ensures reads { Gives (progress self.new) result (keyword_read (progress self.old) keyword word) }
-        ensures memory { AsksOnBidLines (progress self.old) result }
+        ensures reads { Gives (progress K.keep self.new) result (keyword_read (progress K.keep self.old) keyword word) }
+        ensures memory { AsksOnBidLines (progress K.keep self.old) result }
         ensures stage { self.new.stage ≡ self.old.stage }
     {
         if word == Word::Keyword(keyword, keyword.text().len()) {
@@ -166,8 +150,8 @@ impl Parser {
     }
 
     fn take_header_number(&mut self, word: Word) -> Result<(), Stop>
-        ensures reads { Gives (progress self.new) result (header_number_read (progress self.old) word) }
-        ensures memory { AsksOnBidLines (progress self.old) result }
+        ensures reads { Gives (progress K.keep self.new) result (header_number_read (progress K.keep self.old) word) }
+        ensures memory { AsksOnBidLines (progress K.keep self.old) result }
         ensures stage { self.new.stage ≡ self.old.stage }
     {
         let Word::Number(value) = word else {
@@ -188,8 +172,8 @@ impl Parser {
     }
 
     fn take_number(&mut self, word: Word) -> Result<(), Stop>
-        ensures reads { Gives (progress self.new) result (number_read (progress self.old) word) }
-        ensures memory { AsksOnBidLines (progress self.old) result }
+        ensures reads { Gives (progress K.keep self.new) result (number_read (progress K.keep self.old) word) }
+        ensures memory { AsksOnBidLines (progress K.keep self.old) result }
         ensures stage { self.new.stage ≡ self.old.stage }
     {
         let Word::Number(value) = word else {
@@ -214,8 +198,8 @@ impl Parser {
     }
 
     fn take_price(&mut self, word: Word) -> Result<(), Stop>
-        ensures reads { Gives (progress self.new) result (price_read (progress self.old) word) }
-        ensures memory { AsksOnBidLines (progress self.old) result }
+        ensures reads { Gives (progress K.keep self.new) result (price_read (progress K.keep self.old) word) }
+        ensures memory { AsksOnBidLines (progress K.keep self.old) result }
         ensures stage { self.new.stage ≡ self.old.stage }
     {
         self.draft.price = match word {
@@ -232,8 +216,8 @@ impl Parser {
     /// A good of the bid whose line has begun.
     #[inline(always)]
     pub fn take_good(&mut self, value: u64) -> Result<(), Stop>
-        ensures reads { Gives (progress self.new) result (good_read (progress self.old) value) }
-        ensures memory { (progress self.old).stage ≡ Stage.Bid → AsksOnBidLines (progress self.old) result }
+        ensures reads { Gives (progress K.keep self.new) result (good_read (progress K.keep self.old) value) }
+        ensures memory { (progress K.keep self.old).stage ≡ Stage.Bid → AsksOnBidLines (progress K.keep self.old) result }
         ensures stage { self.new.stage ≡ self.old.stage }
         ensures column { self.new.column ≡ self.old.column }
     {
@@ -265,8 +249,8 @@ impl Parser {
 
     #[inline(always)]
     fn take_good_or_end(&mut self, word: Word) -> Result<(), Stop>
-        ensures reads { Gives (progress self.new) result (good_or_end_read (progress self.old) word) }
-        ensures memory { (progress self.old).stage ≡ Stage.Bid → AsksOnBidLines (progress self.old) result }
+        ensures reads { Gives (progress K.keep self.new) result (good_or_end_read (progress K.keep self.old) word) }
+        ensures memory { (progress K.keep self.old).stage ≡ Stage.Bid → AsksOnBidLines (progress K.keep self.old) result }
         ensures stage { self.new.stage ≡ self.old.stage }
     {
         match word {
@@ -297,8 +281,8 @@ impl Parser {
     /// The next word of a line.
     #[inline(always)]
     pub fn take_word(&mut self, word: Word) -> Result<(), Stop>
-        ensures reads { Gives (progress self.new) result (word_read (progress self.old) word) }
-        ensures memory { AsksOnBidLines (progress self.old) result }
+        ensures reads { Gives (progress K.keep self.new) result (word_read (progress K.keep self.old) word) }
+        ensures memory { AsksOnBidLines (progress K.keep self.old) result }
         ensures stage { self.new.stage ≡ self.old.stage }
     {
         match (self.column, self.stage) {
@@ -314,29 +298,16 @@ impl Parser {
         }
     }
 
-    /// Brings the goods of the bid that has been read into rising order, where they are kept.
-    #[inline(always)]
-    fn sort_goods(&mut self)
-        ensures kept { let old = progress self.old in
-            kept_of old.keeping (with_goods old.draft self.new.goods) ≡ kept_of old.keeping (drafted old) }
-        ensures rest { progress self.new ≡ record (progress self.old) { goods = self.new.goods } }
-    {
-        if let Front::Numbers(_) = &self.slots.front {
-            return;
-        }
-        self.goods.sort();
-    }
-
     /// Puts what is kept of the bid that has been read at its number; its goods are gone.
     #[inline(always)]
     fn keep_bid(&mut self) -> Result<(), AllocError>
-        ensures { let old = progress self.old in
-            OnOk result (progress self.new ≡ record old {
-              slots = put_slot old.slots old.draft.number (kept_of old.keeping (drafted old));
+        ensures { let old = progress K.keep self.old in
+            OnOk result (progress K.keep self.new ≡ record old {
+              slots = put_slot old.slots old.draft.number (old.keep (drafted old));
               goods = [];
             }) }
     {
-        self.sort_goods();
+        K::sort(&mut self.goods);
         self.slots.put(
             self.alloc,
             &self.draft,
@@ -350,8 +321,8 @@ impl Parser {
     /// Puts what is kept of the bid whose line ends.
     #[inline(always)]
     fn put_bid(&mut self) -> Result<(), Stop>
-        ensures reads { Gives (progress self.new) result (Ok (with_bid (progress self.old))) }
-        ensures memory { (progress self.old).stage ≡ Stage.Bid → AsksOnBidLines (progress self.old) result }
+        ensures reads { Gives (progress K.keep self.new) result (Ok (with_bid (progress K.keep self.old))) }
+        ensures memory { (progress K.keep self.old).stage ≡ Stage.Bid → AsksOnBidLines (progress K.keep self.old) result }
     {
         self.keep_bid()?;
         // One is due: the line began where one was.
@@ -362,8 +333,8 @@ impl Parser {
 
     #[inline(always)]
     fn end_bid(&mut self) -> Result<(), Stop>
-        ensures reads { Gives (progress self.new) result (bid_read (progress self.old)) }
-        ensures memory { (progress self.old).stage ≡ Stage.Bid → AsksOnBidLines (progress self.old) result }
+        ensures reads { Gives (progress K.keep self.new) result (bid_read (progress K.keep self.old)) }
+        ensures memory { (progress K.keep self.old).stage ≡ Stage.Bid → AsksOnBidLines (progress K.keep self.old) result }
     {
         if self.column != Column::Ended {
             return Err(Stop::Fault(Kind::NoEnd));
@@ -374,8 +345,8 @@ impl Parser {
     /// The `#` of a bid where a good or `#` is due, and the end of its line behind it.
     #[inline(always)]
     pub fn close_bid(&mut self) -> Result<(), Stop>
-        ensures reads { Gives (progress self.new) result (bid_closed (progress self.old)) }
-        ensures memory { (progress self.old).stage ≡ Stage.Bid → AsksOnBidLines (progress self.old) result }
+        ensures reads { Gives (progress K.keep self.new) result (bid_closed (progress K.keep self.old)) }
+        ensures memory { (progress K.keep self.old).stage ≡ Stage.Bid → AsksOnBidLines (progress K.keep self.old) result }
     {
         if self.goods.is_empty() {
             return Err(Stop::Fault(Kind::EmptyBundle));
@@ -384,8 +355,8 @@ impl Parser {
     }
 
     fn end_header_line(&mut self, next: Stage) -> Result<(), Stop>
-        ensures reads { Gives (progress self.new) result (header_line_read (progress self.old) next) }
-        ensures memory { AsksOnBidLines (progress self.old) result }
+        ensures reads { Gives (progress K.keep self.new) result (header_line_read (progress K.keep self.old) next) }
+        ensures memory { AsksOnBidLines (progress K.keep self.old) result }
     {
         if self.column != Column::Later {
             return Err(Stop::Fault(Kind::Header));
@@ -398,8 +369,8 @@ impl Parser {
     /// The end of a line that has words.
     #[inline(always)]
     pub fn end_line(&mut self) -> Result<(), Stop>
-        ensures reads { Gives (progress self.new) result (line_read (progress self.old)) }
-        ensures memory { AsksOnBidLines (progress self.old) result }
+        ensures reads { Gives (progress K.keep self.new) result (line_read (progress K.keep self.old)) }
+        ensures memory { AsksOnBidLines (progress K.keep self.old) result }
     {
         match self.stage {
             Stage::Goods => self.end_header_line(Stage::Bids),
@@ -411,30 +382,18 @@ impl Parser {
 
     /// Whether a line is still due.
     pub fn is_due(&self) -> bool
-        ensures { result ≡ is_due (progress self.now) }
+        ensures { result ≡ is_due (progress K.keep self.now) }
     {
         self.stage != Stage::Bid || self.due > 0
     }
 
-    /// The file, where no line is due and the bids are kept.
-    pub fn into_file(self) -> Result<BidFile, AllocError>
-        requires file { IsPlainFile (file_from (progress self)) }
-        requires keeping { (progress self).keeping ≡ keepings.Bids }
-        ensures file { IfOk result (λ f. plain_file f ≡ file_from (progress self)) }
-        ensures memory { OnErr result (0 < length (progress self).slots) }
+    /// What the header lines said, and what is kept of the bids.
+    pub fn into_parts(self) -> Result<(Header, K), AllocError>
+        ensures header { IfOk result (λ parts. parts.0 ≡ (progress K.keep self).header) }
+        ensures bids { IfOk result (λ parts. K.bids parts.1 ≡ filled (progress K.keep self).slots) }
+        ensures memory { OnErr result (0 < length (progress K.keep self).slots) }
     {
-        let bids = self.slots.into_bids(self.alloc)?;
-        Ok(BidFile::new(self.header.goods, self.header.dummy, bids))
-    }
-
-    /// The file, where no line is due and the bids are kept in little memory.
-    pub fn into_compact(self) -> Result<CompactFile, AllocError>
-        requires file { IsPlainFile (file_from (progress self)) }
-        requires keeping { (progress self).keeping ≡ keepings.Compact }
-        ensures file { IfOk result (λ f. f ≡ file_from (progress self)) }
-        ensures memory { OnErr result (0 < length (progress self).slots) }
-    {
-        let bids = self.slots.into_compact(self.alloc)?;
-        Ok(CompactFile::new(self.header.goods, self.header.dummy, bids))
+        let kept = self.slots.into_kept(self.alloc)?;
+        Ok((self.header, kept))
     }
 }

@@ -4,9 +4,8 @@ ghost use Rattle.std.specs.Prelude.{◌≡◌, ◌^◌, ◌<◌, [], None};
 ghost use Rattle.cats_text.specs.Reading.{FinishAnswer, CompactAnswer};
 
 use crate::fault::ReadFault;
-use crate::feeder::Feeder;
-use crate::parser::Keeping;
-use bid_file::{BidFile, CompactFile};
+use crate::feeder::{Feeder, finish_compact, finish_file};
+use bid_file::{Bid, BidFile, CompactFile};
 use std::alloc::Global;
 use std::marker::Model;
 
@@ -14,19 +13,15 @@ use std::marker::Model;
 /// line are small states, however long they are.
 #[derive(Drop)]
 pub struct Reader {
-    feeder: Feeder,
+    feeder: Feeder<Vec<Bid>>,
 }
 
 impl Model for Reader {
-    ghost use Rattle.std.specs.Prelude.{◌≡◌};
     ghost use Rattle.cats_text.specs.Fed.{Fed};
-    ghost use Rattle.cats_text.specs.declared.parser.Keeping.TheVariants.{Bids};
 
     ghost Value = { Fed };
 
-    ghost view = { λ r. r.feeder.fed };
-
-    ghost invariant = { λ r. r.feeder.keeping ≡ Bids };
+    ghost view = { λ r. r.feeder };
 }
 
 impl Reader {
@@ -38,7 +33,7 @@ impl Reader {
         ensures { result ≡ record { limit = limit; bytes = []; failed = None } }
     {
         Reader {
-            feeder: Feeder::new(alloc, limit, Keeping::Bids),
+            feeder: Feeder::new(alloc, limit),
         }
     }
 
@@ -53,7 +48,7 @@ impl Reader {
     pub fn finish(self) -> Result<BidFile, ReadFault>
         ensures { FinishesAs self result }
     {
-        self.feeder.finish()
+        finish_file(self.feeder)
     }
 }
 
@@ -70,7 +65,7 @@ pub fn read(alloc: Global, text: &[u8]) -> Result<BidFile, ReadFault>
 pub fn read_compact(alloc: Global, text: &[u8]) -> Result<CompactFile, ReadFault>
     ensures { CompactAnswer text.now result }
 {
-    let mut feeder = Feeder::new(alloc, text.len() as u64, Keeping::Compact);
+    let mut feeder = Feeder::new(alloc, text.len() as u64);
     feeder.feed(text)?;
-    feeder.finish_compact()
+    finish_compact(feeder)
 }

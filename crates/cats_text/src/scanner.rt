@@ -1,9 +1,7 @@
 //! From bytes to words and line ends.
 
 ghost use Rattle.std.specs.Prelude.{◌≡◌, ◌+◌, ◌-◌, ◌<◌, ◌≤◌, ◌^◌, ◌==◌, true, position, length, false, OnOk, IfOk, ℕ, List};
-ghost use Rattle.bid_file.specs.Files.{IsPlainFile};
 ghost use Rattle.cats_text.specs.Internal.Front.{IsFront};
-ghost use Rattle.cats_text.specs.Internal.Parsing.{file_from};
 ghost use Rattle.cats_text.specs.Internal.Returns.{settled, waits, carried, return_byte};
 ghost use Rattle.cats_text.specs.Internal.Scanning.{
   halt_of,
@@ -20,20 +18,17 @@ ghost use Rattle.cats_text.specs.Internal.Scanning.{
   Steps,
   AsksHere,
   Asks,
-  IsFileOf,
-  IsPlainFileOf,
-  IsHeaderOf,
+  ArePartsOf,
   Finishes,
   AsksAtEnd,
   IsInLine,
 };
-ghost use Rattle.cats_text.specs.declared.parser.Keeping.TheVariants as keepings;
 
 use crate::fault::{Kind, ReadFault};
 use crate::front::{front, with_digits};
-use crate::parser::{Header, Keeping, Parser, Stop};
+use crate::keep::Keep;
+use crate::parser::{Header, Parser, Stop};
 use crate::word::Word;
-use bid_file::{BidFile, CompactFile};
 use std::alloc::Global;
 
 /// Why scanning stops.
@@ -102,33 +97,33 @@ fn line_feed(bytes: &[u8]) -> Option<usize>
 
 /// The text so far. A CR waits until the byte after it says whether a line ends there.
 #[derive(Drop)]
-pub struct Scanner {
+pub struct Scanner<K: Keep> {
     pub waiting: bool,
     pub mode: Mode,
     /// The number of the line, counted from 1.
     pub line: u64,
-    pub parser: Parser,
+    pub parser: Parser<K>,
 }
 
-impl Scanner {
+impl<K: Keep> Scanner<K> {
     /// Before the first byte.
-    pub fn new(alloc: Global, keeping: Keeping) -> Scanner
-        ensures state { state result ≡ first_state keeping }
+    pub fn new(alloc: Global) -> Scanner<K>
+        ensures state { state K.keep result ≡ first_state K.keep }
         ensures waiting { result.waiting ≡ false }
     {
         Scanner {
             waiting: false,
             mode: Mode::Start,
             line: 1,
-            parser: Parser::new(alloc, keeping),
+            parser: Parser::new(alloc),
         }
     }
 
     /// A blank, or the end of a line, after which no word goes on.
     #[inline(always)]
     fn end_word(&mut self) -> Result<(), Halt>
-        ensures steps { Steps (state self.new) result (blank_step (state self.old)) }
-        ensures memory { AsksHere (state self.old) result }
+        ensures steps { Steps (state K.keep self.new) result (blank_step (state K.keep self.old)) }
+        ensures memory { AsksHere (state K.keep self.old) result }
         ensures begun { IsInLine self.new.mode → IsInLine self.old.mode }
         ensures stage { self.new.parser.stage ≡ self.old.parser.stage }
         ensures line { self.new.line ≡ self.old.line }
@@ -150,8 +145,8 @@ impl Scanner {
     /// The end of the words of a line.
     #[inline(always)]
     fn end_words(&mut self) -> Result<(), Halt>
-        ensures steps { Steps (state self.new) result (words_step (state self.old)) }
-        ensures memory { AsksHere (state self.old) result }
+        ensures steps { Steps (state K.keep self.new) result (words_step (state K.keep self.old)) }
+        ensures memory { AsksHere (state K.keep self.old) result }
         ensures line { self.new.line ≡ self.old.line }
         ensures waiting { self.new.waiting ≡ self.old.waiting }
     {
@@ -167,8 +162,8 @@ impl Scanner {
     #[inline(always)]
     fn take_byte(&mut self, byte: u8) -> Result<(), Halt>
         requires { self.old.line < 2 ^ 64 - 1 }
-        ensures steps { Steps (state self.new) result (byte_step (state self.old) byte) }
-        ensures memory { AsksHere (state self.old) result }
+        ensures steps { Steps (state K.keep self.new) result (byte_step (state K.keep self.old) byte) }
+        ensures memory { AsksHere (state K.keep self.old) result }
         ensures line { self.new.line ≤ self.old.line + 1 }
         ensures waiting { self.new.waiting ≡ self.old.waiting }
     {
@@ -194,7 +189,7 @@ impl Scanner {
         requires waits { self.old.waiting ≡ false }
         requires before { is_before_word self.old.mode ≡ true }
         ensures scanned { (bytes : List ℕ) → IsFront bytes word taken
-            → ScansTo (state self.old) (state self.new) self.new.waiting bytes result }
+            → ScansTo (state K.keep self.old) (state K.keep self.new) self.new.waiting bytes result }
         ensures count { IfOk result (λ count. count ≡ taken) }
         ensures mode { OnOk result (self.new.mode ≡ Mode.Between) }
         ensures stage { self.new.parser.stage ≡ self.old.parser.stage }
@@ -212,7 +207,7 @@ impl Scanner {
     fn read_words(&mut self, bytes: &[u8]) -> Result<usize, Halt>
         requires waits { self.old.waiting ≡ false }
         requires before { is_before_word self.old.mode ≡ true }
-        ensures scanned { ScansTo (state self.old) (state self.new) self.new.waiting bytes.now result }
+        ensures scanned { ScansTo (state K.keep self.old) (state K.keep self.new) self.new.waiting bytes.now result }
         ensures line { self.new.line ≡ self.old.line }
     {
         let mut place = 0;
@@ -227,7 +222,7 @@ impl Scanner {
         requires waits { self.old.waiting ≡ false }
         requires some { 0 < length bytes.now }
         requires room { self.old.line + length bytes.now < 2 ^ 64 }
-        ensures scanned { ScansTo (state self.old) (state self.new) self.new.waiting bytes.now result }
+        ensures scanned { ScansTo (state K.keep self.old) (state K.keep self.new) self.new.waiting bytes.now result }
         ensures line { IfOk result (λ count. self.new.line ≤ self.old.line + count) }
         ensures most { self.new.line ≤ self.old.line + length bytes.now }
     {
@@ -252,8 +247,8 @@ impl Scanner {
     fn scan(&mut self, bytes: &[u8]) -> Result<(), Halt>
         requires waits { self.old.waiting ≡ false }
         requires room { self.old.line + length bytes.now < 2 ^ 64 }
-        ensures steps { Steps (state self.new) result (scan (state self.old) (settled bytes.now)) }
-        ensures memory { Asks (state self.old) (settled bytes.now) result }
+        ensures steps { Steps (state K.keep self.new) result (scan (state K.keep self.old) (settled bytes.now)) }
+        ensures memory { Asks (state K.keep self.old) (settled bytes.now) result }
         ensures waiting { OnOk result (self.new.waiting ≡ waits bytes.now) }
         ensures line { self.new.line ≤ self.old.line + length bytes.now }
     {
@@ -278,9 +273,9 @@ impl Scanner {
     /// The next bytes.
     pub fn take(&mut self, bytes: &[u8]) -> Result<(), Halt>
         requires { self.old.line + length bytes.now < 2 ^ 64 - 1 }
-        ensures steps { Steps (state self.new) result
-            (scan (state self.old) (settled (carried self.old.waiting bytes.now))) }
-        ensures memory { Asks (state self.old) (settled (carried self.old.waiting bytes.now)) result }
+        ensures steps { Steps (state K.keep self.new) result
+            (scan (state K.keep self.old) (settled (carried self.old.waiting bytes.now))) }
+        ensures memory { Asks (state K.keep self.old) (settled (carried self.old.waiting bytes.now)) result }
         ensures waiting { OnOk result (self.new.waiting ≡ waits (carried self.old.waiting bytes.now)) }
         ensures line { self.new.line ≤ self.old.line + length bytes.now + 1 }
     {
@@ -297,8 +292,8 @@ impl Scanner {
     /// The end of the input.
     fn end(&mut self) -> Result<(), Halt>
         requires { self.old.line < 2 ^ 64 - 2 }
-        ensures steps { Steps (state self.new) result (end_of self.old.waiting (state self.old)) }
-        ensures memory { AsksHere (state self.old) result }
+        ensures steps { Steps (state K.keep self.new) result (end_of self.old.waiting (state K.keep self.old)) }
+        ensures memory { AsksHere (state K.keep self.old) result }
     {
         if self.waiting {
             self.take_byte(b' ')?;
@@ -319,43 +314,16 @@ impl Scanner {
         Ok(())
     }
 
-    /// The end of the input, and the file, of a scanner that keeps the bids.
-    pub fn finish(mut self) -> Result<BidFile, Halt>
-        requires line { self.line < 2 ^ 64 - 2 }
-        requires file { IfOk (end_of self.waiting (state self)) (λ t. IsPlainFile (file_from t.progress)) }
-        requires keeping { (state self).progress.keeping ≡ keepings.Bids }
-        ensures steps { Finishes IsFileOf result (end_of self.waiting (state self)) }
-        ensures memory { AsksAtEnd self.waiting (state self) result }
-    {
-        self.end()?;
-        match self.parser.into_file() {
-            Ok(file) => Ok(file),
-            Err(_) => Err(Halt::Memory),
-        }
-    }
-
-    /// The end of the input, and the file, of a scanner that keeps the bids in little memory.
-    pub fn finish_compact(mut self) -> Result<CompactFile, Halt>
-        requires line { self.line < 2 ^ 64 - 2 }
-        requires file { IfOk (end_of self.waiting (state self)) (λ t. IsPlainFile (file_from t.progress)) }
-        requires keeping { (state self).progress.keeping ≡ keepings.Compact }
-        ensures steps { Finishes IsPlainFileOf result (end_of self.waiting (state self)) }
-        ensures memory { AsksAtEnd self.waiting (state self) result }
-    {
-        self.end()?;
-        match self.parser.into_compact() {
-            Ok(file) => Ok(file),
-            Err(_) => Err(Halt::Memory),
-        }
-    }
-
-    /// The end of the input, and what the header lines said.
-    pub fn finish_header(mut self) -> Result<Header, Halt>
+    /// The end of the input: what the header lines said, and what is kept of the bids.
+    pub fn finish(mut self) -> Result<(Header, K), Halt>
         requires { self.line < 2 ^ 64 - 2 }
-        ensures steps { Finishes IsHeaderOf result (end_of self.waiting (state self)) }
-        ensures memory { AsksAtEnd self.waiting (state self) result }
+        ensures steps { Finishes (ArePartsOf K.bids) result (end_of self.waiting (state K.keep self)) }
+        ensures memory { AsksAtEnd self.waiting (state K.keep self) result }
     {
         self.end()?;
-        Ok(self.parser.header)
+        match self.parser.into_parts() {
+            Ok(parts) => Ok(parts),
+            Err(_) => Err(Halt::Memory),
+        }
     }
 }

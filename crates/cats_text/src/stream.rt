@@ -34,10 +34,11 @@ ghost use Rattle.cats_text.specs.Streams.{
 };
 
 use crate::fault::{Kind, ReadFault};
-use crate::feeder::Feeder;
+use crate::feeder::{Feeder, finish_compact, finish_file};
+use crate::keep::{BidCount, Keep};
 use crate::limits::MAX_STREAM;
-use crate::parser::{Header, Keeping};
-use bid_file::{BidFile, CompactFile};
+use crate::parser::Header;
+use bid_file::{BidFile, CompactBids, CompactFile};
 use std::alloc::Global;
 use std::io;
 use std::io::{ErrorKind, Read, Write};
@@ -174,9 +175,9 @@ pub fn read_from<R: Read>(alloc: Global, input: &mut Watched<R>) -> Result<BidFi
     ensures { (bytes : List ℕ) × Consumes (R.remaining (inner_of input.old)) (R.remaining (inner_of input.new)) bytes
         × ReadsAs R.remaining bytes input.new result }
 {
-    let mut feeder = Feeder::new(alloc, MAX_STREAM, Keeping::Bids);
+    let mut feeder = Feeder::new(alloc, MAX_STREAM);
     feed_from(&mut feeder, input)?;
-    feeder.finish()
+    finish_file(feeder)
 }
 
 /// Reads the whole stream as `read_from` does, as a file in little memory: the goods of all bids stand together, and so
@@ -190,9 +191,9 @@ pub fn read_compact_from<R: Read>(
     ensures { (bytes : List ℕ) × Consumes (R.remaining (inner_of input.old)) (R.remaining (inner_of input.new)) bytes
         × ReadsPlainAs R.remaining bytes input.new result }
 {
-    let mut feeder = Feeder::new(alloc, MAX_STREAM, Keeping::Compact);
+    let mut feeder: Feeder<CompactBids> = Feeder::new(alloc, MAX_STREAM);
     feed_from(&mut feeder, input)?;
-    feeder.finish_compact()
+    finish_compact(feeder)
 }
 
 /// Judges the whole stream as `read_from` does, and answers what the header lines of its file say: how many goods, bids
@@ -203,20 +204,23 @@ pub fn check_from<R: Read>(alloc: Global, input: &mut Watched<R>) -> Result<Head
     ensures { (bytes : List ℕ) × Consumes (R.remaining (inner_of input.old)) (R.remaining (inner_of input.new)) bytes
         × ChecksAs R.remaining bytes input.new result }
 {
-    let mut feeder = Feeder::new(alloc, MAX_STREAM, Keeping::Numbers);
+    let mut feeder: Feeder<BidCount> = Feeder::new(alloc, MAX_STREAM);
     feed_from(&mut feeder, input)?;
-    feeder.finish_header()
+    let (header, _count) = feeder.finish()?;
+    Ok(header)
 }
 
 /// Feeds the whole stream, a piece at a time.
-fn feed_from<R: Read>(feeder: &mut Feeder, input: &mut Watched<R>) -> Result<(), ReadFault>
+fn feed_from<K: Keep, R: Read>(
+    feeder: &mut Feeder<K>,
+    input: &mut Watched<R>,
+) -> Result<(), ReadFault>
     requires works { has_failed input.old ≡ false }
     requires fresh { has_ended input.old ≡ false }
-    requires new { feeder.old.fed ≡ record { limit = MAX_STREAM; bytes = []; failed = None } }
-    ensures keeping { feeder.new.keeping ≡ feeder.old.keeping }
+    requires new { feeder.old ≡ record { limit = MAX_STREAM; bytes = []; failed = None } }
     ensures bytes { Consumes (R.remaining (inner_of input.old)) (R.remaining (inner_of input.new))
-        feeder.new.fed.bytes }
-    ensures answer { FeedsFrom R.remaining feeder.new.fed input.new result }
+        feeder.new.bytes }
+    ensures answer { FeedsFrom R.remaining feeder.new input.new result }
 {
     let mut piece = [0; PIECE];
     loop {

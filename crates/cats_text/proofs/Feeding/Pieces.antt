@@ -1,16 +1,13 @@
 -- What a reader answers to one more piece.
 use Rattle.std.proofs.Common.{◌≡◌, ℕ, suc, zero, ◌+◌, ◌-◌, ◌<◌, ◌≤◌, min, Bool, false, List, [], ◌∷◌, ◌++◌, length, take, Some, None, refl, sym, ap, ◌∙◌, arith}
-use Rattle.std.proofs.Common.{inl, inr, ◌⊎◌, Result, Ok, Err, IfOk, length-append, ◌^◌}
+use Rattle.std.proofs.Common.{inl, inr, ◌⊎◌, Result, Ok, Err, length-append, ◌^◌}
 use Rattle.std.specs.Option.{option_or}
 use Rattle.std.specs.Result.{result_err}
 use Rattle.std.proofs.lemmas.Bool.{le-leb, lt-leb}
 use Rattle.std.proofs.lemmas.Bool.Decides.{leb_tells}
 use Rattle.cats_text.specs.Faults.{complete_fault, first_fault, has_bid_line, fault_at}
 use Rattle.cats_text.specs.Fed.{Fed, fed_fault}
-use Rattle.bid_file.specs.Files.{PlainFile, IsPlainFile}
-use Rattle.cats_text.specs.Grammar.{Spells}
-use Rattle.cats_text.specs.Internal.Parsing.{file_from, KeepsBids}
-use Rattle.cats_text.specs.Internal.Reading.{HasTaken, IsReading, SpellsSizes, fault_told}
+use Rattle.cats_text.specs.Internal.Reading.{HasTaken, IsReading, SpellsParts, fault_told}
 use Rattle.cats_text.specs.Reading.{WantsMemory, FeedsAs}
 use Rattle.cats_text.specs.Internal.Returns.{settled, waits, carried}
 use Rattle.cats_text.specs.Internal.Scanning.{
@@ -24,21 +21,20 @@ use Rattle.cats_text.specs.Internal.Scanning.{
   Asks,
   MeetsBidLine,
   end_of,
-  IsPlainFileOf,
-  IsHeaderOf,
+  ArePartsOf,
   Finishes,
 }
 use Rattle.cats_text.specs.Internal.Scanning.{AsksAtEnd, IsInBidLine, HasBids}
 use Rattle.cats_text.specs.declared.fault.ReadFault.{ReadFault}
 use Rattle.cats_text.specs.declared.fault.Kind.TheVariants.{TooLong}
 use Rattle.cats_text.specs.declared.parser.Header.{Header}
-use Rattle.cats_text.specs.declared.parser.Keeping.{Keeping}
+use Rattle.bid_file.specs.Files.{PlainBid}
 use Rattle.cats_text.specs.declared.scanner.Halt.{Halt}
 use Rattle.cats_text.specs.declared.scanner.Halt.TheVariants.{Fault, Memory}
 use Rattle.cats_text.specs.declared.scanner.Scanner.{Scanner}
 use Rattle.cats_text.proofs.Scanning.Lines.{scan-append}
-use Rattle.cats_text.proofs.Texts.MachineAnswers.{stops_at_complete_fault, goes_on_without_fault, meets_bid_line, complete_fault_is_first, ends_at_file}
-use Rattle.cats_text.proofs.Texts.MachineAnswers.{ends_at_sizes, ends_at_first_fault, ends_in_bid_line}
+use Rattle.cats_text.proofs.Texts.MachineAnswers.{stops_at_complete_fault, goes_on_without_fault, meets_bid_line, complete_fault_is_first, ends_at_parts}
+use Rattle.cats_text.proofs.Texts.MachineAnswers.{ends_at_first_fault, ends_in_bid_line}
 use Rattle.cats_text.proofs.Scanning.Pieces.{settled-append, waits-append}
 use Rattle.std.proofs.lemmas.List.{take_all}
 use Rattle.cats_text.proofs.Scanning.Appends.{meets_behind, scan-line, settled-length}
@@ -66,7 +62,7 @@ judged_bytes limit count bytes piece c within =
 
 -- ---- the machine on them
 
-scan_on : (k : Keeping) (bytes taken : List ℕ) (s : State) (waiting : Bool) → scan (first_state k) (settled bytes) ≡ Ok s → waiting ≡ waits bytes
+scan_on : (k : PlainBid → PlainBid) (bytes taken : List ℕ) (s : State) (waiting : Bool) → scan (first_state k) (settled bytes) ≡ Ok s → waiting ≡ waits bytes
     → scan (first_state k) (settled (bytes ++ taken)) ≡ scan s (settled (carried waiting taken))
 scan_on k bytes taken s waiting runs w =
     ap (scan (first_state k)) (settled-append bytes taken) ∙ scan-append (first_state k) (settled bytes) (settled (carried (waits bytes) taken))
@@ -92,7 +88,7 @@ pub fed-too_long : (limit : ℕ) (bytes : List ℕ) → limit < length bytes →
     → fed_fault limit bytes ≡ Some (fault_at 0 TooLong)
 fed-too_long limit bytes beyond h = fed-beyond limit bytes beyond ∙ ap (λ f. option_or f (Some (fault_at 0 TooLong))) h
 
-pub nothing_taken : (k : Keeping) (limit : ℕ) (scanner : Scanner) (bytes : List ℕ) → state scanner ≡ first_state k → scanner.waiting ≡ false → bytes ≡ []
+pub nothing_taken : {K : Type 0} (k : PlainBid → PlainBid) (limit : ℕ) (scanner : Scanner K) (bytes : List ℕ) → state k scanner ≡ first_state k → scanner.waiting ≡ false → bytes ≡ []
     → HasTaken k limit 0 scanner bytes
 nothing_taken k limit scanner bytes first waiting none = record {
   count = rw none refl;
@@ -104,70 +100,70 @@ nothing_taken k limit scanner bytes first waiting none = record {
 -- ---- the answers
 
 -- the scanner stopped in the bytes that are judged
-pub halted : (k : Keeping) (limit taken : ℕ) (scanner : Scanner) (bytes judged all : List ℕ) (new : State) (halt : Halt) → HasTaken k limit taken scanner bytes
+pub halted : {K : Type 0} (k : PlainBid → PlainBid) (limit taken : ℕ) (scanner : Scanner K) (bytes judged all : List ℕ) (new : State) (halt : Halt) → HasTaken k limit taken scanner bytes
     → bytes ++ judged ≡ take limit all
-    → Steps {A = Unit {0}} new (Err halt) (scan (state scanner) (settled (carried scanner.waiting judged)))
-    → Asks {A = Unit {0}} (state scanner) (settled (carried scanner.waiting judged)) (Err halt)
+    → Steps {A = Unit {0}} new (Err halt) (scan (state k scanner) (settled (carried scanner.waiting judged)))
+    → Asks {A = Unit {0}} (state k scanner) (settled (carried scanner.waiting judged)) (Err halt)
     → (fed_fault limit all ≡ Some (fault_told halt)) ⊎ WantsMemory (take limit all) (fault_told halt)
 halted k limit taken scanner bytes judged all new (Fault e) kept is steps asks =
     inl (fed-judged limit all e (ap complete_fault (sym is) ∙
-    stops_at_complete_fault k (bytes ++ judged) e (scan_on k bytes judged (state scanner) scanner.waiting kept.runs kept.waiting ∙ steps)))
+    stops_at_complete_fault k (bytes ++ judged) e (scan_on k bytes judged (state k scanner) scanner.waiting kept.runs kept.waiting ∙ steps)))
 halted k limit taken scanner bytes judged all new Memory kept is steps asks =
-    let behind = meets_behind (first_state k) (state scanner) (settled bytes) (settled (carried scanner.waiting judged)) kept.runs asks in
+    let behind = meets_behind (first_state k) (state k scanner) (settled bytes) (settled (carried scanner.waiting judged)) kept.runs asks in
     let met : MeetsBidLine (first_state k) (settled (bytes ++ judged)) = rw (settled-append bytes judged, ← kept.waiting) behind in
     inr (refl, ap has_bid_line (sym is) ∙ meets_bid_line k (bytes ++ judged) met)
 
 -- the scanner took them
-pub went_on : (k : Keeping) (limit taken : ℕ) (old new : Scanner) (bytes judged : List ℕ) → HasTaken k limit taken old bytes
-    → scan (state old) (settled (carried old.waiting judged)) ≡ Ok (state new)
+pub went_on : {K : Type 0} (k : PlainBid → PlainBid) (limit taken : ℕ) (old new : Scanner K) (bytes judged : List ℕ) → HasTaken k limit taken old bytes
+    → scan (state k old) (settled (carried old.waiting judged)) ≡ Ok (state k new)
     → complete_fault (bytes ++ judged) ≡ None
 went_on k limit taken old new bytes judged kept steps =
-    goes_on_without_fault k (bytes ++ judged) (state new) (scan_on k bytes judged (state old) old.waiting kept.runs kept.waiting ∙ steps)
+    goes_on_without_fault k (bytes ++ judged) (state k new) (scan_on k bytes judged (state k old) old.waiting kept.runs kept.waiting ∙ steps)
 
 -- and has taken them then
-pub took : (k : Keeping) (limit before count : ℕ) (old new : Scanner) (bytes judged : List ℕ) → HasTaken k limit before old bytes
-    → scan (state old) (settled (carried old.waiting judged)) ≡ Ok (state new)
+pub took : {K : Type 0} (k : PlainBid → PlainBid) (limit before count : ℕ) (old new : Scanner K) (bytes judged : List ℕ) → HasTaken k limit before old bytes
+    → scan (state k old) (settled (carried old.waiting judged)) ≡ Ok (state k new)
     → new.waiting ≡ waits (carried old.waiting judged) → count ≡ before + length judged → count ≤ limit
     → HasTaken k limit count new (bytes ++ judged)
 took k limit before count old new bytes judged kept steps waiting sum within = record {
   count = rw (length-append bytes judged, ← kept.count) sum;
   within = within;
-  runs = scan_on k bytes judged (state old) old.waiting kept.runs kept.waiting ∙ steps;
+  runs = scan_on k bytes judged (state k old) old.waiting kept.runs kept.waiting ∙ steps;
   waiting = waiting ∙ ap (λ w. waits (carried w judged)) kept.waiting ∙ sym (waits-append bytes judged);
 }
 
 -- the number of the line stays small
-pub few_lines : (k : Keeping) (limit taken : ℕ) (scanner : Scanner) (bytes : List ℕ) → HasTaken k limit taken scanner bytes → scanner.line ≤ suc taken
+pub few_lines : {K : Type 0} (k : PlainBid → PlainBid) (limit taken : ℕ) (scanner : Scanner K) (bytes : List ℕ) → HasTaken k limit taken scanner bytes → scanner.line ≤ suc taken
 few_lines k limit taken scanner bytes kept =
     let lines = scan-line (first_state k) (settled bytes) in
-    let line : (state scanner).line ≤ 1 + length (settled bytes) = rw kept.runs at lines in
+    let line : (state k scanner).line ≤ 1 + length (settled bytes) = rw kept.runs at lines in
     let count = kept.count in
     let decided = settled-length bytes in
     omega arith
 
 -- what judging a piece answers, all bytes so far being these
-abbrev pub IsJudged : Keeping → ℕ → ℕ → Scanner → List ℕ → Result (Unit {0}) ReadFault → Type 0
+abbrev pub IsJudged : {K : Type 0} → (PlainBid → PlainBid) → ℕ → ℕ → Scanner K → List ℕ → Result (Unit {0}) ReadFault → Type 0
 IsJudged k limit count scanner all (Ok u) = (fed_fault limit all ≡ None) × HasTaken k limit count scanner all
 IsJudged k limit count scanner all (Err e) = (fed_fault limit all ≡ Some e) ⊎ WantsMemory (take limit all) e
 
-pub judged_halted : (k : Keeping) (limit count taken : ℕ) (old new : Scanner) (bytes judged all : List ℕ) (halt : Halt) → HasTaken k limit taken old bytes
+pub judged_halted : {K : Type 0} (k : PlainBid → PlainBid) (limit count taken : ℕ) (old new : Scanner K) (bytes judged all : List ℕ) (halt : Halt) → HasTaken k limit taken old bytes
     → bytes ++ judged ≡ take limit all
-    → Steps {A = Unit {0}} (state new) (Err halt) (scan (state old) (settled (carried old.waiting judged)))
-    → Asks {A = Unit {0}} (state old) (settled (carried old.waiting judged)) (Err halt)
+    → Steps {A = Unit {0}} (state k new) (Err halt) (scan (state k old) (settled (carried old.waiting judged)))
+    → Asks {A = Unit {0}} (state k old) (settled (carried old.waiting judged)) (Err halt)
     → IsJudged k limit count new all (Err (fault_told halt))
 judged_halted k limit count taken old new bytes judged all halt kept is steps asks =
-    halted k limit taken old bytes judged all (state new) halt kept is steps asks
+    halted k limit taken old bytes judged all (state k new) halt kept is steps asks
 
-pub judged_too_long : (k : Keeping) (limit count taken : ℕ) (old new : Scanner) (bytes judged all : List ℕ) → HasTaken k limit taken old bytes
+pub judged_too_long : {K : Type 0} (k : PlainBid → PlainBid) (limit count taken : ℕ) (old new : Scanner K) (bytes judged all : List ℕ) → HasTaken k limit taken old bytes
     → bytes ++ judged ≡ take limit all → limit < length all
-    → scan (state old) (settled (carried old.waiting judged)) ≡ Ok (state new)
+    → scan (state k old) (settled (carried old.waiting judged)) ≡ Ok (state k new)
     → IsJudged k limit count new all (Err (fault_at 0 TooLong))
 judged_too_long k limit count taken old new bytes judged all kept is beyond steps =
     inl (fed-too_long limit all beyond (ap complete_fault (sym is) ∙ went_on k limit taken old new bytes judged kept steps))
 
-pub judged_ok : (k : Keeping) (limit count before : ℕ) (old new : Scanner) (bytes judged all : List ℕ) → HasTaken k limit before old bytes
+pub judged_ok : {K : Type 0} (k : PlainBid → PlainBid) (limit count before : ℕ) (old new : Scanner K) (bytes judged all : List ℕ) → HasTaken k limit before old bytes
     → bytes ++ judged ≡ all → length all ≤ limit
-    → scan (state old) (settled (carried old.waiting judged)) ≡ Ok (state new)
+    → scan (state k old) (settled (carried old.waiting judged)) ≡ Ok (state k new)
     → new.waiting ≡ waits (carried old.waiting judged) → count ≡ before + length judged → count ≤ limit
     → IsJudged k limit count new all (Ok tt)
 judged_ok k limit count before old new bytes judged all kept is within steps waiting sum most =
@@ -176,12 +172,12 @@ judged_ok k limit count before old new bytes judged all kept is within steps wai
     (fed-within limit all within ∙ none, now)
 
 -- the reader keeps what it has to
-pub still_reading : (k : Keeping) (limit count : ℕ) (scanner : Scanner) (all : List ℕ) (judged : Result (Unit {0}) ReadFault) → limit < 2 ^ 63
+pub still_reading : {K : Type 0} (k : PlainBid → PlainBid) (limit count : ℕ) (scanner : Scanner K) (all : List ℕ) (judged : Result (Unit {0}) ReadFault) → limit < 2 ^ 63
     → IsJudged k limit count scanner all judged → IsReading k limit count scanner (result_err judged) all
 still_reading k limit count scanner all (Ok u) small told = record { limit = small; taken = λ none. told.1 }
 still_reading k limit count scanner all (Err e) small told = record { limit = small; taken = λ none. cc }
 
-pub fed_told : (k : Keeping) (old : Fed) (piece : List ℕ) (count : ℕ) (scanner : Scanner) (judged : Result (Unit {0}) ReadFault) → old.failed ≡ None
+pub fed_told : {K : Type 0} (k : PlainBid → PlainBid) (old : Fed) (piece : List ℕ) (count : ℕ) (scanner : Scanner K) (judged : Result (Unit {0}) ReadFault) → old.failed ≡ None
     → IsJudged k old.limit count scanner (old.bytes ++ piece) judged
     → FeedsAs old piece (record { limit = old.limit; bytes = old.bytes ++ piece; failed = result_err judged }) judged
 fed_told k old piece count scanner (Ok u) none told = rw none (record { limit = refl; bytes = refl; answer = (told.0, refl) })
@@ -189,39 +185,24 @@ fed_told k old piece count scanner (Err e) none told = rw none (record { limit =
 
 -- ---- the end of the input
 
-pub ended_fact : (k : Keeping) (limit taken : ℕ) (scanner : Scanner) (bytes : List ℕ) → KeepsBids k → HasTaken k limit taken scanner bytes
-    → IfOk (end_of scanner.waiting (state scanner)) (λ t. IsPlainFile (file_from t.progress))
-ended_fact k limit taken scanner bytes keeps kept = at_end (end_of scanner.waiting (state scanner)) refl
+pub ended_parts : {K : Type 0} (bids : K → List PlainBid) (k : PlainBid → PlainBid) (limit taken : ℕ) (scanner : Scanner K) (bytes : List ℕ)
+    (parts : Header × K) → HasTaken k limit taken scanner bytes → ArePartsOf bids parts (end_of scanner.waiting (state k scanner))
+    → SpellsParts k bytes parts.0 (bids parts.1)
+ended_parts bids k limit taken scanner bytes parts kept are = at_end (end_of scanner.waiting (state k scanner)) refl are
   where
-    at_end : (r : Scan) → end_of scanner.waiting (state scanner) ≡ r → IfOk r (λ t. IsPlainFile (file_from t.progress))
-    at_end (Ok t) e = (ends_at_file k bytes (state scanner) t keeps kept.runs (ap (λ w. end_of w (state scanner)) (sym kept.waiting) ∙ e)).facts
-    at_end (Err fault) e = tt
-
-pub ended_file : (k : Keeping) (limit taken : ℕ) (scanner : Scanner) (bytes : List ℕ) (file : PlainFile) → KeepsBids k
-    → HasTaken k limit taken scanner bytes → IsPlainFileOf file (end_of scanner.waiting (state scanner)) → Spells bytes file
-ended_file k limit taken scanner bytes file keeps kept is = at_end (end_of scanner.waiting (state scanner)) refl is
-  where
-    at_end : (r : Scan) → end_of scanner.waiting (state scanner) ≡ r → IsPlainFileOf file r → Spells bytes file
-    at_end (Ok t) e same = rw same (ends_at_file k bytes (state scanner) t keeps kept.runs (ap (λ w. end_of w (state scanner)) (sym kept.waiting) ∙ e))
+    at_end : (r : Scan) → end_of scanner.waiting (state k scanner) ≡ r → ArePartsOf bids parts r → SpellsParts k bytes parts.0 (bids parts.1)
+    at_end (Ok t) e same = rw (same.0, same.1) (ends_at_parts k bytes (state k scanner) t kept.runs (ap (λ w. end_of w (state k scanner)) (sym kept.waiting) ∙ e))
     at_end (Err fault) e same = absurd same
 
-pub ended_sizes : (k : Keeping) (limit taken : ℕ) (scanner : Scanner) (bytes : List ℕ) (header : Header) → HasTaken k limit taken scanner bytes
-    → IsHeaderOf header (end_of scanner.waiting (state scanner)) → SpellsSizes bytes header
-ended_sizes k limit taken scanner bytes header kept is = at_end (end_of scanner.waiting (state scanner)) refl is
-  where
-    at_end : (r : Scan) → end_of scanner.waiting (state scanner) ≡ r → IsHeaderOf header r → SpellsSizes bytes header
-    at_end (Ok t) e same = rw same (ends_at_sizes k bytes (state scanner) t kept.runs (ap (λ w. end_of w (state scanner)) (sym kept.waiting) ∙ e))
-    at_end (Err fault) e same = absurd same
-
-pub ended_fault : {A : Type 0} (IsOf : A → Scan → Type 0) (k : Keeping) (limit taken : ℕ) (scanner : Scanner) (bytes : List ℕ) (halt : Halt)
+pub ended_fault : {K : Type 0} {A : Type 0} (IsOf : A → Scan → Type 0) (k : PlainBid → PlainBid) (limit taken : ℕ) (scanner : Scanner K) (bytes : List ℕ) (halt : Halt)
     → HasTaken k limit taken scanner bytes
-    → Finishes IsOf (Err halt) (end_of scanner.waiting (state scanner)) → AsksAtEnd {A = A} scanner.waiting (state scanner) (Err halt)
+    → Finishes IsOf (Err halt) (end_of scanner.waiting (state k scanner)) → AsksAtEnd {A = A} scanner.waiting (state k scanner) (Err halt)
     → (first_fault bytes ≡ Some (fault_told halt)) ⊎ WantsMemory bytes (fault_told halt)
 ended_fault IsOf k limit taken scanner bytes (Fault e) kept ends asks =
-    inl (ends_at_first_fault k bytes (state scanner) e kept.runs (ap (λ w. end_of w (state scanner)) (sym kept.waiting) ∙ ends))
+    inl (ends_at_first_fault k bytes (state k scanner) e kept.runs (ap (λ w. end_of w (state k scanner)) (sym kept.waiting) ∙ ends))
 ended_fault IsOf k limit taken scanner bytes Memory kept ends asks =
-    let memory : IsInBidLine (state scanner) ⊎ HasBids (end_of (waits bytes) (state scanner)) = rw (← kept.waiting) asks in
-    inr (refl, ends_in_bid_line k bytes (state scanner) kept.runs memory)
+    let memory : IsInBidLine (state k scanner) ⊎ HasBids (end_of (waits bytes) (state k scanner)) = rw (← kept.waiting) asks in
+    inr (refl, ends_in_bid_line k bytes (state k scanner) kept.runs memory)
 
 -- a whole text that was fed at once
 pub whole_told : (text bytes : List ℕ) (limit : ℕ) (e : ReadFault) → limit ≡ length text → bytes ≡ text

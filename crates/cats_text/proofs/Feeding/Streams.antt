@@ -3,9 +3,9 @@ use Rattle.std.proofs.Common.{◌≡◌, ℕ, false, List, take, Option, Some, I
 use Rattle.std.proofs.lemmas.List.{take_all}
 use Rattle.cats_text.specs.Faults.{first_fault, fault_at}
 use Rattle.cats_text.specs.Fed.{fed_fault}
-use Rattle.bid_file.specs.Files.{PlainFile}
+use Rattle.bid_file.specs.Files.{PlainBid, PlainFile}
 use Rattle.cats_text.specs.Reading.{CompactAnswer, WantsMemory, FinishAnswer}
-use Rattle.cats_text.specs.Internal.Reading.{SizesAnswer}
+use Rattle.cats_text.specs.Internal.Reading.{SpellsParts}
 use Rattle.cats_text.specs.Streams.{has_failed, IsWhole, IsTextFault, FaultsAt, ReadsAs, ReadsPlainAs, ChecksAs}
 use Rattle.bid_file.specs.declared.bid.BidFile.{BidFile}
 use Rattle.cats_text.specs.declared.fault.Kind.{Kind}
@@ -38,7 +38,7 @@ module _ {R : Type 0} (remaining : R → Option (List ℕ)) where
   fed_told bytes input e works (inr want) = memory_told bytes input e works want
 
   -- the fault at the end of the bytes
-  ended_told : (bytes : List ℕ) (input : Watched R) (e : ReadFault) → has_failed input ≡ false → IsWhole remaining bytes input
+  pub ended_told : (bytes : List ℕ) (input : Watched R) (e : ReadFault) → has_failed input ≡ false → IsWhole remaining bytes input
       → (first_fault bytes ≡ Some e) ⊎ WantsMemory bytes e → FaultsAt remaining bytes input e.line e.kind
   ended_told bytes input e works whole (inl is) =
       fault_told bytes input e.line e.kind works (found (first_fault bytes) e (first_fault-of_bytes bytes) is) (inr (whole, is))
@@ -56,8 +56,7 @@ module _ {R : Type 0} (remaining : R → Option (List ℕ)) where
   compact_told bytes input (Ok file) works whole spelled = record { spelled = spelled; whole = whole; works = works }
   compact_told bytes input (Err e) works whole told = ended_told bytes input e works whole told
 
-  pub checked_told : (bytes : List ℕ) (input : Watched R) (answer : Result Header ReadFault) → has_failed input ≡ false → IsWhole remaining bytes input
-      → SizesAnswer bytes answer → ChecksAs remaining bytes input answer
-  checked_told bytes input (Ok header) works whole says =
+  pub checked_told : (keep : PlainBid → PlainBid) (bytes : List ℕ) (input : Watched R) (header : Header) (bids : List PlainBid) → has_failed input ≡ false
+      → IsWhole remaining bytes input → SpellsParts keep bytes header bids → ChecksAs remaining bytes input (Ok header)
+  checked_told keep bytes input header bids works whole says =
       record { file = says.file; reads = record { spelled = says.spelled; whole = whole; works = works }; sizes = says.sizes }
-  checked_told bytes input (Err e) works whole told = ended_told bytes input e works whole told

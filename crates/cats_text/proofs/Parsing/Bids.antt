@@ -9,7 +9,8 @@ use Rattle.cats_text.specs.Grammar.{line_number}
 use Rattle.cats_text.specs.Faults.{header_value, word_fault, when}
 use Rattle.cats_text.specs.FileLines.{bid_of}
 use Rattle.cats_text.specs.Internal.Progress.{Progress}
-use Rattle.cats_text.specs.Internal.Parsing.{Reading, number_read, price_read, price_parts, with_price, kept_of, is_some_bid}
+use Rattle.cats_text.specs.Internal.Parsing.{Reading, number_read, price_read, price_parts, with_price}
+use Rattle.cats_text.specs.Internal.Kept.{is_some_bid}
 use Rattle.cats_text.specs.declared.fault.Kind.{Kind}
 use Rattle.cats_text.specs.declared.fault.Kind.TheVariants as kinds
 use Rattle.cats_text.specs.declared.word.Word.{Word}
@@ -70,7 +71,7 @@ number_follows g b d lines w v p t at =
     ∙ ap (λ x. leb x (number_of w)) bids)
     (λ below is. let l : v < p.header.bids = leb-false p.header.bids v below in let same : v ≡ number_of w = holds_same v (number_of w) (omega arith) t.1 in
     follow_test (g ∷ b ∷ d ∷ lines) [] w _ _ kinds.RepeatedNumber _ _ is (ap (λ s. is_some_bid (slice_get s v)) at.slots
-    ∙ taken (λ l. kept_of p.keeping (bid_of p.header.goods l)) lines v ∙ ap (λ x. list_any (λ l. eqb (line_number l) x) lines) same)
+    ∙ taken (λ l. p.keep (bid_of p.header.goods l)) lines v ∙ ap (λ x. list_any (λ l. eqb (line_number l) x) lines) same)
     (λ _ is. (
       is,
       record {

@@ -4,11 +4,8 @@ use Rattle.std.proofs.Common.{true, map, append-nil, refl, sym, ap, ap₂, ◌�
 use Rattle.std.proofs.lemmas.List.{length-replicate, replicate-append-replicate, map-set, map-append, length-map, set-append_left, set-append_right}
 use Rattle.std.specs.List.{slice_get}
 use Rattle.bid_file.specs.declared.bid.Bid.{Bid}
-use Rattle.cats_text.specs.declared.slots.Front.{Front}
-use Rattle.cats_text.specs.declared.slots.Front.TheVariants.{Numbers}
 use Rattle.bid_file.specs.Files.{PlainBid, plain_bid}
-use Rattle.cats_text.specs.Internal.Parsing.{is_some_bid, kept_of}
-use Rattle.cats_text.specs.Internal.Progress.{plain_slot, plain_slots, number_alone, keeping_of, front_bids}
+use Rattle.cats_text.specs.Internal.Kept.{is_some_bid, plain_slot, plain_slots}
 use Rattle.std.proofs.lemmas.List.Elements.{filter_map-append}
 use Rattle.std.specs.Option.{option_to_list}
 use Rattle.cats_text.specs.FileLines.{put_slot, filled}
@@ -39,28 +36,28 @@ padded_enough xs more n p there =
     let all : p.count ≡ n + 1 - length xs = omega arith in
     p.is ∙ ap (λ k. xs ++ replicate k None) all
 
-plain_none : (k : ℕ) → plain_slots (replicate k None) ≡ replicate k None
-plain_none zero = refl
-plain_none (suc k) = ap (λ ys. None ∷ ys) (plain_none k)
+plain_none : (keep : PlainBid → PlainBid) (k : ℕ) → plain_slots keep (replicate k None) ≡ replicate k None
+plain_none keep zero = refl
+plain_none keep (suc k) = ap (λ ys. None ∷ ys) (plain_none keep k)
 
 -- a bid put at its place
-pub plain_put : (xs more : List (Option Bid)) (n : ℕ) (b : Bid) → IsPadded xs more n → n < length more
-    → plain_slots (set more n (Some b)) ≡ put_slot (plain_slots xs) n (plain_bid b)
-plain_put xs more n b p there =
-    let len : length (plain_slots xs) ≡ length xs = length-map xs plain_slot in
-    let enough : more ≡ xs ++ replicate (n + 1 - length (plain_slots xs)) None = rw len (padded_enough xs more n p there) in
-    map-set plain_slot more n (Some b)
-    ∙ ap (λ ys. set (plain_slots ys) n (Some (plain_bid b))) enough
-    ∙ ap (λ ys. set ys n (Some (plain_bid b))) (map-append plain_slot xs (replicate (n + 1 - length (plain_slots xs)) None)
-    ∙ ap (λ ys. plain_slots xs ++ ys) (plain_none (n + 1 - length (plain_slots xs))))
+pub plain_put : (keep : PlainBid → PlainBid) (xs more : List (Option Bid)) (n : ℕ) (b : Bid) → IsPadded xs more n → n < length more
+    → plain_slots keep (set more n (Some b)) ≡ put_slot (plain_slots keep xs) n (keep (plain_bid b))
+plain_put keep xs more n b p there =
+    let len : length (plain_slots keep xs) ≡ length xs = length-map xs (plain_slot keep) in
+    let enough : more ≡ xs ++ replicate (n + 1 - length (plain_slots keep xs)) None = rw len (padded_enough xs more n p there) in
+    map-set (plain_slot keep) more n (Some b)
+    ∙ ap (λ ys. set (plain_slots keep ys) n (Some (keep (plain_bid b)))) enough
+    ∙ ap (λ ys. set ys n (Some (keep (plain_bid b)))) (map-append (plain_slot keep) xs (replicate (n + 1 - length (plain_slots keep xs)) None)
+    ∙ ap (λ ys. plain_slots keep xs ++ ys) (plain_none keep (n + 1 - length (plain_slots keep xs))))
 
 -- one more place
-pub filled-push : (slots : List (Option Bid)) (slot : Option Bid) → filled (plain_slots (slots ++ slot ∷ [])) ≡ filled (plain_slots slots)
-    ++ option_to_list (plain_slot slot)
-filled-push slots slot = ap filled (map-append plain_slot slots (slot ∷ [])) ∙ filter_map-append (λ s. s) (plain_slots slots) (plain_slot slot ∷ [])
-    ∙ ap (λ bs. filled (plain_slots slots) ++ bs) (one slot)
+pub filled-push : (keep : PlainBid → PlainBid) (slots : List (Option Bid)) (slot : Option Bid) → filled (plain_slots keep (slots ++ slot ∷ [])) ≡ filled (plain_slots keep slots)
+    ++ option_to_list (plain_slot keep slot)
+filled-push keep slots slot = ap filled (map-append (plain_slot keep) slots (slot ∷ [])) ∙ filter_map-append (λ s. s) (plain_slots keep slots) (plain_slot keep slot ∷ [])
+    ∙ ap (λ bs. filled (plain_slots keep slots) ++ bs) (one slot)
   where
-    one : (s : Option Bid) → filled (plain_slot s ∷ []) ≡ option_to_list (plain_slot s)
+    one : (s : Option Bid) → filled (plain_slot keep s ∷ []) ≡ option_to_list (plain_slot keep s)
     one None = refl
     one (Some b) = refl
 
@@ -76,13 +73,13 @@ filled-came (b ∷ front) = ap (λ bs. b ∷ bs) (filled-came front)
 pub filled-front : (front : List PlainBid) → front ≡ filled (came front ++ [])
 filled-front front = filled-came front ∙ ap filled (sym (append-nil (came front)))
 
-pub filled_more : (front : List PlainBid) (slots : List (Option Bid)) (slot : Option Bid) → filled (came front ++ plain_slots (slots ++ slot ∷ []))
-    ≡ filled (came front ++ plain_slots slots) ++ option_to_list (plain_slot slot)
-filled_more front slots slot =
-    filter_map-append (λ s. s) (came front) (plain_slots (slots ++ slot ∷ []))
-    ∙ ap (λ bs. filled (came front) ++ bs) (filled-push slots slot)
-    ∙ sym (append_assoc (filled (came front)) (filled (plain_slots slots)) (option_to_list (plain_slot slot)))
-    ∙ ap (λ bs. bs ++ option_to_list (plain_slot slot)) (sym (filter_map-append (λ s. s) (came front) (plain_slots slots)))
+pub filled_more : (keep : PlainBid → PlainBid) (front : List PlainBid) (slots : List (Option Bid)) (slot : Option Bid) → filled (came front ++ plain_slots keep (slots ++ slot ∷ []))
+    ≡ filled (came front ++ plain_slots keep slots) ++ option_to_list (plain_slot keep slot)
+filled_more keep front slots slot =
+    filter_map-append (λ s. s) (came front) (plain_slots keep (slots ++ slot ∷ []))
+    ∙ ap (λ bs. filled (came front) ++ bs) (filled-push keep slots slot)
+    ∙ sym (append_assoc (filled (came front)) (filled (plain_slots keep slots)) (option_to_list (plain_slot keep slot)))
+    ∙ ap (λ bs. bs ++ option_to_list (plain_slot keep slot)) (sym (filter_map-append (λ s. s) (came front) (plain_slots keep slots)))
 
 -- a bid put behind others
 put_slot-append : (front rest : List (Option PlainBid)) (n : ℕ) (b : PlainBid) → length front ≤ n
@@ -142,19 +139,10 @@ has_rest (b ∷ front) rest (suc n) l = let e : n - length front ≡ suc n - suc
     ∙ ap (λ k. is_some_bid (slice_get rest k)) e
 
 -- the same put in the place of one of many
-set-replicate : {X : Type 0} (count n : ℕ) (x : X) → replicate count x ≡ set (replicate count x) n x
+pub set-replicate : {X : Type 0} (count n : ℕ) (x : X) → replicate count x ≡ set (replicate count x) n x
 set-replicate zero n x = refl
 set-replicate (suc count) zero x = refl
 set-replicate (suc count) (suc n) x = ap (λ xs. x ∷ xs) (set-replicate count n x)
-
--- what is kept of a bid put in the place of another of which only the number is kept
-pub set-numbers : (front : Front) (count n : ℕ) (b : PlainBid) → front ≡ Numbers count → kept_of (keeping_of front) b ≡ b
-    → front_bids front ≡ set (front_bids front) n b
-set-numbers front count n b is kept =
-    let alone : number_alone ≡ b = ap (λ f. kept_of (keeping_of f) b) (sym is) ∙ kept in
-    ap front_bids is
-    ∙ set-replicate count n number_alone
-    ∙ ap₂ (λ f x. set (front_bids f) n x) (sym is) alone
 
 pub on_ok : {A E : Type 0} (r : Result A E) (P Q : Type 0) → (P → Q) → OnOk r P → OnOk r Q
 on_ok (Ok x) P Q f h = f h

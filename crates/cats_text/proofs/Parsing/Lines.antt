@@ -9,7 +9,7 @@ use Rattle.cats_text.specs.Faults.{is_line_due, when, has_end}
 use Rattle.cats_text.specs.FileLines.{rising_of, put_slot, before_end, real_goods, bid_of}
 use Rattle.bid_file.specs.Files.{PlainBid}
 use Rattle.cats_text.specs.Internal.Progress.{Progress}
-use Rattle.cats_text.specs.Internal.Parsing.{Reading, word_read, line_read, with_bid, drafted, kept_of, is_due}
+use Rattle.cats_text.specs.Internal.Parsing.{Reading, word_read, line_read, with_bid, drafted, is_due}
 use Rattle.cats_text.specs.declared.fault.Kind.TheVariants as kinds
 use Rattle.cats_text.specs.declared.parser.Header.{Header}
 use Rattle.cats_text.specs.declared.parser.Stage.{Stage}
@@ -102,10 +102,10 @@ bid_line_step g b d lines (n ∷ x ∷ gs) p l at = elim (has_end gs) as (λ t. 
           due = (let due : p.due ≡ p.header.bids - length lines = at.due in
               let more : length (lines ++ (n ∷ x ∷ gs) ∷ []) ≡ length lines + 1 = length-append lines
               ((n ∷ x ∷ gs) ∷ []) in omega arith);
-          slots = ap₂ (λ (s : List (Option PlainBid)) (k : ℕ). put_slot s k (kept_of p.keeping (drafted p))) at.slots at.draft.number
-              ∙ ap (λ (b : PlainBid). put_slot (kept_slots p.keeping p.header.goods lines) (number_of n) (kept_of p.keeping b))
+          slots = ap₂ (λ (s : List (Option PlainBid)) (k : ℕ). put_slot s k (p.keep (drafted p))) at.slots at.draft.number
+              ∙ ap (λ (b : PlainBid). put_slot (kept_slots p.keep p.header.goods lines) (number_of n) (p.keep b))
               (drafted_is p.header.goods n x gs p at.draft)
-              ∙ sym (fold_push (λ s m. put_slot s (line_number m) (kept_of p.keeping (bid_of p.header.goods m))) [] lines (n ∷ x ∷ gs));
+              ∙ sym (fold_push (λ s m. put_slot s (line_number m) (p.keep (bid_of p.header.goods m))) [] lines (n ∷ x ∷ gs));
           draft = refl;
           goods = at.goods;
           bids = at.bids;

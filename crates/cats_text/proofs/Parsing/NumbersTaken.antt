@@ -7,7 +7,7 @@ use Rattle.std.specs.List.{slice_get, list_any}
 use Rattle.cats_text.specs.Lines.{Word}
 use Rattle.bid_file.specs.Files.{PlainBid}
 use Rattle.cats_text.specs.Grammar.{line_number}
-use Rattle.cats_text.specs.Internal.Parsing.{is_some_bid}
+use Rattle.cats_text.specs.Internal.Kept.{is_some_bid}
 use Rattle.cats_text.specs.FileLines.{put_slot}
 
 taken_set : (xs : List (Option PlainBid)) (n : ℕ) (b : PlainBid) (k : ℕ) → n < length xs → is_some_bid (slice_get (set xs n (Some b)) k)

@@ -8,8 +8,7 @@ use Rattle.cats_text.specs.Faults.{header_value, has_end, word_fault, end_fault}
 use Rattle.cats_text.specs.FileLines.{before_end, real_goods, dummy_in, bid_of, put_slot}
 use Rattle.bid_file.specs.Files.{PlainBid}
 use Rattle.cats_text.specs.Internal.Progress.{Progress}
-use Rattle.cats_text.specs.Internal.Parsing.{Reading, kept_of}
-use Rattle.cats_text.specs.declared.parser.Keeping.{Keeping}
+use Rattle.cats_text.specs.Internal.Parsing.{Reading}
 use Rattle.cats_text.specs.declared.parser.Stage.{Stage}
 use Rattle.cats_text.specs.declared.parser.Stage.TheVariants.{Goods, Bids, Dummy, Bid}
 use Rattle.cats_text.specs.declared.parser.Column.{Column}
@@ -72,8 +71,8 @@ DraftAt (_ ∷ _ ∷ []) words p = p.goods ≡ []
 DraftAt (_ ∷ _ ∷ _ ∷ _) words p = BidDraft p.header.goods words p
 
 -- what is kept of the bids of lines, each at its number
-abbrev pub kept_slots : Keeping → ℕ → List (List Word) → List (Option PlainBid)
-kept_slots keeping G lines = fold (λ slots l. put_slot slots (line_number l) (kept_of keeping (bid_of G l))) [] lines
+abbrev pub kept_slots : (PlainBid → PlainBid) → ℕ → List (List Word) → List (Option PlainBid)
+kept_slots keep G lines = fold (λ slots l. put_slot slots (line_number l) (keep (bid_of G l))) [] lines
 
 -- p is what the parser keeps behind these lines and, in the next, these words
 pub record IsAt (lines : List (List Word)) (words : List Word) (p : Progress) : Type 0 where
@@ -81,7 +80,7 @@ pub record IsAt (lines : List (List Word)) (words : List Word) (p : Progress) : 
   pub column : p.column ≡ column_of lines words
   pub header : p.header ≡ values_of lines words
   pub due : p.due ≡ p.header.bids - length (drop 3 lines)
-  pub slots : p.slots ≡ kept_slots p.keeping p.header.goods (drop 3 lines)
+  pub slots : p.slots ≡ kept_slots p.keep p.header.goods (drop 3 lines)
   pub draft : DraftAt lines words p
   pub goods : p.header.goods ≤ MAX_GOODS
   pub bids : p.header.bids ≤ MAX_BIDS

@@ -9,14 +9,15 @@ use Rattle.cats_text.specs.Faults.{has_bid_line}
 use Rattle.std.specs.List.{slice_get}
 use Rattle.cats_text.specs.Grammar.{has_number}
 use Rattle.cats_text.specs.Internal.Progress.{Progress}
-use Rattle.cats_text.specs.Internal.Parsing.{Reading, keyword_read, header_number_read, number_read, is_some_bid, price_parts, with_price, price_read}
+use Rattle.cats_text.specs.Internal.Parsing.{Reading, keyword_read, header_number_read, number_read, price_parts, with_price, price_read}
+use Rattle.cats_text.specs.Internal.Kept.{is_some_bid}
 use Rattle.cats_text.specs.Internal.Parsing.{dummy_read, good_or_end_read, word_read, line_read}
 use Rattle.cats_text.specs.declared.fault.Kind.{Kind}
 use Rattle.cats_text.specs.declared.fault.Kind.TheVariants as kinds
 use Rattle.cats_text.specs.declared.word.Keyword.{Keyword as Key}
 use Rattle.cats_text.specs.declared.word.Keyword.TheVariants as keywords
 use Rattle.cats_text.specs.declared.word.Word.TheVariants.{Keyword, Number, Decimal as Fraction, End, Other}
-use Rattle.cats_text.specs.declared.parser.Keeping.{Keeping}
+use Rattle.bid_file.specs.Files.{PlainBid}
 use Rattle.cats_text.specs.declared.parser.Column.{Column}
 use Rattle.cats_text.specs.declared.parser.Column.TheVariants.{First, Second, Later, Ended}
 use Rattle.bid_file.specs.declared.limits.TheConstants.{MAX_GOODS, MAX_BIDS, MAX_DUMMY}
@@ -196,12 +197,12 @@ err_of kind = Err kind
 -- what is read is of the same line, and as much is kept of its bid
 pub record Keeps (p : Progress) (r : Reading) : Type 0 where
   pub same : (q : Progress) → r ≡ Ok q → q.stage ≡ p.stage
-  pub keeping : (q : Progress) → r ≡ Ok q → q.keeping ≡ p.keeping
+  pub keeping : (q : Progress) → r ≡ Ok q → q.keep ≡ p.keep
 
-keeps_ok : (p q : Progress) → q.stage ≡ p.stage → q.keeping ≡ p.keeping → Keeps p (Ok q)
+keeps_ok : (p q : Progress) → q.stage ≡ p.stage → q.keep ≡ p.keep → Keeps p (Ok q)
 keeps_ok p q e f = record {
   same = λ t h. subst (λ (u : Progress). u.stage ≡ p.stage) (progress_ok q t h) e;
-  keeping = λ t h. subst (λ (u : Progress). u.keeping ≡ p.keeping) (progress_ok q t h) f;
+  keeping = λ t h. subst (λ (u : Progress). u.keep ≡ p.keep) (progress_ok q t h) f;
 }
   where
     progress_ok : (x y : Progress) → ok_of x ≡ ok_of y → x ≡ y
@@ -448,7 +449,7 @@ four_begin (b ∷ bs) s c l m = ⊎_elim
     step (Err e) g n again = absurd n
 
 -- a bid line met in the bytes that are decided stands in the text
-pub bid_line_met : (k : Keeping) (text front back : List ℕ) → blank_returns text ≡ front ++ back → MeetsBidLine (first_state k) front → has_bid_line text ≡ true
+pub bid_line_met : (k : PlainBid → PlainBid) (text front back : List ℕ) → blank_returns text ≡ front ++ back → MeetsBidLine (first_state k) front → has_bid_line text ≡ true
 bid_line_met k text front back e m =
     let four : 4 ≤ 0 + begins_after false front = four_begin front (first_state k) 0 (omega arith) m in
     let more : begins_after false front ≤ begins_after false (front ++ back) = begins_more false front back in

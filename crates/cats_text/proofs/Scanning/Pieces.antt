@@ -6,7 +6,7 @@ use Rattle.cats_text.specs.Lines.{is_blank, line_byte, blank_returns}
 use Rattle.cats_text.specs.Faults.{is_final, keep_final, up_to_final, complete_fault}
 use Rattle.cats_text.specs.Internal.Returns.{return_byte, settled, waits, carried}
 use Rattle.cats_text.specs.Internal.Scanning.{State, Scan, first_state, and_then, scan, byte_step, end_step, end_of, letter_mode}
-use Rattle.cats_text.specs.declared.parser.Keeping.{Keeping}
+use Rattle.bid_file.specs.Files.{PlainBid}
 use Rattle.cats_text.proofs.Scanning.Lines.{scan-append, byte_letter}
 use Rattle.cats_text.proofs.Parsing.WholeLines.{Scanned}
 use Rattle.cats_text.proofs.Scanning.AllBytes.{outcome}
@@ -58,7 +58,7 @@ end_waiting true s = ap (λ r. and_then r end_step) (sym (and_then_ok (byte_step
 end_waiting false s = refl
 
 -- the end of the input behind the bytes that are decided
-pub end_of_text : (k : Keeping) (text : List ℕ) (s : State) → scan (first_state k) (settled text) ≡ Ok s
+pub end_of_text : (k : PlainBid → PlainBid) (text : List ℕ) (s : State) → scan (first_state k) (settled text) ≡ Ok s
     → end_of (waits text) s ≡ and_then (scan (first_state k) (blank_returns text)) end_step
 end_of_text k text s e = end_waiting (waits text) s
     ∙ ap (λ (r : Scan). and_then (and_then r (λ t. scan t (waiting (waits text)))) end_step) (sym e)
@@ -161,7 +161,7 @@ abbrev pub CompleteIs : List ℕ → Scanned → Type 0
 CompleteIs bytes (Ok q) = complete_fault bytes ≡ None
 CompleteIs bytes (Err e) = complete_fault bytes ≡ Some e
 
-pub complete_is : (k : Keeping) (text : List ℕ) → CompleteIs text (outcome (scan (first_state k) (settled text)))
+pub complete_is : (k : PlainBid → PlainBid) (text : List ℕ) → CompleteIs text (outcome (scan (first_state k) (settled text)))
 complete_is k text =
     let cut = cut_of text in
     subst (CompleteIs text) (sym (ap (λ bs. outcome (scan (first_state k) (settled bs))) cut.1.is

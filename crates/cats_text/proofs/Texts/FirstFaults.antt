@@ -10,7 +10,7 @@ use Rattle.cats_text.specs.Faults.{fault_at, lines_fault, first_fault, is_line_d
 use Rattle.cats_text.specs.Internal.Progress.{Progress}
 use Rattle.cats_text.specs.Internal.Parsing.{Reading, start, is_due, line_read}
 use Rattle.cats_text.specs.Internal.Scanning.{Scan, first_state, and_then, scan, byte_step, blank_step, end_step}
-use Rattle.cats_text.specs.declared.parser.Keeping.{Keeping}
+use Rattle.bid_file.specs.Files.{PlainBid}
 use Rattle.cats_text.specs.declared.fault.Kind.TheVariants.{Missing}
 use Rattle.cats_text.specs.declared.scanner.Mode.TheVariants.{Start, Between}
 use Rattle.cats_text.proofs.Scanning.Lines.{scan-append, IsNoEnd, standing, fresh_outcome, lifted, quiet, from_start, byte_blank, words_blank}
@@ -126,7 +126,7 @@ kept_ends n (l ∷ ls) r =
 
 -- ---- before the first line
 
-pub at_start : (k : Keeping) → IsAt [] [] (start k)
+pub at_start : (k : PlainBid → PlainBid) → IsAt [] [] (start k)
 at_start k = record {
   stage = refl;
   column = refl;
@@ -144,7 +144,7 @@ abbrev pub WholeIs : List ℕ → Scanned → Type 0
 WholeIs text (Ok q) = (first_fault text ≡ None) × IsAt (significant_words text) [] q × (is_line_due (significant_words text) ≡ false)
 WholeIs text (Err e) = first_fault text ≡ Some e
 
-pub whole_fault : (k : Keeping) (text : List ℕ) → WholeIs text (outcome (and_then (scan (first_state k) (blank_returns text)) end_step))
+pub whole_fault : (k : PlainBid → PlainBid) (text : List ℕ) → WholeIs text (outcome (and_then (scan (first_state k) (blank_returns text)) end_step))
 whole_fault k text =
     subst (WholeIs text) (sym (ap (λ bs. outcome (and_then (scan (first_state k) bs) end_step)) (sym (text_of-lines (blank_returns text)))
     ∙ whole_text 1 (start k) (raw_lines (blank_returns text)) (AreRaw-lines (blank_returns text))
@@ -284,7 +284,7 @@ abbrev pub OpenIs : List ℕ → Scanned → Type 0
 OpenIs text (Ok q) = lines_fault false 0 [] (significant_lines text) ≡ None
 OpenIs text (Err e) = lines_fault false 0 [] (significant_lines text) ≡ Some e
 
-pub open_fault : (k : Keeping) (text : List ℕ) → EndsFinal (blank_returns text) → OpenIs text (outcome (scan (first_state k) (blank_returns text)))
+pub open_fault : (k : PlainBid → PlainBid) (text : List ℕ) → EndsFinal (blank_returns text) → OpenIs text (outcome (scan (first_state k) (blank_returns text)))
 open_fault k text f =
     subst (OpenIs text) (sym (ap (λ bs. outcome (scan (first_state k) bs)) (sym (text_of-lines (blank_returns text)))
     ∙ open_text 1 (start k) (raw_lines (blank_returns text)) (AreRaw-lines (blank_returns text)) (EndsBlank-lines (blank_returns text) f)

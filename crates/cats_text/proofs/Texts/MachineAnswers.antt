@@ -1,5 +1,5 @@
 -- What the machine gives on bytes, by the definitions over lines and words.
-use Rattle.std.proofs.Common.{◌≡◌, ℕ, ◌<◌, true, false, List, [], ◌∷◌, ◌++◌, length, Option, Some, None, ◌⊎◌, ⊎_elim, inr, Ok, Err, IsOkAnd, sym, ap, ◌∙◌}
+use Rattle.std.proofs.Common.{◌≡◌, ℕ, ◌<◌, true, false, List, [], ◌∷◌, ◌++◌, length, Some, None, ◌⊎◌, ⊎_elim, inr, Ok, Err, IsOkAnd, sym, ap, ◌∙◌}
 use Rattle.std.proofs.Common.{subst, arith, refl}
 use Rattle.std.proofs.lemmas.Bool.{both_ways, lt-ltb}
 use Rattle.std.proofs.lemmas.List.{length-map}
@@ -8,14 +8,12 @@ use Rattle.cats_text.specs.Lines.{Word, Line, significant_lines}
 use Rattle.cats_text.specs.Grammar.{Spells, significant_words}
 use Rattle.cats_text.specs.Faults.{first_fault, complete_fault, has_bid_line, is_line_due}
 use Rattle.std.specs.Prelude.{codes}
-use Rattle.cats_text.specs.Internal.Reading.{SpellsSizes}
+use Rattle.cats_text.specs.Internal.Reading.{SpellsParts}
 use Rattle.cats_text.specs.Internal.Returns.{settled, waits, carried}
 use Rattle.cats_text.specs.Internal.Progress.{Progress}
-use Rattle.cats_text.specs.Internal.Parsing.{file_from, KeepsBids}
 use Rattle.cats_text.specs.FileLines.{filled, file_of_lines, slots_of}
 use Rattle.cats_text.specs.Internal.Scanning.{State, Scan, first_state, and_then, scan, byte_step, end_step, end_of, MeetsBidLine, IsInBidLine, HasBids}
-use Rattle.cats_text.specs.declared.parser.Keeping.{Keeping}
-use Rattle.cats_text.specs.declared.parser.Keeping.TheVariants as keepings
+use Rattle.cats_text.specs.Internal.Kept.{whole}
 use Rattle.cats_text.specs.declared.fault.ReadFault.{ReadFault}
 use Rattle.cats_text.specs.declared.parser.Header.{Header}
 use Rattle.cats_text.proofs.Scanning.AllBytes.{outcome}
@@ -34,15 +32,15 @@ abbrev err : ReadFault → Scan
 err e = Err e
 
 -- a fault that stops the machine is complete in the bytes
-pub stops_at_complete_fault : (k : Keeping) (bytes : List ℕ) (e : ReadFault) → scan (first_state k) (settled bytes) ≡ err e → complete_fault bytes ≡ Some e
+pub stops_at_complete_fault : (k : PlainBid → PlainBid) (bytes : List ℕ) (e : ReadFault) → scan (first_state k) (settled bytes) ≡ err e → complete_fault bytes ≡ Some e
 stops_at_complete_fault k bytes e h = subst (λ (r : Scan). CompleteIs bytes (outcome r)) h (complete_is k bytes)
 
 -- where the machine goes on, no fault is complete
-pub goes_on_without_fault : (k : Keeping) (bytes : List ℕ) (s : State) → scan (first_state k) (settled bytes) ≡ ok s → complete_fault bytes ≡ None
+pub goes_on_without_fault : (k : PlainBid → PlainBid) (bytes : List ℕ) (s : State) → scan (first_state k) (settled bytes) ≡ ok s → complete_fault bytes ≡ None
 goes_on_without_fault k bytes s h = subst (λ (r : Scan). CompleteIs bytes (outcome r)) h (complete_is k bytes)
 
 -- the answer of the machine for the whole text, where it stopped at a fault already
-stopped : (k : Keeping) (bytes : List ℕ) (e : ReadFault) → scan (first_state k) (settled bytes) ≡ err e → first_fault bytes ≡ Some e
+stopped : (k : PlainBid → PlainBid) (bytes : List ℕ) (e : ReadFault) → scan (first_state k) (settled bytes) ≡ err e → first_fault bytes ≡ Some e
 stopped k bytes e h = subst (λ (r : Scan). WholeIs bytes (outcome r))
     (ap (λ (r : Scan). and_then r end_step) (ap (scan (first_state k)) (blank_returns-settled bytes)
     ∙ scan-append (first_state k) (settled bytes) (waiting (waits bytes)) ∙ ap (λ (r : Scan). and_then r (λ t. scan t (waiting (waits bytes)))) h))
@@ -50,18 +48,18 @@ stopped k bytes e h = subst (λ (r : Scan). WholeIs bytes (outcome r))
 
 -- and it is the first fault of the bytes
 pub complete_fault_is_first : (bytes : List ℕ) (e : ReadFault) → complete_fault bytes ≡ Some e → first_fault bytes ≡ Some e
-complete_fault_is_first bytes e h = by_scan (scan (first_state keepings.Bids) (settled bytes)) refl
+complete_fault_is_first bytes e h = by_scan (scan (first_state whole) (settled bytes)) refl
   where
     no : None ≡ Some e → ⊥
     no q = cc
 
-    by_scan : (r : Scan) → scan (first_state keepings.Bids) (settled bytes) ≡ r → first_fault bytes ≡ Some e
-    by_scan (Ok s) is = absurd (no (sym (goes_on_without_fault keepings.Bids bytes s is) ∙ h))
-    by_scan (Err c) is = stopped keepings.Bids bytes c is ∙ sym (stops_at_complete_fault keepings.Bids bytes c is) ∙ h
+    by_scan : (r : Scan) → scan (first_state whole) (settled bytes) ≡ r → first_fault bytes ≡ Some e
+    by_scan (Ok s) is = absurd (no (sym (goes_on_without_fault whole bytes s is) ∙ h))
+    by_scan (Err c) is = stopped whole bytes c is ∙ sym (stops_at_complete_fault whole bytes c is) ∙ h
 
 -- it is complete in every longer text too
 complete_fault-append : (bytes rest : List ℕ) (e : ReadFault) → complete_fault bytes ≡ Some e → complete_fault (bytes ++ rest) ≡ Some e
-complete_fault-append bytes rest e h = by_scan (scan (first_state keepings.Bids) (settled bytes)) refl
+complete_fault-append bytes rest e h = by_scan (scan (first_state whole) (settled bytes)) refl
   where
     no : None ≡ Some e → ⊥
     no q = cc
@@ -69,60 +67,45 @@ complete_fault-append bytes rest e h = by_scan (scan (first_state keepings.Bids)
     more : List ℕ
     more = settled (carried (waits bytes) rest)
 
-    by_scan : (r : Scan) → scan (first_state keepings.Bids) (settled bytes) ≡ r → complete_fault (bytes ++ rest) ≡ Some e
-    by_scan (Ok s) is = absurd (no (sym (goes_on_without_fault keepings.Bids bytes s is) ∙ h))
-    by_scan (Err c) is = stops_at_complete_fault keepings.Bids (bytes ++ rest) c
-        (ap (scan (first_state keepings.Bids)) (settled-append bytes rest) ∙ scan-append (first_state keepings.Bids) (settled bytes) more
+    by_scan : (r : Scan) → scan (first_state whole) (settled bytes) ≡ r → complete_fault (bytes ++ rest) ≡ Some e
+    by_scan (Ok s) is = absurd (no (sym (goes_on_without_fault whole bytes s is) ∙ h))
+    by_scan (Err c) is = stops_at_complete_fault whole (bytes ++ rest) c
+        (ap (scan (first_state whole)) (settled-append bytes rest) ∙ scan-append (first_state whole) (settled bytes) more
         ∙ ap (λ (r : Scan). and_then r (λ t. scan t more)) is)
-        ∙ sym (stops_at_complete_fault keepings.Bids bytes c is) ∙ h
+        ∙ sym (stops_at_complete_fault whole bytes c is) ∙ h
 
 -- so it is the first fault, whatever follows
 pub complete_fault_stays : (bytes rest : List ℕ) (e : ReadFault) → complete_fault bytes ≡ Some e → first_fault (bytes ++ rest) ≡ Some e
 complete_fault_stays bytes rest e h = complete_fault_is_first (bytes ++ rest) e (complete_fault-append bytes rest e h)
 
-whole_at_end : (k : Keeping) (bytes : List ℕ) (s : State) (r : Scan) → scan (first_state k) (settled bytes) ≡ ok s → end_of (waits bytes) s ≡ r
+whole_at_end : (k : PlainBid → PlainBid) (bytes : List ℕ) (s : State) (r : Scan) → scan (first_state k) (settled bytes) ≡ ok s → end_of (waits bytes) s ≡ r
     → WholeIs bytes (outcome r)
 whole_at_end k bytes s r h end = subst (λ (x : Scan). WholeIs bytes (outcome x)) (sym (end_of_text k bytes s h) ∙ end) (whole_fault k bytes)
 
 -- at the end of the input the machine stops at the first fault
-pub ends_at_first_fault : (k : Keeping) (bytes : List ℕ) (s : State) (e : ReadFault) → scan (first_state k) (settled bytes) ≡ ok s
+pub ends_at_first_fault : (k : PlainBid → PlainBid) (bytes : List ℕ) (s : State) (e : ReadFault) → scan (first_state k) (settled bytes) ≡ ok s
     → end_of (waits bytes) s ≡ err e → first_fault bytes ≡ Some e
 ends_at_first_fault k bytes s e h end = whole_at_end k bytes s (err e) h end
 
--- what the parser keeps behind all lines is the file that they say
-whole_slots : (k : Keeping) (G : ℕ) (lines : List (List Word)) → KeepsBids k → kept_slots k G lines ≡ slots_of G lines
-whole_slots keepings.Bids G lines kept = refl
-whole_slots keepings.Compact G lines kept = refl
-whole_slots keepings.Numbers G lines kept = absurd kept
+-- what the parser keeps behind all lines, if it keeps each bid whole, is the bids that they say
+bids_are_said : (lines : List (List Word)) (p : Progress) → p.keep ≡ whole → IsAt lines [] p → is_line_due lines ≡ false
+    → filled p.slots ≡ (file_of_lines lines).bids
+bids_are_said [] p kept at due = absurd (both_ways true due refl)
+bids_are_said (g ∷ []) p kept at due = absurd (both_ways true due refl)
+bids_are_said (g ∷ b ∷ []) p kept at due = absurd (both_ways true due refl)
+bids_are_said (g ∷ b ∷ d ∷ lines) p kept at due =
+    ap filled at.slots ∙ ap (λ (k : PlainBid → PlainBid). filled (kept_slots k p.header.goods lines)) kept
+    ∙ ap (λ (h : Header). filled (slots_of h.goods lines)) at.header
 
-file_is_said : (lines : List (List Word)) (p : Progress) → KeepsBids p.keeping → IsAt lines [] p → is_line_due lines ≡ false
-    → file_from p ≡ file_of_lines lines
-file_is_said [] p kept at due = absurd (both_ways true due refl)
-file_is_said (g ∷ []) p kept at due = absurd (both_ways true due refl)
-file_is_said (g ∷ b ∷ []) p kept at due = absurd (both_ways true due refl)
-file_is_said (g ∷ b ∷ d ∷ lines) p kept at due =
-    ap (λ (s : List (Option PlainBid)). file p.header s) at.slots ∙ ap (file p.header) (whole_slots p.keeping p.header.goods lines kept)
-    ∙ ap (λ (h : Header). file h (slots_of h.goods lines)) at.header
-  where
-    file : Header → List (Option PlainBid) → PlainFile
-    file h s = record { goods = h.goods; dummy = h.dummy; bids = filled s }
-
--- or has the file that the bytes spell
-pub ends_at_file : (k : Keeping) (bytes : List ℕ) (s t : State) → KeepsBids k → scan (first_state k) (settled bytes) ≡ ok s
-    → end_of (waits bytes) s ≡ ok t → Spells bytes (file_from t.progress)
-ends_at_file k bytes s t keeps h end = let whole = whole_at_end k bytes s (ok t) h end in
-    let kept : t.progress.keeping ≡ k = end_keeping (waits bytes) s t end ∙ scan_keeping (first_state k) s (settled bytes) h in
-    subst (Spells bytes) (sym (file_is_said (significant_words bytes) t.progress (subst KeepsBids (sym kept) keeps) whole.1 whole.2))
-    (spells_from_no_fault bytes whole.0)
-
--- and its sizes are those that the header lines say
-pub ends_at_sizes : (k : Keeping) (bytes : List ℕ) (s t : State) → scan (first_state k) (settled bytes) ≡ ok s → end_of (waits bytes) s ≡ ok t
-    → SpellsSizes bytes t.progress.header
-ends_at_sizes k bytes s t h end =
-    let whole = whole_at_end k bytes s (ok t) h end in
+-- or has the sizes, and if each bid is kept whole the bids, of the file that the bytes spell
+pub ends_at_parts : (k : PlainBid → PlainBid) (bytes : List ℕ) (s t : State) → scan (first_state k) (settled bytes) ≡ ok s → end_of (waits bytes) s ≡ ok t
+    → SpellsParts k bytes t.progress.header (filled t.progress.slots)
+ends_at_parts k bytes s t h end =
+    let last = whole_at_end k bytes s (ok t) h end in
+    let kept : t.progress.keep ≡ k = end_keeping (waits bytes) s t end ∙ scan_keeping (first_state k) s (settled bytes) h in
     let file : PlainFile = file_of_lines (significant_words bytes) in
-    let spelled : Spells bytes file = spells_from_no_fault bytes whole.0 in
-    let at = subst (λ (lines : List (List Word)). IsAt lines [] t.progress) spelled.lines_are whole.1 in
+    let spelled : Spells bytes file = spells_from_no_fault bytes last.0 in
+    let at = subst (λ (lines : List (List Word)). IsAt lines [] t.progress) spelled.lines_are last.1 in
     record {
       file = file;
       spelled = spelled;
@@ -131,10 +114,11 @@ ends_at_sizes k bytes s t h end =
         bids = ap (λ (x : Header). x.bids) at.header ∙ spelled_value (codes "bids") spelled.bids (length file.bids) spelled.bids_spelled;
         dummy = ap (λ (x : Header). x.dummy) at.header ∙ spelled_value (codes "dummy") spelled.dummy file.dummy spelled.dummy_spelled;
       };
+      bids_are = λ is. bids_are_said (significant_words bytes) t.progress (kept ∙ is) last.1 last.2;
     }
 
 -- the machine keeps nothing before a bid line
-pub meets_bid_line : (k : Keeping) (bytes : List ℕ) → MeetsBidLine (first_state k) (settled bytes) → has_bid_line bytes ≡ true
+pub meets_bid_line : (k : PlainBid → PlainBid) (bytes : List ℕ) → MeetsBidLine (first_state k) (settled bytes) → has_bid_line bytes ≡ true
 meets_bid_line k bytes m = bid_line_met k bytes (settled bytes) (waiting (waits bytes)) (blank_returns-settled bytes) m
 
 met_at_end : (s t : State) (bytes : List ℕ) → scan s bytes ≡ ok t → IsInBidLine t → MeetsBidLine s bytes
@@ -159,7 +143,7 @@ bids_behind (g ∷ b ∷ []) p at l = absurd (let none : length p.slots ≡ 0 = 
 bids_behind (g ∷ b ∷ d ∷ []) p at l = absurd (let none : length p.slots ≡ 0 = ap length at.slots in omega arith)
 bids_behind (g ∷ b ∷ d ∷ m ∷ lines) p at l = omega arith
 
-pub ends_in_bid_line : (k : Keeping) (bytes : List ℕ) (s : State) → scan (first_state k) (settled bytes) ≡ ok s
+pub ends_in_bid_line : (k : PlainBid → PlainBid) (bytes : List ℕ) (s : State) → scan (first_state k) (settled bytes) ≡ ok s
     → IsInBidLine s ⊎ HasBids (end_of (waits bytes) s) → has_bid_line bytes ≡ true
 ends_in_bid_line k bytes s h b = ⊎_elim
     (λ (i : IsInBidLine s). meets_bid_line k bytes (met_at_end (first_state k) s (settled bytes) h i))

@@ -1,17 +1,15 @@
 -- What a word, a line's end and the input's end do to what the parser keeps.
 use Rattle.std.specs.Prelude.{ℕ, ◌+◌, ◌-◌, ◌*◌, ◌^◌, ◌==◌, nat_lt, nat_le, min, Bool, true, false, ◌&&◌, ◌||◌}
-use Rattle.std.specs.Prelude.{if◌then◌else◌, List, [], ◌∷◌, ◌++◌, length, slice_get, Option, Some, None, Result, Ok, Err}
+use Rattle.std.specs.Prelude.{if◌then◌else◌, [], ◌∷◌, ◌++◌, length, slice_get, Option, Some, None, Result, Ok, Err}
 use Rattle.cats_text.specs.Numbers.{GREATEST_PRICE}
 use Rattle.cats_text.specs.Grammar.{has_number}
-use Rattle.bid_file.specs.Files.{PlainBid, PlainFile}
-use Rattle.cats_text.specs.FileLines.{rising_of, put_slot, filled}
+use Rattle.bid_file.specs.Files.{PlainBid}
+use Rattle.cats_text.specs.FileLines.{rising_of, put_slot}
 use Rattle.cats_text.specs.Internal.Keywords.{keyword_text}
-use Rattle.cats_text.specs.Internal.Progress.{Progress, number_alone}
+use Rattle.cats_text.specs.Internal.Progress.{Progress}
+use Rattle.cats_text.specs.Internal.Kept.{is_some_bid}
 use Rattle.cats_text.specs.declared.fault.Kind.{Kind}
 use Rattle.cats_text.specs.declared.fault.Kind.TheVariants as kinds
-use Rattle.cats_text.specs.declared.parser.Draft.{Draft}
-use Rattle.cats_text.specs.declared.parser.Keeping.{Keeping}
-use Rattle.cats_text.specs.declared.parser.Keeping.TheVariants as keepings
 use Rattle.cats_text.specs.declared.word.Keyword.{Keyword}
 use Rattle.cats_text.specs.declared.word.Keyword.TheVariants as keywords
 use Rattle.cats_text.specs.declared.word.Word.{Word}
@@ -25,9 +23,9 @@ abbrev pub Reading : Type 0
 Reading = Result Progress Kind
 
 -- before the first line, where this is kept of each bid
-abbrev pub start : Keeping → Progress
-start keeping = record {
-  keeping = keeping;
+abbrev pub start : (PlainBid → PlainBid) → Progress
+start keep = record {
+  keep = keep;
   stage = Goods;
   column = First;
   header = record { goods = 0; bids = 0; dummy = 0 };
@@ -63,10 +61,6 @@ header_number_read p (words.Number n) = elim p.stage [
 header_number_read p _ = Err kinds.NotANumber
 
 -- ---- bid lines
-
-abbrev pub is_some_bid : Option (Option PlainBid) → Bool
-is_some_bid (Some (Some b)) = true
-is_some_bid _ = false
 
 abbrev pub number_read : Progress → Word → Reading
 number_read p (words.Number n) =
@@ -140,22 +134,6 @@ word_read p w = elim p.column [
 
 -- ---- the end of a line
 
--- what is kept of a bid
-abbrev pub kept_of : Keeping → PlainBid → PlainBid
-kept_of keepings.Bids b = b
-kept_of keepings.Compact b = b
-kept_of keepings.Numbers b = number_alone
-
--- the bids themselves are kept
-abbrev pub KeepsBids : Keeping → Type 0
-KeepsBids keepings.Bids = Unit {0}
-KeepsBids keepings.Compact = Unit {0}
-KeepsBids keepings.Numbers = ⊥
-
--- a draft with these goods
-abbrev pub with_goods : Draft → List ℕ → PlainBid
-with_goods draft goods = record { price = draft.price; goods = goods; dummy = draft.dummy }
-
 abbrev pub drafted : Progress → PlainBid
 drafted p = record { price = p.draft.price; goods = rising_of p.goods; dummy = p.draft.dummy }
 
@@ -163,7 +141,7 @@ abbrev pub with_bid : Progress → Progress
 with_bid p = record p {
   column = First;
   due = p.due - 1;
-  slots = put_slot p.slots p.draft.number (kept_of p.keeping (drafted p));
+  slots = put_slot p.slots p.draft.number (p.keep (drafted p));
   goods = [];
 }
 
@@ -199,6 +177,3 @@ line_read p = elim p.stage [
 
 abbrev pub is_due : Progress → Bool
 is_due p = elim p.stage [ Goods ↦ true | Bids ↦ true | Dummy ↦ true | Bid ↦ nat_lt 0 p.due ]
-
-abbrev pub file_from : Progress → PlainFile
-file_from p = record { goods = p.header.goods; dummy = p.header.dummy; bids = filled p.slots }

@@ -4,16 +4,14 @@ use Rattle.std.specs.Prelude.{Ok, Err, length, ◌<◌, ◌≤◌, drop}
 use Rattle.cats_text.specs.Lines.{is_blank}
 use Rattle.cats_text.specs.Internal.Returns.{settled, waits}
 use Rattle.cats_text.specs.Faults.{fault_at}
-use Rattle.bid_file.specs.Files.{PlainFile}
-use Rattle.bid_file.specs.Views.{plain_file}
+use Rattle.bid_file.specs.Files.{PlainBid}
+use Rattle.cats_text.specs.FileLines.{filled}
 use Rattle.cats_text.specs.Internal.Machine.{word_from, word_with}
 use Rattle.cats_text.specs.Internal.Progress.{Progress, progress}
-use Rattle.cats_text.specs.Internal.Parsing.{Reading, start, word_read, line_read, is_due, file_from}
-use Rattle.bid_file.specs.declared.bid.BidFile.{BidFile}
+use Rattle.cats_text.specs.Internal.Parsing.{Reading, start, word_read, line_read, is_due}
 use Rattle.cats_text.specs.declared.fault.Kind.TheVariants.{Missing}
 use Rattle.cats_text.specs.declared.fault.ReadFault.{ReadFault}
 use Rattle.cats_text.specs.declared.parser.Header.{Header}
-use Rattle.cats_text.specs.declared.parser.Keeping.{Keeping}
 use Rattle.cats_text.specs.declared.parser.Stop.{Stop}
 use Rattle.cats_text.specs.declared.parser.Stop.TheVariants as stops
 use Rattle.cats_text.specs.declared.parser.Stage.TheVariants.{Bid}
@@ -30,11 +28,11 @@ pub record State : Type 0 where
   pub progress : Progress
 
 -- what is seen of a scanner
-abbrev pub state : Scanner → State
-state s = record { mode = s.mode; line = s.line; progress = progress s.parser }
+abbrev pub state : {K : Type 0} → (PlainBid → PlainBid) → Scanner K → State
+state keep s = record { mode = s.mode; line = s.line; progress = progress keep s.parser }
 
-abbrev pub first_state : Keeping → State
-first_state keeping = record { mode = Start; line = 1; progress = start keeping }
+abbrev pub first_state : (PlainBid → PlainBid) → State
+first_state keep = record { mode = Start; line = 1; progress = start keep }
 
 abbrev pub Scan : Type 0
 Scan = Result State ReadFault
@@ -168,18 +166,10 @@ Asks s bytes (Ok x) = Unit {0}
 Asks s bytes (Err (Fault e)) = Unit {0}
 Asks s bytes (Err Memory) = MeetsBidLine s bytes
 
--- the file at the end of the input
-abbrev pub IsPlainFileOf : PlainFile → Scan → Type 0
-IsPlainFileOf f (Ok s) = f ≡ file_from s.progress
-IsPlainFileOf f (Err e) = ⊥
-
-abbrev pub IsFileOf : BidFile → Scan → Type 0
-IsFileOf f read = IsPlainFileOf (plain_file f) read
-
--- the header lines at the end of the input
-abbrev pub IsHeaderOf : Header → Scan → Type 0
-IsHeaderOf h (Ok s) = h ≡ s.progress.header
-IsHeaderOf h (Err e) = ⊥
+-- the header lines, and what is kept of the bids, at the end of the input
+abbrev pub ArePartsOf : {K : Type 0} → (K → List PlainBid) → Header × K → Scan → Type 0
+ArePartsOf bids parts (Ok s) = (parts.0 ≡ s.progress.header) × (bids parts.1 ≡ filled s.progress.slots)
+ArePartsOf bids parts (Err e) = ⊥
 
 -- a call at the end of the input gave what is asked for of it, or what the machine gives
 abbrev pub Finishes : {A : Type 0} → (A → Scan → Type 0) → Result A Halt → Scan → Type 0

@@ -7,5 +7,5 @@ loop-slots-preserved c = let room : length c.loop-slots.slots.items ≤ c.args.p
     padded_more _ _ _ c.args.place c.loop-slots.invariant room c.in_ok-push.ensures.items
 
 pub returns : goal.returns
-returns c = let there : c.args.place < length c.loop-slots.slots.items = search rules in
-    plain_put _ _ c.args.place c.args.bid c.loop-slots.invariant there
+returns c keep = let there : c.args.place < length c.loop-slots.slots.items = search rules in
+    plain_put keep _ _ c.args.place c.args.bid c.loop-slots.invariant there

@@ -25,8 +25,7 @@ returns-in-Ok-eq0 g c =
     let gave = c.in-Ok-eq0.ensures in
     let room : 0 < length c.read.new.piece = rw c.read.auto.piece kept.room in
     record {
-      keeping = kept.keeping;
-      bytes = no_more _ _ _ c.loop-count.feeder.fed.bytes c.read.new.piece c.in-Ok-eq0.field-0 none kept.came gave.bytes.0;
+      bytes = no_more _ _ _ c.loop-count.feeder.bytes c.read.new.piece c.in-Ok-eq0.field-0 none kept.came gave.bytes.0;
       answer = (
         kept.working,
         gave.failed,
@@ -49,37 +48,35 @@ more_bytes bytes piece all n some count joined = rw (joined, length-append bytes
 pub loop-count-smaller : goal.loop-count-smaller
 loop-count-smaller g c =
     let kept = c.loop-count.invariant in
-    let fed = rw kept.working at c.in_ok-feed-in-Ok.ensures.feeds in
-    let before = fed_within MAX_STREAM c.loop-count.feeder.fed.bytes kept.no_fault in
-    let grown = more_bytes c.loop-count.feeder.fed.bytes _ c.feed.new.self.fed.bytes c.in-Ok.count c.in-Ok.count-test.1 c.in-Ok.ensures.bound.1 fed.bytes in
+    let fed = rw kept.working at c.in_ok-feed-in-Ok.ensures in
+    let before = fed_within MAX_STREAM c.loop-count.feeder.bytes kept.no_fault in
+    let grown = more_bytes c.loop-count.feeder.bytes _ c.feed.new.self.bytes c.in-Ok.count c.in-Ok.count-test.1 c.in-Ok.ensures.bound.1 fed.bytes in
     omega arith
 
 pub loop-count-preserved : goal.loop-count-preserved
 loop-count-preserved g c =
     let kept = c.loop-count.invariant in
-    let fed = rw kept.working at c.in_ok-feed-in-Ok.ensures.feeds in
+    let fed = rw kept.working at c.in_ok-feed-in-Ok.ensures in
     let limit = fed.limit ∙ kept.limit in
     record {
       limit = limit;
       working = fed.answer.1;
       no_fault = rw limit at fed.answer.0;
-      came = came_more _ _ _ c.loop-count.feeder.fed.bytes _ c.feed.new.self.fed.bytes kept.came c.in-Ok.ensures.bytes.0 fed.bytes;
+      came = came_more _ _ _ c.loop-count.feeder.bytes _ c.feed.new.self.bytes kept.came c.in-Ok.ensures.bytes.0 fed.bytes;
       device = c.in-Ok.ensures.failed;
       room = rw c.read.auto.piece kept.room;
-      keeping = c.in_ok-feed-in-Ok.ensures.keeping ∙ kept.keeping;
     }
 
 pub returns-in_err-feed-in-Ok : goal.returns-in_err-feed-in-Ok
 returns-in_err-feed-in-Ok g c =
     let kept = c.loop-count.invariant in
-    let fed = rw kept.working at c.in_err-feed-in-Ok.ensures.feeds in
+    let fed = rw kept.working at c.in_err-feed-in-Ok.ensures in
     let told = err_from_is_err_and c.from_residual.result c.from_residual.ensures.1 in
     let limit = fed.limit ∙ kept.limit in
     record {
-      keeping = c.in_err-feed-in-Ok.ensures.keeping ∙ kept.keeping;
-      bytes = came_more _ _ _ c.loop-count.feeder.fed.bytes _ c.feed.new.self.fed.bytes kept.came c.in-Ok.ensures.bytes.0 fed.bytes;
+      bytes = came_more _ _ _ c.loop-count.feeder.bytes _ c.feed.new.self.bytes kept.came c.in-Ok.ensures.bytes.0 fed.bytes;
       answer = rw (told.1, told.2)
-          (fed_told g.R.Read.remaining c.feed.new.self.fed.bytes c.read.new.self c.in_err-feed-in-Ok.field-0.0 c.in-Ok.ensures.failed
+          (fed_told g.R.Read.remaining c.feed.new.self.bytes c.read.new.self c.in_err-feed-in-Ok.field-0.0 c.in-Ok.ensures.failed
           (rw limit at fed.answer.0));
     }
 
@@ -87,7 +84,6 @@ pub returns-in-Err : goal.returns-in-Err
 returns-in-Err g c =
     let kept = c.loop-count.invariant in
     record {
-      keeping = kept.keeping;
-      bytes = Consumes-kept _ _ _ c.loop-count.feeder.fed.bytes kept.came c.in-Err.ensures.bytes;
+      bytes = Consumes-kept _ _ _ c.loop-count.feeder.bytes kept.came c.in-Err.ensures.bytes;
       answer = rw c.device_failed.ensures (refl, c.in-Err.ensures.failed, kept.no_fault);
     }

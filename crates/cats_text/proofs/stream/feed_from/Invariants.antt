@@ -7,14 +7,13 @@ use Rattle.cats_text.proofs.stream.feed_from.Given as goal
 
 abbrev pub invariant-loop-count : goal.invariant-loop-count
 invariant-loop-count g l = record {
-  limit : l.feeder.fed.limit ≡ MAX_STREAM;
-  working : l.feeder.fed.failed ≡ None;
-  no_fault : fed_fault MAX_STREAM l.feeder.fed.bytes ≡ None;
-  came : Consumes (g.R.Read.remaining (inner_of l.fn.input)) (g.R.Read.remaining (inner_of l.input)) l.feeder.fed.bytes;
+  limit : l.feeder.limit ≡ MAX_STREAM;
+  working : l.feeder.failed ≡ None;
+  no_fault : fed_fault MAX_STREAM l.feeder.bytes ≡ None;
+  came : Consumes (g.R.Read.remaining (inner_of l.fn.input)) (g.R.Read.remaining (inner_of l.input)) l.feeder.bytes;
   device : has_failed l.input ≡ false;
   room : 0 < length l.piece;
-  keeping : l.feeder.keeping ≡ l.fn.feeder.keeping;
 }
 
 abbrev pub decreases-loop-count : goal.decreases-loop-count
-decreases-loop-count g l = (MAX_STREAM + 1) - length l.feeder.fed.bytes
+decreases-loop-count g l = (MAX_STREAM + 1) - length l.feeder.bytes

@@ -2,15 +2,14 @@
 use Rattle.std.proofs.Common.{arith, ◌≡◌, ◌<◌, ◌≤◌, ◌+◌, ◌-◌, ◌++◌, min, ℕ, List, length, take, sym, ap, ◌∙◌, length-append}
 use Rattle.std.proofs.Math.Seq.{take-length}
 use Rattle.std.proofs.lemmas.List.{length-take}
-use Rattle.cats_text.specs.Internal.Reading.{Feeding}
 use Rattle.cats_text.proofs.Feeding.Pieces.{IsJudged, judged_bytes, judged_halted, judged_too_long, judged_ok, few_lines, still_reading, fed_told}
 use Rattle.cats_text.proofs.feeder.Feeder.feed.Goals as goal
 use Rattle.cats_text.proofs.feeder.Feeder.feed.Goals.{in-Err, in-Ok, in-Ok-2}
 
 pub take-requires : goal.take-requires
-take-requires c =
+take-requires g c =
     let kept = c.self.invariant.taken c.in_default.is in
-    let lines = few_lines c.self.inside.keeping c.self.inside.limit c.self.inside.count c.self.inside.scanner c.self.inside.history.bytes kept in
+    let lines = few_lines g.K.Keep.keep c.self.inside.limit c.self.inside.count c.self.inside.scanner c.self.inside.history.bytes kept in
     let within = kept.within in
     let limit = c.self.invariant.limit in
     let some = c.min-within.ensures in
@@ -29,10 +28,10 @@ all_judged limit count within bytes piece c room w whole =
     let sum = length-append bytes piece in let same : within ≡ length piece = omega arith in
     (omega arith, rw same (take-length piece), same)
 
-judged : (c : goal.After-self-2-1)
-    → IsJudged c.self.inside.keeping c.self.inside.limit (c.self.inside.count + c.min-within.result) c.take.new.self
+judged : (g : _) (c : goal.After-self-2-1 g)
+    → IsJudged g.K.Keep.keep c.self.inside.limit (c.self.inside.count + c.min-within.result) c.take.new.self
     (c.self.inside.history.bytes ++ c.args.piece.now) c.match-take.judged
-judged c =
+judged g c =
     let limit = c.self.inside.limit in
     let count = c.self.inside.count in
     let within = c.min-within.result in
@@ -46,34 +45,31 @@ judged c =
     elim c.match-take.branch [
       | in-Err w ↦
           rw (w.judged-is, w.told.ensures)
-          (judged_halted c.self.inside.keeping limit (count + within) count old new bytes (take within piece) all w.in-Err.halt kept is w.in-Err.ensures.steps
+          (judged_halted g.K.Keep.keep limit (count + within) count old new bytes (take within piece) all w.in-Err.halt kept is w.in-Err.ensures.steps
           w.in-Err.ensures.memory)
       | in-Ok w ↦
           rw (w.judged-is, w.too_long.ensures)
-          (judged_too_long c.self.inside.keeping limit (count + within) count old new bytes (take within piece) all kept is
+          (judged_too_long g.K.Keep.keep limit (count + within) count old new bytes (take within piece) all kept is
           (too_many limit count within bytes piece kept.count c.min-within.ensures w.if-within-piece.true) w.in-Ok.ensures.steps)
       | in-Ok-2 w ↦
           let whole = all_judged limit count within bytes piece kept.count kept.within c.min-within.ensures w.if-within-piece.false in
           rw w.judged-is
-          (judged_ok c.self.inside.keeping limit (count + within) count old new bytes (take within piece) all kept (ap (λ l. bytes ++ l) whole.1) whole.0
+          (judged_ok g.K.Keep.keep limit (count + within) count old new bytes (take within piece) all kept (ap (λ l. bytes ++ l) whole.1) whole.0
           w.in-Ok-2.ensures.steps w.in-Ok-2.ensures.waiting
           (ap (λ n. count + n) (whole.2 ∙ ap length (sym whole.1))) (let sum = length-append bytes piece in let counted = kept.count in let more = whole.0 in
           let same = whole.2 in omega arith))
     ]
 
 pub invariant_of-self : goal.invariant_of-self
-invariant_of-self c =
+invariant_of-self g c =
     rw (c.note.ensures, c.err-self-inside.ensures.value)
-    (still_reading c.self.inside.keeping c.self.inside.limit (c.self.inside.count + c.min-within.result) c.take.new.self
+    (still_reading g.K.Keep.keep c.self.inside.limit (c.self.inside.count + c.min-within.result) c.take.new.self
     (c.self.inside.history.bytes ++ c.args.piece.now) c.match-take.judged
-    c.self.invariant.limit (judged c))
+    c.self.invariant.limit (judged g c))
 
-pub returns-clause-feeds : goal.returns-clause-feeds
-returns-clause-feeds c =
+pub returns : goal.returns
+returns g c =
     rw (← c.self.view_is, c.note.ensures, c.err-self-inside.ensures.value)
-    (fed_told c.self.inside.keeping (record { limit = c.self.inside.limit; bytes = c.self.inside.history.bytes; failed = c.self.inside.failed })
+    (fed_told g.K.Keep.keep (record { limit = c.self.inside.limit; bytes = c.self.inside.history.bytes; failed = c.self.inside.failed })
     c.args.piece.now
-    (c.self.inside.count + c.min-within.result) c.take.new.self c.match-take.judged c.in_default.is (judged c))
-
-pub returns-clause-keeping : goal.returns-clause-keeping
-returns-clause-keeping c = ap (λ (f : Feeding). f.keeping) c.self.view_is
+    (c.self.inside.count + c.min-within.result) c.take.new.self c.match-take.judged c.in_default.is (judged g c))

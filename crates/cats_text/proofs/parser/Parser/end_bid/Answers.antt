@@ -2,4 +2,4 @@ use Rattle.std.proofs.Common.{rules}
 use Rattle.cats_text.proofs.parser.Parser.end_bid.Goals as goal
 
 pub returns-clause-reads : goal.returns-clause-reads
-returns-clause-reads c = search rules
+returns-clause-reads g c = search rules

@@ -1,5 +1,6 @@
+-- What is kept of the bid is at its number, and its goods are gone.
 use Rattle.std.proofs.Common.{rules}
 use Rattle.cats_text.proofs.parser.Parser.keep_bid.Goals as goal
 
 pub returns : goal.returns
-returns c = search rules
+returns g c = search rules

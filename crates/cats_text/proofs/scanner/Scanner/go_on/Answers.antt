@@ -9,11 +9,11 @@ use Rattle.cats_text.proofs.scanner.Scanner.go_on.Goals as goal
 use Rattle.cats_text.proofs.scanner.Scanner.go_on.Goals.{then-count-bytes, else-count-bytes}
 
 pub returns-after-count-bytes-clause-scanned : goal.returns-after-count-bytes-clause-scanned
-returns-after-count-bytes-clause-scanned c =
+returns-after-count-bytes-clause-scanned g c =
     let bytes = c.args.bytes.now in
     let count = c.unwrap_or-count.result in
     let feed = c.unwrap_or-count.ensures ∙ ap (λ o. unwrap_or o (length c.args.bytes.now)) c.line_feed.ensures in (
-      comment_scanned (state c.args.self.now) bytes count c.if-count-bytes.self c.in-Comment.is c.requires.some feed
+      comment_scanned (state g.K.Keep.keep c.args.self.now) bytes count c.if-count-bytes.self c.in-Comment.is c.requires.some feed
           (elim c.if-count-bytes.branch [
             | then-count-bytes w ↦ w.self-is
                 ∙ sym (ap (λ t. t && eqb (get_or c.args.bytes.now (c.unwrap_or-count.result - 1) 0) 13) (eq-eqb _ _ w.if-count-bytes.true))
@@ -24,10 +24,10 @@ returns-after-count-bytes-clause-scanned c =
     )
 
 pub returns-in-Inside-Number-clause-scanned : goal.returns-in-Inside-Number-clause-scanned
-returns-in-Inside-Number-clause-scanned c =
+returns-in-Inside-Number-clause-scanned g c =
     let mode : c.args.self.now.mode ≡ Inside (Number c.in-Inside-Number.value) = search rules in
     let number = c.with_digits-value.ensures in (
-      number_scanned (state c.args.self.now) c.in-Inside-Number.value c.with_digits-value.result.0 c.args.bytes.now c.with_digits-value.result.1
+      number_scanned (state g.K.Keep.keep c.args.self.now) c.in-Inside-Number.value c.with_digits-value.result.0 c.args.bytes.now c.with_digits-value.result.1
           c.args.self.now.waiting mode number.digits number.value c.requires.waits,
       number.bound,
     )

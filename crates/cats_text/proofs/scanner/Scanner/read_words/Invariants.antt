@@ -3,8 +3,8 @@ use Rattle.cats_text.specs.Internal.Scanning.{state, is_before_word, IsScanned}
 use Rattle.cats_text.proofs.scanner.Scanner.read_words.Given as goal
 
 abbrev pub invariant-loop-word : goal.invariant-loop-word
-invariant-loop-word l = record {
-  scanned : IsScanned (state l.fn.self) (state l.self) l.self.waiting l.bytes (drop l.place l.bytes);
+invariant-loop-word g l = record {
+  scanned : IsScanned (state g.K.Keep.keep l.fn.self) (state g.K.Keep.keep l.self) l.self.waiting l.bytes (drop l.place l.bytes);
   before : is_before_word l.self.mode ≡ true;
   within : l.place ≤ length l.bytes;
   line : l.self.line ≡ l.fn.self.line;
@@ -12,4 +12,4 @@ invariant-loop-word l = record {
 }
 
 abbrev pub decreases-loop-word : goal.decreases-loop-word
-decreases-loop-word l = length l.bytes - l.place
+decreases-loop-word g l = length l.bytes - l.place

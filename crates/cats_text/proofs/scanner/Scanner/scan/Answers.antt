@@ -9,37 +9,37 @@ use Rattle.cats_text.proofs.scanner.Scanner.scan.Goals.{then-bytes-place-ne13+in
 use Rattle.cats_text.proofs.scanner.Scanner.scan.Goals.{else-bytes-place-ne13+else-place-bytes-2+in_ok-take_byte-2}
 
 pub returns-in_err-take_byte-clause-steps : goal.returns-in_err-take_byte-clause-steps
-returns-in_err-take_byte-clause-steps c =
+returns-in_err-take_byte-clause-steps g c =
     let both = rest_scanned _ _ _ _ _ c.args.bytes.now c.loop-place.place c.in_ok-place.field-0 c.loop-place-test.true c.loop-place.invariant.0
     c.in_ok-place.ensures.scanned in
     let most : c.loop-place.place + c.in_ok-place.field-0 ≤ length c.args.bytes.now = both.1 in
     let left : c.loop-place.place + c.in_ok-place.field-0 ≢ length c.args.bytes.now = search rules in
     let here : c.loop-place.place + c.in_ok-place.field-0 < length c.args.bytes.now = omega arith in
     let ne : get_or c.args.bytes.now (c.loop-place.place + c.in_ok-place.field-0) 0 ≢ 13 = c.if-bytes-place-ne13.true in
-    let stops = byte_stops _ _ _ (state c.take_byte.new.self) _ _ c.args.bytes.now c.loop-place.place c.in_ok-place.field-0 c.in_err-take_byte.field-0.0
+    let stops = byte_stops _ _ _ (state g.K.Keep.keep c.take_byte.new.self) _ _ c.args.bytes.now c.loop-place.place c.in_ok-place.field-0 c.in_err-take_byte.field-0.0
     c.loop-place-test.true c.loop-place.invariant.0 c.in_ok-place.ensures.scanned here ne c.in_err-take_byte.ensures.steps c.in_err-take_byte.ensures.memory in
     residual_is c.from_residual-in_err-take_byte.result c.in_err-take_byte.field-0.0
-    (λ r. Steps (state c.take_byte.new.self) r (scan (state c.args.self.now) (settled c.args.bytes.now))) c.from_residual-in_err-take_byte.ensures.0
+    (λ r. Steps (state g.K.Keep.keep c.take_byte.new.self) r (scan (state g.K.Keep.keep c.args.self.now) (settled c.args.bytes.now))) c.from_residual-in_err-take_byte.ensures.0
     c.from_residual-in_err-take_byte.ensures.1 stops.0
 
 pub returns-in_err-take_byte-clause-memory : goal.returns-in_err-take_byte-clause-memory
-returns-in_err-take_byte-clause-memory c =
+returns-in_err-take_byte-clause-memory g c =
     let both = rest_scanned _ _ _ _ _ c.args.bytes.now c.loop-place.place c.in_ok-place.field-0 c.loop-place-test.true c.loop-place.invariant.0
     c.in_ok-place.ensures.scanned in
     let most : c.loop-place.place + c.in_ok-place.field-0 ≤ length c.args.bytes.now = both.1 in
     let left : c.loop-place.place + c.in_ok-place.field-0 ≢ length c.args.bytes.now = search rules in
     let here : c.loop-place.place + c.in_ok-place.field-0 < length c.args.bytes.now = omega arith in
     let ne : get_or c.args.bytes.now (c.loop-place.place + c.in_ok-place.field-0) 0 ≢ 13 = c.if-bytes-place-ne13.true in
-    let stops = byte_stops _ _ _ (state c.take_byte.new.self) _ _ c.args.bytes.now c.loop-place.place c.in_ok-place.field-0 c.in_err-take_byte.field-0.0
+    let stops = byte_stops _ _ _ (state g.K.Keep.keep c.take_byte.new.self) _ _ c.args.bytes.now c.loop-place.place c.in_ok-place.field-0 c.in_err-take_byte.field-0.0
     c.loop-place-test.true c.loop-place.invariant.0 c.in_ok-place.ensures.scanned here ne c.in_err-take_byte.ensures.steps c.in_err-take_byte.ensures.memory in
-    residual_is c.from_residual-in_err-take_byte.result c.in_err-take_byte.field-0.0 (λ r. Asks (state c.args.self.now) (settled c.args.bytes.now) r)
+    residual_is c.from_residual-in_err-take_byte.result c.in_err-take_byte.field-0.0 (λ r. Asks (state g.K.Keep.keep c.args.self.now) (settled c.args.bytes.now) r)
     c.from_residual-in_err-take_byte.ensures.0 c.from_residual-in_err-take_byte.ensures.1 stops.1
 
 pub loop-place-preserved : goal.loop-place-preserved
-loop-place-preserved c =
+loop-place-preserved g c =
     let both = rest_scanned _ _ _ _ _ c.args.bytes.now c.loop-place.place c.in_ok-place.field-0 c.loop-place-test.true c.loop-place.invariant.0
     c.in_ok-place.ensures.scanned in
-    let so_far : IsScanned (state c.args.self.now) (state c.go_on.new.self) c.go_on.new.self.waiting c.args.bytes.now
+    let so_far : IsScanned (state g.K.Keep.keep c.args.self.now) (state g.K.Keep.keep c.go_on.new.self) c.go_on.new.self.waiting c.args.bytes.now
     (drop (c.loop-place.place + c.in_ok-place.field-0) c.args.bytes.now) = both.0 in
     let most : c.loop-place.place + c.in_ok-place.field-0 ≤ length c.args.bytes.now = both.1 in
     let left : c.loop-place.place + c.in_ok-place.field-0 ≢ length c.args.bytes.now = search rules in
@@ -60,8 +60,8 @@ loop-place-preserved c =
       )
       | else-bytes-place-ne13+else-place-bytes-2+in_ok-take_byte-2 w ↦ rw w.self-is
           (let ne : c.loop-place.place + c.in_ok-place.field-0 + 1 ≢ length c.args.bytes.now = search rules in
-          let step : byte_step (state c.go_on.new.self) (return_byte (get_or c.args.bytes.now (c.loop-place.place + c.in_ok-place.field-0 + 1) 0))
-          ≡ Ok (state w.take_byte-else-place-bytes-2.new.self) = rw w.carriage_return.ensures at w.in_ok-take_byte-2.ensures.steps in (
+          let step : byte_step (state g.K.Keep.keep c.go_on.new.self) (return_byte (get_or c.args.bytes.now (c.loop-place.place + c.in_ok-place.field-0 + 1) 0))
+          ≡ Ok (state g.K.Keep.keep w.take_byte-else-place-bytes-2.new.self) = rw w.carriage_return.ensures at w.in_ok-take_byte-2.ensures.steps in (
             scan_return_at _ _ _ _ _ c.args.bytes.now (c.loop-place.place + c.in_ok-place.field-0) (omega (arith, ne, here)) (search rules) so_far step
                 w.in_ok-take_byte-2.ensures.waiting,
             omega (arith, line, w.in_ok-take_byte-2.ensures.line),

@@ -1,7 +1,0 @@
-use Rattle.std.proofs.Common.{◌≡◌, ◌++◌, map, Some}
-use Rattle.cats_text.specs.Internal.Progress.{plain_slots, front_bids}
-use Rattle.cats_text.specs.FileLines.{filled}
-use Rattle.cats_text.proofs.slots.Slots.into_compact.Given as goal
-
-abbrev pub invariant-loop-slot : goal.invariant-loop-slot
-invariant-loop-slot l = l.bids ≡ filled (map (λ b. Some b) (front_bids l.fn.self.front) ++ plain_slots l.yielded)
