@@ -1,6 +1,6 @@
 -- The paths of the files for each place: each goes behind those of its place. And the text of the groups: a group of two paths has
 -- lines, so the next group stands behind an empty line.
-use Rattle.std.proofs.Common.{append_assoc, codes, fold, length-append, ◌≡◌, ℕ, zero, suc, ◌+◌, ◌<◌, ◌≤◌, ◌==◌, Bool, true, false, cond, ⊎_elim, List, [], ◌∷◌}
+use Rattle.std.proofs.Common.{append_assoc, fold, length-append, ◌≡◌, ℕ, zero, suc, ◌+◌, ◌<◌, ◌≤◌, ◌==◌, Bool, true, false, cond, ⊎_elim, List, [], ◌∷◌}
 use Rattle.std.proofs.Common.{◌++◌, length, map, get_or, set, take, replicate, Global, refl, sym, ap, ap₂, ◌∙◌, arith, append-nil, zero-add}
 use Rattle.std.specs.Borrow.{Bor}
 use Rattle.std.specs.Prelude.{Vec, filter}
@@ -12,6 +12,9 @@ use Rattle.std.proofs.lemmas.List.Elements.{filter_more}
 use Rattle.std.proofs.lemmas.List.FromFn.{fill_by_all, length-map-range_with_len, get_or-map-range_with_len}
 use Rattle.cats_cmd.specs.DuplicateTexts.{after_empty_lines, behind, duplicates_text, groups_of, groups_text, is_repeated, lines_of, paths_at, plain_group}
 use Rattle.cats_cmd.specs.DuplicateTexts.{plain_groups, with_group}
+use Rattle.cats_cmd.specs.Escaping.{end_of, escaped, path_text}
+use Rattle.cats_cmd.specs.declared.paths.Ending.{Ending}
+use Rattle.cats_cmd.specs.declared.paths.Ending.TheVariants.{Line, Null}
 use Rattle.std.proofs.lemmas.List.Sums.{fold_push}
 
 abbrev Found : Type 0
@@ -74,78 +77,84 @@ length-plain_groups groups found n h = sym (length-map groups plain_group) ∙ a
 
 -- ---- the text of the groups of two or more
 
--- a group with two paths has lines
-has_lines : (paths : List (List ℕ)) → is_repeated paths ≡ true → 0 < length (lines_of paths)
-has_lines [] e = absurd (cc)
-has_lines (path ∷ paths) e =
-    let whole = length-append (path ++ codes "\n") (lines_of paths) in
-    let line = length-append path (codes "\n") in
-    omega arith
+-- a path has bytes
+path_long : (ending : Ending) (path : List ℕ) → 0 < length (path_text ending path)
+path_long Line path = let whole = length-append (escaped path) (10 ∷ []) in omega arith
+path_long Null path = let whole = length-append path (0 ∷ []) in omega arith
 
-behind_long : (text lines : List ℕ) → 0 < length text → behind text lines ≡ text ++ codes "\n" ++ lines
-behind_long text lines l = cond-false (length text == 0) lines (text ++ codes "\n" ++ lines) (ne_eqb (length text) 0 (λ e. absurd (omega (arith, l))))
+module _ (ending : Ending) where
+  -- a group with two paths has lines
+  has_lines : (paths : List (List ℕ)) → is_repeated paths ≡ true → 0 < length (lines_of ending paths)
+  has_lines [] e = absurd (cc)
+  has_lines (path ∷ paths) e =
+      let whole = length-append (path_text ending path) (lines_of ending paths) in
+      let line = path_long ending path in
+      omega (arith, line)
 
-behind_groups : (groups : List (List (List ℕ))) (paths : List (List ℕ)) → AllByRecursion (λ g. is_repeated g ≡ true) groups
-    → behind (groups_text groups) (lines_of paths) ≡ groups_text (groups ++ paths ∷ [])
-behind_groups [] paths h = sym (append-nil (lines_of paths))
-behind_groups (group ∷ groups) paths h =
-    let whole = length-append (lines_of group) (after_empty_lines groups) in
-    let some = has_lines group h.0 in
-    behind_long (groups_text (group ∷ groups)) (lines_of paths) (omega arith)
-    ∙ append_assoc (groups_text (group ∷ groups)) (codes "\n") (lines_of paths)
-    ∙ append_assoc (lines_of group) (after_empty_lines groups) (codes "\n" ++ lines_of paths)
-    ∙ ap (λ (text : List ℕ). lines_of group ++ text)
-    (sym (flat_map-append (λ ps. codes "\n" ++ lines_of ps) groups (paths ∷ [])
-    ∙ ap (λ (text : List ℕ). after_empty_lines groups ++ text) (append-nil (codes "\n" ++ lines_of paths))))
+  behind_long : (text lines : List ℕ) → 0 < length text → behind ending text lines ≡ text ++ end_of ending ++ lines
+  behind_long text lines l = cond-false (length text == 0) lines (text ++ end_of ending ++ lines) (ne_eqb (length text) 0 (λ e. absurd (omega (arith, l))))
 
-repeated_push : (groups : List (List (List ℕ))) (paths : List (List ℕ)) → AllByRecursion (λ g. is_repeated g ≡ true) groups → is_repeated paths ≡ true
-    → AllByRecursion (λ g. is_repeated g ≡ true) (groups ++ paths ∷ [])
-repeated_push [] paths h e = (e, tt)
-repeated_push (group ∷ groups) paths h e = (h.0, repeated_push groups paths h.1 e)
+  behind_groups : (groups : List (List (List ℕ))) (paths : List (List ℕ)) → AllByRecursion (λ g. is_repeated g ≡ true) groups
+      → behind ending (groups_text ending groups) (lines_of ending paths) ≡ groups_text ending (groups ++ paths ∷ [])
+  behind_groups [] paths h = sym (append-nil (lines_of ending paths))
+  behind_groups (group ∷ groups) paths h =
+      let whole = length-append (lines_of ending group) (after_empty_lines ending groups) in
+      let some = has_lines group h.0 in
+      behind_long (groups_text ending (group ∷ groups)) (lines_of ending paths) (omega arith)
+      ∙ append_assoc (groups_text ending (group ∷ groups)) (end_of ending) (lines_of ending paths)
+      ∙ append_assoc (lines_of ending group) (after_empty_lines ending groups) (end_of ending ++ lines_of ending paths)
+      ∙ ap (λ (text : List ℕ). lines_of ending group ++ text)
+      (sym (flat_map-append (λ ps. end_of ending ++ lines_of ending ps) groups (paths ∷ [])
+      ∙ ap (λ (text : List ℕ). after_empty_lines ending groups ++ text) (append-nil (end_of ending ++ lines_of ending paths))))
 
-abbrev AreTold : List (List (List ℕ)) → List (List (List ℕ)) → Type 0
-AreTold groups told = fold with_group (groups_text told) groups ≡ groups_text (told ++ filter is_repeated groups)
+  repeated_push : (groups : List (List (List ℕ))) (paths : List (List ℕ)) → AllByRecursion (λ g. is_repeated g ≡ true) groups → is_repeated paths ≡ true
+      → AllByRecursion (λ g. is_repeated g ≡ true) (groups ++ paths ∷ [])
+  repeated_push [] paths h e = (e, tt)
+  repeated_push (group ∷ groups) paths h e = (h.0, repeated_push groups paths h.1 e)
 
-told_next : (told : List (List (List ℕ))) (paths : List (List ℕ)) (groups : List (List (List ℕ))) → AllByRecursion (λ g. is_repeated g ≡ true) told
-    → ((more : List (List (List ℕ))) → AllByRecursion (λ g. is_repeated g ≡ true) more → AreTold groups more) → AreTold (paths ∷ groups) told
-told_next told paths groups h others =
-    ⊎_elim
-    (λ (e : is_repeated paths ≡ true).
-    ap (λ (text : List ℕ). fold with_group text groups) (cond-true (is_repeated paths) (behind (groups_text told) (lines_of paths)) (groups_text told) e
-    ∙ behind_groups told paths h)
-    ∙ others (told ++ paths ∷ []) (repeated_push told paths h e)
-    ∙ ap groups_text (append_assoc told (paths ∷ []) (filter is_repeated groups)
-    ∙ ap (λ (gs : List (List (List ℕ))). told ++ gs)
-    (sym (cond-true (is_repeated paths) (paths ∷ filter is_repeated groups) (filter is_repeated groups) e))))
-    (λ (e : is_repeated paths ≡ false).
-    ap (λ (text : List ℕ). fold with_group text groups) (cond-false (is_repeated paths) (behind (groups_text told) (lines_of paths)) (groups_text told) e)
-    ∙ others told h
-    ∙ ap (λ (gs : List (List (List ℕ))). groups_text (told ++ gs))
-    (sym (cond-false (is_repeated paths) (paths ∷ filter is_repeated groups) (filter is_repeated groups) e)))
-    (cases_Bool (is_repeated paths))
+  abbrev AreTold : List (List (List ℕ)) → List (List (List ℕ)) → Type 0
+  AreTold groups told = fold (with_group ending) (groups_text ending told) groups ≡ groups_text ending (told ++ filter is_repeated groups)
 
-told_behind : (told groups : List (List (List ℕ))) → AllByRecursion (λ g. is_repeated g ≡ true) told → AreTold groups told
-told_behind told [] h = ap groups_text (sym (append-nil told))
-told_behind told (paths ∷ groups) h = told_next told paths groups h (λ more k. told_behind more groups k)
+  told_next : (told : List (List (List ℕ))) (paths : List (List ℕ)) (groups : List (List (List ℕ))) → AllByRecursion (λ g. is_repeated g ≡ true) told
+      → ((more : List (List (List ℕ))) → AllByRecursion (λ g. is_repeated g ≡ true) more → AreTold groups more) → AreTold (paths ∷ groups) told
+  told_next told paths groups h others =
+      ⊎_elim
+      (λ (e : is_repeated paths ≡ true).
+      ap (λ (text : List ℕ). fold (with_group ending) text groups) (cond-true (is_repeated paths) (behind ending (groups_text ending told) (lines_of ending paths)) (groups_text ending told) e
+      ∙ behind_groups told paths h)
+      ∙ others (told ++ paths ∷ []) (repeated_push told paths h e)
+      ∙ ap (groups_text ending) (append_assoc told (paths ∷ []) (filter is_repeated groups)
+      ∙ ap (λ (gs : List (List (List ℕ))). told ++ gs)
+      (sym (cond-true (is_repeated paths) (paths ∷ filter is_repeated groups) (filter is_repeated groups) e))))
+      (λ (e : is_repeated paths ≡ false).
+      ap (λ (text : List ℕ). fold (with_group ending) text groups) (cond-false (is_repeated paths) (behind ending (groups_text ending told) (lines_of ending paths)) (groups_text ending told) e)
+      ∙ others told h
+      ∙ ap (λ (gs : List (List (List ℕ))). groups_text ending (told ++ gs))
+      (sym (cond-false (is_repeated paths) (paths ∷ filter is_repeated groups) (filter is_repeated groups) e)))
+      (cases_Bool (is_repeated paths))
 
--- the groups, one after the other
-pub groups_told : (groups : List (List (List ℕ))) → fold with_group [] groups ≡ groups_text (filter is_repeated groups)
-groups_told groups = told_behind [] groups tt
+  told_behind : (told groups : List (List (List ℕ))) → AllByRecursion (λ g. is_repeated g ≡ true) told → AreTold groups told
+  told_behind told [] h = ap (groups_text ending) (sym (append-nil told))
+  told_behind told (paths ∷ groups) h = told_next told paths groups h (λ more k. told_behind more groups k)
 
--- one more group
-pub group_told : (groups : List Group) (i : ℕ) (group : Group) (before after : List ℕ) → i < length groups → group ≡ get_or groups i group
-    → before ≡ fold with_group [] (plain_groups (take i groups)) → after ≡ with_group before (plain_group group)
-    → after ≡ fold with_group [] (plain_groups (take (i + 1) groups))
-group_told groups i group before after l e b a =
-    a ∙ ap (λ (text : List ℕ). with_group text (plain_group group)) b
-    ∙ sym (ap (λ (gs : List Group). fold with_group [] (plain_groups gs)) (take_more groups i group l ∙ ap (λ (g : Group). take i groups ++ g ∷ []) (sym e))
-    ∙ ap (fold with_group []) (map-append plain_group (take i groups) (group ∷ []))
-    ∙ fold_push with_group [] (plain_groups (take i groups)) (plain_group group))
+  -- the groups, one after the other
+  pub groups_told : (groups : List (List (List ℕ))) → fold (with_group ending) [] groups ≡ groups_text ending (filter is_repeated groups)
+  groups_told groups = told_behind [] groups tt
 
--- all groups
-pub text_told : (items groups : List Group) (i : ℕ) (text : List ℕ) (found : List Found) → text ≡ fold with_group [] (plain_groups (take i items))
-    → length items ≤ i → items ≡ groups → plain_groups groups ≡ groups_of found
-    → text ≡ duplicates_text found
-text_told items groups i text found told l same of =
-    told ∙ ap (λ (gs : List Group). fold with_group [] (plain_groups gs)) (take_all i items l ∙ same) ∙ groups_told (plain_groups groups)
-    ∙ ap (λ (gs : List (List (List ℕ))). groups_text (filter is_repeated gs)) of
+  -- one more group
+  pub group_told : (groups : List Group) (i : ℕ) (group : Group) (before after : List ℕ) → i < length groups → group ≡ get_or groups i group
+      → before ≡ fold (with_group ending) [] (plain_groups (take i groups)) → after ≡ with_group ending before (plain_group group)
+      → after ≡ fold (with_group ending) [] (plain_groups (take (i + 1) groups))
+  group_told groups i group before after l e b a =
+      a ∙ ap (λ (text : List ℕ). with_group ending text (plain_group group)) b
+      ∙ sym (ap (λ (gs : List Group). fold (with_group ending) [] (plain_groups gs)) (take_more groups i group l ∙ ap (λ (g : Group). take i groups ++ g ∷ []) (sym e))
+      ∙ ap (fold (with_group ending) []) (map-append plain_group (take i groups) (group ∷ []))
+      ∙ fold_push (with_group ending) [] (plain_groups (take i groups)) (plain_group group))
+
+  -- all groups
+  pub text_told : (items groups : List Group) (i : ℕ) (text : List ℕ) (found : List Found) → text ≡ fold (with_group ending) [] (plain_groups (take i items))
+      → length items ≤ i → items ≡ groups → plain_groups groups ≡ groups_of found
+      → text ≡ duplicates_text ending found
+  text_told items groups i text found told l same of =
+      told ∙ ap (λ (gs : List Group). fold (with_group ending) [] (plain_groups gs)) (take_all i items l ∙ same) ∙ groups_told (plain_groups groups)
+      ∙ ap (λ (gs : List (List (List ℕ))). groups_text ending (filter is_repeated gs)) of

@@ -11,6 +11,7 @@ use Rattle.canon.specs.declared.fault.CanonFault.{CanonFault}
 use Rattle.canon.specs.declared.fault.CanonFault.TheVariants.{Read, StepLimit, Memory}
 use Rattle.canon.specs.declared.which.Which.{Which}
 use Rattle.canon.specs.declared.which.Which.TheVariants.{Only}
+use Rattle.cats_cmd.specs.Escaping.{escaped}
 use Rattle.cats_cmd.specs.Inputs.{IsOpened, IsRefusedFile, ReadsHeavyFile, ReadsLightFile}
 use Rattle.cats_cmd.specs.Outcomes.{Outcome, Tells, normalise_outcome}
 use Rattle.cats_cmd.specs.Runs.{FailsInText, WritesText}
@@ -48,10 +49,11 @@ greatest_status judgements = fold (λ greatest j. max greatest (status_of_judgem
 -- ---- what is reported
 
 abbrev pub refusal_line : List ℕ → Stop → List ℕ
-refusal_line path stop = path ++ codes ": " ++ line_of_stop stop
+refusal_line path stop = escaped path ++ codes ": " ++ line_of_stop stop
 
 abbrev pub progress_line : ℕ → ℕ → List ℕ → List ℕ
-progress_line number count path = decimal number ++ codes " of " ++ decimal count ++ codes " " ++ path ++ codes "\n"
+progress_line number count path =
+    decimal number ++ codes " of " ++ decimal count ++ codes " " ++ escaped path ++ codes "\n"
 
 abbrev pub refusal_lines : List ℕ → Option Stop → List (List ℕ)
 refusal_lines path None = []

@@ -7,7 +7,7 @@ ghost use Rattle.cats_text.specs.Streams.{has_failed};
 ghost use Rattle.cats_cmd.specs.Duplicates.{MakesGroups};
 ghost use Rattle.cats_cmd.specs.Paths.{RunsOnPaths};
 
-use crate::paths::{Collection, ManyFiles, run_on_paths};
+use crate::paths::{Collection, Ending, ManyFiles, run_on_paths};
 use crate::program::Stop;
 use crate::report::RunFault;
 use crate::source::Source;
@@ -30,7 +30,7 @@ impl<'a> Collection<'a> for Groups<'a> {
     ghost use Rattle.cats_cmd.specs.Duplicates.{MakesGroups};
     ghost use Rattle.cats_cmd.specs.Internal.Judging.{KeepsGroups};
 
-    ghost has = { λ groups judgements. KeepsGroups groups.index (found_paths groups.found.items) judgements };
+    ghost has = { λ ending groups judgements. KeepsGroups groups.index (found_paths groups.found.items) judgements };
 
     ghost Makes = { MakesGroups };
 
@@ -46,9 +46,9 @@ impl<'a> Collection<'a> for Groups<'a> {
         alloc: Global,
         path: &'a [u8],
         input: &mut Watched<R>,
-        limit: u64,
+        many: ManyFiles,
     ) -> Result<Option<Stop>, AllocError> {
-        match self.index.add_from(alloc, input, limit) {
+        match self.index.add_from(alloc, input, many.limit) {
             Ok(place) => {
                 self.found.push((path, place))?;
                 Ok(None)
@@ -59,8 +59,8 @@ impl<'a> Collection<'a> for Groups<'a> {
 
     fn skip(&self) {}
 
-    fn text(&self, alloc: Global) -> Result<Vec<u8>, AllocError> {
-        duplicates_text(alloc, self.found.as_slice())
+    fn text(&self, alloc: Global, ending: Ending) -> Result<Vec<u8>, AllocError> {
+        duplicates_text(alloc, self.found.as_slice(), ending)
     }
 }
 
@@ -78,7 +78,7 @@ pub fn run_duplicates<S: Source + AllocGlobal, W: Write, E: Write>(
 ) -> Result<u8, RunFault>
     requires { has_failed out.old ≡ false }
     ensures { RunsOnPaths (S.may_open source.now) (S.may_refuse source.now) S.Stream.remaining W.contents E.contents many.limit
-        MakesGroups (map (λ path. path.now) paths.now) many.progress out.old out.new err.old err.new result }
+        (MakesGroups many.ending) (map (λ path. path.now) paths.now) many.progress out.old out.new err.old err.new result }
 {
     run_on_paths::<Groups<'_>, S, W, E>(source, paths, many, out, err)
 }

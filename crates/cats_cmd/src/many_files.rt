@@ -33,7 +33,7 @@ pub(crate) fn run_duplicates_of<S: Source + AllocGlobal, W: Write, E: Write>(
     requires { has_failed out.old ≡ false }
     ensures { RunsOnFiles (S.may_open source.now) (S.may_refuse source.now) S.Stream.remaining E.contents
         (λ paths. RunsOnPaths (S.may_open source.now) (S.may_refuse source.now) S.Stream.remaining W.contents E.contents
-        many.limit MakesGroups paths many.progress) files.now out.old out.new err.old err.new result }
+        many.limit (MakesGroups many.ending) paths many.progress) files.now out.old out.new err.old err.new result }
 {
     let list = match files {
         FilePaths::Given(paths) => {
@@ -61,7 +61,7 @@ pub(crate) fn run_sizes_of<S: Source + AllocGlobal, W: Write, E: Write>(
     requires { has_failed out.old ≡ false }
     ensures { RunsOnFiles (S.may_open source.now) (S.may_refuse source.now) S.Stream.remaining E.contents
         (λ paths. RunsOnPaths (S.may_open source.now) (S.may_refuse source.now) S.Stream.remaining W.contents E.contents
-        many.limit MakesTable paths many.progress) files.now out.old out.new err.old err.new result }
+        many.limit (MakesTable many.ending) paths many.progress) files.now out.old out.new err.old err.new result }
 {
     let list = match files {
         FilePaths::Given(paths) => {

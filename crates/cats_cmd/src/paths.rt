@@ -7,9 +7,11 @@ ghost use Rattle.cats_cmd.specs.Paths.{Judgement, IsStopped, IsUnopened, RunsOnP
 ghost use Rattle.cats_cmd.specs.Stops.{ReportsAll};
 ghost use Rattle.cats_cmd.specs.Internal.Judging.{AddsFile, AddsPathAs, AddsOpened, HasSome, JudgesAllAs};
 ghost use Rattle.canon.specs.declared.which.Which.TheVariants.{Only};
+ghost use Rattle.cats_cmd.specs.declared.paths.Ending.{Ending};
 ghost use Rattle.cats_cmd.specs.declared.program.Stop.{Stop};
 ghost use Rattle.cats_cmd.specs.declared.program.Stop.TheVariants.{CannotOpen};
 
+use crate::escaping::escape_into;
 use crate::program::{Stop, open, report, status_of, stop_line};
 use crate::report::{DONE, RunFault};
 use crate::run::send_text;
@@ -40,13 +42,13 @@ pub enum Ending {
 
 /// What a run makes of the files at some paths, which are judged one after the other.
 pub(crate) trait Collection<'a>: Sized + Drop {
-    ghost has: { Self → List (List ℕ × Judgement) → Type 0 };
+    ghost has: { Ending → Self → List (List ℕ × Judgement) → Type 0 };
 
-    ghost Makes: { List (List ℕ × Judgement) → List ℕ → Type 0 };
+    ghost Makes: { Ending → List (List ℕ × Judgement) → List ℕ → Type 0 };
 
     /// What is made of no files.
     fn none(alloc: Global) -> Self
-        ensures { has result [] };
+        ensures { (ending : Ending) → has ending result [] };
 
     /// Judges the file at one more path from its stream, and answers why it is not judged.
     fn add<R: Read>(
@@ -54,23 +56,23 @@ pub(crate) trait Collection<'a>: Sized + Drop {
         alloc: Global,
         path: &'a [u8],
         input: &mut Watched<R>,
-        limit: u64,
+        many: ManyFiles,
     ) -> Result<Option<Stop>, AllocError>
         requires works { has_failed input.old ≡ false }
         requires fresh { has_ended input.old ≡ false }
-        ensures { IfOk result (λ stop. AddsOpened has R.remaining limit path.now self.old self.new input.old input.new
+        ensures { IfOk result (λ stop. AddsOpened (has many.ending) R.remaining many.limit path.now self.old self.new input.old input.new
             stop) };
 
     /// The text of all.
-    fn text(&self, alloc: Global) -> Result<Vec<u8>, AllocError>
-        requires { HasSome has self.now }
-        ensures { (judgements : List (List ℕ × Judgement)) → has self.now judgements
-            → IfOk result (λ text. Makes judgements text.items) };
+    fn text(&self, alloc: Global, ending: Ending) -> Result<Vec<u8>, AllocError>
+        requires { HasSome (has ending) self.now }
+        ensures { (judgements : List (List ℕ × Judgement)) → has ending self.now judgements
+            → IfOk result (λ text. Makes ending judgements text.items) };
 
     /// A path at which no file was opened adds nothing.
     fn skip(&self)
-        ensures { (judgements : List (List ℕ × Judgement)) (path : List ℕ) (stop : Stop) → has self.now judgements
-            → has self.now (judgements ++ (path, IsStopped stop) ∷ []) };
+        ensures { (ending : Ending) (judgements : List (List ℕ × Judgement)) (path : List ℕ) (stop : Stop)
+            → has ending self.now judgements → has ending self.now (judgements ++ (path, IsStopped stop) ∷ []) };
 }
 
 /// Judges the files at these paths, one after the other, and sends the text that is made of them.
@@ -87,11 +89,11 @@ pub(crate) fn run_on_paths<'a, C: Collection<'a>, S: Source + AllocGlobal, W: Wr
 ) -> Result<u8, RunFault>
     requires { has_failed out.old ≡ false }
     ensures { RunsOnPaths (S.may_open source.now) (S.may_refuse source.now) S.Stream.remaining W.contents E.contents many.limit
-        C.Makes (map (λ path. path.now) paths.now) many.progress out.old out.new err.old err.new result }
+        (C.Makes many.ending) (map (λ path. path.now) paths.now) many.progress out.old out.new err.old err.new result }
 {
     let mut collection = C::none(source.alloc());
     let greatest = judge_all(source, &mut collection, paths, many, err)?;
-    let text = collection.text(source.alloc())?;
+    let text = collection.text(source.alloc(), many.ending)?;
     send_text(out, greatest, text.as_slice())
 }
 
@@ -103,13 +105,13 @@ fn judge_all<'a, C: Collection<'a>, S: Source + AllocGlobal, E: Write>(
     many: ManyFiles,
     err: &mut Watched<E>,
 ) -> Result<u8, AllocError>
-    requires { C.has collection.old [] }
-    ensures { JudgesAllAs C.has (S.may_open source.now) (S.may_refuse source.now) S.Stream.remaining many.limit E.contents
+    requires { C.has many.ending collection.old [] }
+    ensures { JudgesAllAs (C.has many.ending) (S.may_open source.now) (S.may_refuse source.now) S.Stream.remaining many.limit E.contents
         (map (λ path. path.now) paths.now) many.progress collection.new err.old err.new result }
 {
     let mut greatest = DONE;
     for (number, path) in paths.iter().enumerate() {
-        let status = judge_path(source, collection, path, many.limit, err)?;
+        let status = judge_path(source, collection, path, many, err)?;
         greatest = greatest.max(status);
         if many.progress {
             report_progress(source.alloc(), number + 1, paths.len(), path, err);
@@ -123,13 +125,13 @@ fn judge_path<'a, C: Collection<'a>, S: Source + AllocGlobal, E: Write>(
     source: &S,
     collection: &mut C,
     path: &'a [u8],
-    limit: u64,
+    many: ManyFiles,
     err: &mut Watched<E>,
 ) -> Result<u8, AllocError>
-    ensures { AddsPathAs C.has (S.may_open source.now) (S.may_refuse source.now) S.Stream.remaining limit E.contents
+    ensures { AddsPathAs (C.has many.ending) (S.may_open source.now) (S.may_refuse source.now) S.Stream.remaining many.limit E.contents
         path.now collection.old collection.new err.old err.new result }
 {
-    match judge(source, collection, path, limit)? {
+    match judge(source, collection, path, many)? {
         None => Ok(DONE),
         Some(stop) => {
             report(err, &path_refusal(source.alloc(), path, &stop));
@@ -143,13 +145,13 @@ fn judge<'a, C: Collection<'a>, S: Source + AllocGlobal>(
     source: &S,
     collection: &mut C,
     path: &'a [u8],
-    limit: u64,
+    many: ManyFiles,
 ) -> Result<Option<Stop>, AllocError>
-    ensures { IfOk result (AddsFile C.has (S.may_open source.now) (S.may_refuse source.now) S.Stream.remaining limit
+    ensures { IfOk result (AddsFile (C.has many.ending) (S.may_open source.now) (S.may_refuse source.now) S.Stream.remaining many.limit
         path.now collection.old collection.new) }
 {
     match open_path(source, path) {
-        Ok(mut input) => collection.add(source.alloc(), path, &mut input, limit),
+        Ok(mut input) => collection.add(source.alloc(), path, &mut input, many),
         Err(stop) => {
             collection.skip();
             Ok(Some(stop))
@@ -172,7 +174,8 @@ fn open_path<S: Source>(source: &S, path: &[u8]) -> Result<Watched<S::Stream>, S
 pub(crate) fn path_refusal(alloc: Global, path: &[u8], stop: &Stop) -> Result<Vec<u8>, AllocError>
     ensures { IfOk result (λ line. line.items ≡ refusal_line path.now stop.now) }
 {
-    let mut line = Vec::from_slice(alloc, path)?;
+    let mut line = Vec::new(alloc);
+    escape_into(path, &mut line)?;
     line.extend_from_slice(b": ")?;
     line.extend_from_slice(stop_line(alloc, stop)?.as_slice())?;
     Ok(line)
@@ -203,7 +206,7 @@ fn path_progress(
     ensures { IfOk result (λ line. line.items ≡ progress_line number count path.now) }
 {
     let mut line = format!(in alloc; "{number} of {count} ")?.into_bytes();
-    line.extend_from_slice(path)?;
+    escape_into(path, &mut line)?;
     line.push(b'\n')?;
     Ok(line)
 }

@@ -21,6 +21,7 @@ ghost use Rattle.cats_cmd.specs.FaultLines.{line_of_fault};
 ghost use Rattle.cats_text.specs.Examples.{known, watched};
 ghost use Rattle.cats_cmd.specs.Duplicates.{judged_paths};
 ghost use Rattle.cats_cmd.specs.PathLists.{paths_in};
+ghost use Rattle.cats_cmd.specs.declared.paths.Ending.TheVariants.{Line};
 ghost use Rattle.cats_cmd.specs.Paths.{IsHeavy, IsJudged, IsStopped, greatest_status, progress_lines, report_lines};
 ghost use Rattle.cats_cmd.specs.SizesTables.{MakesTable, counts_of, line_if_read, sizes_of};
 ghost use Rattle.cats_cmd.specs.Rounding.{round_outcome, rounded_line};
@@ -131,10 +132,10 @@ pub fn paths_reported()
 pub fn table_lines()
     ensures numbers { sizes_of xor_ladder ≡ 2 ∷ 3 ∷ 1 ∷ 1 ∷ 1 ∷ [] }
     ensures no_bidders { counts_of larger_bid ≡ 3 ∷ 3 ∷ 0 ∷ [] }
-    ensures header { MakesTable [] (codes "goods\tbids\tor\txor\tdummy\tkept\tkept_or\tkept_xor\tfile\n") }
-    ensures heavy { (goods : Vec ℕ Global) → line_if_read (codes "a b") (IsHeavy larger_bid goods)
+    ensures header { MakesTable Line [] (codes "goods\tbids\tor\txor\tdummy\tkept\tkept_or\tkept_xor\tfile\n") }
+    ensures heavy { (goods : Vec ℕ Global) → line_if_read Line (codes "a b") (IsHeavy larger_bid goods)
         ≡ codes "2\t3\t3\t0\t0\t-\t-\t-\ta b\n" }
-    ensures refused { line_if_read (codes "a") (IsStopped (CannotOpen Only)) ≡ [] }
+    ensures refused { line_if_read Line (codes "a") (IsStopped (CannotOpen Only)) ≡ [] }
 {}
 
 /// What `cats round` makes of bytes, and the line of a price whose value changed.
