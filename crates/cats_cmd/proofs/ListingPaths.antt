@@ -1,6 +1,6 @@
 -- The parts of a list of paths: what is behind its last NUL is a path only if it is not empty.
-use Rattle.std.proofs.Common.{◌≡◌, ◌≢◌, ℕ, List, [], ◌∷◌, ◌++◌, length, refl, sym, ap, ◌∙◌, subst, arith, map, eqb, ◌<◌, true, false, Bor, Option, Err}
-use Rattle.std.specs.List.{All, flat_map, slice_split}
+use Rattle.std.proofs.Common.{◌≡◌, ◌≢◌, ℕ, List, [], ◌∷◌, ◌++◌, length, refl, sym, ap, ◌∙◌, subst, arith, map, ◌<◌, false, Bor, Option, Err}
+use Rattle.std.specs.List.{All, slice_split}
 use Rattle.std.specs.Prelude.{◌==◌}
 use Rattle.std.proofs.lemmas.List.{append_assoc, length-map, map-append}
 use Rattle.std.proofs.lemmas.List.Splits.{length-slice_split, slice_split_at}
