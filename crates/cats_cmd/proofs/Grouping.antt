@@ -12,6 +12,9 @@ use Rattle.std.proofs.lemmas.List.Elements.{filter_more}
 use Rattle.std.proofs.lemmas.List.FromFn.{fill_by_all, length-map-range_with_len, get_or-map-range_with_len}
 use Rattle.cats_cmd.specs.DuplicateTexts.{after_empty_lines, behind, duplicates_text, groups_of, groups_text, is_repeated, lines_of, paths_at, plain_group}
 use Rattle.cats_cmd.specs.DuplicateTexts.{plain_groups, with_group}
+use Rattle.cats_cmd.specs.Escaping.{end_of, escaped, path_text}
+use Rattle.cats_cmd.specs.declared.paths.Ending.{Ending}
+use Rattle.cats_cmd.specs.declared.paths.Ending.TheVariants.{Line, Null}
 use Rattle.std.proofs.lemmas.List.Sums.{fold_push}
 
 abbrev Found : Type 0
@@ -74,29 +77,35 @@ length-plain_groups groups found n h = sym (length-map groups plain_group) ∙ a
 
 -- ---- the text of the groups of two or more
 
-module _ (end : ℕ) where
+-- a path has bytes
+path_long : (ending : Ending) (path : List ℕ) → 0 < length (path_text ending path)
+path_long Line path = let whole = length-append (escaped path) (10 ∷ []) in omega arith
+path_long Null path = let whole = length-append path (0 ∷ []) in omega arith
+
+module _ (ending : Ending) where
   -- a group with two paths has lines
-  has_lines : (paths : List (List ℕ)) → is_repeated paths ≡ true → 0 < length (lines_of end paths)
+  has_lines : (paths : List (List ℕ)) → is_repeated paths ≡ true → 0 < length (lines_of ending paths)
   has_lines [] e = absurd (cc)
   has_lines (path ∷ paths) e =
-      let whole = length-append (path ++ (end ∷ [])) (lines_of end paths) in
-      let line = length-append path ((end ∷ [])) in
-      omega arith
+      let whole = length-append (path_text ending path) (lines_of ending paths) in
+      let line = path_long ending path in
+      omega (arith, line)
 
-  behind_long : (text lines : List ℕ) → 0 < length text → behind end text lines ≡ text ++ end ∷ lines
-  behind_long text lines l = cond-false (length text == 0) lines (text ++ end ∷ lines) (ne_eqb (length text) 0 (λ e. absurd (omega (arith, l))))
+  behind_long : (text lines : List ℕ) → 0 < length text → behind ending text lines ≡ text ++ end_of ending ++ lines
+  behind_long text lines l = cond-false (length text == 0) lines (text ++ end_of ending ++ lines) (ne_eqb (length text) 0 (λ e. absurd (omega (arith, l))))
 
   behind_groups : (groups : List (List (List ℕ))) (paths : List (List ℕ)) → AllByRecursion (λ g. is_repeated g ≡ true) groups
-      → behind end (groups_text end groups) (lines_of end paths) ≡ groups_text end (groups ++ paths ∷ [])
-  behind_groups [] paths h = sym (append-nil (lines_of end paths))
+      → behind ending (groups_text ending groups) (lines_of ending paths) ≡ groups_text ending (groups ++ paths ∷ [])
+  behind_groups [] paths h = sym (append-nil (lines_of ending paths))
   behind_groups (group ∷ groups) paths h =
-      let whole = length-append (lines_of end group) (after_empty_lines end groups) in
+      let whole = length-append (lines_of ending group) (after_empty_lines ending groups) in
       let some = has_lines group h.0 in
-      behind_long (groups_text end (group ∷ groups)) (lines_of end paths) (omega arith)
-      ∙ append_assoc (lines_of end group) (after_empty_lines end groups) (end ∷ lines_of end paths)
-      ∙ ap (λ (text : List ℕ). lines_of end group ++ text)
-      (sym (flat_map-append (λ ps. end ∷ lines_of end ps) groups (paths ∷ [])
-      ∙ ap (λ (text : List ℕ). after_empty_lines end groups ++ text) (append-nil (end ∷ lines_of end paths))))
+      behind_long (groups_text ending (group ∷ groups)) (lines_of ending paths) (omega arith)
+      ∙ append_assoc (groups_text ending (group ∷ groups)) (end_of ending) (lines_of ending paths)
+      ∙ append_assoc (lines_of ending group) (after_empty_lines ending groups) (end_of ending ++ lines_of ending paths)
+      ∙ ap (λ (text : List ℕ). lines_of ending group ++ text)
+      (sym (flat_map-append (λ ps. end_of ending ++ lines_of ending ps) groups (paths ∷ [])
+      ∙ ap (λ (text : List ℕ). after_empty_lines ending groups ++ text) (append-nil (end_of ending ++ lines_of ending paths))))
 
   repeated_push : (groups : List (List (List ℕ))) (paths : List (List ℕ)) → AllByRecursion (λ g. is_repeated g ≡ true) groups → is_repeated paths ≡ true
       → AllByRecursion (λ g. is_repeated g ≡ true) (groups ++ paths ∷ [])
@@ -104,48 +113,48 @@ module _ (end : ℕ) where
   repeated_push (group ∷ groups) paths h e = (h.0, repeated_push groups paths h.1 e)
 
   abbrev AreTold : List (List (List ℕ)) → List (List (List ℕ)) → Type 0
-  AreTold groups told = fold (with_group end) (groups_text end told) groups ≡ groups_text end (told ++ filter is_repeated groups)
+  AreTold groups told = fold (with_group ending) (groups_text ending told) groups ≡ groups_text ending (told ++ filter is_repeated groups)
 
   told_next : (told : List (List (List ℕ))) (paths : List (List ℕ)) (groups : List (List (List ℕ))) → AllByRecursion (λ g. is_repeated g ≡ true) told
       → ((more : List (List (List ℕ))) → AllByRecursion (λ g. is_repeated g ≡ true) more → AreTold groups more) → AreTold (paths ∷ groups) told
   told_next told paths groups h others =
       ⊎_elim
       (λ (e : is_repeated paths ≡ true).
-      ap (λ (text : List ℕ). fold (with_group end) text groups) (cond-true (is_repeated paths) (behind end (groups_text end told) (lines_of end paths)) (groups_text end told) e
+      ap (λ (text : List ℕ). fold (with_group ending) text groups) (cond-true (is_repeated paths) (behind ending (groups_text ending told) (lines_of ending paths)) (groups_text ending told) e
       ∙ behind_groups told paths h)
       ∙ others (told ++ paths ∷ []) (repeated_push told paths h e)
-      ∙ ap (groups_text end) (append_assoc told (paths ∷ []) (filter is_repeated groups)
+      ∙ ap (groups_text ending) (append_assoc told (paths ∷ []) (filter is_repeated groups)
       ∙ ap (λ (gs : List (List (List ℕ))). told ++ gs)
       (sym (cond-true (is_repeated paths) (paths ∷ filter is_repeated groups) (filter is_repeated groups) e))))
       (λ (e : is_repeated paths ≡ false).
-      ap (λ (text : List ℕ). fold (with_group end) text groups) (cond-false (is_repeated paths) (behind end (groups_text end told) (lines_of end paths)) (groups_text end told) e)
+      ap (λ (text : List ℕ). fold (with_group ending) text groups) (cond-false (is_repeated paths) (behind ending (groups_text ending told) (lines_of ending paths)) (groups_text ending told) e)
       ∙ others told h
-      ∙ ap (λ (gs : List (List (List ℕ))). groups_text end (told ++ gs))
+      ∙ ap (λ (gs : List (List (List ℕ))). groups_text ending (told ++ gs))
       (sym (cond-false (is_repeated paths) (paths ∷ filter is_repeated groups) (filter is_repeated groups) e)))
       (cases_Bool (is_repeated paths))
 
   told_behind : (told groups : List (List (List ℕ))) → AllByRecursion (λ g. is_repeated g ≡ true) told → AreTold groups told
-  told_behind told [] h = ap (groups_text end) (sym (append-nil told))
+  told_behind told [] h = ap (groups_text ending) (sym (append-nil told))
   told_behind told (paths ∷ groups) h = told_next told paths groups h (λ more k. told_behind more groups k)
 
   -- the groups, one after the other
-  pub groups_told : (groups : List (List (List ℕ))) → fold (with_group end) [] groups ≡ groups_text end (filter is_repeated groups)
+  pub groups_told : (groups : List (List (List ℕ))) → fold (with_group ending) [] groups ≡ groups_text ending (filter is_repeated groups)
   groups_told groups = told_behind [] groups tt
 
   -- one more group
   pub group_told : (groups : List Group) (i : ℕ) (group : Group) (before after : List ℕ) → i < length groups → group ≡ get_or groups i group
-      → before ≡ fold (with_group end) [] (plain_groups (take i groups)) → after ≡ with_group end before (plain_group group)
-      → after ≡ fold (with_group end) [] (plain_groups (take (i + 1) groups))
+      → before ≡ fold (with_group ending) [] (plain_groups (take i groups)) → after ≡ with_group ending before (plain_group group)
+      → after ≡ fold (with_group ending) [] (plain_groups (take (i + 1) groups))
   group_told groups i group before after l e b a =
-      a ∙ ap (λ (text : List ℕ). with_group end text (plain_group group)) b
-      ∙ sym (ap (λ (gs : List Group). fold (with_group end) [] (plain_groups gs)) (take_more groups i group l ∙ ap (λ (g : Group). take i groups ++ g ∷ []) (sym e))
-      ∙ ap (fold (with_group end) []) (map-append plain_group (take i groups) (group ∷ []))
-      ∙ fold_push (with_group end) [] (plain_groups (take i groups)) (plain_group group))
+      a ∙ ap (λ (text : List ℕ). with_group ending text (plain_group group)) b
+      ∙ sym (ap (λ (gs : List Group). fold (with_group ending) [] (plain_groups gs)) (take_more groups i group l ∙ ap (λ (g : Group). take i groups ++ g ∷ []) (sym e))
+      ∙ ap (fold (with_group ending) []) (map-append plain_group (take i groups) (group ∷ []))
+      ∙ fold_push (with_group ending) [] (plain_groups (take i groups)) (plain_group group))
 
   -- all groups
-  pub text_told : (items groups : List Group) (i : ℕ) (text : List ℕ) (found : List Found) → text ≡ fold (with_group end) [] (plain_groups (take i items))
+  pub text_told : (items groups : List Group) (i : ℕ) (text : List ℕ) (found : List Found) → text ≡ fold (with_group ending) [] (plain_groups (take i items))
       → length items ≤ i → items ≡ groups → plain_groups groups ≡ groups_of found
-      → text ≡ duplicates_text end found
+      → text ≡ duplicates_text ending found
   text_told items groups i text found told l same of =
-      told ∙ ap (λ (gs : List Group). fold (with_group end) [] (plain_groups gs)) (take_all i items l ∙ same) ∙ groups_told (plain_groups groups)
-      ∙ ap (λ (gs : List (List (List ℕ))). groups_text end (filter is_repeated gs)) of
+      told ∙ ap (λ (gs : List Group). fold (with_group ending) [] (plain_groups gs)) (take_all i items l ∙ same) ∙ groups_told (plain_groups groups)
+      ∙ ap (λ (gs : List (List (List ℕ))). groups_text ending (filter is_repeated gs)) of

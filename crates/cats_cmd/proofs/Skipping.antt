@@ -8,6 +8,7 @@ use Rattle.cats_cmd.specs.Duplicates.{files_if_judged, judged_files, judged_path
 use Rattle.cats_cmd.specs.Internal.Judging.{KeepsGroups}
 use Rattle.cats_cmd.specs.Paths.{Judgement, IsStopped}
 use Rattle.cats_cmd.specs.SizesTables.{line_if_read, lines_of_table}
+use Rattle.cats_cmd.specs.declared.paths.Ending.{Ending}
 use Rattle.cats_cmd.specs.declared.program.Stop.{Stop}
 
 -- a judgement of which no file was judged
@@ -34,11 +35,11 @@ groups_skip files found js path stop h = nothing_more files found js path (IsSto
 
 -- ---- a table
 
-pub line_more : (end : ℕ) (js : List (List ℕ × Judgement)) (path : List ℕ) (j : Judgement)
-    → lines_of_table end (js ++ (path, j) ∷ []) ≡ lines_of_table end js ++ line_if_read end path j
-line_more end js path j = flat_map-append (λ (x : List ℕ × Judgement). line_if_read end x.0 x.1) js ((path, j) ∷ [])
-    ∙ ap (λ (line : List ℕ). lines_of_table end js ++ line) (append-nil (line_if_read end path j))
+pub line_more : (ending : Ending) (js : List (List ℕ × Judgement)) (path : List ℕ) (j : Judgement)
+    → lines_of_table ending (js ++ (path, j) ∷ []) ≡ lines_of_table ending js ++ line_if_read ending path j
+line_more ending js path j = flat_map-append (λ (x : List ℕ × Judgement). line_if_read ending x.0 x.1) js ((path, j) ∷ [])
+    ∙ ap (λ (line : List ℕ). lines_of_table ending js ++ line) (append-nil (line_if_read ending path j))
 
-pub table_skips : (end : ℕ) (lines : List ℕ) (js : List (List ℕ × Judgement)) (path : List ℕ) (stop : Stop) → lines ≡ lines_of_table end js
-    → lines ≡ lines_of_table end (js ++ (path, IsStopped stop) ∷ [])
-table_skips end lines js path stop h = h ∙ sym (line_more end js path (IsStopped stop) ∙ append-nil (lines_of_table end js))
+pub table_skips : (ending : Ending) (lines : List ℕ) (js : List (List ℕ × Judgement)) (path : List ℕ) (stop : Stop) → lines ≡ lines_of_table ending js
+    → lines ≡ lines_of_table ending (js ++ (path, IsStopped stop) ∷ [])
+table_skips ending lines js path stop h = h ∙ sym (line_more ending js path (IsStopped stop) ∙ append-nil (lines_of_table ending js))

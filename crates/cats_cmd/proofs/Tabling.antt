@@ -23,6 +23,8 @@ use Rattle.cats_cmd.specs.Internal.Judging.{AddsOpened}
 use Rattle.cats_cmd.proofs.Skipping.{line_more, table_skips}
 use Rattle.cats_cmd.specs.Paths.{Judgement, IsHeavy, IsJudged, IsStopped, JudgesStream}
 use Rattle.cats_cmd.specs.SizesTables.{has_dummy, line_if_read, lines_of_table}
+use Rattle.cats_cmd.specs.Escaping.{path_text}
+use Rattle.cats_cmd.specs.declared.paths.Ending.{Ending}
 use Rattle.cats_cmd.specs.declared.program.Stop.{Stop}
 use Rattle.cats_cmd.specs.declared.program.Stop.TheVariants.{Run}
 use Rattle.cats_cmd.specs.declared.report.RunFault.{RunFault}
@@ -30,9 +32,9 @@ use Rattle.cats_cmd.specs.declared.report.RunFault.TheVariants.{Refused}
 
 -- ---- lines
 
-pub table_more : (end : ℕ) (lines more : List ℕ) (path : List ℕ) (j : Judgement) → more ≡ lines ++ line_if_read end path j → (js : List (List ℕ × Judgement))
-    → lines ≡ lines_of_table end js → more ≡ lines_of_table end (js ++ (path, j) ∷ [])
-table_more end lines more path j put js h = put ∙ ap (λ (ls : List ℕ). ls ++ line_if_read end path j) h ∙ sym (line_more end js path j)
+pub table_more : (ending : Ending) (lines more : List ℕ) (path : List ℕ) (j : Judgement) → more ≡ lines ++ line_if_read ending path j → (js : List (List ℕ × Judgement))
+    → lines ≡ lines_of_table ending js → more ≡ lines_of_table ending (js ++ (path, j) ∷ [])
+table_more ending lines more path j put js h = put ∙ ap (λ (ls : List ℕ). ls ++ line_if_read ending path j) h ∙ sym (line_more ending js path j)
 
 -- the numbers of a line, as they are put behind one another
 pub numbers_made : (empty sizes numbers given first then : List ℕ) → empty ≡ [] → sizes ≡ empty ++ first → numbers ≡ sizes ++ then → given ≡ numbers
@@ -40,23 +42,22 @@ pub numbers_made : (empty sizes numbers given first then : List ℕ) → empty �
 numbers_made empty sizes numbers given first then none one two is =
     is ∙ two ∙ ap (λ (ns : List ℕ). ns ++ then) (one ∙ ap (λ (ns : List ℕ). ns ++ first) none)
 
-pub line_made : (lines longer path given numbers : List ℕ) (byte end : ℕ) → given ≡ numbers → byte ≡ end → longer ≡ lines ++ (given ++ path ++ byte ∷ [])
-    → longer ≡ lines ++ (numbers ++ path ++ end ∷ [])
-line_made lines longer path given numbers byte end is ends put =
-    put ∙ ap (λ (ns : List ℕ). lines ++ (ns ++ path ++ byte ∷ [])) is ∙ ap (λ (b : ℕ). lines ++ (numbers ++ path ++ b ∷ [])) ends
+pub line_made : (ending : Ending) (lines longer path given numbers : List ℕ) → given ≡ numbers → longer ≡ lines ++ (given ++ path_text ending path)
+    → longer ≡ lines ++ (numbers ++ path_text ending path)
+line_made ending lines longer path given numbers is put = put ∙ ap (λ (ns : List ℕ). lines ++ (ns ++ path_text ending path)) is
 
 -- ---- the file at a path
 
-module _ {R : Type 0} (remaining : R → Option (List ℕ)) (limit : ℕ) (old new : Watched R) {C : Type 0}
-    (Has : C → List (List ℕ × Judgement) → Type 0) (kept more : C) (lines longer path : List ℕ) (end : ℕ)
-    (has : (js : List (List ℕ × Judgement)) → Has kept js → lines ≡ lines_of_table end js)
-    (has_more : (js : List (List ℕ × Judgement)) → longer ≡ lines_of_table end js → Has more js) where
+module _ {R : Type 0} (ending : Ending) (remaining : R → Option (List ℕ)) (limit : ℕ) (old new : Watched R) {C : Type 0}
+    (Has : C → List (List ℕ × Judgement) → Type 0) (kept more : C) (lines longer path : List ℕ)
+    (has : (js : List (List ℕ × Judgement)) → Has kept js → lines ≡ lines_of_table ending js)
+    (has_more : (js : List (List ℕ × Judgement)) → longer ≡ lines_of_table ending js → Has more js) where
   stopped : longer ≡ lines → (stop : Stop) → JudgesStream remaining limit old new (IsStopped stop)
       → AddsOpened Has remaining limit path kept more old new (Some stop)
   stopped same stop judges = record {
     judgement = IsStopped stop;
     judges = judges;
-    adds = λ js h. has_more (js ++ (path, IsStopped stop) ∷ []) (same ∙ table_skips end lines js path stop (has js h));
+    adds = λ js h. has_more (js ++ (path, IsStopped stop) ∷ []) (same ∙ table_skips ending lines js path stop (has js h));
     is_stop = refl;
   }
 
@@ -67,22 +68,22 @@ module _ {R : Type 0} (remaining : R → Option (List ℕ)) (limit : ℕ) (old n
   table_unread same Memory reads = stopped same (Run (Refused Only Memory)) (refl, inl reads)
 
   module _ (file : PlainFile) (reads : ReadsInput remaining old new (Ok file)) where
-    pub table_judged : first_heavy file.goods limit (or_atoms_of file.bids) ≡ None → longer ≡ lines ++ line_if_read end path (IsJudged file)
+    pub table_judged : first_heavy file.goods limit (or_atoms_of file.bids) ≡ None → longer ≡ lines ++ line_if_read ending path (IsJudged file)
         → AddsOpened Has remaining limit path kept more old new None
     table_judged light put = record {
       judgement = IsJudged file;
       judges = record { reads = reads; light = light };
-      adds = λ js h. has_more (js ++ (path, IsJudged file) ∷ []) (table_more end lines longer path (IsJudged file) put js (has js h));
+      adds = λ js h. has_more (js ++ (path, IsJudged file) ∷ []) (table_more ending lines longer path (IsJudged file) put js (has js h));
       is_stop = refl;
     }
 
     pub table_heavy : (goods : Vec ℕ Global) → first_heavy file.goods limit (or_atoms_of file.bids) ≡ Some goods.items
-        → longer ≡ lines ++ line_if_read end path (IsHeavy file goods) → (why : RunFault) → why ≡ Refused Only (StepLimit goods)
+        → longer ≡ lines ++ line_if_read ending path (IsHeavy file goods) → (why : RunFault) → why ≡ Refused Only (StepLimit goods)
         → AddsOpened Has remaining limit path kept more old new (Some (Run why))
     table_heavy goods heavy put why is = record {
       judgement = IsHeavy file goods;
       judges = record { reads = reads; heavy = heavy };
-      adds = λ js h. has_more (js ++ (path, IsHeavy file goods) ∷ []) (table_more end lines longer path (IsHeavy file goods) put js (has js h));
+      adds = λ js h. has_more (js ++ (path, IsHeavy file goods) ∷ []) (table_more ending lines longer path (IsHeavy file goods) put js (has js h));
       is_stop = ap (λ (f : RunFault). Some (Run f)) is;
     }
 

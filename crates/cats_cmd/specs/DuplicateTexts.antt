@@ -5,6 +5,8 @@ use Rattle.std.specs.Prelude.{Vec}
 use Rattle.std.specs.Borrow.{Bor}
 use Rattle.std.specs.Global.{Global}
 use Rattle.std.specs.List.{flat_map, range_with_len}
+use Rattle.cats_cmd.specs.Escaping.{end_of, path_text}
+use Rattle.cats_cmd.specs.declared.paths.Ending.{Ending}
 
 -- each path, and the place of the first file of its auction
 abbrev pub found_paths : List (Bor (List ℕ) × ℕ) → List (List ℕ × ℕ)
@@ -18,35 +20,35 @@ paths_at found place = map (λ f. f.0) (filter (λ f. f.1 == place) found)
 abbrev pub groups_of : List (List ℕ × ℕ) → List (List (List ℕ))
 groups_of found = map (paths_at found) (range_with_len 0 (length found))
 
--- ---- the text, of which each line ends with this byte
+-- ---- the text
 
 abbrev pub is_repeated : List (List ℕ) → Bool
 is_repeated paths = nat_lt 1 (length paths)
 
--- the paths, each on a line
-abbrev pub lines_of : ℕ → List (List ℕ) → List ℕ
-lines_of end paths = flat_map (λ path. path ++ end ∷ []) paths
+-- the paths, each on a line, or each with NUL behind it
+abbrev pub lines_of : Ending → List (List ℕ) → List ℕ
+lines_of ending paths = flat_map (path_text ending) paths
 
--- the groups, each behind an empty line
-abbrev pub after_empty_lines : ℕ → List (List (List ℕ)) → List ℕ
-after_empty_lines end groups = flat_map (λ paths. end ∷ lines_of end paths) groups
+-- the groups, each behind an empty line, or behind one more NUL
+abbrev pub after_empty_lines : Ending → List (List (List ℕ)) → List ℕ
+after_empty_lines ending groups = flat_map (λ paths. end_of ending ++ lines_of ending paths) groups
 
--- the groups, with an empty line between each two
-abbrev pub groups_text : ℕ → List (List (List ℕ)) → List ℕ
-groups_text end [] = []
-groups_text end (paths ∷ groups) = lines_of end paths ++ after_empty_lines end groups
+-- the groups, with an empty line, or one more NUL, between each two
+abbrev pub groups_text : Ending → List (List (List ℕ)) → List ℕ
+groups_text ending [] = []
+groups_text ending (paths ∷ groups) = lines_of ending paths ++ after_empty_lines ending groups
 
 -- the groups of two or more, in the order of the first of each
-abbrev pub duplicates_text : ℕ → List (List ℕ × ℕ) → List ℕ
-duplicates_text end found = groups_text end (filter is_repeated (groups_of found))
+abbrev pub duplicates_text : Ending → List (List ℕ × ℕ) → List ℕ
+duplicates_text ending found = groups_text ending (filter is_repeated (groups_of found))
 
 -- the lines behind a text, with an empty line between them where there is a text
-abbrev pub behind : ℕ → List ℕ → List ℕ → List ℕ
-behind end text lines = if length text == 0 then lines else text ++ end ∷ lines
+abbrev pub behind : Ending → List ℕ → List ℕ → List ℕ
+behind ending text lines = if length text == 0 then lines else text ++ end_of ending ++ lines
 
 -- the text with one more group
-abbrev pub with_group : ℕ → List ℕ → List (List ℕ) → List ℕ
-with_group end text paths = if is_repeated paths then behind end text (lines_of end paths) else text
+abbrev pub with_group : Ending → List ℕ → List (List ℕ) → List ℕ
+with_group ending text paths = if is_repeated paths then behind ending text (lines_of ending paths) else text
 
 -- groups as the code has them
 abbrev pub plain_group : Vec (Bor (List ℕ)) Global → List (List ℕ)

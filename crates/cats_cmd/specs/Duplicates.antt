@@ -4,6 +4,7 @@ use Rattle.std.specs.List.{AllZip, flat_map}
 use Rattle.bid_file.specs.Files.{PlainFile}
 use Rattle.canon.specs.FirstPlaces.{IsFirstPlace}
 use Rattle.cats_cmd.specs.DuplicateTexts.{duplicates_text}
+use Rattle.cats_cmd.specs.declared.paths.Ending.{Ending}
 use Rattle.cats_cmd.specs.Paths.{Judgement, IsJudged, IsHeavy, IsStopped}
 
 abbrev pub files_if_judged : Judgement → List PlainFile
@@ -28,8 +29,8 @@ pub record FindsPlaces (judgements : List (List ℕ × Judgement)) (found : List
   pub judged : map (λ p. p.0) found ≡ judged_paths judgements
   pub places : AllZip (λ p file. IsFirstPlace (judged_files judgements) file p.1) found (judged_files judgements)
 
--- the text is that of the groups of paths whose files are one auction, with this byte at the end of each line
-pub record MakesGroups (end : ℕ) (judgements : List (List ℕ × Judgement)) (text : List ℕ) : Type 0 where
+-- the text is that of the groups of paths whose files are one auction
+pub record MakesGroups (ending : Ending) (judgements : List (List ℕ × Judgement)) (text : List ℕ) : Type 0 where
   pub found : List (List ℕ × ℕ)
   pub finds : FindsPlaces judgements found
-  pub is_text : text ≡ duplicates_text end found
+  pub is_text : text ≡ duplicates_text ending found

@@ -11,6 +11,7 @@ pub mod Inputs
 pub mod Stops
 pub mod Runs
 pub mod Comparisons
+pub mod Escaping
 pub mod DuplicateTexts
 pub mod Paths
 pub mod PathLists

@@ -11,12 +11,11 @@ use Rattle.canon.specs.declared.fault.CanonFault.{CanonFault}
 use Rattle.canon.specs.declared.fault.CanonFault.TheVariants.{Read, StepLimit, Memory}
 use Rattle.canon.specs.declared.which.Which.{Which}
 use Rattle.canon.specs.declared.which.Which.TheVariants.{Only}
+use Rattle.cats_cmd.specs.Escaping.{escaped}
 use Rattle.cats_cmd.specs.Inputs.{IsOpened, IsRefusedFile, ReadsHeavyFile, ReadsLightFile}
 use Rattle.cats_cmd.specs.Outcomes.{Outcome, Tells, normalise_outcome}
 use Rattle.cats_cmd.specs.Runs.{FailsInText, WritesText}
 use Rattle.cats_cmd.specs.Stops.{ReportsAll, line_of_stop, status_of_stop}
-use Rattle.cats_cmd.specs.declared.paths.Ending.{Ending}
-use Rattle.cats_cmd.specs.declared.paths.Ending.TheVariants.{Line, Null}
 use Rattle.cats_cmd.specs.declared.program.Stop.{Stop}
 use Rattle.cats_cmd.specs.declared.program.Stop.TheVariants.{CannotOpen, Run}
 use Rattle.cats_cmd.specs.declared.report.RunFault.{RunFault}
@@ -47,18 +46,14 @@ status_of_judgement judgement = status_if (stop_of judgement)
 abbrev pub greatest_status : List (List ℕ × Judgement) → ℕ
 greatest_status judgements = fold (λ greatest j. max greatest (status_of_judgement j.1)) 0 judgements
 
--- the byte at the end of each line of the output
-abbrev pub end_of : Ending → ℕ
-end_of Line = 10
-end_of Null = 0
-
 -- ---- what is reported
 
 abbrev pub refusal_line : List ℕ → Stop → List ℕ
-refusal_line path stop = path ++ codes ": " ++ line_of_stop stop
+refusal_line path stop = escaped path ++ codes ": " ++ line_of_stop stop
 
 abbrev pub progress_line : ℕ → ℕ → List ℕ → List ℕ
-progress_line number count path = decimal number ++ codes " of " ++ decimal count ++ codes " " ++ path ++ codes "\n"
+progress_line number count path =
+    decimal number ++ codes " of " ++ decimal count ++ codes " " ++ escaped path ++ codes "\n"
 
 abbrev pub refusal_lines : List ℕ → Option Stop → List (List ℕ)
 refusal_lines path None = []

@@ -12,7 +12,7 @@ use Rattle.cats_cmd.specs.Duplicates.{MakesGroups}
 use Rattle.cats_cmd.specs.FileLists.{RunsOnFiles}
 use Rattle.cats_cmd.specs.Inputs.{IsOpened}
 use Rattle.cats_cmd.specs.Outcomes.{Outcome, check_outcome, show_outcome, value_outcome, normalise_outcome}
-use Rattle.cats_cmd.specs.Paths.{RunsOnPaths, end_of}
+use Rattle.cats_cmd.specs.Paths.{RunsOnPaths}
 use Rattle.cats_cmd.specs.Rounding.{Rounds}
 use Rattle.cats_cmd.specs.Runs.{RunsOnFile}
 use Rattle.cats_cmd.specs.SizesTables.{MakesTable}
@@ -112,13 +112,11 @@ module _ {F W E : Type 0} (may_open : List ℕ → F → Type 0) (may_refuse : L
       ComparesAt may_open remaining contents first.now second.now limit out out_after answer × (err_after ≡ err)
   RunsFor (Duplicates files limit progress null) out out_after err err_after answer =
       RunsOnFiles may_open may_refuse remaining messages
-      (λ paths. RunsOnPaths may_open may_refuse remaining contents messages limit (MakesGroups (end_of (ending_of null)))
-      paths progress)
+      (λ paths. RunsOnPaths may_open may_refuse remaining contents messages limit (MakesGroups (ending_of null)) paths progress)
       files out out_after err err_after answer
   RunsFor (Sizes files limit progress null) out out_after err err_after answer =
       RunsOnFiles may_open may_refuse remaining messages
-      (λ paths. RunsOnPaths may_open may_refuse remaining contents messages limit (MakesTable (end_of (ending_of null)))
-      paths progress)
+      (λ paths. RunsOnPaths may_open may_refuse remaining contents messages limit (MakesTable (ending_of null)) paths progress)
       files out out_after err err_after answer
 
   -- the file of a request that cannot be opened. Each file of `duplicates` and `sizes` is reported by itself

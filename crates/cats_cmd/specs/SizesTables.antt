@@ -5,7 +5,9 @@ use Rattle.std.specs.List.{flat_map, list_any, range_with_len}
 use Rattle.bid_file.specs.Files.{PlainBid, PlainFile}
 use Rattle.valuation.specs.Auctions.{is_dummy}
 use Rattle.canon.specs.Canonical.{canonical_file}
+use Rattle.cats_cmd.specs.Escaping.{end_of, path_text}
 use Rattle.cats_cmd.specs.Paths.{Judgement, IsJudged, IsHeavy, IsStopped}
+use Rattle.cats_cmd.specs.declared.paths.Ending.{Ending}
 
 -- whether some bid has the dummy good d
 abbrev pub has_dummy : List PlainBid → ℕ → Bool
@@ -31,17 +33,17 @@ sizes_of f = f.goods ∷ length f.bids ∷ count_or f.bids ∷ count_xor f.dummy
 abbrev pub counts_of : PlainFile → List ℕ
 counts_of f = length f.bids ∷ count_or f.bids ∷ count_xor f.dummy f.bids ∷ []
 
--- with this byte at the end
-abbrev pub line_if_read : ℕ → List ℕ → Judgement → List ℕ
-line_if_read end path (IsJudged file) = with_tabs (sizes_of file) ++ with_tabs (counts_of (canonical_file file)) ++ path ++ end ∷ []
-line_if_read end path (IsHeavy file goods) = with_tabs (sizes_of file) ++ codes "-\t-\t-\t" ++ path ++ end ∷ []
-line_if_read end path (IsStopped stop) = []
+abbrev pub line_if_read : Ending → List ℕ → Judgement → List ℕ
+line_if_read ending path (IsJudged file) =
+    with_tabs (sizes_of file) ++ with_tabs (counts_of (canonical_file file)) ++ path_text ending path
+line_if_read ending path (IsHeavy file goods) = with_tabs (sizes_of file) ++ codes "-\t-\t-\t" ++ path_text ending path
+line_if_read ending path (IsStopped stop) = []
 
-abbrev pub lines_of_table : ℕ → List (List ℕ × Judgement) → List ℕ
-lines_of_table end judgements = flat_map (λ j. line_if_read end j.0 j.1) judgements
+abbrev pub lines_of_table : Ending → List (List ℕ × Judgement) → List ℕ
+lines_of_table ending judgements = flat_map (λ j. line_if_read ending j.0 j.1) judgements
 
-abbrev pub sizes_header : ℕ → List ℕ
-sizes_header end = codes "goods\tbids\tor\txor\tdummy\tkept\tkept_or\tkept_xor\tfile" ++ end ∷ []
+abbrev pub sizes_header : Ending → List ℕ
+sizes_header ending = codes "goods\tbids\tor\txor\tdummy\tkept\tkept_or\tkept_xor\tfile" ++ end_of ending
 
-abbrev pub MakesTable : ℕ → List (List ℕ × Judgement) → List ℕ → Type 0
-MakesTable end judgements text = text ≡ sizes_header end ++ lines_of_table end judgements
+abbrev pub MakesTable : Ending → List (List ℕ × Judgement) → List ℕ → Type 0
+MakesTable ending judgements text = text ≡ sizes_header ending ++ lines_of_table ending judgements

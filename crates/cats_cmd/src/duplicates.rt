@@ -5,9 +5,9 @@ mod text;
 ghost use Rattle.std.specs.Prelude.{◌≡◌, map, false};
 ghost use Rattle.cats_text.specs.Streams.{has_failed};
 ghost use Rattle.cats_cmd.specs.Duplicates.{MakesGroups};
-ghost use Rattle.cats_cmd.specs.Paths.{RunsOnPaths, end_of};
+ghost use Rattle.cats_cmd.specs.Paths.{RunsOnPaths};
 
-use crate::paths::{Collection, Ending, ManyFiles, end_byte, run_on_paths};
+use crate::paths::{Collection, Ending, ManyFiles, run_on_paths};
 use crate::program::Stop;
 use crate::report::RunFault;
 use crate::source::Source;
@@ -30,7 +30,7 @@ impl<'a> Collection<'a> for Groups<'a> {
     ghost use Rattle.cats_cmd.specs.Duplicates.{MakesGroups};
     ghost use Rattle.cats_cmd.specs.Internal.Judging.{KeepsGroups};
 
-    ghost has = { λ _ groups judgements. KeepsGroups groups.index (found_paths groups.found.items) judgements };
+    ghost has = { λ ending groups judgements. KeepsGroups groups.index (found_paths groups.found.items) judgements };
 
     ghost Makes = { MakesGroups };
 
@@ -60,7 +60,7 @@ impl<'a> Collection<'a> for Groups<'a> {
     fn skip(&self) {}
 
     fn text(&self, alloc: Global, ending: Ending) -> Result<Vec<u8>, AllocError> {
-        duplicates_text(alloc, self.found.as_slice(), end_byte(ending))
+        duplicates_text(alloc, self.found.as_slice(), ending)
     }
 }
 
@@ -78,7 +78,7 @@ pub fn run_duplicates<S: Source + AllocGlobal, W: Write, E: Write>(
 ) -> Result<u8, RunFault>
     requires { has_failed out.old ≡ false }
     ensures { RunsOnPaths (S.may_open source.now) (S.may_refuse source.now) S.Stream.remaining W.contents E.contents many.limit
-        (MakesGroups (end_of many.ending)) (map (λ path. path.now) paths.now) many.progress out.old out.new err.old err.new result }
+        (MakesGroups many.ending) (map (λ path. path.now) paths.now) many.progress out.old out.new err.old err.new result }
 {
     run_on_paths::<Groups<'_>, S, W, E>(source, paths, many, out, err)
 }

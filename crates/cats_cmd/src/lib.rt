@@ -5,6 +5,7 @@ mod bytes;
 mod check;
 mod compare;
 mod duplicates;
+mod escaping;
 pub mod laws;
 mod many_files;
 mod normalise;

@@ -4,7 +4,7 @@ ghost use Rattle.std.specs.Prelude.{◌≡◌, IfErr, IfOk, false};
 ghost use Rattle.cats_text.specs.Streams.{has_failed};
 ghost use Rattle.cats_cmd.specs.Duplicates.{MakesGroups};
 ghost use Rattle.cats_cmd.specs.FileLists.{IsUnread, ReadsList, RunsOnFiles};
-ghost use Rattle.cats_cmd.specs.Paths.{RunsOnPaths, end_of, refusal_line};
+ghost use Rattle.cats_cmd.specs.Paths.{RunsOnPaths, refusal_line};
 ghost use Rattle.cats_cmd.specs.SizesTables.{MakesTable};
 ghost use Rattle.cats_cmd.specs.Stops.{Reports, status_of_stop};
 
@@ -33,7 +33,7 @@ pub(crate) fn run_duplicates_of<S: Source + AllocGlobal, W: Write, E: Write>(
     requires { has_failed out.old ≡ false }
     ensures { RunsOnFiles (S.may_open source.now) (S.may_refuse source.now) S.Stream.remaining E.contents
         (λ paths. RunsOnPaths (S.may_open source.now) (S.may_refuse source.now) S.Stream.remaining W.contents E.contents
-        many.limit (MakesGroups (end_of many.ending)) paths many.progress) files.now out.old out.new err.old err.new result }
+        many.limit (MakesGroups many.ending) paths many.progress) files.now out.old out.new err.old err.new result }
 {
     let list = match files {
         FilePaths::Given(paths) => {
@@ -61,7 +61,7 @@ pub(crate) fn run_sizes_of<S: Source + AllocGlobal, W: Write, E: Write>(
     requires { has_failed out.old ≡ false }
     ensures { RunsOnFiles (S.may_open source.now) (S.may_refuse source.now) S.Stream.remaining E.contents
         (λ paths. RunsOnPaths (S.may_open source.now) (S.may_refuse source.now) S.Stream.remaining W.contents E.contents
-        many.limit (MakesTable (end_of many.ending)) paths many.progress) files.now out.old out.new err.old err.new result }
+        many.limit (MakesTable many.ending) paths many.progress) files.now out.old out.new err.old err.new result }
 {
     let list = match files {
         FilePaths::Given(paths) => {

@@ -3,13 +3,15 @@
 ghost use Rattle.std.specs.Prelude.{◌≡◌, ◌++◌, ℕ, List, [], ◌∷◌, map, IfErr, IfOk, false, true};
 ghost use Rattle.cats_text.specs.Streams.{has_ended, has_failed};
 ghost use Rattle.cats_cmd.specs.Inputs.{IsOpened};
-ghost use Rattle.cats_cmd.specs.Paths.{Judgement, IsStopped, IsUnopened, RunsOnPaths, end_of, progress_line, progress_lines, refusal_line};
+ghost use Rattle.cats_cmd.specs.Paths.{Judgement, IsStopped, IsUnopened, RunsOnPaths, progress_line, progress_lines, refusal_line};
 ghost use Rattle.cats_cmd.specs.Stops.{ReportsAll};
 ghost use Rattle.cats_cmd.specs.Internal.Judging.{AddsFile, AddsPathAs, AddsOpened, HasSome, JudgesAllAs};
 ghost use Rattle.canon.specs.declared.which.Which.TheVariants.{Only};
+ghost use Rattle.cats_cmd.specs.declared.paths.Ending.{Ending};
 ghost use Rattle.cats_cmd.specs.declared.program.Stop.{Stop};
 ghost use Rattle.cats_cmd.specs.declared.program.Stop.TheVariants.{CannotOpen};
 
+use crate::escaping::escape_into;
 use crate::program::{Stop, open, report, status_of, stop_line};
 use crate::report::{DONE, RunFault};
 use crate::run::send_text;
@@ -29,7 +31,7 @@ pub struct ManyFiles {
     pub ending: Ending,
 }
 
-/// How each line of the output ends.
+/// How the paths of the output end.
 #[derive(Clone, Copy)]
 pub enum Ending {
     /// With LF.
@@ -38,25 +40,15 @@ pub enum Ending {
     Null,
 }
 
-/// The byte at the end of each line of the output.
-pub(crate) fn end_byte(ending: Ending) -> u8
-    ensures { result ≡ end_of ending }
-{
-    match ending {
-        Ending::Line => b'\n',
-        Ending::Null => 0,
-    }
-}
-
 /// What a run makes of the files at some paths, which are judged one after the other.
 pub(crate) trait Collection<'a>: Sized + Drop {
-    ghost has: { ℕ → Self → List (List ℕ × Judgement) → Type 0 };
+    ghost has: { Ending → Self → List (List ℕ × Judgement) → Type 0 };
 
-    ghost Makes: { ℕ → List (List ℕ × Judgement) → List ℕ → Type 0 };
+    ghost Makes: { Ending → List (List ℕ × Judgement) → List ℕ → Type 0 };
 
     /// What is made of no files.
     fn none(alloc: Global) -> Self
-        ensures { (end : ℕ) → has end result [] };
+        ensures { (ending : Ending) → has ending result [] };
 
     /// Judges the file at one more path from its stream, and answers why it is not judged.
     fn add<R: Read>(
@@ -68,19 +60,19 @@ pub(crate) trait Collection<'a>: Sized + Drop {
     ) -> Result<Option<Stop>, AllocError>
         requires works { has_failed input.old ≡ false }
         requires fresh { has_ended input.old ≡ false }
-        ensures { IfOk result (λ stop. AddsOpened (has (end_of many.ending)) R.remaining many.limit path.now self.old self.new input.old input.new
+        ensures { IfOk result (λ stop. AddsOpened (has many.ending) R.remaining many.limit path.now self.old self.new input.old input.new
             stop) };
 
     /// The text of all.
     fn text(&self, alloc: Global, ending: Ending) -> Result<Vec<u8>, AllocError>
-        requires { HasSome (has (end_of ending)) self.now }
-        ensures { (judgements : List (List ℕ × Judgement)) → has (end_of ending) self.now judgements
-            → IfOk result (λ text. Makes (end_of ending) judgements text.items) };
+        requires { HasSome (has ending) self.now }
+        ensures { (judgements : List (List ℕ × Judgement)) → has ending self.now judgements
+            → IfOk result (λ text. Makes ending judgements text.items) };
 
     /// A path at which no file was opened adds nothing.
     fn skip(&self)
-        ensures { (end : ℕ) (judgements : List (List ℕ × Judgement)) (path : List ℕ) (stop : Stop)
-            → has end self.now judgements → has end self.now (judgements ++ (path, IsStopped stop) ∷ []) };
+        ensures { (ending : Ending) (judgements : List (List ℕ × Judgement)) (path : List ℕ) (stop : Stop)
+            → has ending self.now judgements → has ending self.now (judgements ++ (path, IsStopped stop) ∷ []) };
 }
 
 /// Judges the files at these paths, one after the other, and sends the text that is made of them.
@@ -97,7 +89,7 @@ pub(crate) fn run_on_paths<'a, C: Collection<'a>, S: Source + AllocGlobal, W: Wr
 ) -> Result<u8, RunFault>
     requires { has_failed out.old ≡ false }
     ensures { RunsOnPaths (S.may_open source.now) (S.may_refuse source.now) S.Stream.remaining W.contents E.contents many.limit
-        (C.Makes (end_of many.ending)) (map (λ path. path.now) paths.now) many.progress out.old out.new err.old err.new result }
+        (C.Makes many.ending) (map (λ path. path.now) paths.now) many.progress out.old out.new err.old err.new result }
 {
     let mut collection = C::none(source.alloc());
     let greatest = judge_all(source, &mut collection, paths, many, err)?;
@@ -113,8 +105,8 @@ fn judge_all<'a, C: Collection<'a>, S: Source + AllocGlobal, E: Write>(
     many: ManyFiles,
     err: &mut Watched<E>,
 ) -> Result<u8, AllocError>
-    requires { C.has (end_of many.ending) collection.old [] }
-    ensures { JudgesAllAs (C.has (end_of many.ending)) (S.may_open source.now) (S.may_refuse source.now) S.Stream.remaining many.limit E.contents
+    requires { C.has many.ending collection.old [] }
+    ensures { JudgesAllAs (C.has many.ending) (S.may_open source.now) (S.may_refuse source.now) S.Stream.remaining many.limit E.contents
         (map (λ path. path.now) paths.now) many.progress collection.new err.old err.new result }
 {
     let mut greatest = DONE;
@@ -136,7 +128,7 @@ fn judge_path<'a, C: Collection<'a>, S: Source + AllocGlobal, E: Write>(
     many: ManyFiles,
     err: &mut Watched<E>,
 ) -> Result<u8, AllocError>
-    ensures { AddsPathAs (C.has (end_of many.ending)) (S.may_open source.now) (S.may_refuse source.now) S.Stream.remaining many.limit E.contents
+    ensures { AddsPathAs (C.has many.ending) (S.may_open source.now) (S.may_refuse source.now) S.Stream.remaining many.limit E.contents
         path.now collection.old collection.new err.old err.new result }
 {
     match judge(source, collection, path, many)? {
@@ -155,7 +147,7 @@ fn judge<'a, C: Collection<'a>, S: Source + AllocGlobal>(
     path: &'a [u8],
     many: ManyFiles,
 ) -> Result<Option<Stop>, AllocError>
-    ensures { IfOk result (AddsFile (C.has (end_of many.ending)) (S.may_open source.now) (S.may_refuse source.now) S.Stream.remaining many.limit
+    ensures { IfOk result (AddsFile (C.has many.ending) (S.may_open source.now) (S.may_refuse source.now) S.Stream.remaining many.limit
         path.now collection.old collection.new) }
 {
     match open_path(source, path) {
@@ -182,7 +174,8 @@ fn open_path<S: Source>(source: &S, path: &[u8]) -> Result<Watched<S::Stream>, S
 pub(crate) fn path_refusal(alloc: Global, path: &[u8], stop: &Stop) -> Result<Vec<u8>, AllocError>
     ensures { IfOk result (λ line. line.items ≡ refusal_line path.now stop.now) }
 {
-    let mut line = Vec::from_slice(alloc, path)?;
+    let mut line = Vec::new(alloc);
+    escape_into(path, &mut line)?;
     line.extend_from_slice(b": ")?;
     line.extend_from_slice(stop_line(alloc, stop)?.as_slice())?;
     Ok(line)
@@ -213,7 +206,7 @@ fn path_progress(
     ensures { IfOk result (λ line. line.items ≡ progress_line number count path.now) }
 {
     let mut line = format!(in alloc; "{number} of {count} ")?.into_bytes();
-    line.extend_from_slice(path)?;
+    escape_into(path, &mut line)?;
     line.push(b'\n')?;
     Ok(line)
 }

@@ -2,12 +2,14 @@
 
 mod count;
 
-ghost use Rattle.std.specs.Prelude.{◌≡◌, ◌++◌, ◌∷◌, [], List, ℕ, map, OnOk, false};
+ghost use Rattle.std.specs.Prelude.{◌≡◌, ◌++◌, List, ℕ, map, OnOk, false};
 ghost use Rattle.cats_text.specs.Streams.{has_failed};
-ghost use Rattle.cats_cmd.specs.Paths.{RunsOnPaths, end_of};
+ghost use Rattle.cats_cmd.specs.Escaping.{path_text};
+ghost use Rattle.cats_cmd.specs.Paths.{RunsOnPaths};
 ghost use Rattle.cats_cmd.specs.SizesTables.{MakesTable};
 
-use crate::paths::{Collection, Ending, ManyFiles, end_byte, run_on_paths};
+use crate::escaping::{push_end, push_path};
+use crate::paths::{Collection, Ending, ManyFiles, run_on_paths};
 use crate::program::Stop;
 use crate::report::RunFault;
 use crate::run::read_compact_file;
@@ -34,7 +36,7 @@ impl<'a> Collection<'a> for Table {
     ghost use Rattle.std.specs.Prelude.{◌≡◌};
     ghost use Rattle.cats_cmd.specs.SizesTables.{MakesTable, lines_of_table};
 
-    ghost has = { λ end table judgements. table.lines.items ≡ lines_of_table end judgements };
+    ghost has = { λ ending table judgements. table.lines.items ≡ lines_of_table ending judgements };
 
     ghost Makes = { MakesTable };
 
@@ -55,18 +57,17 @@ impl<'a> Collection<'a> for Table {
             Ok(file) => file,
             Err(fault) => return Ok(Some(Stop::Run(RunFault::from(fault)))),
         };
-        let end = end_byte(many.ending);
         let mut line = Vec::new(alloc);
         push_sizes(alloc, &mut line, &file)?;
         match into_normal_file(alloc, file, many.limit) {
             Ok(normal) => {
                 push_counts(alloc, &mut line, &normal)?;
-                push_line(&mut self.lines, line.as_slice(), path, end)?;
+                push_line(&mut self.lines, line.as_slice(), path, many.ending)?;
                 Ok(None)
             }
             Err(CanonFault::StepLimit { goods }) => {
                 line.extend_from_slice(UNKNOWN.as_bytes())?;
-                push_line(&mut self.lines, line.as_slice(), path, end)?;
+                push_line(&mut self.lines, line.as_slice(), path, many.ending)?;
                 Ok(Some(Stop::Run(RunFault::from(CanonFault::StepLimit { goods }))))
             }
             // a file that was read is refused for nothing else
@@ -78,21 +79,24 @@ impl<'a> Collection<'a> for Table {
 
     fn text(&self, alloc: Global, ending: Ending) -> Result<Vec<u8>, AllocError> {
         let mut text = Vec::from_slice(alloc, HEADER.as_bytes())?;
-        text.push(end_byte(ending))?;
+        push_end(&mut text, ending)?;
         text.extend_from_slice(self.lines.as_slice())?;
         Ok(text)
     }
 }
 
-/// Puts a line behind the others: numbers with a tab after each, the path, and then the end of the line.
-fn push_line(lines: &mut Vec<u8>, numbers: &[u8], path: &[u8], end: u8) -> Result<(), AllocError>
-    ensures { let more : List ℕ = numbers.now ++ path.now ++ end ∷ [] in
+/// Puts a line behind the others: numbers with a tab after each, and then the path.
+fn push_line(
+    lines: &mut Vec<u8>,
+    numbers: &[u8],
+    path: &[u8],
+    ending: Ending,
+) -> Result<(), AllocError>
+    ensures { let more : List ℕ = numbers.now ++ path_text ending path.now in
         OnOk result (lines.new.items ≡ lines.old.items ++ more) }
 {
     lines.extend_from_slice(numbers)?;
-    lines.extend_from_slice(path)?;
-    lines.push(end)?;
-    Ok(())
+    push_path(lines, path, ending)
 }
 
 /// Reads the files at these paths, one after the other, and sends a table of their numbers: how many goods and bids
@@ -111,7 +115,7 @@ pub fn run_sizes<S: Source + AllocGlobal, W: Write, E: Write>(
 ) -> Result<u8, RunFault>
     requires { has_failed out.old ≡ false }
     ensures { RunsOnPaths (S.may_open source.now) (S.may_refuse source.now) S.Stream.remaining W.contents E.contents many.limit
-        (MakesTable (end_of many.ending)) (map (λ path. path.now) paths.now) many.progress out.old out.new err.old err.new result }
+        (MakesTable many.ending) (map (λ path. path.now) paths.now) many.progress out.old out.new err.old err.new result }
 {
     run_on_paths::<Table, S, W, E>(source, paths, many, out, err)
 }

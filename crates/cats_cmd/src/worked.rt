@@ -22,6 +22,7 @@ ghost use Rattle.cats_text.specs.Examples.{known, watched};
 ghost use Rattle.cats_cmd.specs.DuplicateTexts.{duplicates_text};
 ghost use Rattle.cats_cmd.specs.Duplicates.{judged_paths};
 ghost use Rattle.cats_cmd.specs.PathLists.{paths_in};
+ghost use Rattle.cats_cmd.specs.declared.paths.Ending.TheVariants.{Line, Null};
 ghost use Rattle.cats_cmd.specs.Paths.{IsHeavy, IsJudged, IsStopped, greatest_status, progress_lines, report_lines};
 ghost use Rattle.cats_cmd.specs.SizesTables.{MakesTable, counts_of, line_if_read, sizes_of};
 ghost use Rattle.cats_cmd.specs.Rounding.{round_outcome, rounded_line};
@@ -128,12 +129,12 @@ pub fn paths_reported()
 {}
 
 /// The text of `cats duplicates` of two auctions with two files each and one with one, with LF at the end of each line
-/// and with NUL.
+/// and with NUL. A backslash is escaped on a line.
 pub fn groups_printed()
-    ensures lines { duplicates_text 10 ((codes "a", 0) ∷ (codes "b", 1) ∷ (codes "c", 0) ∷ (codes "d", 3) ∷ (codes "e", 1) ∷ [])
-        ≡ codes "a\nc\n\nb\ne\n" }
-    ensures nulls { duplicates_text 0 ((codes "a", 0) ∷ (codes "b", 1) ∷ (codes "c", 0) ∷ (codes "d", 3) ∷ (codes "e", 1) ∷ [])
-        ≡ 97 ∷ 0 ∷ 99 ∷ 0 ∷ 0 ∷ 98 ∷ 0 ∷ 101 ∷ 0 ∷ [] }
+    ensures lines { duplicates_text Line ((codes "a", 0) ∷ (codes "b", 1) ∷ (codes "\\c", 0) ∷ (codes "d", 3) ∷ (codes "e", 1) ∷ [])
+        ≡ codes "a\n\\\\c\n\nb\ne\n" }
+    ensures nulls { duplicates_text Null ((codes "a", 0) ∷ (codes "b", 1) ∷ (codes "\\c", 0) ∷ (codes "d", 3) ∷ (codes "e", 1) ∷ [])
+        ≡ 97 ∷ 0 ∷ 92 ∷ 99 ∷ 0 ∷ 0 ∷ 98 ∷ 0 ∷ 101 ∷ 0 ∷ [] }
 {}
 
 /// The numbers of a file, and the lines of `cats sizes`: of no files, of a file with a heavy bundle, and of one that was
@@ -141,10 +142,10 @@ pub fn groups_printed()
 pub fn table_lines()
     ensures numbers { sizes_of xor_ladder ≡ 2 ∷ 3 ∷ 1 ∷ 1 ∷ 1 ∷ [] }
     ensures no_bidders { counts_of larger_bid ≡ 3 ∷ 3 ∷ 0 ∷ [] }
-    ensures header { MakesTable 10 [] (codes "goods\tbids\tor\txor\tdummy\tkept\tkept_or\tkept_xor\tfile\n") }
-    ensures heavy { (goods : Vec ℕ Global) → line_if_read 10 (codes "a b") (IsHeavy larger_bid goods)
+    ensures header { MakesTable Line [] (codes "goods\tbids\tor\txor\tdummy\tkept\tkept_or\tkept_xor\tfile\n") }
+    ensures heavy { (goods : Vec ℕ Global) → line_if_read Line (codes "a b") (IsHeavy larger_bid goods)
         ≡ codes "2\t3\t3\t0\t0\t-\t-\t-\ta b\n" }
-    ensures refused { line_if_read 0 (codes "a") (IsStopped (CannotOpen Only)) ≡ [] }
+    ensures refused { line_if_read Line (codes "a") (IsStopped (CannotOpen Only)) ≡ [] }
 {}
 
 /// What `cats round` makes of bytes, and the line of a price whose value changed.

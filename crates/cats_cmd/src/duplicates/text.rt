@@ -10,37 +10,39 @@ ghost use Rattle.cats_cmd.specs.DuplicateTexts.{
   with_group,
 };
 
+use crate::escaping::{push_end, push_path};
+use crate::paths::Ending;
 use std::alloc::{AllocError, Global};
 
 /// For each auction that two or more of the files are, their paths, each on a line, and an empty line between two
-/// auctions. With each path is given the place of the first file of its auction. `end` is the end of each line.
+/// auctions. If each path ends with NUL, one more NUL is in the place of the empty line. With each path is given the place of the first file of its auction.
 pub(super) fn duplicates_text(
     alloc: Global,
     found: &[(&[u8], usize)],
-    end: u8,
+    ending: Ending,
 ) -> Result<Vec<u8>, AllocError>
     requires { All (λ f. f.1 < length found.now) found.now }
-    ensures { IfOk result (λ text. text.items ≡ duplicates_text end (found_paths found.now)) }
+    ensures { IfOk result (λ text. text.items ≡ duplicates_text ending (found_paths found.now)) }
 {
     let groups = group_by_place(alloc, found)?;
     let mut text = Vec::new(alloc);
     for group in &groups {
-        push_group(&mut text, group.as_slice(), end)?;
+        push_group(&mut text, group.as_slice(), ending)?;
     }
     Ok(text)
 }
 
-/// Puts the lines of a group of two or more behind the text, with an empty line between them.
-fn push_group(text: &mut Vec<u8>, paths: &[&[u8]], end: u8) -> Result<(), AllocError>
-    ensures { OnOk result (text.new.items ≡ with_group end text.old.items (map (λ path. path.now) paths.now)) }
+/// Puts the lines of a group of two or more behind the text, with an empty line, or one more NUL, between them.
+fn push_group(text: &mut Vec<u8>, paths: &[&[u8]], ending: Ending) -> Result<(), AllocError>
+    ensures { OnOk result (text.new.items ≡ with_group ending text.old.items (map (λ path. path.now) paths.now)) }
 {
     if paths.len() < 2 {
         return Ok(());
     }
     if !text.is_empty() {
-        text.push(end)?;
+        push_end(text, ending)?;
     }
-    push_lines(text, paths, end)
+    push_lines(text, paths, ending)
 }
 
 /// The paths of the files for each place.
@@ -70,13 +72,12 @@ fn empty_groups<'a>(alloc: Global, count: usize) -> Result<Vec<Vec<&'a [u8]>>, A
     Ok(groups)
 }
 
-/// Puts each path on a line.
-fn push_lines(text: &mut Vec<u8>, paths: &[&[u8]], end: u8) -> Result<(), AllocError>
-    ensures { OnOk result (text.new.items ≡ text.old.items ++ lines_of end (map (λ path. path.now) paths.now)) }
+/// Puts each path behind the text.
+fn push_lines(text: &mut Vec<u8>, paths: &[&[u8]], ending: Ending) -> Result<(), AllocError>
+    ensures { OnOk result (text.new.items ≡ text.old.items ++ lines_of ending (map (λ path. path.now) paths.now)) }
 {
     for path in paths {
-        text.extend_from_slice(path)?;
-        text.push(end)?;
+        push_path(text, path, ending)?;
     }
     Ok(())
 }

@@ -4,4 +4,4 @@ use Rattle.cats_cmd.proofs.duplicates.text.duplicates_text.Given as goal
 
 -- the groups so far are told
 abbrev pub invariant-loop-group : goal.invariant-loop-group
-invariant-loop-group l = l.text.items ≡ fold (with_group l.end) [] (plain_groups (take l.group-index l.group-items))
+invariant-loop-group l = l.text.items ≡ fold (with_group l.ending) [] (plain_groups (take l.group-index l.group-items))

@@ -4,4 +4,4 @@ use Rattle.cats_cmd.proofs.duplicates.text.push_lines.Given as goal
 
 -- the paths so far are told
 abbrev pub invariant-loop-path : goal.invariant-loop-path
-invariant-loop-path l = l.text.items ≡ l.initial.text.items ++ lines_of l.end (map (λ path. path.now) (take l.path-index l.paths))
+invariant-loop-path l = l.text.items ≡ l.initial.text.items ++ lines_of l.ending (map (λ path. path.now) (take l.path-index l.paths))

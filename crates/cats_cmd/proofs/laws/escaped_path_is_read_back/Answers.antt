@@ -1,0 +1,8 @@
+use Rattle.cats_cmd.proofs.ReadingBack.{harmless, read_back}
+use Rattle.cats_cmd.proofs.laws.escaped_path_is_read_back.Goals as goal
+
+pub returns-clause-back : goal.returns-clause-back
+returns-clause-back c = read_back
+
+pub returns-clause-harmless : goal.returns-clause-harmless
+returns-clause-harmless c = harmless
