@@ -1,13 +1,13 @@
 //! Auctions of files, and the orders of atoms and bidders, on both kinds of sets.
 
 use crate::bids::{Offer, UNIT, atoms_on, expect_bid};
-use bid_file::{Bid, BidFile, CompactBids, CompactFile};
+use bid_file::{Bid, BidFile, PackedBids, PackedFile};
 use goods_set::{GoodsSet, ListSet, WordSet};
 use std::alloc::Global;
 use std::cmp::Ordering;
 use std::process::Abort;
 use std::test::Fail;
-use valuation::{Atom, Auction, auction_of, compact_auction, compare_atoms, compare_bidders};
+use valuation::{Atom, Auction, auction_of, compare_atoms, compare_bidders, packed_auction};
 
 // Three goods and two dummy goods: a bid with the first dummy good, then one without.
 fn small_file(alloc: Global) -> Result<BidFile, Fail> {
@@ -28,11 +28,11 @@ fn small_file(alloc: Global) -> Result<BidFile, Fail> {
 }
 
 // The same file in little memory.
-fn small_compact_file(alloc: Global) -> Result<CompactFile, Fail> {
-    let mut bids = CompactBids::new(alloc);
+fn small_packed_file(alloc: Global) -> Result<PackedFile, Fail> {
+    let mut bids = PackedBids::new(alloc);
     bids.push(20 * UNIT, &[0, 2], Some(0), 2)?;
     bids.push(7 * UNIT, &[1], None, 2)?;
-    Ok(CompactFile::new(3, 2, bids))
+    Ok(PackedFile::new(3, 2, bids))
 }
 
 fn expect_atom<S: GoodsSet>(
@@ -70,9 +70,9 @@ fn auction_of_small_file<S: GoodsSet>(rt: &impl Abort, alloc: Global) -> Result<
     expect_small_auction(rt, alloc, &auction)?;
     let (goods, or_atoms, xor_bidders) = auction.into_parts();
     expect_small_auction(rt, alloc, &Auction::new(goods, or_atoms, xor_bidders))?;
-    let compact = small_compact_file(alloc)?;
-    assert!(rt; u32::from(compact.goods()) <= S::cap());
-    expect_small_auction(rt, alloc, &compact_auction::<S>(alloc, &compact)?)
+    let packed = small_packed_file(alloc)?;
+    assert!(rt; u32::from(packed.goods()) <= S::cap());
+    expect_small_auction(rt, alloc, &packed_auction::<S>(alloc, &packed)?)
 }
 
 #[test]

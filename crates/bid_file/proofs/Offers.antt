@@ -4,9 +4,9 @@ use Rattle.std.proofs.lemmas.List.{drop_all, take_all, take-append-le, take_more
 use Rattle.std.proofs.lemmas.Option.{get_or_from_slice_get, slice_get_within}
 use Rattle.std.specs.List.{slice_get}
 use Rattle.std.specs.Prelude.{OnErr, Result, Ok, Err}
-use Rattle.bid_file.specs.declared.compact.Offer.{Offer}
+use Rattle.bid_file.specs.declared.packed.Offer.{Offer}
 use Rattle.bid_file.specs.Files.{PlainBid}
-use Rattle.bid_file.specs.Internal.Compact.{IsHeld, AreHeld}
+use Rattle.bid_file.specs.Internal.Packed.{IsHeld, AreHeld}
 use Rattle.bid_file.specs.Views.{offered}
 
 -- the bid of an offer that has these goods

@@ -1,2 +1,2 @@
 -- The facts that private types keep. No public contract rests on them.
-pub mod Compact
+pub mod Packed

@@ -2,11 +2,11 @@
 use Rattle.std.specs.Prelude.{ℕ, List, slice_range}
 use Rattle.bid_file.specs.Files.{PlainBid, PlainFile, plain_bids}
 use Rattle.bid_file.specs.declared.bid.BidFile.{BidFile}
-use Rattle.bid_file.specs.declared.compact.Offer.{Offer}
+use Rattle.bid_file.specs.declared.packed.Offer.{Offer}
 
 abbrev pub plain_file : BidFile → PlainFile
 plain_file f = record { goods = f.goods; dummy = f.dummy; bids = plain_bids f.bids.items }
 
--- the bid of an offer of a compact file, whose goods stand in this list
+-- the bid of an offer of a packed file, whose goods stand in this list
 abbrev pub offered : List ℕ → Offer → PlainBid
 offered goods o = record { price = o.price; goods = slice_range goods o.start o.end; dummy = o.dummy }

@@ -2,10 +2,10 @@
 #![tactic(auto)]
 
 mod bid;
-mod compact;
 mod limits;
+mod packed;
 pub mod worked;
 
 pub use bid::{Bid, BidFile};
-pub use compact::{CompactBids, CompactFile};
 pub use limits::{MAX_BIDS, MAX_DUMMY, MAX_GOODS, MAX_PRICE};
+pub use packed::{PackedBids, PackedFile};

@@ -6,7 +6,7 @@ use crate::same::are_same_files;
 use crate::steps::first_heavy;
 use bid_file::BidFile;
 use canon::{AuctionIndex, CanonFault, Verdict, Which, compare, normalise};
-use cats_text::{read, read_compact};
+use cats_text::{read, read_packed};
 use std::alloc::{AllocError, Global};
 use std::process::Abort;
 use std::test::Fail;
@@ -226,7 +226,7 @@ fn expect_place(
     member: &Member,
 ) -> Result<(), Fail> {
     let expected = first_same(alloc, members, member)?;
-    let file = read_compact(alloc, member.text.as_bytes())?;
+    let file = read_packed(alloc, member.text.as_bytes())?;
     let place = index.add(alloc, file, AMPLE)?;
     assert_eq!(rt; place, expected);
     Ok(())

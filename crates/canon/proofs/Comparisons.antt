@@ -257,7 +257,7 @@ module _ (a b : PlainAuction) (e : a.goods ≡ b.goods) where
 pub bids_count : (f : PlainFile) → IsPlainFile f → (bids : List Bid) → plain_bids bids ≡ f.bids → length bids ≤ MAX_BIDS
 bids_count f h bids e = let long = length-map bids plain_bid in let same = ap (λ (zs : List PlainBid). length zs) e in omega (arith, h.count)
 
--- ---- two compact files
+-- ---- two packed files
 
 -- equal files have no difference
 pub equal_files : (f g : PlainFile) → IsPlainFile f → f ≡ g → first_difference (auction_from f) (auction_from g) ≡ NoDifference

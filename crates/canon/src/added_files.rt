@@ -4,7 +4,7 @@ ghost use Rattle.std.specs.Prelude.{◌≡◌, List, [], ◌∷◌, ◌++◌};
 ghost use Rattle.std.specs.Borrow.{ftrue};
 ghost use Rattle.bid_file.specs.Files.{PlainFile};
 
-use bid_file::CompactFile;
+use bid_file::PackedFile;
 use std::marker::Model;
 
 /// Files that no code holds.
@@ -26,7 +26,7 @@ impl AddedFiles {
     }
 
     /// The files before, and this one behind them.
-    pub fn with(_before: &AddedFiles, _file: &CompactFile) -> AddedFiles
+    pub fn with(_before: &AddedFiles, _file: &PackedFile) -> AddedFiles
         ensures { result.files ≡ _before.now.files ++ _file.now ∷ [] }
     {
         AddedFiles {}

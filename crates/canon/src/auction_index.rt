@@ -28,8 +28,8 @@ ghost use Rattle.canon.specs.Internal.TextPlaces.{place_of};
 use crate::added_files::AddedFiles;
 use crate::fault::CanonFault;
 use crate::text::normal_text;
-use bid_file::CompactFile;
-use cats_text::{Watched, read_compact_from};
+use bid_file::PackedFile;
+use cats_text::{Watched, read_packed_from};
 use std::alloc::{AllocError, Global};
 use std::collections::HashMap;
 use std::io::Read;
@@ -70,11 +70,11 @@ impl AuctionIndex {
         }
     }
 
-    /// Adds a compact file, and answers the place, counted from 0, of the first file added that is the same auction;
+    /// Adds a packed file, and answers the place, counted from 0, of the first file added that is the same auction;
     /// that is its own place where there is none. `limit` bounds each search that decides on a bundle of the OR bidder.
     ///
     /// An index to which `usize::MAX` files were added takes no more, and tells want of memory.
-    pub fn add(&mut self, alloc: Global, file: CompactFile, limit: u64) -> Result<usize, CanonFault>
+    pub fn add(&mut self, alloc: Global, file: PackedFile, limit: u64) -> Result<usize, CanonFault>
         ensures place { IfOk result (IsFirstPlace self.new file) }
         ensures added { OnOk result (self.new ≡ self.old ++ file ∷ []) }
         ensures light { OnOk result (normalised_file limit file ≡ IsText (canonical_text file)) }
@@ -103,7 +103,7 @@ impl AuctionIndex {
         requires fresh { has_ended input.old ≡ false }
         ensures { AddsStream R.remaining limit self.old self.new input.old input.new result }
     {
-        let file = read_compact_from(alloc, input)?;
+        let file = read_packed_from(alloc, input)?;
         self.add(alloc, file, limit)
     }
 }

@@ -21,8 +21,8 @@ use crate::parting::bidder_verdict;
 use crate::text::into_normal_file;
 use crate::verdict::Verdict;
 use crate::which::Which;
-use bid_file::{Bid, BidFile, CompactFile};
-use cats_text::read_compact;
+use bid_file::{Bid, BidFile, PackedFile};
+use cats_text::read_packed;
 use std::alloc::{AllocError, Global};
 
 /// Where the auctions of two texts' files part first. The first text is read and made canonical, and what was read of
@@ -56,12 +56,12 @@ pub fn compare_files(alloc: Global, left: &BidFile, right: &BidFile) -> Result<V
     walk_files(alloc, left, right)
 }
 
-/// Where the auctions of two canonical compact files part first, as `compare_files`. Where they part in a bundle or a
+/// Where the auctions of two canonical packed files part first, as `compare_files`. Where they part in a bundle or a
 /// bidder, both files are copied for the walk over their bids.
-pub fn compare_compact_files(
+pub fn compare_packed_files(
     alloc: Global,
-    left: &CompactFile,
-    right: &CompactFile,
+    left: &PackedFile,
+    right: &PackedFile,
 ) -> Result<Verdict, AllocError>
     requires left_canonical { IsCanonicalFile left.now }
     requires right_canonical { IsCanonicalFile right.now }
@@ -106,8 +106,8 @@ fn walk_files(alloc: Global, left: &BidFile, right: &BidFile) -> Result<Verdict,
 /// Where two canonical files part first. Memory that is refused meanwhile is told of both.
 fn compare_read(
     alloc: Global,
-    first: &CompactFile,
-    second: &CompactFile,
+    first: &PackedFile,
+    second: &PackedFile,
 ) -> Result<Verdict, (Which, CanonFault)>
     requires first_canonical { IsCanonicalFile first.now }
     requires second_canonical { IsCanonicalFile second.now }
@@ -118,14 +118,14 @@ fn compare_read(
     ensures memory { let difference = first_difference (auction_from first.now) (auction_from second.now) in
         OnErr result (NamesGoods difference) }
 {
-    match compare_compact_files(alloc, first, second) {
+    match compare_packed_files(alloc, first, second) {
         Ok(verdict) => Ok(verdict),
         Err(_) => Err((Which::Both, CanonFault::Memory)),
     }
 }
 
 /// The canonical file of the first text's file. A refusal is told of the first.
-fn read_first(alloc: Global, text: &[u8], limit: u64) -> Result<CompactFile, (Which, CanonFault)>
+fn read_first(alloc: Global, text: &[u8], limit: u64) -> Result<PackedFile, (Which, CanonFault)>
     ensures { ReadsOneAs First limit text.now result }
 {
     match read_normal(alloc, text, limit) {
@@ -135,7 +135,7 @@ fn read_first(alloc: Global, text: &[u8], limit: u64) -> Result<CompactFile, (Wh
 }
 
 /// The canonical file of the second text's file. A refusal is told of the second.
-fn read_second(alloc: Global, text: &[u8], limit: u64) -> Result<CompactFile, (Which, CanonFault)>
+fn read_second(alloc: Global, text: &[u8], limit: u64) -> Result<PackedFile, (Which, CanonFault)>
     ensures { ReadsOneAs Second limit text.now result }
 {
     match read_normal(alloc, text, limit) {
@@ -145,10 +145,10 @@ fn read_second(alloc: Global, text: &[u8], limit: u64) -> Result<CompactFile, (W
 }
 
 /// The canonical file of the file that a text spells.
-fn read_normal(alloc: Global, text: &[u8], limit: u64) -> Result<CompactFile, CanonFault>
+fn read_normal(alloc: Global, text: &[u8], limit: u64) -> Result<PackedFile, CanonFault>
     ensures { ReadsNormalAs limit text.now result }
 {
-    let file = read_compact(alloc, text)?;
+    let file = read_packed(alloc, text)?;
     into_normal_file(alloc, file, limit)
 }
 

@@ -1,6 +1,6 @@
 //! Which kind of sets suits the bids of a file. It costs or saves time and memory alone.
 
-use bid_file::{BidFile, CompactFile};
+use bid_file::{BidFile, PackedFile};
 
 /// A bundle of more goods is large: whether another is inside it takes long to tell of a list.
 const LARGE: usize = 256;
@@ -50,8 +50,8 @@ impl BidSizes {
     }
 }
 
-/// Whether lists of its goods suit a compact file best.
-pub fn is_sparse(file: &CompactFile) -> bool {
+/// Whether lists of its goods suit a packed file best.
+pub fn is_sparse(file: &PackedFile) -> bool {
     let bids = file.bids();
     let mut sizes = BidSizes::none();
     for place in 0..bids.len() {

@@ -10,7 +10,7 @@ ghost use Rattle.valuation.specs.Views.{plain_auction};
 ghost use Rattle.canon.specs.Canonical.{bid_from, dummy_bids, file_from};
 
 use crate::writing::count_bids;
-use bid_file::{Bid, BidFile, CompactBids, CompactFile};
+use bid_file::{Bid, BidFile, PackedBids, PackedFile};
 use goods_set::{GoodsSet, goods_of, rising_goods};
 use std::alloc::{AllocError, Global};
 use std::mem;
@@ -30,33 +30,33 @@ pub fn file_of<S: GoodsSet>(alloc: Global, auction: &Auction<S>) -> Result<BidFi
     Ok(BidFile::new(auction.goods(), bidders.len() as u32, bids))
 }
 
-/// The compact file of any auction, as `file_of`. The goods of one bid at a time are listed, in one buffer.
-pub fn compact_file_of<S: GoodsSet>(
+/// The packed file of any auction, as `file_of`. The goods of one bid at a time are listed, in one buffer.
+pub fn packed_file_of<S: GoodsSet>(
     alloc: Global,
     auction: &Auction<S>,
-) -> Result<CompactFile, AllocError>
+) -> Result<PackedFile, AllocError>
     ensures { IfOk result (λ file. file ≡ file_from (plain_auction auction.now)) }
 {
     // No file has more bids than a number of 32 bits counts.
     let count = count_bids(auction) as u32;
     let bidders = auction.xor_bidders();
-    let mut bids = CompactBids::new(alloc);
+    let mut bids = PackedBids::new(alloc);
     let mut bundle = Vec::new(alloc);
     push_offers(&mut bids, &mut bundle, auction.or_atoms(), None, count)?;
     for (dummy, bidder) in bidders.iter().enumerate() {
         let atoms = bidder.as_slice();
         push_offers(&mut bids, &mut bundle, atoms, Some(dummy as u32), count)?;
     }
-    Ok(CompactFile::new(auction.goods(), bidders.len() as u32, bids))
+    Ok(PackedFile::new(auction.goods(), bidders.len() as u32, bids))
 }
 
-/// The compact file of any auction, as `compact_file_of`, in memory that is there. It uses the auction up: the atoms of
+/// The packed file of any auction, as `packed_file_of`, in memory that is there. It uses the auction up: the atoms of
 /// each bidder are given up as soon as their bids are there.
-pub(crate) fn into_compact_file<S: GoodsSet>(
+pub(crate) fn into_packed_file<S: GoodsSet>(
     alloc: Global,
     auction: Auction<S>,
-    mut bids: CompactBids,
-) -> Result<CompactFile, AllocError>
+    mut bids: PackedBids,
+) -> Result<PackedFile, AllocError>
     requires { bids ≡ [] }
     ensures { IfOk result (λ file. file ≡ file_from (plain_auction auction)) }
 {
@@ -68,13 +68,13 @@ pub(crate) fn into_compact_file<S: GoodsSet>(
     push_offers(&mut bids, &mut bundle, or_atoms.as_slice(), None, count)?;
     mem::drop(or_atoms);
     push_bidders(&mut bids, &mut bundle, bidders, count)?;
-    Ok(CompactFile::new(goods, dummy, bids))
+    Ok(PackedFile::new(goods, dummy, bids))
 }
 
 /// Appends the bids of bidders, which are given up one by one, with the dummy goods 0, 1, and so on, where there will
 /// be so many bids.
 fn push_bidders<S: GoodsSet>(
-    bids: &mut CompactBids,
+    bids: &mut PackedBids,
     bundle: &mut Vec<u16>,
     bidders: Vec<Vec<Atom<S>>>,
     count: u32,
@@ -110,7 +110,7 @@ fn push_bids<S: GoodsSet>(
 
 /// Appends a bid for each atom, all with the same dummy good, where there will be so many bids.
 fn push_offers<S: GoodsSet>(
-    bids: &mut CompactBids,
+    bids: &mut PackedBids,
     bundle: &mut Vec<u16>,
     atoms: &[Atom<S>],
     dummy: Option<u32>,

@@ -8,31 +8,31 @@ ghost use Rattle.valuation.specs.Values.{atoms_of};
 ghost use Rattle.valuation.specs.Views.{plain_auction};
 ghost use Rattle.canon.specs.Canonical.{bid_from, file_from};
 
-use crate::file::compact_file_of;
+use crate::file::packed_file_of;
 use crate::writing::count_bids;
-use bid_file::{CompactBids, CompactFile};
+use bid_file::{PackedBids, PackedFile};
 use goods_set::{GoodsSet, rising_goods};
 use std::alloc::{AllocError, Global};
 use valuation::{Atom, Auction};
 
-/// The compact file of an auction, canonical or not, or nothing where it is found to be the known one.
-pub(crate) fn compact_file_unless<S: GoodsSet>(
+/// The packed file of an auction, canonical or not, or nothing where it is found to be the known one.
+pub(crate) fn packed_file_unless<S: GoodsSet>(
     alloc: Global,
     auction: &Auction<S>,
-    known: &CompactFile,
-) -> Result<Option<CompactFile>, AllocError>
+    known: &PackedFile,
+) -> Result<Option<PackedFile>, AllocError>
     ensures { IfOk result (λ file. unwrap_or file known.now ≡ file_from (plain_auction auction.now)) }
 {
     if is_file_of(alloc, known, auction)? {
         return Ok(None);
     }
-    Ok(Some(compact_file_of(alloc, auction)?))
+    Ok(Some(packed_file_of(alloc, auction)?))
 }
 
 /// Whether a file is found to be that of an auction. No bids are compared where the sizes differ.
 fn is_file_of<S: GoodsSet>(
     alloc: Global,
-    file: &CompactFile,
+    file: &PackedFile,
     auction: &Auction<S>,
 ) -> Result<bool, AllocError>
     ensures { IfOk result (λ same. IsTrue same → file.now ≡ file_from (plain_auction auction.now)) }
@@ -58,7 +58,7 @@ fn is_file_of<S: GoodsSet>(
 }
 
 /// Whether a file has as many goods, dummy goods and bids as that of an auction.
-fn has_sizes<S: GoodsSet>(file: &CompactFile, auction: &Auction<S>) -> bool
+fn has_sizes<S: GoodsSet>(file: &PackedFile, auction: &Auction<S>) -> bool
     ensures goods { IsTrue result → file.now.goods ≡ (plain_auction auction.now).goods }
     ensures dummy { IsTrue result → file.now.dummy ≡ length (plain_auction auction.now).xor_bidders }
     ensures bids { IsTrue result → length file.now.bids ≡ length (file_from (plain_auction auction.now)).bids }
@@ -74,7 +74,7 @@ fn has_sizes<S: GoodsSet>(file: &CompactFile, auction: &Auction<S>) -> bool
 
 /// Whether the bids from a number on are found to be those of the atoms, all with the same dummy good.
 fn are_offers<S: GoodsSet>(
-    bids: &CompactBids,
+    bids: &PackedBids,
     bundle: &mut Vec<u16>,
     first: usize,
     atoms: &[Atom<S>],
@@ -96,7 +96,7 @@ fn are_offers<S: GoodsSet>(
 /// Whether the bid of this number is that of an atom, with this dummy good.
 #[inline(always)]
 fn is_offer<S: GoodsSet>(
-    bids: &CompactBids,
+    bids: &PackedBids,
     bundle: &mut Vec<u16>,
     number: usize,
     atom: &Atom<S>,

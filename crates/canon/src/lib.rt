@@ -27,14 +27,14 @@ mod writing;
 
 pub use auction::canonical;
 pub use auction_index::AuctionIndex;
-pub use comparison::{compare, compare_compact_files, compare_files};
+pub use comparison::{compare, compare_files, compare_packed_files};
 pub use density::has_sparse_bids;
 pub use difference_laws::{
     difference_is_a_point, difference_is_the_least_bidder, differences_exchanged,
     no_difference_of_the_same, same_auctions_have_one_difference,
 };
 pub use fault::CanonFault;
-pub use file::{compact_file_of, file_of};
+pub use file::{file_of, packed_file_of};
 pub use place_laws::first_place_by_text;
 pub use text::{
     into_normal_file, last_normal_file, last_normal_file_unless, normal_file, normal_text,

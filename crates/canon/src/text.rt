@@ -25,16 +25,16 @@ ghost use Rattle.canon.specs.Sameness.{AreSameFiles};
 use crate::auction::canonical;
 use crate::density::{has_sparse_bids, is_sparse};
 use crate::fault::CanonFault;
-use crate::file::{compact_file_of, file_of, into_compact_file};
-use crate::known_file::compact_file_unless;
+use crate::file::{file_of, into_packed_file, packed_file_of};
+use crate::known_file::packed_file_unless;
 use crate::writing::{count_bids, text_of};
-use bid_file::{BidFile, CompactBids, CompactFile};
-use cats_text::read_compact;
+use bid_file::{BidFile, PackedBids, PackedFile};
+use cats_text::read_packed;
 use goods_set::{GoodsSet, ListSet, goods_of, on_least_set};
 use prune::PruneFault;
 use std::alloc::Global;
 use std::mem;
-use valuation::{Auction, auction_of, compact_auction};
+use valuation::{Auction, auction_of, packed_auction};
 
 /// The canonical file of a file: the file of its canonical auction. `limit` bounds each search that decides on a bundle
 /// of the OR bidder.
@@ -50,14 +50,14 @@ pub fn normal_file(alloc: Global, file: &BidFile, limit: u64) -> Result<BidFile,
     on_least_set!(file.goods(), normal_file_on(alloc, file, limit))
 }
 
-/// The canonical file of a compact file, as `normal_file`. The file's bids are given up before its auction is made
+/// The canonical file of a packed file, as `normal_file`. The file's bids are given up before its auction is made
 /// canonical, and their memory is used again where at least half as many bids stay; the auction is given up while its
 /// own file is made.
 pub fn into_normal_file(
     alloc: Global,
-    file: CompactFile,
+    file: PackedFile,
     limit: u64,
-) -> Result<CompactFile, CanonFault>
+) -> Result<PackedFile, CanonFault>
     ensures answer { NormalisesPlainAs limit file result }
     ensures canonical { IfOk result (λ h. IsCanonicalFile h) }
 {
@@ -67,13 +67,13 @@ pub fn into_normal_file(
     on_least_set!(file.goods(), into_normal_file_on(alloc, file, limit))
 }
 
-/// The canonical file of a compact file, as `into_normal_file`, in a process that ends soon. The memory of the
+/// The canonical file of a packed file, as `into_normal_file`, in a process that ends soon. The memory of the
 /// canonical auction is left to the process's end, which takes less time than to free one bid after another.
 pub fn last_normal_file(
     alloc: Global,
-    file: CompactFile,
+    file: PackedFile,
     limit: u64,
-) -> Result<CompactFile, CanonFault>
+) -> Result<PackedFile, CanonFault>
     ensures answer { NormalisesPlainAs limit file result }
     ensures canonical { IfOk result (λ h. IsCanonicalFile h) }
 {
@@ -83,14 +83,14 @@ pub fn last_normal_file(
     on_least_set!(file.goods(), last_normal_file_on(alloc, file, limit))
 }
 
-/// The canonical file of a compact file, as `last_normal_file`, or nothing where it is found to be the known one. Then
+/// The canonical file of a packed file, as `last_normal_file`, or nothing where it is found to be the known one. Then
 /// no file is made, and the bids are only looked at.
 pub fn last_normal_file_unless(
     alloc: Global,
-    file: CompactFile,
+    file: PackedFile,
     limit: u64,
-    known: &CompactFile,
-) -> Result<Option<CompactFile>, CanonFault>
+    known: &PackedFile,
+) -> Result<Option<PackedFile>, CanonFault>
     ensures answer { NormalisesPlainAs limit file (or_known known.now result) }
     ensures canonical { IfOk (or_known known.now result) (λ h. IsCanonicalFile h) }
 {
@@ -103,8 +103,8 @@ pub fn last_normal_file_unless(
     )
 }
 
-/// The canonical text of a compact file, which is given up before its auction is made canonical.
-pub fn normal_text(alloc: Global, file: CompactFile, limit: u64) -> Result<Vec<u8>, CanonFault>
+/// The canonical text of a packed file, which is given up before its auction is made canonical.
+pub fn normal_text(alloc: Global, file: PackedFile, limit: u64) -> Result<Vec<u8>, CanonFault>
     ensures answer { NormalisesAs (normalised_file limit file) result }
     ensures file { IsPlainFile file }
 {
@@ -124,7 +124,7 @@ pub fn normalise(alloc: Global, text: &[u8], limit: u64) -> Result<Vec<u8>, Cano
         → (out.items ≡ canonical_text g ↔ AreSameFiles f g)) }
     ensures again { IfOk result (λ out. Normalises limit out.items (IsText out.items)) }
 {
-    let file = read_compact(alloc, text)?;
+    let file = read_packed(alloc, text)?;
     normal_text(alloc, file, limit)
 }
 
@@ -145,59 +145,59 @@ fn normal_file_on<S: GoodsSet>(
 
 fn into_normal_file_on<S: GoodsSet>(
     alloc: Global,
-    file: CompactFile,
+    file: PackedFile,
     limit: u64,
-) -> Result<CompactFile, CanonFault>
+) -> Result<PackedFile, CanonFault>
     requires { file.goods ≤ S.CAP }
     ensures answer { NormalisesPlainAs limit file result }
     ensures canonical { IfOk result (λ h. IsCanonicalFile h) }
 {
     let count = file.bids().len();
-    let auction: Auction<S> = compact_auction(alloc, &file)?;
+    let auction: Auction<S> = packed_auction(alloc, &file)?;
     let room = file.into_room();
     let canonical = light_canonical(alloc, auction, limit)?;
     let bids = if count_bids(&canonical) < count / 2 {
-        CompactBids::new(alloc)
+        PackedBids::new(alloc)
     } else {
         room
     };
-    Ok(into_compact_file(alloc, canonical, bids)?)
+    Ok(into_packed_file(alloc, canonical, bids)?)
 }
 
 fn last_normal_file_on<S: GoodsSet>(
     alloc: Global,
-    file: CompactFile,
+    file: PackedFile,
     limit: u64,
-) -> Result<CompactFile, CanonFault>
+) -> Result<PackedFile, CanonFault>
     requires { file.goods ≤ S.CAP }
     ensures answer { NormalisesPlainAs limit file result }
     ensures canonical { IfOk result (λ h. IsCanonicalFile h) }
 {
     let canonical: Auction<S> = into_canonical(alloc, file, limit)?;
-    let normal = compact_file_of(alloc, &canonical)?;
+    let normal = packed_file_of(alloc, &canonical)?;
     mem::forget(canonical);
     Ok(normal)
 }
 
 fn last_normal_file_unless_on<S: GoodsSet>(
     alloc: Global,
-    file: CompactFile,
+    file: PackedFile,
     limit: u64,
-    known: &CompactFile,
-) -> Result<Option<CompactFile>, CanonFault>
+    known: &PackedFile,
+) -> Result<Option<PackedFile>, CanonFault>
     requires { file.goods ≤ S.CAP }
     ensures answer { NormalisesPlainAs limit file (or_known known.now result) }
     ensures canonical { IfOk (or_known known.now result) (λ h. IsCanonicalFile h) }
 {
     let canonical = into_canonical::<S>(alloc, file, limit)?;
-    let normal = compact_file_unless(alloc, &canonical, known)?;
+    let normal = packed_file_unless(alloc, &canonical, known)?;
     mem::forget(canonical);
     Ok(normal)
 }
 
 fn normal_text_on<S: GoodsSet>(
     alloc: Global,
-    file: CompactFile,
+    file: PackedFile,
     limit: u64,
 ) -> Result<Vec<u8>, CanonFault>
     requires { file.goods ≤ S.CAP }
@@ -207,10 +207,10 @@ fn normal_text_on<S: GoodsSet>(
     Ok(text_of(alloc, &canonical)?)
 }
 
-/// The canonical auction of a compact file, which is given up before, where no bundle is heavy.
+/// The canonical auction of a packed file, which is given up before, where no bundle is heavy.
 fn into_canonical<S: GoodsSet>(
     alloc: Global,
-    file: CompactFile,
+    file: PackedFile,
     limit: u64,
 ) -> Result<Auction<S>, CanonFault>
     requires { file.goods ≤ S.CAP }
@@ -219,7 +219,7 @@ fn into_canonical<S: GoodsSet>(
     ensures light { let a = auction_from file in OnOk result (first_heavy a.goods limit a.or_atoms ≡ None) }
     ensures refused { IfErr result (λ fault. RefusesAuction limit (auction_from file) fault) }
 {
-    let auction = compact_auction(alloc, &file)?;
+    let auction = packed_auction(alloc, &file)?;
     mem::drop(file);
     light_canonical(alloc, auction, limit)
 }

@@ -1,12 +1,12 @@
 //! Each public call once, with ample memory, on worked rows.
 
 use crate::refusals::{expect_line, refusal_text};
-use bid_file::{BidFile, CompactFile};
+use bid_file::{BidFile, PackedFile};
 use canon::{
-    CanonFault, canonical, compact_file_of, file_of, into_normal_file, last_normal_file,
-    last_normal_file_unless, normal_file, normal_text, normalise,
+    CanonFault, canonical, file_of, into_normal_file, last_normal_file, last_normal_file_unless,
+    normal_file, normal_text, normalise, packed_file_of,
 };
-use cats_text::{read, read_compact, write};
+use cats_text::{read, read_packed, write};
 use goods_set::{GoodsSet, ListSet, WordSet};
 use std::alloc::Global;
 use std::process::Abort;
@@ -79,8 +79,8 @@ fn text_of(alloc: Global, file: &BidFile) -> Result<String, Fail> {
     Ok(String::from_utf8(write(alloc, file)?)?)
 }
 
-/// The bytes of a compact file, as a text.
-fn compact_text_of(alloc: Global, file: &CompactFile) -> Result<String, Fail> {
+/// The bytes of a packed file, as a text.
+fn packed_text_of(alloc: Global, file: &PackedFile) -> Result<String, Fail> {
     text_of(alloc, &file.to_file(alloc)?)
 }
 
@@ -119,7 +119,7 @@ fn expect_texts<S: GoodsSet>(
     expect_line(rt, &text_of(alloc, &file_of(alloc, auction)?)?, text);
     expect_line(
         rt,
-        &compact_text_of(alloc, &compact_file_of(alloc, auction)?)?,
+        &packed_text_of(alloc, &packed_file_of(alloc, auction)?)?,
         text,
     );
     Ok(())
@@ -177,13 +177,10 @@ fn told_file(alloc: Global, answer: Result<BidFile, CanonFault>) -> Result<Strin
     }
 }
 
-/// The compact file that a call answered, as its text, or why there is none.
-fn told_compact_file(
-    alloc: Global,
-    answer: Result<CompactFile, CanonFault>,
-) -> Result<String, Fail> {
+/// The packed file that a call answered, as its text, or why there is none.
+fn told_packed_file(alloc: Global, answer: Result<PackedFile, CanonFault>) -> Result<String, Fail> {
     match answer {
-        Ok(file) => compact_text_of(alloc, &file),
+        Ok(file) => packed_text_of(alloc, &file),
         Err(fault) => refusal_text(alloc, fault),
     }
 }
@@ -199,14 +196,14 @@ fn canonical_files(rt: HostRuntime) -> Result<(), Fail> {
 }
 
 #[test]
-fn canonical_compact_files(rt: HostRuntime) -> Result<(), Fail> {
+fn canonical_packed_files(rt: HostRuntime) -> Result<(), Fail> {
     for (limit, expected) in &[(3, LARGER_BID_TEXT), (2, "steps [0, 1]")] {
-        let file = read_compact(rt.alloc(), LARGER_BID.as_bytes())?;
+        let file = read_packed(rt.alloc(), LARGER_BID.as_bytes())?;
         let answer = into_normal_file(rt.alloc(), file, *limit);
-        expect_line(&rt, &told_compact_file(rt.alloc(), answer)?, expected);
-        let file = read_compact(rt.alloc(), LARGER_BID.as_bytes())?;
+        expect_line(&rt, &told_packed_file(rt.alloc(), answer)?, expected);
+        let file = read_packed(rt.alloc(), LARGER_BID.as_bytes())?;
         let answer = last_normal_file(rt.alloc(), file, *limit);
-        expect_line(&rt, &told_compact_file(rt.alloc(), answer)?, expected);
+        expect_line(&rt, &told_packed_file(rt.alloc(), answer)?, expected);
     }
     Ok(())
 }
@@ -214,10 +211,10 @@ fn canonical_compact_files(rt: HostRuntime) -> Result<(), Fail> {
 /// The file that a call answered beside a known one, as its text, or that it is the known one, or why there is none.
 fn told_unless_known(
     alloc: Global,
-    answer: Result<Option<CompactFile>, CanonFault>,
+    answer: Result<Option<PackedFile>, CanonFault>,
 ) -> Result<String, Fail> {
     match answer {
-        Ok(Some(file)) => compact_text_of(alloc, &file),
+        Ok(Some(file)) => packed_text_of(alloc, &file),
         Ok(None) => Ok(String::from_str(alloc, "known")?),
         Err(fault) => refusal_text(alloc, fault),
     }
@@ -226,8 +223,8 @@ fn told_unless_known(
 #[test]
 fn canonical_files_unless_known(rt: HostRuntime) -> Result<(), Fail> {
     for (known, text, limit, expected) in &KNOWN {
-        let known = read_compact(rt.alloc(), known.as_bytes())?;
-        let file = read_compact(rt.alloc(), text.as_bytes())?;
+        let known = read_packed(rt.alloc(), known.as_bytes())?;
+        let file = read_packed(rt.alloc(), text.as_bytes())?;
         let answer = last_normal_file_unless(rt.alloc(), file, *limit, &known);
         expect_line(&rt, &told_unless_known(rt.alloc(), answer)?, expected);
     }
@@ -237,7 +234,7 @@ fn canonical_files_unless_known(rt: HostRuntime) -> Result<(), Fail> {
 #[test]
 fn canonical_texts_of_files(rt: HostRuntime) -> Result<(), Fail> {
     for (limit, expected) in &[(3, LARGER_BID_TEXT), (2, "steps [0, 1]")] {
-        let file = read_compact(rt.alloc(), LARGER_BID.as_bytes())?;
+        let file = read_packed(rt.alloc(), LARGER_BID.as_bytes())?;
         let answer = normal_text(rt.alloc(), file, *limit);
         expect_told(&rt, rt.alloc(), answer, expected)?;
     }

@@ -8,10 +8,10 @@ use crate::refusals::{expect_line, refusal_text};
 use bid_file::BidFile;
 use canon::laws::canonical_auctions_have_canonical_files;
 use canon::{
-    CanonFault, Verdict, Which, canonical, compare, compare_compact_files, compare_files, file_of,
+    CanonFault, Verdict, Which, canonical, compare, compare_files, compare_packed_files, file_of,
     into_normal_file, normal_file,
 };
-use cats_text::{read, read_compact};
+use cats_text::{read, read_packed};
 use goods_set::ListSet;
 use std::alloc::{AllocError, Global};
 use std::test::Fail;
@@ -169,20 +169,20 @@ fn files_of_canonical_auctions_part(rt: HostRuntime) -> Result<(), Fail> {
     Ok(())
 }
 
-/// How the canonical compact files of two texts part.
-fn compact_difference(alloc: Global, left: &str, right: &str) -> Result<Verdict, Fail> {
-    let one = read_compact(alloc, left.as_bytes())?;
+/// How the canonical packed files of two texts part.
+fn packed_difference(alloc: Global, left: &str, right: &str) -> Result<Verdict, Fail> {
+    let one = read_packed(alloc, left.as_bytes())?;
     let one = into_normal_file(alloc, one, 100)?;
-    let other = read_compact(alloc, right.as_bytes())?;
+    let other = read_packed(alloc, right.as_bytes())?;
     let other = into_normal_file(alloc, other, 100)?;
-    let verdict = compare_compact_files(alloc, &one, &other)?;
+    let verdict = compare_packed_files(alloc, &one, &other)?;
     Ok(verdict)
 }
 
 #[test]
-fn canonical_compact_files_part(rt: HostRuntime) -> Result<(), Fail> {
+fn canonical_packed_files_part(rt: HostRuntime) -> Result<(), Fail> {
     for (left, right, expected) in &ROWS {
-        let verdict = compact_difference(rt.alloc(), left, right)?;
+        let verdict = packed_difference(rt.alloc(), left, right)?;
         expect_line(&rt, &verdict_text(rt.alloc(), &verdict)?, expected);
     }
     Ok(())

@@ -2,7 +2,7 @@
 
 use crate::refusals::refusal_text;
 use canon::{AuctionIndex, CanonFault};
-use cats_text::{Watched, read_compact};
+use cats_text::{Watched, read_packed};
 use std::alloc::{AllocError, Global};
 use std::process::Abort;
 use std::test::Fail;
@@ -82,7 +82,7 @@ fn expect_place(rt: &impl Abort, line: &str, expected: &str, text: &str) {
 fn places_of_files(rt: HostRuntime) -> Result<(), Fail> {
     let mut index = AuctionIndex::new(rt.alloc());
     for (text, limit, expected) in &ROWS {
-        let answer = match read_compact(rt.alloc(), text.as_bytes()) {
+        let answer = match read_packed(rt.alloc(), text.as_bytes()) {
             Ok(file) => index.add(rt.alloc(), file, *limit),
             Err(fault) => Err(CanonFault::from(fault)),
         };

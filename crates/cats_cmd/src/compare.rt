@@ -17,10 +17,10 @@ ghost use Rattle.cats_cmd.specs.Outcomes.{Tells, compare_outcome};
 ghost use Rattle.cats_cmd.specs.Statuses.{status_of_difference};
 
 use crate::report::{DIFFERENT, DONE, RunFault};
-use crate::run::{read_compact_file, send_text};
-use bid_file::CompactFile;
+use crate::run::{read_packed_file, send_text};
+use bid_file::PackedFile;
 use canon::{
-    CanonFault, Verdict, Which, compare_compact_files, into_normal_file, last_normal_file_unless,
+    CanonFault, Verdict, Which, compare_packed_files, into_normal_file, last_normal_file_unless,
 };
 use cats_text::Watched;
 use std::alloc::{AllocError, Global};
@@ -64,13 +64,13 @@ fn read_canonical<R: Read>(
     alloc: Global,
     input: &mut Watched<R>,
     limit: u64,
-) -> Result<CompactFile, CanonFault>
+) -> Result<PackedFile, CanonFault>
     requires works { has_failed input.old ≡ false }
     requires fresh { has_ended input.old ≡ false }
     ensures answer { ReadsCanonical R.remaining limit input.old input.new result }
     ensures canonical { IfOk result (λ file. IsCanonicalFile file) }
 {
-    let file = read_compact_file(alloc, input)?;
+    let file = read_packed_file(alloc, input)?;
     into_normal_file(alloc, file, limit)
 }
 
@@ -80,14 +80,14 @@ fn read_last_canonical<R: Read>(
     alloc: Global,
     input: &mut Watched<R>,
     limit: u64,
-    known: &CompactFile,
-) -> Result<Option<CompactFile>, CanonFault>
+    known: &PackedFile,
+) -> Result<Option<PackedFile>, CanonFault>
     requires works { has_failed input.old ≡ false }
     requires fresh { has_ended input.old ≡ false }
     ensures answer { ReadsCanonical R.remaining limit input.old input.new (or_known known.now result) }
     ensures canonical { IfOk (or_known known.now result) (λ file. IsCanonicalFile file) }
 {
-    let file = read_compact_file(alloc, input)?;
+    let file = read_packed_file(alloc, input)?;
     last_normal_file_unless(alloc, file, limit, known)
 }
 
@@ -95,8 +95,8 @@ fn read_last_canonical<R: Read>(
 /// here belongs to both files.
 fn send_difference<W: Write>(
     alloc: Global,
-    left: &CompactFile,
-    right: &Option<CompactFile>,
+    left: &PackedFile,
+    right: &Option<PackedFile>,
     out: &mut Watched<W>,
 ) -> Result<u8, RunFault>
     requires file { IsPlainFile left.now }
@@ -114,8 +114,8 @@ fn send_difference<W: Write>(
 /// The status and the text of a comparison with another file, or with the same one if there is no other.
 fn difference_text(
     alloc: Global,
-    left: &CompactFile,
-    right: &Option<CompactFile>,
+    left: &PackedFile,
+    right: &Option<PackedFile>,
 ) -> Result<(u8, Vec<u8>), AllocError>
     requires file { IsPlainFile left.now }
     requires left { IsCanonicalFile left.now }
@@ -129,8 +129,8 @@ fn difference_text(
 /// Where a file and another part first, which is the same one where there is no other.
 fn compare_with(
     alloc: Global,
-    left: &CompactFile,
-    right: &Option<CompactFile>,
+    left: &PackedFile,
+    right: &Option<PackedFile>,
 ) -> Result<Verdict, AllocError>
     requires file { IsPlainFile left.now }
     requires left { IsCanonicalFile left.now }
@@ -139,7 +139,7 @@ fn compare_with(
         ≡ first_difference (auction_from left.now) (auction_from (unwrap_or right.now left.now))) }
 {
     match right {
-        Some(right) => compare_compact_files(alloc, left, right),
+        Some(right) => compare_packed_files(alloc, left, right),
         None => Ok(Verdict::Same),
     }
 }

@@ -6,7 +6,7 @@ ghost use Rattle.cats_cmd.specs.Outcomes.{normalise_outcome};
 ghost use Rattle.cats_cmd.specs.Runs.{RunsOnFile};
 
 use crate::report::RunFault;
-use crate::run::{read_compact_file, send_compact_file};
+use crate::run::{read_packed_file, send_packed_file};
 use canon::last_normal_file;
 use cats_text::Watched;
 use std::alloc::Global;
@@ -25,7 +25,7 @@ pub fn run_normalise<R: Read, W: Write>(
     requires out_works { has_failed out.old ≡ false }
     ensures { RunsOnFile R.remaining W.contents (normalise_outcome limit) input.old input.new out.old out.new result }
 {
-    let file = read_compact_file(alloc, input)?;
+    let file = read_packed_file(alloc, input)?;
     let normal = last_normal_file(alloc, file, limit)?;
-    send_compact_file(alloc, out, &normal)
+    send_packed_file(alloc, out, &normal)
 }

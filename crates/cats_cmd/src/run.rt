@@ -9,9 +9,9 @@ ghost use Rattle.cats_cmd.specs.Inputs.{ReadsInput};
 ghost use Rattle.cats_cmd.specs.Runs.{SendsAs, SendsMadeAs};
 
 use crate::report::{DONE, RunFault};
-use bid_file::{BidFile, CompactFile};
+use bid_file::{BidFile, PackedFile};
 use canon::CanonFault;
-use cats_text::{Watched, read_compact_from, read_from, send, send_file};
+use cats_text::{Watched, read_from, read_packed_from, send, send_file};
 use std::alloc::Global;
 use std::io::{Read, Write};
 
@@ -31,15 +31,15 @@ pub(crate) fn read_file<R: Read>(
 }
 
 /// Reads a bid file in little memory, as `read_file`.
-pub(crate) fn read_compact_file<R: Read>(
+pub(crate) fn read_packed_file<R: Read>(
     alloc: Global,
     input: &mut Watched<R>,
-) -> Result<CompactFile, CanonFault>
+) -> Result<PackedFile, CanonFault>
     requires works { has_failed input.old ≡ false }
     requires fresh { has_ended input.old ≡ false }
     ensures { ReadsInput R.remaining input.old input.new result }
 {
-    match read_compact_from(alloc, input) {
+    match read_packed_from(alloc, input) {
         Ok(file) => Ok(file),
         Err(fault) => Err(CanonFault::from(fault)),
     }
@@ -61,10 +61,10 @@ pub(crate) fn send_text<W: Write>(
 }
 
 /// Sends the text of a file, as `cats_text::write` has it, a page at a time, and then answers that the run is done.
-pub(crate) fn send_compact_file<W: Write>(
+pub(crate) fn send_packed_file<W: Write>(
     alloc: Global,
     out: &mut Watched<W>,
-    file: &CompactFile,
+    file: &PackedFile,
 ) -> Result<u8, RunFault>
     requires { has_failed out.old ≡ false }
     ensures { SendsMadeAs W.contents Only 0 (layout file.now) out.old out.new result }

@@ -6,7 +6,7 @@ ghost use Rattle.cats_cmd.specs.Outcomes.{show_outcome};
 ghost use Rattle.cats_cmd.specs.Runs.{RunsOnFile};
 
 use crate::report::RunFault;
-use crate::run::{read_compact_file, send_compact_file};
+use crate::run::{read_packed_file, send_packed_file};
 use cats_text::Watched;
 use std::alloc::Global;
 use std::io::{Read, Write};
@@ -22,6 +22,6 @@ pub fn run_show<R: Read, W: Write>(
     requires out_works { has_failed out.old ≡ false }
     ensures { RunsOnFile R.remaining W.contents show_outcome input.old input.new out.old out.new result }
 {
-    let file = read_compact_file(alloc, input)?;
-    send_compact_file(alloc, out, &file)
+    let file = read_packed_file(alloc, input)?;
+    send_packed_file(alloc, out, &file)
 }

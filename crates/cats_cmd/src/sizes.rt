@@ -12,7 +12,7 @@ use crate::escaping::{push_end, push_path};
 use crate::paths::{Collection, Ending, ManyFiles, run_on_paths};
 use crate::program::Stop;
 use crate::report::RunFault;
-use crate::run::read_compact_file;
+use crate::run::read_packed_file;
 use crate::source::Source;
 use canon::{CanonFault, into_normal_file};
 use cats_text::Watched;
@@ -53,7 +53,7 @@ impl<'a> Collection<'a> for Table {
         input: &mut Watched<R>,
         many: ManyFiles,
     ) -> Result<Option<Stop>, AllocError> {
-        let file = match read_compact_file(alloc, input) {
+        let file = match read_packed_file(alloc, input) {
             Ok(file) => file,
             Err(fault) => return Ok(Some(Stop::Run(RunFault::from(fault)))),
         };

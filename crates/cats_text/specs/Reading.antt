@@ -33,6 +33,6 @@ abbrev pub FinishesAs : Fed → Result BidFile ReadFault → Type 0
 FinishesAs fed r = MatchOption fed.failed (FinishAnswer fed.bytes r) (λ e. r ≡ Err e)
 
 -- of a file as a caller sees it
-abbrev pub CompactAnswer : List ℕ → Result PlainFile ReadFault → Type 0
-CompactAnswer bytes (Ok file) = Spells bytes file
-CompactAnswer bytes (Err e) = (first_fault bytes ≡ Some e) ⊎ WantsMemory bytes e
+abbrev pub PackedAnswer : List ℕ → Result PlainFile ReadFault → Type 0
+PackedAnswer bytes (Ok file) = Spells bytes file
+PackedAnswer bytes (Err e) = (first_fault bytes ≡ Some e) ⊎ WantsMemory bytes e

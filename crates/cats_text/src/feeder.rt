@@ -2,7 +2,7 @@
 
 ghost use Rattle.std.specs.Prelude.{◌≡◌, ◌^◌, ◌<◌, [], None};
 ghost use Rattle.cats_text.specs.Faults.{fault_at};
-ghost use Rattle.cats_text.specs.Internal.Reading.{fault_told, PartsAs, CompactAs};
+ghost use Rattle.cats_text.specs.Internal.Reading.{fault_told, PartsAs, PackedAs};
 ghost use Rattle.cats_text.specs.Reading.{FeedsAs, FinishesAs};
 
 use crate::fault::{Kind, ReadFault};
@@ -10,7 +10,7 @@ use crate::history::History;
 use crate::keep::Keep;
 use crate::parser::Header;
 use crate::scanner::{Halt, Scanner};
-use bid_file::{Bid, BidFile, CompactBids, CompactFile};
+use bid_file::{Bid, BidFile, PackedBids, PackedFile};
 use std::alloc::Global;
 use std::marker::Model;
 
@@ -94,11 +94,11 @@ pub fn finish_file(feeder: Feeder<Vec<Bid>>) -> Result<BidFile, ReadFault>
 }
 
 /// Judges the rest as the end of the input, and gives the packed file.
-pub fn finish_compact(feeder: Feeder<CompactBids>) -> Result<CompactFile, ReadFault>
-    ensures { CompactAs feeder result }
+pub fn finish_packed(feeder: Feeder<PackedBids>) -> Result<PackedFile, ReadFault>
+    ensures { PackedAs feeder result }
 {
     let (header, bids) = feeder.finish()?;
-    Ok(CompactFile::new(header.goods, header.dummy, bids))
+    Ok(PackedFile::new(header.goods, header.dummy, bids))
 }
 
 /// How a reader tells what stopped it.

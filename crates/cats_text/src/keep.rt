@@ -7,7 +7,7 @@ ghost use Rattle.cats_text.specs.Internal.Kept.{whole, number_alone, with_goods}
 
 use crate::good_list::GoodList;
 use crate::parser::Draft;
-use bid_file::{Bid, CompactBids};
+use bid_file::{Bid, PackedBids};
 use std::alloc::{AllocError, Global};
 
 /// What is kept of the bids whose numbers come in order, from 0 on.
@@ -110,14 +110,14 @@ impl Keep for Vec<Bid> {
     }
 }
 
-/// The bids of a `CompactFile`: the goods of all of them are in one vector.
-impl Keep for CompactBids {
+/// The bids of a `PackedFile`: the goods of all of them are in one vector.
+impl Keep for PackedBids {
     ghost keep = { whole };
 
     ghost bids = { λ kept. kept };
 
-    fn empty(alloc: Global) -> CompactBids {
-        CompactBids::new(alloc)
+    fn empty(alloc: Global) -> PackedBids {
+        PackedBids::new(alloc)
     }
 
     fn count(&self) -> usize {
@@ -138,7 +138,7 @@ impl Keep for CompactBids {
         count: u32,
     ) -> Result<(), AllocError> {
         let _ = alloc;
-        CompactBids::push(self, draft.price, goods, draft.dummy, count)
+        PackedBids::push(self, draft.price, goods, draft.dummy, count)
     }
 
     fn alone(alloc: Global, draft: &Draft, goods: &[u16]) -> Result<Bid, AllocError> {
@@ -146,7 +146,7 @@ impl Keep for CompactBids {
     }
 
     fn put(&mut self, place: usize, bid: Bid) -> Result<(), AllocError> {
-        CompactBids::replace(self, place, bid.price, bid.goods.as_slice(), bid.dummy)
+        PackedBids::replace(self, place, bid.price, bid.goods.as_slice(), bid.dummy)
     }
 }
 

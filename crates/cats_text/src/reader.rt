@@ -1,11 +1,11 @@
 //! Reading a bid file in pieces.
 
 ghost use Rattle.std.specs.Prelude.{◌≡◌, ◌^◌, ◌<◌, [], None};
-ghost use Rattle.cats_text.specs.Reading.{FinishAnswer, CompactAnswer};
+ghost use Rattle.cats_text.specs.Reading.{FinishAnswer, PackedAnswer};
 
 use crate::fault::ReadFault;
-use crate::feeder::{Feeder, finish_compact, finish_file};
-use bid_file::{Bid, BidFile, CompactFile};
+use crate::feeder::{Feeder, finish_file, finish_packed};
+use bid_file::{Bid, BidFile, PackedFile};
 use std::alloc::Global;
 use std::marker::Model;
 
@@ -62,10 +62,10 @@ pub fn read(alloc: Global, text: &[u8]) -> Result<BidFile, ReadFault>
 }
 
 /// Reads a whole text as `read` does, as a file in little memory.
-pub fn read_compact(alloc: Global, text: &[u8]) -> Result<CompactFile, ReadFault>
-    ensures { CompactAnswer text.now result }
+pub fn read_packed(alloc: Global, text: &[u8]) -> Result<PackedFile, ReadFault>
+    ensures { PackedAnswer text.now result }
 {
     let mut feeder = Feeder::new(alloc, text.len() as u64);
     feeder.feed(text)?;
-    finish_compact(feeder)
+    finish_packed(feeder)
 }

@@ -25,7 +25,7 @@ ghost use Rattle.cats_text.specs.Streams.{inner_of, has_failed, has_ended, Sends
 use crate::fault::SendFault;
 use crate::layout::{push_bid, push_header};
 use crate::stream::Watched;
-use bid_file::CompactFile;
+use bid_file::PackedFile;
 use std::alloc::{AllocError, Global};
 use std::io::Write;
 
@@ -46,7 +46,7 @@ pub fn send<W: Write>(out: &mut Watched<W>, text: &[u8]) -> Result<(), SendFault
 pub fn send_file<W: Write>(
     alloc: Global,
     out: &mut Watched<W>,
-    file: &CompactFile,
+    file: &PackedFile,
 ) -> Result<Result<(), SendFault>, AllocError>
     requires { has_failed out.old ≡ false }
     ensures sends { IfOk result (λ sent. Sends W.contents out.old out.new (layout file.now) sent) }
@@ -72,7 +72,7 @@ const FULL: usize = 40_704;
 fn send_bids<W: Write>(
     out: &mut Watched<W>,
     mut page: Vec<u8>,
-    file: &CompactFile,
+    file: &PackedFile,
 ) -> Result<(), SendFault>
     requires works { has_failed out.old ≡ false }
     requires header { let f = file.now in page.items ≡ headers_text f.goods (length f.bids) f.dummy }

@@ -34,11 +34,11 @@ ghost use Rattle.cats_text.specs.Streams.{
 };
 
 use crate::fault::{Kind, ReadFault};
-use crate::feeder::{Feeder, finish_compact, finish_file};
+use crate::feeder::{Feeder, finish_file, finish_packed};
 use crate::keep::{BidCount, Keep};
 use crate::limits::MAX_STREAM;
 use crate::parser::Header;
-use bid_file::{BidFile, CompactBids, CompactFile};
+use bid_file::{BidFile, PackedBids, PackedFile};
 use std::alloc::Global;
 use std::io;
 use std::io::{ErrorKind, Read, Write};
@@ -182,18 +182,18 @@ pub fn read_from<R: Read>(alloc: Global, input: &mut Watched<R>) -> Result<BidFi
 
 /// Reads the whole stream as `read_from` does, as a file in little memory: the goods of all bids stand together, and so
 /// a file of many bids takes less memory and less time.
-pub fn read_compact_from<R: Read>(
+pub fn read_packed_from<R: Read>(
     alloc: Global,
     input: &mut Watched<R>,
-) -> Result<CompactFile, ReadFault>
+) -> Result<PackedFile, ReadFault>
     requires works { has_failed input.old ≡ false }
     requires fresh { has_ended input.old ≡ false }
     ensures { (bytes : List ℕ) × Consumes (R.remaining (inner_of input.old)) (R.remaining (inner_of input.new)) bytes
         × ReadsPlainAs R.remaining bytes input.new result }
 {
-    let mut feeder: Feeder<CompactBids> = Feeder::new(alloc, MAX_STREAM);
+    let mut feeder: Feeder<PackedBids> = Feeder::new(alloc, MAX_STREAM);
     feed_from(&mut feeder, input)?;
-    finish_compact(feeder)
+    finish_packed(feeder)
 }
 
 /// Judges the whole stream as `read_from` does, and answers what the header lines of its file say: how many goods, bids

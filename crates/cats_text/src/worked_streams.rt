@@ -4,18 +4,18 @@ ghost use Rattle.std.specs.Prelude.{[], Ok, Err, true, false, codes};
 ghost use Rattle.cats_text.specs.Examples.{known, watched};
 ghost use Rattle.cats_text.specs.Faults.{fault_at};
 ghost use Rattle.cats_text.specs.FileLines.{spelled_file};
-ghost use Rattle.cats_text.specs.Reading.{CompactAnswer};
+ghost use Rattle.cats_text.specs.Reading.{PackedAnswer};
 ghost use Rattle.cats_text.specs.Streams.{ReadsPlainAs, ChecksAs, Sends};
 ghost use Rattle.cats_text.specs.declared.fault.Kind.TheVariants.{Header, Missing, Device, Memory as NoMemory};
 
 /// What reading a text answers: the file that it spells, or the first fault. Want of memory is told only of a text with
 /// a line of bids.
 pub fn texts_read()
-    ensures file { let text = codes "goods 0\nbids 0\ndummy 0\n" in CompactAnswer text (Ok (spelled_file text)) }
-    ensures fault { CompactAnswer (codes "bids 0\n") (Err (fault_at 1 Header)) }
-    ensures other_fault { CompactAnswer (codes "bids 0\n") (Err (fault_at 2 Header)) → ⊥ }
-    ensures memory { CompactAnswer (codes "goods 1\nbids 1\ndummy 0\n0 1 0") (Err (fault_at 0 NoMemory)) }
-    ensures no_bids { CompactAnswer (codes "goods 0\nbids 0\ndummy 0\n") (Err (fault_at 0 NoMemory)) → ⊥ }
+    ensures file { let text = codes "goods 0\nbids 0\ndummy 0\n" in PackedAnswer text (Ok (spelled_file text)) }
+    ensures fault { PackedAnswer (codes "bids 0\n") (Err (fault_at 1 Header)) }
+    ensures other_fault { PackedAnswer (codes "bids 0\n") (Err (fault_at 2 Header)) → ⊥ }
+    ensures memory { PackedAnswer (codes "goods 1\nbids 1\ndummy 0\n0 1 0") (Err (fault_at 0 NoMemory)) }
+    ensures no_bids { PackedAnswer (codes "goods 0\nbids 0\ndummy 0\n") (Err (fault_at 0 NoMemory)) → ⊥ }
 {}
 
 /// What reading a stream answers, by the bytes that were read and the stream that is left. The whole stream was read

@@ -21,7 +21,7 @@ ghost use Rattle.rounding.specs.Internal.RawTexts.{first_line};
 
 use crate::line::{is_significant, second_start, split_word};
 use crate::replacement::{FinePrices, Replacement, replacement_of};
-use cats_text::{Kind, ReadFault, push_price, read_compact};
+use cats_text::{Kind, ReadFault, push_price, read_packed};
 use std::alloc::{AllocError, Global};
 
 /// A price that was rounded: its line, counted from 1, the word, and the new price in millionths.
@@ -179,6 +179,6 @@ pub fn round(alloc: Global, text: &[u8], fine: FinePrices) -> Result<RoundedText
             kind: Kind::Memory,
         });
     };
-    read_compact(alloc, &rounded.text)?;
+    read_packed(alloc, &rounded.text)?;
     Ok(rounded)
 }

@@ -2,10 +2,10 @@ ghost use Rattle.std.specs.Prelude.{◌≡◌, false};
 ghost use Rattle.cats_text.specs.Streams.{has_ended, has_failed};
 
 use crate::texts::assert_bytes;
-use bid_file::{BidFile, CompactFile};
+use bid_file::{BidFile, PackedFile};
 use cats_text::{
     Header, Kind, MAX_STREAM, ReadFault, SendFault, Watched, check_from, push_bid, push_header,
-    read_compact_from, read_from, send, send_file,
+    read_from, read_packed_from, send, send_file,
 };
 use std::alloc::{AllocError, Global};
 use std::io;
@@ -344,7 +344,7 @@ fn assert_sends_file(
     rt: &impl Abort,
     alloc: Global,
     mut out: Watched<StepWriter>,
-    file: &CompactFile,
+    file: &PackedFile,
     text: &[u8],
     want: Result<(), SendFault>,
     flushes: u64,
@@ -364,7 +364,7 @@ fn assert_sends_file(
 #[test]
 fn sends_a_file_in_pages(rt: HostRuntime) -> Result<(), Fail> {
     let text = long_text(rt.alloc(), 9)?;
-    let file = read_compact_from(rt.alloc(), &mut Watched::new(text.as_slice()))?;
+    let file = read_packed_from(rt.alloc(), &mut Watched::new(text.as_slice()))?;
     for room in [0, 1, 22, 23, 20_000, 65_536, 100_000, 150_000] {
         let out = writer(rt.alloc(), 30_000, room, BROKEN, false);
         let written = room as u64;
@@ -518,7 +518,7 @@ fn checks_as_it_reads(rt: HostRuntime) -> Result<(), Fail> {
 fn reads_to_send_as_it_reads(rt: HostRuntime) -> Result<(), Fail> {
     for (text, cut, kind, want, ended, failed, calls) in &STREAMS {
         let mut input = reader(text, *cut, *kind);
-        let answer = read_compact_from(rt.alloc(), &mut input);
+        let answer = read_packed_from(rt.alloc(), &mut input);
         let told = (answer.err(), input.ended(), input.failed());
         assert_eq!(rt; told, (want.err(), *ended, *failed));
         assert_eq!(rt; input.into_inner().calls, *calls);
@@ -545,7 +545,7 @@ static SENT: [(&[u8], &[u8]); 3] = [
 #[test]
 fn sends_what_was_read(rt: HostRuntime) -> Result<(), Fail> {
     for (text, want) in &SENT {
-        let file = read_compact_from(rt.alloc(), &mut Watched::new(*text))?;
+        let file = read_packed_from(rt.alloc(), &mut Watched::new(*text))?;
         let mut out = Watched::new(Vec::new(rt.alloc()));
         send_file(rt.alloc(), &mut out, &file)??;
         assert_bytes(&rt, &out.into_inner(), want);

@@ -8,7 +8,7 @@ mod pieces;
 mod whole_files;
 
 use bid_file::BidFile;
-use cats_text::{Kind, MAX_STREAM, ReadFault, Reader, read, read_compact, write};
+use cats_text::{Kind, MAX_STREAM, ReadFault, Reader, read, read_packed, write};
 use std::alloc::{AllocError, Global};
 use std::process::Abort;
 use std::test::Fail;
@@ -88,8 +88,8 @@ fn outcome_of_two(alloc: Global, front: &[u8], back: &[u8]) -> Result<Outcome, A
 }
 
 /// What reading as a file in little memory gives.
-fn outcome_of_compact(alloc: Global, text: &[u8]) -> Result<Outcome, AllocError> {
-    match read_compact(alloc, text) {
+fn outcome_of_packed(alloc: Global, text: &[u8]) -> Result<Outcome, AllocError> {
+    match read_packed(alloc, text) {
         Ok(file) => Ok(Ok(write(alloc, &file.to_file(alloc)?)?)),
         Err(fault) => Ok(Err(fault)),
     }
@@ -109,7 +109,7 @@ fn assert_outcome(
     want: &Outcome,
 ) -> Result<(), AllocError> {
     assert_same(rt, text, &outcome(alloc, read(alloc, text))?, want);
-    assert_same(rt, text, &outcome_of_compact(alloc, text)?, want);
+    assert_same(rt, text, &outcome_of_packed(alloc, text)?, want);
     assert_same(rt, text, &outcome_of_bytes(alloc, text)?, want);
     for place in 0..=text.len() {
         let (front, back) = text.split_at(place);

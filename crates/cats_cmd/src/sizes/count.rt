@@ -5,14 +5,14 @@ ghost use Rattle.std.specs.List.{range_with_len};
 ghost use Rattle.bid_file.specs.Files.{IsPlainFile};
 ghost use Rattle.cats_cmd.specs.SizesTables.{count_or, count_xor, counts_of, has_dummy, sizes_of, with_tabs};
 
-use bid_file::CompactFile;
+use bid_file::PackedFile;
 use std::alloc::{AllocError, Global};
 
 /// Puts the file's numbers behind the text, each with a tab after it: goods, bids, or, xor, dummy.
 pub(super) fn push_sizes(
     alloc: Global,
     text: &mut Vec<u8>,
-    file: &CompactFile,
+    file: &PackedFile,
 ) -> Result<(), AllocError>
     ensures { OnOk result (text.new.items ≡ text.old.items ++ with_tabs (sizes_of file.now)) }
 {
@@ -29,7 +29,7 @@ pub(super) fn push_sizes(
 pub(super) fn push_counts(
     alloc: Global,
     text: &mut Vec<u8>,
-    file: &CompactFile,
+    file: &PackedFile,
 ) -> Result<(), AllocError>
     ensures { OnOk result (text.new.items ≡ text.old.items ++ with_tabs (counts_of file.now)) }
 {
@@ -50,7 +50,7 @@ fn push_number(alloc: Global, text: &mut Vec<u8>, number: usize) -> Result<(), A
 }
 
 /// How many bids have no dummy good.
-fn count_or(file: &CompactFile) -> usize
+fn count_or(file: &PackedFile) -> usize
     ensures { result ≡ count_or file.now.bids }
 {
     let bids = file.bids();
@@ -65,7 +65,7 @@ fn count_or(file: &CompactFile) -> usize
 }
 
 /// How many of the dummy goods some bid has.
-fn count_xor(alloc: Global, file: &CompactFile) -> Result<usize, AllocError>
+fn count_xor(alloc: Global, file: &PackedFile) -> Result<usize, AllocError>
     ensures { IfOk result (λ count. count ≡ count_xor file.now.dummy file.now.bids) }
 {
     let _goods = file.goods();
@@ -74,7 +74,7 @@ fn count_xor(alloc: Global, file: &CompactFile) -> Result<usize, AllocError>
 }
 
 /// Whether some bid has each of the dummy goods.
-fn mark_dummies(alloc: Global, file: &CompactFile) -> Result<Vec<bool>, AllocError>
+fn mark_dummies(alloc: Global, file: &PackedFile) -> Result<Vec<bool>, AllocError>
     requires { IsPlainFile file.now }
     ensures { IfOk result (λ marks. marks.items ≡ map (has_dummy file.now.bids) (range_with_len 0 file.now.dummy)) }
 {

@@ -4,7 +4,7 @@ use Rattle.std.proofs.lemmas.List.{take_all}
 use Rattle.cats_text.specs.Faults.{first_fault, fault_at}
 use Rattle.cats_text.specs.Fed.{fed_fault}
 use Rattle.bid_file.specs.Files.{PlainBid, PlainFile}
-use Rattle.cats_text.specs.Reading.{CompactAnswer, WantsMemory, FinishAnswer}
+use Rattle.cats_text.specs.Reading.{PackedAnswer, WantsMemory, FinishAnswer}
 use Rattle.cats_text.specs.Internal.Reading.{SpellsParts}
 use Rattle.cats_text.specs.Streams.{has_failed, IsWhole, IsTextFault, FaultsAt, ReadsAs, ReadsPlainAs, ChecksAs}
 use Rattle.bid_file.specs.declared.bid.BidFile.{BidFile}
@@ -51,10 +51,10 @@ module _ {R : Type 0} (remaining : R → Option (List ℕ)) where
   finished_told bytes input (Ok file) works whole spelled = record { spelled = spelled; whole = whole; works = works }
   finished_told bytes input (Err e) works whole told = ended_told bytes input e works whole told
 
-  pub compact_told : (bytes : List ℕ) (input : Watched R) (answer : Result PlainFile ReadFault) → has_failed input ≡ false
-      → IsWhole remaining bytes input → CompactAnswer bytes answer → ReadsPlainAs remaining bytes input answer
-  compact_told bytes input (Ok file) works whole spelled = record { spelled = spelled; whole = whole; works = works }
-  compact_told bytes input (Err e) works whole told = ended_told bytes input e works whole told
+  pub packed_told : (bytes : List ℕ) (input : Watched R) (answer : Result PlainFile ReadFault) → has_failed input ≡ false
+      → IsWhole remaining bytes input → PackedAnswer bytes answer → ReadsPlainAs remaining bytes input answer
+  packed_told bytes input (Ok file) works whole spelled = record { spelled = spelled; whole = whole; works = works }
+  packed_told bytes input (Err e) works whole told = ended_told bytes input e works whole told
 
   pub checked_told : (keep : PlainBid → PlainBid) (bytes : List ℕ) (input : Watched R) (header : Header) (bids : List PlainBid) → has_failed input ≡ false
       → IsWhole remaining bytes input → SpellsParts keep bytes header bids → ChecksAs remaining bytes input (Ok header)

@@ -15,7 +15,7 @@ use Rattle.cats_text.specs.declared.parser.Header.{Header}
 use Rattle.cats_text.specs.declared.scanner.Halt.{Halt}
 use Rattle.cats_text.specs.declared.scanner.Halt.TheVariants.{Fault, Memory}
 use Rattle.cats_text.specs.declared.scanner.Scanner.{Scanner}
-use Rattle.cats_text.specs.Reading.{CompactAnswer, WantsMemory}
+use Rattle.cats_text.specs.Reading.{PackedAnswer, WantsMemory}
 
 abbrev pub fault_told : Halt → ReadFault
 fault_told (Fault e) = e
@@ -33,8 +33,8 @@ pub record IsReading {K : Type 0} (keep : PlainBid → PlainBid) (most count : �
   pub limit : most < 2 ^ 63
   pub taken : failed ≡ None → HasTaken keep most count scanner bytes
 
-abbrev pub CompactAs : Fed → Result PlainFile ReadFault → Type 0
-CompactAs fed r = MatchOption fed.failed (CompactAnswer fed.bytes r) (λ e. r ≡ Err e)
+abbrev pub PackedAs : Fed → Result PlainFile ReadFault → Type 0
+PackedAs fed r = MatchOption fed.failed (PackedAnswer fed.bytes r) (λ e. r ≡ Err e)
 
 -- the bytes spell a file whose header lines say this, and whose bids these are if each is kept whole
 pub record SpellsParts (keep : PlainBid → PlainBid) (bytes : List ℕ) (header : Header) (bids : List PlainBid) : Type 0 where

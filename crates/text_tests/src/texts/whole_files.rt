@@ -1,8 +1,8 @@
 //! Files that are accepted, and what is written of them.
 
 use super::{assert_bytes, assert_written, sizes};
-use bid_file::{Bid, CompactBids, CompactFile};
-use cats_text::{MAX_STREAM, Reader, Watched, read, read_compact, read_from, send};
+use bid_file::{Bid, PackedBids, PackedFile};
+use cats_text::{MAX_STREAM, Reader, Watched, read, read_from, read_packed, send};
 use std::alloc::Global;
 use std::process::Abort;
 use std::test::Fail;
@@ -170,42 +170,42 @@ static DIFFERENT: [&[u8]; 7] = [
 fn compare_with_each(
     rt: &impl Abort,
     alloc: Global,
-    file: &CompactFile,
+    file: &PackedFile,
     place: usize,
 ) -> Result<(), Fail> {
     for (other_place, text) in DIFFERENT.iter().enumerate() {
-        let other = read_compact(alloc, text)?;
+        let other = read_packed(alloc, text)?;
         assert_eq!(rt; file.is_equal(&other), place == other_place);
     }
     Ok(())
 }
 
 #[test]
-fn compares_compact_files(rt: HostRuntime) -> Result<(), Fail> {
+fn compares_packed_files(rt: HostRuntime) -> Result<(), Fail> {
     let alloc = rt.alloc();
     for (text, want) in &ACCEPTED {
-        let file = read_compact(alloc, text)?;
-        assert!(&rt; file.is_equal(&read_compact(alloc, want)?));
+        let file = read_packed(alloc, text)?;
+        assert!(&rt; file.is_equal(&read_packed(alloc, want)?));
     }
     for (place, text) in DIFFERENT.iter().enumerate() {
-        compare_with_each(&rt, alloc, &read_compact(alloc, text)?, place)?;
+        compare_with_each(&rt, alloc, &read_packed(alloc, text)?, place)?;
     }
     Ok(())
 }
 
 #[test]
-fn makes_a_compact_file(rt: HostRuntime) -> Result<(), Fail> {
+fn makes_a_packed_file(rt: HostRuntime) -> Result<(), Fail> {
     let alloc = rt.alloc();
-    let mut bids = CompactBids::new(alloc);
+    let mut bids = PackedBids::new(alloc);
     bids.push(20_000_000, &[0, 2], Some(0), 2)?;
     bids.push(9_000_000, &[0], None, 2)?;
     bids.replace(1, 7_000_000, &[1], None)?;
     assert_eq!(rt; bids.len(), 2);
     let (price, goods, dummy) = bids.at(1);
     assert_eq!(rt; (price, goods.len(), dummy), (7_000_000, 1, None));
-    let file = CompactFile::new(3, 1, bids);
+    let file = PackedFile::new(3, 1, bids);
     assert_eq!(rt; (file.goods(), file.dummy(), file.bids().len()), (3, 1, 2));
-    assert!(&rt; file.is_equal(&read_compact(alloc, CATS)?));
+    assert!(&rt; file.is_equal(&read_packed(alloc, CATS)?));
     assert_eq!(rt; file.into_room().len(), 0);
     Ok(())
 }

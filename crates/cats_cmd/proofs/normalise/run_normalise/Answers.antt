@@ -15,4 +15,4 @@ returns-in_err-normal g c =
 pub returns : goal.returns
 returns g c =
     run_sent _ _ (normalise_outcome c.args.limit) _ _ _ _ c.in_ok-file.file c.in_ok-file.ensures _
-    (text_of_normal_file c.args.limit c.in_ok-file.file c.in_ok-normal.normal c.in_ok-normal.ensures.answer) _ c.send_compact_file.ensures
+    (text_of_normal_file c.args.limit c.in_ok-file.file c.in_ok-normal.normal c.in_ok-normal.ensures.answer) _ c.send_packed_file.ensures

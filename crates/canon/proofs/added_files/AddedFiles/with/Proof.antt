@@ -32,7 +32,7 @@ use Rattle.canon.specs.contracts.added_files.AddedFiles.with as f
 use Rattle.canon.proofs.added_files.AddedFiles.with.Statement as stated
 use Rattle.canon.proofs.added_files.AddedFiles.with.Code as code
 use Rattle.canon.specs.contracts.added_files.AddedFiles as list
-use Rattle.bid_file.specs.contracts.compact.CompactFile as given
+use Rattle.bid_file.specs.contracts.packed.PackedFile as given
 
 abbrev stayed : Stays (f.ended).signature.params (f.ended).kept
 stayed = (stay_none_ref (0 ∷ []) tt (plain (λ _. list.the_row)) yes, (stay_none_ref (1 ∷ []) tt (plain (λ _. given.the_row)) yes, tt))

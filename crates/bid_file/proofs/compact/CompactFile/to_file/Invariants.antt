@@ -1,7 +1,0 @@
-use Rattle.std.proofs.Common.{◌≡◌, take}
-use Rattle.bid_file.specs.Files.{plain_bids}
-use Rattle.bid_file.proofs.compact.CompactFile.to_file.Given as goal
-
--- the bids so far are there
-abbrev pub invariant-loop-number : goal.invariant-loop-number
-invariant-loop-number l = plain_bids l.bids.items ≡ take l.number l.self.bids

@@ -1,0 +1,338 @@
+//! Bids, and a bid file, in little memory.
+
+ghost use Rattle.std.specs.Prelude.{
+  ◌≡◌,
+  ◌↔◌,
+  ◌+◌,
+  ◌<◌,
+  ◌≤◌,
+  [],
+  ◌∷◌,
+  ◌++◌,
+  length,
+  set,
+  slice_get,
+  vec_len,
+  vec_capacity,
+  Some,
+  OnOk,
+  OnErr,
+  IfOk,
+};
+ghost use Rattle.std.specs.Prelude.{IsTrue};
+ghost use Rattle.bid_file.specs.Files.{PlainBid, IsBidFile};
+ghost use Rattle.bid_file.specs.Views.{plain_file};
+
+use crate::bid::{Bid, BidFile};
+use std::alloc::{AllocError, Global};
+use std::marker::Model;
+
+/// A bid of which the goods stand from one place of a list to another.
+#[derive(Clone, Copy)]
+pub struct Offer {
+    price: u64,
+    start: u32,
+    end: u32,
+    dummy: Option<u32>,
+}
+
+/// Bids by number. The goods of all of them stand in one vector.
+#[derive(Drop)]
+pub struct PackedBids {
+    offers: Vec<Offer>,
+    goods: Vec<u16>,
+}
+
+impl Model for PackedBids {
+    ghost use Rattle.std.specs.Prelude.{List, length, map};
+    ghost use Rattle.bid_file.specs.Files.{PlainBid};
+    ghost use Rattle.bid_file.specs.Views.{offered};
+    ghost use Rattle.bid_file.specs.Internal.Packed.{AreHeld};
+
+    ghost Value = { List PlainBid };
+
+    ghost view = { λ b. map (offered b.goods.items) b.offers.items };
+
+    ghost invariant = { λ b. AreHeld (length b.goods.items) b.offers.items };
+}
+
+/// So few goods are put one by one, which takes less time than to copy their memory.
+const FEW: usize = 16;
+
+/// Puts goods behind the others, where there is room for them.
+#[inline(always)]
+fn push_each(all: &mut Vec<u16>, goods: &[u16])
+    requires { vec_len all.old + length goods.now ≤ vec_capacity all.old }
+    ensures { all.new.items ≡ all.old.items ++ goods.now }
+{
+    for good in goods {
+        all.push_reserved(*good);
+    }
+}
+
+/// Puts goods behind the others.
+#[inline(always)]
+fn push_goods(all: &mut Vec<u16>, goods: &[u16]) -> Result<(), AllocError>
+    ensures goods { OnOk result (all.new.items ≡ all.old.items ++ goods.now) }
+    ensures same { OnErr result (all.new.items ≡ all.old.items) }
+{
+    if goods.len() <= FEW && all.len() + goods.len() <= all.capacity() {
+        push_each(all, goods);
+        return Ok(());
+    }
+    all.extend_from_slice(goods)?;
+    Ok(())
+}
+
+/// Puts an offer behind the others.
+#[inline(always)]
+fn push_offer(offers: &mut Vec<Offer>, offer: Offer) -> Result<(), AllocError>
+    ensures offers { OnOk result (offers.new.items ≡ offers.old.items ++ offer ∷ []) }
+    ensures same { OnErr result (offers.new.items ≡ offers.old.items) }
+{
+    if offers.len() < offers.capacity() {
+        offers.push_reserved(offer);
+        return Ok(());
+    }
+    offers.push(offer)?;
+    Ok(())
+}
+
+/// Puts goods behind the others, and tells from where to where they stand. Memory is refused too where there would be
+/// 2 to the power 32 goods, as no file has.
+#[inline(always)]
+fn append(all: &mut Vec<u16>, goods: &[u16]) -> Result<(u32, u32), AllocError>
+    ensures goods { OnOk result (all.new.items ≡ all.old.items ++ goods.now) }
+    ensures same { OnErr result (all.new.items ≡ all.old.items) }
+    ensures start { IfOk result (λ places. places.0 ≡ length all.old.items) }
+    ensures end { IfOk result (λ places. places.1 ≡ length all.new.items) }
+{
+    let start = all.len();
+    let end = start + goods.len();
+    if end > u32::MAX as usize {
+        return Err(AllocError);
+    }
+    push_goods(all, goods)?;
+    Ok((start as u32, end as u32))
+}
+
+/// Makes room for so many offers where none has come.
+#[inline(always)]
+fn make_room(offers: &mut Vec<Offer>, count: u32) -> Result<(), AllocError>
+    ensures { offers.new.items ≡ offers.old.items }
+{
+    if offers.is_empty() {
+        offers.reserve(count as usize)?;
+    }
+    Ok(())
+}
+
+impl PackedBids {
+    /// No bids.
+    pub fn new(alloc: Global) -> PackedBids
+        ensures { result ≡ [] }
+    {
+        PackedBids {
+            offers: Vec::new(alloc),
+            goods: Vec::new(alloc),
+        }
+    }
+
+    /// How many there are.
+    #[inline(always)]
+    pub fn len(&self) -> usize
+        ensures { result ≡ length self.now }
+    {
+        self.offers.len()
+    }
+
+    /// Puts a bid behind the others. At the first one, room is made for so many bids. Where memory is refused, the bids
+    /// are those that were there.
+    #[inline(always)]
+    pub fn push(
+        &mut self,
+        price: u64,
+        goods: &[u16],
+        dummy: Option<u32>,
+        count: u32,
+    ) -> Result<(), AllocError>
+        ensures bids { let bid : PlainBid = record { price = price; goods = goods.now; dummy = dummy } in
+            OnOk result (self.new ≡ self.old ++ bid ∷ []) }
+        ensures same { OnErr result (self.new ≡ self.old) }
+    {
+        make_room(&mut self.offers, count)?;
+        let (start, end) = append(&mut self.goods, goods)?;
+        let offer = Offer {
+            price,
+            start,
+            end,
+            dummy,
+        };
+        push_offer(&mut self.offers, offer)?;
+        Ok(())
+    }
+
+    /// Puts a bid in the place of another.
+    pub fn replace(
+        &mut self,
+        place: usize,
+        price: u64,
+        goods: &[u16],
+        dummy: Option<u32>,
+    ) -> Result<(), AllocError>
+        requires { place < length self.old }
+        ensures { let bid : PlainBid = record { price = price; goods = goods.now; dummy = dummy } in
+            OnOk result (self.new ≡ set self.old place bid) }
+    {
+        let (start, end) = append(&mut self.goods, goods)?;
+        self.offers[place] = Offer {
+            price,
+            start,
+            end,
+            dummy,
+        };
+        Ok(())
+    }
+
+    /// The price, the goods and the dummy good of the bid at this place.
+    #[inline(always)]
+    pub fn at(&self, place: usize) -> (u64, &[u16], Option<u32>)
+        requires { place < length self.now }
+        ensures { let bid : PlainBid = record { price = result.0; goods = result.1.now; dummy = result.2 } in
+            slice_get self.now place ≡ Some bid }
+    {
+        let offer = self.offers[place];
+        let goods = &self.goods[offer.start as usize..offer.end as usize];
+        (offer.price, goods, offer.dummy)
+    }
+
+    /// Whether the bid at this place is this one.
+    #[inline(always)]
+    fn is_at(&self, place: usize, price: u64, goods: &[u16], dummy: Option<u32>) -> bool
+        requires { place < length self.now }
+        ensures { let bid : PlainBid = record { price = price; goods = goods.now; dummy = dummy } in
+            IsTrue result ↔ slice_get self.now place ≡ Some bid }
+    {
+        let (this_price, this_goods, this_dummy) = self.at(place);
+        if this_price != price {
+            return false;
+        }
+        if this_dummy != dummy {
+            return false;
+        }
+        this_goods == goods
+    }
+
+    /// Whether both have the same bids in the same order.
+    pub fn is_equal(&self, other: &PackedBids) -> bool
+        ensures { IsTrue result ↔ self.now ≡ other.now }
+    {
+        let count = self.len();
+        if other.len() != count {
+            return false;
+        }
+        for place in 0..count {
+            let (price, goods, dummy) = other.at(place);
+            if !self.is_at(place, price, goods, dummy) {
+                return false;
+            }
+        }
+        true
+    }
+}
+
+/// A bid file in little memory: the goods of all bids stand in one vector. The bid at place i has the number i.
+#[derive(Drop)]
+pub struct PackedFile {
+    goods: u16,
+    dummy: u32,
+    bids: PackedBids,
+}
+
+impl Model for PackedFile {
+    ghost use Rattle.bid_file.specs.Files.{PlainFile, IsBidFile};
+
+    ghost Value = { PlainFile };
+
+    ghost view = { λ f. record { goods = f.goods; dummy = f.dummy; bids = f.bids } };
+
+    ghost invariant = { λ f. IsBidFile f.goods f.dummy f.bids };
+}
+
+impl PackedFile {
+    ghost use Rattle.bid_file.specs.Files.{IsPlainFile};
+
+    /// The file of these parts.
+    pub fn new(goods: u16, dummy: u32, bids: PackedBids) -> PackedFile
+        requires { IsBidFile goods dummy bids }
+        ensures { result ≡ record { goods = goods; dummy = dummy; bids = bids } }
+    {
+        PackedFile { goods, dummy, bids }
+    }
+
+    /// How many real goods there are.
+    pub fn goods(&self) -> u16
+        ensures value { result ≡ self.now.goods }
+        ensures file { IsPlainFile self.now }
+    {
+        self.goods
+    }
+
+    /// How many dummy goods there are.
+    pub fn dummy(&self) -> u32
+        ensures { result ≡ self.now.dummy }
+    {
+        self.dummy
+    }
+
+    /// The bids, in order of their numbers.
+    #[inline(always)]
+    pub fn bids(&self) -> &PackedBids
+        ensures { result.now ≡ self.now.bids }
+    {
+        &self.bids
+    }
+
+    /// Whether both have so many goods and dummy goods, and the same bids in the same order.
+    pub fn is_equal(&self, other: &PackedFile) -> bool
+        ensures { IsTrue result ↔ self.now ≡ other.now }
+    {
+        if self.goods() != other.goods() {
+            return false;
+        }
+        if self.dummy() != other.dummy() {
+            return false;
+        }
+        self.bids().is_equal(other.bids())
+    }
+
+    /// No bids, in the memory that the file's bids took, so that others may stand there.
+    pub fn into_room(self) -> PackedBids
+        ensures { result ≡ [] }
+    {
+        let PackedFile { mut bids, .. } = self;
+        bids.offers.clear();
+        bids.goods.clear();
+        bids
+    }
+
+    /// The same file with a vector for each bid.
+    pub fn to_file(&self, alloc: Global) -> Result<BidFile, AllocError>
+        ensures { IfOk result (λ f. plain_file f ≡ self.now) }
+    {
+        let goods = self.goods();
+        let dummy = self.dummy();
+        let held = self.bids();
+        let mut bids = Vec::with_capacity(alloc, held.len())?;
+        for number in 0..held.len() {
+            let (price, goods, dummy) = held.at(number);
+            let goods = goods.to_vec(alloc)?;
+            bids.push(Bid {
+                price,
+                goods,
+                dummy,
+            })?;
+        }
+        Ok(BidFile::new(goods, dummy, bids))
+    }
+}

@@ -1,0 +1,96 @@
+-- As in from_file/auction_of, of bids whose goods stand in one list.
+use Rattle.std.proofs.Common.{arith, ◌≡◌, ◌<◌, length, take, Some, refl, sym, ap, ◌∙◌}
+use Rattle.std.specs.List.{slice_get}
+use Rattle.std.proofs.lemmas.Option.{get_or_from_slice_get, slice_get_within}
+use Rattle.goods_set.specs.Lemmas.Members.{AreBelow-higher}
+use Rattle.bid_file.specs.Files.{PlainBid, PlainFile}
+use Rattle.valuation.specs.declared.atom.Atom.{Atom}
+use Rattle.valuation.specs.Values.{atoms_of}
+use Rattle.valuation.specs.Lemmas.AuctionsOfFiles.{rising-from, below-from, IsBid-there, or_atoms_of-same, xor_bidders-same, IsAuction-auction_from}
+use Rattle.valuation.proofs.Placing.{place-or, place-xor, placed, no_bids, length-bidders_of}
+use Rattle.valuation.proofs.packed.packed_auction.Goals as goal
+use Rattle.valuation.proofs.packed.packed_auction.Goals.{in-None+in_ok-push-in-None, in-Some+in_ok-push-in-Some}
+
+pub loop-number-init : goal.loop-number-init
+loop-number-init g c =
+    let file : PlainFile = c.args.file.now in
+    let counted : length c.deref.result.now ≡ file.dummy = omega (
+      arith,
+      ap length c.deref.ensures.value,
+      c.in_ok-without.ensures,
+      c.in_ok-without.counts.ok.0,
+    ) in
+    record {
+      or = ap (atoms_of g.S.GoodsSet.goods) c.in_ok-or_atoms.ensures.items;
+      xor = c.in_ok-xor_bidders.ensures ∙ rw counted (no_bids 0 file.dummy);
+    }
+
+pub from_slice-requires-clause-rising : goal.from_slice-requires-clause-rising
+from_slice-requires-clause-rising g c =
+    let file : PlainFile = c.args.file.now in
+    let bid : PlainBid = record { price = c.at-price.result.0; goods = c.at-price.result.1.now; dummy = c.at-price.result.2 } in
+    let stands : slice_get file.bids c.loop-number.number ≡ Some bid = rw (← c.bids-bids.ensures) c.at-price.ensures in
+    let offer = IsBid-there file.goods file.dummy file.bids c.loop-number.number bid c.goods-all_goods.ensures.file.each stands in
+    rising-from bid.goods offer.rising
+
+pub from_slice-requires-clause-below : goal.from_slice-requires-clause-below
+from_slice-requires-clause-below g c =
+    let file : PlainFile = c.args.file.now in
+    let bid : PlainBid = record { price = c.at-price.result.0; goods = c.at-price.result.1.now; dummy = c.at-price.result.2 } in
+    let stands : slice_get file.bids c.loop-number.number ≡ Some bid = rw (← c.bids-bids.ensures) c.at-price.ensures in
+    let offer = IsBid-there file.goods file.dummy file.bids c.loop-number.number bid c.goods-all_goods.ensures.file.each stands in
+    AreBelow-higher _ _ bid.goods c.requires (below-from _ bid.goods offer.below)
+
+pub index_mut-bidder-requires : goal.index_mut-bidder-requires
+index_mut-bidder-requires g c =
+    let file : PlainFile = c.args.file.now in
+    let bid : PlainBid = record { price = c.at-price.result.0; goods = c.at-price.result.1.now; dummy = c.at-price.result.2 } in
+    let stands : slice_get file.bids c.loop-number.number ≡ Some bid = rw (← c.bids-bids.ensures) c.at-price.ensures in
+    let offer = IsBid-there file.goods file.dummy file.bids c.loop-number.number bid c.goods-all_goods.ensures.file.each stands in
+    let below : c.in-Some.dummy < file.dummy = rw c.in-Some.is at offer.dummy in
+    let long = length-bidders_of g.S.GoodsSet.goods c.loop-number.xor_bidders.items (take c.loop-number.number file.bids) file.dummy
+    c.loop-number.invariant.xor in
+    omega (arith, c.loop-number.xor_bidders.ok.0)
+
+pub loop-number-preserved : goal.loop-number-preserved
+loop-number-preserved g c =
+    let goods = g.S.GoodsSet.goods in
+    let file : PlainFile = c.args.file.now in
+    let bids = file.bids in
+    let i = c.loop-number.number in
+    let bid : PlainBid = record { price = c.at-price.result.0; goods = c.at-price.result.1.now; dummy = c.at-price.result.2 } in
+    let stands : slice_get bids i ≡ Some bid = rw (← c.bids-bids.ensures) c.at-price.ensures in
+    let offer = IsBid-there file.goods file.dummy bids i bid c.goods-all_goods.ensures.file.each stands in
+    let here = get_or_from_slice_get bids i bid bid stands in
+    let in_list = slice_get_within bids i bid stands in
+    let atom : Atom _ = record { bundle = c.in_ok-bundle.bundle; price = c.at-price.result.0 } in
+    let bundle = c.in_ok-bundle.ensures in
+    elim c.match-dummy.branch [
+      | in-None+in_ok-push-in-None w ↦
+          record {
+            or = rw w.or_atoms-is (place-or goods bids i bid in_list here atom bundle refl _ _ w.in-None.is c.loop-number.invariant.or
+                w.in_ok-push-in-None.ensures.items);
+            xor = rw w.xor_bidders-is (c.loop-number.invariant.xor ∙ sym (xor_bidders-same bids i bid in_list here w.in-None.is _));
+          }
+      | in-Some+in_ok-push-in-Some w ↦
+          let below : w.in-Some.dummy < file.dummy = rw w.in-Some.is at offer.dummy in
+          record {
+            or = rw w.or_atoms-is (c.loop-number.invariant.or ∙ sym (or_atoms_of-same bids i bid in_list here w.in-Some.dummy w.in-Some.is));
+            xor = rw w.xor_bidders-is (place-xor goods bids i bid in_list here atom bundle refl c.loop-number.xor_bidders.items _
+                w.index_mut-bidder.result.now _ w.in-Some.dummy file.dummy w.in-Some.is below c.loop-number.invariant.xor
+                w.index_mut-bidder.ensures.value w.in_ok-push-in-Some.ensures.items refl);
+          }
+    ]
+
+pub new-requires : goal.new-requires
+new-requires g c =
+    let file : PlainFile = c.args.file.now in
+    let all = IsAuction-auction_from g.S.GoodsSet.CAP file c.goods-all_goods.ensures.file c.requires in
+    let same = placed g.S.GoodsSet.goods file file.bids c.loop-number.number c.goods-all_goods.result
+    c.loop-number.or_atoms.items c.loop-number.xor_bidders.items refl (omega (
+      arith,
+      c.len-number-end.ensures,
+      ap length c.bids-bids.ensures,
+      c.loop-number-test.false,
+    )) c.goods-all_goods.ensures.value c.loop-number.invariant.or c.loop-number.invariant.xor in
+    rw same all

@@ -1,0 +1,16 @@
+use Rattle.std.proofs.Common.{◌≡◌, map, take}
+use Rattle.std.specs.List.{range_with_len}
+use Rattle.valuation.specs.Values.{atoms_of}
+use Rattle.valuation.specs.Auctions.{or_atoms_of, xor_atoms_of}
+use Rattle.valuation.specs.Bidders.{bidders_of}
+use Rattle.valuation.proofs.packed.packed_auction.Given as goal
+
+-- the atoms of the bids so far are there
+abbrev pub invariant-loop-number : goal.invariant-loop-number
+invariant-loop-number g l =
+    let goods = g.S.GoodsSet.goods in
+    let bids = take l.number l.file.bids in
+    record {
+      or : atoms_of goods l.or_atoms.items ≡ or_atoms_of bids;
+      xor : bidders_of goods l.xor_bidders.items ≡ map (xor_atoms_of bids) (range_with_len 0 l.file.dummy);
+    }
