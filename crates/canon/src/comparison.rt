@@ -17,8 +17,8 @@ ghost use Rattle.canon.specs.declared.which.Which.TheVariants.{First, Second, Bo
 
 use crate::bundles::bundle_verdict;
 use crate::fault::CanonFault;
+use crate::normal::normal_packed_file;
 use crate::parting::bidder_verdict;
-use crate::text::into_normal_file;
 use crate::verdict::Verdict;
 use crate::which::Which;
 use bid_file::{Bid, BidFile, PackedFile};
@@ -149,7 +149,7 @@ fn read_normal(alloc: Global, text: &[u8], limit: u64) -> Result<PackedFile, Can
     ensures { ReadsNormalAs limit text.now result }
 {
     let file = read_packed(alloc, text)?;
-    into_normal_file(alloc, file, limit)
+    normal_packed_file(alloc, file, limit)
 }
 
 /// The bids of a canonical file without a dummy good, and behind them those with one.
