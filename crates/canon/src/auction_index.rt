@@ -86,7 +86,7 @@ impl AuctionIndex {
         };
         let added = AddedFiles::with(&self.added, &file);
         let normal = normal_packed_file(alloc, file, limit)?;
-        let text = write(alloc, &normal.to_file(alloc)?)?;
+        let text = write(alloc, &normal)?;
         let place = place_text(&mut self.places, text, self.count)?;
         self.count = count;
         self.added = added;

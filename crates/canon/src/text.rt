@@ -24,5 +24,5 @@ pub fn normalise(alloc: Global, text: &[u8], limit: u64) -> Result<Vec<u8>, Cano
 {
     let file = read_packed(alloc, text)?;
     let normal = normal_packed_file(alloc, file, limit)?;
-    Ok(write(alloc, &normal.to_file(alloc)?)?)
+    Ok(write(alloc, &normal)?)
 }

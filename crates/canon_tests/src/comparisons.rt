@@ -9,7 +9,7 @@ use bid_file::BidFile;
 use canon::laws::canonical_auctions_have_canonical_files;
 use canon::{
     CanonFault, Verdict, Which, canonical, compare, compare_files, compare_packed_files, file_of,
-    into_normal_file, normal_file,
+    normal_file, normal_packed_file,
 };
 use cats_text::{read, read_packed};
 use goods_set::ListSet;
@@ -172,9 +172,9 @@ fn files_of_canonical_auctions_part(rt: HostRuntime) -> Result<(), Fail> {
 /// How the canonical packed files of two texts part.
 fn packed_difference(alloc: Global, left: &str, right: &str) -> Result<Verdict, Fail> {
     let one = read_packed(alloc, left.as_bytes())?;
-    let one = into_normal_file(alloc, one, 100)?;
+    let one = normal_packed_file(alloc, one, 100)?;
     let other = read_packed(alloc, right.as_bytes())?;
-    let other = into_normal_file(alloc, other, 100)?;
+    let other = normal_packed_file(alloc, other, 100)?;
     let verdict = compare_packed_files(alloc, &one, &other)?;
     Ok(verdict)
 }
