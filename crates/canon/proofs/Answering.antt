@@ -15,7 +15,7 @@ use Rattle.bid_file.specs.Views.{plain_file}
 use Rattle.bid_file.specs.declared.bid.BidFile.{BidFile}
 use Rattle.cats_text.proofs.Spelling.Files.{spells_one}
 use Rattle.valuation.specs.Auctions.{PlainAuction, auction_from, or_atoms_of}
-use Rattle.canon.specs.Answers.{RefusesAs, RefusesText, NormalisesAs, NormalisesTextAs, RefusesAuction, IsNormalFile}
+use Rattle.canon.specs.Answers.{RefusesAs, RefusesText, NormalisesTextAs, RefusesAuction, IsNormalFile}
 use Rattle.canon.specs.Canonical.{IsCanonical, IsCanonicalFile, canonical_auction, canonical_text, file_from}
 use Rattle.canon.specs.Least.{IsLeastFor}
 use Rattle.canon.specs.Normalising.{IsNoFile, IsText, Normalises, unless_heavy, normalised_file}
@@ -67,10 +67,6 @@ module _ (limit : ℕ) (text : List ℕ) (f : PlainFile) (s : Spells text f) whe
   refused_text (Read why) r = absurd (no_read_fault why (first_heavy f.goods limit (or_atoms_of f.bids)) r)
   refused_text (StepLimit goods) r = record { file = f; spelled = s; is = r }
   refused_text Memory r = inr (record { file = f; spelled = s })
-
-  pub answered_as_file : (r : Result (Vec ℕ Global) CanonFault) → NormalisesAs (normalised_file limit f) r → NormalisesTextAs limit text r
-  answered_as_file (Ok out) h = record { file = f; spelled = s; is = h }
-  answered_as_file (Err fault) h = refused_text fault h
 
 -- equal texts come of files of the same auction, and of these alone
 pub same_exactly : (limit : ℕ) (text out : List ℕ) → Normalises limit text (IsText out) → (f g : PlainFile) → Spells text f → IsPlainFile g

@@ -20,11 +20,6 @@ RefusesAs expected (Read fault) = expected ≡ IsNoFile fault
 RefusesAs expected (StepLimit goods) = expected ≡ ExceedsSteps goods.items
 RefusesAs expected Memory = Unit {0}
 
--- the text, or why there is none
-abbrev pub NormalisesAs : Normalised → Result (Vec ℕ Global) CanonFault → Type 0
-NormalisesAs expected (Ok text) = expected ≡ IsText text.items
-NormalisesAs expected (Err fault) = RefusesAs expected fault
-
 -- ---- a text
 
 pub record SpellsFile (text : List ℕ) : Type 0 where
