@@ -16,6 +16,7 @@ pub mod Finding
 pub mod OrDifferences
 pub mod BidderDifferences
 pub mod Differences
+pub mod BidRuns
 pub mod BidOrders
 pub mod BidderWalks
 pub mod SameDifferences

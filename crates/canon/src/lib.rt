@@ -6,6 +6,7 @@ mod added_files;
 mod auction;
 mod auction_index;
 mod bid_order;
+mod bid_run;
 mod bundles;
 mod comparison;
 mod density;
@@ -15,7 +16,6 @@ mod file;
 mod fronted_bidder;
 mod known_file;
 pub mod laws;
-mod parting;
 mod place_laws;
 mod text;
 mod verdict;
@@ -24,10 +24,11 @@ pub mod worked;
 pub mod worked_differences;
 pub mod worked_places;
 mod writing;
+mod xor_bidders;
 
 pub use auction::canonical;
 pub use auction_index::AuctionIndex;
-pub use comparison::{compare, compare_files, compare_packed_files};
+pub use comparison::{compare, compare_files};
 pub use density::has_sparse_bids;
 pub use difference_laws::{
     difference_is_a_point, difference_is_the_least_bidder, differences_exchanged,

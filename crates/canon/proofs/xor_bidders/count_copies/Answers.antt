@@ -1,22 +1,19 @@
 -- The copies so far, with those among the bidders of the bids still to come, are all (IsCounted): the next bidder is one copy more,
 -- or none.
-use Rattle.std.proofs.Common.{◌≡◌, ℕ, ◌+◌, ◌≤◌, cond, List, length, sym, ap, ◌∙◌, subst, arith}
+use Rattle.std.proofs.Common.{◌≡◌, ℕ, ◌+◌, ◌≤◌, cond, length, sym, ap, ◌∙◌, arith}
 use Rattle.std.specs.Ordering.{is_eq}
 use Rattle.std.proofs.lemmas.List.{length-drop}
-use Rattle.bid_file.specs.Files.{plain_bids}
-use Rattle.bid_file.specs.declared.bid.Bid.{Bid}
 use Rattle.valuation.specs.Orders.{bidder_cmp}
 use Rattle.canon.specs.Internal.BidderBids.{offers}
-use Rattle.canon.proofs.BidderWalks.{IsCounted, from_place, one_more_counted, all_counted}
-use Rattle.canon.proofs.parting.count_copies.Goals as goal
-use Rattle.canon.proofs.parting.count_copies.Goals.{then-is_eq, else-is_eq}
+use Rattle.canon.proofs.BidderWalks.{one_more_counted, all_counted}
+use Rattle.canon.proofs.xor_bidders.count_copies.Goals as goal
+use Rattle.canon.proofs.xor_bidders.count_copies.Goals.{then-is_eq, else-is_eq}
 
 pub loop-first-preserved : goal.loop-first-preserved
-loop-first-preserved c =
-    let rest = c.loop-first.rest.now in
-    let first = c.in-Some.first.now in
+loop-first-preserved g c =
+    let rest = c.loop-first.rest in
+    let first = c.in-Some.first in
     let bidder = offers c.args.bidder.now in
-    let tail = from_place rest (length first) in
     let shorter = length-drop (length first) rest in
     let test : c.is_eq.result ≡ is_eq (bidder_cmp bidder (offers first)) = c.is_eq.ensures ∙ ap is_eq c.order_of_bidders.ensures in
     let copies : c.if-is_eq.copies ≡ c.loop-first.copies + cond {A = ℕ} (is_eq (bidder_cmp bidder (offers first))) 1 0 =
@@ -30,15 +27,12 @@ loop-first-preserved c =
       | then-is_eq w ↦ omega (arith, w.copies-is)
       | else-is_eq w ↦ omega (arith, w.copies-is)
     ] in
-    record {
-      within = subst (λ (zs : List Bid). c.if-is_eq.copies + length zs ≤ length c.args.bids.now) tail
-          (omega (arith, c.in-Some.ensures.some, c.in-Some.ensures.within, c.loop-first.invariant.within));
+    rw (c.from-rest-in-Some.ensures, c.len.ensures) (record {
+      within = omega (arith, c.in-Some.ensures.some, c.in-Some.ensures.within, c.loop-first.invariant.within);
       counted = λ bidders h.
-          subst (λ (zs : List Bid). IsCounted bidder bidders c.if-is_eq.copies (plain_bids zs)) tail
-          (one_more_counted bidder bidders c.loop-first.copies c.if-is_eq.copies rest first c.in-Some.ensures copies
-          (c.loop-first.invariant.counted bidders h));
-    }
+          one_more_counted bidder bidders c.loop-first.copies c.if-is_eq.copies rest first c.in-Some.ensures copies (c.loop-first.invariant.counted bidders h);
+    })
 
 pub returns : goal.returns
-returns c = λ bidders h.
-    all_counted (offers c.args.bidder.now) bidders c.loop-first.copies c.loop-first.rest.now c.in_default.ensures (c.loop-first.invariant.counted bidders h)
+returns g c = λ bidders h.
+    all_counted (offers c.args.bidder.now) bidders c.loop-first.copies c.loop-first.rest c.in_default.ensures (c.loop-first.invariant.counted bidders h)
