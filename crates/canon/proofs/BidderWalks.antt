@@ -351,11 +351,11 @@ module _ (a b : PlainAuction) (all others : List PlainBid) (h : HasBidders a all
     least_at_end (Some x) (Some y) f g ended =
         ⊎_elim (λ (e : length left ≡ 0). absurd (omega (arith, f.some, f.within))) (λ (e : length right ≡ 0). absurd (omega (arith, g.some, g.within))) ended
 
-  -- the bidder as it is told, with its numbers
-  pub numbers_told : (told bidder : List (Atom (List ℕ))) (one other : ℕ) → told ≡ bidder → one ≡ count_of bidder_cmp bidder a.xor_bidders
+  -- the bidder as it is named, with its numbers
+  pub numbers_named : (named bidder : List (Atom (List ℕ))) (one other : ℕ) → named ≡ bidder → one ≡ count_of bidder_cmp bidder a.xor_bidders
       → other ≡ count_of bidder_cmp bidder b.xor_bidders → least_unequal_bidder a b ≡ Some bidder
-      → InXor told one other ≡ xor_difference a b (least_unequal_bidder a b)
-  numbers_told told bidder one other e f g least =
+      → InXor named one other ≡ xor_difference a b (least_unequal_bidder a b)
+  numbers_named named bidder one other e f g least =
       ap (λ (x : List (Atom (List ℕ))). InXor x one other) e
       ∙ ap₂ (λ (m n : ℕ). InXor bidder m n) (f ∙ copies_in_canonical a all h bidder) (g ∙ copies_in_canonical b others k bidder)
       ∙ sym (ap (xor_difference a b) least)

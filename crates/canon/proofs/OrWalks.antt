@@ -1,4 +1,4 @@
--- Two lists of points are walked place by place. Where they part, the lesser bundle is the first on which the values differ.
+-- Two lists of points are walked place by place. At the first places that differ, the lesser bundle is the first on which the values differ.
 use Rattle.std.proofs.Common.{◌≡◌, ℕ, ◌+◌, ◌<◌, ◌≤◌, cond, ⊎_elim, List, [], ◌∷◌, ◌++◌, length, map, take, drop, get_or, refl, sym, ap, ap₂, ◌∙◌, subst, arith}
 use Rattle.std.proofs.Common.{Some, None, Less, Equal, Greater}
 use Rattle.std.specs.Prelude.{Contains, OnErr, Result, Ok, Err}
@@ -34,11 +34,11 @@ pub on_err : {T E P : Type 0} (r : Result T E) → P → OnErr r P
 on_err (Ok x) p = tt
 on_err (Err y) p = p
 
--- what is told of the first list's value on the bundle
+-- what is reported of the first list's value on the bundle
 abbrev pub or_side : ℕ → List (Atom (List ℕ)) → List (Atom (List ℕ)) → List ℕ → Side
 or_side goods own other bundle = cond (is_or_point goods own bundle) (Exactly (or_value own bundle)) (Below (or_value other bundle))
 
--- the lists part at this bundle, with this to tell
+-- the lists differ first on this bundle, and this is reported
 pub record PartsAs (goods : ℕ) (one other : List (Atom (List ℕ))) (bundle : List ℕ) (left right : Side) : Type 0 where
   pub found : find (are_unequal one other) (all_bundles goods) ≡ Some bundle
   pub on_left : or_side goods one other bundle ≡ left
@@ -160,12 +160,12 @@ offers_points a bids h =
     subst (λ (zs : List (Atom (List ℕ))). ArePoints a.goods zs) (sym (offers_are a bids h))
     (record { on = on_bundles a.goods a.or_atoms h.facts.or_atoms; points = ap (λ (c : PlainAuction). c.or_atoms) h.canonical })
 
--- what is told of the bids is told of the auctions
-pub told_of_auctions : (left right : List PlainBid) (bundle : List ℕ) (one other : Side)
+-- the difference of the bids is that of the auctions
+pub named_of_auctions : (left right : List PlainBid) (bundle : List ℕ) (one other : Side)
     → ((goods : ℕ) → ArePoints goods (offers left) → ArePoints goods (offers right) → PartsAs goods (offers left) (offers right) bundle one other)
     → (a b : PlainAuction) → HasOrBids a left → HasOrBids b right → a.goods ≡ b.goods
     → or_difference a b (first_unequal_bundle a b) ≡ InOr bundle one other
-told_of_auctions left right bundle one other parts a b h k e =
+named_of_auctions left right bundle one other parts a b h k e =
     let points = subst (λ n. ArePoints n (offers right)) (sym e) (offers_points b right k) in
     let there : PartsAs a.goods a.or_atoms (offers right) bundle one other =
     subst (λ (zs : List (Atom (List ℕ))). PartsAs a.goods zs (offers right) bundle one other) (offers_are a left h)
@@ -189,67 +189,67 @@ offer_at : (bids : List PlainBid) (i : ℕ) (b : PlainBid) → slice_get bids i 
 offer_at bids i b e =
     sym (get_or-map atom_of bids i b (atom_of b) (slice_get_within bids i b e) ∙ ap atom_of (get_or_from_slice_get bids i b b e))
 
--- ---- what is told of two walked lists of bids
+-- ---- the first difference of two lists of bids
 
 -- this is the first difference of all auctions that have these bids
-abbrev pub IsTold : List PlainBid → List PlainBid → List ℕ → Side → Side → Type 0
-IsTold left right bundle one other =
+abbrev pub IsNamed : List PlainBid → List PlainBid → List ℕ → Side → Side → Type 0
+IsNamed left right bundle one other =
     (a b : PlainAuction) → HasOrBids a left → HasOrBids b right → a.goods ≡ b.goods
     → or_difference a b (first_unequal_bundle a b) ≡ InOr bundle one other
 
-told_alike : (left right : List PlainBid) (bundle told : List ℕ) (one other told_one told_other : Side) → told ≡ bundle → told_one ≡ one → told_other ≡ other
-    → IsTold left right bundle one other → IsTold left right told told_one told_other
-told_alike left right bundle told one other told_one told_other e f g t = λ a b h k same. let u = t a b h k same in cc
+named_alike : (left right : List PlainBid) (bundle named : List ℕ) (one other named_one named_other : Side) → named ≡ bundle → named_one ≡ one → named_other ≡ other
+    → IsNamed left right bundle one other → IsNamed left right named named_one named_other
+named_alike left right bundle named one other named_one named_other e f g t = λ a b h k same. let u = t a b h k same in cc
 
-module _ (left right : List PlainBid) (i : ℕ) (shared : take i (offers left) ≡ take i (offers right)) (told : List ℕ) (one other : Side) where
+module _ (left right : List PlainBid) (i : ℕ) (shared : take i (offers left) ≡ take i (offers right)) (named : List ℕ) (one other : Side) where
   module _ (x : PlainBid) (is : slice_get left i ≡ Some x) where
-    pub told_left_longer : length right ≤ i → told ≡ x.goods → one ≡ Exactly x.price → other ≡ Below x.price → IsTold left right told one other
-    told_left_longer end e f g =
+    pub left_longer : length right ≤ i → named ≡ x.goods → one ≡ Exactly x.price → other ≡ Below x.price → IsNamed left right named one other
+    left_longer end e f g =
         let long = length-offers left in
         let short = length-offers right in
-        told_alike left right x.goods told (Exactly x.price) (Below x.price) one other e f g
-        (told_of_auctions left right x.goods (Exactly x.price) (Below x.price) (λ goods p q. parted_at_end goods (offers left) (offers right) p q i shared
+        named_alike left right x.goods named (Exactly x.price) (Below x.price) one other e f g
+        (named_of_auctions left right x.goods (Exactly x.price) (Below x.price) (λ goods p q. parted_at_end goods (offers left) (offers right) p q i shared
         (atom_of x) (omega (arith, slice_get_within left i x is)) (offer_at left i x is) (omega arith)))
 
     module _ (y : PlainBid) (so : slice_get right i ≡ Some y) where
-      pub told_left : bundle_cmp x.goods y.goods ≡ Less → told ≡ x.goods → one ≡ Exactly x.price → other ≡ Below x.price
-          → IsTold left right told one other
-      told_left less e f g =
+      pub left_first : bundle_cmp x.goods y.goods ≡ Less → named ≡ x.goods → one ≡ Exactly x.price → other ≡ Below x.price
+          → IsNamed left right named one other
+      left_first less e f g =
           let long = length-offers left in
           let short = length-offers right in
-          told_alike left right x.goods told (Exactly x.price) (Below x.price) one other e f g
-          (told_of_auctions left right x.goods (Exactly x.price) (Below x.price)
+          named_alike left right x.goods named (Exactly x.price) (Below x.price) one other e f g
+          (named_of_auctions left right x.goods (Exactly x.price) (Below x.price)
           (λ goods p q. parted_before goods (offers left) (offers right) p q i shared (atom_of x) (omega (arith, slice_get_within left i x is)) (offer_at left i x is)
           (atom_of y) (omega (arith, slice_get_within right i y so)) (offer_at right i y so) less))
 
-      pub told_right : bundle_cmp x.goods y.goods ≡ Greater → told ≡ y.goods → one ≡ Below y.price → other ≡ Exactly y.price
-          → IsTold left right told one other
-      told_right greater e f g =
+      pub right_first : bundle_cmp x.goods y.goods ≡ Greater → named ≡ y.goods → one ≡ Below y.price → other ≡ Exactly y.price
+          → IsNamed left right named one other
+      right_first greater e f g =
           let long = length-offers left in
           let short = length-offers right in
           let less : bundle_cmp y.goods x.goods ≡ Less = bundle_cmp_total.antisymm y.goods x.goods ∙ ap ordering_reverse greater in
-          told_alike left right y.goods told (Below y.price) (Exactly y.price) one other e f g
-          (told_of_auctions left right y.goods (Below y.price) (Exactly y.price)
+          named_alike left right y.goods named (Below y.price) (Exactly y.price) one other e f g
+          (named_of_auctions left right y.goods (Below y.price) (Exactly y.price)
           (λ goods p q. parted_after goods (offers left) (offers right) p q i shared (atom_of y) (omega (arith, slice_get_within right i y so)) (offer_at right i y so)
           (atom_of x) (omega (arith, slice_get_within left i x is)) (offer_at left i x is) less))
 
-      pub told_both : bundle_cmp x.goods y.goods ≡ Equal → (x.price ≡ y.price → ⊥) → told ≡ x.goods → one ≡ Exactly x.price
-          → other ≡ Exactly y.price → IsTold left right told one other
-      told_both equal differ e f g =
+      pub both_differ : bundle_cmp x.goods y.goods ≡ Equal → (x.price ≡ y.price → ⊥) → named ≡ x.goods → one ≡ Exactly x.price
+          → other ≡ Exactly y.price → IsNamed left right named one other
+      both_differ equal differ e f g =
           let long = length-offers left in
           let short = length-offers right in
-          told_alike left right x.goods told (Exactly x.price) (Exactly y.price) one other e f g
-          (told_of_auctions left right x.goods (Exactly x.price) (Exactly y.price)
+          named_alike left right x.goods named (Exactly x.price) (Exactly y.price) one other e f g
+          (named_of_auctions left right x.goods (Exactly x.price) (Exactly y.price)
           (λ goods p q. parted_by_price goods (offers left) (offers right) p q i shared (atom_of x) (omega (arith, slice_get_within left i x is)) (offer_at left i x is)
           (atom_of y) (omega (arith, slice_get_within right i y so)) (offer_at right i y so) (bundle_cmp_equal x.goods y.goods equal) differ))
 
   module _ (y : PlainBid) (so : slice_get right i ≡ Some y) where
-    pub told_right_longer : length left ≤ i → told ≡ y.goods → one ≡ Below y.price → other ≡ Exactly y.price → IsTold left right told one other
-    told_right_longer end e f g =
+    pub right_longer : length left ≤ i → named ≡ y.goods → one ≡ Below y.price → other ≡ Exactly y.price → IsNamed left right named one other
+    right_longer end e f g =
         let long = length-offers left in
         let short = length-offers right in
-        told_alike left right y.goods told (Below y.price) (Exactly y.price) one other e f g
-        (told_of_auctions left right y.goods (Below y.price) (Exactly y.price)
+        named_alike left right y.goods named (Below y.price) (Exactly y.price) one other e f g
+        (named_of_auctions left right y.goods (Below y.price) (Exactly y.price)
         (λ goods p q. parted_at_end_right goods (offers left) (offers right) p q i shared (atom_of y) (omega (arith, slice_get_within right i y so))
         (offer_at right i y so) (omega arith)))
 

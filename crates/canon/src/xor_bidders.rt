@@ -45,10 +45,7 @@ pub(crate) fn bidder_verdict<B: Bids>(
 }
 
 /// The bids of the least bidder that the two do not have equally often.
-fn least_unequal<'a, B: Bids>(
-    left: &BidRun<'a, B>,
-    right: &BidRun<'a, B>,
-) -> Option<BidRun<'a, B>>
+fn least_unequal<'a, B: Bids>(left: &BidRun<'a, B>, right: &BidRun<'a, B>) -> Option<BidRun<'a, B>>
     ensures { (a b : PlainAuction) → HasBidders a left.now → HasBidders b right.now
         → MatchOption result (least_unequal_bidder a b ≡ None) (λ bidder. least_unequal_bidder a b
         ≡ Some (offers bidder)) }

@@ -1,4 +1,4 @@
-//! `cats compare`: whether two bid files are the same auction, and else where they part first.
+//! `cats compare`: whether two bid files are the same auction, and else their first difference.
 
 mod text;
 
@@ -19,16 +19,14 @@ ghost use Rattle.cats_cmd.specs.Statuses.{status_of_difference};
 use crate::report::{DIFFERENT, DONE, RunFault};
 use crate::run::{read_packed_file, send_text};
 use bid_file::PackedFile;
-use canon::{
-    CanonFault, Verdict, Which, compare_packed_files, into_normal_file, last_normal_file_unless,
-};
+use canon::{CanonFault, Verdict, Which, compare_files, into_normal_file, last_normal_file_unless};
 use cats_text::Watched;
 use std::alloc::{AllocError, Global};
 use std::io::{Read, Write};
 use text::verdict_text;
 
-/// Reads and normalises the first file, and then the second, and sends whether they are the same auction, or where they
-/// part first. `limit` bounds the steps of each search that decides on a bundle of an OR bidder.
+/// Reads and normalises the first file, and then the second, and sends whether they are the same auction, or their
+/// first difference. `limit` bounds the steps of each search that decides on a bundle of an OR bidder.
 ///
 /// The status is 0 for the same auction, and 1 for a difference. A fault of a file tells which of the two it belongs
 /// to; want of memory that is met while the two are compared belongs to both. The memory of the second auction is left
@@ -126,7 +124,7 @@ fn difference_text(
     Ok((status_of(&verdict), verdict_text(alloc, &verdict)?))
 }
 
-/// Where a file and another part first, which is the same one where there is no other.
+/// The first difference of a file and another, which is the same one if there is no other.
 fn compare_with(
     alloc: Global,
     left: &PackedFile,
@@ -139,7 +137,7 @@ fn compare_with(
         ≡ first_difference (auction_from left.now) (auction_from (unwrap_or right.now left.now))) }
 {
     match right {
-        Some(right) => compare_packed_files(alloc, left, right),
+        Some(right) => compare_files(alloc, left, right),
         None => Ok(Verdict::Same),
     }
 }
