@@ -1,4 +1,4 @@
--- Lists are ordered by their fronts, where these differ. Of two lists of one length the first goods are unpacked one by one: where their
+-- Lists are ordered by their sort keys, where these differ. Of two lists of one length the first goods are unpacked one by one: where their
 -- numbers differ, so do the goods at the first place at which the lists do.
 use Rattle.std.proofs.Common.{◌≡◌, ℕ, zero, suc, ◌+◌, ◌*◌, ◌^◌, ◌<◌, ◌≤◌, cond, ⊎_elim, List, [], ◌∷◌, length, get_or, refl, sym, ap, ◌∙◌, arith}
 use Rattle.std.proofs.Common.{Less, Equal, Greater, nat_cmp}
@@ -8,7 +8,7 @@ use Rattle.std.proofs.lemmas.Bool.{cases_order, cases_lt, lt-ltb, le-ltb}
 use Rattle.goods_set.specs.Bundles.{AreBelow}
 use Rattle.goods_set.specs.Orders.{bundle_cmp}
 use Rattle.goods_set.specs.Lemmas.Orders.{nat_cmp-lt, nat_cmp-gt, nat_cmp-refl, smaller_first, larger_last, same_size}
-use Rattle.goods_set.specs.Fronts.{front_of, first_goods}
+use Rattle.goods_set.specs.SortKeys.{sort_key_of, first_goods}
 
 -- ---- members
 
@@ -31,10 +31,10 @@ less_1 [] (y ∷ ys) e l = absurd (omega (arith, e))
 less_1 (x ∷ xs) [] e l = absurd (omega (arith, e))
 less_1 (x ∷ xs) (y ∷ ys) e l = head_less x y xs ys l
 
-abbrev front_2 : List ℕ → ℕ
-front_2 xs = get_or xs 0 0 * 2 ^ 16 + get_or xs 1 0
+abbrev first_two : List ℕ → ℕ
+first_two xs = get_or xs 0 0 * 2 ^ 16 + get_or xs 1 0
 
-less_2 : (xs ys : List ℕ) → length xs ≡ length ys → AreBelow 65536 xs → AreBelow 65536 ys → front_2 xs < front_2 ys → slice_cmp nat_cmp xs ys ≡ Less
+less_2 : (xs ys : List ℕ) → length xs ≡ length ys → AreBelow 65536 xs → AreBelow 65536 ys → first_two xs < first_two ys → slice_cmp nat_cmp xs ys ≡ Less
 less_2 [] [] e a b l = absurd (omega arith)
 less_2 [] (y ∷ ys) e a b l = absurd (omega (arith, e))
 less_2 (x ∷ xs) [] e a b l = absurd (omega (arith, e))
@@ -81,25 +81,25 @@ first_goods-fit xs b =
     let n = member_fits xs 2 b in
     omega (arith, k, m, n)
 
-pub front_of-short : (xs : List ℕ) → length xs < 65535 → front_of xs ≡ length xs * 2 ^ 48 + first_goods xs
-unfolding front_of
-front_of-short xs l = ap (λ b. cond b (length xs * 2 ^ 48 + first_goods xs) (65535 * 2 ^ 48)) (lt-ltb (length xs) 65535 l)
+pub sort_key_of-short : (xs : List ℕ) → length xs < 65535 → sort_key_of xs ≡ length xs * 2 ^ 48 + first_goods xs
+unfolding sort_key_of
+sort_key_of-short xs l = ap (λ b. cond b (length xs * 2 ^ 48 + first_goods xs) (65535 * 2 ^ 48)) (lt-ltb (length xs) 65535 l)
 
-pub front_of-long : (xs : List ℕ) → 65535 ≤ length xs → front_of xs ≡ 65535 * 2 ^ 48
-unfolding front_of
-front_of-long xs l = ap (λ b. cond b (length xs * 2 ^ 48 + first_goods xs) (65535 * 2 ^ 48)) (le-ltb (length xs) 65535 l)
+pub sort_key_of-long : (xs : List ℕ) → 65535 ≤ length xs → sort_key_of xs ≡ 65535 * 2 ^ 48
+unfolding sort_key_of
+sort_key_of-long xs l = ap (λ b. cond b (length xs * 2 ^ 48 + first_goods xs) (65535 * 2 ^ 48)) (le-ltb (length xs) 65535 l)
 
--- the lesser front comes first
-pub front_less : (xs ys : List ℕ) → AreBelow 65536 xs → AreBelow 65536 ys → front_of xs < front_of ys → bundle_cmp xs ys ≡ Less
-front_less xs ys a b l =
+-- the lesser key comes first
+pub sort_key_less : (xs ys : List ℕ) → AreBelow 65536 xs → AreBelow 65536 ys → sort_key_of xs < sort_key_of ys → bundle_cmp xs ys ≡ Less
+sort_key_less xs ys a b l =
     let f = first_goods-fit xs a in
     let g = first_goods-fit ys b in
     ⊎_elim
     (λ (m : length xs < 65535).
-    let x = front_of-short xs m in
+    let x = sort_key_of-short xs m in
     ⊎_elim
     (λ (n : length ys < 65535).
-    let y = front_of-short ys n in
+    let y = sort_key_of-short ys n in
     ⊎_elim
     (λ (e : length xs ≡ length ys). same_size xs ys e ∙ less_3 xs ys e a b (omega (arith, l, x, y, e)))
     (⊎_elim (λ (s : length xs < length ys). smaller_first xs ys s) (λ (s : length ys < length xs). absurd (omega (arith, l, x, y, s, f, g))))
@@ -107,10 +107,10 @@ front_less xs ys a b l =
     (λ (n : 65535 ≤ length ys). smaller_first xs ys (omega (arith, m, n)))
     (cases_lt (length ys) 65535))
     (λ (m : 65535 ≤ length xs).
-    let x = front_of-long xs m in
+    let x = sort_key_of-long xs m in
     ⊎_elim
-    (λ (n : length ys < 65535). let y = front_of-short ys n in absurd (omega (arith, l, x, y, g, n)))
-    (λ (n : 65535 ≤ length ys). let y = front_of-long ys n in absurd (omega (arith, l, x, y)))
+    (λ (n : length ys < 65535). let y = sort_key_of-short ys n in absurd (omega (arith, l, x, y, g, n)))
+    (λ (n : 65535 ≤ length ys). let y = sort_key_of-long ys n in absurd (omega (arith, l, x, y)))
     (cases_lt (length ys) 65535))
     (cases_lt (length xs) 65535)
 
@@ -121,11 +121,11 @@ bundle_cmp-greater xs ys h =
     (λ (l : length ys < length xs). larger_last xs ys l))
     (cases_order (length xs) (length ys))
 
--- the order of two bundles from their fronts, where these differ
-pub order_by_front : (xs ys : List ℕ) → AreBelow 65536 xs → AreBelow 65536 ys → (nat_cmp (front_of xs) (front_of ys) ≡ Equal → ⊥)
-    → nat_cmp (front_of xs) (front_of ys) ≡ bundle_cmp xs ys
-order_by_front xs ys a b n =
-    ⊎_elim (λ (s : front_of xs ≡ front_of ys). absurd (n (ap (nat_cmp (front_of xs)) (sym s) ∙ nat_cmp-refl (front_of xs))))
-    (⊎_elim (λ (s : front_of xs < front_of ys). nat_cmp-lt (front_of xs) (front_of ys) s ∙ sym (front_less xs ys a b s))
-    (λ (s : front_of ys < front_of xs). nat_cmp-gt (front_of xs) (front_of ys) s ∙ sym (bundle_cmp-greater xs ys (front_less ys xs b a s))))
-    (cases_order (front_of xs) (front_of ys))
+-- the order of two bundles from their sort keys, where these differ
+pub order_by_key : (xs ys : List ℕ) → AreBelow 65536 xs → AreBelow 65536 ys → (nat_cmp (sort_key_of xs) (sort_key_of ys) ≡ Equal → ⊥)
+    → nat_cmp (sort_key_of xs) (sort_key_of ys) ≡ bundle_cmp xs ys
+order_by_key xs ys a b n =
+    ⊎_elim (λ (s : sort_key_of xs ≡ sort_key_of ys). absurd (n (ap (nat_cmp (sort_key_of xs)) (sym s) ∙ nat_cmp-refl (sort_key_of xs))))
+    (⊎_elim (λ (s : sort_key_of xs < sort_key_of ys). nat_cmp-lt (sort_key_of xs) (sort_key_of ys) s ∙ sym (sort_key_less xs ys a b s))
+    (λ (s : sort_key_of ys < sort_key_of xs). nat_cmp-gt (sort_key_of xs) (sort_key_of ys) s ∙ sym (bundle_cmp-greater xs ys (sort_key_less ys xs b a s))))
+    (cases_order (sort_key_of xs) (sort_key_of ys))

@@ -6,5 +6,5 @@ use Rattle.std.specs.Prelude.{ℕ, ◌+◌, ◌*◌, ◌^◌, List, length, get_
 unfoldable pub first_goods : List ℕ → ℕ
 first_goods xs = get_or xs 0 0 * 2 ^ 32 + get_or xs 1 0 * 2 ^ 16 + get_or xs 2 0
 
-unfoldable pub front_of : List ℕ → ℕ
-front_of xs = cond (nat_lt (length xs) 65535) (length xs * 2 ^ 48 + first_goods xs) (65535 * 2 ^ 48)
+unfoldable pub sort_key_of : List ℕ → ℕ
+sort_key_of xs = cond (nat_lt (length xs) 65535) (length xs * 2 ^ 48 + first_goods xs) (65535 * 2 ^ 48)
