@@ -7,7 +7,7 @@ pub mod Smaller
 pub mod Texts
 pub mod Least
 pub mod Bidders
-pub mod BidderFronts
+pub mod BidderKeys
 pub mod Filing
 pub mod KnownFiles
 pub mod TextLines

@@ -12,7 +12,7 @@ mod density;
 mod difference_laws;
 mod fault;
 mod file;
-mod fronted_bidder;
+mod keyed_bidder;
 mod known_file;
 pub mod laws;
 mod parting;
