@@ -1,8 +1,8 @@
 use Rattle.std.proofs.Common.{◌++◌, ◌∷◌, codes, decimal}
 use Rattle.bid_file.specs.Files.{dummy_good}
 use Rattle.cats_text.specs.Layout.{price_text}
-use Rattle.cats_text.proofs.Writing.Ends.{line_ended}
-use Rattle.cats_text.proofs.layout.push_bid.Goals as goal
+use Rattle.cats_text.proofs.Writing.Chunks.{line_ended}
+use Rattle.cats_text.proofs.chunks.push_bid.Goals as goal
 
 pub returns-clause-text : goal.returns-clause-text
 returns-clause-text c =

@@ -1,11 +1,10 @@
-use Rattle.std.proofs.Common.{◌≡◌, ◌≤◌, ◌+◌, ◌*◌, ◌++◌, ◌∷◌, length, decimal, vec_capacity}
+use Rattle.std.proofs.Common.{◌≡◌, ◌≤◌, ◌++◌, ◌∷◌, length, decimal, vec_capacity}
 use Rattle.cats_text.specs.Layout.{price_text, tabbed}
-use Rattle.cats_text.proofs.layout.push_bid.Given as goal
+use Rattle.cats_text.proofs.chunks.push_bid.Given as goal
 
 abbrev pub invariant-loop-left : goal.invariant-loop-left
 invariant-loop-left l = record {
   text : l.out.items ++ tabbed l.left ≡ l.fn.out.items ++ (decimal l.number ++ 9 ∷ price_text l.price) ++ tabbed l.bundle;
-  room : length l.out.items + 208 + 6 * length l.left ≤ length l.fn.out.items + 256 + 6 * length l.bundle;
   capacity : vec_capacity l.fn.out ≤ vec_capacity l.out;
 }
 

@@ -1,7 +1,7 @@
 use Rattle.std.proofs.Common.{◌+◌, arith}
 use Rattle.std.proofs.lemmas.Fmt.{length-decimal-le}
-use Rattle.cats_text.proofs.layout.write_last_chunk.Goals.{in-Some, in_default}
-use Rattle.cats_text.proofs.layout.write_last_chunk.Goals as goal
+use Rattle.cats_text.proofs.chunks.write_last_chunk.Goals.{in-Some, in_default}
+use Rattle.cats_text.proofs.chunks.write_last_chunk.Goals as goal
 
 pub write_good-start-requires-clause-room : goal.write_good-start-requires-clause-room
 write_good-start-requires-clause-room c =
