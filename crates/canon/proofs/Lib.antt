@@ -9,8 +9,6 @@ pub mod Least
 pub mod Bidders
 pub mod BidderKeys
 pub mod Filing
-pub mod KnownFiles
-pub mod TextLines
 pub mod Answering
 pub mod Finding
 pub mod OrDifferences

@@ -18,7 +18,7 @@ ghost use Rattle.canon.specs.declared.which.Which.TheVariants.{First, Second, Bo
 use crate::bid_run::BidRun;
 use crate::bundles::bundle_verdict;
 use crate::fault::CanonFault;
-use crate::text::into_normal_file;
+use crate::normal::normal_packed_file;
 use crate::verdict::Verdict;
 use crate::which::Which;
 use crate::xor_bidders::bidder_verdict;
@@ -124,5 +124,5 @@ fn read_normal(alloc: Global, text: &[u8], limit: u64) -> Result<PackedFile, Can
     ensures { ReadsNormalAs limit text.now result }
 {
     let file = read_packed(alloc, text)?;
-    into_normal_file(alloc, file, limit)
+    normal_packed_file(alloc, file, limit)
 }

@@ -8,8 +8,8 @@ use crate::refusals::{expect_line, refusal_text};
 use bid_file::BidFile;
 use canon::laws::canonical_auctions_have_canonical_files;
 use canon::{
-    CanonFault, Verdict, Which, canonical, compare, compare_files, file_of, into_normal_file,
-    normal_file,
+    CanonFault, Verdict, Which, canonical, compare, compare_files, file_of, normal_file,
+    normal_packed_file,
 };
 use cats_text::{read, read_packed};
 use goods_set::ListSet;
@@ -172,9 +172,9 @@ fn files_of_canonical_auctions_differ(rt: HostRuntime) -> Result<(), Fail> {
 /// The first difference of the canonical packed files of two texts.
 fn packed_difference(alloc: Global, left: &str, right: &str) -> Result<Verdict, Fail> {
     let one = read_packed(alloc, left.as_bytes())?;
-    let one = into_normal_file(alloc, one, 100)?;
+    let one = normal_packed_file(alloc, one, 100)?;
     let other = read_packed(alloc, right.as_bytes())?;
-    let other = into_normal_file(alloc, other, 100)?;
+    let other = normal_packed_file(alloc, other, 100)?;
     let verdict = compare_files(alloc, &one, &other)?;
     Ok(verdict)
 }
