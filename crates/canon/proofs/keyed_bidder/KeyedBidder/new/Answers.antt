@@ -13,7 +13,7 @@ invariant_of-result g c =
     let first = sym (c.first.ensures.value ∙ ap (λ (zs : List (Atom _)). slice_get zs 0) c.deref.ensures.value) in
     record {
       keys = elim c.match-first.branch [
-        | in-Some w ↦ w.key-is ∙ w.key-key.ensures ∙ key_of_first goods atoms w.in-Some.atom.now (first ∙ ap option_copied w.in-Some.is)
+        | in-Some w ↦ w.key-is ∙ w.sort_key-key.ensures ∙ key_of_first goods atoms w.in-Some.atom.now (first ∙ ap option_copied w.in-Some.is)
         | in-None w ↦ w.key-is ∙ key_of_none goods atoms (first ∙ ap option_copied w.in-None.is)
       ];
     }
