@@ -30,11 +30,7 @@ pub fn order_of_bids<S: GoodsSet>(one: &Atom<S>, other: &Atom<S>) -> Ordering
 }
 
 /// The order of two of the bids. If the keys differ, none is looked at.
-fn order_by_keys<S: GoodsSet>(
-    bids: &[Atom<S>],
-    one: &KeyedPlace,
-    other: &KeyedPlace,
-) -> Ordering {
+fn order_by_keys<S: GoodsSet>(bids: &[Atom<S>], one: &KeyedPlace, other: &KeyedPlace) -> Ordering {
     match one.key.cmp(&other.key) {
         Ordering::Equal => match (bids.get(one.place), bids.get(other.place)) {
             (Some(one), Some(other)) => order_of_bids(one, other),

@@ -176,7 +176,16 @@ static ROWS: [Row<'static>; 31] = [
     (&["cats", "duplicates", "-0", "one", "other"], 0, "", ""),
     // a reason for each path that is refused
     (
-        &["cats", "duplicates", "one", "folder", "secret", "none", "broken", "one"],
+        &[
+            "cats",
+            "duplicates",
+            "one",
+            "folder",
+            "secret",
+            "none",
+            "broken",
+            "one",
+        ],
         5,
         "one\none\n",
         "folder: cannot open: is a folder\nsecret: cannot open: permission denied\n\
@@ -203,7 +212,13 @@ none: cannot open: no such file\nbroken: cannot open\n",
         "\\x1bnone: cannot open: no such file\n",
     ),
     (
-        &["cats", "duplicates", "-0", "--files0-from", "list of such names"],
+        &[
+            "cats",
+            "duplicates",
+            "-0",
+            "--files0-from",
+            "list of such names",
+        ],
         5,
         "a\nb\0a\tb\0\x1b[2J\0a\\nb\0\x7f\0\u{e9}\0",
         "\\x1bnone: cannot open: no such file\n",
