@@ -6,15 +6,15 @@ mod added_files;
 mod auction;
 mod auction_index;
 mod bid_order;
+mod bid_run;
 mod bundles;
 mod comparison;
 mod difference_laws;
 mod fault;
 mod file;
-mod fronted_bidder;
+mod keyed_bidder;
 pub mod laws;
 mod normal;
-mod parting;
 mod place_laws;
 mod text;
 mod verdict;
@@ -22,10 +22,11 @@ mod which;
 pub mod worked;
 pub mod worked_differences;
 pub mod worked_places;
+mod xor_bidders;
 
 pub use auction::canonical;
 pub use auction_index::AuctionIndex;
-pub use comparison::{compare, compare_files, compare_packed_files};
+pub use comparison::{compare, compare_files};
 pub use difference_laws::{
     difference_is_a_point, difference_is_the_least_bidder, differences_exchanged,
     no_difference_of_the_same, same_auctions_have_one_difference,
