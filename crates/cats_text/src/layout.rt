@@ -66,7 +66,12 @@ fn room_for<B: Bids>(file: &B) -> usize {
 }
 
 /// Appends the header of a file of so many goods, bids and dummy goods. If memory is refused, some of it may be there.
-pub fn push_header(out: &mut Vec<u8>, goods: u16, bids: usize, dummy: u32) -> Result<(), AllocError>
+pub fn push_header(
+    out: &mut Vec<u8>,
+    goods: u16,
+    bids: usize,
+    dummy: usize,
+) -> Result<(), AllocError>
     ensures text { OnOk result (out.new.items ≡ out.old.items ++ headers_text goods bids dummy) }
     ensures capacity { vec_capacity out.old ≤ vec_capacity out.new }
 {

@@ -34,7 +34,7 @@ ghost use Rattle.cats_text.specs.Streams.{
 };
 
 use crate::fault::{Kind, ReadFault};
-use crate::feeder::{Feeder, finish_file, finish_packed};
+use crate::feeder::{Feeder, finish_packed, unpacked};
 use crate::keep::{BidCount, Keep};
 use crate::limits::MAX_STREAM;
 use crate::parser::Header;
@@ -175,9 +175,8 @@ pub fn read_from<R: Read>(alloc: Global, input: &mut Watched<R>) -> Result<BidFi
     ensures { (bytes : List ℕ) × Consumes (R.remaining (inner_of input.old)) (R.remaining (inner_of input.new)) bytes
         × ReadsAs R.remaining bytes input.new result }
 {
-    let mut feeder = Feeder::new(alloc, MAX_STREAM);
-    feed_from(&mut feeder, input)?;
-    finish_file(feeder)
+    let file = read_packed_from(alloc, input)?;
+    unpacked(alloc, &file)
 }
 
 /// Reads the whole stream as `read_from` does, as a file in little memory: the goods of all bids stand together, and so
