@@ -63,7 +63,7 @@ pub fn run_cats<F: Files + AllocGlobal, W: Write, E: Write>(
     ensures silent { names_many_files words.now ≡ false → result ≢ 0 → result ≢ 1 → result ≢ 5 → out.new ≡ out.old }
     ensures done { names_reporting words.now ≡ false → result ≤ 1 → err.new ≡ err.old }
 {
-    run_program(&SystemFiles::new(rt), words, out, err)
+    run_program(&SystemFiles::new(rt), words, out, err, false)
 }
 
 /// Does what a command line says, on the files of a source, and answers the exit status. The line's first word is the
@@ -81,7 +81,7 @@ pub fn run_program<S: Source + AllocGlobal, W: Write, E: Write>(
     requires out_works { has_failed out.old ≡ false }
     requires err_works { has_failed err.old ≡ false }
     ensures answers { AnswersLine (S.may_open source.now) (S.may_refuse source.now) S.Stream.remaining W.contents
-        E.contents words.now out.old out.new err.old err.new result }
+        E.contents terminal words.now out.old out.new err.old err.new result }
     ensures silent { names_many_files words.now ≡ false → result ≢ 0 → result ≢ 1 → result ≢ 5 → out.new ≡ out.old }
     ensures done { names_reporting words.now ≡ false → result ≤ 1 → err.new ≡ err.old }
 {
@@ -99,7 +99,7 @@ fn answer_request<S: Source + AllocGlobal, W: Write, E: Write>(
 ) -> u8
     requires out_works { has_failed out.old ≡ false }
     ensures answers { AnswersRequest (S.may_open source.now) (S.may_refuse source.now) S.Stream.remaining W.contents
-        E.contents request.now out.old out.new err.old err.new result }
+        E.contents terminal request.now out.old out.new err.old err.new result }
     ensures silent { is_for_many_files request.now ≡ false → result ≢ 0 → result ≢ 1 → result ≢ 5 → out.new ≡ out.old }
     ensures done { is_reporting request.now ≡ false → result ≤ 1 → err.new ≡ err.old }
 {
@@ -117,7 +117,7 @@ fn carry_out<S: Source + AllocGlobal, W: Write, E: Write>(
     err: &mut Watched<E>,
 ) -> Result<u8, Stop>
     requires { has_failed out.old ≡ false }
-    ensures { CarriesOut (S.may_open source.now) (S.may_refuse source.now) S.Stream.remaining W.contents E.contents
+    ensures { CarriesOut (S.may_open source.now) (S.may_refuse source.now) S.Stream.remaining W.contents E.contents terminal
         request.now out.old out.new err.old err.new result }
 {
     let alloc = source.alloc();
@@ -262,7 +262,7 @@ pub(crate) fn report<E: Write>(err: &mut Watched<E>, line: &Result<Vec<u8>, Allo
 }
 
 /// Sends a text, unless the stream has failed.
-fn report_text<E: Write>(err: &mut Watched<E>, text: &[u8])
+pub(crate) fn report_text<E: Write>(err: &mut Watched<E>, text: &[u8])
     ensures { Reports E.contents text.now err.old err.new }
 {
     if !err.failed() {
