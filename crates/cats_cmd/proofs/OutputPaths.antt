@@ -45,10 +45,7 @@ printed_back Line path = read_back path
 printed_back Null path = refl
 
 no_line_feed : (b : ℕ) → is_control b ≡ false → (b == 10) ≡ false
-no_line_feed b e =
-    ⊎_elim (λ (low : nat_lt b 32 ≡ true). absurd (rw low e in cc))
-    (λ (high : nat_lt b 32 ≡ false). ne_eqb b 10 (λ is. absurd (rw is high in cc)))
-    (cases_Bool (nat_lt b 32))
+no_line_feed b e = ne_eqb b 10 (λ is. let ten : is_control 10 ≡ false = subst (λ (c : ℕ). is_control c ≡ false) is e in absurd (cc))
 
 printed_lacks : (ending : Ending) (path : List ℕ) → Lacks 0 path → Lacks (end_byte ending) (printed ending path)
 printed_lacks Line path plain = All-weaker (λ b. is_control b ≡ false) (λ b. (b == 10) ≡ false) no_line_feed (escaped path) (harmless path)
