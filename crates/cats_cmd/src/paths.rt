@@ -131,7 +131,11 @@ fn judge_all<'a, C: Collection<'a>, S: Source + AllocGlobal, E: Write>(
     let count = paths.len();
     for (number, path) in paths.iter().enumerate() {
         let number = number + 1;
-        let turn = Turn { path, number, count };
+        let turn = Turn {
+            path,
+            number,
+            count,
+        };
         let status = judge_path(source, collection, turn, many, err)?;
         greatest = greatest.max(status);
     }
@@ -243,12 +247,7 @@ fn remove_progress<E: Write>(progress: Progress, number: usize, err: &mut Watche
 }
 
 /// Reports why the file at a path was not judged, if it was not.
-fn report_refusal<E: Write>(
-    alloc: Global,
-    path: &[u8],
-    stop: &Option<Stop>,
-    err: &mut Watched<E>,
-)
+fn report_refusal<E: Write>(alloc: Global, path: &[u8], stop: &Option<Stop>, err: &mut Watched<E>)
     ensures { ReportsAll E.contents (refusal_lines path.now stop.now) err.old err.new }
 {
     if let Some(stop) = stop {
@@ -280,7 +279,11 @@ fn report_progress<E: Write>(
 fn path_progress(alloc: Global, turn: Turn<'_>) -> Result<Vec<u8>, AllocError>
     ensures { IfOk result (λ line. line.items ≡ progress_line turn.number turn.count turn.path.now) }
 {
-    let Turn { path, number, count } = turn;
+    let Turn {
+        path,
+        number,
+        count,
+    } = turn;
     let mut line = format!(in alloc; "{number} of {count} ")?.into_bytes();
     escape_into(path, &mut line)?;
     line.push(b'\n')?;
@@ -291,7 +294,11 @@ fn path_progress(alloc: Global, turn: Turn<'_>) -> Result<Vec<u8>, AllocError>
 fn count_progress(alloc: Global, turn: Turn<'_>) -> Result<Vec<u8>, AllocError>
     ensures { IfOk result (λ line. line.items ≡ count_line turn.number turn.count) }
 {
-    let Turn { path: _, number, count } = turn;
+    let Turn {
+        path: _,
+        number,
+        count,
+    } = turn;
     let line = format!(in alloc; "{number} of {count}\n")?;
     Ok(line.into_bytes())
 }
