@@ -6,7 +6,8 @@ ghost use Rattle.cats_cmd.specs.declared.source.Unopened.TheVariants.{NoSuchFile
 
 use super::streams::{RunAnswer, expect, text_taken, writer};
 use cats_cmd::{Source, Unopened, run_program};
-use std::alloc::{Alloc, Global};
+use std::alloc::{Alloc, AllocGlobal, Global};
+use std::process::Abort;
 use std::test::Fail;
 
 /// Files with their paths, and paths that are refused.
@@ -299,7 +300,15 @@ Usage: cats duplicates --files0-from <LIST> [FILE]...\n\nFor more information, t
 /// The same where standard error is a terminal.
 static TERMINAL_ROWS: [Row<'static>; 4] = [
     (
-        &["cats", "duplicates", "--progress", "one", "none", "same", "bad"],
+        &[
+            "cats",
+            "duplicates",
+            "--progress",
+            "one",
+            "none",
+            "same",
+            "bad",
+        ],
         5,
         "one\nsame\n",
         "1 of 4\n\x1b[A\x1b[Knone: cannot open: no such file\n2 of 4\n\x1b[A\x1b[K3 of 4\n\
@@ -330,7 +339,11 @@ fn files_in_memory_on_a_terminal(rt: HostRuntime) -> Result<(), Fail> {
     judge_rows(&rt, &TERMINAL_ROWS, true)
 }
 
-fn judge_rows(rt: &HostRuntime, rows: &[Row<'_>], terminal: bool) -> Result<(), Fail> {
+fn judge_rows(
+    rt: &(impl Abort + AllocGlobal),
+    rows: &[Row<'_>],
+    terminal: bool,
+) -> Result<(), Fail> {
     let alloc = rt.alloc();
     let source = FilesInMemory {
         files: &FILES,
