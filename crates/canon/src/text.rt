@@ -34,7 +34,7 @@ use goods_set::{GoodsSet, ListSet, goods_of, on_least_set};
 use prune::PruneFault;
 use std::alloc::Global;
 use std::mem;
-use valuation::{Auction, auction_of, packed_auction};
+use valuation::{Auction, auction_of};
 
 /// The canonical file of a file: the file of its canonical auction. `limit` bounds each search that decides on a bundle
 /// of the OR bidder.
@@ -153,7 +153,7 @@ fn into_normal_file_on<S: GoodsSet>(
     ensures canonical { IfOk result (λ h. IsCanonicalFile h) }
 {
     let count = file.bids().len();
-    let auction: Auction<S> = packed_auction(alloc, &file)?;
+    let auction: Auction<S> = auction_of(alloc, &file)?;
     let room = file.into_room();
     let canonical = light_canonical(alloc, auction, limit)?;
     let bids = if count_bids(&canonical) < count / 2 {
@@ -219,7 +219,7 @@ fn into_canonical<S: GoodsSet>(
     ensures light { let a = auction_from file in OnOk result (first_heavy a.goods limit a.or_atoms ≡ None) }
     ensures refused { IfErr result (λ fault. RefusesAuction limit (auction_from file) fault) }
 {
-    let auction = packed_auction(alloc, &file)?;
+    let auction = auction_of(alloc, &file)?;
     mem::drop(file);
     light_canonical(alloc, auction, limit)
 }

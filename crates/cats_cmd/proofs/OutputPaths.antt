@@ -4,7 +4,7 @@ use Rattle.std.proofs.Common.{◌≡◌, ℕ, suc, ◌+◌, ◌%◌, ◌/◌, �
 use Rattle.std.proofs.Common.{⊎_elim, arith, append-nil, zero}
 use Rattle.std.specs.Prelude.{codes, decimal, filter, nat_lt, drop}
 use Rattle.std.specs.List.{All, AllByRecursion, flat_map, range_with_len, slice_split}
-use Rattle.core.specs.Fmt.{digit_glyph, digits, digits_onto}
+use Rattle.std.specs.Fmt.{digit_glyph, digits, digits_onto}
 use Rattle.std.proofs.lemmas.Bool.{cases_Bool, ltb-true, lt-ltb, ne_eqb}
 use Rattle.std.proofs.lemmas.Grind.{flat_map-append}
 use Rattle.std.proofs.lemmas.List.{append_assoc, length-map, map-append}
@@ -52,7 +52,7 @@ printed_lacks Line path plain = All-weaker (λ b. is_control b ≡ false) (λ b.
 printed_lacks Null path plain = plain
 
 printed_some : (ending : Ending) (text path : List ℕ) → read_path ending text ≡ path → 0 < length path → is_empty text ≡ false
-printed_some ending (b ∷ text) path back some = refl
+printed_some ending (b ∷ text) path back some = ne_eqb (length (b ∷ text)) 0 (λ e. absurd (omega (arith, e)))
 printed_some Line [] path back some = let none = ap (length {A = ℕ}) back in absurd (omega (arith, none, some))
 printed_some Null [] path back some = let none = ap (length {A = ℕ}) back in absurd (omega (arith, none, some))
 
@@ -196,13 +196,16 @@ behind_word [] rest count plain = refl
 behind_word (b ∷ word) rest count plain =
     rw (All-head (λ c. (c == 9) ≡ false) b word plain) (behind_word word rest count (All-tail (λ c. (c == 9) ≡ false) b word plain))
 
-behind_numbers : (numbers rest : List ℕ) (count : ℕ) → behind_tabs (with_tabs numbers ++ rest) (length numbers + count) ≡ behind_tabs rest count
-behind_numbers [] rest count = refl
-behind_numbers (n ∷ numbers) rest count =
-    ap (λ (text : List ℕ). behind_tabs text (suc (length numbers + count)))
+behind_numbers : (numbers rest : List ℕ) (count total : ℕ) → total ≡ length numbers + count
+    → behind_tabs (with_tabs numbers ++ rest) total ≡ behind_tabs rest count
+behind_numbers [] rest count total is = let same : total ≡ count = omega (arith, is) in ap (behind_tabs rest) same
+behind_numbers (n ∷ numbers) rest count zero is = absurd (omega (arith, is))
+behind_numbers (n ∷ numbers) rest count (suc total) is =
+    let less : total ≡ length numbers + count = omega (arith, is) in
+    ap (λ (text : List ℕ). behind_tabs text (suc total))
     (append_assoc (decimal n ++ 9 ∷ []) (with_tabs numbers) rest ∙ append_assoc (decimal n) (9 ∷ []) (with_tabs numbers ++ rest))
-    ∙ behind_word (decimal n) (with_tabs numbers ++ rest) (length numbers + count) (decimal_lacks 9 (omega arith) n)
-    ∙ behind_numbers numbers rest count
+    ∙ behind_word (decimal n) (with_tabs numbers ++ rest) total (decimal_lacks 9 (omega arith) n)
+    ∙ behind_numbers numbers rest count total less
 
 -- ---- a table
 
@@ -212,24 +215,22 @@ unknown = codes "-\t-\t-\t"
 module _ (ending : Ending) where
   -- the line of a file, without its end
   abbrev lines_if_read : List ℕ → Judgement → List (List ℕ)
-  lines_if_read path (IsJudged file) = (with_tabs (sizes_of file) ++ (with_tabs (counts_of (canonical_file file)) ++ printed ending path)) ∷ []
-  lines_if_read path (IsHeavy file goods) = (with_tabs (sizes_of file) ++ (unknown ++ printed ending path)) ∷ []
+  lines_if_read path (IsJudged file) = ((with_tabs (sizes_of file) ++ with_tabs (counts_of (canonical_file file))) ++ printed ending path) ∷ []
+  lines_if_read path (IsHeavy file goods) = ((with_tabs (sizes_of file) ++ unknown) ++ printed ending path) ∷ []
   lines_if_read path (IsStopped stop) = []
 
   abbrev table_lines : List (List ℕ × Judgement) → List (List ℕ)
   table_lines judgements = flat_map (λ j. lines_if_read j.0 j.1) judgements
 
-  one_ended : (first then path : List ℕ)
-      → first ++ (then ++ path_text ending path) ≡ ended (end_byte ending) ((first ++ (then ++ printed ending path)) ∷ [])
-  one_ended first then path =
-      ap (λ (text : List ℕ). first ++ (then ++ text)) (text_printed ending path)
-      ∙ ap (λ (text : List ℕ). first ++ text) (sym (append_assoc then (printed ending path) (end_byte ending ∷ [])))
-      ∙ sym (append_assoc first (then ++ printed ending path) (end_byte ending ∷ []))
-      ∙ sym (append-nil ((first ++ (then ++ printed ending path)) ++ end_byte ending ∷ []))
+  one_ended : (numbers path : List ℕ) → numbers ++ path_text ending path ≡ ended (end_byte ending) ((numbers ++ printed ending path) ∷ [])
+  one_ended numbers path =
+      ap (λ (text : List ℕ). numbers ++ text) (text_printed ending path)
+      ∙ sym (append_assoc numbers (printed ending path) (end_byte ending ∷ []))
+      ∙ sym (append-nil ((numbers ++ printed ending path) ++ end_byte ending ∷ []))
 
   line_ended : (path : List ℕ) (j : Judgement) → line_if_read ending path j ≡ ended (end_byte ending) (lines_if_read path j)
-  line_ended path (IsJudged file) = one_ended (with_tabs (sizes_of file)) (with_tabs (counts_of (canonical_file file))) path
-  line_ended path (IsHeavy file goods) = one_ended (with_tabs (sizes_of file)) unknown path
+  line_ended path (IsJudged file) = one_ended (with_tabs (sizes_of file) ++ with_tabs (counts_of (canonical_file file))) path
+  line_ended path (IsHeavy file goods) = one_ended (with_tabs (sizes_of file) ++ unknown) path
   line_ended path (IsStopped stop) = refl
 
   table_ended : (js : List (List ℕ × Judgement)) → lines_of_table ending js ≡ ended (end_byte ending) (table_lines js)
@@ -242,10 +243,10 @@ module _ (ending : Ending) where
   P b = (b == end_byte ending) ≡ false
 
   one_lacks : (first then path : List ℕ) → Lacks (end_byte ending) first → Lacks (end_byte ending) then → Lacks 0 path
-      → All (Lacks (end_byte ending)) ((first ++ (then ++ printed ending path)) ∷ [])
+      → All (Lacks (end_byte ending)) (((first ++ then) ++ printed ending path) ∷ [])
   one_lacks first then path one two plain =
-      All-cons (Lacks (end_byte ending)) (first ++ (then ++ printed ending path)) []
-      (All-append P first (then ++ printed ending path) one (All-append P then (printed ending path) two (printed_lacks ending path plain)))
+      All-cons (Lacks (end_byte ending)) ((first ++ then) ++ printed ending path) []
+      (All-append P (first ++ then) (printed ending path) (All-append P first then one two) (printed_lacks ending path plain))
       (All-nil (Lacks (end_byte ending)))
 
   line_lacks : Lacks (end_byte ending) unknown → (path : List ℕ) (j : Judgement) → Lacks 0 path → All (Lacks (end_byte ending)) (lines_if_read path j)
@@ -269,12 +270,17 @@ module _ (ending : Ending) where
   -- the path is behind five numbers and three words
   line_back : (path : List ℕ) (j : Judgement) → map path_of (lines_if_read path j) ≡ paths_if_read path j
   line_back path (IsJudged file) =
+      let first = with_tabs (sizes_of file) in
+      let then = with_tabs (counts_of (canonical_file file)) in
       ap (λ (text : List ℕ). read_path ending text ∷ [])
-      (behind_numbers (sizes_of file) (with_tabs (counts_of (canonical_file file)) ++ printed ending path) 3
-      ∙ behind_numbers (counts_of (canonical_file file)) (printed ending path) 0)
+      (ap (λ (text : List ℕ). behind_tabs text 8) (append_assoc first then (printed ending path))
+      ∙ behind_numbers (sizes_of file) (then ++ printed ending path) 3 8 refl
+      ∙ behind_numbers (counts_of (canonical_file file)) (printed ending path) 0 3 refl)
       ∙ ap (λ (text : List ℕ). text ∷ []) (printed_back ending path)
   line_back path (IsHeavy file goods) =
-      ap (λ (text : List ℕ). read_path ending text ∷ []) (behind_numbers (sizes_of file) (unknown ++ printed ending path) 3)
+      ap (λ (text : List ℕ). read_path ending text ∷ [])
+      (ap (λ (text : List ℕ). behind_tabs text 8) (append_assoc (with_tabs (sizes_of file)) unknown (printed ending path))
+      ∙ behind_numbers (sizes_of file) (unknown ++ printed ending path) 3 8 refl)
       ∙ ap (λ (text : List ℕ). text ∷ []) (printed_back ending path)
   line_back path (IsStopped stop) = refl
 

@@ -13,6 +13,8 @@ use std::rt::Files;
 /// It says which streams it may open at a path, and for which reason it may refuse one. So a contract can speak of the
 /// file at a path of the command line.
 pub trait Source {
+    ghost use Rattle.cats_cmd.specs.declared.source.Unopened.{Unopened};
+
     type Stream: Read + Drop;
 
     ghost may_open: { Self → List ℕ → Self.Stream → Type 0 };

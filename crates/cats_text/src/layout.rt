@@ -17,8 +17,7 @@ ghost use Rattle.std.specs.Prelude.{
   OnOk,
   decimal,
 };
-ghost use Rattle.bid_file.specs.Files.{PlainBid, plain_bids, dummy_good};
-ghost use Rattle.bid_file.specs.Views.{plain_file};
+ghost use Rattle.bid_file.specs.Files.{PlainBid, dummy_good};
 ghost use Rattle.cats_text.specs.Grammar.{Spells};
 ghost use Rattle.cats_text.specs.Layout.{
   line_room,
@@ -32,24 +31,19 @@ ghost use Rattle.cats_text.specs.Layout.{
 };
 
 use crate::price::write_price;
-use bid_file::{Bid, BidFile};
+use bid_file::Bids;
 use itoa::{Buffer, Integer, write_digits};
 use std::alloc::{AllocError, Global};
 
 /// The text of a file: its header, then its bids in order of number, each with its goods rising and its dummy good
 /// last. Words are joined by single tabs in a bid line and by a space in a header line; nothing else stands there.
-pub fn write(alloc: Global, file: &BidFile) -> Result<Vec<u8>, AllocError>
-    ensures layout { IfOk result (λ out. out.items ≡ layout (plain_file file.now)) }
-    ensures spells { IfOk result (λ out. Spells out.items (plain_file file.now)) }
+pub fn write<B: Bids>(alloc: Global, file: &B) -> Result<Vec<u8>, AllocError>
+    ensures layout { IfOk result (λ out. out.items ≡ layout (B.file file.now)) }
+    ensures spells { IfOk result (λ out. Spells out.items (B.file file.now)) }
 {
-    let mut out = Vec::with_capacity(alloc, room_for(file.bids()))?;
-    push_header(
-        &mut out,
-        file.goods(),
-        file.bids().len(),
-        file.dummy() as usize,
-    )?;
-    push_bids(&mut out, file.goods(), file.bids())?;
+    let mut out = Vec::with_capacity(alloc, room_for(file))?;
+    push_header(&mut out, file.goods(), file.len(), file.dummy() as usize)?;
+    push_bids(&mut out, file)?;
     Ok(out)
 }
 
@@ -58,13 +52,13 @@ const LINE: usize = 64;
 
 const GOOD: usize = 5;
 
-/// As many bytes as the text of these bids has at most. No file is so large that it saturates.
-fn room_for(bids: &[Bid]) -> usize {
+/// As many bytes as the text of a file's bids has at most. No file is so large that it saturates.
+fn room_for<B: Bids>(file: &B) -> usize {
     let mut goods: usize = 0;
-    for bid in bids {
-        goods = goods.saturating_add(bid.goods.len());
+    for number in 0..file.len() {
+        goods = goods.saturating_add(file.at(number).goods.len());
     }
-    let lines = bids.len().saturating_mul(LINE);
+    let lines = file.len().saturating_mul(LINE);
     goods
         .saturating_mul(GOOD)
         .saturating_add(lines)
@@ -98,18 +92,13 @@ fn push_header_line(out: &mut Vec<u8>, keyword: &[u8], value: u64) -> Result<(),
     Ok(())
 }
 
-fn push_bids(out: &mut Vec<u8>, goods: u16, bids: &[Bid]) -> Result<(), AllocError>
-    ensures { OnOk result (out.new.items ≡ out.old.items ++ bids_text goods 0 (plain_bids bids.now)) }
+fn push_bids<B: Bids>(out: &mut Vec<u8>, file: &B) -> Result<(), AllocError>
+    ensures { OnOk result (out.new.items ≡ out.old.items ++ bids_text (B.file file.now).goods 0 (B.file file.now).bids) }
 {
-    for (number, bid) in bids.iter().enumerate() {
-        push_bid(
-            out,
-            goods,
-            number,
-            bid.price,
-            bid.goods.as_slice(),
-            bid.dummy,
-        )?;
+    let goods = file.goods();
+    for number in 0..file.len() {
+        let bid = file.at(number);
+        push_bid(out, goods, number, bid.price, bid.goods, bid.dummy)?;
     }
     Ok(())
 }

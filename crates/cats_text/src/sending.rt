@@ -25,7 +25,7 @@ ghost use Rattle.cats_text.specs.Streams.{inner_of, has_failed, has_ended, Sends
 use crate::fault::SendFault;
 use crate::layout::{push_bid, push_header};
 use crate::stream::Watched;
-use bid_file::PackedFile;
+use bid_file::Bids;
 use std::alloc::{AllocError, Global};
 use std::io::Write;
 
@@ -43,23 +43,18 @@ pub fn send<W: Write>(out: &mut Watched<W>, text: &[u8]) -> Result<(), SendFault
 
 /// Sends the text that `write` has of a file, as `send` does, in pieces: one page of memory holds what is not yet sent.
 /// Where this page is refused, nothing is written.
-pub fn send_file<W: Write>(
+pub fn send_file<W: Write, B: Bids>(
     alloc: Global,
     out: &mut Watched<W>,
-    file: &PackedFile,
+    file: &B,
 ) -> Result<Result<(), SendFault>, AllocError>
     requires { has_failed out.old ≡ false }
-    ensures sends { IfOk result (λ sent. Sends W.contents out.old out.new (layout file.now) sent) }
+    ensures sends { IfOk result (λ sent. Sends W.contents out.old out.new (layout (B.file file.now)) sent) }
     ensures silent { OnErr result (out.new ≡ out.old) }
     ensures ended { has_ended out.new ≡ has_ended out.old }
 {
     let mut page = Vec::with_capacity(alloc, PAGE)?;
-    push_header(
-        &mut page,
-        file.goods(),
-        file.bids().len(),
-        file.dummy() as usize,
-    )?;
+    push_header(&mut page, file.goods(), file.len(), file.dummy() as usize)?;
     Ok(send_bids(out, page, file))
 }
 
@@ -69,24 +64,23 @@ const PAGE: usize = 65_536;
 const FULL: usize = 40_704;
 
 /// Sends the bids of a file behind its header, of which the page has the text.
-fn send_bids<W: Write>(
+fn send_bids<W: Write, B: Bids>(
     out: &mut Watched<W>,
     mut page: Vec<u8>,
-    file: &PackedFile,
+    file: &B,
 ) -> Result<(), SendFault>
     requires works { has_failed out.old ≡ false }
-    requires header { let f = file.now in page.items ≡ headers_text f.goods (length f.bids) f.dummy }
+    requires header { let f = B.file file.now in page.items ≡ headers_text f.goods (length f.bids) f.dummy }
     requires room { 65536 ≤ vec_capacity page }
-    ensures sends { Sends W.contents out.old out.new (layout file.now) result }
+    ensures sends { Sends W.contents out.old out.new (layout (B.file file.now)) result }
     ensures ended { has_ended out.new ≡ has_ended out.old }
 {
     let goods = file.goods();
-    let bids = file.bids();
     let mut written = 0;
-    for number in 0..bids.len() {
+    for number in 0..file.len() {
         written = send_full_page(out, &mut page, written)?;
-        let (price, bundle, dummy) = bids.at(number);
-        let Ok(()) = push_bid(&mut page, goods, number, price, bundle, dummy) else {
+        let bid = file.at(number);
+        let Ok(()) = push_bid(&mut page, goods, number, bid.price, bid.goods, bid.dummy) else {
             unreachable!()
         };
     }

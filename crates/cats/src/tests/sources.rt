@@ -82,7 +82,7 @@ static FILES: [(&str, &[u8]); 20] = [
     ("\u{e9}", b"goods 1\nbids 1\ndummy 0\n0 3 0 #\n"),
     (
         "list of such names",
-        b"a\nb\0a\tb\0\x1b[2J\0a\\nb\0\x7f\0\xc3\xa9\0\xff\x1b\0",
+        b"a\nb\0a\tb\0\x1b[2J\0a\\nb\0\x7f\0\xc3\xa9\0\x1bnone\0",
     ),
 ];
 
@@ -210,7 +210,7 @@ none: cannot open: no such file\nbroken: cannot open\n",
         &["cats", "duplicates", "--files0-from", "list of such names"],
         5,
         "a\\nb\na\\tb\n\\x1b[2J\na\\\\nb\n\\x7f\n\u{e9}\n",
-        "\\xff\\x1b: cannot open\n",
+        "\\x1bnone: cannot open: no such file\n",
     ),
     (
         &[
@@ -222,7 +222,7 @@ none: cannot open: no such file\nbroken: cannot open\n",
         ],
         5,
         "a\nb\0a\tb\0\x1b[2J\0a\\nb\0\x7f\0\u{e9}\0",
-        "\\xff\\x1b: cannot open\n",
+        "\\x1bnone: cannot open: no such file\n",
     ),
     (
         &["cats", "duplicates", "--files0-from", "list"],

@@ -9,7 +9,7 @@ use Rattle.cats_text.proofs.sending.send_bids.Goals as goal
 
 pub loop-number-init : goal.loop-number-init
 loop-number-init g c =
-    let file : PlainFile = c.args.file.now in
+    let file : PlainFile = g.B.Bids.file c.args.file.now in
     let facts = c.goods-goods.ensures.file in
     let bound : length file.bids ≤ 65536 = facts.count in
     let short : length c.args.page.items ≤ 128 =
@@ -28,7 +28,7 @@ loop-number-init g c =
 pub returns-in_err-written-clause-sends : goal.returns-in_err-written-clause-sends
 returns-in_err-written-clause-sends g c =
     let now = c.loop-number in
-    let file : PlainFile = c.args.file.now in
+    let file : PlainFile = g.B.Bids.file c.args.file.now in
     let wrote = c.in_err-written.ensures in
     failed_in_piece g.W.Write.contents c.args.out.now now.out c.send_full_page.new.out now.written now.page.items now.page.items
     (bids_text file.goods now.number (drop now.number file.bids))
@@ -37,22 +37,22 @@ returns-in_err-written-clause-sends g c =
 
 pub unreachable-requires : goal.unreachable-requires
 unreachable-requires g c =
-    let file : PlainFile = c.args.file.now in
-    let bid : PlainBid = record { price = c.at-price.result.0; goods = c.at-price.result.1.now; dummy = c.at-price.result.2 } in
-    let there : slice_get file.bids c.loop-number.number ≡ Some bid = rw (← c.bids-bids.ensures) c.at-price.ensures in
-    let few : length c.at-price.result.1.now ≤ 4096 = bundle_within file c.loop-number.number bid c.goods-goods.ensures.file there in
+    let file : PlainFile = g.B.Bids.file c.args.file.now in
+    let bid : PlainBid = record { price = c.at-bid.result.price; goods = c.at-bid.result.goods.now; dummy = c.at-bid.result.dummy } in
+    let there : slice_get file.bids c.loop-number.number ≡ Some bid = c.at-bid.ensures in
+    let few : length c.at-bid.result.goods.now ≤ 4096 = bundle_within file c.loop-number.number bid c.goods-goods.ensures.file there in
     let room : 65536 ≤ vec_capacity c.loop-number.page = c.loop-number.invariant.room in
     false≢true (c.in_default.ensures.fits (omega (arith, c.send_full_page.ensures.capacity, c.in_ok-written.ensures.room)))
 
 pub loop-number-preserved : goal.loop-number-preserved
 loop-number-preserved g c =
-    let file : PlainFile = c.args.file.now in
+    let file : PlainFile = g.B.Bids.file c.args.file.now in
     let now = c.loop-number in
     let wrote = c.in_ok-written.ensures in
     let count = c.in_ok-written.written in
-    let bid : PlainBid = record { price = c.at-price.result.0; goods = c.at-price.result.1.now; dummy = c.at-price.result.2 } in
-    let there : slice_get file.bids now.number ≡ Some bid = rw (← c.bids-bids.ensures) c.at-price.ensures in
-    let few : length c.at-price.result.1.now ≤ 4096 = bundle_within file now.number bid c.goods-goods.ensures.file there in
+    let bid : PlainBid = record { price = c.at-bid.result.price; goods = c.at-bid.result.goods.now; dummy = c.at-bid.result.dummy } in
+    let there : slice_get file.bids now.number ≡ Some bid = c.at-bid.ensures in
+    let few : length c.at-bid.result.goods.now ≤ 4096 = bundle_within file now.number bid c.goods-goods.ensures.file there in
     let room : 65536 ≤ vec_capacity c.push_bid.new.out = omega (arith, now.invariant.room, wrote.capacity, c.in-Ok.ensures.capacity) in
     let counted : count + length c.push_bid.new.out.items ≤ 128 + 65536 * (now.number + 1) = omega (
       arith,
@@ -81,5 +81,5 @@ returns-in_err-send_piece-clause-sends g c =
     let wrote = c.in_err-send_piece.ensures in
     let fault = c.in_err-send_piece.field-0.0 in
     failed_in_piece g.W.Write.contents c.args.out.now now.out c.send_piece.new.out now.written now.page.items _ _
-    (layout c.args.file.now) fault c.as_slice.ensures.value now.invariant.left now.invariant.within now.invariant.sent wrote.counts wrote.part _
+    (layout (g.B.Bids.file c.args.file.now)) fault c.as_slice.ensures.value now.invariant.left now.invariant.within now.invariant.sent wrote.counts wrote.part _
     c.from_residual-in_err-send_piece.ensures.1

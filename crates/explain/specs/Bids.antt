@@ -1,0 +1,33 @@
+-- The bids of a file by number, and which is the best of a bidder's bids on a bundle: the one of the highest price, and
+-- of those the one of the smallest number.
+use Rattle.std.specs.Prelude.{ℕ, ◌+◌, Bool, ◌&&◌, ◌||◌, not, ◌==◌, nat_lt, List, [], length, slice_index_or, Option, Some, None}
+use Rattle.std.specs.List.{list_any, range_with_len}
+use Rattle.std.specs.Ordering.{is_eq}
+use Rattle.goods_set.specs.Orders.{bundle_cmp}
+use Rattle.bid_file.specs.Files.{PlainBid, PlainFile}
+
+-- the bid of this number
+abbrev pub bid_at : PlainFile → ℕ → PlainBid
+bid_at f i = slice_index_or f.bids i (record { price = 0; goods = []; dummy = None })
+
+-- the numbers of the bids
+abbrev pub numbers_of : PlainFile → List ℕ
+numbers_of f = range_with_len 0 (length f.bids)
+
+-- the bidder of a bid: 0 is the OR bidder, and d + 1 the XOR bidder of the dummy good d
+abbrev pub bidder_of : Option ℕ → ℕ
+bidder_of None = 0
+bidder_of (Some d) = d + 1
+
+-- two bids of one bidder on the same goods
+abbrev pub are_alike : PlainBid → PlainBid → Bool
+are_alike a b = (bidder_of a.dummy == bidder_of b.dummy) && is_eq (bundle_cmp a.goods b.goods)
+
+-- bid i is of the same bidder as bid j, on the same goods, and has a higher price, or the same price and a smaller number
+abbrev pub is_better : PlainFile → ℕ → ℕ → Bool
+is_better f i j = are_alike (bid_at f i) (bid_at f j)
+    && (nat_lt (bid_at f j).price (bid_at f i).price || ((bid_at f i).price == (bid_at f j).price && nat_lt i j))
+
+-- no bid is better
+abbrev pub is_best : PlainFile → ℕ → Bool
+is_best f i = not (list_any (λ j. is_better f j i) (numbers_of f))

@@ -1,0 +1,100 @@
+-- Why each bid of a file is in its canonical file, or is not.
+use Rattle.std.specs.Prelude.{◌≡◌, ℕ, ◌<◌, ◌≤◌, ◌==◌, Bool, true, false, ◌&&◌, List, [], ◌∷◌, length, slice_get, slice_index_or, Some, None}
+use Rattle.std.specs.Prelude.{is_some, sum_by, count_by}
+use Rattle.std.specs.List.{AllByRecursion, list_all, range_with_len}
+use Rattle.goods_set.specs.Bundles.{IsInside, IsRising, are_apart}
+use Rattle.bid_file.specs.Files.{PlainFile}
+use Rattle.prune.specs.SearchSteps.{is_below}
+use Rattle.explain.specs.Bids.{bid_at, numbers_of, are_alike, is_best}
+use Rattle.explain.specs.Renaming.{kept_bids}
+
+-- a reason, without where it lies in memory
+pub data PlainReason : Type 0 where
+  -- it is this bid of the canonical file
+  Keep : ℕ → PlainReason
+  -- its price is 0
+  Zero : PlainReason
+  -- this bid of the same bidder, on the same goods, is the best
+  Same : ℕ → PlainReason
+  -- this bid of the same XOR bidder is kept, on fewer goods, and its price is as high
+  Inside : ℕ → PlainReason
+  -- these bids of the OR bidder are kept, share no good, are inside its goods, and their prices add up to as much
+  Packing : List ℕ → PlainReason
+
+abbrev pub is_kept : PlainReason → Bool
+is_kept (Keep k) = true
+is_kept reason = false
+
+-- whether the bid is bid k of the canonical file
+abbrev pub is_kept_as : ℕ → PlainReason → Bool
+is_kept_as k (Keep l) = k == l
+is_kept_as k reason = false
+
+-- the reason of a bid
+abbrev pub reason_at : List PlainReason → ℕ → PlainReason
+reason_at reasons i = slice_index_or reasons i Zero
+
+-- ---- what each reason says of bid i
+
+-- the bid offers something, and is the best of its bidder's on its goods
+pub record IsBestBid (f : PlainFile) (i : ℕ) : Type 0 where
+  pub positive : 0 < (bid_at f i).price
+  pub best : is_best f i ≡ true
+
+pub record IsKeptAs (f : PlainFile) (i k : ℕ) : Type 0 where
+  pub bid : IsBestBid f i
+  pub is : slice_get (kept_bids f) k ≡ Some (bid_at f i)
+
+pub record HasSame (f : PlainFile) (i j : ℕ) : Type 0 where
+  pub positive : 0 < (bid_at f i).price
+  pub within : j < length f.bids
+  pub another : (j == i) ≡ false
+  pub alike : are_alike (bid_at f j) (bid_at f i) ≡ true
+  pub best : is_best f j ≡ true
+
+pub record HasInside (f : PlainFile) (reasons : List PlainReason) (i j : ℕ) : Type 0 where
+  pub bid : IsBestBid f i
+  pub xor : is_some (bid_at f i).dummy ≡ true
+  pub bidder : (bid_at f j).dummy ≡ (bid_at f i).dummy
+  pub kept : is_kept (reason_at reasons j) ≡ true
+  pub below : is_below (bid_at f j).goods (bid_at f i).goods ≡ true
+  pub enough : (bid_at f i).price ≤ (bid_at f j).price
+
+-- a bid of the OR bidder that is kept and is inside these goods
+pub record IsKeptInside (f : PlainFile) (reasons : List PlainReason) (goods : List ℕ) (j : ℕ) : Type 0 where
+  pub or : (bid_at f j).dummy ≡ None
+  pub kept : is_kept (reason_at reasons j) ≡ true
+  pub inside : IsInside (bid_at f j).goods goods
+
+-- no two of the lists of goods share one
+abbrev pub all_apart : List (List ℕ) → Bool
+all_apart [] = true
+all_apart (goods ∷ rest) = list_all (are_apart goods) rest && all_apart rest
+
+abbrev pub goods_at : PlainFile → List ℕ → List (List ℕ)
+goods_at f [] = []
+goods_at f (i ∷ rest) = (bid_at f i).goods ∷ goods_at f rest
+
+pub record HasPacking (f : PlainFile) (reasons : List PlainReason) (i : ℕ) (js : List ℕ) : Type 0 where
+  pub bid : IsBestBid f i
+  pub or : (bid_at f i).dummy ≡ None
+  pub rising : IsRising js
+  pub each : AllByRecursion (IsKeptInside f reasons (bid_at f i).goods) js
+  pub apart : all_apart (goods_at f js) ≡ true
+  pub enough : (bid_at f i).price ≤ sum_by (λ j. (bid_at f j).price) js
+
+-- the reason is true of bid i
+abbrev pub IsReason : PlainFile → List PlainReason → ℕ → PlainReason → Type 0
+IsReason f reasons i Zero = (bid_at f i).price ≡ 0
+IsReason f reasons i (Same j) = HasSame f i j
+IsReason f reasons i (Inside j) = HasInside f reasons i j
+IsReason f reasons i (Packing js) = HasPacking f reasons i js
+IsReason f reasons i (Keep k) = IsKeptAs f i k
+
+-- ---- all bids
+
+-- each bid has one reason, which is true; and each bid of the canonical file is one bid of the file
+pub record Explains (f : PlainFile) (reasons : List PlainReason) : Type 0 where
+  pub long : length reasons ≡ length f.bids
+  pub each : AllByRecursion (λ i. IsReason f reasons i (reason_at reasons i)) (numbers_of f)
+  pub once : AllByRecursion (λ k. count_by (is_kept_as k) reasons ≡ 1) (range_with_len 0 (length (kept_bids f)))
