@@ -44,7 +44,7 @@ lines_push progress count number (i ∷ js) j =
 pub path_reported : {E : Type 0} (messages : E → Option (List ℕ)) (first then last : List (List ℕ)) (a b c d : Watched E) → ReportsAll messages first a b
     → ReportsAll messages then b c → ReportsAll messages last c d → ReportsAll messages (first ++ then ++ last) a d
 path_reported messages first then last a b c d one two three =
-    reports_more messages first (then ++ last) a b d one (reports_more messages then last b c d two three)
+    reports_more messages (first ++ then) last a c d (reports_more messages first then a b c one two) three
 
 -- ---- the paths so far
 
