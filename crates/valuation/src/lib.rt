@@ -11,6 +11,7 @@ mod order;
 mod packing;
 mod path;
 mod search;
+mod set_choice;
 pub mod worked;
 mod xor;
 
@@ -22,4 +23,5 @@ pub use from_file::auction_of;
 pub use order::{compare_atoms, compare_bidders};
 pub use packing::{Packing, ValueFault, or_value};
 pub use path::Path;
+pub use set_choice::has_sparse_bids;
 pub use xor::xor_value;
