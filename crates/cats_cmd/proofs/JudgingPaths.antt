@@ -6,14 +6,16 @@ use Rattle.std.specs.Prelude.{IsErr}
 use Rattle.std.specs.Borrow.{Bor}
 use Rattle.std.specs.List.{AllByRecursion}
 use Rattle.std.specs.declared.alloc.AllocError.{AllocError}
+use Rattle.std.proofs.lemmas.Bool.{lt-ltb}
 use Rattle.std.proofs.lemmas.List.{map-append, take_more, take_all, append_assoc, length-map, length-take-le, take-map}
 use Rattle.std.proofs.lemmas.List.Sums.{fold_push}
 use Rattle.cats_text.specs.declared.stream.Watched.{Watched}
 use Rattle.cats_cmd.specs.Internal.Judging.{AddsPath, HasJudged, JudgesAllAs}
-use Rattle.cats_cmd.specs.Paths.{Judgement, Judges, JudgesPaths, greatest_status, lines_from, lines_of_path}
-use Rattle.cats_cmd.specs.Paths.{report_lines, status_of_judgement}
+use Rattle.cats_cmd.specs.Paths.{is_counted, Judgement, Judges, JudgesPaths, greatest_status, lines_from, lines_of_path}
+use Rattle.cats_cmd.specs.Paths.{line_removal, progress_line, progress_lines, removal_lines, report_lines, status_of_judgement}
 use Rattle.cats_cmd.specs.declared.paths.Progress.{Progress}
-use Rattle.cats_cmd.specs.Stops.{ReportsAll}
+use Rattle.cats_cmd.specs.declared.paths.Progress.TheVariants.{Lines, Terminal}
+use Rattle.cats_cmd.specs.Stops.{Reports, ReportsAll}
 use Rattle.cats_cmd.specs.declared.source.Unopened.{Unopened}
 
 pub all_push : {X : Type 0} (P : X → Type 0) (xs : List X) (x : X) → AllByRecursion P xs → P x → AllByRecursion P (xs ++ x ∷ [])
@@ -45,6 +47,16 @@ pub path_reported : {E : Type 0} (messages : E → Option (List ℕ)) (first the
     → ReportsAll messages then b c → ReportsAll messages last c d → ReportsAll messages (first ++ then ++ last) a d
 path_reported messages first then last a b c d one two three =
     reports_more messages (first ++ then) last a c d (reports_more messages first then a b c one two) three
+
+module _ {E : Type 0} (messages : E → Option (List ℕ)) (number : ℕ) (old new : Watched E) where
+  pub hundreds_reported : (count : ℕ) (path : List ℕ) → is_counted number count ≡ true → Reports messages (progress_line number count path) old new
+      → ReportsAll messages (progress_lines Lines number count path) old new
+  hundreds_reported count path is reports = rw is (new, reports, refl)
+
+  pub removal_reported : (progress : Progress) (text : List ℕ) → progress ≡ Terminal → 1 < number → text ≡ line_removal → Reports messages text old new
+      → ReportsAll messages (removal_lines progress number) old new
+  removal_reported progress text is more same reports =
+      rw is (rw (lt-ltb 1 number more) (new, subst (λ (line : List ℕ). Reports messages line old new) same reports, refl))
 
 -- ---- the paths so far
 

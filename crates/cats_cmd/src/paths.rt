@@ -7,6 +7,7 @@ ghost use Rattle.cats_cmd.specs.Paths.{Judgement, IsStopped, IsUnopened, RunsOnP
 ghost use Rattle.cats_cmd.specs.Stops.{ReportsAll};
 ghost use Rattle.cats_cmd.specs.Internal.Judging.{AddsFile, AddsPathAs, AddsOpened, HasSome, JudgesAllAs};
 ghost use Rattle.cats_cmd.specs.declared.paths.Ending.{Ending};
+ghost use Rattle.cats_cmd.specs.declared.paths.Progress.TheVariants.{Lines};
 ghost use Rattle.cats_cmd.specs.declared.program.Stop.{Stop};
 
 use crate::escaping::escape_into;
@@ -136,7 +137,7 @@ fn judge_all<'a, C: Collection<'a>, S: Source + AllocGlobal, E: Write>(
             number,
             count,
         };
-        let status = judge_path(source, collection, turn, many, err)?;
+        let status = judge_path(source, collection, &turn, many, err)?;
         greatest = greatest.max(status);
     }
     Ok(greatest)
@@ -146,12 +147,12 @@ fn judge_all<'a, C: Collection<'a>, S: Source + AllocGlobal, E: Write>(
 fn judge_path<'a, C: Collection<'a>, S: Source + AllocGlobal, E: Write>(
     source: &S,
     collection: &mut C,
-    turn: Turn<'a>,
+    turn: &Turn<'a>,
     many: ManyFiles,
     err: &mut Watched<E>,
 ) -> Result<u8, AllocError>
     ensures { AddsPathAs (C.has many.ending) (S.may_open source.now) (S.may_refuse source.now) S.Stream.remaining many.limit E.contents
-        many.progress turn.count turn.number turn.path.now collection.old collection.new err.old err.new result }
+        many.progress turn.now.count turn.now.number turn.now.path.now collection.old collection.new err.old err.new result }
 {
     let stop = judge(source, collection, turn.path, many)?;
     report_path(source.alloc(), many.progress, turn, &stop, err);
@@ -224,11 +225,11 @@ pub(crate) fn path_refusal(alloc: Global, path: &[u8], stop: &Stop) -> Result<Ve
 fn report_path<E: Write>(
     alloc: Global,
     progress: Progress,
-    turn: Turn<'_>,
+    turn: &Turn<'_>,
     stop: &Option<Stop>,
     err: &mut Watched<E>,
 )
-    ensures { ReportsAll E.contents (lines_on progress turn.count turn.number turn.path.now stop.now) err.old err.new }
+    ensures { ReportsAll E.contents (lines_on progress turn.now.count turn.now.number turn.now.path.now stop.now) err.old err.new }
 {
     remove_progress(progress, turn.number, err);
     report_refusal(alloc, turn.path, stop, err);
@@ -259,46 +260,45 @@ fn report_refusal<E: Write>(alloc: Global, path: &[u8], stop: &Option<Stop>, err
 fn report_progress<E: Write>(
     alloc: Global,
     progress: Progress,
-    turn: Turn<'_>,
+    turn: &Turn<'_>,
     err: &mut Watched<E>,
 )
-    ensures { ReportsAll E.contents (progress_lines progress turn.number turn.count turn.path.now) err.old err.new }
+    ensures { ReportsAll E.contents (progress_lines progress turn.now.number turn.now.count turn.now.path.now) err.old err.new }
 {
     match progress {
         Progress::Silent => {}
-        Progress::Lines => {
-            if turn.number % 100 == 0 || turn.number == turn.count {
-                report(err, &path_progress(alloc, turn));
-            }
-        }
+        Progress::Lines => report_hundreds(alloc, turn, err),
         Progress::Terminal => report(err, &count_progress(alloc, turn)),
     }
 }
 
-/// The line that says how many files were read, and the path of the last of them.
-fn path_progress(alloc: Global, turn: Turn<'_>) -> Result<Vec<u8>, AllocError>
-    ensures { IfOk result (λ line. line.items ≡ progress_line turn.number turn.count turn.path.now) }
+/// Reports how many files were read, if the last of them is a hundredth one or the last of all.
+fn report_hundreds<E: Write>(alloc: Global, turn: &Turn<'_>, err: &mut Watched<E>)
+    ensures { ReportsAll E.contents (progress_lines Lines turn.now.number turn.now.count turn.now.path.now) err.old err.new }
 {
-    let Turn {
-        path,
-        number,
-        count,
-    } = turn;
+    if turn.number % 100 == 0 || turn.number == turn.count {
+        report(err, &path_progress(alloc, turn));
+    }
+}
+
+/// The line that says how many files were read, and the path of the last of them.
+fn path_progress(alloc: Global, turn: &Turn<'_>) -> Result<Vec<u8>, AllocError>
+    ensures { IfOk result (λ line. line.items ≡ progress_line turn.now.number turn.now.count turn.now.path.now) }
+{
+    let number = turn.number;
+    let count = turn.count;
     let mut line = format!(in alloc; "{number} of {count} ")?.into_bytes();
-    escape_into(path, &mut line)?;
+    escape_into(turn.path, &mut line)?;
     line.push(b'\n')?;
     Ok(line)
 }
 
 /// The line that says so on a terminal: short, so that it is one line there.
-fn count_progress(alloc: Global, turn: Turn<'_>) -> Result<Vec<u8>, AllocError>
-    ensures { IfOk result (λ line. line.items ≡ count_line turn.number turn.count) }
+fn count_progress(alloc: Global, turn: &Turn<'_>) -> Result<Vec<u8>, AllocError>
+    ensures { IfOk result (λ line. line.items ≡ count_line turn.now.number turn.now.count) }
 {
-    let Turn {
-        path: _,
-        number,
-        count,
-    } = turn;
+    let number = turn.number;
+    let count = turn.count;
     let line = format!(in alloc; "{number} of {count}\n")?;
     Ok(line.into_bytes())
 }
