@@ -6,7 +6,8 @@ use std::test::Fail;
 
 // Three bids of the OR bidder on one good, of which the last two have the highest price, and bids of another bidder
 // and on other goods.
-const ONE_GOOD: &str = "goods 2\nbids 5\ndummy 1\n0 3 0 #\n1 4 0 #\n2 4 0 #\n3 5 0 2 #\n4 5 0 1 #\n";
+const ONE_GOOD: &str =
+    "goods 2\nbids 5\ndummy 1\n0 3 0 #\n1 4 0 #\n2 4 0 #\n3 5 0 2 #\n4 5 0 1 #\n";
 
 // The best of each bid's bidder on its goods.
 static BEST: [u32; 5] = [1, 1, 1, 3, 4];
