@@ -7,7 +7,7 @@ use std::alloc::Global;
 use std::cmp::Ordering;
 use std::process::Abort;
 use std::test::Fail;
-use valuation::{Atom, Auction, auction_of, compare_atoms, compare_bidders, packed_auction};
+use valuation::{Atom, Auction, auction_of, compare_atoms, compare_bidders};
 
 // Three goods and two dummy goods: a bid with the first dummy good, then one without.
 fn small_file(alloc: Global) -> Result<BidFile, Fail> {
@@ -66,13 +66,13 @@ fn expect_small_auction<S: GoodsSet>(
 fn auction_of_small_file<S: GoodsSet>(rt: &impl Abort, alloc: Global) -> Result<(), Fail> {
     let file = small_file(alloc)?;
     assert!(rt; u32::from(file.goods()) <= S::cap());
-    let auction = auction_of::<S>(alloc, &file)?;
+    let auction = auction_of::<S, BidFile>(alloc, &file)?;
     expect_small_auction(rt, alloc, &auction)?;
     let (goods, or_atoms, xor_bidders) = auction.into_parts();
     expect_small_auction(rt, alloc, &Auction::new(goods, or_atoms, xor_bidders))?;
     let packed = small_packed_file(alloc)?;
     assert!(rt; u32::from(packed.goods()) <= S::cap());
-    expect_small_auction(rt, alloc, &packed_auction::<S>(alloc, &packed)?)
+    expect_small_auction(rt, alloc, &auction_of::<S, PackedFile>(alloc, &packed)?)
 }
 
 #[test]

@@ -4,6 +4,7 @@ use Rattle.std.specs.Prelude.{IsErrAnd}
 use Rattle.std.specs.Prelude.{Vec, ◌↔◌, IfOk}
 use Rattle.bid_file.specs.Files.{PlainFile, IsPlainFile}
 use Rattle.cats_text.specs.Grammar.{Spells}
+use Rattle.cats_text.specs.Layout.{layout}
 use Rattle.cats_text.specs.Faults.{first_fault, is_text_kind}
 use Rattle.cats_text.specs.Reading.{WantsMemory}
 use Rattle.cats_text.specs.declared.fault.Kind.{Kind}
@@ -14,7 +15,7 @@ use Rattle.bid_file.specs.Views.{plain_file}
 use Rattle.bid_file.specs.declared.bid.BidFile.{BidFile}
 use Rattle.cats_text.proofs.Spelling.Files.{spells_one}
 use Rattle.valuation.specs.Auctions.{PlainAuction, auction_from, or_atoms_of}
-use Rattle.canon.specs.Answers.{RefusesAs, RefusesText, NormalisesAs, NormalisesTextAs, RefusesAuction, NormalisesAuctionAs, NormalisesFileAs, IsNormalFile, plain_answer}
+use Rattle.canon.specs.Answers.{RefusesAs, RefusesText, NormalisesTextAs, RefusesAuction, IsNormalFile}
 use Rattle.canon.specs.Canonical.{IsCanonical, IsCanonicalFile, canonical_auction, canonical_text, file_from}
 use Rattle.canon.specs.Least.{IsLeastFor}
 use Rattle.canon.specs.Normalising.{IsNoFile, IsText, Normalises, unless_heavy, normalised_file}
@@ -67,10 +68,6 @@ module _ (limit : ℕ) (text : List ℕ) (f : PlainFile) (s : Spells text f) whe
   refused_text (StepLimit goods) r = record { file = f; spelled = s; is = r }
   refused_text Memory r = inr (record { file = f; spelled = s })
 
-  pub answered_as_file : (r : Result (Vec ℕ Global) CanonFault) → NormalisesAs (normalised_file limit f) r → NormalisesTextAs limit text r
-  answered_as_file (Ok out) h = record { file = f; spelled = s; is = h }
-  answered_as_file (Err fault) h = refused_text fault h
-
 -- equal texts come of files of the same auction, and of these alone
 pub same_exactly : (limit : ℕ) (text out : List ℕ) → Normalises limit text (IsText out) → (f g : PlainFile) → Spells text f → IsPlainFile g
     → (out ≡ canonical_text g ↔ AreSameFiles f g)
@@ -80,36 +77,22 @@ same_exactly limit text out e f g s facts =
     let is : out ≡ canonical_text f = n.is ∙ ap canonical_text d in
     (λ q. same_from_text f g s.facts facts (sym is ∙ q), λ q. is ∙ same_text f g s.facts facts q)
 
-pub same_if_text : (limit : ℕ) (text : List ℕ) (r : Result (Vec ℕ Global) CanonFault) → NormalisesTextAs limit text r
-    → IfOk r (λ out. (f g : PlainFile) → Spells text f → IsPlainFile g → (out.items ≡ canonical_text g ↔ AreSameFiles f g))
-same_if_text limit text (Ok out) h = same_exactly limit text out.items h
-same_if_text limit text (Err fault) h = tt
-
-pub again_if_text : (limit : ℕ) (text : List ℕ) (r : Result (Vec ℕ Global) CanonFault) → NormalisesTextAs limit text r
-    → IfOk r (λ out. Normalises limit out.items (IsText out.items))
-again_if_text limit text (Ok out) h =
-    normalised_from_text limit out.items out.items (normalised_again limit text out.items (text_from_normalised limit text out.items h))
-again_if_text limit text (Err fault) h = tt
+-- and are normalised to themselves
+pub normal_again : (limit : ℕ) (text out : List ℕ) → Normalises limit text (IsText out) → Normalises limit out (IsText out)
+normal_again limit text out h = normalised_from_text limit out out (normalised_again limit text out (text_from_normalised limit text out h))
 
 -- ---- the file
 
-module _ (limit : ℕ) (f : PlainFile) (facts : IsPlainFile f) where
-  pub same_if_file : (r : Result BidFile CanonFault) → NormalisesFileAs limit f r → IfOk r (λ h. AreSameFiles f (plain_file h))
-  same_if_file (Ok h) n = subst (λ (x : PlainFile). AreSameFiles f x) (sym n.canonical) (canonical_file_is_same f facts)
-  same_if_file (Err fault) n = tt
+-- of a file, and the canonical file that was made of it
+module _ (limit : ℕ) (f h : PlainFile) (facts : IsPlainFile f) (n : IsNormalFile limit (auction_from f) h) where
+  pub same_of_normal : AreSameFiles f h
+  same_of_normal = subst (λ (x : PlainFile). AreSameFiles f x) (sym n.canonical) (canonical_file_is_same f facts)
 
-  pub canonical_if_file : (r : Result BidFile CanonFault) → NormalisesFileAs limit f r → IfOk r (λ h. IsCanonicalFile (plain_file h))
-  canonical_if_file (Ok h) n = subst IsCanonicalFile (sym n.canonical) (canonical_file_is_fixed f facts)
-  canonical_if_file (Err fault) n = tt
+  pub least_of_normal : IsLeastFor f h
+  least_of_normal = subst (λ (x : PlainFile). IsLeastFor f x) (sym n.canonical) (canonical_is_least f facts)
 
-  pub least_if_file : (r : Result BidFile CanonFault) → NormalisesFileAs limit f r → IfOk r (λ h. IsLeastFor f (plain_file h))
-  least_if_file (Ok h) n = subst (λ (x : PlainFile). IsLeastFor f x) (sym n.canonical) (canonical_is_least f facts)
-  least_if_file (Err fault) n = tt
-
--- an answer for the auction of a file is one for the file
-pub answered_as_auction : (limit : ℕ) (f : PlainFile) (a : PlainAuction) → a ≡ auction_from f → (r : Result BidFile CanonFault)
-    → NormalisesAuctionAs limit a (plain_answer r) → NormalisesFileAs limit f r
-answered_as_auction limit f a e r h = subst (λ (x : PlainAuction). NormalisesAuctionAs limit x (plain_answer r)) e h
+  pub text_of_normal : (out : List ℕ) → out ≡ layout h → normalised_file limit f ≡ IsText out
+  text_of_normal out is = ap (unless_heavy f) n.light ∙ ap IsText (sym (is ∙ ap layout n.canonical))
 
 -- ---- the file of a canonical auction
 

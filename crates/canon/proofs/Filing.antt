@@ -7,7 +7,7 @@ use Rattle.bid_file.specs.Files.{PlainBid, PlainFile, IsBidFile, IsPlainFile}
 use Rattle.valuation.specs.declared.atom.Atom.{Atom}
 use Rattle.valuation.specs.Auctions.{PlainAuction, IsAuction}
 use Rattle.valuation.specs.Lemmas.Atoms.{drop-atoms_of}
-use Rattle.valuation.specs.Bidders.{bidders_of, plain_auction_of}
+use Rattle.valuation.specs.Bidders.{bidders_of}
 use Rattle.valuation.specs.Values.{atoms_of}
 use Rattle.canon.specs.Canonical.{bid_from, dummy_bids, file_from}
 use Rattle.canon.proofs.Files.{IsPlainFile-file_from}
@@ -51,23 +51,6 @@ pub all_bidders : (done all : List PlainBid) (i : ℕ) (bidders : List (List (At
 all_bidders done all i bidders l h =
     sym (append-nil done) ∙ ap (λ (zs : List (List (Atom (List ℕ)))). done ++ dummy_bids i zs) (sym (drop_all i bidders l)) ∙ h
 
--- the bidder that is used up next
-pub moved_bidder : {S : Type 0} (goods : S → List ℕ) (old new all : List PlainBid) (left rest : List (Vec (Atom S) Global)) (d : ℕ) (b : Vec (Atom S) Global)
-    → left ≡ b ∷ rest → new ≡ old ++ map (bid_from (Some d)) (atoms_of goods b.items) → old ++ dummy_bids d (bidders_of goods left) ≡ all
-    → new ++ dummy_bids (d + 1) (bidders_of goods rest) ≡ all
-moved_bidder goods old new all left rest d b next more before =
-    let others = dummy_bids (d + 1) (bidders_of goods rest) in
-    ap (λ (zs : List PlainBid). zs ++ others) more
-    ∙ append_assoc old (map (bid_from (Some d)) (atoms_of goods b.items)) others
-    ∙ ap (λ (zs : List (Vec (Atom _) Global)). old ++ dummy_bids d (bidders_of goods zs)) (sym next)
-    ∙ before
-
--- none is left
-pub moved_all : {S : Type 0} (goods : S → List ℕ) (done all : List PlainBid) (left : List (Vec (Atom S) Global)) (d : ℕ)
-    → left ≡ [] → done ++ dummy_bids d (bidders_of goods left) ≡ all → done ≡ all
-moved_all goods done all left d none h =
-    sym (append-nil done) ∙ ap (λ (zs : List (Vec (Atom _) Global)). done ++ dummy_bids d (bidders_of goods zs)) (sym none) ∙ h
-
 -- ---- the parts of the file
 
 pub file_parts : (a : PlainAuction) (goods dummy : ℕ) (bids : List PlainBid) → goods ≡ a.goods → dummy ≡ length a.xor_bidders → bids ≡ (file_from a).bids
@@ -84,20 +67,3 @@ file_limits cap a facts goods dummy bids e f h =
 pub length-bidders : {S : Type 0} (goods : S → List ℕ) (bidders : List (Vec (Atom S) Global)) (all : List (List (Atom (List ℕ))))
     → bidders_of goods bidders ≡ all → length bidders ≡ length all
 length-bidders {S} goods bidders all e = sym (length-map bidders (λ (v : Vec (Atom S) Global). atoms_of goods v.items)) ∙ ap length e
-
--- the parts of an auction that is used up
-module _ {S : Type 0} (goods : S → List ℕ) (a : PlainAuction) (n : ℕ) (ors : List (Atom S)) (bidders : List (Vec (Atom S) Global))
-    (parts : a ≡ plain_auction_of goods n ors bidders) where
-  pub bids_of_parts : (before begun bids : List PlainBid) (atoms : List (Atom S)) → before ≡ [] → atoms ≡ ors
-      → begun ≡ before ++ map (bid_from None) (atoms_of goods atoms) → bids ≡ begun ++ dummy_bids 0 (bidders_of goods bidders) → bids ≡ (file_from a).bids
-  bids_of_parts before begun bids atoms none same first more =
-      more
-      ∙ ap (λ (zs : List PlainBid). zs ++ dummy_bids 0 (bidders_of goods bidders))
-      (first ∙ ap₂ (λ (xs : List PlainBid) (ys : List (Atom S)). xs ++ map (bid_from None) (atoms_of goods ys)) none same)
-      ∙ ap (λ (x : PlainAuction). (file_from x).bids) (sym parts)
-
-  pub goods_of_parts : n ≡ a.goods
-  goods_of_parts = ap (λ (x : PlainAuction). x.goods) (sym parts)
-
-  pub count_of_parts : (count : ℕ) → count ≡ length bidders → count ≡ length a.xor_bidders
-  count_of_parts count e = e ∙ length-bidders goods bidders a.xor_bidders (ap (λ (x : PlainAuction). x.xor_bidders) (sym parts))

@@ -1,7 +1,6 @@
 -- What the calls answer, by what normalising a file or a text gives. Want of memory may come in the place of each
 -- answer.
-use Rattle.std.specs.Prelude.{◌≡◌, ◌⊎◌, ℕ, true, List, Result, Ok, Err, Option, Some, None, Vec}
-use Rattle.std.specs.Option.{unwrap_or}
+use Rattle.std.specs.Prelude.{◌≡◌, ◌⊎◌, ℕ, true, List, Result, Ok, Err, Some, None, Vec}
 use Rattle.std.specs.Global.{Global}
 use Rattle.bid_file.specs.Files.{PlainFile}
 use Rattle.bid_file.specs.Views.{plain_file}
@@ -20,11 +19,6 @@ abbrev pub RefusesAs : Normalised → CanonFault → Type 0
 RefusesAs expected (Read fault) = expected ≡ IsNoFile fault
 RefusesAs expected (StepLimit goods) = expected ≡ ExceedsSteps goods.items
 RefusesAs expected Memory = Unit {0}
-
--- the text, or why there is none
-abbrev pub NormalisesAs : Normalised → Result (Vec ℕ Global) CanonFault → Type 0
-NormalisesAs expected (Ok text) = expected ≡ IsText text.items
-NormalisesAs expected (Err fault) = RefusesAs expected fault
 
 -- ---- a text
 
@@ -70,8 +64,3 @@ plain_answer (Err fault) = Err fault
 
 abbrev pub NormalisesFileAs : ℕ → PlainFile → Result BidFile CanonFault → Type 0
 NormalisesFileAs limit f r = NormalisesPlainAs limit f (plain_answer r)
-
--- an answer of which the file is left out where it is this one
-abbrev pub or_known : PlainFile → Result (Option PlainFile) CanonFault → Result PlainFile CanonFault
-or_known known (Ok file) = Ok (unwrap_or file known)
-or_known known (Err fault) = Err fault

@@ -27,9 +27,9 @@ ghost use Rattle.canon.specs.Internal.TextPlaces.{place_of};
 
 use crate::added_files::AddedFiles;
 use crate::fault::CanonFault;
-use crate::text::normal_text;
+use crate::normal::normal_packed_file;
 use bid_file::PackedFile;
-use cats_text::{Watched, read_packed_from};
+use cats_text::{Watched, read_packed_from, write};
 use std::alloc::{AllocError, Global};
 use std::collections::HashMap;
 use std::io::Read;
@@ -85,7 +85,8 @@ impl AuctionIndex {
             return Err(CanonFault::Memory);
         };
         let added = AddedFiles::with(&self.added, &file);
-        let text = normal_text(alloc, file, limit)?;
+        let normal = normal_packed_file(alloc, file, limit)?;
+        let text = write(alloc, &normal)?;
         let place = place_text(&mut self.places, text, self.count)?;
         self.count = count;
         self.added = added;

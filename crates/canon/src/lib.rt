@@ -6,16 +6,15 @@ mod added_files;
 mod auction;
 mod auction_index;
 mod bid_order;
+mod bid_run;
 mod bundles;
 mod comparison;
-mod density;
 mod difference_laws;
 mod fault;
 mod file;
-mod fronted_bidder;
-mod known_file;
+mod keyed_bidder;
 pub mod laws;
-mod parting;
+mod normal;
 mod place_laws;
 mod text;
 mod verdict;
@@ -23,22 +22,19 @@ mod which;
 pub mod worked;
 pub mod worked_differences;
 pub mod worked_places;
-mod writing;
+mod xor_bidders;
 
 pub use auction::canonical;
 pub use auction_index::AuctionIndex;
-pub use comparison::{compare, compare_files, compare_packed_files};
-pub use density::has_sparse_bids;
+pub use comparison::{compare, compare_files};
 pub use difference_laws::{
     difference_is_a_point, difference_is_the_least_bidder, differences_exchanged,
     no_difference_of_the_same, same_auctions_have_one_difference,
 };
 pub use fault::CanonFault;
 pub use file::{file_of, packed_file_of};
+pub use normal::{normal_file, normal_packed_file};
 pub use place_laws::first_place_by_text;
-pub use text::{
-    into_normal_file, last_normal_file, last_normal_file_unless, normal_file, normal_text,
-    normalise,
-};
+pub use text::normalise;
 pub use verdict::{Side, Verdict};
 pub use which::Which;

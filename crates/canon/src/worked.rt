@@ -1,11 +1,9 @@
 //! Worked examples of the definitions, computed by the prover.
 
-ghost use Rattle.std.specs.Prelude.{◌≡◌, [], ◌∷◌, Ok, Err, Some, None};
+ghost use Rattle.std.specs.Prelude.{◌≡◌, [], ◌∷◌};
 ghost use Rattle.valuation.specs.Examples.{atom};
-ghost use Rattle.canon.specs.Answers.{or_known};
-ghost use Rattle.canon.specs.Canonical.{canonical_auction, file_from};
+ghost use Rattle.canon.specs.Canonical.{canonical_auction};
 ghost use Rattle.canon.specs.Examples.{auction};
-ghost use Rattle.canon.specs.declared.fault.CanonFault.TheVariants.{Memory};
 
 /// The canonical auction: points stay, zero bidders go, and equal bidders stay beside one another.
 #[tactic(auto, unfolding(prune::specs::Points::points_where, prune::specs::Points::is_xor_point, prune::specs::Points::is_or_point, valuation::specs::Values::xor_value, valuation::specs::Values::or_value))]
@@ -24,12 +22,4 @@ pub fn canonical_auctions()
     ensures bidders_sorted { canonical_auction
         (auction 2 [] ((atom (0 ∷ []) 2 ∷ atom (1 ∷ []) 1 ∷ []) ∷ (atom (0 ∷ []) 1 ∷ atom (1 ∷ []) 2 ∷ []) ∷ []))
         ≡ auction 2 [] ((atom (0 ∷ []) 1 ∷ atom (1 ∷ []) 2 ∷ []) ∷ (atom (0 ∷ []) 2 ∷ atom (1 ∷ []) 1 ∷ []) ∷ []) }
-{}
-
-/// An answer beside a known file: it stands for nothing that was answered, and a file or a fault stays as it is.
-pub fn known_files()
-    ensures left_out { or_known (file_from (auction 2 [] [])) (Ok None) ≡ Ok (file_from (auction 2 [] [])) }
-    ensures another { or_known (file_from (auction 2 [] [])) (Ok (Some (file_from (auction 3 [] []))))
-        ≡ Ok (file_from (auction 3 [] [])) }
-    ensures refused { or_known (file_from (auction 2 [] [])) (Err Memory) ≡ Err Memory }
 {}

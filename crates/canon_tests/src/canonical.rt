@@ -1,10 +1,9 @@
 //! Each public call once, with ample memory, on worked rows.
 
 use crate::refusals::{expect_line, refusal_text};
-use bid_file::{BidFile, PackedFile};
+use bid_file::{BidFile, Bids, PackedFile};
 use canon::{
-    CanonFault, canonical, file_of, into_normal_file, last_normal_file, last_normal_file_unless,
-    normal_file, normal_text, normalise, packed_file_of,
+    CanonFault, canonical, file_of, normal_file, normal_packed_file, normalise, packed_file_of,
 };
 use cats_text::{read, read_packed, write};
 use goods_set::{GoodsSet, ListSet, WordSet};
@@ -44,44 +43,9 @@ const FEW_OF_MANY: &str = "goods 1024\nbids 3\ndummy 0\n0\t3\t0\t#\n1\t4\t1\t#\n
 
 const FEW_OF_MANY_TEXT: &str = "goods 1024\nbids 2\ndummy 0\n0\t3\t0\t#\n1\t4\t1\t#\n";
 
-/// A known file, a file and its limit, and what is told. Where as many goods, dummy goods and bids are known, they differ
-/// in one price, bundle or dummy good alone.
-static KNOWN: [(&str, &str, u64, &str); 10] = [
-    (LARGER_BID_TEXT, LARGER_BID, 3, "known"),
-    (LARGER_BID_TEXT, LARGER_BID, 2, "steps [0, 1]"),
-    (LARGER_BID, LARGER_BID, 3, LARGER_BID_TEXT),
-    (
-        "goods 2\nbids 2\ndummy 0\n0\t3\t0\t#\n1\t5\t1\t#\n",
-        LARGER_BID,
-        3,
-        LARGER_BID_TEXT,
-    ),
-    (FEW_OF_MANY_TEXT, LARGER_BID, 3, LARGER_BID_TEXT),
-    (EQUAL_BIDDERS_TEXT, EQUAL_BIDDERS, 1, "known"),
-    (EQUAL_FRONTS_TEXT, EQUAL_FRONTS, 1, "known"),
-    (
-        "goods 2\nbids 4\ndummy 2\n0\t1\t0\t2\t#\n1\t2\t0\t1\t2\t#\n2\t1\t0\t2\t#\n3\t2\t0\t1\t3\t#\n",
-        EQUAL_BIDDERS,
-        1,
-        EQUAL_BIDDERS_TEXT,
-    ),
-    (FEW_OF_MANY_TEXT, FEW_OF_MANY, 3, "known"),
-    (
-        "goods 1024\nbids 2\ndummy 0\n0\t3\t0\t#\n1\t4\t2\t#\n",
-        FEW_OF_MANY,
-        3,
-        FEW_OF_MANY_TEXT,
-    ),
-];
-
 /// The bytes of a file, as a text.
-fn text_of(alloc: Global, file: &BidFile) -> Result<String, Fail> {
+fn text_of<B: Bids>(alloc: Global, file: &B) -> Result<String, Fail> {
     Ok(String::from_utf8(write(alloc, file)?)?)
-}
-
-/// The bytes of a packed file, as a text.
-fn packed_text_of(alloc: Global, file: &PackedFile) -> Result<String, Fail> {
-    text_of(alloc, &file.to_file(alloc)?)
 }
 
 /// The canonical auction of a file's auction, on this kind of sets.
@@ -117,11 +81,7 @@ fn expect_texts<S: GoodsSet>(
     text: &str,
 ) -> Result<(), Fail> {
     expect_line(rt, &text_of(alloc, &file_of(alloc, auction)?)?, text);
-    expect_line(
-        rt,
-        &packed_text_of(alloc, &packed_file_of(alloc, auction)?)?,
-        text,
-    );
+    expect_line(rt, &text_of(alloc, &packed_file_of(alloc, auction)?)?, text);
     Ok(())
 }
 
@@ -180,7 +140,7 @@ fn told_file(alloc: Global, answer: Result<BidFile, CanonFault>) -> Result<Strin
 /// The packed file that a call answered, as its text, or why there is none.
 fn told_packed_file(alloc: Global, answer: Result<PackedFile, CanonFault>) -> Result<String, Fail> {
     match answer {
-        Ok(file) => packed_text_of(alloc, &file),
+        Ok(file) => text_of(alloc, &file),
         Err(fault) => refusal_text(alloc, fault),
     }
 }
@@ -197,46 +157,15 @@ fn canonical_files(rt: HostRuntime) -> Result<(), Fail> {
 
 #[test]
 fn canonical_packed_files(rt: HostRuntime) -> Result<(), Fail> {
-    for (limit, expected) in &[(3, LARGER_BID_TEXT), (2, "steps [0, 1]")] {
-        let file = read_packed(rt.alloc(), LARGER_BID.as_bytes())?;
-        let answer = into_normal_file(rt.alloc(), file, *limit);
-        expect_line(&rt, &told_packed_file(rt.alloc(), answer)?, expected);
-        let file = read_packed(rt.alloc(), LARGER_BID.as_bytes())?;
-        let answer = last_normal_file(rt.alloc(), file, *limit);
-        expect_line(&rt, &told_packed_file(rt.alloc(), answer)?, expected);
-    }
-    Ok(())
-}
-
-/// The file that a call answered beside a known one, as its text, or that it is the known one, or why there is none.
-fn told_unless_known(
-    alloc: Global,
-    answer: Result<Option<PackedFile>, CanonFault>,
-) -> Result<String, Fail> {
-    match answer {
-        Ok(Some(file)) => packed_text_of(alloc, &file),
-        Ok(None) => Ok(String::from_str(alloc, "known")?),
-        Err(fault) => refusal_text(alloc, fault),
-    }
-}
-
-#[test]
-fn canonical_files_unless_known(rt: HostRuntime) -> Result<(), Fail> {
-    for (known, text, limit, expected) in &KNOWN {
-        let known = read_packed(rt.alloc(), known.as_bytes())?;
+    for (text, limit, expected) in &[
+        (LARGER_BID, 3, LARGER_BID_TEXT),
+        (LARGER_BID, 2, "steps [0, 1]"),
+        (FEW_OF_MANY, 3, FEW_OF_MANY_TEXT),
+        (EQUAL_FRONTS, 1, EQUAL_FRONTS_TEXT),
+    ] {
         let file = read_packed(rt.alloc(), text.as_bytes())?;
-        let answer = last_normal_file_unless(rt.alloc(), file, *limit, &known);
-        expect_line(&rt, &told_unless_known(rt.alloc(), answer)?, expected);
-    }
-    Ok(())
-}
-
-#[test]
-fn canonical_texts_of_files(rt: HostRuntime) -> Result<(), Fail> {
-    for (limit, expected) in &[(3, LARGER_BID_TEXT), (2, "steps [0, 1]")] {
-        let file = read_packed(rt.alloc(), LARGER_BID.as_bytes())?;
-        let answer = normal_text(rt.alloc(), file, *limit);
-        expect_told(&rt, rt.alloc(), answer, expected)?;
+        let answer = normal_packed_file(rt.alloc(), file, *limit);
+        expect_line(&rt, &told_packed_file(rt.alloc(), answer)?, expected);
     }
     Ok(())
 }

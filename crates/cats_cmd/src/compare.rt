@@ -1,15 +1,10 @@
-//! `cats compare`: whether two bid files are the same auction, and else where they part first.
+//! `cats compare`: whether two bid files are the same auction, and else their first difference.
 
 mod text;
 
 ghost use Rattle.std.specs.Prelude.{◌≡◌, false, IfOk};
-ghost use Rattle.std.specs.Option.{unwrap_or};
-ghost use Rattle.bid_file.specs.Files.{IsPlainFile};
 ghost use Rattle.cats_text.specs.Streams.{has_ended, has_failed};
-ghost use Rattle.valuation.specs.Auctions.{auction_from};
-ghost use Rattle.canon.specs.Answers.{or_known};
 ghost use Rattle.canon.specs.Canonical.{IsCanonicalFile};
-ghost use Rattle.canon.specs.Difference.{first_difference};
 ghost use Rattle.canon.specs.Verdicts.{plain_verdict};
 ghost use Rattle.cats_cmd.specs.Comparisons.{Compares, ReadsCanonical};
 ghost use Rattle.cats_cmd.specs.Internal.Differences.{SendsDifference};
@@ -19,20 +14,17 @@ ghost use Rattle.cats_cmd.specs.Statuses.{status_of_difference};
 use crate::report::{DIFFERENT, DONE, RunFault};
 use crate::run::{read_packed_file, send_text};
 use bid_file::PackedFile;
-use canon::{
-    CanonFault, Verdict, Which, compare_packed_files, into_normal_file, last_normal_file_unless,
-};
+use canon::{CanonFault, Verdict, Which, compare_files, normal_packed_file};
 use cats_text::Watched;
 use std::alloc::{AllocError, Global};
 use std::io::{Read, Write};
 use text::verdict_text;
 
-/// Reads and normalises the first file, and then the second, and sends whether they are the same auction, or where they
-/// part first. `limit` bounds the steps of each search that decides on a bundle of an OR bidder.
+/// Reads and normalises the first file, and then the second, and sends whether they are the same auction, or their
+/// first difference. `limit` bounds the steps of each search that decides on a bundle of an OR bidder.
 ///
 /// The status is 0 for the same auction, and 1 for a difference. A fault of a file tells which of the two it belongs
-/// to; want of memory that is met while the two are compared belongs to both. The memory of the second auction is left
-/// to the process's end.
+/// to; want of memory that is met while the two are compared belongs to both.
 pub fn run_compare<R: Read, S: Read, W: Write>(
     alloc: Global,
     first: &mut Watched<R>,
@@ -52,7 +44,7 @@ pub fn run_compare<R: Read, S: Read, W: Write>(
         Ok(file) => file,
         Err(fault) => return Err(RunFault::Refused(Which::First, fault)),
     };
-    let right = match read_last_canonical(alloc, second, limit, &left) {
+    let right = match read_canonical(alloc, second, limit) {
         Ok(file) => file,
         Err(fault) => return Err(RunFault::Refused(Which::Second, fault)),
     };
@@ -71,39 +63,20 @@ fn read_canonical<R: Read>(
     ensures canonical { IfOk result (λ file. IsCanonicalFile file) }
 {
     let file = read_packed_file(alloc, input)?;
-    into_normal_file(alloc, file, limit)
+    normal_packed_file(alloc, file, limit)
 }
 
-/// Reads the process's last bid file, and gives it up for its canonical file, or for nothing where that is found to be
-/// the known one. The memory of its auction is left to the process's end.
-fn read_last_canonical<R: Read>(
-    alloc: Global,
-    input: &mut Watched<R>,
-    limit: u64,
-    known: &PackedFile,
-) -> Result<Option<PackedFile>, CanonFault>
-    requires works { has_failed input.old ≡ false }
-    requires fresh { has_ended input.old ≡ false }
-    ensures answer { ReadsCanonical R.remaining limit input.old input.new (or_known known.now result) }
-    ensures canonical { IfOk (or_known known.now result) (λ file. IsCanonicalFile file) }
-{
-    let file = read_packed_file(alloc, input)?;
-    last_normal_file_unless(alloc, file, limit, known)
-}
-
-/// Sends what a file and another are found to be, or it and the same one if there is no other. Memory that is refused
-/// here belongs to both files.
+/// Sends where two canonical files part first. Memory that is refused here belongs to both files.
 fn send_difference<W: Write>(
     alloc: Global,
     left: &PackedFile,
-    right: &Option<PackedFile>,
+    right: &PackedFile,
     out: &mut Watched<W>,
 ) -> Result<u8, RunFault>
-    requires file { IsPlainFile left.now }
     requires left { IsCanonicalFile left.now }
-    requires right { IsCanonicalFile (unwrap_or right.now left.now) }
+    requires right { IsCanonicalFile right.now }
     requires works { has_failed out.old ≡ false }
-    ensures { SendsDifference W.contents left.now (unwrap_or right.now left.now) out.old out.new result }
+    ensures { SendsDifference W.contents left.now right.now out.old out.new result }
 {
     match difference_text(alloc, left, right) {
         Ok((status, text)) => send_text(out, status, text.as_slice()),
@@ -111,37 +84,18 @@ fn send_difference<W: Write>(
     }
 }
 
-/// The status and the text of a comparison with another file, or with the same one if there is no other.
+/// The status and the text of a comparison.
 fn difference_text(
     alloc: Global,
     left: &PackedFile,
-    right: &Option<PackedFile>,
+    right: &PackedFile,
 ) -> Result<(u8, Vec<u8>), AllocError>
-    requires file { IsPlainFile left.now }
     requires left { IsCanonicalFile left.now }
-    requires right { IsCanonicalFile (unwrap_or right.now left.now) }
-    ensures { IfOk result (λ t. compare_outcome left.now (unwrap_or right.now left.now) ≡ Tells t.0 t.1.items) }
+    requires right { IsCanonicalFile right.now }
+    ensures { IfOk result (λ t. compare_outcome left.now right.now ≡ Tells t.0 t.1.items) }
 {
-    let verdict = compare_with(alloc, left, right)?;
+    let verdict = compare_files(alloc, left, right)?;
     Ok((status_of(&verdict), verdict_text(alloc, &verdict)?))
-}
-
-/// Where a file and another part first, which is the same one where there is no other.
-fn compare_with(
-    alloc: Global,
-    left: &PackedFile,
-    right: &Option<PackedFile>,
-) -> Result<Verdict, AllocError>
-    requires file { IsPlainFile left.now }
-    requires left { IsCanonicalFile left.now }
-    requires right { IsCanonicalFile (unwrap_or right.now left.now) }
-    ensures { IfOk result (λ verdict. plain_verdict verdict
-        ≡ first_difference (auction_from left.now) (auction_from (unwrap_or right.now left.now))) }
-{
-    match right {
-        Some(right) => compare_packed_files(alloc, left, right),
-        None => Ok(Verdict::Same),
-    }
 }
 
 fn status_of(verdict: &Verdict) -> u8

@@ -7,13 +7,13 @@ ghost use Rattle.cats_cmd.specs.Runs.{RunsOnFile};
 
 use crate::report::RunFault;
 use crate::run::{read_packed_file, send_packed_file};
-use canon::last_normal_file;
+use canon::normal_packed_file;
 use cats_text::Watched;
 use std::alloc::Global;
 use std::io::{Read, Write};
 
 /// Reads a bid file, and sends the canonical text of its auction, a page at a time. `limit` bounds the steps of each
-/// search that decides on a bundle of the OR bidder. The memory of the auction is left to the process's end.
+/// search that decides on a bundle of the OR bidder.
 pub fn run_normalise<R: Read, W: Write>(
     alloc: Global,
     input: &mut Watched<R>,
@@ -26,6 +26,6 @@ pub fn run_normalise<R: Read, W: Write>(
     ensures { RunsOnFile R.remaining W.contents (normalise_outcome limit) input.old input.new out.old out.new result }
 {
     let file = read_packed_file(alloc, input)?;
-    let normal = last_normal_file(alloc, file, limit)?;
+    let normal = normal_packed_file(alloc, file, limit)?;
     send_packed_file(alloc, out, &normal)
 }

@@ -14,7 +14,7 @@ use crate::program::Stop;
 use crate::report::RunFault;
 use crate::run::read_packed_file;
 use crate::source::Source;
-use canon::{CanonFault, into_normal_file};
+use canon::{CanonFault, normal_packed_file};
 use cats_text::Watched;
 use count::{push_counts, push_sizes};
 use std::alloc::{AllocError, AllocGlobal, Global};
@@ -59,7 +59,7 @@ impl<'a> Collection<'a> for Table {
         };
         let mut line = Vec::new(alloc);
         push_sizes(alloc, &mut line, &file)?;
-        match into_normal_file(alloc, file, many.limit) {
+        match normal_packed_file(alloc, file, many.limit) {
             Ok(normal) => {
                 push_counts(alloc, &mut line, &normal)?;
                 push_line(&mut self.lines, line.as_slice(), path, many.ending)?;

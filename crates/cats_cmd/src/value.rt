@@ -17,14 +17,14 @@ use crate::report::{DONE, RunFault};
 use crate::run::{read_file, send_text};
 use bid_file::BidFile;
 use bundles::bundle_of;
-use canon::{CanonFault, has_sparse_bids};
+use canon::CanonFault;
 use cats_text::Watched;
-use goods_set::{GoodsSet, ListSet, goods_of, on_least_set};
+use goods_set::{GoodsSet, goods_of};
 use lines::{push_or_line, push_xor_lines};
 use numbers::bid_numbers;
 use std::alloc::Global;
 use std::io::{Read, Write};
-use valuation::{Auction, Packing, ValueFault, auction_of, or_value};
+use valuation::{Auction, Packing, ValueFault, auction_of, on_set_for, or_value};
 
 /// Reads a bid file, and sends what its bidders offer for the bundle of these goods: the OR value with the bids of one
 /// best packing, and each XOR bidder's value with the bid that gives it. `limit` bounds the packings that the search
@@ -69,10 +69,7 @@ fn text_on_sets(
     requires { missing_good (plain_file file.now).goods goods.now ≡ None }
     ensures { MakesAs (values_within limit (bundle_from goods.now) (plain_file file.now)) result }
 {
-    if has_sparse_bids(file) {
-        return text_of_values::<ListSet>(alloc, file, goods, limit);
-    }
-    on_least_set!(file.goods(), text_of_values(alloc, file, goods, limit))
+    on_set_for!(file, text_of_values(alloc, file, goods, limit))
 }
 
 /// The values of the bundle of these goods, as they are printed.

@@ -1,53 +1,38 @@
 //! The auction of a bid file.
 ghost use Rattle.std.specs.Prelude.{◌≡◌, ◌≤◌, [], length, replicate, vec_len, IfOk};
-ghost use Rattle.goods_set.specs.Bundles.{IsRising, AreBelow};
-ghost use Rattle.bid_file.specs.Views.{plain_file};
+ghost use Rattle.bid_file.specs.Files.{IsPlainFile};
 ghost use Rattle.valuation.specs.Auctions.{auction_from};
 ghost use Rattle.valuation.specs.Bidders.{bidders_of};
 ghost use Rattle.valuation.specs.Views.{plain_auction};
 
 use crate::atom::Atom;
 use crate::auction::Auction;
-use bid_file::{Bid, BidFile};
+use bid_file::Bids;
 use goods_set::GoodsSet;
 use std::alloc::{AllocError, Global};
 
-/// What a bid offers.
-fn atom_of<S: GoodsSet>(alloc: Global, bid: &Bid) -> Result<Atom<S>, AllocError>
-    requires rising { IsRising bid.now.goods.items }
-    requires below { AreBelow S.CAP bid.now.goods.items }
-    ensures bundle { IfOk result (λ a. S.goods a.bundle ≡ bid.now.goods.items) }
-    ensures price { IfOk result (λ a. a.price ≡ bid.now.price) }
+/// How many bids have no dummy good, and how many have each, so that no bidder's vector takes more memory than it has
+/// to. No file has so many that a count saturates.
+fn count_bids<B: Bids>(alloc: Global, file: &B) -> Result<(usize, Vec<usize>), AllocError>
+    requires { IsPlainFile (B.file file.now) }
+    ensures { IfOk result (λ counts. vec_len counts.1 ≡ (B.file file.now).dummy) }
 {
-    Ok(Atom {
-        bundle: S::from_slice(alloc, &bid.goods)?,
-        price: bid.price,
-    })
-}
-
-/// How many bids have no dummy good.
-fn count_or_bids(bids: &[Bid]) -> usize {
-    bids.iter().filter(|bid| bid.dummy.is_none()).count()
-}
-
-/// How many bids have each dummy good, so that no bidder's vector takes more memory than it has to. No file has so many
-/// that a count saturates.
-fn bids_of_dummies(alloc: Global, file: &BidFile) -> Result<Vec<usize>, AllocError>
-    ensures { IfOk result (λ counts. vec_len counts ≡ (plain_file file.now).dummy) }
-{
-    let bids = file.bids();
+    let mut without: usize = 0;
     let mut counts: Vec<usize> = vec![in alloc; 0; file.dummy() as usize]?;
-    for bid in bids {
-        if let Some(dummy) = bid.dummy {
-            let count = &mut counts[dummy as usize];
-            *count = count.saturating_add(1);
+    for number in 0..file.len() {
+        match file.at(number).dummy {
+            None => without = without.saturating_add(1),
+            Some(dummy) => {
+                let count = &mut counts[dummy as usize];
+                *count = count.saturating_add(1);
+            }
         }
     }
-    Ok(counts)
+    Ok((without, counts))
 }
 
-/// As many bidders without an atom, with room for so many atoms each.
-pub(crate) fn empty_bidders<S: GoodsSet>(
+/// As many bidders without an atom, with capacity for so many atoms each.
+fn empty_bidders<S: GoodsSet>(
     alloc: Global,
     counts: &[usize],
 ) -> Result<Vec<Vec<Atom<S>>>, AllocError>
@@ -60,19 +45,23 @@ pub(crate) fn empty_bidders<S: GoodsSet>(
     Ok(bidders)
 }
 
-/// The auction that a file stands for. The bids without a dummy good are the OR bidder's; those that share a dummy good
-/// are one XOR bidder's, even where there is only one, and a dummy good that no bid has is a bidder without an atom.
-/// The atoms are in the order of the bids' numbers.
-pub fn auction_of<S: GoodsSet>(alloc: Global, file: &BidFile) -> Result<Auction<S>, AllocError>
-    requires { (plain_file file.now).goods ≤ S.CAP }
-    ensures { IfOk result (λ a. plain_auction a ≡ auction_from (plain_file file.now)) }
+/// The auction of a file. The bids without a dummy good are the OR bidder's; those that share a dummy good are one XOR
+/// bidder's, even if there is only one, and a dummy good that no bid has is a bidder without an atom. The atoms are in
+/// the order of the bids' numbers.
+pub fn auction_of<S: GoodsSet, B: Bids>(alloc: Global, file: &B) -> Result<Auction<S>, AllocError>
+    requires { (B.file file.now).goods ≤ S.CAP }
+    ensures { IfOk result (λ a. plain_auction a ≡ auction_from (B.file file.now)) }
 {
-    let bids = file.bids();
-    let counts = bids_of_dummies(alloc, file)?;
-    let mut or_atoms = Vec::with_capacity(alloc, count_or_bids(bids))?;
+    let goods = file.goods();
+    let (without, counts) = count_bids(alloc, file)?;
+    let mut or_atoms = Vec::with_capacity(alloc, without)?;
     let mut xor_bidders = empty_bidders(alloc, &counts)?;
-    for bid in bids {
-        let atom = atom_of(alloc, bid)?;
+    for number in 0..file.len() {
+        let bid = file.at(number);
+        let atom = Atom {
+            bundle: S::from_slice(alloc, bid.goods)?,
+            price: bid.price,
+        };
         match bid.dummy {
             None => or_atoms.push(atom)?,
             Some(dummy) => {
@@ -81,5 +70,5 @@ pub fn auction_of<S: GoodsSet>(alloc: Global, file: &BidFile) -> Result<Auction<
             }
         }
     }
-    Ok(Auction::new(file.goods(), or_atoms, xor_bidders))
+    Ok(Auction::new(goods, or_atoms, xor_bidders))
 }

@@ -9,6 +9,7 @@ use Rattle.goods_set.specs.Bundles.{has_good, is_inside}
 use Rattle.goods_set.specs.Orders.{bundle_cmp}
 use Rattle.goods_set.specs.Fingerprints.{AreMarks}
 use Rattle.prune.specs.declared.posting.Posting.{Posting}
+use Rattle.prune.specs.declared.subset_index.SubsetIndex.{SubsetIndex}
 
 -- for each good what is listed there
 abbrev pub lists_of : List (Vec Posting) → List (List Posting)
@@ -18,9 +19,13 @@ lists_of vectors = map (λ v. v.items) vectors
 abbrev pub listed_at : List (List Posting) → ℕ → List Posting
 listed_at lists good = slice_index_or lists good []
 
+-- the places of listed atoms
+abbrev pub indices_of : List Posting → List ℕ
+indices_of postings = map (λ posting. posting.index) postings
+
 -- the places that are listed at a good
 abbrev pub places_at : List (List Posting) → ℕ → List ℕ
-places_at lists good = map (λ posting. posting.index) (listed_at lists good)
+places_at lists good = indices_of (listed_at lists good)
 
 -- the atom at a place
 abbrev pub atom_at : List (Atom (List ℕ)) → ℕ → Atom (List ℕ)
@@ -31,17 +36,17 @@ abbrev pub is_inside_at : List (Atom (List ℕ)) → List ℕ → ℕ → Bool
 is_inside_at atoms bundle place = is_inside (atom_at atoms place).bundle bundle
 
 -- whether the atom is inside the bundle and has at least the price
-abbrev pub covers : List ℕ → ℕ → Atom (List ℕ) → Bool
-covers bundle price a = nat_le price a.price && is_inside a.bundle bundle
+abbrev pub dominates : List ℕ → ℕ → Atom (List ℕ) → Bool
+dominates bundle price a = nat_le price a.price && is_inside a.bundle bundle
 
--- none of the atoms is covered by one before it
-abbrev pub AreUncovered : List (Atom (List ℕ)) → Type 0
-AreUncovered atoms = (place : ℕ) → place < length atoms
-    → list_any (covers (atom_at atoms place).bundle (atom_at atoms place).price) (take place atoms) ≡ false
+-- none of the atoms is dominated by one before it
+abbrev pub AreUndominated : List (Atom (List ℕ)) → Type 0
+AreUndominated atoms = (place : ℕ) → place < length atoms
+    → list_any (dominates (atom_at atoms place).bundle (atom_at atoms place).price) (take place atoms) ≡ false
 
 -- whether the atom at the place does
-abbrev pub covers_at : List (Atom (List ℕ)) → List ℕ → ℕ → ℕ → Bool
-covers_at atoms bundle price place = covers bundle price (atom_at atoms place)
+abbrev pub dominates_at : List (Atom (List ℕ)) → List ℕ → ℕ → ℕ → Bool
+dominates_at atoms bundle price place = dominates bundle price (atom_at atoms place)
 
 -- the place is listed at a good of the bundle
 pub record IsListed (lists : List (List Posting)) (bundle : List ℕ) (place : ℕ) : Type 0 where
@@ -69,6 +74,15 @@ pub record AreGoodsOf (goods : List ℕ) (atoms : List (Atom (List ℕ))) : Type
   pub long : length goods ≡ length atoms
   pub each : (place : ℕ) → place < length atoms → has_good (atom_at atoms place).bundle (slice_index_or goods place 0) ≡ true
 
+-- what an index lists at a good
+abbrev pub postings_of : SubsetIndex → ℕ → List Posting
+postings_of index good = listed_at (lists_of index.lists.items) good
+
+-- the index lists the first so many of the atoms, and has noted a good of each
+pub record IsIndexOf (atoms : List (Atom (List ℕ))) (index : SubsetIndex) : Type 0 where
+  pub listed : AreListed (lists_of index.lists.items) index.listed atoms
+  pub noted : AreGoodsOf index.goods.items atoms
+
 -- the bundle comes behind those of all atoms
 abbrev pub IsBehind : List ℕ → List (Atom (List ℕ)) → Type 0
 IsBehind bundle atoms = All (λ a. bundle_cmp a.bundle bundle ≡ Less) atoms
@@ -76,6 +90,10 @@ IsBehind bundle atoms = All (λ a. bundle_cmp a.bundle bundle ≡ Less) atoms
 -- none of the atoms from a place on is inside the bundle
 abbrev pub NoneInsideFrom : ℕ → List (Atom (List ℕ)) → List ℕ → Type 0
 NoneInsideFrom from atoms bundle = (place : ℕ) → from ≤ place → place < length atoms → is_inside_at atoms bundle place ≡ false
+
+-- none of the atoms that the index does not list is inside the bundle
+abbrev pub IsReadyFor : List ℕ → List (Atom (List ℕ)) → SubsetIndex → Type 0
+IsReadyFor bundle atoms index = NoneInsideFrom index.listed atoms bundle
 
 -- the atoms of a list inside a bundle
 abbrev pub atoms_inside : List (Atom (List ℕ)) → List ℕ → List (Atom (List ℕ))

@@ -6,5 +6,5 @@ returns-in_err-file c =
     normal_unread c.args.limit c.args.text.now c.in_err-file.field-0.0 c.in_err-file.ensures c.from_residual.result c.from_residual.ensures.1
 
 pub returns : goal.returns
-returns c = normal_from_file c.args.limit c.args.text.now c.in_ok-file.file c.in_ok-file.ensures c.into_normal_file.result
-    c.into_normal_file.ensures.answer
+returns c = normal_from_file c.args.limit c.args.text.now c.in_ok-file.file c.in_ok-file.ensures c.normal_packed_file.result
+    c.normal_packed_file.ensures.answer

@@ -7,19 +7,13 @@ use Rattle.valuation.specs.Values.{atoms_of}
 use Rattle.valuation.specs.Views.{plain_auction}
 use Rattle.valuation.specs.declared.atom.Atom.{Atom}
 use Rattle.canon.specs.Canonical.{bid_from, dummy_bids, file_from}
-use Rattle.canon.proofs.Files.{IsPlainFile-file_from}
 use Rattle.canon.proofs.Filing.{one_more_bidder, all_bidders, file_parts, file_limits, length-bidders}
 use Rattle.canon.proofs.file.packed_file_of.Goals as goal
-
-pub overflow_cast-count : goal.overflow_cast-count
-overflow_cast-count g c =
-    let most = (IsPlainFile-file_from g.S.GoodsSet.CAP (plain_auction c.args.auction.now) c.args.auction.now.facts).count in
-    record { fits = omega (arith, c.count_bids-count.ensures, most) }
 
 pub loop-dummy-init : goal.loop-dummy-init
 loop-dummy-init g c =
     ap₂ (λ (x : List PlainBid) (y : List (List (Atom (List _)))). x ++ dummy_bids 0 y)
-    (c.in_ok-push_offers.ensures ∙ ap (λ (zs : List PlainBid). zs ++ map (bid_from None) (atoms_of g.S.GoodsSet.goods c.or_atoms.result.now)) c.new-bids.ensures
+    (c.in_ok-push_bids.ensures ∙ ap (λ (zs : List PlainBid). zs ++ map (bid_from None) (atoms_of g.S.GoodsSet.goods c.or_atoms.result.now)) c.new-bids.ensures
     ∙ ap (map (bid_from None)) c.or_atoms.ensures)
     c.xor_bidders-bidders.ensures
 
@@ -31,9 +25,9 @@ overflow_cast-dummy g c =
 
 pub loop-dummy-preserved : goal.loop-dummy-preserved
 loop-dummy-preserved g c =
-    one_more_bidder g.S.GoodsSet.goods c.loop-dummy.bids c.push_offers-in-loop-dummy.new.bids c.xor_bidders-bidders.result.now c.loop-dummy.dummy
+    one_more_bidder g.S.GoodsSet.goods c.loop-dummy.bids c.push_bids-in-loop-dummy.new.bids c.xor_bidders-bidders.result.now c.loop-dummy.dummy
     c.index-bidders-dummy.result c.loop-dummy-test.true c.index-bidders-dummy.is
-    (c.in_ok-push_offers-2.ensures
+    (c.in_ok-push_bids-2.ensures
     ∙ ap (λ (zs : List _). c.loop-dummy.bids ++ map (bid_from (Some c.loop-dummy.dummy)) (atoms_of g.S.GoodsSet.goods zs)) c.as_slice-atoms.ensures.value)
     ∙ c.loop-dummy.invariant
 

@@ -1,89 +1,92 @@
 -- Each turn of the loop puts one atom at its place (proofs/Placing), and what was placed from all bids is the auction of the file,
 -- whose limits follow from those of the file.
 use Rattle.std.proofs.Common.{arith, ◌≡◌, ◌<◌, length, take, refl, sym, ap, ◌∙◌}
+use Rattle.std.proofs.lemmas.Option.{get_or_from_slice_get, slice_get_within}
 use Rattle.goods_set.specs.Lemmas.Members.{AreBelow-higher}
-use Rattle.bid_file.specs.Files.{plain_bid, plain_bids}
-use Rattle.bid_file.specs.Views.{plain_file}
-use Rattle.std.proofs.lemmas.List.{length-map}
+use Rattle.bid_file.specs.Files.{PlainBid, PlainFile}
+use Rattle.bid_file.specs.Views.{seen_bid}
+use Rattle.valuation.specs.declared.atom.Atom.{Atom}
 use Rattle.valuation.specs.Values.{atoms_of}
-use Rattle.valuation.specs.Lemmas.AuctionsOfFiles.{rising-from, below-from, plain_bid_at, IsBid-at, or_atoms_of-same, xor_bidders-same, IsAuction-auction_from}
+use Rattle.valuation.specs.Lemmas.AuctionsOfFiles.{rising-from, below-from, IsBid-there, or_atoms_of-same, xor_bidders-same, IsAuction-auction_from}
 use Rattle.valuation.proofs.Placing.{place-or, place-xor, placed, no_bids, length-bidders_of}
 use Rattle.valuation.proofs.from_file.auction_of.Goals as goal
 use Rattle.valuation.proofs.from_file.auction_of.Goals.{in-None+in_ok-push-in-None, in-Some+in_ok-push-in-Some}
 
-pub loop-bid-init : goal.loop-bid-init
-loop-bid-init g c =
-    let counted : length c.deref.result.now ≡ c.args.file.now.dummy = omega (
+pub loop-number-init : goal.loop-number-init
+loop-number-init g c =
+    let file : PlainFile = g.B.Bids.file c.args.file.now in
+    let counted : length c.deref.result.now ≡ file.dummy = omega (
       arith,
       ap length c.deref.ensures.value,
-      c.in_ok-counts.ensures,
-      c.in_ok-counts.counts.ok.0,
+      c.in_ok-without.ensures,
+      c.in_ok-without.counts.ok.0,
     ) in
     record {
       or = ap (atoms_of g.S.GoodsSet.goods) c.in_ok-or_atoms.ensures.items;
-      xor = c.in_ok-xor_bidders.ensures ∙ rw counted (no_bids 0 c.args.file.now.dummy);
+      xor = c.in_ok-xor_bidders.ensures ∙ rw counted (no_bids 0 file.dummy);
     }
 
-pub atom_of-requires-clause-rising : goal.atom_of-requires-clause-rising
-atom_of-requires-clause-rising g c =
-    let facts = c.args.file.now.facts in
-    let bid = IsBid-at c.args.file.now.goods c.args.file.now.dummy c.bids-bids.result.now c.loop-bid.bid-index c.bid-item.result c.loop-bid-test.true
-    c.bid-item.is (rw c.bids-bids.ensures facts.each) in
-    rising-from c.bid-item.result.goods.items bid.rising
+pub from_slice-requires-clause-rising : goal.from_slice-requires-clause-rising
+from_slice-requires-clause-rising g c =
+    let file : PlainFile = g.B.Bids.file c.args.file.now in
+    let bid : PlainBid = seen_bid c.at-bid.result in
+    let facts = IsBid-there file.goods file.dummy file.bids c.loop-number.number bid c.goods-goods.ensures.file.each c.at-bid.ensures in
+    rising-from bid.goods facts.rising
 
-pub atom_of-requires-clause-below : goal.atom_of-requires-clause-below
-atom_of-requires-clause-below g c =
-    let facts = c.args.file.now.facts in
-    let bid = IsBid-at c.args.file.now.goods c.args.file.now.dummy c.bids-bids.result.now c.loop-bid.bid-index c.bid-item.result c.loop-bid-test.true
-    c.bid-item.is (rw c.bids-bids.ensures facts.each) in
-    AreBelow-higher _ _ c.bid-item.result.goods.items c.requires (below-from _ c.bid-item.result.goods.items bid.below)
+pub from_slice-requires-clause-below : goal.from_slice-requires-clause-below
+from_slice-requires-clause-below g c =
+    let file : PlainFile = g.B.Bids.file c.args.file.now in
+    let bid : PlainBid = seen_bid c.at-bid.result in
+    let facts = IsBid-there file.goods file.dummy file.bids c.loop-number.number bid c.goods-goods.ensures.file.each c.at-bid.ensures in
+    AreBelow-higher _ _ bid.goods c.requires (below-from _ bid.goods facts.below)
 
 pub index_mut-bidder-requires : goal.index_mut-bidder-requires
 index_mut-bidder-requires g c =
-    let facts = c.args.file.now.facts in
-    let bid = IsBid-at c.args.file.now.goods c.args.file.now.dummy c.bids-bids.result.now c.loop-bid.bid-index c.bid-item.result c.loop-bid-test.true
-    c.bid-item.is (rw c.bids-bids.ensures facts.each) in
-    let below : c.in-Some.dummy < c.args.file.now.dummy = rw c.in-Some.is at bid.dummy in
-    let long = length-bidders_of g.S.GoodsSet.goods c.loop-bid.xor_bidders.items (take c.loop-bid.bid-index (plain_bids c.bids-bids.result.now))
-    c.args.file.now.dummy c.loop-bid.invariant.xor in
-    omega (arith, c.loop-bid.xor_bidders.ok.0)
+    let file : PlainFile = g.B.Bids.file c.args.file.now in
+    let bid : PlainBid = seen_bid c.at-bid.result in
+    let facts = IsBid-there file.goods file.dummy file.bids c.loop-number.number bid c.goods-goods.ensures.file.each c.at-bid.ensures in
+    let below : c.in-Some.dummy < file.dummy = rw c.in-Some.is at facts.dummy in
+    let long = length-bidders_of g.S.GoodsSet.goods c.loop-number.xor_bidders.items (take c.loop-number.number file.bids) file.dummy
+    c.loop-number.invariant.xor in
+    omega (arith, c.loop-number.xor_bidders.ok.0)
 
-pub loop-bid-preserved : goal.loop-bid-preserved
-loop-bid-preserved g c =
+pub loop-number-preserved : goal.loop-number-preserved
+loop-number-preserved g c =
     let goods = g.S.GoodsSet.goods in
-    let bids = plain_bids c.bids-bids.result.now in
-    let i = c.loop-bid.bid-index in
-    let b = plain_bid c.bid-item.result in
-    let here = plain_bid_at c.bids-bids.result.now i c.bid-item.result c.loop-bid-test.true c.bid-item.is in
-    let in_list : i < length bids = omega (arith, length-map c.bids-bids.result.now plain_bid, c.loop-bid-test.true) in
-    let atom = c.in_ok-atom.ensures in
-    let facts = c.args.file.now.facts in
-    let bid = IsBid-at c.args.file.now.goods c.args.file.now.dummy c.bids-bids.result.now i c.bid-item.result c.loop-bid-test.true c.bid-item.is
-    (rw c.bids-bids.ensures facts.each) in
+    let file : PlainFile = g.B.Bids.file c.args.file.now in
+    let bids = file.bids in
+    let i = c.loop-number.number in
+    let bid : PlainBid = seen_bid c.at-bid.result in
+    let facts = IsBid-there file.goods file.dummy bids i bid c.goods-goods.ensures.file.each c.at-bid.ensures in
+    let here = get_or_from_slice_get bids i bid bid c.at-bid.ensures in
+    let in_list = slice_get_within bids i bid c.at-bid.ensures in
+    let atom : Atom _ = record { bundle = c.in_ok-from_slice.field-0; price = c.at-bid.result.price } in
+    let bundle = c.in_ok-from_slice.ensures in
     elim c.match-bid.branch [
       | in-None+in_ok-push-in-None w ↦
           record {
-            or = rw w.or_atoms-is (place-or goods bids i b in_list here c.in_ok-atom.atom atom.bundle atom.price _ _ w.in-None.is c.loop-bid.invariant.or
+            or = rw w.or_atoms-is (place-or goods bids i bid in_list here atom bundle refl _ _ w.in-None.is c.loop-number.invariant.or
                 w.in_ok-push-in-None.ensures.items);
-            xor = rw w.xor_bidders-is (c.loop-bid.invariant.xor ∙ sym (xor_bidders-same bids i b in_list here w.in-None.is _));
+            xor = rw w.xor_bidders-is (c.loop-number.invariant.xor ∙ sym (xor_bidders-same bids i bid in_list here w.in-None.is _));
           }
       | in-Some+in_ok-push-in-Some w ↦
-          let below : w.in-Some.dummy < c.args.file.now.dummy = rw w.in-Some.is at bid.dummy in
+          let below : w.in-Some.dummy < file.dummy = rw w.in-Some.is at facts.dummy in
           record {
-            or = rw w.or_atoms-is (c.loop-bid.invariant.or ∙ sym (or_atoms_of-same bids i b in_list here w.in-Some.dummy w.in-Some.is));
-            xor = rw w.xor_bidders-is (place-xor goods bids i b in_list here c.in_ok-atom.atom atom.bundle atom.price c.loop-bid.xor_bidders.items _
-                w.index_mut-bidder.result.now _ w.in-Some.dummy c.args.file.now.dummy w.in-Some.is below c.loop-bid.invariant.xor
+            or = rw w.or_atoms-is (c.loop-number.invariant.or ∙ sym (or_atoms_of-same bids i bid in_list here w.in-Some.dummy w.in-Some.is));
+            xor = rw w.xor_bidders-is (place-xor goods bids i bid in_list here atom bundle refl c.loop-number.xor_bidders.items _
+                w.index_mut-bidder.result.now _ w.in-Some.dummy file.dummy w.in-Some.is below c.loop-number.invariant.xor
                 w.index_mut-bidder.ensures.value w.in_ok-push-in-Some.ensures.items refl);
           }
     ]
 
 pub new-requires : goal.new-requires
 new-requires g c =
-    let all = IsAuction-auction_from g.S.GoodsSet.CAP (plain_file c.args.file.now) c.args.file.now.facts c.requires in
-    let same = placed g.S.GoodsSet.goods (plain_file c.args.file.now) (plain_bids c.bids-bids.result.now) c.loop-bid.bid-index c.goods.result
-    c.loop-bid.or_atoms.items c.loop-bid.xor_bidders.items c.bids-bids.ensures (omega (
+    let file : PlainFile = g.B.Bids.file c.args.file.now in
+    let all = IsAuction-auction_from g.S.GoodsSet.CAP file c.goods-goods.ensures.file c.requires in
+    let same = placed g.S.GoodsSet.goods file file.bids c.loop-number.number c.goods-goods.result
+    c.loop-number.or_atoms.items c.loop-number.xor_bidders.items refl (omega (
       arith,
-      length-map c.bids-bids.result.now plain_bid,
-      c.loop-bid-test.false,
-    )) c.goods.ensures c.loop-bid.invariant.or c.loop-bid.invariant.xor in
+      c.len-number-end.ensures,
+      c.loop-number-test.false,
+    )) c.goods-goods.ensures.value c.loop-number.invariant.or c.loop-number.invariant.xor in
     rw same all

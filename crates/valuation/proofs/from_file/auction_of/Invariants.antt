@@ -1,18 +1,17 @@
 use Rattle.std.proofs.Common.{◌≡◌, map, take}
 use Rattle.std.specs.List.{range_with_len}
-use Rattle.bid_file.specs.Files.{plain_bids}
-use Rattle.bid_file.specs.Views.{plain_file}
 use Rattle.valuation.specs.Values.{atoms_of}
 use Rattle.valuation.specs.Auctions.{or_atoms_of, xor_atoms_of}
 use Rattle.valuation.specs.Bidders.{bidders_of}
 use Rattle.valuation.proofs.from_file.auction_of.Given as goal
 
 -- the atoms of the bids so far are there
-abbrev pub invariant-loop-bid : goal.invariant-loop-bid
-invariant-loop-bid g l =
+abbrev pub invariant-loop-number : goal.invariant-loop-number
+invariant-loop-number g l =
     let goods = g.S.GoodsSet.goods in
-    let bids = take l.bid-index (plain_bids l.bids) in
+    let file = g.B.Bids.file l.file in
+    let bids = take l.number file.bids in
     record {
       or : atoms_of goods l.or_atoms.items ≡ or_atoms_of bids;
-      xor : bidders_of goods l.xor_bidders.items ≡ map (xor_atoms_of bids) (range_with_len 0 (plain_file l.file).dummy);
+      xor : bidders_of goods l.xor_bidders.items ≡ map (xor_atoms_of bids) (range_with_len 0 file.dummy);
     }

@@ -10,18 +10,18 @@ returns-in-Err g c =
     (table_unread c.args.many.ending g.R.Read.remaining c.args.many.limit _ _ _ c.args.self.now c.args.self.now c.args.self.now.lines.items c.args.self.now.lines.items
     c.args.path.now (λ js h. h) (λ js h. h) refl c.in-Err.fault c.in-Err.ensures)
 
-pub returns-in-Ok-into_normal_file : goal.returns-in-Ok-into_normal_file
-returns-in-Ok-into_normal_file g c =
+pub returns-in-Ok-normal_packed_file : goal.returns-in-Ok-normal_packed_file
+returns-in-Ok-normal_packed_file g c =
     let file = c.in-Ok.file in
-    let normal = c.in-Ok-into_normal_file.ensures.answer in
+    let normal = c.in-Ok-normal_packed_file.ensures.answer in
     table_judged c.args.many.ending g.R.Read.remaining c.args.many.limit _ _ _ c.args.self.now _ c.args.self.now.lines.items c.push_line.new.lines.items c.args.path.now (λ js h. h)
     (λ js h. h) file c.in-Ok.ensures normal.light
     (line_made c.args.many.ending c.args.self.now.lines.items c.push_line.new.lines.items c.args.path.now c.as_slice.result.now _
     (numbers_made _ _ _ c.as_slice.result.now (with_tabs (sizes_of file)) (with_tabs (counts_of (canonical_file file))) c.new-line.ensures.items
     c.in_ok-push_sizes.ensures
-    (c.in_ok-push_counts-in-Ok-into_normal_file.ensures ∙ ap (λ f. c.push_sizes.new.text.items ++ with_tabs (counts_of f)) normal.canonical)
+    (c.in_ok-push_counts-in-Ok-normal_packed_file.ensures ∙ ap (λ f. c.push_sizes.new.text.items ++ with_tabs (counts_of f)) normal.canonical)
     c.as_slice.ensures.value)
-    c.in_ok-push_line-in-Ok-into_normal_file.ensures)
+    c.in_ok-push_line-in-Ok-normal_packed_file.ensures)
 
 pub returns-in-Err-StepLimit : goal.returns-in-Err-StepLimit
 returns-in-Err-StepLimit g c =
@@ -39,6 +39,6 @@ returns-in-Err-StepLimit g c =
 
 pub returns : goal.returns
 returns g c =
-    rw c.from-in-Err-into_normal_file.ensures
+    rw c.from-in-Err-normal_packed_file.ensures
     (table_unmade c.args.many.ending g.R.Read.remaining c.args.many.limit _ _ _ c.args.self.now c.args.self.now c.args.self.now.lines.items c.args.self.now.lines.items
     c.args.path.now (λ js h. h) (λ js h. h) c.in-Ok.file c.in-Ok.ensures refl)

@@ -1,0 +1,82 @@
+//! The canonical file of a file.
+
+ghost use Rattle.std.specs.Prelude.{◌≡◌, ◌≤◌, None, IfOk, IfErr, OnOk};
+ghost use Rattle.bid_file.specs.Views.{plain_file};
+ghost use Rattle.valuation.specs.Views.{plain_auction};
+ghost use Rattle.prune.specs.SearchSteps.{first_heavy};
+ghost use Rattle.canon.specs.Answers.{NormalisesFileAs, NormalisesPlainAs, RefusesAuction};
+ghost use Rattle.canon.specs.Canonical.{IsCanonical, IsCanonicalFile, canonical_auction};
+ghost use Rattle.canon.specs.Least.{IsLeastFor};
+ghost use Rattle.canon.specs.Sameness.{AreSameFiles};
+
+use crate::auction::canonical;
+use crate::fault::CanonFault;
+use crate::file::packed_file_of;
+use bid_file::{BidFile, PackedFile, pack};
+use goods_set::{GoodsSet, goods_of};
+use prune::PruneFault;
+use std::alloc::Global;
+use std::mem;
+use valuation::{Auction, auction_of, on_set_for};
+
+/// The canonical file of a file: the file of its canonical auction. `limit` bounds each search that decides on a bundle
+/// of the OR bidder.
+pub fn normal_file(alloc: Global, file: &BidFile, limit: u64) -> Result<BidFile, CanonFault>
+    ensures answer { NormalisesFileAs limit (plain_file file.now) result }
+    ensures same { IfOk result (λ h. AreSameFiles (plain_file file.now) (plain_file h)) }
+    ensures canonical { IfOk result (λ h. IsCanonicalFile (plain_file h)) }
+    ensures least { IfOk result (λ h. IsLeastFor (plain_file file.now) (plain_file h)) }
+{
+    let packed = pack(alloc, file)?;
+    let normal = normal_packed_file(alloc, packed, limit)?;
+    Ok(normal.to_file(alloc)?)
+}
+
+/// The canonical file of a packed file, as `normal_file`. The file is given up before its auction is made canonical.
+pub fn normal_packed_file(
+    alloc: Global,
+    file: PackedFile,
+    limit: u64,
+) -> Result<PackedFile, CanonFault>
+    ensures answer { NormalisesPlainAs limit file result }
+    ensures canonical { IfOk result (λ h. IsCanonicalFile h) }
+{
+    on_set_for!(&file, normal_file_on(alloc, file, limit))
+}
+
+/// The canonical file of a packed file, by sets of one kind.
+fn normal_file_on<S: GoodsSet>(
+    alloc: Global,
+    file: PackedFile,
+    limit: u64,
+) -> Result<PackedFile, CanonFault>
+    requires { file.goods ≤ S.CAP }
+    ensures answer { NormalisesPlainAs limit file result }
+    ensures canonical { IfOk result (λ h. IsCanonicalFile h) }
+{
+    let auction: Auction<S> = auction_of(alloc, &file)?;
+    mem::drop(file);
+    let canonical = light_canonical(alloc, auction, limit)?;
+    Ok(packed_file_of(alloc, &canonical)?)
+}
+
+/// The canonical auction, if no bundle is heavy.
+fn light_canonical<S: GoodsSet>(
+    alloc: Global,
+    auction: Auction<S>,
+    limit: u64,
+) -> Result<Auction<S>, CanonFault>
+    ensures canonical { IfOk result (λ c. plain_auction c ≡ canonical_auction (plain_auction auction)) }
+    ensures fixed { IfOk result (λ c. IsCanonical (plain_auction c)) }
+    ensures light { let a = plain_auction auction in
+        OnOk result (first_heavy a.goods limit a.or_atoms ≡ None) }
+    ensures refused { IfErr result (λ fault. RefusesAuction limit (plain_auction auction) fault) }
+{
+    match canonical(alloc, auction, limit) {
+        Ok(canonical) => Ok(canonical),
+        Err(PruneFault::StepLimit { bundle }) => Err(CanonFault::StepLimit {
+            goods: goods_of(alloc, &bundle)?,
+        }),
+        Err(PruneFault::Memory) => Err(CanonFault::Memory),
+    }
+}
