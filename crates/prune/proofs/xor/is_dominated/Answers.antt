@@ -1,5 +1,5 @@
 use Rattle.std.proofs.Common.{rules}
-use Rattle.prune.proofs.xor.is_covered.Goals as goal
+use Rattle.prune.proofs.xor.is_dominated.Goals as goal
 
 pub returns-then-has_inside-clause-answer : goal.returns-then-has_inside-clause-answer
 returns-then-has_inside-clause-answer g c = search rules

@@ -10,7 +10,7 @@ use Rattle.prune.specs.SearchSteps.{cut_steps}
 use Rattle.prune.proofs.PruningLoop.{nonempty_inside, inside_bundle, too_low}
 use Rattle.prune.proofs.ReachingLevels.{or_value-all_prices}
 use Rattle.valuation.proofs.BestPackingLevels.{spent}
-use Rattle.prune.proofs.or.is_outbid.Goals as goal
+use Rattle.prune.proofs.or.is_dominated.Goals as goal
 
 pub is_reached-requires-clause-some : goal.is_reached-requires-clause-some
 is_reached-requires-clause-some g c =

@@ -6,7 +6,7 @@ use Rattle.valuation.specs.Values.{atoms_of}
 use Rattle.valuation.specs.Lemmas.Atoms.{get_or-atoms_of, length-atoms_of}
 use Rattle.prune.specs.Internal.Listings.{atom_at, is_inside_at}
 use Rattle.prune.proofs.ListedAtoms.{not_inside}
-use Rattle.prune.proofs.subset_index.is_covering.Goals as goal
+use Rattle.prune.proofs.subset_index.is_dominating.Goals as goal
 
 pub returns-then-not-may_be_subset : goal.returns-then-not-may_be_subset
 returns-then-not-may_be_subset g c =
