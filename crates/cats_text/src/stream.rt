@@ -7,15 +7,12 @@ ghost use Rattle.std.specs.Prelude.{
   ◌≢◌,
   ◌||◌,
   false,
-  true,
   IsTrue,
   IsErr,
   is_err,
   IfErr,
   [],
   None,
-  Ok,
-  codes,
 };
 ghost use Rattle.std.specs.Io.{ReadsAtMost, WritesAtMost};
 ghost use Rattle.std.specs.Io.KnownBytes.{Consumes, Keeps, ReadConsumes, WriteAppends};
@@ -242,14 +239,3 @@ fn device_failed() -> ReadFault
 
 /// How many bytes are read at once.
 const PIECE: usize = 65_536;
-
-/// What a call's answer tells of a device, on worked answers: a call that moves nothing of a piece that is not empty
-/// ends a reader and fails a writer, and an empty piece tells nothing.
-pub fn answers_of_devices()
-    ensures nothing { moved_nothing (Ok 0) (codes "x") ≡ true }
-    ensures something { moved_nothing (Ok 1) (codes "xy") ≡ false }
-    ensures empty_piece { moved_nothing (Ok 0) [] ≡ false }
-    ensures refused { failed_to_write (Ok 0) (codes "x") ≡ true }
-    ensures taken { failed_to_write (Ok 2) (codes "xy") ≡ false }
-    ensures empty_write { failed_to_write (Ok 0) [] ≡ false }
-{}

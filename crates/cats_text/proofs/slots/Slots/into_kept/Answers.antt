@@ -1,33 +1,21 @@
-use Rattle.std.proofs.Common.{◌∙◌, ◌++◌, ◌∷◌, [], ℕ, List, Option, Some, map, sym, ap, append-nil}
-use Rattle.bid_file.specs.declared.bid.Bid.{Bid}
-use Rattle.bid_file.specs.Files.{PlainBid, plain_bid}
-use Rattle.cats_text.specs.Internal.Kept.{plain_slots, plain_slot}
-use Rattle.cats_text.specs.FileLines.{filled}
-use Rattle.std.specs.Option.{option_to_list}
-use Rattle.cats_text.proofs.Parsing.BidsByNumber.{filled-front, filled_more}
+use Rattle.std.proofs.Common.{◌≡◌, ◌<◌, ◌-◌, length, arith, rules, refl}
+use Rattle.std.proofs.lemmas.Grind.{common_steps}
+use Rattle.cats_text.proofs.Parsing.BidsByNumber.{filled_all, kept_none, kept_more}
 use Rattle.cats_text.proofs.slots.Slots.into_kept.Goals as goal
 
-pub loop-slot-init : goal.loop-slot-init
-loop-slot-init g c = filled-front _
+pub returns-then-is_empty-clause-bids : goal.returns-then-is_empty-clause-bids
+returns-then-is_empty-clause-bids g c =
+    let none : length c.self.inside.places.items ≡ 0 = first_of (search rules, grind (arith, common_steps)) in
+    rw (← c.self.view_is) (filled_all (g.K.Keep.bids c.self.inside.came) c.self.inside.places.items none)
 
-pub loop-slot-preserved-in-Some-slot : goal.loop-slot-preserved-in-Some-slot
-loop-slot-preserved-in-Some-slot g c =
-    let keep = g.K.Keep.keep in
-    let front : List PlainBid = g.K.Keep.bids c.self.inside.in_order in
-    let sofar : List PlainBid = filled (map (λ b. Some b) front ++ plain_slots keep c.loop-slot.yielded) in
-    let same : List ℕ → PlainBid = λ gs. record { price = c.in-Some-slot.bid.price; goods = gs; dummy = c.in-Some-slot.bid.dummy } in
-    c.in_ok-add.ensures
-    ∙ ap (λ (gs : List ℕ). g.K.Keep.bids c.loop-slot.in_order ++ keep (same gs) ∷ []) c.as_slice.ensures.value
-    ∙ ap (λ (bs : List PlainBid). bs ++ keep (plain_bid c.in-Some-slot.bid) ∷ []) c.loop-slot.invariant
-    ∙ ap (λ (s : Option Bid). sofar ++ option_to_list (plain_slot keep s)) (sym c.in-Some-slot.is)
-    ∙ sym (filled_more keep front c.loop-slot.yielded c.in-Some.slot)
+pub loop-place-preserved-in-Continue-1 : goal.loop-place-preserved-in-Continue-1
+loop-place-preserved-in-Continue-1 g c =
+    let came = g.K.Keep.bids c.self.inside.came in
+    let there : c.in-Some.place - 1 < length came = search rules in
+    kept_more came (g.K.Keep.bids c.loop-place.kept) (g.K.Keep.bids c.add_from.new.self) c.loop-place.yielded c.in-Some.place (c.in-Some.place - 1)
+    c.loop-place.invariant c.if-place-gt0.true refl there c.in_ok-add_from.ensures
 
-pub loop-slot-preserved : goal.loop-slot-preserved
-loop-slot-preserved g c =
-    let keep = g.K.Keep.keep in
-    let front : List PlainBid = g.K.Keep.bids c.self.inside.in_order in
-    let sofar : List PlainBid = filled (map (λ b. Some b) front ++ plain_slots keep c.loop-slot.yielded) in
-    c.loop-slot.invariant
-    ∙ sym (append-nil sofar)
-    ∙ ap (λ (s : Option Bid). sofar ++ option_to_list (plain_slot keep s)) (sym c.in_default.is)
-    ∙ sym (filled_more keep front c.loop-slot.yielded c.in-Some.slot)
+pub loop-place-preserved : goal.loop-place-preserved
+loop-place-preserved g c =
+    kept_none (g.K.Keep.bids c.self.inside.came) (g.K.Keep.bids c.loop-place.kept) c.loop-place.yielded c.in-Some.place c.loop-place.invariant
+    (omega (arith, c.if-place-gt0.false))

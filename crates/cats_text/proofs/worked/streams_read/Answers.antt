@@ -1,7 +1,7 @@
 use Rattle.std.proofs.Common.{refl, codes}
 use Rattle.cats_text.specs.FileLines.{spelled_file}
 use Rattle.cats_text.proofs.Spelling.Files.{spells_from_no_fault}
-use Rattle.cats_text.proofs.worked_streams.streams_read.Goals as goal
+use Rattle.cats_text.proofs.worked.streams_read.Goals as goal
 
 pub returns-clause-file : goal.returns-clause-file
 returns-clause-file c = record {
