@@ -251,3 +251,12 @@ kept_more came kept next places (suc i) j e some at l more =
 pub on_ok : {A E : Type 0} (r : Result A E) (P Q : Type 0) → (P → Q) → OnOk r P → OnOk r Q
 on_ok (Ok x) P Q f h = f h
 on_ok (Err e) P Q f h = tt
+
+-- each of many that are the same
+pub same_bid : (count i : ℕ) (x bid : PlainBid) → slice_get (replicate count x) i ≡ Some bid → bid ≡ x
+same_bid zero i x bid e = cc
+same_bid (suc count) zero x bid e = sym (same_some x bid e)
+  where
+    same_some : (a b : PlainBid) → Some a ≡ Some b → a ≡ b
+    same_some a b q = cc
+same_bid (suc count) (suc i) x bid e = same_bid count i x bid e

@@ -1,4 +1,4 @@
-use Rattle.std.proofs.Common.{◌≡◌, ℕ, length, sym, arith, rules}
+use Rattle.std.proofs.Common.{◌≡◌, ◌≤◌, length, sym, arith, rules}
 use Rattle.std.proofs.lemmas.Grind.{common_steps}
 use Rattle.cats_text.specs.Internal.Kept.{AreWithin}
 use Rattle.cats_text.proofs.Parsing.BidsByNumber.{numbered, none_numbered, next_numbered, all_listed, listed, within_numbered}
@@ -11,8 +11,8 @@ loop-places-init c =
 
 pub loop-places-preserved : goal.loop-places-preserved
 loop-places-preserved c = record {
-  numbers = next_numbered c.loop-places.places.items c.push.new.self.items _ c.loop-places.invariant.numbers ? c.in_ok-push.ensures.items;
-  within = ?;
+  numbers = next_numbered c.loop-places.places.items c.push.new.self.items _ c.loop-places.invariant.numbers (first_of (search rules, grind (arith, common_steps))) c.in_ok-push.ensures.items;
+  within = first_of (search rules, grind (arith, common_steps));
 }
 
 pub returns-in_err-push-clause-within : goal.returns-in_err-push-clause-within
@@ -26,4 +26,5 @@ returns-clause-within c = λ all. rw c.loop-places.invariant.numbers
 pub returns-clause-listed : goal.returns-clause-listed
 returns-clause-listed c = λ came long.
     let none : length c.args.places.now.items ≡ 0 = first_of (search rules, grind (arith, common_steps)) in
-    all_listed came c.args.places.now.items c.loop-places.places.items c.args.count none long c.loop-places.invariant.numbers ?
+    all_listed came c.args.places.now.items c.loop-places.places.items c.args.count none long c.loop-places.invariant.numbers
+    (let most = c.loop-places.invariant.within in let least : c.args.count ≤ length c.loop-places.places.items = search rules in omega arith)

@@ -11,7 +11,7 @@ returns-then-is_empty-clause-bids g c =
 pub loop-place-preserved-in-Continue-1 : goal.loop-place-preserved-in-Continue-1
 loop-place-preserved-in-Continue-1 g c =
     let came = g.K.Keep.bids c.self.inside.came in
-    let there : c.in-Some.place - 1 < length came = search rules in
+    let there : c.in-Some.place - 1 < length came = ? in
     kept_more came (g.K.Keep.bids c.loop-place.kept) (g.K.Keep.bids c.add_from.new.self) c.loop-place.yielded c.in-Some.place (c.in-Some.place - 1)
     c.loop-place.invariant c.if-place-gt0.true refl there c.in_ok-add_from.ensures
 

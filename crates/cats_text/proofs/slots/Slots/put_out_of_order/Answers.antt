@@ -3,9 +3,6 @@ use Rattle.cats_text.specs.Internal.Kept.{AreWithin, with_goods}
 use Rattle.cats_text.proofs.Parsing.BidsByNumber.{put_listed, within_more, within_set}
 use Rattle.cats_text.proofs.slots.Slots.put_out_of_order.Goals as goal
 
-pub invariant_of-self-in_err-list_places : goal.invariant_of-self-in_err-list_places
-invariant_of-self-in_err-list_places g c = (rw c.count.ensures at c.list_places.ensures.within) c.self.invariant
-
 pub invariant_of-self-in_err-pad : goal.invariant_of-self-in_err-pad
 invariant_of-self-in_err-pad g c =
     c.pad.ensures.within (length (g.K.Keep.bids c.self.inside.came)) ((rw c.count.ensures at c.list_places.ensures.within) c.self.invariant)
