@@ -129,9 +129,9 @@ impl<K: Keep> Slots<K> {
             return Ok(came);
         }
         let mut kept = K::empty(alloc);
-        for place in places {
-            if place > 0 {
-                kept.add_from(&came, place - 1)?;
+        for place in places.iter() {
+            if *place > 0 {
+                kept.add_from(&came, *place - 1)?;
             }
         }
         Ok(kept)

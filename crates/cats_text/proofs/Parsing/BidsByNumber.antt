@@ -87,7 +87,7 @@ has_place : (came : List PlainBid) (p : ℕ) → p ≤ length came → 0 < p →
 has_place came zero l some = absurd (let no : 0 < 0 = some in omega arith)
 has_place came (suc i) l some = has_here came i (omega arith)
 
-within_at : (n : ℕ) (places : List ℕ) (i p : ℕ) → AreWithin n places → slice_get places i ≡ Some p → p ≤ n
+pub within_at : (n : ℕ) (places : List ℕ) (i p : ℕ) → AreWithin n places → slice_get places i ≡ Some p → p ≤ n
 within_at n [] i p all e = cc
 within_at n (q ∷ places) zero p all e = subst (λ (k : ℕ). k ≤ n) (some_same q p e) all.0
 within_at n (q ∷ places) (suc i) p all e = within_at n places i p all.1 e

@@ -1,6 +1,11 @@
-use Rattle.std.proofs.Common.{◌≡◌, ◌<◌, ◌-◌, length, arith, rules, refl}
+use Rattle.std.proofs.Common.{◌≡◌, ◌<◌, ◌≤◌, ◌+◌, ◌-◌, ◌∙◌, ◌++◌, ◌∷◌, [], ℕ, List, Some, ap, sym, take, get_or, length, arith, rules, refl}
 use Rattle.std.proofs.lemmas.Grind.{common_steps}
-use Rattle.cats_text.proofs.Parsing.BidsByNumber.{filled_all, kept_none, kept_more}
+use Rattle.std.proofs.lemmas.List.{take_all, take_more}
+use Rattle.std.proofs.lemmas.Option.{slice_get-get_or}
+use Rattle.cats_text.specs.FileLines.{filled}
+use Rattle.cats_text.specs.Internal.Kept.{AreWithin, placed}
+use Rattle.cats_text.proofs.Parsing.BidsByNumber.{filled_all, kept_none, kept_more, listed, within_at}
+use Rattle.cats_text.proofs.slots.Slots.into_kept.Goals.{then-place-gt0+in_ok-add_from, else-place-gt0}
 use Rattle.cats_text.proofs.slots.Slots.into_kept.Goals as goal
 
 pub returns-then-is_empty-clause-bids : goal.returns-then-is_empty-clause-bids
@@ -8,14 +13,33 @@ returns-then-is_empty-clause-bids g c =
     let none : length c.self.inside.places.items ≡ 0 = first_of (search rules, grind (arith, common_steps)) in
     rw (← c.self.view_is) (filled_all (g.K.Keep.bids c.self.inside.came) c.self.inside.places.items none)
 
-pub loop-place-preserved-in-Continue-1 : goal.loop-place-preserved-in-Continue-1
-loop-place-preserved-in-Continue-1 g c =
-    let came = g.K.Keep.bids c.self.inside.came in
-    let there : c.in-Some.place - 1 < length came = ? in
-    kept_more came (g.K.Keep.bids c.loop-place.kept) (g.K.Keep.bids c.add_from.new.self) c.loop-place.yielded c.in-Some.place (c.in-Some.place - 1)
-    c.loop-place.invariant c.if-place-gt0.true refl there c.in_ok-add_from.ensures
-
 pub loop-place-preserved : goal.loop-place-preserved
 loop-place-preserved g c =
-    kept_none (g.K.Keep.bids c.self.inside.came) (g.K.Keep.bids c.loop-place.kept) c.loop-place.yielded c.in-Some.place c.loop-place.invariant
-    (omega (arith, c.if-place-gt0.false))
+    let came = g.K.Keep.bids c.self.inside.came in
+    let places : List ℕ = c.deref-place-items.result.now in
+    let i : ℕ = c.loop-place.place-index in
+    let p : ℕ = get_or places i 0 in
+    let all : AreWithin (length came) places = rw c.deref-place-items.ensures.value c.self.invariant in
+    let most : p ≤ length came = within_at (length came) places i p all (slice_get-get_or places i 0 c.loop-place-test.true) in
+    let next : take (i + 1) places ≡ take i places ++ p ∷ [] = take_more places i 0 c.loop-place-test.true in
+    rw next
+    (elim c.if-place-gt0.branch [
+      then-place-gt0+in_ok-add_from w ↦
+          let some : 0 < p = w.if-place-gt0.true in
+          let there : p - 1 < length came = omega arith in
+          ap g.K.Keep.bids w.kept-is
+          ∙ kept_more came (g.K.Keep.bids c.loop-place.kept) (g.K.Keep.bids w.add_from.new.self) (take i places) p (p - 1) c.loop-place.invariant some refl there
+          w.in_ok-add_from.ensures
+      | else-place-gt0 w ↦
+          let none : p ≤ 0 = w.if-place-gt0.false in
+          ap g.K.Keep.bids w.kept-is ∙ kept_none came (g.K.Keep.bids c.loop-place.kept) (take i places) p c.loop-place.invariant (omega arith)
+    ])
+
+pub returns-clause-bids : goal.returns-clause-bids
+returns-clause-bids g c =
+    let came = g.K.Keep.bids c.self.inside.came in
+    let places : List ℕ = c.deref-place-items.result.now in
+    let some : length c.self.inside.places.items ≡ 0 → ⊥ = λ none. first_of (search rules, grind (arith, common_steps)) in
+    c.loop-place.invariant
+    ∙ ap (λ (ps : List ℕ). filled (placed came ps)) (take_all c.loop-place.place-index places c.loop-place-test.false ∙ c.deref-place-items.ensures.value)
+    ∙ ap filled (sym (listed came c.self.inside.places.items some) ∙ c.self.view_is)
