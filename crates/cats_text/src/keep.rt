@@ -1,16 +1,16 @@
 //! What a reader keeps of the bids that come: the bids, packed, or only how many they are.
 
-ghost use Rattle.std.specs.Prelude.{◌≡◌, ◌<◌, [], ◌∷◌, ◌++◌, List, length, set, replicate, IfOk, OnOk};
-ghost use Rattle.bid_file.specs.Files.{PlainBid, plain_bid};
+ghost use Rattle.std.specs.Prelude.{◌≡◌, ◌<◌, [], ◌∷◌, ◌++◌, List, Some, length, slice_get, replicate, OnOk, OnErr};
+ghost use Rattle.bid_file.specs.Files.{PlainBid};
 ghost use Rattle.cats_text.specs.FileLines.{rising_of};
 ghost use Rattle.cats_text.specs.Internal.Kept.{whole, number_alone, with_goods};
 
 use crate::good_list::GoodList;
 use crate::parser::Draft;
-use bid_file::{Bid, PackedBids};
+use bid_file::PackedBids;
 use std::alloc::{AllocError, Global};
 
-/// What is kept of the bids whose numbers come in order, from 0 on.
+/// What is kept of the bids, in the order in which they come.
 pub trait Keep: Sized + Drop {
     ghost keep: { PlainBid → PlainBid };
 
@@ -29,34 +29,15 @@ pub trait Keep: Sized + Drop {
         ensures { (draft : Draft) → keep (with_goods draft goods.new) ≡ keep (with_goods draft (rising_of goods.old)) };
 
     /// Keeps a bid behind the others. At the first one, memory is reserved for so many.
-    fn add(
-        &mut self,
-        alloc: Global,
-        draft: &Draft,
-        goods: &[u16],
-        count: u32,
-    ) -> Result<(), AllocError>
-        ensures { OnOk result (bids self.new ≡ bids self.old ++ keep (with_goods draft.now goods.now) ∷ []) };
+    fn add(&mut self, draft: &Draft, goods: &[u16], count: u32) -> Result<(), AllocError>
+        ensures kept { OnOk result (bids self.new ≡ bids self.old ++ keep (with_goods draft.now goods.now) ∷ []) }
+        ensures same { OnErr result (bids self.new ≡ bids self.old) };
 
-    /// A bid of which the same is kept, for a bid that comes out of order.
-    fn alone(alloc: Global, draft: &Draft, goods: &[u16]) -> Result<Bid, AllocError>
-        ensures { IfOk result (λ bid. keep (plain_bid bid) ≡ keep (with_goods draft.now goods.now)) };
-
-    /// Keeps a bid in the place of another.
-    fn put(&mut self, place: usize, bid: Bid) -> Result<(), AllocError>
-        requires { place < length (bids self.old) }
-        ensures { OnOk result (bids self.new ≡ set (bids self.old) place (keep (plain_bid bid))) };
-}
-
-/// A bid with a vector of its own for its goods.
-fn new_bid(alloc: Global, draft: &Draft, goods: &[u16]) -> Result<Bid, AllocError>
-    ensures { IfOk result (λ bid. plain_bid bid ≡ with_goods draft.now goods.now) }
-{
-    Ok(Bid {
-        price: draft.price,
-        goods: Vec::from_slice(alloc, goods)?,
-        dummy: draft.dummy,
-    })
+    /// Keeps one of other bids behind the others.
+    fn add_from(&mut self, other: &Self, place: usize) -> Result<(), AllocError>
+        requires { place < length (bids other.now) }
+        ensures { (bid : PlainBid) → slice_get (bids other.now) place ≡ Some bid
+            → OnOk result (bids self.new ≡ bids self.old ++ bid ∷ []) };
 }
 
 /// The bids of a `PackedFile`: the goods of all of them are in one vector.
@@ -79,23 +60,13 @@ impl Keep for PackedBids {
     }
 
     #[inline(always)]
-    fn add(
-        &mut self,
-        alloc: Global,
-        draft: &Draft,
-        goods: &[u16],
-        count: u32,
-    ) -> Result<(), AllocError> {
-        let _ = alloc;
+    fn add(&mut self, draft: &Draft, goods: &[u16], count: u32) -> Result<(), AllocError> {
         PackedBids::push(self, draft.price, goods, draft.dummy, count)
     }
 
-    fn alone(alloc: Global, draft: &Draft, goods: &[u16]) -> Result<Bid, AllocError> {
-        new_bid(alloc, draft, goods)
-    }
-
-    fn put(&mut self, place: usize, bid: Bid) -> Result<(), AllocError> {
-        PackedBids::replace(self, place, bid.price, bid.goods.as_slice(), bid.dummy)
+    fn add_from(&mut self, other: &PackedBids, place: usize) -> Result<(), AllocError> {
+        let (price, goods, dummy) = other.at(place);
+        PackedBids::push(self, price, goods, dummy, 0)
     }
 }
 
@@ -120,15 +91,9 @@ impl Keep for BidCount {
 
     fn sort(_goods: &mut GoodList) {}
 
-    /// Memory is refused too where there would be 2 to the power 64 bids, as no file has.
+    /// Memory is refused too if there would be 2 to the power 64 bids, as no file has.
     #[inline(always)]
-    fn add(
-        &mut self,
-        _alloc: Global,
-        _draft: &Draft,
-        _goods: &[u16],
-        _count: u32,
-    ) -> Result<(), AllocError> {
+    fn add(&mut self, _draft: &Draft, _goods: &[u16], _count: u32) -> Result<(), AllocError> {
         let Some(count) = self.count.checked_add(1) else {
             return Err(AllocError);
         };
@@ -136,15 +101,11 @@ impl Keep for BidCount {
         Ok(())
     }
 
-    fn alone(alloc: Global, _draft: &Draft, _goods: &[u16]) -> Result<Bid, AllocError> {
-        Ok(Bid {
-            price: 0,
-            goods: Vec::new(alloc),
-            dummy: None,
-        })
-    }
-
-    fn put(&mut self, _place: usize, _bid: Bid) -> Result<(), AllocError> {
+    fn add_from(&mut self, _other: &BidCount, _place: usize) -> Result<(), AllocError> {
+        let Some(count) = self.count.checked_add(1) else {
+            return Err(AllocError);
+        };
+        self.count = count;
         Ok(())
     }
 }

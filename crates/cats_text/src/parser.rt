@@ -308,12 +308,8 @@ impl<K: Keep> Parser<K> {
             }) }
     {
         K::sort(&mut self.goods);
-        self.slots.put(
-            self.alloc,
-            &self.draft,
-            self.goods.as_slice(),
-            self.header.bids,
-        )?;
+        self.slots
+            .put(&self.draft, self.goods.as_slice(), self.header.bids)?;
         self.goods.clear();
         Ok(())
     }

@@ -1,7 +1,7 @@
 -- What is kept of the bids that come, without where it lies in memory.
-use Rattle.std.specs.Prelude.{ℕ, List, [], ◌++◌, map, Bool, true, false, Option, Some, None, option_map}
-use Rattle.bid_file.specs.Files.{PlainBid, plain_bid}
-use Rattle.bid_file.specs.declared.bid.Bid.{Bid as FileBid}
+use Rattle.std.specs.Prelude.{◌≡◌, ℕ, zero, suc, ◌+◌, ◌-◌, ◌≤◌, List, [], ◌∷◌, ◌++◌, length, replicate, map, slice_get, Bool, true, false, Option, Some, None}
+use Rattle.std.specs.List.{AllByRecursion}
+use Rattle.bid_file.specs.Files.{PlainBid}
 use Rattle.cats_text.specs.declared.parser.Draft.{Draft}
 
 -- each bid is kept whole
@@ -20,12 +20,25 @@ abbrev pub is_some_bid : Option (Option PlainBid) → Bool
 is_some_bid (Some (Some b)) = true
 is_some_bid _ = false
 
-abbrev pub plain_slot : (PlainBid → PlainBid) → Option FileBid → Option PlainBid
-plain_slot keep slot = option_map (λ b. keep (plain_bid b)) slot
+-- the bid that came when so many had come with it
+abbrev pub slot_at : List PlainBid → ℕ → Option PlainBid
+slot_at came zero = None
+slot_at came (suc i) = slice_get came i
 
-abbrev pub plain_slots : (PlainBid → PlainBid) → List (Option FileBid) → List (Option PlainBid)
-plain_slots keep slots = map (plain_slot keep) slots
+-- the bids at these places
+abbrev pub placed : List PlainBid → List ℕ → List (Option PlainBid)
+placed came places = map (slot_at came) places
 
--- the bids in order, and what is kept at each place behind them
-abbrev pub slot_list : (PlainBid → PlainBid) → List PlainBid → List (Option FileBid) → List (Option PlainBid)
-slot_list keep in_order rest = map (λ b. Some b) in_order ++ plain_slots keep rest
+abbrev pub AreWithin : ℕ → List ℕ → Type 0
+AreWithin n places = AllByRecursion (λ p. p ≤ n) places
+
+-- the places that were there, and zeros behind them, as many as a number asks for at most
+pub record IsPadded (old padded : List ℕ) (n : ℕ) : Type 0 where
+  pub count : ℕ
+  pub is : padded ≡ old ++ replicate count 0
+  pub few : count ≤ n + 1 - length old
+
+-- bids by number: those that came, in their order or at these places
+abbrev pub slot_list : List PlainBid → List ℕ → List (Option PlainBid)
+slot_list came [] = map (λ b. Some b) came
+slot_list came (p ∷ places) = placed came (p ∷ places)

@@ -1,33 +1,45 @@
-use Rattle.std.proofs.Common.{◌∙◌, ◌++◌, ◌∷◌, [], ℕ, List, Option, Some, map, sym, ap, append-nil}
-use Rattle.bid_file.specs.declared.bid.Bid.{Bid}
-use Rattle.bid_file.specs.Files.{PlainBid, plain_bid}
-use Rattle.cats_text.specs.Internal.Kept.{plain_slots, plain_slot}
+use Rattle.std.proofs.Common.{◌≡◌, ◌<◌, ◌≤◌, ◌+◌, ◌-◌, ◌∙◌, ◌++◌, ◌∷◌, [], ℕ, List, Some, ap, sym, take, get_or, length, arith, rules, refl}
+use Rattle.std.proofs.lemmas.Grind.{common_steps}
+use Rattle.std.proofs.lemmas.List.{take_all, take_more}
+use Rattle.std.proofs.lemmas.Option.{slice_get-get_or}
 use Rattle.cats_text.specs.FileLines.{filled}
-use Rattle.std.specs.Option.{option_to_list}
-use Rattle.cats_text.proofs.Parsing.BidsByNumber.{filled-front, filled_more}
+use Rattle.cats_text.specs.Internal.Kept.{AreWithin, placed}
+use Rattle.cats_text.proofs.Parsing.BidsByNumber.{filled_all, kept_none, kept_more, listed, within_at}
+use Rattle.cats_text.proofs.slots.Slots.into_kept.Goals.{then-place-gt0+in_ok-add_from, else-place-gt0}
 use Rattle.cats_text.proofs.slots.Slots.into_kept.Goals as goal
 
-pub loop-slot-init : goal.loop-slot-init
-loop-slot-init g c = filled-front _
+pub returns-then-is_empty-clause-bids : goal.returns-then-is_empty-clause-bids
+returns-then-is_empty-clause-bids g c =
+    let none : length c.self.inside.places.items ≡ 0 = first_of (search rules, grind (arith, common_steps)) in
+    rw (← c.self.view_is) (filled_all (g.K.Keep.bids c.self.inside.came) c.self.inside.places.items none)
 
-pub loop-slot-preserved-in-Some-slot : goal.loop-slot-preserved-in-Some-slot
-loop-slot-preserved-in-Some-slot g c =
-    let keep = g.K.Keep.keep in
-    let front : List PlainBid = g.K.Keep.bids c.self.inside.in_order in
-    let sofar : List PlainBid = filled (map (λ b. Some b) front ++ plain_slots keep c.loop-slot.yielded) in
-    let same : List ℕ → PlainBid = λ gs. record { price = c.in-Some-slot.bid.price; goods = gs; dummy = c.in-Some-slot.bid.dummy } in
-    c.in_ok-add.ensures
-    ∙ ap (λ (gs : List ℕ). g.K.Keep.bids c.loop-slot.in_order ++ keep (same gs) ∷ []) c.as_slice.ensures.value
-    ∙ ap (λ (bs : List PlainBid). bs ++ keep (plain_bid c.in-Some-slot.bid) ∷ []) c.loop-slot.invariant
-    ∙ ap (λ (s : Option Bid). sofar ++ option_to_list (plain_slot keep s)) (sym c.in-Some-slot.is)
-    ∙ sym (filled_more keep front c.loop-slot.yielded c.in-Some.slot)
+pub loop-place-preserved : goal.loop-place-preserved
+loop-place-preserved g c =
+    let came = g.K.Keep.bids c.self.inside.came in
+    let places : List ℕ = c.deref-place-items.result.now in
+    let i : ℕ = c.loop-place.place-index in
+    let p : ℕ = get_or places i 0 in
+    let all : AreWithin (length came) places = rw c.deref-place-items.ensures.value c.self.invariant in
+    let most : p ≤ length came = within_at (length came) places i p all (slice_get-get_or places i 0 c.loop-place-test.true) in
+    let next : take (i + 1) places ≡ take i places ++ p ∷ [] = take_more places i 0 c.loop-place-test.true in
+    rw next
+    (elim c.if-place-gt0.branch [
+      then-place-gt0+in_ok-add_from w ↦
+          let some : 0 < p = w.if-place-gt0.true in
+          let there : p - 1 < length came = omega arith in
+          ap g.K.Keep.bids w.kept-is
+          ∙ kept_more came (g.K.Keep.bids c.loop-place.kept) (g.K.Keep.bids w.add_from.new.self) (take i places) p (p - 1) c.loop-place.invariant some refl there
+          w.in_ok-add_from.ensures
+      | else-place-gt0 w ↦
+          let none : p ≤ 0 = w.if-place-gt0.false in
+          ap g.K.Keep.bids w.kept-is ∙ kept_none came (g.K.Keep.bids c.loop-place.kept) (take i places) p c.loop-place.invariant (omega arith)
+    ])
 
-pub loop-slot-preserved : goal.loop-slot-preserved
-loop-slot-preserved g c =
-    let keep = g.K.Keep.keep in
-    let front : List PlainBid = g.K.Keep.bids c.self.inside.in_order in
-    let sofar : List PlainBid = filled (map (λ b. Some b) front ++ plain_slots keep c.loop-slot.yielded) in
-    c.loop-slot.invariant
-    ∙ sym (append-nil sofar)
-    ∙ ap (λ (s : Option Bid). sofar ++ option_to_list (plain_slot keep s)) (sym c.in_default.is)
-    ∙ sym (filled_more keep front c.loop-slot.yielded c.in-Some.slot)
+pub returns-clause-bids : goal.returns-clause-bids
+returns-clause-bids g c =
+    let came = g.K.Keep.bids c.self.inside.came in
+    let places : List ℕ = c.deref-place-items.result.now in
+    let some : length c.self.inside.places.items ≡ 0 → ⊥ = λ none. first_of (search rules, grind (arith, common_steps)) in
+    c.loop-place.invariant
+    ∙ ap (λ (ps : List ℕ). filled (placed came ps)) (take_all c.loop-place.place-index places c.loop-place-test.false ∙ c.deref-place-items.ensures.value)
+    ∙ ap filled (sym (listed came c.self.inside.places.items some) ∙ c.self.view_is)
