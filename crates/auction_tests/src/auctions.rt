@@ -30,8 +30,8 @@ fn small_file(alloc: Global) -> Result<BidFile, Fail> {
 // The same file in little memory.
 fn small_packed_file(alloc: Global) -> Result<PackedFile, Fail> {
     let mut bids = PackedBids::new(alloc);
-    bids.push(20 * UNIT, &[0, 2], Some(0), 2)?;
-    bids.push(7 * UNIT, &[1], None, 2)?;
+    bids.push(20 * UNIT, &[0, 2], Some(0))?;
+    bids.push(7 * UNIT, &[1], None)?;
     Ok(PackedFile::new(3, 2, bids))
 }
 

@@ -1,6 +1,6 @@
 -- Bids whose goods stand in one list: those of one more bid are put behind the others.
-use Rattle.std.proofs.Common.{◌≡◌, ℕ, ◌+◌, ◌-◌, ◌≤◌, List, [], ◌∷◌, ◌++◌, length, map, set, take, drop, Some, refl, ap, ap₂, ◌∙◌, arith, length-append, length-drop}
-use Rattle.std.proofs.lemmas.List.{drop_all, take_all, take-append-le, take_more, drop-append-le, map-append, map-set}
+use Rattle.std.proofs.Common.{◌≡◌, ℕ, ◌+◌, ◌-◌, ◌≤◌, List, [], ◌∷◌, ◌++◌, length, map, take, drop, Some, refl, ap, ap₂, ◌∙◌, arith, length-append, length-drop}
+use Rattle.std.proofs.lemmas.List.{drop_all, take_all, take-append-le, take_more, drop-append-le, map-append}
 use Rattle.std.proofs.lemmas.Option.{get_or_from_slice_get, slice_get_within}
 use Rattle.std.specs.List.{slice_get}
 use Rattle.std.specs.Prelude.{OnErr, Result, Ok, Err}
@@ -60,16 +60,6 @@ held_push n m (p ∷ offers) o held le new =
 pub on_err : {T E P : Type 0} (r : Result T E) → P → OnErr r P
 on_err (Ok x) p = tt
 on_err (Err e) p = p
-
--- a bid in the place of another
-pub offers_set : (goods more all : List ℕ) (offers : List Offer) (place : ℕ) (o : Offer) → AreHeld (length goods) offers → all ≡ goods ++ more
-    → o.start ≡ length goods → o.end ≡ length all
-    → map (offered all) (set offers place o) ≡ set (map (offered goods) offers) place (bid_with o more)
-offers_set goods more all offers place o held is start end =
-    ap (λ (gs : List ℕ). map (offered gs) (set offers place o)) is
-    ∙ map-set (offered (goods ++ more)) offers place o
-    ∙ ap₂ (λ (bs : List PlainBid) (b : PlainBid). set bs place b) (all_offered_more goods more offers held)
-    (offered_last goods more o start (end ∙ ap length is))
 
 -- the first bids, with one more
 pub take_bid : (bids : List PlainBid) (i : ℕ) (bid : PlainBid) → slice_get bids i ≡ Some bid → take (i + 1) bids ≡ take i bids ++ bid ∷ []

@@ -10,7 +10,6 @@ ghost use Rattle.std.specs.Prelude.{
   ◌∷◌,
   ◌++◌,
   length,
-  set,
   slice_get,
   vec_len,
   vec_capacity,
@@ -116,17 +115,6 @@ fn append(all: &mut Vec<u16>, goods: &[u16]) -> Result<(u32, u32), AllocError>
     Ok((start as u32, end as u32))
 }
 
-/// Makes room for so many offers where none has come.
-#[inline(always)]
-fn make_room(offers: &mut Vec<Offer>, count: u32) -> Result<(), AllocError>
-    ensures { offers.new.items ≡ offers.old.items }
-{
-    if offers.is_empty() {
-        offers.reserve(count as usize)?;
-    }
-    Ok(())
-}
-
 impl PackedBids {
     /// No bids.
     pub fn new(alloc: Global) -> PackedBids
@@ -146,21 +134,21 @@ impl PackedBids {
         self.offers.len()
     }
 
-    /// Puts a bid behind the others. At the first one, room is made for so many bids. Where memory is refused, the bids
-    /// are those that were there.
+    /// Reserves memory for so many more bids, without their goods.
+    pub fn reserve(&mut self, count: usize) -> Result<(), AllocError>
+        ensures { self.new ≡ self.old }
+    {
+        self.offers.reserve(count)?;
+        Ok(())
+    }
+
+    /// Puts a bid behind the others. If memory is refused, the bids are those that were there.
     #[inline(always)]
-    pub fn push(
-        &mut self,
-        price: u64,
-        goods: &[u16],
-        dummy: Option<u32>,
-        count: u32,
-    ) -> Result<(), AllocError>
+    pub fn push(&mut self, price: u64, goods: &[u16], dummy: Option<u32>) -> Result<(), AllocError>
         ensures bids { let bid : PlainBid = record { price = price; goods = goods.now; dummy = dummy } in
             OnOk result (self.new ≡ self.old ++ bid ∷ []) }
         ensures same { OnErr result (self.new ≡ self.old) }
     {
-        make_room(&mut self.offers, count)?;
         let (start, end) = append(&mut self.goods, goods)?;
         let offer = Offer {
             price,
@@ -169,28 +157,6 @@ impl PackedBids {
             dummy,
         };
         push_offer(&mut self.offers, offer)?;
-        Ok(())
-    }
-
-    /// Puts a bid in the place of another.
-    pub fn replace(
-        &mut self,
-        place: usize,
-        price: u64,
-        goods: &[u16],
-        dummy: Option<u32>,
-    ) -> Result<(), AllocError>
-        requires { place < length self.old }
-        ensures { let bid : PlainBid = record { price = price; goods = goods.now; dummy = dummy } in
-            OnOk result (self.new ≡ set self.old place bid) }
-    {
-        let (start, end) = append(&mut self.goods, goods)?;
-        self.offers[place] = Offer {
-            price,
-            start,
-            end,
-            dummy,
-        };
         Ok(())
     }
 
@@ -304,16 +270,6 @@ impl PackedFile {
             return false;
         }
         self.bids().is_equal(other.bids())
-    }
-
-    /// No bids, in the memory that the file's bids took, so that others may stand there.
-    pub fn into_room(self) -> PackedBids
-        ensures { result ≡ [] }
-    {
-        let PackedFile { mut bids, .. } = self;
-        bids.offers.clear();
-        bids.goods.clear();
-        bids
     }
 
     /// The same file with a vector for each bid. No memory is asked for if there are no bids.

@@ -13,9 +13,10 @@ pub fn pack<B: Bids>(alloc: Global, file: &B) -> Result<PackedFile, AllocError>
     let goods = file.goods();
     let count = file.len();
     let mut bids = PackedBids::new(alloc);
+    bids.reserve(count)?;
     for number in 0..count {
         let bid = file.at(number);
-        bids.push(bid.price, bid.goods, bid.dummy, count as u32)?;
+        bids.push(bid.price, bid.goods, bid.dummy)?;
     }
     Ok(PackedFile::new(goods, file.dummy(), bids))
 }

@@ -6,7 +6,7 @@ ghost use Rattle.valuation.specs.Values.{atoms_of};
 ghost use Rattle.valuation.specs.Views.{plain_auction};
 ghost use Rattle.canon.specs.Canonical.{bid_from, file_from};
 
-use bid_file::{BidFile, MAX_BIDS, PackedBids, PackedFile};
+use bid_file::{BidFile, PackedBids, PackedFile};
 use goods_set::{GoodsSet, rising_goods};
 use std::alloc::{AllocError, Global};
 use valuation::{Atom, Auction};
@@ -27,40 +27,39 @@ pub fn packed_file_of<S: GoodsSet>(
 ) -> Result<PackedFile, AllocError>
     ensures { IfOk result (λ file. file ≡ file_from (plain_auction auction.now)) }
 {
-    let count = count_bids(auction);
     let bidders = auction.xor_bidders();
     let mut bids = PackedBids::new(alloc);
+    bids.reserve(count_bids(auction))?;
     let mut bundle = Vec::new(alloc);
-    push_bids(&mut bids, &mut bundle, auction.or_atoms(), None, count)?;
+    push_bids(&mut bids, &mut bundle, auction.or_atoms(), None)?;
     for (dummy, bidder) in bidders.iter().enumerate() {
         let atoms = bidder.as_slice();
-        push_bids(&mut bids, &mut bundle, atoms, Some(dummy as u32), count)?;
+        push_bids(&mut bids, &mut bundle, atoms, Some(dummy as u32))?;
     }
     Ok(PackedFile::new(auction.goods(), bidders.len() as u32, bids))
 }
 
 /// How many bids the file of an auction has, which says how much capacity it needs.
-fn count_bids<S: GoodsSet>(auction: &Auction<S>) -> u32 {
+fn count_bids<S: GoodsSet>(auction: &Auction<S>) -> usize {
     let mut count = auction.or_atoms().len();
     for bidder in auction.xor_bidders() {
         count = count.saturating_add(bidder.len());
     }
-    count.min(MAX_BIDS as usize) as u32
+    count
 }
 
-/// Appends a bid for each atom, all with the same dummy good, to a file that will have so many bids.
+/// Appends a bid for each atom, all with the same dummy good.
 fn push_bids<S: GoodsSet>(
     bids: &mut PackedBids,
     bundle: &mut Vec<u16>,
     atoms: &[Atom<S>],
     dummy: Option<u32>,
-    count: u32,
 ) -> Result<(), AllocError>
     ensures { OnOk result (bids.new ≡ bids.old ++ map (bid_from dummy) (atoms_of S.goods atoms.now)) }
 {
     for atom in atoms {
         let goods = rising_goods(&atom.bundle, bundle)?;
-        bids.push(atom.price, goods, dummy, count)?;
+        bids.push(atom.price, goods, dummy)?;
     }
     Ok(())
 }

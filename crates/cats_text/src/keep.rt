@@ -61,12 +61,15 @@ impl Keep for PackedBids {
 
     #[inline(always)]
     fn add(&mut self, draft: &Draft, goods: &[u16], count: u32) -> Result<(), AllocError> {
-        PackedBids::push(self, draft.price, goods, draft.dummy, count)
+        if self.len() == 0 {
+            self.reserve(count as usize)?;
+        }
+        PackedBids::push(self, draft.price, goods, draft.dummy)
     }
 
     fn add_from(&mut self, other: &PackedBids, place: usize) -> Result<(), AllocError> {
         let (price, goods, dummy) = other.at(place);
-        PackedBids::push(self, price, goods, dummy, 0)
+        PackedBids::push(self, price, goods, dummy)
     }
 }
 

@@ -1,4 +1,4 @@
-use Rattle.std.proofs.Common.{◌≡◌, ◌∙◌, List, ◌++◌, ◌∷◌, [], ap, sym}
+use Rattle.std.proofs.Common.{◌∙◌, List, ◌++◌, ◌∷◌, [], ap, sym}
 use Rattle.bid_file.specs.Files.{PlainBid}
 use Rattle.bid_file.specs.Views.{seen_bid}
 use Rattle.bid_file.proofs.Offers.{take_bid}

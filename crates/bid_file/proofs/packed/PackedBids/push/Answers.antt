@@ -10,7 +10,7 @@ returns-clause-bids c =
     let bid : PlainBid = record { price = c.args.price; goods = c.args.goods.now; dummy = c.args.dummy } in
     offers_push c.self.inside.goods.items c.args.goods.now c.append.new.all.items c.self.inside.offers.items c.push_offer.new.offers.items o
     c.self.invariant c.in_ok-start.ensures.goods c.in_ok-start.ensures.start c.in_ok-start.ensures.end
-    (c.in_ok-push_offer.ensures.offers ∙ ap (λ (os : List Offer). os ++ o ∷ []) c.make_room.ensures)
+    c.in_ok-push_offer.ensures.offers
     ∙ ap (λ (bs : List PlainBid). bs ++ bid ∷ []) c.self.view_is
 
 -- where memory for the offer is refused, the goods that were put behind the others belong to no bid
@@ -18,12 +18,12 @@ pub returns-in_err-push_offer-clause-same : goal.returns-in_err-push_offer-claus
 returns-in_err-push_offer-clause-same c =
     on_err c.from_residual-in_err-push_offer.result
     (offers_kept c.self.inside.goods.items c.args.goods.now c.append.new.all.items c.self.inside.offers.items c.push_offer.new.offers.items
-    c.self.invariant c.in_ok-start.ensures.goods (c.in_err-push_offer.ensures.same ∙ c.make_room.ensures)
+    c.self.invariant c.in_ok-start.ensures.goods c.in_err-push_offer.ensures.same
     ∙ c.self.view_is)
 
 pub invariant_of-self-2 : goal.invariant_of-self-2
 invariant_of-self-2 c =
     let o : Offer = record { price = c.args.price; start = c.in_ok-start.start; end = c.in_ok-start.end; dummy = c.args.dummy } in
-    rw (c.in_ok-push_offer.ensures.offers, c.make_room.ensures)
+    rw c.in_ok-push_offer.ensures.offers
     (held_push (length c.self.inside.goods.items) (length c.append.new.all.items) c.self.inside.offers.items o c.self.invariant
     (grind (arith, c.in_ok-start.ensures.goods, length-append)) (grind (arith, c.in_ok-start.ensures.goods, c.in_ok-start.ensures.start, c.in_ok-start.ensures.end, length-append)))
