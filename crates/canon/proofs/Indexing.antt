@@ -119,18 +119,18 @@ index_of_none index h = record {
 module _ (old new : TextIndex) (place : ℕ) (files : List PlainFile) (f : PlainFile) (facts : IsPlainFile f) (h : IsIndexOf old files)
     (added : AddsText old new (canonical_text f) place) where
   first : IsFirstText (files ++ f ∷ []) (canonical_text f) place
-  first = first_text files f (old.place_of (canonical_text f)) old.count place h.count added.found (h.texts (canonical_text f))
+  first = first_text files f (old.text_place (canonical_text f)) old.count place h.count added.found (h.texts (canonical_text f))
 
-  put : (text : List ℕ) → bytes_eq (canonical_text f) text ≡ true → PlacesText (files ++ f ∷ []) text (new.place_of text)
+  put : (text : List ℕ) → bytes_eq (canonical_text f) text ≡ true → PlacesText (files ++ f ∷ []) text (new.text_place text)
   put text equal =
-      let at : new.place_of text ≡ Some place = added.places text ∙ cond-true (bytes_eq (canonical_text f) text) (Some place) (old.place_of text) equal in
+      let at : new.text_place text ≡ Some place = added.places text ∙ cond-true (bytes_eq (canonical_text f) text) (Some place) (old.text_place text) equal in
       subst (λ (o : Option ℕ). PlacesText (files ++ f ∷ []) text o) (sym at)
       (subst (λ (t : List ℕ). IsFirstText (files ++ f ∷ []) t place) ((bytes_decides (canonical_text f) text).0 equal) first)
 
-  kept : (text : List ℕ) → bytes_eq (canonical_text f) text ≡ false → PlacesText (files ++ f ∷ []) text (new.place_of text)
+  kept : (text : List ℕ) → bytes_eq (canonical_text f) text ≡ false → PlacesText (files ++ f ∷ []) text (new.text_place text)
   kept text apart =
-      let at : new.place_of text ≡ old.place_of text = added.places text ∙ cond-false (bytes_eq (canonical_text f) text) (Some place) (old.place_of text) apart in
-      subst (λ (o : Option ℕ). PlacesText (files ++ f ∷ []) text o) (sym at) (stays_placed files f text apart (old.place_of text) (h.texts text))
+      let at : new.text_place text ≡ old.text_place text = added.places text ∙ cond-false (bytes_eq (canonical_text f) text) (Some place) (old.text_place text) apart in
+      subst (λ (o : Option ℕ). PlacesText (files ++ f ∷ []) text o) (sym at) (stays_placed files f text apart (old.text_place text) (h.texts text))
 
   -- one more file
   pub index_of_more : IsIndexOf new (files ++ f ∷ [])

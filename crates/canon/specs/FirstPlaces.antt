@@ -28,18 +28,18 @@ first_place files given = position (λ file. bytes_eq (canonical_text file) (can
 
 -- what an index holds: the place of each text that it has, and how many files were added
 pub record TextIndex : Type 0 where
-  pub place_of : List ℕ → Option ℕ
+  pub text_place : List ℕ → Option ℕ
   pub count : ℕ
 
 -- it holds no text, and no file was added
 pub record IsEmptyIndex (index : TextIndex) : Type 0 where
-  pub places : (text : List ℕ) → index.place_of text ≡ None
+  pub places : (text : List ℕ) → index.text_place text ≡ None
   pub count : index.count ≡ 0
 
 -- one more file has this text and this place: the place of the text, and if it had none, the one behind all files
 pub record AddsText (old new : TextIndex) (text : List ℕ) (place : ℕ) : Type 0 where
-  pub found : place ≡ unwrap_or (old.place_of text) old.count
-  pub places : (other : List ℕ) → new.place_of other ≡ cond (bytes_eq text other) (Some place) (old.place_of other)
+  pub found : place ≡ unwrap_or (old.text_place text) old.count
+  pub places : (other : List ℕ) → new.text_place other ≡ cond (bytes_eq text other) (Some place) (old.text_place other)
   pub count : new.count ≡ old.count + 1
 
 -- the first of the files with this canonical text is at this place
@@ -60,7 +60,7 @@ PlacesText files text (Some place) = IsFirstText files text place
 -- it is the index of these files: each text has the place of the first of them with this canonical text
 pub record IsIndexOf (index : TextIndex) (files : List PlainFile) : Type 0 where
   pub facts : (k : ℕ) (file : PlainFile) → slice_get files k ≡ Some file → IsPlainFile file
-  pub texts : (text : List ℕ) → PlacesText files text (index.place_of text)
+  pub texts : (text : List ℕ) → PlacesText files text (index.text_place text)
   pub count : index.count ≡ length files
 
 -- ---- a file that is read from a stream first

@@ -34,7 +34,7 @@ impl Model for AuctionIndex {
 
     ghost Value = { TextIndex };
 
-    ghost view = { λ index. record { place_of = λ text. get_by (λ key. bytes_eq text key.items) index.places; count = index.count } };
+    ghost view = { λ index. record { text_place = λ text. get_by (λ key. bytes_eq text key.items) index.places; count = index.count } };
 }
 
 impl AuctionIndex {

@@ -85,12 +85,12 @@ pub fn first_places()
 
 /// A text that an index has keeps its place, and a new one is placed behind all files.
 pub fn added_texts()
-    ensures new { AddsText (record { place_of = λ _. None; count = 2 })
-        (record { place_of = λ text. cond (bytes_eq (codes "a") text) (Some 2) None; count = 3 }) (codes "a") 2 }
-    ensures known { AddsText (record { place_of = λ _. Some 0; count = 2 }) (record { place_of = λ _. Some 0; count = 3 }) (codes "a") 2
+    ensures new { AddsText (record { text_place = λ _. None; count = 2 })
+        (record { text_place = λ text. cond (bytes_eq (codes "a") text) (Some 2) None; count = 3 }) (codes "a") 2 }
+    ensures known { AddsText (record { text_place = λ _. Some 0; count = 2 }) (record { text_place = λ _. Some 0; count = 3 }) (codes "a") 2
         → ⊥ }
-    ensures counted { AddsText (record { place_of = λ _. None; count = 2 }) (record { place_of = λ _. None; count = 2 }) (codes "a") 2 → ⊥ }
-    ensures none { IsEmptyIndex (record { place_of = λ _. None; count = 0 }) }
-    ensures of_none { IsIndexOf (record { place_of = λ _. None; count = 0 }) [] }
-    ensures one_less { IsIndexOf (record { place_of = λ _. None; count = 0 }) (file_from (auction 1 [] []) ∷ []) → ⊥ }
+    ensures counted { AddsText (record { text_place = λ _. None; count = 2 }) (record { text_place = λ _. None; count = 2 }) (codes "a") 2 → ⊥ }
+    ensures none { IsEmptyIndex (record { text_place = λ _. None; count = 0 }) }
+    ensures of_none { IsIndexOf (record { text_place = λ _. None; count = 0 }) [] }
+    ensures one_less { IsIndexOf (record { text_place = λ _. None; count = 0 }) (file_from (auction 1 [] []) ∷ []) → ⊥ }
 {}
