@@ -1,6 +1,6 @@
 -- One more file in an index. Files have one text exactly where they are the same auction, so the first file with a text, which is the
 -- one that the map has for it, is the first of its auction.
-use Rattle.std.proofs.Common.{◌≡◌, ◌⊎◌, ℕ, zero, suc, ◌+◌, ◌<◌, Bool, true, false, cond, unwrap_or, bytes_eq, List, [], ◌∷◌, ◌++◌, length, get_or, All, Option}
+use Rattle.std.proofs.Common.{◌≡◌, ◌⊎◌, ℕ, zero, suc, ◌+◌, ◌<◌, Bool, true, false, cond, unwrap_or, bytes_eq, List, [], ◌∷◌, ◌++◌, length, get_or, map, All, Option}
 use Rattle.std.proofs.Common.{Some, None, slice_get, refl, sym, ap, ◌∙◌, subst, inl, inr, ⊎_elim, arith, length-append, Global}
 use Rattle.std.specs.Prelude.{Vec, Result, Ok, Err, IfOk, IfErr, OnOk, OnErr, IsErrAnd}
 use Rattle.std.specs.Io.KnownBytes.{Consumes}
@@ -16,7 +16,7 @@ use Rattle.cats_text.specs.Streams.{inner_of, ReadsFile, ReadsAs}
 use Rattle.cats_text.specs.declared.stream.Watched.{Watched}
 use Rattle.canon.specs.Answers.{RefusesAs}
 use Rattle.canon.specs.Canonical.{canonical_text}
-use Rattle.canon.specs.FirstPlaces.{AddsStream, AddsText, IsEmptyIndex, IsFirstPlace, IsFirstText, IsIndexOf, LacksText, PlacesText, TextIndex, first_place}
+use Rattle.canon.specs.FirstPlaces.{AddsStream, AddsText, IsEmptyIndex, IsFirstPlace, IsFirstText, IsIndexOf, LacksText, PlacesText, TextIndex, first_place, text_place}
 use Rattle.canon.specs.Normalising.{IsText, normalised_file}
 use Rattle.canon.specs.declared.fault.CanonFault.{CanonFault}
 use Rattle.canon.specs.Internal.TextPlaces.{place_of}
@@ -112,25 +112,25 @@ first_of_auction files f place facts each h = record {
 pub index_of_none : (index : TextIndex) → IsEmptyIndex index → IsIndexOf index []
 index_of_none index h = record {
   facts = λ k file at. absurd (none-some file at);
-  texts = λ text. subst (λ (o : Option ℕ). PlacesText [] text o) (sym (h.places text)) (λ k other at is. absurd (none-some other at));
+  texts = λ text. subst (λ (o : Option ℕ). PlacesText [] text o) (sym (ap (lookup (bytes_eq text)) h.texts)) (λ k other at is. absurd (none-some other at));
   count = h.count;
 }
 
 module _ (old new : TextIndex) (place : ℕ) (files : List PlainFile) (f : PlainFile) (facts : IsPlainFile f) (h : IsIndexOf old files)
     (added : AddsText old new (canonical_text f) place) where
   first : IsFirstText (files ++ f ∷ []) (canonical_text f) place
-  first = first_text files f (old.text_place (canonical_text f)) old.count place h.count added.found (h.texts (canonical_text f))
+  first = first_text files f (text_place old (canonical_text f)) old.count place h.count added.found (h.texts (canonical_text f))
 
-  put : (text : List ℕ) → bytes_eq (canonical_text f) text ≡ true → PlacesText (files ++ f ∷ []) text (new.text_place text)
+  put : (text : List ℕ) → bytes_eq (canonical_text f) text ≡ true → PlacesText (files ++ f ∷ []) text (text_place new text)
   put text equal =
-      let at : new.text_place text ≡ Some place = added.places text ∙ cond-true (bytes_eq (canonical_text f) text) (Some place) (old.text_place text) equal in
+      let at : text_place new text ≡ Some place = added.places text ∙ cond-true (bytes_eq (canonical_text f) text) (Some place) (text_place old text) equal in
       subst (λ (o : Option ℕ). PlacesText (files ++ f ∷ []) text o) (sym at)
       (subst (λ (t : List ℕ). IsFirstText (files ++ f ∷ []) t place) ((bytes_decides (canonical_text f) text).0 equal) first)
 
-  kept : (text : List ℕ) → bytes_eq (canonical_text f) text ≡ false → PlacesText (files ++ f ∷ []) text (new.text_place text)
+  kept : (text : List ℕ) → bytes_eq (canonical_text f) text ≡ false → PlacesText (files ++ f ∷ []) text (text_place new text)
   kept text apart =
-      let at : new.text_place text ≡ old.text_place text = added.places text ∙ cond-false (bytes_eq (canonical_text f) text) (Some place) (old.text_place text) apart in
-      subst (λ (o : Option ℕ). PlacesText (files ++ f ∷ []) text o) (sym at) (stays_placed files f text apart (old.text_place text) (h.texts text))
+      let at : text_place new text ≡ text_place old text = added.places text ∙ cond-false (bytes_eq (canonical_text f) text) (Some place) (text_place old text) apart in
+      subst (λ (o : Option ℕ). PlacesText (files ++ f ∷ []) text o) (sym at) (stays_placed files f text apart (text_place old text) (h.texts text))
 
   -- one more file
   pub index_of_more : IsIndexOf new (files ++ f ∷ [])
@@ -156,6 +156,15 @@ other_entries test old new h = h
 
 apart_texts : (one other key : List ℕ) → bytes_eq one other ≡ false → bytes_eq one key ≡ true → bytes_eq other key ≡ false
 apart_texts one other key n y = nat_list_eq_equiv.symm other key ∙ sym (nat_list_eq_equiv.congr one key other y) ∙ n
+
+pub bytes_eq_sym : (one other : List ℕ) → bytes_eq one other ≡ bytes_eq other one
+bytes_eq_sym one other = nat_list_eq_equiv.symm one other
+
+-- the place that is seen of a map
+pub place_seen : (entries : List (Vec ℕ Global × ℕ)) (text : List ℕ)
+    → lookup (bytes_eq text) (map (λ e. (e.0.items, e.1)) entries) ≡ lookup (λ key. bytes_eq text key.items) entries
+place_seen [] text = refl
+place_seen (e ∷ entries) text = ap (λ (o : Option ℕ). cond (bytes_eq text e.0.items) (Some e.1) o) (place_seen entries text)
 
 -- what a map has for a text, after one was put there
 pub updated : {S : Type 0} (old new : HashMap (Vec ℕ Global) ℕ S) (text : List ℕ) (place : ℕ)

@@ -1,5 +1,6 @@
 -- The first file of an auction, among files that were added one by one.
-use Rattle.std.specs.Prelude.{◌≡◌, ◌⊎◌, ℕ, ◌+◌, ◌<◌, List, length, position, Option, Some, None, slice_get, bytes_eq, cond, unwrap_or}
+use Rattle.std.specs.Map.{lookup}
+use Rattle.std.specs.Prelude.{◌≡◌, ◌⊎◌, ℕ, ◌+◌, ◌<◌, List, [], length, position, Option, Some, None, slice_get, bytes_eq, cond, unwrap_or}
 use Rattle.std.specs.Prelude.{Result, Ok, Err}
 use Rattle.std.specs.Io.KnownBytes.{Consumes}
 use Rattle.bid_file.specs.Files.{PlainFile, IsPlainFile}
@@ -26,20 +27,24 @@ first_place files given = position (λ file. bytes_eq (canonical_text file) (can
 
 -- ---- an index of texts
 
--- what an index holds: the place of each text that it has, and how many files were added
+-- what an index holds: texts, each with its place, and how many files were added
 pub record TextIndex : Type 0 where
-  pub text_place : List ℕ → Option ℕ
+  pub texts : List (List ℕ × ℕ)
   pub count : ℕ
+
+-- the place of a text, if the index has it
+abbrev pub text_place : TextIndex → List ℕ → Option ℕ
+text_place index text = lookup (bytes_eq text) index.texts
 
 -- it holds no text, and no file was added
 pub record IsEmptyIndex (index : TextIndex) : Type 0 where
-  pub places : (text : List ℕ) → index.text_place text ≡ None
+  pub texts : index.texts ≡ []
   pub count : index.count ≡ 0
 
 -- one more file has this text and this place: the place of the text, and if it had none, the one behind all files
 pub record AddsText (old new : TextIndex) (text : List ℕ) (place : ℕ) : Type 0 where
-  pub found : place ≡ unwrap_or (old.text_place text) old.count
-  pub places : (other : List ℕ) → new.text_place other ≡ cond (bytes_eq text other) (Some place) (old.text_place other)
+  pub found : place ≡ unwrap_or (text_place old text) old.count
+  pub places : (other : List ℕ) → text_place new other ≡ cond (bytes_eq text other) (Some place) (text_place old other)
   pub count : new.count ≡ old.count + 1
 
 -- the first of the files with this canonical text is at this place
@@ -60,7 +65,7 @@ PlacesText files text (Some place) = IsFirstText files text place
 -- it is the index of these files: each text has the place of the first of them with this canonical text
 pub record IsIndexOf (index : TextIndex) (files : List PlainFile) : Type 0 where
   pub facts : (k : ℕ) (file : PlainFile) → slice_get files k ≡ Some file → IsPlainFile file
-  pub texts : (text : List ℕ) → PlacesText files text (index.text_place text)
+  pub texts : (text : List ℕ) → PlacesText files text (text_place index text)
   pub count : index.count ≡ length files
 
 -- ---- a file that is read from a stream first

@@ -1,6 +1,6 @@
 //! Which auctions came among files that are added one by one, and which file of each came first.
 
-ghost use Rattle.std.specs.Prelude.{◌≡◌, List, cond, unwrap_or, bytes_eq, Some, IfOk, IfErr, OnOk, OnErr, false};
+ghost use Rattle.std.specs.Prelude.{◌≡◌, ℕ, List, cond, unwrap_or, bytes_eq, Some, IfOk, IfErr, OnOk, OnErr, false};
 ghost use Rattle.cats_text.specs.Streams.{has_ended, has_failed};
 ghost use Rattle.canon.specs.Answers.{RefusesAs};
 ghost use Rattle.canon.specs.Canonical.{canonical_text};
@@ -28,13 +28,12 @@ pub struct AuctionIndex {
 }
 
 impl Model for AuctionIndex {
-    ghost use Rattle.std.specs.Prelude.{bytes_eq};
-    ghost use Rattle.std.specs.HashMap.{get_by};
+    ghost use Rattle.std.specs.Prelude.{map};
     ghost use Rattle.canon.specs.FirstPlaces.{TextIndex};
 
     ghost Value = { TextIndex };
 
-    ghost view = { λ index. record { text_place = λ text. get_by (λ key. bytes_eq text key.items) index.places; count = index.count } };
+    ghost view = { λ index. record { texts = map (λ e. (e.0.items, e.1)) index.places.entries; count = index.count } };
 }
 
 impl AuctionIndex {

@@ -1,6 +1,6 @@
 //! Worked examples of the definitions, computed by the prover.
 
-ghost use Rattle.std.specs.Prelude.{◌≡◌, [], ◌∷◌, Some, None, bytes_eq, codes, cond};
+ghost use Rattle.std.specs.Prelude.{◌≡◌, [], ◌∷◌, Some, None, codes};
 ghost use Rattle.valuation.specs.Examples.{atom};
 ghost use Rattle.canon.specs.Canonical.{canonical_auction, file_from};
 ghost use Rattle.canon.specs.Examples.{auction};
@@ -85,12 +85,11 @@ pub fn first_places()
 
 /// A text that an index has keeps its place, and a new one is placed behind all files.
 pub fn added_texts()
-    ensures new { AddsText (record { text_place = λ _. None; count = 2 })
-        (record { text_place = λ text. cond (bytes_eq (codes "a") text) (Some 2) None; count = 3 }) (codes "a") 2 }
-    ensures known { AddsText (record { text_place = λ _. Some 0; count = 2 }) (record { text_place = λ _. Some 0; count = 3 }) (codes "a") 2
-        → ⊥ }
-    ensures counted { AddsText (record { text_place = λ _. None; count = 2 }) (record { text_place = λ _. None; count = 2 }) (codes "a") 2 → ⊥ }
-    ensures none { IsEmptyIndex (record { text_place = λ _. None; count = 0 }) }
-    ensures of_none { IsIndexOf (record { text_place = λ _. None; count = 0 }) [] }
-    ensures one_less { IsIndexOf (record { text_place = λ _. None; count = 0 }) (file_from (auction 1 [] []) ∷ []) → ⊥ }
+    ensures new { AddsText (record { texts = []; count = 2 }) (record { texts = (codes "a", 2) ∷ []; count = 3 }) (codes "a") 2 }
+    ensures known { AddsText (record { texts = (codes "a", 0) ∷ []; count = 2 }) (record { texts = (codes "a", 0) ∷ []; count = 3 })
+        (codes "a") 2 → ⊥ }
+    ensures counted { AddsText (record { texts = []; count = 2 }) (record { texts = (codes "a", 2) ∷ []; count = 2 }) (codes "a") 2 → ⊥ }
+    ensures none { IsEmptyIndex (record { texts = []; count = 0 }) }
+    ensures of_none { IsIndexOf (record { texts = []; count = 0 }) [] }
+    ensures one_less { IsIndexOf (record { texts = []; count = 0 }) (file_from (auction 1 [] []) ∷ []) → ⊥ }
 {}

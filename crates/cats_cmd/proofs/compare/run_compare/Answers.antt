@@ -2,11 +2,11 @@ use Rattle.std.proofs.Common.{refl}
 use Rattle.cats_cmd.proofs.Comparing.{run_compared, run_second_refused}
 use Rattle.cats_cmd.proofs.compare.run_compare.Goals as goal
 
-pub returns-in-Err-read_canonical-2 : goal.returns-in-Err-read_canonical-2
-returns-in-Err-read_canonical-2 g c =
-    run_second_refused _ _ _ _ _ _ _ _ _ _ c.in-Ok.file c.in-Ok.ensures.answer _ c.in-Err-read_canonical-2.ensures.answer refl
+pub returns-in-Err-read_canonical : goal.returns-in-Err-read_canonical
+returns-in-Err-read_canonical g c =
+    run_second_refused _ _ _ _ _ _ _ _ _ _ c.in-Ok.file c.in-Ok.ensures.answer _ c.in-Err-read_canonical.ensures.answer refl
 
 pub returns : goal.returns
 returns g c =
-    run_compared _ _ _ _ _ _ _ _ _ _ c.in-Ok.file c.in-Ok-read_canonical-2.file c.in-Ok.ensures.answer
-    c.in-Ok-read_canonical-2.ensures.answer _ c.send_difference.ensures
+    run_compared _ _ _ _ _ _ _ _ _ _ c.in-Ok.file c.in-Ok-read_canonical.file c.in-Ok.ensures.answer
+    c.in-Ok-read_canonical.ensures.answer _ c.send_difference.ensures
