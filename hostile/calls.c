@@ -1,7 +1,7 @@
 // Preloaded into the program by ./faults: one of its calls fails, or its reads and writes move few bytes at a time.
 //
 // The environment says what happens:
-//   FAULTS_CALL    allocation, read, write or open
+//   FAULTS_CALL    allocation, read, write, open, or denied: an opening that fails for want of permission
 //   FAULTS_NUMBER  which of these calls fails, counted from 1
 //   FAULTS_REST    set: all after it fail too
 //   FAULTS_PIECE   the most bytes that a read or a write moves
@@ -80,5 +80,5 @@ int open(const char *path, int flags, ...) {
     va_start(rest, flags);
     mode_t mode = flags & O_CREAT ? va_arg(rest, mode_t) : 0;
     va_end(rest);
-    return fails("open", EMFILE) ? -1 : (int)syscall(SYS_openat, AT_FDCWD, path, flags, mode);
+    return fails("open", EMFILE) || fails("denied", EACCES) ? -1 : (int)syscall(SYS_openat, AT_FDCWD, path, flags, mode);
 }

@@ -35,9 +35,10 @@ def reported(one, path, status, line):
 
 def opens(one):
     """Each file cannot be opened, though it is there."""
-    for number, path in enumerate(one.files, 1):
-        answer = run(one.words(), call="open", number=number)
-        TALLY.judge(answer.told() == reported(one, path, DEVICE_FAILED, b"cannot open\n"), f"{one}: open {number}", answer)
+    for call, line in (("open", b"cannot open\n"), ("denied", b"cannot open: permission denied\n")):
+        for number, path in enumerate(one.files, 1):
+            answer = run(one.words(), call=call, number=number)
+            TALLY.judge(answer.told() == reported(one, path, DEVICE_FAILED, line), f"{one}: {call} {number}", answer)
 
 
 def reads(one, piece):
@@ -88,7 +89,11 @@ def writes(one):
 
 def other_inputs(one):
     """A folder, a device that gives nothing and a path where nothing is stand among the files."""
-    for path, status, line in (("/", DEVICE_FAILED, b"Device\n"), ("/dev/null", FILE_REFUSED, b"line 1: Missing\n"), ("/nothing", DEVICE_FAILED, b"cannot open\n")):
+    for path, status, line in (
+        ("/", DEVICE_FAILED, b"cannot open: is a folder\n"),
+        ("/dev/null", FILE_REFUSED, b"line 1: Missing\n"),
+        ("/nothing", DEVICE_FAILED, b"cannot open: no such file\n"),
+    ):
         for at in range(len(one.files) + 1):
             files = [*one.files[:at], path, *one.files[at:]]
             answer = run([*one.command, *files])
@@ -118,11 +123,11 @@ def lists(folder):
         (b"", 0, b"", []),
         (one, 0, b"", []),
         (one + b"\0" + one + b"\0", 0, pair, []),
-        (one + b"\0\0" + one, DEVICE_FAILED, pair, [b": cannot open"]),
-        (b"\0", DEVICE_FAILED, b"", [b": cannot open"]),
-        (one + b"\0" + names + b"/none\0" + one, DEVICE_FAILED, pair, [names + b"/none: cannot open"]),
-        (one + b"\0" + names + b"/b\xff\0" + one, DEVICE_FAILED, pair, [names + b"/b\xff: cannot open"]),
-        (one + b"\0" + folder_of_files + b"\0" + one, DEVICE_FAILED, pair, [folder_of_files + b": "]),
+        (one + b"\0\0" + one, DEVICE_FAILED, pair, [b": cannot open: no such file\n"]),
+        (b"\0", DEVICE_FAILED, b"", [b": cannot open: no such file\n"]),
+        (one + b"\0" + names + b"/none\0" + one, DEVICE_FAILED, pair, [names + b"/none: cannot open: no such file\n"]),
+        (one + b"\0" + names + b"/b\xff\0" + one, DEVICE_FAILED, pair, [names + b"/b\xff: cannot open\n"]),
+        (one + b"\0" + folder_of_files + b"\0" + one, DEVICE_FAILED, pair, [folder_of_files + b": cannot open: is a folder\n"]),
     ]
     path = os.path.join(os.fsencode(folder), b"list")
     for text, status, out, lines in rows:
@@ -141,8 +146,8 @@ def lists(folder):
     TALLY.judge(is_told(answer, 0, header, []), "no path", answer)
     # lists that are not read, and words that are not UTF-8
     for words, status, line in (
-        (["sizes", "--files0-from", names + b"/none"], DEVICE_FAILED, names + b"/none: cannot open"),
-        (["duplicates", "--files0-from", folder_of_files], DEVICE_FAILED, folder_of_files + b": "),
+        (["sizes", "--files0-from", names + b"/none"], DEVICE_FAILED, names + b"/none: cannot open: no such file\n"),
+        (["duplicates", "--files0-from", folder_of_files], DEVICE_FAILED, folder_of_files + b": cannot open: is a folder\n"),
         (["sizes", one, b"\xff", b"\xfe"], WRONG_USAGE, b"argument 3 is not UTF-8; with --files0-from LIST, "),
         ([b"\xc3", one], WRONG_USAGE, b"argument 1 is not UTF-8; with --files0-from LIST, "),
     ):
@@ -153,8 +158,54 @@ def lists(folder):
         TALLY.judge(answer.told()[:2] == (WRONG_USAGE, b"") and answer.err.startswith(b"error: "), f"{words}", answer)
 
 
+# Names whose bytes are escaped on a line, and how they are printed there.
+NAMES = {
+    b"a\nb": rb"a\nb",
+    b"a\tb": rb"a\tb",
+    b"\x1b[2J": rb"\x1b[2J",
+    b"a\\nb": rb"a\\nb",
+    b"\x7f\x01": rb"\x7f\x01",
+    b"\xc3\xa9\xc2\x9b": b"\xc3\xa9\xc2\x9b",
+    b"-0": b"-0",
+}
+
+
+def names(folder):
+    """Files with such names: each is escaped on a line, and is as it is with NUL. And a folder with one file."""
+    place = os.path.join(os.fsencode(folder), b"escaped") + b"/"
+    os.mkdir(place)
+    for name in NAMES:
+        with open(place + name, "w", encoding="ascii") as file:
+            file.write(LADDER)
+    paths = [place + name for name in NAMES]
+    lines = [place + line for line in NAMES.values()]
+    listed = b"".join(path + b"\0" for path in paths)
+    path = os.path.join(os.fsencode(folder), b"list of names")
+    with open(path, "wb") as file:
+        file.write(listed)
+    for words in (paths, ["--files0-from", path]):
+        answer = run(["duplicates", *words])
+        TALLY.judge(is_told(answer, 0, b"".join(line + b"\n" for line in lines), []), "escaped names", answer)
+        answer = run(["duplicates", "-0", *words])
+        TALLY.judge(is_told(answer, 0, listed, []), "names with NUL", answer)
+        answer = run(["sizes", *words])
+        told = [line.split(b"\t", 8)[-1] for line in answer.out.splitlines()[1:]]
+        TALLY.judge(answer.told()[::2] == (0, b"") and told == lines, "escaped names in a table", answer)
+        answer = run(["sizes", "-0", *words])
+        told = [line.split(b"\t", 8)[-1] for line in answer.out.split(b"\0")[1:-1]]
+        TALLY.judge(answer.told()[::2] == (0, b"") and told == paths, "names with NUL in a table", answer)
+    # such names of files that are not there
+    absent = [path + b"/" + name for name in NAMES]
+    lines = [path + b"/" + line + b": cannot open\n" for line in NAMES.values()]
+    answer = run(["duplicates", "-0", "--progress", *absent])
+    TALLY.judge(is_told(answer, DEVICE_FAILED, b"", [*lines, b"7 of 7 " + lines[-1][: -len(b": cannot open\n")]]), "names that are not there", answer)
+    answer = run(["duplicates", paths[0]])
+    TALLY.judge(is_told(answer, 0, b"", []), "one file", answer)
+
+
 def work(folder):
     lists(folder)
+    names(folder)
     files = tuple(
         write_file(folder, name, text)
         for name, text in (("larger", LARGER_BID), ("singles", SINGLES), ("ladder", LADDER), ("bidders", BIDDERS), ("again", LADDER))

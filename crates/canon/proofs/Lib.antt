@@ -7,13 +7,14 @@ pub mod Smaller
 pub mod Texts
 pub mod Least
 pub mod Bidders
-pub mod BidderFronts
+pub mod BidderKeys
 pub mod Filing
 pub mod Answering
 pub mod Finding
 pub mod OrDifferences
 pub mod BidderDifferences
 pub mod Differences
+pub mod BidRuns
 pub mod BidOrders
 pub mod BidderWalks
 pub mod SameDifferences

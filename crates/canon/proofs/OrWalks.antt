@@ -1,17 +1,17 @@
--- Two lists of points are walked place by place. Where they part, the lesser bundle is the first on which the values differ.
+-- Two lists of points are walked place by place. At the first places that differ, the lesser bundle is the first on which the values differ.
 use Rattle.std.proofs.Common.{◌≡◌, ℕ, ◌+◌, ◌<◌, ◌≤◌, cond, ⊎_elim, List, [], ◌∷◌, ◌++◌, length, map, take, drop, get_or, refl, sym, ap, ap₂, ◌∙◌, subst, arith}
 use Rattle.std.proofs.Common.{Some, None, Less, Equal, Greater}
 use Rattle.std.specs.Prelude.{Contains, OnErr, Result, Ok, Err}
-use Rattle.std.specs.List.{find}
+use Rattle.std.specs.List.{find, slice_get}
 use Rattle.std.specs.Ordering.{ordering_reverse}
 use Rattle.std.proofs.lemmas.Bool.{cond-true, cond-false}
-use Rattle.std.proofs.lemmas.List.{take-append-drop, take_more, drop_more, take_all, append-nil, get_or-map, length-map}
+use Rattle.std.proofs.lemmas.List.{take-append-drop, take_more, drop_more, take_all, append-nil, get_or-map}
 use Rattle.std.proofs.lemmas.List.Elements.{All-contains}
+use Rattle.std.proofs.lemmas.Option.{get_or_from_slice_get, slice_get_within}
 use Rattle.goods_set.specs.Bundles.{all_bundles}
 use Rattle.goods_set.specs.Orders.{bundle_cmp}
 use Rattle.goods_set.specs.Lemmas.Orders.{bundle_cmp_total, bundle_cmp_equal}
-use Rattle.bid_file.specs.declared.bid.Bid.{Bid}
-use Rattle.bid_file.specs.Files.{plain_bid, plain_bids}
+use Rattle.bid_file.specs.Files.{PlainBid}
 use Rattle.valuation.specs.declared.atom.Atom.{Atom}
 use Rattle.valuation.specs.Auctions.{PlainAuction, atom_of}
 use Rattle.valuation.specs.Lemmas.Lists.{Contains-cons_cases, AllPairs-head}
@@ -34,11 +34,11 @@ pub on_err : {T E P : Type 0} (r : Result T E) → P → OnErr r P
 on_err (Ok x) p = tt
 on_err (Err y) p = p
 
--- what is told of the first list's value on the bundle
+-- what is reported of the first list's value on the bundle
 abbrev pub or_side : ℕ → List (Atom (List ℕ)) → List (Atom (List ℕ)) → List ℕ → Side
 or_side goods own other bundle = cond (is_or_point goods own bundle) (Exactly (or_value own bundle)) (Below (or_value other bundle))
 
--- the lists part at this bundle, with this to tell
+-- the lists differ first on this bundle, and this is reported
 pub record PartsAs (goods : ℕ) (one other : List (Atom (List ℕ))) (bundle : List ℕ) (left right : Side) : Type 0 where
   pub found : find (are_unequal one other) (all_bundles goods) ≡ Some bundle
   pub on_left : or_side goods one other bundle ≡ left
@@ -152,128 +152,124 @@ again_atoms : (atoms : List (Atom (List ℕ))) → map atom_of (map (bid_from No
 again_atoms [] = refl
 again_atoms (a ∷ rest) = ap (λ (zs : List (Atom (List ℕ))). a ∷ zs) (again_atoms rest)
 
-pub offers_are : (cap : ℕ) (a : PlainAuction) (bids : List Bid) → HasOrBids cap a (plain_bids bids) → offers bids ≡ a.or_atoms
-offers_are cap a bids h = ap (map atom_of) h.are ∙ again_atoms a.or_atoms
+pub offers_are : (a : PlainAuction) (bids : List PlainBid) → HasOrBids a bids → offers bids ≡ a.or_atoms
+offers_are a bids h = ap (map atom_of) h.are ∙ again_atoms a.or_atoms
 
-offers_points : (cap : ℕ) (a : PlainAuction) (bids : List Bid) → HasOrBids cap a (plain_bids bids) → ArePoints a.goods (offers bids)
-offers_points cap a bids h =
-    subst (λ (zs : List (Atom (List ℕ))). ArePoints a.goods zs) (sym (offers_are cap a bids h))
+offers_points : (a : PlainAuction) (bids : List PlainBid) → HasOrBids a bids → ArePoints a.goods (offers bids)
+offers_points a bids h =
+    subst (λ (zs : List (Atom (List ℕ))). ArePoints a.goods zs) (sym (offers_are a bids h))
     (record { on = on_bundles a.goods a.or_atoms h.facts.or_atoms; points = ap (λ (c : PlainAuction). c.or_atoms) h.canonical })
 
--- what is told of the bids is told of the auctions
-pub told_of_auctions : (left right : List Bid) (bundle : List ℕ) (one other : Side)
+-- the difference of the bids is that of the auctions
+pub named_of_auctions : (left right : List PlainBid) (bundle : List ℕ) (one other : Side)
     → ((goods : ℕ) → ArePoints goods (offers left) → ArePoints goods (offers right) → PartsAs goods (offers left) (offers right) bundle one other)
-    → (cap : ℕ) (a b : PlainAuction) → HasOrBids cap a (plain_bids left) → HasOrBids cap b (plain_bids right) → a.goods ≡ b.goods
+    → (a b : PlainAuction) → HasOrBids a left → HasOrBids b right → a.goods ≡ b.goods
     → or_difference a b (first_unequal_bundle a b) ≡ InOr bundle one other
-told_of_auctions left right bundle one other parts cap a b h k e =
-    let points = subst (λ n. ArePoints n (offers right)) (sym e) (offers_points cap b right k) in
+named_of_auctions left right bundle one other parts a b h k e =
+    let points = subst (λ n. ArePoints n (offers right)) (sym e) (offers_points b right k) in
     let there : PartsAs a.goods a.or_atoms (offers right) bundle one other =
-    subst (λ (zs : List (Atom (List ℕ))). PartsAs a.goods zs (offers right) bundle one other) (offers_are cap a left h)
-    (parts a.goods (offers_points cap a left h) points) in
+    subst (λ (zs : List (Atom (List ℕ))). PartsAs a.goods zs (offers right) bundle one other) (offers_are a left h)
+    (parts a.goods (offers_points a left h) points) in
     let here : PartsAs a.goods a.or_atoms b.or_atoms bundle one other =
-    subst (λ (zs : List (Atom (List ℕ))). PartsAs a.goods a.or_atoms zs bundle one other) (offers_are cap b right k) there in
+    subst (λ (zs : List (Atom (List ℕ))). PartsAs a.goods a.or_atoms zs bundle one other) (offers_are b right k) there in
     ap (or_difference a b) here.found
     ∙ ap₂ (λ (x y : Side). InOr bundle x y) here.on_left (ap (λ n. or_side n b.or_atoms a.or_atoms bundle) (sym e) ∙ here.on_right)
 
 -- nowhere
-pub none_of_auctions : (left right : List Bid) → offers left ≡ offers right → (cap : ℕ) (a b : PlainAuction) → HasOrBids cap a (plain_bids left)
-    → HasOrBids cap b (plain_bids right) → first_unequal_bundle a b ≡ None
-none_of_auctions left right same cap a b h k =
-    let atoms : a.or_atoms ≡ b.or_atoms = sym (offers_are cap a left h) ∙ same ∙ offers_are cap b right k in
+pub none_of_auctions : (left right : List PlainBid) → offers left ≡ offers right → (a b : PlainAuction) → HasOrBids a left
+    → HasOrBids b right → first_unequal_bundle a b ≡ None
+none_of_auctions left right same a b h k =
+    let atoms : a.or_atoms ≡ b.or_atoms = sym (offers_are a left h) ∙ same ∙ offers_are b right k in
     find_none (are_unequal a.or_atoms b.or_atoms) (all_bundles a.goods)
     (λ bundle c. equal_test a.or_atoms b.or_atoms bundle (ap (λ (zs : List (Atom (List ℕ))). or_value zs bundle) atoms))
 
 -- ---- the bid at a place
 
-pub offer_at : (bids : List Bid) (i : ℕ) (b : Bid) → i < length bids → b ≡ get_or bids i b
-    → atom_of (plain_bid b) ≡ get_or (offers bids) i (atom_of (plain_bid b))
-offer_at bids i b l e =
-    let long = length-map bids plain_bid in
-    sym (get_or-map atom_of (plain_bids bids) i (plain_bid b) (atom_of (plain_bid b)) (omega arith)
-    ∙ ap atom_of (get_or-map plain_bid bids i b (plain_bid b) l ∙ ap plain_bid (sym e)))
+offer_at : (bids : List PlainBid) (i : ℕ) (b : PlainBid) → slice_get bids i ≡ Some b → atom_of b ≡ get_or (offers bids) i (atom_of b)
+offer_at bids i b e =
+    sym (get_or-map atom_of bids i b (atom_of b) (slice_get_within bids i b e) ∙ ap atom_of (get_or_from_slice_get bids i b b e))
 
--- ---- what is told of two walked lists of bids
+-- ---- the first difference of two lists of bids
 
 -- this is the first difference of all auctions that have these bids
-abbrev pub IsTold : List Bid → List Bid → List ℕ → Side → Side → Type 0
-IsTold left right bundle one other =
-    (cap : ℕ) (a b : PlainAuction) → HasOrBids cap a (plain_bids left) → HasOrBids cap b (plain_bids right) → a.goods ≡ b.goods
+abbrev pub IsNamed : List PlainBid → List PlainBid → List ℕ → Side → Side → Type 0
+IsNamed left right bundle one other =
+    (a b : PlainAuction) → HasOrBids a left → HasOrBids b right → a.goods ≡ b.goods
     → or_difference a b (first_unequal_bundle a b) ≡ InOr bundle one other
 
-told_alike : (left right : List Bid) (bundle told : List ℕ) (one other told_one told_other : Side) → told ≡ bundle → told_one ≡ one → told_other ≡ other
-    → IsTold left right bundle one other → IsTold left right told told_one told_other
-told_alike left right bundle told one other told_one told_other e f g t = λ cap a b h k same. let u = t cap a b h k same in cc
+named_alike : (left right : List PlainBid) (bundle named : List ℕ) (one other named_one named_other : Side) → named ≡ bundle → named_one ≡ one → named_other ≡ other
+    → IsNamed left right bundle one other → IsNamed left right named named_one named_other
+named_alike left right bundle named one other named_one named_other e f g t = λ a b h k same. let u = t a b h k same in cc
 
-module _ (left right : List Bid) (i : ℕ) (shared : take i (offers left) ≡ take i (offers right)) (told : List ℕ) (one other : Side) where
-  module _ (x : Bid) (here : i < length left) (is : x ≡ get_or left i x) where
-    pub told_left_longer : length right ≤ i → told ≡ x.goods.items → one ≡ Exactly x.price → other ≡ Below x.price → IsTold left right told one other
-    told_left_longer end e f g =
+module _ (left right : List PlainBid) (i : ℕ) (shared : take i (offers left) ≡ take i (offers right)) (named : List ℕ) (one other : Side) where
+  module _ (x : PlainBid) (is : slice_get left i ≡ Some x) where
+    pub left_longer : length right ≤ i → named ≡ x.goods → one ≡ Exactly x.price → other ≡ Below x.price → IsNamed left right named one other
+    left_longer end e f g =
         let long = length-offers left in
         let short = length-offers right in
-        told_alike left right x.goods.items told (Exactly x.price) (Below x.price) one other e f g
-        (told_of_auctions left right x.goods.items (Exactly x.price) (Below x.price) (λ goods p q. parted_at_end goods (offers left) (offers right) p q i shared
-        (atom_of (plain_bid x)) (omega arith) (offer_at left i x here is) (omega arith)))
+        named_alike left right x.goods named (Exactly x.price) (Below x.price) one other e f g
+        (named_of_auctions left right x.goods (Exactly x.price) (Below x.price) (λ goods p q. parted_at_end goods (offers left) (offers right) p q i shared
+        (atom_of x) (omega (arith, slice_get_within left i x is)) (offer_at left i x is) (omega arith)))
 
-    module _ (y : Bid) (there : i < length right) (so : y ≡ get_or right i y) where
-      pub told_left : bundle_cmp x.goods.items y.goods.items ≡ Less → told ≡ x.goods.items → one ≡ Exactly x.price → other ≡ Below x.price
-          → IsTold left right told one other
-      told_left less e f g =
+    module _ (y : PlainBid) (so : slice_get right i ≡ Some y) where
+      pub left_first : bundle_cmp x.goods y.goods ≡ Less → named ≡ x.goods → one ≡ Exactly x.price → other ≡ Below x.price
+          → IsNamed left right named one other
+      left_first less e f g =
           let long = length-offers left in
           let short = length-offers right in
-          told_alike left right x.goods.items told (Exactly x.price) (Below x.price) one other e f g
-          (told_of_auctions left right x.goods.items (Exactly x.price) (Below x.price)
-          (λ goods p q. parted_before goods (offers left) (offers right) p q i shared (atom_of (plain_bid x)) (omega arith) (offer_at left i x here is)
-          (atom_of (plain_bid y)) (omega arith) (offer_at right i y there so) less))
+          named_alike left right x.goods named (Exactly x.price) (Below x.price) one other e f g
+          (named_of_auctions left right x.goods (Exactly x.price) (Below x.price)
+          (λ goods p q. parted_before goods (offers left) (offers right) p q i shared (atom_of x) (omega (arith, slice_get_within left i x is)) (offer_at left i x is)
+          (atom_of y) (omega (arith, slice_get_within right i y so)) (offer_at right i y so) less))
 
-      pub told_right : bundle_cmp x.goods.items y.goods.items ≡ Greater → told ≡ y.goods.items → one ≡ Below y.price → other ≡ Exactly y.price
-          → IsTold left right told one other
-      told_right greater e f g =
+      pub right_first : bundle_cmp x.goods y.goods ≡ Greater → named ≡ y.goods → one ≡ Below y.price → other ≡ Exactly y.price
+          → IsNamed left right named one other
+      right_first greater e f g =
           let long = length-offers left in
           let short = length-offers right in
-          let less : bundle_cmp y.goods.items x.goods.items ≡ Less = bundle_cmp_total.antisymm y.goods.items x.goods.items ∙ ap ordering_reverse greater in
-          told_alike left right y.goods.items told (Below y.price) (Exactly y.price) one other e f g
-          (told_of_auctions left right y.goods.items (Below y.price) (Exactly y.price)
-          (λ goods p q. parted_after goods (offers left) (offers right) p q i shared (atom_of (plain_bid y)) (omega arith) (offer_at right i y there so)
-          (atom_of (plain_bid x)) (omega arith) (offer_at left i x here is) less))
+          let less : bundle_cmp y.goods x.goods ≡ Less = bundle_cmp_total.antisymm y.goods x.goods ∙ ap ordering_reverse greater in
+          named_alike left right y.goods named (Below y.price) (Exactly y.price) one other e f g
+          (named_of_auctions left right y.goods (Below y.price) (Exactly y.price)
+          (λ goods p q. parted_after goods (offers left) (offers right) p q i shared (atom_of y) (omega (arith, slice_get_within right i y so)) (offer_at right i y so)
+          (atom_of x) (omega (arith, slice_get_within left i x is)) (offer_at left i x is) less))
 
-      pub told_both : bundle_cmp x.goods.items y.goods.items ≡ Equal → (x.price ≡ y.price → ⊥) → told ≡ x.goods.items → one ≡ Exactly x.price
-          → other ≡ Exactly y.price → IsTold left right told one other
-      told_both equal differ e f g =
+      pub both_differ : bundle_cmp x.goods y.goods ≡ Equal → (x.price ≡ y.price → ⊥) → named ≡ x.goods → one ≡ Exactly x.price
+          → other ≡ Exactly y.price → IsNamed left right named one other
+      both_differ equal differ e f g =
           let long = length-offers left in
           let short = length-offers right in
-          told_alike left right x.goods.items told (Exactly x.price) (Exactly y.price) one other e f g
-          (told_of_auctions left right x.goods.items (Exactly x.price) (Exactly y.price)
-          (λ goods p q. parted_by_price goods (offers left) (offers right) p q i shared (atom_of (plain_bid x)) (omega arith) (offer_at left i x here is)
-          (atom_of (plain_bid y)) (omega arith) (offer_at right i y there so) (bundle_cmp_equal x.goods.items y.goods.items equal) differ))
+          named_alike left right x.goods named (Exactly x.price) (Exactly y.price) one other e f g
+          (named_of_auctions left right x.goods (Exactly x.price) (Exactly y.price)
+          (λ goods p q. parted_by_price goods (offers left) (offers right) p q i shared (atom_of x) (omega (arith, slice_get_within left i x is)) (offer_at left i x is)
+          (atom_of y) (omega (arith, slice_get_within right i y so)) (offer_at right i y so) (bundle_cmp_equal x.goods y.goods equal) differ))
 
-  module _ (y : Bid) (there : i < length right) (so : y ≡ get_or right i y) where
-    pub told_right_longer : length left ≤ i → told ≡ y.goods.items → one ≡ Below y.price → other ≡ Exactly y.price → IsTold left right told one other
-    told_right_longer end e f g =
+  module _ (y : PlainBid) (so : slice_get right i ≡ Some y) where
+    pub right_longer : length left ≤ i → named ≡ y.goods → one ≡ Below y.price → other ≡ Exactly y.price → IsNamed left right named one other
+    right_longer end e f g =
         let long = length-offers left in
         let short = length-offers right in
-        told_alike left right y.goods.items told (Below y.price) (Exactly y.price) one other e f g
-        (told_of_auctions left right y.goods.items (Below y.price) (Exactly y.price)
-        (λ goods p q. parted_at_end_right goods (offers left) (offers right) p q i shared (atom_of (plain_bid y)) (omega arith)
-        (offer_at right i y there so) (omega arith)))
+        named_alike left right y.goods named (Below y.price) (Exactly y.price) one other e f g
+        (named_of_auctions left right y.goods (Below y.price) (Exactly y.price)
+        (λ goods p q. parted_at_end_right goods (offers left) (offers right) p q i shared (atom_of y) (omega (arith, slice_get_within right i y so))
+        (offer_at right i y so) (omega arith)))
 
 -- one more place that is the same
-pub shared_more : (left right : List Bid) (i : ℕ) → take i (offers left) ≡ take i (offers right) → (x y : Bid) → i < length left → x ≡ get_or left i x
-    → i < length right → y ≡ get_or right i y
-    → bundle_cmp x.goods.items y.goods.items ≡ Equal → x.price ≡ y.price → take (i + 1) (offers left) ≡ take (i + 1) (offers right)
-shared_more left right i shared x y here is there so equal price =
+pub shared_more : (left right : List PlainBid) (i : ℕ) → take i (offers left) ≡ take i (offers right) → (x y : PlainBid) → slice_get left i ≡ Some x → slice_get right i ≡ Some y
+    → bundle_cmp x.goods y.goods ≡ Equal → x.price ≡ y.price → take (i + 1) (offers left) ≡ take (i + 1) (offers right)
+shared_more left right i shared x y is so equal price =
     let long = length-offers left in
     let short = length-offers right in
-    let atom : atom_of (plain_bid x) ≡ atom_of (plain_bid y) =
-    ap₂ (λ (b : List ℕ) (p : ℕ). record { bundle = b; price = p }) (bundle_cmp_equal x.goods.items y.goods.items equal) price in
-    take_more (offers left) i (atom_of (plain_bid x)) (omega arith)
-    ∙ ap₂ (λ (zs : List (Atom (List ℕ))) (a : Atom (List ℕ)). zs ++ a ∷ []) shared (sym (offer_at left i x here is) ∙ atom ∙ offer_at right i y there so)
-    ∙ sym (take_more (offers right) i (atom_of (plain_bid y)) (omega arith))
+    let atom : atom_of x ≡ atom_of y =
+    ap₂ (λ (b : List ℕ) (p : ℕ). record { bundle = b; price = p }) (bundle_cmp_equal x.goods y.goods equal) price in
+    take_more (offers left) i (atom_of x) (omega (arith, slice_get_within left i x is))
+    ∙ ap₂ (λ (zs : List (Atom (List ℕ))) (a : Atom (List ℕ)). zs ++ a ∷ []) shared (sym (offer_at left i x is) ∙ atom ∙ offer_at right i y so)
+    ∙ sym (take_more (offers right) i (atom_of y) (omega (arith, slice_get_within right i y so)))
 
 -- all places are the same
-pub shared_all : (left right : List Bid) (i : ℕ) → take i (offers left) ≡ take i (offers right) → length left ≤ i → length right ≤ i
-    → (cap : ℕ) (a b : PlainAuction) → HasOrBids cap a (plain_bids left) → HasOrBids cap b (plain_bids right) → a.goods ≡ b.goods
+pub shared_all : (left right : List PlainBid) (i : ℕ) → take i (offers left) ≡ take i (offers right) → length left ≤ i → length right ≤ i
+    → (a b : PlainAuction) → HasOrBids a left → HasOrBids b right → a.goods ≡ b.goods
     → first_unequal_bundle a b ≡ None
-shared_all left right i shared l m cap a b h k e =
+shared_all left right i shared l m a b h k e =
     let long = length-offers left in
     let short = length-offers right in
-    none_of_auctions left right (sym (take_all i (offers left) (omega arith)) ∙ shared ∙ take_all i (offers right) (omega arith)) cap a b h k
+    none_of_auctions left right (sym (take_all i (offers left) (omega arith)) ∙ shared ∙ take_all i (offers right) (omega arith)) a b h k

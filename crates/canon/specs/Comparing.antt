@@ -1,5 +1,5 @@
--- What comparing two texts answers. The first text comes first: of two texts that both have no canonical text, the
--- first is told.
+-- What comparing two texts answers. The first text comes first: if neither text has a canonical text, the first is
+-- refused.
 use Rattle.std.specs.Prelude.{◌≡◌, ℕ, List, None, Result, Ok, Err}
 use Rattle.bid_file.specs.Files.{PlainFile}
 use Rattle.cats_text.specs.Grammar.{Spells}
@@ -32,8 +32,8 @@ pub record DifferInGoods (limit : ℕ) (one other : List ℕ) : Type 0 where
   pub differ : Differ limit one other difference
   pub named : NamesGoods difference
 
--- Which text is refused, and why. The second is refused only where the first is not, and both only where neither is: by
--- want of memory, for the goods that their verdict names.
+-- Which text is refused, and why. The second is refused only if the first is not, and both only if neither is: by want
+-- of memory, for the goods that their verdict names.
 abbrev pub RefusesOf : ℕ → List ℕ → List ℕ → Which → CanonFault → Type 0
 RefusesOf limit one other Only fault = ⊥
 RefusesOf limit one other First fault = RefusesText limit one fault
@@ -56,7 +56,7 @@ abbrev pub ReadsNormalAs : ℕ → List ℕ → Result PlainFile CanonFault → 
 ReadsNormalAs limit text (Ok h) = IsNormalFileOf limit text h
 ReadsNormalAs limit text (Err fault) = RefusesText limit text fault
 
--- the same, of the text of which a refusal is told
+-- the same, of the text that a refusal names
 abbrev pub ReadsOneAs : Which → ℕ → List ℕ → Result PlainFile (Which × CanonFault) → Type 0
 ReadsOneAs which limit text (Ok h) = IsNormalFileOf limit text h
 ReadsOneAs which limit text (Err refusal) = (refusal.0 ≡ which) × RefusesText limit text refusal.1

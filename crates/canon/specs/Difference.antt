@@ -1,4 +1,4 @@
--- Where two auctions part first. The number of goods comes first, then the OR values on the bundles in order, and then
+-- The first difference of two auctions. The number of goods comes first, then the OR values on the bundles in order, and then
 -- the XOR bidders, each as its points, in order. Values are those of Nisan ("Bidding and allocation in combinatorial
 -- auctions", 2000).
 use Rattle.std.specs.Prelude.{ℕ, not, ◌==◌, if◌then◌else◌, Option, Some, None, List, ◌++◌}
@@ -30,7 +30,7 @@ abbrev pub first_unequal_bundle : PlainAuction → PlainAuction → Option (List
 first_unequal_bundle a b = find (λ bundle. not (or_value a.or_atoms bundle == or_value b.or_atoms bundle))
     (all_bundles a.goods)
 
--- what is told of the first auction: its value, where it has an OR point on the bundle, and else that it is below the
+-- what is reported of the first auction: its value, if it has an OR point on the bundle, and else that it is below the
 -- other's
 abbrev pub side_of : PlainAuction → PlainAuction → List ℕ → Side
 side_of a other bundle =

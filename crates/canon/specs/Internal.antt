@@ -1,7 +1,7 @@
 -- What the contracts of private functions cite, and the facts that private types keep. No public contract rests on
 -- them.
 pub mod BidderBids
-pub mod BidderFronts
-pub mod FrontedBidders
+pub mod BidderKeys
+pub mod KeyedBidders
 pub mod OrBids
 pub mod TextPlaces

@@ -6,7 +6,7 @@ use Rattle.canon.specs.declared.verdict.Verdict.{Verdict}
 use Rattle.canon.specs.declared.verdict.Verdict.TheVariants.{Same, Goods, Or, Xor}
 use Rattle.canon.specs.Difference.{Difference, NoDifference, InGoods, InOr, InXor}
 
--- bids that are told by their goods and prices
+-- bids by their goods and prices
 abbrev pub told_atoms : List (Vec ℕ Global × ℕ) → List (Atom (List ℕ))
 told_atoms bids = map (λ b. record { bundle = b.0.items; price = b.1 }) bids
 

@@ -11,9 +11,9 @@ ghost use Rattle.prune.specs.Faults.{IfStepLimit};
 ghost use Rattle.prune.specs.SearchSteps.{first_heavy};
 ghost use Rattle.canon.specs.Canonical.{IsCanonical, canonical_auction, points_of_bidders};
 ghost use Rattle.canon.specs.Sameness.{IsSameAuction};
-ghost use Rattle.canon.specs.Internal.FrontedBidders.{fronted_bidders};
+ghost use Rattle.canon.specs.Internal.KeyedBidders.{keyed_bidders};
 
-use crate::fronted_bidder::FrontedBidder;
+use crate::keyed_bidder::KeyedBidder;
 use goods_set::GoodsSet;
 use prune::{PruneFault, prune_or, prune_xor};
 use std::alloc::{AllocError, Global};
@@ -39,7 +39,7 @@ pub fn canonical<S: GoodsSet>(
     let or_points = prune_or(alloc, or_atoms, limit)?;
     let mut bidders = points_of_each(alloc, xor_bidders)?;
     sort_bidders(&mut bidders);
-    let xor_points = without_fronts(alloc, bidders)?;
+    let xor_points = without_keys(alloc, bidders)?;
     Ok(Auction::new(goods, or_points, xor_points))
 }
 
@@ -47,39 +47,39 @@ pub fn canonical<S: GoodsSet>(
 fn points_of_each<S: GoodsSet>(
     alloc: Global,
     bidders: Vec<Vec<Atom<S>>>,
-) -> Result<Vec<FrontedBidder<S>>, AllocError>
+) -> Result<Vec<KeyedBidder<S>>, AllocError>
     requires { All (All (IsAtom MAX_GOODS)) (bidders_of S.goods bidders.items) }
     // For each number of goods that the atoms are within.
     ensures { let atoms = bidders_of S.goods bidders.items in
         IfOk result (λ points. (goods : ℕ) → All (All (IsAtom goods)) atoms
-        → fronted_bidders points.items ≡ points_of_bidders goods atoms) }
+        → keyed_bidders points.items ≡ points_of_bidders goods atoms) }
 {
     let mut points = Vec::with_capacity(alloc, bidders.len())?;
     for bidder in bidders {
         let own = prune_xor(alloc, bidder)?;
         if !own.is_empty() {
-            points.push(FrontedBidder::new(own))?;
+            points.push(KeyedBidder::new(own))?;
         }
     }
     Ok(points)
 }
 
 /// Puts the bidders in the order of their lists of atoms.
-fn sort_bidders<S: GoodsSet>(bidders: &mut Vec<FrontedBidder<S>>)
-    ensures { fronted_bidders bidders.new.items ≡ sort_by bidder_cmp (fronted_bidders bidders.old.items) }
+fn sort_bidders<S: GoodsSet>(bidders: &mut Vec<KeyedBidder<S>>)
+    ensures { keyed_bidders bidders.new.items ≡ sort_by bidder_cmp (keyed_bidders bidders.old.items) }
 {
     bidders.sort_unstable_by(|one, other| one.order(other));
 }
 
 /// The bidders without what stands beside them.
-fn without_fronts<S: GoodsSet>(
+fn without_keys<S: GoodsSet>(
     alloc: Global,
-    fronted: Vec<FrontedBidder<S>>,
+    keyed: Vec<KeyedBidder<S>>,
 ) -> Result<Vec<Vec<Atom<S>>>, AllocError>
-    ensures { IfOk result (λ bidders. bidders_of S.goods bidders.items ≡ fronted_bidders fronted.items) }
+    ensures { IfOk result (λ bidders. bidders_of S.goods bidders.items ≡ keyed_bidders keyed.items) }
 {
-    let mut bidders = Vec::with_capacity(alloc, fronted.len())?;
-    for bidder in fronted {
+    let mut bidders = Vec::with_capacity(alloc, keyed.len())?;
+    for bidder in keyed {
         bidders.push(bidder.into_atoms())?;
     }
     Ok(bidders)

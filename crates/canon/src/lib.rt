@@ -5,22 +5,23 @@
 mod auction;
 mod auction_index;
 mod bid_order;
+mod bid_run;
 mod bundles;
 mod comparison;
 mod fault;
 mod file;
-mod fronted_bidder;
+mod keyed_bidder;
 pub mod laws;
 mod normal;
-mod parting;
 mod text;
 mod verdict;
 mod which;
 pub mod worked;
+mod xor_bidders;
 
 pub use auction::canonical;
 pub use auction_index::AuctionIndex;
-pub use comparison::{compare, compare_files, compare_packed_files};
+pub use comparison::{compare, compare_files};
 pub use fault::CanonFault;
 pub use file::{file_of, packed_file_of};
 pub use normal::{normal_file, normal_packed_file};

@@ -1,6 +1,6 @@
 //! What comparing two files answers.
 
-/// Where two auctions part first, or that they are the same.
+/// The first difference of two auctions, or that they are the same.
 #[derive(Debug, PartialEq, Eq, Drop)]
 pub enum Verdict {
     /// They are the same auction.
@@ -27,7 +27,7 @@ pub enum Verdict {
     },
 }
 
-/// What is told of one auction's OR value on a bundle, in millionths.
+/// What is reported of one auction's OR value on a bundle, in millionths.
 #[derive(Debug, PartialEq, Eq, Clone, Copy)]
 pub enum Side {
     /// The value, which is the price of the auction's bid on the bundle.

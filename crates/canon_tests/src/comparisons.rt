@@ -8,8 +8,8 @@ use crate::refusals::{expect_line, refusal_text};
 use bid_file::BidFile;
 use canon::laws::canonical_auctions_have_canonical_files;
 use canon::{
-    CanonFault, Verdict, Which, canonical, compare, compare_files, compare_packed_files, file_of,
-    normal_file, normal_packed_file,
+    CanonFault, Verdict, Which, canonical, compare, compare_files, file_of, normal_file,
+    normal_packed_file,
 };
 use cats_text::{read, read_packed};
 use goods_set::ListSet;
@@ -46,7 +46,7 @@ const ONE_ONE_OTHER: &str =
 const ONE_OTHER_OTHER: &str =
     "goods 2\nbids 3\ndummy 3\n0\t1\t0\t2\t#\n1\t2\t1\t3\t#\n2\t2\t1\t4\t#\n";
 
-/// Pairs of texts, and how they part.
+/// Pairs of texts, and their first difference.
 static ROWS: [(&str, &str, &str); 13] = [
     (TWICE, TWICE, "Same"),
     (
@@ -120,7 +120,7 @@ fn told(alloc: Global, answer: Result<Verdict, (Which, CanonFault)>) -> Result<S
 }
 
 #[test]
-fn texts_part(rt: HostRuntime) -> Result<(), Fail> {
+fn texts_differ(rt: HostRuntime) -> Result<(), Fail> {
     for (left, right, expected) in &ROWS {
         let answer = compare(rt.alloc(), left.as_bytes(), right.as_bytes(), 100);
         expect_line(&rt, &told(rt.alloc(), answer)?, expected);
@@ -128,7 +128,7 @@ fn texts_part(rt: HostRuntime) -> Result<(), Fail> {
     Ok(())
 }
 
-/// How the canonical files of two texts part.
+/// The first difference of the canonical files of two texts.
 fn difference(alloc: Global, left: &str, right: &str) -> Result<Verdict, Fail> {
     let one = read(alloc, left.as_bytes())?;
     let one = normal_file(alloc, &one, 100)?;
@@ -139,7 +139,7 @@ fn difference(alloc: Global, left: &str, right: &str) -> Result<Verdict, Fail> {
 }
 
 #[test]
-fn canonical_files_part(rt: HostRuntime) -> Result<(), Fail> {
+fn canonical_files_differ(rt: HostRuntime) -> Result<(), Fail> {
     for (left, right, expected) in &ROWS {
         let verdict = difference(rt.alloc(), left, right)?;
         expect_line(&rt, &verdict_text(rt.alloc(), &verdict)?, expected);
@@ -159,7 +159,7 @@ fn file_of_canonical(alloc: Global, text: &str) -> Result<BidFile, Fail>
 }
 
 #[test]
-fn files_of_canonical_auctions_part(rt: HostRuntime) -> Result<(), Fail> {
+fn files_of_canonical_auctions_differ(rt: HostRuntime) -> Result<(), Fail> {
     for (left, right, expected) in &ROWS {
         let one = file_of_canonical(rt.alloc(), left)?;
         let other = file_of_canonical(rt.alloc(), right)?;
@@ -169,18 +169,18 @@ fn files_of_canonical_auctions_part(rt: HostRuntime) -> Result<(), Fail> {
     Ok(())
 }
 
-/// How the canonical packed files of two texts part.
+/// The first difference of the canonical packed files of two texts.
 fn packed_difference(alloc: Global, left: &str, right: &str) -> Result<Verdict, Fail> {
     let one = read_packed(alloc, left.as_bytes())?;
     let one = normal_packed_file(alloc, one, 100)?;
     let other = read_packed(alloc, right.as_bytes())?;
     let other = normal_packed_file(alloc, other, 100)?;
-    let verdict = compare_packed_files(alloc, &one, &other)?;
+    let verdict = compare_files(alloc, &one, &other)?;
     Ok(verdict)
 }
 
 #[test]
-fn canonical_packed_files_part(rt: HostRuntime) -> Result<(), Fail> {
+fn canonical_packed_files_differ(rt: HostRuntime) -> Result<(), Fail> {
     for (left, right, expected) in &ROWS {
         let verdict = packed_difference(rt.alloc(), left, right)?;
         expect_line(&rt, &verdict_text(rt.alloc(), &verdict)?, expected);

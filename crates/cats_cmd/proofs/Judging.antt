@@ -29,10 +29,11 @@ use Rattle.cats_cmd.specs.Outcomes.{ExceedsSteps, normalise_outcome, text_unless
 use Rattle.cats_cmd.specs.Runs.{MakesAs}
 use Rattle.cats_cmd.specs.Stops.{Reports, ReportsAll, status_of_stop}
 use Rattle.cats_cmd.specs.declared.program.Stop.{Stop}
-use Rattle.cats_cmd.specs.declared.program.Stop.TheVariants.{CannotOpen, Run}
+use Rattle.cats_cmd.specs.declared.program.Stop.TheVariants.{CannotOpen, NotOpened, Run}
 use Rattle.cats_cmd.specs.declared.report.RunFault.TheVariants.{Refused}
 use Rattle.cats_cmd.proofs.FindingPlaces.{groups_more}
 use Rattle.cats_cmd.proofs.RunsOfOneFile.{refused_in_reading, refused_in_making}
+use Rattle.cats_cmd.specs.declared.source.Unopened.{Unopened}
 
 -- ---- heavy bundles
 
@@ -159,13 +160,14 @@ module _ {R : Type 0} (remaining : R → Option (List ℕ)) (limit : ℕ) (old n
 
 -- ---- the file at a path
 
-module _ {C F : Type 0} (Has : C → List (List ℕ × Judgement) → Type 0) (may_open : List ℕ → F → Type 0) (may_refuse : List ℕ → Type 0)
+module _ {C F : Type 0} (Has : C → List (List ℕ × Judgement) → Type 0) (may_open : List ℕ → F → Type 0) (may_refuse : List ℕ → Unopened → Type 0)
     (remaining : F → Option (List ℕ)) (limit : ℕ) (path : List ℕ) (kept more : C) where
   opened_judges : (before after : Watched F) → IsOpened may_open path before → (j : Judgement) → JudgesStream remaining limit before after j
       → Judges may_open may_refuse remaining limit (path, j)
   opened_judges before after opened (IsJudged file) judges = record { before = before; after = after; opened = opened; judges = judges }
   opened_judges before after opened (IsHeavy file goods) judges = record { before = before; after = after; opened = opened; judges = judges }
   opened_judges before after opened (IsStopped (CannotOpen which)) judges = absurd judges
+  opened_judges before after opened (IsStopped (NotOpened why)) judges = absurd judges
   opened_judges before after opened (IsStopped (Run fault)) judges = record { before = before; after = after; opened = opened; judges = judges }
 
   pub file_added : (before after : Watched F) → IsOpened may_open path before → (stop : Option Stop)
@@ -184,20 +186,19 @@ module _ {C F : Type 0} (Has : C → List (List ℕ × Judgement) → Type 0) (m
   file_if_added before after opened (Err e) a = tt
 
 -- no stream was opened at the path
-pub file_unopened : {C F : Type 0} (Has : C → List (List ℕ × Judgement) → Type 0) (may_open : List ℕ → F → Type 0) (may_refuse : List ℕ → Type 0)
+pub file_unopened : {C F : Type 0} (Has : C → List (List ℕ × Judgement) → Type 0) (may_open : List ℕ → F → Type 0) (may_refuse : List ℕ → Unopened → Type 0)
     (remaining : F → Option (List ℕ)) (limit : ℕ) (path : List ℕ) (kept : C)
     → ((js : List (List ℕ × Judgement)) (p : List ℕ) (stop : Stop) → Has kept js → Has kept (js ++ (p, IsStopped stop) ∷ []))
-    → (stop : Stop) → stop ≡ CannotOpen Only → IsUnopened may_refuse path → AddsFile Has may_open may_refuse remaining limit path kept kept (Some stop)
-file_unopened Has may_open may_refuse remaining limit path kept skips stop is refuses =
-    rw is (record {
-      judgement = IsStopped (CannotOpen Only);
-      judges = (refl, refuses);
-      adds = λ js h. skips js path (CannotOpen Only) h;
-      is_stop = refl;
-    })
+    → (why : Unopened) → IsUnopened may_refuse path why → AddsFile Has may_open may_refuse remaining limit path kept kept (Some (NotOpened why))
+file_unopened Has may_open may_refuse remaining limit path kept skips why refuses = record {
+  judgement = IsStopped (NotOpened why);
+  judges = refuses;
+  adds = λ js h. skips js path (NotOpened why) h;
+  is_stop = refl;
+}
 
 -- the file was not judged, and that was reported
-pub path_stopped : {C F E : Type 0} (Has : C → List (List ℕ × Judgement) → Type 0) (may_open : List ℕ → F → Type 0) (may_refuse : List ℕ → Type 0)
+pub path_stopped : {C F E : Type 0} (Has : C → List (List ℕ × Judgement) → Type 0) (may_open : List ℕ → F → Type 0) (may_refuse : List ℕ → Unopened → Type 0)
     (remaining : F → Option (List ℕ)) (limit : ℕ) (messages : E → Option (List ℕ)) (path : List ℕ) (kept more : C) (err err_after : Watched E)
     (stop : Option Stop) (why : Stop) (status : ℕ) → AddsFile Has may_open may_refuse remaining limit path kept more stop → stop ≡ Some why
     → Reports messages (refusal_line path why) err err_after → status ≡ status_of_stop why

@@ -13,6 +13,7 @@ use Rattle.cats_cmd.specs.Internal.Judging.{AddsPath, HasJudged, JudgesAllAs}
 use Rattle.cats_cmd.specs.Paths.{is_counted, Judgement, Judges, JudgesPaths, greatest_status, lines_from, lines_of_path, progress_line, progress_lines}
 use Rattle.cats_cmd.specs.Paths.{refusal_lines, report_lines, status_of_judgement, stop_of}
 use Rattle.cats_cmd.specs.Stops.{Reports, ReportsAll}
+use Rattle.cats_cmd.specs.declared.source.Unopened.{Unopened}
 
 pub all_push : {X : Type 0} (P : X → Type 0) (xs : List X) (x : X) → AllByRecursion P xs → P x → AllByRecursion P (xs ++ x ∷ [])
 all_push P [] x h p = (p, tt)
@@ -52,7 +53,7 @@ module _ {E : Type 0} (messages : E → Option (List ℕ)) (progress : Bool) (nu
 
 -- ---- the paths so far
 
-module _ {C F E : Type 0} (Has : C → List (List ℕ × Judgement) → Type 0) (may_open : List ℕ → F → Type 0) (may_refuse : List ℕ → Type 0)
+module _ {C F E : Type 0} (Has : C → List (List ℕ × Judgement) → Type 0) (may_open : List ℕ → F → Type 0) (may_refuse : List ℕ → Unopened → Type 0)
     (remaining : F → Option (List ℕ)) (limit : ℕ) (messages : E → Option (List ℕ)) (progress : Bool) (count : ℕ) (err : Watched E) where
   pub none_judged : (kept : C) → Has kept [] → HasJudged Has may_open may_refuse remaining limit messages progress count [] kept err err 0
   none_judged kept has = record {
@@ -100,7 +101,7 @@ one_more_path paths i d l = ap (map (λ (p : Bor (List ℕ)). p.now)) (take_more
 so_many : (paths : List (Bor (List ℕ))) (i : ℕ) → i < length paths → length (map (λ (p : Bor (List ℕ)). p.now) (take i paths)) ≡ i
 so_many paths i l = length-map (take i paths) (λ (p : Bor (List ℕ)). p.now) ∙ length-take-le i paths (omega (arith, l))
 
-module _ {C F E : Type 0} (Has : C → List (List ℕ × Judgement) → Type 0) (may_open : List ℕ → F → Type 0) (may_refuse : List ℕ → Type 0)
+module _ {C F E : Type 0} (Has : C → List (List ℕ × Judgement) → Type 0) (may_open : List ℕ → F → Type 0) (may_refuse : List ℕ → Unopened → Type 0)
     (remaining : F → Option (List ℕ)) (limit : ℕ) (messages : E → Option (List ℕ)) (progress : Bool) (paths : List (Bor (List ℕ))) (err : Watched E)
     (i : ℕ) (kept : C) (greatest : ℕ) (before : Watched E)
     (h : HasJudged Has may_open may_refuse remaining limit messages progress (length paths) (map (λ p. p.now) (take i paths)) kept err before greatest) where

@@ -13,6 +13,7 @@ mod Rounding
 mod Judging
 mod JudgingPaths
 mod ListingPaths
+mod OutputPaths
 mod Skipping
 mod FindingPlaces
 mod Tabling

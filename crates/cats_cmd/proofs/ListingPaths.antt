@@ -2,6 +2,7 @@
 use Rattle.std.proofs.Common.{◌≡◌, ◌≢◌, ℕ, List, [], ◌∷◌, ◌++◌, length, refl, sym, ap, ◌∙◌, subst, arith, map, ◌<◌, false, Bor, Option, Err}
 use Rattle.std.specs.List.{All, slice_split}
 use Rattle.std.specs.Prelude.{◌==◌}
+use Rattle.std.proofs.lemmas.Bool.{eq-eqb}
 use Rattle.std.proofs.lemmas.List.{append_assoc, length-map, map-append}
 use Rattle.std.proofs.lemmas.List.Splits.{length-slice_split, slice_split_at}
 use Rattle.std.proofs.lemmas.List.Elements.{All-head, All-tail}
@@ -13,7 +14,8 @@ use Rattle.cats_cmd.specs.FileLists.{IsUnread}
 use Rattle.cats_cmd.specs.Inputs.{IsOpened, ReadsBytes}
 use Rattle.cats_cmd.specs.declared.program.Stop.TheVariants.{Run}
 use Rattle.cats_cmd.specs.declared.report.RunFault.TheVariants.{Refused}
-use Rattle.cats_cmd.specs.PathLists.{listed, paths_in, without_empty_end}
+use Rattle.cats_cmd.specs.PathLists.{ended, parts_in, paths_in, without_empty_end}
+use Rattle.cats_cmd.specs.declared.source.Unopened.{Unopened}
 
 end_dropped : (parts : List (List ℕ)) → without_empty_end (parts ++ [] ∷ []) ≡ parts
 end_dropped [] = refl
@@ -52,14 +54,14 @@ rest_kept all paths rest text split last some =
     parts ∙ sym (any_end_kept (plain paths) rest.now some) ∙ ap without_empty_end (sym parts ∙ split)
 
 -- a text has a part
-pub some_part : (text : List ℕ) → 0 < length (slice_split (λ b. b == 0) text)
-some_part text = let count = length-slice_split (λ b. b == 0) text in omega (arith, count)
+pub some_part : (end : ℕ) (text : List ℕ) → 0 < length (slice_split (λ b. b == end) text)
+some_part end text = let count = length-slice_split (λ b. b == end) text in omega (arith, count)
 
 pub no_rest : (all paths : List (Bor (List ℕ))) (text : List ℕ) → plain all ≡ slice_split (λ b. b == 0) text → (0 < length all → ⊥) → plain paths ≡ paths_in text
 no_rest all paths text split none =
-    absurd (none (subst (λ (n : ℕ). 0 < n) (sym (ap length split) ∙ length-map all (λ (path : Bor (List ℕ)). path.now)) (some_part text)))
+    absurd (none (subst (λ (n : ℕ). 0 < n) (sym (ap length split) ∙ length-map all (λ (path : Bor (List ℕ)). path.now)) (some_part 0 text)))
 
--- ---- the text that lists some paths
+-- ---- the text that has a byte behind each part
 
 first_whole : (path next : List ℕ) (more : List (List ℕ)) → without_empty_end (path ∷ next ∷ more) ≡ path ∷ without_empty_end (next ∷ more)
 first_whole [] next more = refl
@@ -69,19 +71,19 @@ first_of_more : (path : List ℕ) (parts : List (List ℕ)) → 0 < length parts
 first_of_more path [] some = absurd (omega (arith, some))
 first_of_more path (next ∷ more) some = first_whole path next more
 
-pub read_back : (paths : List (List ℕ)) → All (λ path. All (λ b. (b == 0) ≡ false) path) paths → paths_in (listed paths) ≡ paths
-read_back [] plain = refl
-read_back (path ∷ paths) plain =
-    let cut : slice_split (λ b. b == 0) (listed (path ∷ paths)) ≡ path ∷ slice_split (λ b. b == 0) (listed paths) =
-    ap (slice_split (λ b. b == 0)) (append_assoc path (0 ∷ []) (listed paths))
-    ∙ slice_split_at (λ b. b == 0) path 0 (listed paths) (All-head (λ path. All (λ b. (b == 0) ≡ false) path) path paths plain) refl in
-    ap without_empty_end cut ∙ first_of_more path (slice_split (λ b. b == 0) (listed paths)) (some_part (listed paths))
-    ∙ ap (λ (rest : List (List ℕ)). path ∷ rest) (read_back paths (All-tail (λ path. All (λ b. (b == 0) ≡ false) path) path paths plain))
+pub parts_back : (end : ℕ) (parts : List (List ℕ)) → All (λ part. All (λ b. (b == end) ≡ false) part) parts → parts_in end (ended end parts) ≡ parts
+parts_back end [] plain = refl
+parts_back end (part ∷ parts) plain =
+    let cut : slice_split (λ b. b == end) (ended end (part ∷ parts)) ≡ part ∷ slice_split (λ b. b == end) (ended end parts) =
+    ap (slice_split (λ b. b == end)) (append_assoc part (end ∷ []) (ended end parts))
+    ∙ slice_split_at (λ b. b == end) part end (ended end parts) (All-head (λ part. All (λ b. (b == end) ≡ false) part) part parts plain) (eq-eqb end end refl) in
+    ap without_empty_end cut ∙ first_of_more part (slice_split (λ b. b == end) (ended end parts)) (some_part end (ended end parts))
+    ∙ ap (λ (rest : List (List ℕ)). part ∷ rest) (parts_back end parts (All-tail (λ part. All (λ b. (b == end) ≡ false) part) part parts plain))
 
 -- ---- the stream of a list
 
 -- why the bytes of the list were not read
-pub stopped_reading : {F : Type 0} (may_open : List ℕ → F → Type 0) (may_refuse : List ℕ → Type 0) (remaining : F → Option (List ℕ)) (list : List ℕ)
+pub stopped_reading : {F : Type 0} (may_open : List ℕ → F → Type 0) (may_refuse : List ℕ → Unopened → Type 0) (remaining : F → Option (List ℕ)) (list : List ℕ)
     (fault : CanonFault) (before after : Watched F) → IsOpened may_open list before → ReadsBytes remaining before after (Err fault)
     → IsUnread may_open may_refuse remaining list (Run (Refused Only fault))
 stopped_reading may_open may_refuse remaining list (Read fault) before after opened stops =

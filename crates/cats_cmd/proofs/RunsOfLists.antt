@@ -10,8 +10,9 @@ use Rattle.cats_cmd.specs.PathLists.{paths_in}
 use Rattle.cats_cmd.specs.Paths.{BeginsPaths, Judgement, RunsOnPaths}
 use Rattle.cats_cmd.specs.declared.report.RunFault.{RunFault}
 use Rattle.cats_cmd.specs.declared.report.RunFault.TheVariants.{Refused}
+use Rattle.cats_cmd.specs.declared.source.Unopened.{Unopened}
 
-module _ {F W E : Type 0} (may_open : List ℕ → F → Type 0) (may_refuse : List ℕ → Type 0) (remaining : F → Option (List ℕ))
+module _ {F W E : Type 0} (may_open : List ℕ → F → Type 0) (may_refuse : List ℕ → Unopened → Type 0) (remaining : F → Option (List ℕ))
     (contents : W → Option (List ℕ)) (messages : E → Option (List ℕ)) (limit : ℕ) (Makes : List (List ℕ × Judgement) → List ℕ → Type 0)
     (progress : Bool) (err : Watched E) where
   none_begun : (paths : List (List ℕ)) → BeginsPaths may_open may_refuse remaining messages limit progress paths err err

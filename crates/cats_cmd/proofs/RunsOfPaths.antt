@@ -13,8 +13,9 @@ use Rattle.cats_cmd.specs.Runs.{SendsAs}
 use Rattle.cats_cmd.specs.declared.report.RunFault.{RunFault}
 use Rattle.cats_cmd.specs.declared.report.RunFault.TheVariants.{Refused, GoodRange, Sent}
 use Rattle.cats_cmd.proofs.RunsOfOneFile.{wrote}
+use Rattle.cats_cmd.specs.declared.source.Unopened.{Unopened}
 
-module _ {F W E : Type 0} (may_open : List ℕ → F → Type 0) (may_refuse : List ℕ → Type 0) (remaining : F → Option (List ℕ))
+module _ {F W E : Type 0} (may_open : List ℕ → F → Type 0) (may_refuse : List ℕ → Unopened → Type 0) (remaining : F → Option (List ℕ))
     (contents : W → Option (List ℕ)) (messages : E → Option (List ℕ)) (limit : ℕ) (Makes : List (List ℕ × Judgement) → List ℕ → Type 0)
     (paths : List (List ℕ)) (progress : Bool) (err err_after : Watched E) where
   -- memory was refused after the first of the paths

@@ -27,13 +27,14 @@ use Rattle.cats_cmd.specs.Rounding.{Rounds}
 use Rattle.cats_cmd.specs.Stops.{Reports, is_for_many_files, is_reporting, line_of_stop, names_many_files, names_reporting, status_of_stop}
 use Rattle.cats_cmd.specs.ValueTexts.{bundle_from, value_text}
 use Rattle.cats_cmd.specs.declared.program.Stop.{Stop}
-use Rattle.cats_cmd.specs.declared.program.Stop.TheVariants.{CannotOpen, Run}
+use Rattle.cats_cmd.specs.declared.program.Stop.TheVariants.{CannotOpen, NotOpened, Run}
 use Rattle.cats_cmd.specs.declared.report.RunFault.{RunFault}
 use Rattle.cats_cmd.specs.declared.report.RunFault.TheVariants.{Refused, GoodRange, Sent}
 use Rattle.command_line.specs.Requests.{IsNamedIn}
 use Rattle.command_line.specs.declared.request.Request.{Request}
 use Rattle.command_line.specs.declared.request.Request.TheVariants.{Check, Show, Value, Normalise, Round, Compare, Duplicates, Sizes}
 use Rattle.std.specs.Borrow.{Bor}
+use Rattle.cats_cmd.specs.declared.source.Unopened.{Unopened}
 
 -- ---- the outcomes that have a text
 
@@ -70,26 +71,26 @@ differs_or_same (InXor bidder left right) status text is = let same : 1 ≡ stat
 
 -- only `duplicates` and `sizes` name a request for many files
 pub few_files : (words : List (Bor (List ℕ))) (request : Request) → IsNamedIn words request → names_many_files words ≡ false → is_for_many_files request ≡ false
-few_files (program ∷ (word ∷ words)) (Duplicates files limit progress null) named few =
+few_files (program ∷ (word ∷ words)) (Duplicates files) named few =
     subst (λ (name : List ℕ). (bytes_eq name (codes "duplicates") || bytes_eq name (codes "sizes")) ≡ false) named few
-few_files (program ∷ []) (Duplicates files limit progress null) named few = absurd (named)
-few_files [] (Duplicates files limit progress null) named few = absurd (named)
-few_files (program ∷ (word ∷ words)) (Sizes files limit progress null) named few =
+few_files (program ∷ []) (Duplicates files) named few = absurd (named)
+few_files [] (Duplicates files) named few = absurd (named)
+few_files (program ∷ (word ∷ words)) (Sizes files) named few =
     subst (λ (name : List ℕ). (bytes_eq name (codes "duplicates") || bytes_eq name (codes "sizes")) ≡ false) named few
-few_files (program ∷ []) (Sizes files limit progress null) named few = absurd (named)
-few_files [] (Sizes files limit progress null) named few = absurd (named)
+few_files (program ∷ []) (Sizes files) named few = absurd (named)
+few_files [] (Sizes files) named few = absurd (named)
 few_files words request named few = refl
 
 -- only `round`, `duplicates` and `sizes` name a request that reports before it ends
 pub quiet_request : (words : List (Bor (List ℕ))) (request : Request) → IsNamedIn words request → names_reporting words ≡ false → is_reporting request ≡ false
-quiet_request (program ∷ (word ∷ words)) (Duplicates files limit progress null) named quiet =
+quiet_request (program ∷ (word ∷ words)) (Duplicates files) named quiet =
     subst (λ (name : List ℕ). (bytes_eq name (codes "round") || (bytes_eq name (codes "duplicates") || bytes_eq name (codes "sizes"))) ≡ false) named quiet
-quiet_request (program ∷ []) (Duplicates files limit progress null) named quiet = absurd (named)
-quiet_request [] (Duplicates files limit progress null) named quiet = absurd (named)
-quiet_request (program ∷ (word ∷ words)) (Sizes files limit progress null) named quiet =
+quiet_request (program ∷ []) (Duplicates files) named quiet = absurd (named)
+quiet_request [] (Duplicates files) named quiet = absurd (named)
+quiet_request (program ∷ (word ∷ words)) (Sizes files) named quiet =
     subst (λ (name : List ℕ). (bytes_eq name (codes "round") || (bytes_eq name (codes "duplicates") || bytes_eq name (codes "sizes"))) ≡ false) named quiet
-quiet_request (program ∷ []) (Sizes files limit progress null) named quiet = absurd (named)
-quiet_request [] (Sizes files limit progress null) named quiet = absurd (named)
+quiet_request (program ∷ []) (Sizes files) named quiet = absurd (named)
+quiet_request [] (Sizes files) named quiet = absurd (named)
 quiet_request (program ∷ (word ∷ words)) (Round file exact) named quiet =
     subst (λ (name : List ℕ). (bytes_eq name (codes "round") || (bytes_eq name (codes "duplicates") || bytes_eq name (codes "sizes"))) ≡ false) named quiet
 quiet_request (program ∷ []) (Round file exact) named quiet = absurd (named)
@@ -101,6 +102,7 @@ quiet_request words request named quiet = refl
 -- nothing was written, unless it is the output that failed
 abbrev IsSilent : {W : Type 0} → Stop → Watched W → Watched W → Type 0
 IsSilent (CannotOpen which) old new = new ≡ old
+IsSilent (NotOpened why) old new = new ≡ old
 IsSilent (Run (Refused which fault)) old new = new ≡ old
 IsSilent (Run (GoodRange good)) old new = new ≡ old
 IsSilent (Run (Sent fault)) old new = Unit {0}
@@ -159,19 +161,21 @@ canon_status_above Memory = omega arith
 -- no stop has the status of an answer
 stop_status_above : (stop : Stop) → 2 ≤ status_of_stop stop
 stop_status_above (CannotOpen which) = omega arith
+stop_status_above (NotOpened why) = omega arith
 stop_status_above (Run (Refused which fault)) = canon_status_above fault
 stop_status_above (Run (GoodRange good)) = omega arith
 stop_status_above (Run (Sent fault)) = omega arith
 
 silent_unless_failed : {W : Type 0} (stop : Stop) (old new : Watched W) → IsSilent stop old new → (status_of_stop stop ≡ 5 → ⊥) → new ≡ old
 silent_unless_failed (CannotOpen which) old new silent failed = silent
+silent_unless_failed (NotOpened why) old new silent failed = silent
 silent_unless_failed (Run (Refused which fault)) old new silent failed = silent
 silent_unless_failed (Run (GoodRange good)) old new silent failed = silent
 silent_unless_failed (Run (Sent fault)) old new silent failed = absurd (failed refl)
 
 -- ---- requests
 
-module _ {F W E : Type 0} (may_open : List ℕ → F → Type 0) (may_refuse : List ℕ → Type 0) (remaining : F → Option (List ℕ))
+module _ {F W E : Type 0} (may_open : List ℕ → F → Type 0) (may_refuse : List ℕ → Unopened → Type 0) (remaining : F → Option (List ℕ))
     (contents : W → Option (List ℕ)) (messages : E → Option (List ℕ)) (out out_after : Watched W) (err : Watched E) where
   -- a request for one or two files that answered has the status 0 or 1
   answered : (request : Request) (err_after : Watched E) (status : ℕ)
@@ -188,8 +192,8 @@ module _ {F W E : Type 0} (may_open : List ℕ → F → Type 0) (may_refuse : L
   answered (Round file exact) err_after status ran few = let made = ran.runs.made in let none : 0 ≡ status = cc in omega (arith, none)
   answered (Compare first second limit) err_after status ran few =
       told_comparison remaining remaining contents limit ran.0.left ran.0.left_after ran.0.right ran.0.right_after out out_after status ran.0.runs
-  answered (Duplicates files limit progress null) err_after status ran few = absurd (cc)
-  answered (Sizes files limit progress null) err_after status ran few = absurd (cc)
+  answered (Duplicates files) err_after status ran few = absurd (cc)
+  answered (Sizes files) err_after status ran few = absurd (cc)
 
   -- a request that answered has reported nothing, unless it is one that reports
   quiet : (request : Request) (err_after : Watched E) (answer : Result ℕ RunFault)
@@ -201,8 +205,8 @@ module _ {F W E : Type 0} (may_open : List ℕ → F → Type 0) (may_refuse : L
   quiet (Normalise file limit) err_after answer ran silent = ran.1
   quiet (Round file exact) err_after answer ran silent = absurd (cc)
   quiet (Compare first second limit) err_after answer ran silent = ran.1
-  quiet (Duplicates files limit progress null) err_after answer ran silent = absurd (cc)
-  quiet (Sizes files limit progress null) err_after answer ran silent = absurd (cc)
+  quiet (Duplicates files) err_after answer ran silent = absurd (cc)
+  quiet (Sizes files) err_after answer ran silent = absurd (cc)
 
   -- a request that stopped has written nothing, unless its output failed
   silent_fault : (request : Request) (err_after : Watched E) (fault : RunFault)
@@ -220,13 +224,14 @@ module _ {F W E : Type 0} (may_open : List ℕ → F → Type 0) (may_refuse : L
       silent_rounding remaining contents messages (fine_of exact) ran.before ran.after out out_after err err_after fault ran.runs
   silent_fault (Compare first second limit) err_after fault ran few =
       silent_comparison remaining remaining contents limit ran.0.left ran.0.left_after ran.0.right ran.0.right_after out out_after fault ran.0.runs
-  silent_fault (Duplicates files limit progress null) err_after fault ran few = absurd (cc)
-  silent_fault (Sizes files limit progress null) err_after fault ran few = absurd (cc)
+  silent_fault (Duplicates files) err_after fault ran few = absurd (cc)
+  silent_fault (Sizes files) err_after fault ran few = absurd (cc)
 
   silent_request : (request : Request) (err_after : Watched E) (stop : Stop)
       → CarriesOut may_open may_refuse remaining contents messages request out out_after err err_after (Err stop) → is_for_many_files request ≡ false
       → IsSilent stop out out_after
   silent_request request err_after (CannotOpen which) ran few = ran.1
+  silent_request request err_after (NotOpened why) ran few = absurd ran
   silent_request request err_after (Run fault) ran few = silent_fault request err_after fault ran few
 
   -- a status but 0, 1 and 5 says that nothing was written
@@ -272,7 +277,7 @@ module _ {F W E : Type 0} (may_open : List ℕ → F → Type 0) (may_refuse : L
 
 -- ---- the streams of a run are those that were opened
 
-pub rounded_at : {F W E : Type 0} (may_open : List ℕ → F → Type 0) (may_refuse : List ℕ → Type 0) (remaining : F → Option (List ℕ))
+pub rounded_at : {F W E : Type 0} (may_open : List ℕ → F → Type 0) (may_refuse : List ℕ → Unopened → Type 0) (remaining : F → Option (List ℕ))
     (contents : W → Option (List ℕ)) (messages : E → Option (List ℕ)) (path : List ℕ) (exact : Bool) (fine : FinePrices) → fine ≡ fine_of exact
     → (before after : Watched F) (out out_after : Watched W) (err err_after : Watched E) (answer : Result ℕ RunFault) → IsOpened may_open path before
     → Rounds remaining contents messages fine before after out out_after err err_after answer

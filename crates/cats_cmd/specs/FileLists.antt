@@ -11,11 +11,12 @@ use Rattle.cats_cmd.specs.PathLists.{paths_in}
 use Rattle.cats_cmd.specs.Paths.{refusal_line}
 use Rattle.cats_cmd.specs.Stops.{Reports, status_of_stop}
 use Rattle.cats_cmd.specs.declared.program.Stop.{Stop}
-use Rattle.cats_cmd.specs.declared.program.Stop.TheVariants.{CannotOpen, Run}
+use Rattle.cats_cmd.specs.declared.program.Stop.TheVariants.{CannotOpen, NotOpened, Run}
+use Rattle.cats_cmd.specs.declared.source.Unopened.{Unopened}
 use Rattle.cats_cmd.specs.declared.report.RunFault.{RunFault}
 use Rattle.cats_cmd.specs.declared.report.RunFault.TheVariants.{Refused, GoodRange, Sent}
 
-module _ {F : Type 0} (may_open : List ℕ → F → Type 0) (may_refuse : List ℕ → Type 0)
+module _ {F : Type 0} (may_open : List ℕ → F → Type 0) (may_refuse : List ℕ → Unopened → Type 0)
     (remaining : F → Option (List ℕ)) (list : List ℕ) where
   -- these bytes are all of the stream that was opened at the path of the list
   pub record ReadsList (bytes : List ℕ) : Type 0 where
@@ -33,7 +34,8 @@ module _ {F : Type 0} (may_open : List ℕ → F → Type 0) (may_refuse : List 
 
   -- why the list was not read; memory may be refused
   abbrev pub IsUnread : Stop → Type 0
-  IsUnread (CannotOpen which) = (which ≡ Only) × may_refuse list
+  IsUnread (CannotOpen which) = ⊥
+  IsUnread (NotOpened why) = may_refuse list why
   IsUnread (Run (Refused which (Read fault))) = (which ≡ Only) × StopsList fault
   IsUnread (Run (Refused which (StepLimit goods))) = ⊥
   IsUnread (Run (Refused which Memory)) = which ≡ Only
@@ -41,7 +43,7 @@ module _ {F : Type 0} (may_open : List ℕ → F → Type 0) (may_refuse : List 
   IsUnread (Run (Sent fault)) = ⊥
 
 -- `Runs` is the run on the files at some paths.
-module _ {F W E : Type 0} (may_open : List ℕ → F → Type 0) (may_refuse : List ℕ → Type 0)
+module _ {F W E : Type 0} (may_open : List ℕ → F → Type 0) (may_refuse : List ℕ → Unopened → Type 0)
     (remaining : F → Option (List ℕ)) (messages : E → Option (List ℕ))
     (Runs : List (List ℕ) → Watched W → Watched W → Watched E → Watched E → Result ℕ RunFault → Type 0) where
   -- the list was read, and the run is on the paths in it

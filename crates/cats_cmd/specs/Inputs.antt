@@ -14,6 +14,11 @@ use Rattle.prune.specs.SearchSteps.{first_heavy}
 use Rattle.canon.specs.declared.fault.CanonFault.{CanonFault}
 use Rattle.canon.specs.declared.fault.CanonFault.TheVariants.{Read, StepLimit, Memory}
 use Rattle.cats_cmd.specs.Outcomes.{Outcome, ExceedsSteps}
+use Rattle.cats_cmd.specs.declared.source.Unopened.{Unopened}
+
+-- a file at this path may be refused, for some reason
+abbrev pub MayRefuse : (List ℕ → Unopened → Type 0) → List ℕ → Type 0
+MayRefuse may_refuse path = (why : Unopened) × may_refuse path why
 
 -- a stream that was opened at this path and that no call has failed or ended yet
 pub record IsOpened {R : Type 0} (may_open : List ℕ → R → Type 0) (path : List ℕ) (stream : Watched R) : Type 0 where

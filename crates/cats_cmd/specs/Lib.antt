@@ -15,6 +15,7 @@ pub mod Escaping
 pub mod DuplicateTexts
 pub mod Paths
 pub mod PathLists
+pub mod OutputPaths
 pub mod Duplicates
 pub mod SizesTables
 pub mod Rounding

@@ -9,10 +9,18 @@ without_empty_end ([] ∷ []) = []
 without_empty_end ((b ∷ part) ∷ []) = (b ∷ part) ∷ []
 without_empty_end (part ∷ next ∷ more) = part ∷ without_empty_end (next ∷ more)
 
--- the paths in a text, in which each ends with NUL; the last may lack it
+-- the parts of a text, in which each ends with this byte; the last may lack it
+abbrev pub parts_in : ℕ → List ℕ → List (List ℕ)
+parts_in end text = without_empty_end (slice_split (λ b. b == end) text)
+
+-- the text that has this byte behind each part
+abbrev pub ended : ℕ → List (List ℕ) → List ℕ
+ended end parts = flat_map (λ part. part ++ end ∷ []) parts
+
+-- the paths in a text, in which each ends with NUL
 abbrev pub paths_in : List ℕ → List (List ℕ)
-paths_in text = without_empty_end (slice_split (λ b. b == 0) text)
+paths_in text = parts_in 0 text
 
 -- the text that lists these paths
 abbrev pub listed : List (List ℕ) → List ℕ
-listed paths = flat_map (λ path. path ++ 0 ∷ []) paths
+listed paths = ended 0 paths

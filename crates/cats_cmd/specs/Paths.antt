@@ -17,7 +17,9 @@ use Rattle.cats_cmd.specs.Outcomes.{Outcome, Tells, normalise_outcome}
 use Rattle.cats_cmd.specs.Runs.{FailsInText, WritesText}
 use Rattle.cats_cmd.specs.Stops.{ReportsAll, line_of_stop, status_of_stop}
 use Rattle.cats_cmd.specs.declared.program.Stop.{Stop}
-use Rattle.cats_cmd.specs.declared.program.Stop.TheVariants.{CannotOpen, Run}
+use Rattle.cats_cmd.specs.declared.program.Stop.TheVariants.{CannotOpen, NotOpened, Run}
+use Rattle.cats_cmd.specs.declared.source.Unopened.{Unopened}
+use Rattle.cats_cmd.specs.declared.source.Unopened.TheVariants.{Other}
 use Rattle.cats_cmd.specs.declared.report.RunFault.{RunFault}
 use Rattle.cats_cmd.specs.declared.report.RunFault.TheVariants.{Refused, GoodRange, Sent}
 
@@ -85,9 +87,9 @@ report_lines progress count judgements = lines_from progress count 1 judgements
 
 -- ---- the file at a path
 
--- no file was opened at the path: it may be refused, or it is not UTF-8
-abbrev pub IsUnopened : (List ℕ → Type 0) → List ℕ → Type 0
-IsUnopened may_refuse path = may_refuse path ⊎ (IsUtf8 path → ⊥)
+-- no file was opened at the path, for this reason: it may be refused, or it is not UTF-8
+abbrev pub IsUnopened : (List ℕ → Unopened → Type 0) → List ℕ → Unopened → Type 0
+IsUnopened may_refuse path why = may_refuse path why ⊎ ((why ≡ Other) × (IsUtf8 path → ⊥))
 
 module _ {F : Type 0} (remaining : F → Option (List ℕ)) (limit : ℕ) where
   -- Reading the stream gives this. Of no stream but one that spells a file is a bundle heavy.
@@ -95,6 +97,7 @@ module _ {F : Type 0} (remaining : F → Option (List ℕ)) (limit : ℕ) where
   JudgesStream before after (IsJudged file) = ReadsLightFile remaining limit before after file
   JudgesStream before after (IsHeavy file goods) = ReadsHeavyFile remaining limit before after file goods.items
   JudgesStream before after (IsStopped (CannotOpen which)) = ⊥
+  JudgesStream before after (IsStopped (NotOpened why)) = ⊥
   JudgesStream before after (IsStopped (Run (Refused which (Read fault)))) =
       (which ≡ Only) × IsRefusedFile remaining (normalise_outcome limit) before after (Read fault)
   JudgesStream before after (IsStopped (Run (Refused which (StepLimit goods)))) = ⊥
@@ -103,7 +106,7 @@ module _ {F : Type 0} (remaining : F → Option (List ℕ)) (limit : ℕ) where
   JudgesStream before after (IsStopped (Run (GoodRange good))) = ⊥
   JudgesStream before after (IsStopped (Run (Sent fault))) = ⊥
 
-module _ {F : Type 0} (may_open : List ℕ → F → Type 0) (may_refuse : List ℕ → Type 0) (remaining : F → Option (List ℕ))
+module _ {F : Type 0} (may_open : List ℕ → F → Type 0) (may_refuse : List ℕ → Unopened → Type 0) (remaining : F → Option (List ℕ))
     (limit : ℕ) where
   -- this became of a stream that was opened at the path
   pub record JudgesOpened (path : List ℕ) (judgement : Judgement) : Type 0 where
@@ -115,7 +118,8 @@ module _ {F : Type 0} (may_open : List ℕ → F → Type 0) (may_refuse : List 
   abbrev pub Judges : List ℕ × Judgement → Type 0
   Judges (path, IsJudged file) = JudgesOpened path (IsJudged file)
   Judges (path, IsHeavy file goods) = JudgesOpened path (IsHeavy file goods)
-  Judges (path, IsStopped (CannotOpen which)) = (which ≡ Only) × IsUnopened may_refuse path
+  Judges (path, IsStopped (CannotOpen which)) = ⊥
+  Judges (path, IsStopped (NotOpened why)) = IsUnopened may_refuse path why
   Judges (path, IsStopped (Run fault)) = JudgesOpened path (IsStopped (Run fault))
 
 -- ---- the files at all paths
@@ -125,7 +129,7 @@ pub record Made : Type 0 where
   pub judgements : List (List ℕ × Judgement)
   pub text : List ℕ
 
-module _ {F E : Type 0} (may_open : List ℕ → F → Type 0) (may_refuse : List ℕ → Type 0)
+module _ {F E : Type 0} (may_open : List ℕ → F → Type 0) (may_refuse : List ℕ → Unopened → Type 0)
     (remaining : F → Option (List ℕ)) (messages : E → Option (List ℕ)) (limit : ℕ) (progress : Bool) where
   -- this became of the files at these paths, which are the first of so many, and it was reported
   pub record JudgesPaths (count : ℕ) (paths : List (List ℕ)) (err err_after : Watched E)
@@ -146,7 +150,7 @@ abbrev pub outcome_of_paths : Made → Outcome
 outcome_of_paths made = Tells (greatest_status made.judgements) made.text
 
 -- `Makes` says which text is made of what became of the files
-module _ {F W E : Type 0} (may_open : List ℕ → F → Type 0) (may_refuse : List ℕ → Type 0)
+module _ {F W E : Type 0} (may_open : List ℕ → F → Type 0) (may_refuse : List ℕ → Unopened → Type 0)
     (remaining : F → Option (List ℕ)) (contents : W → Option (List ℕ)) (messages : E → Option (List ℕ)) (limit : ℕ)
     (Makes : List (List ℕ × Judgement) → List ℕ → Type 0) (paths : List (List ℕ)) (progress : Bool) where
   pub record MakesOfPaths (err err_after : Watched E) (made : Made) : Type 0 where

@@ -10,7 +10,7 @@ use Rattle.canon.specs.declared.which.Which.TheVariants.{Only, First, Second}
 use Rattle.cats_cmd.specs.Comparisons.{Compares}
 use Rattle.cats_cmd.specs.Duplicates.{MakesGroups}
 use Rattle.cats_cmd.specs.FileLists.{RunsOnFiles}
-use Rattle.cats_cmd.specs.Inputs.{IsOpened}
+use Rattle.cats_cmd.specs.Inputs.{IsOpened, MayRefuse}
 use Rattle.cats_cmd.specs.Outcomes.{Outcome, check_outcome, show_outcome, value_outcome, normalise_outcome}
 use Rattle.cats_cmd.specs.Paths.{RunsOnPaths}
 use Rattle.cats_cmd.specs.Rounding.{Rounds}
@@ -28,8 +28,9 @@ use Rattle.command_line.specs.declared.request.Request.TheVariants.{Duplicates, 
 use Rattle.cats_cmd.specs.declared.paths.Ending.{Ending}
 use Rattle.cats_cmd.specs.declared.paths.Ending.TheVariants.{Line, Null}
 use Rattle.cats_cmd.specs.declared.program.Stop.{Stop}
-use Rattle.cats_cmd.specs.declared.program.Stop.TheVariants.{CannotOpen, Run}
+use Rattle.cats_cmd.specs.declared.program.Stop.TheVariants.{CannotOpen, NotOpened, Run}
 use Rattle.cats_cmd.specs.declared.report.RunFault.{RunFault}
+use Rattle.cats_cmd.specs.declared.source.Unopened.{Unopened}
 
 -- ---- a command line without a request
 
@@ -86,7 +87,7 @@ module _ {F W : Type 0} (may_open : List ℕ → F → Type 0) (remaining : F �
     pub right_opened : IsOpened may_open second right
     pub runs : Compares remaining remaining contents limit left left_after right right_after out out_after answer
 
-module _ {F W E : Type 0} (may_open : List ℕ → F → Type 0) (may_refuse : List ℕ → Type 0)
+module _ {F W E : Type 0} (may_open : List ℕ → F → Type 0) (may_refuse : List ℕ → Unopened → Type 0)
     (remaining : F → Option (List ℕ)) (contents : W → Option (List ℕ)) (messages : E → Option (List ℕ)) where
   -- a rounding of the stream that was opened at the path
   pub record RoundsAt (path : List ℕ) (fine : FinePrices) (out out_after : Watched W) (err err_after : Watched E)
@@ -110,26 +111,26 @@ module _ {F W E : Type 0} (may_open : List ℕ → F → Type 0) (may_refuse : L
       RoundsAt file.now (fine_of exact) out out_after err err_after answer
   RunsFor (Compare first second limit) out out_after err err_after answer =
       ComparesAt may_open remaining contents first.now second.now limit out out_after answer × (err_after ≡ err)
-  RunsFor (Duplicates files limit progress null) out out_after err err_after answer =
+  RunsFor (Duplicates files) out out_after err err_after answer =
       RunsOnFiles may_open may_refuse remaining messages
-      (λ paths. RunsOnPaths may_open may_refuse remaining contents messages limit (MakesGroups (ending_of null)) paths progress)
-      files out out_after err err_after answer
-  RunsFor (Sizes files limit progress null) out out_after err err_after answer =
+      (λ paths. RunsOnPaths may_open may_refuse remaining contents messages files.limit (MakesGroups (ending_of files.null)) paths
+      files.progress) files.paths out out_after err err_after answer
+  RunsFor (Sizes files) out out_after err err_after answer =
       RunsOnFiles may_open may_refuse remaining messages
-      (λ paths. RunsOnPaths may_open may_refuse remaining contents messages limit (MakesTable (ending_of null)) paths progress)
-      files out out_after err err_after answer
+      (λ paths. RunsOnPaths may_open may_refuse remaining contents messages files.limit (MakesTable (ending_of files.null)) paths
+      files.progress) files.paths out out_after err err_after answer
 
   -- the file of a request that cannot be opened. Each file of `duplicates` and `sizes` is reported by itself
   abbrev pub CannotOpenOf : Request → Which → Type 0
-  CannotOpenOf (Check file) which = (which ≡ Only) × may_refuse file.now
-  CannotOpenOf (Show file) which = (which ≡ Only) × may_refuse file.now
-  CannotOpenOf (Value file goods limit) which = (which ≡ Only) × may_refuse file.now
-  CannotOpenOf (Normalise file limit) which = (which ≡ Only) × may_refuse file.now
-  CannotOpenOf (Round file exact) which = (which ≡ Only) × may_refuse file.now
+  CannotOpenOf (Check file) which = (which ≡ Only) × MayRefuse may_refuse file.now
+  CannotOpenOf (Show file) which = (which ≡ Only) × MayRefuse may_refuse file.now
+  CannotOpenOf (Value file goods limit) which = (which ≡ Only) × MayRefuse may_refuse file.now
+  CannotOpenOf (Normalise file limit) which = (which ≡ Only) × MayRefuse may_refuse file.now
+  CannotOpenOf (Round file exact) which = (which ≡ Only) × MayRefuse may_refuse file.now
   CannotOpenOf (Compare first second limit) which =
-      ((which ≡ First) × may_refuse first.now) ⊎ ((which ≡ Second) × may_refuse second.now)
-  CannotOpenOf (Duplicates files limit progress null) which = ⊥
-  CannotOpenOf (Sizes files limit progress null) which = ⊥
+      ((which ≡ First) × MayRefuse may_refuse first.now) ⊎ ((which ≡ Second) × MayRefuse may_refuse second.now)
+  CannotOpenOf (Duplicates files) which = ⊥
+  CannotOpenOf (Sizes files) which = ⊥
 
   -- the request's run answers, or a file of it cannot be opened, and then nothing was read, written or reported
   abbrev pub CarriesOut : Request → Watched W → Watched W → Watched E → Watched E → Result ℕ Stop → Type 0
@@ -138,6 +139,7 @@ module _ {F W E : Type 0} (may_open : List ℕ → F → Type 0) (may_refuse : L
       RunsFor request out out_after err err_after (Err fault)
   CarriesOut request out out_after err err_after (Err (CannotOpen which)) =
       CannotOpenOf request which × (out_after ≡ out) × (err_after ≡ err)
+  CarriesOut request out out_after err err_after (Err (NotOpened why)) = ⊥
 
   -- the request stopped; its line was reported after what its run reported, and the status is its own
   pub record StopsRequest (request : Request) (out out_after : Watched W) (err err_after : Watched E) (status : ℕ)

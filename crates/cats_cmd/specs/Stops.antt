@@ -9,12 +9,14 @@ use Rattle.cats_cmd.specs.Statuses.{status_of_fault}
 use Rattle.command_line.specs.declared.request.Request.{Request}
 use Rattle.command_line.specs.declared.request.Request.TheVariants.{Round, Duplicates, Sizes}
 use Rattle.cats_cmd.specs.declared.program.Stop.{Stop}
-use Rattle.cats_cmd.specs.declared.program.Stop.TheVariants.{CannotOpen, Run}
+use Rattle.cats_cmd.specs.declared.program.Stop.TheVariants.{CannotOpen, NotOpened, Run}
+use Rattle.cats_cmd.specs.declared.source.Unopened.{Unopened}
+use Rattle.cats_cmd.specs.declared.source.Unopened.TheVariants.{NoSuchFile, PermissionDenied, IsFolder, Other}
 
 -- whether each of a request's files may be refused, and the others go on
 abbrev pub is_for_many_files : Request → Bool
-is_for_many_files (Duplicates files limit progress null) = true
-is_for_many_files (Sizes files limit progress null) = true
+is_for_many_files (Duplicates files) = true
+is_for_many_files (Sizes files) = true
 is_for_many_files request = false
 
 -- whether a command line's subcommand is `duplicates` or `sizes`
@@ -25,8 +27,8 @@ names_many_files words = false
 -- whether a request may report something before it ends
 abbrev pub is_reporting : Request → Bool
 is_reporting (Round file exact) = true
-is_reporting (Duplicates files limit progress null) = true
-is_reporting (Sizes files limit progress null) = true
+is_reporting (Duplicates files) = true
+is_reporting (Sizes files) = true
 is_reporting request = false
 
 -- whether a command line's subcommand is `round`, `duplicates` or `sizes`
@@ -36,10 +38,18 @@ names_reporting words = false
 
 abbrev pub status_of_stop : Stop → ℕ
 status_of_stop (CannotOpen which) = 5
+status_of_stop (NotOpened why) = 5
 status_of_stop (Run fault) = status_of_fault fault
+
+abbrev pub line_of_unopened : Unopened → List ℕ
+line_of_unopened NoSuchFile = codes "cannot open: no such file\n"
+line_of_unopened PermissionDenied = codes "cannot open: permission denied\n"
+line_of_unopened IsFolder = codes "cannot open: is a folder\n"
+line_of_unopened Other = codes "cannot open\n"
 
 abbrev pub line_of_stop : Stop → List ℕ
 line_of_stop (CannotOpen which) = prefix_of which ++ codes "cannot open\n"
+line_of_stop (NotOpened why) = line_of_unopened why
 line_of_stop (Run fault) = line_of_fault fault
 
 -- ---- what is sent to a stream for messages

@@ -1,4 +1,4 @@
-//! `cats compare`: whether two bid files are the same auction, and else where they part first.
+//! `cats compare`: whether two bid files are the same auction, and else their first difference.
 
 mod text;
 
@@ -14,14 +14,14 @@ ghost use Rattle.cats_cmd.specs.Statuses.{status_of_difference};
 use crate::report::{DIFFERENT, DONE, RunFault};
 use crate::run::{read_packed_file, send_text};
 use bid_file::PackedFile;
-use canon::{CanonFault, Verdict, Which, compare_packed_files, normal_packed_file};
+use canon::{CanonFault, Verdict, Which, compare_files, normal_packed_file};
 use cats_text::Watched;
 use std::alloc::{AllocError, Global};
 use std::io::{Read, Write};
 use text::verdict_text;
 
-/// Reads and normalises the first file, and then the second, and sends whether they are the same auction, or where they
-/// part first. `limit` bounds the steps of each search that decides on a bundle of an OR bidder.
+/// Reads and normalises the first file, and then the second, and sends whether they are the same auction, or their
+/// first difference. `limit` bounds the steps of each search that decides on a bundle of an OR bidder.
 ///
 /// The status is 0 for the same auction, and 1 for a difference. A fault of a file tells which of the two it belongs
 /// to; want of memory that is met while the two are compared belongs to both.
@@ -94,7 +94,7 @@ fn difference_text(
     requires right { IsCanonicalFile right.now }
     ensures { IfOk result (λ t. compare_outcome left.now right.now ≡ Tells t.0 t.1.items) }
 {
-    let verdict = compare_packed_files(alloc, left, right)?;
+    let verdict = compare_files(alloc, left, right)?;
     Ok((status_of(&verdict), verdict_text(alloc, &verdict)?))
 }
 

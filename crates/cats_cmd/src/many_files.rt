@@ -11,12 +11,11 @@ ghost use Rattle.cats_cmd.specs.Stops.{Reports, status_of_stop};
 use crate::bytes::read_bytes;
 use crate::duplicates::run_duplicates;
 use crate::path_list::split_paths;
-use crate::paths::{ManyFiles, path_refusal};
-use crate::program::{Stop, open, report, status_of};
+use crate::paths::{ManyFiles, open_file, path_refusal};
+use crate::program::{Stop, report, status_of};
 use crate::report::RunFault;
 use crate::sizes::run_sizes;
 use crate::source::Source;
-use canon::Which;
 use cats_text::Watched;
 use command_line::FilePaths;
 use std::alloc::{AllocGlobal, Global};
@@ -85,7 +84,10 @@ fn read_list<S: Source + AllocGlobal>(source: &S, list: &str) -> Result<Vec<u8>,
     ensures unread { IfErr result (IsUnread (S.may_open source.now) (S.may_refuse source.now) S.Stream.remaining
         list.now) }
 {
-    let mut input = open(source, list, Which::Only)?;
+    let mut input = match open_file(source, list) {
+        Ok(input) => input,
+        Err(why) => return Err(Stop::NotOpened(why)),
+    };
     match read_bytes(source.alloc(), &mut input) {
         Ok(text) => Ok(text),
         Err(fault) => Err(Stop::Run(RunFault::from(fault))),

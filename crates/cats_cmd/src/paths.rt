@@ -6,17 +6,14 @@ ghost use Rattle.cats_cmd.specs.Inputs.{IsOpened};
 ghost use Rattle.cats_cmd.specs.Paths.{Judgement, IsStopped, IsUnopened, RunsOnPaths, progress_line, progress_lines, refusal_line};
 ghost use Rattle.cats_cmd.specs.Stops.{ReportsAll};
 ghost use Rattle.cats_cmd.specs.Internal.Judging.{AddsFile, AddsPathAs, AddsOpened, HasSome, JudgesAllAs};
-ghost use Rattle.canon.specs.declared.which.Which.TheVariants.{Only};
 ghost use Rattle.cats_cmd.specs.declared.paths.Ending.{Ending};
 ghost use Rattle.cats_cmd.specs.declared.program.Stop.{Stop};
-ghost use Rattle.cats_cmd.specs.declared.program.Stop.TheVariants.{CannotOpen};
 
 use crate::escaping::escape_into;
-use crate::program::{Stop, open, report, status_of, stop_line};
+use crate::program::{Stop, report, status_of, stop_line};
 use crate::report::{DONE, RunFault};
 use crate::run::send_text;
-use crate::source::Source;
-use canon::Which;
+use crate::source::{Source, Unopened};
 use cats_text::Watched;
 use std::alloc::{AllocError, AllocGlobal, Global};
 use std::io::{Read, Write};
@@ -152,21 +149,32 @@ fn judge<'a, C: Collection<'a>, S: Source + AllocGlobal>(
 {
     match open_path(source, path) {
         Ok(mut input) => collection.add(source.alloc(), path, &mut input, many),
-        Err(stop) => {
+        Err(why) => {
             collection.skip();
-            Ok(Some(stop))
+            Ok(Some(Stop::NotOpened(why)))
         }
     }
 }
 
 /// Opens the file at a path. There is none at a path that is not UTF-8, as the library opens no such path.
-fn open_path<S: Source>(source: &S, path: &[u8]) -> Result<Watched<S::Stream>, Stop>
+fn open_path<S: Source>(source: &S, path: &[u8]) -> Result<Watched<S::Stream>, Unopened>
     ensures opened { IfOk result (IsOpened (S.may_open source.now) path.now) }
-    ensures refused { IfErr result (λ stop. (stop ≡ CannotOpen Only) × IsUnopened (S.may_refuse source.now) path.now) }
+    ensures refused { IfErr result (IsUnopened (S.may_refuse source.now) path.now) }
 {
     match str::from_utf8(path) {
-        Ok(path) => open(source, path, Which::Only),
-        Err(_) => Err(Stop::CannotOpen(Which::Only)),
+        Ok(path) => open_file(source, path),
+        Err(_) => Err(Unopened::Other),
+    }
+}
+
+/// Opens a file, and refuses a folder.
+pub(crate) fn open_file<S: Source>(source: &S, path: &str) -> Result<Watched<S::Stream>, Unopened>
+    ensures opened { IfOk result (IsOpened (S.may_open source.now) path.now) }
+    ensures refused { IfErr result (S.may_refuse source.now path.now) }
+{
+    match source.open_file(path) {
+        Ok(stream) => Ok(Watched::new(stream)),
+        Err(why) => Err(why),
     }
 }
 

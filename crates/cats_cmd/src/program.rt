@@ -1,8 +1,9 @@
 //! The program `cats`, but for its process: a command line, two output streams and an exit status.
 
 ghost use Rattle.std.specs.Prelude.{◌≡◌, ◌≢◌, ◌≤◌, ℕ, List, IfErr, IfOk, false};
+ghost use Rattle.canon.specs.declared.which.Which.TheVariants.{Only};
 ghost use Rattle.cats_text.specs.Streams.{has_failed};
-ghost use Rattle.cats_cmd.specs.Inputs.{IsOpened};
+ghost use Rattle.cats_cmd.specs.Inputs.{IsOpened, MayRefuse};
 ghost use Rattle.cats_cmd.specs.Requests.{AnswersLine, AnswersNoRequest, AnswersRequest, CarriesOut, ending_of, fine_of, memory_text};
 ghost use Rattle.cats_cmd.specs.Stops.{Reports, is_for_many_files, is_reporting, line_of_stop, names_many_files, names_reporting, status_of_stop};
 
@@ -18,7 +19,7 @@ use crate::source::{Source, SystemFiles, Unopened};
 use crate::value::run_value;
 use canon::Which;
 use cats_text::{Watched, send};
-use command_line::{NoRequest, Request, parse};
+use command_line::{FilesRequest, NoRequest, Request, parse};
 use rounding::FinePrices;
 use std::alloc::{AllocError, AllocGlobal, Global};
 use std::io::Write;
@@ -30,7 +31,10 @@ const NO_MEMORY_LINE: &str = "want of memory\n";
 /// Why a request has no answer.
 #[derive(Drop)]
 pub(crate) enum Stop {
+    /// A file of a request for one or two files could not be opened.
     CannotOpen(Which),
+    /// One of many files could not be opened.
+    NotOpened(Unopened),
     Run(RunFault),
 }
 
@@ -54,7 +58,7 @@ pub fn run_cats<F: Files + AllocGlobal, W: Write, E: Write>(
 ) -> u8
     requires out_works { has_failed out.old ≡ false }
     requires err_works { has_failed err.old ≡ false }
-    ensures answers { AnswersLine (λ path stream. Unit {0}) (λ path. Unit {0}) F.File.remaining W.contents E.contents
+    ensures answers { AnswersLine (λ path stream. Unit {0}) (λ path why. Unit {0}) F.File.remaining W.contents E.contents
         words.now out.old out.new err.old err.new result }
     ensures silent { names_many_files words.now ≡ false → result ≢ 0 → result ≢ 1 → result ≢ 5 → out.new ≡ out.old }
     ensures done { names_reporting words.now ≡ false → result ≤ 1 → err.new ≡ err.old }
@@ -118,22 +122,18 @@ fn carry_out<S: Source + AllocGlobal, W: Write, E: Write>(
 {
     let alloc = source.alloc();
     match request {
-        Request::Check { file } => Ok(run_check(
-            alloc,
-            &mut open(source, file, Which::Only)?,
-            out,
-        )?),
-        Request::Show { file } => Ok(run_show(alloc, &mut open(source, file, Which::Only)?, out)?),
+        Request::Check { file } => Ok(run_check(alloc, &mut open_only(source, file)?, out)?),
+        Request::Show { file } => Ok(run_show(alloc, &mut open_only(source, file)?, out)?),
         Request::Value { file, goods, limit } => {
-            let mut input = open(source, file, Which::Only)?;
+            let mut input = open_only(source, file)?;
             Ok(run_value(alloc, &mut input, goods.as_slice(), *limit, out)?)
         }
         Request::Normalise { file, limit } => {
-            let mut input = open(source, file, Which::Only)?;
+            let mut input = open_only(source, file)?;
             Ok(run_normalise(alloc, &mut input, *limit, out)?)
         }
         Request::Round { file, exact } => {
-            let mut input = open(source, file, Which::Only)?;
+            let mut input = open_only(source, file)?;
             Ok(run_round(alloc, &mut input, fine_prices(*exact), out, err)?)
         }
         Request::Compare {
@@ -145,35 +145,29 @@ fn carry_out<S: Source + AllocGlobal, W: Write, E: Write>(
             let mut right = open(source, second, Which::Second)?;
             Ok(run_compare(alloc, &mut left, &mut right, *limit, out)?)
         }
-        Request::Duplicates {
-            files,
-            limit,
-            progress,
-            null,
-        } => {
-            let many = many_files(*limit, *progress, *null);
-            Ok(run_duplicates_of(source, files, many, out, err)?)
+        Request::Duplicates(files) => {
+            let many = many_files(files);
+            Ok(run_duplicates_of(source, &files.paths, many, out, err)?)
         }
-        Request::Sizes {
-            files,
-            limit,
-            progress,
-            null,
-        } => {
-            let many = many_files(*limit, *progress, *null);
-            Ok(run_sizes_of(source, files, many, out, err)?)
+        Request::Sizes(files) => {
+            let many = many_files(files);
+            Ok(run_sizes_of(source, &files.paths, many, out, err)?)
         }
     }
 }
 
 /// How a run on many files reads them and reports.
-fn many_files(limit: u64, progress: bool, null: bool) -> ManyFiles
-    ensures { (result.limit ≡ limit) × (result.progress ≡ progress) × (result.ending ≡ ending_of null) }
+fn many_files(files: &FilesRequest<'_>) -> ManyFiles
+    ensures { (result.limit ≡ files.now.limit) × (result.progress ≡ files.now.progress) × (result.ending ≡ ending_of files.now.null) }
 {
-    let ending = if null { Ending::Null } else { Ending::Line };
+    let ending = if files.null {
+        Ending::Null
+    } else {
+        Ending::Line
+    };
     ManyFiles {
-        limit,
-        progress,
+        limit: files.limit,
+        progress: files.progress,
         ending,
     }
 }
@@ -189,17 +183,21 @@ fn fine_prices(exact: bool) -> FinePrices
     }
 }
 
-pub(crate) fn open<S: Source>(
-    source: &S,
-    path: &str,
-    which: Which,
-) -> Result<Watched<S::Stream>, Stop>
+/// Opens the one file of a request.
+fn open_only<S: Source>(source: &S, path: &str) -> Result<Watched<S::Stream>, Stop>
     ensures opened { IfOk result (IsOpened (S.may_open source.now) path.now) }
-    ensures refused { IfErr result (λ stop. (stop ≡ Stop.CannotOpen which) × S.may_refuse source.now path.now) }
+    ensures refused { IfErr result (λ stop. (stop ≡ Stop.CannotOpen Only) × MayRefuse (S.may_refuse source.now) path.now) }
+{
+    open(source, path, Which::Only)
+}
+
+fn open<S: Source>(source: &S, path: &str, which: Which) -> Result<Watched<S::Stream>, Stop>
+    ensures opened { IfOk result (IsOpened (S.may_open source.now) path.now) }
+    ensures refused { IfErr result (λ stop. (stop ≡ Stop.CannotOpen which) × MayRefuse (S.may_refuse source.now) path.now) }
 {
     match source.open(path) {
         Ok(stream) => Ok(Watched::new(stream)),
-        Err(Unopened) => Err(Stop::CannotOpen(which)),
+        Err(_) => Err(Stop::CannotOpen(which)),
     }
 }
 
@@ -247,6 +245,7 @@ fn report_stop<E: Write>(alloc: Global, stop: &Stop, err: &mut Watched<E>) -> u8
 {
     match stop {
         Stop::CannotOpen(which) => report_text(err, unopened(*which).as_bytes()),
+        Stop::NotOpened(why) => report_text(err, not_opened(*why).as_bytes()),
         Stop::Run(why) => report(err, &fault_line(alloc, why)),
     }
     status_of(stop)
@@ -276,7 +275,7 @@ pub(crate) fn status_of(stop: &Stop) -> u8
     ensures { result ≡ status_of_stop stop.now }
 {
     match stop {
-        Stop::CannotOpen(_) => DEVICE_FAILED,
+        Stop::CannotOpen(_) | Stop::NotOpened(_) => DEVICE_FAILED,
         Stop::Run(why) => status(why),
     }
 }
@@ -287,6 +286,7 @@ pub(crate) fn stop_line(alloc: Global, stop: &Stop) -> Result<Vec<u8>, AllocErro
 {
     match stop {
         Stop::CannotOpen(which) => Vec::from_slice(alloc, unopened(*which).as_bytes()),
+        Stop::NotOpened(why) => Vec::from_slice(alloc, not_opened(*why).as_bytes()),
         Stop::Run(why) => fault_line(alloc, why),
     }
 }
@@ -299,5 +299,17 @@ fn unopened(which: Which) -> &'static str
         Which::First => "first: cannot open\n",
         Which::Second => "second: cannot open\n",
         Which::Only | Which::Both => "cannot open\n",
+    }
+}
+
+/// The line of one of many files that cannot be opened.
+fn not_opened(why: Unopened) -> &'static str
+    ensures { result.now ≡ line_of_stop (Stop.NotOpened why) }
+{
+    match why {
+        Unopened::NoSuchFile => "cannot open: no such file\n",
+        Unopened::PermissionDenied => "cannot open: permission denied\n",
+        Unopened::IsFolder => "cannot open: is a folder\n",
+        Unopened::Other => "cannot open\n",
     }
 }

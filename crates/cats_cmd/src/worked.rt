@@ -28,8 +28,9 @@ ghost use Rattle.cats_cmd.specs.SizesTables.{MakesTable, counts_of, line_if_read
 ghost use Rattle.cats_cmd.specs.Rounding.{round_outcome, rounded_line};
 ghost use Rattle.rounding.specs.declared.replacement.FinePrices.TheVariants.{Round};
 ghost use Rattle.cats_cmd.specs.Runs.{SendsMadeAs};
-ghost use Rattle.cats_cmd.specs.Stops.{Reports};
-ghost use Rattle.cats_cmd.specs.declared.program.Stop.TheVariants.{CannotOpen};
+ghost use Rattle.cats_cmd.specs.Stops.{Reports, line_of_stop};
+ghost use Rattle.cats_cmd.specs.declared.program.Stop.TheVariants.{CannotOpen, NotOpened};
+ghost use Rattle.cats_cmd.specs.declared.source.Unopened.TheVariants.{NoSuchFile, PermissionDenied, IsFolder, Other};
 ghost use Rattle.cats_cmd.specs.Statuses.{status_of_difference, status_of_fault};
 ghost use Rattle.canon.specs.declared.which.Which.TheVariants.{Only, First, Second, Both};
 ghost use Rattle.canon.specs.declared.fault.CanonFault.TheVariants.{Read, StepLimit, Memory};
@@ -113,18 +114,26 @@ pub fn differences()
         ∷ InXor [] 0 1 ∷ []) ≡ 0 ∷ 1 ∷ 1 ∷ 1 ∷ [] }
 {}
 
+/// The line of a file that cannot be opened: of the only one, of the first of two, and of one of many.
+pub fn unopened_lines()
+    ensures { map line_of_stop (CannotOpen Only ∷ CannotOpen First ∷ NotOpened NoSuchFile ∷ NotOpened PermissionDenied
+        ∷ NotOpened IsFolder ∷ NotOpened Other ∷ []) ≡
+        codes "cannot open\n" ∷ codes "first: cannot open\n" ∷ codes "cannot open: no such file\n"
+        ∷ codes "cannot open: permission denied\n" ∷ codes "cannot open: is a folder\n" ∷ codes "cannot open\n" ∷ [] }
+{}
+
 /// What `cats duplicates` reports of two paths: the reason for the one that was not judged, and, with progress, how many
 /// were read. Of 250 files that is reported after the hundredth, the two hundredth and the last.
 pub fn paths_reported()
-    ensures reason { report_lines false 2 ((codes "a", IsStopped (CannotOpen Only)) ∷ (codes "b", IsJudged larger_bid) ∷ [])
-        ≡ codes "a: cannot open\n" ∷ [] }
-    ensures progress { report_lines true 2 ((codes "a", IsStopped (CannotOpen Only)) ∷ (codes "b", IsJudged larger_bid) ∷ [])
-        ≡ codes "a: cannot open\n" ∷ codes "2 of 2 b\n" ∷ [] }
+    ensures reason { report_lines false 2 ((codes "a", IsStopped (NotOpened NoSuchFile)) ∷ (codes "b", IsJudged larger_bid) ∷ [])
+        ≡ codes "a: cannot open: no such file\n" ∷ [] }
+    ensures progress { report_lines true 2 ((codes "a", IsStopped (NotOpened NoSuchFile)) ∷ (codes "b", IsJudged larger_bid) ∷ [])
+        ≡ codes "a: cannot open: no such file\n" ∷ codes "2 of 2 b\n" ∷ [] }
     ensures counted { map (λ number. progress_lines true number 250 (codes "a")) (1 ∷ 99 ∷ 100 ∷ 200 ∷ 249 ∷ 250 ∷ [])
         ≡ [] ∷ [] ∷ (codes "100 of 250 a\n" ∷ []) ∷ (codes "200 of 250 a\n" ∷ []) ∷ []
         ∷ (codes "250 of 250 a\n" ∷ []) ∷ [] }
-    ensures status { greatest_status ((codes "a", IsStopped (CannotOpen Only)) ∷ (codes "b", IsJudged larger_bid) ∷ []) ≡ 5 }
-    ensures judged { judged_paths ((codes "a", IsStopped (CannotOpen Only)) ∷ (codes "b", IsJudged larger_bid) ∷ [])
+    ensures status { greatest_status ((codes "a", IsStopped (NotOpened NoSuchFile)) ∷ (codes "b", IsJudged larger_bid) ∷ []) ≡ 5 }
+    ensures judged { judged_paths ((codes "a", IsStopped (NotOpened NoSuchFile)) ∷ (codes "b", IsJudged larger_bid) ∷ [])
         ≡ codes "b" ∷ [] }
 {}
 
@@ -145,7 +154,7 @@ pub fn table_lines()
     ensures header { MakesTable Line [] (codes "goods\tbids\tor\txor\tdummy\tkept\tkept_or\tkept_xor\tfile\n") }
     ensures heavy { (goods : Vec ℕ Global) → line_if_read Line (codes "a b") (IsHeavy larger_bid goods)
         ≡ codes "2\t3\t3\t0\t0\t-\t-\t-\ta b\n" }
-    ensures refused { line_if_read Line (codes "a") (IsStopped (CannotOpen Only)) ≡ [] }
+    ensures refused { line_if_read Line (codes "a") (IsStopped (NotOpened NoSuchFile)) ≡ [] }
 {}
 
 /// What `cats round` makes of bytes, and the line of a price whose value changed.

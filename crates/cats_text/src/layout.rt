@@ -8,30 +8,23 @@ ghost use Rattle.std.specs.Prelude.{
   ◌∷◌,
   ◌<◌,
   ◌≤◌,
+  Some,
   length,
   drop,
+  slice_get,
   codes,
   vec_capacity,
   IfOk,
-  IsOk,
   OnOk,
   decimal,
 };
 ghost use Rattle.bid_file.specs.Files.{PlainBid, dummy_good};
 ghost use Rattle.cats_text.specs.Grammar.{Spells};
-ghost use Rattle.cats_text.specs.Layout.{
-  line_room,
-  layout,
-  header_text,
-  headers_text,
-  bid_text,
-  bids_text,
-  tabbed,
-  price_text,
-};
+ghost use Rattle.cats_text.specs.Layout.{layout, header_text, headers_text, bid_text, bids_text, tabbed, price_text};
+ghost use Rattle.cats_text.specs.declared.layout.TheConstants.{OFFER, GOOD, DUMMY, LONGEST_LINE};
 
 use crate::price::write_price;
-use bid_file::Bids;
+use bid_file::{Bids, MAX_GOODS};
 use itoa::{Buffer, Integer, write_digits};
 use std::alloc::{AllocError, Global};
 
@@ -47,26 +40,32 @@ pub fn write<B: Bids>(alloc: Global, file: &B) -> Result<Vec<u8>, AllocError>
     Ok(out)
 }
 
-/// The bytes that a header, or a line of a bid without its goods, has at most, and a good with its tab.
+/// The bytes that the line of any bid has at most.
+pub const LONGEST_LINE: usize = LINE + GOOD * MAX_GOODS as usize;
+
+/// The bytes that a header line, or a bid line without its real goods, has at most.
 const LINE: usize = 64;
 
-const GOOD: usize = 5;
+/// The bytes that a number and a price have at most, with the tab between them.
+const OFFER: usize = 48;
 
-/// As many bytes as the text of a file's bids has at most. No file is so large that it saturates.
+/// The bytes that a real good has at most, with the tab before it.
+const GOOD: usize = 6;
+
+/// The bytes that a dummy good has at most, with the tab before it.
+const DUMMY: usize = 11;
+
+/// As many bytes as the text of a file has at most. No file is so large that it saturates.
 fn room_for<B: Bids>(file: &B) -> usize {
-    let mut goods: usize = 0;
+    let mut room = 3 * LINE;
     for number in 0..file.len() {
-        goods = goods.saturating_add(file.at(number).goods.len());
+        let goods = file.at(number).goods.len();
+        room = room.saturating_add(goods.saturating_mul(GOOD).saturating_add(LINE));
     }
-    let lines = file.len().saturating_mul(LINE);
-    goods
-        .saturating_mul(GOOD)
-        .saturating_add(lines)
-        .saturating_add(LINE)
+    room
 }
 
-/// Appends the header of a file with so many goods, bids and dummy goods. Where memory is refused, some of it may stand
-/// there.
+/// Appends the header of a file of so many goods, bids and dummy goods. If memory is refused, some of it may be there.
 pub fn push_header(
     out: &mut Vec<u8>,
     goods: u16,
@@ -92,129 +91,40 @@ fn push_header_line(out: &mut Vec<u8>, keyword: &[u8], value: u64) -> Result<(),
     Ok(())
 }
 
+/// Appends the lines of a file's bids.
 fn push_bids<B: Bids>(out: &mut Vec<u8>, file: &B) -> Result<(), AllocError>
-    ensures { OnOk result (out.new.items ≡ out.old.items ++ bids_text (B.file file.now).goods 0 (B.file file.now).bids) }
+    ensures { let f = B.file file.now in
+        OnOk result (out.new.items ≡ out.old.items ++ bids_text f.goods 0 f.bids) }
 {
-    let goods = file.goods();
+    let mut line = [0; LONGEST_LINE];
     for number in 0..file.len() {
-        let bid = file.at(number);
-        push_bid(out, goods, number, bid.price, bid.goods, bid.dummy)?;
+        let start = write_bid(file, number, &mut line);
+        out.extend_from_slice(&line[start..])?;
     }
     Ok(())
 }
 
-/// Appends the line of a bid in a file of so many `goods`: its number, its price in millionths, the goods of its
-/// `bundle`, and its dummy good, counted from 0 behind the real goods. Where memory is refused, some of it may stand
-/// there; none is asked for where the vector has room for the longest line of so many goods.
-pub fn push_bid(
-    out: &mut Vec<u8>,
-    goods: u16,
-    number: usize,
-    price: u64,
-    bundle: &[u16],
-    dummy: Option<u32>,
-) -> Result<(), AllocError>
-    ensures text { let bid : PlainBid = record { price = price; goods = bundle.now; dummy = dummy } in
-        OnOk result (out.new.items ≡ out.old.items ++ bid_text goods number bid) }
-    ensures fits { length out.old.items + line_room (length bundle.now) ≤ vec_capacity out.old → IsOk result }
-    ensures room { OnOk result (length out.new.items ≤ length out.old.items + line_room (length bundle.now)) }
-    ensures capacity { vec_capacity out.old ≤ vec_capacity out.new }
+/// Writes the line of a bid at the end of a buffer, and returns where it starts. It is written from its end to its
+/// start, as the digits of a number come.
+pub fn write_bid<B: Bids>(file: &B, number: usize, line: &mut [u8]) -> usize
+    requires number { number < length (B.file file.now).bids }
+    requires room { length line.old ≡ LONGEST_LINE }
+    ensures start { result ≤ LONGEST_LINE }
+    ensures written { let f = B.file file.now in (bid : PlainBid)
+        × (slice_get f.bids number ≡ Some bid) × (drop result line.new ≡ bid_text f.goods number bid) }
 {
-    if bundle.len() <= CHUNK {
-        return push_short_bid(out, goods, number, price, bundle, dummy);
-    }
-    push_offer(out, number, price)?;
-    let mut left = bundle;
-    while left.len() > CHUNK {
-        let (chunk, rest) = left.split_at(CHUNK);
-        push_chunk(out, chunk)?;
-        left = rest;
-    }
-    push_last_chunk(out, goods, left, dummy)
+    let goods = file.goods();
+    let bid = file.at(number);
+    let end = write_line_end(line);
+    let end = write_dummy(goods, bid.dummy, line, end);
+    let end = write_goods(bid.goods, line, end);
+    write_offer(number, bid.price, line, end)
 }
 
-/// So many goods of a bid get their text at once, which is then appended in one go.
-const CHUNK: usize = 32;
-
-/// The bytes that the number and the price of a bid have at most, those of so many goods, each with its tab, those of
-/// the last ones with a dummy good and the end of the line, and those of a line that has no more goods.
-const OFFER: usize = 48;
-
-const CHUNK_TEXT: usize = 192;
-
-const LAST_TEXT: usize = 208;
-
-const SHORT_LINE: usize = 256;
-
-/// The line of a bid of few goods.
+/// Writes the number and the price of a bid, so that their text ends at `end`, and returns where it starts.
 #[inline(always)]
-fn push_short_bid(
-    out: &mut Vec<u8>,
-    goods: u16,
-    number: usize,
-    price: u64,
-    bundle: &[u16],
-    dummy: Option<u32>,
-) -> Result<(), AllocError>
-    requires { length bundle.now ≤ 32 }
-    ensures text { let bid : PlainBid = record { price = price; goods = bundle.now; dummy = dummy } in
-        OnOk result (out.new.items ≡ out.old.items ++ bid_text goods number bid) }
-    ensures fits { length out.old.items + 256 ≤ vec_capacity out.old → IsOk result }
-    ensures room { OnOk result (length out.new.items ≤ length out.old.items + 256) }
-    ensures capacity { vec_capacity out.old ≤ vec_capacity out.new }
-{
-    let mut text = [0; SHORT_LINE];
-    let end = write_last_chunk(goods, bundle, dummy, &mut text, SHORT_LINE);
-    let start = write_offer(number, price, &mut text, end);
-    out.extend_from_slice(&text[start..])
-}
-
-/// The number and the price of a bid.
-fn push_offer(out: &mut Vec<u8>, number: usize, price: u64) -> Result<(), AllocError>
-    ensures text { OnOk result (out.new.items ≡ out.old.items ++ (decimal number ++ 9 ∷ price_text price)) }
-    ensures fits { length out.old.items + 48 ≤ vec_capacity out.old → IsOk result }
-    ensures room { OnOk result (length out.new.items ≤ length out.old.items + 48) }
-    ensures capacity { vec_capacity out.old ≤ vec_capacity out.new }
-{
-    let mut text = [0; OFFER];
-    let start = write_offer(number, price, &mut text, OFFER);
-    out.extend_from_slice(&text[start..])
-}
-
-fn push_chunk(out: &mut Vec<u8>, goods: &[u16]) -> Result<(), AllocError>
-    requires { length goods.now ≤ 32 }
-    ensures text { OnOk result (out.new.items ≡ out.old.items ++ tabbed goods.now) }
-    ensures fits { length out.old.items + 192 ≤ vec_capacity out.old → IsOk result }
-    ensures room { OnOk result (length out.new.items ≤ length out.old.items + 192) }
-    ensures capacity { vec_capacity out.old ≤ vec_capacity out.new }
-{
-    let mut text = [0; CHUNK_TEXT];
-    let start = write_goods(goods, &mut text, CHUNK_TEXT);
-    out.extend_from_slice(&text[start..])
-}
-
-/// The last goods of a bid, its dummy good, and the end of its line.
-fn push_last_chunk(
-    out: &mut Vec<u8>,
-    goods: u16,
-    chunk: &[u16],
-    dummy: Option<u32>,
-) -> Result<(), AllocError>
-    requires { length chunk.now ≤ 32 }
-    ensures text { OnOk result (out.new.items ≡ out.old.items ++ (tabbed (chunk.now ++ dummy_good goods dummy) ++ codes "\t#\n")) }
-    ensures fits { length out.old.items + 208 ≤ vec_capacity out.old → IsOk result }
-    ensures room { OnOk result (length out.new.items ≤ length out.old.items + 208) }
-    ensures capacity { vec_capacity out.old ≤ vec_capacity out.new }
-{
-    let mut text = [0; LAST_TEXT];
-    let start = write_last_chunk(goods, chunk, dummy, &mut text, LAST_TEXT);
-    out.extend_from_slice(&text[start..])
-}
-
-/// Writes the number and the price of a bid, so that their text ends at `end`, and tells where it starts.
-#[inline(always)]
-fn write_offer(number: usize, price: u64, text: &mut [u8], end: usize) -> usize
-    requires room { 48 ≤ end }
+pub fn write_offer(number: usize, price: u64, text: &mut [u8], end: usize) -> usize
+    requires room { OFFER ≤ end }
     requires inside { end ≤ length text.old }
     ensures start { result ≤ end }
     ensures written { drop result text.new ≡ (decimal number ++ 9 ∷ price_text price) ++ drop end text.old }
@@ -224,46 +134,36 @@ fn write_offer(number: usize, price: u64, text: &mut [u8], end: usize) -> usize
     write_digits(number as u64, text, tab)
 }
 
-/// Writes the last goods of a bid, its dummy good, and the end of its line in the same way.
-#[inline(always)]
-fn write_last_chunk(
-    goods: u16,
-    chunk: &[u16],
-    dummy: Option<u32>,
-    text: &mut [u8],
-    end: usize,
-) -> usize
-    requires few { length chunk.now ≤ 32 }
-    requires room { 208 ≤ end }
-    requires inside { end ≤ length text.old }
-    ensures start { (result ≤ end) × (end ≤ result + 208) }
-    ensures written { drop result text.new
-        ≡ (tabbed (chunk.now ++ dummy_good goods dummy) ++ codes "\t#\n") ++ drop end text.old }
+fn write_line_end(line: &mut [u8]) -> usize
+    requires room { length line.old ≡ LONGEST_LINE }
+    ensures start { result + 3 ≡ LONGEST_LINE }
+    ensures written { drop result line.new ≡ codes "\t#\n" }
 {
-    let mut start = write_line_end(text, end);
-    if let Some(dummy) = dummy {
-        start = write_good(u64::from(goods) + u64::from(dummy), text, start);
+    let start = line.len() - 3;
+    line[start] = b'\t';
+    line[start + 1] = b'#';
+    line[start + 2] = b'\n';
+    start
+}
+
+/// The dummy good of a bid, if it has one, numbered behind the real goods.
+fn write_dummy(goods: u16, dummy: Option<u32>, text: &mut [u8], end: usize) -> usize
+    requires room { DUMMY ≤ end }
+    requires inside { end ≤ length text.old }
+    ensures start { (result ≤ end) × (end ≤ result + DUMMY) }
+    ensures written { drop result text.new ≡ tabbed (dummy_good goods dummy) ++ drop end text.old }
+{
+    match dummy {
+        Some(dummy) => write_good(u64::from(goods) + u64::from(dummy), text, end),
+        None => end,
     }
-    write_goods(chunk, text, start)
 }
 
-fn write_line_end(text: &mut [u8], end: usize) -> usize
-    requires room { 3 ≤ end }
+/// Writes goods, each behind a tab, so that their text ends at `end`, and returns where it starts.
+pub fn write_goods(goods: &[u16], text: &mut [u8], end: usize) -> usize
+    requires room { GOOD * length goods.now ≤ end }
     requires inside { end ≤ length text.old }
-    ensures start { result + 3 ≡ end }
-    ensures written { drop result text.new ≡ codes "\t#\n" ++ drop end text.old }
-{
-    text[end - 1] = b'\n';
-    text[end - 2] = b'#';
-    text[end - 3] = b'\t';
-    end - 3
-}
-
-/// Writes goods, each behind a tab, so that their text ends at `end`, and tells where it starts.
-fn write_goods(goods: &[u16], text: &mut [u8], end: usize) -> usize
-    requires room { 6 * length goods.now ≤ end }
-    requires inside { end ≤ length text.old }
-    ensures start { (result ≤ end) × (end ≤ result + 6 * length goods.now) }
+    ensures start { (result ≤ end) × (end ≤ result + GOOD * length goods.now) }
     ensures written { drop result text.new ≡ tabbed goods.now ++ drop end text.old }
 {
     let mut left = goods;
@@ -275,7 +175,7 @@ fn write_goods(goods: &[u16], text: &mut [u8], end: usize) -> usize
     start
 }
 
-fn write_good(good: u64, text: &mut [u8], end: usize) -> usize
+pub fn write_good(good: u64, text: &mut [u8], end: usize) -> usize
     requires room { length (decimal good) < end }
     requires inside { end ≤ length text.old }
     ensures start { result + length (decimal good) + 1 ≡ end }

@@ -2,6 +2,7 @@
 #![tactic(auto)]
 
 mod bid_lines;
+mod chunks;
 mod eight;
 mod fault;
 mod feeder;
@@ -26,8 +27,9 @@ pub mod worked_streams;
 pub use bid_file::{
     Bid, BidFile, MAX_BIDS, MAX_DUMMY, MAX_GOODS, MAX_PRICE, PackedBids, PackedFile,
 };
+pub use chunks::push_bid;
 pub use fault::{Kind, ReadFault, SendFault};
-pub use layout::{push_bid, push_header, write};
+pub use layout::{push_header, write};
 pub use limits::MAX_STREAM;
 pub use parser::Header;
 pub use price::push_price;

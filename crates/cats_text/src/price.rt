@@ -2,6 +2,7 @@
 
 ghost use Rattle.std.specs.Prelude.{◌≡◌, ◌+◌, ◌++◌, ◌<◌, ◌≤◌, length, drop, OnOk, decimal};
 ghost use Rattle.cats_text.specs.Layout.{price_text, places_text, without_zeros};
+ghost use Rattle.cats_text.specs.declared.price.TheConstants.{MILLION, PRICE, BEHIND};
 ghost use Rattle.cats_text.specs.Internal.Keywords.{place_value_of};
 ghost use Rattle.cats_text.specs.Internal.Parsing.{price_parts};
 ghost use Rattle.cats_text.specs.Internal.Progress.{Answers};
@@ -84,11 +85,13 @@ pub fn price_of(whole: u64, millionths: u64, fine: bool) -> Result<u64, Stop>
     Ok((whole * MILLION).saturating_add(millionths))
 }
 
-/// The bytes that the point of a price and the digits behind it have at most.
+/// The bytes that a price of 64 bits has at most, and those that its point and the digits behind it have.
+const PRICE: usize = 27;
+
 const BEHIND: usize = 7;
 
-/// Appends a price, given in millionths: its whole part, then, where millionths are left, a point and their digits
-/// without zeros at the end. Where memory is refused, some of it may stand there.
+/// Appends a price, given in millionths: its whole part, then, if millionths are left, a point and their digits
+/// without zeros at the end. If memory is refused, some of it may be there.
 pub fn push_price(out: &mut Vec<u8>, millionths: u128) -> Result<(), AllocError>
     ensures { OnOk result (out.new.items ≡ out.old.items ++ price_text millionths) }
 {
@@ -100,12 +103,12 @@ pub fn push_price(out: &mut Vec<u8>, millionths: u128) -> Result<(), AllocError>
     out.extend_from_slice(&text[start..])
 }
 
-/// Writes a price that fits 64 bits, so that its text ends at `end`, and tells where it starts.
+/// Writes a price that fits 64 bits, so that its text ends at `end`, and returns where it starts.
 #[inline(always)]
 pub fn write_price(millionths: u64, text: &mut [u8], end: usize) -> usize
-    requires room { 27 ≤ end }
+    requires room { PRICE ≤ end }
     requires inside { end ≤ length text.old }
-    ensures start { (result < end) × (end ≤ result + 27) }
+    ensures start { (result < end) × (end ≤ result + PRICE) }
     ensures written { drop result text.new ≡ price_text millionths ++ drop end text.old }
 {
     let point = write_places(millionths % MILLION, text, end);
@@ -114,10 +117,10 @@ pub fn write_price(millionths: u64, text: &mut [u8], end: usize) -> usize
 
 /// The point and the digits behind it, if there are any.
 fn write_places(millionths: u64, text: &mut [u8], end: usize) -> usize
-    requires places { millionths < 1000000 }
-    requires room { 7 ≤ end }
+    requires places { millionths < MILLION }
+    requires room { BEHIND ≤ end }
     requires inside { end ≤ length text.old }
-    ensures start { (result ≤ end) × (end ≤ result + 7) }
+    ensures start { (result ≤ end) × (end ≤ result + BEHIND) }
     ensures written { drop result text.new ≡ places_text millionths ++ drop end text.old }
 {
     if millionths == 0 {

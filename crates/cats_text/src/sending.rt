@@ -19,11 +19,13 @@ ghost use Rattle.std.specs.Prelude.{
   OnOk,
 };
 ghost use Rattle.std.specs.Io.KnownBytes.{Keeps};
+ghost use Rattle.bid_file.specs.Files.{IsPlainFile};
 ghost use Rattle.cats_text.specs.Layout.{headers_text, layout};
+ghost use Rattle.cats_text.specs.declared.sending.TheConstants.{PAGE};
 ghost use Rattle.cats_text.specs.Streams.{inner_of, has_failed, has_ended, Sends, SendsPart, SendsWhole};
 
 use crate::fault::SendFault;
-use crate::layout::{push_bid, push_header};
+use crate::layout::{LONGEST_LINE, push_header, write_bid};
 use crate::stream::Watched;
 use bid_file::Bids;
 use std::alloc::{AllocError, Global};
@@ -58,10 +60,8 @@ pub fn send_file<W: Write, B: Bids>(
     Ok(send_bids(out, page, file))
 }
 
-/// So many bytes of a text are held, and one more line that has any number of goods fits behind so many.
+/// So many bytes of a text are held at most.
 const PAGE: usize = 65_536;
-
-const FULL: usize = 40_704;
 
 /// Sends the bids of a file behind its header, of which the page has the text.
 fn send_bids<W: Write, B: Bids>(
@@ -70,17 +70,19 @@ fn send_bids<W: Write, B: Bids>(
     file: &B,
 ) -> Result<(), SendFault>
     requires works { has_failed out.old ≡ false }
+    requires file { IsPlainFile (B.file file.now) }
     requires header { let f = B.file file.now in page.items ≡ headers_text f.goods (length f.bids) f.dummy }
-    requires room { 65536 ≤ vec_capacity page }
+    requires room { PAGE ≤ vec_capacity page }
     ensures sends { Sends W.contents out.old out.new (layout (B.file file.now)) result }
     ensures ended { has_ended out.new ≡ has_ended out.old }
 {
-    let goods = file.goods();
+    let mut line = [0; LONGEST_LINE];
     let mut written = 0;
     for number in 0..file.len() {
-        written = send_full_page(out, &mut page, written)?;
-        let bid = file.at(number);
-        let Ok(()) = push_bid(&mut page, goods, number, bid.price, bid.goods, bid.dummy) else {
+        let start = write_bid(file, number, &mut line);
+        let text = &line[start..];
+        written = make_room(out, &mut page, text.len(), written)?;
+        let Ok(()) = page.extend_from_slice(text) else {
             unreachable!()
         };
     }
@@ -88,25 +90,28 @@ fn send_bids<W: Write, B: Bids>(
     flush(out, written + page.len() as u64)
 }
 
-/// Empties a page that is full, of a text of which so many bytes went out before, and tells how many have gone out.
-fn send_full_page<W: Write>(
+/// Sends and empties a page that has no room for so many bytes more, of a text of which so many went out before, and
+/// returns how many have gone out.
+fn make_room<W: Write>(
     out: &mut Watched<W>,
     page: &mut Vec<u8>,
+    more: usize,
     before: u64,
 ) -> Result<u64, SendFault>
     requires works { has_failed out.old ≡ false }
     requires counted { before + length page.old.items < 2 ^ 64 }
+    requires fits { more ≤ PAGE }
     ensures count { IfOk result (λ count. before ≤ count × count ≤ before + length page.old.items) }
     ensures sent { IfOk result (λ count. SendsWhole W.contents out.old out.new (take (count - before) page.old.items)) }
     ensures left { IfOk result (λ count. page.new.items ≡ drop (count - before) page.old.items) }
-    ensures room { OnOk result (length page.new.items ≤ 40704) }
+    ensures room { OnOk result (length page.new.items + more ≤ PAGE) }
     ensures capacity { vec_capacity page.new ≡ vec_capacity page.old }
     ensures counts { IfErr result (λ fault. before ≤ fault.written) }
     ensures part { IfErr result (λ fault.
         SendsPart W.contents out.old out.new page.old.items (fault.written - before)) }
     ensures ended { has_ended out.new ≡ has_ended out.old }
 {
-    if page.len() <= FULL {
+    if page.len() <= PAGE - more {
         return Ok(before);
     }
     send_piece(out, page.as_slice(), before)?;

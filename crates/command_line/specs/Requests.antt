@@ -14,8 +14,8 @@ name_of (Value file goods limit) = codes "value"
 name_of (Normalise file limit) = codes "normalise"
 name_of (Round file exact) = codes "round"
 name_of (Compare first second limit) = codes "compare"
-name_of (Duplicates files limit progress null) = codes "duplicates"
-name_of (Sizes files limit progress null) = codes "sizes"
+name_of (Duplicates files) = codes "duplicates"
+name_of (Sizes files) = codes "sizes"
 
 -- the word behind the program's name is the request's
 abbrev pub IsNamedIn : List (Bor (List ℕ)) → Request → Type 0

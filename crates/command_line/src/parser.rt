@@ -8,7 +8,7 @@ ghost use Rattle.command_line.specs.Requests.{IsNamedIn, is_no_memory, is_wrong_
 use crate::commands::{
     EXACT, FILE, FILES0_FROM, GOOD, NULL, PROGRESS, SECOND_FILE, STEPS, cats_command,
 };
-use crate::request::{FilePaths, NoRequest, Request};
+use crate::request::{FilePaths, FilesRequest, NoRequest, Request};
 use clap::error::ErrorKind;
 use clap::{ArgMatches, Error};
 use std::alloc::{AllocError, Global};
@@ -151,15 +151,10 @@ fn find_duplicates_request<'a>(
 ) -> Result<Option<Request<'a>>, AllocError>
     ensures { IfOk result (λ found. IfSome found (λ request. name_of request ≡ codes "duplicates")) }
 {
-    let (Some(limit), Some(files)) = (given.get_one::<u64>(STEPS), find_paths(alloc, given)?) else {
-        return Ok(None);
-    };
-    Ok(Some(Request::Duplicates {
-        files,
-        limit,
-        progress: given.get_flag(PROGRESS),
-        null: given.get_flag(NULL),
-    }))
+    match find_files_request(alloc, given)? {
+        Some(files) => Ok(Some(Request::Duplicates(files))),
+        None => Ok(None),
+    }
 }
 
 fn find_sizes_request<'a>(
@@ -168,11 +163,21 @@ fn find_sizes_request<'a>(
 ) -> Result<Option<Request<'a>>, AllocError>
     ensures { IfOk result (λ found. IfSome found (λ request. name_of request ≡ codes "sizes")) }
 {
-    let (Some(limit), Some(files)) = (given.get_one::<u64>(STEPS), find_paths(alloc, given)?) else {
+    match find_files_request(alloc, given)? {
+        Some(files) => Ok(Some(Request::Sizes(files))),
+        None => Ok(None),
+    }
+}
+
+fn find_files_request<'a>(
+    alloc: Global,
+    given: &ArgMatches<'a>,
+) -> Result<Option<FilesRequest<'a>>, AllocError> {
+    let (Some(limit), Some(paths)) = (given.get_one::<u64>(STEPS), find_paths(alloc, given)?) else {
         return Ok(None);
     };
-    Ok(Some(Request::Sizes {
-        files,
+    Ok(Some(FilesRequest {
+        paths,
         limit,
         progress: given.get_flag(PROGRESS),
         null: given.get_flag(NULL),

@@ -27,18 +27,19 @@ pub enum Request<'a> {
         second: &'a str,
         limit: u64,
     },
-    Duplicates {
-        files: FilePaths<'a>,
-        limit: u64,
-        progress: bool,
-        null: bool,
-    },
-    Sizes {
-        files: FilePaths<'a>,
-        limit: u64,
-        progress: bool,
-        null: bool,
-    },
+    Duplicates(FilesRequest<'a>),
+    Sizes(FilesRequest<'a>),
+}
+
+/// What is asked for of many files.
+#[derive(Debug, Drop)]
+pub struct FilesRequest<'a> {
+    pub paths: FilePaths<'a>,
+    pub limit: u64,
+    /// Whether it is reported how many files were read.
+    pub progress: bool,
+    /// Whether each path of the output ends with NUL.
+    pub null: bool,
 }
 
 /// Where the paths of many files are.

@@ -1,8 +1,9 @@
 -- What the contracts of this crate cite.
 pub mod Bundles
 pub mod Orders
-pub mod Fronts
+pub mod SortKeys
 pub mod Fingerprints
 pub mod Words
+pub mod Sets
 pub mod Lemmas
 pub mod Internal

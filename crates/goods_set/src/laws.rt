@@ -4,14 +4,14 @@ ghost use Rattle.std.specs.List.{All, AllPairs, Contains};
 ghost use Rattle.std.specs.Cmp.{IsTotalOrder};
 ghost use Rattle.std.specs.declared.cmp.Ordering.TheVariants.{Less, Equal};
 ghost use Rattle.goods_set.specs.Bundles.{IsBundle, IsInside, AreBelow, all_bundles};
-ghost use Rattle.goods_set.specs.Fronts.{front_of};
+ghost use Rattle.goods_set.specs.SortKeys.{sort_key_of};
 ghost use Rattle.goods_set.specs.Orders.{bundle_cmp};
 
-/// The order of bundles is total, and answers Equal only for equal lists. One with a lesser front comes before.
+/// The order of bundles is total, and answers Equal only for equal lists. One with a lesser sort key comes before.
 pub fn order_of_bundles()
     ensures total { IsTotalOrder bundle_cmp }
     ensures equal { (xs ys : List ℕ) → bundle_cmp xs ys ≡ Equal → xs ≡ ys }
-    ensures fronts { (xs ys : List ℕ) → AreBelow 65536 xs → AreBelow 65536 ys → front_of xs < front_of ys
+    ensures sort_keys { (xs ys : List ℕ) → AreBelow 65536 xs → AreBelow 65536 ys → sort_key_of xs < sort_key_of ys
         → bundle_cmp xs ys ≡ Less }
 {}
 

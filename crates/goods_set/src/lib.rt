@@ -2,16 +2,16 @@
 //! and a bit set that implement it, and the order of bundles.
 #![tactic(auto)]
 
-pub mod fingerprints;
-mod front;
+mod fingerprints;
 pub mod laws;
 mod least;
-pub mod list_set;
-pub mod listing;
-pub mod long_mask;
-pub mod mask;
-pub mod set;
-pub mod word_set;
+mod list_set;
+mod listing;
+mod long_mask;
+mod mask;
+mod set;
+mod sort_keys;
+mod word_set;
 pub mod worked;
 
 pub use fingerprints::{fingerprint, may_be_subset};
@@ -20,4 +20,5 @@ pub use listing::{goods_of, rising_goods};
 pub use long_mask::LongMask;
 pub use mask::Mask;
 pub use set::GoodsSet;
+pub use sort_keys::sort_key;
 pub use word_set::WordSet;

@@ -1,17 +1,18 @@
 //! A set of goods as a sorted list.
 mod few;
 mod goods;
-mod summary;
 
 ghost use Rattle.std.specs.Prelude.{◌≡◌, ◌<◌, ◌≤◌, [], length, nat_lt, true, false, IsOk, IfOk, MatchResult};
 ghost use Rattle.std.specs.List.{insert};
 ghost use Rattle.std.specs.List.Sorted.{IsPartitionPoint};
 ghost use Rattle.goods_set.specs.Bundles.{IsBundle, has_good, is_inside, with_good, without};
+ghost use Rattle.goods_set.specs.declared.list_set.few.TheConstants.{FEW};
 ghost use Rattle.goods_set.specs.Lemmas.BundleFacts.{IsBundle-prop};
 
 use crate::list_set::few::FewGoods;
 use crate::list_set::goods::{Goods, Held};
 use crate::set::GoodsSet;
+use crate::sort_keys::key_of_goods;
 use std::alloc::{AllocError, Global};
 use std::cmp::Ordering;
 
@@ -69,7 +70,7 @@ impl ListSet {
 
     // The few goods that are not in the set.
     fn left_of(&self, goods: &[u16]) -> FewGoods
-        requires { length goods.now ≤ 11 }
+        requires { length goods.now ≤ FEW }
         ensures { result ≡ without goods.now self.now.goods }
     {
         let mut left = FewGoods::none();
@@ -93,16 +94,19 @@ impl ListSet {
 }
 
 impl GoodsSet for ListSet {
+    ghost use Rattle.goods_set.specs.Sets.{list_goods};
+    ghost use Rattle.goods_set.specs.Lemmas.Laws.{list_cap_fits};
+
     ghost CAP = { 65536 };
 
-    ghost goods = { λ s. s.goods };
+    ghost goods = { list_goods };
 
     fn cap() -> u32 {
         65_536
     }
 
     fn empty(alloc: Global) -> Result<ListSet, AllocError>
-        ensures goods { IfOk result (λ s. s.goods ≡ []) }
+        ensures goods { IfOk result (λ s. list_goods s ≡ []) }
         ensures ok { IsOk result }
     {
         Ok(ListSet::new(Goods::none(alloc)))
@@ -142,10 +146,6 @@ impl GoodsSet for ListSet {
         self.goods.as_slice().get(place).copied()
     }
 
-    fn front(&self) -> u64 {
-        summary::front(self.goods.as_slice())
-    }
-
     fn list_into(&self, out: &mut Vec<u16>) -> Result<(), AllocError> {
         out.extend_from_slice(self.goods.as_slice())
     }
@@ -173,10 +173,12 @@ impl GoodsSet for ListSet {
     }
 
     fn order(&self, other: &ListSet) -> Ordering {
-        match self.front().cmp(&other.front()) {
+        let own = self.goods.as_slice();
+        let others = other.goods.as_slice();
+        match key_of_goods(own).cmp(&key_of_goods(others)) {
             Ordering::Equal => {
-                let sizes = self.size().cmp(&other.size());
-                sizes.then_with(|| self.goods.as_slice().cmp(other.goods.as_slice()))
+                let sizes = own.len().cmp(&others.len());
+                sizes.then_with(|| own.cmp(others))
             }
             unequal => unequal,
         }
@@ -189,8 +191,6 @@ impl GoodsSet for ListSet {
     }
 
     ghost is_bundle = { λ s. s.bundle };
-
-    ghost use Rattle.goods_set.specs.Lemmas.Laws.{list_cap_fits};
 
     ghost cap_fits = { list_cap_fits };
 }

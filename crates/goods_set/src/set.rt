@@ -14,7 +14,6 @@ ghost use Rattle.goods_set.specs.Bundles.{
   with_good,
   good_from,
 };
-ghost use Rattle.goods_set.specs.Fronts.{front_of};
 ghost use Rattle.goods_set.specs.Lemmas.Members.{inside_refl, inside_trans};
 ghost use Rattle.goods_set.specs.Orders.{bundle_cmp};
 ghost use Rattle.goods_set.specs.Lemmas.Orders.{bundle_cmp_total, bundle_cmp_equal};
@@ -62,10 +61,6 @@ pub trait GoodsSet: Sized + Drop {
     /// The least good that is at least `from`.
     fn next_from(&self, from: u32) -> Option<u16>
         ensures { result ≡ good_from (goods self.now) from };
-
-    /// The size and the first three goods as one number, by which most sets are in order.
-    fn front(&self) -> u64
-        ensures { result ≡ front_of (goods self.now) };
 
     /// Appends the goods of the set, rising. Where memory is refused, some of them may stand there.
     fn list_into(&self, out: &mut Vec<u16>) -> Result<(), AllocError>

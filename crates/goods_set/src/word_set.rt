@@ -1,11 +1,11 @@
 //! A set of goods as the bits of words.
 mod as_mask;
-mod first_goods;
 pub(crate) mod lanes;
 pub(crate) mod scans;
 
 ghost use Rattle.std.specs.Prelude.{◌≡◌, ◌*◌, ◌<◌, min, [], not, length, IsOk, IfOk, OnErr};
 ghost use Rattle.goods_set.specs.Bundles.{IsRising, AreBelow, has_good, with_good};
+ghost use Rattle.goods_set.specs.declared.word_set.TheConstants.{MAX_WORDS};
 ghost use Rattle.goods_set.specs.Words.{word_goods, word_cap};
 ghost use Rattle.goods_set.specs.Lemmas.Words.{word_goods_bundle, word_cap_fits};
 
@@ -26,7 +26,7 @@ const MAX_WORDS: usize = 1024;
 impl<const N: usize> WordSet<N> {
     // The words that may hold goods.
     fn used(&self) -> &[u64]
-        ensures words { length result.now ≡ min N 1024 }
+        ensures words { length result.now ≡ min N MAX_WORDS }
         ensures goods { word_goods (64 * length result.now) result.now ≡ word_goods (word_cap N) self.now.words }
     {
         &self.words[..N.min(MAX_WORDS)]
@@ -34,16 +34,18 @@ impl<const N: usize> WordSet<N> {
 }
 
 impl<const N: usize> GoodsSet for WordSet<N> {
+    ghost use Rattle.goods_set.specs.Sets.{set_goods};
+
     ghost CAP = { word_cap N };
 
-    ghost goods = { λ s. word_goods (word_cap N) s.words };
+    ghost goods = { set_goods };
 
     fn cap() -> u32 {
         if N < MAX_WORDS { 64 * N as u32 } else { 65_536 }
     }
 
     fn empty(_alloc: Global) -> Result<WordSet<N>, AllocError>
-        ensures goods { IfOk result (λ s. word_goods (word_cap N) s.words ≡ []) }
+        ensures goods { IfOk result (λ s. set_goods s ≡ []) }
         ensures ok { IsOk result }
     {
         Ok(WordSet { words: [0; N] })
@@ -52,7 +54,7 @@ impl<const N: usize> GoodsSet for WordSet<N> {
     fn from_slice(_alloc: Global, rising: &[u16]) -> Result<WordSet<N>, AllocError>
         requires rising { IsRising rising.now }
         requires below { AreBelow (word_cap N) rising.now }
-        ensures goods { IfOk result (λ s. word_goods (word_cap N) s.words ≡ rising.now) }
+        ensures goods { IfOk result (λ s. set_goods s ≡ rising.now) }
         ensures ok { IsOk result }
     {
         let mut set = WordSet { words: [0; N] };
@@ -65,12 +67,9 @@ impl<const N: usize> GoodsSet for WordSet<N> {
 
     fn put(&mut self, good: u16) -> Result<bool, AllocError>
         requires { good < word_cap N }
-        ensures added { IfOk result (λ new. new
-            ≡ not (has_good (word_goods (word_cap N) self.old.words) good)) }
-        ensures goods { IfOk result (λ _. word_goods (word_cap N) self.new.words
-            ≡ with_good good (word_goods (word_cap N) self.old.words)) }
-        ensures refused { OnErr result (word_goods (word_cap N) self.new.words
-            ≡ word_goods (word_cap N) self.old.words) }
+        ensures added { IfOk result (λ new. new ≡ not (has_good (set_goods self.old) good)) }
+        ensures goods { IfOk result (λ _. set_goods self.new ≡ with_good good (set_goods self.old)) }
+        ensures refused { OnErr result (set_goods self.new ≡ set_goods self.old) }
         ensures ok { IsOk result }
     {
         let place = usize::from(good / 64);
@@ -91,10 +90,6 @@ impl<const N: usize> GoodsSet for WordSet<N> {
 
     fn next_from(&self, from: u32) -> Option<u16> {
         scans::next_good(self.used(), from)
-    }
-
-    fn front(&self) -> u64 {
-        first_goods::front(self.used())
     }
 
     fn list_into(&self, out: &mut Vec<u16>) -> Result<(), AllocError> {
@@ -125,8 +120,7 @@ impl<const N: usize> GoodsSet for WordSet<N> {
     }
 
     fn copy(&self) -> Result<WordSet<N>, AllocError>
-        ensures goods { IfOk result (λ s. word_goods (word_cap N) s.words
-            ≡ word_goods (word_cap N) self.now.words) }
+        ensures goods { IfOk result (λ s. set_goods s ≡ set_goods self.now) }
         ensures ok { IsOk result }
     {
         Ok(WordSet { words: self.words })

@@ -2,7 +2,7 @@
 ghost use Rattle.std.specs.Prelude.{◌≡◌, ◌<◌, [], ◌∷◌, Some, None, false};
 ghost use Rattle.goods_set.specs.Bundles.{IsBundle, IsInside, AreApart, is_inside, without, with_good, good_from, all_bundles};
 ghost use Rattle.goods_set.specs.Orders.{bundle_cmp};
-ghost use Rattle.goods_set.specs.Fronts.{front_of};
+ghost use Rattle.goods_set.specs.SortKeys.{sort_key_of};
 ghost use Rattle.goods_set.specs.Fingerprints.{AreMarks, mark_of};
 ghost use Rattle.std.specs.declared.cmp.Ordering.TheVariants.{Less, Equal, Greater};
 
@@ -57,12 +57,12 @@ pub fn fingerprints_worked()
     ensures one_too_many { ¬ AreMarks (5 ∷ []) 33 }
 {}
 
-/// The size stands in the highest 16 bits of a front, then the first three goods, so that fewer goods come first.
-pub fn fronts_worked()
-    ensures no_goods { front_of [] ≡ 0 }
-    ensures one_good { front_of (5 ∷ []) ≡ 281496451547136 }
-    ensures two_goods { front_of (5 ∷ 7 ∷ []) ≡ 562971428716544 }
-    ensures three_goods { front_of (5 ∷ 7 ∷ 9 ∷ []) ≡ 844446405427209 }
-    ensures size_first { front_of (65535 ∷ []) < front_of (0 ∷ 1 ∷ []) }
-    ensures fourth_left_out { front_of (5 ∷ 7 ∷ 9 ∷ 11 ∷ []) ≡ front_of (5 ∷ 7 ∷ 9 ∷ 12 ∷ []) }
+/// The size is in the highest 16 bits of a sort key, then the first three goods, so that fewer goods come first.
+pub fn sort_keys_worked()
+    ensures no_goods { sort_key_of [] ≡ 0 }
+    ensures one_good { sort_key_of (5 ∷ []) ≡ 281496451547136 }
+    ensures two_goods { sort_key_of (5 ∷ 7 ∷ []) ≡ 562971428716544 }
+    ensures three_goods { sort_key_of (5 ∷ 7 ∷ 9 ∷ []) ≡ 844446405427209 }
+    ensures size_first { sort_key_of (65535 ∷ []) < sort_key_of (0 ∷ 1 ∷ []) }
+    ensures fourth_left_out { sort_key_of (5 ∷ 7 ∷ 9 ∷ 11 ∷ []) ≡ sort_key_of (5 ∷ 7 ∷ 9 ∷ 12 ∷ []) }
 {}

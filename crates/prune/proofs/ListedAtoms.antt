@@ -34,7 +34,7 @@ use Rattle.valuation.specs.Lemmas.Atoms.{get_or-atoms_of}
 use Rattle.valuation.specs.Lemmas.Lists.{AllPairs-head, AllPairs-tail, AllPairs-append, Contains-map, Contains-unmap}
 use Rattle.prune.specs.declared.posting.Posting.{Posting}
 use Rattle.prune.specs.InOrder.{IsInOrder}
-use Rattle.prune.specs.Internal.Listings.{lists_of, listed_at, places_at, atom_at, is_inside_at, covers, covers_at, IsListed, IsPosting, AreListed}
+use Rattle.prune.specs.Internal.Listings.{lists_of, listed_at, indices_of, places_at, atom_at, is_inside_at, covers, covers_at, IsListed, IsPosting, AreListed}
 use Rattle.prune.specs.Internal.Listings.{AreGoodsOf, IsBehind, NoneInsideFrom}
 use Rattle.prune.specs.Lemmas.InOrder.{before_itself}
 use Rattle.prune.specs.Lemmas.Lists.{Contains-head, Contains-tail, Contains-filter, Contains-filter_parts, All-from_Contains, list_any_found, list_any_has}
@@ -448,21 +448,21 @@ pub places_get : (listed : List Posting) (i : ℕ) (d : Posting) → i < length 
     × (get_or (map place_of listed) i 0 ≡ (get_or listed i d).index)
 places_get listed i d l = let long = length-map listed place_of in (omega arith, get_or-map place_of listed i d 0 l)
 
-pub posting_index : (lists : List (List Posting)) (count : ℕ) (atoms : List (Atom (List ℕ))) (good : ℕ) (listed : List Posting) (i : ℕ) (d : Posting)
-    → AreListed lists count atoms → listed_at lists good ≡ listed → i < length listed → IsPosting atoms (get_or listed i d)
-posting_index lists count atoms good listed i d a e l =
-    a.right good (get_or listed i d) (subst (λ (zs : List Posting). Contains zs (get_or listed i d)) (sym e) (Contains-get_or listed i d l))
+pub postings_right : (lists : List (List Posting)) (count : ℕ) (atoms : List (Atom (List ℕ))) (good : ℕ) (postings : List Posting)
+    → AreListed lists count atoms → postings ≡ listed_at lists good → All (IsPosting atoms) postings
+postings_right lists count atoms good postings a e =
+    subst (λ (ps : List Posting). All (IsPosting atoms) ps) (sym e)
+    (All-from_Contains (IsPosting atoms) (listed_at lists good) (λ posting c. a.right good posting c))
 
 -- an atom that is not inside the bundle does not cover it
 pub not_inside : (atoms : List (Atom (List ℕ))) (bundle : List ℕ) (price : ℕ) (posting : Posting) → is_inside_at atoms bundle posting.index ≡ false
     → covers_at atoms bundle price posting.index ≡ false
 not_inside atoms bundle price posting t = and_right (leb price (atom_at atoms posting.index).price) (is_inside_at atoms bundle posting.index) t
 
-pub one_listed : (lists : List (List Posting)) (good : ℕ) (listed : List Posting) (i : ℕ) (d : Posting) (p : ℕ → Bool) → listed_at lists good ≡ listed
-    → i < length listed → p (get_or listed i d).index ≡ true → list_any p (places_at lists good) ≡ true
-one_listed lists good listed i d p e l t =
-    list_any_has p (places_at lists good) (get_or listed i d).index (Contains-map place_of (listed_at lists good) (get_or listed i d)
-    (subst (λ (zs : List Posting). Contains zs (get_or listed i d)) (sym e) (Contains-get_or listed i d l))) t
+pub one_listed : (listed : List Posting) (i : ℕ) (d : Posting) (p : ℕ → Bool) → i < length listed → p (get_or listed i d).index ≡ true
+    → list_any p (indices_of listed) ≡ true
+one_listed listed i d p l t =
+    list_any_has p (indices_of listed) (get_or listed i d).index (Contains-map place_of listed (get_or listed i d) (Contains-get_or listed i d l)) t
 
 pub none_more : (p : ℕ → Bool) (xs : List ℕ) (i place : ℕ) → i < length xs → get_or xs i 0 ≡ place → list_any p (take i xs) ≡ false → p place ≡ false
     → list_any p (take (i + 1) xs) ≡ false

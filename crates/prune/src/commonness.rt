@@ -6,11 +6,11 @@ use goods_set::{GoodsSet, rising_goods};
 use std::alloc::{AllocError, Global};
 use valuation::Atom;
 
-/// No more than about so many atoms are counted: they tell the rare goods of a bundle nearly as well as all would.
+/// No more than about so many atoms are counted: they show the rare goods of a bundle nearly as well as all would.
 const SAMPLE: usize = 1_024;
 
-/// How many atoms of a sample have each good. It decides where an atom is listed, and so what searches cost, and nothing
-/// that they answer: no clause tells it.
+/// How many atoms of a sample have each good. It is only for speed: it decides at which good an atom is listed, and no
+/// clause depends on that.
 #[derive(Drop)]
 pub struct Commonness {
     counts: Vec<u32>,
@@ -22,10 +22,10 @@ impl Commonness {
         let mut commonness = Commonness {
             counts: Vec::new(alloc),
         };
-        let mut room = Vec::new(alloc);
+        let mut buffer = Vec::new(alloc);
         let step = atoms.len() / SAMPLE + 1;
         for atom in atoms.iter().step_by(step) {
-            commonness.count_goods(rising_goods(&atom.bundle, &mut room)?)?;
+            commonness.count_goods(rising_goods(&atom.bundle, &mut buffer)?)?;
         }
         Ok(commonness)
     }
@@ -50,8 +50,8 @@ impl Commonness {
         }
     }
 
-    /// The first of the goods of which none is less common.
-    pub fn least_common(&self, goods: &[u16]) -> u16
+    /// The first of the rarest of the goods.
+    pub fn rarest(&self, goods: &[u16]) -> u16
         requires { 0 < length goods.now }
         ensures { has_good goods.now result ≡ true }
     {

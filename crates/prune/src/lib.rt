@@ -5,12 +5,12 @@ mod best;
 mod commonness;
 mod fault;
 mod front;
-mod kept;
 mod laws;
 mod or;
 mod posting;
 mod search;
 mod sorting;
+mod subset_index;
 mod worked;
 mod xor;
 

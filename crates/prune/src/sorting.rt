@@ -1,21 +1,22 @@
-//! Bids put in order, mostly by the fronts of their bundles, which are numbers: their places are sorted by these, sets
-//! are compared only where fronts are equal, and a bid is moved once or twice.
+//! Bids put in order, mostly by the sort keys of their bundles, which are numbers: the bids' indices are sorted by these,
+//! sets are compared only if keys are equal, and a bid is moved once or twice. It is only for speed: no clause says that
+//! the bids are in order, and who needs that sorts them, which then takes no more than to find them in order.
 ghost use Rattle.std.specs.Prelude.{◌≡◌, vec_len, IsPermutation};
 ghost use Rattle.prune.specs.Internal.BestBids.{bid_cmp};
 ghost use Rattle.valuation.specs.Values.{plain_atom};
 
-use goods_set::GoodsSet;
+use goods_set::{GoodsSet, sort_key};
 use std::alloc::{AllocError, Global};
 use std::cmp::Ordering;
 use valuation::Atom;
 
-/// So few bids are left as they stand: to sort them as they are takes less time than to list their fronts.
+/// So few bids are left as they stand: to sort them as they are takes less time than to list their keys.
 const FEW: usize = 32;
 
-/// A bid, by the front of its bundle and its place.
+/// A bid, by the sort key of its bundle and its place.
 #[derive(Clone, Copy)]
-struct FrontedPlace {
-    front: u64,
+struct KeyedPlace {
+    key: u64,
     place: usize,
 }
 
@@ -28,13 +29,9 @@ pub fn order_of_bids<S: GoodsSet>(one: &Atom<S>, other: &Atom<S>) -> Ordering
         .then(other.price.cmp(&one.price))
 }
 
-/// The order of two of the bids. Where the fronts differ, none is looked at.
-fn order_by_fronts<S: GoodsSet>(
-    bids: &[Atom<S>],
-    one: &FrontedPlace,
-    other: &FrontedPlace,
-) -> Ordering {
-    match one.front.cmp(&other.front) {
+/// The order of two of the bids. If the keys differ, none is looked at.
+fn order_by_keys<S: GoodsSet>(bids: &[Atom<S>], one: &KeyedPlace, other: &KeyedPlace) -> Ordering {
+    match one.key.cmp(&other.key) {
         Ordering::Equal => match (bids.get(one.place), bids.get(other.place)) {
             (Some(one), Some(other)) => order_of_bids(one, other),
             _ => Ordering::Equal,
@@ -47,19 +44,19 @@ fn order_by_fronts<S: GoodsSet>(
 fn places_in_order<S: GoodsSet>(
     alloc: Global,
     bids: &[Atom<S>],
-) -> Result<Vec<FrontedPlace>, AllocError> {
+) -> Result<Vec<KeyedPlace>, AllocError> {
     let mut places = Vec::with_capacity(alloc, bids.len())?;
     for (place, bid) in bids.iter().enumerate() {
-        let front = bid.bundle.front();
-        places.push(FrontedPlace { front, place })?;
+        let key = sort_key(&bid.bundle);
+        places.push(KeyedPlace { key, place })?;
     }
-    places.sort_unstable_by(|one, other| order_by_fronts(bids, one, other));
+    places.sort_unstable_by(|one, other| order_by_keys(bids, one, other));
     Ok(places)
 }
 
 /// Where the bid that belongs at `to` stands now, when each place before `to` has its bid. It stood at the place that is
 /// listed at `to`; what stood at a place that has its bid went where that bid came from, which is listed there now.
-fn place_now(places: &[FrontedPlace], to: usize) -> usize {
+fn place_now(places: &[KeyedPlace], to: usize) -> usize {
     let mut from = to;
     for _ in 0..places.len() {
         from = match places.get(from) {
@@ -73,8 +70,7 @@ fn place_now(places: &[FrontedPlace], to: usize) -> usize {
     from
 }
 
-/// Puts the bids in order. No clause says that they are: who needs it sorts them, which then takes no more than to find
-/// them in order. So a place past the end, which never comes, is passed over.
+/// Puts the bids in order. A place past the end, which never comes, is passed over.
 pub fn put_in_order<S: GoodsSet>(alloc: Global, bids: &mut Vec<Atom<S>>) -> Result<(), AllocError>
     ensures permutation { IsPermutation bids.old.items bids.new.items }
     ensures len { vec_len bids.new ≡ vec_len bids.old }

@@ -16,8 +16,6 @@ ghost use Rattle.prune.specs.SearchSteps.{
   first_heavy,
 };
 
-use valuation::Budget;
-
 /// The XOR points: a bid stays where no bid inside its bundle has its price.
 #[tactic(auto, unfolding(crate::specs::Points::points_where, crate::specs::Points::is_xor_point, valuation::specs::Values::xor_value))]
 pub fn xor_points_worked()
@@ -128,12 +126,10 @@ fn reaching_worked()
     ensures shared_good { ¬ IsReaching (atom (0 ∷ []) 3 ∷ atom (0 ∷ []) 4 ∷ []) (0 ∷ []) 7 (0 ∷ 1 ∷ []) 7 }
 {}
 
-/// What a search for a price answers, and what it uses of a budget.
+/// What a search for a price answers, by the steps that are left before and after it.
 #[tactic(auto, unfolding(crate::specs::SearchSteps::cut_steps, valuation::specs::Values::or_value))]
-fn searched_worked(before: &Budget, after: &Budget)
-    requires used { after.now.used ≡ before.now.used + 2 }
-    requires limit { after.now.limit ≡ before.now.limit }
-    ensures reached { IsSearched (atom (0 ∷ []) 3 ∷ []) (0 ∷ []) 3 before.now after.now (Ok true) }
-    ensures answer { ¬ IsSearched (atom (0 ∷ []) 3 ∷ []) (0 ∷ []) 3 before.now after.now (Ok false) }
-    ensures fewer_steps { ¬ IsSearched (atom (0 ∷ []) 3 ∷ []) (0 ∷ []) 4 before.now after.now (Ok false) }
+fn searched_worked()
+    ensures reached { IsSearched (atom (0 ∷ []) 3 ∷ []) (0 ∷ []) 3 5 3 (Ok true) }
+    ensures answer { ¬ IsSearched (atom (0 ∷ []) 3 ∷ []) (0 ∷ []) 3 5 3 (Ok false) }
+    ensures fewer_steps { ¬ IsSearched (atom (0 ∷ []) 3 ∷ []) (0 ∷ []) 4 5 3 (Ok false) }
 {}

@@ -23,17 +23,17 @@ ghost use Rattle.bid_file.specs.declared.limits.TheConstants.{MAX_GOODS};
 ghost use Rattle.valuation.specs.Auctions.{IsAtom};
 ghost use Rattle.valuation.specs.Values.{atoms_of, plain_atom, xor_value};
 ghost use Rattle.prune.specs.InOrder.{IsInOrder};
-ghost use Rattle.prune.specs.Internal.Listings.{lists_of, covers, AreListed, AreGoodsOf, AreUncovered, IsBehind};
+ghost use Rattle.prune.specs.Internal.Listings.{covers, AreUncovered, IsBehind, IsIndexOf};
 ghost use Rattle.prune.specs.Points.{xor_points};
 
 use crate::best::keep_best_bids;
 use crate::front::move_to_front;
-use crate::kept::KeptIndex;
+use crate::subset_index::SubsetIndex;
 use goods_set::{GoodsSet, rising_goods};
 use std::alloc::{AllocError, Global};
 use valuation::Atom;
 
-/// So few bids are compared one by one, which takes less time than to list each at a good.
+/// So few bids are compared one by one: this is only for speed, since to list each at a good takes longer.
 const FEW: usize = 32;
 
 /// Whether the atom is inside the bid's bundle and has at least its price.
@@ -71,32 +71,28 @@ fn are_few_and_uncovered<S: GoodsSet>(bids: &[Atom<S>]) -> bool
 }
 
 /// Whether a kept atom inside the bid's bundle has at least its price. Where none has, the index takes in that the bid
-/// is kept. Few atoms need no index. `room` is for goods.
+/// is kept. Few atoms need no index. `buffer` is for goods.
 fn is_covered<S: GoodsSet>(
-    alloc: Global,
-    index: &mut KeptIndex,
+    index: &mut SubsetIndex,
     kept: &[Atom<S>],
     bid: &Atom<S>,
     few: bool,
-    room: &mut Vec<u16>,
+    buffer: &mut Vec<u16>,
 ) -> Result<bool, AllocError>
     requires some { 0 < length (S.goods bid.now.bundle) }
     requires in_order { IsInOrder (atoms_of S.goods kept.now) }
     requires behind { IsBehind (S.goods bid.now.bundle) (atoms_of S.goods kept.now) }
-    requires listed { AreListed (lists_of index.old.lists.items) index.old.listed (atoms_of S.goods kept.now) }
-    requires goods { few ≡ false → AreGoodsOf index.old.goods.items (atoms_of S.goods kept.now) }
+    requires index { few ≡ false → IsIndexOf (atoms_of S.goods kept.now) index.old }
     ensures answer { IfOk result (λ covered. covered ≡ list_any (covers (S.goods bid.now.bundle) bid.now.price)
         (atoms_of S.goods kept.now)) }
-    ensures listed { OnOk result (AreListed (lists_of index.new.lists.items) index.new.listed
-        (atoms_of S.goods kept.now)) }
-    ensures goods { few ≡ false → IfOk result (λ covered. AreGoodsOf index.new.goods.items
-        (atoms_of S.goods kept.now ++ cond covered [] (plain_atom S.goods bid.now ∷ []))) }
+    ensures index { few ≡ false → IfOk result (λ covered. IsIndexOf
+        (atoms_of S.goods kept.now ++ cond covered [] (plain_atom S.goods bid.now ∷ [])) index.new) }
 {
     if few {
         return Ok(is_covered_by_any(bid, kept));
     }
-    index.list_below(alloc, kept, &bid.bundle)?;
-    let goods = rising_goods(&bid.bundle, room)?;
+    index.list_below(kept, &bid.bundle)?;
+    let goods = rising_goods(&bid.bundle, buffer)?;
     if index.has_inside(kept, &bid.bundle, goods, bid.price) {
         return Ok(true);
     }
@@ -128,12 +124,12 @@ pub fn prune_xor<S: GoodsSet>(
         return Ok(atoms);
     }
     let few = atoms.len() <= FEW;
-    let mut index = KeptIndex::of(alloc, &atoms)?;
-    let mut room = Vec::new(alloc);
+    let mut index = SubsetIndex::of(alloc, &atoms)?;
+    let mut buffer = Vec::new(alloc);
     let mut kept = 0;
     for place in 0..atoms.len() {
         let bid = &atoms[place];
-        if !is_covered(alloc, &mut index, &atoms[..kept], bid, few, &mut room)? {
+        if !is_covered(&mut index, &atoms[..kept], bid, few, &mut buffer)? {
             move_to_front(&mut atoms, kept, place);
             kept += 1;
         }

@@ -1,33 +1,40 @@
 //! How much a search may do.
-ghost use Rattle.std.specs.Prelude.{◌≡◌, ◌+◌, ◌<◌, ◌≤◌, ◌↔◌, IsTrue, if◌then◌else◌};
+ghost use Rattle.std.specs.Prelude.{◌≡◌, ◌+◌, false, if◌then◌else◌};
 
-/// Steps that a search may make, one for each packing that it enters.
+use std::marker::Model;
+
+/// Steps that a search may make, one for each packing that it enters. Contracts see a budget as the number of steps
+/// that are left.
 #[derive(Debug, Drop)]
 pub struct Budget {
-    used: u64,
-    limit: u64,
-    pub ghost within: { used ≤ limit },
+    left: u64,
+}
+
+impl Model for Budget {
+    ghost use Rattle.std.specs.Prelude.{ℕ};
+
+    ghost Value = { ℕ };
+
+    ghost view = { λ budget. budget.left };
 }
 
 impl Budget {
-    /// A budget of `limit` steps, none of which is used.
+    /// A budget of `limit` steps.
     pub fn new(limit: u64) -> Budget
-        ensures used { result.used ≡ 0 }
-        ensures limit { result.limit ≡ limit }
+        ensures { result ≡ limit }
     {
-        Budget { used: 0, limit }
+        Budget { left: limit }
     }
 
     /// Uses a step and answers true, if one is left.
     pub fn spend(&mut self) -> bool
-        ensures left { IsTrue result ↔ (self.old.used < self.old.limit) }
-        ensures used { self.new.used ≡ (if result then self.old.used + 1 else self.old.used) }
-        ensures limit { self.new.limit ≡ self.old.limit }
+        ensures left { self.old ≡ (if result then self.new + 1 else self.new) }
+        ensures none { result ≡ false → self.old ≡ 0 }
     {
-        if self.used == self.limit {
+        if self.left == 0 {
             return false;
         }
-        self.used += 1;
+        self.left -= 1;
         true
     }
 }

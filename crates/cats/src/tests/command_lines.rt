@@ -34,35 +34,35 @@ static REQUESTS: [(&[&str], &str); 17] = [
     ),
     (
         &["cats", "duplicates", "a", "b", "a"],
-        "Duplicates { files: Given([[97], [98], [97]]), limit: 1000000, progress: false, null: false }",
+        "Duplicates(FilesRequest { paths: Given([[97], [98], [97]]), limit: 1000000, progress: false, null: false })",
     ),
     (
         &["cats", "duplicates", "--progress", "a", "b", "--steps=9"],
-        "Duplicates { files: Given([[97], [98]]), limit: 9, progress: true, null: false }",
+        "Duplicates(FilesRequest { paths: Given([[97], [98]]), limit: 9, progress: true, null: false })",
     ),
     (
         &["cats", "duplicates", "-0", "a"],
-        "Duplicates { files: Given([[97]]), limit: 1000000, progress: false, null: true }",
+        "Duplicates(FilesRequest { paths: Given([[97]]), limit: 1000000, progress: false, null: true })",
     ),
     (
         &["cats", "duplicates", "a", "--", "-0"],
-        "Duplicates { files: Given([[97], [45, 48]]), limit: 1000000, progress: false, null: false }",
+        "Duplicates(FilesRequest { paths: Given([[97], [45, 48]]), limit: 1000000, progress: false, null: false })",
     ),
     (
         &["cats", "duplicates", "--files0-from", "a"],
-        "Duplicates { files: ListedIn(\"a\"), limit: 1000000, progress: false, null: false }",
+        "Duplicates(FilesRequest { paths: ListedIn(\"a\"), limit: 1000000, progress: false, null: false })",
     ),
     (
         &["cats", "sizes", "a"],
-        "Sizes { files: Given([[97]]), limit: 1000000, progress: false, null: false }",
+        "Sizes(FilesRequest { paths: Given([[97]]), limit: 1000000, progress: false, null: false })",
     ),
     (
         &["cats", "sizes", "--steps=9", "a", "--progress", "b"],
-        "Sizes { files: Given([[97], [98]]), limit: 9, progress: true, null: false }",
+        "Sizes(FilesRequest { paths: Given([[97], [98]]), limit: 9, progress: true, null: false })",
     ),
     (
         &["cats", "sizes", "a", "--null", "é"],
-        "Sizes { files: Given([[97], [195, 169]]), limit: 1000000, progress: false, null: true }",
+        "Sizes(FilesRequest { paths: Given([[97], [195, 169]]), limit: 1000000, progress: false, null: true })",
     ),
     (
         &[
@@ -72,7 +72,7 @@ static REQUESTS: [(&[&str], &str); 17] = [
             "-0",
             "--progress",
         ],
-        "Sizes { files: ListedIn(\"/dev/stdin\"), limit: 1000000, progress: true, null: true }",
+        "Sizes(FilesRequest { paths: ListedIn(\"/dev/stdin\"), limit: 1000000, progress: true, null: true })",
     ),
 ];
 

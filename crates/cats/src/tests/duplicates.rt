@@ -56,7 +56,7 @@ const ROOM: usize = 65_536;
 /// lines.
 type Row = (&'static str, usize, usize, u8, &'static str, &'static str);
 
-static ROWS: [Row; 16] = [
+static ROWS: [Row; 19] = [
     ("cats duplicates @a @b", ROOM, ROOM, 0, "", ""),
     ("cats duplicates @a @a2", ROOM, ROOM, 0, "@a\n@a2\n", ""),
     ("cats duplicates @a @a", ROOM, ROOM, 0, "@a\n@a\n", ""),
@@ -92,7 +92,7 @@ static ROWS: [Row; 16] = [
         ROOM,
         5,
         "@b\n@b2\n",
-        "@none: cannot open\n@empty: line 1: Missing\n",
+        "@none: cannot open: no such file\n@empty: line 1: Missing\n",
     ),
     (
         "cats duplicates --steps 2 @a2 @a @bad @a2",
@@ -102,13 +102,31 @@ static ROWS: [Row; 16] = [
         "@a2\n@a2\n",
         "@a: step limit at 0,1\n@bad: line 2: Missing\n",
     ),
+    // a folder among files, and one file alone
+    (
+        "cats duplicates @a /tmp @a2",
+        ROOM,
+        ROOM,
+        5,
+        "@a\n@a2\n",
+        "/tmp: cannot open: is a folder\n",
+    ),
+    (
+        "cats duplicates @a @a/b",
+        ROOM,
+        ROOM,
+        5,
+        "",
+        "@a/b: cannot open\n",
+    ),
+    ("cats duplicates @a", ROOM, ROOM, 0, "", ""),
     (
         "cats duplicates @none @bad",
         ROOM,
         ROOM,
         5,
         "",
-        "@none: cannot open\n@bad: line 2: Missing\n",
+        "@none: cannot open: no such file\n@bad: line 2: Missing\n",
     ),
     (
         "cats duplicates @bad @a @a2 @empty",

@@ -1,17 +1,19 @@
 //! The program on files in memory, of which its contract says what it does for a command line.
 
 ghost use Rattle.std.specs.List.{Any};
-ghost use Rattle.std.specs.Prelude.{◌≡◌};
+ghost use Rattle.std.specs.Prelude.{◌≡◌, ◌⊎◌};
+ghost use Rattle.cats_cmd.specs.declared.source.Unopened.TheVariants.{NoSuchFile};
 
 use super::streams::{RunAnswer, expect, text_taken, writer};
 use cats_cmd::{Source, Unopened, run_program};
 use std::alloc::{Alloc, Global};
 use std::test::Fail;
 
-/// Files with their paths.
+/// Files with their paths, and paths that are refused.
 #[derive(Drop)]
 struct FilesInMemory<'a> {
     files: &'a [(&'a str, &'a [u8])],
+    refused: &'a [(&'a str, Unopened)],
     alloc: Global,
 }
 
@@ -20,15 +22,24 @@ impl<'a> Source for FilesInMemory<'a> {
 
     ghost may_open = { λ source path stream. Any (λ f. (f.0.now ≡ path) × (f.1.now ≡ stream.now)) source.files.now };
 
-    ghost may_refuse = { λ source path. Unit {0} };
+    ghost may_refuse = { λ source path why. Any (λ r. (r.0.now ≡ path) × (r.1 ≡ why)) source.refused.now ⊎ (why ≡ NoSuchFile) };
 
     fn open(&self, path: &str) -> Result<&'a [u8], Unopened> {
+        self.open_file(path)
+    }
+
+    fn open_file(&self, path: &str) -> Result<&'a [u8], Unopened> {
+        for (name, why) in self.refused {
+            if *name == path {
+                return Err(*why);
+            }
+        }
         for (name, text) in self.files {
             if *name == path {
                 return Ok(*text);
             }
         }
-        Err(Unopened)
+        Err(Unopened::NoSuchFile)
     }
 }
 
@@ -40,7 +51,7 @@ impl Alloc for FilesInMemory<'_> {
     }
 }
 
-static FILES: [(&str, &[u8]); 13] = [
+static FILES: [(&str, &[u8]); 20] = [
     ("one", b"goods 1\nbids 1\ndummy 0\n0 3 0 #\n"),
     ("same", b"goods 1\nbids 2\ndummy 0\n0 3 0 #\n1 2 0 #\n"),
     ("other", b"goods 1\nbids 1\ndummy 0\n0 4 0 #\n"),
@@ -61,12 +72,29 @@ static FILES: [(&str, &[u8]); 13] = [
     ("list with a path twice", b"same\0other\0same\0"),
     ("list with an empty path", b"one\0\0same\0"),
     ("list with LF", b"one\nother\nsame\n"),
+    // names with LF, tab, escape, backslash, delete and a byte above 127
+    ("a\nb", b"goods 1\nbids 1\ndummy 0\n0 3 0 #\n"),
+    ("a\tb", b"goods 1\nbids 1\ndummy 0\n0 3 0 #\n"),
+    ("\x1b[2J", b"goods 1\nbids 1\ndummy 0\n0 3 0 #\n"),
+    ("a\\nb", b"goods 1\nbids 1\ndummy 0\n0 3 0 #\n"),
+    ("\x7f", b"goods 1\nbids 1\ndummy 0\n0 3 0 #\n"),
+    ("\u{e9}", b"goods 1\nbids 1\ndummy 0\n0 3 0 #\n"),
+    (
+        "list of such names",
+        b"a\nb\0a\tb\0\x1b[2J\0a\\nb\0\x7f\0\xc3\xa9\0\x1bnone\0",
+    ),
+];
+
+static REFUSED: [(&str, Unopened); 3] = [
+    ("folder", Unopened::IsFolder),
+    ("secret", Unopened::PermissionDenied),
+    ("broken", Unopened::Other),
 ];
 
 /// A command line's words, and what it answers: its status, its output and its faults' lines.
 type Row<'a> = (&'a [&'a str], u8, &'a str, &'a str);
 
-static ROWS: [Row<'static>; 25] = [
+static ROWS: [Row<'static>; 31] = [
     (
         &["cats", "check", "same"],
         0,
@@ -108,7 +136,7 @@ static ROWS: [Row<'static>; 25] = [
         &["cats", "duplicates", "--progress", "none", "one"],
         5,
         "",
-        "none: cannot open\n2 of 2 one\n",
+        "none: cannot open: no such file\n2 of 2 one\n",
     ),
     (&["cats", "duplicates", "one"], 0, "", ""),
     (
@@ -129,7 +157,7 @@ static ROWS: [Row<'static>; 25] = [
         &["cats", "sizes", "none", "--progress"],
         5,
         "goods\tbids\tor\txor\tdummy\tkept\tkept_or\tkept_xor\tfile\n",
-        "none: cannot open\n1 of 1 none\n",
+        "none: cannot open: no such file\n1 of 1 none\n",
     ),
     // NUL at the end of each line
     (
@@ -143,9 +171,58 @@ static ROWS: [Row<'static>; 25] = [
         5,
         "goods\tbids\tor\txor\tdummy\tkept\tkept_or\tkept_xor\tfile\0\
 1\t2\t2\t0\t0\t1\t1\t0\tsame\01\t1\t1\t0\t0\t1\t1\t0\tone\0",
-        "none: cannot open\n",
+        "none: cannot open: no such file\n",
     ),
     (&["cats", "duplicates", "-0", "one", "other"], 0, "", ""),
+    // a reason for each path that is refused
+    (
+        &[
+            "cats",
+            "duplicates",
+            "one",
+            "folder",
+            "secret",
+            "none",
+            "broken",
+            "one",
+        ],
+        5,
+        "one\none\n",
+        "folder: cannot open: is a folder\nsecret: cannot open: permission denied\n\
+none: cannot open: no such file\nbroken: cannot open\n",
+    ),
+    (
+        &["cats", "sizes", "--files0-from", "secret"],
+        5,
+        "",
+        "secret: cannot open: permission denied\n",
+    ),
+    (&["cats", "check", "secret"], 5, "", "cannot open\n"),
+    (
+        &["cats", "compare", "folder", "one"],
+        5,
+        "",
+        "first: cannot open\n",
+    ),
+    // names that are escaped on both streams, and are not with -0
+    (
+        &["cats", "duplicates", "--files0-from", "list of such names"],
+        5,
+        "a\\nb\na\\tb\n\\x1b[2J\na\\\\nb\n\\x7f\n\u{e9}\n",
+        "\\x1bnone: cannot open: no such file\n",
+    ),
+    (
+        &[
+            "cats",
+            "duplicates",
+            "-0",
+            "--files0-from",
+            "list of such names",
+        ],
+        5,
+        "a\nb\0a\tb\0\x1b[2J\0a\\nb\0\x7f\0\u{e9}\0",
+        "\\x1bnone: cannot open: no such file\n",
+    ),
     (
         &["cats", "duplicates", "--files0-from", "list"],
         0,
@@ -190,13 +267,13 @@ static ROWS: [Row<'static>; 25] = [
         ],
         5,
         "one\nsame\n",
-        ": cannot open\n",
+        ": cannot open: no such file\n",
     ),
     (
         &["cats", "sizes", "--files0-from", "no list"],
         5,
         "",
-        "no list: cannot open\n",
+        "no list: cannot open: no such file\n",
     ),
     (
         &["cats", "duplicates", "--files0-from", "list", "one"],
@@ -224,6 +301,7 @@ fn files_in_memory(rt: HostRuntime) -> Result<(), Fail> {
     let alloc = rt.alloc();
     let source = FilesInMemory {
         files: &FILES,
+        refused: &REFUSED,
         alloc,
     };
     for (words, status, sent, told) in &ROWS {

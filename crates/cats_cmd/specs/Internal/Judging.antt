@@ -8,6 +8,7 @@ use Rattle.cats_cmd.specs.Paths.{BeginsPaths, Judgement, Judges, JudgesPaths, Ju
 use Rattle.cats_cmd.specs.Paths.{status_of_judgement, stop_of}
 use Rattle.cats_cmd.specs.Stops.{ReportsAll}
 use Rattle.cats_cmd.specs.declared.program.Stop.{Stop}
+use Rattle.cats_cmd.specs.declared.source.Unopened.{Unopened}
 
 -- what `cats duplicates` keeps: an index of the files that were judged, and what was found of them
 pub record KeepsGroups (index : TextIndex) (found : List (List ℕ × ℕ)) (judgements : List (List ℕ × Judgement))
@@ -33,7 +34,7 @@ module _ {C : Type 0} (Has : C → List (List ℕ × Judgement) → Type 0) wher
     pub adds : AddsJudgement path judgement old new
     pub is_stop : stop ≡ stop_of judgement
 
-  module _ {F : Type 0} (may_open : List ℕ → F → Type 0) (may_refuse : List ℕ → Type 0)
+  module _ {F : Type 0} (may_open : List ℕ → F → Type 0) (may_refuse : List ℕ → Unopened → Type 0)
       (remaining : F → Option (List ℕ)) (limit : ℕ) where
     -- the file at the path was judged
     pub record AddsFile (path : List ℕ) (old new : C) (stop : Option Stop) : Type 0 where

@@ -1,9 +1,10 @@
 -- A text that is written from its end to its start.
-use Rattle.std.proofs.Common.{◌≡◌, ℕ, ◌+◌, ◌-◌, ◌<◌, ◌≤◌, List, [], ◌∷◌, ◌++◌, Result, Ok, Err, OnOk, length, take, drop, set, get_or, decimal, sym, ap, ◌∙◌}
+use Rattle.std.proofs.Common.{◌≡◌, ℕ, ◌+◌, ◌-◌, ◌<◌, ◌≤◌, List, [], ◌∷◌, ◌++◌, codes, length, take, drop, set, get_or, decimal, sym, ap, ◌∙◌}
 use Rattle.std.proofs.Common.{arith, append_assoc, take-take}
-use Rattle.std.proofs.lemmas.List.{append-nil, drop-set, drop-drop, drop-append-le, take_more, take_all, get_or-take, length-take-le}
+use Rattle.std.proofs.lemmas.List.{append-nil, drop-set, drop-drop, drop-append-le, take_more, take_all, get_or-take, length-take-le, length-drop}
 use Rattle.std.proofs.lemmas.Grind.{flat_map-append}
-use Rattle.cats_text.specs.Layout.{tabbed}
+use Rattle.bid_file.specs.Files.{PlainBid, dummy_good, goods_of}
+use Rattle.cats_text.specs.Layout.{price_text, tabbed, bid_text}
 
 -- a byte in place of the first
 pub byte_in_place : (xs text rest : List ℕ) (start b : ℕ) → start < length xs → 0 < length text → drop start xs ≡ text ++ rest
@@ -34,21 +35,19 @@ shorter_front xs whole e =
 pub last_of_front : (xs whole : List ℕ) → 1 ≤ length xs → xs ≡ take (length xs) whole → get_or xs (length xs - 1) 0 ≡ get_or whole (length xs - 1) 0
 last_of_front xs whole some e = ap (λ ys. get_or ys (length xs - 1) 0) e ∙ get_or-take (length xs) whole (length xs - 1) 0 (omega arith)
 
--- ---- the end of a line
+-- ---- a line, in the order in which its parts are written
 
-ended : (out now offer bundle left dummy end : List ℕ) → now ++ tabbed left ≡ out ++ offer ++ tabbed bundle
-    → now ++ (tabbed (left ++ dummy) ++ end) ≡ out ++ (offer ++ tabbed (bundle ++ dummy) ++ end)
-ended out now offer bundle left dummy end before =
-    ap (λ t. now ++ (t ++ end)) (tabbed_all left dummy)
-    ∙ sym (append_assoc now (tabbed left ++ tabbed dummy) end)
-    ∙ ap (λ t. t ++ end) (sym (append_assoc now (tabbed left) (tabbed dummy))
-    ∙ ap (λ t. t ++ tabbed dummy) before
-    ∙ append_assoc (out ++ offer) (tabbed bundle) (tabbed dummy)
-    ∙ ap (λ t. out ++ offer ++ t) (sym (tabbed_all bundle dummy))
-    ∙ append_assoc out offer (tabbed (bundle ++ dummy)))
-    ∙ append_assoc out (offer ++ tabbed (bundle ++ dummy)) end
+pub whole_line : (real goods number : ℕ) (bid : PlainBid) → real ≡ goods
+    → (decimal number ++ 9 ∷ price_text bid.price) ++ (tabbed bid.goods ++ (tabbed (dummy_good real bid.dummy) ++ codes "\t#\n")) ≡ bid_text goods number bid
+whole_line real goods number bid same =
+    let offer = decimal number ++ 9 ∷ price_text bid.price in
+    let end : List ℕ = codes "\t#\n" in
+    ap (λ (n : ℕ). offer ++ (tabbed bid.goods ++ (tabbed (dummy_good n bid.dummy) ++ end))) same
+    ∙ ap (λ (t : List ℕ). offer ++ t)
+    (sym (append_assoc (tabbed bid.goods) (tabbed (dummy_good goods bid.dummy)) end)
+    ∙ ap (λ (t : List ℕ). t ++ end) (sym (tabbed_all bid.goods (dummy_good goods bid.dummy))))
+    ∙ sym (append_assoc offer (tabbed (goods_of goods bid)) end)
 
-pub line_ended : {T E : Type 0} (r : Result T E) (out now new offer bundle left dummy end : List ℕ) → now ++ tabbed left ≡ out ++ offer ++ tabbed bundle
-    → OnOk r (new ≡ now ++ (tabbed (left ++ dummy) ++ end)) → OnOk r (new ≡ out ++ (offer ++ tabbed (bundle ++ dummy) ++ end))
-line_ended (Ok x) out now new offer bundle left dummy end before e = e ∙ ended out now offer bundle left dummy end before
-line_ended (Err x) out now new offer bundle left dummy end before e = tt
+-- a buffer from a place on
+pub rest_of : (size start : ℕ) (line : List ℕ) → length line ≡ size → take (size - start) (drop start line) ≡ drop start line
+rest_of size start line e = take_all (size - start) (drop start line) (omega (arith, length-drop start line))

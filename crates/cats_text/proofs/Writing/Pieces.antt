@@ -43,15 +43,14 @@ module _ (before count : ℕ) (page rest whole : List ℕ) (later : before ≤ c
   within_on inside = omega (arith, length-append page rest, ap length next, length-drop before whole)
 
 -- one more line is held
-pub line_held : (goods : ℕ) (bids : List PlainBid) (number : ℕ) (bid : PlainBid) (before count : ℕ) (page left new whole : List ℕ) (real : ℕ)
-    → real ≡ goods → slice_get bids number ≡ Some bid → before ≤ count → count ≤ before + length page
+pub line_held : (goods : ℕ) (bids : List PlainBid) (number : ℕ) (bid : PlainBid) (before count : ℕ) (page left new whole : List ℕ)
+    → slice_get bids number ≡ Some bid → before ≤ count → count ≤ before + length page
     → page ++ bids_text goods number (drop number bids) ≡ drop before whole → left ≡ drop (count - before) page
-    → new ≡ left ++ bid_text real number bid → new ++ bids_text goods (number + 1) (drop (number + 1) bids) ≡ drop count whole
-line_held goods bids number bid before count page left new whole real same there later held next rest more =
+    → new ≡ left ++ bid_text goods number bid → new ++ bids_text goods (number + 1) (drop (number + 1) bids) ≡ drop count whole
+line_held goods bids number bid before count page left new whole there later held next rest more =
     let now : left ++ bids_text goods number (drop number bids) ≡ drop count whole =
     ap (λ (l : List ℕ). l ++ bids_text goods number (drop number bids)) rest ∙ left_on before count page _ whole later held next in
-    bids_text_on goods bids number bid left new (drop count whole) there now
-    (more ∙ ap (λ (n : ℕ). left ++ bid_text n number bid) same)
+    bids_text_on goods bids number bid left new (drop count whole) there now more
 
 -- the writer failed in a piece
 pub failed_in_piece : {W : Type 0} (contents : W → Option (List ℕ)) (a b c : Watched W) (before : ℕ) (page piece rest whole : List ℕ) (fault : SendFault)

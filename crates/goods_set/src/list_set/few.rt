@@ -1,29 +1,31 @@
 //! A few goods, which take no memory of their own.
 ghost use Rattle.std.specs.Prelude.{◌≡◌, ◌+◌, ◌<◌, ◌≤◌, [], ◌∷◌, ◌++◌, length};
 ghost use Rattle.std.specs.List.{insert};
+ghost use Rattle.goods_set.specs.declared.list_set.few.TheConstants.{FEW};
 
 use std::marker::Model;
 
 /// How many goods fit.
 pub(crate) const FEW: usize = 11;
 
-/// Up to 11 goods, one after another.
+/// Up to `FEW` goods, one after another.
 #[derive(Debug, Drop)]
 pub(crate) struct FewGoods {
     /// Takes no room, but places the others so that they are moved as whole words.
     words: [u64; 0],
     count: u8,
-    goods: [u16; 11],
+    goods: [u16; FEW],
 }
 
 impl Model for FewGoods {
     ghost use Rattle.std.specs.Prelude.{ℕ, List, take, ◌≤◌};
+    ghost use Rattle.goods_set.specs.declared.list_set.few.TheConstants.{FEW};
 
     ghost Value = { List ℕ };
 
     ghost view = { λ f. take f.count f.goods };
 
-    ghost invariant = { λ f. f.count ≤ 11 };
+    ghost invariant = { λ f. f.count ≤ FEW };
 }
 
 impl FewGoods {
@@ -33,12 +35,12 @@ impl FewGoods {
         FewGoods {
             words: [],
             count: 0,
-            goods: [0; 11],
+            goods: [0; FEW],
         }
     }
 
     pub(crate) fn from_slice(goods: &[u16]) -> FewGoods
-        requires { length goods.now ≤ 11 }
+        requires { length goods.now ≤ FEW }
         ensures { result ≡ goods.now }
     {
         let mut few = FewGoods::none();
@@ -49,13 +51,13 @@ impl FewGoods {
     #[inline(always)]
     pub(crate) fn as_slice(&self) -> &[u16]
         ensures goods { result.now ≡ self.now }
-        ensures fits { length self.now ≤ 11 }
+        ensures fits { length self.now ≤ FEW }
     {
         &self.goods[..usize::from(self.count)]
     }
 
     pub(crate) fn push(&mut self, good: u16)
-        requires { length self.old < 11 }
+        requires { length self.old < FEW }
         ensures { self.new ≡ self.old ++ good ∷ [] }
     {
         self.goods[usize::from(self.count)] = good;
@@ -63,7 +65,7 @@ impl FewGoods {
     }
 
     pub(crate) fn append(&mut self, goods: &[u16])
-        requires { length self.old + length goods.now ≤ 11 }
+        requires { length self.old + length goods.now ≤ FEW }
         ensures { self.new ≡ self.old ++ goods.now }
     {
         let start = usize::from(self.count);
@@ -74,7 +76,7 @@ impl FewGoods {
 
     /// The goods with another at a place.
     pub(crate) fn with(&self, place: usize, good: u16) -> FewGoods
-        requires room { length self.now < 11 }
+        requires room { length self.now < FEW }
         requires place { place ≤ length self.now }
         ensures { result ≡ insert self.now place good }
     {

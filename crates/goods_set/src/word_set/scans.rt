@@ -4,6 +4,7 @@ ghost use Rattle.std.specs.Prelude.{◌≡◌, ◌+◌, ◌*◌, ◌^◌, ◌≤
 ghost use Rattle.std.specs.Ordering.{nat_cmp};
 ghost use Rattle.std.specs.Cmp.Lexicographic.{slice_cmp};
 ghost use Rattle.goods_set.specs.Bundles.{good_from};
+ghost use Rattle.goods_set.specs.declared.word_set.TheConstants.{MAX_WORDS};
 ghost use Rattle.goods_set.specs.Words.{word_goods};
 
 use std::alloc::AllocError;
@@ -11,7 +12,7 @@ use std::cmp::Ordering;
 
 /// How many goods the words hold.
 pub(crate) fn count_goods(words: &[u64]) -> usize
-    requires { length words.now ≤ 1024 }
+    requires { length words.now ≤ MAX_WORDS }
     ensures { result ≡ length (word_goods (64 * length words.now) words.now) }
 {
     let mut count = 0;
@@ -23,7 +24,7 @@ pub(crate) fn count_goods(words: &[u64]) -> usize
 
 /// The least good that is at least `from`.
 pub(crate) fn next_good(words: &[u64], from: u32) -> Option<u16>
-    requires { length words.now ≤ 1024 }
+    requires { length words.now ≤ MAX_WORDS }
     ensures { result ≡ good_from (word_goods (64 * length words.now) words.now) from }
 {
     let good = next_bit(words, from as usize)?;
@@ -54,7 +55,7 @@ pub(crate) fn next_bit(words: &[u64], from: usize) -> Option<usize>
 
 /// Appends the goods that the words hold, rising.
 pub(crate) fn list_goods(words: &[u64], out: &mut Vec<u16>) -> Result<(), AllocError>
-    requires { length words.now ≤ 1024 }
+    requires { length words.now ≤ MAX_WORDS }
     ensures { OnOk result (out.new.items ≡ out.old.items ++ word_goods (64 * length words.now) words.now) }
 {
     for k in 0..words.len() {

@@ -9,6 +9,7 @@ use Rattle.goods_set.specs.Bundles.{has_good, is_inside}
 use Rattle.goods_set.specs.Orders.{bundle_cmp}
 use Rattle.goods_set.specs.Fingerprints.{AreMarks}
 use Rattle.prune.specs.declared.posting.Posting.{Posting}
+use Rattle.prune.specs.declared.subset_index.SubsetIndex.{SubsetIndex}
 
 -- for each good what is listed there
 abbrev pub lists_of : List (Vec Posting) → List (List Posting)
@@ -18,9 +19,13 @@ lists_of vectors = map (λ v. v.items) vectors
 abbrev pub listed_at : List (List Posting) → ℕ → List Posting
 listed_at lists good = slice_index_or lists good []
 
+-- the places of listed atoms
+abbrev pub indices_of : List Posting → List ℕ
+indices_of postings = map (λ posting. posting.index) postings
+
 -- the places that are listed at a good
 abbrev pub places_at : List (List Posting) → ℕ → List ℕ
-places_at lists good = map (λ posting. posting.index) (listed_at lists good)
+places_at lists good = indices_of (listed_at lists good)
 
 -- the atom at a place
 abbrev pub atom_at : List (Atom (List ℕ)) → ℕ → Atom (List ℕ)
@@ -69,6 +74,15 @@ pub record AreGoodsOf (goods : List ℕ) (atoms : List (Atom (List ℕ))) : Type
   pub long : length goods ≡ length atoms
   pub each : (place : ℕ) → place < length atoms → has_good (atom_at atoms place).bundle (slice_index_or goods place 0) ≡ true
 
+-- what an index lists at a good
+abbrev pub postings_of : SubsetIndex → ℕ → List Posting
+postings_of index good = listed_at (lists_of index.lists.items) good
+
+-- the index lists the first so many of the atoms, and has noted a good of each
+pub record IsIndexOf (atoms : List (Atom (List ℕ))) (index : SubsetIndex) : Type 0 where
+  pub listed : AreListed (lists_of index.lists.items) index.listed atoms
+  pub noted : AreGoodsOf index.goods.items atoms
+
 -- the bundle comes behind those of all atoms
 abbrev pub IsBehind : List ℕ → List (Atom (List ℕ)) → Type 0
 IsBehind bundle atoms = All (λ a. bundle_cmp a.bundle bundle ≡ Less) atoms
@@ -76,6 +90,10 @@ IsBehind bundle atoms = All (λ a. bundle_cmp a.bundle bundle ≡ Less) atoms
 -- none of the atoms from a place on is inside the bundle
 abbrev pub NoneInsideFrom : ℕ → List (Atom (List ℕ)) → List ℕ → Type 0
 NoneInsideFrom from atoms bundle = (place : ℕ) → from ≤ place → place < length atoms → is_inside_at atoms bundle place ≡ false
+
+-- none of the atoms that the index does not list is inside the bundle
+abbrev pub IsReadyFor : List ℕ → List (Atom (List ℕ)) → SubsetIndex → Type 0
+IsReadyFor bundle atoms index = NoneInsideFrom index.listed atoms bundle
 
 -- the atoms of a list inside a bundle
 abbrev pub atoms_inside : List (Atom (List ℕ)) → List ℕ → List (Atom (List ℕ))

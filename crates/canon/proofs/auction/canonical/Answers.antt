@@ -6,7 +6,7 @@ use Rattle.valuation.specs.Values.{atoms_of}
 use Rattle.valuation.specs.Views.{plain_auction}
 use Rattle.canon.specs.Canonical.{IsCanonical, canonical_auction}
 use Rattle.canon.specs.Sameness.{IsSameAuction}
-use Rattle.canon.specs.Internal.FrontedBidders.{fronted_bidders}
+use Rattle.canon.specs.Internal.KeyedBidders.{keyed_bidders}
 use Rattle.canon.proofs.Bidders.{or_part, xor_part, canonical_parts, light_parts}
 use Rattle.canon.proofs.Sames.{HasAtoms-auction, canonical_is_same, canonical_is_fixed}
 use Rattle.canon.proofs.Smaller.{IsAuction-canonical}
@@ -24,7 +24,7 @@ points_of_each-requires g c =
 pub new-requires : goal.new-requires
 new-requires g c =
     let same = canonical_parts g.S.GoodsSet.CAP (plain_auction c.args.auction) c.args.auction.facts _ _ _ c.into_parts-goods.ensures
-    (atoms_of g.S.GoodsSet.goods c.in_ok-or_points.or_points.items) (fronted_bidders c.in_ok-bidders.bidders.items)
+    (atoms_of g.S.GoodsSet.goods c.in_ok-or_points.or_points.items) (keyed_bidders c.in_ok-bidders.bidders.items)
     (bidders_of g.S.GoodsSet.goods c.in_ok-xor_points.xor_points.items)
     c.in_ok-or_points.ensures.points c.in_ok-bidders.ensures (c.in_ok-xor_points.ensures ∙ c.sort_bidders.ensures) in
     subst (λ (a : PlainAuction). IsAuction g.S.GoodsSet.CAP a) (sym same)
@@ -34,7 +34,7 @@ made : (g : Over) (c : goal.After-new g) → plain_auction c.new.result ≡ cano
 made g c =
     c.new.ensures
     ∙ canonical_parts g.S.GoodsSet.CAP (plain_auction c.args.auction) c.args.auction.facts _ _ _ c.into_parts-goods.ensures
-    (atoms_of g.S.GoodsSet.goods c.in_ok-or_points.or_points.items) (fronted_bidders c.in_ok-bidders.bidders.items)
+    (atoms_of g.S.GoodsSet.goods c.in_ok-or_points.or_points.items) (keyed_bidders c.in_ok-bidders.bidders.items)
     (bidders_of g.S.GoodsSet.goods c.in_ok-xor_points.xor_points.items)
     c.in_ok-or_points.ensures.points c.in_ok-bidders.ensures (c.in_ok-xor_points.ensures ∙ c.sort_bidders.ensures)
 

@@ -8,7 +8,7 @@ use Rattle.bid_file.specs.declared.limits.TheConstants.{MAX_GOODS}
 use Rattle.valuation.specs.declared.atom.Atom.{Atom}
 use Rattle.valuation.specs.Auctions.{IsAtom}
 use Rattle.valuation.specs.Values.{atoms_of}
-use Rattle.canon.specs.Internal.FrontedBidders.{fronted_atoms}
+use Rattle.canon.specs.Internal.KeyedBidders.{keyed_atoms}
 use Rattle.canon.proofs.Bidders.{positive, bidder_next, bidder_taken, points_pushed, points_skipped, points_done}
 use Rattle.canon.proofs.auction.points_of_each.Goals as goal
 
@@ -24,7 +24,7 @@ loop-bidder-preserved g c =
     record {
       all = bidder_taken g.S.GoodsSet.goods c.args.bidders.items c.loop-bidder.yielded _ _ c.in-Some.bidder h.all step;
       points = λ n atoms.
-          points_skipped g.S.GoodsSet.goods c.args.bidders.items c.loop-bidder.yielded _ _ c.in-Some.bidder h.all step fronted_atoms n atoms
+          points_skipped g.S.GoodsSet.goods c.args.bidders.items c.loop-bidder.yielded _ _ c.in-Some.bidder h.all step keyed_atoms n atoms
           c.loop-bidder.points.items
           c.in_ok-own.own
           (c.in_ok-own.ensures.points n) (h.points n atoms)
@@ -35,7 +35,7 @@ pub returns : goal.returns
 returns g c =
     let none : into_iter_items c.loop-bidder.bidder-iterator ≡ [] =
     nil_from_length (into_iter_items c.loop-bidder.bidder-iterator) (omega (arith, c.in-None.ensures.steps.0, c.loop-bidder.bidder-iterator.rest.ok.0)) in
-    λ n atoms. points_done g.S.GoodsSet.goods fronted_atoms n c.args.bidders.items c.loop-bidder.yielded _ c.loop-bidder.points.items
+    λ n atoms. points_done g.S.GoodsSet.goods keyed_atoms n c.args.bidders.items c.loop-bidder.yielded _ c.loop-bidder.points.items
     c.loop-bidder.invariant.all none (c.loop-bidder.invariant.points n atoms)
 
 pub loop-bidder-preserved-in-Continue-branch-3 : goal.loop-bidder-preserved-in-Continue-branch-3
@@ -46,7 +46,7 @@ loop-bidder-preserved-in-Continue-branch-3 g c =
     record {
       all = bidder_taken g.S.GoodsSet.goods c.args.bidders.items c.loop-bidder.yielded _ _ c.in-Some.bidder h.all step;
       points = λ n atoms.
-          points_pushed g.S.GoodsSet.goods c.args.bidders.items c.loop-bidder.yielded _ _ c.in-Some.bidder h.all step fronted_atoms n atoms
+          points_pushed g.S.GoodsSet.goods c.args.bidders.items c.loop-bidder.yielded _ _ c.in-Some.bidder h.all step keyed_atoms n atoms
           c.loop-bidder.points.items
           c.in_ok-own.own
           (c.in_ok-own.ensures.points n) (h.points n atoms) c.push.new.self.items c.new.result c.in_ok-push.ensures.items

@@ -5,7 +5,7 @@ use Rattle.std.specs.Vec.Iter.{into_iter_items}
 use Rattle.valuation.specs.Auctions.{IsAtom}
 use Rattle.valuation.specs.Bidders.{bidders_of}
 use Rattle.canon.specs.Canonical.{points_of_bidders}
-use Rattle.canon.specs.Internal.FrontedBidders.{fronted_bidders}
+use Rattle.canon.specs.Internal.KeyedBidders.{keyed_bidders}
 use Rattle.canon.proofs.auction.points_of_each.Given as goal
 
 abbrev pub invariant-loop-bidder : goal.invariant-loop-bidder
@@ -14,5 +14,5 @@ invariant-loop-bidder g l =
     record {
       all : l.fn.bidders.items ≡ l.yielded ++ into_iter_items l.bidder-iterator;
       points : (n : ℕ) → All (All (IsAtom n)) (bidders_of goods l.fn.bidders.items)
-          → fronted_bidders l.points.items ≡ points_of_bidders n (bidders_of goods l.yielded);
+          → keyed_bidders l.points.items ≡ points_of_bidders n (bidders_of goods l.yielded);
     }

@@ -1,22 +1,50 @@
-use Rattle.std.proofs.Common.{◌≡◌}
-use Rattle.std.specs.Prelude.{◌↔◌}
-use Rattle.std.proofs.lemmas.Result.{IfOk-weaker}
-use Rattle.bid_file.specs.Views.{plain_file}
+-- The two parts of each file's bids are those of its auction, so what the walks over them answer is the first difference of the
+-- auctions: a bundle of the OR bidders, or else the least XOR bidder.
+use Rattle.std.proofs.Common.{◌≡◌, arith}
 use Rattle.valuation.specs.Auctions.{auction_from}
-use Rattle.canon.specs.Difference.{first_difference}
-use Rattle.canon.specs.Sameness.{AreSameFiles}
-use Rattle.canon.specs.Verdicts.{plain_verdict}
-use Rattle.canon.specs.declared.verdict.Verdict.{Verdict}
-use Rattle.canon.specs.declared.verdict.Verdict.TheVariants.{Same}
-use Rattle.canon.proofs.Comparisons.{same_exactly_by_difference}
-use Rattle.canon.proofs.Texts.{HasAtoms-file}
+use Rattle.canon.proofs.Comparisons.{or_found, xor_found, or_named, xor_named, same_by_difference, same_if_ok}
+use Rattle.canon.proofs.OrWalks.{on_err}
 use Rattle.canon.proofs.comparison.compare_files.Goals as goal
 
-pub returns-clause-same : goal.returns-clause-same
-returns-clause-same c =
-    let f = plain_file c.args.left.now in
-    let g = plain_file c.args.right.now in
-    IfOk-weaker c.walk_files.result (λ (v : Verdict). plain_verdict v ≡ first_difference (auction_from f) (auction_from g)) (λ (v : Verdict). v ≡ Same
-    ↔ AreSameFiles f g)
-    (λ v d. same_exactly_by_difference (auction_from f) (auction_from g) (HasAtoms-file f c.args.left.now.facts) (HasAtoms-file g c.args.right.now.facts) v d)
-    (c.walk_files.ensures.difference c.requires.left_canonical c.requires.right_canonical)
+pub returns-in-Some-clause-difference : goal.returns-in-Some-clause-difference
+returns-in-Some-clause-difference g c =
+    let a = auction_from (g.B.Bids.file c.args.left.now) in
+    let b = auction_from (g.B.Bids.file c.args.right.now) in
+    let e : a.goods ≡ b.goods = omega (arith, c.goods.ensures.value, c.goods-2.ensures.value, c.if-goods.false) in
+    or_found a b e c.in_ok-verdict.field-0 c.in-Some.verdict c.in-Some.is
+    (c.in_ok-verdict.ensures.verdict a b c.split_bids-left_or.ensures.or_bids c.split_bids-right_or.ensures.or_bids e)
+
+pub returns-in-Some-clause-same : goal.returns-in-Some-clause-same
+returns-in-Some-clause-same g c =
+    same_by_difference (g.B.Bids.file c.args.left.now) (g.B.Bids.file c.args.right.now) c.goods.ensures.file c.goods-2.ensures.file
+    c.in-Some.verdict (returns-in-Some-clause-difference g c)
+
+pub returns-in-None-clause-difference : goal.returns-in-None-clause-difference
+returns-in-None-clause-difference g c =
+    let a = auction_from (g.B.Bids.file c.args.left.now) in
+    let b = auction_from (g.B.Bids.file c.args.right.now) in
+    let e : a.goods ≡ b.goods = omega (arith, c.goods.ensures.value, c.goods-2.ensures.value, c.if-goods.false) in
+    xor_found a b e c.in_ok-verdict.field-0 c.in-None.is
+    (c.in_ok-verdict.ensures.verdict a b c.split_bids-left_or.ensures.or_bids c.split_bids-right_or.ensures.or_bids e) c.bidder_verdict.result
+    (c.bidder_verdict.ensures.verdict a b c.split_bids-left_or.ensures.xor_bids c.split_bids-right_or.ensures.xor_bids)
+
+pub returns-in-None-clause-same : goal.returns-in-None-clause-same
+returns-in-None-clause-same g c =
+    same_if_ok (g.B.Bids.file c.args.left.now) (g.B.Bids.file c.args.right.now) c.goods.ensures.file c.goods-2.ensures.file c.bidder_verdict.result
+    (returns-in-None-clause-difference g c)
+
+pub returns-in_err-verdict-clause-memory : goal.returns-in_err-verdict-clause-memory
+returns-in_err-verdict-clause-memory g c =
+    let a = auction_from (g.B.Bids.file c.args.left.now) in
+    let b = auction_from (g.B.Bids.file c.args.right.now) in
+    let e : a.goods ≡ b.goods = omega (arith, c.goods.ensures.value, c.goods-2.ensures.value, c.if-goods.false) in
+    on_err _ (or_named a b e (c.in_err-verdict.ensures.memory a b c.split_bids-left_or.ensures.or_bids c.split_bids-right_or.ensures.or_bids e))
+
+pub returns-in-None-clause-memory : goal.returns-in-None-clause-memory
+returns-in-None-clause-memory g c =
+    let a = auction_from (g.B.Bids.file c.args.left.now) in
+    let b = auction_from (g.B.Bids.file c.args.right.now) in
+    let e : a.goods ≡ b.goods = omega (arith, c.goods.ensures.value, c.goods-2.ensures.value, c.if-goods.false) in
+    xor_named a b e c.in_ok-verdict.field-0 c.in-None.is
+    (c.in_ok-verdict.ensures.verdict a b c.split_bids-left_or.ensures.or_bids c.split_bids-right_or.ensures.or_bids e) c.bidder_verdict.result
+    (c.bidder_verdict.ensures.memory a b c.split_bids-left_or.ensures.xor_bids c.split_bids-right_or.ensures.xor_bids)

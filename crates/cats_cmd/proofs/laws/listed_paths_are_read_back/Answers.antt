@@ -1,5 +1,5 @@
-use Rattle.cats_cmd.proofs.ListingPaths.{read_back}
+use Rattle.cats_cmd.proofs.ListingPaths.{parts_back}
 use Rattle.cats_cmd.proofs.laws.listed_paths_are_read_back.Goals as goal
 
 pub returns : goal.returns
-returns c = read_back
+returns c = parts_back 0

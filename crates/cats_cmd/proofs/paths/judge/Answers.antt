@@ -5,4 +5,4 @@ pub returns-in-Ok : goal.returns-in-Ok
 returns-in-Ok g c = file_if_added _ _ _ _ _ _ _ _ _ _ c.in-Ok.ensures.opened c.add.result c.add.ensures
 
 pub returns-in-Err : goal.returns-in-Err
-returns-in-Err g c = file_unopened _ _ _ _ _ _ _ (c.skip.ensures c.args.many.ending) c.in-Err.stop c.in-Err.ensures.refused.0 c.in-Err.ensures.refused.1
+returns-in-Err g c = file_unopened _ _ _ _ _ _ _ (c.skip.ensures c.args.many.ending) c.in-Err.why c.in-Err.ensures.refused

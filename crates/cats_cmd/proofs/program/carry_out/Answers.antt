@@ -7,21 +7,21 @@ use Rattle.cats_cmd.proofs.program.carry_out.Goals as goal
 
 pub returns-in_ok-run_check-in-Check : goal.returns-in_ok-run_check-in-Check
 returns-in_ok-run_check-in-Check g c =
-    rw c.in-Check.is (ran_at _ _ _ c.in-Check.file.now check_outcome _ _ _ _ _ c.in_ok-open-in-Check.ensures.opened c.in_ok-run_check-in-Check.ensures, refl)
+    rw c.in-Check.is (ran_at _ _ _ c.in-Check.file.now check_outcome _ _ _ _ _ c.in_ok-open_only-in-Check.ensures.opened c.in_ok-run_check-in-Check.ensures, refl)
 
 pub returns-in_err-run_check-in-Check : goal.returns-in_err-run_check-in-Check
 returns-in_err-run_check-in-Check g c =
     stopped_run _ _ _ _ _ _ _ _ c.args.request.now _ _ _ c.from_residual-in_err-run_check-in-Check.ensures.1
-    (rw c.in-Check.is (ran_at _ _ _ c.in-Check.file.now check_outcome _ _ _ _ _ c.in_ok-open-in-Check.ensures.opened c.in_err-run_check-in-Check.ensures, refl))
+    (rw c.in-Check.is (ran_at _ _ _ c.in-Check.file.now check_outcome _ _ _ _ _ c.in_ok-open_only-in-Check.ensures.opened c.in_err-run_check-in-Check.ensures, refl))
 
 pub returns-in_ok-run_show-in-Show : goal.returns-in_ok-run_show-in-Show
 returns-in_ok-run_show-in-Show g c =
-    rw c.in-Show.is (ran_at _ _ _ c.in-Show.file.now show_outcome _ _ _ _ _ c.in_ok-open-in-Show.ensures.opened c.in_ok-run_show-in-Show.ensures, refl)
+    rw c.in-Show.is (ran_at _ _ _ c.in-Show.file.now show_outcome _ _ _ _ _ c.in_ok-open_only-in-Show.ensures.opened c.in_ok-run_show-in-Show.ensures, refl)
 
 pub returns-in_err-run_show-in-Show : goal.returns-in_err-run_show-in-Show
 returns-in_err-run_show-in-Show g c =
     stopped_run _ _ _ _ _ _ _ _ c.args.request.now _ _ _ c.from_residual-in_err-run_show-in-Show.ensures.1
-    (rw c.in-Show.is (ran_at _ _ _ c.in-Show.file.now show_outcome _ _ _ _ _ c.in_ok-open-in-Show.ensures.opened c.in_err-run_show-in-Show.ensures, refl))
+    (rw c.in-Show.is (ran_at _ _ _ c.in-Show.file.now show_outcome _ _ _ _ _ c.in_ok-open_only-in-Show.ensures.opened c.in_err-run_show-in-Show.ensures, refl))
 
 pub returns-in_ok-run_value-in-Value : goal.returns-in_ok-run_value-in-Value
 returns-in_ok-run_value-in-Value g c =

@@ -1,16 +1,15 @@
-use Rattle.std.proofs.Common.{◌++◌, ℕ, arith, ap, ◌∙◌}
-use Rattle.bid_file.specs.Files.{PlainBid}
+use Rattle.std.proofs.Common.{◌++◌, List, ℕ, arith, ap, ◌∙◌}
 use Rattle.cats_text.proofs.Writing.BidTexts.{bids_text_on, bids_text_all}
-use Rattle.cats_text.specs.Layout.{bid_text}
+use Rattle.cats_text.specs.declared.layout.TheConstants.{LONGEST_LINE}
+use Rattle.cats_text.proofs.Writing.Ends.{rest_of}
 use Rattle.cats_text.proofs.layout.push_bids.Goals as goal
 
 pub loop-number-preserved : goal.loop-number-preserved
 loop-number-preserved g c =
     let file = g.B.Bids.file c.args.file.now in
-    let bid : PlainBid = record { price = c.at-bid.result.price; goods = c.at-bid.result.goods.now; dummy = c.at-bid.result.dummy } in
-    bids_text_on file.goods file.bids c.loop-number.number bid _ _ _ c.at-bid.ensures
-    c.loop-number.invariant
-    (c.in_ok-push_bid.ensures.text ∙ ap (λ (n : ℕ). c.loop-number.out.items ++ bid_text n c.loop-number.number bid) c.goods-goods.ensures.value)
+    let wrote = c.write_bid-start.ensures.written in
+    bids_text_on file.goods file.bids c.loop-number.number wrote.0 _ _ _ wrote.1 c.loop-number.invariant
+    (c.in_ok-extend_from_slice.ensures.items ∙ ap (λ (text : List ℕ). c.loop-number.out.items ++ text) (rest_of LONGEST_LINE c.write_bid-start.result c.write_bid-start.new.line (c.write_bid-start.auto.line ∙ c.loop-number-test.array_long) ∙ wrote.2))
 
 pub returns : goal.returns
 returns g c =

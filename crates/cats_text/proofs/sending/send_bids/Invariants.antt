@@ -1,6 +1,8 @@
 use Rattle.std.proofs.Common.{◌≡◌, ◌+◌, ◌*◌, ◌++◌, ◌≤◌, length, take, drop, false, vec_capacity}
 use Rattle.std.specs.Io.KnownBytes.{Appends}
 use Rattle.cats_text.specs.Layout.{bids_text, layout}
+use Rattle.cats_text.specs.declared.layout.TheConstants.{LONGEST_LINE}
+use Rattle.cats_text.specs.declared.sending.TheConstants.{PAGE}
 use Rattle.cats_text.specs.Streams.{inner_of, has_failed, has_ended}
 use Rattle.cats_text.proofs.sending.send_bids.Given as goal
 
@@ -11,6 +13,6 @@ invariant-loop-number g l = let file = g.B.Bids.file l.file in record {
   within : l.written ≤ length (layout file);
   sent : Appends (g.W.Write.contents (inner_of l.fn.out)) (g.W.Write.contents (inner_of l.out)) (take l.written (layout file));
   left : l.page.items ++ bids_text file.goods l.number (drop l.number file.bids) ≡ drop l.written (layout file);
-  room : 65536 ≤ vec_capacity l.page;
-  counted : l.written + length l.page.items ≤ 128 + 65536 * l.number;
+  room : PAGE ≤ vec_capacity l.page;
+  counted : l.written + length l.page.items ≤ 128 + LONGEST_LINE * l.number;
 }

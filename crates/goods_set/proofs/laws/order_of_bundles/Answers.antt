@@ -1,6 +1,6 @@
 use Rattle.goods_set.specs.Lemmas.Orders.{bundle_cmp_total, bundle_cmp_equal}
-use Rattle.goods_set.specs.Lemmas.Fronts.{front_less}
+use Rattle.goods_set.specs.Lemmas.SortKeys.{sort_key_less}
 use Rattle.goods_set.proofs.laws.order_of_bundles.Goals as goal
 
 pub returns : goal.returns
-returns c = record { total = bundle_cmp_total; equal = bundle_cmp_equal; fronts = front_less }
+returns c = record { total = bundle_cmp_total; equal = bundle_cmp_equal; sort_keys = sort_key_less }

@@ -9,6 +9,7 @@ use Rattle.prune.specs.Lemmas.SearchSteps.{cut_steps-short}
 use Rattle.prune.specs.SearchSteps.{cut_steps}
 use Rattle.prune.proofs.PruningLoop.{nonempty_inside, inside_bundle, too_low}
 use Rattle.prune.proofs.ReachingLevels.{or_value-all_prices}
+use Rattle.valuation.proofs.BestPackingLevels.{spent}
 use Rattle.prune.proofs.or.is_outbid.Goals as goal
 
 pub is_reached-requires-clause-some : goal.is_reached-requires-clause-some
@@ -43,8 +44,8 @@ returns-then-all_prices-from-clause-within g c =
     let short : price_sum inside < price = too_low goods c.in_ok-inside.inside.items _ bundle price (atoms_of goods c.args.kept.now)
     c.deref.ensures.value c.in_ok-inside.ensures (omega (arith, c.all_prices.ensures, c.from.ensures, c.if-all_prices-from.true)) in
     let steps : cut_steps inside bundle price ≡ 0 = cut_steps-short inside bundle price short in
-    let left = c.spend.ensures.left.0 c.if-not-spend.false in
-    omega (arith, steps, left, c.new-budget.ensures.used, c.new-budget.ensures.limit)
+    let step = spent c.spend.result c.new-budget.result c.new-budget.result _ c.spend.ensures.left c.if-not-spend.false (omega arith) in
+    omega (arith, steps, step.0, c.new-budget.ensures)
 
 pub returns-clause-answer : goal.returns-clause-answer
 returns-clause-answer g c = search rules

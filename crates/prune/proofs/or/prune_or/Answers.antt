@@ -4,11 +4,8 @@ use Rattle.std.proofs.Common.{Err, ◌≡◌, ◌<◌, ◌≤◌, ℕ, List, len
 use Rattle.std.proofs.lemmas.List.{get_or_read}
 use Rattle.bid_file.specs.declared.limits.TheConstants.{MAX_GOODS}
 use Rattle.valuation.specs.Values.{atoms_of, plain_atom}
-use Rattle.std.specs.Global.{Vec}
-use Rattle.prune.specs.Internal.Listings.{lists_of, AreGoodsOf}
 use Rattle.prune.specs.Lemmas.KeptBids.{on_bundles}
 use Rattle.prune.proofs.InFront.{next_left}
-use Rattle.prune.proofs.ListedAtoms.{AreListed-push}
 use Rattle.prune.proofs.PruningLoop.{next_turn, one_done, one_kept, or_end, kept_nonempty, turn_nonempty, all_some, none_heavy_end, heavy_load}
 use Rattle.prune.proofs.Results.{turn_behind, or_reached, or_missed, within_reached, within_missed, heavy_found}
 use Rattle.prune.proofs.or.prune_or.Goals as goal
@@ -27,8 +24,8 @@ list_below-requires-clause-behind g c =
     c.in_ok-keep_best_bids.ensures.best h.left there c.index-bid.ensures in
     rw c.deref-in-loop-place.ensures.value (turn_behind _ _ _ _ (atoms_of goods (take c.loop-place.kept now.items)) turn h.kept.among)
 
-pub list_below-requires-clause-goods : goal.list_below-requires-clause-goods
-list_below-requires-clause-goods g c = rw c.deref-in-loop-place.ensures.value c.loop-place.invariant.noted
+pub list_below-requires-clause-index : goal.list_below-requires-clause-index
+list_below-requires-clause-index g c = rw c.deref-in-loop-place.ensures.value c.loop-place.invariant.index
 
 pub keep-requires : goal.keep-requires
 keep-requires g c =
@@ -63,13 +60,12 @@ loop-place-preserved-in-Ok-true g c =
     c.in_ok-keep_best_bids.ensures.best h.left there c.index-bid.ensures in
     let done = one_done goods best.items now.items place bid h.left there c.index-bid.ensures in
     let same = c.deref-in-loop-place.ensures.value in
-    let listed = rw same at c.in_ok-list_below.ensures.listed in
+    let indexed = rw same at c.in_ok-list_below.ensures.index in
     let answer = rw same at c.in-Ok-true.ensures.answer in
     let within = rw same at c.in-Ok-true.ensures.within in
     record {
       left = next_left best.items now.items place bid h.left there c.index-bid.ensures now.items refl refl;
-      listed = listed;
-      noted = subst (λ (v : Vec ℕ). AreGoodsOf v.items (atoms_of goods kept)) (sym c.in_ok-list_below.ensures.goods) h.noted;
+      index = indexed;
       kept = rw done (or_reached _ _ _ _ (atoms_of goods kept) turn h.kept (sym c.in-Ok-true.field-0-test ∙ answer));
       within = rw done (within_reached c.args.limit _ _ _ _ (atoms_of goods kept) turn h.kept h.within within);
       fewer = omega (arith, h.fewer);
@@ -89,10 +85,7 @@ loop-place-preserved g c =
     c.in_ok-keep_best_bids.ensures.best h.left there c.index-bid.ensures in
     let done = one_done goods best.items now.items place bid h.left there c.index-bid.ensures in
     let same = c.deref-in-loop-place.ensures.value in
-    let listed = rw same at c.in_ok-list_below.ensures.listed in
-    let index = c.list_below.new.self in
-    let next = c.keep.new.self in
-    let noted = c.in_ok-keep-in-Ok-false.ensures in
+    let indexed = rw same at c.in_ok-list_below.ensures.index in
     let after = c.move_to_front.new.elements in
     let moved = c.move_to_front.ensures in
     let more = one_kept goods now.items after.items c.loop-place.kept place bid c.index-bid.ensures moved.front in
@@ -101,9 +94,7 @@ loop-place-preserved g c =
     record {
       left = next_left best.items now.items place bid h.left there c.index-bid.ensures after.items (omega (arith, moved.len, after.ok.0, now.ok.0))
           moved.rest;
-      listed = rw (more, noted.listed, noted.lists) (AreListed-push (lists_of index.lists.items) index.listed (atoms_of goods kept) (plain_atom goods bid) listed);
-      noted = rw more (noted.goods (atoms_of goods kept) (plain_atom goods bid) (sym c.in_ok-goods.ensures)
-          (subst (λ (v : Vec ℕ). AreGoodsOf v.items (atoms_of goods kept)) (sym c.in_ok-list_below.ensures.goods) h.noted));
+      index = rw more (c.in_ok-keep-in-Ok-false.ensures (atoms_of goods kept) (plain_atom goods bid) (sym c.in_ok-goods.ensures) indexed);
       kept = rw (done, more) (or_missed _ _ _ _ (atoms_of goods kept) turn h.kept (sym c.in-Ok-false.field-0-test ∙ answer));
       within = rw (done, more) (within_missed c.args.limit _ _ _ _ (atoms_of goods kept) turn h.kept h.within within);
       fewer = omega (arith, h.fewer);

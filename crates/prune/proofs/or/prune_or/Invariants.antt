@@ -2,7 +2,7 @@
 -- and each search so far was within the limit.
 use Rattle.std.proofs.Common.{◌≤◌, take}
 use Rattle.valuation.specs.Values.{atoms_of}
-use Rattle.prune.specs.Internal.Listings.{lists_of, AreGoodsOf, AreListed}
+use Rattle.prune.specs.Internal.Listings.{IsIndexOf}
 use Rattle.prune.proofs.InFront.{IsLeft}
 use Rattle.prune.proofs.Results.{IsOrKept, Within}
 use Rattle.prune.proofs.or.prune_or.Given as goal
@@ -14,8 +14,7 @@ invariant-loop-place g l =
     let front = atoms_of goods (take l.kept l.atoms.items) in
     record {
       left : IsLeft l.initial.atoms.items l.atoms.items l.place;
-      listed : AreListed (lists_of l.index.lists.items) l.index.listed front;
-      noted : AreGoodsOf l.index.goods.items front;
+      index : IsIndexOf front l.index;
       kept : IsOrKept done front;
       within : Within l.limit front done;
       fewer : l.kept ≤ l.place;

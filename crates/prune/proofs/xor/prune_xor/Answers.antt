@@ -3,10 +3,9 @@
 use Rattle.std.proofs.Common.{◌<◌, ◌≤◌, cond, [], ◌∷◌, ◌++◌, append-nil, length, refl, sym, ◌∙◌, subst, take, arith}
 use Rattle.bid_file.specs.declared.limits.TheConstants.{MAX_GOODS}
 use Rattle.valuation.specs.Values.{atoms_of, plain_atom}
-use Rattle.prune.specs.Internal.Listings.{lists_of, AreGoodsOf, AreUncovered}
+use Rattle.prune.specs.Internal.Listings.{AreUncovered, IsIndexOf}
 use Rattle.prune.specs.Lemmas.KeptBids.{on_bundles, just_bundles}
 use Rattle.prune.proofs.InFront.{next_left}
-use Rattle.prune.proofs.ListedAtoms.{AreListed-push}
 use Rattle.prune.proofs.PruningLoop.{next_turn, one_done, one_kept, xor_end, xor_uncovered, turn_nonempty, covers_is}
 use Rattle.prune.proofs.Results.{turn_positive, turn_behind, xor_reached, xor_missed}
 use Rattle.prune.proofs.xor.prune_xor.Goals as goal
@@ -23,8 +22,8 @@ is_covered-requires-clause-some g c =
     c.in_ok-keep_best_bids.ensures.best h.left there c.index-bid.ensures in
     turn_nonempty MAX_GOODS _ _ _ _ turn c.requires
 
-pub is_covered-requires-clause-goods : goal.is_covered-requires-clause-goods
-is_covered-requires-clause-goods g c = λ f. rw c.deref-in-loop-place.ensures.value (c.loop-place.invariant.noted f)
+pub is_covered-requires-clause-index : goal.is_covered-requires-clause-index
+is_covered-requires-clause-index g c = λ f. rw c.deref-in-loop-place.ensures.value (c.loop-place.invariant.index f)
 
 pub is_covered-requires-clause-in_order : goal.is_covered-requires-clause-in_order
 is_covered-requires-clause-in_order g c = rw c.deref-in-loop-place.ensures.value c.loop-place.invariant.kept.in_order
@@ -57,8 +56,7 @@ loop-place-preserved g c =
     let same = c.deref-in-loop-place.ensures.value in
     let answer = rw same at c.in_ok-is_covered.ensures.answer in
     let asked = answer ∙ covers_is bid.price (goods bid.bundle) (atoms_of goods kept) (turn_positive _ _ _ _ turn) in
-    let listed = rw same at c.in_ok-is_covered.ensures.listed in
-    let noted = rw same at c.in_ok-is_covered.ensures.goods in
+    let indexed = rw same at c.in_ok-is_covered.ensures.index in
     elim c.if-not-branch.branch [
       | then-not-branch w ↦
           let after = w.move_to_front.new.elements in
@@ -67,20 +65,18 @@ loop-place-preserved g c =
           rw (w.atoms-is, w.kept-is) (record {
             left = next_left best.items now.items place bid h.left there c.index-bid.ensures after.items (omega (arith, moved.len, after.ok.0, now.ok.0))
                 moved.rest;
-            listed = rw more (AreListed-push (lists_of index.lists.items) index.listed (atoms_of goods kept) (plain_atom goods bid) listed);
-            noted = λ f.
+            index = λ f.
                 rw more
-                (subst (λ b. AreGoodsOf index.goods.items (atoms_of goods kept ++ cond b [] (plain_atom goods bid ∷ []))) w.if-not-branch.true (noted f));
+                (subst (λ b. IsIndexOf (atoms_of goods kept ++ cond b [] (plain_atom goods bid ∷ [])) index) w.if-not-branch.true (indexed f));
             kept = rw (done, more) (xor_missed _ _ _ _ (atoms_of goods kept) turn h.kept (sym w.if-not-branch.true ∙ asked));
             fewer = omega (arith, h.fewer);
           })
       | else-not-branch w ↦
           rw (w.atoms-is, w.kept-is) (record {
             left = next_left best.items now.items place bid h.left there c.index-bid.ensures now.items refl refl;
-            listed = listed;
-            noted = λ f.
-                subst (λ zs. AreGoodsOf index.goods.items zs) (append-nil (atoms_of goods kept))
-                (subst (λ b. AreGoodsOf index.goods.items (atoms_of goods kept ++ cond b [] (plain_atom goods bid ∷ []))) w.if-not-branch.false (noted f));
+            index = λ f.
+                subst (λ zs. IsIndexOf zs index) (append-nil (atoms_of goods kept))
+                (subst (λ b. IsIndexOf (atoms_of goods kept ++ cond b [] (plain_atom goods bid ∷ [])) index) w.if-not-branch.false (indexed f));
             kept = rw done (xor_reached _ _ _ _ (atoms_of goods kept) turn h.kept (sym w.if-not-branch.false ∙ asked));
             fewer = omega (arith, h.fewer);
           })

@@ -1,7 +1,7 @@
 -- From the place on stand the best bids as they were; what is kept of those before it, which stands in front, is as it should be.
 use Rattle.std.proofs.Common.{◌≡◌, ◌≤◌, false, take}
 use Rattle.valuation.specs.Values.{atoms_of}
-use Rattle.prune.specs.Internal.Listings.{lists_of, AreGoodsOf, AreListed}
+use Rattle.prune.specs.Internal.Listings.{IsIndexOf}
 use Rattle.prune.proofs.InFront.{IsLeft}
 use Rattle.prune.proofs.Results.{IsXorKept}
 use Rattle.prune.proofs.xor.prune_xor.Given as goal
@@ -12,8 +12,7 @@ invariant-loop-place g l =
     let front = atoms_of goods (take l.kept l.atoms.items) in
     record {
       left : IsLeft l.initial.atoms.items l.atoms.items l.place;
-      listed : AreListed (lists_of l.index.lists.items) l.index.listed front;
-      noted : l.few ≡ false → AreGoodsOf l.index.goods.items front;
+      index : l.few ≡ false → IsIndexOf front l.index;
       kept : IsXorKept (atoms_of goods (take l.place l.initial.atoms.items)) front;
       fewer : l.kept ≤ l.place;
     }

@@ -1,0 +1,95 @@
+//! Bids of a file that lie side by side, for the walks that compare two files.
+
+ghost use Rattle.std.specs.Prelude.{◌≡◌, ◌<◌, ◌≤◌, length, take, drop, slice_get, Some};
+ghost use Rattle.bid_file.specs.Files.{IsPlainFile};
+ghost use Rattle.bid_file.specs.Views.{seen_bid};
+ghost use Rattle.canon.specs.Internal.BidderBids.{leading};
+
+use bid_file::{BidRef, Bids};
+use std::marker::Model;
+
+/// The bids of a file from the number `first` up to `end`, without the bid `end`.
+#[derive(Drop)]
+pub(crate) struct BidRun<'a, B: Bids> {
+    file: &'a B,
+    first: usize,
+    end: usize,
+}
+
+impl<'a, B: Bids> Model for BidRun<'a, B> {
+    ghost use Rattle.std.specs.Prelude.{List, ◌≤◌, length, slice_range};
+    ghost use Rattle.bid_file.specs.Files.{PlainBid};
+    ghost use Rattle.bid_file.specs.declared.limits.TheConstants.{MAX_BIDS};
+
+    ghost Value = { List PlainBid };
+
+    ghost view = { λ r. slice_range (B.file r.file.now).bids r.first r.end };
+
+    ghost invariant = { λ r. (r.first ≤ r.end) × (r.end ≤ length (B.file r.file.now).bids) × (r.end ≤ MAX_BIDS) };
+}
+
+impl<'a, B: Bids> BidRun<'a, B> {
+    /// All bids of a file.
+    pub(crate) fn all(file: &'a B) -> BidRun<'a, B>
+        requires { IsPlainFile (B.file file.now) }
+        ensures { result ≡ (B.file file.now).bids }
+    {
+        BidRun {
+            file,
+            first: 0,
+            end: file.len(),
+        }
+    }
+
+    /// How many there are.
+    #[inline(always)]
+    pub(crate) fn len(&self) -> usize
+        ensures { result ≡ length self.now }
+    {
+        self.end - self.first
+    }
+
+    /// The bid at this index.
+    #[inline(always)]
+    pub(crate) fn at(&self, index: usize) -> BidRef<'a>
+        requires { index < length self.now }
+        ensures { slice_get self.now index ≡ Some (seen_bid result) }
+    {
+        self.file.at(self.first + index)
+    }
+
+    /// The bids before an index.
+    pub(crate) fn up_to(&self, index: usize) -> BidRun<'a, B>
+        requires { index ≤ length self.now }
+        ensures { result ≡ take index self.now }
+    {
+        BidRun {
+            file: self.file,
+            first: self.first,
+            end: self.first + index,
+        }
+    }
+
+    /// The bids from an index on.
+    pub(crate) fn from(&self, index: usize) -> BidRun<'a, B>
+        requires { index ≤ length self.now }
+        ensures { result ≡ drop index self.now }
+    {
+        BidRun {
+            file: self.file,
+            first: self.first + index,
+            end: self.end,
+        }
+    }
+
+    /// How many bids, from the first on, have this dummy good, or have none.
+    pub(crate) fn count_leading(&self, dummy: Option<u32>) -> usize
+        ensures { result ≡ leading dummy self.now }
+    {
+        let mut count = 0;
+        while count < self.len() && self.at(count).dummy == dummy {
+            count += 1;
+        }
+        count
+    }
+}

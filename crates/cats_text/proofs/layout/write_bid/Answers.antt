@@ -1,0 +1,31 @@
+use Rattle.std.proofs.Common.{◌++◌, ◌∷◌, decimal, List, ℕ, ap, ◌∙◌, arith}
+use Rattle.bid_file.specs.Files.{dummy_good}
+use Rattle.bid_file.specs.Views.{seen_bid}
+use Rattle.cats_text.specs.Layout.{price_text, tabbed}
+use Rattle.cats_text.proofs.Writing.Ends.{whole_line}
+use Rattle.cats_text.proofs.Writing.Pieces.{bundle_within}
+use Rattle.cats_text.proofs.layout.write_bid.Goals as goal
+
+pub write_goods-end-requires-clause-room : goal.write_goods-end-requires-clause-room
+write_goods-end-requires-clause-room g c =
+    let few = bundle_within (g.B.Bids.file c.args.file.now) c.args.number (seen_bid c.at-bid.result) c.goods-goods.ensures.file c.at-bid.ensures in
+    omega (arith, few, c.write_line_end-end.ensures.start, c.write_dummy-end.ensures.start.1)
+
+pub write_offer-requires-clause-room : goal.write_offer-requires-clause-room
+write_offer-requires-clause-room g c =
+    let few = bundle_within (g.B.Bids.file c.args.file.now) c.args.number (seen_bid c.at-bid.result) c.goods-goods.ensures.file c.at-bid.ensures in
+    omega (arith, few, c.write_line_end-end.ensures.start, c.write_dummy-end.ensures.start.1, c.write_goods-end.ensures.start.1)
+
+pub returns-clause-written : goal.returns-clause-written
+returns-clause-written g c =
+    let bid = c.at-bid.result in
+    let offer = decimal c.args.number ++ 9 ∷ price_text bid.price in (
+      seen_bid bid,
+      c.at-bid.ensures,
+      c.write_offer.ensures.written
+          ∙ ap (λ (t : List ℕ). offer ++ t)
+          (c.write_goods-end.ensures.written
+          ∙ ap (λ (t : List ℕ). tabbed bid.goods.now ++ t)
+          (c.write_dummy-end.ensures.written ∙ ap (λ (t : List ℕ). tabbed (dummy_good c.goods-goods.result bid.dummy) ++ t) c.write_line_end-end.ensures.written))
+          ∙ whole_line _ _ c.args.number (seen_bid bid) c.goods-goods.ensures.value,
+    )

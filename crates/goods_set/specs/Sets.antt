@@ -1,0 +1,18 @@
+-- The goods of a set of each type, and the indices of a long mask.
+use Rattle.std.specs.Prelude.{ℕ, ◌*◌, List, length}
+use Rattle.goods_set.specs.declared.list_set.ListSet.{ListSet}
+use Rattle.goods_set.specs.declared.long_mask.LongMask.{LongMask}
+use Rattle.goods_set.specs.declared.word_set.WordSet.{WordSet}
+use Rattle.goods_set.specs.Words.{word_goods, word_cap}
+
+-- the goods of a list
+abbrev pub list_goods : ListSet → List ℕ
+list_goods set = set.goods
+
+-- the goods of n words
+abbrev pub set_goods : {n : ℕ} → WordSet n → List ℕ
+set_goods {n} set = word_goods (word_cap n) set.words
+
+-- the indices of as many words as there are
+abbrev pub mask_indices : LongMask → List ℕ
+mask_indices mask = word_goods (64 * length mask.words.items) mask.words.items

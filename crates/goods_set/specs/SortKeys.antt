@@ -1,0 +1,10 @@
+-- How many goods a list has and the first three of them, as one number of 16 bits each, the size in the highest. The
+-- longest lists have no goods in it.
+use Rattle.std.specs.Prelude.{ℕ, ◌+◌, ◌*◌, ◌^◌, List, length, get_or, cond, nat_lt}
+
+-- the first three goods
+unfoldable pub first_goods : List ℕ → ℕ
+first_goods xs = get_or xs 0 0 * 2 ^ 32 + get_or xs 1 0 * 2 ^ 16 + get_or xs 2 0
+
+unfoldable pub sort_key_of : List ℕ → ℕ
+sort_key_of xs = cond (nat_lt (length xs) 65535) (length xs * 2 ^ 48 + first_goods xs) (65535 * 2 ^ 48)

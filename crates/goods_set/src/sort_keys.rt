@@ -1,0 +1,71 @@
+//! The number that a set is sorted by before its goods are looked at. It is only for speed: the order of sets doesn't
+//! depend on it.
+ghost use Rattle.std.specs.Prelude.{◌≡◌, ℕ, ◌+◌, List, length, get_or};
+ghost use Rattle.std.specs.List.{slice_get};
+ghost use Rattle.goods_set.specs.SortKeys.{sort_key_of};
+
+use crate::set::GoodsSet;
+
+/// The sort key of a set of this size with these first goods, 0 in place of those that it lacks.
+fn key_from(size: usize, first: u16, second: u16, third: u16) -> u64
+    ensures { (goods : List ℕ) → size ≡ length goods → first ≡ get_or goods 0 0 → second ≡ get_or goods 1 0
+        → third ≡ get_or goods 2 0 → result ≡ sort_key_of goods }
+{
+    if size >= 65_535 {
+        return 65_535 << 48;
+    }
+    let sizes = (size as u64) << 48;
+    sizes + (u64::from(first) << 32) + (u64::from(second) << 16) + u64::from(third)
+}
+
+/// The good at an index, or 0 behind the last.
+fn good_at(goods: &[u16], index: usize) -> u16
+    ensures { result ≡ get_or goods.now index 0 }
+{
+    match goods.get(index) {
+        Some(good) => *good,
+        None => 0,
+    }
+}
+
+/// The sort key of the set of these goods.
+pub(crate) fn key_of_goods(goods: &[u16]) -> u64
+    ensures { result ≡ sort_key_of goods.now }
+{
+    key_from(
+        goods.len(),
+        good_at(goods, 0),
+        good_at(goods, 1),
+        good_at(goods, 2),
+    )
+}
+
+/// The good of the set that comes behind this one.
+fn good_behind<S: GoodsSet>(set: &S, good: Option<u16>) -> Option<u16>
+    ensures { (index : ℕ) → good ≡ slice_get (S.goods set.now) index
+        → result ≡ slice_get (S.goods set.now) (index + 1) }
+{
+    match good {
+        Some(good) => set.next_from(u32::from(good) + 1),
+        None => None,
+    }
+}
+
+/// How many goods a set has and the first three of them, as one number: sets with different keys are in the order of
+/// these.
+pub fn sort_key<S: GoodsSet>(set: &S) -> u64
+    ensures { result ≡ sort_key_of (S.goods set.now) }
+{
+    if let Some(goods) = set.as_slice() {
+        return key_of_goods(goods);
+    }
+    let first = set.next_from(0);
+    let second = good_behind(set, first);
+    let third = good_behind(set, second);
+    key_from(
+        set.size(),
+        first.unwrap_or(0),
+        second.unwrap_or(0),
+        third.unwrap_or(0),
+    )
+}

@@ -1,0 +1,17 @@
+use Rattle.std.proofs.Common.{arith}
+use Rattle.valuation.specs.Values.{atoms_of}
+use Rattle.prune.proofs.ListedAtoms.{none_inside}
+use Rattle.prune.proofs.PruningLoop.{all_rising}
+use Rattle.valuation.specs.Lemmas.Atoms.{length-atoms_of}
+use Rattle.prune.proofs.subset_index.SubsetIndex.list_below.Goals as goal
+
+pub returns-clause-ready : goal.returns-clause-ready
+returns-clause-ready g c =
+    let goods = g.S.GoodsSet.goods in
+    let kept = c.args.kept.now in
+    let bundle = goods c.args.bundle.now in
+    let long = length-atoms_of goods kept in
+    none_inside c.loop-alloc.self.listed (atoms_of goods kept) bundle (all_rising goods (λ s. (g.met.S.GoodsSet.is_bundle s).0) kept)
+    (g.met.S.GoodsSet.is_bundle c.args.bundle.now).0 c.requires.in_order c.requires.behind
+    (λ l. let larger = c.is_next_smaller.ensures.larger c.loop-alloc-test.false (omega (arith, l, long)) in
+    omega (arith, larger, c.size-size.ensures))

@@ -1,0 +1,11 @@
+use Rattle.std.proofs.Common.{◌≡◌, ◌++◌, take}
+use Rattle.std.specs.List.{filter}
+use Rattle.valuation.specs.Values.{atoms_of}
+use Rattle.prune.specs.Internal.Listings.{indices_of, is_inside_at}
+use Rattle.prune.proofs.subset_index.find_inside_among.Given as goal
+
+abbrev pub invariant-loop-posting : goal.invariant-loop-posting
+invariant-loop-posting g l =
+    let goods = g.S.GoodsSet.goods in
+    l.found.items ≡ l.fn.found.items ++ filter (is_inside_at (atoms_of goods l.kept) (goods l.bundle))
+    (take l.posting-index (indices_of l.postings))

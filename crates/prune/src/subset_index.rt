@@ -1,0 +1,284 @@
+//! The index of the atoms that a pruning keeps: those inside a bundle are found by its goods.
+ghost use Rattle.std.specs.Prelude.{◌≡◌, ℕ, List, ◌+◌, ◌<◌, ◌≤◌, false, map, length, All, IfOk, OnOk, [], ◌∷◌, ◌++◌};
+ghost use Rattle.std.specs.Bool.{OnTrue};
+ghost use Rattle.std.specs.List.{filter, list_any, range_with_len};
+ghost use Rattle.goods_set.specs.Fingerprints.{AreMarks};
+ghost use Rattle.valuation.specs.Values.{atoms_of};
+ghost use Rattle.valuation.specs.declared.atom.Atom.{Atom};
+ghost use Rattle.prune.specs.InOrder.{IsInOrder};
+ghost use Rattle.prune.specs.Internal.Listings.{
+  atom_at,
+  indices_of,
+  is_inside_at,
+  covers_at,
+  atoms_inside,
+  covers,
+  postings_of,
+  IsBehind,
+  IsIndexOf,
+  IsPosting,
+  IsReadyFor,
+};
+
+use crate::commonness::Commonness;
+use crate::posting::Posting;
+use goods_set::{GoodsSet, fingerprint, may_be_subset, rising_goods};
+use std::alloc::{AllocError, Global};
+use valuation::Atom;
+
+/// Where atoms are listed, each at one of its goods, so that those inside a bundle are found through the bundle's
+/// goods. The atoms themselves are given with each call: those kept so far, in order, and so the smaller bundles first.
+/// For speed alone an atom is listed at its rarest good, only once a larger bundle comes (none of its own size is inside
+/// another), and fingerprints are compared before bundles.
+#[derive(Drop)]
+pub struct SubsetIndex {
+    alloc: Global,
+    /// Of each kept atom the good at which it is listed, or will be: the rarest of its bundle.
+    goods: Vec<u16>,
+    /// How many of the atoms, from the first on, are listed.
+    listed: usize,
+    /// For each good the atoms that are listed there.
+    lists: Vec<Vec<Posting>>,
+    /// How common goods are among all atoms that may be kept.
+    commonness: Commonness,
+    /// A buffer for the goods of an atom.
+    buffer: Vec<u16>,
+}
+
+/// Whether the atom that is listed at a good is inside the bundle.
+#[inline(always)]
+fn is_inside<S: GoodsSet>(kept: &[Atom<S>], posting: &Posting, bundle: &S, marks: u128) -> bool
+    requires listed { IsPosting (atoms_of S.goods kept.now) posting.now }
+    requires marks { AreMarks (S.goods bundle.now) marks }
+    ensures { result ≡ is_inside_at (atoms_of S.goods kept.now) (S.goods bundle.now) posting.now.index }
+{
+    if !may_be_subset(posting.fingerprint, marks) {
+        return false;
+    }
+    kept[posting.index as usize].bundle.is_inside(bundle)
+}
+
+/// Whether the atom that is listed at a good is inside the bundle and has at least the price. The price is compared
+/// late, since it says nothing of the next one's, and what says mostly the same costs less.
+#[inline(always)]
+fn is_covering<S: GoodsSet>(
+    kept: &[Atom<S>],
+    posting: &Posting,
+    bundle: &S,
+    marks: u128,
+    price: u64,
+) -> bool
+    requires listed { IsPosting (atoms_of S.goods kept.now) posting.now }
+    requires marks { AreMarks (S.goods bundle.now) marks }
+    ensures { result ≡ covers_at (atoms_of S.goods kept.now) (S.goods bundle.now) price posting.now.index }
+{
+    if !may_be_subset(posting.fingerprint, marks) {
+        return false;
+    }
+    let atom = &kept[posting.index as usize];
+    price <= atom.price && atom.bundle.is_inside(bundle)
+}
+
+/// Adds to `found` the indices of the listed atoms that are inside the bundle.
+fn find_inside_among<S: GoodsSet>(
+    postings: &[Posting],
+    kept: &[Atom<S>],
+    bundle: &S,
+    marks: u128,
+    found: &mut Vec<usize>,
+) -> Result<(), AllocError>
+    requires listed { All (IsPosting (atoms_of S.goods kept.now)) postings.now }
+    requires marks { AreMarks (S.goods bundle.now) marks }
+    ensures { let inside = is_inside_at (atoms_of S.goods kept.now) (S.goods bundle.now) in
+        OnOk result (found.new.items ≡ found.old.items ++ filter inside (indices_of postings.now)) }
+{
+    for posting in postings {
+        if is_inside(kept, posting, bundle, marks) {
+            found.push(posting.index as usize)?;
+        }
+    }
+    Ok(())
+}
+
+/// Whether one of the listed atoms is inside the bundle and has at least the price.
+fn has_covering<S: GoodsSet>(
+    postings: &[Posting],
+    kept: &[Atom<S>],
+    bundle: &S,
+    marks: u128,
+    price: u64,
+) -> bool
+    requires listed { All (IsPosting (atoms_of S.goods kept.now)) postings.now }
+    requires marks { AreMarks (S.goods bundle.now) marks }
+    ensures { let covering = covers_at (atoms_of S.goods kept.now) (S.goods bundle.now) price in
+        result ≡ list_any covering (indices_of postings.now) }
+{
+    for posting in postings {
+        if is_covering(kept, posting, bundle, marks, price) {
+            return true;
+        }
+    }
+    false
+}
+
+impl SubsetIndex {
+    /// The index of those of these atoms that will be kept. None is kept so far.
+    pub fn of<S: GoodsSet>(alloc: Global, atoms: &[Atom<S>]) -> Result<SubsetIndex, AllocError>
+        ensures { IfOk result (λ index. IsIndexOf [] index) }
+    {
+        Ok(SubsetIndex {
+            alloc,
+            goods: Vec::new(alloc),
+            listed: 0,
+            lists: Vec::new(alloc),
+            commonness: Commonness::of(alloc, atoms)?,
+            buffer: Vec::new(alloc),
+        })
+    }
+
+    /// Takes in that an atom is kept, the bundle of which has these goods.
+    pub fn keep(&mut self, goods: &[u16]) -> Result<(), AllocError>
+        requires { 0 < length goods.now }
+        ensures { OnOk result ((kept : List (Atom (List ℕ))) (atom : Atom (List ℕ)) → atom.bundle ≡ goods.now
+            → IsIndexOf kept self.old → IsIndexOf (kept ++ atom ∷ []) self.new) }
+    {
+        self.goods.push(self.commonness.rarest(goods))?;
+        Ok(())
+    }
+
+    /// Lists the first kept atom that is not. An index past the numbers of 4 bytes is refused as memory is; a file has far
+    /// fewer bids.
+    fn list_next<S: GoodsSet>(&mut self, kept: &[Atom<S>]) -> Result<(), AllocError>
+        requires next { self.old.listed < length kept.now }
+        requires index { IsIndexOf (atoms_of S.goods kept.now) self.old }
+        ensures count { OnOk result (self.new.listed ≡ self.old.listed + 1) }
+        ensures index { OnOk result (IsIndexOf (atoms_of S.goods kept.now) self.new) }
+    {
+        if self.listed > u32::MAX as usize {
+            return Err(AllocError);
+        }
+        let rarest = self.goods[self.listed];
+        let marks = fingerprint(rising_goods(&kept[self.listed].bundle, &mut self.buffer)?);
+        let posting = Posting {
+            index: self.listed as u32,
+            fingerprint: marks,
+        };
+        let good = usize::from(rarest);
+        while self.lists.len() <= good {
+            self.lists.push(Vec::new(self.alloc))?;
+        }
+        self.lists[good].push(posting)?;
+        self.listed += 1;
+        Ok(())
+    }
+
+    /// Whether the first kept atom that is not listed has fewer goods.
+    fn is_next_smaller<S: GoodsSet>(&self, kept: &[Atom<S>], size: usize) -> bool
+        ensures next { OnTrue result (self.now.listed < length kept.now) }
+        ensures larger { result ≡ false → self.now.listed < length kept.now
+            → size ≤ length (atom_at (atoms_of S.goods kept.now) self.now.listed).bundle }
+    {
+        match kept.get(self.listed) {
+            Some(atom) => atom.bundle.size() < size,
+            None => false,
+        }
+    }
+
+    /// Lists the kept atoms with fewer goods than the bundle, which comes behind all of them.
+    pub fn list_below<S: GoodsSet>(
+        &mut self,
+        kept: &[Atom<S>],
+        bundle: &S,
+    ) -> Result<(), AllocError>
+        requires in_order { IsInOrder (atoms_of S.goods kept.now) }
+        requires behind { IsBehind (S.goods bundle.now) (atoms_of S.goods kept.now) }
+        requires index { IsIndexOf (atoms_of S.goods kept.now) self.old }
+        ensures index { OnOk result (IsIndexOf (atoms_of S.goods kept.now) self.new) }
+        ensures ready { OnOk result (IsReadyFor (S.goods bundle.now) (atoms_of S.goods kept.now) self.new) }
+    {
+        let size = bundle.size();
+        while self.is_next_smaller(kept, size) {
+            self.list_next(kept)?;
+        }
+        Ok(())
+    }
+
+    /// What is listed at the good.
+    fn postings_at(&self, good: u16) -> &[Posting]
+        ensures { result.now ≡ postings_of self.now good }
+    {
+        let place = usize::from(good);
+        if place < self.lists.len() {
+            return self.lists[place].as_slice();
+        }
+        &[]
+    }
+
+    /// Puts the places of the kept atoms inside the bundle, which has these goods, rising, where others were.
+    fn find_inside<S: GoodsSet>(
+        &self,
+        kept: &[Atom<S>],
+        bundle: &S,
+        goods: &[u16],
+        places: &mut Vec<usize>,
+    ) -> Result<(), AllocError>
+        requires goods { goods.now ≡ S.goods bundle.now }
+        requires index { IsIndexOf (atoms_of S.goods kept.now) self.now }
+        requires ready { IsReadyFor (S.goods bundle.now) (atoms_of S.goods kept.now) self.now }
+        ensures { let inside = is_inside_at (atoms_of S.goods kept.now) (S.goods bundle.now) in
+            let all = range_with_len 0 (length kept.now) in
+            OnOk result (places.new.items ≡ filter inside all) }
+    {
+        let marks = fingerprint(goods);
+        places.clear();
+        for good in goods {
+            find_inside_among(self.postings_at(*good), kept, bundle, marks, places)?;
+        }
+        places.sort_unstable();
+        Ok(())
+    }
+
+    /// The kept atoms inside the bundle, which has these goods, in the order in which they came. `places` is a buffer.
+    pub fn inside<'a, S: GoodsSet>(
+        &self,
+        kept: &'a [Atom<S>],
+        bundle: &S,
+        goods: &[u16],
+        places: &mut Vec<usize>,
+    ) -> Result<Vec<&'a Atom<S>>, AllocError>
+        requires goods { goods.now ≡ S.goods bundle.now }
+        requires index { IsIndexOf (atoms_of S.goods kept.now) self.now }
+        requires ready { IsReadyFor (S.goods bundle.now) (atoms_of S.goods kept.now) self.now }
+        ensures { IfOk result (λ inside. atoms_of S.goods (map (λ a. a.now) inside.items)
+            ≡ atoms_inside (atoms_of S.goods kept.now) (S.goods bundle.now)) }
+    {
+        self.find_inside(kept, bundle, goods, places)?;
+        let mut inside = Vec::with_capacity(self.alloc, places.len())?;
+        for place in places.iter() {
+            inside.push(&kept[*place])?;
+        }
+        Ok(inside)
+    }
+
+    /// Whether a kept atom inside the bundle, which has these goods, has at least the price.
+    pub fn has_inside<S: GoodsSet>(
+        &self,
+        kept: &[Atom<S>],
+        bundle: &S,
+        goods: &[u16],
+        price: u64,
+    ) -> bool
+        requires goods { goods.now ≡ S.goods bundle.now }
+        requires index { IsIndexOf (atoms_of S.goods kept.now) self.now }
+        requires ready { IsReadyFor (S.goods bundle.now) (atoms_of S.goods kept.now) self.now }
+        ensures { result ≡ list_any (covers (S.goods bundle.now) price) (atoms_of S.goods kept.now) }
+    {
+        let marks = fingerprint(goods);
+        for good in goods {
+            if has_covering(self.postings_at(*good), kept, bundle, marks, price) {
+                return true;
+            }
+        }
+        false
+    }
+}
