@@ -166,6 +166,25 @@ pub place_seen : (entries : List (Vec ℕ Global × ℕ)) (text : List ℕ)
 place_seen [] text = refl
 place_seen (e ∷ entries) text = ap (λ (o : Option ℕ). cond (bytes_eq text e.0.items) (Some e.1) o) (place_seen entries text)
 
+-- what is seen of a map
+abbrev pub seen_texts : List (Vec ℕ Global × ℕ) → List (List ℕ × ℕ)
+seen_texts entries = map (λ e. (e.0.items, e.1)) entries
+
+-- the text of one more file was put into a map
+pub added_text : (old new : List (Vec ℕ Global × ℕ)) (m k : ℕ) (text canonical : List ℕ) (place : ℕ) → text ≡ canonical
+    → place ≡ unwrap_or (lookup (λ key. bytes_eq text key.items) old) m
+    → ((other : List ℕ) → lookup (λ key. bytes_eq other key.items) new
+    ≡ cond (bytes_eq text other) (Some place) (lookup (λ key. bytes_eq other key.items) old))
+    → k ≡ m + 1 → AddsText (record { texts = seen_texts old; count = m }) (record { texts = seen_texts new; count = k }) canonical place
+added_text old new m k text canonical place is answer placed more =
+    subst (λ (t : List ℕ). AddsText (record { texts = seen_texts old; count = m }) (record { texts = seen_texts new; count = k }) t place) is
+    (record {
+      found = answer ∙ ap (λ (o : Option ℕ). unwrap_or o m) (sym (place_seen old text));
+      places = λ other. place_seen new other ∙ placed other
+          ∙ ap (λ (o : Option ℕ). cond (bytes_eq text other) (Some place) o) (sym (place_seen old other));
+      count = more;
+    })
+
 -- what a map has for a text, after one was put there
 pub updated : {S : Type 0} (old new : HashMap (Vec ℕ Global) ℕ S) (text : List ℕ) (place : ℕ)
     → UpdatesBy key_eq (λ key. bytes_eq text key.items) old new (Some place)
