@@ -9,10 +9,11 @@ import os
 import resource
 import sys
 import tempfile
+import tty
 from concurrent.futures import ThreadPoolExecutor
 from itertools import count
 
-from runs import BIDDERS, DEVICE_FAILED, FILE_REFUSED, LADDER, LARGER_BID, NO_MEMORY, PIECE, SINGLES, TALLY, Answer, case, full, reads_of, run, write_file
+from runs import BIDDERS, DEVICE_FAILED, FILE_REFUSED, LADDER, LARGER_BID, NO_MEMORY, PIECE, PIPE, SINGLES, TALLY, Answer, case, ended, full, reads_of, run, start, write_file
 
 WRONG_USAGE = 64
 
@@ -203,9 +204,27 @@ def names(folder):
     TALLY.judge(is_told(answer, 0, b"", []), "one file", answer)
 
 
+def terminal(path):
+    """If standard error is a terminal, one line says how many files were read, and is gone before a fault is printed."""
+    removal = b"\x1b[A\x1b[K"
+    rows = (
+        (["duplicates", "--progress", path, "/nothing", path], b"1 of 3\n" + removal + b"/nothing: cannot open: no such file\n2 of 3\n" + removal + b"3 of 3\n"),
+        (["sizes", "--progress", "/nothing"], b"/nothing: cannot open: no such file\n1 of 1\n"),
+        (["duplicates", "/nothing", path], b"/nothing: cannot open: no such file\n"),
+    )
+    for words, wanted in rows:
+        master, slave = os.openpty()
+        tty.setraw(slave)
+        answer = ended(*start(words, err=slave))
+        TALLY.judge(os.read(master, PIPE) == wanted, f"{words} on a terminal", answer)
+        os.close(slave)
+        os.close(master)
+
+
 def work(folder):
     lists(folder)
     names(folder)
+    terminal(write_file(folder, "file", LADDER))
     files = tuple(
         write_file(folder, name, text)
         for name, text in (("larger", LARGER_BID), ("singles", SINGLES), ("ladder", LADDER), ("bidders", BIDDERS), ("again", LADDER))

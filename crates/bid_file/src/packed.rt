@@ -316,9 +316,10 @@ impl PackedFile {
         bids
     }
 
-    /// The same file with a vector for each bid.
+    /// The same file with a vector for each bid. No memory is asked for if there are no bids.
     pub fn to_file(&self, alloc: Global) -> Result<BidFile, AllocError>
-        ensures { IfOk result (λ f. plain_file f ≡ self.now) }
+        ensures file { IfOk result (λ f. plain_file f ≡ self.now) }
+        ensures memory { OnErr result (0 < length self.now.bids) }
     {
         let goods = self.goods();
         let dummy = self.dummy();

@@ -23,11 +23,12 @@ use Rattle.canon.specs.declared.which.Which.TheVariants.{Only}
 use Rattle.cats_cmd.specs.DuplicateTexts.{found_paths}
 use Rattle.cats_cmd.specs.Inputs.{IsOpened, IsRefusedByReading, IsRefusedFile}
 use Rattle.cats_cmd.specs.Internal.Judging.{AddsFile, AddsOpened, AddsPath, KeepsGroups}
-use Rattle.cats_cmd.specs.Paths.{IsUnopened, Judgement, IsHeavy, IsJudged, IsStopped, Judges, JudgesStream, refusal_line, refusal_lines, status_if, stop_of}
+use Rattle.cats_cmd.specs.Paths.{IsUnopened, Judgement, IsHeavy, IsJudged, IsStopped, Judges, JudgesStream, lines_on, status_if, stop_of}
 use Rattle.cats_cmd.proofs.Skipping.{nothing_more}
 use Rattle.cats_cmd.specs.Outcomes.{ExceedsSteps, normalise_outcome, text_unless_heavy}
 use Rattle.cats_cmd.specs.Runs.{MakesAs}
-use Rattle.cats_cmd.specs.Stops.{Reports, ReportsAll, status_of_stop}
+use Rattle.cats_cmd.specs.Stops.{ReportsAll}
+use Rattle.cats_cmd.specs.declared.paths.Progress.{Progress}
 use Rattle.cats_cmd.specs.declared.program.Stop.{Stop}
 use Rattle.cats_cmd.specs.declared.program.Stop.TheVariants.{CannotOpen, NotOpened, Run}
 use Rattle.cats_cmd.specs.declared.report.RunFault.TheVariants.{Refused}
@@ -197,18 +198,16 @@ file_unopened Has may_open may_refuse remaining limit path kept skips why refuse
   is_stop = refl;
 }
 
--- the file was not judged, and that was reported
-pub path_stopped : {C F E : Type 0} (Has : C → List (List ℕ × Judgement) → Type 0) (may_open : List ℕ → F → Type 0) (may_refuse : List ℕ → Unopened → Type 0)
-    (remaining : F → Option (List ℕ)) (limit : ℕ) (messages : E → Option (List ℕ)) (path : List ℕ) (kept more : C) (err err_after : Watched E)
-    (stop : Option Stop) (why : Stop) (status : ℕ) → AddsFile Has may_open may_refuse remaining limit path kept more stop → stop ≡ Some why
-    → Reports messages (refusal_line path why) err err_after → status ≡ status_of_stop why
-    → AddsPath Has may_open may_refuse remaining limit messages path kept more err err_after status
-path_stopped Has may_open may_refuse remaining limit messages path kept more err err_after stop why status a is reports st =
-    let e : stop_of a.judgement ≡ Some why = sym a.is_stop ∙ is in
-    record {
-      judgement = a.judgement;
-      judges = a.judges;
-      adds = a.adds;
-      reports = subst (λ (s : Option Stop). ReportsAll messages (refusal_lines path s) err err_after) (sym e) (err_after, reports, refl);
-      is_status = st ∙ ap status_if (sym e);
-    }
+-- the file was judged, and reported
+pub path_judged : {C F E : Type 0} (Has : C → List (List ℕ × Judgement) → Type 0) (may_open : List ℕ → F → Type 0)
+    (may_refuse : List ℕ → Unopened → Type 0) (remaining : F → Option (List ℕ)) (limit : ℕ) (messages : E → Option (List ℕ)) (progress : Progress)
+    (count number : ℕ) (path : List ℕ) (kept more : C) (err err_after : Watched E) (stop : Option Stop) (status : ℕ)
+    → AddsFile Has may_open may_refuse remaining limit path kept more stop → ReportsAll messages (lines_on progress count number path stop) err err_after
+    → status ≡ status_if stop → AddsPath Has may_open may_refuse remaining limit messages progress count number path kept more err err_after status
+path_judged Has may_open may_refuse remaining limit messages progress count number path kept more err err_after stop status a reports is = record {
+  judgement = a.judgement;
+  judges = a.judges;
+  adds = a.adds;
+  reports = subst (λ (s : Option Stop). ReportsAll messages (lines_on progress count number path s) err err_after) a.is_stop reports;
+  is_status = is ∙ ap status_if a.is_stop;
+}

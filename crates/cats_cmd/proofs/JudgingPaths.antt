@@ -6,12 +6,15 @@ use Rattle.std.specs.Prelude.{IsErr}
 use Rattle.std.specs.Borrow.{Bor}
 use Rattle.std.specs.List.{AllByRecursion}
 use Rattle.std.specs.declared.alloc.AllocError.{AllocError}
+use Rattle.std.proofs.lemmas.Bool.{lt-ltb}
 use Rattle.std.proofs.lemmas.List.{map-append, take_more, take_all, append_assoc, length-map, length-take-le, take-map}
 use Rattle.std.proofs.lemmas.List.Sums.{fold_push}
 use Rattle.cats_text.specs.declared.stream.Watched.{Watched}
 use Rattle.cats_cmd.specs.Internal.Judging.{AddsPath, HasJudged, JudgesAllAs}
-use Rattle.cats_cmd.specs.Paths.{is_counted, Judgement, Judges, JudgesPaths, greatest_status, lines_from, lines_of_path, progress_line, progress_lines}
-use Rattle.cats_cmd.specs.Paths.{refusal_lines, report_lines, status_of_judgement, stop_of}
+use Rattle.cats_cmd.specs.Paths.{is_counted, Judgement, Judges, JudgesPaths, greatest_status, lines_from, lines_of_path}
+use Rattle.cats_cmd.specs.Paths.{line_removal, progress_line, progress_lines, removal_lines, report_lines, status_of_judgement}
+use Rattle.cats_cmd.specs.declared.paths.Progress.{Progress}
+use Rattle.cats_cmd.specs.declared.paths.Progress.TheVariants.{Lines, Terminal}
 use Rattle.cats_cmd.specs.Stops.{Reports, ReportsAll}
 use Rattle.cats_cmd.specs.declared.source.Unopened.{Unopened}
 
@@ -26,7 +29,7 @@ pub reports_more : {E : Type 0} (messages : E → Option (List ℕ)) (lines more
 reports_more {E = E} messages [] more a b c first then = subst (λ (e : Watched E). ReportsAll messages more e c) first then
 reports_more messages (line ∷ lines) more a b c first then = (first.0, first.1, reports_more messages lines more first.0 b c first.2 then)
 
-lines_push : (progress : Bool) (count number : ℕ) (js : List (List ℕ × Judgement)) (j : List ℕ × Judgement)
+lines_push : (progress : Progress) (count number : ℕ) (js : List (List ℕ × Judgement)) (j : List ℕ × Judgement)
     → lines_from progress count number (js ++ j ∷ []) ≡ lines_from progress count number js ++ lines_of_path progress count (number + length js) j
 lines_push progress count number [] j =
     let same : number ≡ number + 0 = omega arith in
@@ -39,22 +42,26 @@ lines_push progress count number (i ∷ js) j =
     ∙ sym (append_assoc (lines_of_path progress count number i) (lines_from progress count (suc number) js)
     (lines_of_path progress count (number + suc (length js)) j))
 
-module _ {E : Type 0} (messages : E → Option (List ℕ)) (progress : Bool) (number count : ℕ) (path : List ℕ) (old new : Watched E) where
-  pub progress_reported : is_counted number count ≡ true → Reports messages (progress_line number count path) old new
-      → ReportsAll messages (progress_lines true number count path) old new
-  progress_reported is reports = rw is (new, reports, refl)
+-- what is reported of one path
+pub path_reported : {E : Type 0} (messages : E → Option (List ℕ)) (first then last : List (List ℕ)) (a b c d : Watched E) → ReportsAll messages first a b
+    → ReportsAll messages then b c → ReportsAll messages last c d → ReportsAll messages (first ++ then ++ last) a d
+path_reported messages first then last a b c d one two three =
+    reports_more messages (first ++ then) last a c d (reports_more messages first then a b c one two) three
 
-  pub with_progress : progress ≡ true → ReportsAll messages (progress_lines true number count path) old new
-      → ReportsAll messages (progress_lines progress number count path) old new
-  with_progress is reports = rw is reports
+module _ {E : Type 0} (messages : E → Option (List ℕ)) (number : ℕ) (old new : Watched E) where
+  pub hundreds_reported : (count : ℕ) (path : List ℕ) → is_counted number count ≡ true → Reports messages (progress_line number count path) old new
+      → ReportsAll messages (progress_lines Lines number count path) old new
+  hundreds_reported count path is reports = rw is (new, reports, refl)
 
-  pub without_progress : progress ≡ false → new ≡ old → ReportsAll messages (progress_lines progress number count path) old new
-  without_progress is same = rw is same
+  pub removal_reported : (progress : Progress) (text : List ℕ) → progress ≡ Terminal → 1 < number → text ≡ line_removal → Reports messages text old new
+      → ReportsAll messages (removal_lines progress number) old new
+  removal_reported progress text is more same reports =
+      rw is (rw (lt-ltb 1 number more) (new, subst (λ (line : List ℕ). Reports messages line old new) same reports, refl))
 
 -- ---- the paths so far
 
 module _ {C F E : Type 0} (Has : C → List (List ℕ × Judgement) → Type 0) (may_open : List ℕ → F → Type 0) (may_refuse : List ℕ → Unopened → Type 0)
-    (remaining : F → Option (List ℕ)) (limit : ℕ) (messages : E → Option (List ℕ)) (progress : Bool) (count : ℕ) (err : Watched E) where
+    (remaining : F → Option (List ℕ)) (limit : ℕ) (messages : E → Option (List ℕ)) (progress : Progress) (count : ℕ) (err : Watched E) where
   pub none_judged : (kept : C) → Has kept [] → HasJudged Has may_open may_refuse remaining limit messages progress count [] kept err err 0
   none_judged kept has = record {
     judgements = [];
@@ -63,21 +70,18 @@ module _ {C F E : Type 0} (Has : C → List (List ℕ × Judgement) → Type 0) 
     is_greatest = refl;
   }
 
-  pub judged_more : (paths : List (List ℕ)) (kept more : C) (greatest status : ℕ) (before between after : Watched E) (path : List ℕ)
+  pub judged_more : (paths : List (List ℕ)) (kept more : C) (greatest status : ℕ) (before after : Watched E) (path : List ℕ)
       → HasJudged Has may_open may_refuse remaining limit messages progress count paths kept err before greatest
-      → AddsPath Has may_open may_refuse remaining limit messages path kept more before between status
-      → ReportsAll messages (progress_lines progress (length paths + 1) count path) between after
+      → AddsPath Has may_open may_refuse remaining limit messages progress count (length paths + 1) path kept more before after status
       → HasJudged Has may_open may_refuse remaining limit messages progress count (paths ++ path ∷ []) more err after (max greatest status)
-  judged_more paths kept more greatest status before between after path h a reports =
+  judged_more paths kept more greatest status before after path h a =
       let js = h.judgements in
       let j = a.judgement in
       let long : length paths + 1 ≡ 1 + length js =
       let e = sym (length-map js (λ (x : List ℕ × Judgement). x.0)) ∙ ap (length {A = List ℕ}) h.judges.of_paths in omega (arith, e) in
-      let own : ReportsAll messages (lines_of_path progress count (length paths + 1) (path, j)) before after =
-      reports_more messages (refusal_lines path (stop_of j)) (progress_lines progress (length paths + 1) count path) before between after a.reports reports in
       let all : ReportsAll messages (report_lines progress count js ++ lines_of_path progress count (1 + length js) (path, j)) err after =
       reports_more messages (report_lines progress count js) (lines_of_path progress count (1 + length js) (path, j)) err before after h.judges.reports
-      (subst (λ (n : ℕ). ReportsAll messages (lines_of_path progress count n (path, j)) before after) long own) in
+      (subst (λ (n : ℕ). ReportsAll messages (lines_of_path progress count n (path, j)) before after) long a.reports) in
       record {
         judgements = js ++ (path, j) ∷ [];
         judges = record {
@@ -102,18 +106,20 @@ so_many : (paths : List (Bor (List ℕ))) (i : ℕ) → i < length paths → len
 so_many paths i l = length-map (take i paths) (λ (p : Bor (List ℕ)). p.now) ∙ length-take-le i paths (omega (arith, l))
 
 module _ {C F E : Type 0} (Has : C → List (List ℕ × Judgement) → Type 0) (may_open : List ℕ → F → Type 0) (may_refuse : List ℕ → Unopened → Type 0)
-    (remaining : F → Option (List ℕ)) (limit : ℕ) (messages : E → Option (List ℕ)) (progress : Bool) (paths : List (Bor (List ℕ))) (err : Watched E)
+    (remaining : F → Option (List ℕ)) (limit : ℕ) (messages : E → Option (List ℕ)) (progress : Progress) (paths : List (Bor (List ℕ))) (err : Watched E)
     (i : ℕ) (kept : C) (greatest : ℕ) (before : Watched E)
     (h : HasJudged Has may_open may_refuse remaining limit messages progress (length paths) (map (λ p. p.now) (take i paths)) kept err before greatest) where
-  pub path_more : (d : Bor (List ℕ)) → i < length paths → (more : C) (status last : ℕ) (between after : Watched E)
-      → AddsPath Has may_open may_refuse remaining limit messages (get_or paths i d).now kept more before between status
-      → last ≡ max greatest status → ReportsAll messages (progress_lines progress (i + 1) (length paths) (get_or paths i d).now) between after
+  pub path_more : (d : Bor (List ℕ)) → i < length paths → (more : C) (status last : ℕ) (after : Watched E)
+      → AddsPath Has may_open may_refuse remaining limit messages progress (length paths) (i + 1) (get_or paths i d).now kept more before after status
+      → last ≡ max greatest status
       → HasJudged Has may_open may_refuse remaining limit messages progress (length paths) (map (λ p. p.now) (take (i + 1) paths)) more err after last
-  path_more d l more status last between after a is reports =
+  path_more d l more status last after a is =
       rw is (rw (one_more_path paths i d l) (judged_more Has may_open may_refuse remaining limit messages progress (length paths) err
-      (map (λ (p : Bor (List ℕ)). p.now) (take i paths)) kept more greatest status before between after (get_or paths i d).now h a
-      (subst (λ (n : ℕ). ReportsAll messages (progress_lines progress (n + 1) (length paths) (get_or paths i d).now) between after) (sym (so_many paths i l))
-      reports)))
+      (map (λ (p : Bor (List ℕ)). p.now) (take i paths)) kept more greatest status before after (get_or paths i d).now h
+      (subst
+      (λ (n : ℕ).
+      AddsPath Has may_open may_refuse remaining limit messages progress (length paths) (n + 1) (get_or paths i d).now kept more before after status)
+      (sym (so_many paths i l)) a)))
 
   counted : (ps : List (List ℕ)) (js : List (List ℕ × Judgement))
       → JudgesPaths may_open may_refuse remaining messages limit progress (length paths) ps err before js

@@ -1,5 +1,5 @@
 -- A run on the files of a list for whose paths memory was refused: no file was opened.
-use Rattle.std.proofs.Common.{◌≡◌, ℕ, Bool, List, [], Option, Result, Err, refl, sym, ap, ◌∙◌, subst}
+use Rattle.std.proofs.Common.{◌≡◌, ℕ, List, [], Option, Result, Err, refl, sym, ap, ◌∙◌, subst}
 use Rattle.std.specs.Prelude.{IsErrAnd}
 use Rattle.std.proofs.lemmas.Result.{err_from_is_err_and}
 use Rattle.cats_text.specs.declared.stream.Watched.{Watched}
@@ -8,13 +8,14 @@ use Rattle.canon.specs.declared.which.Which.TheVariants.{Only}
 use Rattle.cats_cmd.specs.FileLists.{ReadsList, RunsOnList}
 use Rattle.cats_cmd.specs.PathLists.{paths_in}
 use Rattle.cats_cmd.specs.Paths.{BeginsPaths, Judgement, RunsOnPaths}
+use Rattle.cats_cmd.specs.declared.paths.Progress.{Progress}
 use Rattle.cats_cmd.specs.declared.report.RunFault.{RunFault}
 use Rattle.cats_cmd.specs.declared.report.RunFault.TheVariants.{Refused}
 use Rattle.cats_cmd.specs.declared.source.Unopened.{Unopened}
 
 module _ {F W E : Type 0} (may_open : List ℕ → F → Type 0) (may_refuse : List ℕ → Unopened → Type 0) (remaining : F → Option (List ℕ))
     (contents : W → Option (List ℕ)) (messages : E → Option (List ℕ)) (limit : ℕ) (Makes : List (List ℕ × Judgement) → List ℕ → Type 0)
-    (progress : Bool) (err : Watched E) where
+    (progress : Progress) (err : Watched E) where
   none_begun : (paths : List (List ℕ)) → BeginsPaths may_open may_refuse remaining messages limit progress paths err err
   none_begun paths = record { count = 0; judgements = []; judges = record { of_paths = refl; each = tt; reports = refl } }
 

@@ -1,5 +1,5 @@
 -- The run of many files: the text that is made of them is sent, or memory was refused to all of them together.
-use Rattle.std.proofs.Common.{◌≡◌, ℕ, Bool, List, Option, Result, Ok, Err, length, refl, sym, ap, ◌∙◌, subst, arith}
+use Rattle.std.proofs.Common.{◌≡◌, ℕ, List, Option, Result, Ok, Err, length, refl, sym, ap, ◌∙◌, subst, arith}
 use Rattle.std.specs.Prelude.{IsErrAnd}
 use Rattle.std.proofs.lemmas.List.{take_all}
 use Rattle.std.proofs.lemmas.Result.{err_from_is_err_and}
@@ -10,6 +10,7 @@ use Rattle.cats_cmd.specs.Internal.Judging.{HasJudged}
 use Rattle.cats_cmd.specs.Outcomes.{Tells}
 use Rattle.cats_cmd.specs.Paths.{BeginsPaths, Judgement, JudgesPaths, MakesOfPaths, RunsOnPaths, outcome_of_paths}
 use Rattle.cats_cmd.specs.Runs.{SendsAs}
+use Rattle.cats_cmd.specs.declared.paths.Progress.{Progress}
 use Rattle.cats_cmd.specs.declared.report.RunFault.{RunFault}
 use Rattle.cats_cmd.specs.declared.report.RunFault.TheVariants.{Refused, GoodRange, Sent}
 use Rattle.cats_cmd.proofs.RunsOfOneFile.{wrote}
@@ -17,7 +18,7 @@ use Rattle.cats_cmd.specs.declared.source.Unopened.{Unopened}
 
 module _ {F W E : Type 0} (may_open : List ℕ → F → Type 0) (may_refuse : List ℕ → Unopened → Type 0) (remaining : F → Option (List ℕ))
     (contents : W → Option (List ℕ)) (messages : E → Option (List ℕ)) (limit : ℕ) (Makes : List (List ℕ × Judgement) → List ℕ → Type 0)
-    (paths : List (List ℕ)) (progress : Bool) (err err_after : Watched E) where
+    (paths : List (List ℕ)) (progress : Progress) (err err_after : Watched E) where
   -- memory was refused after the first of the paths
   pub paths_refused : (out : Watched W) → BeginsPaths may_open may_refuse remaining messages limit progress paths err err_after
       → (answer : Result ℕ RunFault) → IsErrAnd answer (λ told. told ≡ Refused Only Memory)

@@ -176,10 +176,10 @@ silent_unless_failed (Run (Sent fault)) old new silent failed = absurd (failed r
 -- ---- requests
 
 module _ {F W E : Type 0} (may_open : List ℕ → F → Type 0) (may_refuse : List ℕ → Unopened → Type 0) (remaining : F → Option (List ℕ))
-    (contents : W → Option (List ℕ)) (messages : E → Option (List ℕ)) (out out_after : Watched W) (err : Watched E) where
+    (contents : W → Option (List ℕ)) (messages : E → Option (List ℕ)) (terminal : Bool) (out out_after : Watched W) (err : Watched E) where
   -- a request for one or two files that answered has the status 0 or 1
   answered : (request : Request) (err_after : Watched E) (status : ℕ)
-      → RunsFor may_open may_refuse remaining contents messages request out out_after err err_after (Ok status) → is_for_many_files request ≡ false
+      → RunsFor may_open may_refuse remaining contents messages terminal request out out_after err err_after (Ok status) → is_for_many_files request ≡ false
       → status ≤ 1
   answered (Check file) err_after status ran few =
       told_run remaining contents check_outcome ran.0.before ran.0.after out out_after (λ file s text is. cc) status ran.0.runs
@@ -197,7 +197,7 @@ module _ {F W E : Type 0} (may_open : List ℕ → F → Type 0) (may_refuse : L
 
   -- a request that answered has reported nothing, unless it is one that reports
   quiet : (request : Request) (err_after : Watched E) (answer : Result ℕ RunFault)
-      → RunsFor may_open may_refuse remaining contents messages request out out_after err err_after answer → is_reporting request ≡ false
+      → RunsFor may_open may_refuse remaining contents messages terminal request out out_after err err_after answer → is_reporting request ≡ false
       → err_after ≡ err
   quiet (Check file) err_after answer ran silent = ran.1
   quiet (Show file) err_after answer ran silent = ran.1
@@ -210,7 +210,7 @@ module _ {F W E : Type 0} (may_open : List ℕ → F → Type 0) (may_refuse : L
 
   -- a request that stopped has written nothing, unless its output failed
   silent_fault : (request : Request) (err_after : Watched E) (fault : RunFault)
-      → RunsFor may_open may_refuse remaining contents messages request out out_after err err_after (Err fault) → is_for_many_files request ≡ false
+      → RunsFor may_open may_refuse remaining contents messages terminal request out out_after err err_after (Err fault) → is_for_many_files request ≡ false
       → IsSilent (Run fault) out out_after
   silent_fault (Check file) err_after fault ran few =
       silent_run remaining contents check_outcome ran.0.before ran.0.after out out_after fault ran.0.runs
@@ -228,7 +228,7 @@ module _ {F W E : Type 0} (may_open : List ℕ → F → Type 0) (may_refuse : L
   silent_fault (Sizes files) err_after fault ran few = absurd (cc)
 
   silent_request : (request : Request) (err_after : Watched E) (stop : Stop)
-      → CarriesOut may_open may_refuse remaining contents messages request out out_after err err_after (Err stop) → is_for_many_files request ≡ false
+      → CarriesOut may_open may_refuse remaining contents messages terminal request out out_after err err_after (Err stop) → is_for_many_files request ≡ false
       → IsSilent stop out out_after
   silent_request request err_after (CannotOpen which) ran few = ran.1
   silent_request request err_after (NotOpened why) ran few = absurd ran
@@ -236,44 +236,44 @@ module _ {F W E : Type 0} (may_open : List ℕ → F → Type 0) (may_refuse : L
 
   -- a status but 0, 1 and 5 says that nothing was written
   pub silent_answer : (request : Request) (err_after : Watched E) (status : ℕ)
-      → AnswersRequest may_open may_refuse remaining contents messages request out out_after err err_after status → is_for_many_files request ≡ false
+      → AnswersRequest may_open may_refuse remaining contents messages terminal request out out_after err err_after status → is_for_many_files request ≡ false
       → status ≢ 0 → status ≢ 1 → status ≢ 5 → out_after ≡ out
   silent_answer request err_after status answers few a b c =
       ⊎_elim
-      (λ (ran : CarriesOut may_open may_refuse remaining contents messages request out out_after err err_after (Ok status)).
+      (λ (ran : CarriesOut may_open may_refuse remaining contents messages terminal request out out_after err err_after (Ok status)).
       let most = answered request err_after status ran few in absurd (omega (arith, most, a, b)))
-      (λ (s : StopsRequest may_open may_refuse remaining contents messages request out out_after err err_after status).
+      (λ (s : StopsRequest may_open may_refuse remaining contents messages terminal request out out_after err err_after status).
       silent_unless_failed s.stop out out_after (silent_request request s.between s.stop s.carries few) (λ five. c (s.is_status ∙ five)))
       answers
 
   -- the statuses 0 and 1 say that nothing was reported
   pub done_answer : (request : Request) (err_after : Watched E) (status : ℕ)
-      → AnswersRequest may_open may_refuse remaining contents messages request out out_after err err_after status → is_reporting request ≡ false
+      → AnswersRequest may_open may_refuse remaining contents messages terminal request out out_after err err_after status → is_reporting request ≡ false
       → status ≤ 1 → err_after ≡ err
   done_answer request err_after status answers few most =
       ⊎_elim
-      (λ (ran : CarriesOut may_open may_refuse remaining contents messages request out out_after err err_after (Ok status)).
+      (λ (ran : CarriesOut may_open may_refuse remaining contents messages terminal request out out_after err err_after (Ok status)).
       quiet request err_after (Ok status) ran few)
-      (λ (s : StopsRequest may_open may_refuse remaining contents messages request out out_after err err_after status).
+      (λ (s : StopsRequest may_open may_refuse remaining contents messages terminal request out out_after err err_after status).
       let least = stop_status_above s.stop in let is = s.is_status in absurd (omega (arith, least, is, most)))
       answers
 
   pub stopped_request : (request : Request) (stop : Stop) (between err_after : Watched E) (status : ℕ)
-      → CarriesOut may_open may_refuse remaining contents messages request out out_after err between (Err stop)
+      → CarriesOut may_open may_refuse remaining contents messages terminal request out out_after err between (Err stop)
       → Reports messages (line_of_stop stop) between err_after → status ≡ status_of_stop stop
-      → StopsRequest may_open may_refuse remaining contents messages request out out_after err err_after status
+      → StopsRequest may_open may_refuse remaining contents messages terminal request out out_after err err_after status
   stopped_request request stop between err_after status carries reports is =
       record { stop = stop; between = between; carries = carries; reports = reports; is_status = is }
 
   -- the fault of a run is that of its request
   pub stopped_run : (request : Request) (err_after : Watched E) (fault : RunFault) (answer : Result ℕ Stop)
       → IsErrAnd answer (λ stop. stop ≡ Run fault)
-      → RunsFor may_open may_refuse remaining contents messages request out out_after err err_after (Err fault)
-      → CarriesOut may_open may_refuse remaining contents messages request out out_after err err_after answer
+      → RunsFor may_open may_refuse remaining contents messages terminal request out out_after err err_after (Err fault)
+      → CarriesOut may_open may_refuse remaining contents messages terminal request out out_after err err_after answer
   stopped_run request err_after fault answer is ran =
       let told = err_from_is_err_and answer is in
       let only : answer ≡ Err (Run fault) = told.1 ∙ ap (λ (stop : Stop). Err stop) told.2 in
-      subst (λ (r : Result ℕ Stop). CarriesOut may_open may_refuse remaining contents messages request out out_after err err_after r) (sym only) ran
+      subst (λ (r : Result ℕ Stop). CarriesOut may_open may_refuse remaining contents messages terminal request out out_after err err_after r) (sym only) ran
 
 -- ---- the streams of a run are those that were opened
 

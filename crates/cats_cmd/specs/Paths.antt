@@ -1,5 +1,5 @@
 -- A run on many files: what became of the file at each path, what is reported of it, and the text that is made of all.
-use Rattle.std.specs.Prelude.{◌≡◌, ◌⊎◌, ◌==◌, ◌||◌, ◌%◌, if◌then◌else◌, ℕ, suc, max, Bool, true, false}
+use Rattle.std.specs.Prelude.{◌≡◌, ◌⊎◌, ◌==◌, ◌||◌, ◌%◌, nat_lt, if◌then◌else◌, ℕ, suc, max, Bool, true, false}
 use Rattle.std.specs.Prelude.{List, [], ◌∷◌, ◌++◌, length, fold, map, take, Vec}
 use Rattle.std.specs.Prelude.{Option, Some, None, Result, Ok, Err, codes, decimal}
 use Rattle.std.specs.Global.{Global}
@@ -16,6 +16,8 @@ use Rattle.cats_cmd.specs.Inputs.{IsOpened, IsRefusedFile, ReadsHeavyFile, Reads
 use Rattle.cats_cmd.specs.Outcomes.{Outcome, Tells, normalise_outcome}
 use Rattle.cats_cmd.specs.Runs.{FailsInText, WritesText}
 use Rattle.cats_cmd.specs.Stops.{ReportsAll, line_of_stop, status_of_stop}
+use Rattle.cats_cmd.specs.declared.paths.Progress.{Progress}
+use Rattle.cats_cmd.specs.declared.paths.Progress.TheVariants.{Silent, Lines, Terminal}
 use Rattle.cats_cmd.specs.declared.program.Stop.{Stop}
 use Rattle.cats_cmd.specs.declared.program.Stop.TheVariants.{CannotOpen, NotOpened, Run}
 use Rattle.cats_cmd.specs.declared.source.Unopened.{Unopened}
@@ -66,23 +68,42 @@ refusal_lines path (Some stop) = refusal_line path stop ∷ []
 abbrev pub is_counted : ℕ → ℕ → Bool
 is_counted number count = (number % 100 == 0) || (number == count)
 
-abbrev pub progress_lines : Bool → ℕ → ℕ → List ℕ → List (List ℕ)
-progress_lines true number count path =
-    if is_counted number count then progress_line number count path ∷ [] else []
-progress_lines false number count path = []
+-- what a terminal shows: no path, so that it is one line there
+abbrev pub count_line : ℕ → ℕ → List ℕ
+count_line number count = decimal number ++ codes " of " ++ decimal count ++ codes "\n"
 
--- of the path with this number, among so many
-abbrev pub lines_of_path : Bool → ℕ → ℕ → List ℕ × Judgement → List (List ℕ)
-lines_of_path progress count number j = refusal_lines j.0 (stop_of j.1) ++ progress_lines progress number count j.0
+-- what takes away the line above: the cursor goes up, and the line is erased
+abbrev pub line_removal : List ℕ
+line_removal = 27 ∷ codes "[A" ++ 27 ∷ codes "[K"
+
+abbrev pub progress_lines : Progress → ℕ → ℕ → List ℕ → List (List ℕ)
+progress_lines Silent number count path = []
+progress_lines Lines number count path =
+    if is_counted number count then progress_line number count path ∷ [] else []
+progress_lines Terminal number count path = count_line number count ∷ []
+
+-- before the path with this number, a terminal shows how many were read
+abbrev pub removal_lines : Progress → ℕ → List (List ℕ)
+removal_lines Silent number = []
+removal_lines Lines number = []
+removal_lines Terminal number = if nat_lt 1 number then line_removal ∷ [] else []
+
+-- of the path with this number, among so many, and why its file was not judged
+abbrev pub lines_on : Progress → ℕ → ℕ → List ℕ → Option Stop → List (List ℕ)
+lines_on progress count number path stop =
+    removal_lines progress number ++ refusal_lines path stop ++ progress_lines progress number count path
+
+abbrev pub lines_of_path : Progress → ℕ → ℕ → List ℕ × Judgement → List (List ℕ)
+lines_of_path progress count number j = lines_on progress count number j.0 (stop_of j.1)
 
 -- of paths of which the first has this number
-abbrev pub lines_from : Bool → ℕ → ℕ → List (List ℕ × Judgement) → List (List ℕ)
+abbrev pub lines_from : Progress → ℕ → ℕ → List (List ℕ × Judgement) → List (List ℕ)
 lines_from progress count number [] = []
 lines_from progress count number (j ∷ judgements) =
     lines_of_path progress count number j ++ lines_from progress count (suc number) judgements
 
 -- of all paths
-abbrev pub report_lines : Bool → ℕ → List (List ℕ × Judgement) → List (List ℕ)
+abbrev pub report_lines : Progress → ℕ → List (List ℕ × Judgement) → List (List ℕ)
 report_lines progress count judgements = lines_from progress count 1 judgements
 
 -- ---- the file at a path
@@ -130,7 +151,7 @@ pub record Made : Type 0 where
   pub text : List ℕ
 
 module _ {F E : Type 0} (may_open : List ℕ → F → Type 0) (may_refuse : List ℕ → Unopened → Type 0)
-    (remaining : F → Option (List ℕ)) (messages : E → Option (List ℕ)) (limit : ℕ) (progress : Bool) where
+    (remaining : F → Option (List ℕ)) (messages : E → Option (List ℕ)) (limit : ℕ) (progress : Progress) where
   -- this became of the files at these paths, which are the first of so many, and it was reported
   pub record JudgesPaths (count : ℕ) (paths : List (List ℕ)) (err err_after : Watched E)
       (judgements : List (List ℕ × Judgement)) : Type 0 where
@@ -152,7 +173,7 @@ outcome_of_paths made = Tells (greatest_status made.judgements) made.text
 -- `Makes` says which text is made of what became of the files
 module _ {F W E : Type 0} (may_open : List ℕ → F → Type 0) (may_refuse : List ℕ → Unopened → Type 0)
     (remaining : F → Option (List ℕ)) (contents : W → Option (List ℕ)) (messages : E → Option (List ℕ)) (limit : ℕ)
-    (Makes : List (List ℕ × Judgement) → List ℕ → Type 0) (paths : List (List ℕ)) (progress : Bool) where
+    (Makes : List (List ℕ × Judgement) → List ℕ → Type 0) (paths : List (List ℕ)) (progress : Progress) where
   pub record MakesOfPaths (err err_after : Watched E) (made : Made) : Type 0 where
     pub judges : JudgesPaths may_open may_refuse remaining messages limit progress (length paths) paths err err_after
         made.judgements

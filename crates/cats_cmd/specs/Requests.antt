@@ -27,6 +27,8 @@ use Rattle.command_line.specs.declared.request.Request.TheVariants.{Check, Show,
 use Rattle.command_line.specs.declared.request.Request.TheVariants.{Duplicates, Sizes}
 use Rattle.cats_cmd.specs.declared.paths.Ending.{Ending}
 use Rattle.cats_cmd.specs.declared.paths.Ending.TheVariants.{Line, Null}
+use Rattle.cats_cmd.specs.declared.paths.Progress.{Progress}
+use Rattle.cats_cmd.specs.declared.paths.Progress.TheVariants.{Silent, Lines, Terminal as OnTerminal}
 use Rattle.cats_cmd.specs.declared.program.Stop.{Stop}
 use Rattle.cats_cmd.specs.declared.program.Stop.TheVariants.{CannotOpen, NotOpened, Run}
 use Rattle.cats_cmd.specs.declared.report.RunFault.{RunFault}
@@ -60,6 +62,12 @@ module _ {W E : Type 0} (contents : W → Option (List ℕ)) (messages : E → O
 abbrev pub ending_of : Bool → Ending
 ending_of true = Null
 ending_of false = Line
+
+-- how it is reported how many files were read, with `--progress` and without, if standard error is a terminal and if not
+abbrev pub progress_of : Bool → Bool → Progress
+progress_of terminal false = Silent
+progress_of true true = OnTerminal
+progress_of false true = Lines
 
 -- what becomes of fine prices, with `--exact` and without
 abbrev pub fine_of : Bool → FinePrices
@@ -97,6 +105,10 @@ module _ {F W E : Type 0} (may_open : List ℕ → F → Type 0) (may_refuse : L
     pub opened : IsOpened may_open path before
     pub runs : Rounds remaining contents messages fine before after out out_after err err_after answer
 
+-- `terminal` says whether standard error is a terminal.
+module _ {F W E : Type 0} (may_open : List ℕ → F → Type 0) (may_refuse : List ℕ → Unopened → Type 0)
+    (remaining : F → Option (List ℕ)) (contents : W → Option (List ℕ)) (messages : E → Option (List ℕ))
+    (terminal : Bool) where
   -- the run of each request, on its files and goods and under its limit
   abbrev pub RunsFor : Request → Watched W → Watched W → Watched E → Watched E → Result ℕ RunFault → Type 0
   RunsFor (Check file) out out_after err err_after answer =
@@ -108,17 +120,17 @@ module _ {F W E : Type 0} (may_open : List ℕ → F → Type 0) (may_refuse : L
   RunsFor (Normalise file limit) out out_after err err_after answer =
       RunsAt may_open remaining contents file.now (normalise_outcome limit) out out_after answer × (err_after ≡ err)
   RunsFor (Round file exact) out out_after err err_after answer =
-      RoundsAt file.now (fine_of exact) out out_after err err_after answer
+      RoundsAt may_open may_refuse remaining contents messages file.now (fine_of exact) out out_after err err_after answer
   RunsFor (Compare first second limit) out out_after err err_after answer =
       ComparesAt may_open remaining contents first.now second.now limit out out_after answer × (err_after ≡ err)
   RunsFor (Duplicates files) out out_after err err_after answer =
       RunsOnFiles may_open may_refuse remaining messages
       (λ paths. RunsOnPaths may_open may_refuse remaining contents messages files.limit (MakesGroups (ending_of files.null)) paths
-      files.progress) files.paths out out_after err err_after answer
+      (progress_of terminal files.progress)) files.paths out out_after err err_after answer
   RunsFor (Sizes files) out out_after err err_after answer =
       RunsOnFiles may_open may_refuse remaining messages
       (λ paths. RunsOnPaths may_open may_refuse remaining contents messages files.limit (MakesTable (ending_of files.null)) paths
-      files.progress) files.paths out out_after err err_after answer
+      (progress_of terminal files.progress)) files.paths out out_after err err_after answer
 
   -- the file of a request that cannot be opened. Each file of `duplicates` and `sizes` is reported by itself
   abbrev pub CannotOpenOf : Request → Which → Type 0

@@ -26,7 +26,7 @@ pub use check::run_check;
 pub use compare::run_compare;
 pub use duplicates::run_duplicates;
 pub use normalise::run_normalise;
-pub use paths::{Ending, ManyFiles};
+pub use paths::{Ending, ManyFiles, Progress};
 pub use program::{run_cats, run_program};
 pub use report::{NO_MEMORY, RunFault, WRONG_USAGE, fault_line, status};
 pub use round::run_round;

@@ -3,14 +3,15 @@
 ghost use Rattle.std.specs.Prelude.{◌≡◌, ◌++◌, ℕ, List, [], ◌∷◌, map, IfErr, IfOk, false, true};
 ghost use Rattle.cats_text.specs.Streams.{has_ended, has_failed};
 ghost use Rattle.cats_cmd.specs.Inputs.{IsOpened};
-ghost use Rattle.cats_cmd.specs.Paths.{Judgement, IsStopped, IsUnopened, RunsOnPaths, progress_line, progress_lines, refusal_line};
+ghost use Rattle.cats_cmd.specs.Paths.{Judgement, IsStopped, IsUnopened, RunsOnPaths, count_line, lines_on, progress_line, progress_lines, refusal_line, refusal_lines, removal_lines, status_if};
 ghost use Rattle.cats_cmd.specs.Stops.{ReportsAll};
 ghost use Rattle.cats_cmd.specs.Internal.Judging.{AddsFile, AddsPathAs, AddsOpened, HasSome, JudgesAllAs};
 ghost use Rattle.cats_cmd.specs.declared.paths.Ending.{Ending};
+ghost use Rattle.cats_cmd.specs.declared.paths.Progress.TheVariants.{Lines};
 ghost use Rattle.cats_cmd.specs.declared.program.Stop.{Stop};
 
 use crate::escaping::escape_into;
-use crate::program::{Stop, report, status_of, stop_line};
+use crate::program::{Stop, report, report_text, status_of, stop_line};
 use crate::report::{DONE, RunFault};
 use crate::run::send_text;
 use crate::source::{Source, Unopened};
@@ -23,9 +24,19 @@ use std::io::{Read, Write};
 pub struct ManyFiles {
     /// Bounds the steps of each search that decides on a bundle of an OR bidder.
     pub limit: u64,
-    /// Whether the files that were read are reported.
-    pub progress: bool,
+    pub progress: Progress,
     pub ending: Ending,
+}
+
+/// How it is reported how many files were read.
+#[derive(Clone, Copy)]
+pub enum Progress {
+    /// It is not.
+    Silent,
+    /// By a line after each hundredth file, and after the last.
+    Lines,
+    /// By one line of a terminal, which is replaced after each file.
+    Terminal,
 }
 
 /// How the paths of the output end.
@@ -36,6 +47,17 @@ pub enum Ending {
     /// With NUL.
     Null,
 }
+
+/// One of many paths: its number, counted from 1, and how many there are.
+#[derive(Clone, Copy)]
+struct Turn<'a> {
+    path: &'a [u8],
+    number: usize,
+    count: usize,
+}
+
+/// What takes away the line above, on a terminal: the cursor goes up, and the line is erased.
+const REMOVAL: &str = "\x1b[A\x1b[K";
 
 /// What a run makes of the files at some paths, which are judged one after the other.
 pub(crate) trait Collection<'a>: Sized + Drop {
@@ -107,33 +129,43 @@ fn judge_all<'a, C: Collection<'a>, S: Source + AllocGlobal, E: Write>(
         (map (λ path. path.now) paths.now) many.progress collection.new err.old err.new result }
 {
     let mut greatest = DONE;
+    let count = paths.len();
     for (number, path) in paths.iter().enumerate() {
-        let status = judge_path(source, collection, path, many, err)?;
+        let number = number + 1;
+        let turn = Turn {
+            path,
+            number,
+            count,
+        };
+        let status = judge_path(source, collection, &turn, many, err)?;
         greatest = greatest.max(status);
-        if many.progress {
-            report_progress(source.alloc(), number + 1, paths.len(), path, err);
-        }
     }
     Ok(greatest)
 }
 
-/// Judges the file at a path, and answers its status. If it is not judged, that is reported.
+/// Judges the file at a path, reports it, and answers its status.
 fn judge_path<'a, C: Collection<'a>, S: Source + AllocGlobal, E: Write>(
     source: &S,
     collection: &mut C,
-    path: &'a [u8],
+    turn: &Turn<'a>,
     many: ManyFiles,
     err: &mut Watched<E>,
 ) -> Result<u8, AllocError>
     ensures { AddsPathAs (C.has many.ending) (S.may_open source.now) (S.may_refuse source.now) S.Stream.remaining many.limit E.contents
-        path.now collection.old collection.new err.old err.new result }
+        many.progress turn.now.count turn.now.number turn.now.path.now collection.old collection.new err.old err.new result }
 {
-    match judge(source, collection, path, many)? {
-        None => Ok(DONE),
-        Some(stop) => {
-            report(err, &path_refusal(source.alloc(), path, &stop));
-            Ok(status_of(&stop))
-        }
+    let stop = judge(source, collection, turn.path, many)?;
+    report_path(source.alloc(), many.progress, turn, &stop, err);
+    Ok(status_if(&stop))
+}
+
+/// The status of a file that was judged, or of the reason why it was not.
+fn status_if(stop: &Option<Stop>) -> u8
+    ensures { result ≡ status_if stop.now }
+{
+    match stop {
+        None => DONE,
+        Some(stop) => status_of(stop),
     }
 }
 
@@ -189,32 +221,84 @@ pub(crate) fn path_refusal(alloc: Global, path: &[u8], stop: &Stop) -> Result<Ve
     Ok(line)
 }
 
-/// Reports how many files were read, if the last of them is a hundredth one or the last of all.
-fn report_progress<E: Write>(
+/// Reports why the file at a path was not judged, and how many files were read.
+fn report_path<E: Write>(
     alloc: Global,
-    number: usize,
-    count: usize,
-    path: &[u8],
+    progress: Progress,
+    turn: &Turn<'_>,
+    stop: &Option<Stop>,
     err: &mut Watched<E>,
 )
-    ensures { ReportsAll E.contents (progress_lines true number count path.now) err.old err.new }
+    ensures { ReportsAll E.contents (lines_on progress turn.now.count turn.now.number turn.now.path.now stop.now) err.old err.new }
 {
-    if number % 100 == 0 || number == count {
-        report(err, &path_progress(alloc, number, count, path));
+    remove_progress(progress, turn.number, err);
+    report_refusal(alloc, turn.path, stop, err);
+    report_progress(alloc, progress, turn, err);
+}
+
+/// Takes away the line of progress of a terminal, which is there after the first file.
+fn remove_progress<E: Write>(progress: Progress, number: usize, err: &mut Watched<E>)
+    ensures { ReportsAll E.contents (removal_lines progress number) err.old err.new }
+{
+    if let Progress::Terminal = progress {
+        if number > 1 {
+            report_text(err, REMOVAL.as_bytes());
+        }
     }
 }
 
-/// The line that says how many files were read.
-fn path_progress(
-    alloc: Global,
-    number: usize,
-    count: usize,
-    path: &[u8],
-) -> Result<Vec<u8>, AllocError>
-    ensures { IfOk result (λ line. line.items ≡ progress_line number count path.now) }
+/// Reports why the file at a path was not judged, if it was not.
+fn report_refusal<E: Write>(alloc: Global, path: &[u8], stop: &Option<Stop>, err: &mut Watched<E>)
+    ensures { ReportsAll E.contents (refusal_lines path.now stop.now) err.old err.new }
 {
+    if let Some(stop) = stop {
+        report(err, &path_refusal(alloc, path, stop));
+    }
+}
+
+/// Reports how many files were read: on a terminal after each, and else after each hundredth and the last.
+fn report_progress<E: Write>(
+    alloc: Global,
+    progress: Progress,
+    turn: &Turn<'_>,
+    err: &mut Watched<E>,
+)
+    ensures { ReportsAll E.contents (progress_lines progress turn.now.number turn.now.count turn.now.path.now) err.old err.new }
+{
+    match progress {
+        Progress::Silent => {}
+        Progress::Lines => report_hundreds(alloc, turn, err),
+        Progress::Terminal => report(err, &count_progress(alloc, turn)),
+    }
+}
+
+/// Reports how many files were read, if the last of them is a hundredth one or the last of all.
+fn report_hundreds<E: Write>(alloc: Global, turn: &Turn<'_>, err: &mut Watched<E>)
+    ensures { ReportsAll E.contents (progress_lines Lines turn.now.number turn.now.count turn.now.path.now) err.old err.new }
+{
+    if turn.number % 100 == 0 || turn.number == turn.count {
+        report(err, &path_progress(alloc, turn));
+    }
+}
+
+/// The line that says how many files were read, and the path of the last of them.
+fn path_progress(alloc: Global, turn: &Turn<'_>) -> Result<Vec<u8>, AllocError>
+    ensures { IfOk result (λ line. line.items ≡ progress_line turn.now.number turn.now.count turn.now.path.now) }
+{
+    let number = turn.number;
+    let count = turn.count;
     let mut line = format!(in alloc; "{number} of {count} ")?.into_bytes();
-    escape_into(path, &mut line)?;
+    escape_into(turn.path, &mut line)?;
     line.push(b'\n')?;
     Ok(line)
+}
+
+/// The line that says so on a terminal: short, so that it is one line there.
+fn count_progress(alloc: Global, turn: &Turn<'_>) -> Result<Vec<u8>, AllocError>
+    ensures { IfOk result (λ line. line.items ≡ count_line turn.now.number turn.now.count) }
+{
+    let number = turn.number;
+    let count = turn.count;
+    let line = format!(in alloc; "{number} of {count}\n")?;
+    Ok(line.into_bytes())
 }

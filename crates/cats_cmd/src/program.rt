@@ -4,14 +4,14 @@ ghost use Rattle.std.specs.Prelude.{◌≡◌, ◌≢◌, ◌≤◌, ℕ, List, 
 ghost use Rattle.canon.specs.declared.which.Which.TheVariants.{Only};
 ghost use Rattle.cats_text.specs.Streams.{has_failed};
 ghost use Rattle.cats_cmd.specs.Inputs.{IsOpened, MayRefuse};
-ghost use Rattle.cats_cmd.specs.Requests.{AnswersLine, AnswersNoRequest, AnswersRequest, CarriesOut, ending_of, fine_of, memory_text};
+ghost use Rattle.cats_cmd.specs.Requests.{AnswersLine, AnswersNoRequest, AnswersRequest, CarriesOut, ending_of, fine_of, memory_text, progress_of};
 ghost use Rattle.cats_cmd.specs.Stops.{Reports, is_for_many_files, is_reporting, line_of_stop, names_many_files, names_reporting, status_of_stop};
 
 use crate::check::run_check;
 use crate::compare::run_compare;
 use crate::many_files::{run_duplicates_of, run_sizes_of};
 use crate::normalise::run_normalise;
-use crate::paths::{Ending, ManyFiles};
+use crate::paths::{Ending, ManyFiles, Progress};
 use crate::report::{DEVICE_FAILED, DONE, NO_MEMORY, RunFault, WRONG_USAGE, fault_line, status};
 use crate::round::run_round;
 use crate::show::run_show;
@@ -49,7 +49,8 @@ impl From<RunFault> for Stop {
     }
 }
 
-/// Does what a command line says, on the files of the system, and answers the exit status. It is `run_program` on them.
+/// Does what a command line says, on the files of the system, and answers the exit status. It is `run_program` on
+/// them, if standard error is not a terminal.
 pub fn run_cats<F: Files + AllocGlobal, W: Write, E: Write>(
     rt: &F,
     words: &[&str],
@@ -59,15 +60,15 @@ pub fn run_cats<F: Files + AllocGlobal, W: Write, E: Write>(
     requires out_works { has_failed out.old ≡ false }
     requires err_works { has_failed err.old ≡ false }
     ensures answers { AnswersLine (λ path stream. Unit {0}) (λ path why. Unit {0}) F.File.remaining W.contents E.contents
-        words.now out.old out.new err.old err.new result }
+        false words.now out.old out.new err.old err.new result }
     ensures silent { names_many_files words.now ≡ false → result ≢ 0 → result ≢ 1 → result ≢ 5 → out.new ≡ out.old }
     ensures done { names_reporting words.now ≡ false → result ≤ 1 → err.new ≡ err.old }
 {
-    run_program(&SystemFiles::new(rt), words, out, err)
+    run_program(&SystemFiles::new(rt), words, out, err, false)
 }
 
 /// Does what a command line says, on the files of a source, and answers the exit status. The line's first word is the
-/// program's name; `out` and `err` are the standard streams.
+/// program's name; `out` and `err` are the standard streams, and `terminal` says whether `err` is a terminal.
 ///
 /// A fault's line is sent to `err`. If memory for it is refused, `want of memory` is sent in its place; the status is
 /// that of the fault in any case.
@@ -77,16 +78,17 @@ pub fn run_program<S: Source + AllocGlobal, W: Write, E: Write>(
     words: &[&str],
     out: &mut Watched<W>,
     err: &mut Watched<E>,
+    terminal: bool,
 ) -> u8
     requires out_works { has_failed out.old ≡ false }
     requires err_works { has_failed err.old ≡ false }
     ensures answers { AnswersLine (S.may_open source.now) (S.may_refuse source.now) S.Stream.remaining W.contents
-        E.contents words.now out.old out.new err.old err.new result }
+        E.contents terminal words.now out.old out.new err.old err.new result }
     ensures silent { names_many_files words.now ≡ false → result ≢ 0 → result ≢ 1 → result ≢ 5 → out.new ≡ out.old }
     ensures done { names_reporting words.now ≡ false → result ≤ 1 → err.new ≡ err.old }
 {
     match parse(source.alloc(), words) {
-        Ok(request) => answer_request(source, &request, out, err),
+        Ok(request) => answer_request(source, &request, out, err, terminal),
         Err(no_request) => answer_no_request(&no_request, out, err),
     }
 }
@@ -96,14 +98,15 @@ fn answer_request<S: Source + AllocGlobal, W: Write, E: Write>(
     request: &Request<'_>,
     out: &mut Watched<W>,
     err: &mut Watched<E>,
+    terminal: bool,
 ) -> u8
     requires out_works { has_failed out.old ≡ false }
     ensures answers { AnswersRequest (S.may_open source.now) (S.may_refuse source.now) S.Stream.remaining W.contents
-        E.contents request.now out.old out.new err.old err.new result }
+        E.contents terminal request.now out.old out.new err.old err.new result }
     ensures silent { is_for_many_files request.now ≡ false → result ≢ 0 → result ≢ 1 → result ≢ 5 → out.new ≡ out.old }
     ensures done { is_reporting request.now ≡ false → result ≤ 1 → err.new ≡ err.old }
 {
-    match carry_out(source, request, out, err) {
+    match carry_out(source, request, out, err, terminal) {
         Ok(status) => status,
         Err(stop) => report_stop(source.alloc(), &stop, err),
     }
@@ -115,9 +118,10 @@ fn carry_out<S: Source + AllocGlobal, W: Write, E: Write>(
     request: &Request<'_>,
     out: &mut Watched<W>,
     err: &mut Watched<E>,
+    terminal: bool,
 ) -> Result<u8, Stop>
     requires { has_failed out.old ≡ false }
-    ensures { CarriesOut (S.may_open source.now) (S.may_refuse source.now) S.Stream.remaining W.contents E.contents
+    ensures { CarriesOut (S.may_open source.now) (S.may_refuse source.now) S.Stream.remaining W.contents E.contents terminal
         request.now out.old out.new err.old err.new result }
 {
     let alloc = source.alloc();
@@ -146,28 +150,34 @@ fn carry_out<S: Source + AllocGlobal, W: Write, E: Write>(
             Ok(run_compare(alloc, &mut left, &mut right, *limit, out)?)
         }
         Request::Duplicates(files) => {
-            let many = many_files(files);
+            let many = many_files(files, terminal);
             Ok(run_duplicates_of(source, &files.paths, many, out, err)?)
         }
         Request::Sizes(files) => {
-            let many = many_files(files);
+            let many = many_files(files, terminal);
             Ok(run_sizes_of(source, &files.paths, many, out, err)?)
         }
     }
 }
 
 /// How a run on many files reads them and reports.
-fn many_files(files: &FilesRequest<'_>) -> ManyFiles
-    ensures { (result.limit ≡ files.now.limit) × (result.progress ≡ files.now.progress) × (result.ending ≡ ending_of files.now.null) }
+fn many_files(files: &FilesRequest<'_>, terminal: bool) -> ManyFiles
+    ensures { (result.limit ≡ files.now.limit) × (result.progress ≡ progress_of terminal files.now.progress)
+        × (result.ending ≡ ending_of files.now.null) }
 {
     let ending = if files.null {
         Ending::Null
     } else {
         Ending::Line
     };
+    let progress = match (terminal, files.progress) {
+        (_, false) => Progress::Silent,
+        (true, true) => Progress::Terminal,
+        (false, true) => Progress::Lines,
+    };
     ManyFiles {
         limit: files.limit,
-        progress: files.progress,
+        progress,
         ending,
     }
 }
@@ -262,7 +272,7 @@ pub(crate) fn report<E: Write>(err: &mut Watched<E>, line: &Result<Vec<u8>, Allo
 }
 
 /// Sends a text, unless the stream has failed.
-fn report_text<E: Write>(err: &mut Watched<E>, text: &[u8])
+pub(crate) fn report_text<E: Write>(err: &mut Watched<E>, text: &[u8])
     ensures { Reports E.contents text.now err.old err.new }
 {
     if !err.failed() {

@@ -23,6 +23,7 @@ ghost use Rattle.cats_cmd.specs.DuplicateTexts.{duplicates_text};
 ghost use Rattle.cats_cmd.specs.Duplicates.{judged_paths};
 ghost use Rattle.cats_cmd.specs.PathLists.{paths_in};
 ghost use Rattle.cats_cmd.specs.declared.paths.Ending.TheVariants.{Line, Null};
+ghost use Rattle.cats_cmd.specs.declared.paths.Progress.TheVariants.{Silent, Lines, Terminal};
 ghost use Rattle.cats_cmd.specs.Paths.{IsHeavy, IsJudged, IsStopped, greatest_status, progress_lines, report_lines};
 ghost use Rattle.cats_cmd.specs.SizesTables.{MakesTable, counts_of, line_if_read, sizes_of};
 ghost use Rattle.cats_cmd.specs.Rounding.{round_outcome, rounded_line};
@@ -123,15 +124,17 @@ pub fn unopened_lines()
 {}
 
 /// What `cats duplicates` reports of two paths: the reason for the one that was not judged, and, with progress, how many
-/// were read. Of 250 files that is reported after the hundredth, the two hundredth and the last.
+/// were read. On a terminal the line of progress is taken away before anything else is printed. Of 250 files that is reported after the hundredth, the two hundredth and the last.
 pub fn paths_reported()
-    ensures reason { report_lines false 2 ((codes "a", IsStopped (NotOpened NoSuchFile)) ∷ (codes "b", IsJudged larger_bid) ∷ [])
+    ensures reason { report_lines Silent 2 ((codes "a", IsStopped (NotOpened NoSuchFile)) ∷ (codes "b", IsJudged larger_bid) ∷ [])
         ≡ codes "a: cannot open: no such file\n" ∷ [] }
-    ensures progress { report_lines true 2 ((codes "a", IsStopped (NotOpened NoSuchFile)) ∷ (codes "b", IsJudged larger_bid) ∷ [])
+    ensures progress { report_lines Lines 2 ((codes "a", IsStopped (NotOpened NoSuchFile)) ∷ (codes "b", IsJudged larger_bid) ∷ [])
         ≡ codes "a: cannot open: no such file\n" ∷ codes "2 of 2 b\n" ∷ [] }
-    ensures counted { map (λ number. progress_lines true number 250 (codes "a")) (1 ∷ 99 ∷ 100 ∷ 200 ∷ 249 ∷ 250 ∷ [])
+    ensures counted { map (λ number. progress_lines Lines number 250 (codes "a")) (1 ∷ 99 ∷ 100 ∷ 200 ∷ 249 ∷ 250 ∷ [])
         ≡ [] ∷ [] ∷ (codes "100 of 250 a\n" ∷ []) ∷ (codes "200 of 250 a\n" ∷ []) ∷ []
         ∷ (codes "250 of 250 a\n" ∷ []) ∷ [] }
+    ensures terminal { report_lines Terminal 2 ((codes "a", IsJudged larger_bid) ∷ (codes "b", IsStopped (NotOpened NoSuchFile)) ∷ [])
+        ≡ codes "1 of 2\n" ∷ (27 ∷ 91 ∷ 65 ∷ 27 ∷ 91 ∷ 75 ∷ []) ∷ codes "b: cannot open: no such file\n" ∷ codes "2 of 2\n" ∷ [] }
     ensures status { greatest_status ((codes "a", IsStopped (NotOpened NoSuchFile)) ∷ (codes "b", IsJudged larger_bid) ∷ []) ≡ 5 }
     ensures judged { judged_paths ((codes "a", IsStopped (NotOpened NoSuchFile)) ∷ (codes "b", IsJudged larger_bid) ∷ [])
         ≡ codes "b" ∷ [] }

@@ -2,7 +2,6 @@
 pub mod Zeros
 pub mod Numerals
 pub mod SixDigits
-pub mod Chunks
 pub mod Ends
 pub mod TextLines
 pub mod Prices

@@ -49,10 +49,6 @@ tabbed gs = flat_map (λ g. 9 ∷ decimal g) gs
 abbrev pub bid_text : ℕ → ℕ → PlainBid → List ℕ
 bid_text goods number b = decimal number ++ 9 ∷ price_text b.price ++ tabbed (goods_of goods b) ++ codes "\t#\n"
 
--- as many bytes as the line of a bid of so many goods has room in
-abbrev pub line_room : ℕ → ℕ
-line_room goods = 256 + 6 * goods
-
 abbrev pub bids_text : ℕ → ℕ → List PlainBid → List ℕ
 bids_text goods n [] = []
 bids_text goods n (b ∷ bs) = bid_text goods n b ++ bids_text goods (suc n) bs

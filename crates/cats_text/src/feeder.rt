@@ -2,15 +2,15 @@
 
 ghost use Rattle.std.specs.Prelude.{◌≡◌, ◌^◌, ◌<◌, [], None};
 ghost use Rattle.cats_text.specs.Faults.{fault_at};
-ghost use Rattle.cats_text.specs.Internal.Reading.{fault_told, PartsAs, PackedAs};
-ghost use Rattle.cats_text.specs.Reading.{FeedsAs, FinishesAs};
+ghost use Rattle.cats_text.specs.Internal.Reading.{fault_told, PartsAs, PackedAs, Unpacks};
+ghost use Rattle.cats_text.specs.Reading.{FeedsAs};
 
 use crate::fault::{Kind, ReadFault};
 use crate::history::History;
 use crate::keep::Keep;
 use crate::parser::Header;
 use crate::scanner::{Halt, Scanner};
-use bid_file::{Bid, BidFile, PackedBids, PackedFile};
+use bid_file::{BidFile, PackedBids, PackedFile};
 use std::alloc::Global;
 use std::marker::Model;
 
@@ -85,20 +85,22 @@ impl<K: Keep> Feeder<K> {
     }
 }
 
-/// Judges the rest as the end of the input, and gives the file.
-pub fn finish_file(feeder: Feeder<Vec<Bid>>) -> Result<BidFile, ReadFault>
-    ensures { FinishesAs feeder result }
-{
-    let (header, bids) = feeder.finish()?;
-    Ok(BidFile::new(header.goods, header.dummy, bids))
-}
-
 /// Judges the rest as the end of the input, and gives the packed file.
 pub fn finish_packed(feeder: Feeder<PackedBids>) -> Result<PackedFile, ReadFault>
     ensures { PackedAs feeder result }
 {
     let (header, bids) = feeder.finish()?;
     Ok(PackedFile::new(header.goods, header.dummy, bids))
+}
+
+/// The same file with a vector for each bid.
+pub fn unpacked(alloc: Global, file: &PackedFile) -> Result<BidFile, ReadFault>
+    ensures { Unpacks file.now result }
+{
+    match file.to_file(alloc) {
+        Ok(file) => Ok(file),
+        Err(_) => Err(told(Halt::Memory)),
+    }
 }
 
 /// How a reader tells what stopped it.

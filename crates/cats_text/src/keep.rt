@@ -1,7 +1,7 @@
-//! What a reader keeps of the bids that come: the bids, the bids packed, or only how many they are.
+//! What a reader keeps of the bids that come: the bids, packed, or only how many they are.
 
 ghost use Rattle.std.specs.Prelude.{◌≡◌, ◌<◌, [], ◌∷◌, ◌++◌, List, length, set, replicate, IfOk, OnOk};
-ghost use Rattle.bid_file.specs.Files.{PlainBid, plain_bid, plain_bids};
+ghost use Rattle.bid_file.specs.Files.{PlainBid, plain_bid};
 ghost use Rattle.cats_text.specs.FileLines.{rising_of};
 ghost use Rattle.cats_text.specs.Internal.Kept.{whole, number_alone, with_goods};
 
@@ -57,57 +57,6 @@ fn new_bid(alloc: Global, draft: &Draft, goods: &[u16]) -> Result<Bid, AllocErro
         goods: Vec::from_slice(alloc, goods)?,
         dummy: draft.dummy,
     })
-}
-
-/// Reserves memory for so many bids if none has come.
-fn reserve(bids: &mut Vec<Bid>, count: u32) -> Result<(), AllocError>
-    ensures { bids.new.items ≡ bids.old.items }
-{
-    if bids.is_empty() {
-        bids.reserve(count as usize)?;
-    }
-    Ok(())
-}
-
-/// The bids of a `BidFile`.
-impl Keep for Vec<Bid> {
-    ghost keep = { whole };
-
-    ghost bids = { λ kept. plain_bids kept.items };
-
-    fn empty(alloc: Global) -> Vec<Bid> {
-        Vec::new(alloc)
-    }
-
-    fn count(&self) -> usize {
-        self.len()
-    }
-
-    fn sort(goods: &mut GoodList) {
-        goods.sort();
-    }
-
-    fn add(
-        &mut self,
-        alloc: Global,
-        draft: &Draft,
-        goods: &[u16],
-        count: u32,
-    ) -> Result<(), AllocError> {
-        reserve(self, count)?;
-        let bid = new_bid(alloc, draft, goods)?;
-        Vec::push(self, bid)?;
-        Ok(())
-    }
-
-    fn alone(alloc: Global, draft: &Draft, goods: &[u16]) -> Result<Bid, AllocError> {
-        new_bid(alloc, draft, goods)
-    }
-
-    fn put(&mut self, place: usize, bid: Bid) -> Result<(), AllocError> {
-        self[place] = bid;
-        Ok(())
-    }
 }
 
 /// The bids of a `PackedFile`: the goods of all of them are in one vector.

@@ -123,7 +123,7 @@ pub fn write_bid<B: Bids>(file: &B, number: usize, line: &mut [u8]) -> usize
 
 /// Writes the number and the price of a bid, so that their text ends at `end`, and returns where it starts.
 #[inline(always)]
-pub fn write_offer(number: usize, price: u64, text: &mut [u8], end: usize) -> usize
+fn write_offer(number: usize, price: u64, text: &mut [u8], end: usize) -> usize
     requires room { OFFER ≤ end }
     requires inside { end ≤ length text.old }
     ensures start { result ≤ end }
@@ -160,7 +160,7 @@ fn write_dummy(goods: u16, dummy: Option<u32>, text: &mut [u8], end: usize) -> u
 }
 
 /// Writes goods, each behind a tab, so that their text ends at `end`, and returns where it starts.
-pub fn write_goods(goods: &[u16], text: &mut [u8], end: usize) -> usize
+fn write_goods(goods: &[u16], text: &mut [u8], end: usize) -> usize
     requires room { GOOD * length goods.now ≤ end }
     requires inside { end ≤ length text.old }
     ensures start { (result ≤ end) × (end ≤ result + GOOD * length goods.now) }
@@ -175,7 +175,7 @@ pub fn write_goods(goods: &[u16], text: &mut [u8], end: usize) -> usize
     start
 }
 
-pub fn write_good(good: u64, text: &mut [u8], end: usize) -> usize
+fn write_good(good: u64, text: &mut [u8], end: usize) -> usize
     requires room { length (decimal good) < end }
     requires inside { end ≤ length text.old }
     ensures start { result + length (decimal good) + 1 ≡ end }

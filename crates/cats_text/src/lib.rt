@@ -2,7 +2,6 @@
 #![tactic(auto)]
 
 mod bid_lines;
-mod chunks;
 mod eight;
 mod fault;
 mod feeder;
@@ -22,17 +21,15 @@ mod slots;
 mod stream;
 mod word;
 pub mod worked;
-pub mod worked_streams;
 
 pub use bid_file::{
     Bid, BidFile, MAX_BIDS, MAX_DUMMY, MAX_GOODS, MAX_PRICE, PackedBids, PackedFile,
 };
-pub use chunks::push_bid;
 pub use fault::{Kind, ReadFault, SendFault};
-pub use layout::{push_header, write};
+pub use layout::write;
 pub use limits::MAX_STREAM;
 pub use parser::Header;
 pub use price::push_price;
 pub use reader::{Reader, read, read_packed};
 pub use sending::{send, send_file};
-pub use stream::{Watched, answers_of_devices, check_from, read_from, read_packed_from};
+pub use stream::{Watched, check_from, read_from, read_packed_from};

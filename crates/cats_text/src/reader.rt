@@ -4,8 +4,8 @@ ghost use Rattle.std.specs.Prelude.{◌≡◌, ◌^◌, ◌<◌, [], None};
 ghost use Rattle.cats_text.specs.Reading.{FinishAnswer, PackedAnswer};
 
 use crate::fault::ReadFault;
-use crate::feeder::{Feeder, finish_file, finish_packed};
-use bid_file::{Bid, BidFile, PackedFile};
+use crate::feeder::{Feeder, finish_packed, unpacked};
+use bid_file::{BidFile, PackedBids, PackedFile};
 use std::alloc::Global;
 use std::marker::Model;
 
@@ -13,7 +13,8 @@ use std::marker::Model;
 /// line are small states, however long they are.
 #[derive(Drop)]
 pub struct Reader {
-    feeder: Feeder<Vec<Bid>>,
+    alloc: Global,
+    feeder: Feeder<PackedBids>,
 }
 
 impl Model for Reader {
@@ -33,6 +34,7 @@ impl Reader {
         ensures { result ≡ record { limit = limit; bytes = []; failed = None } }
     {
         Reader {
+            alloc,
             feeder: Feeder::new(alloc, limit),
         }
     }
@@ -48,7 +50,8 @@ impl Reader {
     pub fn finish(self) -> Result<BidFile, ReadFault>
         ensures { FinishesAs self result }
     {
-        finish_file(self.feeder)
+        let file = finish_packed(self.feeder)?;
+        unpacked(self.alloc, &file)
     }
 }
 
@@ -56,12 +59,11 @@ impl Reader {
 pub fn read(alloc: Global, text: &[u8]) -> Result<BidFile, ReadFault>
     ensures { FinishAnswer text.now result }
 {
-    let mut reader = Reader::new(alloc, text.len() as u64);
-    reader.feed(text)?;
-    reader.finish()
+    let file = read_packed(alloc, text)?;
+    unpacked(alloc, &file)
 }
 
-/// Reads a whole text as `read` does, as a file in little memory.
+/// Reads a whole text as `read` does, as a packed file.
 pub fn read_packed(alloc: Global, text: &[u8]) -> Result<PackedFile, ReadFault>
     ensures { PackedAnswer text.now result }
 {

@@ -7,15 +7,12 @@ ghost use Rattle.std.specs.Prelude.{
   ◌≢◌,
   ◌||◌,
   false,
-  true,
   IsTrue,
   IsErr,
   is_err,
   IfErr,
   [],
   None,
-  Ok,
-  codes,
 };
 ghost use Rattle.std.specs.Io.{ReadsAtMost, WritesAtMost};
 ghost use Rattle.std.specs.Io.KnownBytes.{Consumes, Keeps, ReadConsumes, WriteAppends};
@@ -34,7 +31,7 @@ ghost use Rattle.cats_text.specs.Streams.{
 };
 
 use crate::fault::{Kind, ReadFault};
-use crate::feeder::{Feeder, finish_file, finish_packed};
+use crate::feeder::{Feeder, finish_packed, unpacked};
 use crate::keep::{BidCount, Keep};
 use crate::limits::MAX_STREAM;
 use crate::parser::Header;
@@ -175,9 +172,8 @@ pub fn read_from<R: Read>(alloc: Global, input: &mut Watched<R>) -> Result<BidFi
     ensures { (bytes : List ℕ) × Consumes (R.remaining (inner_of input.old)) (R.remaining (inner_of input.new)) bytes
         × ReadsAs R.remaining bytes input.new result }
 {
-    let mut feeder = Feeder::new(alloc, MAX_STREAM);
-    feed_from(&mut feeder, input)?;
-    finish_file(feeder)
+    let file = read_packed_from(alloc, input)?;
+    unpacked(alloc, &file)
 }
 
 /// Reads the whole stream as `read_from` does, as a file in little memory: the goods of all bids stand together, and so
@@ -243,14 +239,3 @@ fn device_failed() -> ReadFault
 
 /// How many bytes are read at once.
 const PIECE: usize = 65_536;
-
-/// What a call's answer tells of a device, on worked answers: a call that moves nothing of a piece that is not empty
-/// ends a reader and fails a writer, and an empty piece tells nothing.
-pub fn answers_of_devices()
-    ensures nothing { moved_nothing (Ok 0) (codes "x") ≡ true }
-    ensures something { moved_nothing (Ok 1) (codes "xy") ≡ false }
-    ensures empty_piece { moved_nothing (Ok 0) [] ≡ false }
-    ensures refused { failed_to_write (Ok 0) (codes "x") ≡ true }
-    ensures taken { failed_to_write (Ok 2) (codes "xy") ≡ false }
-    ensures empty_write { failed_to_write (Ok 0) [] ≡ false }
-{}

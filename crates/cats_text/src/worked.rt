@@ -1,12 +1,15 @@
 //! Worked examples of the definitions, computed by the prover.
 
-ghost use Rattle.std.specs.Prelude.{◌≡◌, ◌^◌, ◌++◌, [], ◌∷◌, Some, None, map, true, false, codes};
+ghost use Rattle.std.specs.Prelude.{◌≡◌, ◌^◌, ◌++◌, [], ◌∷◌, Some, None, Ok, Err, map, true, false, codes};
 ghost use Rattle.cats_text.specs.Lines.{line_words, blank_returns, significant_lines};
 ghost use Rattle.cats_text.specs.Numbers.{number_of, is_number, is_price, is_too_large, is_too_fine, price_of};
 ghost use Rattle.cats_text.specs.Grammar.{Spells};
 ghost use Rattle.cats_text.specs.Faults.{first_fault, complete_fault, fault_at};
 ghost use Rattle.cats_text.specs.FileLines.{spelled_file};
-ghost use Rattle.cats_text.specs.Layout.{layout, line_room, price_text, six_digits};
+ghost use Rattle.cats_text.specs.Examples.{known, watched};
+ghost use Rattle.cats_text.specs.Reading.{PackedAnswer};
+ghost use Rattle.cats_text.specs.Streams.{ReadsPlainAs, ChecksAs, Sends, moved_nothing, failed_to_write};
+ghost use Rattle.cats_text.specs.Layout.{layout, price_text, six_digits};
 ghost use Rattle.cats_text.specs.declared.limits.TheConstants.{MAX_STREAM};
 ghost use Rattle.cats_text.specs.declared.fault.Kind.TheVariants.{
   Header,
@@ -23,6 +26,8 @@ ghost use Rattle.cats_text.specs.declared.fault.Kind.TheVariants.{
   NoEnd,
   AfterEnd,
   Missing,
+  Device,
+  Memory as NoMemory,
 };
 
 /// The limit that the definitions cite.
@@ -131,11 +136,9 @@ pub fn complete_faults()
         ∷ Some (fault_at 1 NotANumber) ∷ None ∷ None ∷ Some (fault_at 1 Header) ∷ []) }
 {}
 
-/// A file as it is written, and the room for lines of no good and of all.
+/// A file as it is written.
 pub fn written_file()
-    ensures no_good { line_room 0 ≡ 256 }
-    ensures all_goods { line_room 4096 ≡ 24832 }
-    ensures text { layout (record {
+    ensures { layout (record {
       goods = 3;
       dummy = 1;
       bids = record { price = 20000000; goods = 0 ∷ 2 ∷ []; dummy = Some 0 }
@@ -188,4 +191,54 @@ pub fn computed_files()
               ∷ record { price = 7000000; goods = 1 ∷ []; dummy = None } ∷ [];
         }
         ∷ record { goods = 7; dummy = 2; bids = [] } ∷ record { goods = 0; dummy = 0; bids = [] } ∷ []) }
+{}
+
+/// What reading a text answers: the file that it spells, or the first fault. Want of memory is told only of a text with
+/// a line of bids.
+pub fn texts_read()
+    ensures file { let text = codes "goods 0\nbids 0\ndummy 0\n" in PackedAnswer text (Ok (spelled_file text)) }
+    ensures fault { PackedAnswer (codes "bids 0\n") (Err (fault_at 1 Header)) }
+    ensures other_fault { PackedAnswer (codes "bids 0\n") (Err (fault_at 2 Header)) → ⊥ }
+    ensures memory { PackedAnswer (codes "goods 1\nbids 1\ndummy 0\n0 1 0") (Err (fault_at 0 NoMemory)) }
+    ensures no_bids { PackedAnswer (codes "goods 0\nbids 0\ndummy 0\n") (Err (fault_at 0 NoMemory)) → ⊥ }
+{}
+
+/// What reading a stream answers, by the bytes that were read and the stream that is left. The whole stream was read
+/// where it spells a file or lacks something; a reader that failed is told where the bytes before it have no fault.
+pub fn streams_read()
+    ensures file { let text = codes "goods 0\nbids 0\ndummy 0\n" in
+        ReadsPlainAs known text (watched [] false true) (Ok (spelled_file text)) }
+    ensures sizes { let text = codes "goods 0\nbids 0\ndummy 0\n" in
+        ChecksAs known text (watched [] false true) (Ok (record { goods = 0; bids = 0; dummy = 0 })) }
+    ensures not_ended { let text = codes "goods 0\nbids 0\ndummy 0\n" in
+        ReadsPlainAs known text (watched [] false false) (Ok (spelled_file text)) → ⊥ }
+    ensures first_fault { ReadsPlainAs known (codes "bids 0\n") (watched (codes "x") false false)
+        (Err (fault_at 1 Header)) }
+    ensures missing { ChecksAs known (codes "goods 0\n") (watched [] false true) (Err (fault_at 2 Missing)) }
+    ensures device { ReadsPlainAs known (codes "goods 0\n") (watched [] true false) (Err (fault_at 0 Device)) }
+    ensures fault_before_device { ReadsPlainAs known (codes "bids 0\n") (watched [] true false)
+        (Err (fault_at 0 Device)) → ⊥ }
+{}
+
+/// What sending a text does: the whole text stands behind what was there, or so many of its first bytes.
+pub fn texts_sent()
+    ensures whole { Sends known (watched (codes "a") false false) (watched (codes "abc") false false) (codes "bc")
+        (Ok tt) }
+    ensures not_whole { Sends known (watched (codes "a") false false) (watched (codes "ab") false false) (codes "bc")
+        (Ok tt) → ⊥ }
+    ensures part { Sends known (watched (codes "a") false false) (watched (codes "ab") true false) (codes "bc")
+        (Err (record { written = 1 })) }
+    ensures nothing_failed { Sends known (watched [] false false) (watched [] false false) (codes "bc")
+        (Err (record { written = 0 })) → ⊥ }
+{}
+
+/// What a call's answer tells of a device: a call that moves nothing of a piece that is not empty
+/// ends a reader and fails a writer, and an empty piece tells nothing.
+pub fn answers_of_devices()
+    ensures nothing { moved_nothing (Ok 0) (codes "x") ≡ true }
+    ensures something { moved_nothing (Ok 1) (codes "xy") ≡ false }
+    ensures empty_piece { moved_nothing (Ok 0) [] ≡ false }
+    ensures refused { failed_to_write (Ok 0) (codes "x") ≡ true }
+    ensures taken { failed_to_write (Ok 2) (codes "xy") ≡ false }
+    ensures empty_write { failed_to_write (Ok 0) [] ≡ false }
 {}

@@ -115,7 +115,7 @@ path of the output is printed as it is, and each line ends with NUL.
 
 A file that is refused is reported at once, with its path before the fault, and the others go on. So is a list that
 cannot be read, and then no file is. With --progress a line says how many files were read, after each hundred and at the
-end. A step is that of 'cats normalise', to which each file is put.
+end; on a terminal it is one line, which is replaced after each file. A step is that of 'cats normalise', to which each file is put.
 
 Statuses: 0 where every file was judged, whether or not some are one auction; else the greatest status of those that
 were not: 2 for a file that is no bid file, 3 for the step limit, 4, 5 and 64 as 'cats --help' tells";

@@ -1,6 +1,6 @@
 -- The bids of a file by number, and which is the best of a bidder's bids on a bundle: the one of the highest price, and
 -- of those the one of the smallest number.
-use Rattle.std.specs.Prelude.{ℕ, ◌+◌, Bool, ◌&&◌, ◌||◌, not, ◌==◌, nat_lt, List, [], length, slice_index_or, Option, Some, None}
+use Rattle.std.specs.Prelude.{◌≡◌, ℕ, ◌+◌, ◌<◌, Bool, true, ◌&&◌, ◌||◌, not, ◌==◌, nat_lt, List, [], length, slice_index_or, Option, Some, None}
 use Rattle.std.specs.List.{list_any, range_with_len}
 use Rattle.std.specs.Ordering.{is_eq}
 use Rattle.goods_set.specs.Orders.{bundle_cmp}
@@ -31,3 +31,9 @@ is_better f i j = are_alike (bid_at f i) (bid_at f j)
 -- no bid is better
 abbrev pub is_best : PlainFile → ℕ → Bool
 is_best f i = not (list_any (λ j. is_better f j i) (numbers_of f))
+
+-- bid j is the best of the bids of bid i's bidder on its goods
+pub record IsBestFor (f : PlainFile) (i j : ℕ) : Type 0 where
+  pub within : j < length f.bids
+  pub alike : are_alike (bid_at f j) (bid_at f i) ≡ true
+  pub best : is_best f j ≡ true

@@ -3,3 +3,4 @@ pub mod Reasons
 pub mod Bids
 pub mod Renaming
 pub mod Examples
+pub mod Internal

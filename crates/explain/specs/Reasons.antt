@@ -5,7 +5,7 @@ use Rattle.std.specs.List.{AllByRecursion, list_all, range_with_len}
 use Rattle.goods_set.specs.Bundles.{IsInside, IsRising, are_apart}
 use Rattle.bid_file.specs.Files.{PlainFile}
 use Rattle.prune.specs.SearchSteps.{is_below}
-use Rattle.explain.specs.Bids.{bid_at, numbers_of, are_alike, is_best}
+use Rattle.explain.specs.Bids.{bid_at, numbers_of, is_best, IsBestFor}
 use Rattle.explain.specs.Renaming.{kept_bids}
 
 -- a reason, without where it lies in memory
@@ -47,10 +47,8 @@ pub record IsKeptAs (f : PlainFile) (i k : ℕ) : Type 0 where
 
 pub record HasSame (f : PlainFile) (i j : ℕ) : Type 0 where
   pub positive : 0 < (bid_at f i).price
-  pub within : j < length f.bids
   pub another : (j == i) ≡ false
-  pub alike : are_alike (bid_at f j) (bid_at f i) ≡ true
-  pub best : is_best f j ≡ true
+  pub best : IsBestFor f i j
 
 pub record HasInside (f : PlainFile) (reasons : List PlainReason) (i j : ℕ) : Type 0 where
   pub bid : IsBestBid f i

@@ -1,7 +1,11 @@
 //! Which bids of a file are dropped from its canonical file, and why.
 #![tactic(auto)]
 
+mod best;
 mod reason;
+#[cfg(test)]
+mod tests;
 pub mod worked;
 
+pub use best::best_bids;
 pub use reason::Reason;

@@ -117,41 +117,41 @@ first_kept k (x ∷ xs) =
       | false ↦ Contains-head k (dedup_from is_same_bundle x xs)
     ]
 
-abbrev Covered : List (Atom (List ℕ)) → Atom (List ℕ) → Type 0
-Covered best a = (b : Atom (List ℕ)) × Contains best b × (b.bundle ≡ a.bundle) × (a.price ≤ b.price)
+abbrev Dominated : List (Atom (List ℕ)) → Atom (List ℕ) → Type 0
+Dominated best a = (b : Atom (List ℕ)) × Contains best b × (b.bundle ≡ a.bundle) × (a.price ≤ b.price)
 
-covered_from : (k : Atom (List ℕ)) (xs : List (Atom (List ℕ))) → AllPairs NotBefore (k ∷ xs) → (x : Atom (List ℕ)) → (k ≡ x) ⊎ Contains xs x
-    → Covered (dedup_from is_same_bundle k xs) x
-covered_from k xs s x (inl e) =
+dominated_from : (k : Atom (List ℕ)) (xs : List (Atom (List ℕ))) → AllPairs NotBefore (k ∷ xs) → (x : Atom (List ℕ)) → (k ≡ x) ⊎ Contains xs x
+    → Dominated (dedup_from is_same_bundle k xs) x
+dominated_from k xs s x (inl e) =
     (k, first_kept k xs, ap (λ (z : Atom (List ℕ)). z.bundle) e, subst (λ (z : Atom (List ℕ)). z.price ≤ k.price) e (le_refl k.price))
-covered_from k [] s x (inr c) = absurd (Contains-nil x c)
-covered_from k (y ∷ ys) s x (inr c) =
+dominated_from k [] s x (inr c) = absurd (Contains-nil x c)
+dominated_from k (y ∷ ys) s x (inr c) =
     elim (cases_Bool (is_same_bundle y k)) [
       | inl t ↦
-          subst (λ (zs : List (Atom (List ℕ))). Covered zs x)
+          subst (λ (zs : List (Atom (List ℕ))). Dominated zs x)
           (sym (cond-true (is_same_bundle y k) (dedup_from is_same_bundle k ys) (k ∷ dedup_from is_same_bundle y ys) t))
           (⊎_elim
           (λ (e : y ≡ x).
           let same : bundle_cmp y.bundle k.bundle ≡ Equal = equal_from_test y k t in
           let price : y.price ≤ k.price = not_before_price y k same (AllPairs-head NotBefore k (y ∷ ys) s 0 y (omega arith)) in
-          subst (λ (z : Atom (List ℕ)). Covered (dedup_from is_same_bundle k ys) z) e (
+          subst (λ (z : Atom (List ℕ)). Dominated (dedup_from is_same_bundle k ys) z) e (
             k,
             first_kept k ys,
             sym (bundle_cmp_equal y.bundle k.bundle same),
             price,
           ))
-          (λ (d : Contains ys x). covered_from k ys (skip_second NotBefore k y ys s) x (inr d))
+          (λ (d : Contains ys x). dominated_from k ys (skip_second NotBefore k y ys s) x (inr d))
           (Contains-cons_cases y ys x c))
       | inr t ↦
-          subst (λ (zs : List (Atom (List ℕ))). Covered zs x)
+          subst (λ (zs : List (Atom (List ℕ))). Dominated zs x)
           (sym (cond-false (is_same_bundle y k) (dedup_from is_same_bundle k ys) (k ∷ dedup_from is_same_bundle y ys) t))
-          (let r = covered_from y ys (AllPairs-tail NotBefore k (y ∷ ys) s) x (Contains-cons_cases y ys x c) in
+          (let r = dominated_from y ys (AllPairs-tail NotBefore k (y ∷ ys) s) x (Contains-cons_cases y ys x c) in
           (r.0, Contains-tail k (dedup_from is_same_bundle y ys) r.0 r.1, r.2, r.3))
     ]
 
-covered : (xs : List (Atom (List ℕ))) → AllPairs NotBefore xs → (x : Atom (List ℕ)) → Contains xs x → Covered (dedup is_same_bundle xs) x
-covered [] s x c = absurd (Contains-nil x c)
-covered (y ∷ ys) s x c = covered_from y ys s x (Contains-cons_cases y ys x c)
+dominated : (xs : List (Atom (List ℕ))) → AllPairs NotBefore xs → (x : Atom (List ℕ)) → Contains xs x → Dominated (dedup is_same_bundle xs) x
+dominated [] s x c = absurd (Contains-nil x c)
+dominated (y ∷ ys) s x c = dominated_from y ys s x (Contains-cons_cases y ys x c)
 
 pairs_from_sorted : (xs : List (Atom (List ℕ))) → IsStrictlySortedBy (λ (a b : Atom (List ℕ)). bundle_cmp a.bundle b.bundle) xs → IsInOrder xs
 unfolding IsStrictlySortedBy
@@ -174,8 +174,8 @@ best_from_sorted bids sorted p up =
           (IsStrictlySortedBy-dedup on_bundles_total (λ a b. refl) sorted (λ k d l m. bundle_first _ _ (up k d l m)));
       among = All-from_Contains (Contains bids) (dedup is_same_bundle sorted) (λ b c. (back b c).0);
       positive = All-from_Contains (λ b. 0 < b.price) (dedup is_same_bundle sorted) (λ b c. ltb-true 0 b.price (back b c).1);
-      covers = All-from_Contains (λ a. 0 < a.price → Covered (dedup is_same_bundle sorted) a) bids
-          (λ a c l. covered sorted pairs a (Contains-permutation (filter has_price bids) sorted a p (Contains-filter has_price bids a c (lt-ltb 0 a.price l))));
+      dominates = All-from_Contains (λ a. 0 < a.price → Dominated (dedup is_same_bundle sorted) a) bids
+          (λ a c l. dominated sorted pairs a (Contains-permutation (filter has_price bids) sorted a p (Contains-filter has_price bids a c (lt-ltb 0 a.price l))));
     }
 
 -- ---- bids of the code, seen by the goods of their sets

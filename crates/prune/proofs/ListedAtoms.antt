@@ -34,7 +34,7 @@ use Rattle.valuation.specs.Lemmas.Atoms.{get_or-atoms_of}
 use Rattle.valuation.specs.Lemmas.Lists.{AllPairs-head, AllPairs-tail, AllPairs-append, Contains-map, Contains-unmap}
 use Rattle.prune.specs.declared.posting.Posting.{Posting}
 use Rattle.prune.specs.InOrder.{IsInOrder}
-use Rattle.prune.specs.Internal.Listings.{lists_of, listed_at, indices_of, places_at, atom_at, is_inside_at, covers, covers_at, IsListed, IsPosting, AreListed}
+use Rattle.prune.specs.Internal.Listings.{lists_of, listed_at, indices_of, places_at, atom_at, is_inside_at, dominates, dominates_at, IsListed, IsPosting, AreListed}
 use Rattle.prune.specs.Internal.Listings.{AreGoodsOf, IsBehind, NoneInsideFrom}
 use Rattle.prune.specs.Lemmas.InOrder.{before_itself}
 use Rattle.prune.specs.Lemmas.Lists.{Contains-head, Contains-tail, Contains-filter, Contains-filter_parts, All-from_Contains, list_any_found, list_any_has}
@@ -218,38 +218,38 @@ IsFinding-all lists listed atoms bundle from found sorted a unlisted none f p up
 -- ---- an atom inside the bundle of at least a price
 
 -- none is listed at the goods below `from`
-abbrev pub NoneCovers : List (List Posting) → List (Atom (List ℕ)) → List ℕ → ℕ → ℕ → Type 0
-NoneCovers lists atoms bundle price from = (good place : ℕ) → has_good bundle good ≡ true → good < from → Contains (places_at lists good) place
-    → covers_at atoms bundle price place ≡ false
+abbrev pub NoneDominates : List (List Posting) → List (Atom (List ℕ)) → List ℕ → ℕ → ℕ → Type 0
+NoneDominates lists atoms bundle price from = (good place : ℕ) → has_good bundle good ≡ true → good < from → Contains (places_at lists good) place
+    → dominates_at atoms bundle price place ≡ false
 
-pub NoneCovers-more : (lists : List (List Posting)) (atoms : List (Atom (List ℕ))) (bundle : List ℕ) (price from good : ℕ) → IsRising bundle
-    → good_from bundle from ≡ Some good → list_any (covers_at atoms bundle price) (places_at lists good) ≡ false → NoneCovers lists atoms bundle price from
-    → NoneCovers lists atoms bundle price (good + 1)
-NoneCovers-more lists atoms bundle price from good r next e h g place has l c =
+pub NoneDominates-more : (lists : List (List Posting)) (atoms : List (Atom (List ℕ))) (bundle : List ℕ) (price from good : ℕ) → IsRising bundle
+    → good_from bundle from ≡ Some good → list_any (dominates_at atoms bundle price) (places_at lists good) ≡ false → NoneDominates lists atoms bundle price from
+    → NoneDominates lists atoms bundle price (good + 1)
+NoneDominates-more lists atoms bundle price from good r next e h g place has l c =
     let n : IsNextGood bundle from good = good_from-Some bundle from good r next in
-    ⊎_elim (λ (q : g ≡ good). list_any_fails (covers_at atoms bundle price) (places_at lists good) e place
+    ⊎_elim (λ (q : g ≡ good). list_any_fails (dominates_at atoms bundle price) (places_at lists good) e place
     (subst (λ m. Contains (places_at lists m) place) q c))
     (λ (d : g ≡ good → ⊥). ⊎_elim (λ (m : g < from). h g place has m c)
     (λ (m : from ≤ g). absurd (both_ways (has_good bundle g) (n.least g m (omega arith)) has)) (cases_lt g from))
     (cases_eq g good)
 
 -- all goods are done: none is there
-pub NoneCovers-all : (lists : List (List Posting)) (listed : ℕ) (atoms : List (Atom (List ℕ))) (bundle : List ℕ) (price from : ℕ) → AreListed lists listed atoms
-    → NoneInsideFrom listed atoms bundle → good_from bundle from ≡ None → NoneCovers lists atoms bundle price from → list_any (covers bundle price) atoms ≡ false
-NoneCovers-all lists listed atoms bundle price from a unlisted none h =
-    list_any_none (covers bundle price) atoms (λ place d l.
-    false_from_ne_true (covers bundle price (get_or atoms place d)) (λ t.
-    let here : covers_at atoms bundle price place ≡ true = ap (covers bundle price) (get_or_default atoms place (record { bundle = []; price = 0 }) d l) ∙ t in
+pub NoneDominates-all : (lists : List (List Posting)) (listed : ℕ) (atoms : List (Atom (List ℕ))) (bundle : List ℕ) (price from : ℕ) → AreListed lists listed atoms
+    → NoneInsideFrom listed atoms bundle → good_from bundle from ≡ None → NoneDominates lists atoms bundle price from → list_any (dominates bundle price) atoms ≡ false
+NoneDominates-all lists listed atoms bundle price from a unlisted none h =
+    list_any_none (dominates bundle price) atoms (λ place d l.
+    false_from_ne_true (dominates bundle price (get_or atoms place d)) (λ t.
+    let here : dominates_at atoms bundle price place ≡ true = ap (dominates bundle price) (get_or_default atoms place (record { bundle = []; price = 0 }) d l) ∙ t in
     let inside = (and_parts (leb price (atom_at atoms place).price) (is_inside_at atoms bundle place) here).1 in
     let at = listed_before lists listed atoms bundle from place a none (is_listed listed atoms bundle unlisted place l inside) inside in
-    both_ways (covers_at atoms bundle price place) (h at.0 place at.1 at.2 at.3) here))
+    both_ways (dominates_at atoms bundle price place) (h at.0 place at.1 at.2 at.3) here))
 
 -- one is listed at a good
-pub one_covers : (lists : List (List Posting)) (listed : ℕ) (atoms : List (Atom (List ℕ))) (bundle : List ℕ) (price good : ℕ) → AreListed lists listed atoms
-    → list_any (covers_at atoms bundle price) (places_at lists good) ≡ true → list_any (covers bundle price) atoms ≡ true
-one_covers lists listed atoms bundle price good a e =
-    let r = list_any_found (covers_at atoms bundle price) (places_at lists good) e in
-    list_any_has (covers bundle price) atoms (atom_at atoms r.0)
+pub one_dominates : (lists : List (List Posting)) (listed : ℕ) (atoms : List (Atom (List ℕ))) (bundle : List ℕ) (price good : ℕ) → AreListed lists listed atoms
+    → list_any (dominates_at atoms bundle price) (places_at lists good) ≡ true → list_any (dominates bundle price) atoms ≡ true
+one_dominates lists listed atoms bundle price good a e =
+    let r = list_any_found (dominates_at atoms bundle price) (places_at lists good) e in
+    list_any_has (dominates bundle price) atoms (atom_at atoms r.0)
     (Contains-get_or atoms r.0 (record { bundle = []; price = 0 }) (place_within lists listed atoms good r.0 a r.1)) r.2
 
 -- ---- the atoms at the places found
@@ -454,9 +454,9 @@ postings_right lists count atoms good postings a e =
     subst (λ (ps : List Posting). All (IsPosting atoms) ps) (sym e)
     (All-from_Contains (IsPosting atoms) (listed_at lists good) (λ posting c. a.right good posting c))
 
--- an atom that is not inside the bundle does not cover it
+-- an atom that is not inside the bundle does not dominate it
 pub not_inside : (atoms : List (Atom (List ℕ))) (bundle : List ℕ) (price : ℕ) (posting : Posting) → is_inside_at atoms bundle posting.index ≡ false
-    → covers_at atoms bundle price posting.index ≡ false
+    → dominates_at atoms bundle price posting.index ≡ false
 not_inside atoms bundle price posting t = and_right (leb price (atom_at atoms posting.index).price) (is_inside_at atoms bundle posting.index) t
 
 pub one_listed : (listed : List Posting) (i : ℕ) (d : Posting) (p : ℕ → Bool) → i < length listed → p (get_or listed i d).index ≡ true

@@ -90,14 +90,14 @@ module _ (value : List (Atom (List ℕ)) → List ℕ → ℕ)
       pub in_order : IsInOrder kept
       pub among : All (Contains done) kept
       pub short : All (λ b. value (atoms_below kept b.bundle) b.bundle < b.price) kept
-      pub outbid : All (λ a. a.price ≤ value kept a.bundle) done
+      pub dominated : All (λ a. a.price ≤ value kept a.bundle) done
 
     pub IsKept-none : IsKept [] []
     IsKept-none = record {
       in_order = AllPairs-nil IsBefore;
       among = All-nil (Contains []);
       short = All-nil (λ b. value (atoms_below [] b.bundle) b.bundle < b.price);
-      outbid = All-nil (λ a. a.price ≤ value [] a.bundle);
+      dominated = All-nil (λ a. a.price ≤ value [] a.bundle);
     }
 
     -- the price is reached, and the bid goes
@@ -107,7 +107,7 @@ module _ (value : List (Atom (List ℕ)) → List ℕ → ℕ)
       in_order = k.in_order;
       among = All-weaker (Contains done) (Contains (done ++ x ∷ [])) (λ a c. Contains-append_left done (x ∷ []) a c) kept k.among;
       short = k.short;
-      outbid = All-push (λ a. a.price ≤ value kept a.bundle) done x k.outbid (le_trans l (fewer (λ a. is_below a.bundle x.bundle) kept x.bundle));
+      dominated = All-push (λ a. a.price ≤ value kept a.bundle) done x k.dominated (le_trans l (fewer (λ a. is_below a.bundle x.bundle) kept x.bundle));
     }
 
     -- it is not, and the bid stays
@@ -125,9 +125,9 @@ module _ (value : List (Atom (List ℕ)) → List ℕ → ℕ)
           subst (λ (zs : List (Atom (List ℕ))). value zs b.bundle < b.price) (sym same)
           (All-contains (λ b. value (atoms_below kept b.bundle) b.bundle < b.price) kept b k.short c)))
           (subst (λ (zs : List (Atom (List ℕ))). value zs x.bundle < x.price) (sym (below_push kept x x.bundle (not_below_itself x.bundle))) l);
-      outbid = All-push (λ a. a.price ≤ value (kept ++ x ∷ []) a.bundle) done x
+      dominated = All-push (λ a. a.price ≤ value (kept ++ x ∷ []) a.bundle) done x
           (All-weaker (λ a. a.price ≤ value kept a.bundle) (λ a. a.price ≤ value (kept ++ x ∷ []) a.bundle) (λ a h. le_trans h (more kept x a.bundle)) done
-          k.outbid)
+          k.dominated)
           (member (kept ++ x ∷ []) x (Contains-push kept x) x.bundle (inside_refl x.bundle));
     }
 

@@ -18,7 +18,7 @@ use Rattle.prune.specs.SearchSteps.{greatest_price, search_steps, steps_at_most,
 use Rattle.prune.specs.Lemmas.SearchSteps.{search_within_bound}
 use Rattle.prune.specs.Lemmas.Values.{xor_value-member}
 use Rattle.prune.specs.Lemmas.Lists.{list_any_filter}
-use Rattle.prune.specs.Internal.Listings.{covers, atom_at, atoms_inside, AreUncovered}
+use Rattle.prune.specs.Internal.Listings.{dominates, atom_at, atoms_inside, AreUndominated}
 use Rattle.prune.specs.Lemmas.OnBundles.{IsOnBundle}
 use Rattle.prune.specs.Internal.BestBids.{AreBestBids}
 use Rattle.prune.proofs.Pruning.{HasRisingBundle, IsKept-none}
@@ -96,9 +96,9 @@ price_reached price l bundle (a ∷ rest) h =
         (cases_lt n price)
 
 -- whether a kept atom inside the bundle has the price
-pub covers_is : (price : ℕ) (bundle : List ℕ) (kept : List (Atom (List ℕ))) → 0 < price
-    → list_any (covers bundle price) kept ≡ leb price (xor_value (atoms_inside kept bundle) bundle)
-covers_is price bundle kept l =
+pub dominates_is : (price : ℕ) (bundle : List ℕ) (kept : List (Atom (List ℕ))) → 0 < price
+    → list_any (dominates bundle price) kept ≡ leb price (xor_value (atoms_inside kept bundle) bundle)
+dominates_is price bundle kept l =
     list_any_filter (λ (a : Atom (List ℕ)). leb price a.price) (λ (a : Atom (List ℕ)). is_inside a.bundle bundle) kept
     ∙ price_reached price l bundle (atoms_inside kept bundle) (filter_passes (λ a. is_inside a.bundle bundle) kept)
 
@@ -140,13 +140,13 @@ turn_nonempty n bids done bid rest turn are = (All-contains (IsAtom n) bids bid 
 pub all_some : (n : ℕ) (bids : List (Atom (List ℕ))) → All (IsAtom n) bids → All (λ a. 0 < length a.bundle) bids
 all_some n bids are = All-weaker (IsAtom n) (λ a. 0 < length a.bundle) (λ a i. i.nonempty) bids are
 
--- ---- no bid is covered by one before it
+-- ---- no bid is dominated by one before it
 
 -- the first bids are kept as they are
-first_uncovered : (bids best : List (Atom (List ℕ))) → AreBestBids bids best → All HasRisingBundle best → AreUncovered best → (i : ℕ) → i ≤ length best
+first_undominated : (bids best : List (Atom (List ℕ))) → AreBestBids bids best → All HasRisingBundle best → AreUndominated best → (i : ℕ) → i ≤ length best
     → IsXorKept (take i best) (take i best)
-first_uncovered bids best b rising free zero l = IsKept-none xor_value xor_value-member xor_more xor_fewer
-first_uncovered bids best b rising free (suc i) l =
+first_undominated bids best b rising free zero l = IsKept-none xor_value xor_value-member xor_more xor_fewer
+first_undominated bids best b rising free (suc i) l =
     let x = atom_at best i in
     let done = take i best in
     let within : i < length best = omega arith in
@@ -156,34 +156,34 @@ first_uncovered bids best b rising free (suc i) l =
       best = subst (λ (zs : List (Atom (List ℕ))). AreBestBids bids zs) parts b;
       rising = subst (λ (zs : List (Atom (List ℕ))). All HasRisingBundle zs) parts rising;
     } in
-    let missed = sym (free i within) ∙ covers_is x.price x.bundle done (turn_positive _ _ _ _ turn) in
+    let missed = sym (free i within) ∙ dominates_is x.price x.bundle done (turn_positive _ _ _ _ turn) in
     let on : suc i ≡ i + 1 = omega arith in
     let front : take (suc i) best ≡ done ++ x ∷ [] = ap (λ n. take n best) on ∙ take_more best i (record { bundle = []; price = 0 }) within in
-    rw front (xor_missed _ _ _ _ done turn (first_uncovered bids best b rising free i (omega arith)) missed)
+    rw front (xor_missed _ _ _ _ done turn (first_undominated bids best b rising free i (omega arith)) missed)
 
 -- one more bid
-pub one_more_uncovered : {S : Type 0} (goods : S → List ℕ) (atoms before : List (Atom S)) (i : ℕ) (bid : Atom S)
-    → i < length atoms → bid ≡ get_or atoms i bid → before ≡ take i atoms → list_any (covers (goods bid.bundle) bid.price) (atoms_of goods before) ≡ false
-    → ((k : ℕ) → k < i → list_any (covers (atom_at (atoms_of goods atoms) k).bundle (atom_at (atoms_of goods atoms) k).price) (take k (atoms_of goods atoms))
+pub one_more_undominated : {S : Type 0} (goods : S → List ℕ) (atoms before : List (Atom S)) (i : ℕ) (bid : Atom S)
+    → i < length atoms → bid ≡ get_or atoms i bid → before ≡ take i atoms → list_any (dominates (goods bid.bundle) bid.price) (atoms_of goods before) ≡ false
+    → ((k : ℕ) → k < i → list_any (dominates (atom_at (atoms_of goods atoms) k).bundle (atom_at (atoms_of goods atoms) k).price) (take k (atoms_of goods atoms))
     ≡ false)
-    → (k : ℕ) → k < i + 1 → list_any (covers (atom_at (atoms_of goods atoms) k).bundle (atom_at (atoms_of goods atoms) k).price) (take k (atoms_of goods atoms))
+    → (k : ℕ) → k < i + 1 → list_any (dominates (atom_at (atoms_of goods atoms) k).bundle (atom_at (atoms_of goods atoms) k).price) (take k (atoms_of goods atoms))
     ≡ false
-one_more_uncovered {S} goods atoms before i bid l is front free h k within =
+one_more_undominated {S} goods atoms before i bid l is front free h k within =
     let seen = atoms_of goods atoms in
     let at : atom_at seen i ≡ plain_atom goods bid = get_or-atoms_of goods atoms i bid (record { bundle = []; price = 0 }) l is in
     let those : take i seen ≡ atoms_of goods before = take-map (plain_atom goods) i atoms ∙ ap (atoms_of goods) (sym front) in
-    let here : list_any (covers (atom_at seen i).bundle (atom_at seen i).price) (take i seen) ≡ false =
-    ap₂ (λ (x : Atom (List ℕ)) (zs : List (Atom (List ℕ))). list_any (covers x.bundle x.price) zs) at those ∙ free in
+    let here : list_any (dominates (atom_at seen i).bundle (atom_at seen i).price) (take i seen) ≡ false =
+    ap₂ (λ (x : Atom (List ℕ)) (zs : List (Atom (List ℕ))). list_any (dominates x.bundle x.price) zs) at those ∙ free in
     ⊎_elim (λ (lt : k < i). h k lt)
-    (λ (le : i ≤ k). let e : i ≡ k = omega arith in subst (λ n. list_any (covers (atom_at seen n).bundle (atom_at seen n).price) (take n seen) ≡ false) e here)
+    (λ (le : i ≤ k). let e : i ≡ k = omega arith in subst (λ n. list_any (dominates (atom_at seen n).bundle (atom_at seen n).price) (take n seen) ≡ false) e here)
     (cases_lt k i)
 
-pub xor_uncovered : {S : Type 0} (goods : S → List ℕ) (rising : (s : S) → IsRising (goods s)) (bids : List (Atom (List ℕ))) (atoms : List (Atom S))
-    → AreBestBids bids (atoms_of goods atoms) → AreUncovered (atoms_of goods atoms) → AreXorPoints bids (atoms_of goods atoms)
-xor_uncovered goods rising bids atoms b free =
+pub xor_undominated : {S : Type 0} (goods : S → List ℕ) (rising : (s : S) → IsRising (goods s)) (bids : List (Atom (List ℕ))) (atoms : List (Atom S))
+    → AreBestBids bids (atoms_of goods atoms) → AreUndominated (atoms_of goods atoms) → AreXorPoints bids (atoms_of goods atoms)
+xor_undominated goods rising bids atoms b free =
     let best = atoms_of goods atoms in
     let whole : take (length best) best ≡ best = take_all (length best) best (omega arith) in
-    xor_done bids best best b (rw whole at (first_uncovered bids best b (all_rising goods rising atoms) free (length best) (omega arith)))
+    xor_done bids best best b (rw whole at (first_undominated bids best b (all_rising goods rising atoms) free (length best) (omega arith)))
 
 -- nothing is heavy, and the first heavy bundle
 pub none_heavy_end : {S : Type 0} (goods : S → List ℕ) (n limit : ℕ) (bids : List (Atom (List ℕ))) (best kept : List (Atom S)) (place : ℕ)

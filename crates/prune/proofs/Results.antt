@@ -22,7 +22,7 @@ use Rattle.prune.specs.Lemmas.Lists.{zero_or_more, Contains-head, Contains-tail,
 use Rattle.prune.specs.Internal.Listings.{IsBehind}
 use Rattle.prune.specs.InOrder.{IsBefore, IsInOrder}
 use Rattle.prune.specs.Lemmas.InOrder.{before_both, before_itself, same_bundle_same_atom}
-use Rattle.prune.specs.Lemmas.Values.{xor_value-member, xor_value-bound, xor_value-outbid, or_value-outbid}
+use Rattle.prune.specs.Lemmas.Values.{xor_value-member, xor_value-bound, xor_value-dominated, or_value-dominated}
 use Rattle.prune.specs.Lemmas.KeptBids.{all_nonempty, xor_kept_are_points, xor_points_same, or_kept_are_points, or_points_same}
 use Rattle.prune.specs.Lemmas.SearchSteps.{greatest_price-member, greatest_price-reached}
 use Rattle.prune.specs.Internal.BestBids.{AreBestBids}
@@ -122,15 +122,15 @@ or_missed bids done x rest kept t k e =
 kept_among : (bids best kept : List (Atom (List ℕ))) → AreBestBids bids best → All (Contains best) kept → All (Contains bids) kept
 kept_among bids best kept b among = All-weaker (Contains best) (Contains bids) (λ a c. All-contains (Contains bids) best a b.among c) kept among
 
--- each bid is outbid by what is kept
-all_outbid : (value : List ℕ → ℕ) (bids best : List (Atom (List ℕ))) → AreBestBids bids best → All (λ a. a.price ≤ value a.bundle) best
+-- each bid is dominated by what is kept
+all_dominated : (value : List ℕ → ℕ) (bids best : List (Atom (List ℕ))) → AreBestBids bids best → All (λ a. a.price ≤ value a.bundle) best
     → All (λ a. a.price ≤ value a.bundle) bids
-all_outbid value bids best b outbid =
+all_dominated value bids best b dominated =
     All-from_Contains (λ a. a.price ≤ value a.bundle) bids (λ a c.
     ⊎_elim (λ (z : a.price ≡ 0). omega arith)
     (λ (l : 0 < a.price).
-    let r = All-contains (λ a. 0 < a.price → (b : Atom (List ℕ)) × Contains best b × (b.bundle ≡ a.bundle) × (a.price ≤ b.price)) bids a b.covers c l in
-    let own : r.0.price ≤ value r.0.bundle = All-contains (λ a. a.price ≤ value a.bundle) best r.0 outbid r.1 in
+    let r = All-contains (λ a. 0 < a.price → (b : Atom (List ℕ)) × Contains best b × (b.bundle ≡ a.bundle) × (a.price ≤ b.price)) bids a b.dominates c l in
+    let own : r.0.price ≤ value r.0.bundle = All-contains (λ a. a.price ≤ value a.bundle) best r.0 dominated r.1 in
     let same : value r.0.bundle ≡ value a.bundle = ap value r.2 in
     let price : a.price ≤ r.0.price = r.3 in
     omega arith)
@@ -146,9 +146,9 @@ pub xor_done : (bids best kept : List (Atom (List ℕ))) → AreBestBids bids be
 xor_done bids best kept b k =
     let among = kept_among bids best kept b k.among in
     let values : (bundle : List ℕ) → xor_value kept bundle ≡ xor_value bids bundle = λ bundle. le_antisymm
-    (xor_value-outbid bids kept (All-weaker (Contains bids) (λ a. a.price ≤ xor_value bids a.bundle)
+    (xor_value-dominated bids kept (All-weaker (Contains bids) (λ a. a.price ≤ xor_value bids a.bundle)
     (λ a c. xor_value-member bids a c a.bundle (inside_refl a.bundle)) kept among) bundle)
-    (xor_value-outbid kept bids (all_outbid (xor_value kept) bids best b k.outbid) bundle) in
+    (xor_value-dominated kept bids (all_dominated (xor_value kept) bids best b k.dominated) bundle) in
     record {
       in_order = k.in_order;
       among = among;
@@ -170,9 +170,9 @@ or_done bids best kept some b k =
     let among = kept_among bids best kept b k.among in
     let some_kept = All-weaker (Contains bids) (λ a. 0 < length a.bundle) (λ a c. All-contains (λ a. 0 < length a.bundle) bids a some c) kept among in
     let values : (bundle : List ℕ) → or_value kept bundle ≡ or_value bids bundle = λ bundle. le_antisymm
-    (or_value-outbid bids some kept (All-weaker (Contains bids) (λ a. a.price ≤ or_value bids a.bundle)
+    (or_value-dominated bids some kept (All-weaker (Contains bids) (λ a. a.price ≤ or_value bids a.bundle)
     (λ a c. or_value-price bids a c a.bundle (inside_refl a.bundle)) kept among) bundle)
-    (or_value-outbid kept some_kept bids (all_outbid (or_value kept) bids best b k.outbid) bundle) in
+    (or_value-dominated kept some_kept bids (all_dominated (or_value kept) bids best b k.dominated) bundle) in
     record {
       in_order = k.in_order;
       among = among;
@@ -216,7 +216,7 @@ best_on : (bids best : List (Atom (List ℕ))) → AreBestBids bids best → (bu
 best_on bids best b bundle l =
     let r = greatest_price-reached bids bundle l in
     let price : r.0.price ≡ greatest_price bids bundle = r.3 in
-    let c = All-contains (λ a. 0 < a.price → (b : Atom (List ℕ)) × Contains best b × (b.bundle ≡ a.bundle) × (a.price ≤ b.price)) bids r.0 b.covers r.1
+    let c = All-contains (λ a. 0 < a.price → (b : Atom (List ℕ)) × Contains best b × (b.bundle ≡ a.bundle) × (a.price ≤ b.price)) bids r.0 b.dominates r.1
     (omega arith) in
     let e : c.0.bundle ≡ bundle = c.2 ∙ r.2 in
     let low : r.0.price ≤ c.0.price = c.3 in

@@ -10,9 +10,9 @@ ghost use Rattle.prune.specs.Internal.Listings.{
   atom_at,
   indices_of,
   is_inside_at,
-  covers_at,
+  dominates_at,
   atoms_inside,
-  covers,
+  dominates,
   postings_of,
   IsBehind,
   IsIndexOf,
@@ -61,7 +61,7 @@ fn is_inside<S: GoodsSet>(kept: &[Atom<S>], posting: &Posting, bundle: &S, marks
 /// Whether the atom that is listed at a good is inside the bundle and has at least the price. The price is compared
 /// late, since it says nothing of the next one's, and what says mostly the same costs less.
 #[inline(always)]
-fn is_covering<S: GoodsSet>(
+fn is_dominating<S: GoodsSet>(
     kept: &[Atom<S>],
     posting: &Posting,
     bundle: &S,
@@ -70,7 +70,7 @@ fn is_covering<S: GoodsSet>(
 ) -> bool
     requires listed { IsPosting (atoms_of S.goods kept.now) posting.now }
     requires marks { AreMarks (S.goods bundle.now) marks }
-    ensures { result ≡ covers_at (atoms_of S.goods kept.now) (S.goods bundle.now) price posting.now.index }
+    ensures { result ≡ dominates_at (atoms_of S.goods kept.now) (S.goods bundle.now) price posting.now.index }
 {
     if !may_be_subset(posting.fingerprint, marks) {
         return false;
@@ -101,7 +101,7 @@ fn find_inside_among<S: GoodsSet>(
 }
 
 /// Whether one of the listed atoms is inside the bundle and has at least the price.
-fn has_covering<S: GoodsSet>(
+fn has_dominating<S: GoodsSet>(
     postings: &[Posting],
     kept: &[Atom<S>],
     bundle: &S,
@@ -110,11 +110,11 @@ fn has_covering<S: GoodsSet>(
 ) -> bool
     requires listed { All (IsPosting (atoms_of S.goods kept.now)) postings.now }
     requires marks { AreMarks (S.goods bundle.now) marks }
-    ensures { let covering = covers_at (atoms_of S.goods kept.now) (S.goods bundle.now) price in
-        result ≡ list_any covering (indices_of postings.now) }
+    ensures { let dominating = dominates_at (atoms_of S.goods kept.now) (S.goods bundle.now) price in
+        result ≡ list_any dominating (indices_of postings.now) }
 {
     for posting in postings {
-        if is_covering(kept, posting, bundle, marks, price) {
+        if is_dominating(kept, posting, bundle, marks, price) {
             return true;
         }
     }
@@ -271,11 +271,11 @@ impl SubsetIndex {
         requires goods { goods.now ≡ S.goods bundle.now }
         requires index { IsIndexOf (atoms_of S.goods kept.now) self.now }
         requires ready { IsReadyFor (S.goods bundle.now) (atoms_of S.goods kept.now) self.now }
-        ensures { result ≡ list_any (covers (S.goods bundle.now) price) (atoms_of S.goods kept.now) }
+        ensures { result ≡ list_any (dominates (S.goods bundle.now) price) (atoms_of S.goods kept.now) }
     {
         let marks = fingerprint(goods);
         for good in goods {
-            if has_covering(self.postings_at(*good), kept, bundle, marks, price) {
+            if has_dominating(self.postings_at(*good), kept, bundle, marks, price) {
                 return true;
             }
         }

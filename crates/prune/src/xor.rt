@@ -23,7 +23,7 @@ ghost use Rattle.bid_file.specs.declared.limits.TheConstants.{MAX_GOODS};
 ghost use Rattle.valuation.specs.Auctions.{IsAtom};
 ghost use Rattle.valuation.specs.Values.{atoms_of, plain_atom, xor_value};
 ghost use Rattle.prune.specs.InOrder.{IsInOrder};
-ghost use Rattle.prune.specs.Internal.Listings.{covers, AreUncovered, IsBehind, IsIndexOf};
+ghost use Rattle.prune.specs.Internal.Listings.{dominates, AreUndominated, IsBehind, IsIndexOf};
 ghost use Rattle.prune.specs.Points.{xor_points};
 
 use crate::best::keep_best_bids;
@@ -37,33 +37,33 @@ use valuation::Atom;
 const FEW: usize = 32;
 
 /// Whether the atom is inside the bid's bundle and has at least its price.
-fn is_covered_by<S: GoodsSet>(bid: &Atom<S>, atom: &Atom<S>) -> bool
-    ensures { result ≡ covers (S.goods bid.now.bundle) bid.now.price (plain_atom S.goods atom.now) }
+fn is_dominated_by<S: GoodsSet>(bid: &Atom<S>, atom: &Atom<S>) -> bool
+    ensures { result ≡ dominates (S.goods bid.now.bundle) bid.now.price (plain_atom S.goods atom.now) }
 {
     bid.price <= atom.price && atom.bundle.is_inside(&bid.bundle)
 }
 
 /// Whether one of the atoms is inside the bid's bundle and has at least its price.
-fn is_covered_by_any<S: GoodsSet>(bid: &Atom<S>, atoms: &[Atom<S>]) -> bool
-    ensures { result ≡ list_any (covers (S.goods bid.now.bundle) bid.now.price) (atoms_of S.goods atoms.now) }
+fn is_dominated_by_any<S: GoodsSet>(bid: &Atom<S>, atoms: &[Atom<S>]) -> bool
+    ensures { result ≡ list_any (dominates (S.goods bid.now.bundle) bid.now.price) (atoms_of S.goods atoms.now) }
 {
     for atom in atoms {
-        if is_covered_by(bid, atom) {
+        if is_dominated_by(bid, atom) {
             return true;
         }
     }
     false
 }
 
-/// Whether the bids are few, and none is covered by one before it, so that all of them stay.
-fn are_few_and_uncovered<S: GoodsSet>(bids: &[Atom<S>]) -> bool
-    ensures { result ≡ true → AreUncovered (atoms_of S.goods bids.now) }
+/// Whether the bids are few, and none is dominated by one before it, so that all of them stay.
+fn are_few_and_undominated<S: GoodsSet>(bids: &[Atom<S>]) -> bool
+    ensures { result ≡ true → AreUndominated (atoms_of S.goods bids.now) }
 {
     if bids.len() > FEW {
         return false;
     }
     for (place, bid) in bids.iter().enumerate() {
-        if is_covered_by_any(bid, &bids[..place]) {
+        if is_dominated_by_any(bid, &bids[..place]) {
             return false;
         }
     }
@@ -72,7 +72,7 @@ fn are_few_and_uncovered<S: GoodsSet>(bids: &[Atom<S>]) -> bool
 
 /// Whether a kept atom inside the bid's bundle has at least its price. Where none has, the index takes in that the bid
 /// is kept. Few atoms need no index. `buffer` is for goods.
-fn is_covered<S: GoodsSet>(
+fn is_dominated<S: GoodsSet>(
     index: &mut SubsetIndex,
     kept: &[Atom<S>],
     bid: &Atom<S>,
@@ -83,13 +83,13 @@ fn is_covered<S: GoodsSet>(
     requires in_order { IsInOrder (atoms_of S.goods kept.now) }
     requires behind { IsBehind (S.goods bid.now.bundle) (atoms_of S.goods kept.now) }
     requires index { few ≡ false → IsIndexOf (atoms_of S.goods kept.now) index.old }
-    ensures answer { IfOk result (λ covered. covered ≡ list_any (covers (S.goods bid.now.bundle) bid.now.price)
+    ensures answer { IfOk result (λ dominated. dominated ≡ list_any (dominates (S.goods bid.now.bundle) bid.now.price)
         (atoms_of S.goods kept.now)) }
-    ensures index { few ≡ false → IfOk result (λ covered. IsIndexOf
-        (atoms_of S.goods kept.now ++ cond covered [] (plain_atom S.goods bid.now ∷ [])) index.new) }
+    ensures index { few ≡ false → IfOk result (λ dominated. IsIndexOf
+        (atoms_of S.goods kept.now ++ cond dominated [] (plain_atom S.goods bid.now ∷ [])) index.new) }
 {
     if few {
-        return Ok(is_covered_by_any(bid, kept));
+        return Ok(is_dominated_by_any(bid, kept));
     }
     index.list_below(kept, &bid.bundle)?;
     let goods = rising_goods(&bid.bundle, buffer)?;
@@ -120,7 +120,7 @@ pub fn prune_xor<S: GoodsSet>(
     ensures no_longer { IfOk result (λ points. vec_len points ≤ vec_len atoms) }
 {
     keep_best_bids(alloc, &mut atoms)?;
-    if are_few_and_uncovered(atoms.as_slice()) {
+    if are_few_and_undominated(atoms.as_slice()) {
         return Ok(atoms);
     }
     let few = atoms.len() <= FEW;
@@ -129,7 +129,7 @@ pub fn prune_xor<S: GoodsSet>(
     let mut kept = 0;
     for place in 0..atoms.len() {
         let bid = &atoms[place];
-        if !is_covered(&mut index, &atoms[..kept], bid, few, &mut buffer)? {
+        if !is_dominated(&mut index, &atoms[..kept], bid, few, &mut buffer)? {
             move_to_front(&mut atoms, kept, place);
             kept += 1;
         }

@@ -5,7 +5,7 @@ ghost use Rattle.bid_file.specs.Files.{plain_bid};
 
 use crate::texts::assert_bytes;
 use bid_file::{Bid, BidFile};
-use cats_text::{push_bid, push_header, push_price, write};
+use cats_text::{push_price, read_packed, write};
 use std::alloc::{AllocError, Global};
 use std::test::Fail;
 
@@ -33,21 +33,15 @@ fn minimal_file(rt: HostRuntime) -> Result<(), Fail> {
 fn cats_layout(rt: HostRuntime) -> Result<(), Fail> {
     let mut bids = Vec::new(rt.alloc());
     bids.push(bid(rt.alloc(), 20_000_000, &[0, 2], Some(0))?)?;
-    bids.push(bid(rt.alloc(), 7_000_000, &[1], None)?)?;
-    let text = write(rt.alloc(), &BidFile::new(3, 1, bids))?;
-    let want = b"goods 3\nbids 2\ndummy 1\n0\t20\t0\t2\t3\t#\n1\t7\t1\t#\n";
-    assert_bytes(&rt, &text, want);
-    Ok(())
-}
-
-#[test]
-fn text_in_parts(rt: HostRuntime) -> Result<(), Fail> {
-    let mut out = Vec::new(rt.alloc());
-    push_header(&mut out, 3, 2, 1)?;
-    push_bid(&mut out, 3, 0, 20_000_000, &[0, 2], Some(0))?;
-    push_bid(&mut out, 3, 1, 7_500_000, &[1], None)?;
+    bids.push(bid(rt.alloc(), 7_500_000, &[1], None)?)?;
+    let file = BidFile::new(3, 1, bids);
     let want = b"goods 3\nbids 2\ndummy 1\n0\t20\t0\t2\t3\t#\n1\t7.5\t1\t#\n";
-    assert_bytes(&rt, &out, want);
+    assert_bytes(&rt, &write(rt.alloc(), &file)?, want);
+    assert_bytes(
+        &rt,
+        &write(rt.alloc(), &read_packed(rt.alloc(), want)?)?,
+        want,
+    );
     Ok(())
 }
 

@@ -4,8 +4,8 @@ ghost use Rattle.cats_text.specs.Streams.{has_ended, has_failed};
 use crate::texts::assert_bytes;
 use bid_file::{BidFile, PackedFile};
 use cats_text::{
-    Header, Kind, MAX_STREAM, ReadFault, SendFault, Watched, check_from, push_bid, push_header,
-    read_from, read_packed_from, send, send_file,
+    Header, Kind, MAX_STREAM, ReadFault, SendFault, Watched, check_from, push_price, read_from,
+    read_packed_from, send, send_file,
 };
 use std::alloc::{AllocError, Global};
 use std::io;
@@ -325,16 +325,25 @@ fn counts_what_went_out(rt: HostRuntime) {
     assert_sends(&rt, out, b"goods 0", Err(SendFault { written: 7 }), 1);
 }
 
+/// Appends a whole number, as the price of so many whole units.
+fn push_number(text: &mut Vec<u8>, number: u32) -> Result<(), AllocError> {
+    push_price(text, u128::from(number) * 1_000_000)
+}
+
 /// The text of a file of so many bids, each on all of 4,096 goods: its lines have some 20,000 bytes.
-fn long_text(alloc: Global, bids: usize) -> Result<Vec<u8>, AllocError> {
-    let mut goods = Vec::new(alloc);
-    for good in 0..4096 {
-        goods.push(good)?;
-    }
+fn long_text(alloc: Global, bids: u32) -> Result<Vec<u8>, AllocError> {
     let mut text = Vec::new(alloc);
-    push_header(&mut text, 4096, bids, 0)?;
+    text.extend_from_slice(b"goods 4096\nbids ")?;
+    push_number(&mut text, bids)?;
+    text.extend_from_slice(b"\ndummy 0\n")?;
     for number in 0..bids {
-        push_bid(&mut text, 4096, number, 7_000_001, &goods, None)?;
+        push_number(&mut text, number)?;
+        text.extend_from_slice(b"\t7.000001")?;
+        for good in 0..4096 {
+            text.push(b'\t')?;
+            push_number(&mut text, good)?;
+        }
+        text.extend_from_slice(b"\t#\n")?;
     }
     Ok(text)
 }

@@ -6,7 +6,8 @@ ghost use Rattle.cats_cmd.specs.declared.source.Unopened.TheVariants.{NoSuchFile
 
 use super::streams::{RunAnswer, expect, text_taken, writer};
 use cats_cmd::{Source, Unopened, run_program};
-use std::alloc::{Alloc, Global};
+use std::alloc::{Alloc, AllocGlobal, Global};
+use std::process::Abort;
 use std::test::Fail;
 
 /// Files with their paths, and paths that are refused.
@@ -296,24 +297,69 @@ Usage: cats duplicates --files0-from <LIST> [FILE]...\n\nFor more information, t
     ),
 ];
 
+/// The same where standard error is a terminal.
+static TERMINAL_ROWS: [Row<'static>; 4] = [
+    (
+        &[
+            "cats",
+            "duplicates",
+            "--progress",
+            "one",
+            "none",
+            "same",
+            "bad",
+        ],
+        5,
+        "one\nsame\n",
+        "1 of 4\n\x1b[A\x1b[Knone: cannot open: no such file\n2 of 4\n\x1b[A\x1b[K3 of 4\n\
+\x1b[A\x1b[Kbad: line 2: Missing\n4 of 4\n",
+    ),
+    (
+        &["cats", "sizes", "--progress", "bad"],
+        2,
+        "goods\tbids\tor\txor\tdummy\tkept\tkept_or\tkept_xor\tfile\n",
+        "bad: line 2: Missing\n1 of 1\n",
+    ),
+    (
+        &["cats", "duplicates", "one", "bad"],
+        2,
+        "",
+        "bad: line 2: Missing\n",
+    ),
+    (&["cats", "check", "one"], 0, "goods 1 bids 1 dummy 0\n", ""),
+];
+
 #[test]
 fn files_in_memory(rt: HostRuntime) -> Result<(), Fail> {
+    judge_rows(&rt, &ROWS, false)
+}
+
+#[test]
+fn files_in_memory_on_a_terminal(rt: HostRuntime) -> Result<(), Fail> {
+    judge_rows(&rt, &TERMINAL_ROWS, true)
+}
+
+fn judge_rows(
+    rt: &(impl Abort + AllocGlobal),
+    rows: &[Row<'_>],
+    terminal: bool,
+) -> Result<(), Fail> {
     let alloc = rt.alloc();
     let source = FilesInMemory {
         files: &FILES,
         refused: &REFUSED,
         alloc,
     };
-    for (words, status, sent, told) in &ROWS {
+    for (words, status, sent, told) in rows {
         let mut out = writer(alloc, 4096, 4096);
         let mut err = writer(alloc, 4096, 4096);
-        let status_answered = run_program(&source, words, &mut out, &mut err);
+        let status_answered = run_program(&source, words, &mut out, &mut err, terminal);
         let answer = RunAnswer {
             status: status_answered,
             sent: text_taken(out)?,
             line: text_taken(err)?,
         };
-        expect(&rt, &answer, *status, sent, told);
+        expect(rt, &answer, *status, sent, told);
     }
     Ok(())
 }

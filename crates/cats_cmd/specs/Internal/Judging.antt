@@ -1,12 +1,13 @@
 -- What judging the file at one path does, among files that are judged one after the other, and what is kept of them.
-use Rattle.std.specs.Prelude.{◌≡◌, ℕ, Bool, List, [], ◌∷◌, ◌++◌, length, Option, Result, Ok, Err}
+use Rattle.std.specs.Prelude.{◌≡◌, ℕ, List, [], ◌∷◌, ◌++◌, length, Option, Result, Ok, Err}
 use Rattle.std.specs.declared.alloc.AllocError.{AllocError}
 use Rattle.cats_text.specs.declared.stream.Watched.{Watched}
 use Rattle.canon.specs.FirstPlaces.{IsIndexOf, TextIndex}
 use Rattle.cats_cmd.specs.Duplicates.{FindsPlaces, judged_files}
-use Rattle.cats_cmd.specs.Paths.{BeginsPaths, Judgement, Judges, JudgesPaths, JudgesStream, greatest_status, refusal_lines}
+use Rattle.cats_cmd.specs.Paths.{BeginsPaths, Judgement, Judges, JudgesPaths, JudgesStream, greatest_status, lines_of_path}
 use Rattle.cats_cmd.specs.Paths.{status_of_judgement, stop_of}
 use Rattle.cats_cmd.specs.Stops.{ReportsAll}
+use Rattle.cats_cmd.specs.declared.paths.Progress.{Progress}
 use Rattle.cats_cmd.specs.declared.program.Stop.{Stop}
 use Rattle.cats_cmd.specs.declared.source.Unopened.{Unopened}
 
@@ -43,22 +44,23 @@ module _ {C : Type 0} (Has : C → List (List ℕ × Judgement) → Type 0) wher
       pub adds : AddsJudgement path judgement old new
       pub is_stop : stop ≡ stop_of judgement
 
-    -- the file at the path was judged, and if it was not, that was reported
-    pub record AddsPath {E : Type 0} (messages : E → Option (List ℕ)) (path : List ℕ) (old new : C)
-        (err err_after : Watched E) (status : ℕ) : Type 0 where
+    -- the file at the path with this number, among so many, was judged and reported
+    pub record AddsPath {E : Type 0} (messages : E → Option (List ℕ)) (progress : Progress) (count number : ℕ)
+        (path : List ℕ) (old new : C) (err err_after : Watched E) (status : ℕ) : Type 0 where
       pub judgement : Judgement
       pub judges : Judges may_open may_refuse remaining limit (path, judgement)
       pub adds : AddsJudgement path judgement old new
-      pub reports : ReportsAll messages (refusal_lines path (stop_of judgement)) err err_after
+      pub reports : ReportsAll messages (lines_of_path progress count number (path, judgement)) err err_after
       pub is_status : status ≡ status_of_judgement judgement
 
-    abbrev pub AddsPathAs : {E : Type 0} → (E → Option (List ℕ)) → List ℕ → C → C → Watched E → Watched E
-        → Result ℕ AllocError → Type 0
-    AddsPathAs messages path old new err err_after (Ok status) = AddsPath messages path old new err err_after status
-    AddsPathAs messages path old new err err_after (Err e) = err_after ≡ err
+    abbrev pub AddsPathAs : {E : Type 0} → (E → Option (List ℕ)) → Progress → ℕ → ℕ → List ℕ → C → C → Watched E
+        → Watched E → Result ℕ AllocError → Type 0
+    AddsPathAs messages progress count number path old new err err_after (Ok status) =
+        AddsPath messages progress count number path old new err err_after status
+    AddsPathAs messages progress count number path old new err err_after (Err e) = err_after ≡ err
 
     -- so far
-    pub record HasJudged {E : Type 0} (messages : E → Option (List ℕ)) (progress : Bool) (count : ℕ)
+    pub record HasJudged {E : Type 0} (messages : E → Option (List ℕ)) (progress : Progress) (count : ℕ)
         (paths : List (List ℕ)) (kept : C) (err err_after : Watched E) (greatest : ℕ) : Type 0 where
       pub judgements : List (List ℕ × Judgement)
       pub judges : JudgesPaths may_open may_refuse remaining messages limit progress count paths err err_after
@@ -67,7 +69,7 @@ module _ {C : Type 0} (Has : C → List (List ℕ × Judgement) → Type 0) wher
       pub is_greatest : greatest ≡ greatest_status judgements
 
     -- the files at all paths, or, when memory is refused, those at the first of them
-    abbrev pub JudgesAllAs : {E : Type 0} → (E → Option (List ℕ)) → List (List ℕ) → Bool → C → Watched E → Watched E
+    abbrev pub JudgesAllAs : {E : Type 0} → (E → Option (List ℕ)) → List (List ℕ) → Progress → C → Watched E → Watched E
         → Result ℕ AllocError → Type 0
     JudgesAllAs messages paths progress kept err err_after (Ok greatest) =
         HasJudged messages progress (length paths) paths kept err err_after greatest

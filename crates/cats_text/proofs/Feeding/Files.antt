@@ -1,13 +1,16 @@
 -- The file of what the header lines said and the bids that were kept whole.
-use Rattle.std.proofs.Common.{◌≡◌, ℕ, List, Option, Some, None, Ok, Err, MatchOption, refl, sym, subst}
+use Rattle.std.proofs.Common.{◌≡◌, ◌<◌, ◌+◌, ℕ, true, List, length, Option, Some, None, Result, Ok, Err, MatchOption, refl, sym, subst, ap, inr, arith}
+use Rattle.std.proofs.lemmas.List.{length-map}
+use Rattle.std.proofs.lemmas.Bool.{lt-ltb}
+use Rattle.cats_text.specs.Lines.{Line, significant_lines}
+use Rattle.cats_text.specs.Faults.{has_bid_line}
 use Rattle.bid_file.specs.Files.{PlainBid, PlainFile, IsPlainFile}
-use Rattle.bid_file.specs.Views.{plain_file}
 use Rattle.bid_file.specs.declared.bid.BidFile.{BidFile}
 use Rattle.cats_text.specs.Fed.{Fed}
-use Rattle.cats_text.specs.Grammar.{Spells}
+use Rattle.cats_text.specs.Grammar.{Spells, significant_words}
 use Rattle.cats_text.specs.Reading.{PackedAnswer, FinishAnswer, FinishesAs}
 use Rattle.cats_text.specs.Internal.Kept.{whole}
-use Rattle.cats_text.specs.Internal.Reading.{PartsAnswer, PartsAs, PackedAs}
+use Rattle.cats_text.specs.Internal.Reading.{PartsAnswer, PartsAs, PackedAs, Unpacks}
 use Rattle.cats_text.specs.declared.fault.ReadFault.{ReadFault}
 use Rattle.cats_text.specs.declared.parser.Header.{Header}
 
@@ -34,14 +37,47 @@ module _ {K : Type 0} (bids : K → List PlainBid) where
   pub parts_told : (fed : Fed) (parts : Header × K) → PartsAs whole bids fed (Ok parts) → IsPlainFile (file_of parts) × PackedAs fed (Ok (file_of parts))
   parts_told fed parts told = by_failed fed.failed fed.bytes parts told
 
-not_plain : (plain : PlainFile) (e : ReadFault) → Ok plain ≡ Err e → ⊥
-not_plain plain e q = cc
+-- ---- the same file with a vector for each bid
 
-whole_by : (failed : Option ReadFault) (bytes : List ℕ) (file : BidFile) (plain : PlainFile) → plain_file file ≡ plain
-    → MatchOption failed (PackedAnswer bytes (Ok plain)) (λ (e : ReadFault). Ok plain ≡ Err e)
-    → MatchOption failed (FinishAnswer bytes (Ok file)) (λ (e : ReadFault). Ok file ≡ Err e)
-whole_by None bytes file plain is spelled = subst (Spells bytes) (sym is) spelled
-whole_by (Some e) bytes file plain is q = absurd (not_plain plain e q)
+-- a text that spells a file of some bids has a bid line
+has_line : (bytes : List ℕ) (file : PlainFile) → Spells bytes file → 0 < length file.bids → has_bid_line bytes ≡ true
+has_line bytes file spelled some =
+    let lines = ap length spelled.lines_are in
+    let same : length (significant_words bytes) ≡ length (significant_lines bytes) = length-map (significant_lines bytes) (λ (l : Line). l.words) in
+    lt-ltb 3 (length (significant_lines bytes)) (omega (arith, lines, same, spelled.count, some))
 
-pub file_told : (fed : Fed) (file : BidFile) (plain : PlainFile) → plain_file file ≡ plain → PackedAs fed (Ok plain) → FinishesAs fed (Ok file)
-file_told fed file plain is told = whole_by fed.failed fed.bytes file plain is told
+-- what is answered of it
+pub unpacked_told : (bytes : List ℕ) (file : PlainFile) (answer : Result BidFile ReadFault) → Spells bytes file → Unpacks file answer → FinishAnswer bytes answer
+unpacked_told bytes file (Ok f) spelled is = subst (Spells bytes) (sym is) spelled
+unpacked_told bytes file (Err e) spelled refused = inr (refused.0, has_line bytes file spelled refused.1)
+
+no_file : (file : PlainFile) (e : ReadFault) → Ok file ≡ Err e → ⊥
+no_file file e q = cc
+
+by_fed : (failed : Option ReadFault) (bytes : List ℕ) (file : PlainFile) (answer : Result BidFile ReadFault) → Unpacks file answer
+    → MatchOption failed (PackedAnswer bytes (Ok file)) (λ (e : ReadFault). Ok file ≡ Err e)
+    → MatchOption failed (FinishAnswer bytes answer) (λ (e : ReadFault). answer ≡ Err e)
+by_fed None bytes file answer is spelled = unpacked_told bytes file answer spelled is
+by_fed (Some e) bytes file answer is q = absurd (no_file file e q)
+
+pub unpacked_as : (fed : Fed) (file : PlainFile) (answer : Result BidFile ReadFault) → Unpacks file answer → PackedAs fed (Ok file) → FinishesAs fed answer
+unpacked_as fed file answer is told = by_fed fed.failed fed.bytes file answer is told
+
+abbrev no_packed : ReadFault → Result PlainFile ReadFault
+no_packed e = Err e
+
+abbrev no_whole : ReadFault → Result BidFile ReadFault
+no_whole e = Err e
+
+same_fault : (e f : ReadFault) → no_packed e ≡ no_packed f → no_whole e ≡ no_whole f
+same_fault e f q = cc
+
+by_fault : (failed : Option ReadFault) (bytes : List ℕ) (e : ReadFault)
+    → MatchOption failed (PackedAnswer bytes (no_packed e)) (λ (f : ReadFault). no_packed e ≡ no_packed f)
+    → MatchOption failed (FinishAnswer bytes (no_whole e)) (λ (f : ReadFault). no_whole e ≡ no_whole f)
+by_fault None bytes e told = told
+by_fault (Some f) bytes e q = same_fault e f q
+
+-- a fault of the packed file is one of the file
+pub fault_as : (fed : Fed) (e : ReadFault) → PackedAs fed (no_packed e) → FinishesAs fed (no_whole e)
+fault_as fed e told = by_fault fed.failed fed.bytes e told

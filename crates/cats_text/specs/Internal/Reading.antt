@@ -4,6 +4,8 @@ use Rattle.std.specs.Prelude.{MatchOption}
 use Rattle.cats_text.specs.Faults.{first_fault, fault_at}
 use Rattle.cats_text.specs.Grammar.{Spells}
 use Rattle.bid_file.specs.Files.{PlainBid, PlainFile}
+use Rattle.bid_file.specs.Views.{plain_file}
+use Rattle.bid_file.specs.declared.bid.BidFile.{BidFile}
 use Rattle.cats_text.specs.Internal.Kept.{whole}
 use Rattle.cats_text.specs.Views.{HasSizes}
 use Rattle.cats_text.specs.Fed.{Fed}
@@ -32,6 +34,11 @@ pub record IsReading {K : Type 0} (keep : PlainBid → PlainBid) (most count : �
     (failed : Option ReadFault) (bytes : List ℕ) : Type 0 where
   pub limit : most < 2 ^ 63
   pub taken : failed ≡ None → HasTaken keep most count scanner bytes
+
+-- the file with a vector for each bid: memory may be refused if there are bids
+abbrev pub Unpacks : PlainFile → Result BidFile ReadFault → Type 0
+Unpacks file (Ok f) = plain_file f ≡ file
+Unpacks file (Err e) = (e ≡ fault_at 0 NoMemory) × (0 < length file.bids)
 
 abbrev pub PackedAs : Fed → Result PlainFile ReadFault → Type 0
 PackedAs fed r = MatchOption fed.failed (PackedAnswer fed.bytes r) (λ e. r ≡ Err e)

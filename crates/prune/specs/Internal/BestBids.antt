@@ -15,5 +15,5 @@ pub record AreBestBids (bids best : List (Atom (List ℕ))) : Type 0 where
   pub in_order : IsInOrder best
   pub among : All (Contains bids) best
   pub positive : All (λ b. 0 < b.price) best
-  pub covers : All (λ a. 0 < a.price → (b : Atom (List ℕ)) × Contains best b × (b.bundle ≡ a.bundle)
+  pub dominates : All (λ a. 0 < a.price → (b : Atom (List ℕ)) × Contains best b × (b.bundle ≡ a.bundle)
       × (a.price ≤ b.price)) bids

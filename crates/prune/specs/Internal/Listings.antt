@@ -36,17 +36,17 @@ abbrev pub is_inside_at : List (Atom (List ℕ)) → List ℕ → ℕ → Bool
 is_inside_at atoms bundle place = is_inside (atom_at atoms place).bundle bundle
 
 -- whether the atom is inside the bundle and has at least the price
-abbrev pub covers : List ℕ → ℕ → Atom (List ℕ) → Bool
-covers bundle price a = nat_le price a.price && is_inside a.bundle bundle
+abbrev pub dominates : List ℕ → ℕ → Atom (List ℕ) → Bool
+dominates bundle price a = nat_le price a.price && is_inside a.bundle bundle
 
--- none of the atoms is covered by one before it
-abbrev pub AreUncovered : List (Atom (List ℕ)) → Type 0
-AreUncovered atoms = (place : ℕ) → place < length atoms
-    → list_any (covers (atom_at atoms place).bundle (atom_at atoms place).price) (take place atoms) ≡ false
+-- none of the atoms is dominated by one before it
+abbrev pub AreUndominated : List (Atom (List ℕ)) → Type 0
+AreUndominated atoms = (place : ℕ) → place < length atoms
+    → list_any (dominates (atom_at atoms place).bundle (atom_at atoms place).price) (take place atoms) ≡ false
 
 -- whether the atom at the place does
-abbrev pub covers_at : List (Atom (List ℕ)) → List ℕ → ℕ → ℕ → Bool
-covers_at atoms bundle price place = covers bundle price (atom_at atoms place)
+abbrev pub dominates_at : List (Atom (List ℕ)) → List ℕ → ℕ → ℕ → Bool
+dominates_at atoms bundle price place = dominates bundle price (atom_at atoms place)
 
 -- the place is listed at a good of the bundle
 pub record IsListed (lists : List (List Posting)) (bundle : List ℕ) (place : ℕ) : Type 0 where

@@ -24,7 +24,7 @@ use Rattle.prune.specs.SearchSteps.{is_below, atoms_below}
 use Rattle.prune.specs.Lemmas.Lists.{zero_or_more, list_all_fails, Contains-nil, Contains-filter, All-from_Contains}
 use Rattle.prune.specs.InOrder.{IsInOrder}
 use Rattle.prune.specs.Lemmas.InOrder.{same_bundle_same_atom, same_in_order}
-use Rattle.prune.specs.Lemmas.Values.{xor_value-member, xor_value-bound, xor_value-outbid, xor_value-reached, xor_value-filter_on, or_value-outbid}
+use Rattle.prune.specs.Lemmas.Values.{xor_value-member, xor_value-bound, xor_value-dominated, xor_value-reached, xor_value-filter_on, or_value-dominated}
 use Rattle.prune.specs.Lemmas.Values.{or_value-filter_on}
 use Rattle.prune.specs.Lemmas.Points.{points_where-in_order, points_where-are, points_where-has, points_where-same, IsXorPoint-from_test, is_xor_point-true}
 use Rattle.prune.specs.Lemmas.Points.{inside_below, IsOrPoint-from_test, is_or_point-true, no_or_point, xor_points_are, or_points_are}
@@ -250,7 +250,7 @@ pub or_points_keep_values : (goods : ℕ) (atoms : List (Atom (List ℕ))) → A
 or_points_keep_values goods atoms on bundle b =
     let some = all_nonempty goods (or_points goods atoms) (or_points_on_bundles goods atoms on) in
     le_antisymm
-    (or_value-outbid atoms (all_nonempty goods atoms on) (or_points goods atoms) (All-weaker (Contains atoms) (λ a. a.price ≤ or_value atoms a.bundle)
+    (or_value-dominated atoms (all_nonempty goods atoms on) (or_points goods atoms) (All-weaker (Contains atoms) (λ a. a.price ≤ or_value atoms a.bundle)
     (λ a c. or_value-price atoms a c a.bundle (inside_refl a.bundle)) (or_points goods atoms) (or_points_are_atoms goods atoms on)) bundle)
     (or_points_reach goods atoms on some (suc (length bundle)) bundle (omega arith) b)
 
@@ -418,7 +418,7 @@ pub xor_points_keep_values : (goods : ℕ) (atoms : List (Atom (List ℕ))) → 
     → xor_value (xor_points goods atoms) bundle ≡ xor_value atoms bundle
 xor_points_keep_values goods atoms on bundle b =
     le_antisymm
-    (xor_value-outbid atoms (xor_points goods atoms) (All-weaker (Contains atoms) (λ a. a.price ≤ xor_value atoms a.bundle)
+    (xor_value-dominated atoms (xor_points goods atoms) (All-weaker (Contains atoms) (λ a. a.price ≤ xor_value atoms a.bundle)
     (λ a c. xor_value-member atoms a c a.bundle (inside_refl a.bundle)) (xor_points goods atoms) (xor_points_are_atoms goods atoms on)) bundle)
     (xor_points_reach goods atoms (suc (length bundle)) bundle (omega arith) b)
 

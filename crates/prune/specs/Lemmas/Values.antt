@@ -1,4 +1,4 @@
--- Lemmas on values: of lists of which one outbids the other, and of the atoms of a list that matter for a bundle.
+-- Lemmas on values: of lists of which one dominateds the other, and of the atoms of a list that matter for a bundle.
 use Rattle.std.proofs.Common.{◌≡◌, ℕ, ◌<◌, ◌≤◌, max, Bool, true, false, cond, ◌⊎◌, inl, inr, ⊎_elim, List, [], ◌∷◌, length, sym, ◌∙◌, subst, arith, le_trans}
 use Rattle.std.proofs.Common.{le_refl, le_antisymm}
 use Rattle.std.specs.Prelude.{All, Contains}
@@ -33,10 +33,10 @@ xor_value-bound (a ∷ rest) bundle n h =
     xor_value-least a rest bundle n (xor_value-bound rest bundle n (All-tail (λ a. IsInside a.bundle bundle → a.price ≤ n) a rest h))
     (All-head (λ a. IsInside a.bundle bundle → a.price ≤ n) a rest h)
 
--- where each atom is outbid on its own bundle by another list, so is each value
-pub xor_value-outbid : (other atoms : List (Atom (List ℕ))) → All (λ a. a.price ≤ xor_value other a.bundle) atoms → (bundle : List ℕ)
+-- where each atom is dominated on its own bundle by another list, so is each value
+pub xor_value-dominated : (other atoms : List (Atom (List ℕ))) → All (λ a. a.price ≤ xor_value other a.bundle) atoms → (bundle : List ℕ)
     → xor_value atoms bundle ≤ xor_value other bundle
-xor_value-outbid other atoms h bundle =
+xor_value-dominated other atoms h bundle =
     xor_value-bound atoms bundle (xor_value other bundle) (All-from_Contains (λ a. IsInside a.bundle bundle → a.price ≤ xor_value other bundle) atoms
     (λ a c i. le_trans (All-contains (λ a. a.price ≤ xor_value other a.bundle) atoms a h c) (xor_value-grows other a.bundle bundle i)))
 
@@ -85,15 +85,15 @@ xor_value-filter_on p atoms bundle h =
 
 -- ---- OR
 
--- where each atom is outbid on its own bundle by another list, so is each value
-pub or_value-outbid : (other : List (Atom (List ℕ))) → All (λ a. 0 < length a.bundle) other → (atoms : List (Atom (List ℕ)))
+-- where each atom is dominated on its own bundle by another list, so is each value
+pub or_value-dominated : (other : List (Atom (List ℕ))) → All (λ a. 0 < length a.bundle) other → (atoms : List (Atom (List ℕ)))
     → All (λ a. a.price ≤ or_value other a.bundle) atoms → (bundle : List ℕ) → or_value atoms bundle ≤ or_value other bundle
-or_value-outbid other some [] h bundle = omega (arith, or_value-nil bundle)
-or_value-outbid other some (a ∷ rest) h bundle =
+or_value-dominated other some [] h bundle = omega (arith, or_value-nil bundle)
+or_value-dominated other some (a ∷ rest) h bundle =
     let more = All-tail (λ a. a.price ≤ or_value other a.bundle) a rest h in
     let first : a.price ≤ or_value other a.bundle = All-head (λ a. a.price ≤ or_value other a.bundle) a rest h in
-    or_value-least a rest bundle (or_value other bundle) (or_value-outbid other some rest more bundle)
-    (λ i. let left = or_value-outbid other some rest more (without bundle a.bundle) in let both = or_value-split other some a.bundle bundle i in omega arith)
+    or_value-least a rest bundle (or_value other bundle) (or_value-dominated other some rest more bundle)
+    (λ i. let left = or_value-dominated other some rest more (without bundle a.bundle) in let both = or_value-split other some a.bundle bundle i in omega arith)
 
 -- only the atoms inside the bundle matter
 enough_on : (p : Atom (List ℕ) → Bool) (atoms : List (Atom (List ℕ))) (bundle : List ℕ) → All (λ a. IsInside a.bundle bundle → p a ≡ true) atoms

@@ -9,3 +9,7 @@ returns-clause-progress c = refl
 pub returns-clause-counted : goal.returns-clause-counted
 unfolding digits
 returns-clause-counted c = refl
+
+pub returns-clause-terminal : goal.returns-clause-terminal
+unfolding digits
+returns-clause-terminal c = refl

@@ -1,15 +1,12 @@
--- What a reader that was fed the whole text answers.
+-- The packed file that the text spells, with a vector for each bid.
 use Rattle.std.proofs.lemmas.Result.{err_from_is_err_and}
-use Rattle.cats_text.proofs.Feeding.Pieces.{whole_told}
+use Rattle.cats_text.proofs.Feeding.Files.{unpacked_told}
 use Rattle.cats_text.proofs.reader.read.Goals as goal
 
-pub returns-in_err-feed : goal.returns-in_err-feed
-returns-in_err-feed c =
-    let fed = rw c.new-reader.ensures at c.in_err-feed.ensures in
+pub returns-in_err-file : goal.returns-in_err-file
+returns-in_err-file c =
     let told = err_from_is_err_and c.from_residual.result c.from_residual.ensures.1 in
-    rw (told.1, told.2) (whole_told c.args.text.now c.feed.new.self.bytes c.feed.new.self.limit c.in_err-feed.field-0.0 fed.limit fed.bytes fed.answer.0)
+    rw (told.1, told.2) c.in_err-file.ensures
 
 pub returns : goal.returns
-returns c =
-    let fed = rw c.new-reader.ensures at c.in_ok-feed.ensures in
-    rw (fed.answer.1, fed.bytes) at c.finish.ensures
+returns c = unpacked_told c.args.text.now c.in_ok-file.file c.unpacked.result c.in_ok-file.ensures c.unpacked.ensures

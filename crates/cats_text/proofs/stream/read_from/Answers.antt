@@ -1,20 +1,19 @@
--- The file of all bytes that were fed, or the fault that feeding them told.
+-- The packed file that the stream spells, with a vector for each bid.
 use Rattle.std.proofs.lemmas.Result.{err_from_is_err_and}
+use Rattle.cats_text.proofs.Feeding.Files.{unpacked_told}
 use Rattle.cats_text.proofs.Feeding.Streams.{finished_told}
 use Rattle.cats_text.proofs.stream.read_from.Goals as goal
 
-pub feed_from-requires-clause-new : goal.feed_from-requires-clause-new
-feed_from-requires-clause-new g c = c.new-feeder.ensures
-
-pub returns-in_err-feed_from : goal.returns-in_err-feed_from
-returns-in_err-feed_from g c =
+pub returns-in_err-file : goal.returns-in_err-file
+returns-in_err-file g c =
     let told = err_from_is_err_and c.from_residual.result c.from_residual.ensures.1 in
-    (c.feed_from.new.feeder.bytes, c.in_err-feed_from.ensures.bytes, rw (told.1, told.2) c.in_err-feed_from.ensures.answer)
+    rw (told.1, told.2) c.in_err-file.ensures
 
 pub returns : goal.returns
 returns g c =
-    let fed = c.in_ok-feed_from.ensures.answer in (
-      c.feed_from.new.feeder.bytes,
-      c.in_ok-feed_from.ensures.bytes,
-      finished_told g.R.Read.remaining c.feed_from.new.feeder.bytes c.feed_from.new.input c.finish_file.result fed.1 fed.2 (rw fed.0 at c.finish_file.ensures),
+    let came = c.in_ok-file.ensures in (
+      came.0,
+      came.1,
+      finished_told g.R.Read.remaining came.0 c.read_packed_from.new.input c.unpacked.result came.2.works came.2.whole
+          (unpacked_told came.0 c.in_ok-file.file c.unpacked.result came.2.spelled c.unpacked.ensures),
     )

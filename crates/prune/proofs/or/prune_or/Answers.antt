@@ -38,8 +38,8 @@ keep-requires g c =
     c.in_ok-keep_best_bids.ensures.best h.left there c.index-bid.ensures in
     subst (λ (xs : List ℕ). 0 < length xs) (sym c.in_ok-goods.ensures) (turn_nonempty MAX_GOODS _ _ _ _ turn c.requires)
 
-pub is_outbid-requires-clause-some : goal.is_outbid-requires-clause-some
-is_outbid-requires-clause-some g c =
+pub is_dominated-requires-clause-some : goal.is_dominated-requires-clause-some
+is_dominated-requires-clause-some g c =
     let goods = g.S.GoodsSet.goods in
     let h = c.loop-place.invariant in
     rw c.deref-in-loop-place.ensures.value

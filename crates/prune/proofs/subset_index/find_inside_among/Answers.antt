@@ -1,4 +1,4 @@
-use Rattle.std.proofs.Common.{arith, ◌≡◌, ◌++◌, map, get_or, sym, ap, ◌∙◌, true, false, cond, [], ◌∷◌, append-nil}
+use Rattle.std.proofs.Common.{◌≡◌, ◌++◌, map, get_or, sym, ap, ◌∙◌, true, false, cond, [], ◌∷◌, append-nil}
 use Rattle.valuation.specs.Values.{atoms_of}
 use Rattle.prune.specs.declared.posting.Posting.{Posting}
 use Rattle.prune.specs.Internal.Listings.{is_inside_at}

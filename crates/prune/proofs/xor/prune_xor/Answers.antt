@@ -1,18 +1,18 @@
--- A turn of the loop keeps a bid exactly where no kept bid inside its bundle covers it, which is a turn of proofs/Results; and at the
--- end the kept bids are the points. Few bids of which none covers another are the points as they are.
+-- A turn of the loop keeps a bid exactly where no kept bid inside its bundle dominates it, which is a turn of proofs/Results; and at the
+-- end the kept bids are the points. Few bids of which none dominates another are the points as they are.
 use Rattle.std.proofs.Common.{◌<◌, ◌≤◌, cond, [], ◌∷◌, ◌++◌, append-nil, length, refl, sym, ◌∙◌, subst, take, arith}
 use Rattle.bid_file.specs.declared.limits.TheConstants.{MAX_GOODS}
 use Rattle.valuation.specs.Values.{atoms_of, plain_atom}
-use Rattle.prune.specs.Internal.Listings.{AreUncovered, IsIndexOf}
+use Rattle.prune.specs.Internal.Listings.{AreUndominated, IsIndexOf}
 use Rattle.prune.specs.Lemmas.KeptBids.{on_bundles, just_bundles}
 use Rattle.prune.proofs.InFront.{next_left}
-use Rattle.prune.proofs.PruningLoop.{next_turn, one_done, one_kept, xor_end, xor_uncovered, turn_nonempty, covers_is}
+use Rattle.prune.proofs.PruningLoop.{next_turn, one_done, one_kept, xor_end, xor_undominated, turn_nonempty, dominates_is}
 use Rattle.prune.proofs.Results.{turn_positive, turn_behind, xor_reached, xor_missed}
 use Rattle.prune.proofs.xor.prune_xor.Goals as goal
 use Rattle.prune.proofs.xor.prune_xor.Goals.{then-not-branch, else-not-branch}
 
-pub is_covered-requires-clause-some : goal.is_covered-requires-clause-some
-is_covered-requires-clause-some g c =
+pub is_dominated-requires-clause-some : goal.is_dominated-requires-clause-some
+is_dominated-requires-clause-some g c =
     let goods = g.S.GoodsSet.goods in
     let h = c.loop-place.invariant in
     let best = c.keep_best_bids.new.bids in
@@ -22,14 +22,14 @@ is_covered-requires-clause-some g c =
     c.in_ok-keep_best_bids.ensures.best h.left there c.index-bid.ensures in
     turn_nonempty MAX_GOODS _ _ _ _ turn c.requires
 
-pub is_covered-requires-clause-index : goal.is_covered-requires-clause-index
-is_covered-requires-clause-index g c = λ f. rw c.deref-in-loop-place.ensures.value (c.loop-place.invariant.index f)
+pub is_dominated-requires-clause-index : goal.is_dominated-requires-clause-index
+is_dominated-requires-clause-index g c = λ f. rw c.deref-in-loop-place.ensures.value (c.loop-place.invariant.index f)
 
-pub is_covered-requires-clause-in_order : goal.is_covered-requires-clause-in_order
-is_covered-requires-clause-in_order g c = rw c.deref-in-loop-place.ensures.value c.loop-place.invariant.kept.in_order
+pub is_dominated-requires-clause-in_order : goal.is_dominated-requires-clause-in_order
+is_dominated-requires-clause-in_order g c = rw c.deref-in-loop-place.ensures.value c.loop-place.invariant.kept.in_order
 
-pub is_covered-requires-clause-behind : goal.is_covered-requires-clause-behind
-is_covered-requires-clause-behind g c =
+pub is_dominated-requires-clause-behind : goal.is_dominated-requires-clause-behind
+is_dominated-requires-clause-behind g c =
     let goods = g.S.GoodsSet.goods in
     let h = c.loop-place.invariant in
     let best = c.keep_best_bids.new.bids in
@@ -48,15 +48,15 @@ loop-place-preserved g c =
     let place = c.loop-place.place in
     let bid = c.index-bid.result.now in
     let kept = take c.loop-place.kept now.items in
-    let index = c.is_covered.new.index in
+    let index = c.is_dominated.new.index in
     let there : place < length now.items = omega (arith, c.loop-place-test.true, c.len-place-end.ensures, best.ok.0, h.left.long) in
     let turn = next_turn goods (λ s. (g.met.S.GoodsSet.is_bundle s).0) (atoms_of goods c.args.atoms.items) best.items now.items place bid
     c.in_ok-keep_best_bids.ensures.best h.left there c.index-bid.ensures in
     let done = one_done goods best.items now.items place bid h.left there c.index-bid.ensures in
     let same = c.deref-in-loop-place.ensures.value in
-    let answer = rw same at c.in_ok-is_covered.ensures.answer in
-    let asked = answer ∙ covers_is bid.price (goods bid.bundle) (atoms_of goods kept) (turn_positive _ _ _ _ turn) in
-    let indexed = rw same at c.in_ok-is_covered.ensures.index in
+    let answer = rw same at c.in_ok-is_dominated.ensures.answer in
+    let asked = answer ∙ dominates_is bid.price (goods bid.bundle) (atoms_of goods kept) (turn_positive _ _ _ _ turn) in
+    let indexed = rw same at c.in_ok-is_dominated.ensures.index in
     elim c.if-not-branch.branch [
       | then-not-branch w ↦
           let after = w.move_to_front.new.elements in
@@ -82,30 +82,30 @@ loop-place-preserved g c =
           })
     ]
 
-pub returns-then-are_few_and_uncovered-clause-points : goal.returns-then-are_few_and_uncovered-clause-points
-returns-then-are_few_and_uncovered-clause-points g c =
+pub returns-then-are_few_and_undominated-clause-points : goal.returns-then-are_few_and_undominated-clause-points
+returns-then-are_few_and_undominated-clause-points g c =
     let bids = atoms_of g.S.GoodsSet.goods c.args.atoms.items in
-    λ n are. (xor_uncovered g.S.GoodsSet.goods (λ s. (g.met.S.GoodsSet.is_bundle s).0) _ c.keep_best_bids.new.bids.items c.in_ok-keep_best_bids.ensures.best
-    (subst (λ zs. AreUncovered (atoms_of g.S.GoodsSet.goods zs)) c.as_slice.ensures.value
-    (c.are_few_and_uncovered.ensures c.if-are_few_and_uncovered.true))).points n (just_bundles n bids (on_bundles n bids are))
+    λ n are. (xor_undominated g.S.GoodsSet.goods (λ s. (g.met.S.GoodsSet.is_bundle s).0) _ c.keep_best_bids.new.bids.items c.in_ok-keep_best_bids.ensures.best
+    (subst (λ zs. AreUndominated (atoms_of g.S.GoodsSet.goods zs)) c.as_slice.ensures.value
+    (c.are_few_and_undominated.ensures c.if-are_few_and_undominated.true))).points n (just_bundles n bids (on_bundles n bids are))
 
-pub returns-then-are_few_and_uncovered-clause-values : goal.returns-then-are_few_and_uncovered-clause-values
-returns-then-are_few_and_uncovered-clause-values g c =
-    (xor_uncovered g.S.GoodsSet.goods (λ s. (g.met.S.GoodsSet.is_bundle s).0) _ c.keep_best_bids.new.bids.items c.in_ok-keep_best_bids.ensures.best
-    (subst (λ zs. AreUncovered (atoms_of g.S.GoodsSet.goods zs)) c.as_slice.ensures.value
-    (c.are_few_and_uncovered.ensures c.if-are_few_and_uncovered.true))).values
+pub returns-then-are_few_and_undominated-clause-values : goal.returns-then-are_few_and_undominated-clause-values
+returns-then-are_few_and_undominated-clause-values g c =
+    (xor_undominated g.S.GoodsSet.goods (λ s. (g.met.S.GoodsSet.is_bundle s).0) _ c.keep_best_bids.new.bids.items c.in_ok-keep_best_bids.ensures.best
+    (subst (λ zs. AreUndominated (atoms_of g.S.GoodsSet.goods zs)) c.as_slice.ensures.value
+    (c.are_few_and_undominated.ensures c.if-are_few_and_undominated.true))).values
 
-pub returns-then-are_few_and_uncovered-clause-bids : goal.returns-then-are_few_and_uncovered-clause-bids
-returns-then-are_few_and_uncovered-clause-bids g c =
-    (xor_uncovered g.S.GoodsSet.goods (λ s. (g.met.S.GoodsSet.is_bundle s).0) _ c.keep_best_bids.new.bids.items c.in_ok-keep_best_bids.ensures.best
-    (subst (λ zs. AreUncovered (atoms_of g.S.GoodsSet.goods zs)) c.as_slice.ensures.value
-    (c.are_few_and_uncovered.ensures c.if-are_few_and_uncovered.true))).among
+pub returns-then-are_few_and_undominated-clause-bids : goal.returns-then-are_few_and_undominated-clause-bids
+returns-then-are_few_and_undominated-clause-bids g c =
+    (xor_undominated g.S.GoodsSet.goods (λ s. (g.met.S.GoodsSet.is_bundle s).0) _ c.keep_best_bids.new.bids.items c.in_ok-keep_best_bids.ensures.best
+    (subst (λ zs. AreUndominated (atoms_of g.S.GoodsSet.goods zs)) c.as_slice.ensures.value
+    (c.are_few_and_undominated.ensures c.if-are_few_and_undominated.true))).among
 
-pub returns-then-are_few_and_uncovered-clause-in_order : goal.returns-then-are_few_and_uncovered-clause-in_order
-returns-then-are_few_and_uncovered-clause-in_order g c =
-    (xor_uncovered g.S.GoodsSet.goods (λ s. (g.met.S.GoodsSet.is_bundle s).0) _ c.keep_best_bids.new.bids.items c.in_ok-keep_best_bids.ensures.best
-    (subst (λ zs. AreUncovered (atoms_of g.S.GoodsSet.goods zs)) c.as_slice.ensures.value
-    (c.are_few_and_uncovered.ensures c.if-are_few_and_uncovered.true))).in_order
+pub returns-then-are_few_and_undominated-clause-in_order : goal.returns-then-are_few_and_undominated-clause-in_order
+returns-then-are_few_and_undominated-clause-in_order g c =
+    (xor_undominated g.S.GoodsSet.goods (λ s. (g.met.S.GoodsSet.is_bundle s).0) _ c.keep_best_bids.new.bids.items c.in_ok-keep_best_bids.ensures.best
+    (subst (λ zs. AreUndominated (atoms_of g.S.GoodsSet.goods zs)) c.as_slice.ensures.value
+    (c.are_few_and_undominated.ensures c.if-are_few_and_undominated.true))).in_order
 
 pub returns-clause-points : goal.returns-clause-points
 returns-clause-points g c =

@@ -1,4 +1,12 @@
+-- The packed file that the bytes spell, with a vector for each bid.
+use Rattle.std.proofs.lemmas.Result.{err_from_is_err_and}
+use Rattle.cats_text.proofs.Feeding.Files.{unpacked_as, fault_as}
 use Rattle.cats_text.proofs.reader.Reader.finish.Goals as goal
 
+pub returns-in_err-file : goal.returns-in_err-file
+returns-in_err-file c =
+    let told = err_from_is_err_and c.from_residual.result c.from_residual.ensures.1 in
+    rw (← c.self.view_is, told.1, told.2) (fault_as c.self.inside.feeder c.in_err-file.field-0.0 c.in_err-file.ensures)
+
 pub returns : goal.returns
-returns c = rw (← c.self.view_is) c.finish_file.ensures
+returns c = rw (← c.self.view_is) (unpacked_as c.self.inside.feeder c.in_ok-file.file c.unpacked.result c.unpacked.ensures c.in_ok-file.ensures)

@@ -1,13 +1,13 @@
 use Rattle.std.proofs.Common.{sym, ap, ◌∙◌, List}
 use Rattle.std.specs.List.{list_any}
 use Rattle.valuation.specs.Values.{atoms_of}
-use Rattle.prune.specs.Internal.Listings.{lists_of, indices_of, covers_at}
-use Rattle.prune.proofs.ListedAtoms.{next_there, none_there, behind_next, postings_right, NoneCovers-more, NoneCovers-all, one_covers}
+use Rattle.prune.specs.Internal.Listings.{lists_of, indices_of, dominates_at}
+use Rattle.prune.proofs.ListedAtoms.{next_there, none_there, behind_next, postings_right, NoneDominates-more, NoneDominates-all, one_dominates}
 use Rattle.prune.proofs.subset_index.SubsetIndex.has_inside.Goals as goal
 use Rattle.prune.specs.declared.posting.Posting.{Posting}
 
-pub has_covering-requires-clause-listed : goal.has_covering-requires-clause-listed
-has_covering-requires-clause-listed g c = postings_right _ _ _ _ _ c.requires.index.listed c.postings_at.ensures
+pub has_dominating-requires-clause-listed : goal.has_dominating-requires-clause-listed
+has_dominating-requires-clause-listed g c = postings_right _ _ _ _ _ c.requires.index.listed c.postings_at.ensures
 
 pub loop-good-preserved : goal.loop-good-preserved
 loop-good-preserved g c =
@@ -15,20 +15,20 @@ loop-good-preserved g c =
     let goods = c.args.goods.now in
     let i = c.loop-good.good-index in
     let rises = (g.met.S.GoodsSet.is_bundle c.args.bundle.now).0 in
-    let asked = c.has_covering.ensures ∙ ap (λ (ps : List Posting). list_any (covers_at (atoms_of g.S.GoodsSet.goods c.args.kept.now) bundle c.args.price) (indices_of ps))
+    let asked = c.has_dominating.ensures ∙ ap (λ (ps : List Posting). list_any (dominates_at (atoms_of g.S.GoodsSet.goods c.args.kept.now) bundle c.args.price) (indices_of ps))
     c.postings_at.ensures in
-    let next = NoneCovers-more (lists_of c.args.self.now.lists.items) (atoms_of g.S.GoodsSet.goods c.args.kept.now) bundle c.args.price
-    _ _ rises (next_there goods bundle i c.requires.goods rises c.loop-good-test.true) (sym asked ∙ c.if-has_covering.false)
+    let next = NoneDominates-more (lists_of c.args.self.now.lists.items) (atoms_of g.S.GoodsSet.goods c.args.kept.now) bundle c.args.price
+    _ _ rises (next_there goods bundle i c.requires.goods rises c.loop-good-test.true) (sym asked ∙ c.if-has_dominating.false)
     c.loop-good.invariant in
     rw (sym (behind_next goods bundle i c.requires.goods)) next
 
-pub returns-then-has_covering : goal.returns-then-has_covering
-returns-then-has_covering g c =
+pub returns-then-has_dominating : goal.returns-then-has_dominating
+returns-then-has_dominating g c =
     let goods = g.S.GoodsSet.goods in
-    let asked = c.has_covering.ensures ∙ ap (λ (ps : List Posting). list_any (covers_at (atoms_of goods c.args.kept.now) (goods c.args.bundle.now) c.args.price) (indices_of ps))
+    let asked = c.has_dominating.ensures ∙ ap (λ (ps : List Posting). list_any (dominates_at (atoms_of goods c.args.kept.now) (goods c.args.bundle.now) c.args.price) (indices_of ps))
     c.postings_at.ensures in
-    sym (one_covers (lists_of c.args.self.now.lists.items) c.args.self.now.listed (atoms_of goods c.args.kept.now) (goods c.args.bundle.now)
-    c.args.price _ c.requires.index.listed (sym asked ∙ c.if-has_covering.true))
+    sym (one_dominates (lists_of c.args.self.now.lists.items) c.args.self.now.listed (atoms_of goods c.args.kept.now) (goods c.args.bundle.now)
+    c.args.price _ c.requires.index.listed (sym asked ∙ c.if-has_dominating.true))
 
 pub returns : goal.returns
 returns g c =
@@ -36,5 +36,5 @@ returns g c =
     let bundle = goods c.args.bundle.now in
     let none = none_there c.args.goods.now bundle c.loop-good.good-index c.requires.goods (g.met.S.GoodsSet.is_bundle c.args.bundle.now).0
     c.loop-good.auto.good-index-end c.loop-good-test.false in
-    sym (NoneCovers-all (lists_of c.args.self.now.lists.items) c.args.self.now.listed (atoms_of goods c.args.kept.now) bundle
+    sym (NoneDominates-all (lists_of c.args.self.now.lists.items) c.args.self.now.listed (atoms_of goods c.args.kept.now) bundle
     c.args.price _ c.requires.index.listed c.requires.ready none c.loop-good.invariant)

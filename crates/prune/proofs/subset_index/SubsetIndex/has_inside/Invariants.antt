@@ -1,9 +1,9 @@
 use Rattle.valuation.specs.Values.{atoms_of}
 use Rattle.prune.specs.Internal.Listings.{lists_of}
-use Rattle.prune.proofs.ListedAtoms.{NoneCovers, behind_first}
+use Rattle.prune.proofs.ListedAtoms.{NoneDominates, behind_first}
 use Rattle.prune.proofs.subset_index.SubsetIndex.has_inside.Given as goal
 
 abbrev pub invariant-loop-good : goal.invariant-loop-good
 invariant-loop-good g l =
     let goods = g.S.GoodsSet.goods in
-    NoneCovers (lists_of l.self.lists.items) (atoms_of goods l.kept) (goods l.bundle) l.price (behind_first (goods l.bundle) l.good-index)
+    NoneDominates (lists_of l.self.lists.items) (atoms_of goods l.kept) (goods l.bundle) l.price (behind_first (goods l.bundle) l.good-index)

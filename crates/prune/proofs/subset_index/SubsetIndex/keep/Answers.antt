@@ -5,7 +5,7 @@ use Rattle.prune.proofs.ListedAtoms.{AreGoodsOf-push, AreListed-push}
 use Rattle.prune.proofs.subset_index.SubsetIndex.keep.Goals as goal
 
 pub returns : goal.returns
-returns g c = λ kept atom e h. record {
+returns c = λ kept atom e h. record {
   listed = AreListed-push (lists_of c.args.self.now.lists.items) c.args.self.now.listed kept atom h.listed;
   noted = rw c.in_ok-push.ensures.items
       (AreGoodsOf-push c.args.self.now.goods.items kept c.rarest.result atom

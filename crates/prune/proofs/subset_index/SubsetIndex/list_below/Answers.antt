@@ -11,7 +11,7 @@ returns-clause-ready g c =
     let kept = c.args.kept.now in
     let bundle = goods c.args.bundle.now in
     let long = length-atoms_of goods kept in
-    none_inside c.loop-alloc.self.listed (atoms_of goods kept) bundle (all_rising goods (λ s. (g.met.S.GoodsSet.is_bundle s).0) kept)
+    none_inside c.loop-self.self.listed (atoms_of goods kept) bundle (all_rising goods (λ s. (g.met.S.GoodsSet.is_bundle s).0) kept)
     (g.met.S.GoodsSet.is_bundle c.args.bundle.now).0 c.requires.in_order c.requires.behind
-    (λ l. let larger = c.is_next_smaller.ensures.larger c.loop-alloc-test.false (omega (arith, l, long)) in
+    (λ l. let larger = c.is_next_smaller.ensures.larger c.loop-self-test.false (omega (arith, l, long)) in
     omega (arith, larger, c.size-size.ensures))

@@ -4,8 +4,8 @@ use Rattle.valuation.specs.Values.{atoms_of}
 use Rattle.prune.specs.Internal.Listings.{IsIndexOf}
 use Rattle.prune.proofs.subset_index.SubsetIndex.list_below.Given as goal
 
-abbrev pub invariant-loop-alloc : goal.invariant-loop-alloc
-invariant-loop-alloc g l = IsIndexOf (atoms_of g.S.GoodsSet.goods l.kept) l.self
+abbrev pub invariant-loop-self : goal.invariant-loop-self
+invariant-loop-self g l = IsIndexOf (atoms_of g.S.GoodsSet.goods l.kept) l.self
 
-abbrev pub decreases-loop-alloc : goal.decreases-loop-alloc
-decreases-loop-alloc g l = length l.kept - l.self.listed
+abbrev pub decreases-loop-self : goal.decreases-loop-self
+decreases-loop-self g l = length l.kept - l.self.listed

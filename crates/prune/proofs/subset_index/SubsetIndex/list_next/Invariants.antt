@@ -3,12 +3,12 @@ use Rattle.std.proofs.Common.{◌≡◌, ℕ, ◌+◌, ◌-◌, vec_len}
 use Rattle.prune.specs.Internal.Listings.{lists_of, listed_at}
 use Rattle.prune.proofs.subset_index.SubsetIndex.list_next.Given as goal
 
-abbrev pub invariant-loop-alloc : goal.invariant-loop-alloc
-invariant-loop-alloc g l = record {
+abbrev pub invariant-loop-self : goal.invariant-loop-self
+invariant-loop-self g l = record {
   goods : l.self.goods ≡ l.fn.self.goods;
   listed : l.self.listed ≡ l.fn.self.listed;
   lists : (k : ℕ) → listed_at (lists_of l.self.lists.items) k ≡ listed_at (lists_of l.fn.self.lists.items) k;
 }
 
-abbrev pub decreases-loop-alloc : goal.decreases-loop-alloc
-decreases-loop-alloc g l = l.good + 1 - vec_len l.self.lists
+abbrev pub decreases-loop-self : goal.decreases-loop-self
+decreases-loop-self g l = l.good + 1 - vec_len l.self.lists

@@ -1,0 +1,107 @@
+//! The best of a bidder's bids on a bundle, found in a list of all bids in order.
+
+ghost use Rattle.std.specs.Prelude.{◌≡◌, ℕ, ◌<◌, IfOk, length, slice_index_or};
+ghost use Rattle.goods_set.specs.Orders.{bundle_cmp};
+ghost use Rattle.bid_file.specs.Files.{IsPlainFile};
+ghost use Rattle.bid_file.specs.Views.{seen_bid};
+ghost use Rattle.explain.specs.Bids.{IsBestFor, bidder_of};
+ghost use Rattle.explain.specs.Internal.BidOrders.{AreInOrder, AreNumbered, key_cmp, numbered_cmp};
+
+use bid_file::{BidRef, Bids, PackedFile};
+use std::alloc::{AllocError, Global};
+use std::cmp::Ordering;
+
+/// A bid, and its number in the file.
+#[derive(Clone, Copy)]
+struct NumberedBid<'a> {
+    bid: BidRef<'a>,
+    number: u32,
+}
+
+/// The bidder of a bid as a number: 0 is the OR bidder, and the others come behind it in the order of their dummy goods.
+fn bidder_of(dummy: Option<u32>) -> u64
+    ensures { result ≡ bidder_of dummy }
+{
+    match dummy {
+        None => 0,
+        Some(dummy) => u64::from(dummy) + 1,
+    }
+}
+
+/// The order of bundles, of their goods.
+fn order_of_goods(one: &[u16], other: &[u16]) -> Ordering
+    ensures { result ≡ bundle_cmp one.now other.now }
+{
+    one.len().cmp(&other.len()).then_with(|| one.cmp(other))
+}
+
+/// By bidder, and of one bidder by goods.
+fn order_of_keys(one: &BidRef<'_>, other: &BidRef<'_>) -> Ordering
+    ensures { result ≡ key_cmp (seen_bid one.now) (seen_bid other.now) }
+{
+    bidder_of(one.dummy)
+        .cmp(&bidder_of(other.dummy))
+        .then_with(|| order_of_goods(one.goods, other.goods))
+}
+
+/// By bidder and goods, the higher price first, and of equal ones by number.
+fn order_of_bids(one: &NumberedBid<'_>, other: &NumberedBid<'_>) -> Ordering
+    ensures { result ≡ numbered_cmp one.now other.now }
+{
+    order_of_keys(&one.bid, &other.bid)
+        .then(other.bid.price.cmp(&one.bid.price))
+        .then(one.number.cmp(&other.number))
+}
+
+/// The bids of a file with their numbers.
+fn numbered_bids(alloc: Global, file: &PackedFile) -> Result<Vec<NumberedBid<'_>>, AllocError>
+    requires { IsPlainFile file.now }
+    ensures { IfOk result (λ bids. AreNumbered file.now bids.items) }
+{
+    let count = Bids::len(file);
+    let mut bids = Vec::with_capacity(alloc, count)?;
+    for number in 0..count {
+        bids.push(NumberedBid {
+            bid: file.at(number),
+            number: number as u32,
+        })?;
+    }
+    Ok(bids)
+}
+
+/// All bids of a file in order, so that the best of a bidder's bids on a bundle is the first.
+fn bids_in_order(alloc: Global, file: &PackedFile) -> Result<Vec<NumberedBid<'_>>, AllocError>
+    requires { IsPlainFile file.now }
+    ensures { IfOk result (λ bids. AreInOrder file.now bids.items) }
+{
+    let mut bids = numbered_bids(alloc, file)?;
+    bids.sort_unstable_by(|one, other| order_of_bids(one, other));
+    Ok(bids)
+}
+
+/// The number of the best of the bids of this bid's bidder on its goods. All bids are given, in order.
+fn best_alike(file: &PackedFile, bids: &[NumberedBid<'_>], number: usize) -> u32
+    requires order { AreInOrder file.now bids.now }
+    requires within { number < length file.now.bids }
+    ensures { IsBestFor file.now number result }
+{
+    let own = file.at(number);
+    let place = bids.partition_point(|bid| order_of_keys(&bid.bid, &own).is_lt());
+    bids[place].number
+}
+
+/// Of each bid of a file the number of the best of its bidder's bids on its goods, which is its own if it is the best.
+pub fn best_bids(alloc: Global, file: &PackedFile) -> Result<Vec<u32>, AllocError>
+    requires { IsPlainFile file.now }
+    ensures long { IfOk result (λ best. length best.items ≡ length file.now.bids) }
+    ensures each { IfOk result (λ best. (i : ℕ) → i < length file.now.bids
+        → IsBestFor file.now i (slice_index_or best.items i 0)) }
+{
+    let bids = bids_in_order(alloc, file)?;
+    let count = Bids::len(file);
+    let mut best = Vec::with_capacity(alloc, count)?;
+    for number in 0..count {
+        best.push(best_alike(file, &bids, number))?;
+    }
+    Ok(best)
+}
