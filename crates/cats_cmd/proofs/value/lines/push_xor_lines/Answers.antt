@@ -33,7 +33,7 @@ loop-dummy-preserved g c =
     let numbers = list_at c.args.numbers.now file.bids file.dummy d c.index-numbers-dummy.result c.requires.numbers below c.index-numbers-dummy.is in
     let atoms = bidder_at goods c.args.bidders.now file.bids file.dummy d c.index-bidders-dummy.result c.requires.bidders below c.index-bidders-dummy.is in
     line_added file (goods c.args.bundle.now) c.args.text.now.items c.loop-dummy.text.items _ d _ _ _ c.loop-dummy.invariant c.in_ok-push_xor_line.ensures
-    (ap (λ (m : ℕ). m + d) (c.from-goods.ensures ∙ c.goods.ensures)) (ap (atoms_of goods) c.as_slice.ensures.value ∙ atoms) (c.as_slice-bids.ensures.value
+    (ap (λ (m : ℕ). m + d) (c.from-goods.ensures ∙ c.goods.ensures.value)) (ap (atoms_of goods) c.as_slice.ensures.value ∙ atoms) (c.as_slice-bids.ensures.value
     ∙ numbers)
 
 pub returns : goal.returns
