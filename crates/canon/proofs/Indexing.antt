@@ -1,6 +1,6 @@
 -- One more file in an index. Files have one text exactly where they are the same auction, so the first file with a text, which is the
 -- one that the map has for it, is the first of its auction.
-use Rattle.std.proofs.Common.{◌≡◌, ◌⊎◌, ℕ, zero, suc, ◌+◌, ◌<◌, Bool, true, false, cond, unwrap_or, bytes_eq, List, [], ◌∷◌, ◌++◌, length, get_or, All, Option}
+use Rattle.std.proofs.Common.{◌≡◌, ◌⊎◌, ℕ, zero, suc, ◌+◌, ◌<◌, Bool, true, false, cond, unwrap_or, bytes_eq, List, [], ◌∷◌, ◌++◌, length, get_or, map, All, Option}
 use Rattle.std.proofs.Common.{Some, None, slice_get, refl, sym, ap, ◌∙◌, subst, inl, inr, ⊎_elim, arith, length-append, Global}
 use Rattle.std.specs.Prelude.{Vec, Result, Ok, Err, IfOk, IfErr, OnOk, OnErr, IsErrAnd}
 use Rattle.std.specs.Io.KnownBytes.{Consumes}
@@ -16,10 +16,10 @@ use Rattle.cats_text.specs.Streams.{inner_of, ReadsFile, ReadsAs}
 use Rattle.cats_text.specs.declared.stream.Watched.{Watched}
 use Rattle.canon.specs.Answers.{RefusesAs}
 use Rattle.canon.specs.Canonical.{canonical_text}
-use Rattle.canon.specs.FirstPlaces.{AddsStream, IsFirstPlace, first_place}
+use Rattle.canon.specs.FirstPlaces.{AddsStream, AddsText, IsEmptyIndex, IsFirstPlace, IsFirstText, IsIndexOf, LacksText, PlacesText, TextIndex, first_place, text_place}
 use Rattle.canon.specs.Normalising.{IsText, normalised_file}
 use Rattle.canon.specs.declared.fault.CanonFault.{CanonFault}
-use Rattle.canon.specs.Internal.TextPlaces.{place_of, IsFirstText, LacksText, PlacesText, IsIndex}
+use Rattle.canon.specs.Internal.TextPlaces.{place_of}
 use Rattle.canon.proofs.Texts.{same_text, same_from_text}
 use Rattle.cats_text.specs.declared.fault.ReadFault.{ReadFault}
 use Rattle.canon.specs.Refusals.{refusal_of}
@@ -108,47 +108,40 @@ first_of_auction files f place facts each h = record {
 
 -- ---- the index
 
-module _ {S : Type 0} (old new : HashMap (Vec ℕ Global) ℕ S) (count place : ℕ) (files : List PlainFile) (f : PlainFile) where
-  -- the text was put at the place where it had none
-  abbrev pub Puts : List ℕ → Type 0
-  Puts text = (other : List ℕ) → place_of new other ≡ cond (bytes_eq text other) (Some place) (place_of old other)
+-- an index without a text is that of no files
+pub index_of_none : (index : TextIndex) → IsEmptyIndex index → IsIndexOf index []
+index_of_none index h = record {
+  facts = λ k file at. absurd (none-some file at);
+  texts = λ text. subst (λ (o : Option ℕ). PlacesText [] text o) (sym (ap (lookup (bytes_eq text)) h.texts)) (λ k other at is. absurd (none-some other at));
+  count = h.count;
+}
 
-  index_with : IsIndex old count files → IsPlainFile f → place ≡ unwrap_or (place_of old (canonical_text f)) count → Puts (canonical_text f)
-      → IsIndex new (count + 1) (files ++ f ∷ [])
-  index_with h facts answer puts = record {
-    count = let all = length-append files (f ∷ []) in let before = h.count in omega arith;
+module _ (old new : TextIndex) (place : ℕ) (files : List PlainFile) (f : PlainFile) (facts : IsPlainFile f) (h : IsIndexOf old files)
+    (added : AddsText old new (canonical_text f) place) where
+  first : IsFirstText (files ++ f ∷ []) (canonical_text f) place
+  first = first_text files f (text_place old (canonical_text f)) old.count place h.count added.found (h.texts (canonical_text f))
+
+  put : (text : List ℕ) → bytes_eq (canonical_text f) text ≡ true → PlacesText (files ++ f ∷ []) text (text_place new text)
+  put text equal =
+      let at : text_place new text ≡ Some place = added.places text ∙ cond-true (bytes_eq (canonical_text f) text) (Some place) (text_place old text) equal in
+      subst (λ (o : Option ℕ). PlacesText (files ++ f ∷ []) text o) (sym at)
+      (subst (λ (t : List ℕ). IsFirstText (files ++ f ∷ []) t place) ((bytes_decides (canonical_text f) text).0 equal) first)
+
+  kept : (text : List ℕ) → bytes_eq (canonical_text f) text ≡ false → PlacesText (files ++ f ∷ []) text (text_place new text)
+  kept text apart =
+      let at : text_place new text ≡ text_place old text = added.places text ∙ cond-false (bytes_eq (canonical_text f) text) (Some place) (text_place old text) apart in
+      subst (λ (o : Option ℕ). PlacesText (files ++ f ∷ []) text o) (sym at) (stays_placed files f text apart (text_place old text) (h.texts text))
+
+  -- one more file
+  pub index_of_more : IsIndexOf new (files ++ f ∷ [])
+  index_of_more = record {
     facts = all_plain files f facts h.facts;
     texts = λ text. ⊎_elim (put text) (kept text) (cases_Bool (bytes_eq (canonical_text f) text));
+    count = omega (arith, length-append files (f ∷ []), h.count, added.count);
   }
-    where
-      first : IsFirstText (files ++ f ∷ []) (canonical_text f) place
-      first = first_text files f (place_of old (canonical_text f)) count place h.count answer (h.texts (canonical_text f))
 
-      put : (text : List ℕ) → bytes_eq (canonical_text f) text ≡ true → PlacesText (files ++ f ∷ []) text (place_of new text)
-      put text equal =
-          let at : place_of new text ≡ Some place = puts text ∙ cond-true (bytes_eq (canonical_text f) text) (Some place) (place_of old text) equal in
-          subst (λ (o : Option ℕ). PlacesText (files ++ f ∷ []) text o) (sym at)
-          (subst (λ (t : List ℕ). IsFirstText (files ++ f ∷ []) t place) ((bytes_decides (canonical_text f) text).0 equal) first)
-
-      kept : (text : List ℕ) → bytes_eq (canonical_text f) text ≡ false → PlacesText (files ++ f ∷ []) text (place_of new text)
-      kept text apart =
-          let at : place_of new text ≡ place_of old text = puts text ∙ cond-false (bytes_eq (canonical_text f) text) (Some place) (place_of old text) apart in
-          subst (λ (o : Option ℕ). PlacesText (files ++ f ∷ []) text o) (sym at) (stays_placed files f text apart (place_of old text) (h.texts text))
-
-  place_in_index : IsIndex old count files → IsPlainFile f → place ≡ unwrap_or (place_of old (canonical_text f)) count → IsFirstPlace (files ++ f ∷ []) f place
-  place_in_index h facts answer =
-      first_of_auction (files ++ f ∷ []) f place facts (all_plain files f facts h.facts)
-      (first_text files f (place_of old (canonical_text f)) count place h.count answer (h.texts (canonical_text f)))
-
-  -- the same of the text that was made
-  pub index_with_text : (text : List ℕ) → text ≡ canonical_text f → IsIndex old count files → IsPlainFile f → place ≡ unwrap_or (place_of old text) count
-      → Puts text → IsIndex new (count + 1) (files ++ f ∷ [])
-  index_with_text text is h facts answer puts = index_with h facts (subst (λ (t : List ℕ). place ≡ unwrap_or (place_of old t) count) is answer)
-      (subst Puts is puts)
-
-  pub place_of_text : (text : List ℕ) → text ≡ canonical_text f → IsIndex old count files → IsPlainFile f → place ≡ unwrap_or (place_of old text) count
-      → IsFirstPlace (files ++ f ∷ []) f place
-  place_of_text text is h facts answer = place_in_index h facts (subst (λ (t : List ℕ). place ≡ unwrap_or (place_of old t) count) is answer)
+  pub place_of_more : IsFirstPlace (files ++ f ∷ []) f place
+  place_of_more = first_of_auction (files ++ f ∷ []) f place facts (all_plain files f facts h.facts) first
 
 -- ---- the map
 
@@ -163,6 +156,34 @@ other_entries test old new h = h
 
 apart_texts : (one other key : List ℕ) → bytes_eq one other ≡ false → bytes_eq one key ≡ true → bytes_eq other key ≡ false
 apart_texts one other key n y = nat_list_eq_equiv.symm other key ∙ sym (nat_list_eq_equiv.congr one key other y) ∙ n
+
+pub bytes_eq_sym : (one other : List ℕ) → bytes_eq one other ≡ bytes_eq other one
+bytes_eq_sym one other = nat_list_eq_equiv.symm one other
+
+-- the place that is seen of a map
+pub place_seen : (entries : List (Vec ℕ Global × ℕ)) (text : List ℕ)
+    → lookup (bytes_eq text) (map (λ e. (e.0.items, e.1)) entries) ≡ lookup (λ key. bytes_eq text key.items) entries
+place_seen [] text = refl
+place_seen (e ∷ entries) text = ap (λ (o : Option ℕ). cond (bytes_eq text e.0.items) (Some e.1) o) (place_seen entries text)
+
+-- what is seen of a map
+abbrev pub seen_texts : List (Vec ℕ Global × ℕ) → List (List ℕ × ℕ)
+seen_texts entries = map (λ e. (e.0.items, e.1)) entries
+
+-- the text of one more file was put into a map
+pub added_text : (old new : List (Vec ℕ Global × ℕ)) (m k : ℕ) (text canonical : List ℕ) (place : ℕ) → text ≡ canonical
+    → place ≡ unwrap_or (lookup (λ key. bytes_eq text key.items) old) m
+    → ((other : List ℕ) → lookup (λ key. bytes_eq other key.items) new
+    ≡ cond (bytes_eq text other) (Some place) (lookup (λ key. bytes_eq other key.items) old))
+    → k ≡ m + 1 → AddsText (record { texts = seen_texts old; count = m }) (record { texts = seen_texts new; count = k }) canonical place
+added_text old new m k text canonical place is answer placed more =
+    subst (λ (t : List ℕ). AddsText (record { texts = seen_texts old; count = m }) (record { texts = seen_texts new; count = k }) t place) is
+    (record {
+      found = answer ∙ ap (λ (o : Option ℕ). unwrap_or o m) (sym (place_seen old text));
+      places = λ other. place_seen new other ∙ placed other
+          ∙ ap (λ (o : Option ℕ). cond (bytes_eq text other) (Some place) o) (sym (place_seen old other));
+      count = more;
+    })
 
 -- what a map has for a text, after one was put there
 pub updated : {S : Type 0} (old new : HashMap (Vec ℕ Global) ℕ S) (text : List ℕ) (place : ℕ)
@@ -180,29 +201,29 @@ updated old new text place h other =
 
 -- ---- a file that was read first
 
-pub stream_added : {R : Type 0} (remaining : R → Option (List ℕ)) (limit : ℕ) (old new : List PlainFile) (before after : Watched R) (bytes : List ℕ)
+pub stream_added : {R : Type 0} (remaining : R → Option (List ℕ)) (limit : ℕ) (old new : TextIndex) (before after : Watched R) (bytes : List ℕ)
     (file : PlainFile)
     → Consumes (remaining (inner_of before)) (remaining (inner_of after)) bytes → ReadsFile remaining bytes after file
-    → (answer : Result ℕ CanonFault) → IfOk answer (IsFirstPlace new file) → OnOk answer (new ≡ old ++ file ∷ [])
+    → (answer : Result ℕ CanonFault) → IfOk answer (AddsText old new (canonical_text file))
     → OnOk answer (normalised_file limit file ≡ IsText (canonical_text file))
     → IfErr answer (RefusesAs (normalised_file limit file)) → OnErr answer (new ≡ old) → AddsStream remaining limit old new before after answer
-stream_added remaining limit old new before after bytes file consumes reads (Ok place) first added light refused unchanged = record {
+stream_added remaining limit old new before after bytes file consumes reads (Ok place) added light refused unchanged = record {
   bytes = bytes;
   consumes = consumes;
-  adds = record { file = file; reads = reads; light = light; added = added; first = first };
+  adds = record { file = file; reads = reads; light = light; added = added };
 }
-stream_added remaining limit old new before after bytes file consumes reads (Err fault) first added light refused unchanged = record {
+stream_added remaining limit old new before after bytes file consumes reads (Err fault) added light refused unchanged = record {
   bytes = bytes;
   consumes = consumes;
   adds = (unchanged, inr (record { file = file; reads = reads; refused = refused }));
 }
 
 -- nothing is added of a file that was not read
-pub stream_unread : {R : Type 0} (remaining : R → Option (List ℕ)) (limit : ℕ) (files : List PlainFile) (before after : Watched R) (bytes : List ℕ)
+pub stream_unread : {R : Type 0} (remaining : R → Option (List ℕ)) (limit : ℕ) (index : TextIndex) (before after : Watched R) (bytes : List ℕ)
     (why : ReadFault) → Consumes (remaining (inner_of before)) (remaining (inner_of after)) bytes → ReadsAs remaining bytes after (Err why)
-    → (answer : Result ℕ CanonFault) → IsErrAnd answer (λ fault. fault ≡ refusal_of why) → AddsStream remaining limit files files before after answer
-stream_unread remaining limit files before after bytes why consumes reads (Ok place) is = absurd is
-stream_unread remaining limit files before after bytes why consumes reads (Err fault) is = record {
+    → (answer : Result ℕ CanonFault) → IsErrAnd answer (λ fault. fault ≡ refusal_of why) → AddsStream remaining limit index index before after answer
+stream_unread remaining limit index before after bytes why consumes reads (Ok place) is = absurd is
+stream_unread remaining limit index before after bytes why consumes reads (Err fault) is = record {
   bytes = bytes;
   consumes = consumes;
   adds = (refl, inl (record { why = why; reads = reads; is = is }));

@@ -1,8 +1,9 @@
 -- The first file of an auction, among files that were added one by one.
-use Rattle.std.specs.Prelude.{◌≡◌, ◌⊎◌, ℕ, ◌<◌, List, [], ◌∷◌, ◌++◌, position, Option, Some, slice_get, bytes_eq}
+use Rattle.std.specs.Map.{lookup}
+use Rattle.std.specs.Prelude.{◌≡◌, ◌⊎◌, ℕ, ◌+◌, ◌<◌, List, [], length, position, Option, Some, None, slice_get, bytes_eq, cond, unwrap_or}
 use Rattle.std.specs.Prelude.{Result, Ok, Err}
 use Rattle.std.specs.Io.KnownBytes.{Consumes}
-use Rattle.bid_file.specs.Files.{PlainFile}
+use Rattle.bid_file.specs.Files.{PlainFile, IsPlainFile}
 use Rattle.cats_text.specs.Streams.{inner_of, ReadsAs, ReadsFile}
 use Rattle.cats_text.specs.declared.fault.ReadFault.{ReadFault}
 use Rattle.cats_text.specs.declared.stream.Watched.{Watched}
@@ -24,17 +25,59 @@ pub record IsFirstPlace (files : List PlainFile) (given : PlainFile) (place : �
 abbrev pub first_place : List PlainFile → PlainFile → Option ℕ
 first_place files given = position (λ file. bytes_eq (canonical_text file) (canonical_text given)) files
 
+-- ---- an index of texts
+
+-- what an index holds: texts, each with its place, and how many files were added
+pub record TextIndex : Type 0 where
+  pub texts : List (List ℕ × ℕ)
+  pub count : ℕ
+
+-- the place of a text, if the index has it
+abbrev pub text_place : TextIndex → List ℕ → Option ℕ
+text_place index text = lookup (bytes_eq text) index.texts
+
+-- it holds no text, and no file was added
+pub record IsEmptyIndex (index : TextIndex) : Type 0 where
+  pub texts : index.texts ≡ []
+  pub count : index.count ≡ 0
+
+-- one more file has this text and this place: the place of the text, and if it had none, the one behind all files
+pub record AddsText (old new : TextIndex) (text : List ℕ) (place : ℕ) : Type 0 where
+  pub found : place ≡ unwrap_or (text_place old text) old.count
+  pub places : (other : List ℕ) → text_place new other ≡ cond (bytes_eq text other) (Some place) (text_place old other)
+  pub count : new.count ≡ old.count + 1
+
+-- the first of the files with this canonical text is at this place
+pub record IsFirstText (files : List PlainFile) (text : List ℕ) (place : ℕ) : Type 0 where
+  pub file : PlainFile
+  pub there : slice_get files place ≡ Some file
+  pub has : canonical_text file ≡ text
+  pub first : (k : ℕ) (other : PlainFile) → k < place → slice_get files k ≡ Some other → canonical_text other ≡ text → ⊥
+
+-- none of the files has this canonical text
+abbrev pub LacksText : List PlainFile → List ℕ → Type 0
+LacksText files text = (k : ℕ) (other : PlainFile) → slice_get files k ≡ Some other → canonical_text other ≡ text → ⊥
+
+abbrev pub PlacesText : List PlainFile → List ℕ → Option ℕ → Type 0
+PlacesText files text None = LacksText files text
+PlacesText files text (Some place) = IsFirstText files text place
+
+-- it is the index of these files: each text has the place of the first of them with this canonical text
+pub record IsIndexOf (index : TextIndex) (files : List PlainFile) : Type 0 where
+  pub facts : (k : ℕ) (file : PlainFile) → slice_get files k ≡ Some file → IsPlainFile file
+  pub texts : (text : List ℕ) → PlacesText files text (text_place index text)
+  pub count : index.count ≡ length files
+
 -- ---- a file that is read from a stream first
 
 module _ {R : Type 0} (remaining : R → Option (List ℕ)) where
-  -- the bytes spell a file, which is behind the others now, and this is its place
-  pub record AddsFile (limit : ℕ) (old new : List PlainFile) (bytes : List ℕ) (input : Watched R) (place : ℕ) : Type 0
+  -- the bytes spell a file, which is added with its canonical text, and this is its place
+  pub record AddsFile (limit : ℕ) (old new : TextIndex) (bytes : List ℕ) (input : Watched R) (place : ℕ) : Type 0
     where
       pub file : PlainFile
       pub reads : ReadsFile remaining bytes input file
       pub light : normalised_file limit file ≡ IsText (canonical_text file)
-      pub added : new ≡ old ++ file ∷ []
-      pub first : IsFirstPlace new file place
+      pub added : AddsText old new (canonical_text file) place
 
   -- the bytes spell no file, or no more came
   pub record IsUnread (bytes : List ℕ) (input : Watched R) (fault : CanonFault) : Type 0 where
@@ -48,13 +91,13 @@ module _ {R : Type 0} (remaining : R → Option (List ℕ)) where
     pub reads : ReadsFile remaining bytes input file
     pub refused : RefusesAs (normalised_file limit file) fault
 
-  abbrev pub AddsOrRefuses : ℕ → List PlainFile → List PlainFile → List ℕ → Watched R → Result ℕ CanonFault → Type 0
+  abbrev pub AddsOrRefuses : ℕ → TextIndex → TextIndex → List ℕ → Watched R → Result ℕ CanonFault → Type 0
   AddsOrRefuses limit old new bytes input (Ok place) = AddsFile limit old new bytes input place
   AddsOrRefuses limit old new bytes input (Err fault) =
       (new ≡ old) × (IsUnread bytes input fault ⊎ IsUnmade limit bytes input fault)
 
   -- reading a file and adding it
-  pub record AddsStream (limit : ℕ) (old new : List PlainFile) (before after : Watched R)
+  pub record AddsStream (limit : ℕ) (old new : TextIndex) (before after : Watched R)
       (answer : Result ℕ CanonFault) : Type 0 where
     pub bytes : List ℕ
     pub consumes : Consumes (remaining (inner_of before)) (remaining (inner_of after)) bytes

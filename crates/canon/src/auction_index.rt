@@ -1,31 +1,13 @@
 //! Which auctions came among files that are added one by one, and which file of each came first.
 
-ghost use Rattle.std.specs.Prelude.{
-  ◌≡◌,
-  ◌++◌,
-  ℕ,
-  List,
-  [],
-  ◌∷◌,
-  cond,
-  unwrap_or,
-  bytes_eq,
-  Some,
-  IfOk,
-  IfErr,
-  OnOk,
-  OnErr,
-  false,
-};
-ghost use Rattle.bid_file.specs.Files.{PlainFile};
+ghost use Rattle.std.specs.Prelude.{◌≡◌, ℕ, List, cond, unwrap_or, bytes_eq, Some, IfOk, IfErr, OnOk, OnErr, false};
 ghost use Rattle.cats_text.specs.Streams.{has_ended, has_failed};
 ghost use Rattle.canon.specs.Answers.{RefusesAs};
 ghost use Rattle.canon.specs.Canonical.{canonical_text};
-ghost use Rattle.canon.specs.FirstPlaces.{AddsStream, IsFirstPlace};
+ghost use Rattle.canon.specs.FirstPlaces.{AddsStream, AddsText, IsEmptyIndex};
 ghost use Rattle.canon.specs.Normalising.{IsText, normalised_file};
 ghost use Rattle.canon.specs.Internal.TextPlaces.{place_of};
 
-use crate::added_files::AddedFiles;
 use crate::fault::CanonFault;
 use crate::normal::normal_packed_file;
 use bid_file::PackedFile;
@@ -43,30 +25,25 @@ pub struct AuctionIndex {
     places: HashMap<Vec<u8>, usize>,
     /// How many files were added.
     count: usize,
-    added: AddedFiles,
 }
 
 impl Model for AuctionIndex {
-    ghost use Rattle.std.specs.Prelude.{List};
-    ghost use Rattle.bid_file.specs.Files.{PlainFile};
-    ghost use Rattle.canon.specs.Internal.TextPlaces.{IsIndex};
+    ghost use Rattle.std.specs.Prelude.{map};
+    ghost use Rattle.canon.specs.FirstPlaces.{TextIndex};
 
-    ghost Value = { List PlainFile };
+    ghost Value = { TextIndex };
 
-    ghost view = { λ index. index.added.files };
-
-    ghost invariant = { λ index. IsIndex index.places index.count index.added.files };
+    ghost view = { λ index. record { texts = map (λ e. (e.0.items, e.1)) index.places.entries; count = index.count } };
 }
 
 impl AuctionIndex {
     /// An index that no file was added to.
     pub fn new(alloc: Global) -> AuctionIndex
-        ensures { result ≡ [] }
+        ensures { IsEmptyIndex result }
     {
         AuctionIndex {
             places: HashMap::new(alloc),
             count: 0,
-            added: AddedFiles::none(),
         }
     }
 
@@ -75,8 +52,7 @@ impl AuctionIndex {
     ///
     /// An index to which `usize::MAX` files were added takes no more, and tells want of memory.
     pub fn add(&mut self, alloc: Global, file: PackedFile, limit: u64) -> Result<usize, CanonFault>
-        ensures place { IfOk result (IsFirstPlace self.new file) }
-        ensures added { OnOk result (self.new ≡ self.old ++ file ∷ []) }
+        ensures added { IfOk result (AddsText self.old self.new (canonical_text file)) }
         ensures light { OnOk result (normalised_file limit file ≡ IsText (canonical_text file)) }
         ensures refused { IfErr result (RefusesAs (normalised_file limit file)) }
         ensures unchanged { OnErr result (self.new ≡ self.old) }
@@ -84,12 +60,10 @@ impl AuctionIndex {
         let Some(count) = self.count.checked_add(1) else {
             return Err(CanonFault::Memory);
         };
-        let added = AddedFiles::with(&self.added, &file);
         let normal = normal_packed_file(alloc, file, limit)?;
         let text = write(alloc, &normal)?;
         let place = place_text(&mut self.places, text, self.count)?;
         self.count = count;
-        self.added = added;
         Ok(place)
     }
 

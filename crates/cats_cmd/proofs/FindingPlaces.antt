@@ -6,9 +6,10 @@ use Rattle.std.proofs.lemmas.Grind.{flat_map-append}
 use Rattle.std.proofs.lemmas.List.{map-append}
 use Rattle.std.proofs.lemmas.List.Elements.{All-from_recursion}
 use Rattle.std.proofs.lemmas.Option.{slice_get_within}
-use Rattle.bid_file.specs.Files.{PlainFile}
-use Rattle.canon.specs.FirstPlaces.{IsFirstPlace}
-use Rattle.canon.proofs.Indexing.{first_place_stays}
+use Rattle.bid_file.specs.Files.{PlainFile, IsPlainFile}
+use Rattle.canon.specs.Canonical.{canonical_text}
+use Rattle.canon.specs.FirstPlaces.{AddsText, IsEmptyIndex, IsFirstPlace, IsIndexOf, TextIndex}
+use Rattle.canon.proofs.Indexing.{first_place_stays, index_of_none, index_of_more, place_of_more}
 use Rattle.cats_cmd.specs.DuplicateTexts.{found_paths}
 use Rattle.cats_cmd.specs.Duplicates.{files_if_judged, judged_files, paths_if_judged}
 use Rattle.cats_cmd.specs.Internal.Judging.{KeepsGroups}
@@ -22,21 +23,20 @@ zip_push R S [] (b ∷ ys) x y weaker h s = absurd h
 zip_push R S (a ∷ xs) [] x y weaker h s = absurd h
 zip_push R S (a ∷ xs) (b ∷ ys) x y weaker h s = (weaker a b h.0, zip_push R S xs ys x y weaker h.1 s)
 
-pub no_groups : (files : List PlainFile) → files ≡ [] → KeepsGroups files [] []
-no_groups files none = record { index = none; finds = record { judged = refl; places = tt } }
+pub no_groups : (index : TextIndex) → IsEmptyIndex index → KeepsGroups index [] []
+no_groups index none = record { is_index = index_of_none index none; finds = record { judged = refl; places = tt } }
 
 -- one more file that was judged
-pub groups_more : (files more : List PlainFile) (found longer : List (Bor (List ℕ) × ℕ)) (path : Bor (List ℕ)) (file : PlainFile) (place : ℕ)
-    → more ≡ files ++ file ∷ [] → IsFirstPlace more file place → longer ≡ found ++ (path, place) ∷ [] → (js : List (List ℕ × Judgement))
-    → KeepsGroups files (found_paths found) js → KeepsGroups more (found_paths longer) (js ++ (path.now, IsJudged file) ∷ [])
-groups_more files more found longer path file place added first put js h =
+pub groups_more : (old new : TextIndex) (found longer : List (Bor (List ℕ) × ℕ)) (path : Bor (List ℕ)) (file : PlainFile) (place : ℕ)
+    → IsPlainFile file → AddsText old new (canonical_text file) place → longer ≡ found ++ (path, place) ∷ [] → (js : List (List ℕ × Judgement))
+    → KeepsGroups old (found_paths found) js → KeepsGroups new (found_paths longer) (js ++ (path.now, IsJudged file) ∷ [])
+groups_more old new found longer path file place facts added put js h =
     let all : judged_files (js ++ (path.now, IsJudged file) ∷ []) ≡ judged_files js ++ file ∷ [] =
     flat_map-append (λ (j : List ℕ × Judgement). files_if_judged j.1) js ((path.now, IsJudged file) ∷ []) in
     let told : found_paths longer ≡ found_paths found ++ (path.now, place) ∷ [] = ap found_paths put
     ∙ map-append (λ (f : Bor (List ℕ) × ℕ). (f.0.now, f.1)) found ((path, place) ∷ []) in
-    let grown : more ≡ judged_files js ++ file ∷ [] = added ∙ ap (λ (fs : List PlainFile). fs ++ file ∷ []) h.index in
     rw told (record {
-      index = grown ∙ sym all;
+      is_index = subst (λ (fs : List PlainFile). IsIndexOf new fs) (sym all) (index_of_more old new place (judged_files js) file facts h.is_index added);
       finds = record {
         judged = map-append (λ (f : List ℕ × ℕ). f.0) (found_paths found) ((path.now, place) ∷ [])
             ∙ ap (λ (ps : List (List ℕ)). ps ++ path.now ∷ []) h.finds.judged
@@ -45,7 +45,7 @@ groups_more files more found longer path file place added first put js h =
             subst (λ (fs : List PlainFile). AllZip (λ f g. IsFirstPlace fs g f.1) (found_paths found ++ (path.now, place) ∷ []) fs) (sym all)
             (zip_push (λ f g. IsFirstPlace (judged_files js) g f.1) (λ f g. IsFirstPlace (judged_files js ++ file ∷ []) g f.1)
             (found_paths found) (judged_files js) (path.now, place) file (λ f g is. first_place_stays (judged_files js) file g f.1 is) h.finds.places
-            (subst (λ (fs : List PlainFile). IsFirstPlace fs file place) grown first));
+            (place_of_more old new place (judged_files js) file facts h.is_index added));
       };
     })
 

@@ -14,7 +14,7 @@ use Rattle.valuation.specs.Auctions.{or_atoms_of}
 use Rattle.prune.specs.SearchSteps.{first_heavy}
 use Rattle.canon.specs.Answers.{RefusesAs}
 use Rattle.canon.specs.Canonical.{canonical_text}
-use Rattle.canon.specs.FirstPlaces.{AddsStream, IsUnread, IsUnmade}
+use Rattle.canon.specs.FirstPlaces.{AddsStream, IsUnread, IsUnmade, TextIndex}
 use Rattle.canon.specs.Normalising.{IsText, ExceedsSteps as Exceeds, IsNoFile, normalised_file, unless_heavy}
 use Rattle.canon.specs.Refusals.{refusal_by_kind, refusal_of}
 use Rattle.canon.specs.declared.fault.CanonFault.{CanonFault}
@@ -83,9 +83,9 @@ module _ {R : Type 0} (remaining : R → Option (List ℕ)) where
       refused_in_making remaining (normalise_outcome limit) old new u.file (record { bytes = bytes; consumes = consumes; reads = u.reads }) fault
       (made_by_normalising limit u.file fault u.refused)
 
-  pub stream_refused : (limit : ℕ) (files more : List PlainFile) (old new : Watched R) (fault : CanonFault)
-      → AddsStream remaining limit files more old new (Err fault) → IsRefusedFile remaining (normalise_outcome limit) old new fault
-  stream_refused limit files more old new fault added =
+  pub stream_refused : (limit : ℕ) (index more : TextIndex) (old new : Watched R) (fault : CanonFault)
+      → AddsStream remaining limit index more old new (Err fault) → IsRefusedFile remaining (normalise_outcome limit) old new fault
+  stream_refused limit index more old new fault added =
       ⊎_elim
       (λ (u : IsUnread remaining added.bytes new fault). unread limit old new added.bytes added.consumes fault u)
       (λ (u : IsUnmade remaining limit added.bytes new fault). unmade limit old new added.bytes added.consumes fault u)
@@ -116,21 +116,21 @@ module _ {R : Type 0} (remaining : R → Option (List ℕ)) (limit : ℕ) (old n
   refused_stop Memory refused = refl
 
   -- no group has the file
-  refused_groups : (fault : CanonFault) (refused : IsRefusedFile remaining (normalise_outcome limit) old new fault) (files : List PlainFile)
-      (found : List (List ℕ × ℕ)) (path : List ℕ) (js : List (List ℕ × Judgement)) → KeepsGroups files found js
-      → KeepsGroups files found (js ++ (path, refused_judgement fault refused) ∷ [])
-  refused_groups (Read why) refused files found path js h = nothing_more files found js path (IsStopped (Run (Refused Only (Read why)))) refl refl h
-  refused_groups (StepLimit goods) refused files found path js h = nothing_more files found js path (IsHeavy refused.file goods) refl refl h
-  refused_groups Memory refused files found path js h = nothing_more files found js path (IsStopped (Run (Refused Only Memory))) refl refl h
+  refused_groups : (fault : CanonFault) (refused : IsRefusedFile remaining (normalise_outcome limit) old new fault) (index : TextIndex)
+      (found : List (List ℕ × ℕ)) (path : List ℕ) (js : List (List ℕ × Judgement)) → KeepsGroups index found js
+      → KeepsGroups index found (js ++ (path, refused_judgement fault refused) ∷ [])
+  refused_groups (Read why) refused index found path js h = nothing_more index found js path (IsStopped (Run (Refused Only (Read why)))) refl refl h
+  refused_groups (StepLimit goods) refused index found path js h = nothing_more index found js path (IsHeavy refused.file goods) refl refl h
+  refused_groups Memory refused index found path js h = nothing_more index found js path (IsStopped (Run (Refused Only Memory))) refl refl h
 
   -- the file was added to the groups
-  pub groups_judged : {C : Type 0} (Has : C → List (List ℕ × Judgement) → Type 0) (before after : C) (files more : List PlainFile)
+  pub groups_judged : {C : Type 0} (Has : C → List (List ℕ × Judgement) → Type 0) (before after : C) (index more : TextIndex)
       (found longer : List (Bor (List ℕ) × ℕ)) (path : Bor (List ℕ)) (place : ℕ)
-      → ((js : List (List ℕ × Judgement)) → Has before js → KeepsGroups files (found_paths found) js)
+      → ((js : List (List ℕ × Judgement)) → Has before js → KeepsGroups index (found_paths found) js)
       → ((js : List (List ℕ × Judgement)) → KeepsGroups more (found_paths longer) js → Has after js)
-      → AddsStream remaining limit files more old new (Ok place) → longer ≡ found ++ (path, place) ∷ []
+      → AddsStream remaining limit index more old new (Ok place) → longer ≡ found ++ (path, place) ∷ []
       → AddsOpened Has remaining limit path.now before after old new None
-  groups_judged Has before after files more found longer path place has has_after added put =
+  groups_judged Has before after index more found longer path place has has_after added put =
       let a = added.adds in
       record {
         judgement = IsJudged a.file;
@@ -138,24 +138,24 @@ module _ {R : Type 0} (remaining : R → Option (List ℕ)) (limit : ℕ) (old n
           reads = record { bytes = added.bytes; consumes = added.consumes; reads = a.reads };
           light = light_text a.file (first_heavy a.file.goods limit (or_atoms_of a.file.bids)) (canonical_text a.file) a.light;
         };
-        adds = λ js h. has_after (js ++ (path.now, IsJudged a.file) ∷ []) (groups_more files more found longer path a.file place a.added a.first put js (has js h));
+        adds = λ js h. has_after (js ++ (path.now, IsJudged a.file) ∷ []) (groups_more index more found longer path a.file place a.reads.spelled.facts a.added put js (has js h));
         is_stop = refl;
       }
 
-  pub groups_refused : {C : Type 0} (Has : C → List (List ℕ × Judgement) → Type 0) (before after : C) (files more : List PlainFile)
+  pub groups_refused : {C : Type 0} (Has : C → List (List ℕ × Judgement) → Type 0) (before after : C) (index more : TextIndex)
       (found : List (List ℕ × ℕ)) (path : List ℕ) (fault : CanonFault)
-      → ((js : List (List ℕ × Judgement)) → Has before js → KeepsGroups files found js)
+      → ((js : List (List ℕ × Judgement)) → Has before js → KeepsGroups index found js)
       → ((js : List (List ℕ × Judgement)) → KeepsGroups more found js → Has after js)
-      → AddsStream remaining limit files more old new (Err fault)
+      → AddsStream remaining limit index more old new (Err fault)
       → AddsOpened Has remaining limit path before after old new (Some (Run (Refused Only fault)))
-  groups_refused Has before after files more found path fault has has_after added =
-      let refused = stream_refused remaining limit files more old new fault added in
+  groups_refused Has before after index more found path fault has has_after added =
+      let refused = stream_refused remaining limit index more old new fault added in
       record {
         judgement = refused_judgement fault refused;
         judges = refused_judges fault refused;
         adds = λ js h. has_after (js ++ (path, refused_judgement fault refused) ∷ [])
-            (subst (λ (fs : List PlainFile). KeepsGroups fs found (js ++ (path, refused_judgement fault refused) ∷ [])) (sym added.adds.0)
-            (refused_groups fault refused files found path js (has js h)));
+            (subst (λ (i : TextIndex). KeepsGroups i found (js ++ (path, refused_judgement fault refused) ∷ [])) (sym added.adds.0)
+            (refused_groups fault refused index found path js (has js h)));
         is_stop = refused_stop fault refused;
       }
 

@@ -3,34 +3,18 @@
 ghost use Rattle.std.specs.Prelude.{◌≡◌, false};
 ghost use Rattle.cats_text.specs.Layout.{layout};
 ghost use Rattle.cats_text.specs.Streams.{has_ended, has_failed};
-ghost use Rattle.canon.specs.Answers.{plain_answer};
 ghost use Rattle.canon.specs.declared.which.Which.TheVariants.{Only};
 ghost use Rattle.cats_cmd.specs.Inputs.{ReadsInput};
 ghost use Rattle.cats_cmd.specs.Runs.{SendsAs, SendsMadeAs};
 
 use crate::report::{DONE, RunFault};
-use bid_file::{BidFile, PackedFile};
+use bid_file::PackedFile;
 use canon::CanonFault;
-use cats_text::{Watched, read_from, read_packed_from, send, send_file};
+use cats_text::{Watched, read_packed_from, send, send_file};
 use std::alloc::Global;
 use std::io::{Read, Write};
 
 /// Reads a bid file. What a reader is refused in memory is the run's want of memory.
-pub(crate) fn read_file<R: Read>(
-    alloc: Global,
-    input: &mut Watched<R>,
-) -> Result<BidFile, CanonFault>
-    requires works { has_failed input.old ≡ false }
-    requires fresh { has_ended input.old ≡ false }
-    ensures { ReadsInput R.remaining input.old input.new (plain_answer result) }
-{
-    match read_from(alloc, input) {
-        Ok(file) => Ok(file),
-        Err(fault) => Err(CanonFault::from(fault)),
-    }
-}
-
-/// Reads a bid file in little memory, as `read_file`.
 pub(crate) fn read_packed_file<R: Read>(
     alloc: Global,
     input: &mut Watched<R>,

@@ -6,7 +6,7 @@ mod numbers;
 
 ghost use Rattle.std.specs.Prelude.{◌≡◌, ◌≤◌, None, false};
 ghost use Rattle.cats_text.specs.Streams.{has_ended, has_failed};
-ghost use Rattle.bid_file.specs.Views.{plain_file};
+ghost use Rattle.bid_file.specs.Files.{IsPlainFile};
 ghost use Rattle.valuation.specs.Views.{plain_auction};
 ghost use Rattle.cats_cmd.specs.Outcomes.{missing_good, value_outcome, values_within};
 ghost use Rattle.cats_cmd.specs.Runs.{MakesAs, RunsOnFile};
@@ -14,8 +14,8 @@ ghost use Rattle.cats_cmd.specs.Internal.Searches.{SearchesAs};
 ghost use Rattle.cats_cmd.specs.ValueTexts.{bundle_from};
 
 use crate::report::{DONE, RunFault};
-use crate::run::{read_file, send_text};
-use bid_file::BidFile;
+use crate::run::{read_packed_file, send_text};
+use bid_file::PackedFile;
 use bundles::bundle_of;
 use canon::CanonFault;
 use cats_text::Watched;
@@ -44,7 +44,7 @@ pub fn run_value<R: Read, W: Write>(
     ensures { RunsOnFile R.remaining W.contents (value_outcome goods.now limit) input.old input.new out.old out.new
         result }
 {
-    let file = read_file(alloc, input)?;
+    let file = read_packed_file(alloc, input)?;
     if let Some(good) = first_missing(goods, file.goods()) {
         return Err(RunFault::GoodRange(good));
     }
@@ -62,12 +62,13 @@ fn first_missing(goods: &[u16], count: u16) -> Option<u16>
 /// The values of the bundle of these goods, as they are printed, by the kind of sets that suits the file's bids.
 fn text_on_sets(
     alloc: Global,
-    file: &BidFile,
+    file: &PackedFile,
     goods: &[u16],
     limit: u64,
 ) -> Result<Vec<u8>, CanonFault>
-    requires { missing_good (plain_file file.now).goods goods.now ≡ None }
-    ensures { MakesAs (values_within limit (bundle_from goods.now) (plain_file file.now)) result }
+    requires facts { IsPlainFile file.now }
+    requires there { missing_good file.now.goods goods.now ≡ None }
+    ensures { MakesAs (values_within limit (bundle_from goods.now) file.now) result }
 {
     on_set_for!(file, text_of_values(alloc, file, goods, limit))
 }
@@ -75,13 +76,14 @@ fn text_on_sets(
 /// The values of the bundle of these goods, as they are printed.
 fn text_of_values<S: GoodsSet>(
     alloc: Global,
-    file: &BidFile,
+    file: &PackedFile,
     goods: &[u16],
     limit: u64,
 ) -> Result<Vec<u8>, CanonFault>
-    requires cap { (plain_file file.now).goods ≤ S.CAP }
-    requires there { missing_good (plain_file file.now).goods goods.now ≡ None }
-    ensures { MakesAs (values_within limit (bundle_from goods.now) (plain_file file.now)) result }
+    requires facts { IsPlainFile file.now }
+    requires cap { file.now.goods ≤ S.CAP }
+    requires there { missing_good file.now.goods goods.now ≡ None }
+    ensures { MakesAs (values_within limit (bundle_from goods.now) file.now) result }
 {
     let bundle: S = bundle_of(alloc, goods)?;
     let auction = auction_of(alloc, file)?;

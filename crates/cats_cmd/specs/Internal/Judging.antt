@@ -1,8 +1,8 @@
 -- What judging the file at one path does, among files that are judged one after the other, and what is kept of them.
 use Rattle.std.specs.Prelude.{◌≡◌, ℕ, List, [], ◌∷◌, ◌++◌, length, Option, Result, Ok, Err}
 use Rattle.std.specs.declared.alloc.AllocError.{AllocError}
-use Rattle.bid_file.specs.Files.{PlainFile}
 use Rattle.cats_text.specs.declared.stream.Watched.{Watched}
+use Rattle.canon.specs.FirstPlaces.{IsIndexOf, TextIndex}
 use Rattle.cats_cmd.specs.Duplicates.{FindsPlaces, judged_files}
 use Rattle.cats_cmd.specs.Paths.{BeginsPaths, Judgement, Judges, JudgesPaths, JudgesStream, greatest_status, lines_of_path}
 use Rattle.cats_cmd.specs.Paths.{status_of_judgement, stop_of}
@@ -12,9 +12,9 @@ use Rattle.cats_cmd.specs.declared.program.Stop.{Stop}
 use Rattle.cats_cmd.specs.declared.source.Unopened.{Unopened}
 
 -- what `cats duplicates` keeps: an index of the files that were judged, and what was found of them
-pub record KeepsGroups (files : List PlainFile) (found : List (List ℕ × ℕ)) (judgements : List (List ℕ × Judgement))
+pub record KeepsGroups (index : TextIndex) (found : List (List ℕ × ℕ)) (judgements : List (List ℕ × Judgement))
     : Type 0 where
-  pub index : files ≡ judged_files judgements
+  pub is_index : IsIndexOf index (judged_files judgements)
   pub finds : FindsPlaces judgements found
 
 -- What is kept, in the words of the collection that keeps it: `Has` says of which files' judgements it is.

@@ -3,13 +3,12 @@
 ghost use Rattle.std.specs.Prelude.{◌≡◌, ◌<◌, ◌++◌, ◌∷◌, All, IfSome, OnOk, codes, length, map};
 ghost use Rattle.std.specs.List.{flat_map, range_with_len};
 ghost use Rattle.cats_text.specs.Layout.{price_text};
-ghost use Rattle.bid_file.specs.Views.{plain_file};
 ghost use Rattle.valuation.specs.Auctions.{xor_atoms_of};
 ghost use Rattle.valuation.specs.Bidders.{bidders_of};
 ghost use Rattle.valuation.specs.Values.{atoms_of};
 ghost use Rattle.cats_cmd.specs.ValueTexts.{dummy_line, lists_of, numbers_text, option_places, xor_line, xor_numbers};
 
-use bid_file::BidFile;
+use bid_file::PackedFile;
 use cats_text::push_price;
 use goods_set::GoodsSet;
 use itoa::{Buffer, Integer};
@@ -36,18 +35,18 @@ pub(super) fn push_or_line(
 /// Appends the lines of the XOR bidders.
 pub(super) fn push_xor_lines<S: GoodsSet>(
     text: &mut Vec<u8>,
-    file: &BidFile,
+    file: &PackedFile,
     bidders: &[Vec<Atom<S>>],
     numbers: &[Vec<usize>],
     bundle: &S,
 ) -> Result<(), AllocError>
-    requires bidders { bidders_of S.goods bidders.now ≡ map (xor_atoms_of (plain_file file.now).bids)
-        (range_with_len 0 (plain_file file.now).dummy) }
-    requires numbers { lists_of numbers.now ≡ map (xor_numbers (plain_file file.now).bids)
-        (range_with_len 0 (plain_file file.now).dummy) }
+    requires bidders { bidders_of S.goods bidders.now ≡ map (xor_atoms_of file.now.bids)
+        (range_with_len 0 file.now.dummy) }
+    requires numbers { lists_of numbers.now ≡ map (xor_numbers file.now.bids)
+        (range_with_len 0 file.now.dummy) }
     ensures { OnOk result (text.new.items ≡ text.old.items
-        ++ flat_map (dummy_line (plain_file file.now) (S.goods bundle.now))
-        (range_with_len 0 (plain_file file.now).dummy)) }
+        ++ flat_map (dummy_line file.now (S.goods bundle.now))
+        (range_with_len 0 file.now.dummy)) }
 {
     let goods = u64::from(file.goods());
     for (dummy, atoms) in bidders.iter().enumerate() {

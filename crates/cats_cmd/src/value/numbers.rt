@@ -2,10 +2,10 @@
 
 ghost use Rattle.std.specs.Prelude.{◌≡◌, [], IfOk, map, replicate};
 ghost use Rattle.std.specs.List.{range_with_len};
-ghost use Rattle.bid_file.specs.Views.{plain_file};
+ghost use Rattle.bid_file.specs.Files.{IsPlainFile};
 ghost use Rattle.cats_cmd.specs.ValueTexts.{lists_of, or_numbers, xor_numbers};
 
-use bid_file::BidFile;
+use bid_file::{Bids, PackedFile};
 use std::alloc::{AllocError, Global};
 
 /// The numbers of the bids of the OR bidder, and of each XOR bidder: each list is in the order of the bidder's atoms.
@@ -16,16 +16,16 @@ pub(super) struct BidNumbers {
 }
 
 /// The numbers of a file's bids, by bidder.
-pub(super) fn bid_numbers(alloc: Global, file: &BidFile) -> Result<BidNumbers, AllocError>
-    ensures or { IfOk result (λ numbers. numbers.or_bids.items ≡ or_numbers (plain_file file.now).bids) }
-    ensures xor { IfOk result (λ numbers. lists_of numbers.xor_bids.items ≡ map (xor_numbers (plain_file file.now).bids)
-        (range_with_len 0 (plain_file file.now).dummy)) }
+pub(super) fn bid_numbers(alloc: Global, file: &PackedFile) -> Result<BidNumbers, AllocError>
+    requires { IsPlainFile file.now }
+    ensures or { IfOk result (λ numbers. numbers.or_bids.items ≡ or_numbers file.now.bids) }
+    ensures xor { IfOk result (λ numbers. lists_of numbers.xor_bids.items ≡ map (xor_numbers file.now.bids)
+        (range_with_len 0 file.now.dummy)) }
 {
-    let bids = file.bids();
     let mut or_bids = Vec::new(alloc);
     let mut xor_bids = empty_lists(alloc, file.dummy())?;
-    for (number, bid) in bids.iter().enumerate() {
-        match bid.dummy {
+    for number in 0..file.len() {
+        match file.at(number).dummy {
             None => or_bids.push(number)?,
             Some(dummy) => {
                 let bidder = &mut xor_bids[dummy as usize];

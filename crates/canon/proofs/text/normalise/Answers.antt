@@ -10,7 +10,7 @@ made : (c : goal.After-drop-normal-inside-3) → Normalises c.args.limit c.args.
 made c = record {
   file = c.in_ok-file.file;
   spelled = c.in_ok-file.ensures;
-  is = text_of_normal c.args.limit c.in_ok-file.file c.in_ok-normal.normal c.in_ok-file.ensures.facts c.in_ok-normal.ensures.answer _ c.in_ok-write.ensures.layout;
+  is = text_of_normal c.args.limit c.in_ok-file.file c.in_ok-normal.normal c.in_ok-normal.ensures.answer _ c.in_ok-write.ensures.layout;
 }
 
 pub returns-clause-answer : goal.returns-clause-answer

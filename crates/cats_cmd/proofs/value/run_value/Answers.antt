@@ -1,6 +1,5 @@
 use Rattle.std.proofs.Common.{rules, ◌≡◌, ℕ, List, Option, None, Err, sym, ap, ◌∙◌, subst}
 use Rattle.bid_file.specs.Files.{PlainFile}
-use Rattle.bid_file.specs.Views.{plain_file}
 use Rattle.cats_cmd.specs.Outcomes.{Outcome, Tells, missing_good, outcome_unless, value_outcome, values_within}
 use Rattle.cats_cmd.specs.Runs.{MakesAs}
 use Rattle.cats_cmd.specs.ValueTexts.{bundle_from}
@@ -17,7 +16,7 @@ returns-in_err-file g c = run_unread _ _ (value_outcome c.args.goods.now c.args.
 
 pub returns-in_err-text : goal.returns-in_err-text
 returns-in_err-text g c =
-    let file = plain_file c.in_ok-file.file in
+    let file : PlainFile = c.in_ok-file.file in
     let none : missing_good file.goods c.args.goods.now ≡ None = search rules in
     let fault = c.in_err-text.field-0.0 in
     let made : MakesAs (values_within c.args.limit (bundle_from c.args.goods.now) file) (Err fault) = c.in_err-text.ensures in
@@ -26,7 +25,7 @@ returns-in_err-text g c =
 
 pub returns : goal.returns
 returns g c =
-    let file = plain_file c.in_ok-file.file in
+    let file : PlainFile = c.in_ok-file.file in
     let none : missing_good file.goods c.args.goods.now ≡ None = search rules in
     run_told _ _ (value_outcome c.args.goods.now c.args.limit) _ _ _ _ _ c.in_ok-file.ensures 0 _
     (with_all_goods c.args.goods.now c.args.limit file none ∙ c.in_ok-text.ensures ∙ ap (λ text. Tells 0 text) (sym c.as_slice.ensures.value)) _

@@ -1,6 +1,5 @@
 use Rattle.std.proofs.Common.{arith, ◌<◌, ap, ◌∙◌}
 use Rattle.std.proofs.lemmas.List.Elements.{All-weaker}
-use Rattle.bid_file.specs.Views.{plain_file}
 use Rattle.valuation.specs.Auctions.{PlainAuction}
 use Rattle.cats_cmd.proofs.Bundling.{below_none_missing}
 use Rattle.cats_cmd.proofs.Printing.{places_within}
@@ -14,5 +13,5 @@ bundle_of-requires g c =
 
 pub push_or_line-requires : goal.push_or_line-requires
 push_or_line-requires g c =
-    places_within _ (plain_file c.args.file.now).bids _ _ _ c.in_ok-packing.ensures.members (ap (λ (a : PlainAuction). a.or_atoms) c.in_ok-auction.ensures)
+    places_within _ c.args.file.now.bids _ _ _ c.in_ok-packing.ensures.members (ap (λ (a : PlainAuction). a.or_atoms) c.in_ok-auction.ensures)
     (c.as_slice.ensures.value ∙ c.in_ok-numbers.ensures.or)

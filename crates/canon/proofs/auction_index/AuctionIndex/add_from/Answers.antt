@@ -12,5 +12,5 @@ returns g c =
     let read = c.in_ok-file.ensures in
     let added = c.add.ensures in
     stream_added g.R.Read.remaining c.args.limit c.args.self.now c.add.new.self c.args.input.now c.read_packed_from.new.input read.0 c.in_ok-file.file
-    read.1 read.2 c.add.result added.place added.added added.light
+    read.1 read.2 c.add.result added.added added.light
     added.refused added.unchanged

@@ -1,5 +1,5 @@
 use Rattle.canon.proofs.Differences.{differences_swap}
-use Rattle.canon.proofs.difference_laws.differences_exchanged.Goals as goal
+use Rattle.canon.proofs.laws.differences_exchanged.Goals as goal
 
 pub returns : goal.returns
 returns c = differences_swap

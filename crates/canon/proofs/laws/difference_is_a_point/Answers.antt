@@ -1,7 +1,7 @@
 use Rattle.std.proofs.Common.{sym, ◌∙◌}
 use Rattle.canon.proofs.Differences.{unequal_bundle_is, unequal_bundle_swap, greater_has_point}
 use Rattle.canon.proofs.Sames.{HasAtoms-auction}
-use Rattle.canon.proofs.difference_laws.difference_is_a_point.Goals as goal
+use Rattle.canon.proofs.laws.difference_is_a_point.Goals as goal
 
 pub returns : goal.returns
 returns c = record {

@@ -1,6 +1,6 @@
 use Rattle.canon.proofs.Differences.{unequal_bidder_is, numbers_by_table}
 use Rattle.canon.proofs.Sames.{HasAtoms-auction}
-use Rattle.canon.proofs.difference_laws.difference_is_the_least_bidder.Goals as goal
+use Rattle.canon.proofs.laws.difference_is_the_least_bidder.Goals as goal
 
 pub returns : goal.returns
 returns c = record {

@@ -1,6 +1,6 @@
 use Rattle.canon.proofs.Sames.{HasAtoms-auction}
 use Rattle.canon.proofs.SameDifferences.{difference_same, difference_of_same_files}
-use Rattle.canon.proofs.difference_laws.same_auctions_have_one_difference.Goals as goal
+use Rattle.canon.proofs.laws.same_auctions_have_one_difference.Goals as goal
 
 pub returns : goal.returns
 returns c = record {

@@ -1,5 +1,5 @@
 use Rattle.canon.proofs.Indexing.{first_place_is}
-use Rattle.canon.proofs.place_laws.first_place_by_text.Goals as goal
+use Rattle.canon.proofs.laws.first_place_by_text.Goals as goal
 
 pub returns : goal.returns
 returns c files given place each facts e = first_place_is files given place each facts e

@@ -2,7 +2,7 @@ use Rattle.std.proofs.Common.{refl}
 use Rattle.std.specs.Fmt.{digits}
 use Rattle.prune.specs.Points.{points_where, is_xor_point, is_or_point}
 use Rattle.valuation.specs.Values.{xor_value, or_value}
-use Rattle.canon.proofs.worked_places.first_places.Goals as goal
+use Rattle.canon.proofs.worked.first_places.Goals as goal
 
 pub returns : goal.returns
 unfolding digits points_where is_xor_point is_or_point xor_value or_value

@@ -1,0 +1,18 @@
+use Rattle.std.proofs.Common.{◌≡◌, ◌∷◌, [], ℕ, List, Bool, true, false, cond, bytes_eq, Option, Some, None, refl, sym, ap, arith}
+use Rattle.std.specs.Prelude.{codes}
+use Rattle.canon.proofs.Indexing.{index_of_none, bytes_eq_sym}
+use Rattle.canon.proofs.worked.added_texts.Goals as goal
+
+pub returns : goal.returns
+returns c = record {
+  new = record {
+    found = refl;
+    places = λ other. ap (λ b. cond {A = Option ℕ} b (Some 2) None) (bytes_eq_sym other (codes "a"));
+    count = refl;
+  };
+  known = λ h. let e : 2 ≡ 0 = h.found in absurd (omega arith);
+  counted = λ h. let e : 2 ≡ 3 = h.count in absurd (omega arith);
+  none = record { texts = refl; count = refl };
+  of_none = index_of_none (record { texts = []; count = 0 }) (record { texts = refl; count = refl });
+  one_less = λ h. let e : 0 ≡ 1 = h.count in absurd (omega arith);
+}
