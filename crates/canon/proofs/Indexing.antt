@@ -4,12 +4,15 @@ use Rattle.std.proofs.Common.{◌≡◌, ◌⊎◌, ℕ, zero, suc, ◌+◌, ◌
 use Rattle.std.proofs.Common.{Some, None, slice_get, refl, sym, ap, ◌∙◌, subst, inl, inr, ⊎_elim, arith, length-append, Global}
 use Rattle.std.specs.Prelude.{Vec, Result, Ok, Err, IfOk, IfErr, OnOk, OnErr, IsErrAnd}
 use Rattle.std.specs.Io.KnownBytes.{Consumes}
-use Rattle.std.specs.Cmp.Lexicographic.{bytes_decides}
-use Rattle.std.specs.HashMap.{HashMap, UpdatesBy}
+use Rattle.std.specs.BTreeMap.{BTreeMap, UpdatesBy}
+use Rattle.std.specs.Cmp.Lexicographic.{bytes_decides, slice_cmp}
+use Rattle.std.specs.Ordering.{is_eq, nat_cmp}
+use Rattle.std.specs.declared.cmp.Ordering.{Ordering}
 use Rattle.std.specs.Map.{IsKeyTest, AreApart, KeepsOthers, lookup}
 use Rattle.std.proofs.lemmas.Bool.{cases_Bool, cond-true, cond-false}
 use Rattle.std.proofs.lemmas.Cmp.{nat_list_eq_equiv}
 use Rattle.std.proofs.lemmas.List.Quantifiers.{position-Some}
+use Rattle.std.proofs.lemmas.Map.Text.{is_eq-slice_cmp}
 use Rattle.std.proofs.lemmas.Option.{none-some, same_Some, slice_get_within, slice_get-get_or, get_or_from_slice_get}
 use Rattle.bid_file.specs.Files.{PlainFile, IsPlainFile}
 use Rattle.cats_text.specs.Streams.{inner_of, ReadsFile, ReadsAs}
@@ -145,8 +148,15 @@ module _ (old new : TextIndex) (place : ℕ) (files : List PlainFile) (f : Plain
 
 -- ---- the map
 
+-- whether two texts are equal, by their order
+abbrev same_order : List ℕ → List ℕ → Bool
+same_order one other = is_eq (slice_cmp nat_cmp one other)
+
+abbrev key_cmp : Vec ℕ Global → Vec ℕ Global → Ordering
+key_cmp one other = slice_cmp nat_cmp one.items other.items
+
 abbrev key_eq : Vec ℕ Global → Vec ℕ Global → Bool
-key_eq one other = bytes_eq one.items other.items
+key_eq one other = same_order one.items other.items
 
 other_entries : {X : Type 0} (test : Vec ℕ Global → Bool) (old new : List (Vec ℕ Global × X)) → KeepsOthers key_eq test old new → (other : Vec ℕ Global → Bool)
     → IsKeyTest key_eq other → AreApart test other
@@ -154,17 +164,25 @@ other_entries : {X : Type 0} (test : Vec ℕ Global → Bool) (old new : List (V
 unfolding KeepsOthers
 other_entries test old new h = h
 
-apart_texts : (one other key : List ℕ) → bytes_eq one other ≡ false → bytes_eq one key ≡ true → bytes_eq other key ≡ false
-apart_texts one other key n y = nat_list_eq_equiv.symm other key ∙ sym (nat_list_eq_equiv.congr one key other y) ∙ n
+same_test : (text one other : List ℕ) → same_order text one ≡ true → same_order text other ≡ same_order one other
+same_test text one other e =
+    is_eq-slice_cmp text other ∙ nat_list_eq_equiv.congr text one other (sym (is_eq-slice_cmp text one) ∙ e) ∙ sym (is_eq-slice_cmp one other)
+
+apart_texts : (one other key : List ℕ) → bytes_eq one other ≡ false → same_order one key ≡ true → same_order other key ≡ false
+apart_texts one other key n e =
+    let y : bytes_eq one key ≡ true = sym (is_eq-slice_cmp one key) ∙ e in
+    is_eq-slice_cmp other key ∙ nat_list_eq_equiv.symm other key ∙ sym (nat_list_eq_equiv.congr one key other y) ∙ n
 
 pub bytes_eq_sym : (one other : List ℕ) → bytes_eq one other ≡ bytes_eq other one
 bytes_eq_sym one other = nat_list_eq_equiv.symm one other
 
 -- the place that is seen of a map
 pub place_seen : (entries : List (Vec ℕ Global × ℕ)) (text : List ℕ)
-    → lookup (bytes_eq text) (map (λ e. (e.0.items, e.1)) entries) ≡ lookup (λ key. bytes_eq text key.items) entries
+    → lookup (bytes_eq text) (map (λ e. (e.0.items, e.1)) entries) ≡ lookup (λ key. same_order text key.items) entries
 place_seen [] text = refl
-place_seen (e ∷ entries) text = ap (λ (o : Option ℕ). cond (bytes_eq text e.0.items) (Some e.1) o) (place_seen entries text)
+place_seen (e ∷ entries) text =
+    ap (λ (o : Option ℕ). cond (bytes_eq text e.0.items) (Some e.1) o) (place_seen entries text)
+    ∙ ap (λ (b : Bool). cond b (Some e.1) (lookup (λ key. same_order text key.items) entries)) (sym (is_eq-slice_cmp text e.0.items))
 
 -- what is seen of a map
 abbrev pub seen_texts : List (Vec ℕ Global × ℕ) → List (List ℕ × ℕ)
@@ -172,9 +190,9 @@ seen_texts entries = map (λ e. (e.0.items, e.1)) entries
 
 -- the text of one more file was put into a map
 pub added_text : (old new : List (Vec ℕ Global × ℕ)) (m k : ℕ) (text canonical : List ℕ) (place : ℕ) → text ≡ canonical
-    → place ≡ unwrap_or (lookup (λ key. bytes_eq text key.items) old) m
-    → ((other : List ℕ) → lookup (λ key. bytes_eq other key.items) new
-    ≡ cond (bytes_eq text other) (Some place) (lookup (λ key. bytes_eq other key.items) old))
+    → place ≡ unwrap_or (lookup (λ key. same_order text key.items) old) m
+    → ((other : List ℕ) → lookup (λ key. same_order other key.items) new
+    ≡ cond (bytes_eq text other) (Some place) (lookup (λ key. same_order other key.items) old))
     → k ≡ m + 1 → AddsText (record { texts = seen_texts old; count = m }) (record { texts = seen_texts new; count = k }) canonical place
 added_text old new m k text canonical place is answer placed more =
     subst (λ (t : List ℕ). AddsText (record { texts = seen_texts old; count = m }) (record { texts = seen_texts new; count = k }) t place) is
@@ -186,16 +204,16 @@ added_text old new m k text canonical place is answer placed more =
     })
 
 -- what a map has for a text, after one was put there
-pub updated : {S : Type 0} (old new : HashMap (Vec ℕ Global) ℕ S) (text : List ℕ) (place : ℕ)
-    → UpdatesBy key_eq (λ key. bytes_eq text key.items) old new (Some place)
+pub updated : (old new : BTreeMap (Vec ℕ Global) ℕ) (text : List ℕ) (place : ℕ)
+    → UpdatesBy key_cmp (λ key. slice_cmp nat_cmp text key.items) old new (Some place)
     → (other : List ℕ) → place_of new other ≡ cond (bytes_eq text other) (Some place) (place_of old other)
 updated old new text place h other =
     ⊎_elim
     (λ (y : bytes_eq text other ≡ true). subst (λ (t : List ℕ). place_of new t ≡ Some place) ((bytes_decides text other).0 y) h.1
     ∙ sym (cond-true (bytes_eq text other) (Some place) (place_of old other) y))
     (λ (n : bytes_eq text other ≡ false).
-    other_entries (λ key. bytes_eq text key.items) old.entries new.entries h.3 (λ key. bytes_eq other key.items)
-    (λ x y. nat_list_eq_equiv.congr other x.items y.items) (λ key. apart_texts text other key.items n)
+    other_entries (λ key. same_order text key.items) old.entries new.entries h.3 (λ key. same_order other key.items)
+    (λ x y. same_test other x.items y.items) (λ key. apart_texts text other key.items n)
     ∙ sym (cond-false (bytes_eq text other) (Some place) (place_of old other) n))
     (cases_Bool (bytes_eq text other))
 

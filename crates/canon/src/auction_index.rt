@@ -13,16 +13,16 @@ use crate::normal::normal_packed_file;
 use bid_file::PackedFile;
 use cats_text::{Watched, read_packed_from, write};
 use std::alloc::{AllocError, Global};
-use std::collections::HashMap;
+use std::collections::BTreeMap;
 use std::io::Read;
 use std::marker::Model;
 
-/// The auctions of the files that were added. It keeps one canonical text for each auction, and finds one by its hash;
-/// whether two are equal is decided on the whole texts. The files themselves are given up.
+/// The auctions of the files that were added. It keeps one canonical text for each auction, in order,
+/// so no texts can be made that take long to find. The files themselves are given up.
 #[derive(Drop)]
 pub struct AuctionIndex {
     /// Each canonical text, with the place of the first file that has it.
-    places: HashMap<Vec<u8>, usize>,
+    places: BTreeMap<Vec<u8>, usize>,
     /// How many files were added.
     count: usize,
 }
@@ -42,7 +42,7 @@ impl AuctionIndex {
         ensures { IsEmptyIndex result }
     {
         AuctionIndex {
-            places: HashMap::new(alloc),
+            places: BTreeMap::new(alloc),
             count: 0,
         }
     }
@@ -85,7 +85,7 @@ impl AuctionIndex {
 
 /// The place of a text, which is put at this place where it has none yet. No more memory is kept than the text needs.
 fn place_text(
-    places: &mut HashMap<Vec<u8>, usize>,
+    places: &mut BTreeMap<Vec<u8>, usize>,
     text: Vec<u8>,
     place: usize,
 ) -> Result<usize, AllocError>

@@ -1,8 +1,9 @@
 -- The place that a map has for a text.
-use Rattle.std.specs.Prelude.{ℕ, List, Option, Vec, bytes_eq}
+use Rattle.std.specs.Prelude.{ℕ, List, Option, Vec}
+use Rattle.std.specs.BTreeMap.{BTreeMap, get_by}
+use Rattle.std.specs.Cmp.Lexicographic.{slice_cmp}
 use Rattle.std.specs.Global.{Global}
-use Rattle.std.specs.HashMap.{HashMap, get_by}
+use Rattle.std.specs.Ordering.{nat_cmp}
 
-module _ {S : Type 0} where
-  abbrev pub place_of : HashMap (Vec ℕ Global) ℕ S → List ℕ → Option ℕ
-  place_of places text = get_by (λ key. bytes_eq text key.items) places
+abbrev pub place_of : BTreeMap (Vec ℕ Global) ℕ → List ℕ → Option ℕ
+place_of places text = get_by (λ key. slice_cmp nat_cmp text key.items) places
