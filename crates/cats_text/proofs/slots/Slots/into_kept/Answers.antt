@@ -24,7 +24,7 @@ loop-place-preserved g c =
     let next : take (i + 1) places ≡ take i places ++ p ∷ [] = take_more places i 0 c.loop-place-test.true in
     rw next
     (elim c.if-place-gt0.branch [
-      then-place-gt0+in_ok-add_from w ↦
+      | then-place-gt0+in_ok-add_from w ↦
           let some : 0 < p = w.if-place-gt0.true in
           let there : p - 1 < length came = omega arith in
           ap g.K.Keep.bids w.kept-is
