@@ -12,6 +12,7 @@ use Rattle.prune.specs.SearchSteps.{first_heavy}
 use Rattle.canon.specs.Canonical.{canonical_auction, file_from}
 use Rattle.canon.specs.Normalising.{Normalised, IsNoFile, ExceedsSteps, IsText, Normalises}
 use Rattle.canon.specs.declared.fault.CanonFault.{CanonFault}
+use Rattle.canon.specs.declared.named.NamedFile.{NamedFile}
 use Rattle.canon.specs.declared.fault.CanonFault.TheVariants.{Read, StepLimit, Memory}
 
 -- why there is no text
@@ -64,3 +65,8 @@ plain_answer (Err fault) = Err fault
 
 abbrev pub NormalisesFileAs : ℕ → PlainFile → Result BidFile CanonFault → Type 0
 NormalisesFileAs limit f r = NormalisesPlainAs limit f (plain_answer r)
+
+-- an answer, without the dummy goods that it names
+abbrev pub unnamed_answer : Result NamedFile CanonFault → Result PlainFile CanonFault
+unnamed_answer (Ok named) = Ok named.file
+unnamed_answer (Err fault) = Err fault

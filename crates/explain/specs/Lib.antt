@@ -1,6 +1,5 @@
 -- What the contracts of this crate cite.
 pub mod Reasons
 pub mod Bids
-pub mod Renaming
 pub mod Examples
 pub mod Internal

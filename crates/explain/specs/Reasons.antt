@@ -6,7 +6,9 @@ use Rattle.goods_set.specs.Bundles.{IsInside, IsRising, are_apart}
 use Rattle.bid_file.specs.Files.{PlainFile}
 use Rattle.prune.specs.SearchSteps.{is_below}
 use Rattle.explain.specs.Bids.{bid_at, numbers_of, is_best, IsBestFor}
-use Rattle.explain.specs.Renaming.{kept_bids}
+use Rattle.canon.specs.Renaming.{kept_bids}
+use Rattle.explain.specs.declared.reason.Reason.{Reason}
+use Rattle.explain.specs.declared.reason.Reason.TheVariants as R
 
 -- a reason, without where it lies in memory
 pub data PlainReason : Type 0 where
@@ -20,6 +22,14 @@ pub data PlainReason : Type 0 where
   Inside : ℕ → PlainReason
   -- these bids of the OR bidder are kept, share no good, are inside its goods, and their prices add up to as much
   Packing : List ℕ → PlainReason
+
+-- a reason as a reader sees it
+abbrev pub plain_reason : Reason → PlainReason
+plain_reason (R.Keep k) = Keep k
+plain_reason R.Zero = Zero
+plain_reason (R.Same j) = Same j
+plain_reason (R.Inside j) = Inside j
+plain_reason (R.Packing js) = Packing js.items
 
 abbrev pub is_kept : PlainReason → Bool
 is_kept (Keep k) = true

@@ -2,10 +2,12 @@
 #![tactic(auto)]
 
 mod best;
+mod explain;
 mod reason;
 #[cfg(test)]
 mod tests;
 pub mod worked;
 
 pub use best::best_bids;
+pub use explain::explain;
 pub use reason::Reason;

@@ -16,7 +16,7 @@ ghost use Rattle.explain.specs.Reasons.{
   Packing,
   all_apart,
 };
-ghost use Rattle.explain.specs.Renaming.{kept_bids, kept_dummies};
+ghost use Rattle.canon.specs.Renaming.{kept_bids, kept_dummies};
 
 /// Of a bidder's bids on a bundle the one of the highest price is the best, and of equal ones the first.
 pub fn best_bids()

@@ -14,11 +14,11 @@ use Rattle.valuation.specs.Auctions.{IsAtom}
 use Rattle.valuation.specs.Values.{atoms_of, xor_value, plain_atom}
 use Rattle.valuation.specs.Packings.{price_sum}
 use Rattle.valuation.specs.Lemmas.XorValues.{xor_value-nil, xor_value-inside}
-use Rattle.prune.specs.SearchSteps.{greatest_price, search_steps, steps_at_most, is_heavy, first_heavy}
+use Rattle.prune.specs.SearchSteps.{atoms_inside, greatest_price, search_steps, steps_at_most, is_heavy, first_heavy}
 use Rattle.prune.specs.Lemmas.SearchSteps.{search_within_bound}
 use Rattle.prune.specs.Lemmas.Values.{xor_value-member}
 use Rattle.prune.specs.Lemmas.Lists.{list_any_filter}
-use Rattle.prune.specs.Internal.Listings.{dominates, atom_at, atoms_inside, AreUndominated}
+use Rattle.prune.specs.Internal.Listings.{dominates, atom_at, AreUndominated}
 use Rattle.prune.specs.Lemmas.OnBundles.{IsOnBundle}
 use Rattle.prune.specs.Internal.BestBids.{AreBestBids}
 use Rattle.prune.proofs.Pruning.{HasRisingBundle, IsKept-none}

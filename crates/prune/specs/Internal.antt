@@ -2,5 +2,6 @@
 -- them.
 pub mod BestBids
 pub mod Listings
+pub mod PointIndexes
 pub mod PricesLeft
 pub mod Reaching

@@ -1,5 +1,6 @@
 -- What the contracts of this crate cite.
 pub mod Points
+pub mod Reached
 pub mod SearchSteps
 pub mod InOrder
 pub mod Faults

@@ -7,6 +7,7 @@ mod fault;
 mod front;
 mod laws;
 mod or;
+mod point_index;
 mod posting;
 mod search;
 mod sorting;
@@ -21,5 +22,6 @@ pub use laws::{
     same_values_same_points, steps_are_bounded,
 };
 pub use or::prune_or;
+pub use point_index::PointIndex;
 pub use worked::{or_points_worked, steps_worked, xor_points_worked};
 pub use xor::prune_xor;

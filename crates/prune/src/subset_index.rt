@@ -11,7 +11,6 @@ ghost use Rattle.prune.specs.Internal.Listings.{
   indices_of,
   is_inside_at,
   dominates_at,
-  atoms_inside,
   dominates,
   postings_of,
   IsBehind,
@@ -19,6 +18,7 @@ ghost use Rattle.prune.specs.Internal.Listings.{
   IsPosting,
   IsReadyFor,
 };
+ghost use Rattle.prune.specs.SearchSteps.{atoms_inside};
 
 use crate::commonness::Commonness;
 use crate::posting::Posting;

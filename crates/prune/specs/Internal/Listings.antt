@@ -94,7 +94,3 @@ NoneInsideFrom from atoms bundle = (place : ℕ) → from ≤ place → place < 
 -- none of the atoms that the index does not list is inside the bundle
 abbrev pub IsReadyFor : List ℕ → List (Atom (List ℕ)) → SubsetIndex → Type 0
 IsReadyFor bundle atoms index = NoneInsideFrom index.listed atoms bundle
-
--- the atoms of a list inside a bundle
-abbrev pub atoms_inside : List (Atom (List ℕ)) → List ℕ → List (Atom (List ℕ))
-atoms_inside atoms bundle = filter (λ a. is_inside a.bundle bundle) atoms

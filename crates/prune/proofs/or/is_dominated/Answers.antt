@@ -4,9 +4,8 @@ use Rattle.std.proofs.lemmas.Bool.{lt-leb}
 use Rattle.goods_set.specs.Bundles.{is_inside}
 use Rattle.valuation.specs.Values.{atoms_of, or_value}
 use Rattle.valuation.specs.Packings.{price_sum}
-use Rattle.prune.specs.Internal.Listings.{atoms_inside}
 use Rattle.prune.specs.Lemmas.SearchSteps.{cut_steps-short}
-use Rattle.prune.specs.SearchSteps.{cut_steps}
+use Rattle.prune.specs.SearchSteps.{atoms_inside, cut_steps}
 use Rattle.prune.proofs.PruningLoop.{nonempty_inside, inside_bundle, too_low}
 use Rattle.prune.proofs.ReachingLevels.{or_value-all_prices}
 use Rattle.valuation.proofs.BestPackingLevels.{spent}

@@ -1,0 +1,31 @@
+//! The canonical file of a file, and which of the file's bidders each of its bidders is.
+
+ghost use Rattle.std.specs.Prelude.{◌≡◌, IfOk};
+ghost use Rattle.canon.specs.Answers.{NormalisesPlainAs, unnamed_answer};
+ghost use Rattle.canon.specs.Renaming.{kept_dummies};
+
+use crate::fault::CanonFault;
+use bid_file::PackedFile;
+use std::alloc::Global;
+
+/// The canonical file of a file, with the dummy goods that its bidders have there.
+#[derive(Drop)]
+pub struct NamedFile {
+    /// The canonical file.
+    pub file: PackedFile,
+    /// For each of its dummy goods the one of the same bidder in the file that it is of. Equal bidders keep the order of
+    /// their dummy goods.
+    pub dummies: Vec<u32>,
+}
+
+/// The canonical file of a packed file, as `normal_packed_file`, and which bidder is which.
+pub fn named_normal_file(
+    alloc: Global,
+    file: &PackedFile,
+    limit: u64,
+) -> Result<NamedFile, CanonFault>
+    ensures answer { NormalisesPlainAs limit file.now (unnamed_answer result) }
+    ensures dummies { IfOk result (λ named. named.dummies.items ≡ kept_dummies file.now) }
+{
+    Err(CanonFault::Memory)
+}
