@@ -2,12 +2,12 @@
 #![tactic(auto)]
 
 mod best;
-mod explain;
+mod explanation;
 mod reason;
 #[cfg(test)]
 mod tests;
 pub mod worked;
 
 pub use best::best_bids;
-pub use explain::explain;
+pub use explanation::explain;
 pub use reason::Reason;

@@ -14,11 +14,7 @@ use std::alloc::Global;
 
 /// For each bid of a file, in the order of numbers, why it is in the canonical file or is not. `limit` bounds each
 /// search that decides on a bundle of the OR bidder, as in `normal_packed_file`, and the same files are refused.
-pub fn explain(
-    alloc: Global,
-    file: &PackedFile,
-    limit: u64,
-) -> Result<Vec<Reason>, CanonFault>
+pub fn explain(alloc: Global, file: &PackedFile, limit: u64) -> Result<Vec<Reason>, CanonFault>
     requires { IsPlainFile file.now }
     ensures reasons { IfOk result (λ reasons. Explains file.now (map plain_reason reasons.items)) }
     ensures within { let f = file.now in OnOk result (first_heavy f.goods limit (or_atoms_of f.bids) ≡ None) }
