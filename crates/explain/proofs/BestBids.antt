@@ -23,7 +23,7 @@ use Rattle.explain.specs.Internal.BidOrders.{key_cmp, numbered_cmp, AreInOrder}
 
 -- ---- lists
 
-element_at : {X : Type 0} (xs : List X) (k : ℕ) → k < length xs → (x : X) × ((d : X) → get_or xs k d ≡ x)
+pub element_at : {X : Type 0} (xs : List X) (k : ℕ) → k < length xs → (x : X) × ((d : X) → get_or xs k d ≡ x)
 element_at [] k l = absurd (omega arith)
 element_at (x ∷ xs) zero l = (x, λ d. refl)
 element_at (x ∷ xs) (suc k) l = let r = element_at xs k (omega arith) in (r.0, r.1)
@@ -43,7 +43,7 @@ key_first Less p q e = e
 key_first Equal p q e = refl
 key_first Greater p q e = refl
 
-equal_from : (o : Ordering) → is_eq o ≡ true → o ≡ Equal
+pub equal_from : (o : Ordering) → is_eq o ≡ true → o ≡ Equal
 equal_from Less e = absurd (cc)
 equal_from Equal e = refl
 equal_from Greater e = absurd (cc)
@@ -66,16 +66,16 @@ not_after Greater Greater l e = absurd (cc)
 
 -- ---- bids of one bidder on the same goods
 
-record HaveOneKey (a b : PlainBid) : Type 0 where
-  bidder : bidder_of a.dummy ≡ bidder_of b.dummy
-  goods : a.goods ≡ b.goods
+pub record HaveOneKey (a b : PlainBid) : Type 0 where
+  pub bidder : bidder_of a.dummy ≡ bidder_of b.dummy
+  pub goods : a.goods ≡ b.goods
 
-one_key : (a b : PlainBid) → are_alike a b ≡ true → HaveOneKey a b
+pub one_key : (a b : PlainBid) → are_alike a b ≡ true → HaveOneKey a b
 one_key a b e =
     let parts = and_parts (eqb (bidder_of a.dummy) (bidder_of b.dummy)) (is_eq (bundle_cmp a.goods b.goods)) e in
     record { bidder = eqb-true _ _ parts.0; goods = bundle_cmp_equal a.goods b.goods (equal_from (bundle_cmp a.goods b.goods) parts.1) }
 
-alike_from : (a b : PlainBid) → HaveOneKey a b → are_alike a b ≡ true
+pub alike_from : (a b : PlainBid) → HaveOneKey a b → are_alike a b ≡ true
 alike_from a b h =
     and_from (eqb (bidder_of a.dummy) (bidder_of b.dummy)) (is_eq (bundle_cmp a.goods b.goods)) (eq-eqb _ _ h.bidder)
     (ap is_eq (ap (λ (xs : List ℕ). bundle_cmp xs b.goods) h.goods ∙ bundle_cmp_refl b.goods))
