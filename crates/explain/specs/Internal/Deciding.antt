@@ -1,6 +1,6 @@
 -- What the code finds out for a bid: its reason, where a bid that is named in place of it is in the canonical file. Each
 -- bid has such a reason exactly if the reasons explain the file.
-use Rattle.std.specs.Prelude.{◌≡◌, ℕ, ◌≤◌, List, slice_get, Some, None, is_some, sum_by, true, ⊥}
+use Rattle.std.specs.Prelude.{◌≡◌, ℕ, ◌≤◌, List, slice_get, Some, None, is_some, sum_by, true}
 use Rattle.std.specs.List.{AllByRecursion}
 use Rattle.goods_set.specs.Bundles.{IsInside, IsRising}
 use Rattle.bid_file.specs.Files.{PlainFile}
