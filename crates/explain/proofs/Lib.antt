@@ -1,3 +1,4 @@
 -- Proofs that several functions of this crate cite.
 pub mod BestBids
 pub mod KeptBidsLists
+pub mod KeptBidsBest
