@@ -1,7 +1,7 @@
 -- What the calls answer, from what the calls below them answered: each kind of answer of one is, by the definitions, one of the other.
 use Rattle.std.proofs.Common.{◌≡◌, ℕ, ◌⊎◌, inl, inr, true, List, Option, Some, None, Result, Ok, Err, refl, sym, ap, ◌∙◌, subst, Global, IfSome}
 use Rattle.std.specs.Prelude.{IsErrAnd}
-use Rattle.std.specs.Prelude.{Vec, ◌↔◌, IfOk}
+use Rattle.std.specs.Prelude.{Vec, ◌↔◌}
 use Rattle.bid_file.specs.Files.{PlainFile, IsPlainFile}
 use Rattle.cats_text.specs.Grammar.{Spells}
 use Rattle.cats_text.specs.Layout.{layout}
@@ -11,8 +11,6 @@ use Rattle.cats_text.specs.declared.fault.Kind.{Kind}
 use Rattle.cats_text.specs.declared.fault.Kind.TheVariants.{Memory as NoMemory}
 use Rattle.cats_text.specs.declared.fault.ReadFault.{ReadFault}
 use Rattle.cats_text.proofs.Texts.FaultKinds.{IsFound, first_fault-found}
-use Rattle.bid_file.specs.Views.{plain_file}
-use Rattle.bid_file.specs.declared.bid.BidFile.{BidFile}
 use Rattle.cats_text.proofs.Spelling.Files.{spells_one}
 use Rattle.valuation.specs.Auctions.{PlainAuction, auction_from, or_atoms_of}
 use Rattle.canon.specs.Answers.{RefusesAs, RefusesText, NormalisesTextAs, RefusesAuction, IsNormalFile}
@@ -27,7 +25,7 @@ use Rattle.prune.specs.SearchSteps.{first_heavy}
 use Rattle.canon.proofs.Files.{auction_from-file_from}
 use Rattle.canon.proofs.Least.{canonical_is_least}
 use Rattle.canon.proofs.Texts.{text_from_normalised, normalised_from_text, normalised_again, same_text, same_from_text}
-use Rattle.canon.proofs.Texts.{canonical_file_is_same, canonical_file_is_fixed}
+use Rattle.canon.proofs.Texts.{canonical_file_is_same}
 
 -- ---- a search that takes too many steps
 

@@ -1,6 +1,6 @@
 -- Bidders whose bids are compared one by one, and bids that are named one by one: each step takes the bids at one index, by which the
 -- order of what is behind it is known.
-use Rattle.std.proofs.Common.{◌≡◌, ℕ, ◌+◌, ◌<◌, List, [], ◌∷◌, ◌++◌, length, map, take, drop, get_or, Option, Some, sym, ap, ap₂, ◌∙◌, Global}
+use Rattle.std.proofs.Common.{◌≡◌, ℕ, ◌+◌, List, [], ◌∷◌, ◌++◌, length, take, drop, Some, sym, ap, ap₂, ◌∙◌, Global}
 use Rattle.std.specs.Prelude.{Vec}
 use Rattle.std.specs.List.{slice_get}
 use Rattle.std.specs.Ordering.{ordering_then}

@@ -19,6 +19,11 @@ first_decides Less price rest n = refl
 first_decides Equal price rest n = absurd (n refl)
 first_decides Greater price rest n = refl
 
+pub decided : (o rest : Ordering) → (o ≡ Equal → ⊥) → o ≡ ordering_then o rest
+decided Less rest n = refl
+decided Equal rest n = absurd (n refl)
+decided Greater rest n = refl
+
 pub order_by_bidder_key : {S : Type 0} (goods : S → List ℕ) → ((s : S) → AreBelow 65536 (goods s)) → (one other : List (Atom S))
     → (nat_cmp (bidder_key (atoms_of goods one)) (bidder_key (atoms_of goods other)) ≡ Equal → ⊥)
     → nat_cmp (bidder_key (atoms_of goods one)) (bidder_key (atoms_of goods other)) ≡ bidder_cmp (atoms_of goods one) (atoms_of goods other)

@@ -1,34 +1,29 @@
 -- The bidders as the code has them: what holds of each, one more, and putting them in order.
-use Rattle.std.proofs.Common.{◌≡◌, ℕ, ◌+◌, ◌<◌, ◌≤◌, Bool, true, false, ⊎_elim, List, [], ◌∷◌, ◌++◌, length, map, get_or, None, sym, ap, ap₂, ◌∙◌, subst}
+use Rattle.std.proofs.Common.{◌≡◌, ℕ, ◌<◌, ◌≤◌, ⊎_elim, List, [], ◌∷◌, ◌++◌, length, map, None, sym, ap, ap₂, ◌∙◌, subst}
 use Rattle.std.proofs.Common.{arith, append_assoc, Global}
 use Rattle.std.specs.Prelude.{All, Vec, IsPermutation}
-use Rattle.std.specs.List.{filter}
 use Rattle.std.specs.List.Sorted.{IsSortedBy}
 use Rattle.std.specs.Ordering.{is_lt}
-use Rattle.std.proofs.lemmas.Bool.{cases_Bool}
-use Rattle.std.proofs.lemmas.List.{map-append, map_push, append-nil, length-map, get_or-map, nil_from_length}
+use Rattle.std.proofs.lemmas.List.{map-append, map_push, append-nil, length-append, length-map, nil_from_length}
 use Rattle.std.proofs.lemmas.Simd.{map-map}
-use Rattle.std.proofs.lemmas.List.Elements.{All-contains, All-weaker, Contains-append_right, filter-append}
+use Rattle.std.proofs.lemmas.List.Elements.{All-contains, All-weaker, Contains-append_right}
 use Rattle.std.proofs.lemmas.List.Sorted.{IsPermutation-map}
-use Rattle.bid_file.specs.declared.limits.TheConstants.{MAX_GOODS}
+use Rattle.bid_file.specs.declared.limits.TheConstants.{MAX_GOODS, MAX_DUMMY}
 use Rattle.goods_set.specs.Lemmas.Members.{AreBelow-higher}
 use Rattle.valuation.specs.declared.atom.Atom.{Atom}
 use Rattle.valuation.specs.Auctions.{PlainAuction, IsAtom, IsAuction}
 use Rattle.valuation.specs.Lemmas.Atoms.{length-atoms_of}
 use Rattle.valuation.specs.Bidders.{bidders_of}
-use Rattle.valuation.specs.Orders.{bidder_cmp}
-use Rattle.valuation.specs.Lemmas.Orders.{bidder_cmp_total, bidder_cmp_equal}
 use Rattle.valuation.specs.Sorting.{sort_by}
 use Rattle.valuation.specs.Lemmas.Sorting.{sorted_is_sort_by}
-use Rattle.valuation.specs.Tables.{xor_table, is_nonzero}
 use Rattle.valuation.specs.Values.{atoms_of}
 use Rattle.prune.specs.Lemmas.Lists.{Contains-head, zero_or_more}
 use Rattle.prune.specs.Points.{xor_points, or_points}
 use Rattle.prune.specs.SearchSteps.{first_heavy}
-use Rattle.prune.specs.Lemmas.Tables.{no_xor_points}
-use Rattle.prune.specs.Lemmas.KeptBids.{on_bundles}
-use Rattle.canon.specs.Canonical.{canonical_auction, points_of_bidders}
-use Rattle.canon.proofs.Counting.{points_more, points_without}
+use Rattle.canon.specs.Canonical.{canonical_auction}
+use Rattle.canon.specs.Internal.KeyedBidders.{NumberedBidder, numbered_points, numbered_cmp, kept_numbers}
+use Rattle.canon.specs.Lemmas.Renaming.{map-sorted}
+use Rattle.canon.proofs.Numbering.{numbered_cmp_total, numbered_cmp_equal, points_push, points_skip, atoms_in_order}
 
 -- atoms over fewer goods are atoms over more
 pub atoms_within : (fewer more : ℕ) (atoms : List (Atom (List ℕ))) → fewer ≤ more → All (IsAtom fewer) atoms → All (IsAtom more) atoms
@@ -53,92 +48,69 @@ all_middle {X} {Y} seen P all done rest x e h =
     All-contains P (map seen done ++ seen x ∷ map seen rest) (seen x) (subst (λ (ys : List Y). All P ys) parts h)
     (Contains-append_right (map seen done) (seen x ∷ map seen rest) (seen x) (Contains-head (seen x) (map seen rest)))
 
--- ---- one more bidder at the end
-
-points_append : (goods : ℕ) (xs ys : List (List (Atom (List ℕ)))) → points_of_bidders goods (xs ++ ys) ≡ points_of_bidders goods xs
-    ++ points_of_bidders goods ys
-points_append goods xs ys =
-    let p = λ (b : List (Atom (List ℕ))). is_nonzero (xor_table b goods) in
-    ap (map (xor_points goods)) (filter-append p xs ys) ∙ map-append (xor_points goods) (filter p xs) (filter p ys)
-
--- a bidder with points adds them
-pub points_push : (goods : ℕ) (done : List (List (Atom (List ℕ)))) (bidder points : List (Atom (List ℕ))) → All (IsAtom goods) bidder
-    → points ≡ xor_points goods bidder → (points ≡ [] → ⊥) → points_of_bidders goods (done ++ bidder ∷ []) ≡ points_of_bidders goods done ++ points ∷ []
-points_push goods done bidder points h e some =
-    points_append goods done (bidder ∷ [])
-    ∙ ap (λ (zs : List (List (Atom (List ℕ)))). points_of_bidders goods done ++ zs)
-    (⊎_elim
-    (λ (t : is_nonzero (xor_table bidder goods) ≡ true). points_more goods bidder [] t ∙ ap (λ (p : List (Atom (List ℕ))). p ∷ []) (sym e))
-    (λ (t : is_nonzero (xor_table bidder goods) ≡ false). absurd (some (e ∙ (no_xor_points goods bidder (on_bundles goods bidder h)).1 t)))
-    (cases_Bool (is_nonzero (xor_table bidder goods))))
-
--- one without points adds nothing
-pub points_skip : (goods : ℕ) (done : List (List (Atom (List ℕ)))) (bidder points : List (Atom (List ℕ))) → All (IsAtom goods) bidder
-    → points ≡ xor_points goods bidder → points ≡ [] → points_of_bidders goods (done ++ bidder ∷ []) ≡ points_of_bidders goods done
-points_skip goods done bidder points h e none =
-    points_append goods done (bidder ∷ [])
-    ∙ ap (λ (zs : List (List (Atom (List ℕ)))). points_of_bidders goods done ++ zs)
-    (points_without goods bidder [] ((no_xor_points goods bidder (on_bundles goods bidder h)).0 (sym e ∙ none)))
-    ∙ append-nil (points_of_bidders goods done)
-
 -- ---- in order
 
--- what is in order by what is seen of each element, is in order once it is seen
-map-sorted : {X Y : Type 0} (seen : X → Y) (lt : Y → Y → Bool) (xs : List X) → IsSortedBy (λ x y. lt (seen x) (seen y)) xs → IsSortedBy lt (map seen xs)
-map-sorted seen lt [] up k d l m = absurd (omega arith)
-map-sorted {Y = Y} seen lt (x ∷ xs) up k d l m =
-    let long = length-map (x ∷ xs) seen in
-    let here : k < length (x ∷ xs) = omega arith in
-    let next : k + 1 < length (x ∷ xs) = omega arith in
-    subst (λ (a : Y). lt a (get_or (map seen (x ∷ xs)) k d) ≡ false) (sym (get_or-map seen (x ∷ xs) (k + 1) x d next))
-    (subst (λ (b : Y). lt (seen (get_or (x ∷ xs) (k + 1) x)) b ≡ false) (sym (get_or-map seen (x ∷ xs) k x d here)) (up k x l next))
-
-pub bidders_sorted : {X : Type 0} (seen : X → List (Atom (List ℕ))) (old new : List X) → IsPermutation old new
-    → IsSortedBy (λ a b. is_lt (bidder_cmp (seen a) (seen b))) new → map seen new ≡ sort_by bidder_cmp (map seen old)
+pub bidders_sorted : {X : Type 0} (seen : X → NumberedBidder) (old new : List X) → IsPermutation old new
+    → IsSortedBy (λ a b. is_lt (numbered_cmp (seen a) (seen b))) new → map seen new ≡ sort_by numbered_cmp (map seen old)
 bidders_sorted seen old new p up =
-    sorted_is_sort_by bidder_cmp bidder_cmp_total bidder_cmp_equal (map seen old) (map seen new) (IsPermutation-map seen old new p)
-    (map-sorted seen (λ a b. is_lt (bidder_cmp a b)) new up)
+    sorted_is_sort_by numbered_cmp numbered_cmp_total numbered_cmp_equal (map seen old) (map seen new) (IsPermutation-map seen old new p)
+    (map-sorted seen (λ a b. is_lt (numbered_cmp a b)) new up)
 
 -- ---- the loop over the bidders
 
-module _ {S : Type 0} (goods : S → List ℕ) (all done left rest : List (Vec (Atom S) Global)) (b : Vec (Atom S) Global) (parts : all ≡ done ++ left)
-    (next : left ≡ b ∷ rest) where
+-- the bidders that are done are fewer, where one is still to come
+pub fewer_done : {X : Type 0} (all done left rest : List X) (b : X) → all ≡ done ++ left → left ≡ b ∷ rest → length done < length all
+fewer_done all done left rest b parts next =
+    let long = ap length parts ∙ length-append done left in
+    let some : length left ≡ length (b ∷ rest) = ap length next in
+    omega arith
+
+module _ {S : Type 0} (goods : S → List ℕ) (all done more left rest : List (Vec (Atom S) Global)) (b : Vec (Atom S) Global) (parts : all ≡ done ++ left)
+    (grown : more ≡ done ++ b ∷ []) (next : left ≡ b ∷ rest) where
   pub bidder_next : (P : List (Atom (List ℕ)) → Type 0) → All P (bidders_of goods all) → P (atoms_of goods b.items)
   bidder_next P h = all_middle (λ (v : Vec (Atom S) Global). atoms_of goods v.items) P all done rest b (parts
       ∙ ap (λ (zs : List (Vec (Atom S) Global)). done ++ zs) next) h
 
-  pub bidder_taken : all ≡ (done ++ b ∷ []) ++ rest
-  bidder_taken = parts ∙ ap (λ (zs : List (Vec (Atom S) Global)). done ++ zs) next ∙ sym (append_assoc done (b ∷ []) rest)
+  pub bidder_taken : all ≡ more ++ rest
+  bidder_taken =
+      parts ∙ ap (λ (zs : List (Vec (Atom S) Global)). done ++ zs) next ∙ sym (append_assoc done (b ∷ []) rest)
+      ∙ ap (λ (zs : List (Vec (Atom S) Global)). zs ++ rest) (sym grown)
 
-  -- the points so far, each bidder seen as its atoms
-  module _ {X : Type 0} (seen : X → List (Atom (List ℕ))) (n : ℕ) (atoms : All (All (IsAtom n)) (bidders_of goods all)) (points : List X)
+  -- the points so far, each bidder seen with its number
+  module _ {X : Type 0} (seen : X → NumberedBidder) (n : ℕ) (atoms : All (All (IsAtom n)) (bidders_of goods all)) (points : List X)
       (own : Vec (Atom S) Global) (are : All (IsAtom n) (atoms_of goods b.items) → atoms_of goods own.items ≡ xor_points n (atoms_of goods b.items))
-      (so_far : map seen points ≡ points_of_bidders n (bidders_of goods done)) where
+      (so_far : map seen points ≡ numbered_points n (bidders_of goods done)) where
     own_atoms : All (IsAtom n) (atoms_of goods b.items)
     own_atoms = bidder_next (All (IsAtom n)) atoms
 
-    pub points_pushed : (more : List X) (made : X) → more ≡ points ++ made ∷ [] → seen made ≡ atoms_of goods own.items → 0 < length own.items
-        → map seen more ≡ points_of_bidders n (bidders_of goods (done ++ b ∷ []))
-    points_pushed more made e f some =
+    one_more : bidders_of goods more ≡ bidders_of goods done ++ atoms_of goods b.items ∷ []
+    one_more = ap (bidders_of goods) grown ∙ map_push (λ (v : Vec (Atom S) Global). atoms_of goods v.items) done b
+
+    pub points_pushed : (all_points : List X) (made : X) (number : ℕ) → all_points ≡ points ++ made ∷ [] → number ≡ length done
+        → seen made ≡ record { number = number; atoms = atoms_of goods own.items } → 0 < length own.items
+        → map seen all_points ≡ numbered_points n (bidders_of goods more)
+    points_pushed all_points made number e is f some =
+        let count : number ≡ length (bidders_of goods done) = is ∙ sym (length-map done (λ (v : Vec (Atom S) Global). atoms_of goods v.items)) in
         ap (map seen) e ∙ map_push seen points made
-        ∙ ap₂ (λ (zs : List (List (Atom (List ℕ)))) (own : List (Atom (List ℕ))). zs ++ own ∷ []) so_far f
-        ∙ sym (ap (points_of_bidders n) (map_push (λ (v : Vec (Atom S) Global). atoms_of goods v.items) done b)
+        ∙ ap₂ (λ (zs : List NumberedBidder) (own : NumberedBidder). zs ++ own ∷ []) so_far
+        (f ∙ ap (λ k. record { number = k; atoms = atoms_of goods own.items }) count)
+        ∙ sym (ap (numbered_points n) one_more
         ∙ points_push n (bidders_of goods done) (atoms_of goods b.items) (atoms_of goods own.items) own_atoms (are own_atoms)
         (λ none. let long = length-atoms_of goods own.items in let zero : length (atoms_of goods own.items) ≡ 0 = ap length none in omega arith))
 
-    pub points_skipped : length own.items ≡ 0 → map seen points ≡ points_of_bidders n (bidders_of goods (done ++ b ∷ []))
+    pub points_skipped : length own.items ≡ 0 → map seen points ≡ numbered_points n (bidders_of goods more)
     points_skipped zero =
         let none : atoms_of goods own.items ≡ [] = ap (atoms_of goods) (nil_from_length own.items zero) in
         so_far
-        ∙ sym (ap (points_of_bidders n) (map_push (λ (v : Vec (Atom S) Global). atoms_of goods v.items) done b)
+        ∙ sym (ap (numbered_points n) one_more
         ∙ points_skip n (bidders_of goods done) (atoms_of goods b.items) (atoms_of goods own.items) own_atoms (are own_atoms) none)
 
 -- no bidder is left
-pub points_done : {S X : Type 0} (goods : S → List ℕ) (seen : X → List (Atom (List ℕ))) (n : ℕ) (all done left : List (Vec (Atom S) Global))
-    (points : List X) → all ≡ done ++ left → left ≡ [] → map seen points ≡ points_of_bidders n (bidders_of goods done)
-    → map seen points ≡ points_of_bidders n (bidders_of goods all)
+pub points_done : {S X : Type 0} (goods : S → List ℕ) (seen : X → NumberedBidder) (n : ℕ) (all done left : List (Vec (Atom S) Global))
+    (points : List X) → all ≡ done ++ left → left ≡ [] → map seen points ≡ numbered_points n (bidders_of goods done)
+    → map seen points ≡ numbered_points n (bidders_of goods all)
 points_done {S} goods seen n all done left points parts none h =
-    h ∙ ap (λ (zs : List (Vec (Atom S) Global)). points_of_bidders n (bidders_of goods zs))
+    h ∙ ap (λ (zs : List (Vec (Atom S) Global)). numbered_points n (bidders_of goods zs))
     (sym (parts ∙ ap (λ (zs : List (Vec (Atom S) Global)). done ++ zs) none ∙ append-nil done))
 
 -- ---- bidders with more beside them, of which `bare` is the bidder: what is taken out of them one by one
@@ -167,13 +139,16 @@ module _ (cap : ℕ) (a : PlainAuction) (facts : IsAuction cap a) (n : ℕ) (ors
   pub or_part : All (IsAtom MAX_GOODS) ors
   or_part = atoms_within n MAX_GOODS ors made.goods made.or_atoms
 
+  pub few_bidders : length xors ≤ MAX_DUMMY
+  few_bidders = made.bidders
+
   pub xor_part : All (All (IsAtom MAX_GOODS)) xors
   xor_part = bidders_within n MAX_GOODS xors made.goods made.xor_atoms
 
   -- the parts of the canonical auction
-  pub canonical_parts : (points : List (Atom (List ℕ))) (unsorted sorted : List (List (Atom (List ℕ))))
-      → ((m : ℕ) → All (IsAtom m) ors → points ≡ or_points m ors) → ((m : ℕ) → All (All (IsAtom m)) xors → unsorted ≡ points_of_bidders m xors)
-      → sorted ≡ sort_by bidder_cmp unsorted
+  pub canonical_parts : (points : List (Atom (List ℕ))) (unsorted : List NumberedBidder) (sorted : List (List (Atom (List ℕ))))
+      → ((m : ℕ) → All (IsAtom m) ors → points ≡ or_points m ors) → ((m : ℕ) → All (All (IsAtom m)) xors → unsorted ≡ numbered_points m xors)
+      → sorted ≡ map (λ b. b.atoms) (sort_by numbered_cmp unsorted)
       → ◌≡◌ {A = PlainAuction} (record { goods = n; or_atoms = points; xor_bidders = sorted }) (canonical_auction a)
   canonical_parts points unsorted sorted h k e =
       ap₂ (λ (or_atoms : List (Atom (List ℕ))) (xor_bidders : List (List (Atom (List ℕ)))). record {
@@ -181,8 +156,15 @@ module _ (cap : ℕ) (a : PlainAuction) (facts : IsAuction cap a) (n : ℕ) (ors
         or_atoms = or_atoms;
         xor_bidders = xor_bidders;
       })
-      (h n made.or_atoms) (e ∙ ap (sort_by bidder_cmp) (k n made.xor_atoms))
+      (h n made.or_atoms) (e ∙ ap (λ (bs : List NumberedBidder). map (λ b. b.atoms) (sort_by numbered_cmp bs)) (k n made.xor_atoms)
+      ∙ atoms_in_order n xors)
       ∙ ap canonical_auction (sym parts)
+
+  -- the numbers of its bidders
+  pub number_parts : (unsorted : List NumberedBidder) (numbers : List ℕ) → ((m : ℕ) → All (All (IsAtom m)) xors → unsorted ≡ numbered_points m xors)
+      → numbers ≡ map (λ b. b.number) (sort_by numbered_cmp unsorted) → numbers ≡ kept_numbers a
+  number_parts unsorted numbers k e =
+      e ∙ ap (λ (bs : List NumberedBidder). map (λ b. b.number) (sort_by numbered_cmp bs)) (k n made.xor_atoms) ∙ ap kept_numbers (sym parts)
 
   pub light_parts : (limit : ℕ) → ((m : ℕ) → All (IsAtom m) ors → first_heavy m limit ors ≡ None) → first_heavy a.goods limit a.or_atoms ≡ None
   light_parts limit h = ap (λ (x : PlainAuction). first_heavy x.goods limit x.or_atoms) parts ∙ h n made.or_atoms

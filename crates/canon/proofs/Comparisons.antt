@@ -1,11 +1,10 @@
 -- What comparing answers: of two canonical files, by their OR bids and their XOR bids, and of two texts, by the files that they spell.
-use Rattle.std.proofs.Common.{◌≡◌, ℕ, zero, suc, ◌+◌, ◌≤◌, ◌⊎◌, Bool, true, eqb, cond, List, [], ◌∷◌, ◌++◌, length, map, take, drop, Option, Some, None, is_none, Result}
-use Rattle.std.proofs.Common.{Ok, Err, refl, sym, ap, ap₂, ◌∙◌, subst, arith}
+use Rattle.std.proofs.Common.{◌≡◌, ℕ, ◌+◌, ◌⊎◌, Bool, true, eqb, List, [], ◌∷◌, ◌++◌, length, map, take, drop, Option, Some, None, Result}
+use Rattle.std.proofs.Common.{Ok, Err, refl, sym, ap, ◌∙◌, subst, arith}
 use Rattle.std.specs.Prelude.{◌↔◌, IfOk, IfErr, OnErr, MatchOption, IsErrAnd}
 use Rattle.std.specs.List.{prefix_len}
 use Rattle.std.specs.Option.{option_eq}
 use Rattle.std.proofs.lemmas.Bool.{cond-true}
-use Rattle.std.proofs.lemmas.List.{length-map}
 use Rattle.std.proofs.lemmas.Option.{MatchOption-at_some, MatchOption-at_none}
 use Rattle.std.proofs.lemmas.Result.{IfOk-weaker}
 use Rattle.std.proofs.Math.Seq.{take-append_seam, drop-append_seam}
@@ -22,11 +21,11 @@ use Rattle.valuation.specs.Lemmas.AuctionsOfFiles.{IsAuction-auction_from}
 use Rattle.valuation.specs.Auctions.{PlainAuction, IsAuction, auction_from}
 use Rattle.canon.specs.Answers.{NormalisesPlainAs, RefusesText}
 use Rattle.canon.specs.Internal.BidderBids.{HasBidders, leading}
-use Rattle.canon.specs.Canonical.{IsCanonical, IsCanonicalFile, bid_from, canonical_auction, dummy_bids, file_from}
+use Rattle.canon.specs.Canonical.{IsCanonicalFile, bid_from, canonical_auction, dummy_bids, file_from}
 use Rattle.canon.specs.Comparing.{ComparesAs, Differ, IsNormalFileOf, ReadsNormalAs, RefusesOf, SpellsLight}
-use Rattle.canon.specs.Difference.{Difference, NoDifference, InGoods, InOr, InXor, first_difference, first_unequal_bundle, least_unequal_bidder, or_difference, xor_difference}
+use Rattle.canon.specs.Difference.{Difference, NoDifference, first_difference, first_unequal_bundle, least_unequal_bidder, or_difference, xor_difference}
 use Rattle.canon.specs.Internal.OrBids.{HasOrBids}
-use Rattle.canon.specs.Sameness.{AreSameFiles, AreSameTexts, IsSameAuction}
+use Rattle.canon.specs.Sameness.{AreSameFiles, AreSameTexts}
 use Rattle.canon.specs.Verdicts.{NamesGoods, plain_verdict}
 use Rattle.canon.specs.declared.fault.CanonFault.{CanonFault}
 use Rattle.canon.specs.declared.fault.CanonFault.TheVariants.{Memory}
@@ -38,7 +37,7 @@ use Rattle.canon.proofs.Answering.{refused_file, refused_text, unread_text}
 use Rattle.canon.proofs.Differences.{at_same_goods, same_from_no_difference, no_difference_from_same}
 use Rattle.canon.proofs.Files.{auction_from-file_from}
 use Rattle.canon.proofs.SameDifferences.{difference_of_same_files}
-use Rattle.canon.proofs.Sames.{same_canonical, same_refl, same_sym, same_trans}
+use Rattle.canon.proofs.Sames.{same_refl, same_sym, same_trans}
 use Rattle.canon.proofs.Texts.{HasAtoms-file, IsPlainFile-canonical, canonical_file_is_same, canonical_file_is_fixed}
 
 -- ---- the bids of a canonical file

@@ -6,6 +6,7 @@ pub mod Files
 pub mod Smaller
 pub mod Texts
 pub mod Least
+pub mod Numbering
 pub mod Bidders
 pub mod BidderKeys
 pub mod Filing

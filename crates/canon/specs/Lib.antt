@@ -11,4 +11,5 @@ pub mod Difference
 pub mod Verdicts
 pub mod Comparing
 pub mod FirstPlaces
+pub mod Lemmas
 pub mod Internal

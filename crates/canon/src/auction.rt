@@ -1,23 +1,31 @@
-//! The canonical auction.
+//! The canonical auction, and which bidder is which.
 
-ghost use Rattle.std.specs.Prelude.{◌≡◌, ℕ, None, Some, All, IfOk, IfErr, OnOk};
-ghost use Rattle.bid_file.specs.declared.limits.TheConstants.{MAX_GOODS};
+ghost use Rattle.std.specs.Prelude.{◌≡◌, ◌≤◌, ℕ, None, Some, All, IfOk, IfErr, OnOk, length, map};
+ghost use Rattle.bid_file.specs.declared.limits.TheConstants.{MAX_GOODS, MAX_DUMMY};
 ghost use Rattle.valuation.specs.Auctions.{IsAtom};
 ghost use Rattle.valuation.specs.Bidders.{bidders_of};
-ghost use Rattle.valuation.specs.Orders.{bidder_cmp};
 ghost use Rattle.valuation.specs.Sorting.{sort_by};
 ghost use Rattle.valuation.specs.Views.{plain_auction};
 ghost use Rattle.prune.specs.Faults.{IfStepLimit};
 ghost use Rattle.prune.specs.SearchSteps.{first_heavy};
-ghost use Rattle.canon.specs.Canonical.{IsCanonical, canonical_auction, points_of_bidders};
+ghost use Rattle.canon.specs.Canonical.{IsCanonical, canonical_auction};
 ghost use Rattle.canon.specs.Sameness.{IsSameAuction};
-ghost use Rattle.canon.specs.Internal.KeyedBidders.{keyed_bidders};
+ghost use Rattle.canon.specs.Internal.KeyedBidders.{kept_numbers, keyed_bidders, numbered_cmp, numbered_points};
 
 use crate::keyed_bidder::KeyedBidder;
 use goods_set::GoodsSet;
 use prune::{PruneFault, prune_or, prune_xor};
 use std::alloc::{AllocError, Global};
 use valuation::{Atom, Auction};
+
+/// A canonical auction, and which bidder is which.
+#[derive(Drop)]
+pub(crate) struct NamedAuction<S: GoodsSet> {
+    /// The canonical auction.
+    pub(crate) auction: Auction<S>,
+    /// For each of its XOR bidders the number of the bidder that it is of, counted from 0.
+    pub(crate) dummies: Vec<u32>,
+}
 
 /// The canonical auction of an auction: of each bidder the points, without the XOR bidders of value zero, and the
 /// others in order. It uses the auction up, and copies none of its atoms.
@@ -35,40 +43,72 @@ pub fn canonical<S: GoodsSet>(
         IfErr result (λ fault. IfStepLimit fault (λ bundle. first_heavy a.goods limit a.or_atoms
         ≡ Some (S.goods bundle))) }
 {
+    Ok(named_canonical(alloc, auction, limit)?.auction)
+}
+
+/// The canonical auction of an auction, as `canonical`, and which bidder is which.
+pub(crate) fn named_canonical<S: GoodsSet>(
+    alloc: Global,
+    auction: Auction<S>,
+    limit: u64,
+) -> Result<NamedAuction<S>, PruneFault<S>>
+    ensures canonical { IfOk result (λ c. plain_auction c.auction ≡ canonical_auction (plain_auction auction)) }
+    ensures fixed { IfOk result (λ c. IsCanonical (plain_auction c.auction)) }
+    ensures dummies { IfOk result (λ c. c.dummies.items ≡ kept_numbers (plain_auction auction)) }
+    ensures none_heavy { let a = plain_auction auction in
+        OnOk result (first_heavy a.goods limit a.or_atoms ≡ None) }
+    ensures step_limit { let a = plain_auction auction in
+        IfErr result (λ fault. IfStepLimit fault (λ bundle. first_heavy a.goods limit a.or_atoms
+        ≡ Some (S.goods bundle))) }
+{
     let (goods, or_atoms, xor_bidders) = auction.into_parts();
     let or_points = prune_or(alloc, or_atoms, limit)?;
     let mut bidders = points_of_each(alloc, xor_bidders)?;
     sort_bidders(&mut bidders);
+    let dummies = dummies_of(alloc, &bidders)?;
     let xor_points = without_keys(alloc, bidders)?;
-    Ok(Auction::new(goods, or_points, xor_points))
+    let auction = Auction::new(goods, or_points, xor_points);
+    Ok(NamedAuction { auction, dummies })
 }
 
-/// The points of each bidder that has any.
+/// The points of each bidder that has any, with its number.
 fn points_of_each<S: GoodsSet>(
     alloc: Global,
     bidders: Vec<Vec<Atom<S>>>,
 ) -> Result<Vec<KeyedBidder<S>>, AllocError>
-    requires { All (All (IsAtom MAX_GOODS)) (bidders_of S.goods bidders.items) }
+    requires few { length bidders.items ≤ MAX_DUMMY }
+    requires atoms { All (All (IsAtom MAX_GOODS)) (bidders_of S.goods bidders.items) }
     // For each number of goods that the atoms are within.
     ensures { let atoms = bidders_of S.goods bidders.items in
         IfOk result (λ points. (goods : ℕ) → All (All (IsAtom goods)) atoms
-        → keyed_bidders points.items ≡ points_of_bidders goods atoms) }
+        → keyed_bidders points.items ≡ numbered_points goods atoms) }
 {
     let mut points = Vec::with_capacity(alloc, bidders.len())?;
-    for bidder in bidders {
+    for (dummy, bidder) in bidders.into_iter().enumerate() {
         let own = prune_xor(alloc, bidder)?;
         if !own.is_empty() {
-            points.push(KeyedBidder::new(own))?;
+            points.push(KeyedBidder::new(dummy as u32, own))?;
         }
     }
     Ok(points)
 }
 
-/// Puts the bidders in the order of their lists of atoms.
+/// Puts the bidders in the order of their lists of atoms, and equal ones in that of their numbers.
 fn sort_bidders<S: GoodsSet>(bidders: &mut Vec<KeyedBidder<S>>)
-    ensures { keyed_bidders bidders.new.items ≡ sort_by bidder_cmp (keyed_bidders bidders.old.items) }
+    ensures { keyed_bidders bidders.new.items ≡ sort_by numbered_cmp (keyed_bidders bidders.old.items) }
 {
     bidders.sort_unstable_by(|one, other| one.order(other));
+}
+
+/// The number of each bidder.
+fn dummies_of<S: GoodsSet>(alloc: Global, keyed: &[KeyedBidder<S>]) -> Result<Vec<u32>, AllocError>
+    ensures { IfOk result (λ dummies. dummies.items ≡ map (λ b. b.number) (keyed_bidders keyed.now)) }
+{
+    let mut dummies = Vec::with_capacity(alloc, keyed.len())?;
+    for bidder in keyed {
+        dummies.push(bidder.dummy())?;
+    }
+    Ok(dummies)
 }
 
 /// The bidders without what stands beside them.
@@ -76,7 +116,7 @@ fn without_keys<S: GoodsSet>(
     alloc: Global,
     keyed: Vec<KeyedBidder<S>>,
 ) -> Result<Vec<Vec<Atom<S>>>, AllocError>
-    ensures { IfOk result (λ bidders. bidders_of S.goods bidders.items ≡ keyed_bidders keyed.items) }
+    ensures { IfOk result (λ bidders. bidders_of S.goods bidders.items ≡ map (λ b. b.atoms) (keyed_bidders keyed.items)) }
 {
     let mut bidders = Vec::with_capacity(alloc, keyed.len())?;
     for bidder in keyed {

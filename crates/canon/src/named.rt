@@ -1,12 +1,15 @@
 //! The canonical file of a file, and which of the file's bidders each of its bidders is.
 
-ghost use Rattle.std.specs.Prelude.{◌≡◌, IfOk};
+ghost use Rattle.std.specs.Prelude.{◌≡◌, ◌≤◌, IfOk};
 ghost use Rattle.canon.specs.Answers.{NormalisesPlainAs, unnamed_answer};
 ghost use Rattle.canon.specs.Renaming.{kept_dummies};
 
 use crate::fault::CanonFault;
-use bid_file::PackedFile;
+use crate::normal::normal_auction_file;
+use bid_file::{MAX_GOODS, PackedFile};
+use goods_set::GoodsSet;
 use std::alloc::Global;
+use valuation::{Auction, auction_of, on_set_for};
 
 /// The canonical file of a file, with the dummy goods that its bidders have there.
 #[derive(Drop)]
@@ -27,5 +30,20 @@ pub fn named_normal_file(
     ensures answer { NormalisesPlainAs limit file.now (unnamed_answer result) }
     ensures dummies { IfOk result (λ named. named.dummies.items ≡ kept_dummies file.now) }
 {
-    Err(CanonFault::Memory)
+    prove!(file.goods() <= MAX_GOODS);
+    on_set_for!(file, named_file_on(alloc, file, limit))
+}
+
+/// The canonical file of a packed file, and which bidder is which, by sets of one kind.
+fn named_file_on<S: GoodsSet>(
+    alloc: Global,
+    file: &PackedFile,
+    limit: u64,
+) -> Result<NamedFile, CanonFault>
+    requires { file.now.goods ≤ S.CAP }
+    ensures answer { NormalisesPlainAs limit file.now (unnamed_answer result) }
+    ensures dummies { IfOk result (λ named. named.dummies.items ≡ kept_dummies file.now) }
+{
+    let auction: Auction<S> = auction_of(alloc, file)?;
+    normal_auction_file(alloc, auction, limit)
 }

@@ -4,14 +4,16 @@ ghost use Rattle.std.specs.Prelude.{◌≡◌, ◌≤◌, None, IfOk, IfErr, OnO
 ghost use Rattle.bid_file.specs.Views.{plain_file};
 ghost use Rattle.valuation.specs.Views.{plain_auction};
 ghost use Rattle.prune.specs.SearchSteps.{first_heavy};
-ghost use Rattle.canon.specs.Answers.{NormalisesFileAs, NormalisesPlainAs, RefusesAuction};
+ghost use Rattle.canon.specs.Answers.{NormalisesAuctionAs, NormalisesFileAs, NormalisesPlainAs, RefusesAuction, unnamed_answer};
 ghost use Rattle.canon.specs.Canonical.{IsCanonical, IsCanonicalFile, canonical_auction};
+ghost use Rattle.canon.specs.Internal.KeyedBidders.{kept_numbers};
 ghost use Rattle.canon.specs.Least.{IsLeastFor};
 ghost use Rattle.canon.specs.Sameness.{AreSameFiles};
 
-use crate::auction::canonical;
+use crate::auction::{NamedAuction, named_canonical};
 use crate::fault::CanonFault;
 use crate::file::packed_file_of;
+use crate::named::NamedFile;
 use bid_file::{BidFile, PackedFile, pack};
 use goods_set::{GoodsSet, goods_of};
 use prune::PruneFault;
@@ -56,8 +58,22 @@ fn normal_file_on<S: GoodsSet>(
 {
     let auction: Auction<S> = auction_of(alloc, &file)?;
     mem::drop(file);
-    let canonical = light_canonical(alloc, auction, limit)?;
-    Ok(packed_file_of(alloc, &canonical)?)
+    Ok(normal_auction_file(alloc, auction, limit)?.file)
+}
+
+/// The canonical file of an auction, and which bidder is which.
+pub(crate) fn normal_auction_file<S: GoodsSet>(
+    alloc: Global,
+    auction: Auction<S>,
+    limit: u64,
+) -> Result<NamedFile, CanonFault>
+    ensures answer { NormalisesAuctionAs limit (plain_auction auction) (unnamed_answer result) }
+    ensures dummies { IfOk result (λ named. named.dummies.items ≡ kept_numbers (plain_auction auction)) }
+    ensures canonical { IfOk result (λ named. IsCanonicalFile named.file) }
+{
+    let NamedAuction { auction, dummies } = light_canonical(alloc, auction, limit)?;
+    let file = packed_file_of(alloc, &auction)?;
+    Ok(NamedFile { file, dummies })
 }
 
 /// The canonical auction, if no bundle is heavy.
@@ -65,14 +81,15 @@ fn light_canonical<S: GoodsSet>(
     alloc: Global,
     auction: Auction<S>,
     limit: u64,
-) -> Result<Auction<S>, CanonFault>
-    ensures canonical { IfOk result (λ c. plain_auction c ≡ canonical_auction (plain_auction auction)) }
-    ensures fixed { IfOk result (λ c. IsCanonical (plain_auction c)) }
+) -> Result<NamedAuction<S>, CanonFault>
+    ensures canonical { IfOk result (λ c. plain_auction c.auction ≡ canonical_auction (plain_auction auction)) }
+    ensures fixed { IfOk result (λ c. IsCanonical (plain_auction c.auction)) }
+    ensures dummies { IfOk result (λ c. c.dummies.items ≡ kept_numbers (plain_auction auction)) }
     ensures light { let a = plain_auction auction in
         OnOk result (first_heavy a.goods limit a.or_atoms ≡ None) }
     ensures refused { IfErr result (λ fault. RefusesAuction limit (plain_auction auction) fault) }
 {
-    match canonical(alloc, auction, limit) {
+    match named_canonical(alloc, auction, limit) {
         Ok(canonical) => Ok(canonical),
         Err(PruneFault::StepLimit { bundle }) => Err(CanonFault::StepLimit {
             goods: goods_of(alloc, &bundle)?,

@@ -3,7 +3,8 @@
 use crate::refusals::{expect_line, refusal_text};
 use bid_file::{BidFile, Bids, PackedFile};
 use canon::{
-    CanonFault, canonical, file_of, normal_file, normal_packed_file, normalise, packed_file_of,
+    CanonFault, NamedFile, canonical, file_of, named_normal_file, normal_file, normal_packed_file,
+    normalise, packed_file_of,
 };
 use cats_text::{read, read_packed, write};
 use goods_set::{GoodsSet, ListSet, WordSet};
@@ -42,6 +43,19 @@ const EQUAL_FRONTS_TEXT: &str = concat!(
 const FEW_OF_MANY: &str = "goods 1024\nbids 3\ndummy 0\n0\t3\t0\t#\n1\t4\t1\t#\n2\t7\t0\t1\t#\n";
 
 const FEW_OF_MANY_TEXT: &str = "goods 1024\nbids 2\ndummy 0\n0\t3\t0\t#\n1\t4\t1\t#\n";
+
+/// Four bidders: the first comes last, since good 1 comes behind good 0; the second has no bid above zero; and the third
+/// and the fourth are equal.
+const EQUAL_AND_ZERO: &str = concat!(
+    "goods 2\nbids 4\ndummy 4\n",
+    "0\t3\t1\t2\t#\n1\t0\t0\t3\t#\n2\t2\t0\t4\t#\n3\t2\t0\t5\t#\n"
+);
+
+const EQUAL_AND_ZERO_NAMED: &str = concat!(
+    "goods 2\nbids 3\ndummy 3\n",
+    "0\t2\t0\t2\t#\n1\t2\t0\t3\t#\n2\t3\t1\t4\t#\n",
+    "[2, 3, 0]"
+);
 
 /// The bytes of a file, as a text.
 fn text_of<B: Bids>(alloc: Global, file: &B) -> Result<String, Fail> {
@@ -166,6 +180,31 @@ fn canonical_packed_files(rt: HostRuntime) -> Result<(), Fail> {
         let file = read_packed(rt.alloc(), text.as_bytes())?;
         let answer = normal_packed_file(rt.alloc(), file, *limit);
         expect_line(&rt, &told_packed_file(rt.alloc(), answer)?, expected);
+    }
+    Ok(())
+}
+
+/// The file that a call answered, as its text with the dummy goods behind it, or why there is none.
+fn told_named_file(alloc: Global, answer: Result<NamedFile, CanonFault>) -> Result<String, Fail> {
+    match answer {
+        Ok(named) => {
+            let text = text_of(alloc, &named.file)?;
+            let dummies = named.dummies.as_slice();
+            Ok(format!(in alloc; "{text}{dummies:?}")?)
+        }
+        Err(fault) => refusal_text(alloc, fault),
+    }
+}
+
+#[test]
+fn named_files(rt: HostRuntime) -> Result<(), Fail> {
+    for (text, limit, expected) in &[
+        (EQUAL_AND_ZERO, 1, EQUAL_AND_ZERO_NAMED),
+        (LARGER_BID, 2, "steps [0, 1]"),
+    ] {
+        let file = read_packed(rt.alloc(), text.as_bytes())?;
+        let answer = named_normal_file(rt.alloc(), &file, *limit);
+        expect_line(&rt, &told_named_file(rt.alloc(), answer)?, expected);
     }
     Ok(())
 }

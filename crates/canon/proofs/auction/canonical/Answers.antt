@@ -1,57 +1,11 @@
--- What is made of the pruned parts is the canonical auction (proofs/Bidders), so the laws of that auction are those of the result.
-use Rattle.std.proofs.Common.{◌≡◌, sym, ◌∙◌, subst}
-use Rattle.valuation.specs.Auctions.{PlainAuction, IsAuction}
-use Rattle.valuation.specs.Bidders.{bidders_of}
-use Rattle.valuation.specs.Values.{atoms_of}
+use Rattle.std.proofs.Common.{sym, subst}
+use Rattle.valuation.specs.Auctions.{PlainAuction}
 use Rattle.valuation.specs.Views.{plain_auction}
-use Rattle.canon.specs.Canonical.{IsCanonical, canonical_auction}
 use Rattle.canon.specs.Sameness.{IsSameAuction}
-use Rattle.canon.specs.Internal.KeyedBidders.{keyed_bidders}
-use Rattle.canon.proofs.Bidders.{or_part, xor_part, canonical_parts, light_parts}
-use Rattle.canon.proofs.Sames.{HasAtoms-auction, canonical_is_same, canonical_is_fixed}
-use Rattle.canon.proofs.Smaller.{IsAuction-canonical}
-use Rattle.canon.proofs.auction.canonical.Given.{Over}
+use Rattle.canon.proofs.Sames.{HasAtoms-auction, canonical_is_same}
 use Rattle.canon.proofs.auction.canonical.Goals as goal
-
-pub prune_or-requires : goal.prune_or-requires
-prune_or-requires g c =
-    or_part g.S.GoodsSet.CAP (plain_auction c.args.auction) c.args.auction.facts _ _ _ c.into_parts-goods.ensures
-
-pub points_of_each-requires : goal.points_of_each-requires
-points_of_each-requires g c =
-    xor_part g.S.GoodsSet.CAP (plain_auction c.args.auction) c.args.auction.facts _ _ _ c.into_parts-goods.ensures
-
-pub new-requires : goal.new-requires
-new-requires g c =
-    let same = canonical_parts g.S.GoodsSet.CAP (plain_auction c.args.auction) c.args.auction.facts _ _ _ c.into_parts-goods.ensures
-    (atoms_of g.S.GoodsSet.goods c.in_ok-or_points.or_points.items) (keyed_bidders c.in_ok-bidders.bidders.items)
-    (bidders_of g.S.GoodsSet.goods c.in_ok-xor_points.xor_points.items)
-    c.in_ok-or_points.ensures.points c.in_ok-bidders.ensures (c.in_ok-xor_points.ensures ∙ c.sort_bidders.ensures) in
-    subst (λ (a : PlainAuction). IsAuction g.S.GoodsSet.CAP a) (sym same)
-    (IsAuction-canonical g.S.GoodsSet.CAP (plain_auction c.args.auction) c.args.auction.facts)
-
-made : (g : Over) (c : goal.After-new g) → plain_auction c.new.result ≡ canonical_auction (plain_auction c.args.auction)
-made g c =
-    c.new.ensures
-    ∙ canonical_parts g.S.GoodsSet.CAP (plain_auction c.args.auction) c.args.auction.facts _ _ _ c.into_parts-goods.ensures
-    (atoms_of g.S.GoodsSet.goods c.in_ok-or_points.or_points.items) (keyed_bidders c.in_ok-bidders.bidders.items)
-    (bidders_of g.S.GoodsSet.goods c.in_ok-xor_points.xor_points.items)
-    c.in_ok-or_points.ensures.points c.in_ok-bidders.ensures (c.in_ok-xor_points.ensures ∙ c.sort_bidders.ensures)
-
-pub returns-clause-canonical : goal.returns-clause-canonical
-returns-clause-canonical g c = made g c
 
 pub returns-clause-same : goal.returns-clause-same
 returns-clause-same g c =
-    subst (λ (a : PlainAuction). IsSameAuction (plain_auction c.args.auction) a) (sym (made g c))
+    subst (λ (a : PlainAuction). IsSameAuction (plain_auction c.args.auction) a) (sym c.in_ok-named_canonical.ensures.canonical)
     (canonical_is_same (plain_auction c.args.auction) (HasAtoms-auction g.S.GoodsSet.CAP (plain_auction c.args.auction) c.args.auction.facts))
-
-pub returns-clause-fixed : goal.returns-clause-fixed
-returns-clause-fixed g c =
-    subst (λ (a : PlainAuction). IsCanonical a) (sym (made g c))
-    (canonical_is_fixed (plain_auction c.args.auction) (HasAtoms-auction g.S.GoodsSet.CAP (plain_auction c.args.auction) c.args.auction.facts))
-
-pub returns-clause-none_heavy : goal.returns-clause-none_heavy
-returns-clause-none_heavy g c =
-    light_parts g.S.GoodsSet.CAP (plain_auction c.args.auction) c.args.auction.facts _ _ _ c.into_parts-goods.ensures c.args.limit
-    c.in_ok-or_points.ensures.none_heavy

@@ -1,18 +1,19 @@
--- The bidders that are done and those still to come are all bidders; of those done the points are there.
-use Rattle.std.proofs.Common.{◌≡◌, ℕ, ◌++◌}
+-- The bidders that are done and those still to come are all bidders; of those done the points are there, with their numbers.
+use Rattle.std.proofs.Common.{◌≡◌, ℕ, ◌++◌, length, map}
 use Rattle.std.specs.Prelude.{All}
+use Rattle.std.specs.Iterator.Adapters.{enumerate_count, enumerate_source}
 use Rattle.std.specs.Vec.Iter.{into_iter_items}
 use Rattle.valuation.specs.Auctions.{IsAtom}
 use Rattle.valuation.specs.Bidders.{bidders_of}
-use Rattle.canon.specs.Canonical.{points_of_bidders}
-use Rattle.canon.specs.Internal.KeyedBidders.{keyed_bidders}
+use Rattle.canon.specs.Internal.KeyedBidders.{keyed_bidders, numbered_points}
 use Rattle.canon.proofs.auction.points_of_each.Given as goal
 
-abbrev pub invariant-loop-bidder : goal.invariant-loop-bidder
-invariant-loop-bidder g l =
+abbrev pub invariant-loop-dummy : goal.invariant-loop-dummy
+invariant-loop-dummy g l =
     let goods = g.S.GoodsSet.goods in
     record {
-      all : l.fn.bidders.items ≡ l.yielded ++ into_iter_items l.bidder-iterator;
+      all : l.fn.bidders.items ≡ map (λ p. p.1) l.yielded ++ into_iter_items (enumerate_source l.dummy-iterator);
+      count : enumerate_count l.dummy-iterator ≡ length l.yielded;
       points : (n : ℕ) → All (All (IsAtom n)) (bidders_of goods l.fn.bidders.items)
-          → keyed_bidders l.points.items ≡ points_of_bidders n (bidders_of goods l.yielded);
+          → keyed_bidders l.points.items ≡ numbered_points n (bidders_of goods (map (λ p. p.1) l.yielded));
     }

@@ -1,4 +1,4 @@
-use Rattle.canon.specs.Normalising.{HasOutcome, IsText, Normalises}
+use Rattle.canon.specs.Normalising.{IsText, Normalises}
 use Rattle.canon.proofs.Answering.{text_of_normal, same_exactly, unread_answer, normal_again}
 use Rattle.canon.proofs.text.normalise.Goals as goal
 

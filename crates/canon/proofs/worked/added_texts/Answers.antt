@@ -1,4 +1,4 @@
-use Rattle.std.proofs.Common.{◌≡◌, ◌∷◌, [], ℕ, List, Bool, true, false, cond, bytes_eq, Option, Some, None, refl, sym, ap, arith}
+use Rattle.std.proofs.Common.{◌≡◌, [], ℕ, cond, Option, Some, None, refl, ap, arith}
 use Rattle.std.specs.Prelude.{codes}
 use Rattle.canon.proofs.Indexing.{index_of_none, bytes_eq_sym}
 use Rattle.canon.proofs.worked.added_texts.Goals as goal

@@ -1,0 +1,71 @@
+-- What is made of the pruned parts is the canonical auction (proofs/Bidders), so the laws of that auction are those of the result.
+use Rattle.std.proofs.Common.{◌≡◌, List, sym, ap, ◌∙◌, map, subst, arith, Global}
+use Rattle.std.specs.Prelude.{Vec}
+use Rattle.std.proofs.lemmas.List.{length-map}
+use Rattle.valuation.specs.declared.atom.Atom.{Atom}
+use Rattle.valuation.specs.Auctions.{PlainAuction, IsAuction}
+use Rattle.valuation.specs.Bidders.{bidders_of}
+use Rattle.valuation.specs.Values.{atoms_of}
+use Rattle.valuation.specs.Views.{plain_auction}
+use Rattle.canon.specs.Canonical.{IsCanonical, canonical_auction}
+use Rattle.canon.specs.declared.keyed_bidder.KeyedBidder.{KeyedBidder}
+use Rattle.canon.specs.Internal.KeyedBidders.{NumberedBidder, keyed_bidders}
+use Rattle.canon.proofs.Bidders.{or_part, xor_part, few_bidders, canonical_parts, number_parts, light_parts}
+use Rattle.canon.proofs.Sames.{HasAtoms-auction, canonical_is_fixed}
+use Rattle.canon.proofs.Smaller.{IsAuction-canonical}
+use Rattle.canon.proofs.auction.named_canonical.Given.{Over}
+use Rattle.canon.proofs.auction.named_canonical.Goals as goal
+
+pub prune_or-requires : goal.prune_or-requires
+prune_or-requires g c =
+    or_part g.S.GoodsSet.CAP (plain_auction c.args.auction) c.args.auction.facts _ _ _ c.into_parts-goods.ensures
+
+pub points_of_each-requires-clause-few : goal.points_of_each-requires-clause-few
+points_of_each-requires-clause-few g c =
+    let few = few_bidders g.S.GoodsSet.CAP (plain_auction c.args.auction) c.args.auction.facts _ _ _ c.into_parts-goods.ensures in
+    let seen = length-map c.into_parts-goods.result.2.items (λ (v : Vec (Atom _) Global). atoms_of g.S.GoodsSet.goods v.items) in
+    omega (arith, few, seen)
+
+pub points_of_each-requires-clause-atoms : goal.points_of_each-requires-clause-atoms
+points_of_each-requires-clause-atoms g c =
+    xor_part g.S.GoodsSet.CAP (plain_auction c.args.auction) c.args.auction.facts _ _ _ c.into_parts-goods.ensures
+
+pub new-auction-requires : goal.new-auction-requires
+new-auction-requires g c =
+    let same = canonical_parts g.S.GoodsSet.CAP (plain_auction c.args.auction) c.args.auction.facts _ _ _ c.into_parts-goods.ensures
+    (atoms_of g.S.GoodsSet.goods c.in_ok-or_points.or_points.items) (keyed_bidders c.in_ok-bidders.bidders.items)
+    (bidders_of g.S.GoodsSet.goods c.in_ok-xor_points.xor_points.items)
+    c.in_ok-or_points.ensures.points c.in_ok-bidders.ensures
+    (c.in_ok-xor_points.ensures ∙ ap (map (λ (b : NumberedBidder). b.atoms)) c.sort_bidders.ensures) in
+    subst (λ (a : PlainAuction). IsAuction g.S.GoodsSet.CAP a) (sym same)
+    (IsAuction-canonical g.S.GoodsSet.CAP (plain_auction c.args.auction) c.args.auction.facts)
+
+made : (g : Over) (c : goal.After-new-auction g) → plain_auction c.new-auction.result ≡ canonical_auction (plain_auction c.args.auction)
+made g c =
+    c.new-auction.ensures
+    ∙ canonical_parts g.S.GoodsSet.CAP (plain_auction c.args.auction) c.args.auction.facts _ _ _ c.into_parts-goods.ensures
+    (atoms_of g.S.GoodsSet.goods c.in_ok-or_points.or_points.items) (keyed_bidders c.in_ok-bidders.bidders.items)
+    (bidders_of g.S.GoodsSet.goods c.in_ok-xor_points.xor_points.items)
+    c.in_ok-or_points.ensures.points c.in_ok-bidders.ensures
+    (c.in_ok-xor_points.ensures ∙ ap (map (λ (b : NumberedBidder). b.atoms)) c.sort_bidders.ensures)
+
+pub returns-clause-canonical : goal.returns-clause-canonical
+returns-clause-canonical g c = made g c
+
+pub returns-clause-fixed : goal.returns-clause-fixed
+returns-clause-fixed g c =
+    subst (λ (a : PlainAuction). IsCanonical a) (sym (made g c))
+    (canonical_is_fixed (plain_auction c.args.auction) (HasAtoms-auction g.S.GoodsSet.CAP (plain_auction c.args.auction) c.args.auction.facts))
+
+pub returns-clause-dummies : goal.returns-clause-dummies
+returns-clause-dummies g c =
+    number_parts g.S.GoodsSet.CAP (plain_auction c.args.auction) c.args.auction.facts _ _ _ c.into_parts-goods.ensures
+    (keyed_bidders c.in_ok-bidders.bidders.items) c.in_ok-dummies.dummies.items c.in_ok-bidders.ensures
+    (c.in_ok-dummies.ensures
+    ∙ ap (λ (bs : List (KeyedBidder _ g.S.GoodsSet)). map (λ (b : NumberedBidder). b.number) (keyed_bidders bs)) c.deref.ensures.value
+    ∙ ap (map (λ (b : NumberedBidder). b.number)) c.sort_bidders.ensures)
+
+pub returns-clause-none_heavy : goal.returns-clause-none_heavy
+returns-clause-none_heavy g c =
+    light_parts g.S.GoodsSet.CAP (plain_auction c.args.auction) c.args.auction.facts _ _ _ c.into_parts-goods.ensures c.args.limit
+    c.in_ok-or_points.ensures.none_heavy

@@ -1,0 +1,153 @@
+-- The dummy goods of the bidders that are in the canonical file. They are put in order by the points of their bidders first, so these
+-- points are the bidders of the canonical auction; none is there twice, and each is that of a bidder whose value is not zero.
+use Rattle.std.proofs.Common.{◌≡◌, ◌≢◌, ℕ, ◌+◌, ◌<◌, Bool, true, false, cond, ⊎_elim, List, [], ◌∷◌, length, map, get_or, eqb, refl, sym, ap, ◌∙◌, subst, arith}
+use Rattle.std.proofs.Common.{Ordering, Less, Equal, Greater, Some}
+use Rattle.std.specs.Prelude.{AllPairs, Contains}
+use Rattle.std.specs.Cmp.{IsTotalOrder, both_ways}
+use Rattle.std.specs.List.{filter, range_with_len, slice_get}
+use Rattle.std.specs.List.Sorted.{IsSortedBy}
+use Rattle.std.specs.Ordering.{is_lt, ordering_then}
+use Rattle.std.proofs.lemmas.Bool.{cases_order, eq-eqb, eqb-true}
+use Rattle.std.proofs.lemmas.Bool.Decides.{Decides-eqb}
+use Rattle.std.proofs.lemmas.Cmp.{nat_cmp_total, on_total, then_total}
+use Rattle.std.proofs.lemmas.List.{length-map, get_or-map}
+use Rattle.std.proofs.lemmas.List.FromFn.{length-range_with_len, get_or-range_with_len}
+use Rattle.std.proofs.lemmas.List.Kept.{AllPairs-filter}
+use Rattle.std.proofs.lemmas.List.Sorted.{IsPermutation-map, IsPermutation-sym, Contains-permutation}
+use Rattle.std.proofs.lemmas.Map.Keys.{IsDistinct-IsPermutation}
+use Rattle.std.proofs.lemmas.Map.Made.{AllPairs-from_IsDistinct, IsDistinct-from_AllPairs}
+use Rattle.std.proofs.lemmas.Option.{get_or_from_slice_get, slice_get_within}
+use Rattle.std.proofs.lemmas.Simd.{map-map}
+use Rattle.bid_file.specs.Files.{PlainFile}
+use Rattle.valuation.specs.Auctions.{auction_from, xor_atoms_of}
+use Rattle.valuation.specs.Lemmas.Orders.{bidder_cmp_total, bidder_cmp_equal}
+use Rattle.valuation.specs.Lemmas.Sorting.{permutation-sort_by, sorted-sort_by, sorted_is_sort_by}
+use Rattle.valuation.specs.Orders.{bidder_cmp}
+use Rattle.valuation.specs.Sorting.{sort_by}
+use Rattle.valuation.specs.Tables.{xor_table, is_nonzero}
+use Rattle.prune.specs.Lemmas.Lists.{Contains-filter, Contains-filter_parts}
+use Rattle.prune.specs.Points.{xor_points}
+use Rattle.canon.specs.Canonical.{canonical_auction, points_of_bidders}
+use Rattle.canon.specs.Renaming.{points_of_dummy, dummy_cmp, kept_dummies}
+
+-- ---- lists that are seen as others
+
+pub filter-map : {X Y : Type 0} (p : Y → Bool) (seen : X → Y) (xs : List X) → filter p (map seen xs) ≡ map seen (filter (λ x. p (seen x)) xs)
+filter-map p seen [] = refl
+filter-map {X} {Y} p seen (x ∷ xs) =
+    elim (p (seen x)) as (λ b. cond b (seen x ∷ filter p (map seen xs)) (filter p (map seen xs))
+    ≡ map seen (cond b (x ∷ filter (λ y. p (seen y)) xs) (filter (λ y. p (seen y)) xs))) [
+      | true ↦ ap (λ (zs : List Y). seen x ∷ zs) (filter-map p seen xs)
+      | false ↦ filter-map p seen xs
+    ]
+
+-- what is in order by what is seen of each element, is in order once it is seen
+pub map-sorted : {X Y : Type 0} (seen : X → Y) (lt : Y → Y → Bool) (xs : List X) → IsSortedBy (λ x y. lt (seen x) (seen y)) xs
+    → IsSortedBy lt (map seen xs)
+map-sorted seen lt [] up k d l m = absurd (omega arith)
+map-sorted {Y = Y} seen lt (x ∷ xs) up k d l m =
+    let long = length-map (x ∷ xs) seen in
+    let here : k < length (x ∷ xs) = omega arith in
+    let next : k + 1 < length (x ∷ xs) = omega arith in
+    subst (λ (a : Y). lt a (get_or (map seen (x ∷ xs)) k d) ≡ false) (sym (get_or-map seen (x ∷ xs) (k + 1) x d next))
+    (subst (λ (b : Y). lt (seen (get_or (x ∷ xs) (k + 1) x)) b ≡ false) (sym (get_or-map seen (x ∷ xs) k x d here)) (up k x l next))
+
+-- seen before or after they are put in order, where the first order settles the second
+pub sort_by-map : {X Y : Type 0} (cmp : X → X → Ordering) (other : Y → Y → Ordering) (seen : X → Y) → IsTotalOrder cmp → IsTotalOrder other
+    → ((a b : Y) → other a b ≡ Equal → a ≡ b) → ((x y : X) → is_lt (cmp x y) ≡ false → is_lt (other (seen x) (seen y)) ≡ false) → (xs : List X)
+    → map seen (sort_by cmp xs) ≡ sort_by other (map seen xs)
+sort_by-map cmp other seen total also exact weaker xs =
+    sorted_is_sort_by other also exact (map seen xs) (map seen (sort_by cmp xs))
+    (IsPermutation-map seen xs (sort_by cmp xs) (permutation-sort_by cmp xs))
+    (map-sorted seen (λ a b. is_lt (other a b)) (sort_by cmp xs) (λ k d l m. weaker _ _ (sorted-sort_by cmp total xs k d l m)))
+
+-- ---- two orders, the second where the first ties
+
+pub then_not_less : (o p : Ordering) → is_lt (ordering_then o p) ≡ false → is_lt o ≡ false
+then_not_less Less p e = absurd (cc)
+then_not_less Equal p e = refl
+then_not_less Greater p e = refl
+
+pub then_equal : (o p : Ordering) → ordering_then o p ≡ Equal → (o ≡ Equal) × (p ≡ Equal)
+then_equal Less p e = absurd (cc)
+then_equal Equal p e = (refl, e)
+then_equal Greater p e = absurd (cc)
+
+pub dummy_cmp_total : (f : PlainFile) → IsTotalOrder (dummy_cmp f)
+dummy_cmp_total f = then_total (on_total (points_of_dummy f) bidder_cmp_total) nat_cmp_total
+
+-- ---- the bidders of the file that are in the canonical one
+
+abbrev pub has_value : PlainFile → ℕ → Bool
+has_value f d = is_nonzero (xor_table (xor_atoms_of f.bids d) f.goods)
+
+abbrev pub nonzero_dummies : PlainFile → List ℕ
+nonzero_dummies f = filter (has_value f) (range_with_len 0 f.dummy)
+
+points_of_nonzero : (f : PlainFile) → points_of_bidders f.goods (auction_from f).xor_bidders ≡ map (points_of_dummy f) (nonzero_dummies f)
+points_of_nonzero f =
+    ap (map (xor_points f.goods)) (filter-map (λ bidder. is_nonzero (xor_table bidder f.goods)) (xor_atoms_of f.bids) (range_with_len 0 f.dummy))
+    ∙ map-map (xor_points f.goods) (xor_atoms_of f.bids) (nonzero_dummies f)
+
+pub points_of_kept_dummies : (f : PlainFile) → map (points_of_dummy f) (kept_dummies f) ≡ (canonical_auction (auction_from f)).xor_bidders
+points_of_kept_dummies f =
+    sort_by-map (dummy_cmp f) bidder_cmp (points_of_dummy f) (dummy_cmp_total f) bidder_cmp_total bidder_cmp_equal
+    (λ d e h. then_not_less (bidder_cmp (points_of_dummy f d) (points_of_dummy f e)) _ h) (nonzero_dummies f)
+    ∙ ap (sort_by bidder_cmp) (sym (points_of_nonzero f))
+
+-- ---- which they are
+
+in_range : (n d : ℕ) → Contains (range_with_len 0 n) d → d < n
+in_range n d c =
+    let within : c.0 < n = subst (λ m. c.0 < m) (length-range_with_len 0 n) c.1 in
+    let at : get_or (range_with_len 0 n) c.0 d ≡ 0 + c.0 = get_or-range_with_len 0 n c.0 d within in
+    let is : get_or (range_with_len 0 n) c.0 d ≡ d = c.2 in
+    omega arith
+
+range_contains : (n d : ℕ) → d < n → Contains (range_with_len 0 n) d
+range_contains n d l =
+    let at : get_or (range_with_len 0 n) d d ≡ 0 + d = get_or-range_with_len 0 n d d l in
+    let is : 0 + d ≡ d = omega arith in
+    (d, subst (λ m. d < m) (sym (length-range_with_len 0 n)) l, at ∙ is)
+
+pub kept_dummies-below : (f : PlainFile) (d : ℕ) → Contains (kept_dummies f) d → (d < f.dummy) × (has_value f d ≡ true)
+kept_dummies-below f d c =
+    let there : Contains (nonzero_dummies f) d = Contains-permutation (kept_dummies f) (nonzero_dummies f) d
+    (IsPermutation-sym (nonzero_dummies f) (kept_dummies f) (permutation-sort_by (dummy_cmp f) (nonzero_dummies f))) c in
+    let parts = Contains-filter_parts (has_value f) (range_with_len 0 f.dummy) d there in
+    (in_range f.dummy d parts.0, parts.1)
+
+pub kept_dummies-has : (f : PlainFile) (d : ℕ) → d < f.dummy → has_value f d ≡ true → Contains (kept_dummies f) d
+kept_dummies-has f d l e =
+    Contains-permutation (nonzero_dummies f) (kept_dummies f) d (permutation-sort_by (dummy_cmp f) (nonzero_dummies f))
+    (Contains-filter (has_value f) (range_with_len 0 f.dummy) d (range_contains f.dummy d l) e)
+
+-- ---- none is there twice
+
+range_differs : (n : ℕ) → AllPairs (λ d e. d ≢ e) (range_with_len 0 n)
+range_differs n i j d l m e =
+    let within : j < n = subst (λ k. j < k) (length-range_with_len 0 n) m in
+    let one : get_or (range_with_len 0 n) i d ≡ 0 + i = get_or-range_with_len 0 n i d (omega arith) in
+    let other : get_or (range_with_len 0 n) j d ≡ 0 + j = get_or-range_with_len 0 n j d within in
+    let same : get_or (range_with_len 0 n) i d ≡ get_or (range_with_len 0 n) j d = e in
+    absurd (omega arith)
+
+eqb_flips : (x y : ℕ) → eqb x y ≡ eqb y x
+eqb_flips x y = both_ways (eqb x y) (eqb y x) (λ t. eq-eqb y x (sym (eqb-true x y t))) (λ t. eq-eqb x y (sym (eqb-true y x t)))
+
+pub kept_dummies-differ : (f : PlainFile) → AllPairs (λ d e. d ≢ e) (kept_dummies f)
+kept_dummies-differ f =
+    AllPairs-from_IsDistinct Decides-eqb (kept_dummies f)
+    (IsDistinct-IsPermutation eqb eqb_flips (nonzero_dummies f) (kept_dummies f) (permutation-sort_by (dummy_cmp f) (nonzero_dummies f))
+    (IsDistinct-from_AllPairs Decides-eqb (nonzero_dummies f)
+    (AllPairs-filter (λ d e. d ≢ e) (has_value f) (range_with_len 0 f.dummy) (range_differs f.dummy))))
+
+pub kept_dummies-once : (f : PlainFile) (k l d : ℕ) → slice_get (kept_dummies f) k ≡ Some d → slice_get (kept_dummies f) l ≡ Some d → k ≡ l
+kept_dummies-once f k l d e g =
+    let one : get_or (kept_dummies f) k 0 ≡ d = get_or_from_slice_get (kept_dummies f) k d 0 e in
+    let other : get_or (kept_dummies f) l 0 ≡ d = get_or_from_slice_get (kept_dummies f) l d 0 g in
+    ⊎_elim (λ (same : k ≡ l). same)
+    (⊎_elim
+    (λ (m : k < l). absurd (kept_dummies-differ f k l 0 m (slice_get_within (kept_dummies f) l d g) (one ∙ sym other)))
+    (λ (m : l < k). absurd (kept_dummies-differ f l k 0 m (slice_get_within (kept_dummies f) k d e) (other ∙ sym one))))
+    (cases_order k l)
