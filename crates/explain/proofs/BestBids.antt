@@ -43,7 +43,7 @@ key_first Less p q e = e
 key_first Equal p q e = refl
 key_first Greater p q e = refl
 
-pub equal_from : (o : Ordering) → is_eq o ≡ true → o ≡ Equal
+equal_from : (o : Ordering) → is_eq o ≡ true → o ≡ Equal
 equal_from Less e = absurd (cc)
 equal_from Equal e = refl
 equal_from Greater e = absurd (cc)

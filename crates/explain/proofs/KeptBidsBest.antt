@@ -1,22 +1,20 @@
 -- The best bids of a file. The idea: a best bid has the greatest price of its bidder's bids on its goods, and of a
 -- bidder's bids on a bundle one alone is the best, the first of those with the greatest price.
-use Rattle.std.proofs.Common.{◌≡◌, ℕ, ◌+◌, ◌<◌, ◌≤◌, Bool, true, false, ◌&&◌, ◌||◌, ltb, eqb, ⊎_elim, List, [], ◌∷◌, length, map, get_or}
+use Rattle.std.proofs.Common.{◌≡◌, ℕ, ◌<◌, ◌≤◌, Bool, true, false, ◌&&◌, ◌||◌, ltb, eqb, ⊎_elim, List, [], length, map}
 use Rattle.std.proofs.Common.{Option, Some, None, is_none, refl, sym, ap, ◌∙◌, subst, arith, le_antisymm}
-use Rattle.std.specs.Prelude.{All, Contains}
+use Rattle.std.specs.Prelude.{Contains}
 use Rattle.std.specs.List.{filter}
 use Rattle.std.proofs.lemmas.Bool.{and_parts, and_from, or_left, or_right, or_cases, cases_lt, both_ways, eqb-true, eq-eqb, ltb-true, lt-ltb, not_from_false, not-true, false_from_ne_true}
 use Rattle.std.proofs.lemmas.List.{get_or_default}
 use Rattle.std.proofs.lemmas.List.Elements.{Contains-get_or}
 use Rattle.std.proofs.lemmas.List.Folds.{list_any_none}
-use Rattle.goods_set.specs.Bundles.{IsInside}
 use Rattle.bid_file.specs.Files.{PlainBid, PlainFile}
 use Rattle.valuation.specs.declared.atom.Atom.{Atom}
-use Rattle.valuation.specs.Auctions.{atom_of, is_dummy, or_atoms_of, xor_atoms_of}
+use Rattle.valuation.specs.Auctions.{atom_of, is_dummy, or_atoms_of}
 use Rattle.valuation.specs.Lemmas.Lists.{Contains-map, Contains-unmap}
 use Rattle.prune.specs.SearchSteps.{greatest_price}
 use Rattle.prune.specs.Lemmas.Lists.{All-from_Contains, Contains-filter, Contains-filter_parts, list_any_fails}
 use Rattle.prune.specs.Lemmas.SearchSteps.{greatest_price-member, greatest_price-bound}
-use Rattle.canon.specs.Canonical.{bid_from}
 use Rattle.explain.specs.Bids.{bid_at, bidder_of, are_alike, is_better, is_best, numbers_of}
 use Rattle.explain.proofs.BestBids.{HaveOneKey, one_key, alike_from}
 use Rattle.explain.proofs.KeptBidsLists.{in_numbers, below_numbers, first_place}
@@ -86,10 +84,16 @@ best_of f b k l e greatest =
     let r = first_place (is_same b) f.bids (record { price = 0; goods = []; dummy = None }) k l
     (and_from (are_alike (bid_at f k) b) (eqb (bid_at f k).price b.price) (alike_from (bid_at f k) b (one_key_same (bid_at f k) b e))
     (eq-eqb (bid_at f k).price b.price (ap (λ (c : PlainBid). c.price) e))) in
-    let there = same (bid_at f r.0) r.1.passes in
-    (r.0, record { within = r.1.within; is = there; best = not_from_false _ (list_any_none (λ i. is_better f i r.0) (numbers_of f)
-    (All-from_Contains (λ i. is_better f i r.0 ≡ false) (numbers_of f) (λ i c. false_from_ne_true (is_better f i r.0)
-    (none r.0 there r.1.none i (below_numbers (length f.bids) i c))))) })
+    let there = same (bid_at f r.0) r.1.passes in (
+      r.0,
+      record {
+        within = r.1.within;
+        is = there;
+        best = not_from_false _ (list_any_none (λ i. is_better f i r.0) (numbers_of f)
+            (All-from_Contains (λ i. is_better f i r.0 ≡ false) (numbers_of f) (λ i c. false_from_ne_true (is_better f i r.0)
+            (none r.0 there r.1.none i (below_numbers (length f.bids) i c)))));
+      },
+    )
   where
     same : (c : PlainBid) → is_same b c ≡ true → c ≡ b
     same c t = let parts = and_parts (are_alike c b) (eqb c.price b.price) t in same_bid c b (one_key c b parts.0) (eqb-true _ _ parts.1)

@@ -1,5 +1,5 @@
--- What the code finds out for a bid: its reason, where a bid that is named in place of it is in the canonical file. Each
--- bid has such a reason exactly if the reasons explain the file.
+-- What the code finds out for each bid: its reason, and that the bids that the reason names are in the canonical file. If
+-- each bid has such a reason, the reasons explain the file.
 use Rattle.std.specs.Prelude.{◌≡◌, ℕ, ◌≤◌, List, slice_get, Some, None, is_some, sum_by, true}
 use Rattle.std.specs.List.{AllByRecursion}
 use Rattle.goods_set.specs.Bundles.{IsInside, IsRising}
