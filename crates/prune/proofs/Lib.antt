@@ -7,5 +7,6 @@ pub mod InFront
 pub mod PruningLoop
 pub mod ReachingLevels
 pub mod PathPackings
+pub mod PointPlaces
 pub mod ReachingPath
 pub mod WorkedPostings

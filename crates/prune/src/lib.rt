@@ -7,6 +7,7 @@ mod fault;
 mod front;
 mod laws;
 mod or;
+mod packing_finder;
 mod point_index;
 mod posting;
 mod search;

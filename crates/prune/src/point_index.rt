@@ -5,14 +5,19 @@ ghost use Rattle.prune.specs.Internal.PointIndexes.{IsPointIndex};
 ghost use Rattle.prune.specs.Reached.{HaveGoods, IsPackingFor, IsPointFor};
 ghost use Rattle.prune.specs.SearchSteps.{atoms_inside, cut_steps};
 
-use goods_set::GoodsSet;
+use crate::packing_finder::PackingFinder;
+use crate::subset_index::SubsetIndex;
+use crate::xor::{FEW, first_dominating};
+use goods_set::{GoodsSet, rising_goods};
 use std::alloc::{AllocError, Global};
 use valuation::{Atom, ValueFault};
 
 /// An index of a bidder's points, which are given with each call.
 #[derive(Drop)]
 pub struct PointIndex {
-    count: usize,
+    finder: PackingFinder,
+    /// A buffer for the goods of a bid.
+    buffer: Vec<u16>,
 }
 
 impl PointIndex {
@@ -21,7 +26,14 @@ impl PointIndex {
         requires { HaveGoods (atoms_of S.goods points.now) }
         ensures { IfOk result (λ index. IsPointIndex (atoms_of S.goods points.now) index) }
     {
-        Err(AllocError)
+        // For few points, which are compared one by one, no goods are counted.
+        let few = points.len() <= FEW;
+        let counted = if few { &points[..0] } else { points };
+        let index = SubsetIndex::of(alloc, counted)?;
+        Ok(PointIndex {
+            finder: PackingFinder::of(alloc, index)?,
+            buffer: Vec::new(alloc),
+        })
     }
 
     /// The place of a point inside the bid's bundle with at least its price.
@@ -37,7 +49,13 @@ impl PointIndex {
         ensures none { IfOk result (λ found. found ≡ None
             → 0 < bid.now.price → xor_value (atoms_of S.goods points.now) (S.goods bid.now.bundle) < bid.now.price) }
     {
-        Err(AllocError)
+        if points.len() <= FEW {
+            return Ok(first_dominating(bid, points));
+        }
+        let index = &mut self.finder.index;
+        index.list_all(points)?;
+        let goods = rising_goods(&bid.bundle, &mut self.buffer)?;
+        Ok(index.find_dominating(points, &bid.bundle, goods, bid.price))
     }
 
     /// The places of points that share no good, are inside the bid's bundle and reach its price together, rising. The
@@ -58,6 +76,8 @@ impl PointIndex {
             IsErrOf result ValueFault.StepLimit
             → limit < 1 + cut_steps (atoms_inside (atoms_of S.goods points.now) bundle) bundle bid.now.price }
     {
-        Err(ValueFault::Memory)
+        self.finder.index.list_all(points)?;
+        let goods = rising_goods(&bid.bundle, &mut self.buffer)?;
+        self.finder.find(points, bid, goods, limit)
     }
 }

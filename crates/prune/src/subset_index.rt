@@ -1,5 +1,5 @@
 //! The index of the atoms that a pruning keeps: those inside a bundle are found by its goods.
-ghost use Rattle.std.specs.Prelude.{◌≡◌, ℕ, List, ◌+◌, ◌<◌, ◌≤◌, false, map, length, All, IfOk, OnOk, [], ◌∷◌, ◌++◌};
+ghost use Rattle.std.specs.Prelude.{◌≡◌, ℕ, List, ◌+◌, ◌<◌, ◌≤◌, false, map, length, All, IfOk, IfSome, OnOk, is_some, [], ◌∷◌, ◌++◌};
 ghost use Rattle.std.specs.Bool.{OnTrue};
 ghost use Rattle.std.specs.List.{filter, list_any, range_with_len};
 ghost use Rattle.goods_set.specs.Fingerprints.{AreMarks};
@@ -16,8 +16,10 @@ ghost use Rattle.prune.specs.Internal.Listings.{
   IsBehind,
   IsIndexOf,
   IsPosting,
+  IsPrefixIndex,
   IsReadyFor,
 };
+ghost use Rattle.prune.specs.Reached.{HaveGoods, IsPointFor};
 ghost use Rattle.prune.specs.SearchSteps.{atoms_inside};
 
 use crate::commonness::Commonness;
@@ -100,25 +102,26 @@ fn find_inside_among<S: GoodsSet>(
     Ok(())
 }
 
-/// Whether one of the listed atoms is inside the bundle and has at least the price.
-fn has_dominating<S: GoodsSet>(
+/// The place of one of the listed atoms that is inside the bundle and has at least the price.
+fn find_dominating_among<S: GoodsSet>(
     postings: &[Posting],
     kept: &[Atom<S>],
     bundle: &S,
     marks: u128,
     price: u64,
-) -> bool
+) -> Option<usize>
     requires listed { All (IsPosting (atoms_of S.goods kept.now)) postings.now }
     requires marks { AreMarks (S.goods bundle.now) marks }
-    ensures { let dominating = dominates_at (atoms_of S.goods kept.now) (S.goods bundle.now) price in
-        result ≡ list_any dominating (indices_of postings.now) }
+    ensures found { IfSome result (IsPointFor (atoms_of S.goods kept.now) (S.goods bundle.now) price) }
+    ensures answer { let dominating = dominates_at (atoms_of S.goods kept.now) (S.goods bundle.now) price in
+        is_some result ≡ list_any dominating (indices_of postings.now) }
 {
     for posting in postings {
         if is_dominating(kept, posting, bundle, marks, price) {
-            return true;
+            return Some(posting.index as usize);
         }
     }
-    false
+    None
 }
 
 impl SubsetIndex {
@@ -139,7 +142,8 @@ impl SubsetIndex {
     /// Takes in that an atom is kept, the bundle of which has these goods.
     pub fn keep(&mut self, goods: &[u16]) -> Result<(), AllocError>
         requires { 0 < length goods.now }
-        ensures { OnOk result ((kept : List (Atom (List ℕ))) (atom : Atom (List ℕ)) → atom.bundle ≡ goods.now
+        ensures listed { self.new.listed ≡ self.old.listed }
+        ensures index { OnOk result ((kept : List (Atom (List ℕ))) (atom : Atom (List ℕ)) → atom.bundle ≡ goods.now
             → IsIndexOf kept self.old → IsIndexOf (kept ++ atom ∷ []) self.new) }
     {
         self.goods.push(self.commonness.rarest(goods))?;
@@ -203,6 +207,22 @@ impl SubsetIndex {
         Ok(())
     }
 
+    /// Keeps and lists the atoms behind those that are listed, so that all of them are.
+    pub fn list_all<S: GoodsSet>(&mut self, atoms: &[Atom<S>]) -> Result<(), AllocError>
+        requires some { HaveGoods (atoms_of S.goods atoms.now) }
+        requires prefix { IsPrefixIndex (atoms_of S.goods atoms.now) self.old }
+        ensures prefix { OnOk result (IsPrefixIndex (atoms_of S.goods atoms.now) self.new) }
+        ensures all { OnOk result (self.new.listed ≡ length atoms.now) }
+    {
+        let mut buffer = Vec::new(self.alloc);
+        while self.listed < atoms.len() {
+            let goods = rising_goods(&atoms[self.listed].bundle, &mut buffer)?;
+            self.keep(goods)?;
+            self.list_next(&atoms[..self.listed + 1])?;
+        }
+        Ok(())
+    }
+
     /// What is listed at the good.
     fn postings_at(&self, good: u16) -> &[Posting]
         ensures { result.now ≡ postings_of self.now good }
@@ -238,7 +258,8 @@ impl SubsetIndex {
         Ok(())
     }
 
-    /// The kept atoms inside the bundle, which has these goods, in the order in which they came. `places` is a buffer.
+    /// The kept atoms inside the bundle, which has these goods, in the order in which they came. Puts their places where
+    /// others were.
     pub fn inside<'a, S: GoodsSet>(
         &self,
         kept: &'a [Atom<S>],
@@ -249,8 +270,11 @@ impl SubsetIndex {
         requires goods { goods.now ≡ S.goods bundle.now }
         requires index { IsIndexOf (atoms_of S.goods kept.now) self.now }
         requires ready { IsReadyFor (S.goods bundle.now) (atoms_of S.goods kept.now) self.now }
-        ensures { IfOk result (λ inside. atoms_of S.goods (map (λ a. a.now) inside.items)
+        ensures inside { IfOk result (λ inside. atoms_of S.goods (map (λ a. a.now) inside.items)
             ≡ atoms_inside (atoms_of S.goods kept.now) (S.goods bundle.now)) }
+        ensures places { let inside = is_inside_at (atoms_of S.goods kept.now) (S.goods bundle.now) in
+            let all = range_with_len 0 (length kept.now) in
+            OnOk result (places.new.items ≡ filter inside all) }
     {
         self.find_inside(kept, bundle, goods, places)?;
         let mut inside = Vec::with_capacity(self.alloc, places.len())?;
@@ -260,25 +284,29 @@ impl SubsetIndex {
         Ok(inside)
     }
 
-    /// Whether a kept atom inside the bundle, which has these goods, has at least the price.
-    pub fn has_inside<S: GoodsSet>(
+    /// The place of a kept atom inside the bundle, which has these goods, with at least the price.
+    pub fn find_dominating<S: GoodsSet>(
         &self,
         kept: &[Atom<S>],
         bundle: &S,
         goods: &[u16],
         price: u64,
-    ) -> bool
+    ) -> Option<usize>
         requires goods { goods.now ≡ S.goods bundle.now }
         requires index { IsIndexOf (atoms_of S.goods kept.now) self.now }
         requires ready { IsReadyFor (S.goods bundle.now) (atoms_of S.goods kept.now) self.now }
-        ensures { result ≡ list_any (dominates (S.goods bundle.now) price) (atoms_of S.goods kept.now) }
+        ensures found { IfSome result (IsPointFor (atoms_of S.goods kept.now) (S.goods bundle.now) price) }
+        ensures answer { let kept = atoms_of S.goods kept.now in
+            is_some result ≡ list_any (dominates (S.goods bundle.now) price) kept }
     {
         let marks = fingerprint(goods);
         for good in goods {
-            if has_dominating(self.postings_at(*good), kept, bundle, marks, price) {
-                return true;
+            let postings = self.postings_at(*good);
+            let found = find_dominating_among(postings, kept, bundle, marks, price);
+            if found.is_some() {
+                return found;
             }
         }
-        false
+        None
     }
 }

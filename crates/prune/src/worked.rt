@@ -4,7 +4,8 @@ ghost use Rattle.valuation.specs.Examples.{atom};
 ghost use Rattle.prune.specs.declared.posting.Posting.{Posting};
 ghost use Rattle.prune.specs.Internal.Listings.{IsListed, IsPosting, AreListed, NoneInsideFrom};
 ghost use Rattle.prune.specs.Internal.PricesLeft.{ArePricesLeft};
-ghost use Rattle.prune.specs.Internal.Reaching.{IsReaching, IsSearched};
+ghost use Rattle.prune.specs.Reached.{IsPackingFor};
+ghost use Rattle.prune.specs.Internal.Reaching.{IsSearched};
 ghost use Rattle.prune.specs.Points.{xor_points, or_points};
 ghost use Rattle.prune.specs.SearchSteps.{
   atoms_below,
@@ -119,11 +120,10 @@ fn prices_left_worked()
 
 /// A packing that reaches a price, of bids that are given by their indices.
 fn reaching_worked()
-    ensures none { IsReaching [] [] 0 [] 0 }
-    ensures two { IsReaching (atom (0 ∷ []) 3 ∷ atom (1 ∷ []) 4 ∷ []) (0 ∷ 1 ∷ []) 7 (0 ∷ 1 ∷ []) 7 }
-    ensures price { ¬ IsReaching (atom (0 ∷ []) 3 ∷ atom (1 ∷ []) 4 ∷ []) (0 ∷ 1 ∷ []) 8 (0 ∷ 1 ∷ []) 7 }
-    ensures other_sum { ¬ IsReaching (atom (0 ∷ []) 3 ∷ atom (1 ∷ []) 4 ∷ []) (0 ∷ 1 ∷ []) 7 (0 ∷ 1 ∷ []) 8 }
-    ensures shared_good { ¬ IsReaching (atom (0 ∷ []) 3 ∷ atom (0 ∷ []) 4 ∷ []) (0 ∷ []) 7 (0 ∷ 1 ∷ []) 7 }
+    ensures none { IsPackingFor [] [] 0 [] }
+    ensures two { IsPackingFor (atom (0 ∷ []) 3 ∷ atom (1 ∷ []) 4 ∷ []) (0 ∷ 1 ∷ []) 7 (0 ∷ 1 ∷ []) }
+    ensures price { ¬ IsPackingFor (atom (0 ∷ []) 3 ∷ atom (1 ∷ []) 4 ∷ []) (0 ∷ 1 ∷ []) 8 (0 ∷ 1 ∷ []) }
+    ensures shared_good { ¬ IsPackingFor (atom (0 ∷ []) 3 ∷ atom (0 ∷ []) 4 ∷ []) (0 ∷ []) 7 (0 ∷ 1 ∷ []) }
 {}
 
 /// What a search for a price answers, by the steps that are left before and after it.

@@ -14,7 +14,9 @@ ghost use Rattle.std.specs.Prelude.{
   All,
   Contains,
   IfOk,
+  IfSome,
   OnOk,
+  is_some,
   vec_len,
   length,
 };
@@ -25,6 +27,7 @@ ghost use Rattle.valuation.specs.Values.{atoms_of, plain_atom, xor_value};
 ghost use Rattle.prune.specs.InOrder.{IsInOrder};
 ghost use Rattle.prune.specs.Internal.Listings.{dominates, AreUndominated, IsBehind, IsIndexOf};
 ghost use Rattle.prune.specs.Points.{xor_points};
+ghost use Rattle.prune.specs.Reached.{IsPointFor};
 
 use crate::best::keep_best_bids;
 use crate::front::move_to_front;
@@ -34,7 +37,7 @@ use std::alloc::{AllocError, Global};
 use valuation::Atom;
 
 /// So few bids are compared one by one: this is only for speed, since to list each at a good takes longer.
-const FEW: usize = 32;
+pub const FEW: usize = 32;
 
 /// Whether the atom is inside the bid's bundle and has at least its price.
 fn is_dominated_by<S: GoodsSet>(bid: &Atom<S>, atom: &Atom<S>) -> bool
@@ -43,16 +46,18 @@ fn is_dominated_by<S: GoodsSet>(bid: &Atom<S>, atom: &Atom<S>) -> bool
     bid.price <= atom.price && atom.bundle.is_inside(&bid.bundle)
 }
 
-/// Whether one of the atoms is inside the bid's bundle and has at least its price.
-fn is_dominated_by_any<S: GoodsSet>(bid: &Atom<S>, atoms: &[Atom<S>]) -> bool
-    ensures { result ≡ list_any (dominates (S.goods bid.now.bundle) bid.now.price) (atoms_of S.goods atoms.now) }
+/// The place of one of the atoms that is inside the bid's bundle and has at least its price.
+pub fn first_dominating<S: GoodsSet>(bid: &Atom<S>, atoms: &[Atom<S>]) -> Option<usize>
+    ensures found { IfSome result (IsPointFor (atoms_of S.goods atoms.now) (S.goods bid.now.bundle) bid.now.price) }
+    ensures answer { is_some result
+        ≡ list_any (dominates (S.goods bid.now.bundle) bid.now.price) (atoms_of S.goods atoms.now) }
 {
-    for atom in atoms {
+    for (place, atom) in atoms.iter().enumerate() {
         if is_dominated_by(bid, atom) {
-            return true;
+            return Some(place);
         }
     }
-    false
+    None
 }
 
 /// Whether the bids are few, and none is dominated by one before it, so that all of them stay.
@@ -63,7 +68,7 @@ fn are_few_and_undominated<S: GoodsSet>(bids: &[Atom<S>]) -> bool
         return false;
     }
     for (place, bid) in bids.iter().enumerate() {
-        if is_dominated_by_any(bid, &bids[..place]) {
+        if first_dominating(bid, &bids[..place]).is_some() {
             return false;
         }
     }
@@ -89,11 +94,12 @@ fn is_dominated<S: GoodsSet>(
         (atoms_of S.goods kept.now ++ cond dominated [] (plain_atom S.goods bid.now ∷ [])) index.new) }
 {
     if few {
-        return Ok(is_dominated_by_any(bid, kept));
+        return Ok(first_dominating(bid, kept).is_some());
     }
     index.list_below(kept, &bid.bundle)?;
     let goods = rising_goods(&bid.bundle, buffer)?;
-    if index.has_inside(kept, &bid.bundle, goods, bid.price) {
+    let found = index.find_dominating(kept, &bid.bundle, goods, bid.price);
+    if found.is_some() {
         return Ok(true);
     }
     index.keep(goods)?;

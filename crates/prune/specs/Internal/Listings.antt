@@ -3,7 +3,7 @@ use Rattle.std.specs.Prelude.{◌≡◌, ◌≢◌, ℕ, ◌<◌, ◌≤◌, Boo
 use Rattle.std.specs.Prelude.{take, All, AllPairs, Contains}
 use Rattle.std.proofs.Common.{Less}
 use Rattle.std.specs.Global.{Vec}
-use Rattle.std.specs.List.{filter, list_any}
+use Rattle.std.specs.List.{list_any}
 use Rattle.valuation.specs.declared.atom.Atom.{Atom}
 use Rattle.goods_set.specs.Bundles.{has_good, is_inside}
 use Rattle.goods_set.specs.Orders.{bundle_cmp}
@@ -82,6 +82,11 @@ postings_of index good = listed_at (lists_of index.lists.items) good
 pub record IsIndexOf (atoms : List (Atom (List ℕ))) (index : SubsetIndex) : Type 0 where
   pub listed : AreListed (lists_of index.lists.items) index.listed atoms
   pub noted : AreGoodsOf index.goods.items atoms
+
+-- of the atoms the index has taken in those that it lists, which are the first
+pub record IsPrefixIndex (atoms : List (Atom (List ℕ))) (index : SubsetIndex) : Type 0 where
+  pub most : index.listed ≤ length atoms
+  pub first : IsIndexOf (take index.listed atoms) index
 
 -- the bundle comes behind those of all atoms
 abbrev pub IsBehind : List ℕ → List (Atom (List ℕ)) → Type 0

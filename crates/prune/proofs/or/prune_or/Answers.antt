@@ -1,9 +1,11 @@
 -- A turn of the loop keeps a bid exactly where the search does not reach its price, which is a turn of proofs/Results; a search that
 -- gives up has found a heavy bundle; and at the end the kept bids are the points.
 use Rattle.std.proofs.Common.{Err, ◌≡◌, ◌<◌, ◌≤◌, ℕ, List, length, refl, sym, ap, ◌∙◌, subst, take, arith}
+use Rattle.std.specs.Prelude.{is_some}
 use Rattle.std.proofs.lemmas.List.{get_or_read}
 use Rattle.bid_file.specs.declared.limits.TheConstants.{MAX_GOODS}
 use Rattle.valuation.specs.Values.{atoms_of, plain_atom}
+use Rattle.prune.specs.Internal.Listings.{IsIndexOf}
 use Rattle.prune.specs.Lemmas.KeptBids.{on_bundles}
 use Rattle.prune.proofs.InFront.{next_left}
 use Rattle.prune.proofs.PruningLoop.{next_turn, one_done, one_kept, or_end, kept_nonempty, turn_nonempty, all_some, none_heavy_end, heavy_load}
@@ -38,16 +40,16 @@ keep-requires g c =
     c.in_ok-keep_best_bids.ensures.best h.left there c.index-bid.ensures in
     subst (λ (xs : List ℕ). 0 < length xs) (sym c.in_ok-goods.ensures) (turn_nonempty MAX_GOODS _ _ _ _ turn c.requires)
 
-pub is_dominated-requires-clause-some : goal.is_dominated-requires-clause-some
-is_dominated-requires-clause-some g c =
+pub find-requires-clause-some : goal.find-requires-clause-some
+find-requires-clause-some g c =
     let goods = g.S.GoodsSet.goods in
     let h = c.loop-place.invariant in
     rw c.deref-in-loop-place.ensures.value
     (kept_nonempty goods MAX_GOODS (atoms_of goods c.args.atoms.items) c.keep_best_bids.new.bids.items _ c.loop-place.place c.in_ok-keep_best_bids.ensures.best
     c.requires h.kept.among)
 
-pub loop-place-preserved-in-Ok-true : goal.loop-place-preserved-in-Ok-true
-loop-place-preserved-in-Ok-true g c =
+pub loop-place-preserved-in-Ok-Some : goal.loop-place-preserved-in-Ok-Some
+loop-place-preserved-in-Ok-Some g c =
     let goods = g.S.GoodsSet.goods in
     let h = c.loop-place.invariant in
     let best = c.keep_best_bids.new.bids in
@@ -61,12 +63,12 @@ loop-place-preserved-in-Ok-true g c =
     let done = one_done goods best.items now.items place bid h.left there c.index-bid.ensures in
     let same = c.deref-in-loop-place.ensures.value in
     let indexed = rw same at c.in_ok-list_below.ensures.index in
-    let answer = rw same at c.in-Ok-true.ensures.answer in
-    let within = rw same at c.in-Ok-true.ensures.within in
+    let answer = rw same at c.in-Ok-Some.ensures.answer in
+    let within = rw same at c.in-Ok-Some.ensures.within in
     record {
       left = next_left best.items now.items place bid h.left there c.index-bid.ensures now.items refl refl;
-      index = indexed;
-      kept = rw done (or_reached _ _ _ _ (atoms_of goods kept) turn h.kept (sym c.in-Ok-true.field-0-test ∙ answer));
+      index = subst (IsIndexOf (atoms_of goods kept)) (sym c.find.ensures.index) indexed;
+      kept = rw done (or_reached _ _ _ _ (atoms_of goods kept) turn h.kept (sym (ap is_some c.in-Ok-Some.field-0-is) ∙ answer));
       within = rw done (within_reached c.args.limit _ _ _ _ (atoms_of goods kept) turn h.kept h.within within);
       fewer = omega (arith, h.fewer);
     }
@@ -89,13 +91,14 @@ loop-place-preserved g c =
     let after = c.move_to_front.new.elements in
     let moved = c.move_to_front.ensures in
     let more = one_kept goods now.items after.items c.loop-place.kept place bid c.index-bid.ensures moved.front in
-    let answer = rw same at c.in-Ok-false.ensures.answer in
-    let within = rw same at c.in-Ok-false.ensures.within in
+    let answer = rw same at c.in-Ok-None.ensures.answer in
+    let within = rw same at c.in-Ok-None.ensures.within in
     record {
       left = next_left best.items now.items place bid h.left there c.index-bid.ensures after.items (omega (arith, moved.len, after.ok.0, now.ok.0))
           moved.rest;
-      index = rw more (c.in_ok-keep-in-Ok-false.ensures (atoms_of goods kept) (plain_atom goods bid) (sym c.in_ok-goods.ensures) indexed);
-      kept = rw (done, more) (or_missed _ _ _ _ (atoms_of goods kept) turn h.kept (sym c.in-Ok-false.field-0-test ∙ answer));
+      index = rw more (c.in_ok-keep-in-Ok-None.ensures.index (atoms_of goods kept) (plain_atom goods bid) (sym c.in_ok-goods.ensures)
+          (subst (IsIndexOf (atoms_of goods kept)) (sym c.find.ensures.index) indexed));
+      kept = rw (done, more) (or_missed _ _ _ _ (atoms_of goods kept) turn h.kept (sym (ap is_some c.in-Ok-None.field-0-is) ∙ answer));
       within = rw (done, more) (within_missed c.args.limit _ _ _ _ (atoms_of goods kept) turn h.kept h.within within);
       fewer = omega (arith, h.fewer);
     }

@@ -14,7 +14,7 @@ invariant-loop-place g l =
     let front = atoms_of goods (take l.kept l.atoms.items) in
     record {
       left : IsLeft l.initial.atoms.items l.atoms.items l.place;
-      index : IsIndexOf front l.index;
+      index : IsIndexOf front l.finder.index;
       kept : IsOrKept done front;
       within : Within l.limit front done;
       fewer : l.kept ≤ l.place;

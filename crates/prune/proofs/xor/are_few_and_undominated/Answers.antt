@@ -6,7 +6,7 @@ use Rattle.prune.proofs.xor.are_few_and_undominated.Goals as goal
 pub loop-place-preserved : goal.loop-place-preserved
 loop-place-preserved g c =
     one_more_undominated g.S.GoodsSet.goods c.args.bids.now _ c.loop-place.place c.index-bids-place.result c.loop-place-test.true c.index-bids-place.is refl
-    (sym c.is_dominated_by_any.ensures ∙ c.if-is_dominated_by_any.false) c.loop-place.invariant
+    (sym c.first_dominating.ensures.answer ∙ sym c.is_some.ensures ∙ c.if-is_some.false) c.loop-place.invariant
 
 pub returns : goal.returns
 returns g c = λ _ k l. c.loop-place.invariant k (omega (arith, c.loop-place-test.false, length-atoms_of g.S.GoodsSet.goods c.args.bids.now))

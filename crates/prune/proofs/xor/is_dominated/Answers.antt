@@ -1,8 +1,8 @@
 use Rattle.std.proofs.Common.{rules}
 use Rattle.prune.proofs.xor.is_dominated.Goals as goal
 
-pub returns-then-has_inside-clause-answer : goal.returns-then-has_inside-clause-answer
-returns-then-has_inside-clause-answer g c = search rules
+pub returns-then-is_some-clause-answer : goal.returns-then-is_some-clause-answer
+returns-then-is_some-clause-answer g c = search rules
 
 pub returns-clause-answer : goal.returns-clause-answer
 returns-clause-answer g c = search rules

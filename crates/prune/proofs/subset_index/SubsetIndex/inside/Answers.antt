@@ -42,8 +42,8 @@ loop-place-preserved g c =
     seen_more goods atoms c.loop-place.inside.items _ c.deref-place-items.result.now c.loop-place.place-index _
     c.loop-place-test.true (omega arith) c.index-kept-place.is c.loop-place.invariant c.in_ok-push.ensures.items
 
-pub returns : goal.returns
-returns g c =
+pub returns-clause-inside : goal.returns-clause-inside
+returns-clause-inside g c =
     let goods = g.S.GoodsSet.goods in
     let atoms = c.args.kept.now in
     let long = length-atoms_of goods atoms in

@@ -4,8 +4,8 @@ use Rattle.prune.specs.Internal.Listings.{lists_of}
 use Rattle.prune.proofs.ListedAtoms.{AreGoodsOf-push, AreListed-push}
 use Rattle.prune.proofs.subset_index.SubsetIndex.keep.Goals as goal
 
-pub returns : goal.returns
-returns c = λ kept atom e h. record {
+pub returns-clause-index : goal.returns-clause-index
+returns-clause-index c = λ kept atom e h. record {
   listed = AreListed-push (lists_of c.args.self.now.lists.items) c.args.self.now.listed kept atom h.listed;
   noted = rw c.in_ok-push.ensures.items
       (AreGoodsOf-push c.args.self.now.goods.items kept c.rarest.result atom

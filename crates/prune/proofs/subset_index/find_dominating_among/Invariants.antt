@@ -2,7 +2,7 @@ use Rattle.std.proofs.Common.{◌≡◌, false, take}
 use Rattle.std.specs.List.{list_any}
 use Rattle.valuation.specs.Values.{atoms_of}
 use Rattle.prune.specs.Internal.Listings.{indices_of, dominates_at}
-use Rattle.prune.proofs.subset_index.has_dominating.Given as goal
+use Rattle.prune.proofs.subset_index.find_dominating_among.Given as goal
 
 abbrev pub invariant-loop-posting : goal.invariant-loop-posting
 invariant-loop-posting g l =

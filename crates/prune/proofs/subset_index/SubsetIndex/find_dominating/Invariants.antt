@@ -1,7 +1,7 @@
 use Rattle.valuation.specs.Values.{atoms_of}
 use Rattle.prune.specs.Internal.Listings.{lists_of}
 use Rattle.prune.proofs.ListedAtoms.{NoneDominates, behind_first}
-use Rattle.prune.proofs.subset_index.SubsetIndex.has_inside.Given as goal
+use Rattle.prune.proofs.subset_index.SubsetIndex.find_dominating.Given as goal
 
 abbrev pub invariant-loop-good : goal.invariant-loop-good
 invariant-loop-good g l =

@@ -3,11 +3,11 @@ use Rattle.std.specs.List.{list_any}
 use Rattle.valuation.specs.Values.{atoms_of}
 use Rattle.prune.specs.Internal.Listings.{lists_of, indices_of, dominates_at}
 use Rattle.prune.proofs.ListedAtoms.{next_there, none_there, behind_next, postings_right, NoneDominates-more, NoneDominates-all, one_dominates}
-use Rattle.prune.proofs.subset_index.SubsetIndex.has_inside.Goals as goal
+use Rattle.prune.proofs.subset_index.SubsetIndex.find_dominating.Goals as goal
 use Rattle.prune.specs.declared.posting.Posting.{Posting}
 
-pub has_dominating-requires-clause-listed : goal.has_dominating-requires-clause-listed
-has_dominating-requires-clause-listed g c = postings_right _ _ _ _ _ c.requires.index.listed c.postings_at.ensures
+pub find_dominating_among-found-requires-clause-listed : goal.find_dominating_among-found-requires-clause-listed
+find_dominating_among-found-requires-clause-listed g c = postings_right _ _ _ _ _ c.requires.index.listed c.postings_at-postings.ensures
 
 pub loop-good-preserved : goal.loop-good-preserved
 loop-good-preserved g c =
@@ -15,23 +15,26 @@ loop-good-preserved g c =
     let goods = c.args.goods.now in
     let i = c.loop-good.good-index in
     let rises = (g.met.S.GoodsSet.is_bundle c.args.bundle.now).0 in
-    let asked = c.has_dominating.ensures ∙ ap (λ (ps : List Posting). list_any (dominates_at (atoms_of g.S.GoodsSet.goods c.args.kept.now) bundle c.args.price) (indices_of ps))
-    c.postings_at.ensures in
+    let answer = c.find_dominating_among-found.ensures.answer
+    ∙ ap (λ (ps : List Posting). list_any (dominates_at (atoms_of g.S.GoodsSet.goods c.args.kept.now) bundle c.args.price) (indices_of ps))
+    c.postings_at-postings.ensures in
     let next = NoneDominates-more (lists_of c.args.self.now.lists.items) (atoms_of g.S.GoodsSet.goods c.args.kept.now) bundle c.args.price
-    _ _ rises (next_there goods bundle i c.requires.goods rises c.loop-good-test.true) (sym asked ∙ c.if-has_dominating.false)
+    _ _ rises (next_there goods bundle i c.requires.goods rises c.loop-good-test.true) (sym answer ∙ sym c.is_some.ensures ∙ c.if-is_some.false)
     c.loop-good.invariant in
     rw (sym (behind_next goods bundle i c.requires.goods)) next
 
-pub returns-then-has_dominating : goal.returns-then-has_dominating
-returns-then-has_dominating g c =
+pub returns-then-is_some-clause-answer : goal.returns-then-is_some-clause-answer
+returns-then-is_some-clause-answer g c =
     let goods = g.S.GoodsSet.goods in
-    let asked = c.has_dominating.ensures ∙ ap (λ (ps : List Posting). list_any (dominates_at (atoms_of goods c.args.kept.now) (goods c.args.bundle.now) c.args.price) (indices_of ps))
-    c.postings_at.ensures in
-    sym (one_dominates (lists_of c.args.self.now.lists.items) c.args.self.now.listed (atoms_of goods c.args.kept.now) (goods c.args.bundle.now)
-    c.args.price _ c.requires.index.listed (sym asked ∙ c.if-has_dominating.true))
+    let answer = c.find_dominating_among-found.ensures.answer
+    ∙ ap (λ (ps : List Posting). list_any (dominates_at (atoms_of goods c.args.kept.now) (goods c.args.bundle.now) c.args.price) (indices_of ps))
+    c.postings_at-postings.ensures in
+    let found = sym c.is_some.ensures ∙ c.if-is_some.true in
+    found ∙ sym (one_dominates (lists_of c.args.self.now.lists.items) c.args.self.now.listed (atoms_of goods c.args.kept.now) (goods c.args.bundle.now)
+    c.args.price _ c.requires.index.listed (sym answer ∙ found))
 
-pub returns : goal.returns
-returns g c =
+pub returns-clause-answer : goal.returns-clause-answer
+returns-clause-answer g c =
     let goods = g.S.GoodsSet.goods in
     let bundle = goods c.args.bundle.now in
     let none = none_there c.args.goods.now bundle c.loop-good.good-index c.requires.goods (g.met.S.GoodsSet.is_bundle c.args.bundle.now).0
