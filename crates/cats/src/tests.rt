@@ -5,6 +5,7 @@ mod command_lines;
 mod compare;
 mod devices;
 mod duplicates;
+mod explain;
 mod normalise;
 mod program;
 mod round;

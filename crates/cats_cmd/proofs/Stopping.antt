@@ -19,7 +19,8 @@ use Rattle.cats_cmd.specs.Comparisons.{Compares}
 use Rattle.cats_cmd.specs.Outcomes.{Outcome, Tells, ExceedsSteps, check_outcome, show_outcome, normalise_outcome, value_outcome, values_within, missing_good}
 use Rattle.cats_cmd.specs.Outcomes.{outcome_unless, text_unless_heavy, outcome_of_difference}
 use Rattle.cats_cmd.specs.Inputs.{IsOpened}
-use Rattle.cats_cmd.specs.Requests.{AnswersRequest, CarriesOut, ComparesAt, RoundsAt, RunsAt, RunsFor, StopsRequest, fine_of}
+use Rattle.cats_cmd.specs.Explanations.{ExplainsFile}
+use Rattle.cats_cmd.specs.Requests.{AnswersRequest, CarriesOut, ComparesAt, ExplainsAt, RoundsAt, RunsAt, RunsFor, StopsRequest, fine_of}
 use Rattle.rounding.specs.declared.replacement.FinePrices.{FinePrices}
 use Rattle.cats_cmd.specs.Runs.{RunsOnFile}
 use Rattle.cats_cmd.specs.Statuses.{status_of_canon_fault, status_of_read_fault}
@@ -32,7 +33,7 @@ use Rattle.cats_cmd.specs.declared.report.RunFault.{RunFault}
 use Rattle.cats_cmd.specs.declared.report.RunFault.TheVariants.{Refused, GoodRange, Sent}
 use Rattle.command_line.specs.Requests.{IsNamedIn}
 use Rattle.command_line.specs.declared.request.Request.{Request}
-use Rattle.command_line.specs.declared.request.Request.TheVariants.{Check, Show, Value, Normalise, Round, Compare, Duplicates, Sizes}
+use Rattle.command_line.specs.declared.request.Request.TheVariants.{Check, Show, Value, Normalise, Explain, Round, Compare, Duplicates, Sizes}
 use Rattle.std.specs.Borrow.{Bor}
 use Rattle.cats_cmd.specs.declared.source.Unopened.{Unopened}
 
@@ -120,6 +121,18 @@ module _ {R W : Type 0} (remaining : R → Option (List ℕ)) (contents : W → 
   silent_run (GoodRange good) ran = ran.silent
   silent_run (Sent fault) ran = tt
 
+module _ {R W : Type 0} (remaining : R → Option (List ℕ)) (contents : W → Option (List ℕ)) (limit : ℕ) (before after : Watched R)
+    (old new : Watched W) where
+  -- an explanation that answered has the status 0
+  told_explanation : (status : ℕ) → ExplainsFile remaining contents limit before after old new (Ok status) → status ≤ 1
+  told_explanation status ran = let made = ran.made in let none : 0 ≡ status = cc in omega (arith, none)
+
+  -- an explanation that stopped has written nothing, unless its output failed
+  silent_explanation : (fault : RunFault) → ExplainsFile remaining contents limit before after old new (Err fault) → IsSilent (Run fault) old new
+  silent_explanation (Refused which fault) ran = ran.silent
+  silent_explanation (GoodRange good) ran = absurd ran
+  silent_explanation (Sent fault) ran = tt
+
 module _ {R S W : Type 0} (remaining_first : R → Option (List ℕ)) (remaining_second : S → Option (List ℕ)) (contents : W → Option (List ℕ)) (limit : ℕ)
     (first first_after : Watched R) (second second_after : Watched S) (old new : Watched W) where
   -- a comparison that answered has the status 0 or 1
@@ -189,6 +202,8 @@ module _ {F W E : Type 0} (may_open : List ℕ → F → Type 0) (may_refuse : L
       told_run remaining contents (value_outcome goods.items limit) ran.0.before ran.0.after out out_after (value_tells goods.items limit) status ran.0.runs
   answered (Normalise file limit) err_after status ran few =
       told_run remaining contents (normalise_outcome limit) ran.0.before ran.0.after out out_after (normalise_tells limit) status ran.0.runs
+  answered (Explain file limit) err_after status ran few =
+      told_explanation remaining contents limit ran.0.before ran.0.after out out_after status ran.0.runs
   answered (Round file exact) err_after status ran few = let made = ran.runs.made in let none : 0 ≡ status = cc in omega (arith, none)
   answered (Compare first second limit) err_after status ran few =
       told_comparison remaining remaining contents limit ran.0.left ran.0.left_after ran.0.right ran.0.right_after out out_after status ran.0.runs
@@ -203,6 +218,7 @@ module _ {F W E : Type 0} (may_open : List ℕ → F → Type 0) (may_refuse : L
   quiet (Show file) err_after answer ran silent = ran.1
   quiet (Value file goods limit) err_after answer ran silent = ran.1
   quiet (Normalise file limit) err_after answer ran silent = ran.1
+  quiet (Explain file limit) err_after answer ran silent = ran.1
   quiet (Round file exact) err_after answer ran silent = absurd (cc)
   quiet (Compare first second limit) err_after answer ran silent = ran.1
   quiet (Duplicates files) err_after answer ran silent = absurd (cc)
@@ -220,6 +236,8 @@ module _ {F W E : Type 0} (may_open : List ℕ → F → Type 0) (may_refuse : L
       silent_run remaining contents (value_outcome goods.items limit) ran.0.before ran.0.after out out_after fault ran.0.runs
   silent_fault (Normalise file limit) err_after fault ran few =
       silent_run remaining contents (normalise_outcome limit) ran.0.before ran.0.after out out_after fault ran.0.runs
+  silent_fault (Explain file limit) err_after fault ran few =
+      silent_explanation remaining contents limit ran.0.before ran.0.after out out_after fault ran.0.runs
   silent_fault (Round file exact) err_after fault ran few =
       silent_rounding remaining contents messages (fine_of exact) ran.before ran.after out out_after err err_after fault ran.runs
   silent_fault (Compare first second limit) err_after fault ran few =
@@ -299,6 +317,11 @@ module _ {F W : Type 0} (may_open : List ℕ → F → Type 0) (remaining : F �
   valued_at path goods given limit same before after out out_after answer opened runs =
       subst (λ (gs : List ℕ). RunsAt may_open remaining contents path (value_outcome gs limit) out out_after answer) same
       (ran_at path (value_outcome given limit) before after out out_after answer opened runs)
+
+  pub explained_at : (path : List ℕ) (limit : ℕ) (before after : Watched F) (out out_after : Watched W) (answer : Result ℕ RunFault)
+      → IsOpened may_open path before → ExplainsFile remaining contents limit before after out out_after answer
+      → ExplainsAt may_open remaining contents path limit out out_after answer
+  explained_at path limit before after out out_after answer opened runs = record { before = before; after = after; opened = opened; runs = runs }
 
   pub compared_at : (first second : List ℕ) (limit : ℕ) (left left_after right right_after : Watched F) (out out_after : Watched W)
       (answer : Result ℕ RunFault)

@@ -11,6 +11,8 @@ pub mod Inputs
 pub mod Stops
 pub mod Runs
 pub mod Comparisons
+pub mod ExplanationTexts
+pub mod Explanations
 pub mod Escaping
 pub mod DuplicateTexts
 pub mod Paths

@@ -9,6 +9,7 @@ use Rattle.canon.specs.declared.which.Which.{Which}
 use Rattle.canon.specs.declared.which.Which.TheVariants.{Only, First, Second}
 use Rattle.cats_cmd.specs.Comparisons.{Compares}
 use Rattle.cats_cmd.specs.Duplicates.{MakesGroups}
+use Rattle.cats_cmd.specs.Explanations.{ExplainsFile}
 use Rattle.cats_cmd.specs.FileLists.{RunsOnFiles}
 use Rattle.cats_cmd.specs.Inputs.{IsOpened, MayRefuse}
 use Rattle.cats_cmd.specs.Outcomes.{Outcome, check_outcome, show_outcome, value_outcome, normalise_outcome}
@@ -23,7 +24,7 @@ use Rattle.command_line.specs.Requests.{IsNamedIn}
 use Rattle.command_line.specs.declared.request.NoRequest.{NoRequest}
 use Rattle.command_line.specs.declared.request.NoRequest.TheVariants.{Help, WrongUsage, NoMemory}
 use Rattle.command_line.specs.declared.request.Request.{Request}
-use Rattle.command_line.specs.declared.request.Request.TheVariants.{Check, Show, Value, Normalise, Round, Compare}
+use Rattle.command_line.specs.declared.request.Request.TheVariants.{Check, Show, Value, Normalise, Explain, Round, Compare}
 use Rattle.command_line.specs.declared.request.Request.TheVariants.{Duplicates, Sizes}
 use Rattle.cats_cmd.specs.declared.paths.Ending.{Ending}
 use Rattle.cats_cmd.specs.declared.paths.Ending.TheVariants.{Line, Null}
@@ -84,6 +85,14 @@ module _ {F W : Type 0} (may_open : List ℕ → F → Type 0) (remaining : F �
     pub opened : IsOpened may_open path before
     pub runs : RunsOnFile remaining contents outcome before after out out_after answer
 
+  -- an explanation of the stream that was opened at the path
+  pub record ExplainsAt (path : List ℕ) (limit : ℕ) (out out_after : Watched W) (answer : Result ℕ RunFault)
+      : Type 0 where
+    pub before : Watched F
+    pub after : Watched F
+    pub opened : IsOpened may_open path before
+    pub runs : ExplainsFile remaining contents limit before after out out_after answer
+
   -- a comparison of the streams that were opened at the two paths
   pub record ComparesAt (first second : List ℕ) (limit : ℕ) (out out_after : Watched W)
       (answer : Result ℕ RunFault) : Type 0 where
@@ -119,6 +128,8 @@ module _ {F W E : Type 0} (may_open : List ℕ → F → Type 0) (may_refuse : L
       RunsAt may_open remaining contents file.now (value_outcome goods.items limit) out out_after answer × (err_after ≡ err)
   RunsFor (Normalise file limit) out out_after err err_after answer =
       RunsAt may_open remaining contents file.now (normalise_outcome limit) out out_after answer × (err_after ≡ err)
+  RunsFor (Explain file limit) out out_after err err_after answer =
+      ExplainsAt may_open remaining contents file.now limit out out_after answer × (err_after ≡ err)
   RunsFor (Round file exact) out out_after err err_after answer =
       RoundsAt may_open may_refuse remaining contents messages file.now (fine_of exact) out out_after err err_after answer
   RunsFor (Compare first second limit) out out_after err err_after answer =
@@ -138,6 +149,7 @@ module _ {F W E : Type 0} (may_open : List ℕ → F → Type 0) (may_refuse : L
   CannotOpenOf (Show file) which = (which ≡ Only) × MayRefuse may_refuse file.now
   CannotOpenOf (Value file goods limit) which = (which ≡ Only) × MayRefuse may_refuse file.now
   CannotOpenOf (Normalise file limit) which = (which ≡ Only) × MayRefuse may_refuse file.now
+  CannotOpenOf (Explain file limit) which = (which ≡ Only) × MayRefuse may_refuse file.now
   CannotOpenOf (Round file exact) which = (which ≡ Only) × MayRefuse may_refuse file.now
   CannotOpenOf (Compare first second limit) which =
       ((which ≡ First) × MayRefuse may_refuse first.now) ⊎ ((which ≡ Second) × MayRefuse may_refuse second.now)

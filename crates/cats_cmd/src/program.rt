@@ -9,6 +9,7 @@ ghost use Rattle.cats_cmd.specs.Stops.{Reports, is_for_many_files, is_reporting,
 
 use crate::check::run_check;
 use crate::compare::run_compare;
+use crate::explanation::run_explain;
 use crate::many_files::{run_duplicates_of, run_sizes_of};
 use crate::normalise::run_normalise;
 use crate::paths::{Ending, ManyFiles, Progress};
@@ -135,6 +136,10 @@ fn carry_out<S: Source + AllocGlobal, W: Write, E: Write>(
         Request::Normalise { file, limit } => {
             let mut input = open_only(source, file)?;
             Ok(run_normalise(alloc, &mut input, *limit, out)?)
+        }
+        Request::Explain { file, limit } => {
+            let mut input = open_only(source, file)?;
+            Ok(run_explain(alloc, &mut input, *limit, out)?)
         }
         Request::Round { file, exact } => {
             let mut input = open_only(source, file)?;

@@ -12,8 +12,10 @@ ghost use Rattle.cats_text.specs.declared.fault.Kind.TheVariants.{
 ghost use Rattle.canon.specs.Difference.{NoDifference, InGoods, InOr, InXor};
 ghost use Rattle.canon.specs.declared.verdict.Side.TheVariants.{Exactly, Below};
 ghost use Rattle.valuation.specs.Examples.{atom};
+ghost use Rattle.explain.specs.Reasons.{Keep, Zero, Same, Inside, Packing};
 ghost use Rattle.cats_cmd.specs.DifferenceTexts.{difference_text};
 ghost use Rattle.cats_cmd.specs.Examples.{larger_bid, xor_ladder};
+ghost use Rattle.cats_cmd.specs.ExplanationTexts.{explanation_line, explanation_text};
 ghost use Rattle.cats_cmd.specs.Outcomes.{LacksGood, ExceedsSteps, Tells, check_outcome, show_outcome, value_outcome};
 ghost use Rattle.cats_cmd.specs.Outputs.{bundle_text, sizes_text};
 ghost use Rattle.cats_cmd.specs.ValueTexts.{bundle_from};
@@ -99,6 +101,16 @@ pub fn values()
     ensures first { value_outcome (0 ∷ []) 1 xor_ladder ≡ Tells 0 (codes "or 0\nxor 2 5 0\n") }
     ensures none_inside { value_outcome [] 1 xor_ladder ≡ Tells 0 (codes "or 0\nxor 2 0\n") }
     ensures bundle { bundle_from (3 ∷ 1 ∷ 3 ∷ 0 ∷ []) ≡ 0 ∷ 1 ∷ 3 ∷ [] }
+{}
+
+/// What `cats explain` prints of a bid of each reason, of no bids, of a packing of one bid, and of the bid with the greatest
+/// number.
+pub fn explanations()
+    ensures each_reason { explanation_text (Keep 3 ∷ Zero ∷ Same 7 ∷ Inside 5 ∷ Packing (0 ∷ 1 ∷ 9 ∷ []) ∷ [])
+        ≡ codes "0\tkeep\t3\n1\tzero\n2\tsame\t7\n3\tinside\t5\n4\tpacking\t0\t1\t9\n" }
+    ensures no_bids { explanation_text [] ≡ [] }
+    ensures packing_of_one { explanation_line 10 (Packing (12 ∷ [])) ≡ codes "10\tpacking\t12\n" }
+    ensures last_bid { explanation_line 65535 (Keep 65534) ≡ codes "65535\tkeep\t65534\n" }
 {}
 
 /// How differences are told, and the statuses of comparisons.

@@ -60,7 +60,7 @@ struct Subcommand {
 const STEPS_OF_BUNDLE: &str = "The most steps that the search on a bundle may take";
 
 /// The subcommands, as the help lists them.
-static SUBCOMMANDS: [Subcommand; 8] = [
+static SUBCOMMANDS: [Subcommand; 9] = [
     Subcommand {
         name: "check",
         about: "Reads a bid file and prints how many goods, bids and dummy goods it has",
@@ -87,6 +87,12 @@ static SUBCOMMANDS: [Subcommand; 8] = [
         name: "normalise",
         about: "Prints the one canonical text of a bid file's auction",
         help: help::NORMALISE,
+        arguments: &[Argument::Steps(STEPS_OF_BUNDLE), Argument::File],
+    },
+    Subcommand {
+        name: "explain",
+        about: "Prints why each bid of a bid file is in the canonical text, or is dropped",
+        help: help::EXPLAIN,
         arguments: &[Argument::Steps(STEPS_OF_BUNDLE), Argument::File],
     },
     Subcommand {

@@ -71,6 +71,30 @@ takes more, 'step limit at GOODS' is told with it, with status 3, and a greater 
 
 Statuses: 0; 2 for a file that is no bid file; 3 for the step limit; 4, 5 and 64 as 'cats --help' tells";
 
+pub(crate) const EXPLAIN: &str = "\
+Prints a line for each bid, in order of number, with tabs between the words: the bid's number, and why the text that
+'cats normalise' prints has the bid or not. For example:
+  $ cats explain examples/ladder.cats
+  0\tkeep\t0
+  1\tkeep\t1
+  2\tpacking\t0\t1
+  3\tkeep\t2
+  4\tsame\t3
+
+  keep K        it is bid K of the text that 'cats normalise' prints
+  zero          its price is 0
+  same J        bid J is the best of its bidder on its goods: it has the highest price, and of those the smallest number
+  inside J      bid J of its XOR bidder is kept, is on fewer of its goods, and its price is at least as high
+  packing J ..  these bids of the OR bidder are kept, are on some of its goods and share none, and their prices add up
+                to at least its price
+
+All numbers but K are those of the file. How many bids there are for each reason:
+  $ cats explain auction.txt | cut -f 2 | sort | uniq -c
+
+A step is that of 'cats normalise', and the same files are refused. After a refusal nothing is printed.
+
+Statuses: 0; 2 if the file is not a bid file; 3 for the step limit; 4, 5 and 64 as 'cats --help' lists them";
+
 pub(crate) const ROUND: &str = "\
 Prints the text of a bid file in which each price that is a decimal, such as 1.02345e+06, .5 or 0.0123456, is written so
 that it is read: rounded to the nearest millionth, and halfway between two to the even one. A valid price and every

@@ -75,6 +75,7 @@ fn find_named_request<'a>(
         "show" => Ok(find_show_request(given)),
         "value" => find_value_request(alloc, given),
         "normalise" => Ok(find_normalise_request(given)),
+        "explain" => Ok(find_explain_request(given)),
         "round" => Ok(find_round_request(given)),
         "compare" => Ok(find_compare_request(given)),
         "duplicates" => find_duplicates_request(alloc, given),
@@ -122,6 +123,14 @@ fn find_normalise_request<'a>(given: &ArgMatches<'a>) -> Option<Request<'a>>
     let file = given.get_str(FILE)?;
     let limit = given.get_one::<u64>(STEPS)?;
     Some(Request::Normalise { file, limit })
+}
+
+fn find_explain_request<'a>(given: &ArgMatches<'a>) -> Option<Request<'a>>
+    ensures { IfSome result (λ request. name_of request ≡ codes "explain") }
+{
+    let file = given.get_str(FILE)?;
+    let limit = given.get_one::<u64>(STEPS)?;
+    Some(Request::Explain { file, limit })
 }
 
 fn find_round_request<'a>(given: &ArgMatches<'a>) -> Option<Request<'a>>

@@ -18,6 +18,10 @@ pub enum Request<'a> {
         file: &'a str,
         limit: u64,
     },
+    Explain {
+        file: &'a str,
+        limit: u64,
+    },
     Round {
         file: &'a str,
         exact: bool,

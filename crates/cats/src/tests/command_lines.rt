@@ -5,7 +5,7 @@ use std::process::Abort;
 use std::test::Fail;
 
 /// Command lines, and what they ask for.
-static REQUESTS: [(&[&str], &str); 17] = [
+static REQUESTS: [(&[&str], &str); 19] = [
     (&["cats", "check", "a"], "Check { file: \"a\" }"),
     (&["cats", "show", "a"], "Show { file: \"a\" }"),
     (
@@ -23,6 +23,14 @@ static REQUESTS: [(&[&str], &str); 17] = [
     (
         &["cats", "normalise", "--steps=1000000000", "a"],
         "Normalise { file: \"a\", limit: 1000000000 }",
+    ),
+    (
+        &["cats", "explain", "a"],
+        "Explain { file: \"a\", limit: 1000000 }",
+    ),
+    (
+        &["cats", "explain", "a", "--steps", "8"],
+        "Explain { file: \"a\", limit: 8 }",
     ),
     (
         &["cats", "compare", "a", "b"],

@@ -7,7 +7,7 @@ use super::streams::{
     RunAnswer, StepReader, StepWriter, answer_of, byte_reader, expect, expect_cut_off, reader,
     stalling_writer, writer,
 };
-use cats_cmd::{run_check, run_compare, run_normalise, run_show, run_value};
+use cats_cmd::{run_check, run_compare, run_explain, run_normalise, run_show, run_value};
 use cats_text::Watched;
 use std::alloc::Global;
 use std::io::ErrorKind;
@@ -21,6 +21,7 @@ enum Run {
     Show,
     Value,
     Normalise,
+    Explain,
     CompareFirst,
     CompareSecond,
 }
@@ -42,6 +43,7 @@ fn answer(
         Run::Show => run_show(alloc, input, &mut out),
         Run::Value => run_value(alloc, input, &[0, 1], STEPS, &mut out),
         Run::Normalise => run_normalise(alloc, input, STEPS, &mut out),
+        Run::Explain => run_explain(alloc, input, STEPS, &mut out),
         Run::CompareFirst => run_compare(alloc, input, &mut other, STEPS, &mut out),
         Run::CompareSecond => run_compare(alloc, &mut other, input, STEPS, &mut out),
     };
@@ -61,11 +63,16 @@ const CANONICAL: &str = "goods 2\nbids 2\ndummy 0\n0\t3\t0\t#\n1\t4\t1\t#\n";
 const FAULTY: &str = "goods 2\nbids 2\ndummy 2\n0\t1\t0\t2\t#\n1\t1\t1\t2\t3\t#\n";
 
 /// Each run with what it sends of `TEXT`, and how its lines on its input begin.
-static RUNS: [(Run, &str, &str); 6] = [
+static RUNS: [(Run, &str, &str); 7] = [
     (Run::Check, "goods 2 bids 3 dummy 0\n", ""),
     (Run::Show, TEXT, ""),
     (Run::Value, "or 7 2\n", ""),
     (Run::Normalise, CANONICAL, ""),
+    (
+        Run::Explain,
+        "0\tkeep\t0\n1\tkeep\t1\n2\tpacking\t0\t1\n",
+        "",
+    ),
     (Run::CompareFirst, "same\n", "first: "),
     (Run::CompareSecond, "same\n", "second: "),
 ];

@@ -231,7 +231,7 @@ fn searches_stop_at_their_limit(rt: HostRuntime) -> Result<(), Fail> {
 }
 
 /// The most bids on one good, each at its number, with this end of their lines.
-fn bids_on_one_good(alloc: Global, dummy: u32, end: &str) -> Result<String, AllocError> {
+pub fn bids_on_one_good(alloc: Global, dummy: u32, end: &str) -> Result<String, AllocError> {
     let mut text = format!(in alloc; "goods 1\nbids 65536\ndummy {dummy}\n")?;
     for bid in 0u32..65_536 {
         write!(text, "{bid}\t{bid}\t0{end}\n")?;

@@ -46,7 +46,7 @@ fn run(
 const ROOM: usize = 65_536;
 
 /// Command lines that ask for nothing that the program does.
-static WRONG_LINES: [&str; 31] = [
+static WRONG_LINES: [&str; 34] = [
     "cats",
     "cats check",
     "cats show",
@@ -70,6 +70,9 @@ static WRONG_LINES: [&str; 31] = [
     "cats normalise",
     "cats normalise --steps 0 a",
     "cats normalise a b",
+    "cats explain",
+    "cats explain --steps 0 a",
+    "cats explain a b",
     "cats compare",
     "cats compare a",
     "cats compare a b c",
@@ -99,7 +102,7 @@ fn usage_faults(rt: HostRuntime) -> Result<(), Fail> {
 }
 
 /// Command lines that ask for help.
-static HELP_LINES: [&str; 10] = [
+static HELP_LINES: [&str; 11] = [
     "cats --help",
     "cats -h",
     "cats help",
@@ -108,6 +111,7 @@ static HELP_LINES: [&str; 10] = [
     "cats show --help",
     "cats value --help",
     "cats normalise --help",
+    "cats explain --help",
     "cats compare --help",
     "cats duplicates --help",
 ];
@@ -230,7 +234,7 @@ static SHOWN_ROWS: [Row<'static>; 2] = [
 
 const MISSING: &str = "goods 2\nbids 0\n";
 
-static MISSING_ROWS: [Row<'static>; 11] = [
+static MISSING_ROWS: [Row<'static>; 12] = [
     ("cats check FILE", ROOM, ROOM, 2, "", "line 3: Missing\n"),
     ("cats check FILE", ROOM, 0, 2, "", ""),
     ("cats show FILE", ROOM, ROOM, 2, "", "line 3: Missing\n"),
@@ -246,6 +250,7 @@ static MISSING_ROWS: [Row<'static>; 11] = [
         "line 3: Missing\n",
     ),
     ("cats normalise FILE", ROOM, 0, 2, "", ""),
+    ("cats explain FILE", ROOM, ROOM, 2, "", "line 3: Missing\n"),
     (
         "cats compare FILE FILE",
         ROOM,
@@ -339,8 +344,32 @@ const LARGER_BID: &str = "goods 2\nbids 3\ndummy 0\n0 3 0 #\n1 4 1 #\n2 7 0 1 #\
 
 const LARGER_BID_TEXT: &str = "goods 2\nbids 2\ndummy 0\n0\t3\t0\t#\n1\t4\t1\t#\n";
 
-static LARGER_BID_ROWS: [Row<'static>; 9] = [
+static LARGER_BID_ROWS: [Row<'static>; 12] = [
     ("cats normalise FILE", ROOM, ROOM, 0, LARGER_BID_TEXT, ""),
+    (
+        "cats explain FILE",
+        ROOM,
+        ROOM,
+        0,
+        "0\tkeep\t0\n1\tkeep\t1\n2\tpacking\t0\t1\n",
+        "",
+    ),
+    (
+        "cats explain FILE --steps=2",
+        ROOM,
+        ROOM,
+        3,
+        "",
+        "step limit at 0,1\n",
+    ),
+    (
+        "cats explain FILE",
+        8,
+        ROOM,
+        5,
+        "0\tkeep\t0",
+        "output failed after 8 bytes\n",
+    ),
     ("cats compare FILE FILE", ROOM, ROOM, 0, "same\n", ""),
     (
         "cats compare FILE OTHER",

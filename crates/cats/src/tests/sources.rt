@@ -95,7 +95,7 @@ static REFUSED: [(&str, Unopened); 3] = [
 /// A command line's words, and what it answers: its status, its output and its faults' lines.
 type Row<'a> = (&'a [&'a str], u8, &'a str, &'a str);
 
-static ROWS: [Row<'static>; 31] = [
+static ROWS: [Row<'static>; 32] = [
     (
         &["cats", "check", "same"],
         0,
@@ -106,6 +106,12 @@ static ROWS: [Row<'static>; 31] = [
         &["cats", "normalise", "same"],
         0,
         "goods 1\nbids 1\ndummy 0\n0\t3\t0\t#\n",
+        "",
+    ),
+    (
+        &["cats", "explain", "bidders"],
+        0,
+        "0\tkeep\t1\n1\tkeep\t2\n2\tkeep\t3\n3\tkeep\t0\n",
         "",
     ),
     (

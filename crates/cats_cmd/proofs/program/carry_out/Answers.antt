@@ -1,7 +1,7 @@
 -- A request is carried out by its one run, on the streams that were opened at its paths: what the run's contract says, at the run's
 -- arguments, is what the request needs.
 use Rattle.std.proofs.Common.{refl}
-use Rattle.cats_cmd.proofs.Stopping.{ran_at, valued_at, compared_at, rounded_at, stopped_run}
+use Rattle.cats_cmd.proofs.Stopping.{ran_at, valued_at, explained_at, compared_at, rounded_at, stopped_run}
 use Rattle.cats_cmd.specs.Outcomes.{check_outcome, show_outcome, normalise_outcome}
 use Rattle.cats_cmd.proofs.program.carry_out.Goals as goal
 
@@ -48,6 +48,15 @@ pub returns-in_err-run_normalise-in-Normalise : goal.returns-in_err-run_normalis
 returns-in_err-run_normalise-in-Normalise g c =
     stopped_run _ _ _ _ _ _ _ _ _ c.args.request.now _ _ _ c.from_residual-in_err-run_normalise-in-Normalise.ensures.1
     (rw c.in-Normalise.is (ran_at _ _ _ c.in-Normalise.file.now (normalise_outcome c.in-Normalise.limit) _ _ _ _ _ c.in_ok-input-in-Normalise.ensures.opened c.in_err-run_normalise-in-Normalise.ensures, refl))
+
+pub returns-in_ok-run_explain-in-Explain : goal.returns-in_ok-run_explain-in-Explain
+returns-in_ok-run_explain-in-Explain g c =
+    rw c.in-Explain.is (explained_at _ _ _ c.in-Explain.file.now c.in-Explain.limit _ _ _ _ _ c.in_ok-input-in-Explain.ensures.opened c.in_ok-run_explain-in-Explain.ensures, refl)
+
+pub returns-in_err-run_explain-in-Explain : goal.returns-in_err-run_explain-in-Explain
+returns-in_err-run_explain-in-Explain g c =
+    stopped_run _ _ _ _ _ _ _ _ _ c.args.request.now _ _ _ c.from_residual-in_err-run_explain-in-Explain.ensures.1
+    (rw c.in-Explain.is (explained_at _ _ _ c.in-Explain.file.now c.in-Explain.limit _ _ _ _ _ c.in_ok-input-in-Explain.ensures.opened c.in_err-run_explain-in-Explain.ensures, refl))
 
 pub returns-in_ok-run_compare-in-Compare : goal.returns-in_ok-run_compare-in-Compare
 returns-in_ok-run_compare-in-Compare g c =

@@ -1,0 +1,167 @@
+use super::normalise::bids_on_one_good;
+use super::streams::{RunAnswer, answer_of, expect, reader, writer};
+use cats_cmd::run_explain;
+use std::alloc::Global;
+use std::process::Abort;
+use std::test::Fail;
+
+const STEPS: u64 = 1_000_000;
+
+const ROOM: usize = 8_388_608;
+
+/// What `explain` answers of a text under a step limit.
+fn explained(alloc: Global, text: &[u8], fails: bool, limit: u64) -> Result<RunAnswer, Fail> {
+    let mut input = reader(text, fails);
+    let mut out = writer(alloc, 4096, ROOM);
+    let answer = run_explain(alloc, &mut input, limit, &mut out);
+    answer_of(alloc, answer, out)
+}
+
+/// Each text under its limit, and the lines of its bids.
+fn gives(rt: &(impl Abort + AllocGlobal), rows: &[(&str, u64, &str)]) -> Result<(), Fail> {
+    for (text, limit, lines) in rows {
+        let answer = explained(rt.alloc(), text.as_bytes(), false, *limit)?;
+        expect(rt, &answer, 0, lines, "");
+    }
+    Ok(())
+}
+
+const LARGER_BID: &str = "goods 2\nbids 3\ndummy 0\n0\t3\t0\t#\n1\t4\t1\t#\n2\t7\t0\t1\t#\n";
+
+const SINGLES_BELOW_TRIPLE: &str =
+    "goods 3\nbids 4\ndummy 0\n0\t1\t0\t#\n1\t1\t1\t#\n2\t1\t2\t#\n3\t4\t0\t1\t2\t#\n";
+
+const TRIPLE_REACHED: &str =
+    "goods 3\nbids 4\ndummy 0\n0\t2\t0\t#\n1\t2\t1\t#\n2\t2\t2\t#\n3\t5\t0\t1\t2\t#\n";
+
+#[test]
+fn or_bids(rt: HostRuntime) -> Result<(), Fail> {
+    gives(
+        &rt,
+        &[
+            ("goods 0\nbids 0\ndummy 0\n", STEPS, ""),
+            (
+                LARGER_BID,
+                STEPS,
+                "0\tkeep\t0\n1\tkeep\t1\n2\tpacking\t0\t1\n",
+            ),
+            (
+                "goods 2\nbids 4\ndummy 0\n0\t8\t0\t1\t#\n1\t3\t0\t#\n2\t4\t1\t#\n3\t8\t0\t1\t#\n",
+                STEPS,
+                "0\tkeep\t2\n1\tkeep\t0\n2\tkeep\t1\n3\tsame\t0\n",
+            ),
+            (
+                SINGLES_BELOW_TRIPLE,
+                1,
+                "0\tkeep\t0\n1\tkeep\t1\n2\tkeep\t2\n3\tkeep\t3\n",
+            ),
+            (
+                TRIPLE_REACHED,
+                4,
+                "0\tkeep\t0\n1\tkeep\t1\n2\tkeep\t2\n3\tpacking\t0\t1\t2\n",
+            ),
+            (
+                "goods 2\nbids 4\ndummy 0\n0\t1\t0\t#\n1\t1\t0\t#\n2\t1\t1\t#\n3\t3\t0\t1\t#\n",
+                4,
+                "0\tkeep\t0\n1\tsame\t0\n2\tkeep\t1\n3\tkeep\t2\n",
+            ),
+            (
+                "goods 1\nbids 3\ndummy 0\n2\t1\t0\t#\n0\t3\t0\t#\n1\t2\t0\t#\n",
+                STEPS,
+                "0\tkeep\t0\n1\tsame\t0\n2\tsame\t0\n",
+            ),
+            (
+                "goods 1\nbids 3\ndummy 0\n0\t3\t0\t#\n1\t3\t0\t#\n2\t3\t0\t#\n",
+                STEPS,
+                "0\tkeep\t0\n1\tsame\t0\n2\tsame\t0\n",
+            ),
+            (
+                "goods 2\nbids 3\ndummy 0\n0 1.50 0 #\n1 02.25 1 #\n2 3.75 0 1 #\n",
+                STEPS,
+                "0\tkeep\t0\n1\tkeep\t1\n2\tpacking\t0\t1\n",
+            ),
+            (
+                "goods 2\nbids 3\ndummy 0\n0 1.50 0 #\n1 02.25 1 #\n2 3.750001 0 1 #\n",
+                STEPS,
+                "0\tkeep\t0\n1\tkeep\t1\n2\tkeep\t2\n",
+            ),
+        ],
+    )
+}
+
+#[test]
+fn xor_bidders(rt: HostRuntime) -> Result<(), Fail> {
+    gives(
+        &rt,
+        &[
+            (
+                "goods 2\nbids 3\ndummy 1\n0\t5\t0\t2\t#\n1\t5\t0\t1\t2\t#\n2\t6\t0\t1\t2\t#\n",
+                STEPS,
+                "0\tkeep\t0\n1\tsame\t2\n2\tkeep\t1\n",
+            ),
+            (
+                "goods 2\nbids 3\ndummy 1\n0\t3\t0\t1\t2\t#\n1\t3\t1\t2\t#\n2\t2\t0\t2\t#\n",
+                STEPS,
+                "0\tinside\t1\n1\tkeep\t1\n2\tkeep\t0\n",
+            ),
+            (
+                "goods 2\nbids 2\ndummy 2\n0\t0\t0\t2\t#\n1\t2\t1\t3\t#\n",
+                STEPS,
+                "0\tzero\n1\tkeep\t0\n",
+            ),
+            ("goods 2\nbids 0\ndummy 3\n", STEPS, ""),
+            (
+                "goods 2\nbids 5\ndummy 2\n0\t1\t0\t2\t#\n1\t2\t0\t1\t2\t#\n2\t1\t0\t3\t#\n3\t1\t0\t1\t3\t#\n\
+                4\t2\t0\t1\t3\t#\n",
+                STEPS,
+                "0\tkeep\t0\n1\tkeep\t1\n2\tkeep\t2\n3\tsame\t4\n4\tkeep\t3\n",
+            ),
+            (
+                "goods 2\nbids 4\ndummy 2\n0\t2\t0\t2\t#\n1\t1\t1\t2\t#\n2\t1\t0\t3\t#\n3\t2\t1\t3\t#\n",
+                STEPS,
+                "0\tkeep\t2\n1\tkeep\t3\n2\tkeep\t0\n3\tkeep\t1\n",
+            ),
+            (
+                "%% a comment\n\ngoods 3\nbids 2\ndummy 1\n\n0\t20\t0\t2\t3\t#\n1\t7\t1\t#\n",
+                STEPS,
+                "0\tkeep\t1\n1\tkeep\t0\n",
+            ),
+        ],
+    )
+}
+
+#[test]
+fn refusals(rt: HostRuntime) -> Result<(), Fail> {
+    for (text, fails, limit, status, line) in &[
+        (TRIPLE_REACHED, false, 3, 3, "step limit at 0,1,2\n"),
+        (LARGER_BID, false, 2, 3, "step limit at 0,1\n"),
+        (
+            "goods 2\nbids 2\ndummy 2\n0 1 0 2 #\n1 1 1 2 3 #\n",
+            false,
+            1,
+            2,
+            "line 5: TwoDummies\n",
+        ),
+        ("goods 0\n", true, 1, 5, "Device\n"),
+        ("", false, 1, 2, "line 1: Missing\n"),
+    ] {
+        let answer = explained(rt.alloc(), text.as_bytes(), *fails, *limit)?;
+        expect(&rt, &answer, *status, "", line);
+    }
+    Ok(())
+}
+
+/// The most bids on one good, each at its number: the last is kept.
+#[test]
+fn many_bids(rt: HostRuntime) -> Result<(), Fail> {
+    let mut lines = String::from_str(rt.alloc(), "0\tzero\n")?;
+    for bid in 1u32..65_535 {
+        write!(lines, "{bid}\tsame\t65535\n")?;
+    }
+    lines.push_str("65535\tkeep\t0\n")?;
+    for (dummy, end) in &[(0, "\t#"), (1, "\t1\t#")] {
+        let text = bids_on_one_good(rt.alloc(), *dummy, end)?;
+        gives(&rt, &[(text.as_str(), STEPS, lines.as_str())])?;
+    }
+    Ok(())
+}
