@@ -169,6 +169,7 @@ def cases_of(path, other, goods):
         case(("show",), (path,)),
         case(("value",), (path,), goods),
         case(("normalise",), (path,)),
+        case(("explain",), (path,)),
         case(("round",), (path,)),
         case(("compare",), (path, other)),
     ]
@@ -380,7 +381,7 @@ def refused_cases(folder):
     nothing = write_file(folder, "nothing", header(0, 0, 0))
     fine = write_file(folder, "fine", SIX_DIGITS)
     ended = os.path.getsize(nothing) + 1
-    one_file = [case((command,), (faulty,)) for command in ("check", "show", "value", "normalise")]
+    one_file = [case((command,), (faulty,)) for command in ("check", "show", "value", "normalise", "explain")]
     compared = {case(("compare",), (faulty, nothing)): (FAULT_AT, 0), case(("compare",), (nothing, faulty)): (ended, FAULT_AT)}
     # `round` reads the whole file
     rounded = {case(("round",), (faulty,)): (len(FAULTY) + 1,), case(("round", "--exact"), (fine,)): (len(SIX_DIGITS) + 1,)}
@@ -390,7 +391,7 @@ def refused_cases(folder):
 def large_cases(folder):
     """Runs whose text does not fit into a pipe."""
     bidders = write_file(folder, "many_bidders", header(1, 0, 65_536))
-    return [*(case((command,), (LARGE,)) for command in ("show", "normalise", "round")), case(("value",), (bidders,))]
+    return [*(case((command,), (LARGE,)) for command in ("show", "normalise", "explain", "round")), case(("value",), (bidders,))]
 
 
 def side_by_side(one, piece):

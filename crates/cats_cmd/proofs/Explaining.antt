@@ -1,6 +1,8 @@
 -- A run that explains a file: the file was read, and then it was refused as in `cats normalise`, or the lines of its reasons were sent.
-use Rattle.std.proofs.Common.{◌≡◌, ℕ, List, Option, None, Result, Ok, Err, refl, sym, ap, ◌∙◌, subst, inr}
+use Rattle.std.proofs.Common.{◌≡◌, ◌<◌, ◌+◌, ◌++◌, ℕ, List, length, map, get_or, Option, None, Result, Ok, Err, refl, sym, ap, ap₂, ◌∙◌, subst, inr}
 use Rattle.std.specs.Prelude.{IsErrAnd}
+use Rattle.std.specs.List.{flat_map, range_with_len}
+use Rattle.std.proofs.lemmas.List.{get_or-map}
 use Rattle.std.proofs.lemmas.Result.{err_from_is_err_and}
 use Rattle.bid_file.specs.Files.{PlainFile}
 use Rattle.cats_text.specs.declared.stream.Watched.{Watched}
@@ -10,16 +12,30 @@ use Rattle.canon.specs.Answers.{RefusesAuction}
 use Rattle.canon.specs.declared.fault.CanonFault.{CanonFault}
 use Rattle.canon.specs.declared.fault.CanonFault.TheVariants.{Memory}
 use Rattle.canon.specs.declared.which.Which.TheVariants.{Only}
-use Rattle.explain.specs.Reasons.{Explains, PlainReason}
+use Rattle.explain.specs.Reasons.{Explains, PlainReason, Zero, plain_reason, reason_at}
+use Rattle.explain.specs.declared.reason.Reason.{Reason}
 use Rattle.cats_cmd.specs.Explanations.{ExplainsFile, ReadsExplained, explain_outcome}
-use Rattle.cats_cmd.specs.ExplanationTexts.{explanation_text}
+use Rattle.cats_cmd.specs.ExplanationTexts.{explanation_line, explanation_text}
 use Rattle.cats_cmd.specs.Inputs.{ReadsInput, IsRefusedFile}
 use Rattle.cats_cmd.specs.Outcomes.{Tells, normalise_outcome}
 use Rattle.cats_cmd.specs.Runs.{SendsAs}
 use Rattle.cats_cmd.specs.declared.report.RunFault.{RunFault}
 use Rattle.cats_cmd.specs.declared.report.RunFault.TheVariants.{Refused, GoodRange, Sent}
 use Rattle.cats_cmd.proofs.Normalised.{refused_by_normalising}
+use Rattle.cats_cmd.proofs.Printing.{lines_more}
 use Rattle.cats_cmd.proofs.RunsOfOneFile.{refused_in_making, refused_in_reading, wrote}
+
+-- the line of one more bid is put behind those of the bids before it
+pub line_of_bid : (reasons : List Reason) (i : ℕ) (reason : Reason) → i < length reasons → reason ≡ get_or reasons i reason
+    → (before after : List ℕ)
+    → before ≡ flat_map (λ j. explanation_line j (reason_at (map plain_reason reasons) j)) (range_with_len 0 i)
+    → after ≡ before ++ explanation_line i (plain_reason reason)
+    → after ≡ flat_map (λ j. explanation_line j (reason_at (map plain_reason reasons) j)) (range_with_len 0 (i + 1))
+line_of_bid reasons i reason within is before after so_far more =
+    let own : plain_reason reason ≡ reason_at (map plain_reason reasons) i =
+    ap plain_reason is ∙ sym (get_or-map plain_reason reasons i reason Zero within) in
+    more ∙ ap₂ (λ (xs : List ℕ) (r : PlainReason). xs ++ explanation_line i r) so_far own
+    ∙ lines_more (λ (j : ℕ). explanation_line j (reason_at (map plain_reason reasons) j)) i
 
 module _ {R W : Type 0} (remaining : R → Option (List ℕ)) (contents : W → Option (List ℕ)) (limit : ℕ) (old new : Watched R) where
   -- nothing was written, and this fault of the file is answered

@@ -25,7 +25,7 @@ range_more a (suc n) =
     ap (λ (xs : List ℕ). a ∷ xs) (range_more (a + 1) n ∙ ap (λ (m : ℕ). range_with_len (a + 1) n ++ m ∷ []) e)
 
 -- one more line
-lines_more : (f : ℕ → List ℕ) (n : ℕ) → flat_map f (range_with_len 0 n) ++ f n ≡ flat_map f (range_with_len 0 (n + 1))
+pub lines_more : (f : ℕ → List ℕ) (n : ℕ) → flat_map f (range_with_len 0 n) ++ f n ≡ flat_map f (range_with_len 0 (n + 1))
 lines_more f n =
     ap (λ (xs : List ℕ). flat_map f (range_with_len 0 n) ++ xs) (sym (append-nil (f n)))
     ∙ sym (flat_map-append f (range_with_len 0 n) (n ∷ []))
