@@ -2,3 +2,5 @@
 pub mod BestBids
 pub mod KeptBidsLists
 pub mod KeptBidsBest
+pub mod KeptBids
+pub mod Deciding
