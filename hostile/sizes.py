@@ -59,6 +59,13 @@ def named(bid):
     return bundle, f"{bundle}:{bid.price}"
 
 
+def explanation(bids):
+    """What `cats explain` prints of bids that are all points: of equal bidders the first comes first in the canonical text."""
+    in_order = sorted(range(len(bids)), key=lambda number: (bids[number].goods, bids[number].price))
+    kept = {number: place for place, number in enumerate(in_order)}
+    return "".join(f"{number}\tkeep\t{kept[number]}\n" for number in range(len(bids)))
+
+
 def difference(bids, whose):
     """What `cats compare` prints of the canonical file of these bids and of one that lacks the last of them."""
     last = bids[-1]
@@ -110,6 +117,7 @@ def judge_file(folder, bids, whose):
     run(["value", "one", *asked], (0, value(GOODS, bids, whose), ""), folder)
     run(["normalise", "one"], (0, text_of(GOODS, in_order, whose), ""), folder)
     run(["normalise", "other"], (0, text_of(GOODS, in_order, whose), ""), folder)
+    run(["explain", "one"], (0, explanation(bids), ""), folder)
     run(["compare", "one", "other"], (0, "same\n", ""), folder)
     run(["compare", "one", "lacking"], (1, difference(in_order, whose), ""), folder)
     run(["duplicates", "one", "lacking", "other"], (0, "one\nother\n", ""), folder)

@@ -56,7 +56,7 @@ def cats(*words):
     return [PROGRAM, *words]
 
 
-CHECK, SHOW, NORMALISE, LINES = cats("check"), cats("show"), cats("normalise"), ["wc", "-l"]
+CHECK, SHOW, NORMALISE, EXPLAIN, LINES = cats("check"), cats("show"), cats("normalise"), cats("explain"), ["wc", "-l"]
 
 
 # Texts. Each is made in a process of its own, since what this one holds is counted for those that it starts.
@@ -152,11 +152,12 @@ def measure_bids(folder, name, goods):
     made(generate, path, 65_536, 4096, goods, 1000, 3)
     with open(text, "wb") as file:
         subprocess.run([*NORMALISE, path], stdout=file, check=True)
-    commands = [LINES, CHECK, SHOW, NORMALISE, cats("compare", path), cats("compare", text)]
-    lines, check, show, normalise, same, rewritten = rows(name, path, commands)
+    commands = [LINES, CHECK, SHOW, NORMALISE, EXPLAIN, cats("compare", path), cats("compare", text)]
+    lines, check, show, normalise, explain, same, rewritten = rows(name, path, commands)
     bound(f"{name}: check, times wc -l", check.seconds / lines.seconds, 25)
     bound(f"{name}: show, times check", show.seconds / check.seconds, 4)
     bound(f"{name}: normalise, times check", normalise.seconds / check.seconds, 11)
+    bound(f"{name}: explain, times normalise", explain.seconds / normalise.seconds, 2.5)
     bound(f"{name}: compare with itself, times normalise", same.seconds / normalise.seconds, 2.1)
     bound(f"{name}: compare with its text, times normalise", rewritten.seconds / normalise.seconds, 2.1)
     bound(f"{name}: what compare holds, of normalise and a text", same.held / (normalise.held + os.path.getsize(text)), 1.5)

@@ -158,13 +158,13 @@ def bomb(count):
 
 
 CHECK, SHOW, NORMALISE, VALUE = ("check", FILE), ("show", FILE), ("normalise", FILE), ("value", FILE)
-COMPARE = ("compare", FILE, FILE)
+EXPLAIN, COMPARE = ("explain", FILE), ("compare", FILE, FILE)
 MOST_STEPS = ("--steps", "1000000000")
 BOMB = 60
 BOMB_GOODS = tuple(map(str, range(BOMB)))
-BOMBS = (NORMALISE, ("normalise", *MOST_STEPS, FILE), (*VALUE, *BOMB_GOODS), ("value", *MOST_STEPS, FILE, *BOMB_GOODS))
+BOMBS = (NORMALISE, EXPLAIN, ("normalise", *MOST_STEPS, FILE), (*VALUE, *BOMB_GOODS), ("value", *MOST_STEPS, FILE, *BOMB_GOODS))
 READING = (CHECK, SHOW)
-ALL = (CHECK, SHOW, NORMALISE)
+ALL = (CHECK, SHOW, NORMALISE, EXPLAIN)
 BY_BIDS = (BIDS // 4, BIDS // 2, BIDS)
 BY_GOODS = (GOODS // 4, GOODS // 2, GOODS)
 BY_MEBIBYTES = (64, 128, 256)
@@ -192,7 +192,7 @@ INPUTS = [
     Input("short comments", partial(repeated, "%\n" * (MEBIBYTE // 2)), BY_MEBIBYTES, (CHECK,)),
     Input("dummy goods, one used", dummies, BY_BIDS, (*ALL, VALUE)),
     *(
-        Input(f"{'XOR' if is_xor else 'OR'} bids {name}", partial(one_bidder, family, is_xor), sizes, (CHECK, NORMALISE))
+        Input(f"{'XOR' if is_xor else 'OR'} bids {name}", partial(one_bidder, family, is_xor), sizes, (CHECK, NORMALISE, EXPLAIN))
         for name, (family, sizes) in FAMILIES.items()
         for is_xor in (False, True)
     ),
