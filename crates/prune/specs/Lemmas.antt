@@ -4,6 +4,7 @@ pub mod KeptBids
 pub mod Lists
 pub mod OnBundles
 pub mod Points
+pub mod Reached
 pub mod SearchSteps
 pub mod Tables
 pub mod Values
