@@ -21,12 +21,12 @@ pub fn parse<'a>(alloc: Global, words: &'a [&'a str]) -> Result<Request<'a>, NoR
         Ok(Some(request)) => Ok(request),
         // `clap` takes no such line
         Ok(None) => Err(NoRequest::WrongUsage(String::new(alloc))),
-        Err(error) => Err(explain(alloc, &error)),
+        Err(error) => Err(no_request(alloc, &error)),
     }
 }
 
 /// What `clap` tells where it gives no matches.
-fn explain(alloc: Global, error: &Error) -> NoRequest
+fn no_request(alloc: Global, error: &Error) -> NoRequest
     ensures wrong { kind_of error.now ≢ DisplayHelp → kind_of error.now ≢ DisplayVersion
         → kind_of error.now ≢ OutOfMemory → is_wrong_usage result ≡ true }
     ensures shown { (kind_of error.now ≡ DisplayHelp) ⊎ (kind_of error.now ≡ DisplayVersion)
