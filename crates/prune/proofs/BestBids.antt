@@ -62,7 +62,7 @@ equal_from_test a b t = at (bundle_cmp a.bundle b.bundle) t
     at Equal e = refl
     at Greater e = absurd (cc)
 
--- what does not come before a bid is inside its bundle only where the two are the same
+-- what does not come before a bid is inside its bundle only if the two are the same
 inside_is_same : (earlier later : Atom (List ℕ)) → (IsInside later.bundle earlier.bundle → (bundle_cmp later.bundle earlier.bundle ≡ Less)
     ⊎ (later.bundle ≡ earlier.bundle)) → is_bid_before later earlier ≡ false → is_in_bundle later earlier ≡ is_same_bundle later earlier
 inside_is_same earlier later ordered n =

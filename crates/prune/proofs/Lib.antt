@@ -3,7 +3,7 @@ pub mod Pruning
 pub mod BestBids
 pub mod ListedAtoms
 pub mod Results
-pub mod InFront
+pub mod Prefixes
 pub mod PruningLoop
 pub mod ReachingLevels
 pub mod PathPackings

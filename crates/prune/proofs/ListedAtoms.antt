@@ -140,7 +140,7 @@ above_at x [] i a l = absurd (omega arith)
 above_at x (y ∷ ys) zero a l = a.0
 above_at x (y ∷ ys) (suc i) a l = above_at x ys i a.1 (omega arith)
 
--- the next good that is not below it stands behind them
+-- the next good that is not below it is behind them
 pub next_behind : (xs : List ℕ) (i : ℕ) → IsRising xs → i ≤ length xs → good_from xs (behind_first xs i) ≡ slice_get xs i
 next_behind [] i r l = refl
 next_behind (x ∷ xs) zero r l = rw (le-leb 0 x (omega arith)) refl
@@ -175,7 +175,7 @@ is_listed listed atoms bundle unlisted place l t =
     (λ (m : listed ≤ place). absurd (both_ways (is_inside_at atoms bundle place) (unlisted place m l) t))
     (cases_lt place listed)
 
--- the good at which an atom inside the bundle is listed has been gone through
+-- the good at which an atom inside the bundle is listed has been visited
 listed_before : (lists : List (List Posting)) (listed : ℕ) (atoms : List (Atom (List ℕ))) (bundle : List ℕ) (from place : ℕ) → AreListed lists listed atoms
     → good_from bundle from ≡ None → place < listed → is_inside_at atoms bundle place ≡ true → (good : ℕ) × (has_good bundle good ≡ true) × (good < from)
     × Contains (places_at lists good) place

@@ -1,4 +1,4 @@
--- What a pruning keeps as it goes through bids in order of bundles: a bid stays where the kept bids below its bundle do not reach
+-- What a pruning keeps of bids in order of bundles: a bid is kept if the kept bids below its bundle do not reach
 -- its price. The idea: a later bid is below no earlier one, so what was decided stays right, and a pruning that is broken off
 -- could be completed without a change below the bundles that it saw.
 use Rattle.std.proofs.Common.{◌≡◌, ℕ, ◌<◌, ◌≤◌, Bool, true, false, not, ◌&&◌, ⊎_elim, List, [], ◌∷◌, ◌++◌, refl, sym, ap, ◌∙◌, subst, le_trans, append_assoc}
@@ -26,23 +26,23 @@ append_nil : (zs : List (Atom (List ℕ))) → zs ++ [] ≡ zs
 append_nil [] = refl
 append_nil (z ∷ zs) = ap (λ (ys : List (Atom (List ℕ))). z ∷ ys) (append_nil zs)
 
-pub rising_front : (front back : List (Atom (List ℕ))) → All HasRisingBundle (front ++ back) → All HasRisingBundle front
-rising_front front back h =
-    All-from_Contains HasRisingBundle front (λ a c. All-contains HasRisingBundle (front ++ back) a h (Contains-append_left front back a c))
+pub rising_prefix : (prefix back : List (Atom (List ℕ))) → All HasRisingBundle (prefix ++ back) → All HasRisingBundle prefix
+rising_prefix prefix back h =
+    All-from_Contains HasRisingBundle prefix (λ a c. All-contains HasRisingBundle (prefix ++ back) a h (Contains-append_left prefix back a c))
 
--- in a list in order the atoms in front of one are before it, and those behind it are not
-pub before_next : (front : List (Atom (List ℕ))) (x : Atom (List ℕ)) (back : List (Atom (List ℕ))) → IsInOrder (front ++ x ∷ back)
-    → All (λ a. IsBefore a x) front
+-- in a list in order the atoms before one are less, and those behind it are not
+pub before_next : (prefix : List (Atom (List ℕ))) (x : Atom (List ℕ)) (back : List (Atom (List ℕ))) → IsInOrder (prefix ++ x ∷ back)
+    → All (λ a. IsBefore a x) prefix
 before_next [] x back order = All-nil (λ a. IsBefore a x)
-before_next (y ∷ front) x back order =
-    All-cons (λ a. IsBefore a x) y front
-    (All-contains (IsBefore y) (front ++ x ∷ back) x (AllPairs-head IsBefore y (front ++ x ∷ back) order)
-    (Contains-append_right front (x ∷ back) x (Contains-head x back)))
-    (before_next front x back (AllPairs-tail IsBefore y (front ++ x ∷ back) order))
+before_next (y ∷ prefix) x back order =
+    All-cons (λ a. IsBefore a x) y prefix
+    (All-contains (IsBefore y) (prefix ++ x ∷ back) x (AllPairs-head IsBefore y (prefix ++ x ∷ back) order)
+    (Contains-append_right prefix (x ∷ back) x (Contains-head x back)))
+    (before_next prefix x back (AllPairs-tail IsBefore y (prefix ++ x ∷ back) order))
 
-pub behind_next : (front : List (Atom (List ℕ))) (x : Atom (List ℕ)) (back : List (Atom (List ℕ))) → IsInOrder (front ++ x ∷ back) → All (IsBefore x) back
+pub behind_next : (prefix : List (Atom (List ℕ))) (x : Atom (List ℕ)) (back : List (Atom (List ℕ))) → IsInOrder (prefix ++ x ∷ back) → All (IsBefore x) back
 behind_next [] x back order = AllPairs-head IsBefore x back order
-behind_next (y ∷ front) x back order = behind_next front x back (AllPairs-tail IsBefore y (front ++ x ∷ back) order)
+behind_next (y ∷ prefix) x back order = behind_next prefix x back (AllPairs-tail IsBefore y (prefix ++ x ∷ back) order)
 
 -- ---- what is not below
 
@@ -100,7 +100,7 @@ module _ (value : List (Atom (List ℕ)) → List ℕ → ℕ)
       dominated = All-nil (λ a. a.price ≤ value [] a.bundle);
     }
 
-    -- the price is reached, and the bid goes
+    -- the price is reached, and the bid is dropped
     pub IsKept-reached : (done kept : List (Atom (List ℕ))) (x : Atom (List ℕ)) → IsKept done kept → x.price ≤ value (atoms_below kept x.bundle) x.bundle
         → IsKept (done ++ x ∷ []) kept
     IsKept-reached done kept x k l = record {
@@ -146,7 +146,7 @@ module _ (value : List (Atom (List ℕ)) → List ℕ → ℕ)
         let rising' = subst (λ (zs : List (Atom (List ℕ))). All HasRisingBundle zs) (sym e) rising in
         ⊎_elim
         (λ (l : value (atoms_below kept x.bundle) x.bundle < x.price).
-        let first : All HasRisingBundle done = rising_front done (x ∷ rest) rising in
+        let first : All HasRisingBundle done = rising_prefix done (x ∷ rest) rising in
         let r : HasRisingBundle x = All-contains HasRisingBundle (done ++ x ∷ rest) x rising (Contains-append_right done (x ∷ rest) x (Contains-head x rest)) in
         let before : All (λ a. IsBefore a x) done = before_next done x rest order in
         let c = completion rest (done ++ x ∷ []) (kept ++ x ∷ []) order' rising' (IsKept-missed done kept x first r before k l) in (

@@ -24,7 +24,7 @@ use Rattle.prune.specs.Internal.BestBids.{AreBestBids}
 use Rattle.prune.proofs.Pruning.{HasRisingBundle, IsKept-none}
 use Rattle.prune.proofs.Results.{IsTurn, IsXorKept, IsOrKept, AreXorPoints, AreOrPoints, turn_among, turn_positive, xor_done, xor_missed, xor_more, xor_fewer, or_done}
 use Rattle.prune.proofs.Results.{Within, none_heavy}
-use Rattle.prune.proofs.InFront.{IsLeft, next_parts, next_taken}
+use Rattle.prune.proofs.Prefixes.{IsLeft, next_parts, next_taken}
 
 -- ---- atoms of the code
 
@@ -102,7 +102,7 @@ dominates_is price bundle kept l =
     list_any_filter (λ (a : Atom (List ℕ)). leb price a.price) (λ (a : Atom (List ℕ)). is_inside a.bundle bundle) kept
     ∙ price_reached price l bundle (atoms_inside kept bundle) (filter_passes (λ a. is_inside a.bundle bundle) kept)
 
--- the atoms inside the bundle ask for some goods, as all kept ones do
+-- the atoms inside the bundle have some goods, as all kept ones do
 pub nonempty_inside : {S : Type 0} (goods : S → List ℕ) (inside seen : List (Bor (Atom S))) (p : Atom (List ℕ) → Bool) (kept : List (Atom (List ℕ)))
     → seen ≡ inside → atoms_of goods (map (λ a. a.now) inside) ≡ filter p kept → All (λ a. 0 < length a.bundle) kept
     → All (λ a. 0 < length a.bundle) (atoms_of goods (map (λ a. a.now) seen))
@@ -158,8 +158,8 @@ first_undominated bids best b rising free (suc i) l =
     } in
     let missed = sym (free i within) ∙ dominates_is x.price x.bundle done (turn_positive _ _ _ _ turn) in
     let on : suc i ≡ i + 1 = omega arith in
-    let front : take (suc i) best ≡ done ++ x ∷ [] = ap (λ n. take n best) on ∙ take_more best i (record { bundle = []; price = 0 }) within in
-    rw front (xor_missed _ _ _ _ done turn (first_undominated bids best b rising free i (omega arith)) missed)
+    let prefix : take (suc i) best ≡ done ++ x ∷ [] = ap (λ n. take n best) on ∙ take_more best i (record { bundle = []; price = 0 }) within in
+    rw prefix (xor_missed _ _ _ _ done turn (first_undominated bids best b rising free i (omega arith)) missed)
 
 -- one more bid
 pub one_more_undominated : {S : Type 0} (goods : S → List ℕ) (atoms before : List (Atom S)) (i : ℕ) (bid : Atom S)
@@ -168,10 +168,10 @@ pub one_more_undominated : {S : Type 0} (goods : S → List ℕ) (atoms before :
     ≡ false)
     → (k : ℕ) → k < i + 1 → list_any (dominates (atom_at (atoms_of goods atoms) k).bundle (atom_at (atoms_of goods atoms) k).price) (take k (atoms_of goods atoms))
     ≡ false
-one_more_undominated {S} goods atoms before i bid l is front free h k within =
+one_more_undominated {S} goods atoms before i bid l is prefix free h k within =
     let seen = atoms_of goods atoms in
     let at : atom_at seen i ≡ plain_atom goods bid = get_or-atoms_of goods atoms i bid (record { bundle = []; price = 0 }) l is in
-    let those : take i seen ≡ atoms_of goods before = take-map (plain_atom goods) i atoms ∙ ap (atoms_of goods) (sym front) in
+    let those : take i seen ≡ atoms_of goods before = take-map (plain_atom goods) i atoms ∙ ap (atoms_of goods) (sym prefix) in
     let here : list_any (dominates (atom_at seen i).bundle (atom_at seen i).price) (take i seen) ≡ false =
     ap₂ (λ (x : Atom (List ℕ)) (zs : List (Atom (List ℕ))). list_any (dominates x.bundle x.price) zs) at those ∙ free in
     ⊎_elim (λ (lt : k < i). h k lt)

@@ -27,7 +27,7 @@ use Rattle.prune.specs.Lemmas.KeptBids.{all_nonempty, xor_kept_are_points, xor_p
 use Rattle.prune.specs.Lemmas.SearchSteps.{greatest_price-member, greatest_price-reached}
 use Rattle.prune.specs.Internal.BestBids.{AreBestBids}
 use Rattle.prune.proofs.Pruning.{HasRisingBundle, IsKept, IsKept-reached, IsKept-missed, IsCompleted, completion, inside_is_below, below_push, later_not_below}
-use Rattle.prune.proofs.Pruning.{not_below_itself, before_next, behind_next, rising_front}
+use Rattle.prune.proofs.Pruning.{not_below_itself, before_next, behind_next, rising_prefix}
 
 -- ---- values grow with the list
 
@@ -85,7 +85,7 @@ turn_positive bids done x rest t =
 turn_below : (bids done : List (Atom (List ℕ))) (x : Atom (List ℕ)) (rest kept : List (Atom (List ℕ))) → IsTurn bids done x rest → All (Contains done) kept
     → filter (λ a. is_inside a.bundle x.bundle) kept ≡ atoms_below kept x.bundle
 turn_below bids done x rest kept t among =
-    let first = rising_front done (x ∷ rest) t.rising in
+    let first = rising_prefix done (x ∷ rest) t.rising in
     inside_is_below kept x
     (All-weaker (Contains done) HasRisingBundle (λ a c. All-contains HasRisingBundle done a first c) kept among)
     (turn_rising bids done x rest t)
@@ -100,7 +100,7 @@ xor_reached bids done x rest kept t k e =
 pub xor_missed : (bids done : List (Atom (List ℕ))) (x : Atom (List ℕ)) (rest kept : List (Atom (List ℕ))) → IsTurn bids done x rest → IsXorKept done kept
     → false ≡ leb x.price (xor_value (filter (λ a. is_inside a.bundle x.bundle) kept) x.bundle) → IsXorKept (done ++ x ∷ []) (kept ++ x ∷ [])
 xor_missed bids done x rest kept t k e =
-    IsKept-missed xor_value xor_value-member xor_more xor_fewer done kept x (rising_front done (x ∷ rest) t.rising) (turn_rising bids done x rest t)
+    IsKept-missed xor_value xor_value-member xor_more xor_fewer done kept x (rising_prefix done (x ∷ rest) t.rising) (turn_rising bids done x rest t)
     (turn_before bids done x rest t) k
     (subst (λ (zs : List (Atom (List ℕ))). xor_value zs x.bundle < x.price) (turn_below bids done x rest kept t k.among) (leb-false _ _ (sym e)))
 
@@ -113,7 +113,7 @@ or_reached bids done x rest kept t k e =
 pub or_missed : (bids done : List (Atom (List ℕ))) (x : Atom (List ℕ)) (rest kept : List (Atom (List ℕ))) → IsTurn bids done x rest → IsOrKept done kept
     → false ≡ leb x.price (or_value (filter (λ a. is_inside a.bundle x.bundle) kept) x.bundle) → IsOrKept (done ++ x ∷ []) (kept ++ x ∷ [])
 or_missed bids done x rest kept t k e =
-    IsKept-missed or_value or_value-price or_more or_value-filter_le done kept x (rising_front done (x ∷ rest) t.rising) (turn_rising bids done x rest t)
+    IsKept-missed or_value or_value-price or_more or_value-filter_le done kept x (rising_prefix done (x ∷ rest) t.rising) (turn_rising bids done x rest t)
     (turn_before bids done x rest t) k
     (subst (λ (zs : List (Atom (List ℕ))). or_value zs x.bundle < x.price) (turn_below bids done x rest kept t k.among) (leb-false _ _ (sym e)))
 
@@ -200,7 +200,7 @@ pub within_missed : (limit : ℕ) (bids done : List (Atom (List ℕ))) (x : Atom
     → IsOrKept done kept → Within limit kept done → 1 + cut_steps (filter (λ a. is_inside a.bundle x.bundle) kept) x.bundle x.price ≤ limit
     → Within limit (kept ++ x ∷ []) (done ++ x ∷ [])
 within_missed limit bids done x rest kept t k w l =
-    let first = rising_front done (x ∷ rest) t.rising in
+    let first = rising_prefix done (x ∷ rest) t.rising in
     All-push (λ a. 1 + cut_steps (atoms_below (kept ++ x ∷ []) a.bundle) a.bundle a.price ≤ limit) done x
     (All-from_Contains (λ a. 1 + cut_steps (atoms_below (kept ++ x ∷ []) a.bundle) a.bundle a.price ≤ limit) done (λ a c.
     let same = below_push kept x a.bundle (later_not_below a x (All-contains HasRisingBundle done a first c) (turn_rising bids done x rest t)
@@ -210,7 +210,7 @@ within_missed limit bids done x rest kept t k w l =
     (subst (λ (zs : List (Atom (List ℕ))). 1 + cut_steps zs x.bundle x.price ≤ limit) (sym (below_push kept x x.bundle (not_below_itself x.bundle)))
     (subst (λ (zs : List (Atom (List ℕ))). 1 + cut_steps zs x.bundle x.price ≤ limit) (turn_below bids done x rest kept t k.among) l))
 
--- on a bundle with a price above 0 stands the best bid, of the greatest price
+-- on a bundle with a price above 0 is the best bid, of the greatest price
 best_on : (bids best : List (Atom (List ℕ))) → AreBestBids bids best → (bundle : List ℕ) → 0 < greatest_price bids bundle → (b : Atom (List ℕ))
     × Contains best b × (b.bundle ≡ bundle) × (b.price ≡ greatest_price bids bundle)
 best_on bids best b bundle l =
@@ -232,7 +232,7 @@ best_price bids best m b c =
     let e : r.0 ≡ b = same_bundle_same_atom best m.in_order r.0 b r.1 c r.2 in
     sym r.3 ∙ ap (λ (z : Atom (List ℕ)). z.price) e
 
--- whether a bundle is heavy, told by the points and the greatest price
+-- whether a bundle is heavy, by the points and the greatest price
 heavy_is : (goods limit : ℕ) (bids points : List (Atom (List ℕ))) (bundle : List ℕ) (price : ℕ) → points ≡ or_points goods bids
     → greatest_price bids bundle ≡ price
     → is_heavy goods limit bids bundle ≡ (ltb 0 price && ltb limit (1 + cut_steps (atoms_below points bundle) bundle price))

@@ -1,8 +1,8 @@
--- What a fault of a pruning tells.
+-- What a fault of a pruning says.
 use Rattle.prune.specs.declared.fault.PruneFault.{PruneFault}
 use Rattle.prune.specs.declared.fault.PruneFault.TheVariants.{StepLimit, Memory}
 
--- where the step limit is told, the fact holds of its bundle
+-- if the fault is a step limit, the fact holds of its bundle
 abbrev pub IfStepLimit : {S : Type 0} → PruneFault S → (S → Type 0) → Type 0
 IfStepLimit (StepLimit bundle) P = P bundle
 IfStepLimit Memory P = Unit {0}

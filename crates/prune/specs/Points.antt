@@ -1,6 +1,5 @@
--- Points: the atoms that a bidder's values alone ask for (Nisan, "Bidding and allocation in combinatorial auctions",
--- 2000, gives the values). They are chosen by values over the list of all bundles; the code drops bids by containment
--- and by a search over the bids that it kept.
+-- Points: the atoms that a bidder's values need. They are chosen by values over the list of all bundles; the code drops
+-- bids by containment and by a search over the bids that it kept.
 use Rattle.std.specs.Prelude.{ℕ, ◌+◌, ◌<◌, Bool, ◌&&◌, not, nat_lt, map, List, [], ◌∷◌, length, Contains}
 use Rattle.std.specs.List.{list_all, filter}
 use Rattle.valuation.specs.declared.atom.Atom.{Atom}

@@ -16,7 +16,7 @@ pub fn keep_best_bids<S: GoodsSet>(alloc: Global, bids: &mut Vec<Atom<S>>) -> Re
     bids.retain(|bid| bid.price > 0);
     put_in_order(alloc, bids)?;
     bids.sort_unstable_by(|a, b| order_of_bids(a, b));
-    // In order, a later bid's bundle is inside that of the one before it only where the two are the same.
+    // In order, a later bid's bundle is inside that of the one before it only if the two are the same.
     bids.dedup_by(|later, best| later.bundle.is_inside(&best.bundle));
     Ok(())
 }

@@ -70,7 +70,7 @@ pub fn no_new_heavy_bundle()
         → is_heavy goods limit (or_points goods atoms) bundle ≡ true → is_heavy goods limit atoms bundle ≡ true }
 {}
 
-/// There are no points exactly where the table of values is all zeros.
+/// There are no points exactly if the table of values is all zeros.
 pub fn no_points_no_values()
     ensures xor { (goods : ℕ) (atoms : List (Atom (List ℕ))) → All (IsAtom goods) atoms
         → (xor_points goods atoms ≡ [] ↔ is_nonzero (xor_table atoms goods) ≡ false) }
@@ -78,7 +78,7 @@ pub fn no_points_no_values()
         → (or_points goods atoms ≡ [] ↔ is_nonzero (or_table atoms goods) ≡ false) }
 {}
 
-/// Lists of bids have the same points exactly where their tables of values are equal.
+/// Lists of bids have the same points exactly if their tables of values are equal.
 pub fn same_tables_same_points()
     ensures xor { (goods : ℕ) (one other : List (Atom (List ℕ))) → All (IsAtom goods) one → All (IsAtom goods) other
         → (xor_table one goods ≡ xor_table other goods ↔ xor_points goods one ≡ xor_points goods other) }
@@ -86,7 +86,7 @@ pub fn same_tables_same_points()
         → (or_table one goods ≡ or_table other goods ↔ or_points goods one ≡ or_points goods other) }
 {}
 
-/// Where no bundle is heavy for the bids, none is heavy for their points.
+/// If no bundle is heavy for the bids, none is heavy for their points.
 pub fn none_heavy_for_points()
     ensures { (goods limit : ℕ) (atoms : List (Atom (List ℕ))) → All (IsAtom goods) atoms
         → first_heavy goods limit atoms ≡ None → first_heavy goods limit (or_points goods atoms) ≡ None }

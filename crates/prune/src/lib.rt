@@ -1,15 +1,15 @@
-//! Pruning: of a bidder's atomic bids exactly those stay that its values alone ask for, the points.
+//! Pruning: of a bidder's atomic bids exactly the points are kept, the bids that its values need.
 #![tactic(auto)]
 
 mod best;
 mod commonness;
 mod fault;
-mod front;
 mod laws;
 mod or;
 mod packing_finder;
 mod point_index;
 mod posting;
+mod prefix;
 mod search;
 mod sorting;
 mod subset_index;

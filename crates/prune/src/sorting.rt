@@ -10,7 +10,7 @@ use std::alloc::{AllocError, Global};
 use std::cmp::Ordering;
 use valuation::Atom;
 
-/// So few bids are left as they stand: to sort them as they are takes less time than to list their keys.
+/// So few bids are left as they are: to sort them without keys takes less time than to list the keys.
 const FEW: usize = 32;
 
 /// A bid, by the sort key of its bundle and its place.
@@ -54,8 +54,9 @@ fn places_in_order<S: GoodsSet>(
     Ok(places)
 }
 
-/// Where the bid that belongs at `to` stands now, when each place before `to` has its bid. It stood at the place that is
-/// listed at `to`; what stood at a place that has its bid went where that bid came from, which is listed there now.
+/// Where the bid that belongs at `to` is now, when each place before `to` has its bid. At first it was at the place that
+/// is listed at `to`. The bid that was at a place before `to` is where the bid of that place came from, and that place
+/// is listed there now.
 fn place_now(places: &[KeyedPlace], to: usize) -> usize {
     let mut from = to;
     for _ in 0..places.len() {
@@ -70,7 +71,7 @@ fn place_now(places: &[KeyedPlace], to: usize) -> usize {
     from
 }
 
-/// Puts the bids in order. A place past the end, which never comes, is passed over.
+/// Puts the bids in order. A place past the end, which never comes, is skipped.
 pub fn put_in_order<S: GoodsSet>(alloc: Global, bids: &mut Vec<Atom<S>>) -> Result<(), AllocError>
     ensures permutation { IsPermutation bids.old.items bids.new.items }
     ensures len { vec_len bids.new ≡ vec_len bids.old }

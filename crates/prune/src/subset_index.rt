@@ -28,8 +28,7 @@ use goods_set::{GoodsSet, fingerprint, may_be_subset, rising_goods};
 use std::alloc::{AllocError, Global};
 use valuation::Atom;
 
-/// Where atoms are listed, each at one of its goods, so that those inside a bundle are found through the bundle's
-/// goods. The atoms themselves are given with each call: those kept so far, in order, and so the smaller bundles first.
+/// Lists atoms, each at one of its goods, so that those inside a bundle are found through the bundle's goods. The atoms themselves are given with each call: those kept so far, in order, and so the smaller bundles first.
 /// For speed alone an atom is listed at its rarest good, only once a larger bundle comes (none of its own size is inside
 /// another), and fingerprints are compared before bundles.
 #[derive(Drop)]
@@ -60,8 +59,8 @@ fn is_inside<S: GoodsSet>(kept: &[Atom<S>], posting: &Posting, bundle: &S, marks
     kept[posting.index as usize].bundle.is_inside(bundle)
 }
 
-/// Whether the atom that is listed at a good is inside the bundle and has at least the price. The price is compared
-/// late, since it says nothing of the next one's, and what says mostly the same costs less.
+/// Whether the atom that is listed at a good is inside the bundle and has at least the price. Fingerprints
+/// are compared before prices: most rule the atom out, and a test that mostly has the same result costs less.
 #[inline(always)]
 fn is_dominating<S: GoodsSet>(
     kept: &[Atom<S>],
@@ -139,7 +138,7 @@ impl SubsetIndex {
         })
     }
 
-    /// Takes in that an atom is kept, the bundle of which has these goods.
+    /// Adds a kept atom, whose bundle has these goods.
     pub fn keep(&mut self, goods: &[u16]) -> Result<(), AllocError>
         requires { 0 < length goods.now }
         ensures listed { self.new.listed ≡ self.old.listed }
@@ -150,7 +149,7 @@ impl SubsetIndex {
         Ok(())
     }
 
-    /// Lists the first kept atom that is not. An index past the numbers of 4 bytes is refused as memory is; a file has far
+    /// Lists the first kept atom that is not listed. An index past the numbers of 4 bytes is refused as memory is; a file has far
     /// fewer bids.
     fn list_next<S: GoodsSet>(&mut self, kept: &[Atom<S>]) -> Result<(), AllocError>
         requires next { self.old.listed < length kept.now }
@@ -207,7 +206,7 @@ impl SubsetIndex {
         Ok(())
     }
 
-    /// Keeps and lists the atoms behind those that are listed, so that all of them are.
+    /// Adds and lists the atoms behind those that are listed, so that all of them are.
     pub fn list_all<S: GoodsSet>(&mut self, atoms: &[Atom<S>]) -> Result<(), AllocError>
         requires some { HaveGoods (atoms_of S.goods atoms.now) }
         requires prefix { IsPrefixIndex (atoms_of S.goods atoms.now) self.old }
@@ -234,7 +233,7 @@ impl SubsetIndex {
         &[]
     }
 
-    /// Puts the places of the kept atoms inside the bundle, which has these goods, rising, where others were.
+    /// Replaces the places by those of the kept atoms inside the bundle, which has these goods, rising.
     fn find_inside<S: GoodsSet>(
         &self,
         kept: &[Atom<S>],
@@ -258,8 +257,8 @@ impl SubsetIndex {
         Ok(())
     }
 
-    /// The kept atoms inside the bundle, which has these goods, in the order in which they came. Puts their places where
-    /// others were.
+    /// The kept atoms inside the bundle, which has these goods, in the order in which they came. Replaces the
+    /// places by theirs.
     pub fn inside<'a, S: GoodsSet>(
         &self,
         kept: &'a [Atom<S>],

@@ -17,7 +17,7 @@ ghost use Rattle.prune.specs.SearchSteps.{
   first_heavy,
 };
 
-/// The XOR points: a bid stays where no bid inside its bundle has its price.
+/// The XOR points: a bid is kept if no bid inside its bundle has its price.
 #[tactic(auto, unfolding(crate::specs::Points::points_where, crate::specs::Points::is_xor_point, valuation::specs::Values::xor_value))]
 pub fn xor_points_worked()
     ensures none { xor_points 1 [] ≡ [] }
@@ -34,7 +34,7 @@ pub fn xor_points_worked()
         ∷ atom (0 ∷ 1 ∷ []) 6 ∷ [] }
 {}
 
-/// The OR points: a bid stays where no bids that share no good and are inside its bundle add up to its price.
+/// The OR points: a bid is kept if no bids that share no good and are inside its bundle add up to its price.
 #[tactic(auto, unfolding(crate::specs::Points::points_where, crate::specs::Points::is_or_point, valuation::specs::Values::or_value))]
 pub fn or_points_worked()
     ensures none { or_points 1 [] ≡ [] }
@@ -110,7 +110,7 @@ fn none_inside_from_worked()
     ensures from_it { ¬ NoneInsideFrom 0 (atom (0 ∷ []) 3 ∷ atom (1 ∷ []) 4 ∷ []) (0 ∷ []) }
 {}
 
-/// At each place stands what the prices from there on add up to.
+/// At each place is what the prices from there on add up to.
 fn prices_left_worked()
     ensures none { ArePricesLeft [] [] }
     ensures two { ArePricesLeft (atom (0 ∷ []) 3 ∷ atom (1 ∷ []) 4 ∷ []) (7 ∷ 4 ∷ []) }

@@ -30,7 +30,7 @@ ghost use Rattle.prune.specs.Points.{xor_points};
 ghost use Rattle.prune.specs.Reached.{IsPointFor};
 
 use crate::best::keep_best_bids;
-use crate::front::move_to_front;
+use crate::prefix::move_to_prefix;
 use crate::subset_index::SubsetIndex;
 use goods_set::{GoodsSet, rising_goods};
 use std::alloc::{AllocError, Global};
@@ -60,7 +60,7 @@ pub fn first_dominating<S: GoodsSet>(bid: &Atom<S>, atoms: &[Atom<S>]) -> Option
     None
 }
 
-/// Whether the bids are few, and none is dominated by one before it, so that all of them stay.
+/// Whether the bids are few, and none is dominated by one before it, so that all of them are kept.
 fn are_few_and_undominated<S: GoodsSet>(bids: &[Atom<S>]) -> bool
     ensures { result ≡ true → AreUndominated (atoms_of S.goods bids.now) }
 {
@@ -75,8 +75,7 @@ fn are_few_and_undominated<S: GoodsSet>(bids: &[Atom<S>]) -> bool
     true
 }
 
-/// Whether a kept atom inside the bid's bundle has at least its price. Where none has, the index takes in that the bid
-/// is kept. Few atoms need no index. `buffer` is for goods.
+/// Whether a kept atom inside the bid's bundle has at least its price. If none has, the bid is added to the index. Few atoms need no index. `buffer` is for goods.
 fn is_dominated<S: GoodsSet>(
     index: &mut SubsetIndex,
     kept: &[Atom<S>],
@@ -106,8 +105,7 @@ fn is_dominated<S: GoodsSet>(
     Ok(false)
 }
 
-/// The bids that the bidder's values alone ask for, in order: a bid stays where no kept bid inside its bundle has its
-/// price.
+/// The bids that the bidder's values need, in order: a bid is kept if no kept bid inside its bundle has its price.
 pub fn prune_xor<S: GoodsSet>(
     alloc: Global,
     mut atoms: Vec<Atom<S>>,
@@ -136,7 +134,7 @@ pub fn prune_xor<S: GoodsSet>(
     for place in 0..atoms.len() {
         let bid = &atoms[place];
         if !is_dominated(&mut index, &atoms[..kept], bid, few, &mut buffer)? {
-            move_to_front(&mut atoms, kept, place);
+            move_to_prefix(&mut atoms, kept, place);
             kept += 1;
         }
     }

@@ -1,4 +1,4 @@
--- Lists of atoms in order: each bundle stands once, so a list in order is what it contains.
+-- Lists of atoms in order: each bundle is there once, so a list in order is what it contains.
 use Rattle.std.proofs.Common.{◌≡◌, ℕ, true, false, ◌⊎◌, inl, inr, ⊎_elim, List, [], ◌∷◌, refl, sym, ap, ap₂, ◌∙◌, subst, Ordering, Less, Equal, Greater}
 use Rattle.std.specs.Prelude.{Contains}
 use Rattle.std.specs.Ordering.{is_eq}

@@ -76,7 +76,7 @@ atom_from_parts a b e f = ap₂ (λ (xs : List ℕ) (n : ℕ). record { bundle =
 
 -- ---- OR
 
--- where the atoms below do not reach the price of a kept atom, no split of its bundle does
+-- if the atoms below do not reach the price of a kept atom, no split of its bundle does
 or_splits_short : (atoms : List (Atom (List ℕ))) → All (λ a. 0 < length a.bundle) atoms → (bundle : List ℕ) (price : ℕ)
     → or_value (atoms_below atoms bundle) bundle < price → (part : List ℕ) → IsPart part bundle → or_value atoms part + or_value atoms (without bundle part)
     < price
@@ -277,7 +277,7 @@ inside_good_less xs bundle good i n =
     ⊎_elim (λ (e : good ≡ g). both_ways (has_good xs good) n (subst (λ m. has_good xs m ≡ true) (sym e) h))
     (λ (m : has_good [] g ≡ true). both_ways false refl m) (has_cases good [] g k))))
 
--- where the atoms below do not have the price of a kept atom, it is an XOR point
+-- if the atoms below do not have the price of a kept atom, it is an XOR point
 pub xor_kept_is_point : (goods : ℕ) (atoms : List (Atom (List ℕ))) → IsInOrder atoms → All (λ a. IsBundle goods a.bundle) atoms → (b : Atom (List ℕ))
     → Contains atoms b → xor_value (atoms_below atoms b.bundle) b.bundle < b.price → (b.price ≡ xor_value atoms b.bundle) × IsXorPoint atoms b.bundle
 xor_kept_is_point goods atoms order on b c short =

@@ -1,5 +1,5 @@
--- Points and tables of values tell the same: points are empty exactly where the table is all zeros, and tables are equal exactly
--- where the points are.
+-- Points and tables of values say the same: points are empty exactly if the table is all zeros, and tables are equal exactly
+-- if the points are.
 use Rattle.std.proofs.Common.{◌≡◌, ℕ, ◌<◌, false, not, eqb, List, [], map, sym, ap, ◌∙◌, arith}
 use Rattle.std.specs.Prelude.{All, Contains, ◌↔◌}
 use Rattle.std.proofs.lemmas.Bool.{not-false, eqb-true, eq-eqb, not_from_true}
@@ -51,7 +51,7 @@ same_at one other goods e bundle b = map_same_at one other (all_bundles goods) e
 -- ---- points by any values
 
 module _ (value : List (Atom (List ℕ)) → List ℕ → ℕ) (goods : ℕ) where
-  -- points that keep the values, each on a bundle of a value above 0, are none exactly where all values are 0
+  -- points that keep the values, each on a bundle of a value above 0, are none exactly if all values are 0
   no_points : ((bundle : List ℕ) → value [] bundle ≡ 0) → (atoms points : List (Atom (List ℕ)))
       → ((bundle : List ℕ) → IsBundle goods bundle → value points bundle ≡ value atoms bundle)
       → ((a : Atom (List ℕ)) → Contains points a → IsBundle goods a.bundle × (0 < value atoms a.bundle))
@@ -64,7 +64,7 @@ module _ (value : List (Atom (List ℕ)) → List ℕ → ℕ) (goods : ℕ) whe
         omega arith),
   )
 
-  -- points that keep the values, and depend on them alone, are the same exactly where the values are
+  -- points that keep the values, and depend on them alone, are the same exactly if the values are
   same_points : (one other points more : List (Atom (List ℕ)))
       → ((bundle : List ℕ) → IsBundle goods bundle → value points bundle ≡ value one bundle)
       → ((bundle : List ℕ) → IsBundle goods bundle → value more bundle ≡ value other bundle)

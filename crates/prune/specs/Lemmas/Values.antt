@@ -33,7 +33,7 @@ xor_value-bound (a ∷ rest) bundle n h =
     xor_value-least a rest bundle n (xor_value-bound rest bundle n (All-tail (λ a. IsInside a.bundle bundle → a.price ≤ n) a rest h))
     (All-head (λ a. IsInside a.bundle bundle → a.price ≤ n) a rest h)
 
--- where each atom is dominated on its own bundle by another list, so is each value
+-- if each atom is dominated on its own bundle by another list, so is each value
 pub xor_value-dominated : (other atoms : List (Atom (List ℕ))) → All (λ a. a.price ≤ xor_value other a.bundle) atoms → (bundle : List ℕ)
     → xor_value atoms bundle ≤ xor_value other bundle
 xor_value-dominated other atoms h bundle =
@@ -85,7 +85,7 @@ xor_value-filter_on p atoms bundle h =
 
 -- ---- OR
 
--- where each atom is dominated on its own bundle by another list, so is each value
+-- if each atom is dominated on its own bundle by another list, so is each value
 pub or_value-dominated : (other : List (Atom (List ℕ))) → All (λ a. 0 < length a.bundle) other → (atoms : List (Atom (List ℕ)))
     → All (λ a. a.price ≤ or_value other a.bundle) atoms → (bundle : List ℕ) → or_value atoms bundle ≤ or_value other bundle
 or_value-dominated other some [] h bundle = omega (arith, or_value-nil bundle)

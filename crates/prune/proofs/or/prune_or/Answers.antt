@@ -1,4 +1,4 @@
--- A turn of the loop keeps a bid exactly where the search does not reach its price, which is a turn of proofs/Results; a search that
+-- A turn of the loop keeps a bid exactly if the search does not reach its price, which is a turn of proofs/Results; a search that
 -- gives up has found a heavy bundle; and at the end the kept bids are the points.
 use Rattle.std.proofs.Common.{Err, ◌≡◌, ◌<◌, ◌≤◌, ℕ, List, length, refl, sym, ap, ◌∙◌, subst, take, arith}
 use Rattle.std.specs.Prelude.{is_some}
@@ -7,7 +7,7 @@ use Rattle.bid_file.specs.declared.limits.TheConstants.{MAX_GOODS}
 use Rattle.valuation.specs.Values.{atoms_of, plain_atom}
 use Rattle.prune.specs.Internal.Listings.{IsIndexOf}
 use Rattle.prune.specs.Lemmas.KeptBids.{on_bundles}
-use Rattle.prune.proofs.InFront.{next_left}
+use Rattle.prune.proofs.Prefixes.{next_left}
 use Rattle.prune.proofs.PruningLoop.{next_turn, one_done, one_kept, or_end, kept_nonempty, turn_nonempty, all_some, none_heavy_end, heavy_load}
 use Rattle.prune.proofs.Results.{turn_behind, or_reached, or_missed, within_reached, within_missed, heavy_found}
 use Rattle.prune.proofs.or.prune_or.Goals as goal
@@ -88,9 +88,9 @@ loop-place-preserved g c =
     let done = one_done goods best.items now.items place bid h.left there c.index-bid.ensures in
     let same = c.deref-in-loop-place.ensures.value in
     let indexed = rw same at c.in_ok-list_below.ensures.index in
-    let after = c.move_to_front.new.elements in
-    let moved = c.move_to_front.ensures in
-    let more = one_kept goods now.items after.items c.loop-place.kept place bid c.index-bid.ensures moved.front in
+    let after = c.move_to_prefix.new.elements in
+    let moved = c.move_to_prefix.ensures in
+    let more = one_kept goods now.items after.items c.loop-place.kept place bid c.index-bid.ensures moved.prefix in
     let answer = rw same at c.in-Ok-None.ensures.answer in
     let within = rw same at c.in-Ok-None.ensures.within in
     record {
@@ -116,8 +116,8 @@ returns-in-Err-StepLimit-clause-step_limit g c =
     let turn = next_turn goods (λ s. (g.met.S.GoodsSet.is_bundle s).0) bids best.items now.items place bid c.in_ok-keep_best_bids.ensures.best h.left there
     c.index-bid.ensures in
     let heavy = rw c.deref-in-loop-place.ensures.value at (c.in-Err-StepLimit.ensures.step_limit (ap Err c.in-Err-StepLimit.field-0-is)) in
-    let told = c.swap_remove-bundle.result in
-    let same : bid ≡ told = get_or_read now.items place bid there c.index-bid.ensures told ∙ sym c.swap_remove-bundle.ensures.value in
+    let removed = c.swap_remove-bundle.result in
+    let same : bid ≡ removed = get_or_read now.items place bid there c.index-bid.ensures removed ∙ sym c.swap_remove-bundle.ensures.value in
     rw (sym same)
     (λ n are.
     (heavy_found n c.args.limit bids _ _ _ (atoms_of goods (take c.loop-place.kept now.items)) (on_bundles n bids are) turn h.kept h.within heavy).0)
@@ -135,8 +135,8 @@ returns-in-Err-StepLimit-clause-load g c =
     let turn = next_turn goods (λ s. (g.met.S.GoodsSet.is_bundle s).0) bids best.items now.items place bid c.in_ok-keep_best_bids.ensures.best h.left there
     c.index-bid.ensures in
     let heavy = rw c.deref-in-loop-place.ensures.value at (c.in-Err-StepLimit.ensures.step_limit (ap Err c.in-Err-StepLimit.field-0-is)) in
-    let told = c.swap_remove-bundle.result in
-    let same : bid ≡ told = get_or_read now.items place bid there c.index-bid.ensures told ∙ sym c.swap_remove-bundle.ensures.value in
+    let removed = c.swap_remove-bundle.result in
+    let same : bid ≡ removed = get_or_read now.items place bid there c.index-bid.ensures removed ∙ sym c.swap_remove-bundle.ensures.value in
     let on = on_bundles MAX_GOODS bids c.requires in
     rw (sym same)
     (heavy_load MAX_GOODS c.args.limit bids _ on

@@ -1,4 +1,4 @@
--- The atom is listed where none was before.
+-- The atom is listed at a good at which none was before.
 use Rattle.std.proofs.Common.{rules, ◌≡◌, ℕ, ◌^◌, zero, suc, refl, arith, [], ◌∷◌}
 use Rattle.valuation.specs.Examples.{atom}
 use Rattle.prune.specs.declared.posting.Posting.{Posting}

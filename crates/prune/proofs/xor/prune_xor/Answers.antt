@@ -1,11 +1,11 @@
--- A turn of the loop keeps a bid exactly where no kept bid inside its bundle dominates it, which is a turn of proofs/Results; and at the
+-- A turn of the loop keeps a bid exactly if no kept bid inside its bundle dominates it, which is a turn of proofs/Results; and at the
 -- end the kept bids are the points. Few bids of which none dominates another are the points as they are.
 use Rattle.std.proofs.Common.{◌<◌, ◌≤◌, cond, [], ◌∷◌, ◌++◌, append-nil, length, refl, sym, ◌∙◌, subst, take, arith}
 use Rattle.bid_file.specs.declared.limits.TheConstants.{MAX_GOODS}
 use Rattle.valuation.specs.Values.{atoms_of, plain_atom}
 use Rattle.prune.specs.Internal.Listings.{AreUndominated, IsIndexOf}
 use Rattle.prune.specs.Lemmas.KeptBids.{on_bundles, just_bundles}
-use Rattle.prune.proofs.InFront.{next_left}
+use Rattle.prune.proofs.Prefixes.{next_left}
 use Rattle.prune.proofs.PruningLoop.{next_turn, one_done, one_kept, xor_end, xor_undominated, turn_nonempty, dominates_is}
 use Rattle.prune.proofs.Results.{turn_positive, turn_behind, xor_reached, xor_missed}
 use Rattle.prune.proofs.xor.prune_xor.Goals as goal
@@ -55,20 +55,20 @@ loop-place-preserved g c =
     let done = one_done goods best.items now.items place bid h.left there c.index-bid.ensures in
     let same = c.deref-in-loop-place.ensures.value in
     let answer = rw same at c.in_ok-is_dominated.ensures.answer in
-    let asked = answer ∙ dominates_is bid.price (goods bid.bundle) (atoms_of goods kept) (turn_positive _ _ _ _ turn) in
+    let reaches = answer ∙ dominates_is bid.price (goods bid.bundle) (atoms_of goods kept) (turn_positive _ _ _ _ turn) in
     let indexed = rw same at c.in_ok-is_dominated.ensures.index in
     elim c.if-not-branch.branch [
       | then-not-branch w ↦
-          let after = w.move_to_front.new.elements in
-          let moved = w.move_to_front.ensures in
-          let more = one_kept goods now.items after.items c.loop-place.kept place bid c.index-bid.ensures moved.front in
+          let after = w.move_to_prefix.new.elements in
+          let moved = w.move_to_prefix.ensures in
+          let more = one_kept goods now.items after.items c.loop-place.kept place bid c.index-bid.ensures moved.prefix in
           rw (w.atoms-is, w.kept-is) (record {
             left = next_left best.items now.items place bid h.left there c.index-bid.ensures after.items (omega (arith, moved.len, after.ok.0, now.ok.0))
                 moved.rest;
             index = λ f.
                 rw more
                 (subst (λ b. IsIndexOf (atoms_of goods kept ++ cond b [] (plain_atom goods bid ∷ [])) index) w.if-not-branch.true (indexed f));
-            kept = rw (done, more) (xor_missed _ _ _ _ (atoms_of goods kept) turn h.kept (sym w.if-not-branch.true ∙ asked));
+            kept = rw (done, more) (xor_missed _ _ _ _ (atoms_of goods kept) turn h.kept (sym w.if-not-branch.true ∙ reaches));
             fewer = omega (arith, h.fewer);
           })
       | else-not-branch w ↦
@@ -77,7 +77,7 @@ loop-place-preserved g c =
             index = λ f.
                 subst (λ zs. IsIndexOf zs index) (append-nil (atoms_of goods kept))
                 (subst (λ b. IsIndexOf (atoms_of goods kept ++ cond b [] (plain_atom goods bid ∷ [])) index) w.if-not-branch.false (indexed f));
-            kept = rw done (xor_reached _ _ _ _ (atoms_of goods kept) turn h.kept (sym w.if-not-branch.false ∙ asked));
+            kept = rw done (xor_reached _ _ _ _ (atoms_of goods kept) turn h.kept (sym w.if-not-branch.false ∙ reaches));
             fewer = omega (arith, h.fewer);
           })
     ]

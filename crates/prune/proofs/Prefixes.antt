@@ -1,5 +1,5 @@
--- What is kept of a list stands in its front part: an element that stays is swapped behind those kept so far, and what
--- stands behind it is as it was.
+-- What is kept of a list is its prefix: an element that is kept is swapped behind those kept so far, and what is behind it
+-- is as it was.
 use Rattle.std.proofs.Common.{◌≡◌, ℕ, ◌+◌, ◌<◌, ◌≤◌, List, [], ◌∷◌, ◌++◌, length, get_or, take, drop, set, refl, sym, ap, ◌∙◌, arith}
 use Rattle.std.specs.List.{swap}
 use Rattle.std.proofs.lemmas.List.{take-set-le, take_more, take_more_set, drop-set-lt, drop_more, take-append-drop}
@@ -7,27 +7,27 @@ use Rattle.std.proofs.lemmas.List.Edits.{swap_is}
 
 -- ---- one swap
 
-pub swap-front : {X : Type 0} (xs : List X) (front place : ℕ) (d : X) → front ≤ place → (front ≡ place → ⊥) → place < length xs
-    → take (front + 1) (swap xs front place) ≡ take front xs ++ get_or xs place d ∷ []
-swap-front xs front place d before apart there =
-    let below : front < place = omega arith in
+pub swap-prefix : {X : Type 0} (xs : List X) (prefix place : ℕ) (d : X) → prefix ≤ place → (prefix ≡ place → ⊥) → place < length xs
+    → take (prefix + 1) (swap xs prefix place) ≡ take prefix xs ++ get_or xs place d ∷ []
+swap-prefix xs prefix place d before apart there =
+    let below : prefix < place = omega arith in
     let x = get_or xs place d in
-    sym (ap (take (front + 1)) (swap_is xs front place d (omega arith) there))
-    ∙ take-set-le (front + 1) (set xs front x) place (get_or xs front d) (omega arith)
-    ∙ take_more_set xs front x (omega arith)
+    sym (ap (take (prefix + 1)) (swap_is xs prefix place d (omega arith) there))
+    ∙ take-set-le (prefix + 1) (set xs prefix x) place (get_or xs prefix d) (omega arith)
+    ∙ take_more_set xs prefix x (omega arith)
 
-pub swap-rest : {X : Type 0} (xs : List X) (front place : ℕ) → front ≤ place → (front ≡ place → ⊥) → place < length xs
-    → drop (place + 1) (swap xs front place) ≡ drop (place + 1) xs
-swap-rest [] front place before apart there = refl
-swap-rest {X} (d ∷ ys) front place before apart there =
+pub swap-rest : {X : Type 0} (xs : List X) (prefix place : ℕ) → prefix ≤ place → (prefix ≡ place → ⊥) → place < length xs
+    → drop (place + 1) (swap xs prefix place) ≡ drop (place + 1) xs
+swap-rest [] prefix place before apart there = refl
+swap-rest {X} (d ∷ ys) prefix place before apart there =
     let xs : List X = d ∷ ys in
-    let below : front < place = omega arith in
+    let below : prefix < place = omega arith in
     let x = get_or xs place d in
-    sym (ap (drop (place + 1)) (swap_is xs front place d (omega arith) there))
-    ∙ drop-set-lt (place + 1) (set xs front x) place (get_or xs front d) (omega arith)
-    ∙ drop-set-lt (place + 1) xs front x (omega arith)
+    sym (ap (drop (place + 1)) (swap_is xs prefix place d (omega arith) there))
+    ∙ drop-set-lt (place + 1) (set xs prefix x) place (get_or xs prefix d) (omega arith)
+    ∙ drop-set-lt (place + 1) xs prefix x (omega arith)
 
--- ---- a list that is gone through
+-- ---- a list that is visited in order
 
 -- from the place on the list is as it was at first
 pub record IsLeft {X : Type 0} (first now : List X) (place : ℕ) : Type 0 where
@@ -39,7 +39,7 @@ module _ {X : Type 0} (first now : List X) (place : ℕ) (x : X) (h : IsLeft fir
     next_rest : drop place first ≡ x ∷ drop (place + 1) now
     next_rest = sym h.rest ∙ drop_more now place x l ∙ ap (λ y. y ∷ drop (place + 1) now) (sym is)
 
-    -- the next element stood there at first
+    -- the next element was there at first
     next_there : (x ≡ get_or first place x) × (drop (place + 1) now ≡ drop (place + 1) first)
     next_there =
         let long = h.long in
