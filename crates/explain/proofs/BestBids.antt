@@ -122,7 +122,7 @@ module _ (f : PlainFile) (bids : List NumberedBid) (order : AreInOrder f bids) (
   has_own k at = record { bidder = ap (λ (b : PlainBid). bidder_of b.dummy) at; goods = ap (λ (b : PlainBid). b.goods) at }
 
   -- where the bid of a number is in the list
-  at_number : (k : ℕ) → k < length f.bids → (n : NumberedBid) × Contains bids n × (n.number ≡ k) × (seen_bid n.bid ≡ bid_at f k)
+  pub at_number : (k : ℕ) → k < length f.bids → (n : NumberedBid) × Contains bids n × (n.number ≡ k) × (seen_bid n.bid ≡ bid_at f k)
   at_number k l =
       let within : k < length order.numbered = omega (arith, l, order.are.long) in
       let r = element_at order.numbered k within in
@@ -134,7 +134,7 @@ module _ (f : PlainFile) (bids : List NumberedBid) (order : AreInOrder f bids) (
       )
 
   -- each bid in the list is that of its number
-  numbered : (n : NumberedBid) → Contains bids n → (n.number < length f.bids) × (seen_bid n.bid ≡ bid_at f n.number)
+  pub numbered : (n : NumberedBid) → Contains bids n → (n.number < length f.bids) × (seen_bid n.bid ≡ bid_at f n.number)
   numbered n c =
       let d = Contains-permutation bids order.numbered n (IsPermutation-sym order.numbered bids order.same) c in
       let each = order.are.each d.0 n d.1 in

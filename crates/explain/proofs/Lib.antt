@@ -4,3 +4,8 @@ pub mod KeptBidsLists
 pub mod KeptBidsBest
 pub mod KeptBids
 pub mod Deciding
+pub mod Keeping
+pub mod PointLists
+pub mod Packings
+pub mod Dropped
+pub mod Reasoned

@@ -1,3 +1,6 @@
 -- What the contracts of private functions cite. No public contract rests on them.
 pub mod BidOrders
 pub mod Deciding
+pub mod Keeping
+pub mod BidderPoints
+pub mod Known

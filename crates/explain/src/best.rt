@@ -1,11 +1,11 @@
 //! The best of a bidder's bids on a bundle, found in a list of all bids in order.
 
-ghost use Rattle.std.specs.Prelude.{◌≡◌, ℕ, ◌<◌, IfOk, length, slice_index_or};
+ghost use Rattle.std.specs.Prelude.{◌≡◌, ℕ, ◌<◌, IfOk, length};
 ghost use Rattle.goods_set.specs.Orders.{bundle_cmp};
-ghost use Rattle.bid_file.specs.Files.{IsPlainFile};
+ghost use Rattle.bid_file.specs.Files.{IsPlainFile, PlainFile};
 ghost use Rattle.bid_file.specs.Views.{seen_bid};
-ghost use Rattle.explain.specs.Bids.{IsBestFor, bidder_of};
-ghost use Rattle.explain.specs.Internal.BidOrders.{AreInOrder, AreNumbered, key_cmp, numbered_cmp};
+ghost use Rattle.explain.specs.Bids.{IsBestFor, bid_at, bidder_of};
+ghost use Rattle.explain.specs.Internal.BidOrders.{AreInOrder, AreNumbered, HasBid, key_cmp, numbered_cmp};
 
 use bid_file::{BidRef, Bids, PackedFile};
 use std::alloc::{AllocError, Global};
@@ -13,9 +13,9 @@ use std::cmp::Ordering;
 
 /// A bid, and its number in the file.
 #[derive(Clone, Copy)]
-struct NumberedBid<'a> {
-    bid: BidRef<'a>,
-    number: u32,
+pub(crate) struct NumberedBid<'a> {
+    pub(crate) bid: BidRef<'a>,
+    pub(crate) number: u32,
 }
 
 /// The bidder of a bid as a number: 0 is the OR bidder, and the others come behind it in the order of their dummy goods.
@@ -70,7 +70,10 @@ fn numbered_bids(alloc: Global, file: &PackedFile) -> Result<Vec<NumberedBid<'_>
 }
 
 /// All bids of a file in order, so that the best of a bidder's bids on a bundle is the first.
-fn bids_in_order(alloc: Global, file: &PackedFile) -> Result<Vec<NumberedBid<'_>>, AllocError>
+pub(crate) fn bids_in_order(
+    alloc: Global,
+    file: &PackedFile,
+) -> Result<Vec<NumberedBid<'_>>, AllocError>
     requires { IsPlainFile file.now }
     ensures { IfOk result (λ bids. AreInOrder file.now bids.items) }
 {
@@ -79,29 +82,12 @@ fn bids_in_order(alloc: Global, file: &PackedFile) -> Result<Vec<NumberedBid<'_>
     Ok(bids)
 }
 
-/// The number of the best of the bids of this bid's bidder on its goods. All bids are given, in order.
-fn best_alike(file: &PackedFile, bids: &[NumberedBid<'_>], number: usize) -> u32
-    requires order { AreInOrder file.now bids.now }
-    requires within { number < length file.now.bids }
-    ensures { IsBestFor file.now number result }
+/// The number of the best of the bids of a bid's bidder on its goods. All bids are given, in order.
+pub(crate) fn number_of(bids: &[NumberedBid<'_>], bid: &BidRef<'_>) -> u32
+    requires there { HasBid bids.now (seen_bid bid.now) }
+    ensures { (f : PlainFile) → AreInOrder f bids.now → (i : ℕ) → i < length f.bids
+        → bid_at f i ≡ seen_bid bid.now → IsBestFor f i result }
 {
-    let own = file.at(number);
-    let place = bids.partition_point(|bid| order_of_keys(&bid.bid, &own).is_lt());
+    let place = bids.partition_point(|other| order_of_keys(&other.bid, bid).is_lt());
     bids[place].number
-}
-
-/// Of each bid of a file the number of the best of its bidder's bids on its goods, which is its own if it is the best.
-pub fn best_bids(alloc: Global, file: &PackedFile) -> Result<Vec<u32>, AllocError>
-    requires { IsPlainFile file.now }
-    ensures long { IfOk result (λ best. length best.items ≡ length file.now.bids) }
-    ensures each { IfOk result (λ best. (i : ℕ) → i < length file.now.bids
-        → IsBestFor file.now i (slice_index_or best.items i 0)) }
-{
-    let bids = bids_in_order(alloc, file)?;
-    let count = Bids::len(file);
-    let mut best = Vec::with_capacity(alloc, count)?;
-    for number in 0..count {
-        best.push(best_alike(file, &bids, number))?;
-    }
-    Ok(best)
 }

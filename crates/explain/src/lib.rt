@@ -2,12 +2,14 @@
 #![tactic(auto)]
 
 mod best;
+mod dropping;
 mod explanation;
+mod kept;
+mod points;
 mod reason;
 #[cfg(test)]
 mod tests;
 pub mod worked;
 
-pub use best::best_bids;
 pub use explanation::explain;
 pub use reason::Reason;

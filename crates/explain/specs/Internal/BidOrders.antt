@@ -29,3 +29,11 @@ pub record AreInOrder (f : PlainFile) (bids : List NumberedBid) : Type 0 where
   pub are : AreNumbered f numbered
   pub same : IsPermutation numbered bids
   pub sorted : IsSortedBy (λ a b. is_lt (numbered_cmp a b)) bids
+
+-- the list has the bids of a file in order, and this bid is one of them
+pub record HasBid (bids : List NumberedBid) (bid : PlainBid) : Type 0 where
+  pub file : PlainFile
+  pub order : AreInOrder file bids
+  pub number : ℕ
+  pub within : number < length file.bids
+  pub is : bid_at file number ≡ bid
