@@ -1,8 +1,8 @@
 -- The paths are read back from the whole output. A text is its lines with a byte behind each, which no line has: a printed path has no
 -- control byte, or, with NUL at its end, no NUL. The lines of groups are cut at the empty ones, and those of a table behind eight tabs.
-use Rattle.std.proofs.Common.{◌≡◌, ℕ, suc, ◌+◌, ◌%◌, ◌/◌, ◌<◌, ◌==◌, Bool, true, false, cond, List, [], ◌∷◌, ◌++◌, length, map, refl, sym, ap, ap₂, ◌∙◌, subst}
+use Rattle.std.proofs.Common.{◌≡◌, ℕ, suc, ◌+◌, ◌%◌, ◌/◌, ◌<◌, ◌==◌, true, false, List, [], ◌∷◌, ◌++◌, length, map, refl, sym, ap, ap₂, ◌∙◌, subst}
 use Rattle.std.proofs.Common.{⊎_elim, arith, append-nil, zero}
-use Rattle.std.specs.Prelude.{codes, decimal, filter, nat_lt, drop}
+use Rattle.std.specs.Prelude.{codes, decimal, filter, drop}
 use Rattle.std.specs.List.{All, AllByRecursion, flat_map, range_with_len, slice_split}
 use Rattle.std.specs.Fmt.{digit_glyph, digits, digits_onto}
 use Rattle.std.proofs.lemmas.Bool.{cases_Bool, ltb-true, lt-ltb, ne_eqb}
@@ -12,8 +12,8 @@ use Rattle.std.proofs.lemmas.List.Elements.{All-append, All-cons, All-filter, Al
 use Rattle.std.proofs.lemmas.List.Splits.{slice_split_at, slice_split_none}
 use Rattle.canon.specs.Canonical.{canonical_file}
 use Rattle.cats_cmd.specs.DuplicateTexts.{after_empty_lines, duplicates_text, groups_of, groups_text, is_repeated, lines_of, paths_at}
-use Rattle.cats_cmd.specs.Escaping.{end_of, escaped, is_control, path_text, unescaped}
-use Rattle.cats_cmd.specs.OutputPaths.{IsPath, behind_tabs, end_byte, groups_in, has_lines, is_empty, lines_in, paths_if_read, paths_in_table, read_path, read_paths}
+use Rattle.cats_cmd.specs.Escaping.{end_of, escaped, is_control, path_text}
+use Rattle.cats_cmd.specs.OutputPaths.{IsPath, behind_tabs, end_byte, groups_in, has_lines, is_empty, paths_if_read, paths_in_table, read_path, read_paths}
 use Rattle.cats_cmd.specs.PathLists.{ended, parts_in}
 use Rattle.cats_cmd.specs.Paths.{Judgement, IsHeavy, IsJudged, IsStopped}
 use Rattle.cats_cmd.specs.SizesTables.{MakesTable, counts_of, line_if_read, lines_of_table, sizes_header, sizes_of, with_tabs}

@@ -1,5 +1,5 @@
 -- A run on many files: what became of the file at each path, what is reported of it, and the text that is made of all.
-use Rattle.std.specs.Prelude.{◌≡◌, ◌⊎◌, ◌==◌, ◌||◌, ◌%◌, nat_lt, if◌then◌else◌, ℕ, suc, max, Bool, true, false}
+use Rattle.std.specs.Prelude.{◌≡◌, ◌⊎◌, ◌==◌, ◌||◌, ◌%◌, nat_lt, if◌then◌else◌, ℕ, suc, max, Bool}
 use Rattle.std.specs.Prelude.{List, [], ◌∷◌, ◌++◌, length, fold, map, take, Vec}
 use Rattle.std.specs.Prelude.{Option, Some, None, Result, Ok, Err, codes, decimal}
 use Rattle.std.specs.Global.{Global}
