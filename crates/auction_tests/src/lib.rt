@@ -11,6 +11,8 @@ mod plain_points;
 #[cfg(test)]
 mod plain_values;
 #[cfg(test)]
+mod point_index;
+#[cfg(test)]
 mod pruning;
 #[cfg(test)]
 mod values;
