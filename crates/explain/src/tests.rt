@@ -149,7 +149,7 @@ fn bidders_by_turns(rt: HostRuntime) -> Result<(), Fail> {
 // The same step limit is refused as for the canonical file.
 #[test]
 fn step_limit(rt: HostRuntime) -> Result<(), Fail> {
-    let text = "goods 2\nbids 3\ndummy 0\n0 8 0 1 #\n1 4 1 #\n2 3 0 #\n";
+    let text = "goods 2\nbids 3\ndummy 0\n0 7 0 1 #\n1 4 1 #\n2 3 0 #\n";
     let file = read_packed(rt.alloc(), text.as_bytes())?;
     let goods = file.goods();
     assert_eq!(&rt; goods, 2);
