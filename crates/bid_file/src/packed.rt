@@ -2,7 +2,6 @@
 
 ghost use Rattle.std.specs.Prelude.{
   ◌≡◌,
-  ◌↔◌,
   ◌+◌,
   ◌<◌,
   ◌≤◌,
@@ -18,7 +17,6 @@ ghost use Rattle.std.specs.Prelude.{
   OnErr,
   IfOk,
 };
-ghost use Rattle.std.specs.Prelude.{IsTrue};
 ghost use Rattle.bid_file.specs.Files.{PlainBid, IsBidFile};
 ghost use Rattle.bid_file.specs.Views.{plain_file};
 
@@ -26,7 +24,7 @@ use crate::bid::{Bid, BidFile};
 use std::alloc::{AllocError, Global};
 use std::marker::Model;
 
-/// A bid of which the goods stand from one place of a list to another.
+/// A bid, whose goods are in a list from one index to another.
 #[derive(Clone, Copy)]
 pub struct Offer {
     price: u64,
@@ -35,7 +33,7 @@ pub struct Offer {
     dummy: Option<u32>,
 }
 
-/// Bids by number. The goods of all of them stand in one vector.
+/// Bids by number. The goods of all of them are in one vector.
 #[derive(Drop)]
 pub struct PackedBids {
     offers: Vec<Offer>,
@@ -58,7 +56,7 @@ impl Model for PackedBids {
 /// So few goods are put one by one, which takes less time than to copy their memory.
 const FEW: usize = 16;
 
-/// Puts goods behind the others, where there is room for them.
+/// Appends goods, for which there is capacity.
 #[inline(always)]
 fn push_each(all: &mut Vec<u16>, goods: &[u16])
     requires { vec_len all.old + length goods.now ≤ vec_capacity all.old }
@@ -69,7 +67,7 @@ fn push_each(all: &mut Vec<u16>, goods: &[u16])
     }
 }
 
-/// Puts goods behind the others.
+/// Appends goods.
 #[inline(always)]
 fn push_goods(all: &mut Vec<u16>, goods: &[u16]) -> Result<(), AllocError>
     ensures goods { OnOk result (all.new.items ≡ all.old.items ++ goods.now) }
@@ -83,7 +81,7 @@ fn push_goods(all: &mut Vec<u16>, goods: &[u16]) -> Result<(), AllocError>
     Ok(())
 }
 
-/// Puts an offer behind the others.
+/// Appends the span of a bid.
 #[inline(always)]
 fn push_offer(offers: &mut Vec<Offer>, offer: Offer) -> Result<(), AllocError>
     ensures offers { OnOk result (offers.new.items ≡ offers.old.items ++ offer ∷ []) }
@@ -97,8 +95,8 @@ fn push_offer(offers: &mut Vec<Offer>, offer: Offer) -> Result<(), AllocError>
     Ok(())
 }
 
-/// Puts goods behind the others, and tells from where to where they stand. Memory is refused too where there would be
-/// 2 to the power 32 goods, as no file has.
+/// Appends goods, and answers from which index to which they are. Memory is also refused if there would be 2 to the
+/// power 32 goods, which no file has.
 #[inline(always)]
 fn append(all: &mut Vec<u16>, goods: &[u16]) -> Result<(u32, u32), AllocError>
     ensures goods { OnOk result (all.new.items ≡ all.old.items ++ goods.now) }
@@ -142,7 +140,7 @@ impl PackedBids {
         Ok(())
     }
 
-    /// Puts a bid behind the others. If memory is refused, the bids are those that were there.
+    /// Appends a bid. If memory is refused, the bids are those that were there.
     #[inline(always)]
     pub fn push(&mut self, price: u64, goods: &[u16], dummy: Option<u32>) -> Result<(), AllocError>
         ensures bids { let bid : PlainBid = record { price = price; goods = goods.now; dummy = dummy } in
@@ -171,43 +169,9 @@ impl PackedBids {
         let goods = &self.goods[offer.start as usize..offer.end as usize];
         (offer.price, goods, offer.dummy)
     }
-
-    /// Whether the bid at this place is this one.
-    #[inline(always)]
-    fn is_at(&self, place: usize, price: u64, goods: &[u16], dummy: Option<u32>) -> bool
-        requires { place < length self.now }
-        ensures { let bid : PlainBid = record { price = price; goods = goods.now; dummy = dummy } in
-            IsTrue result ↔ slice_get self.now place ≡ Some bid }
-    {
-        let (this_price, this_goods, this_dummy) = self.at(place);
-        if this_price != price {
-            return false;
-        }
-        if this_dummy != dummy {
-            return false;
-        }
-        this_goods == goods
-    }
-
-    /// Whether both have the same bids in the same order.
-    pub fn is_equal(&self, other: &PackedBids) -> bool
-        ensures { IsTrue result ↔ self.now ≡ other.now }
-    {
-        let count = self.len();
-        if other.len() != count {
-            return false;
-        }
-        for place in 0..count {
-            let (price, goods, dummy) = other.at(place);
-            if !self.is_at(place, price, goods, dummy) {
-                return false;
-            }
-        }
-        true
-    }
 }
 
-/// A bid file in little memory: the goods of all bids stand in one vector. The bid at place i has the number i.
+/// A bid file in little memory: the goods of all bids are in one vector. The bid at place i has the number i.
 #[derive(Drop)]
 pub struct PackedFile {
     goods: u16,
@@ -259,20 +223,7 @@ impl PackedFile {
         &self.bids
     }
 
-    /// Whether both have so many goods and dummy goods, and the same bids in the same order.
-    pub fn is_equal(&self, other: &PackedFile) -> bool
-        ensures { IsTrue result ↔ self.now ≡ other.now }
-    {
-        if self.goods() != other.goods() {
-            return false;
-        }
-        if self.dummy() != other.dummy() {
-            return false;
-        }
-        self.bids().is_equal(other.bids())
-    }
-
-    /// The same file with a vector for each bid. No memory is asked for if there are no bids.
+    /// The same file with a vector for each bid. No memory is requested if there are no bids.
     pub fn to_file(&self, alloc: Global) -> Result<BidFile, AllocError>
         ensures file { IfOk result (λ f. plain_file f ≡ self.now) }
         ensures memory { OnErr result (0 < length self.now.bids) }

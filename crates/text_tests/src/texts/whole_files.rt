@@ -2,7 +2,7 @@
 
 use super::{assert_bytes, assert_written, sizes};
 use bid_file::{Bid, PackedBids, PackedFile};
-use cats_text::{MAX_STREAM, Reader, Watched, read, read_from, read_packed, send};
+use cats_text::{MAX_STREAM, Reader, Watched, read, read_from, send, write};
 use std::alloc::Global;
 use std::process::Abort;
 use std::test::Fail;
@@ -15,19 +15,16 @@ const LENIENT: &[u8] =
 pub const CATS: &[u8] =
     b"%% a comment\n\ngoods 3\nbids 2\ndummy 1\n\n0\t20\t0\t2\t3\t#\n1\t7\t1\t#\n";
 
+/// What is written of its file.
+const WRITTEN_CATS: &[u8] = b"goods 3\nbids 2\ndummy 1\n0\t20\t0\t2\t3\t#\n1\t7\t1\t#\n";
+
 /// Texts, and what is written of their files.
 static ACCEPTED: [(&[u8], &[u8]); 20] = [
     (b"goods 0\nbids 0\ndummy 0\n", b"goods 0\nbids 0\ndummy 0\n"),
     (b"goods 0\nbids 0\ndummy 0", b"goods 0\nbids 0\ndummy 0\n"),
     (LENIENT, b"goods 2\nbids 1\ndummy 0\n0\t5\t0\t1\t#\n"),
-    (
-        CATS,
-        b"goods 3\nbids 2\ndummy 1\n0\t20\t0\t2\t3\t#\n1\t7\t1\t#\n",
-    ),
-    (
-        b"goods 3\nbids 2\ndummy 1\n0\t20\t0\t2\t3\t#\n1\t7\t1\t#\n",
-        b"goods 3\nbids 2\ndummy 1\n0\t20\t0\t2\t3\t#\n1\t7\t1\t#\n",
-    ),
+    (CATS, WRITTEN_CATS),
+    (WRITTEN_CATS, WRITTEN_CATS),
     (
         b"goods 1\nbids 3\ndummy 0\n2\t1\t0\t#\n0\t3\t0\t#\n1\t2\t0\t#\n",
         b"goods 1\nbids 3\ndummy 0\n0\t3\t0\t#\n1\t2\t0\t#\n2\t1\t0\t#\n",
@@ -156,43 +153,6 @@ fn bytes_are_sent(rt: HostRuntime) -> Result<(), Fail> {
     Ok(())
 }
 
-/// Texts of which each two spell files that differ.
-static DIFFERENT: [&[u8]; 7] = [
-    b"goods 2\nbids 1\ndummy 1\n0 5 0 #\n",
-    b"goods 3\nbids 1\ndummy 1\n0 5 0 #\n",
-    b"goods 2\nbids 1\ndummy 2\n0 5 0 #\n",
-    b"goods 2\nbids 2\ndummy 1\n0 5 0 #\n1 5 0 #\n",
-    b"goods 2\nbids 1\ndummy 1\n0 6 0 #\n",
-    b"goods 2\nbids 1\ndummy 1\n0 5 1 #\n",
-    b"goods 2\nbids 1\ndummy 1\n0 5 0 2 #\n",
-];
-
-fn compare_with_each(
-    rt: &impl Abort,
-    alloc: Global,
-    file: &PackedFile,
-    place: usize,
-) -> Result<(), Fail> {
-    for (other_place, text) in DIFFERENT.iter().enumerate() {
-        let other = read_packed(alloc, text)?;
-        assert_eq!(rt; file.is_equal(&other), place == other_place);
-    }
-    Ok(())
-}
-
-#[test]
-fn compares_packed_files(rt: HostRuntime) -> Result<(), Fail> {
-    let alloc = rt.alloc();
-    for (text, want) in &ACCEPTED {
-        let file = read_packed(alloc, text)?;
-        assert!(&rt; file.is_equal(&read_packed(alloc, want)?));
-    }
-    for (place, text) in DIFFERENT.iter().enumerate() {
-        compare_with_each(&rt, alloc, &read_packed(alloc, text)?, place)?;
-    }
-    Ok(())
-}
-
 #[test]
 fn makes_a_packed_file(rt: HostRuntime) -> Result<(), Fail> {
     let alloc = rt.alloc();
@@ -205,6 +165,6 @@ fn makes_a_packed_file(rt: HostRuntime) -> Result<(), Fail> {
     assert_eq!(rt; (price, goods.len(), dummy), (7_000_000, 1, None));
     let file = PackedFile::new(3, 1, bids);
     assert_eq!(rt; (file.goods(), file.dummy(), file.bids().len()), (3, 1, 2));
-    assert!(&rt; file.is_equal(&read_packed(alloc, CATS)?));
+    assert_bytes(&rt, &write(alloc, &file)?, WRITTEN_CATS);
     Ok(())
 }
