@@ -193,7 +193,7 @@ pub fn computed_files()
         ∷ record { goods = 7; dummy = 2; bids = [] } ∷ record { goods = 0; dummy = 0; bids = [] } ∷ []) }
 {}
 
-/// What reading a text answers: the file that it spells, or the first fault. Want of memory is told only of a text with
+/// What reading a text answers: the file that it spells, or the first fault. Want of memory is answered only for a text with
 /// a line of bids.
 pub fn texts_read()
     ensures file { let text = codes "goods 0\nbids 0\ndummy 0\n" in PackedAnswer text (Ok (spelled_file text)) }
@@ -204,7 +204,7 @@ pub fn texts_read()
 {}
 
 /// What reading a stream answers, by the bytes that were read and the stream that is left. The whole stream was read
-/// where it spells a file or lacks something; a reader that failed is told where the bytes before it have no fault.
+/// where it spells a file or lacks something; a reader that failed is the fault if the bytes before it have none.
 pub fn streams_read()
     ensures file { let text = codes "goods 0\nbids 0\ndummy 0\n" in
         ReadsPlainAs known text (watched [] false true) (Ok (spelled_file text)) }
@@ -220,7 +220,7 @@ pub fn streams_read()
         (Err (fault_at 0 Device)) → ⊥ }
 {}
 
-/// What sending a text does: the whole text stands behind what was there, or so many of its first bytes.
+/// What sending a text does: the whole text is appended to what was there, or so many of its first bytes.
 pub fn texts_sent()
     ensures whole { Sends known (watched (codes "a") false false) (watched (codes "abc") false false) (codes "bc")
         (Ok tt) }
@@ -232,8 +232,8 @@ pub fn texts_sent()
         (Err (record { written = 0 })) → ⊥ }
 {}
 
-/// What a call's answer tells of a device: a call that moves nothing of a piece that is not empty
-/// ends a reader and fails a writer, and an empty piece tells nothing.
+/// What a call's answer says of a device: a call that moves nothing of a piece that is not empty
+/// ends a reader and fails a writer, and an empty piece says nothing.
 pub fn answers_of_devices()
     ensures nothing { moved_nothing (Ok 0) (codes "x") ≡ true }
     ensures something { moved_nothing (Ok 1) (codes "xy") ≡ false }
