@@ -1,7 +1,7 @@
 //! The points that a pruning kept, found by their goods: which of them reach the price of a bid that was dropped.
-ghost use Rattle.std.specs.Prelude.{◌≡◌, ◌+◌, ◌<◌, ◌≤◌, None, IfOk, IfSome, OnOk, IsErrOf};
+ghost use Rattle.std.specs.Prelude.{◌≡◌, ◌+◌, ◌<◌, ◌≤◌, None, IfOk, IfSome, IsErrOf};
 ghost use Rattle.valuation.specs.Values.{atoms_of, or_value, xor_value};
-ghost use Rattle.prune.specs.Internal.PointIndexes.{IsPointIndex};
+ghost use Rattle.prune.specs.Internal.PointIndexes.{IsPointIndex, MayFind};
 ghost use Rattle.prune.specs.Reached.{HaveGoods, IsPackingFor, IsPointFor};
 ghost use Rattle.prune.specs.SearchSteps.{atoms_inside, cut_steps};
 
@@ -10,74 +10,106 @@ use crate::subset_index::SubsetIndex;
 use crate::xor::{FEW, first_dominating};
 use goods_set::{GoodsSet, rising_goods};
 use std::alloc::{AllocError, Global};
+use std::marker::Model;
 use valuation::{Atom, ValueFault};
 
-/// An index of a bidder's points, which are given with each call.
+/// A bidder's points, found by their goods. Contracts see it as the list of these.
 #[derive(Drop)]
-pub struct PointIndex {
-    finder: PackingFinder,
+pub struct PointIndex<'a, S: GoodsSet> {
+    alloc: Global,
+    points: &'a [Atom<S>],
+    /// It is made when a call first needs it: few points are compared one by one.
+    finder: Option<PackingFinder>,
     /// A buffer for the goods of a bid.
     buffer: Vec<u16>,
 }
 
-impl PointIndex {
+impl<'a, S: GoodsSet> Model for PointIndex<'a, S> {
+    ghost use Rattle.std.specs.Prelude.{List, ℕ};
+    ghost use Rattle.valuation.specs.declared.atom.Atom.{Atom};
+    ghost use Rattle.valuation.specs.Values.{atoms_of};
+    ghost use Rattle.prune.specs.Internal.PointIndexes.{MayFind};
+
+    ghost Value = { List (Atom (List ℕ)) };
+
+    ghost view = { λ i. atoms_of S.goods i.points.now };
+
+    ghost invariant = { λ i. MayFind (atoms_of S.goods i.points.now) i.finder };
+}
+
+/// The finder that was made before, or a new one, in which all points are listed.
+fn finder_of<S: GoodsSet>(
+    alloc: Global,
+    points: &[Atom<S>],
+    made: Option<PackingFinder>,
+) -> Result<PackingFinder, AllocError>
+    requires { MayFind (atoms_of S.goods points.now) made }
+    ensures { IfOk result (λ finder. IsPointIndex (atoms_of S.goods points.now) finder.index) }
+{
+    if let Some(finder) = made {
+        return Ok(finder);
+    }
+    let mut index = SubsetIndex::of(alloc, points)?;
+    index.list_all(points)?;
+    PackingFinder::of(alloc, index)
+}
+
+impl<'a, S: GoodsSet> PointIndex<'a, S> {
     /// The index of these points.
-    pub fn of<S: GoodsSet>(alloc: Global, points: &[Atom<S>]) -> Result<PointIndex, AllocError>
+    pub fn of(alloc: Global, points: &'a [Atom<S>]) -> PointIndex<'a, S>
         requires { HaveGoods (atoms_of S.goods points.now) }
-        ensures { IfOk result (λ index. IsPointIndex (atoms_of S.goods points.now) index) }
+        ensures { result ≡ atoms_of S.goods points.now }
     {
-        // For few points, which are compared one by one, no goods are counted.
-        let few = points.len() <= FEW;
-        let counted = if few { &points[..0] } else { points };
-        let index = SubsetIndex::of(alloc, counted)?;
-        Ok(PointIndex {
-            finder: PackingFinder::of(alloc, index)?,
+        PointIndex {
+            alloc,
+            points,
+            finder: None,
             buffer: Vec::new(alloc),
-        })
+        }
     }
 
     /// The place of a point inside the bid's bundle with at least its price.
-    pub fn point_for<S: GoodsSet>(
-        &mut self,
-        points: &[Atom<S>],
-        bid: &Atom<S>,
-    ) -> Result<Option<usize>, AllocError>
-        requires { IsPointIndex (atoms_of S.goods points.now) self.old }
-        ensures index { OnOk result (IsPointIndex (atoms_of S.goods points.now) self.new) }
+    pub fn point_for(&mut self, bid: &Atom<S>) -> Result<Option<usize>, AllocError>
+        ensures same { self.new ≡ self.old }
         ensures point { IfOk result (λ found. IfSome found (λ place.
-            IsPointFor (atoms_of S.goods points.now) (S.goods bid.now.bundle) bid.now.price place)) }
+            IsPointFor self.old (S.goods bid.now.bundle) bid.now.price place)) }
         ensures none { IfOk result (λ found. found ≡ None
-            → 0 < bid.now.price → xor_value (atoms_of S.goods points.now) (S.goods bid.now.bundle) < bid.now.price) }
+            → 0 < bid.now.price → xor_value self.old (S.goods bid.now.bundle) < bid.now.price) }
     {
+        let points = self.points;
         if points.len() <= FEW {
             return Ok(first_dominating(bid, points));
         }
-        let index = &mut self.finder.index;
-        index.list_all(points)?;
+        let finder = finder_of(self.alloc, points, self.finder.take())?;
         let goods = rising_goods(&bid.bundle, &mut self.buffer)?;
-        Ok(index.find_dominating(points, &bid.bundle, goods, bid.price))
+        let found = finder
+            .index
+            .find_dominating(points, &bid.bundle, goods, bid.price);
+        self.finder = Some(finder);
+        Ok(found)
     }
 
     /// The places of points that share no good, are inside the bid's bundle and reach its price together, rising. The
     /// search is the one that decided on the bid, if no point is on its bundle.
-    pub fn packing_for<S: GoodsSet>(
+    pub fn packing_for(
         &mut self,
-        points: &[Atom<S>],
         bid: &Atom<S>,
         limit: u64,
     ) -> Result<Option<Vec<usize>>, ValueFault>
-        requires { IsPointIndex (atoms_of S.goods points.now) self.old }
-        ensures index { OnOk result (IsPointIndex (atoms_of S.goods points.now) self.new) }
+        ensures same { self.new ≡ self.old }
         ensures packing { IfOk result (λ found. IfSome found (λ places.
-            IsPackingFor (atoms_of S.goods points.now) (S.goods bid.now.bundle) bid.now.price places.items)) }
+            IsPackingFor self.old (S.goods bid.now.bundle) bid.now.price places.items)) }
         ensures none { IfOk result (λ found. found ≡ None
-            → or_value (atoms_of S.goods points.now) (S.goods bid.now.bundle) < bid.now.price) }
+            → or_value self.old (S.goods bid.now.bundle) < bid.now.price) }
         ensures step_limit { let bundle = S.goods bid.now.bundle in
             IsErrOf result ValueFault.StepLimit
-            → limit < 1 + cut_steps (atoms_inside (atoms_of S.goods points.now) bundle) bundle bid.now.price }
+            → limit < 1 + cut_steps (atoms_inside self.old bundle) bundle bid.now.price }
     {
-        self.finder.index.list_all(points)?;
+        let points = self.points;
+        let mut finder = finder_of(self.alloc, points, self.finder.take())?;
         let goods = rising_goods(&bid.bundle, &mut self.buffer)?;
-        self.finder.find(points, bid, goods, limit)
+        let found = finder.find(points, bid, goods, limit)?;
+        self.finder = Some(finder);
+        Ok(found)
     }
 }

@@ -1,11 +1,17 @@
 -- The index of finished points.
-use Rattle.std.specs.Prelude.{ℕ, List}
+use Rattle.std.specs.Prelude.{◌≡◌, ℕ, List, length, Option, IfSome}
 use Rattle.valuation.specs.declared.atom.Atom.{Atom}
-use Rattle.prune.specs.declared.point_index.PointIndex.{PointIndex}
+use Rattle.prune.specs.declared.packing_finder.PackingFinder.{PackingFinder}
+use Rattle.prune.specs.declared.subset_index.SubsetIndex.{SubsetIndex}
 use Rattle.prune.specs.Reached.{HaveGoods}
 use Rattle.prune.specs.Internal.Listings.{IsPrefixIndex}
 
--- each point has a good, and those that a call needed so far are listed
-pub record IsPointIndex (points : List (Atom (List ℕ))) (index : PointIndex) : Type 0 where
+-- each point is listed
+pub record IsPointIndex (points : List (Atom (List ℕ))) (index : SubsetIndex) : Type 0 where
+  pub prefix : IsPrefixIndex points index
+  pub all : index.listed ≡ length points
+
+-- each point has a good, and a finder that was made is among them
+pub record MayFind (points : List (Atom (List ℕ))) (finder : Option PackingFinder) : Type 0 where
   pub some : HaveGoods points
-  pub prefix : IsPrefixIndex points index.finder.index
+  pub made : IfSome finder (λ finder. IsPointIndex points finder.index)
