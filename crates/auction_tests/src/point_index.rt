@@ -59,10 +59,10 @@ fn expect_places(rt: &impl Abort, found: &[usize], places: &[usize]) {
 
 fn packings<S: GoodsSet>(rt: &impl Abort, alloc: Global) -> Result<(), Fail> {
     let points = atoms_on::<S>(rt, alloc, POINTS)?;
-    let mut index = PointIndex::of(alloc, &points)?;
+    let mut index = PointIndex::of(alloc, &points);
     for (offer, places) in &PACKINGS {
         let bid = bid_of(rt, alloc, offer)?;
-        match index.packing_for(&points, &bid, AMPLE) {
+        match index.packing_for(&bid, AMPLE) {
             Ok(Some(found)) => expect_places(rt, &found, places),
             Ok(None) => expect_places(rt, &[], places),
             Err(_) => panic!(rt; "the packing is searched"),
@@ -74,16 +74,11 @@ fn packings<S: GoodsSet>(rt: &impl Abort, alloc: Global) -> Result<(), Fail> {
 // The search for the first packing above enters 4 packings, the empty one too.
 fn steps_of_packing<S: GoodsSet>(rt: &impl Abort, alloc: Global) -> Result<(), Fail> {
     let points = atoms_on::<S>(rt, alloc, POINTS)?;
-    let mut index = PointIndex::of(alloc, &points)?;
+    let mut index = PointIndex::of(alloc, &points);
     let bid = bid_of(rt, alloc, &PACKINGS[0].0)?;
-    assert!(rt; matches!(&index.packing_for(&points, &bid, 4), Ok(Some(_))));
-    let mut index = PointIndex::of(alloc, &points)?;
-    assert!(rt;
-        matches!(
-            &index.packing_for(&points, &bid, 3),
-            Err(ValueFault::StepLimit)
-        )
-    );
+    assert!(rt; matches!(&index.packing_for(&bid, 4), Ok(Some(_))));
+    let mut index = PointIndex::of(alloc, &points);
+    assert!(rt; matches!(&index.packing_for(&bid, 3), Err(ValueFault::StepLimit)));
     Ok(())
 }
 
@@ -118,10 +113,10 @@ fn each_point<S: GoodsSet>(
 ) -> Result<(), Fail>
     requires { All (IsAtom MAX_GOODS) (atoms_of S.goods points.now) }
 {
-    let mut index = PointIndex::of(alloc, points)?;
+    let mut index = PointIndex::of(alloc, points);
     for (offer, place) in rows {
         let bid = bid_of(rt, alloc, offer)?;
-        let found = index.point_for(points, &bid)?;
+        let found = index.point_for(&bid)?;
         assert_eq!(rt; found, *place);
     }
     Ok(())

@@ -62,19 +62,13 @@ some_is None e = absurd (cc)
 some_is (Some d) e = refl
 
 module _ {S : Type 0} (goods : S → List ℕ) (known : Known S) (is : IsKnown goods known) (i : ℕ) (within : i < length known.file.now.bids)
-    (drop : IsToDrop known.file.now i) (atoms : List (Atom S)) (listed : atoms ≡ (points_at known.points (bid_at known.file.now i).dummy).atoms.items)
+    (drop : IsToDrop known.file.now i) (all : List (Atom (List ℕ))) (ours : all ≡ atoms_of goods (points_at known.points (bid_at known.file.now i).dummy).atoms.items)
     (atom : Atom S) (offers : plain_atom goods atom ≡ atom_of (bid_at known.file.now i)) where
   abbrev f : PlainFile
   f = known.file.now
 
-  abbrev all : List (Atom (List ℕ))
-  all = atoms_of goods atoms
-
   abbrev own : PlainBid
   own = bid_at f i
-
-  ours : all ≡ atoms_of goods (points_at known.points own.dummy).atoms.items
-  ours = ap (atoms_of goods) listed
 
   bundle_is : goods atom.bundle ≡ own.goods
   bundle_is = ap (λ (a : Atom (List ℕ)). a.bundle) offers
@@ -122,8 +116,8 @@ module _ {S : Type 0} (goods : S → List ℕ) (known : Known S) (is : IsKnown g
 
   point_of : (p : ℕ) → p < length all → IsPointOf f own.dummy (atom_at all p) (get_or (points_at known.points own.dummy).numbers.items p 0)
   point_of p l =
-      let mapped = length-map atoms (plain_atom goods) in
-      let long = ap (length {A = Atom S}) listed in
+      let mapped = length-map (points_at known.points own.dummy).atoms.items (plain_atom goods) in
+      let long = ap (length {A = Atom (List ℕ)}) ours in
       subst (λ (ys : List (Atom (List ℕ))). IsPointOf f own.dummy (atom_at ys p) (get_or (points_at known.points own.dummy).numbers.items p 0)) (sym ours)
       (points.each p (omega arith))
 
@@ -169,8 +163,8 @@ module _ {S : Type 0} (goods : S → List ℕ) (known : Known S) (is : IsKnown g
   pub has_inside : is_none own.dummy ≡ false → (place number : ℕ) → number ≡ get_or (points_at known.points own.dummy).numbers.items place number
       → IsPointFor all (goods atom.bundle) atom.price place → HasPointInside f i number
   has_inside other place number at found =
-      let mapped = length-map atoms (plain_atom goods) in
-      let same_long = ap (length {A = Atom S}) listed in
+      let mapped = length-map (points_at known.points own.dummy).atoms.items (plain_atom goods) in
+      let same_long = ap (length {A = Atom (List ℕ)}) ours in
       let long = points.long in
       let in_points = found.within in
       let at_place : number ≡ get_or (points_at known.points own.dummy).numbers.items place 0 =

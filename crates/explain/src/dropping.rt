@@ -5,7 +5,6 @@ ghost use Rattle.std.specs.List.Sorted.{IsSorted};
 ghost use Rattle.std.specs.Ordering.{nat_cmp};
 ghost use Rattle.bid_file.specs.Files.{IsDummyBelow};
 ghost use Rattle.valuation.specs.Values.{atoms_of, or_value, xor_value};
-ghost use Rattle.prune.specs.Internal.PointIndexes.{IsPointIndex};
 ghost use Rattle.prune.specs.Reached.{IsPackingFor, IsPointFor};
 ghost use Rattle.prune.specs.SearchSteps.{atoms_inside, cut_steps};
 ghost use Rattle.explain.specs.Reasons.{plain_reason};
@@ -36,54 +35,45 @@ pub(crate) struct Known<'a, S> {
 
 /// The index of one bidder's points.
 #[derive(Drop)]
-pub(crate) struct CurrentIndex {
+pub(crate) struct CurrentIndex<'a, S: GoodsSet> {
     dummy: Option<u32>,
-    index: PointIndex,
+    index: PointIndex<'a, S>,
 }
 
-impl CurrentIndex {
+impl<'a, S: GoodsSet> CurrentIndex<'a, S> {
     /// The index of the OR bidder's points.
-    pub(crate) fn of_or_bidder<S: GoodsSet>(
-        alloc: Global,
-        known: &Known<'_, S>,
-    ) -> Result<CurrentIndex, AllocError>
+    pub(crate) fn of_or_bidder(alloc: Global, known: &'a Known<'_, S>) -> CurrentIndex<'a, S>
         requires { IsKnown S.goods known.now }
-        ensures { IfOk result (λ current. IsCurrent S.goods known.now current) }
+        ensures { IsCurrent S.goods known.now result }
     {
         let points = known.points.of(None);
-        Ok(CurrentIndex {
+        CurrentIndex {
             dummy: None,
-            index: PointIndex::of(alloc, &points.atoms)?,
-        })
+            index: PointIndex::of(alloc, &points.atoms),
+        }
     }
 
     /// Makes it the index of the points of the bidder of this dummy good, or of the OR bidder.
-    fn turn_to<S: GoodsSet>(
-        &mut self,
-        alloc: Global,
-        known: &Known<'_, S>,
-        dummy: Option<u32>,
-    ) -> Result<(), AllocError>
+    fn turn_to(&mut self, alloc: Global, known: &'a Known<'_, S>, dummy: Option<u32>)
         requires known { IsKnown S.goods known.now }
         requires current { IsCurrent S.goods known.now self.old }
         requires dummy { IsDummyBelow known.now.file.now.dummy dummy }
-        ensures current { OnOk result (IsCurrent S.goods known.now self.new) }
-        ensures dummy { OnOk result (self.new.dummy ≡ dummy) }
+        ensures current { IsCurrent S.goods known.now self.new }
+        ensures dummy { self.new.dummy ≡ dummy }
     {
         if self.dummy != dummy {
             let points = known.points.of(dummy);
-            self.index = PointIndex::of(alloc, &points.atoms)?;
+            self.index = PointIndex::of(alloc, &points.atoms);
             self.dummy = dummy;
         }
-        Ok(())
     }
 }
 
 /// The reason of a bid.
-pub(crate) fn reason_of<S: GoodsSet>(
+pub(crate) fn reason_of<'a, S: GoodsSet>(
     alloc: Global,
-    known: &Known<'_, S>,
-    current: &mut CurrentIndex,
+    known: &'a Known<'_, S>,
+    current: &mut CurrentIndex<'a, S>,
     bid: &NumberedBid<'_>,
 ) -> Result<Reason, AllocError>
     requires fits { known.now.file.now.goods ≤ S.CAP }
@@ -107,10 +97,10 @@ pub(crate) fn reason_of<S: GoodsSet>(
 }
 
 /// Why a bid is dropped that is the best of its bidder's on its goods.
-fn reason_to_drop<S: GoodsSet>(
+fn reason_to_drop<'a, S: GoodsSet>(
     alloc: Global,
-    known: &Known<'_, S>,
-    current: &mut CurrentIndex,
+    known: &'a Known<'_, S>,
+    current: &mut CurrentIndex<'a, S>,
     bid: &NumberedBid<'_>,
 ) -> Result<Reason, AllocError>
     requires fits { known.now.file.now.goods ≤ S.CAP }
@@ -123,31 +113,29 @@ fn reason_to_drop<S: GoodsSet>(
 {
     let dummy = bid.bid.dummy;
     let points = known.points.of(dummy);
-    current.turn_to(alloc, known, dummy)?;
+    current.turn_to(alloc, known, dummy);
     let atom = atom_of::<S>(alloc, &bid.bid)?;
     if dummy.is_none() {
-        let places = found_packing(&mut current.index, &points.atoms, &atom, known.limit)?;
+        let places = found_packing(&mut current.index, &atom, known.limit)?;
         Ok(Reason::Packing(numbers_at(alloc, &points.numbers, &places)?))
     } else {
-        let place = found_point(&mut current.index, &points.atoms, &atom)?;
+        let place = found_point(&mut current.index, &atom)?;
         Ok(Reason::Inside(points.numbers[place]))
     }
 }
 
 /// The place of a point inside the bid's bundle with at least its price.
 fn found_point<S: GoodsSet>(
-    index: &mut PointIndex,
-    points: &[Atom<S>],
+    index: &mut PointIndex<'_, S>,
     bid: &Atom<S>,
 ) -> Result<usize, AllocError>
-    requires index { IsPointIndex (atoms_of S.goods points.now) index.old }
     requires positive { 0 < bid.now.price }
-    requires reached { bid.now.price ≤ xor_value (atoms_of S.goods points.now) (S.goods bid.now.bundle) }
-    ensures index { OnOk result (IsPointIndex (atoms_of S.goods points.now) index.new) }
+    requires reached { bid.now.price ≤ xor_value index.old (S.goods bid.now.bundle) }
+    ensures same { index.new ≡ index.old }
     ensures point { IfOk result (λ place.
-        IsPointFor (atoms_of S.goods points.now) (S.goods bid.now.bundle) bid.now.price place) }
+        IsPointFor index.old (S.goods bid.now.bundle) bid.now.price place) }
 {
-    match index.point_for(points, bid)? {
+    match index.point_for(bid)? {
         Some(place) => Ok(place),
         None => unreachable!(),
     }
@@ -155,20 +143,18 @@ fn found_point<S: GoodsSet>(
 
 /// The places of points that share no good, are inside the bid's bundle and reach its price together.
 fn found_packing<S: GoodsSet>(
-    index: &mut PointIndex,
-    points: &[Atom<S>],
+    index: &mut PointIndex<'_, S>,
     bid: &Atom<S>,
     limit: u64,
 ) -> Result<Vec<usize>, AllocError>
-    requires index { IsPointIndex (atoms_of S.goods points.now) index.old }
-    requires reached { bid.now.price ≤ or_value (atoms_of S.goods points.now) (S.goods bid.now.bundle) }
+    requires reached { bid.now.price ≤ or_value index.old (S.goods bid.now.bundle) }
     requires within { let bundle = S.goods bid.now.bundle in
-        1 + cut_steps (atoms_inside (atoms_of S.goods points.now) bundle) bundle bid.now.price ≤ limit }
-    ensures index { OnOk result (IsPointIndex (atoms_of S.goods points.now) index.new) }
+        1 + cut_steps (atoms_inside index.old bundle) bundle bid.now.price ≤ limit }
+    ensures same { index.new ≡ index.old }
     ensures packing { IfOk result (λ places.
-        IsPackingFor (atoms_of S.goods points.now) (S.goods bid.now.bundle) bid.now.price places.items) }
+        IsPackingFor index.old (S.goods bid.now.bundle) bid.now.price places.items) }
 {
-    match index.packing_for(points, bid, limit) {
+    match index.packing_for(bid, limit) {
         Ok(Some(places)) => Ok(places),
         Ok(None) => unreachable!(),
         Err(ValueFault::StepLimit) => unreachable!(),

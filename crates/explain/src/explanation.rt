@@ -74,7 +74,7 @@ fn all_reasons<S: GoodsSet>(alloc: Global, known: &Known<'_, S>) -> Result<Vec<R
     ensures { IfOk result (λ reasons. AreDecided known.now.file.now (map plain_reason reasons.items)) }
 {
     let mut reasons = zeros(alloc, Bids::len(known.file))?;
-    let mut current = CurrentIndex::of_or_bidder(alloc, known)?;
+    let mut current = CurrentIndex::of_or_bidder(alloc, known);
     for bid in &known.bids {
         let reason = reason_of(alloc, known, &mut current, bid)?;
         reasons[bid.number as usize] = reason;

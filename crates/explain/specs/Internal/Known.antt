@@ -4,7 +4,6 @@ use Rattle.bid_file.specs.Files.{PlainFile, IsPlainFile, IsDummyBelow}
 use Rattle.bid_file.specs.Views.{seen_bid}
 use Rattle.valuation.specs.Auctions.{or_atoms_of}
 use Rattle.valuation.specs.Values.{atoms_of}
-use Rattle.prune.specs.Internal.PointIndexes.{IsPointIndex}
 use Rattle.prune.specs.SearchSteps.{first_heavy}
 use Rattle.canon.specs.Renaming.{kept_bids}
 use Rattle.explain.specs.Bids.{bid_at}
@@ -25,9 +24,9 @@ pub record IsKnown {S : Type 0} (goods : S → List ℕ) (known : Known S) : Typ
   pub light : first_heavy known.file.now.goods known.limit (or_atoms_of known.file.now.bids) ≡ None
 
 -- the index is that of its bidder's points
-pub record IsCurrent {S : Type 0} (goods : S → List ℕ) (known : Known S) (current : CurrentIndex) : Type 0 where
+pub record IsCurrent {S : Type 0} (goods : S → List ℕ) (known : Known S) (current : CurrentIndex S) : Type 0 where
   pub dummy : IsDummyBelow known.file.now.dummy current.dummy
-  pub index : IsPointIndex (atoms_of goods (points_at known.points current.dummy).atoms.items) current.index
+  pub index : current.index ≡ atoms_of goods (points_at known.points current.dummy).atoms.items
 
 -- a bid with its number
 pub record IsNumberedBid (f : PlainFile) (bid : NumberedBid) : Type 0 where

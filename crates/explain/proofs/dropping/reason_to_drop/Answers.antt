@@ -32,8 +32,8 @@ found_packing-requires-clause-reached g c =
     let known = c.args.known.now in
     let i : ℕ = c.args.bid.now.number in
     let dummy : c.args.bid.now.bid.dummy ≡ (bid_at known.file.now i).dummy = ap (λ (b : PlainBid). b.dummy) c.requires.bid.is in
-    or_reached g.S.GoodsSet.goods known c.requires.known i c.requires.bid.within c.requires.drop c.deref.result.now
-    (c.deref.ensures.value ∙ ap (λ (p : BidderPoints g.row.S.Denot). p.atoms.items) (c.of-points.ensures ∙ ap (λ (o : Option ℕ). points_at known.points o) dummy))
+    or_reached g.S.GoodsSet.goods known c.requires.known i c.requires.bid.within c.requires.drop c.turn_to.new.self.index
+    (c.turn_to.ensures.current.index ∙ ap (λ (o : Option ℕ). atoms_of g.S.GoodsSet.goods (points_at known.points o).atoms.items) (c.turn_to.ensures.dummy ∙ dummy))
     c.in_ok-atom.atom (c.in_ok-atom.ensures ∙ ap atom_of c.requires.bid.is)
     (sym dummy ∙ none_is c.args.bid.now.bid.dummy (told_none c.args.bid.now.bid.dummy c.is_none.result true c.is_none.ensures c.if-is_none.true))
 
@@ -42,8 +42,8 @@ found_packing-requires-clause-within g c =
     let known = c.args.known.now in
     let i : ℕ = c.args.bid.now.number in
     let dummy : c.args.bid.now.bid.dummy ≡ (bid_at known.file.now i).dummy = ap (λ (b : PlainBid). b.dummy) c.requires.bid.is in
-    or_within g.S.GoodsSet.goods known c.requires.known i c.requires.bid.within c.requires.drop c.deref.result.now
-    (c.deref.ensures.value ∙ ap (λ (p : BidderPoints g.row.S.Denot). p.atoms.items) (c.of-points.ensures ∙ ap (λ (o : Option ℕ). points_at known.points o) dummy))
+    or_within g.S.GoodsSet.goods known c.requires.known i c.requires.bid.within c.requires.drop c.turn_to.new.self.index
+    (c.turn_to.ensures.current.index ∙ ap (λ (o : Option ℕ). atoms_of g.S.GoodsSet.goods (points_at known.points o).atoms.items) (c.turn_to.ensures.dummy ∙ dummy))
     c.in_ok-atom.atom (c.in_ok-atom.ensures ∙ ap atom_of c.requires.bid.is)
     (sym dummy ∙ none_is c.args.bid.now.bid.dummy (told_none c.args.bid.now.bid.dummy c.is_none.result true c.is_none.ensures c.if-is_none.true))
 
@@ -55,12 +55,13 @@ returns-then-is_none-clause-reason g c =
     let of = c.of-points.ensures ∙ ap (λ (o : Option ℕ). points_at known.points o) dummy in
     let goods = g.S.GoodsSet.goods in
     let atom = c.in_ok-atom.atom in
-    has_packing goods known c.requires.known i c.requires.bid.within c.requires.drop c.deref.result.now
-    (c.deref.ensures.value ∙ ap (λ (p : BidderPoints g.row.S.Denot). p.atoms.items) of) atom (c.in_ok-atom.ensures ∙ ap atom_of c.requires.bid.is)
+    has_packing goods known c.requires.known i c.requires.bid.within c.requires.drop c.turn_to.new.self.index
+    (c.turn_to.ensures.current.index ∙ ap (λ (o : Option ℕ). atoms_of goods (points_at known.points o).atoms.items) (c.turn_to.ensures.dummy ∙ dummy))
+    atom (c.in_ok-atom.ensures ∙ ap atom_of c.requires.bid.is)
     (sym dummy ∙ none_is c.args.bid.now.bid.dummy (told_none c.args.bid.now.bid.dummy c.is_none.result true c.is_none.ensures c.if-is_none.true))
-    c.deref-then-is_none.result.now c.deref-then-is_none-2.result.now c.in_ok-numbers_at.field-0.items
-    (c.deref-then-is_none.ensures.value ∙ ap (λ (p : BidderPoints g.row.S.Denot). p.numbers.items) of)
-    (subst (λ (ps : List ℕ). IsPackingFor (atoms_of goods c.deref.result.now) (goods atom.bundle) atom.price ps) (sym c.deref-then-is_none-2.ensures.value)
+    c.deref.result.now c.deref-then-is_none.result.now c.in_ok-numbers_at.field-0.items
+    (c.deref.ensures.value ∙ ap (λ (p : BidderPoints g.row.S.Denot). p.numbers.items) of)
+    (subst (λ (ps : List ℕ). IsPackingFor c.turn_to.new.self.index (goods atom.bundle) atom.price ps) (sym c.deref-then-is_none.ensures.value)
     c.in_ok-places.ensures.packing)
     c.in_ok-numbers_at.ensures.same c.in_ok-numbers_at.ensures.sorted
 
@@ -69,8 +70,8 @@ found_point-requires-clause-reached g c =
     let known = c.args.known.now in
     let i : ℕ = c.args.bid.now.number in
     let dummy : c.args.bid.now.bid.dummy ≡ (bid_at known.file.now i).dummy = ap (λ (b : PlainBid). b.dummy) c.requires.bid.is in
-    xor_reached g.S.GoodsSet.goods known c.requires.known i c.requires.bid.within c.requires.drop c.deref-else-is_none.result.now
-    (c.deref-else-is_none.ensures.value ∙ ap (λ (p : BidderPoints g.row.S.Denot). p.atoms.items) (c.of-points.ensures ∙ ap (λ (o : Option ℕ). points_at known.points o) dummy))
+    xor_reached g.S.GoodsSet.goods known c.requires.known i c.requires.bid.within c.requires.drop c.turn_to.new.self.index
+    (c.turn_to.ensures.current.index ∙ ap (λ (o : Option ℕ). atoms_of g.S.GoodsSet.goods (points_at known.points o).atoms.items) (c.turn_to.ensures.dummy ∙ dummy))
     c.in_ok-atom.atom (c.in_ok-atom.ensures ∙ ap atom_of c.requires.bid.is)
     (ap is_none (sym dummy) ∙ told_none c.args.bid.now.bid.dummy c.is_none.result false c.is_none.ensures c.if-is_none.false)
 
@@ -82,7 +83,8 @@ returns-clause-reason g c =
     let of = c.of-points.ensures ∙ ap (λ (o : Option ℕ). points_at known.points o) dummy in
     let place : ℕ = c.in_ok-place.place in
     let number : ℕ = c.index.result.now in
-    has_inside g.S.GoodsSet.goods known c.requires.known i c.requires.bid.within c.requires.drop c.deref-else-is_none.result.now
-    (c.deref-else-is_none.ensures.value ∙ ap (λ (p : BidderPoints g.row.S.Denot). p.atoms.items) of) c.in_ok-atom.atom
-    (c.in_ok-atom.ensures ∙ ap atom_of c.requires.bid.is) (ap is_none (sym dummy) ∙ told_none c.args.bid.now.bid.dummy c.is_none.result false c.is_none.ensures c.if-is_none.false) place number
+    has_inside g.S.GoodsSet.goods known c.requires.known i c.requires.bid.within c.requires.drop c.turn_to.new.self.index
+    (c.turn_to.ensures.current.index ∙ ap (λ (o : Option ℕ). atoms_of g.S.GoodsSet.goods (points_at known.points o).atoms.items) (c.turn_to.ensures.dummy ∙ dummy))
+    c.in_ok-atom.atom (c.in_ok-atom.ensures ∙ ap atom_of c.requires.bid.is)
+    (ap is_none (sym dummy) ∙ told_none c.args.bid.now.bid.dummy c.is_none.result false c.is_none.ensures c.if-is_none.false) place number
     (c.index.ensures ∙ ap (λ (p : BidderPoints g.row.S.Denot). get_or p.numbers.items place number) of) c.in_ok-place.ensures.point
