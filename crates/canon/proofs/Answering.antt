@@ -95,10 +95,6 @@ text_of_normal limit f h n out is = ap (unless_heavy f) n.light ∙ ap IsText (s
 
 -- ---- the file of a canonical auction
 
-pub normal_file_is : (limit : ℕ) (a c : PlainAuction) (h : PlainFile) → h ≡ file_from c → c ≡ canonical_auction a → first_heavy a.goods limit a.or_atoms ≡ None
-    → IsNormalFile limit a h
-normal_file_is limit a c h is e light = record { canonical = is ∙ ap file_from e; light = light }
-
 pub canonical_file_is : (c : PlainAuction) (h : PlainFile) → h ≡ file_from c → IsCanonical c → IsCanonicalFile h
 canonical_file_is c h is fixed =
     subst IsCanonicalFile (sym is) (ap (λ (a : PlainAuction). file_from (canonical_auction a)) (auction_from-file_from c) ∙ ap file_from fixed)

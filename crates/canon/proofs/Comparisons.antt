@@ -238,10 +238,3 @@ module _ (a b : PlainAuction) (e : a.goods ≡ b.goods) where
   xor_named found is h r k =
       let none = MatchOption-at_none (first_unequal_bundle a b ≡ None) (λ verdict. plain_verdict verdict ≡ or_difference a b (first_unequal_bundle a b)) is h in
       subst (λ (d : Difference). OnErr r (NamesGoods d)) (sym (at_same_goods a b e ∙ ap (or_difference a b) none)) k
-
--- equal files have no difference
-pub equal_files : (f g : PlainFile) → IsPlainFile f → f ≡ g → first_difference (auction_from f) (auction_from g) ≡ NoDifference
-equal_files f g h e =
-    let atoms = HasAtoms-file f h in
-    subst (λ (x : PlainFile). first_difference (auction_from f) (auction_from x) ≡ NoDifference) e
-    (no_difference_from_same (auction_from f) (auction_from f) atoms atoms (same_refl (auction_from f)))

@@ -135,10 +135,6 @@ none_yet f places long none = record {
 
 -- ---- what is known of a number in the end
 
-pub kept_at : (f : PlainFile) (numbers : List ℕ) (places : List (Option ℕ)) → AreKeptUpTo f (length (kept_bids f)) numbers places → (i k : ℕ)
-    → IsPlace numbers i (Some k) → IsKeptAs f i k
-kept_at f numbers places h i k place = let long = h.long in let l = place.0 in subst (λ (n : ℕ). IsKeptAs f n k) place.1 (h.each k (omega arith))
-
 pub no_point_at : (f : PlainFile) (numbers : List ℕ) (places : List (Option ℕ)) → AreKeptUpTo f (length (kept_bids f)) numbers places → (i : ℕ)
     → i < length f.bids → is_best f i ≡ true → IsPlace numbers i None → IsNoPoint f i
 no_point_at f numbers places h i l best place k e =

@@ -141,13 +141,3 @@ kept_dummies-differ f =
     (IsDistinct-IsPermutation eqb eqb_flips (nonzero_dummies f) (kept_dummies f) (permutation-sort_by (dummy_cmp f) (nonzero_dummies f))
     (IsDistinct-from_AllPairs Decides-eqb (nonzero_dummies f)
     (AllPairs-filter (λ d e. d ≢ e) (has_value f) (range_with_len 0 f.dummy) (range_differs f.dummy))))
-
-pub kept_dummies-once : (f : PlainFile) (k l d : ℕ) → slice_get (kept_dummies f) k ≡ Some d → slice_get (kept_dummies f) l ≡ Some d → k ≡ l
-kept_dummies-once f k l d e g =
-    let one : get_or (kept_dummies f) k 0 ≡ d = get_or_from_slice_get (kept_dummies f) k d 0 e in
-    let other : get_or (kept_dummies f) l 0 ≡ d = get_or_from_slice_get (kept_dummies f) l d 0 g in
-    ⊎_elim (λ (same : k ≡ l). same)
-    (⊎_elim
-    (λ (m : k < l). absurd (kept_dummies-differ f k l 0 m (slice_get_within (kept_dummies f) l d g) (one ∙ sym other)))
-    (λ (m : l < k). absurd (kept_dummies-differ f l k 0 m (slice_get_within (kept_dummies f) k d e) (other ∙ sym one))))
-    (cases_order k l)
