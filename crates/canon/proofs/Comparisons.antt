@@ -37,7 +37,7 @@ use Rattle.canon.proofs.Answering.{refused_file, refused_text, unread_text}
 use Rattle.canon.proofs.Differences.{at_same_goods, same_from_no_difference, no_difference_from_same}
 use Rattle.canon.proofs.Files.{auction_from-file_from}
 use Rattle.canon.proofs.SameDifferences.{difference_of_same_files}
-use Rattle.canon.proofs.Sames.{same_refl, same_sym, same_trans}
+use Rattle.canon.proofs.Sames.{same_sym, same_trans}
 use Rattle.canon.proofs.Texts.{HasAtoms-file, IsPlainFile-canonical, canonical_file_is_same, canonical_file_is_fixed}
 
 -- ---- the bids of a canonical file
