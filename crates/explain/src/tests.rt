@@ -1,5 +1,7 @@
 //! Why bids are kept or dropped, of files that are read from their texts.
 
+mod family;
+
 use crate::{Reason, explain};
 use canon::{CanonFault, normal_packed_file};
 use cats_text::read_packed;
