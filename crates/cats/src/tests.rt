@@ -5,7 +5,7 @@ mod command_lines;
 mod compare;
 mod devices;
 mod duplicates;
-mod explain;
+mod explanations;
 mod normalise;
 mod program;
 mod round;
