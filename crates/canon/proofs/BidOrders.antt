@@ -10,7 +10,7 @@ use Rattle.bid_file.specs.Files.{PlainBid}
 use Rattle.valuation.specs.declared.atom.Atom.{Atom}
 use Rattle.valuation.specs.Auctions.{atom_of}
 use Rattle.valuation.specs.Orders.{atom_cmp, bidder_cmp}
-use Rattle.canon.specs.Internal.BidderBids.{offers}
+use Rattle.canon.specs.Bidders.{offers}
 use Rattle.canon.specs.Verdicts.{told_atoms}
 use Rattle.canon.proofs.BidRuns.{drop_at}
 

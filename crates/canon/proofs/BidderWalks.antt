@@ -22,10 +22,11 @@ use Rattle.valuation.specs.Tables.{xor_table, is_nonzero}
 use Rattle.prune.specs.Points.{xor_points}
 use Rattle.prune.specs.Lemmas.Tables.{no_xor_points}
 use Rattle.prune.specs.Lemmas.KeptBids.{on_bundles}
-use Rattle.canon.specs.Internal.BidderBids.{offers, leading, AreBidsOf, HasBidders, IsFirstBidder}
+use Rattle.canon.specs.Bidders.{offers}
+use Rattle.canon.specs.Internal.BidderBids.{leading, AreBidsOf, HasBidders, IsFirstBidder}
 use Rattle.canon.specs.Canonical.{bid_from, dummy_bids, canonical_auction, points_of_bidders}
 use Rattle.canon.specs.Difference.{InXor, least_unequal_bidder, xor_difference}
-use Rattle.canon.proofs.BidderDifferences.{least_uneven, least_uneven_swap, none_of_same, behind, parts_at_left}
+use Rattle.canon.specs.Lemmas.BidderDifferences.{least_uneven, least_uneven_swap, none_of_same, behind, parts_at_left}
 use Rattle.canon.proofs.Counting.{points_more, points_without}
 
 -- ---- the first bidder

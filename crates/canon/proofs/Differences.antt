@@ -25,8 +25,8 @@ use Rattle.canon.specs.Difference.{copies_of, exchanged}
 use Rattle.canon.proofs.Atoms.{HasAtoms, xor_points_table}
 use Rattle.canon.proofs.Counting.{IsPointsOf, occurring, points_as_tables}
 use Rattle.canon.proofs.Sames.{same_canonical, same_from_canonical}
-use Rattle.canon.proofs.OrDifferences.{are_unequal, equal_from_test, unequal_swap, IsFirstUnequal, first_unequal, greater_is_point}
-use Rattle.canon.proofs.BidderDifferences.{least_uneven, least_uneven_swap, all_even, none_of_same, IsLeastUneven, least_uneven_is}
+use Rattle.canon.specs.Lemmas.OrDifferences.{are_unequal, equal_from_test, unequal_swap, IsFirstUnequal, first_unequal, greater_is_point}
+use Rattle.canon.specs.Lemmas.BidderDifferences.{least_uneven, least_uneven_swap, all_even, none_of_same, IsLeastUneven, least_uneven_is}
 
 -- ---- exchanging
 

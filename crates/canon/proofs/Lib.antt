@@ -11,13 +11,11 @@ pub mod Bidders
 pub mod BidderKeys
 pub mod Filing
 pub mod Answering
-pub mod Finding
-pub mod OrDifferences
-pub mod BidderDifferences
 pub mod Differences
 pub mod BidRuns
 pub mod BidOrders
 pub mod BidderWalks
+pub mod SplitBidders
 pub mod SameDifferences
 pub mod OrWalks
 pub mod Comparisons

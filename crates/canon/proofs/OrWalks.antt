@@ -20,13 +20,13 @@ use Rattle.prune.specs.InOrder.{IsBefore}
 use Rattle.prune.specs.Lemmas.Lists.{Contains-nil, find_none}
 use Rattle.prune.specs.Points.{is_or_point}
 use Rattle.prune.specs.Lemmas.KeptBids.{on_bundles}
-use Rattle.canon.specs.Internal.BidderBids.{offers}
+use Rattle.canon.specs.Bidders.{offers}
 use Rattle.canon.specs.Canonical.{bid_from}
 use Rattle.canon.specs.Difference.{InOr, first_unequal_bundle, or_difference}
 use Rattle.canon.specs.Internal.OrBids.{HasOrBids}
 use Rattle.canon.specs.declared.verdict.Side.{Side}
 use Rattle.canon.specs.declared.verdict.Side.TheVariants.{Exactly, Below}
-use Rattle.canon.proofs.OrDifferences.{ArePoints, are_unequal, equal_test, unequal_swap, in_order, suffix_in_order, parts_at_left, both_at}
+use Rattle.canon.specs.Lemmas.OrDifferences.{ArePoints, are_unequal, equal_test, unequal_swap, in_order, suffix_in_order, parts_at_left, both_at}
 use Rattle.canon.proofs.BidOrders.{length-offers}
 
 -- a fact that holds in any case

@@ -26,9 +26,9 @@ use Rattle.canon.specs.Sameness.{IsSameAuction, AreSameFiles}
 use Rattle.canon.specs.declared.verdict.Side.{Side}
 use Rattle.canon.specs.declared.verdict.Side.TheVariants.{Exactly, Below}
 use Rattle.canon.proofs.Atoms.{HasAtoms}
-use Rattle.canon.proofs.BidderDifferences.{least_uneven}
+use Rattle.canon.specs.Lemmas.BidderDifferences.{least_uneven}
 use Rattle.canon.proofs.Differences.{at_same_goods, at_other_goods, unequal_bundle_is}
-use Rattle.canon.proofs.OrDifferences.{are_unequal}
+use Rattle.canon.specs.Lemmas.OrDifferences.{are_unequal}
 use Rattle.canon.proofs.Sames.{same_canonical}
 use Rattle.canon.proofs.Texts.{HasAtoms-file}
 

@@ -1,2 +1,6 @@
 -- Lemmas on the definitions beside this folder, for proofs here and in the crates above. No contract cites them.
 pub mod Renaming
+pub mod Finding
+pub mod OrDifferences
+pub mod BidderDifferences
+pub mod CanonicalOrders

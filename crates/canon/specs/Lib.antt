@@ -7,6 +7,7 @@ pub mod Answers
 pub mod Least
 pub mod Refusals
 pub mod Examples
+pub mod Bidders
 pub mod Difference
 pub mod Verdicts
 pub mod Comparing

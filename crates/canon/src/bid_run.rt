@@ -10,7 +10,7 @@ use std::marker::Model;
 
 /// The bids of a file from the number `first` up to `end`, without the bid `end`.
 #[derive(Drop)]
-pub(crate) struct BidRun<'a, B: Bids> {
+pub struct BidRun<'a, B: Bids> {
     file: &'a B,
     first: usize,
     end: usize,
@@ -43,7 +43,7 @@ impl<'a, B: Bids> BidRun<'a, B> {
 
     /// How many there are.
     #[inline(always)]
-    pub(crate) fn len(&self) -> usize
+    pub fn len(&self) -> usize
         ensures { result ≡ length self.now }
     {
         self.end - self.first
@@ -51,7 +51,7 @@ impl<'a, B: Bids> BidRun<'a, B> {
 
     /// The bid at this index.
     #[inline(always)]
-    pub(crate) fn at(&self, index: usize) -> BidRef<'a>
+    pub fn at(&self, index: usize) -> BidRef<'a>
         requires { index < length self.now }
         ensures { slice_get self.now index ≡ Some (seen_bid result) }
     {
@@ -59,7 +59,7 @@ impl<'a, B: Bids> BidRun<'a, B> {
     }
 
     /// The bids before an index.
-    pub(crate) fn up_to(&self, index: usize) -> BidRun<'a, B>
+    pub fn up_to(&self, index: usize) -> BidRun<'a, B>
         requires { index ≤ length self.now }
         ensures { result ≡ take index self.now }
     {
@@ -71,7 +71,7 @@ impl<'a, B: Bids> BidRun<'a, B> {
     }
 
     /// The bids from an index on.
-    pub(crate) fn from(&self, index: usize) -> BidRun<'a, B>
+    pub fn from(&self, index: usize) -> BidRun<'a, B>
         requires { index ≤ length self.now }
         ensures { result ≡ drop index self.now }
     {

@@ -66,7 +66,7 @@ pub fn compare_files<B: Bids>(alloc: Global, left: &B, right: &B) -> Result<Verd
 }
 
 /// The bids of a canonical file without a dummy good, and those with one.
-fn split_bids<B: Bids>(file: &B) -> (BidRun<'_, B>, BidRun<'_, B>)
+pub(crate) fn split_bids<B: Bids>(file: &B) -> (BidRun<'_, B>, BidRun<'_, B>)
     requires facts { IsPlainFile (B.file file.now) }
     requires canonical { IsCanonicalFile (B.file file.now) }
     ensures or_bids { HasOrBids (auction_from (B.file file.now)) result.0 }

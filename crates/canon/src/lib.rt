@@ -6,6 +6,7 @@ mod auction;
 mod auction_index;
 mod bid_order;
 mod bid_run;
+mod bidders;
 mod bundles;
 mod comparison;
 mod fault;
@@ -22,6 +23,8 @@ mod xor_bidders;
 
 pub use auction::canonical;
 pub use auction_index::AuctionIndex;
+pub use bid_run::BidRun;
+pub use bidders::{Bidders, bidders_of};
 pub use comparison::{compare, compare_files};
 pub use fault::CanonFault;
 pub use file::{file_of, packed_file_of};

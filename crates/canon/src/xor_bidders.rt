@@ -10,7 +10,8 @@ ghost use Rattle.valuation.specs.declared.atom.Atom.{Atom};
 ghost use Rattle.valuation.specs.Auctions.{PlainAuction};
 ghost use Rattle.valuation.specs.Orders.{bidder_cmp};
 ghost use Rattle.valuation.specs.Sorting.{count_of};
-ghost use Rattle.canon.specs.Internal.BidderBids.{offers, AreBidsOf, HasBidders, IsFirstBidder};
+ghost use Rattle.canon.specs.Bidders.{offers};
+ghost use Rattle.canon.specs.Internal.BidderBids.{AreBidsOf, HasBidders, IsFirstBidder};
 ghost use Rattle.canon.specs.Difference.{least_unequal_bidder, xor_difference};
 ghost use Rattle.canon.specs.Verdicts.{NamesGoods, plain_verdict, told_atoms};
 
@@ -83,7 +84,7 @@ fn count_copies<B: Bids>(bidder: &BidRun<'_, B>, bids: &BidRun<'_, B>) -> u32
 }
 
 /// The bids of the first bidder: the leading ones with one dummy good.
-fn first_bidder<'a, B: Bids>(bids: &BidRun<'a, B>) -> Option<BidRun<'a, B>>
+pub(crate) fn first_bidder<'a, B: Bids>(bids: &BidRun<'a, B>) -> Option<BidRun<'a, B>>
     ensures { MatchOption result (length bids.now ≡ 0) (λ first. IsFirstBidder bids.now first) }
 {
     if bids.len() == 0 {

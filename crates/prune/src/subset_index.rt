@@ -8,6 +8,7 @@ ghost use Rattle.valuation.specs.declared.atom.Atom.{Atom};
 ghost use Rattle.prune.specs.InOrder.{IsInOrder};
 ghost use Rattle.prune.specs.Internal.Listings.{
   atom_at,
+  count_listed,
   indices_of,
   is_inside_at,
   dominates_at,
@@ -141,7 +142,7 @@ impl SubsetIndex {
     /// Adds a kept atom, whose bundle has these goods.
     pub fn keep(&mut self, goods: &[u16]) -> Result<(), AllocError>
         requires { 0 < length goods.now }
-        ensures listed { self.new.listed ≡ self.old.listed }
+        ensures listed { count_listed self.new ≡ count_listed self.old }
         ensures index { OnOk result ((kept : List (Atom (List ℕ))) (atom : Atom (List ℕ)) → atom.bundle ≡ goods.now
             → IsIndexOf kept self.old → IsIndexOf (kept ++ atom ∷ []) self.new) }
     {
@@ -152,9 +153,9 @@ impl SubsetIndex {
     /// Lists the first kept atom that is not listed. An index past the numbers of 4 bytes is refused as memory is; a file has far
     /// fewer bids.
     fn list_next<S: GoodsSet>(&mut self, kept: &[Atom<S>]) -> Result<(), AllocError>
-        requires next { self.old.listed < length kept.now }
+        requires next { count_listed self.old < length kept.now }
         requires index { IsIndexOf (atoms_of S.goods kept.now) self.old }
-        ensures count { OnOk result (self.new.listed ≡ self.old.listed + 1) }
+        ensures count { OnOk result (count_listed self.new ≡ count_listed self.old + 1) }
         ensures index { OnOk result (IsIndexOf (atoms_of S.goods kept.now) self.new) }
     {
         if self.listed > u32::MAX as usize {
@@ -177,9 +178,9 @@ impl SubsetIndex {
 
     /// Whether the first kept atom that is not listed has fewer goods.
     fn is_next_smaller<S: GoodsSet>(&self, kept: &[Atom<S>], size: usize) -> bool
-        ensures next { OnTrue result (self.now.listed < length kept.now) }
-        ensures larger { result ≡ false → self.now.listed < length kept.now
-            → size ≤ length (atom_at (atoms_of S.goods kept.now) self.now.listed).bundle }
+        ensures next { OnTrue result (count_listed self.now < length kept.now) }
+        ensures larger { result ≡ false → count_listed self.now < length kept.now
+            → size ≤ length (atom_at (atoms_of S.goods kept.now) (count_listed self.now)).bundle }
     {
         match kept.get(self.listed) {
             Some(atom) => atom.bundle.size() < size,
@@ -211,7 +212,7 @@ impl SubsetIndex {
         requires some { HaveGoods (atoms_of S.goods atoms.now) }
         requires prefix { IsPrefixIndex (atoms_of S.goods atoms.now) self.old }
         ensures prefix { OnOk result (IsPrefixIndex (atoms_of S.goods atoms.now) self.new) }
-        ensures all { OnOk result (self.new.listed ≡ length atoms.now) }
+        ensures all { OnOk result (count_listed self.new ≡ length atoms.now) }
     {
         let mut buffer = Vec::new(self.alloc);
         while self.listed < atoms.len() {

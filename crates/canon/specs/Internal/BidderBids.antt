@@ -1,16 +1,13 @@
 -- The bids of XOR bidders in a canonical file.
-use Rattle.std.specs.Prelude.{◌≡◌, ℕ, ◌+◌, ◌<◌, ◌≤◌, List, ◌∷◌, map, length, drop, eqb, Option}
+use Rattle.std.specs.Prelude.{◌≡◌, ℕ, ◌+◌, ◌<◌, ◌≤◌, List, ◌∷◌, length, drop, eqb, Option}
 use Rattle.std.specs.List.{AllByRecursion, prefix_len}
 use Rattle.std.specs.Option.{option_eq}
 use Rattle.bid_file.specs.Files.{PlainBid}
 use Rattle.bid_file.specs.declared.limits.TheConstants.{MAX_GOODS}
 use Rattle.valuation.specs.declared.atom.Atom.{Atom}
-use Rattle.valuation.specs.Auctions.{PlainAuction, IsAuction, atom_of}
+use Rattle.valuation.specs.Auctions.{PlainAuction, IsAuction}
+use Rattle.canon.specs.Bidders.{offers}
 use Rattle.canon.specs.Canonical.{IsCanonical, dummy_bids}
-
--- what the bids offer
-abbrev pub offers : List PlainBid → List (Atom (List ℕ))
-offers bids = map atom_of bids
 
 -- how many bids, from the first on, have this dummy good, or have none
 abbrev pub leading : Option ℕ → List PlainBid → ℕ

@@ -78,15 +78,19 @@ pub record AreGoodsOf (goods : List ℕ) (atoms : List (Atom (List ℕ))) : Type
 abbrev pub postings_of : SubsetIndex → ℕ → List Posting
 postings_of index good = listed_at (lists_of index.lists.items) good
 
+-- how many atoms the index lists, from the first on
+abbrev pub count_listed : SubsetIndex → ℕ
+count_listed index = index.listed
+
 -- the index lists the first so many of the atoms, and has noted a good of each
 pub record IsIndexOf (atoms : List (Atom (List ℕ))) (index : SubsetIndex) : Type 0 where
-  pub listed : AreListed (lists_of index.lists.items) index.listed atoms
+  pub listed : AreListed (lists_of index.lists.items) (count_listed index) atoms
   pub noted : AreGoodsOf index.goods.items atoms
 
 -- of the atoms the index has taken in those that it lists, which are the first
 pub record IsPrefixIndex (atoms : List (Atom (List ℕ))) (index : SubsetIndex) : Type 0 where
-  pub most : index.listed ≤ length atoms
-  pub first : IsIndexOf (take index.listed atoms) index
+  pub most : count_listed index ≤ length atoms
+  pub first : IsIndexOf (take (count_listed index) atoms) index
 
 -- the bundle comes behind those of all atoms
 abbrev pub IsBehind : List ℕ → List (Atom (List ℕ)) → Type 0
@@ -98,4 +102,4 @@ NoneInsideFrom from atoms bundle = (place : ℕ) → from ≤ place → place < 
 
 -- none of the atoms that the index does not list is inside the bundle
 abbrev pub IsReadyFor : List ℕ → List (Atom (List ℕ)) → SubsetIndex → Type 0
-IsReadyFor bundle atoms index = NoneInsideFrom index.listed atoms bundle
+IsReadyFor bundle atoms index = NoneInsideFrom (count_listed index) atoms bundle

@@ -4,12 +4,12 @@ use Rattle.valuation.specs.declared.atom.Atom.{Atom}
 use Rattle.prune.specs.declared.packing_finder.PackingFinder.{PackingFinder}
 use Rattle.prune.specs.declared.subset_index.SubsetIndex.{SubsetIndex}
 use Rattle.prune.specs.Reached.{HaveGoods}
-use Rattle.prune.specs.Internal.Listings.{IsPrefixIndex}
+use Rattle.prune.specs.Internal.Listings.{count_listed, IsPrefixIndex}
 
 -- each point is listed
 pub record IsPointIndex (points : List (Atom (List ℕ))) (index : SubsetIndex) : Type 0 where
   pub prefix : IsPrefixIndex points index
-  pub all : index.listed ≡ length points
+  pub all : count_listed index ≡ length points
 
 -- each point has a good, and a finder that was made is among them
 pub record MayFind (points : List (Atom (List ℕ))) (finder : Option PackingFinder) : Type 0 where

@@ -1,6 +1,6 @@
 use Rattle.std.proofs.Common.{ℕ, List, Option, sym, ap, subst}
 use Rattle.valuation.specs.declared.atom.Atom.{Atom}
-use Rattle.canon.specs.Internal.BidderBids.{offers}
+use Rattle.canon.specs.Bidders.{offers}
 use Rattle.canon.specs.Difference.{xor_difference}
 use Rattle.canon.specs.Verdicts.{NamesGoods, told_atoms}
 use Rattle.canon.proofs.BidderWalks.{bids_of_canonical, numbers_named}

@@ -1,5 +1,5 @@
 use Rattle.std.proofs.Common.{◌≡◌, take}
-use Rattle.canon.specs.Internal.BidderBids.{offers}
+use Rattle.canon.specs.Bidders.{offers}
 use Rattle.canon.specs.Verdicts.{told_atoms}
 use Rattle.canon.proofs.xor_bidders.named_bids.Given as goal
 

@@ -1,7 +1,7 @@
 use Rattle.std.proofs.Common.{◌+◌, drop, sym, ap₂, ◌∙◌, nat_cmp, arith}
 use Rattle.bid_file.specs.Views.{seen_bid}
 use Rattle.valuation.specs.Orders.{atom_cmp, bidder_cmp}
-use Rattle.canon.specs.Internal.BidderBids.{offers}
+use Rattle.canon.specs.Bidders.{offers}
 use Rattle.valuation.specs.Lemmas.Orders.{then-decided, then-left, slice_cmp-ended}
 use Rattle.canon.proofs.BidOrders.{bidder_cmp-drop, length-offers}
 use Rattle.canon.proofs.xor_bidders.order_of_bidders.Goals as goal

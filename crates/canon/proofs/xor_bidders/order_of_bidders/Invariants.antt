@@ -1,6 +1,6 @@
 use Rattle.std.proofs.Common.{◌≡◌, drop}
 use Rattle.valuation.specs.Orders.{bidder_cmp}
-use Rattle.canon.specs.Internal.BidderBids.{offers}
+use Rattle.canon.specs.Bidders.{offers}
 use Rattle.canon.proofs.xor_bidders.order_of_bidders.Given as goal
 
 -- the bids from here on decide

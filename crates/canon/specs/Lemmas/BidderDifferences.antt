@@ -12,8 +12,8 @@ use Rattle.std.proofs.lemmas.List.Sums.{sum_by-cons, sum_by-append}
 use Rattle.valuation.specs.Sorting.{sort_by, count_of}
 use Rattle.valuation.specs.Lemmas.Sorting.{sum_by-sort_by, ordered-sort_by, sort_by-same, IsOrdered, count_none}
 use Rattle.prune.specs.Lemmas.Lists.{zero_or_more, filter_same_on, find_alike, All-from_Contains, found_none}
-use Rattle.canon.proofs.Finding.{find_least, found_least, counted_is_there}
-use Rattle.canon.proofs.OrDifferences.{eqb_swap}
+use Rattle.canon.specs.Lemmas.Finding.{find_least, found_least, counted_is_there}
+use Rattle.canon.specs.Lemmas.OrDifferences.{eqb_swap}
 
 module _ {X : Type 0} (cmp : X → X → Ordering) where
   -- whether the lists do not have it equally often

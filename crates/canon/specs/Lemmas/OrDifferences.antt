@@ -21,7 +21,7 @@ use Rattle.prune.specs.Lemmas.Lists.{Contains-nil, Contains-head, nil_from_none,
 use Rattle.prune.specs.Lemmas.OnBundles.{IsOnBundle}
 use Rattle.prune.specs.Points.{is_or_point, or_points, IsPart, IsOrPoint}
 use Rattle.prune.specs.Lemmas.Points.{IsOrPoint-from_test, is_or_point-true, no_or_point, inside_below, points_where-in_order, or_points_are}
-use Rattle.canon.proofs.Finding.{found_first, find_it}
+use Rattle.canon.specs.Lemmas.Finding.{found_first, find_it}
 
 -- whether the values on the bundle differ
 abbrev pub are_unequal : List (Atom (List ℕ)) → List (Atom (List ℕ)) → List ℕ → Bool

@@ -1,0 +1,1 @@
+-- Proofs that several functions of this crate cite.

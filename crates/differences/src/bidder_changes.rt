@@ -1,0 +1,23 @@
+//! The XOR bidders that two canonical files do not have equally often.
+
+ghost use Rattle.std.specs.Prelude.{IfOk, map};
+ghost use Rattle.canon.specs.Bidders.{offers};
+ghost use Rattle.differences.specs.BidderChanges.{AreBidderChanges};
+ghost use Rattle.differences.specs.Views.{plain_bidder_change};
+
+use crate::change::BidderChange;
+use bid_file::Bids;
+use canon::BidRun;
+use std::alloc::{AllocError, Global};
+
+/// The bidders that one list has more often than the other.
+pub(crate) fn bidder_changes<'a, B: Bids>(
+    alloc: Global,
+    left: &[BidRun<'a, B>],
+    right: &[BidRun<'a, B>],
+) -> Result<Vec<BidderChange<'a>>, AllocError>
+    ensures { IfOk result (λ changes. AreBidderChanges (map offers left.now) (map offers right.now)
+        (map plain_bidder_change changes.items)) }
+{
+    Err(AllocError)
+}

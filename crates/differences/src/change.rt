@@ -1,0 +1,40 @@
+//! What differs between two auctions.
+
+/// A bundle on which one of two lists of bids has a bid, and the other has none or one at another price.
+#[derive(Clone, Copy)]
+pub struct PriceChange<'a> {
+    /// The goods of the bundle, rising.
+    pub goods: &'a [u16],
+    /// The price on the left, in millionths, if there is a bid.
+    pub left: Option<u64>,
+    /// The price on the right, in millionths, if there is a bid.
+    pub right: Option<u64>,
+}
+
+/// An XOR bidder that one canonical file has more often than the other, or two such bidders, one of each file, that are
+/// shown beside each other.
+#[derive(Drop)]
+pub struct BidderChange<'a> {
+    /// The dummy good of the bidder in the left canonical file, counted from 0.
+    pub left: Option<u32>,
+    /// The dummy good of the bidder in the right canonical file, counted from 0.
+    pub right: Option<u32>,
+    /// The bids that only one of the two has, or whose prices differ, in the order of their bundles. Beside no bidder all
+    /// bids differ.
+    pub bids: Vec<PriceChange<'a>>,
+}
+
+/// All differences of two auctions. There are none exactly if they are the same.
+#[derive(Drop)]
+pub enum Differences<'a> {
+    /// The numbers of goods of the left and of the right auction, which differ. Nothing else is compared.
+    Goods(u16, u16),
+    /// The numbers of goods are equal.
+    Bids {
+        /// The bundles on which the OR bidders' bids differ, in order.
+        bundles: Vec<PriceChange<'a>>,
+        /// The XOR bidders that differ: those of the left file in its order, each alone or beside one of the right file, and
+        /// then the others of the right file in its order.
+        bidders: Vec<BidderChange<'a>>,
+    },
+}

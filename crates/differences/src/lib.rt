@@ -1,0 +1,14 @@
+//! All differences of the auctions of two canonical files.
+#![tactic(auto)]
+
+mod auctions;
+mod bidder_changes;
+mod change;
+mod excess;
+pub mod laws;
+mod partners;
+mod price_changes;
+pub mod worked;
+
+pub use auctions::all_differences;
+pub use change::{BidderChange, Differences, PriceChange};
