@@ -1,5 +1,5 @@
 -- The bidders of a canonical file, as their bids lie in it.
-use Rattle.std.specs.Prelude.{◌≡◌, List, map}
+use Rattle.std.specs.Prelude.{◌≡◌, ℕ, List, map}
 use Rattle.bid_file.specs.Files.{PlainBid}
 use Rattle.valuation.specs.declared.atom.Atom.{Atom}
 use Rattle.valuation.specs.Auctions.{PlainAuction, atom_of}
@@ -10,5 +10,5 @@ offers bids = map atom_of bids
 
 -- these are the bids of the OR bidder, and those of each XOR bidder
 pub record AreBidders (a : PlainAuction) (or_bids : List PlainBid) (xor_bidders : List (List PlainBid)) : Type 0 where
-  pub or_bids : offers or_bids ≡ a.or_atoms
-  pub xor_bidders : map offers xor_bidders ≡ a.xor_bidders
+  pub or : offers or_bids ≡ a.or_atoms
+  pub xor : map offers xor_bidders ≡ a.xor_bidders

@@ -18,7 +18,7 @@ use std::alloc::{AllocError, Global};
 
 /// The bids of each bidder of a canonical file.
 #[derive(Drop)]
-pub struct Bidders<'a, B: Bids> {
+pub struct FileBidders<'a, B: Bids> {
     /// Those of the OR bidder, in the order of their bundles.
     pub or_bids: BidRun<'a, B>,
     /// Those of each XOR bidder, in the order of the canonical file: bidder d has dummy good d.
@@ -26,14 +26,14 @@ pub struct Bidders<'a, B: Bids> {
 }
 
 /// The bidders of a canonical file. It takes memory for each XOR bidder, and copies no bid.
-pub fn bidders_of<B: Bids>(alloc: Global, file: &B) -> Result<Bidders<'_, B>, AllocError>
+pub fn bidders_of<B: Bids>(alloc: Global, file: &B) -> Result<FileBidders<'_, B>, AllocError>
     requires facts { IsPlainFile (B.file file.now) }
     requires canonical { IsCanonicalFile (B.file file.now) }
     ensures { IfOk result (λ bidders. AreBidders (auction_from (B.file file.now)) bidders.or_bids bidders.xor_bidders.items) }
 {
     let (or_bids, xor_bids) = split_bids(file);
     let xor_bidders = split_bidders(alloc, &xor_bids)?;
-    Ok(Bidders {
+    Ok(FileBidders {
         or_bids,
         xor_bidders,
     })
