@@ -19,15 +19,15 @@ is_none_at_all differences = false
 
 -- the numbers of goods differ
 pub record DifferInGoods (a b : PlainAuction) (left right : ℕ) : Type 0 where
-  pub left : a.goods ≡ left
-  pub right : b.goods ≡ right
+  pub on_left : a.goods ≡ left
+  pub on_right : b.goods ≡ right
   pub differ : a.goods ≢ b.goods
 
 -- the numbers of goods are equal, and these are the differences of the bidders
-pub record DifferInBids (a b : PlainAuction) (bundles : List PlainChange) (bidders : List PlainBidderChange) : Type 0 where
+pub record DifferInBids (a b : PlainAuction) (or_changes : List PlainChange) (xor_changes : List PlainBidderChange) : Type 0 where
   pub goods : a.goods ≡ b.goods
-  pub bundles : ArePriceChanges a.or_atoms b.or_atoms bundles
-  pub bidders : AreBidderChanges a.xor_bidders b.xor_bidders bidders
+  pub bundles : ArePriceChanges a.or_atoms b.or_atoms or_changes
+  pub bidders : AreBidderChanges a.xor_bidders b.xor_bidders xor_changes
 
 -- what differs between two canonical auctions, in which each bidder has the bids that its values need
 abbrev pub AreAllDifferences : PlainAuction → PlainAuction → PlainDifferences → Type 0

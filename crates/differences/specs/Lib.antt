@@ -4,3 +4,4 @@ pub mod BidderChanges
 pub mod Differences
 pub mod Views
 pub mod Examples
+pub mod Internal

@@ -18,8 +18,8 @@ price_on (a ∷ rest) bundle = if is_eq (bundle_cmp a.bundle bundle) then Some a
 
 -- both prices are those of the lists, and they differ
 pub record IsPriceChange (left right : List (Atom (List ℕ))) (c : PlainChange) : Type 0 where
-  pub left : c.left ≡ price_on left c.bundle
-  pub right : c.right ≡ price_on right c.bundle
+  pub on_left : c.left ≡ price_on left c.bundle
+  pub on_right : c.right ≡ price_on right c.bundle
   pub differ : c.left ≢ c.right
 
 -- exactly the bundles on which the prices differ, in order, each with both prices

@@ -4,6 +4,7 @@ ghost use Rattle.std.specs.Prelude.{◌≡◌, ◌≤◌, IfOk, length, map};
 ghost use Rattle.bid_file.specs.declared.limits.TheConstants.{MAX_DUMMY};
 ghost use Rattle.canon.specs.Bidders.{offers};
 ghost use Rattle.differences.specs.BidderChanges.{excess_bidders};
+ghost use Rattle.differences.specs.Internal.Orders.{NeverFall};
 
 use bid_file::Bids;
 use canon::BidRun;
@@ -16,6 +17,8 @@ pub(crate) fn excess_bidders<B: Bids>(
     bidders: &[BidRun<'_, B>],
     others: &[BidRun<'_, B>],
 ) -> Result<Vec<u32>, AllocError>
+    requires never_fall { NeverFall (map offers bidders.now) }
+    requires others_never_fall { NeverFall (map offers others.now) }
     requires few { length bidders.now ≤ MAX_DUMMY }
     ensures { IfOk result (λ excess. excess.items ≡ excess_bidders (map offers bidders.now) (map offers others.now)) }
 {
