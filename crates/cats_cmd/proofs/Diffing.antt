@@ -18,7 +18,7 @@ use Rattle.valuation.specs.declared.atom.Atom.{Atom}
 use Rattle.valuation.specs.Auctions.{PlainAuction, auction_from}
 use Rattle.valuation.specs.Sorting.{count_of}
 use Rattle.canon.proofs.Files.{auction_from-file_from}
-use Rattle.canon.proofs.Texts.{canonical_file_is_fixed}
+use Rattle.canon.proofs.Texts.{canonical_file_is_fixed, IsPlainFile-canonical}
 use Rattle.canon.specs.Answers.{NormalisesPlainAs, unnamed_answer}
 use Rattle.canon.specs.Canonical.{canonical_auction, canonical_file}
 use Rattle.canon.specs.Lemmas.Finding.{counted_is_there}
@@ -34,9 +34,8 @@ use Rattle.cats_cmd.specs.Comparisons.{ReadsBoth}
 use Rattle.cats_cmd.specs.Diffs.{DiffsFiles, ReadsDifferences, diff_outcome}
 use Rattle.cats_cmd.specs.DiffTexts.{diff_text}
 use Rattle.cats_cmd.specs.Inputs.{ReadsInput}
-use Rattle.cats_cmd.specs.Internal.Diffs.{AreAmong, IsAmong, IsNamed, IsNamedFile, ReadsNamed, ReadsNamedFile, SendsDifferences, SendsText, TellsDifferences}
+use Rattle.cats_cmd.specs.Internal.Diffs.{AreAmong, IsAmong, IsNamed, IsNamedFile, ReadsNamed, ReadsNamedFile, SendsAllDifferences, SendsDifferences, TellsDifferences}
 use Rattle.cats_cmd.specs.Outcomes.{Tells, normalise_outcome}
-use Rattle.cats_cmd.specs.Runs.{SendsAs}
 use Rattle.cats_cmd.specs.Statuses.{status_of_differences}
 use Rattle.cats_cmd.specs.declared.report.RunFault.{RunFault}
 use Rattle.cats_cmd.specs.declared.report.RunFault.TheVariants.{Refused, GoodRange, Sent}
@@ -55,29 +54,31 @@ kept_count f =
 
 named_file : (f : PlainFile) → IsPlainFile f → (named : NamedFile) → IsNamed f named → IsNamedFile named
 named_file f plain named is = record {
+  facts = subst (λ (h : PlainFile). IsPlainFile h) (sym is.canonical) (IsPlainFile-canonical f plain);
   canonical = subst (λ (h : PlainFile). canonical_file h ≡ h) (sym is.canonical) (canonical_file_is_fixed f plain);
   bidders = ap (λ (h : PlainFile). length (auction_from h).xor_bidders) is.canonical ∙ kept_count f ∙ ap (length {A = ℕ}) (sym is.dummies);
 }
 
 module _ {R : Type 0} (remaining : R → Option (List ℕ)) (limit : ℕ) (old new : Watched R) where
   pub named_unread : (fault : CanonFault) → ReadsInput remaining old new (Err fault)
-      → (answer : Result NamedFile CanonFault) → IsErrAnd answer (λ told. told ≡ fault)
-      → ReadsNamed remaining limit old new answer × IfOk answer IsNamedFile
+      → (answer : Result NamedFile CanonFault) → IsErrAnd answer (λ told. told ≡ fault) → ReadsNamed remaining limit old new answer
   named_unread fault reads answer is =
       let told = err_from_is_err_and answer is in
       let only : answer ≡ Err fault = told.1 ∙ ap (λ (f : CanonFault). Err f) told.2 in
-      subst (λ (r : Result NamedFile CanonFault). ReadsNamed remaining limit old new r × IfOk r IsNamedFile) (sym only)
-      (refused_in_reading remaining (normalise_outcome limit) old new fault reads, tt)
+      subst (λ (r : Result NamedFile CanonFault). ReadsNamed remaining limit old new r) (sym only)
+      (refused_in_reading remaining (normalise_outcome limit) old new fault reads)
 
   pub named_read : (file : PlainFile) → ReadsInput remaining old new (Ok file)
       → (answer : Result NamedFile CanonFault) → NormalisesPlainAs limit file (unnamed_answer answer)
-      → IfOk answer (λ named. named.dummies.items ≡ kept_dummies file)
-      → ReadsNamed remaining limit old new answer × IfOk answer IsNamedFile
+      → IfOk answer (λ named. named.dummies.items ≡ kept_dummies file) → ReadsNamed remaining limit old new answer
   named_read file reads (Ok named) n dummies =
-      let is : IsNamed file named = record { canonical = n.canonical; dummies = dummies } in
-      (record { file = file; given = record { reads = reads; light = n.light }; is = is }, named_file file reads.reads.spelled.facts named is)
+      record { file = file; given = record { reads = reads; light = n.light }; is = record { canonical = n.canonical; dummies = dummies } }
   named_read file reads (Err fault) n dummies =
-      (refused_in_making remaining (normalise_outcome limit) old new file reads fault (refused_by_normalising limit file fault n), tt)
+      refused_in_making remaining (normalise_outcome limit) old new file reads fault (refused_by_normalising limit file fault n)
+
+  pub named_canonical : (answer : Result NamedFile CanonFault) → ReadsNamed remaining limit old new answer → IfOk answer IsNamedFile
+  named_canonical (Ok named) read = named_file read.file read.given.reads.reads.spelled.facts named read.is
+  named_canonical (Err fault) read = tt
 
 -- ---- the bidders of the changes
 
@@ -145,18 +146,14 @@ pub named_among : (left right : NamedFile) → IsNamedFile left → IsNamedFile 
 named_among left right one other differences are =
     all_among (length left.dummies.items) (length right.dummies.items) (auction_from left.file) (auction_from right.file) one.bidders other.bidders differences are
 
--- ---- both files
+pub among_at : (m n : ℕ) (changes : List BidderChange) (i : ℕ) (c : BidderChange) → i < length changes → c ≡ get_or changes i c
+    → All (IsAmong m n) (map plain_bidder_change changes) → IsAmong m n (plain_bidder_change c)
+among_at m n changes i c l is all =
+    let long = length-map changes plain_bidder_change in
+    subst (λ (b : PlainBidderChange). IsAmong m n b) (get_or-map plain_bidder_change changes i c (plain_bidder_change c) l ∙ ap plain_bidder_change (sym is))
+    (all i (plain_bidder_change c) (omega (arith, long)))
 
--- the text was sent once it was made
-pub differences_sent : {W : Type 0} (contents : W → Option (List ℕ)) (left right : NamedFile) (out out_after : Watched W) (status : ℕ) (text : List ℕ)
-    → TellsDifferences left right status text → (answer : Result ℕ RunFault) → SendsAs contents status text out out_after answer
-    → SendsDifferences contents left right out out_after answer
-differences_sent contents left right out out_after status text told (Ok answer) sends =
-    record { status = status; text = text; told = told; sends = sends }
-differences_sent contents left right out out_after status text told (Err (Refused which fault)) sends = absurd sends
-differences_sent contents left right out out_after status text told (Err (GoodRange good)) sends = absurd sends
-differences_sent contents left right out out_after status text told (Err (Sent fault)) sends =
-    record { status = status; text = text; told = told; sends = sends }
+-- ---- both files
 
 module _ {R S W : Type 0} (remaining_first : R → Option (List ℕ)) (remaining_second : S → Option (List ℕ)) (contents : W → Option (List ℕ)) (limit : ℕ)
     (first first_after : Watched R) (second second_after : Watched S) (out out_after : Watched W) where
@@ -177,12 +174,12 @@ module _ {R S W : Type 0} (remaining_first : R → Option (List ℕ)) (remaining
       ∙ ap₂ (λ (xs ys : List ℕ). diff_text one.file.goods xs ys d) one.is.dummies other.is.dummies in
       (
         record { reads = (one.given, other.given); all = all },
-        ap₂ (λ (s : ℕ) (xs : List ℕ). Tells s xs) (sym told.status) (sym (told.text ∙ names)),
+        ap₂ (λ (s : ℕ) (xs : List ℕ). Tells s xs) (sym told.is_status) (sym (told.is_text ∙ names)),
       )
 
   sent_text : (left right : NamedFile) → ReadsNamedFile remaining_first limit first first_after left
       → ReadsNamedFile remaining_second limit second second_after right
-      → (answer : Result ℕ RunFault) → SendsText contents left right out out_after answer
+      → (answer : Result ℕ RunFault) → SendsAllDifferences contents left right out out_after answer
       → DiffsFiles remaining_first remaining_second contents limit first first_after second second_after out out_after answer
   sent_text left right one other answer s =
       let d = differences_of left right one other s.status s.text s.told in

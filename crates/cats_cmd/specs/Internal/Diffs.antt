@@ -1,6 +1,6 @@
 -- What the parts of `cats diff` do: reading a file with its names, and sending all differences of two.
 use Rattle.std.specs.Prelude.{◌≡◌, ℕ, List, length, Option, Result, Ok, Err, All}
-use Rattle.bid_file.specs.Files.{PlainFile, IsDummyBelow}
+use Rattle.bid_file.specs.Files.{PlainFile, IsPlainFile, IsDummyBelow}
 use Rattle.cats_text.specs.declared.stream.Watched.{Watched}
 use Rattle.valuation.specs.Auctions.{auction_from}
 use Rattle.canon.specs.Canonical.{IsCanonicalFile, canonical_file}
@@ -41,18 +41,19 @@ module _ {R : Type 0} (remaining : R → Option (List ℕ)) (limit : ℕ) where
 -- ---- the bidders of the changes
 
 -- the bidders are among so many on the left and so many on the right
-pub record IsAmong (left right : ℕ) (c : PlainBidderChange) : Type 0 where
-  pub left : IsDummyBelow left c.left
-  pub right : IsDummyBelow right c.right
+pub record IsAmong (lefts rights : ℕ) (c : PlainBidderChange) : Type 0 where
+  pub left : IsDummyBelow lefts c.left
+  pub right : IsDummyBelow rights c.right
 
 abbrev pub AreAmong : ℕ → ℕ → PlainDifferences → Type 0
-AreAmong left right (InGoods m n) = Unit {0}
-AreAmong left right (InBids bundles bidders) = All (IsAmong left right) bidders
+AreAmong lefts rights (InGoods m n) = Unit {0}
+AreAmong lefts rights (InBids bundles bidders) = All (IsAmong lefts rights) bidders
 
 -- ---- both files
 
 -- the canonical file of some file, which has a dummy good for each of its bidders
 pub record IsNamedFile (named : NamedFile) : Type 0 where
+  pub facts : IsPlainFile named.file
   pub canonical : IsCanonicalFile named.file
   pub bidders : length (auction_from named.file).xor_bidders ≡ length named.dummies.items
 
@@ -60,12 +61,12 @@ pub record IsNamedFile (named : NamedFile) : Type 0 where
 pub record TellsDifferences (left right : NamedFile) (status : ℕ) (text : List ℕ) : Type 0 where
   pub differences : PlainDifferences
   pub all : AreAllDifferences (auction_from left.file) (auction_from right.file) differences
-  pub status : status ≡ status_of_differences differences
-  pub text : text ≡ diff_text left.file.goods left.dummies.items right.dummies.items differences
+  pub is_status : status ≡ status_of_differences differences
+  pub is_text : text ≡ diff_text left.file.goods left.dummies.items right.dummies.items differences
 
 module _ {W : Type 0} (contents : W → Option (List ℕ)) (left right : NamedFile) where
   -- the text was made and sent
-  pub record SendsText (old new : Watched W) (answer : Result ℕ RunFault) : Type 0 where
+  pub record SendsAllDifferences (old new : Watched W) (answer : Result ℕ RunFault) : Type 0 where
     pub status : ℕ
     pub text : List ℕ
     pub told : TellsDifferences left right status text
@@ -74,4 +75,4 @@ module _ {W : Type 0} (contents : W → Option (List ℕ)) (left right : NamedFi
   -- the text of all differences is sent, with its status; memory that is refused belongs to both files
   abbrev pub SendsDifferences : Watched W → Watched W → Result ℕ RunFault → Type 0
   SendsDifferences old new (Err (Refused which fault)) = (which ≡ Both) × (fault ≡ Memory) × (new ≡ old)
-  SendsDifferences old new answer = SendsText old new answer
+  SendsDifferences old new answer = SendsAllDifferences old new answer
