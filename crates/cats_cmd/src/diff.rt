@@ -49,7 +49,7 @@ pub fn run_diff<R: Read, S: Read, W: Write>(
     send_differences(alloc, &left, &right, out)
 }
 
-/// Reads a bid file, and gives it up for its canonical file, with the dummy goods that it had.
+/// Reads a bid file, and makes its canonical file, with the dummy goods that the bidders have in the file.
 fn read_named<R: Read>(
     alloc: Global,
     input: &mut Watched<R>,

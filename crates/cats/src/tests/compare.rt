@@ -25,7 +25,8 @@ fn compared(
 
 pub(super) const NOTHING: &str = "goods 0\nbids 0\ndummy 0\n";
 
-pub(super) const LARGER_BID: &str = "goods 2\nbids 3\ndummy 0\n0\t3\t0\t#\n1\t4\t1\t#\n2\t7\t0\t1\t#\n";
+pub(super) const LARGER_BID: &str =
+    "goods 2\nbids 3\ndummy 0\n0\t3\t0\t#\n1\t4\t1\t#\n2\t7\t0\t1\t#\n";
 
 pub(super) const SINGLES: &str = "goods 2\nbids 2\ndummy 0\n0\t3\t0\t#\n1\t4\t1\t#\n";
 
@@ -98,7 +99,8 @@ pub(super) const APART: &str =
     "goods 2\nbids 4\ndummy 2\n0\t1\t0\t2\t#\n1\t2\t1\t2\t#\n2\t2\t0\t3\t#\n3\t1\t1\t3\t#\n";
 
 /// Two bidders of which the first has one more bid.
-pub(super) const TOGETHER: &str = "goods 2\nbids 5\ndummy 2\n0\t1\t0\t2\t#\n1\t1\t1\t2\t#\n2\t2\t0\t1\t2\t#\n3\t2\t0\t3\t#\n4\t2\t1\t3\t#\n";
+pub(super) const TOGETHER: &str =
+    "goods 2\nbids 5\ndummy 2\n0\t1\t0\t2\t#\n1\t1\t1\t2\t#\n2\t2\t0\t1\t2\t#\n3\t2\t0\t3\t#\n4\t2\t1\t3\t#\n";
 
 pub(super) const FIVE: &str = "goods 1\nbids 1\ndummy 0\n0\t5\t0\t#\n";
 

@@ -7,9 +7,7 @@ use super::streams::{
     RunAnswer, StepReader, StepWriter, answer_of, byte_reader, expect, expect_cut_off, reader,
     stalling_writer, writer,
 };
-use cats_cmd::{
-    run_check, run_compare, run_diff, run_explain, run_normalise, run_show, run_value,
-};
+use cats_cmd::{run_check, run_compare, run_diff, run_explain, run_normalise, run_show, run_value};
 use cats_text::Watched;
 use std::alloc::Global;
 use std::io::ErrorKind;

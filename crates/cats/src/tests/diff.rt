@@ -113,7 +113,12 @@ fn bundles(rt: HostRuntime) -> Result<(), Fail> {
                 "or\t0\t1.250001\t1.5\n",
             ),
             // one more bid
-            (FOUR, "goods 1\nbids 0\ndummy 0\n", "or\t0\t4\t-\n", "or\t0\t-\t4\n"),
+            (
+                FOUR,
+                "goods 1\nbids 0\ndummy 0\n",
+                "or\t0\t4\t-\n",
+                "or\t0\t-\t4\n",
+            ),
             // a bid above the sum of two others
             (
                 "goods 2\nbids 3\ndummy 0\n0\t3\t0\t#\n1\t4\t1\t#\n2\t8\t0\t1\t#\n",
@@ -146,11 +151,11 @@ const THREE_COPIES: &str =
 const TWO_COPIES: &str = "goods 1\nbids 2\ndummy 2\n0\t3\t0\t1\t#\n1\t3\t0\t2\t#\n";
 
 /// A bidder of three bids.
-const THREE_BIDS: &str =
-    "goods 3\nbids 3\ndummy 1\n0\t1\t0\t3\t#\n1\t2\t1\t3\t#\n2\t3\t2\t3\t#\n";
+const THREE_BIDS: &str = "goods 3\nbids 3\ndummy 1\n0\t1\t0\t3\t#\n1\t2\t1\t3\t#\n2\t3\t2\t3\t#\n";
 
 /// Two bidders on the same goods, of which the first has one bid in common with that bidder and the second two.
-const SHARE_ONE_AND_TWO: &str = "goods 3\nbids 6\ndummy 2\n0\t1\t0\t3\t#\n1\t9\t1\t3\t#\n2\t9\t2\t3\t#\n3\t1\t0\t4\t#\n4\t2\t1\t4\t#\n5\t4\t2\t4\t#\n";
+const SHARE_ONE_AND_TWO: &str =
+    "goods 3\nbids 6\ndummy 2\n0\t1\t0\t3\t#\n1\t9\t1\t3\t#\n2\t9\t2\t3\t#\n3\t1\t0\t4\t#\n4\t2\t1\t4\t#\n5\t4\t2\t4\t#\n";
 
 #[test]
 fn single_bidders(rt: HostRuntime) -> Result<(), Fail> {
@@ -240,7 +245,8 @@ fn bidders_beside_each_other(rt: HostRuntime) -> Result<(), Fail> {
 }
 
 /// An OR bid and an XOR bid with other prices in each file.
-const BOTH_KINDS: &str = "goods 3\nbids 4\ndummy 1\n0\t1\t0\t#\n1\t2\t1\t#\n2\t3\t0\t3\t#\n3\t5\t2\t3\t#\n";
+const BOTH_KINDS: &str =
+    "goods 3\nbids 4\ndummy 1\n0\t1\t0\t#\n1\t2\t1\t#\n2\t3\t0\t3\t#\n3\t5\t2\t3\t#\n";
 
 const BOTH_KINDS_DIFFER: &str =
     "goods 3\nbids 4\ndummy 1\n0\t1\t0\t#\n1\t2.5\t1\t#\n2\t4\t0\t3\t#\n3\t5\t2\t3\t#\n";
