@@ -1,3 +1,4 @@
 -- Proofs that several functions of this crate cite.
 pub mod LawsLists
 pub mod LeftBidders
+pub mod ExchangedChanges
