@@ -122,11 +122,11 @@ module _ (left right : List (List (Atom (List ℕ)))) (changes : List PlainBidde
       omega arith)
 
   -- how often the changes have a bidder
-  lefts_counted : (bidder : List (Atom (List ℕ))) → count_of bidder_cmp bidder (map (bidder_at left) (lefts_of changes))
+  pub lefts_counted : (bidder : List (Atom (List ℕ))) → count_of bidder_cmp bidder (map (bidder_at left) (lefts_of changes))
       ≡ count_of bidder_cmp bidder left - count_of bidder_cmp bidder right
   lefts_counted bidder = ap (λ (indices : List ℕ). count_of bidder_cmp bidder (map (bidder_at left) indices)) are.lefts ∙ excess_counted left right bidder
 
-  rights_counted : (bidder : List (Atom (List ℕ))) → count_of bidder_cmp bidder (map (bidder_at right) (rights_of changes))
+  pub rights_counted : (bidder : List (Atom (List ℕ))) → count_of bidder_cmp bidder (map (bidder_at right) (rights_of changes))
       ≡ count_of bidder_cmp bidder right - count_of bidder_cmp bidder left
   rights_counted bidder =
       let test = λ (b : List (Atom (List ℕ))). cond {A = ℕ} (is_eq (bidder_cmp bidder b)) 1 0 in

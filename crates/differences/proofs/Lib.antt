@@ -2,3 +2,5 @@
 pub mod LawsLists
 pub mod LeftBidders
 pub mod ExchangedChanges
+pub mod BeginPrices
+pub mod BeginAuctions
