@@ -1,6 +1,6 @@
 -- All differences begin with the first difference: each of its kinds is found by what is in the lists of changes.
 use Rattle.std.proofs.Common.{◌≡◌, ℕ, ◌-◌, true, List, [], ◌∷◌, refl, sym, ap, ap₂, ◌∙◌, subst, arith, Option, Some, None}
-use Rattle.std.specs.Prelude.{◌↔◌, ◌||◌, is_some, Contains}
+use Rattle.std.specs.Prelude.{◌↔◌, ◌||◌, is_some}
 use Rattle.std.proofs.lemmas.List.Elements.{All-head}
 use Rattle.goods_set.specs.Bundles.{all_bundles}
 use Rattle.valuation.specs.declared.atom.Atom.{Atom}

@@ -1,15 +1,12 @@
 -- Exchanging the auctions. The idea: the changes of two lists of bids are determined by the prices, since they are in order and on exactly
 -- the bundles on which the prices differ.
-use Rattle.std.proofs.Common.{◌≡◌, ℕ, List, [], ◌∷◌, map, refl, sym, ap, ap₂, ◌∙◌, subst, Option, Less, nat_cmp}
-use Rattle.std.specs.Prelude.{All, Contains}
+use Rattle.std.proofs.Common.{◌≡◌, ℕ, List, map, sym, ap, ap₂, ◌∙◌, subst, Option, Less}
+use Rattle.std.specs.Prelude.{Contains}
 use Rattle.std.proofs.lemmas.List.Elements.{All-contains, All-map, All-weaker}
 use Rattle.goods_set.specs.Orders.{bundle_cmp}
 use Rattle.valuation.specs.declared.atom.Atom.{Atom}
-use Rattle.valuation.specs.Auctions.{PlainAuction}
 use Rattle.valuation.specs.Lemmas.Lists.{AllPairs-map, Contains-map, Contains-unmap}
-use Rattle.valuation.specs.Sorting.{count_of}
 use Rattle.prune.specs.Lemmas.InOrder.{before_both}
-use Rattle.differences.specs.BidderChanges.{PlainBidderChange, AreBidderChanges, lefts_of, rights_of}
 use Rattle.differences.specs.Differences.{exchanged_change}
 use Rattle.differences.specs.PriceChanges.{PlainChange, price_on, IsPriceChange, ArePriceChanges}
 use Rattle.differences.proofs.LawsLists.{same_in_strict_order}

@@ -1,6 +1,6 @@
 -- The bidders in excess. The idea: along the bidders from their end on, those in excess have each bidder as often as these bidders
 -- have it more often than the others.
-use Rattle.std.proofs.Common.{◌≡◌, ℕ, zero, suc, ◌+◌, ◌-◌, ◌<◌, ◌≤◌, Bool, true, false, cond, ⊎_elim, List, [], ◌∷◌, length, map, drop, sym, ap, ◌∙◌, subst, arith, Some}
+use Rattle.std.proofs.Common.{◌≡◌, ℕ, zero, suc, ◌+◌, ◌-◌, ◌<◌, ◌≤◌, Bool, true, false, cond, ◌⊎◌, inl, inr, ⊎_elim, List, [], ◌∷◌, length, map, drop, sym, ap, ◌∙◌, subst, arith, Some}
 use Rattle.std.proofs.Common.{Ordering, Less, Equal, Greater, nat_cmp, refl}
 use Rattle.std.specs.Prelude.{All, Contains}
 use Rattle.std.specs.FinMap.{nat_cmp-IsAntisymmetric}
@@ -27,14 +27,24 @@ equal_from_test Greater e = absurd (cc)
 -- ---- how often a bidder is in excess
 
 module _ (bidders others : List (List (Atom (List ℕ)))) (bidder : List (Atom (List ℕ))) where
-  -- one for the bidder of this index if it is the bidder
-  abbrev is_here : ℕ → ℕ
-  is_here index = cond (is_eq (bidder_cmp bidder (bidder_at bidders index))) 1 0
-
   abbrev times : List (List (Atom (List ℕ))) → ℕ
   times list = count_of bidder_cmp bidder list
 
-  -- where the bidder of this index is the bidder, it is in excess exactly if the bidder is more often here
+  -- one if the bidder of this index is the bidder
+  abbrev is_here : ℕ → ℕ
+  is_here index = cond (is_eq (bidder_cmp bidder (bidder_at bidders index))) 1 0
+
+  here_cases : (index : ℕ) → (is_here index ≡ 0)
+      ⊎ ((is_here index ≡ 1) × ((list : List (List (Atom (List ℕ)))) → times list ≡ count_of bidder_cmp (bidder_at bidders index) list))
+  here_cases index =
+      ⊎_elim
+      (λ (t : is_eq (bidder_cmp bidder (bidder_at bidders index)) ≡ true).
+      let same : bidder ≡ bidder_at bidders index = bidder_cmp_equal bidder (bidder_at bidders index) (equal_from_test _ t) in
+      inr (ap (λ b. cond {A = ℕ} b 1 0) t, λ list. ap (λ (b : List (Atom (List ℕ))). count_of bidder_cmp b list) same))
+      (λ (t : is_eq (bidder_cmp bidder (bidder_at bidders index)) ≡ false). inl (ap (λ b. cond {A = ℕ} b 1 0) t))
+      (cases_Bool (is_eq (bidder_cmp bidder (bidder_at bidders index))))
+
+  -- from the places behind an index to those from it on
   excess_here : (index : ℕ) (behind : List ℕ) → times (drop index bidders) ≡ is_here index + times (drop (index + 1) bidders)
       → times (map (bidder_at bidders) behind) ≡ times (drop (index + 1) bidders) - times others → (excess : Bool)
       → is_excess bidders others index ≡ excess
@@ -42,28 +52,22 @@ module _ (bidders others : List (List (Atom (List ℕ)))) (bidder : List (Atom (
   excess_here index behind all later true e =
       let more : count_of bidder_cmp (bidder_at bidders index) others < count_of bidder_cmp (bidder_at bidders index) (drop index bidders) = ltb-true _ _ e in
       let front = sum_by-cons (λ b. cond {A = ℕ} (is_eq (bidder_cmp bidder b)) 1 0) (bidder_at bidders index) (map (bidder_at bidders) behind) in
-      ⊎_elim
-      (λ (t : is_eq (bidder_cmp bidder (bidder_at bidders index)) ≡ true).
-      let same : bidder ≡ bidder_at bidders index = bidder_cmp_equal bidder (bidder_at bidders index) (equal_from_test _ t) in
-      let one : is_here index ≡ 1 = ap (λ b. cond {A = ℕ} b 1 0) t in
-      let mine : times (drop index bidders) ≡ count_of bidder_cmp (bidder_at bidders index) (drop index bidders) =
-      ap (λ (b : List (Atom (List ℕ))). count_of bidder_cmp b (drop index bidders)) same in
-      let theirs : times others ≡ count_of bidder_cmp (bidder_at bidders index) others = ap (λ (b : List (Atom (List ℕ))). count_of bidder_cmp b others) same in
+      ⊎_elim (λ (none : is_here index ≡ 0). omega arith)
+      (λ (one : (is_here index ≡ 1) × ((list : List (List (Atom (List ℕ)))) → times list ≡ count_of bidder_cmp (bidder_at bidders index) list)).
+      let first = one.0 in
+      let mine = one.1 (drop index bidders) in
+      let theirs = one.1 others in
       omega arith)
-      (λ (t : is_eq (bidder_cmp bidder (bidder_at bidders index)) ≡ false). let none : is_here index ≡ 0 = ap (λ b. cond {A = ℕ} b 1 0) t in omega arith)
-      (cases_Bool (is_eq (bidder_cmp bidder (bidder_at bidders index))))
+      (here_cases index)
   excess_here index behind all later false e =
       let fewer : count_of bidder_cmp (bidder_at bidders index) (drop index bidders) ≤ count_of bidder_cmp (bidder_at bidders index) others = ltb-false _ _ e in
-      ⊎_elim
-      (λ (t : is_eq (bidder_cmp bidder (bidder_at bidders index)) ≡ true).
-      let same : bidder ≡ bidder_at bidders index = bidder_cmp_equal bidder (bidder_at bidders index) (equal_from_test _ t) in
-      let one : is_here index ≡ 1 = ap (λ b. cond {A = ℕ} b 1 0) t in
-      let mine : times (drop index bidders) ≡ count_of bidder_cmp (bidder_at bidders index) (drop index bidders) =
-      ap (λ (b : List (Atom (List ℕ))). count_of bidder_cmp b (drop index bidders)) same in
-      let theirs : times others ≡ count_of bidder_cmp (bidder_at bidders index) others = ap (λ (b : List (Atom (List ℕ))). count_of bidder_cmp b others) same in
+      ⊎_elim (λ (none : is_here index ≡ 0). omega arith)
+      (λ (one : (is_here index ≡ 1) × ((list : List (List (Atom (List ℕ)))) → times list ≡ count_of bidder_cmp (bidder_at bidders index) list)).
+      let first = one.0 in
+      let mine = one.1 (drop index bidders) in
+      let theirs = one.1 others in
       omega arith)
-      (λ (t : is_eq (bidder_cmp bidder (bidder_at bidders index)) ≡ false). let none : is_here index ≡ 0 = ap (λ b. cond {A = ℕ} b 1 0) t in omega arith)
-      (cases_Bool (is_eq (bidder_cmp bidder (bidder_at bidders index))))
+      (here_cases index)
 
   excess_from : (n index : ℕ) → index + n ≡ length bidders
       → times (map (bidder_at bidders) (filter (is_excess bidders others) (range_with_len index n))) ≡ times (drop index bidders) - times others
