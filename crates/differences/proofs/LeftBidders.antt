@@ -1,7 +1,7 @@
 -- The bidders in excess. The idea: along the bidders from their end on, those in excess have each bidder as often as these bidders
 -- have it more often than the others.
-use Rattle.std.proofs.Common.{◌≡◌, ℕ, zero, suc, ◌+◌, ◌-◌, ◌<◌, ◌≤◌, Bool, true, false, cond, ◌⊎◌, inl, inr, ⊎_elim, List, [], ◌∷◌, length, map, drop, sym, ap, ◌∙◌, subst, arith, Some}
-use Rattle.std.proofs.Common.{Ordering, Less, Equal, Greater, nat_cmp, refl}
+use Rattle.std.proofs.Common.{◌≡◌, ℕ, zero, suc, ◌+◌, ◌-◌, ◌<◌, ◌≤◌, Bool, true, false, cond, ◌⊎◌, inl, inr, ⊎_elim, List, [], ◌∷◌, length, map, drop}
+use Rattle.std.proofs.Common.{sym, ap, ◌∙◌, subst, arith, Some, Ordering, Less, Equal, Greater, nat_cmp, refl}
 use Rattle.std.specs.Prelude.{All, Contains}
 use Rattle.std.specs.FinMap.{nat_cmp-IsAntisymmetric}
 use Rattle.std.specs.List.{filter, range_with_len}
@@ -115,7 +115,8 @@ module _ (left right : List (List (Atom (List ℕ)))) (changes : List PlainBidde
 
   -- so it is no bidder of both
   pub none_on_both : All (λ (c : PlainBidderChange). (i j : ℕ) → c.left ≡ Some i → c.right ≡ Some j → bidder_at left i ≡ bidder_at right j → ⊥) changes
-  none_on_both = All-from_Contains (λ (c : PlainBidderChange). (i j : ℕ) → c.left ≡ Some i → c.right ≡ Some j → bidder_at left i ≡ bidder_at right j → ⊥) changes
+  none_on_both =
+      All-from_Contains (λ (c : PlainBidderChange). (i j : ℕ) → c.left ≡ Some i → c.right ≡ Some j → bidder_at left i ≡ bidder_at right j → ⊥) changes
       (λ c there i j on_left on_right same.
       let more = left_is_more c i there on_left in
       let fewer = right_is_more c j there on_right in
