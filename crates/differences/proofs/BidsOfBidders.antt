@@ -1,5 +1,5 @@
 -- The bids of a bidder, as they lie in its file and as they are seen.
-use Rattle.std.proofs.Common.{◌≡◌, ℕ, ◌<◌, List, [], length, map, get_or, take, true, false, ◌||◌, sym, ap, ap₂, subst, arith, Option, Some, None}
+use Rattle.std.proofs.Common.{◌≡◌, ℕ, ◌<◌, List, [], length, map, get_or, take, true, false, ◌||◌, sym, ap, ap₂, ◌∙◌, subst, arith, Option, Some, None}
 use Rattle.std.specs.Prelude.{All, IfSome, is_some}
 use Rattle.std.proofs.lemmas.Bool.{both_ways}
 use Rattle.std.proofs.lemmas.List.{get_or-map, length-map}

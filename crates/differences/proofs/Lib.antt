@@ -2,3 +2,8 @@
 pub mod Waiting
 pub mod Changes
 pub mod BidsOfBidders
+pub mod LawsLists
+pub mod LeftBidders
+pub mod ExchangedChanges
+pub mod BeginPrices
+pub mod BeginAuctions
