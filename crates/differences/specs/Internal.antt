@@ -1,2 +1,3 @@
 -- What the contracts of private functions cite. No public contract rests on them.
 pub mod Orders
+pub mod PriceWalks
