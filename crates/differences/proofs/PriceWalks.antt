@@ -1,8 +1,13 @@
 -- The walk of two lists of atoms in order: which bundle comes first in the rests, and what is left of the rests behind it.
-use Rattle.std.proofs.Common.{◌≡◌, ℕ, zero, suc, ◌+◌, ◌<◌, ◌≤◌, Bool, true, false, cond, ◌||◌, ◌⊎◌, inl, inr, ⊎_elim, List, [], ◌∷◌, ◌++◌, map, drop, length, refl, sym, ap, ap₂, ◌∙◌, subst, arith, Option, Some, None, is_some, Ordering, Less, Equal, Greater, append_assoc, length-drop}
+use mir.Val.{bool_byte}
+use Rattle.std.proofs.Common.{◌≡◌, ℕ, zero, suc, ◌+◌, ◌<◌, ◌≤◌, Bool, true, false, not, eqb, cond, ◌||◌, ◌⊎◌, inl, inr, ⊎_elim, List, [], ◌∷◌, ◌++◌, map, drop, length, refl, sym, ap, ap₂, ◌∙◌, subst, arith, Option, Some, None, is_some, Ordering, Less, Equal, Greater, append_assoc, length-drop}
 use Rattle.std.specs.Prelude.{◌≢◌, All, AllPairs}
 use Rattle.std.specs.Ordering.{is_eq, ordering_reverse}
-use Rattle.std.proofs.lemmas.List.{append-nil, length-map, drop-map, map_push}
+use Rattle.std.specs.List.{drop-map}
+use Rattle.std.specs.Option.{option_eq}
+use Rattle.std.proofs.lemmas.Bool.{cases_Bool, eqb-true, eq-eqb}
+use Rattle.std.proofs.lemmas.List.{append-nil, length-map}
+use Rattle.std.proofs.lemmas.Option.{same_Some}
 use Rattle.std.proofs.lemmas.List.Elements.{All-nil, All-cons, All-head, All-tail, All-weaker}
 use Rattle.goods_set.specs.Orders.{bundle_cmp}
 use Rattle.goods_set.specs.Lemmas.Orders.{bundle_cmp_total, bundle_cmp_equal}
@@ -149,6 +154,30 @@ module _ (left right left_rest right_rest : List (Atom (List ℕ))) (found : Lis
           (past_same c.bundle left_rest (drop (passed c.left) left_rest) right_rest (drop (passed c.right) right_rest)
           left_behind right_behind later h (sym first.on_left ∙ e ∙ first.on_right));
     }
+
+-- ---- the walk over bids
+
+passed_bids : (p : Option ℕ) (n : ℕ) (some : Bool) → some ≡ is_some p → n ≡ bool_byte some → n ≡ passed p
+passed_bids None n some e f = f ∙ ap bool_byte e
+passed_bids (Some x) n some e f = f ∙ ap bool_byte e
+
+pub offers_left : (bids rest : List PlainBid) (p : Option ℕ) (n : ℕ) (some : Bool) → some ≡ is_some p → n ≡ bool_byte some → rest ≡ drop n bids
+    → drop (passed p) (offers bids) ≡ offers rest
+offers_left bids rest p n some e f r =
+    drop-map atom_of (passed p) bids ∙ ap (λ m. offers (drop m bids)) (sym (passed_bids p n some e f)) ∙ ap offers (sym r)
+
+pub prices_same : (p q : Option ℕ) → false ≡ not (option_eq eqb p q) → p ≡ q
+prices_same None None e = refl
+prices_same None (Some y) e = absurd (cc)
+prices_same (Some x) None e = absurd (cc)
+prices_same (Some x) (Some y) e =
+    ⊎_elim (λ (t : eqb x y ≡ true). ap Some (eqb-true x y t)) (λ (t : eqb x y ≡ false). absurd (let d = e ∙ ap not t in cc)) (cases_Bool (eqb x y))
+
+pub prices_differ : (p q : Option ℕ) → true ≡ not (option_eq eqb p q) → p ≢ q
+prices_differ None None e d = absurd (cc)
+prices_differ None (Some y) e d = absurd (cc)
+prices_differ (Some x) None e d = absurd (cc)
+prices_differ (Some x) (Some y) e d = absurd (let t : true ≡ false = e ∙ ap not (eq-eqb x y (same_Some x y d)) in cc)
 
 -- ---- which bundle comes first
 

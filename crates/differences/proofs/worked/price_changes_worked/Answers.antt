@@ -51,6 +51,6 @@ returns-clause-missing c = λ h. Contains-nil (0 ∷ []) (h.all (0 ∷ []) (λ e
 
 pub returns-clause-wrong_price : goal.returns-clause-wrong_price
 returns-clause-wrong_price c = λ h.
-    let wrong = All-head (IsPriceChange (atom (0 ∷ []) 3 ∷ []) []) (change (0 ∷ []) (Some 4) None) [] h.each in
+    let wrong : IsPriceChange (atom (0 ∷ []) 3 ∷ []) [] (change (0 ∷ []) (Some 4) None) = All-head (IsPriceChange (atom (0 ∷ []) 3 ∷ []) []) (change (0 ∷ []) (Some 4) None) [] h.each in
     let f : 4 ≡ 3 = same_Some 4 3 wrong.on_left in
     omega arith
