@@ -1,18 +1,15 @@
 -- Two lists of atoms in order are walked side by side, bundle by bundle. What is still to be found are the changes of the two
 -- rests: where the changes of the rests are given, the bundle that was walked past is put in front of them if its prices differ.
-use Rattle.std.proofs.Common.{◌≡◌, ℕ, zero, suc, ◌<◌, ◌≤◌, Bool, true, false, cond, ◌||◌, ◌⊎◌, inl, inr, ⊎_elim, List, [], ◌∷◌, ◌++◌, length, map, drop, refl, sym, ap, ap₂, ◌∙◌, subst, arith, Option, Some, None, is_some, Ordering, Less, Equal, Greater, append_assoc}
-use Rattle.std.specs.Prelude.{◌≢◌, All, AllPairs, Contains}
+use Rattle.std.proofs.Common.{◌≡◌, ℕ, true, false, cond, ◌⊎◌, inl, inr, ⊎_elim, List, [], ◌∷◌, map, refl, sym, ap, ◌∙◌, subst, Option, Some, None, Less}
+use Rattle.std.specs.Prelude.{◌≢◌, All, Contains}
 use Rattle.std.specs.Ordering.{is_eq}
-use Rattle.std.proofs.lemmas.List.Elements.{All-nil, All-cons, All-head, All-tail, All-weaker, All-contains}
+use Rattle.std.proofs.lemmas.List.Elements.{All-cons, All-head, All-tail, All-weaker}
 use Rattle.goods_set.specs.Orders.{bundle_cmp}
-use Rattle.goods_set.specs.Lemmas.Orders.{bundle_cmp_total, bundle_cmp_equal}
 use Rattle.valuation.specs.declared.atom.Atom.{Atom}
-use Rattle.valuation.specs.Lemmas.Lists.{AllPairs-nil, AllPairs-cons, AllPairs-head, AllPairs-tail}
-use Rattle.prune.specs.InOrder.{IsBefore, IsInOrder}
-use Rattle.prune.specs.Lemmas.InOrder.{before_itself, before_both, same_cases}
+use Rattle.valuation.specs.Lemmas.Lists.{AllPairs-cons}
+use Rattle.prune.specs.Lemmas.InOrder.{before_itself, same_cases}
 use Rattle.prune.specs.Lemmas.Lists.{Contains-head, Contains-tail}
 use Rattle.differences.specs.PriceChanges.{PlainChange, price_on, IsPriceChange, ArePriceChanges}
-use Rattle.differences.specs.Internal.PriceWalks.{IsFirstBundle}
 
 -- ---- the price on a bundle
 

@@ -1,14 +1,14 @@
 -- The walk of two lists of atoms in order: which bundle comes first in the rests, and what is left of the rests behind it.
 use mir.Val.{bool_byte}
-use Rattle.std.proofs.Common.{◌≡◌, ℕ, zero, suc, ◌+◌, ◌<◌, ◌≤◌, Bool, true, false, not, eqb, cond, ◌||◌, ◌⊎◌, inl, inr, ⊎_elim, List, [], ◌∷◌, ◌++◌, map, drop, length, refl, sym, ap, ap₂, ◌∙◌, subst, arith, Option, Some, None, is_some, Ordering, Less, Equal, Greater, append_assoc, length-drop}
-use Rattle.std.specs.Prelude.{◌≢◌, All, AllPairs}
+use Rattle.std.proofs.Common.{◌≡◌, ℕ, zero, suc, ◌+◌, Bool, true, false, not, eqb, cond, ◌||◌, ◌⊎◌, ⊎_elim, List, [], ◌∷◌, ◌++◌, drop, refl, sym, ap, ap₂, ◌∙◌, subst, Option, Some, None, is_some, Ordering, Less, Equal, Greater, append_assoc}
+use Rattle.std.specs.Prelude.{◌≢◌, All}
 use Rattle.std.specs.Ordering.{is_eq, ordering_reverse}
 use Rattle.std.specs.List.{drop-map}
 use Rattle.std.specs.Option.{option_eq}
 use Rattle.std.proofs.lemmas.Bool.{cases_Bool, eqb-true, eq-eqb}
-use Rattle.std.proofs.lemmas.List.{append-nil, length-map}
+use Rattle.std.proofs.lemmas.List.{append-nil}
 use Rattle.std.proofs.lemmas.Option.{same_Some}
-use Rattle.std.proofs.lemmas.List.Elements.{All-nil, All-cons, All-head, All-tail, All-weaker}
+use Rattle.std.proofs.lemmas.List.Elements.{All-nil, All-cons, All-head, All-weaker}
 use Rattle.goods_set.specs.Orders.{bundle_cmp}
 use Rattle.goods_set.specs.Lemmas.Orders.{bundle_cmp_total, bundle_cmp_equal}
 use Rattle.bid_file.specs.Files.{PlainBid}
@@ -79,27 +79,6 @@ drop_in_order zero (a ∷ rest) s = s
 drop_in_order (suc n) (a ∷ rest) s = drop_in_order n rest (AllPairs-tail IsBefore a rest s)
 
 -- ---- the walk
-
-passed_some : (p q : Option ℕ) → is_some p || is_some q ≡ true → 0 < passed p + passed q
-passed_some None None e = absurd (cc)
-passed_some None (Some y) e = omega arith
-passed_some (Some x) q e = omega arith
-
-passed_within : (bundle : List ℕ) (atoms : List (Atom (List ℕ))) (p : Option ℕ) → p ≡ price_on atoms bundle → passed p ≤ length atoms
-passed_within bundle [] p e = let none : passed p ≡ 0 = ap passed e in omega arith
-passed_within bundle (a ∷ rest) None e = omega arith
-passed_within bundle (a ∷ rest) (Some x) e = omega arith
-
-module _ (left right : List PlainBid) (c : PlainChange) (first : IsFirstBundle (offers left) (offers right) c) where
-  pub passed_left : passed c.left ≤ length left
-  passed_left = omega (arith, passed_within c.bundle (offers left) c.left first.on_left, length-map left atom_of)
-
-  pub passed_right : passed c.right ≤ length right
-  passed_right = omega (arith, passed_within c.bundle (offers right) c.right first.on_right, length-map right atom_of)
-
-  pub fewer_left : length (drop (passed c.left) left) + length (drop (passed c.right) right) < length left + length right
-  fewer_left =
-      omega (arith, passed_left, passed_right, passed_some c.left c.right first.some, length-drop (passed c.left) left, length-drop (passed c.right) right)
 
 -- The rests are in order, and the changes of the whole lists are those that were found, and then those of the rests.
 pub record IsWalked (left right left_rest right_rest : List (Atom (List ℕ))) (found : List PlainChange) : Type 0 where

@@ -43,10 +43,7 @@ pub(crate) fn price_changes<'a, B: Bids>(
 
 /// The bundle that comes first in two lists of bids, with its two prices, which may be equal. None if both lists are
 /// empty.
-fn first_bundle<'a, B: Bids>(
-    left: &BidRun<'a, B>,
-    right: &BidRun<'a, B>,
-) -> Option<PriceChange<'a>>
+fn first_bundle<'a, B: Bids>(left: &BidRun<'a, B>, right: &BidRun<'a, B>) -> Option<PriceChange<'a>>
     requires left_in_order { IsInOrder (offers left.now) }
     requires right_in_order { IsInOrder (offers right.now) }
     ensures { MatchOption result ((left.now ≡ []) × (right.now ≡ []))

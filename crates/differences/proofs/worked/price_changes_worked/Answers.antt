@@ -1,5 +1,5 @@
 -- Each change is one step of the walk, behind which both lists are empty.
-use Rattle.std.proofs.Common.{◌≡◌, ℕ, List, [], ◌∷◌, refl, sym, ap, ◌∙◌, arith, Option, Some, None, Less}
+use Rattle.std.proofs.Common.{◌≡◌, ℕ, List, [], ◌∷◌, refl, sym, arith, Some, None, Less}
 use Rattle.std.proofs.lemmas.List.Elements.{All-nil, All-head}
 use Rattle.std.proofs.lemmas.Option.{none-some, same_Some}
 use Rattle.goods_set.specs.Orders.{bundle_cmp}
@@ -7,7 +7,7 @@ use Rattle.valuation.specs.declared.atom.Atom.{Atom}
 use Rattle.valuation.specs.Lemmas.Lists.{AllPairs-nil}
 use Rattle.prune.specs.Lemmas.Lists.{Contains-nil}
 use Rattle.differences.specs.Examples.{atom, change}
-use Rattle.differences.specs.PriceChanges.{PlainChange, price_on, IsPriceChange, ArePriceChanges}
+use Rattle.differences.specs.PriceChanges.{PlainChange, IsPriceChange, ArePriceChanges}
 use Rattle.differences.proofs.PriceChanges.{IsBehind, price_behind, past_change}
 use Rattle.differences.proofs.worked.price_changes_worked.Goals as goal
 
@@ -49,8 +49,11 @@ returns-clause-equal c = same_lists (atom (0 ∷ []) 3 ∷ [])
 pub returns-clause-missing : goal.returns-clause-missing
 returns-clause-missing c = λ h. Contains-nil (0 ∷ []) (h.all (0 ∷ []) (λ e. none-some 3 (sym e)))
 
+not_four : (price : ℕ) → price ≡ 3 → Some price ≡ Some 4 → ⊥
+not_four price e f = let g : price ≡ 4 = same_Some price 4 f in omega arith
+
+wrong_price : ArePriceChanges (atom (0 ∷ []) 3 ∷ []) [] (change (0 ∷ []) (Some 4) None ∷ []) → ⊥
+wrong_price h = not_four 3 refl (sym (All-head (IsPriceChange (atom (0 ∷ []) 3 ∷ []) []) (change (0 ∷ []) (Some 4) None) [] h.each).on_left)
+
 pub returns-clause-wrong_price : goal.returns-clause-wrong_price
-returns-clause-wrong_price c = λ h.
-    let wrong : IsPriceChange (atom (0 ∷ []) 3 ∷ []) [] (change (0 ∷ []) (Some 4) None) = All-head (IsPriceChange (atom (0 ∷ []) 3 ∷ []) []) (change (0 ∷ []) (Some 4) None) [] h.each in
-    let f : 4 ≡ 3 = same_Some 4 3 wrong.on_left in
-    omega arith
+returns-clause-wrong_price c = wrong_price
