@@ -23,6 +23,7 @@ mod xor_bidders;
 
 pub use auction::canonical;
 pub use auction_index::AuctionIndex;
+pub use bid_order::order_of_bundles;
 pub use bid_run::BidRun;
 pub use comparison::{compare, compare_files};
 pub use fault::CanonFault;

@@ -7,3 +7,5 @@ pub mod LeftBidders
 pub mod ExchangedChanges
 pub mod BeginPrices
 pub mod BeginAuctions
+pub mod PriceChanges
+pub mod PriceWalks

@@ -2,3 +2,4 @@
 pub mod Orders
 pub mod Partners
 pub mod Changes
+pub mod PriceWalks
