@@ -1,13 +1,14 @@
 //! The XOR bidders that a canonical file has more often than another.
 
-ghost use Rattle.std.specs.Prelude.{◌≡◌, ◌≤◌, IfOk, length, map};
+ghost use Rattle.std.specs.Prelude.{◌≡◌, ◌≢◌, ℕ, ◌+◌, ◌<◌, ◌≤◌, IfOk, Less, length, map};
 ghost use Rattle.bid_file.specs.declared.limits.TheConstants.{MAX_DUMMY};
+ghost use Rattle.valuation.specs.Orders.{bidder_cmp};
 ghost use Rattle.canon.specs.Bidders.{offers};
-ghost use Rattle.differences.specs.BidderChanges.{excess_bidders};
+ghost use Rattle.differences.specs.BidderChanges.{bidder_at, excess_bidders};
 ghost use Rattle.differences.specs.Internal.Orders.{NeverFall};
 
 use bid_file::Bids;
-use canon::BidRun;
+use canon::{BidRun, order_of_bidders};
 use std::alloc::{AllocError, Global};
 
 /// The indices of the bidders that are more often among these than among the others. Of equal bidders the first ones are
@@ -22,5 +23,35 @@ pub(crate) fn excess_bidders<B: Bids>(
     requires few { length bidders.now ≤ MAX_DUMMY }
     ensures { IfOk result (λ excess. excess.items ≡ excess_bidders (map offers bidders.now) (map offers others.now)) }
 {
-    Err(AllocError)
+    let mut excess = Vec::new(alloc);
+    let mut end = others.len();
+    for index in (0..bidders.len()).rev() {
+        end = skip_greater(&bidders[index], others, end);
+        if end > 0 && order_of_bidders(&bidders[index], &others[end - 1]).is_eq() {
+            end -= 1;
+        } else {
+            excess.push(index as u32)?;
+        }
+    }
+    excess.reverse();
+    Ok(excess)
+}
+
+/// How many of the others are left, of those before `end`, without the last ones that are greater than the bidder.
+fn skip_greater<B: Bids>(
+    bidder: &BidRun<'_, B>,
+    others: &[BidRun<'_, B>],
+    mut end: usize,
+) -> usize
+    requires { end ≤ length others.now }
+    ensures within { result ≤ end }
+    ensures skipped { (index : ℕ) → result ≤ index → index < end
+        → bidder_cmp (offers bidder.now) (bidder_at (map offers others.now) index) ≡ Less }
+    ensures stopped { (index : ℕ) → index + 1 ≡ result
+        → bidder_cmp (offers bidder.now) (bidder_at (map offers others.now) index) ≢ Less }
+{
+    while end > 0 && order_of_bidders(bidder, &others[end - 1]).is_lt() {
+        end -= 1;
+    }
+    end
 }
