@@ -1,1 +1,3 @@
 -- Proofs that several functions of this crate cite.
+pub mod ExcessBidders
+pub mod ExcessWalks

@@ -1,6 +1,7 @@
 //! The XOR bidders that a canonical file has more often than another.
 
-ghost use Rattle.std.specs.Prelude.{◌≡◌, ◌≢◌, ℕ, ◌+◌, ◌<◌, ◌≤◌, IfOk, Less, length, map};
+ghost use Rattle.std.specs.Prelude.{◌≡◌, ℕ, true, false, ◌+◌, ◌<◌, ◌≤◌, IfOk, length, map};
+ghost use Rattle.std.specs.Ordering.{is_lt};
 ghost use Rattle.bid_file.specs.declared.limits.TheConstants.{MAX_DUMMY};
 ghost use Rattle.valuation.specs.Orders.{bidder_cmp};
 ghost use Rattle.canon.specs.Bidders.{offers};
@@ -46,9 +47,9 @@ fn skip_greater<B: Bids>(
     requires { end ≤ length others.now }
     ensures within { result ≤ end }
     ensures skipped { (index : ℕ) → result ≤ index → index < end
-        → bidder_cmp (offers bidder.now) (bidder_at (map offers others.now) index) ≡ Less }
+        → is_lt (bidder_cmp (offers bidder.now) (bidder_at (map offers others.now) index)) ≡ true }
     ensures stopped { (index : ℕ) → index + 1 ≡ result
-        → bidder_cmp (offers bidder.now) (bidder_at (map offers others.now) index) ≢ Less }
+        → is_lt (bidder_cmp (offers bidder.now) (bidder_at (map offers others.now) index)) ≡ false }
 {
     while end > 0 && order_of_bidders(bidder, &others[end - 1]).is_lt() {
         end -= 1;
