@@ -27,8 +27,9 @@ pub(crate) fn excess_bidders<B: Bids>(
     let mut excess = Vec::new(alloc);
     let mut end = others.len();
     for index in (0..bidders.len()).rev() {
-        end = skip_greater(&bidders[index], others, end);
-        if end > 0 && order_of_bidders(&bidders[index], &others[end - 1]).is_eq() {
+        let bidder = &bidders[index];
+        end = skip_greater(bidder, others, end);
+        if end > 0 && order_of_bidders(bidder, &others[end - 1]).is_eq() {
             end -= 1;
         } else {
             excess.push(index as u32)?;
