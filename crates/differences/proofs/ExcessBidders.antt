@@ -29,8 +29,8 @@ abbrev pub AreSkipped : List (List PlainBid) → List PlainBid → ℕ → ℕ �
 AreSkipped others bidder end before = IsSkipped bidder_cmp [] bidder_cmp_total bidder_cmp_equal (map offers others) (offers bidder) end before
 
 module _ (bidders others : List (List PlainBid)) (later end before : ℕ) (indices : List ℕ) (bidder : List PlainBid) (up : NeverFall (map offers bidders))
-  (some : 0 < later) (within : later ≤ length bidders) (w : AreWalked bidders others later end indices)
-  (read : bidder ≡ get_or bidders (later - 1) bidder) (s : AreSkipped others bidder end before) where
+    (some : 0 < later) (within : later ≤ length bidders) (w : AreWalked bidders others later end indices)
+    (read : bidder ≡ get_or bidders (later - 1) bidder) (s : AreSkipped others bidder end before) where
   index_within : later - 1 < length (map offers bidders)
   index_within = simp length-map (omega arith)
 

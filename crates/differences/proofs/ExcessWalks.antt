@@ -138,7 +138,7 @@ module _ {X : Type 0} (cmp : X → X → Ordering) (none : X) (total : IsTotalOr
 
   -- an element takes its equal
   module _ (xs others : List X) (index last : ℕ) (below : index < length xs) (w : AreTaken cmp none xs others (index + 1) (last + 1))
-    (equal : cmp (get_or xs index none) (get_or others last none) ≡ Equal) where
+      (equal : cmp (get_or xs index none) (get_or others last none) ≡ Equal) where
     one_taken : (x : X) → IsTaken cmp none xs others (index + 1) (last + 1) x → IsTaken cmp none xs others index last x
     one_taken x counted =
         let same : get_or xs index none ≡ get_or others last none = exact (get_or xs index none) (get_or others last none) equal in
@@ -175,7 +175,7 @@ module _ {X : Type 0} (cmp : X → X → Ordering) (none : X) (total : IsTotalOr
 
   -- no other is left for an element
   module _ (xs others : List X) (index end : ℕ) (below : index < length xs) (w : AreTaken cmp none xs others (index + 1) end)
-    (differ : (k : ℕ) → k < end → is_eq (cmp (get_or xs index none) (get_or others k none)) ≡ false) where
+      (differ : (k : ℕ) → k < end → is_eq (cmp (get_or xs index none) (get_or others k none)) ≡ false) where
     all_taken : count_of cmp (get_or xs index none) others ≡ count_of cmp (get_or xs index none) (drop end others)
     all_taken = count_past cmp none (get_or xs index none) others end 0 end (omega arith) w.within (λ k l m. differ k m)
 
@@ -221,7 +221,7 @@ module _ {X : Type 0} (cmp : X → X → Ordering) (none : X) (total : IsTotalOr
     pub stopped : (k : ℕ) → k + 1 ≡ before → is_lt (cmp x (get_or others k none)) ≡ false
 
   module _ (xs others : List X) (index end before : ℕ) (indices : List ℕ) (up : NeverAbove cmp none xs) (below : index < length xs)
-    (w : IsWalked xs others (index + 1) end indices) (s : IsSkipped others (get_or xs index none) end before) where
+      (w : IsWalked xs others (index + 1) end indices) (s : IsSkipped others (get_or xs index none) end before) where
     past : AreTaken cmp none xs others (index + 1) before
     past = taken_past xs others index end before up below w.taken s.within s.skipped
 

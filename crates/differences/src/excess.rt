@@ -39,12 +39,8 @@ pub(crate) fn excess_bidders<B: Bids>(
     Ok(excess)
 }
 
-/// How many of the others are left, of those before `end`, without the last ones that are greater than the bidder.
-fn skip_greater<B: Bids>(
-    bidder: &BidRun<'_, B>,
-    others: &[BidRun<'_, B>],
-    mut end: usize,
-) -> usize
+/// How many of the others before `end` are left without the last ones, which are greater than the bidder.
+fn skip_greater<B: Bids>(bidder: &BidRun<'_, B>, others: &[BidRun<'_, B>], mut end: usize) -> usize
     requires { end ≤ length others.now }
     ensures within { result ≤ end }
     ensures skipped { (index : ℕ) → result ≤ index → index < end

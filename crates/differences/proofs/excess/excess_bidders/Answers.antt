@@ -1,10 +1,10 @@
 -- A bidder takes the equal one of the others with it, where one is left, and else it is named.
-use Rattle.std.proofs.Common.{◌≡◌, ◌+◌, ◌-◌, ◌<◌, ◌≤◌, ◌++◌, ◌∷◌, [], false, map, length, sym, ap, ◌∙◌, subst, arith}
+use Rattle.std.proofs.Common.{◌≡◌, ◌-◌, ◌<◌, false, map, sym, ap, ◌∙◌, arith}
 use Rattle.std.specs.Ordering.{is_eq}
 use Rattle.valuation.specs.Orders.{bidder_cmp}
 use Rattle.canon.specs.Bidders.{offers}
 use Rattle.differences.specs.BidderChanges.{bidder_at}
-use Rattle.differences.proofs.ExcessBidders.{AreSkipped, AreWalked, bidder_at_index, end_within, one_equal, one_excess}
+use Rattle.differences.proofs.ExcessBidders.{bidder_at_index, end_within, one_equal, one_excess}
 use Rattle.differences.proofs.excess.excess_bidders.Goals as goal
 use Rattle.differences.proofs.excess.excess_bidders.Goals.{else-end-gt0-via-then-end-gt0+else-is_eq, else-end-gt0-via-else-end-gt0}
 

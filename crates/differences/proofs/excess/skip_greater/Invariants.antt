@@ -1,4 +1,4 @@
-use Rattle.std.proofs.Common.{◌≡◌, ℕ, true, ◌<◌, ◌≤◌, length, map}
+use Rattle.std.proofs.Common.{◌≡◌, ℕ, true, ◌<◌, ◌≤◌, map}
 use Rattle.std.specs.Ordering.{is_lt}
 use Rattle.valuation.specs.Orders.{bidder_cmp}
 use Rattle.canon.specs.Bidders.{offers}
