@@ -34,3 +34,4 @@ pub use normal::{normal_file, normal_packed_file};
 pub use text::normalise;
 pub use verdict::{Side, Verdict};
 pub use which::Which;
+pub use xor_bidders::order_of_bidders;

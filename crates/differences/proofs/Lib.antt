@@ -9,3 +9,5 @@ pub mod BeginPrices
 pub mod BeginAuctions
 pub mod PriceChanges
 pub mod PriceWalks
+pub mod ExcessBidders
+pub mod ExcessWalks
