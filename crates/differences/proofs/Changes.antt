@@ -1,5 +1,5 @@
 -- Changes that are put together one by one: those of the left bidders, and then those of the right bidders that are left.
-use Rattle.std.proofs.Common.{◌≡◌, ℕ, ◌+◌, ◌<◌, ◌≤◌, true, cond, List, [], ◌∷◌, ◌++◌, length, map, get_or, take, append_assoc, refl, sym, ap, ◌∙◌, arith, Option, Some, None}
+use Rattle.std.proofs.Common.{◌≡◌, ℕ, ◌+◌, ◌<◌, ◌≤◌, true, cond, List, [], ◌∷◌, ◌++◌, length, map, get_or, take, append_assoc, refl, sym, ap, ◌∙◌, subst, arith, Option, Some, None}
 use Rattle.std.specs.Prelude.{All}
 use Rattle.std.specs.List.{filter_map}
 use Rattle.std.specs.Ordering.{nat_cmp, is_eq}
@@ -11,6 +11,7 @@ use Rattle.valuation.specs.Sorting.{count_of}
 use Rattle.differences.specs.BidderChanges.{PlainBidderChange, IsBidderChange, AreBidderChanges, excess_bidders, lefts_of, rights_of}
 use Rattle.differences.specs.Internal.Changes.{AreLefts, AreRest}
 use Rattle.differences.specs.Internal.Partners.{TakesPartner}
+use Rattle.differences.proofs.Waiting.{All-counted}
 
 lefts-append : (xs ys : List PlainBidderChange) → lefts_of (xs ++ ys) ≡ lefts_of xs ++ lefts_of ys
 lefts-append xs ys = filter_map-append (λ c. c.left) xs ys
@@ -95,3 +96,9 @@ module _ (left right : List (List (Atom (List ℕ)))) where
         let all = h.taken i in
         omega arith;
   }
+
+-- those that still wait are of those that waited
+pub rest_within : (P : ℕ → Type 0) (left right : List (List (Atom (List ℕ)))) (lefts before after rest : List ℕ) (changes : List PlainBidderChange)
+    → AreLefts left right lefts before after changes → rest ≡ after → All P before → All P rest
+rest_within P left right lefts before after rest changes h e all =
+    subst (All P) (sym e) (All-counted P before after (λ i. let taken = h.taken i in omega arith) all)

@@ -11,3 +11,4 @@ pub mod PriceChanges
 pub mod PriceWalks
 pub mod ExcessBidders
 pub mod ExcessWalks
+pub mod Indices

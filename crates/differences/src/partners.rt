@@ -3,7 +3,7 @@
 //! The choice only serves clarity, and no clause fixes it. The bids of the right bidders are in one list, in order, so that
 //! those equal to a bid are found by bisection and not by comparing all pairs of bidders.
 
-ghost use Rattle.std.specs.Prelude.{◌≡◌, ◌<◌, All, IfOk, length};
+ghost use Rattle.std.specs.Prelude.{◌≡◌, ◌<◌, All, IfOk, Some, length, map};
 ghost use Rattle.std.specs.List.{filter_map};
 ghost use Rattle.differences.specs.Internal.Partners.{TakesPartner};
 
@@ -147,6 +147,20 @@ fn push_bids<'a, B: Bids>(
     Ok(())
 }
 
+/// Each of these indices.
+fn waiting_of(alloc: Global, excess: &[u32]) -> Result<Vec<Option<u32>>, AllocError>
+    ensures { IfOk result (λ waiting. waiting.items ≡ map (λ index. Some index) excess.now) }
+{
+    excess.iter().map(|index| Some(*index)).collect(alloc)
+}
+
+/// The indices that are there.
+fn indices_of(alloc: Global, waiting: &[Option<u32>]) -> Result<Vec<u32>, AllocError>
+    ensures { IfOk result (λ indices. indices.items ≡ filter_map (λ index. index) waiting.now) }
+{
+    waiting.iter().filter_map(|index| *index).collect(alloc)
+}
+
 impl<'a> Partners<'a> {
     /// The right bidders with these indices: none is beside a left bidder.
     pub(crate) fn of<B: Bids>(
@@ -158,7 +172,7 @@ impl<'a> Partners<'a> {
         ensures { IfOk result (λ partners. partners ≡ excess.now) }
     {
         Ok(Partners {
-            waiting: excess.iter().map(|index| Some(*index)).collect(alloc)?,
+            waiting: waiting_of(alloc, excess)?,
             bids: bids_in_order(alloc, bidders, excess)?,
             shared: SharedBids::none(alloc, excess.len())?,
         })
@@ -185,7 +199,7 @@ impl<'a> Partners<'a> {
     pub(crate) fn rest(&self, alloc: Global) -> Result<Vec<u32>, AllocError>
         ensures { IfOk result (λ rest. rest.items ≡ self.now) }
     {
-        self.waiting.iter().filter_map(|index| *index).collect(alloc)
+        indices_of(alloc, &self.waiting)
     }
 }
 

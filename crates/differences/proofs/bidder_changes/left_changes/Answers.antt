@@ -8,14 +8,14 @@ use Rattle.differences.proofs.Waiting.{still_wait, taken_has}
 use Rattle.differences.proofs.bidder_changes.left_changes.Goals as goal
 
 pub loop-index-init : goal.loop-index-init
-loop-index-init g c = record {
+loop-index-init g c = rw c.new-changes.ensures.items (record {
   so_far = no_lefts (map offers c.args.left.now) (map offers c.args.right.now) c.args.partners.now;
   waiting = c.requires.partners;
-}
+})
 
 pub change_of-requires-clause-other : goal.change_of-requires-clause-other
 change_of-requires-clause-other g c =
-    taken_has (λ index. index < length c.args.right.now) c.loop-index.partners c.take_for-partner.new.self c.in_ok-partner.partner c.in_ok-partner.ensures
+    taken_has (λ index. index < length c.args.right.now) c.loop-index.partners c.take_for.new.self c.in_ok-partner.partner c.in_ok-partner.ensures
     c.loop-index.invariant.waiting
 
 pub loop-index-preserved : goal.loop-index-preserved
@@ -23,7 +23,7 @@ loop-index-preserved g c =
     let k = c.loop-index.index-index in
     let lefts = c.args.lefts.now in
     let before = c.loop-index.partners in
-    let after = c.take_for-partner.new.self in
+    let after = c.take_for.new.self in
     let partner = c.in_ok-partner.partner in
     let changes = c.loop-index.changes.items in
     let change = c.in_ok-change_of.field-0 in
