@@ -1,4 +1,5 @@
--- Past the first bundle of the rests the walk goes on, and at their end what was found are the changes (proofs/PriceWalks).
+-- Past the first bundle of the rests what was found stays a beginning of the changes, and at their end it is all of them
+-- (proofs/PriceWalks).
 use Rattle.std.proofs.Common.{map, ap}
 use Rattle.std.proofs.lemmas.List.{map_push}
 use Rattle.canon.specs.Bidders.{offers}
