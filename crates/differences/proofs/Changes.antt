@@ -1,5 +1,5 @@
 -- Changes that are put together one by one: those of the left bidders, and then those of the right bidders that are left.
-use Rattle.std.proofs.Common.{◌≡◌, ℕ, ◌+◌, ◌<◌, ◌≤◌, true, cond, List, [], ◌∷◌, ◌++◌, length, map, get_or, take, append_assoc, refl, sym, ap, ◌∙◌, subst, arith, Option, Some, None}
+use Rattle.std.proofs.Common.{◌≡◌, ℕ, ◌+◌, cond, List, [], ◌∷◌, ◌++◌, append_assoc, refl, sym, ap, ◌∙◌, subst, arith, Option, Some, None}
 use Rattle.std.specs.Prelude.{All}
 use Rattle.std.specs.List.{filter_map}
 use Rattle.std.specs.Ordering.{nat_cmp, is_eq}
@@ -85,14 +85,17 @@ module _ (left right : List (List (Atom (List ℕ)))) where
   }
 
   -- all of them
-  pub all_changes : (after : List ℕ) (lefts changes : List PlainBidderChange) → AreLefts left right (excess_bidders left right) (excess_bidders right left) after lefts
-      → AreRest left right after lefts changes → AreBidderChanges left right changes
-  all_changes after lefts changes h k = record {
+  pub all_changes : (lefts before after rest : List ℕ) (some changes : List PlainBidderChange) → lefts ≡ excess_bidders left right
+      → before ≡ excess_bidders right left → rest ≡ after → AreLefts left right lefts before after some → AreRest left right rest some changes
+      → AreBidderChanges left right changes
+  all_changes lefts before after rest some changes e f g h k = record {
     each = k.each h.each;
-    lefts = k.lefts ∙ h.named;
+    lefts = k.lefts ∙ h.named ∙ e;
     rights = λ i.
         let a = ap (count_of nat_cmp i) k.rights in
-        let b = count-append i (rights_of lefts) after in
+        let b = count-append i (rights_of some) rest in
+        let c = ap (count_of nat_cmp i) g in
+        let d = ap (count_of nat_cmp i) f in
         let all = h.taken i in
         omega arith;
   }

@@ -1,6 +1,6 @@
 -- The walk of two lists of atoms in order: which bundle comes first in the rests, and what is left of the rests behind it.
 use mir.Val.{bool_byte}
-use Rattle.std.proofs.Common.{◌≡◌, ℕ, zero, suc, ◌+◌, Bool, true, false, not, eqb, cond, ◌||◌, ◌⊎◌, ⊎_elim, List, [], ◌∷◌, ◌++◌, drop, refl, sym, ap, ap₂, ◌∙◌, subst, Option, Some, None, is_some, Ordering, Less, Equal, Greater, append_assoc}
+use Rattle.std.proofs.Common.{◌≡◌, ℕ, zero, suc, Bool, true, false, not, eqb, cond, ◌||◌, ⊎_elim, List, [], ◌∷◌, ◌++◌, drop, refl, sym, ap, ap₂, ◌∙◌, subst, Option, Some, None, is_some, Ordering, Less, Equal, Greater, append_assoc}
 use Rattle.std.specs.Prelude.{◌≢◌, All}
 use Rattle.std.specs.Ordering.{is_eq, ordering_reverse}
 use Rattle.std.specs.List.{drop-map}

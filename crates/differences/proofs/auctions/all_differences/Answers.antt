@@ -1,5 +1,4 @@
 -- The bids and the bidders of canonical files are in order.
-use Rattle.std.proofs.Common.{ℕ, length, map, subst, sym, ap, ◌∙◌, List}
 use Rattle.differences.proofs.Indices.{or_bids_in_order, bids_of_each_in_order, bidders_never_fall, few_bidders}
 use Rattle.differences.proofs.auctions.all_differences.Goals as goal
 
@@ -42,6 +41,3 @@ pub bidder_changes-requires-clause-right_few : goal.bidder_changes-requires-clau
 bidder_changes-requires-clause-right_few g c =
     rw c.deref-2.ensures.value (few_bidders (g.B.Bids.file c.args.right.now) c.requires.right_facts c.requires.right_canonical
     c.in_ok-others.others.or_bids c.in_ok-others.others.xor_bidders.items c.in_ok-others.ensures)
-
-pub returns-in_ok-bidder_changes : goal.returns-in_ok-bidder_changes
-returns-in_ok-bidder_changes g c = ?

@@ -1,7 +1,5 @@
 -- Each of the two has the bids of the bidder at its index, or none.
-use Rattle.std.proofs.Common.{map, length, ap, ◌∙◌, ◌≡◌, true, ◌||◌, None}
-use Rattle.std.specs.Prelude.{is_some, Option}
-use Rattle.canon.specs.Bidders.{offers}
+use Rattle.std.proofs.Common.{map, length, ap}
 use Rattle.differences.specs.Views.{plain_change}
 use Rattle.differences.proofs.BidsOfBidders.{within, bids_in_order, bids_at_are, none_at, changes_at, none_of_both}
 use Rattle.differences.proofs.bidder_changes.change_of.Goals as goal

@@ -1,5 +1,5 @@
 -- One more left bidder has its change, and its partner waits no more.
-use Rattle.std.proofs.Common.{◌<◌, ◌+◌, length, map, take, get_or}
+use Rattle.std.proofs.Common.{◌<◌, length, map, take, get_or}
 use Rattle.std.proofs.lemmas.List.{take_more, map_push}
 use Rattle.canon.specs.Bidders.{offers}
 use Rattle.differences.specs.Views.{plain_bidder_change}

@@ -1,5 +1,5 @@
 -- One more right bidder is added, alone.
-use Rattle.std.proofs.Common.{map, take, get_or, None, Some}
+use Rattle.std.proofs.Common.{map, take, get_or}
 use Rattle.std.proofs.lemmas.List.{take_more, map_push}
 use Rattle.canon.specs.Bidders.{offers}
 use Rattle.differences.specs.Views.{plain_bidder_change}
