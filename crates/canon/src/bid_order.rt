@@ -10,7 +10,7 @@ use bid_file::BidRef;
 use std::cmp::Ordering;
 
 /// The order of bundles: by size, then by goods.
-pub(crate) fn order_of_bundles(one: &[u16], other: &[u16]) -> Ordering
+pub fn order_of_bundles(one: &[u16], other: &[u16]) -> Ordering
     ensures { result ≡ bundle_cmp one.now other.now }
 {
     one.len().cmp(&other.len()).then_with(|| one.cmp(other))

@@ -23,6 +23,7 @@ mod xor_bidders;
 
 pub use auction::canonical;
 pub use auction_index::AuctionIndex;
+pub use bid_order::order_of_bundles;
 pub use bid_run::BidRun;
 pub use comparison::{compare, compare_files};
 pub use fault::CanonFault;
@@ -33,3 +34,4 @@ pub use normal::{normal_file, normal_packed_file};
 pub use text::normalise;
 pub use verdict::{Side, Verdict};
 pub use which::Which;
+pub use xor_bidders::order_of_bidders;

@@ -94,7 +94,7 @@ pub(crate) fn first_bidder<'a, B: Bids>(bids: &BidRun<'a, B>) -> Option<BidRun<'
 }
 
 /// The order of bidders, which is lexicographic by their bids.
-fn order_of_bidders<B: Bids>(one: &BidRun<'_, B>, other: &BidRun<'_, B>) -> Ordering
+pub fn order_of_bidders<B: Bids>(one: &BidRun<'_, B>, other: &BidRun<'_, B>) -> Ordering
     ensures { result ≡ bidder_cmp (offers one.now) (offers other.now) }
 {
     let both = one.len().min(other.len());

@@ -1,5 +1,5 @@
 -- All differences of two canonical auctions.
-use Rattle.std.specs.Prelude.{◌≡◌, ◌≢◌, ℕ, Bool, true, false, List, [], ◌∷◌, map, Option}
+use Rattle.std.specs.Prelude.{◌≡◌, ◌≢◌, ℕ, Bool, true, false, List, [], ◌∷◌}
 use Rattle.valuation.specs.Auctions.{PlainAuction}
 use Rattle.canon.specs.Difference as canon
 use Rattle.canon.specs.Difference.{Difference}

@@ -4,7 +4,7 @@ use Rattle.std.specs.Prelude.{All}
 use Rattle.std.specs.List.{filter}
 use Rattle.std.proofs.lemmas.List.Elements.{All-map}
 use Rattle.valuation.specs.declared.atom.Atom.{Atom}
-use Rattle.valuation.specs.Auctions.{PlainAuction, IsAtom}
+use Rattle.valuation.specs.Auctions.{PlainAuction}
 use Rattle.valuation.specs.Lemmas.Orders.{bidder_cmp_total}
 use Rattle.valuation.specs.Lemmas.Sorting.{IsOrdered, All-sort_by, ordered-sort_by}
 use Rattle.valuation.specs.Orders.{bidder_cmp}

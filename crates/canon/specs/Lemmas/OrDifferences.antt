@@ -122,7 +122,7 @@ module _ (goods : ℕ) where
       (cases_Bool (is_or_point goods one bundle))
 
   -- and one without a point there has less than one with a point
-  less_without_point : (one other : List (Atom (List ℕ))) (bundle : List ℕ) → IsBundle goods bundle → AgreeBefore one other bundle → IsOrPoint one bundle
+  pub less_without_point : (one other : List (Atom (List ℕ))) (bundle : List ℕ) → IsBundle goods bundle → AgreeBefore one other bundle → IsOrPoint one bundle
       → is_or_point goods other bundle ≡ false → or_value other bundle < or_value one bundle
   less_without_point one other bundle b h point t =
       ⊎_elim (λ (z : or_value other bundle ≡ 0). let l = point.positive in omega arith)
@@ -177,7 +177,7 @@ module _ (goods : ℕ) where
   point_there atoms p a c = (or_points_are goods atoms a).0 (subst (λ (zs : List (Atom (List ℕ))). Contains zs a) (sym p.points) c)
 
   -- and a point is one of them
-  point_of : (atoms : List (Atom (List ℕ))) → ArePoints atoms → (bundle : List ℕ) → IsBundle goods bundle → is_or_point goods atoms bundle ≡ true
+  pub point_of : (atoms : List (Atom (List ℕ))) → ArePoints atoms → (bundle : List ℕ) → IsBundle goods bundle → is_or_point goods atoms bundle ≡ true
       → Contains atoms (record { bundle = bundle; price = or_value atoms bundle })
   point_of atoms p bundle b t =
       subst (λ (zs : List (Atom (List ℕ))). Contains zs (record { bundle = bundle; price = or_value atoms bundle })) p.points

@@ -1,0 +1,247 @@
+-- Two lists in order are walked from their ends, and each element takes an equal one of the others with it, if one is left. The
+-- idea: of an element that is still to come, as many others were taken as elements were passed, up to all that there are. So
+-- an element is in excess exactly where none is left for it.
+use Rattle.std.proofs.Common.{◌≡◌, ℕ, zero, suc, ◌+◌, ◌-◌, ◌<◌, ◌≤◌, Bool, true, false, cond, min, ⊎_elim, List, [], ◌∷◌, ◌++◌, length, drop, get_or}
+use Rattle.std.proofs.Common.{reverse, refl, sym, ap, ◌∙◌, subst, arith, Ordering, Less, Equal, Greater}
+use Rattle.std.specs.Prelude.{nat_lt, AllPairs}
+use Rattle.std.specs.List.{filter, range_with_len}
+use Rattle.std.specs.Ordering.{is_eq, is_gt, is_lt, ordering_reverse}
+use Rattle.std.specs.Cmp.{IsTotalOrder}
+use Rattle.std.proofs.lemmas.Bool.{lt-ltb, le-ltb}
+use Rattle.std.proofs.lemmas.Cmp.{tied_itself}
+use Rattle.std.proofs.lemmas.List.{reverse-append}
+use Rattle.std.proofs.lemmas.List.Sums.{sum_by-drop_more, sum_by-take-drop}
+use Rattle.valuation.specs.Sorting.{count_of}
+use Rattle.valuation.specs.Lemmas.Lists.{le_or_lt}
+
+-- ---- tests of an order
+
+less_from_test : (o : Ordering) → is_lt o ≡ true → o ≡ Less
+less_from_test Less e = refl
+less_from_test Equal e = absurd (cc)
+less_from_test Greater e = absurd (cc)
+
+equal_from_test : (o : Ordering) → is_eq o ≡ true → o ≡ Equal
+equal_from_test Less e = absurd (cc)
+equal_from_test Equal e = refl
+equal_from_test Greater e = absurd (cc)
+
+greater_from_tests : (o : Ordering) → is_lt o ≡ false → is_eq o ≡ false → o ≡ Greater
+greater_from_tests Less e f = absurd (cc)
+greater_from_tests Equal e f = absurd (cc)
+greater_from_tests Greater e f = refl
+
+-- ---- the indices that pass a test, from some index on
+
+abbrev pub passing_from : (ℕ → Bool) → ℕ → ℕ → List ℕ
+passing_from passes index number = filter passes (range_with_len index (number - index))
+
+passing_before : (passes : ℕ → Bool) (index number : ℕ) → index < number
+    → passing_from passes index number ≡ cond (passes index) (index ∷ passing_from passes (index + 1) number) (passing_from passes (index + 1) number)
+passing_before passes index number below =
+    let one_more : number - index ≡ suc (number - (index + 1)) = omega arith in ap (λ n. filter passes (range_with_len index n)) one_more
+
+one_passes : (passes : ℕ → Bool) (indices : List ℕ) (index number : ℕ) → index < number → reverse indices ≡ passing_from passes (index + 1) number
+    → passes index ≡ true → reverse (indices ++ index ∷ []) ≡ passing_from passes index number
+one_passes passes indices index number below named e =
+    let later = passing_from passes (index + 1) number in
+    reverse-append indices (index ∷ []) ∙ ap (λ (rest : List ℕ). index ∷ rest) named
+    ∙ sym (passing_before passes index number below ∙ ap (λ b. cond b (index ∷ later) later) e)
+
+one_fails : (passes : ℕ → Bool) (indices : List ℕ) (index number : ℕ) → index < number → reverse indices ≡ passing_from passes (index + 1) number
+    → passes index ≡ false → reverse indices ≡ passing_from passes index number
+one_fails passes indices index number below named e =
+    let later = passing_from passes (index + 1) number in
+    named ∙ sym (passing_before passes index number below ∙ ap (λ b. cond b (index ∷ later) later) e)
+
+-- ---- what was taken
+
+module _ {X : Type 0} (cmp : X → X → Ordering) (none : X) where
+  -- no element is above a later one
+  abbrev pub NeverAbove : List X → Type 0
+  NeverAbove xs = AllPairs (λ x y. is_gt (cmp x y) ≡ false) xs
+
+  -- whether the element at the index is more often from there on than among the others
+  abbrev pub is_more_often : List X → List X → ℕ → Bool
+  is_more_often xs others index = nat_lt (count_of cmp (get_or xs index none) others) (count_of cmp (get_or xs index none) (drop index xs))
+
+  -- As many of the others from `end` on are this element as are elements from the index on, up to all that there are.
+  abbrev pub IsTaken : List X → List X → ℕ → ℕ → X → Type 0
+  IsTaken xs others index end x = count_of cmp x (drop end others) ≡ min (count_of cmp x others) (count_of cmp x (drop index xs))
+
+  -- this holds of each element before the index
+  pub record AreTaken (xs others : List X) (index end : ℕ) : Type 0 where
+    pub within : end ≤ length others
+    pub counted : (k : ℕ) → k < index → IsTaken xs others index end (get_or xs k none)
+
+  -- how often an element is from an index on
+  count_from : (x : X) (xs : List X) (index : ℕ) → index < length xs
+      → count_of cmp x (drop index xs) ≡ cond {A = ℕ} (is_eq (cmp x (get_or xs index none))) 1 0 + count_of cmp x (drop (index + 1) xs)
+  count_from x xs index l = sum_by-drop_more (λ y. cond {A = ℕ} (is_eq (cmp x y)) 1 0) xs index none l
+
+  count_from-le : (x : X) (xs : List X) (index : ℕ) → count_of cmp x (drop index xs) ≤ count_of cmp x xs
+  count_from-le x xs index = let all = sum_by-take-drop (λ y. cond {A = ℕ} (is_eq (cmp x y)) 1 0) xs index in omega arith
+
+  -- the elements between two places are none of these
+  count_past : (x : X) (xs : List X) (number from end : ℕ) → from + number ≡ end → end ≤ length xs
+      → ((k : ℕ) → from ≤ k → k < end → is_eq (cmp x (get_or xs k none)) ≡ false)
+      → count_of cmp x (drop from xs) ≡ count_of cmp x (drop end xs)
+  count_past x xs zero from end e within differ = let same : from ≡ end = omega arith in ap (λ n. count_of cmp x (drop n xs)) same
+  count_past x xs (suc number) from end e within differ =
+      let first = count_from x xs from (omega arith) in
+      let other : cond {A = ℕ} (is_eq (cmp x (get_or xs from none))) 1 0 ≡ 0 = ap (λ b. cond {A = ℕ} b 1 0) (differ from (omega arith) (omega arith)) in
+      let later = count_past x xs number (from + 1) end (omega arith) within (λ k l m. differ k (omega arith) m) in
+      omega arith
+
+-- ---- one step of the walk
+
+module _ {X : Type 0} (cmp : X → X → Ordering) (none : X) (total : IsTotalOrder cmp) (exact : (x y : X) → cmp x y ≡ Equal → x ≡ y) where
+  below_further : (x y z : X) → is_gt (cmp x y) ≡ false → cmp y z ≡ Less → cmp x z ≡ Less
+  below_further x y z h l = by (cmp x y) refl h
+    where
+      by : (o : Ordering) → cmp x y ≡ o → is_gt o ≡ false → cmp x z ≡ Less
+      by Less e k = total.trans x y z e l
+      by Equal e k = subst (λ (w : X). cmp w z ≡ Less) (sym (exact x y e)) l
+      by Greater e k = absurd (cc)
+
+  not_above_last : (xs : List X) → NeverAbove cmp none xs → (k last : ℕ) → k ≤ last → last < length xs
+      → is_gt (cmp (get_or xs k none) (get_or xs last none)) ≡ false
+  not_above_last xs up k last l within =
+      ⊎_elim
+      (λ (e : last ≤ k). let same : k ≡ last = omega arith in
+      subst (λ n. is_gt (cmp (get_or xs n none) (get_or xs last none)) ≡ false) (sym same) (ap is_gt (tied_itself total (get_or xs last none))))
+      (λ (m : k < last). up k last none m within)
+      (le_or_lt last k)
+
+  count_at : (xs : List X) (index : ℕ) → index < length xs
+      → count_of cmp (get_or xs index none) (drop index xs) ≡ 1 + count_of cmp (get_or xs index none) (drop (index + 1) xs)
+  count_at xs index l =
+      let x = get_or xs index none in
+      let one : cond {A = ℕ} (is_eq (cmp x x)) 1 0 ≡ 1 = ap (λ o. cond {A = ℕ} (is_eq o) 1 0) (tied_itself total x) in
+      let here = count_from cmp none x xs index l in
+      omega arith
+
+  -- others that are greater than the last element are greater than all elements before it
+  taken_past : (xs others : List X) (index end before : ℕ) → NeverAbove cmp none xs → index < length xs
+      → AreTaken cmp none xs others (index + 1) end → before ≤ end
+      → ((k : ℕ) → before ≤ k → k < end → is_lt (cmp (get_or xs index none) (get_or others k none)) ≡ true)
+      → AreTaken cmp none xs others (index + 1) before
+  taken_past xs others index end before up within w l greater = record {
+    within = omega (arith, w.within);
+    counted = λ k m.
+        count_past cmp none (get_or xs k none) others (end - before) before end (omega arith) w.within
+        (λ j from to. ap is_eq
+        (below_further (get_or xs k none) (get_or xs index none) (get_or others j none) (not_above_last xs up k index (omega arith) within)
+        (less_from_test (cmp (get_or xs index none) (get_or others j none)) (greater j from to))))
+        ∙ w.counted k m;
+  }
+
+  -- an element takes its equal
+  module _ (xs others : List X) (index last : ℕ) (below : index < length xs) (w : AreTaken cmp none xs others (index + 1) (last + 1))
+      (equal : cmp (get_or xs index none) (get_or others last none) ≡ Equal) where
+    one_taken : (x : X) → IsTaken cmp none xs others (index + 1) (last + 1) x → IsTaken cmp none xs others index last x
+    one_taken x counted =
+        let same : get_or xs index none ≡ get_or others last none = exact (get_or xs index none) (get_or others last none) equal in
+        let front = ap (λ (y : X). cond {A = ℕ} (is_eq (cmp x y)) 1 0) same in
+        let one = count_from cmp none x xs index below in
+        let other = count_from cmp none x others last (omega (arith, w.within)) in
+        let some = count_from-le cmp none x others last in
+        omega arith
+
+    taken_equal : AreTaken cmp none xs others index last
+    taken_equal = record { within = omega (arith, w.within); counted = λ k m. one_taken (get_or xs k none) (w.counted k (omega arith)) }
+
+    -- it is not in excess, since its equal was left
+    equal_left : is_more_often cmp none xs others index ≡ false
+    equal_left =
+        let x = get_or xs index none in
+        let tied : cond {A = ℕ} (is_eq (cmp x (get_or others last none))) 1 0 ≡ 1 = ap (λ o. cond {A = ℕ} (is_eq o) 1 0) equal in
+        let here = count_at xs index below in
+        let there = count_from cmp none x others last (omega (arith, w.within)) in
+        let taken = w.counted index (omega arith) in
+        let some = count_from-le cmp none x others last in
+        le-ltb (count_of cmp x others) (count_of cmp x (drop index xs)) (omega arith)
+
+  -- none of the others before the end is equal to an element that is greater than the last of them
+  none_equal : (x : X) (others : List X) (end : ℕ) → NeverAbove cmp none others → end ≤ length others
+      → ((last : ℕ) → last + 1 ≡ end → cmp x (get_or others last none) ≡ Greater)
+      → (k : ℕ) → k < end → is_eq (cmp x (get_or others k none)) ≡ false
+  none_equal x others end up within greater k below =
+      let last = end - 1 in
+      let less : cmp (get_or others last none) x ≡ Less =
+      total.antisymm (get_or others last none) x ∙ ap ordering_reverse (greater last (omega arith)) in
+      let far = below_further (get_or others k none) (get_or others last none) x (not_above_last others up k last (omega arith) (omega arith)) less in
+      ap is_eq (total.antisymm x (get_or others k none) ∙ ap ordering_reverse far)
+
+  -- no other is left for an element
+  module _ (xs others : List X) (index end : ℕ) (below : index < length xs) (w : AreTaken cmp none xs others (index + 1) end)
+      (differ : (k : ℕ) → k < end → is_eq (cmp (get_or xs index none) (get_or others k none)) ≡ false) where
+    all_taken : count_of cmp (get_or xs index none) others ≡ count_of cmp (get_or xs index none) (drop end others)
+    all_taken = count_past cmp none (get_or xs index none) others end 0 end (omega arith) w.within (λ k l m. differ k m)
+
+    other_kept : (x : X) → is_eq (cmp x (get_or xs index none)) ≡ false → IsTaken cmp none xs others (index + 1) end x → IsTaken cmp none xs others index end x
+    other_kept x e counted =
+        let here = count_from cmp none x xs index below in
+        let zero_here : cond {A = ℕ} (is_eq (cmp x (get_or xs index none))) 1 0 ≡ 0 = ap (λ b. cond {A = ℕ} b 1 0) e in
+        omega arith
+
+    kept : (x : X) (o : Ordering) → cmp x (get_or xs index none) ≡ o → IsTaken cmp none xs others (index + 1) end x → IsTaken cmp none xs others index end x
+    kept x Less e counted = other_kept x (ap is_eq e) counted
+    kept x Greater e counted = other_kept x (ap is_eq e) counted
+    kept x Equal e counted =
+        let all = subst (λ (z : X). count_of cmp z others ≡ count_of cmp z (drop end others)) (sym (exact x (get_or xs index none) e)) all_taken in
+        let here = count_from cmp none x xs index below in
+        omega arith
+
+    taken_none : AreTaken cmp none xs others index end
+    taken_none = record {
+      within = w.within;
+      counted = λ k m. kept (get_or xs k none) (cmp (get_or xs k none) (get_or xs index none)) refl (w.counted k (omega arith));
+    }
+
+    -- it is in excess
+    none_left : is_more_often cmp none xs others index ≡ true
+    none_left =
+        let x = get_or xs index none in
+        let here = count_at xs index below in
+        let taken = w.counted index (omega arith) in
+        let all = all_taken in
+        lt-ltb (count_of cmp x others) (count_of cmp x (drop index xs)) (omega arith)
+
+  -- ---- the indices in excess, last first, and what was taken
+
+  pub record IsWalked (xs others : List X) (index end : ℕ) (indices : List ℕ) : Type 0 where
+    pub named : reverse indices ≡ passing_from (is_more_often cmp none xs others) index (length xs)
+    pub taken : AreTaken cmp none xs others index end
+
+  -- the greater ones of the others were skipped
+  pub record IsSkipped (others : List X) (x : X) (end before : ℕ) : Type 0 where
+    pub within : before ≤ end
+    pub skipped : (k : ℕ) → before ≤ k → k < end → is_lt (cmp x (get_or others k none)) ≡ true
+    pub stopped : (k : ℕ) → k + 1 ≡ before → is_lt (cmp x (get_or others k none)) ≡ false
+
+  module _ (xs others : List X) (index end before : ℕ) (indices : List ℕ) (up : NeverAbove cmp none xs) (below : index < length xs)
+      (w : IsWalked xs others (index + 1) end indices) (s : IsSkipped others (get_or xs index none) end before) where
+    past : AreTaken cmp none xs others (index + 1) before
+    past = taken_past xs others index end before up below w.taken s.within s.skipped
+
+    pub walked_equal : (last : ℕ) → last + 1 ≡ before → is_eq (cmp (get_or xs index none) (get_or others last none)) ≡ true
+        → IsWalked xs others index last indices
+    walked_equal last e tied =
+        let equal = equal_from_test (cmp (get_or xs index none) (get_or others last none)) tied in
+        let taken = subst (AreTaken cmp none xs others (index + 1)) (sym e) past in
+        record {
+          named = one_fails (is_more_often cmp none xs others) indices index (length xs) below w.named (equal_left xs others index last below taken equal);
+          taken = taken_equal xs others index last below taken equal;
+        }
+
+    pub walked_excess : NeverAbove cmp none others
+        → ((last : ℕ) → last + 1 ≡ before → is_eq (cmp (get_or xs index none) (get_or others last none)) ≡ false)
+        → IsWalked xs others index before (indices ++ index ∷ [])
+    walked_excess others_up differ =
+        let least = none_equal (get_or xs index none) others before others_up past.within
+        (λ last e. greater_from_tests (cmp (get_or xs index none) (get_or others last none)) (s.stopped last e) (differ last e)) in
+        record {
+          named = one_passes (is_more_often cmp none xs others) indices index (length xs) below w.named (none_left xs others index before below past least);
+          taken = taken_none xs others index before below past least;
+        }

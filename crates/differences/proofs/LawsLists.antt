@@ -1,0 +1,80 @@
+-- Lists: what is there behind a partial map, how often, and that a list in a strict order is what it contains.
+use Rattle.std.proofs.Common.{◌≡◌, ℕ, ◌<◌, cond, ◌⊎◌, inl, inr, ⊎_elim, List, [], ◌∷◌, map, refl, sym, ap, ap₂, ◌∙◌, subst, arith, Option, Some, None, Ordering}
+use Rattle.std.proofs.Common.{nat_cmp}
+use Rattle.std.specs.Prelude.{AllPairs, Contains}
+use Rattle.std.specs.Cmp.{IsTotalOrder}
+use Rattle.std.specs.FinMap.{nat_cmp-IsAntisymmetric}
+use Rattle.std.specs.List.{filter_map, cons_option, sum_by}
+use Rattle.std.specs.Ordering.{is_eq}
+use Rattle.std.proofs.lemmas.Cmp.{tied_itself, nat_cmp_total}
+use Rattle.std.proofs.lemmas.List.Elements.{All-contains}
+use Rattle.std.proofs.lemmas.List.Sums.{sum_by-cons}
+use Rattle.valuation.specs.Sorting.{count_of}
+use Rattle.valuation.specs.Lemmas.Lists.{Contains-cons_cases, AllPairs-head, AllPairs-tail}
+use Rattle.valuation.specs.Lemmas.Sorting.{sum_by-sort_by, sort_by-same}
+use Rattle.prune.specs.Lemmas.Lists.{Contains-nil, Contains-head, Contains-tail}
+
+pub Contains-filter_map : {X Y : Type 0} (h : X → Option Y) (xs : List X) (x : X) (y : Y) → Contains xs x → h x ≡ Some y → Contains (filter_map h xs) y
+Contains-filter_map h [] x y c e = absurd (Contains-nil x c)
+Contains-filter_map {X} {Y} h (z ∷ zs) x y c e =
+    ⊎_elim
+    (λ (d : z ≡ x). subst (λ o. Contains (cons_option o (filter_map h zs)) y) (sym (ap h d ∙ e)) (Contains-head y (filter_map h zs)))
+    (λ (d : Contains zs x). later (h z) (Contains-filter_map h zs x y d e))
+    (Contains-cons_cases z zs x c)
+  where
+    later : (o : Option Y) → Contains (filter_map h zs) y → Contains (cons_option o (filter_map h zs)) y
+    later None d = d
+    later (Some w) d = Contains-tail w (filter_map h zs) y d
+
+pub sum_by-map : {X Y : Type 0} (f : Y → ℕ) (g : X → Y) (xs : List X) → sum_by f (map g xs) ≡ sum_by (λ x. f (g x)) xs
+sum_by-map f g [] = refl
+sum_by-map f g (x ∷ xs) = omega (arith, sum_by-cons f (g x) (map g xs), sum_by-cons (λ z. f (g z)) x xs, sum_by-map f g xs)
+
+-- ---- how often
+
+-- an element that is there is counted
+pub there_is_counted : {X : Type 0} (cmp : X → X → Ordering) → IsTotalOrder cmp → (x : X) (xs : List X) → Contains xs x → 0 < count_of cmp x xs
+there_is_counted cmp total x [] c = absurd (Contains-nil x c)
+there_is_counted cmp total x (y ∷ ys) c =
+    let front = sum_by-cons (λ z. cond {A = ℕ} (is_eq (cmp x z)) 1 0) y ys in
+    ⊎_elim
+    (λ (d : y ≡ x).
+    let one : cond {A = ℕ} (is_eq (cmp x y)) 1 0 ≡ 1 =
+    ap (λ z. cond {A = ℕ} (is_eq (cmp x z)) 1 0) d ∙ ap (λ o. cond {A = ℕ} (is_eq o) 1 0) (tied_itself total x) in
+    omega arith)
+    (λ (d : Contains ys x). let some = there_is_counted cmp total x ys d in omega arith)
+    (Contains-cons_cases y ys x c)
+
+-- numbers that are there equally often have equal sums
+pub sum_of_same_counts : (f : ℕ → ℕ) (xs ys : List ℕ) → ((n : ℕ) → count_of nat_cmp n xs ≡ count_of nat_cmp n ys) → sum_by f xs ≡ sum_by f ys
+sum_of_same_counts f xs ys e =
+    sym (sum_by-sort_by nat_cmp f xs) ∙ ap (sum_by f) (sort_by-same nat_cmp nat_cmp_total nat_cmp-IsAntisymmetric xs ys e) ∙ sum_by-sort_by nat_cmp f ys
+
+-- ---- a strict order
+
+pub same_in_strict_order : {X : Type 0} (R : X → X → Type 0) → ((x y : X) → R x y → R y x → ⊥) → (xs ys : List X) → AllPairs R xs → AllPairs R ys
+    → ((x : X) → Contains xs x → Contains ys x) → ((x : X) → Contains ys x → Contains xs x) → xs ≡ ys
+same_in_strict_order R apart [] [] s t h k = refl
+same_in_strict_order R apart [] (y ∷ ys) s t h k = absurd (Contains-nil y (k y (Contains-head y ys)))
+same_in_strict_order R apart (x ∷ xs) [] s t h k = absurd (Contains-nil x (h x (Contains-head x xs)))
+same_in_strict_order {X} R apart (x ∷ xs) (y ∷ ys) s t h k =
+    let e : x ≡ y = heads (Contains-cons_cases y ys x (h x (Contains-head x xs))) (Contains-cons_cases x xs y (k y (Contains-head y ys))) in
+    ap₂ (λ (z : X) (zs : List X). z ∷ zs) e
+    (same_in_strict_order R apart xs ys (AllPairs-tail R x xs s) (AllPairs-tail R y ys t) (λ a c. later a c e) (λ a c. back a c e))
+  where
+    heads : (y ≡ x) ⊎ Contains ys x → (x ≡ y) ⊎ Contains xs y → x ≡ y
+    heads (inl e) q = sym e
+    heads (inr a) (inl e) = e
+    heads (inr a) (inr b) =
+        absurd (apart x y (All-contains (R x) xs y (AllPairs-head R x xs s) b) (All-contains (R y) ys x (AllPairs-head R y ys t) a))
+
+    itself : (z : X) → R z z → ⊥
+    itself z r = apart z z r r
+
+    later : (a : X) → Contains xs a → x ≡ y → Contains ys a
+    later a c e = ⊎_elim (λ (d : y ≡ a). absurd (itself x (subst (λ z. R x z) (sym d ∙ sym e) (All-contains (R x) xs a (AllPairs-head R x xs s) c))))
+        (λ (d : Contains ys a). d) (Contains-cons_cases y ys a (h a (Contains-tail x xs a c)))
+
+    back : (a : X) → Contains ys a → x ≡ y → Contains xs a
+    back a c e = ⊎_elim (λ (d : x ≡ a). absurd (itself y (subst (λ z. R y z) (sym d ∙ e) (All-contains (R y) ys a (AllPairs-head R y ys t) c))))
+        (λ (d : Contains xs a). d) (Contains-cons_cases x xs a (k a (Contains-tail y ys a c)))
