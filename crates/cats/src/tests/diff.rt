@@ -89,6 +89,12 @@ fn numbers_of_goods(rt: HostRuntime) -> Result<(), Fail> {
                 "goods\t1\t2\n",
                 "goods\t2\t1\n",
             ),
+            (
+                "goods 1024\nbids 0\ndummy 0\n",
+                "goods 4096\nbids 0\ndummy 0\n",
+                "goods\t1024\t4096\n",
+                "goods\t4096\t1024\n",
+            ),
             // nothing else is compared
             (
                 FOUR,
@@ -257,12 +263,20 @@ const BOTH_LINES: &str = "or\t1\t2\t2.5\nxor\t3\t3\nbid\t0\t3\t4\n";
 fn both_kinds_of_bidders(rt: HostRuntime) -> Result<(), Fail> {
     differ_both_ways(
         &rt,
-        &[(
-            BOTH_KINDS,
-            BOTH_KINDS_DIFFER,
-            BOTH_LINES,
-            "or\t1\t2.5\t2\nxor\t3\t3\nbid\t0\t4\t3\n",
-        )],
+        &[
+            (
+                BOTH_KINDS,
+                BOTH_KINDS_DIFFER,
+                BOTH_LINES,
+                "or\t1\t2.5\t2\nxor\t3\t3\nbid\t0\t4\t3\n",
+            ),
+            (
+                "goods 1\nbids 2\ndummy 1\n0\t4\t0\t#\n1\t1\t0\t1\t#\n",
+                FIVE,
+                "or\t0\t4\t5\nxor\t1\t-\nbid\t0\t1\t-\n",
+                "or\t0\t5\t4\nxor\t-\t1\nbid\t0\t-\t1\n",
+            ),
+        ],
     )
 }
 
