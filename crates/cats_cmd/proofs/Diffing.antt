@@ -1,13 +1,13 @@
 -- A run that sends all differences of two files. Those of the canonical files are named by their own dummy goods, and each bidder of a
 -- change is one of its canonical file, so it has such a dummy good.
-use Rattle.std.proofs.Common.{◌≡◌, ◌<◌, ℕ, suc, ◌+◌, ◌++◌, List, [], ◌∷◌, length, map, get_or, Option, Some, None, Result, Ok, Err, refl, sym, ap, ap₂, ◌∙◌, subst, arith}
-use Rattle.std.specs.Prelude.{IsErrAnd, IfOk, All, Contains}
+use Rattle.std.proofs.Common.{◌≡◌, ◌<◌, ℕ, suc, List, [], ◌∷◌, length, map, get_or, Option, Some, None, Result, Ok, Err, sym, ap, ap₂, ◌∙◌, subst, arith}
+use Rattle.std.specs.Prelude.{IsErrAnd, IfOk, All}
 use Rattle.std.specs.List.{cons_option, filter_map, range_with_len}
 use Rattle.std.specs.Ordering.{is_eq, nat_cmp}
 use Rattle.std.specs.FinMap.{nat_cmp-IsAntisymmetric}
 use Rattle.std.proofs.Common.{cond}
 use Rattle.std.proofs.lemmas.Cmp.{nat_cmp_total, tied_itself}
-use Rattle.std.proofs.lemmas.List.{get_or-map, get_or_default, length-map}
+use Rattle.std.proofs.lemmas.List.{get_or-map, length-map}
 use Rattle.std.proofs.lemmas.List.Elements.{All-nil, All-cons, All-contains, All-filter}
 use Rattle.std.proofs.lemmas.List.FromFn.{get_or-range_with_len, length-range_with_len}
 use Rattle.std.proofs.lemmas.List.Sums.{get_or-le-sum_by}
@@ -26,17 +26,15 @@ use Rattle.canon.specs.Lemmas.Renaming.{points_of_kept_dummies}
 use Rattle.canon.specs.Renaming.{kept_dummies, points_of_dummy}
 use Rattle.canon.specs.declared.fault.CanonFault.{CanonFault}
 use Rattle.canon.specs.declared.named.NamedFile.{NamedFile}
-use Rattle.differences.specs.BidderChanges.{PlainBidderChange, excess_bidders, is_excess, lefts_of, rights_of}
+use Rattle.differences.specs.BidderChanges.{PlainBidderChange, excess_bidders, is_excess, rights_of}
 use Rattle.differences.specs.Differences.{PlainDifferences, AreAllDifferences, InGoods, InBids}
 use Rattle.differences.specs.Views.{plain_bidder_change}
 use Rattle.differences.specs.declared.change.BidderChange.{BidderChange}
-use Rattle.cats_cmd.specs.Comparisons.{ReadsBoth}
 use Rattle.cats_cmd.specs.Diffs.{DiffsFiles, ReadsDifferences, diff_outcome}
 use Rattle.cats_cmd.specs.DiffTexts.{diff_text}
 use Rattle.cats_cmd.specs.Inputs.{ReadsInput}
 use Rattle.cats_cmd.specs.Internal.Diffs.{AreAmong, IsAmong, IsNamed, IsNamedFile, ReadsNamed, ReadsNamedFile, SendsAllDifferences, SendsDifferences, TellsDifferences}
 use Rattle.cats_cmd.specs.Outcomes.{Tells, normalise_outcome}
-use Rattle.cats_cmd.specs.Statuses.{status_of_differences}
 use Rattle.cats_cmd.specs.declared.report.RunFault.{RunFault}
 use Rattle.cats_cmd.specs.declared.report.RunFault.TheVariants.{Refused, GoodRange, Sent}
 use Rattle.cats_cmd.proofs.Comparing.{both_refused, told_of_both}
