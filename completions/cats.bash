@@ -5,12 +5,12 @@ _cats() {
     COMPREPLY=()
     if ((COMP_CWORD > 1)); then command=${COMP_WORDS[1]}; fi
     case $command in
-        '') _cats_words "check show value normalise explain round compare duplicates sizes help -h --help -V --version" ;;
-        help) if ((COMP_CWORD == 2)); then _cats_words "check show value normalise explain round compare duplicates sizes help"; fi ;;
+        '') _cats_words "check show value normalise explain round compare diff duplicates sizes help -h --help -V --version" ;;
+        help) if ((COMP_CWORD == 2)); then _cats_words "check show value normalise explain round compare diff duplicates sizes help"; fi ;;
         check | show) _cats_operands 1 "-h --help" ;;
         value | normalise | explain) _cats_operands 1 "--steps -h --help" ;;
         round) _cats_operands 1 "--exact -h --help" ;;
-        compare) _cats_operands 2 "--steps -h --help" ;;
+        compare | diff) _cats_operands 2 "--steps -h --help" ;;
         duplicates | sizes) _cats_operands COMP_CWORD "--steps --progress -0 --null --files0-from -h --help" ;;
     esac
 }

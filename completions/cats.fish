@@ -10,7 +10,7 @@ function __cats_takes_path
     switch "$words[2]"
         case check show value normalise explain round
             test $many -lt 1
-        case compare
+        case compare diff
             test $many -lt 2
         case duplicates sizes
             not string match -q -- '--files0-from*' $words
@@ -29,12 +29,13 @@ complete -c cats -n __fish_use_subcommand -a normalise -d 'Print the canonical t
 complete -c cats -n __fish_use_subcommand -a explain -d 'Print why each bid is in the canonical text or is dropped'
 complete -c cats -n __fish_use_subcommand -a round -d 'Print a bid file with its prices rounded to millionths'
 complete -c cats -n __fish_use_subcommand -a compare -d 'Tell whether two bid files are the same auction'
+complete -c cats -n __fish_use_subcommand -a diff -d 'Print all differences of two bid files'
 complete -c cats -n __fish_use_subcommand -a duplicates -d 'Print which of many bid files are the same auction'
 complete -c cats -n __fish_use_subcommand -a sizes -d 'Print a table of the numbers of bid files and of their canonical files'
 complete -c cats -n __fish_use_subcommand -a help -d 'Print help'
-complete -c cats -n '__fish_seen_subcommand_from help' -a 'check show value normalise explain round compare duplicates sizes'
+complete -c cats -n '__fish_seen_subcommand_from help' -a 'check show value normalise explain round compare diff duplicates sizes'
 complete -c cats -n __cats_takes_path -F
-complete -c cats -n '__fish_seen_subcommand_from value normalise explain compare duplicates sizes' -x -l steps -d 'The most steps of a search'
+complete -c cats -n '__fish_seen_subcommand_from value normalise explain compare diff duplicates sizes' -x -l steps -d 'The most steps of a search'
 complete -c cats -n '__fish_seen_subcommand_from round' -l exact -d 'Refuse a price that would be rounded'
 complete -c cats -n '__fish_seen_subcommand_from duplicates sizes' -l progress -d 'Print how many files were read'
 complete -c cats -n '__fish_seen_subcommand_from duplicates sizes' -s 0 -l null -d 'End each path of the output with NUL'

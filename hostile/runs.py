@@ -172,6 +172,7 @@ def cases_of(path, other, goods):
         case(("explain",), (path,)),
         case(("round",), (path,)),
         case(("compare",), (path, other)),
+        case(("diff",), (path, other)),
     ]
 
 
@@ -202,7 +203,7 @@ def lacks_line(one, answer):
 
 
 def places(answers):
-    """For each want of memory in a comparison 1 for the first file, 2 for the second and 3 for neither; those of the command line,
+    """For each want of memory in a run on two files 1 for the first file, 2 for the second and 3 for neither; those of the command line,
     before it, are left out."""
     found = [{b"first:": 1, b"second": 2}.get(it.err[:6], 3) for it in answers]
     begun = next((at for at, place in enumerate(found) if place < 3), 0)
@@ -227,19 +228,20 @@ def memory(one, rest):
     elif len(one.files) == 2 and not rest:
         found = places(wants)
         TALLY.judge(found == sorted(found), f"{what}: the files are reported out of order", found)
-        # the text is made once both files are canonical, so memory that is refused for it is reported of neither
-        TALLY.judge(found[-1:] == [3], f"{what}: the last is reported of a file", found)
+        # the text is made once both files are canonical, so memory that is refused for it is reported of neither; `diff` of two files
+        # that are the same auction may have none to make
+        TALLY.judge(found[-1:] == [3] or not one.own.out, f"{what}: the last is reported of a file", found)
     return wants
 
 
 def both_orders(one):
-    """Each allocation of a comparison, in either order of the files. A file needs about as much memory as the second that it needs as
+    """Each allocation of a run on two files, in either order of the files. A file needs about as much memory as the second that it needs as
     the first. So what is refused while the files are compared is not reported of the second: it would have many more."""
     turned = case(one.command, one.files[::-1], one.goods)
     found, found_turned = places(memory(one, rest=False)), places(memory(turned, rest=False))
     for it, this, other in ((one, found, found_turned), (turned, found_turned, found)):
         more = this.count(2) - other.count(1)
-        TALLY.judge(2 * more < this.count(3), f"{it}: want of memory is reported of the second file {more} times too often", this)
+        TALLY.judge(2 * more < max(1, this.count(3)), f"{it}: want of memory is reported of the second file {more} times too often", this)
 
 
 def reads_of(one, piece):
@@ -382,7 +384,8 @@ def refused_cases(folder):
     fine = write_file(folder, "fine", SIX_DIGITS)
     ended = os.path.getsize(nothing) + 1
     one_file = [case((command,), (faulty,)) for command in ("check", "show", "value", "normalise", "explain")]
-    compared = {case(("compare",), (faulty, nothing)): (FAULT_AT, 0), case(("compare",), (nothing, faulty)): (ended, FAULT_AT)}
+    pairs = {(faulty, nothing): (FAULT_AT, 0), (nothing, faulty): (ended, FAULT_AT)}
+    compared = {case((command,), pair): counts for command in ("compare", "diff") for pair, counts in pairs.items()}
     # `round` reads the whole file
     rounded = {case(("round",), (faulty,)): (len(FAULTY) + 1,), case(("round", "--exact"), (fine,)): (len(SIX_DIGITS) + 1,)}
     return {**{one: (FAULT_AT,) for one in one_file}, **rounded, **compared}

@@ -4,6 +4,7 @@ mod check;
 mod command_lines;
 mod compare;
 mod devices;
+mod diff;
 mod duplicates;
 mod explanations;
 mod normalise;

@@ -11,13 +11,14 @@ use Rattle.canon.proofs.Texts.{canonical_file_is_same, IsPlainFile-canonical}
 use Rattle.canon.specs.Answers.{NormalisesPlainAs}
 use Rattle.canon.specs.Canonical.{canonical_file}
 use Rattle.canon.specs.declared.fault.CanonFault.{CanonFault}
+use Rattle.canon.specs.declared.fault.CanonFault.TheVariants.{Memory}
 use Rattle.canon.specs.declared.which.Which.{Which}
 use Rattle.canon.specs.declared.which.Which.TheVariants.{Both, Second}
-use Rattle.cats_cmd.specs.Comparisons.{Compares, ReadsBoth, ReadsCanonicalFile, ReadsCanonical}
-use Rattle.cats_cmd.specs.Inputs.{ReadsInput}
+use Rattle.cats_cmd.specs.Comparisons.{Compares, ReadsBoth, ReadsCanonicalFile, ReadsCanonical, RunsOnBoth}
+use Rattle.cats_cmd.specs.Inputs.{IsRefusedFile, ReadsInput, ReadsLightFile}
 use Rattle.cats_cmd.specs.Internal.Differences.{SendsDifference}
-use Rattle.cats_cmd.specs.Outcomes.{Tells, normalise_outcome, outcome_of_difference, compare_outcome}
-use Rattle.cats_cmd.specs.Runs.{SendsMadeAs}
+use Rattle.cats_cmd.specs.Outcomes.{Outcome, Tells, normalise_outcome, outcome_of_difference, compare_outcome}
+use Rattle.cats_cmd.specs.Runs.{SendsAs, SendsMadeAs}
 use Rattle.cats_cmd.specs.declared.report.RunFault.{RunFault}
 use Rattle.cats_cmd.specs.declared.report.RunFault.TheVariants.{Refused, GoodRange, Sent}
 use Rattle.cats_cmd.proofs.Normalised.{refused_by_normalising}
@@ -55,25 +56,46 @@ canonical_outcome f g h k =
 
 module _ {R S W : Type 0} (remaining_first : R → Option (List ℕ)) (remaining_second : S → Option (List ℕ)) (contents : W → Option (List ℕ)) (limit : ℕ)
     (first first_after : Watched R) (second second_after : Watched S) (out out_after : Watched W) where
-  files_told : (left right : PlainFile) → ReadsBoth remaining_first remaining_second contents limit first first_after second second_after (left, right)
-      → (status : ℕ) (text : List ℕ) → compare_outcome left right ≡ Tells status text
-      → (answer : Result ℕ RunFault) → SendsMadeAs contents Both status text out out_after answer
-      → Compares remaining_first remaining_second contents limit first first_after second second_after out out_after answer
-  files_told left right both status text is (Ok told) sends =
-      wrote contents (ReadsBoth remaining_first remaining_second contents limit first first_after second second_after)
-      (λ (files : PlainFile × PlainFile). compare_outcome files.0 files.1) out out_after (left, right) both status text is told sends
-  files_told left right both status text is (Err (Refused which fault)) sends =
-      subst (λ (w : Which). Compares remaining_first remaining_second contents limit first first_after second second_after out out_after (Err (Refused w fault)))
-      (sym sends.0) (record { files = (left, right); reads = both; memory = sends.1; silent = sends.2 })
-  files_told left right both status text is (Err (GoodRange good)) sends = absurd sends
-  files_told left right both status text is (Err (Sent fault)) sends = record {
-    given = (left, right);
-    reads = both;
+  -- a text that was made of both files was sent
+  pub told_of_both : {A : Type 0} (Reads : A → Type 0) (outcome : A → Outcome) (given : A) → Reads given
+      → (status : ℕ) (text : List ℕ) → outcome given ≡ Tells status text → (answer : Result ℕ RunFault) → SendsAs contents status text out out_after answer
+      → RunsOnBoth remaining_first remaining_second contents limit Reads outcome first first_after second second_after out out_after answer
+  told_of_both Reads outcome given reads status text is (Ok told) sends =
+      wrote contents Reads outcome out out_after given reads status text is told sends
+  told_of_both Reads outcome given reads status text is (Err (Refused which fault)) sends = absurd sends
+  told_of_both Reads outcome given reads status text is (Err (GoodRange good)) sends = absurd sends
+  told_of_both Reads outcome given reads status text is (Err (Sent fault)) sends = record {
+    given = given;
+    reads = reads;
     status = status;
     text = text;
     made = is;
     sent = sends;
   }
+
+  -- memory was refused once both files were read
+  pub both_refused : {A : Type 0} (Reads : A → Type 0) (outcome : A → Outcome) (files : PlainFile × PlainFile)
+      → ReadsBoth remaining_first remaining_second contents limit first first_after second second_after files
+      → (which : Which) (fault : CanonFault) → (which ≡ Both) × (fault ≡ Memory) × (out_after ≡ out)
+      → RunsOnBoth remaining_first remaining_second contents limit Reads outcome first first_after second second_after out out_after (Err (Refused which fault))
+  both_refused Reads outcome files reads which fault refused =
+      subst (λ (w : Which). RunsOnBoth remaining_first remaining_second contents limit Reads outcome first first_after second second_after out out_after
+      (Err (Refused w fault))) (sym refused.0) (record { files = files; reads = reads; memory = refused.1; silent = refused.2 })
+
+  files_told : (left right : PlainFile) → ReadsBoth remaining_first remaining_second contents limit first first_after second second_after (left, right)
+      → (status : ℕ) (text : List ℕ) → compare_outcome left right ≡ Tells status text
+      → (answer : Result ℕ RunFault) → SendsMadeAs contents Both status text out out_after answer
+      → Compares remaining_first remaining_second contents limit first first_after second second_after out out_after answer
+  files_told left right both status text is (Err (Refused which fault)) sends =
+      both_refused (ReadsBoth remaining_first remaining_second contents limit first first_after second second_after)
+      (λ (files : PlainFile × PlainFile). compare_outcome files.0 files.1) (left, right) both which fault sends
+  files_told left right both status text is (Ok told) sends =
+      told_of_both (ReadsBoth remaining_first remaining_second contents limit first first_after second second_after)
+      (λ (files : PlainFile × PlainFile). compare_outcome files.0 files.1) (left, right) both status text is (Ok told) sends
+  files_told left right both status text is (Err (GoodRange good)) sends = absurd sends
+  files_told left right both status text is (Err (Sent fault)) sends =
+      told_of_both (ReadsBoth remaining_first remaining_second contents limit first first_after second second_after)
+      (λ (files : PlainFile × PlainFile). compare_outcome files.0 files.1) (left, right) both status text is (Err (Sent fault)) sends
 
   -- a run that sent the difference of the canonical files
   pub run_compared : (left right : PlainFile) → ReadsCanonicalFile remaining_first limit first first_after left
@@ -87,7 +109,8 @@ module _ {R S W : Type 0} (remaining_first : R → Option (List ℕ)) (remaining
       files_told one.file other.file (one.given, other.given) d.status d.text (sym given ∙ d.made) answer d.sends
 
   -- a run whose second file was refused
-  pub run_second_refused : (left : PlainFile) → ReadsCanonicalFile remaining_first limit first first_after left → (fault : CanonFault)
-      → ReadsCanonical remaining_second limit second second_after (Err fault) → out_after ≡ out
-      → Compares remaining_first remaining_second contents limit first first_after second second_after out out_after (Err (Refused Second fault))
-  run_second_refused left one fault refused silent = record { left = one.file; reads = one.given; refused = refused; silent = silent }
+  pub run_second_refused : {A : Type 0} (Reads : A → Type 0) (outcome : A → Outcome) (left : PlainFile)
+      → ReadsLightFile remaining_first limit first first_after left → (fault : CanonFault)
+      → IsRefusedFile remaining_second (normalise_outcome limit) second second_after fault → out_after ≡ out
+      → RunsOnBoth remaining_first remaining_second contents limit Reads outcome first first_after second second_after out out_after (Err (Refused Second fault))
+  run_second_refused Reads outcome left one fault refused silent = record { left = left; reads = one; refused = refused; silent = silent }

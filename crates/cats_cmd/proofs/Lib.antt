@@ -7,6 +7,7 @@ mod BestPlaces
 mod Printing
 mod Stopping
 mod Comparing
+mod Diffing
 mod Explaining
 mod ReadingBack
 mod Grouping

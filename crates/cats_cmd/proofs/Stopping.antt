@@ -15,15 +15,17 @@ use Rattle.canon.specs.Difference.{Difference, NoDifference, InGoods, InOr, InXo
 use Rattle.canon.specs.declared.fault.CanonFault.{CanonFault}
 use Rattle.canon.specs.declared.fault.CanonFault.TheVariants.{Read, StepLimit, Memory}
 use Rattle.canon.specs.declared.which.Which.TheVariants.{Only, First, Second, Both}
-use Rattle.cats_cmd.specs.Comparisons.{Compares}
+use Rattle.cats_cmd.specs.Comparisons.{Compares, ReadsBoth, RunsOnBoth}
+use Rattle.cats_cmd.specs.Diffs.{DiffsFiles, ReadsDifferences, diff_outcome}
+use Rattle.differences.specs.Differences.{is_none_at_all}
 use Rattle.cats_cmd.specs.Outcomes.{Outcome, Tells, ExceedsSteps, check_outcome, show_outcome, normalise_outcome, value_outcome, values_within, missing_good}
-use Rattle.cats_cmd.specs.Outcomes.{outcome_unless, text_unless_heavy, outcome_of_difference}
+use Rattle.cats_cmd.specs.Outcomes.{compare_outcome, outcome_unless, text_unless_heavy, outcome_of_difference}
 use Rattle.cats_cmd.specs.Inputs.{IsOpened}
 use Rattle.cats_cmd.specs.Explanations.{ExplainsFile}
-use Rattle.cats_cmd.specs.Requests.{AnswersRequest, CarriesOut, ComparesAt, ExplainsAt, RoundsAt, RunsAt, RunsFor, StopsRequest, fine_of}
+use Rattle.cats_cmd.specs.Requests.{AnswersRequest, CarriesOut, ComparesAt, DiffsAt, ExplainsAt, RoundsAt, RunsAt, RunsFor, StopsRequest, fine_of}
 use Rattle.rounding.specs.declared.replacement.FinePrices.{FinePrices}
 use Rattle.cats_cmd.specs.Runs.{RunsOnFile}
-use Rattle.cats_cmd.specs.Statuses.{status_of_canon_fault, status_of_read_fault}
+use Rattle.cats_cmd.specs.Statuses.{status_of_canon_fault, status_of_differences, status_of_read_fault}
 use Rattle.cats_cmd.specs.Rounding.{Rounds}
 use Rattle.cats_cmd.specs.Stops.{Reports, is_for_many_files, is_reporting, line_of_stop, names_many_files, names_reporting, status_of_stop}
 use Rattle.cats_cmd.specs.ValueTexts.{bundle_from, value_text}
@@ -33,7 +35,7 @@ use Rattle.cats_cmd.specs.declared.report.RunFault.{RunFault}
 use Rattle.cats_cmd.specs.declared.report.RunFault.TheVariants.{Refused, GoodRange, Sent}
 use Rattle.command_line.specs.Requests.{IsNamedIn}
 use Rattle.command_line.specs.declared.request.Request.{Request}
-use Rattle.command_line.specs.declared.request.Request.TheVariants.{Check, Show, Value, Normalise, Explain, Round, Compare, Duplicates, Sizes}
+use Rattle.command_line.specs.declared.request.Request.TheVariants.{Check, Show, Value, Normalise, Explain, Round, Compare, Diff, Duplicates, Sizes}
 use Rattle.std.specs.Borrow.{Bor}
 use Rattle.cats_cmd.specs.declared.source.Unopened.{Unopened}
 
@@ -141,15 +143,28 @@ module _ {R S W : Type 0} (remaining_first : R → Option (List ℕ)) (remaining
   told_comparison status ran =
       differs_or_same (first_difference (auction_from ran.given.0) (auction_from ran.given.1)) status ran.text ran.made
 
-  -- a comparison that stopped has written nothing, unless its output failed
-  silent_comparison : (fault : RunFault) → Compares remaining_first remaining_second contents limit first first_after second second_after old new (Err fault)
+  -- and so has a run that printed all differences
+  told_differences : (status : ℕ) → DiffsFiles remaining_first remaining_second contents limit first first_after second second_after old new (Ok status)
+      → status ≤ 1
+  told_differences status ran =
+      let made = ran.made in
+      let is : status_of_differences ran.given.2 ≡ status = cc in
+      subst (λ (s : ℕ). s ≤ 1) is (none_or_some (is_none_at_all ran.given.2))
+    where
+      none_or_some : (none : Bool) → cond none 0 1 ≤ 1
+      none_or_some true = omega arith
+      none_or_some false = omega arith
+
+  -- a run of two files that stopped has written nothing, unless its output failed
+  silent_of_both : {A : Type 0} (Reads : A → Type 0) (outcome : A → Outcome) (fault : RunFault)
+      → RunsOnBoth remaining_first remaining_second contents limit Reads outcome first first_after second second_after old new (Err fault)
       → IsSilent (Run fault) old new
-  silent_comparison (Refused First fault) ran = ran.silent
-  silent_comparison (Refused Second fault) ran = ran.silent
-  silent_comparison (Refused Both fault) ran = ran.silent
-  silent_comparison (Refused Only fault) ran = absurd ran
-  silent_comparison (GoodRange good) ran = absurd ran
-  silent_comparison (Sent fault) ran = tt
+  silent_of_both Reads outcome (Refused First fault) ran = ran.silent
+  silent_of_both Reads outcome (Refused Second fault) ran = ran.silent
+  silent_of_both Reads outcome (Refused Both fault) ran = ran.silent
+  silent_of_both Reads outcome (Refused Only fault) ran = absurd ran
+  silent_of_both Reads outcome (GoodRange good) ran = absurd ran
+  silent_of_both Reads outcome (Sent fault) ran = tt
 
 -- a rounding that stopped has written nothing, unless its output failed
 silent_rounding : {R W E : Type 0} (remaining : R → Option (List ℕ)) (contents : W → Option (List ℕ)) (messages : E → Option (List ℕ)) (fine : FinePrices)
@@ -205,8 +220,10 @@ module _ {F W E : Type 0} (may_open : List ℕ → F → Type 0) (may_refuse : L
   answered (Explain file limit) err_after status ran few =
       told_explanation remaining contents limit ran.0.before ran.0.after out out_after status ran.0.runs
   answered (Round file exact) err_after status ran few = let made = ran.runs.made in let none : 0 ≡ status = cc in omega (arith, none)
-  answered (Compare first second limit) err_after status ran few =
-      told_comparison remaining remaining contents limit ran.0.left ran.0.left_after ran.0.right ran.0.right_after out out_after status ran.0.runs
+  answered (Compare files) err_after status ran few =
+      told_comparison remaining remaining contents files.limit ran.0.left ran.0.left_after ran.0.right ran.0.right_after out out_after status ran.0.runs
+  answered (Diff files) err_after status ran few =
+      told_differences remaining remaining contents files.limit ran.0.left ran.0.left_after ran.0.right ran.0.right_after out out_after status ran.0.runs
   answered (Duplicates files) err_after status ran few = absurd (cc)
   answered (Sizes files) err_after status ran few = absurd (cc)
 
@@ -220,7 +237,8 @@ module _ {F W E : Type 0} (may_open : List ℕ → F → Type 0) (may_refuse : L
   quiet (Normalise file limit) err_after answer ran silent = ran.1
   quiet (Explain file limit) err_after answer ran silent = ran.1
   quiet (Round file exact) err_after answer ran silent = absurd (cc)
-  quiet (Compare first second limit) err_after answer ran silent = ran.1
+  quiet (Compare files) err_after answer ran silent = ran.1
+  quiet (Diff files) err_after answer ran silent = ran.1
   quiet (Duplicates files) err_after answer ran silent = absurd (cc)
   quiet (Sizes files) err_after answer ran silent = absurd (cc)
 
@@ -240,8 +258,13 @@ module _ {F W E : Type 0} (may_open : List ℕ → F → Type 0) (may_refuse : L
       silent_explanation remaining contents limit ran.0.before ran.0.after out out_after fault ran.0.runs
   silent_fault (Round file exact) err_after fault ran few =
       silent_rounding remaining contents messages (fine_of exact) ran.before ran.after out out_after err err_after fault ran.runs
-  silent_fault (Compare first second limit) err_after fault ran few =
-      silent_comparison remaining remaining contents limit ran.0.left ran.0.left_after ran.0.right ran.0.right_after out out_after fault ran.0.runs
+  silent_fault (Compare files) err_after fault ran few =
+      silent_of_both remaining remaining contents files.limit ran.0.left ran.0.left_after ran.0.right ran.0.right_after out out_after
+      (ReadsBoth remaining remaining contents files.limit ran.0.left ran.0.left_after ran.0.right ran.0.right_after)
+      (λ (both : PlainFile × PlainFile). compare_outcome both.0 both.1) fault ran.0.runs
+  silent_fault (Diff files) err_after fault ran few =
+      silent_of_both remaining remaining contents files.limit ran.0.left ran.0.left_after ran.0.right ran.0.right_after out out_after
+      (ReadsDifferences remaining remaining contents files.limit ran.0.left ran.0.left_after ran.0.right ran.0.right_after) diff_outcome fault ran.0.runs
   silent_fault (Duplicates files) err_after fault ran few = absurd (cc)
   silent_fault (Sizes files) err_after fault ran few = absurd (cc)
 
@@ -329,6 +352,21 @@ module _ {F W : Type 0} (may_open : List ℕ → F → Type 0) (remaining : F �
       → Compares remaining remaining contents limit left left_after right right_after out out_after answer
       → ComparesAt may_open remaining contents first second limit out out_after answer
   compared_at first second limit left left_after right right_after out out_after answer one other runs = record {
+    left = left;
+    left_after = left_after;
+    right = right;
+    right_after = right_after;
+    left_opened = one;
+    right_opened = other;
+    runs = runs;
+  }
+
+  pub differed_at : (first second : List ℕ) (limit : ℕ) (left left_after right right_after : Watched F) (out out_after : Watched W)
+      (answer : Result ℕ RunFault)
+      → IsOpened may_open first left → IsOpened may_open second right
+      → DiffsFiles remaining remaining contents limit left left_after right right_after out out_after answer
+      → DiffsAt may_open remaining contents first second limit out out_after answer
+  differed_at first second limit left left_after right right_after out out_after answer one other runs = record {
     left = left;
     left_after = left_after;
     right = right;

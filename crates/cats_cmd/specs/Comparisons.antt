@@ -36,9 +36,6 @@ module _ {R S W : Type 0} (remaining_first : R → Option (List ℕ)) (remaining
       ReadsLightFile remaining_first limit first first_after files.0
       × ReadsLightFile remaining_second limit second second_after files.1
 
-  abbrev outcome_of_both : PlainFile × PlainFile → Outcome
-  outcome_of_both files = compare_outcome files.0 files.1
-
   -- the first file was refused; the second was not read, and nothing was written
   pub record RefusesFirst (first first_after : Watched R) (second second_after : Watched S) (out out_after : Watched W)
       (fault : CanonFault) : Type 0 where
@@ -62,20 +59,38 @@ module _ {R S W : Type 0} (remaining_first : R → Option (List ℕ)) (remaining
     pub memory : fault ≡ Memory
     pub silent : out_after ≡ out
 
-  -- The contract of a comparison, from its inputs and its output before to those after it. No fault belongs to an only
-  -- file.
+-- The contract of a run of two files, from its inputs and its output before to those after it, where `Reads` says what was
+-- read and `outcome` what is made of it. No fault belongs to an only file.
+module _ {A R S W : Type 0} (remaining_first : R → Option (List ℕ)) (remaining_second : S → Option (List ℕ))
+    (contents : W → Option (List ℕ)) (limit : ℕ) (Reads : A → Type 0) (outcome : A → Outcome) where
+  abbrev pub RunsOnBoth : Watched R → Watched R → Watched S → Watched S → Watched W → Watched W → Result ℕ RunFault
+      → Type 0
+  RunsOnBoth first first_after second second_after out out_after (Ok status) =
+      WritesText contents Reads outcome out out_after status
+  RunsOnBoth first first_after second second_after out out_after (Err (Refused First fault)) =
+      RefusesFirst remaining_first remaining_second contents limit first first_after second second_after out out_after
+      fault
+  RunsOnBoth first first_after second second_after out out_after (Err (Refused Second fault)) =
+      RefusesSecond remaining_first remaining_second contents limit first first_after second second_after out out_after
+      fault
+  RunsOnBoth first first_after second second_after out out_after (Err (Refused Both fault)) =
+      RefusesBoth remaining_first remaining_second contents limit first first_after second second_after out out_after
+      fault
+  RunsOnBoth first first_after second second_after out out_after (Err (Refused Only fault)) = ⊥
+  RunsOnBoth first first_after second second_after out out_after (Err (GoodRange good)) = ⊥
+  RunsOnBoth first first_after second second_after out out_after (Err (Sent fault)) =
+      FailsInText contents Reads outcome out out_after fault.written
+
+-- ---- a comparison
+
+abbrev outcome_of_both : PlainFile × PlainFile → Outcome
+outcome_of_both files = compare_outcome files.0 files.1
+
+module _ {R S W : Type 0} (remaining_first : R → Option (List ℕ)) (remaining_second : S → Option (List ℕ))
+    (contents : W → Option (List ℕ)) (limit : ℕ) where
   abbrev pub Compares : Watched R → Watched R → Watched S → Watched S → Watched W → Watched W → Result ℕ RunFault
       → Type 0
-  Compares first first_after second second_after out out_after (Ok status) =
-      WritesText contents (ReadsBoth first first_after second second_after) outcome_of_both out out_after status
-  Compares first first_after second second_after out out_after (Err (Refused First fault)) =
-      RefusesFirst first first_after second second_after out out_after fault
-  Compares first first_after second second_after out out_after (Err (Refused Second fault)) =
-      RefusesSecond first first_after second second_after out out_after fault
-  Compares first first_after second second_after out out_after (Err (Refused Both fault)) =
-      RefusesBoth first first_after second second_after out out_after fault
-  Compares first first_after second second_after out out_after (Err (Refused Only fault)) = ⊥
-  Compares first first_after second second_after out out_after (Err (GoodRange good)) = ⊥
-  Compares first first_after second second_after out out_after (Err (Sent fault)) =
-      FailsInText contents (ReadsBoth first first_after second second_after) outcome_of_both out out_after
-      fault.written
+  Compares first first_after second second_after out out_after answer =
+      RunsOnBoth remaining_first remaining_second contents limit
+      (ReadsBoth remaining_first remaining_second contents limit first first_after second second_after) outcome_of_both
+      first first_after second second_after out out_after answer

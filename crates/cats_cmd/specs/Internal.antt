@@ -2,6 +2,7 @@
 -- them.
 pub mod Checks
 pub mod Differences
+pub mod Diffs
 pub mod Judging
 pub mod Roundings
 pub mod Searches

@@ -5,12 +5,14 @@ pub mod FaultLines
 pub mod Statuses
 pub mod ValueTexts
 pub mod DifferenceTexts
+pub mod DiffTexts
 pub mod Outcomes
 pub mod Examples
 pub mod Inputs
 pub mod Stops
 pub mod Runs
 pub mod Comparisons
+pub mod Diffs
 pub mod ExplanationTexts
 pub mod Explanations
 pub mod Escaping

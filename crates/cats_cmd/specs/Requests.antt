@@ -8,6 +8,7 @@ use Rattle.cats_text.specs.declared.stream.Watched.{Watched}
 use Rattle.canon.specs.declared.which.Which.{Which}
 use Rattle.canon.specs.declared.which.Which.TheVariants.{Only, First, Second}
 use Rattle.cats_cmd.specs.Comparisons.{Compares}
+use Rattle.cats_cmd.specs.Diffs.{DiffsFiles}
 use Rattle.cats_cmd.specs.Duplicates.{MakesGroups}
 use Rattle.cats_cmd.specs.Explanations.{ExplainsFile}
 use Rattle.cats_cmd.specs.FileLists.{RunsOnFiles}
@@ -23,9 +24,10 @@ use Rattle.cats_cmd.specs.Stops.{Reports, SendsText, line_of_stop, status_of_sto
 use Rattle.command_line.specs.Requests.{IsNamedIn}
 use Rattle.command_line.specs.declared.request.NoRequest.{NoRequest}
 use Rattle.command_line.specs.declared.request.NoRequest.TheVariants.{Help, WrongUsage, NoMemory}
+use Rattle.command_line.specs.declared.request.PairRequest.{PairRequest}
 use Rattle.command_line.specs.declared.request.Request.{Request}
 use Rattle.command_line.specs.declared.request.Request.TheVariants.{Check, Show, Value, Normalise, Explain, Round, Compare}
-use Rattle.command_line.specs.declared.request.Request.TheVariants.{Duplicates, Sizes}
+use Rattle.command_line.specs.declared.request.Request.TheVariants.{Diff, Duplicates, Sizes}
 use Rattle.cats_cmd.specs.declared.paths.Ending.{Ending}
 use Rattle.cats_cmd.specs.declared.paths.Ending.TheVariants.{Line, Null}
 use Rattle.cats_cmd.specs.declared.paths.Progress.{Progress}
@@ -104,6 +106,17 @@ module _ {F W : Type 0} (may_open : List ℕ → F → Type 0) (remaining : F �
     pub right_opened : IsOpened may_open second right
     pub runs : Compares remaining remaining contents limit left left_after right right_after out out_after answer
 
+  -- all differences of the streams that were opened at the two paths
+  pub record DiffsAt (first second : List ℕ) (limit : ℕ) (out out_after : Watched W) (answer : Result ℕ RunFault)
+      : Type 0 where
+    pub left : Watched F
+    pub left_after : Watched F
+    pub right : Watched F
+    pub right_after : Watched F
+    pub left_opened : IsOpened may_open first left
+    pub right_opened : IsOpened may_open second right
+    pub runs : DiffsFiles remaining remaining contents limit left left_after right right_after out out_after answer
+
 module _ {F W E : Type 0} (may_open : List ℕ → F → Type 0) (may_refuse : List ℕ → Unopened → Type 0)
     (remaining : F → Option (List ℕ)) (contents : W → Option (List ℕ)) (messages : E → Option (List ℕ)) where
   -- a rounding of the stream that was opened at the path
@@ -132,8 +145,12 @@ module _ {F W E : Type 0} (may_open : List ℕ → F → Type 0) (may_refuse : L
       ExplainsAt may_open remaining contents file.now limit out out_after answer × (err_after ≡ err)
   RunsFor (Round file exact) out out_after err err_after answer =
       RoundsAt may_open may_refuse remaining contents messages file.now (fine_of exact) out out_after err err_after answer
-  RunsFor (Compare first second limit) out out_after err err_after answer =
-      ComparesAt may_open remaining contents first.now second.now limit out out_after answer × (err_after ≡ err)
+  RunsFor (Compare files) out out_after err err_after answer =
+      ComparesAt may_open remaining contents files.first.now files.second.now files.limit out out_after answer
+      × (err_after ≡ err)
+  RunsFor (Diff files) out out_after err err_after answer =
+      DiffsAt may_open remaining contents files.first.now files.second.now files.limit out out_after answer
+      × (err_after ≡ err)
   RunsFor (Duplicates files) out out_after err err_after answer =
       RunsOnFiles may_open may_refuse remaining messages
       (λ paths. RunsOnPaths may_open may_refuse remaining contents messages files.limit (MakesGroups (ending_of files.null)) paths
@@ -143,6 +160,11 @@ module _ {F W E : Type 0} (may_open : List ℕ → F → Type 0) (may_refuse : L
       (λ paths. RunsOnPaths may_open may_refuse remaining contents messages files.limit (MakesTable (ending_of files.null)) paths
       (progress_of terminal files.progress)) files.paths out out_after err err_after answer
 
+  -- the one of two files that cannot be opened
+  abbrev pub CannotOpenPair : PairRequest → Which → Type 0
+  CannotOpenPair files which =
+      ((which ≡ First) × MayRefuse may_refuse files.first.now) ⊎ ((which ≡ Second) × MayRefuse may_refuse files.second.now)
+
   -- the file of a request that cannot be opened. Each file of `duplicates` and `sizes` is reported by itself
   abbrev pub CannotOpenOf : Request → Which → Type 0
   CannotOpenOf (Check file) which = (which ≡ Only) × MayRefuse may_refuse file.now
@@ -151,8 +173,8 @@ module _ {F W E : Type 0} (may_open : List ℕ → F → Type 0) (may_refuse : L
   CannotOpenOf (Normalise file limit) which = (which ≡ Only) × MayRefuse may_refuse file.now
   CannotOpenOf (Explain file limit) which = (which ≡ Only) × MayRefuse may_refuse file.now
   CannotOpenOf (Round file exact) which = (which ≡ Only) × MayRefuse may_refuse file.now
-  CannotOpenOf (Compare first second limit) which =
-      ((which ≡ First) × MayRefuse may_refuse first.now) ⊎ ((which ≡ Second) × MayRefuse may_refuse second.now)
+  CannotOpenOf (Compare files) which = CannotOpenPair files which
+  CannotOpenOf (Diff files) which = CannotOpenPair files which
   CannotOpenOf (Duplicates files) which = ⊥
   CannotOpenOf (Sizes files) which = ⊥
 

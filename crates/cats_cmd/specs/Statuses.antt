@@ -1,11 +1,12 @@
 -- The exit statuses that tell the faults of a run and the answer of a comparison, as users know them: they are written
 -- out here, and the code's constants are proved to be these.
-use Rattle.std.specs.Prelude.{ℕ}
+use Rattle.std.specs.Prelude.{ℕ, if◌then◌else◌}
 use Rattle.cats_text.specs.declared.fault.Kind.{Kind}
 use Rattle.cats_text.specs.declared.fault.Kind.TheVariants.{Device, Memory as NoMemory}
 use Rattle.canon.specs.Difference.{Difference, NoDifference}
 use Rattle.canon.specs.declared.fault.CanonFault.{CanonFault}
 use Rattle.canon.specs.declared.fault.CanonFault.TheVariants.{Read, StepLimit, Memory}
+use Rattle.differences.specs.Differences.{PlainDifferences, is_none_at_all}
 use Rattle.cats_cmd.specs.declared.report.RunFault.{RunFault}
 use Rattle.cats_cmd.specs.declared.report.RunFault.TheVariants.{Refused, GoodRange, Sent}
 
@@ -28,3 +29,7 @@ status_of_fault (Sent fault) = 5
 abbrev pub status_of_difference : Difference → ℕ
 status_of_difference NoDifference = 0
 status_of_difference _ = 1
+
+-- and of all differences
+abbrev pub status_of_differences : PlainDifferences → ℕ
+status_of_differences differences = if is_none_at_all differences then 0 else 1

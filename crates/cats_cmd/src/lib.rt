@@ -4,6 +4,7 @@
 mod bytes;
 mod check;
 mod compare;
+mod diff;
 mod duplicates;
 mod escaping;
 mod explanation;
@@ -25,6 +26,7 @@ pub mod worked;
 pub use canon::{CanonFault, Which};
 pub use check::run_check;
 pub use compare::run_compare;
+pub use diff::run_diff;
 pub use duplicates::run_duplicates;
 pub use explanation::run_explain;
 pub use normalise::run_normalise;

@@ -9,6 +9,7 @@ ghost use Rattle.cats_cmd.specs.Stops.{Reports, is_for_many_files, is_reporting,
 
 use crate::check::run_check;
 use crate::compare::run_compare;
+use crate::diff::run_diff;
 use crate::explanation::run_explain;
 use crate::many_files::{run_duplicates_of, run_sizes_of};
 use crate::normalise::run_normalise;
@@ -145,14 +146,15 @@ fn carry_out<S: Source + AllocGlobal, W: Write, E: Write>(
             let mut input = open_only(source, file)?;
             Ok(run_round(alloc, &mut input, fine_prices(*exact), out, err)?)
         }
-        Request::Compare {
-            first,
-            second,
-            limit,
-        } => {
-            let mut left = open(source, first, Which::First)?;
-            let mut right = open(source, second, Which::Second)?;
-            Ok(run_compare(alloc, &mut left, &mut right, *limit, out)?)
+        Request::Compare(files) => {
+            let mut left = open(source, files.first, Which::First)?;
+            let mut right = open(source, files.second, Which::Second)?;
+            Ok(run_compare(alloc, &mut left, &mut right, files.limit, out)?)
+        }
+        Request::Diff(files) => {
+            let mut left = open(source, files.first, Which::First)?;
+            let mut right = open(source, files.second, Which::Second)?;
+            Ok(run_diff(alloc, &mut left, &mut right, files.limit, out)?)
         }
         Request::Duplicates(files) => {
             let many = many_files(files, terminal);

@@ -1,6 +1,6 @@
 //! Worked examples of what the runs print, computed by the prover.
 
-ghost use Rattle.std.specs.Prelude.{◌≡◌, ℕ, [], ◌∷◌, map, codes, Vec, Ok, Err, true, false};
+ghost use Rattle.std.specs.Prelude.{◌≡◌, ℕ, [], ◌∷◌, map, codes, Vec, Ok, Err, Some, None, true, false};
 ghost use Rattle.std.specs.Global.{Global};
 ghost use Rattle.cats_text.specs.declared.fault.Kind.TheVariants.{
   TwoDummies,
@@ -13,6 +13,9 @@ ghost use Rattle.canon.specs.Difference.{NoDifference, InGoods, InOr, InXor};
 ghost use Rattle.canon.specs.declared.verdict.Side.TheVariants.{Exactly, Below};
 ghost use Rattle.valuation.specs.Examples.{atom};
 ghost use Rattle.explain.specs.Reasons.{Keep, Zero, Same, Inside, Packing};
+ghost use Rattle.differences.specs.Differences.{InBids, InGoods as InGoodNumbers};
+ghost use Rattle.differences.specs.Examples.{bidder_change, change};
+ghost use Rattle.cats_cmd.specs.DiffTexts.{diff_text};
 ghost use Rattle.cats_cmd.specs.DifferenceTexts.{difference_text};
 ghost use Rattle.cats_cmd.specs.Examples.{larger_bid, xor_ladder};
 ghost use Rattle.cats_cmd.specs.ExplanationTexts.{explanation_line, explanation_text};
@@ -34,7 +37,7 @@ ghost use Rattle.cats_cmd.specs.Runs.{SendsMadeAs};
 ghost use Rattle.cats_cmd.specs.Stops.{Reports, line_of_stop};
 ghost use Rattle.cats_cmd.specs.declared.program.Stop.TheVariants.{CannotOpen, NotOpened};
 ghost use Rattle.cats_cmd.specs.declared.source.Unopened.TheVariants.{NoSuchFile, PermissionDenied, IsFolder, Other};
-ghost use Rattle.cats_cmd.specs.Statuses.{status_of_difference, status_of_fault};
+ghost use Rattle.cats_cmd.specs.Statuses.{status_of_difference, status_of_differences, status_of_fault};
 ghost use Rattle.canon.specs.declared.which.Which.TheVariants.{Only, First, Second, Both};
 ghost use Rattle.canon.specs.declared.fault.CanonFault.TheVariants.{Read, StepLimit, Memory};
 ghost use Rattle.cats_cmd.specs.declared.report.RunFault.TheVariants.{Refused, GoodRange, Sent};
@@ -125,6 +128,24 @@ pub fn differences()
         ≡ codes "different\nxor 0:1 0,1:2\nleft 2\nright 1\n" }
     ensures statuses { map status_of_difference (NoDifference ∷ InGoods 1 2 ∷ InOr [] (Exactly 1) (Exactly 2)
         ∷ InXor [] 0 1 ∷ []) ≡ 0 ∷ 1 ∷ 1 ∷ 1 ∷ [] }
+{}
+
+/// What `cats diff` prints: numbers of goods; bundles with a price on each side, on the left, and on the right; two bidders beside
+/// each other, the second of the left file with the third of the right one, and a bidder of one file alone; and no difference.
+pub fn all_differences()
+    ensures goods { diff_text 2 [] [] (InGoodNumbers 2 5) ≡ codes "goods\t2\t5\n" }
+    ensures bundles { diff_text 60 [] [] (InBids (change (18 ∷ []) (Some 173958000) (Some 233145000)
+        ∷ change (18 ∷ 23 ∷ []) (Some 203457000) None ∷ change (0 ∷ 1 ∷ 59 ∷ []) None (Some 1) ∷ []) [])
+        ≡ codes "or\t18\t173.958\t233.145\nor\t18,23\t203.457\t-\nor\t0,1,59\t-\t0.000001\n" }
+    ensures beside { diff_text 60 (10 ∷ 4 ∷ []) (7 ∷ 8 ∷ 0 ∷ []) (InBids [] (bidder_change (Some 1) (Some 2)
+        (change (17 ∷ 36 ∷ []) None (Some 413615000) ∷ change (1 ∷ []) (Some 2000000) (Some 3000000) ∷ []) ∷ []))
+        ≡ codes "xor\t64\t60\nbid\t17,36\t-\t413.615\nbid\t1\t2\t3\n" }
+    ensures alone { diff_text 60 (10 ∷ []) (7 ∷ []) (InBids [] (bidder_change (Some 0) None
+        (change (1 ∷ 2 ∷ []) (Some 5000000) None ∷ []) ∷ bidder_change None (Some 0) (change (3 ∷ []) None (Some 6500000) ∷ []) ∷ []))
+        ≡ codes "xor\t70\t-\nbid\t1,2\t5\t-\nxor\t-\t67\nbid\t3\t-\t6.5\n" }
+    ensures none { diff_text 60 (10 ∷ []) (7 ∷ []) (InBids [] []) ≡ [] }
+    ensures statuses { map status_of_differences (InBids [] [] ∷ InGoodNumbers 2 5 ∷ InBids (change (0 ∷ []) None (Some 1) ∷ []) []
+        ∷ InBids [] (bidder_change (Some 0) None [] ∷ []) ∷ []) ≡ 0 ∷ 1 ∷ 1 ∷ 1 ∷ [] }
 {}
 
 /// The line of a file that cannot be opened: of the only one, of the first of two, and of one of many.

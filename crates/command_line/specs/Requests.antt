@@ -4,7 +4,7 @@ use Rattle.std.specs.Borrow.{Bor}
 use Rattle.command_line.specs.declared.request.NoRequest.{NoRequest}
 use Rattle.command_line.specs.declared.request.NoRequest.TheVariants.{WrongUsage, NoMemory}
 use Rattle.command_line.specs.declared.request.Request.{Request}
-use Rattle.command_line.specs.declared.request.Request.TheVariants.{Check, Show, Value, Normalise, Explain, Round, Compare, Duplicates, Sizes}
+use Rattle.command_line.specs.declared.request.Request.TheVariants.{Check, Show, Value, Normalise, Explain, Round, Compare, Diff, Duplicates, Sizes}
 
 -- the word for which a request stands
 abbrev pub name_of : Request → List ℕ
@@ -14,7 +14,8 @@ name_of (Value file goods limit) = codes "value"
 name_of (Normalise file limit) = codes "normalise"
 name_of (Explain file limit) = codes "explain"
 name_of (Round file exact) = codes "round"
-name_of (Compare first second limit) = codes "compare"
+name_of (Compare files) = codes "compare"
+name_of (Diff files) = codes "diff"
 name_of (Duplicates files) = codes "duplicates"
 name_of (Sizes files) = codes "sizes"
 

@@ -60,7 +60,7 @@ struct Subcommand {
 const STEPS_OF_BUNDLE: &str = "The most steps that the search on a bundle may take";
 
 /// The subcommands, as the help lists them.
-static SUBCOMMANDS: [Subcommand; 9] = [
+static SUBCOMMANDS: [Subcommand; 10] = [
     Subcommand {
         name: "check",
         about: "Reads a bid file and prints how many goods, bids and dummy goods it has",
@@ -105,6 +105,16 @@ static SUBCOMMANDS: [Subcommand; 9] = [
         name: "compare",
         about: "Tells whether two bid files are the same auction, and else where they part first",
         help: help::COMPARE,
+        arguments: &[
+            Argument::Steps(STEPS_OF_BUNDLE),
+            Argument::File,
+            Argument::SecondFile,
+        ],
+    },
+    Subcommand {
+        name: "diff",
+        about: "Prints all differences of two bid files' auctions",
+        help: help::DIFF,
         arguments: &[
             Argument::Steps(STEPS_OF_BUNDLE),
             Argument::File,

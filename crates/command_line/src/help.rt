@@ -6,8 +6,8 @@ pub(crate) const VERSION: &str = "0.1.0";
 
 pub(crate) const CATS: &str = "\
 A fault is one line on standard error. Statuses:
-   0  done; of compare: the same auction
-   1  of compare: different auctions
+   0  done; of compare and diff: the same auction
+   1  of compare and diff: different auctions
    2  a file is no bid file, or longer than is read
    3  a search takes more steps than its limit
    4  memory was refused
@@ -120,9 +120,33 @@ they have an XOR bidder. For example:
   same
 
 A step is that of 'cats normalise', to which each file is put first. A fault's line begins with 'first: ' or 'second: '.
+'cats diff' prints all differences.
 
 Statuses: 0 for the same auction, 1 for different ones; 2 for a file that is no bid file; 3 for the step limit; 4, 5 and
 64 as 'cats --help' tells";
+
+pub(crate) const DIFF: &str = "\
+Prints a line for each difference, with tabs between the words, the first file before the second, and nothing if both
+files are the same auction. For example:
+  $ cats diff examples/ladder.cats examples/ladder_with_synergy.cats
+  or\t0,1\t-\t7.5
+
+  goods M N      the numbers of goods differ; nothing else is compared
+  or BUNDLE P Q  the prices of the OR bidders' bids on a bundle in the canonical files; '-' if there is no bid, although
+                 other bids may reach the same value together
+  xor D E        two XOR bidders that differ, one of each file, by their dummy goods; '-' if the other file does not have
+                 the bidder
+  bid BUNDLE P Q the prices of these two bidders on a bundle; '-' if the bidder has no bid on it
+
+Bidders that both files have equally often are not printed. Of the others, each bidder of the first file is printed
+beside the bidder of the second file that has most bids in common with it, if there is one. D and E are the numbers that
+the files and 'cats value' print. If several bidders of a file have the same bids, the smallest number that is not
+printed yet is used.
+
+A step is that of 'cats normalise', to which each file is put first. A fault's line begins with 'first: ' or 'second: '.
+
+Statuses: 0 for the same auction, 1 for different ones; 2 if a file is not a bid file; 3 for the step limit; 4, 5 and 64
+as 'cats --help' lists them";
 
 pub(crate) const DUPLICATES: &str = "\
 Prints the paths of the files that are one auction, each on a line, for each auction that two or more of them are, with

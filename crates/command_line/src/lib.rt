@@ -7,4 +7,4 @@ mod parser;
 mod request;
 
 pub use parser::parse;
-pub use request::{FilePaths, FilesRequest, NoRequest, Request};
+pub use request::{FilePaths, FilesRequest, NoRequest, PairRequest, Request};

@@ -8,7 +8,7 @@ ghost use Rattle.command_line.specs.Requests.{IsNamedIn, is_no_memory, is_wrong_
 use crate::commands::{
     EXACT, FILE, FILES0_FROM, GOOD, NULL, PROGRESS, SECOND_FILE, STEPS, cats_command,
 };
-use crate::request::{FilePaths, FilesRequest, NoRequest, Request};
+use crate::request::{FilePaths, FilesRequest, NoRequest, PairRequest, Request};
 use clap::error::ErrorKind;
 use clap::{ArgMatches, Error};
 use std::alloc::{AllocError, Global};
@@ -78,6 +78,7 @@ fn find_named_request<'a>(
         "explain" => Ok(find_explain_request(given)),
         "round" => Ok(find_round_request(given)),
         "compare" => Ok(find_compare_request(given)),
+        "diff" => Ok(find_diff_request(given)),
         "duplicates" => find_duplicates_request(alloc, given),
         "sizes" => find_sizes_request(alloc, given),
         _ => Ok(None),
@@ -144,10 +145,22 @@ fn find_round_request<'a>(given: &ArgMatches<'a>) -> Option<Request<'a>>
 fn find_compare_request<'a>(given: &ArgMatches<'a>) -> Option<Request<'a>>
     ensures { IfSome result (λ request. name_of request ≡ codes "compare") }
 {
+    let files = find_pair_request(given)?;
+    Some(Request::Compare(files))
+}
+
+fn find_diff_request<'a>(given: &ArgMatches<'a>) -> Option<Request<'a>>
+    ensures { IfSome result (λ request. name_of request ≡ codes "diff") }
+{
+    let files = find_pair_request(given)?;
+    Some(Request::Diff(files))
+}
+
+fn find_pair_request<'a>(given: &ArgMatches<'a>) -> Option<PairRequest<'a>> {
     let first = given.get_str(FILE)?;
     let second = given.get_str(SECOND_FILE)?;
     let limit = given.get_one::<u64>(STEPS)?;
-    Some(Request::Compare {
+    Some(PairRequest {
         first,
         second,
         limit,

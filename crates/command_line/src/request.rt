@@ -26,13 +26,18 @@ pub enum Request<'a> {
         file: &'a str,
         exact: bool,
     },
-    Compare {
-        first: &'a str,
-        second: &'a str,
-        limit: u64,
-    },
+    Compare(PairRequest<'a>),
+    Diff(PairRequest<'a>),
     Duplicates(FilesRequest<'a>),
     Sizes(FilesRequest<'a>),
+}
+
+/// The two files of a request, and the limit of its searches.
+#[derive(Debug, Drop)]
+pub struct PairRequest<'a> {
+    pub first: &'a str,
+    pub second: &'a str,
+    pub limit: u64,
 }
 
 /// What is asked for of many files.

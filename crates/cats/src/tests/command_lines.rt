@@ -5,7 +5,7 @@ use std::process::Abort;
 use std::test::Fail;
 
 /// Command lines, and what they ask for.
-static REQUESTS: [(&[&str], &str); 19] = [
+static REQUESTS: [(&[&str], &str); 21] = [
     (&["cats", "check", "a"], "Check { file: \"a\" }"),
     (&["cats", "show", "a"], "Show { file: \"a\" }"),
     (
@@ -34,11 +34,19 @@ static REQUESTS: [(&[&str], &str); 19] = [
     ),
     (
         &["cats", "compare", "a", "b"],
-        "Compare { first: \"a\", second: \"b\", limit: 1000000 }",
+        "Compare(PairRequest { first: \"a\", second: \"b\", limit: 1000000 })",
     ),
     (
         &["cats", "compare", "--steps", "1", "a", "b"],
-        "Compare { first: \"a\", second: \"b\", limit: 1 }",
+        "Compare(PairRequest { first: \"a\", second: \"b\", limit: 1 })",
+    ),
+    (
+        &["cats", "diff", "a", "b"],
+        "Diff(PairRequest { first: \"a\", second: \"b\", limit: 1000000 })",
+    ),
+    (
+        &["cats", "diff", "b", "--steps=7", "a"],
+        "Diff(PairRequest { first: \"b\", second: \"a\", limit: 7 })",
     ),
     (
         &["cats", "duplicates", "a", "b", "a"],
@@ -118,13 +126,15 @@ fn help_and_version(rt: HostRuntime) {
 }
 
 /// Command lines that ask for nothing that the program does.
-static WRONG_LINES: [&[&str]; 15] = [
+static WRONG_LINES: [&[&str]; 17] = [
     &[],
     &["cats"],
     &["cats", "check"],
     &["cats", "Check", "a"],
     &["cats", "value", "--steps", "0", "a"],
     &["cats", "value", "a", "65536"],
+    &["cats", "diff", "a"],
+    &["cats", "diff", "a", "b", "c"],
     &["cats", "duplicates"],
     &["cats", "sizes"],
     // a path after a list, before it, two lists, a list without its path, and `-0` twice

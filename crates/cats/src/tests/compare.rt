@@ -23,13 +23,13 @@ fn compared(
     answer_of(alloc, answer, out)
 }
 
-const NOTHING: &str = "goods 0\nbids 0\ndummy 0\n";
+pub(super) const NOTHING: &str = "goods 0\nbids 0\ndummy 0\n";
 
-const LARGER_BID: &str = "goods 2\nbids 3\ndummy 0\n0\t3\t0\t#\n1\t4\t1\t#\n2\t7\t0\t1\t#\n";
+pub(super) const LARGER_BID: &str = "goods 2\nbids 3\ndummy 0\n0\t3\t0\t#\n1\t4\t1\t#\n2\t7\t0\t1\t#\n";
 
-const SINGLES: &str = "goods 2\nbids 2\ndummy 0\n0\t3\t0\t#\n1\t4\t1\t#\n";
+pub(super) const SINGLES: &str = "goods 2\nbids 2\ndummy 0\n0\t3\t0\t#\n1\t4\t1\t#\n";
 
-const EQUAL_BIDDERS: &str =
+pub(super) const EQUAL_BIDDERS: &str =
     "goods 2\nbids 5\ndummy 2\n0\t1\t0\t2\t#\n1\t2\t0\t1\t2\t#\n2\t1\t0\t3\t#\n3\t1\t0\t1\t3\t#\n4\t2\t0\t1\t3\t#\n";
 
 const TWO_DUMMIES: &str = "goods 2\nbids 2\ndummy 2\n0\t1\t0\t2\t#\n1\t1\t1\t2\t3\t#\n";
@@ -94,12 +94,15 @@ fn same_auctions(rt: HostRuntime) -> Result<(), Fail> {
 }
 
 /// Two bidders on two goods each, whose bids differ.
-const APART: &str =
+pub(super) const APART: &str =
     "goods 2\nbids 4\ndummy 2\n0\t1\t0\t2\t#\n1\t2\t1\t2\t#\n2\t2\t0\t3\t#\n3\t1\t1\t3\t#\n";
 
-const FIVE: &str = "goods 1\nbids 1\ndummy 0\n0\t5\t0\t#\n";
+/// Two bidders of which the first has one more bid.
+pub(super) const TOGETHER: &str = "goods 2\nbids 5\ndummy 2\n0\t1\t0\t2\t#\n1\t1\t1\t2\t#\n2\t2\t0\t1\t2\t#\n3\t2\t0\t3\t#\n4\t2\t1\t3\t#\n";
 
-const FOUR: &str = "goods 1\nbids 1\ndummy 0\n0\t4\t0\t#\n";
+pub(super) const FIVE: &str = "goods 1\nbids 1\ndummy 0\n0\t5\t0\t#\n";
+
+pub(super) const FOUR: &str = "goods 1\nbids 1\ndummy 0\n0\t4\t0\t#\n";
 
 #[test]
 fn differences(rt: HostRuntime) -> Result<(), Fail> {
@@ -174,8 +177,7 @@ fn differences(rt: HostRuntime) -> Result<(), Fail> {
             ),
             (
                 APART,
-                "goods 2\nbids 5\ndummy 2\n0\t1\t0\t2\t#\n1\t1\t1\t2\t#\n2\t2\t0\t1\t2\t#\n3\t2\t0\t3\t#\n\
-                4\t2\t1\t3\t#\n",
+                TOGETHER,
                 1,
                 "different\nxor 0:1 1:1 0,1:2\nleft 0\nright 1\n",
                 "different\nxor 0:1 1:1 0,1:2\nleft 1\nright 0\n",
@@ -184,65 +186,33 @@ fn differences(rt: HostRuntime) -> Result<(), Fail> {
     )
 }
 
+/// Texts under a limit, and the status and the line of the one that is refused first.
+pub(super) static REFUSALS: [(&str, &str, u64, u8, &str); 9] = [
+    (TWO_DUMMIES, NO_END, 2, 2, "first: line 5: TwoDummies\n"),
+    (NO_END, TWO_DUMMIES, 2, 2, "first: line 6: NoEnd\n"),
+    (NOTHING, TWO_DUMMIES, 2, 2, "second: line 5: TwoDummies\n"),
+    (TWO_DUMMIES, NOTHING, 2, 2, "first: line 5: TwoDummies\n"),
+    (TWO_DUMMIES, LARGER_BID, 2, 2, "first: line 5: TwoDummies\n"),
+    (LARGER_BID, TWO_DUMMIES, 2, 3, "first: step limit at 0,1\n"),
+    (LARGER_BID, LARGER_BID, 2, 3, "first: step limit at 0,1\n"),
+    (
+        LARGER_BID,
+        "goods 3\nbids 0\ndummy 0\n",
+        2,
+        3,
+        "first: step limit at 0,1\n",
+    ),
+    (SINGLES, LARGER_BID, 2, 3, "second: step limit at 0,1\n"),
+];
+
 #[test]
 fn refusals_in_order(rt: HostRuntime) -> Result<(), Fail> {
-    for (first, second, limit, status, sent, line) in &[
-        (TWO_DUMMIES, NO_END, 2, 2, "", "first: line 5: TwoDummies\n"),
-        (NO_END, TWO_DUMMIES, 2, 2, "", "first: line 6: NoEnd\n"),
-        (
-            NOTHING,
-            TWO_DUMMIES,
-            2,
-            2,
-            "",
-            "second: line 5: TwoDummies\n",
-        ),
-        (
-            TWO_DUMMIES,
-            NOTHING,
-            2,
-            2,
-            "",
-            "first: line 5: TwoDummies\n",
-        ),
-        (
-            TWO_DUMMIES,
-            LARGER_BID,
-            2,
-            2,
-            "",
-            "first: line 5: TwoDummies\n",
-        ),
-        (
-            LARGER_BID,
-            TWO_DUMMIES,
-            2,
-            3,
-            "",
-            "first: step limit at 0,1\n",
-        ),
-        (
-            LARGER_BID,
-            LARGER_BID,
-            2,
-            3,
-            "",
-            "first: step limit at 0,1\n",
-        ),
-        (
-            LARGER_BID,
-            "goods 3\nbids 0\ndummy 0\n",
-            2,
-            3,
-            "",
-            "first: step limit at 0,1\n",
-        ),
-        (SINGLES, LARGER_BID, 2, 3, "", "second: step limit at 0,1\n"),
-        (LARGER_BID, SINGLES, 3, 0, "same\n", ""),
-    ] {
+    for (first, second, limit, status, line) in &REFUSALS {
         let answer = compared(rt.alloc(), first, second, *limit, ROOM)?;
-        expect(&rt, &answer, *status, sent, line);
+        expect(&rt, &answer, *status, "", line);
     }
+    let answer = compared(rt.alloc(), LARGER_BID, SINGLES, 3, ROOM)?;
+    expect(&rt, &answer, 0, "same\n", "");
     Ok(())
 }
 

@@ -7,14 +7,16 @@ use super::streams::{
     RunAnswer, StepReader, StepWriter, answer_of, byte_reader, expect, expect_cut_off, reader,
     stalling_writer, writer,
 };
-use cats_cmd::{run_check, run_compare, run_explain, run_normalise, run_show, run_value};
+use cats_cmd::{
+    run_check, run_compare, run_diff, run_explain, run_normalise, run_show, run_value,
+};
 use cats_text::Watched;
 use std::alloc::Global;
 use std::io::ErrorKind;
 use std::process::Abort;
 use std::test::Fail;
 
-/// The runs, and of a comparison which of its two inputs a test is about.
+/// The runs, and of one on two files which of its two inputs a test is about.
 #[derive(Clone, Copy)]
 enum Run {
     Check,
@@ -24,9 +26,11 @@ enum Run {
     Explain,
     CompareFirst,
     CompareSecond,
+    DiffFirst,
+    DiffSecond,
 }
 
-/// What a run answers of an input. In a comparison the other input is `CANONICAL`.
+/// What a run answers of an input. In one on two files the other input is `CANONICAL`.
 fn answer(
     alloc: Global,
     run: Run,
@@ -46,6 +50,8 @@ fn answer(
         Run::Explain => run_explain(alloc, input, STEPS, &mut out),
         Run::CompareFirst => run_compare(alloc, input, &mut other, STEPS, &mut out),
         Run::CompareSecond => run_compare(alloc, &mut other, input, STEPS, &mut out),
+        Run::DiffFirst => run_diff(alloc, input, &mut other, STEPS, &mut out),
+        Run::DiffSecond => run_diff(alloc, &mut other, input, STEPS, &mut out),
     };
     answer_of(alloc, answer, out)
 }
@@ -63,7 +69,7 @@ const CANONICAL: &str = "goods 2\nbids 2\ndummy 0\n0\t3\t0\t#\n1\t4\t1\t#\n";
 const FAULTY: &str = "goods 2\nbids 2\ndummy 2\n0\t1\t0\t2\t#\n1\t1\t1\t2\t3\t#\n";
 
 /// Each run with what it sends of `TEXT`, and how its lines on its input begin.
-static RUNS: [(Run, &str, &str); 7] = [
+static RUNS: [(Run, &str, &str); 9] = [
     (Run::Check, "goods 2 bids 3 dummy 0\n", ""),
     (Run::Show, TEXT, ""),
     (Run::Value, "or 7 2\n", ""),
@@ -75,6 +81,8 @@ static RUNS: [(Run, &str, &str); 7] = [
     ),
     (Run::CompareFirst, "same\n", "first: "),
     (Run::CompareSecond, "same\n", "second: "),
+    (Run::DiffFirst, "", "first: "),
+    (Run::DiffSecond, "", "second: "),
 ];
 
 /// That a run on an input that gives these bytes and then fails has this status and this line.

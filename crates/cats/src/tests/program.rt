@@ -46,7 +46,7 @@ fn run(
 const ROOM: usize = 65_536;
 
 /// Command lines that ask for nothing that the program does.
-static WRONG_LINES: [&str; 34] = [
+static WRONG_LINES: [&str; 38] = [
     "cats",
     "cats check",
     "cats show",
@@ -77,6 +77,10 @@ static WRONG_LINES: [&str; 34] = [
     "cats compare a",
     "cats compare a b c",
     "cats compare --steps 0 a b",
+    "cats diff",
+    "cats diff a",
+    "cats diff a b c",
+    "cats diff --steps 0 a b",
     "cats duplicates",
     "cats sizes",
     "cats duplicates --steps 0 a b",
@@ -102,7 +106,7 @@ fn usage_faults(rt: HostRuntime) -> Result<(), Fail> {
 }
 
 /// Command lines that ask for help.
-static HELP_LINES: [&str; 11] = [
+static HELP_LINES: [&str; 12] = [
     "cats --help",
     "cats -h",
     "cats help",
@@ -113,6 +117,7 @@ static HELP_LINES: [&str; 11] = [
     "cats normalise --help",
     "cats explain --help",
     "cats compare --help",
+    "cats diff --help",
     "cats duplicates --help",
 ];
 
@@ -234,7 +239,7 @@ static SHOWN_ROWS: [Row<'static>; 2] = [
 
 const MISSING: &str = "goods 2\nbids 0\n";
 
-static MISSING_ROWS: [Row<'static>; 12] = [
+static MISSING_ROWS: [Row<'static>; 14] = [
     ("cats check FILE", ROOM, ROOM, 2, "", "line 3: Missing\n"),
     ("cats check FILE", ROOM, 0, 2, "", ""),
     ("cats show FILE", ROOM, ROOM, 2, "", "line 3: Missing\n"),
@@ -275,6 +280,22 @@ static MISSING_ROWS: [Row<'static>; 12] = [
         5,
         "",
         "first: cannot open\n",
+    ),
+    (
+        "cats diff FILE FILE",
+        ROOM,
+        ROOM,
+        2,
+        "",
+        "first: line 3: Missing\n",
+    ),
+    (
+        "cats diff FILE /tmp/cats_cmd_no_such_folder/a.cats",
+        ROOM,
+        ROOM,
+        5,
+        "",
+        "second: cannot open\n",
     ),
 ];
 
@@ -344,7 +365,7 @@ const LARGER_BID: &str = "goods 2\nbids 3\ndummy 0\n0 3 0 #\n1 4 1 #\n2 7 0 1 #\
 
 const LARGER_BID_TEXT: &str = "goods 2\nbids 2\ndummy 0\n0\t3\t0\t#\n1\t4\t1\t#\n";
 
-static LARGER_BID_ROWS: [Row<'static>; 12] = [
+static LARGER_BID_ROWS: [Row<'static>; 16] = [
     ("cats normalise FILE", ROOM, ROOM, 0, LARGER_BID_TEXT, ""),
     (
         "cats explain FILE",
@@ -402,6 +423,31 @@ static LARGER_BID_ROWS: [Row<'static>; 12] = [
         3,
         "",
         "first: step limit at 0,1\n",
+    ),
+    ("cats diff FILE FILE", ROOM, ROOM, 0, "", ""),
+    (
+        "cats diff FILE OTHER",
+        ROOM,
+        ROOM,
+        1,
+        "or\t0\t3\t-\nor\t1\t4\t-\n",
+        "",
+    ),
+    (
+        "cats diff OTHER FILE",
+        ROOM,
+        ROOM,
+        1,
+        "or\t0\t-\t3\nor\t1\t-\t4\n",
+        "",
+    ),
+    (
+        "cats diff --steps=2 OTHER FILE",
+        ROOM,
+        ROOM,
+        3,
+        "",
+        "second: step limit at 0,1\n",
     ),
     (
         "cats normalise --steps 3 FILE",

@@ -95,7 +95,7 @@ static REFUSED: [(&str, Unopened); 3] = [
 /// A command line's words, and what it answers: its status, its output and its faults' lines.
 type Row<'a> = (&'a [&'a str], u8, &'a str, &'a str);
 
-static ROWS: [Row<'static>; 32] = [
+static ROWS: [Row<'static>; 35] = [
     (
         &["cats", "check", "same"],
         0,
@@ -128,6 +128,14 @@ static ROWS: [Row<'static>; 32] = [
     ),
     (
         &["cats", "compare", "one", "none"],
+        5,
+        "",
+        "second: cannot open\n",
+    ),
+    (&["cats", "diff", "one", "other"], 1, "or\t0\t3\t4\n", ""),
+    (&["cats", "diff", "other", "one"], 1, "or\t0\t4\t3\n", ""),
+    (
+        &["cats", "diff", "one", "none"],
         5,
         "",
         "second: cannot open\n",

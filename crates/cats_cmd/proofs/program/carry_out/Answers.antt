@@ -1,7 +1,7 @@
 -- A request is carried out by its one run, on the streams that were opened at its paths: what the run's contract says, at the run's
 -- arguments, is what the request needs.
 use Rattle.std.proofs.Common.{refl}
-use Rattle.cats_cmd.proofs.Stopping.{ran_at, valued_at, explained_at, compared_at, rounded_at, stopped_run}
+use Rattle.cats_cmd.proofs.Stopping.{ran_at, valued_at, explained_at, compared_at, differed_at, rounded_at, stopped_run}
 use Rattle.cats_cmd.specs.Outcomes.{check_outcome, show_outcome, normalise_outcome}
 use Rattle.cats_cmd.proofs.program.carry_out.Goals as goal
 
@@ -61,7 +61,7 @@ returns-in_err-run_explain-in-Explain g c =
 pub returns-in_ok-run_compare-in-Compare : goal.returns-in_ok-run_compare-in-Compare
 returns-in_ok-run_compare-in-Compare g c =
     rw c.in-Compare.is (
-      compared_at _ _ _ c.in-Compare.first.now c.in-Compare.second.now c.in-Compare.limit _ _ _ _ _ _ _
+      compared_at _ _ _ c.in-Compare.files.first.now c.in-Compare.files.second.now c.in-Compare.files.limit _ _ _ _ _ _ _
           c.in_ok-left-in-Compare.ensures.opened c.in_ok-right-in-Compare.ensures.opened c.in_ok-run_compare-in-Compare.ensures,
       refl,
     )
@@ -70,8 +70,25 @@ pub returns-in_err-run_compare-in-Compare : goal.returns-in_err-run_compare-in-C
 returns-in_err-run_compare-in-Compare g c =
     stopped_run _ _ _ _ _ _ _ _ _ c.args.request.now _ _ _ c.from_residual-in_err-run_compare-in-Compare.ensures.1
     (rw c.in-Compare.is (
-      compared_at _ _ _ c.in-Compare.first.now c.in-Compare.second.now c.in-Compare.limit _ _ _ _ _ _ _
+      compared_at _ _ _ c.in-Compare.files.first.now c.in-Compare.files.second.now c.in-Compare.files.limit _ _ _ _ _ _ _
           c.in_ok-left-in-Compare.ensures.opened c.in_ok-right-in-Compare.ensures.opened c.in_err-run_compare-in-Compare.ensures,
+      refl,
+    ))
+
+pub returns-in_ok-run_diff-in-Diff : goal.returns-in_ok-run_diff-in-Diff
+returns-in_ok-run_diff-in-Diff g c =
+    rw c.in-Diff.is (
+      differed_at _ _ _ c.in-Diff.files.first.now c.in-Diff.files.second.now c.in-Diff.files.limit _ _ _ _ _ _ _
+          c.in_ok-left-in-Diff.ensures.opened c.in_ok-right-in-Diff.ensures.opened c.in_ok-run_diff-in-Diff.ensures,
+      refl,
+    )
+
+pub returns-in_err-run_diff-in-Diff : goal.returns-in_err-run_diff-in-Diff
+returns-in_err-run_diff-in-Diff g c =
+    stopped_run _ _ _ _ _ _ _ _ _ c.args.request.now _ _ _ c.from_residual-in_err-run_diff-in-Diff.ensures.1
+    (rw c.in-Diff.is (
+      differed_at _ _ _ c.in-Diff.files.first.now c.in-Diff.files.second.now c.in-Diff.files.limit _ _ _ _ _ _ _
+          c.in_ok-left-in-Diff.ensures.opened c.in_ok-right-in-Diff.ensures.opened c.in_err-run_diff-in-Diff.ensures,
       refl,
     ))
 

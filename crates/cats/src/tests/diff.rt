@@ -1,0 +1,281 @@
+use super::compare::{
+    APART, EQUAL_BIDDERS, FIVE, FOUR, LARGER_BID, NOTHING, REFUSALS, SINGLES, TOGETHER,
+};
+use super::streams::{RunAnswer, answer_of, expect, expect_cut_off, reader, writer};
+use cats_cmd::run_diff;
+use std::alloc::Global;
+use std::process::Abort;
+use std::test::Fail;
+
+const STEPS: u64 = 1_000_000;
+
+const ROOM: usize = 65_536;
+
+/// What `diff` answers of two texts under a step limit, with a writer that has this room in all.
+fn differed(
+    alloc: Global,
+    first: &str,
+    second: &str,
+    limit: u64,
+    room: usize,
+) -> Result<RunAnswer, Fail> {
+    let mut left = reader(first.as_bytes(), false);
+    let mut right = reader(second.as_bytes(), false);
+    let mut out = writer(alloc, 4096, room);
+    let answer = run_diff(alloc, &mut left, &mut right, limit, &mut out);
+    answer_of(alloc, answer, out)
+}
+
+/// That two texts have these differences.
+fn differ(
+    rt: &(impl Abort + AllocGlobal),
+    first: &str,
+    second: &str,
+    lines: &str,
+) -> Result<(), Fail> {
+    let answer = differed(rt.alloc(), first, second, STEPS, ROOM)?;
+    let status = if lines.is_empty() { 0 } else { 1 };
+    expect(rt, &answer, status, lines, "");
+    Ok(())
+}
+
+/// Pairs of texts, and for each its differences, in this order and with the texts exchanged. Each text has none from itself.
+fn differ_both_ways(
+    rt: &(impl Abort + AllocGlobal),
+    rows: &[(&str, &str, &str, &str)],
+) -> Result<(), Fail> {
+    for (first, second, there, back) in rows {
+        differ(rt, first, second, there)?;
+        differ(rt, second, first, back)?;
+        differ(rt, first, first, "")?;
+        differ(rt, second, second, "")?;
+    }
+    Ok(())
+}
+
+#[test]
+fn no_differences(rt: HostRuntime) -> Result<(), Fail> {
+    differ_both_ways(
+        &rt,
+        &[
+            (NOTHING, NOTHING, "", ""),
+            (LARGER_BID, SINGLES, "", ""),
+            // a bid that another of its bidder outbids
+            (
+                EQUAL_BIDDERS,
+                "goods 2\nbids 4\ndummy 2\n0\t1\t0\t2\t#\n1\t2\t0\t1\t2\t#\n2\t1\t0\t3\t#\n3\t2\t0\t1\t3\t#\n",
+                "",
+                "",
+            ),
+            // the bidders in another order, and one more without a price above 0
+            (
+                APART,
+                "goods 2\nbids 5\ndummy 3\n0\t2\t0\t4\t#\n1\t1\t1\t4\t#\n2\t1\t0\t2\t#\n3\t2\t1\t2\t#\n4\t0\t0\t3\t#\n",
+                "",
+                "",
+            ),
+        ],
+    )
+}
+
+#[test]
+fn numbers_of_goods(rt: HostRuntime) -> Result<(), Fail> {
+    differ_both_ways(
+        &rt,
+        &[
+            (
+                "goods 1\nbids 0\ndummy 0\n",
+                "goods 2\nbids 0\ndummy 0\n",
+                "goods\t1\t2\n",
+                "goods\t2\t1\n",
+            ),
+            // nothing else is compared
+            (
+                FOUR,
+                "goods 4096\nbids 2\ndummy 1\n0\t5\t0\t#\n1\t3\t1\t4096\t#\n",
+                "goods\t1\t4096\n",
+                "goods\t4096\t1\n",
+            ),
+        ],
+    )
+}
+
+#[test]
+fn bundles(rt: HostRuntime) -> Result<(), Fail> {
+    differ_both_ways(
+        &rt,
+        &[
+            (FOUR, FIVE, "or\t0\t4\t5\n", "or\t0\t5\t4\n"),
+            (
+                "goods 1\nbids 1\ndummy 0\n0\t1.5\t0\t#\n",
+                "goods 1\nbids 1\ndummy 0\n0\t1.250001\t0\t#\n",
+                "or\t0\t1.5\t1.250001\n",
+                "or\t0\t1.250001\t1.5\n",
+            ),
+            // one more bid
+            (FOUR, "goods 1\nbids 0\ndummy 0\n", "or\t0\t4\t-\n", "or\t0\t-\t4\n"),
+            // a bid above the sum of two others
+            (
+                "goods 2\nbids 3\ndummy 0\n0\t3\t0\t#\n1\t4\t1\t#\n2\t8\t0\t1\t#\n",
+                SINGLES,
+                "or\t0,1\t8\t-\n",
+                "or\t0,1\t-\t8\n",
+            ),
+            // one more good in a bid: bundles in order, by size first
+            (
+                "goods 2\nbids 2\ndummy 0\n0\t1\t0\t#\n1\t1\t1\t#\n",
+                "goods 2\nbids 2\ndummy 0\n0\t1\t0\t#\n1\t9\t0\t1\t#\n",
+                "or\t1\t1\t-\nor\t0,1\t-\t9\n",
+                "or\t1\t-\t1\nor\t0,1\t9\t-\n",
+            ),
+            // all bundles differ, and the last is on one side alone
+            (
+                "goods 12\nbids 3\ndummy 0\n0\t1\t2\t#\n1\t1\t10\t#\n2\t1\t11\t#\n",
+                "goods 12\nbids 2\ndummy 0\n0\t3\t2\t#\n1\t2\t10\t#\n",
+                "or\t2\t1\t3\nor\t10\t1\t2\nor\t11\t1\t-\n",
+                "or\t2\t3\t1\nor\t10\t2\t1\nor\t11\t-\t1\n",
+            ),
+        ],
+    )
+}
+
+/// Three equal bidders on one good, behind one without a price above 0.
+const THREE_COPIES: &str =
+    "goods 1\nbids 4\ndummy 4\n0\t0\t0\t1\t#\n1\t3\t0\t2\t#\n2\t3\t0\t3\t#\n3\t3\t0\t4\t#\n";
+
+const TWO_COPIES: &str = "goods 1\nbids 2\ndummy 2\n0\t3\t0\t1\t#\n1\t3\t0\t2\t#\n";
+
+/// A bidder of three bids.
+const THREE_BIDS: &str =
+    "goods 3\nbids 3\ndummy 1\n0\t1\t0\t3\t#\n1\t2\t1\t3\t#\n2\t3\t2\t3\t#\n";
+
+/// Two bidders on the same goods, of which the first has one bid in common with that bidder and the second two.
+const SHARE_ONE_AND_TWO: &str = "goods 3\nbids 6\ndummy 2\n0\t1\t0\t3\t#\n1\t9\t1\t3\t#\n2\t9\t2\t3\t#\n3\t1\t0\t4\t#\n4\t2\t1\t4\t#\n5\t4\t2\t4\t#\n";
+
+#[test]
+fn single_bidders(rt: HostRuntime) -> Result<(), Fail> {
+    differ_both_ways(
+        &rt,
+        &[
+            // the same bid with a dummy good
+            (
+                FOUR,
+                "goods 1\nbids 1\ndummy 1\n0\t4\t0\t1\t#\n",
+                "or\t0\t4\t-\nxor\t-\t1\nbid\t0\t-\t4\n",
+                "or\t0\t-\t4\nxor\t1\t-\nbid\t0\t4\t-\n",
+            ),
+            // two copies and one; a bid that another of its bidder outbids is not printed
+            (
+                EQUAL_BIDDERS,
+                "goods 2\nbids 2\ndummy 1\n0\t1\t0\t2\t#\n1\t2\t0\t1\t2\t#\n",
+                "xor\t2\t-\nbid\t0\t1\t-\nbid\t0,1\t2\t-\n",
+                "xor\t-\t2\nbid\t0\t-\t1\nbid\t0,1\t-\t2\n",
+            ),
+            // three copies and two, and three and none: the smallest dummy goods first
+            (
+                THREE_COPIES,
+                TWO_COPIES,
+                "xor\t2\t-\nbid\t0\t3\t-\n",
+                "xor\t-\t2\nbid\t0\t-\t3\n",
+            ),
+            (
+                THREE_COPIES,
+                "goods 1\nbids 0\ndummy 0\n",
+                "xor\t2\t-\nbid\t0\t3\t-\nxor\t3\t-\nbid\t0\t3\t-\nxor\t4\t-\nbid\t0\t3\t-\n",
+                "xor\t-\t2\nbid\t0\t-\t3\nxor\t-\t3\nbid\t0\t-\t3\nxor\t-\t4\nbid\t0\t-\t3\n",
+            ),
+            // the bidder of the second dummy good is the first of the canonical file
+            (
+                "goods 2\nbids 2\ndummy 2\n0\t2\t1\t2\t#\n1\t1\t0\t3\t#\n",
+                "goods 2\nbids 1\ndummy 1\n0\t2\t1\t2\t#\n",
+                "xor\t3\t-\nbid\t0\t1\t-\n",
+                "xor\t-\t3\nbid\t0\t-\t1\n",
+            ),
+            // no bid in common
+            (
+                "goods 1\nbids 1\ndummy 1\n0\t1\t0\t1\t#\n",
+                "goods 1\nbids 1\ndummy 1\n0\t2\t0\t1\t#\n",
+                "xor\t1\t-\nbid\t0\t1\t-\nxor\t-\t1\nbid\t0\t-\t2\n",
+                "xor\t1\t-\nbid\t0\t2\t-\nxor\t-\t1\nbid\t0\t-\t1\n",
+            ),
+        ],
+    )
+}
+
+#[test]
+fn bidders_beside_each_other(rt: HostRuntime) -> Result<(), Fail> {
+    differ_both_ways(
+        &rt,
+        &[
+            // another price of one bid, and the dummy goods of the two files
+            (
+                "goods 2\nbids 2\ndummy 1\n0\t5\t0\t2\t#\n1\t8\t0\t1\t2\t#\n",
+                "goods 2\nbids 3\ndummy 2\n0\t5\t0\t3\t#\n1\t9\t0\t1\t3\t#\n2\t0\t0\t2\t#\n",
+                "xor\t2\t3\nbid\t0,1\t8\t9\n",
+                "xor\t3\t2\nbid\t0,1\t9\t8\n",
+            ),
+            // one more bid, and one more good in a bid
+            (
+                "goods 3\nbids 2\ndummy 1\n0\t5\t0\t3\t#\n1\t7\t1\t3\t#\n",
+                "goods 3\nbids 3\ndummy 1\n0\t5\t0\t3\t#\n1\t7\t1\t2\t3\t#\n2\t6\t1\t3\t#\n",
+                "xor\t3\t3\nbid\t1\t7\t6\nbid\t1,2\t-\t7\n",
+                "xor\t3\t3\nbid\t1\t6\t7\nbid\t1,2\t7\t-\n",
+            ),
+            // two bidders of each file, one bid in common with either
+            (
+                APART,
+                TOGETHER,
+                "xor\t2\t2\nbid\t1\t2\t1\nbid\t0,1\t-\t2\nxor\t3\t3\nbid\t1\t1\t2\n",
+                "xor\t2\t2\nbid\t1\t1\t2\nbid\t0,1\t2\t-\nxor\t3\t3\nbid\t1\t2\t1\n",
+            ),
+            // the one that has more bids in common
+            (
+                THREE_BIDS,
+                SHARE_ONE_AND_TWO,
+                "xor\t3\t4\nbid\t2\t3\t4\nxor\t-\t3\nbid\t0\t-\t1\nbid\t1\t-\t9\nbid\t2\t-\t9\n",
+                "xor\t4\t3\nbid\t2\t4\t3\nxor\t3\t-\nbid\t0\t1\t-\nbid\t1\t9\t-\nbid\t2\t9\t-\n",
+            ),
+        ],
+    )
+}
+
+/// An OR bid and an XOR bid with other prices in each file.
+const BOTH_KINDS: &str = "goods 3\nbids 4\ndummy 1\n0\t1\t0\t#\n1\t2\t1\t#\n2\t3\t0\t3\t#\n3\t5\t2\t3\t#\n";
+
+const BOTH_KINDS_DIFFER: &str =
+    "goods 3\nbids 4\ndummy 1\n0\t1\t0\t#\n1\t2.5\t1\t#\n2\t4\t0\t3\t#\n3\t5\t2\t3\t#\n";
+
+const BOTH_LINES: &str = "or\t1\t2\t2.5\nxor\t3\t3\nbid\t0\t3\t4\n";
+
+#[test]
+fn both_kinds_of_bidders(rt: HostRuntime) -> Result<(), Fail> {
+    differ_both_ways(
+        &rt,
+        &[(
+            BOTH_KINDS,
+            BOTH_KINDS_DIFFER,
+            BOTH_LINES,
+            "or\t1\t2.5\t2\nxor\t3\t3\nbid\t0\t4\t3\n",
+        )],
+    )
+}
+
+#[test]
+fn diff_refuses_as_compare_does(rt: HostRuntime) -> Result<(), Fail> {
+    for (first, second, limit, status, line) in &REFUSALS {
+        let answer = differed(rt.alloc(), first, second, *limit, ROOM)?;
+        expect(&rt, &answer, *status, "", line);
+    }
+    let answer = differed(rt.alloc(), LARGER_BID, SINGLES, 3, ROOM)?;
+    expect(&rt, &answer, 0, "", "");
+    Ok(())
+}
+
+#[test]
+fn outputs_of_diff_fail(rt: HostRuntime) -> Result<(), Fail> {
+    for room in 0..BOTH_LINES.len() {
+        let cut_off = differed(rt.alloc(), BOTH_KINDS, BOTH_KINDS_DIFFER, STEPS, room)?;
+        expect_cut_off(&rt, &cut_off, BOTH_LINES, room)?;
+    }
+    Ok(())
+}

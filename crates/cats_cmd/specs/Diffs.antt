@@ -1,0 +1,36 @@
+-- What a run of `cats diff` does. More than one list of differences may be true of two files, since it is left open which bidders
+-- are shown beside each other, so its text is that of one of them.
+use Rattle.std.specs.Prelude.{ℕ, List, Option, Result}
+use Rattle.bid_file.specs.Files.{PlainFile}
+use Rattle.cats_text.specs.declared.stream.Watched.{Watched}
+use Rattle.valuation.specs.Auctions.{auction_from}
+use Rattle.canon.specs.Canonical.{canonical_file}
+use Rattle.canon.specs.Renaming.{kept_dummies}
+use Rattle.differences.specs.Differences.{PlainDifferences, AreAllDifferences}
+use Rattle.cats_cmd.specs.Comparisons.{ReadsBoth, RunsOnBoth}
+use Rattle.cats_cmd.specs.DiffTexts.{diff_text}
+use Rattle.cats_cmd.specs.Outcomes.{Outcome, Tells}
+use Rattle.cats_cmd.specs.Statuses.{status_of_differences}
+use Rattle.cats_cmd.specs.declared.report.RunFault.{RunFault}
+
+-- of the differences of two files
+abbrev pub diff_outcome : PlainFile × PlainFile × PlainDifferences → Outcome
+diff_outcome compared = Tells (status_of_differences compared.2)
+    (diff_text compared.0.goods (kept_dummies compared.0) (kept_dummies compared.1) compared.2)
+
+module _ {R S W : Type 0} (remaining_first : R → Option (List ℕ)) (remaining_second : S → Option (List ℕ))
+    (contents : W → Option (List ℕ)) (limit : ℕ) where
+  -- both files were read, neither has a heavy bundle, and these are all differences of their auctions
+  pub record ReadsDifferences (first first_after : Watched R) (second second_after : Watched S)
+      (compared : PlainFile × PlainFile × PlainDifferences) : Type 0 where
+    pub reads : ReadsBoth remaining_first remaining_second contents limit first first_after second second_after
+        (compared.0, compared.1)
+    pub all : AreAllDifferences (auction_from (canonical_file compared.0)) (auction_from (canonical_file compared.1))
+        compared.2
+
+  -- the contract of such a run. It refuses what `cats compare` refuses
+  abbrev pub DiffsFiles : Watched R → Watched R → Watched S → Watched S → Watched W → Watched W → Result ℕ RunFault
+      → Type 0
+  DiffsFiles first first_after second second_after out out_after answer =
+      RunsOnBoth remaining_first remaining_second contents limit (ReadsDifferences first first_after second second_after)
+      diff_outcome first first_after second second_after out out_after answer

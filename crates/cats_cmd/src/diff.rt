@@ -1,0 +1,107 @@
+//! `cats diff`: all differences of two bid files.
+
+mod text;
+
+ghost use Rattle.std.specs.Prelude.{◌≡◌, false, IfOk};
+ghost use Rattle.cats_text.specs.Streams.{has_ended, has_failed};
+ghost use Rattle.differences.specs.Views.{plain_differences};
+ghost use Rattle.cats_cmd.specs.Diffs.{DiffsFiles};
+ghost use Rattle.cats_cmd.specs.Internal.Diffs.{IsNamedFile, ReadsNamed, SendsDifferences, TellsDifferences};
+ghost use Rattle.cats_cmd.specs.Statuses.{status_of_differences};
+
+use crate::report::{DIFFERENT, DONE, RunFault};
+use crate::run::{read_packed_file, send_text};
+use canon::{CanonFault, NamedFile, Which, named_normal_file};
+use cats_text::Watched;
+use differences::{Differences, all_differences};
+use std::alloc::{AllocError, Global};
+use std::io::{Read, Write};
+use text::diff_text;
+
+/// Reads and normalises the first file, and then the second, and sends a line for each difference. `limit` bounds the steps
+/// of each search that decides on a bundle of an OR bidder.
+///
+/// The status is 0 for the same auction, and 1 for a difference. A fault of a file says which of the two it belongs to;
+/// want of memory after both files are normalised belongs to both.
+pub fn run_diff<R: Read, S: Read, W: Write>(
+    alloc: Global,
+    first: &mut Watched<R>,
+    second: &mut Watched<S>,
+    limit: u64,
+    out: &mut Watched<W>,
+) -> Result<u8, RunFault>
+    requires first_works { has_failed first.old ≡ false }
+    requires first_fresh { has_ended first.old ≡ false }
+    requires second_works { has_failed second.old ≡ false }
+    requires second_fresh { has_ended second.old ≡ false }
+    requires out_works { has_failed out.old ≡ false }
+    ensures { DiffsFiles R.remaining S.remaining W.contents limit first.old first.new second.old second.new out.old
+        out.new result }
+{
+    let left = match read_named(alloc, first, limit) {
+        Ok(named) => named,
+        Err(fault) => return Err(RunFault::Refused(Which::First, fault)),
+    };
+    let right = match read_named(alloc, second, limit) {
+        Ok(named) => named,
+        Err(fault) => return Err(RunFault::Refused(Which::Second, fault)),
+    };
+    send_differences(alloc, &left, &right, out)
+}
+
+/// Reads a bid file, and gives it up for its canonical file, with the dummy goods that it had.
+fn read_named<R: Read>(
+    alloc: Global,
+    input: &mut Watched<R>,
+    limit: u64,
+) -> Result<NamedFile, CanonFault>
+    requires works { has_failed input.old ≡ false }
+    requires fresh { has_ended input.old ≡ false }
+    ensures answer { ReadsNamed R.remaining limit input.old input.new result }
+    ensures named { IfOk result IsNamedFile }
+{
+    let file = read_packed_file(alloc, input)?;
+    named_normal_file(alloc, &file, limit)
+}
+
+/// Sends all differences of two canonical files. Memory that is refused here belongs to both files.
+fn send_differences<W: Write>(
+    alloc: Global,
+    left: &NamedFile,
+    right: &NamedFile,
+    out: &mut Watched<W>,
+) -> Result<u8, RunFault>
+    requires left { IsNamedFile left.now }
+    requires right { IsNamedFile right.now }
+    requires works { has_failed out.old ≡ false }
+    ensures { SendsDifferences W.contents left.now right.now out.old out.new result }
+{
+    match differences_text(alloc, left, right) {
+        Ok((status, text)) => send_text(out, status, text.as_slice()),
+        Err(AllocError) => Err(RunFault::Refused(Which::Both, CanonFault::Memory)),
+    }
+}
+
+/// The status and the text of all differences.
+fn differences_text(
+    alloc: Global,
+    left: &NamedFile,
+    right: &NamedFile,
+) -> Result<(u8, Vec<u8>), AllocError>
+    requires left { IsNamedFile left.now }
+    requires right { IsNamedFile right.now }
+    ensures { IfOk result (λ t. TellsDifferences left.now right.now t.0 t.1.items) }
+{
+    let differences = all_differences(alloc, &left.file, &right.file)?;
+    let text = diff_text(alloc, &differences, left, right)?;
+    Ok((status_of(&differences), text))
+}
+
+fn status_of(differences: &Differences<'_>) -> u8
+    ensures { result ≡ status_of_differences (plain_differences differences.now) }
+{
+    match differences {
+        Differences::Bids { bundles, bidders } if bundles.is_empty() && bidders.is_empty() => DONE,
+        _ => DIFFERENT,
+    }
+}
