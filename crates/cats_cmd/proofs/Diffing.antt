@@ -32,14 +32,14 @@ use Rattle.differences.specs.Views.{plain_bidder_change}
 use Rattle.differences.specs.declared.change.BidderChange.{BidderChange}
 use Rattle.cats_cmd.specs.Comparisons.{ReadsBoth}
 use Rattle.cats_cmd.specs.Diffs.{DiffsFiles, ReadsDifferences, diff_outcome}
-use Rattle.cats_cmd.specs.DiffTexts.{diff_text}
+use Rattle.answers.specs.DiffTexts.{AreAmong, IsAmong, diff_text}
 use Rattle.cats_cmd.specs.Inputs.{ReadsInput}
-use Rattle.cats_cmd.specs.Internal.Diffs.{AreAmong, IsAmong, IsNamed, IsNamedFile, ReadsNamed, ReadsNamedFile, SendsDifferences, SendsText, TellsDifferences}
+use Rattle.cats_cmd.specs.Internal.Diffs.{IsNamed, IsNamedFile, ReadsNamed, ReadsNamedFile, SendsDifferences, SendsText, TellsDifferences}
 use Rattle.cats_cmd.specs.Outcomes.{Tells, normalise_outcome}
 use Rattle.cats_cmd.specs.Runs.{SendsAs}
-use Rattle.cats_cmd.specs.Statuses.{status_of_differences}
-use Rattle.cats_cmd.specs.declared.report.RunFault.{RunFault}
-use Rattle.cats_cmd.specs.declared.report.RunFault.TheVariants.{Refused, GoodRange, Sent}
+use Rattle.answers.specs.Statuses.{status_of_differences}
+use Rattle.answers.specs.declared.report.RunFault.{RunFault}
+use Rattle.answers.specs.declared.report.RunFault.TheVariants.{Refused, GoodRange, Sent}
 use Rattle.cats_cmd.proofs.Comparing.{both_refused, told_of_both}
 use Rattle.cats_cmd.proofs.Normalised.{refused_by_normalising}
 use Rattle.cats_cmd.proofs.RunsOfOneFile.{refused_in_reading, refused_in_making}

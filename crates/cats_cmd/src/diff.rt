@@ -1,22 +1,17 @@
 //! `cats diff`: all differences of two bid files.
 
-mod text;
-
 ghost use Rattle.std.specs.Prelude.{◌≡◌, false, IfOk};
 ghost use Rattle.cats_text.specs.Streams.{has_ended, has_failed};
-ghost use Rattle.differences.specs.Views.{plain_differences};
 ghost use Rattle.cats_cmd.specs.Diffs.{DiffsFiles};
 ghost use Rattle.cats_cmd.specs.Internal.Diffs.{IsNamedFile, ReadsNamed, SendsDifferences, TellsDifferences};
-ghost use Rattle.cats_cmd.specs.Statuses.{status_of_differences};
 
-use crate::report::{DIFFERENT, DONE, RunFault};
+use answers::{RunFault, diff_text, differences_status};
 use crate::run::{read_packed_file, send_text};
 use canon::{CanonFault, NamedFile, Which, named_normal_file};
 use cats_text::Watched;
-use differences::{Differences, all_differences};
+use differences::all_differences;
 use std::alloc::{AllocError, Global};
 use std::io::{Read, Write};
-use text::diff_text;
 
 /// Reads and normalises the first file, and then the second, and sends a line for each difference. `limit` bounds the steps
 /// of each search that decides on a bundle of an OR bidder.
@@ -94,14 +89,5 @@ fn differences_text(
 {
     let differences = all_differences(alloc, &left.file, &right.file)?;
     let text = diff_text(alloc, &differences, left, right)?;
-    Ok((status_of(&differences), text))
-}
-
-fn status_of(differences: &Differences<'_>) -> u8
-    ensures { result ≡ status_of_differences (plain_differences differences.now) }
-{
-    match differences {
-        Differences::Bids { bundles, bidders } if bundles.is_empty() && bidders.is_empty() => DONE,
-        _ => DIFFERENT,
-    }
+    Ok((differences_status(&differences), text))
 }

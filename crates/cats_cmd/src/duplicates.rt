@@ -9,7 +9,7 @@ ghost use Rattle.cats_cmd.specs.Paths.{RunsOnPaths};
 
 use crate::paths::{Collection, Ending, ManyFiles, run_on_paths};
 use crate::program::Stop;
-use crate::report::RunFault;
+use answers::RunFault;
 use crate::source::Source;
 use canon::AuctionIndex;
 use cats_text::Watched;

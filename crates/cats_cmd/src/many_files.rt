@@ -13,7 +13,7 @@ use crate::duplicates::run_duplicates;
 use crate::path_list::split_paths;
 use crate::paths::{ManyFiles, open_file, path_refusal};
 use crate::program::{Stop, report, status_of};
-use crate::report::RunFault;
+use answers::RunFault;
 use crate::sizes::run_sizes;
 use crate::source::Source;
 use cats_text::Watched;

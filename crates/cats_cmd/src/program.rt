@@ -14,7 +14,7 @@ use crate::explanation::run_explain;
 use crate::many_files::{run_duplicates_of, run_sizes_of};
 use crate::normalise::run_normalise;
 use crate::paths::{Ending, ManyFiles, Progress};
-use crate::report::{DEVICE_FAILED, DONE, NO_MEMORY, RunFault, WRONG_USAGE, fault_line, status};
+use answers::{DEVICE_FAILED, DONE, NO_MEMORY, RunFault, WRONG_USAGE, fault_line, status};
 use crate::round::run_round;
 use crate::show::run_show;
 use crate::source::{Source, SystemFiles, Unopened};

@@ -11,7 +11,7 @@ ghost use Rattle.cats_cmd.specs.SizesTables.{MakesTable};
 use crate::escaping::{push_end, push_path};
 use crate::paths::{Collection, Ending, ManyFiles, run_on_paths};
 use crate::program::Stop;
-use crate::report::RunFault;
+use answers::RunFault;
 use crate::run::read_packed_file;
 use crate::source::Source;
 use canon::{CanonFault, normal_packed_file};

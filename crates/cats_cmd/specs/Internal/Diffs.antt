@@ -1,6 +1,6 @@
 -- What the parts of `cats diff` do: reading a file with its names, and sending all differences of two.
-use Rattle.std.specs.Prelude.{◌≡◌, ℕ, List, length, Option, Result, Ok, Err, All}
-use Rattle.bid_file.specs.Files.{PlainFile, IsDummyBelow}
+use Rattle.std.specs.Prelude.{◌≡◌, ℕ, List, length, Option, Result, Ok, Err}
+use Rattle.bid_file.specs.Files.{PlainFile}
 use Rattle.cats_text.specs.declared.stream.Watched.{Watched}
 use Rattle.valuation.specs.Auctions.{auction_from}
 use Rattle.canon.specs.Canonical.{IsCanonicalFile, canonical_file}
@@ -9,15 +9,14 @@ use Rattle.canon.specs.declared.fault.CanonFault.{CanonFault}
 use Rattle.canon.specs.declared.fault.CanonFault.TheVariants.{Memory}
 use Rattle.canon.specs.declared.named.NamedFile.{NamedFile}
 use Rattle.canon.specs.declared.which.Which.TheVariants.{Both}
-use Rattle.differences.specs.BidderChanges.{PlainBidderChange}
-use Rattle.differences.specs.Differences.{PlainDifferences, InGoods, InBids, AreAllDifferences}
-use Rattle.cats_cmd.specs.DiffTexts.{diff_text}
+use Rattle.differences.specs.Differences.{PlainDifferences, AreAllDifferences}
+use Rattle.answers.specs.DiffTexts.{diff_text}
 use Rattle.cats_cmd.specs.Inputs.{IsRefusedFile, ReadsLightFile}
 use Rattle.cats_cmd.specs.Outcomes.{normalise_outcome}
 use Rattle.cats_cmd.specs.Runs.{SendsAs}
-use Rattle.cats_cmd.specs.Statuses.{status_of_differences}
-use Rattle.cats_cmd.specs.declared.report.RunFault.{RunFault}
-use Rattle.cats_cmd.specs.declared.report.RunFault.TheVariants.{Refused}
+use Rattle.answers.specs.Statuses.{status_of_differences}
+use Rattle.answers.specs.declared.report.RunFault.{RunFault}
+use Rattle.answers.specs.declared.report.RunFault.TheVariants.{Refused}
 
 -- ---- one of the files
 
@@ -37,17 +36,6 @@ module _ {R : Type 0} (remaining : R → Option (List ℕ)) (limit : ℕ) where
   abbrev pub ReadsNamed : Watched R → Watched R → Result NamedFile CanonFault → Type 0
   ReadsNamed old new (Ok named) = ReadsNamedFile old new named
   ReadsNamed old new (Err fault) = IsRefusedFile remaining (normalise_outcome limit) old new fault
-
--- ---- the bidders of the changes
-
--- the bidders are among so many on the left and so many on the right
-pub record IsAmong (left right : ℕ) (c : PlainBidderChange) : Type 0 where
-  pub left : IsDummyBelow left c.left
-  pub right : IsDummyBelow right c.right
-
-abbrev pub AreAmong : ℕ → ℕ → PlainDifferences → Type 0
-AreAmong left right (InGoods m n) = Unit {0}
-AreAmong left right (InBids bundles bidders) = All (IsAmong left right) bidders
 
 -- ---- both files
 

@@ -1,0 +1,3 @@
+-- Proofs that several functions cite, here and in the crates above.
+pub mod Lines
+pub mod Explanations
