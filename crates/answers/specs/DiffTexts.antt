@@ -1,7 +1,6 @@
 -- What `cats diff` prints: a line for each difference, with tabs between its words, what is on the left before what is on the
 -- right.
-use Rattle.std.specs.Prelude.{ℕ, ◌+◌, List, ◌++◌, Option, Some, None, codes, decimal, slice_index_or, All}
-use Rattle.bid_file.specs.Files.{IsDummyBelow}
+use Rattle.std.specs.Prelude.{ℕ, ◌+◌, List, ◌++◌, Option, Some, None, codes, decimal, slice_index_or}
 use Rattle.std.specs.List.{flat_map}
 use Rattle.cats_text.specs.Layout.{price_text}
 use Rattle.differences.specs.BidderChanges.{PlainBidderChange}
@@ -38,14 +37,3 @@ abbrev pub diff_text : ℕ → List ℕ → List ℕ → PlainDifferences → Li
 diff_text goods left right (InGoods m n) = goods_line m n
 diff_text goods left right (InBids bundles bidders) = flat_map (change_line (codes "or")) bundles
     ++ flat_map (bidder_lines goods left right) bidders
-
--- ---- the bidders of the changes
-
--- the bidders are among so many on the left and so many on the right
-pub record IsAmong (lefts rights : ℕ) (c : PlainBidderChange) : Type 0 where
-  pub left : IsDummyBelow lefts c.left
-  pub right : IsDummyBelow rights c.right
-
-abbrev pub AreAmong : ℕ → ℕ → PlainDifferences → Type 0
-AreAmong left right (InGoods m n) = Unit {0}
-AreAmong left right (InBids bundles bidders) = All (IsAmong left right) bidders

@@ -7,3 +7,5 @@ pub mod DifferenceTexts
 pub mod DiffTexts
 pub mod ExplanationTexts
 pub mod RoundedLines
+pub mod NamedFiles
+pub mod Internal

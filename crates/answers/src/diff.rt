@@ -4,7 +4,9 @@ ghost use Rattle.std.specs.Prelude.{◌≡◌, ◌++◌, All, IfOk, OnOk, length
 ghost use Rattle.std.specs.List.{flat_map};
 ghost use Rattle.bid_file.specs.Files.{IsDummyBelow};
 ghost use Rattle.differences.specs.Views.{plain_bidder_change, plain_change, plain_differences};
-ghost use Rattle.answers.specs.DiffTexts.{AreAmong, IsAmong, bidder_lines, bidder_word, change_line, diff_text, goods_line, price_word};
+ghost use Rattle.answers.specs.DiffTexts.{bidder_lines, bidder_word, change_line, diff_text, goods_line, price_word};
+ghost use Rattle.answers.specs.Internal.Among.{AreAmong, IsAmong};
+ghost use Rattle.answers.specs.NamedFiles.{IsNamedFile, TellsDifferences};
 ghost use Rattle.answers.specs.Outputs.{bundle_text};
 ghost use Rattle.answers.specs.Statuses.{status_of_differences};
 
@@ -12,12 +14,27 @@ use crate::report::{DIFFERENT, DONE};
 use bid_file::Bids;
 use canon::NamedFile;
 use cats_text::push_price;
-use differences::{BidderChange, Differences, PriceChange};
+use differences::{BidderChange, Differences, PriceChange, all_differences};
 use itoa::{Buffer, Integer};
 use std::alloc::{AllocError, Global};
 
+/// The status and the lines of all differences of two canonical files.
+pub fn differences_text(
+    alloc: Global,
+    left: &NamedFile,
+    right: &NamedFile,
+) -> Result<(u8, Vec<u8>), AllocError>
+    requires left { IsNamedFile left.now }
+    requires right { IsNamedFile right.now }
+    ensures { IfOk result (λ t. TellsDifferences left.now right.now t.0 t.1.items) }
+{
+    let differences = all_differences(alloc, &left.file, &right.file)?;
+    let text = diff_text(alloc, &differences, left, right)?;
+    Ok((differences_status(&differences), text))
+}
+
 /// The status of all differences: whether there are any.
-pub fn differences_status(differences: &Differences<'_>) -> u8
+fn differences_status(differences: &Differences<'_>) -> u8
     ensures { result ≡ status_of_differences (plain_differences differences.now) }
 {
     match differences {
@@ -27,7 +44,7 @@ pub fn differences_status(differences: &Differences<'_>) -> u8
 }
 
 /// The lines of all differences of two canonical files.
-pub fn diff_text(
+fn diff_text(
     alloc: Global,
     differences: &Differences<'_>,
     left: &NamedFile,

@@ -10,7 +10,7 @@ mod sizes;
 pub mod worked;
 
 pub use comparison::{verdict_status, verdict_text};
-pub use diff::{diff_text, differences_status};
+pub use diff::differences_text;
 pub use explanation::explanation_text;
 pub use report::{
     DEVICE_FAILED, DIFFERENT, DONE, FILE_REFUSED, NO_MEMORY, RunFault, STEPS_EXCEEDED, WRONG_USAGE,

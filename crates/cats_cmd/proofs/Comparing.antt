@@ -13,8 +13,8 @@ use Rattle.canon.specs.Canonical.{canonical_file}
 use Rattle.canon.specs.declared.fault.CanonFault.{CanonFault}
 use Rattle.canon.specs.declared.fault.CanonFault.TheVariants.{Memory}
 use Rattle.canon.specs.declared.which.Which.{Which}
-use Rattle.canon.specs.declared.which.Which.TheVariants.{Both, Second}
-use Rattle.cats_cmd.specs.Comparisons.{Compares, ReadsBoth, ReadsCanonicalFile, ReadsCanonical, RunsOnBoth}
+use Rattle.canon.specs.declared.which.Which.TheVariants.{Both}
+use Rattle.cats_cmd.specs.Comparisons.{Compares, ReadsBoth, ReadsCanonicalFile, ReadsCanonical, RefusesSecond, RunsOnBoth}
 use Rattle.cats_cmd.specs.Inputs.{IsRefusedFile, ReadsInput, ReadsLightFile}
 use Rattle.cats_cmd.specs.Internal.Differences.{SendsDifference}
 use Rattle.cats_cmd.specs.Outcomes.{Outcome, Tells, normalise_outcome, outcome_of_difference, compare_outcome}
@@ -109,8 +109,7 @@ module _ {R S W : Type 0} (remaining_first : R → Option (List ℕ)) (remaining
       files_told one.file other.file (one.given, other.given) d.status d.text (sym given ∙ d.made) answer d.sends
 
   -- a run whose second file was refused
-  pub run_second_refused : {A : Type 0} (Reads : A → Type 0) (outcome : A → Outcome) (left : PlainFile)
-      → ReadsLightFile remaining_first limit first first_after left → (fault : CanonFault)
+  pub run_second_refused : (left : PlainFile) → ReadsLightFile remaining_first limit first first_after left → (fault : CanonFault)
       → IsRefusedFile remaining_second (normalise_outcome limit) second second_after fault → out_after ≡ out
-      → RunsOnBoth remaining_first remaining_second contents limit Reads outcome first first_after second second_after out out_after (Err (Refused Second fault))
-  run_second_refused Reads outcome left one fault refused silent = record { left = left; reads = one; refused = refused; silent = silent }
+      → RefusesSecond remaining_first remaining_second contents limit first first_after second second_after out out_after fault
+  run_second_refused left one fault refused silent = record { left = left; reads = one; refused = refused; silent = silent }

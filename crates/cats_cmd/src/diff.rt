@@ -1,15 +1,15 @@
 //! `cats diff`: all differences of two bid files.
 
-ghost use Rattle.std.specs.Prelude.{◌≡◌, false, IfOk};
+ghost use Rattle.std.specs.Prelude.{◌≡◌, IfOk, false};
 ghost use Rattle.cats_text.specs.Streams.{has_ended, has_failed};
 ghost use Rattle.cats_cmd.specs.Diffs.{DiffsFiles};
-ghost use Rattle.cats_cmd.specs.Internal.Diffs.{IsNamedFile, ReadsNamed, SendsDifferences, TellsDifferences};
+ghost use Rattle.answers.specs.NamedFiles.{IsNamedFile};
+ghost use Rattle.cats_cmd.specs.Internal.Diffs.{ReadsNamed, SendsDifferences};
 
-use answers::{RunFault, diff_text, differences_status};
+use answers::{RunFault, differences_text};
 use crate::run::{read_packed_file, send_text};
 use canon::{CanonFault, NamedFile, Which, named_normal_file};
 use cats_text::Watched;
-use differences::all_differences;
 use std::alloc::{AllocError, Global};
 use std::io::{Read, Write};
 
@@ -75,19 +75,4 @@ fn send_differences<W: Write>(
         Ok((status, text)) => send_text(out, status, text.as_slice()),
         Err(AllocError) => Err(RunFault::Refused(Which::Both, CanonFault::Memory)),
     }
-}
-
-/// The status and the text of all differences.
-fn differences_text(
-    alloc: Global,
-    left: &NamedFile,
-    right: &NamedFile,
-) -> Result<(u8, Vec<u8>), AllocError>
-    requires left { IsNamedFile left.now }
-    requires right { IsNamedFile right.now }
-    ensures { IfOk result (λ t. TellsDifferences left.now right.now t.0 t.1.items) }
-{
-    let differences = all_differences(alloc, &left.file, &right.file)?;
-    let text = diff_text(alloc, &differences, left, right)?;
-    Ok((differences_status(&differences), text))
 }

@@ -4,7 +4,7 @@ use Rattle.cats_cmd.proofs.compare.run_compare.Goals as goal
 
 pub returns-in-Err-read_canonical : goal.returns-in-Err-read_canonical
 returns-in-Err-read_canonical g c =
-    run_second_refused _ _ _ _ _ _ _ _ _ _ _ _ c.in-Ok.ensures.answer.file c.in-Ok.ensures.answer.given _ c.in-Err-read_canonical.ensures.answer refl
+    run_second_refused _ _ _ _ _ _ _ _ _ _ c.in-Ok.ensures.answer.file c.in-Ok.ensures.answer.given _ c.in-Err-read_canonical.ensures.answer refl
 
 pub returns : goal.returns
 returns g c =

@@ -5,7 +5,7 @@ use Rattle.cats_cmd.proofs.diff.run_diff.Goals as goal
 
 pub returns-in-Err-read_named : goal.returns-in-Err-read_named
 returns-in-Err-read_named g c =
-    run_second_refused _ _ _ _ _ _ _ _ _ _ _ _ c.in-Ok.ensures.answer.file c.in-Ok.ensures.answer.given _ c.in-Err-read_named.ensures.answer refl
+    run_second_refused _ _ _ _ _ _ _ _ _ _ c.in-Ok.ensures.answer.file c.in-Ok.ensures.answer.given _ c.in-Err-read_named.ensures.answer refl
 
 pub returns : goal.returns
 returns g c =
