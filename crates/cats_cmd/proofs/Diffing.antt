@@ -63,8 +63,7 @@ module _ {R S W : Type 0} (remaining_first : R → Option (List ℕ)) (remaining
       let names : diff_text left.file.goods left.dummies.items right.dummies.items d
       ≡ diff_text one.file.goods (kept_dummies one.file) (kept_dummies other.file) d =
       ap (λ (goods : ℕ). diff_text goods left.dummies.items right.dummies.items d) (ap (λ (h : PlainFile). h.goods) one.is.canonical)
-      ∙ ap₂ (λ (xs ys : List ℕ). diff_text one.file.goods xs ys d) one.is.dummies other.is.dummies in
-      (
+      ∙ ap₂ (λ (xs ys : List ℕ). diff_text one.file.goods xs ys d) one.is.dummies other.is.dummies in (
         record { reads = (one.given, other.given); all = all },
         ap₂ (λ (s : ℕ) (xs : List ℕ). Tells s xs) (sym told.is_status) (sym (told.is_text ∙ names)),
       )

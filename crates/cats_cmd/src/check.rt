@@ -6,8 +6,8 @@ ghost use Rattle.cats_cmd.specs.Internal.Checks.{ChecksInput};
 ghost use Rattle.cats_cmd.specs.Outcomes.{check_outcome};
 ghost use Rattle.cats_cmd.specs.Runs.{RunsOnFile};
 
-use answers::{DONE, RunFault, sizes_line};
 use crate::run::send_text;
+use answers::{DONE, RunFault, sizes_line};
 use canon::CanonFault;
 use cats_text::{Header, Watched, check_from};
 use std::alloc::Global;

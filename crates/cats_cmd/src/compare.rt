@@ -7,8 +7,8 @@ ghost use Rattle.cats_cmd.specs.Comparisons.{Compares, ReadsCanonical};
 ghost use Rattle.cats_cmd.specs.Internal.Differences.{SendsDifference};
 ghost use Rattle.cats_cmd.specs.Outcomes.{Tells, compare_outcome};
 
-use answers::{RunFault, verdict_status, verdict_text};
 use crate::run::{read_packed_file, send_text};
+use answers::{RunFault, verdict_status, verdict_text};
 use bid_file::PackedFile;
 use canon::{CanonFault, Which, compare_files, normal_packed_file};
 use cats_text::Watched;

@@ -6,8 +6,8 @@ ghost use Rattle.cats_cmd.specs.Diffs.{DiffsFiles};
 ghost use Rattle.answers.specs.NamedFiles.{IsNamedFile};
 ghost use Rattle.cats_cmd.specs.Internal.Diffs.{ReadsNamed, SendsDifferences};
 
-use answers::{RunFault, differences_text};
 use crate::run::{read_packed_file, send_text};
+use answers::{RunFault, differences_text};
 use canon::{CanonFault, NamedFile, Which, named_normal_file};
 use cats_text::Watched;
 use std::alloc::{AllocError, Global};

@@ -4,8 +4,8 @@ ghost use Rattle.std.specs.Prelude.{◌≡◌, false};
 ghost use Rattle.cats_text.specs.Streams.{has_ended, has_failed};
 ghost use Rattle.cats_cmd.specs.Explanations.{ExplainsFile};
 
-use answers::{DONE, RunFault, explanation_text};
 use crate::run::{read_packed_file, send_text};
+use answers::{DONE, RunFault, explanation_text};
 use cats_text::Watched;
 use explain::explain;
 use std::alloc::Global;

@@ -1,0 +1,51 @@
+//! The call that rounds the prices of a text. It has two texts: the rounded text, and the report of the prices that changed.
+
+ghost use Rattle.std.specs.Prelude.{◌≡◌, ◌++◌, IfOk, OnOk};
+ghost use Rattle.rounding.specs.Views.{plain_changes};
+ghost use Rattle.cats_calls.specs.Roundings.{AnswersRounding, lines_of};
+
+use answers::{RunFault, price_line};
+use canon::CanonFault;
+use cats_text::{Kind, MAX_STREAM, ReadFault};
+use rounding::{FinePrices, RoundedPrice, round};
+use std::alloc::{AllocError, Global};
+
+/// A text with its prices rounded, and a line for each price whose value changed.
+#[derive(Drop)]
+pub struct RoundAnswer {
+    pub text: Vec<u8>,
+    pub report: Vec<u8>,
+}
+
+/// `cats round` on a text.
+pub fn round_text(alloc: Global, text: &[u8], fine: FinePrices) -> Result<RoundAnswer, RunFault>
+    ensures { AnswersRounding fine text.now result }
+{
+    if text.len() as u64 > MAX_STREAM {
+        return Err(RunFault::from(CanonFault::Read(ReadFault {
+            line: 0,
+            kind: Kind::TooLong,
+        })));
+    }
+    let rounded = match round(alloc, text, fine) {
+        Ok(rounded) => rounded,
+        Err(fault) => return Err(RunFault::from(CanonFault::from(fault))),
+    };
+    let report = report_text(alloc, rounded.prices.as_slice())?;
+    Ok(RoundAnswer {
+        text: rounded.text,
+        report,
+    })
+}
+
+/// The line of each price whose value changed.
+fn report_text(alloc: Global, prices: &[RoundedPrice]) -> Result<Vec<u8>, AllocError>
+    ensures { IfOk result (λ report. report.items ≡ lines_of (plain_changes prices.now)) }
+{
+    let mut report = Vec::new(alloc);
+    for price in prices {
+        let line = price_line(alloc, price)?;
+        report.extend_from_slice(line.as_slice())?;
+    }
+    Ok(report)
+}
