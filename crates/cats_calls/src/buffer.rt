@@ -30,12 +30,7 @@ pub fn give(
 }
 
 /// Puts the line of a fault into a buffer, and answers its status.
-pub(crate) fn give_fault(
-    alloc: Global,
-    fault: &RunFault,
-    out: &mut [u8],
-    needed: &mut usize,
-) -> u8
+pub(crate) fn give_fault(alloc: Global, fault: &RunFault, out: &mut [u8], needed: &mut usize) -> u8
     ensures { GivesFault fault.now out.old out.new needed.new result }
 {
     match fault_line(alloc, fault) {
@@ -44,8 +39,8 @@ pub(crate) fn give_fault(
     }
 }
 
-/// Puts a text into a buffer, and answers the status; or another one if the text does not fit.
-fn put(status: u8, text: &[u8], out: &mut [u8], needed: &mut usize) -> u8
+/// Puts a text into a buffer, and answers the status; or `TOO_SMALL` if the text does not fit.
+pub(crate) fn put(status: u8, text: &[u8], out: &mut [u8], needed: &mut usize) -> u8
     ensures needed { needed.new ≡ length text.now }
     ensures puts { PutsInto status text.now out.old out.new result }
 {

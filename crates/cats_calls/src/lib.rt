@@ -11,5 +11,5 @@ mod two_texts;
 pub use answer::Answer;
 pub use buffer::{TOO_SMALL, give};
 pub use one_text::{check, explain_text, normalise};
-pub use rounded_text::{RoundAnswer, round_text};
+pub use rounded_text::{RoundAnswer, give_report, give_rounded, round_text};
 pub use two_texts::{compare, diff};

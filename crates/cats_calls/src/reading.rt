@@ -23,11 +23,7 @@ pub(crate) fn read_text(alloc: Global, text: &[u8]) -> Result<PackedFile, CanonF
 }
 
 /// The canonical file of the file that a text spells.
-pub(crate) fn read_normal(
-    alloc: Global,
-    text: &[u8],
-    limit: u64,
-) -> Result<PackedFile, CanonFault>
+pub(crate) fn read_normal(alloc: Global, text: &[u8], limit: u64) -> Result<PackedFile, CanonFault>
     ensures answer { NormalisesAs limit text.now result }
     ensures canonical { IfOk result (λ file. IsCanonicalFile file) }
 {

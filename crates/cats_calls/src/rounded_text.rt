@@ -2,9 +2,10 @@
 
 ghost use Rattle.std.specs.Prelude.{◌≡◌, ◌++◌, IfOk, OnOk};
 ghost use Rattle.rounding.specs.Views.{plain_changes};
-ghost use Rattle.cats_calls.specs.Roundings.{AnswersRounding, lines_of};
+ghost use Rattle.cats_calls.specs.Roundings.{AnswersRounding, GivesReport, GivesRounded, lines_of};
 
-use answers::{RunFault, price_line};
+use crate::buffer::{give_fault, put};
+use answers::{DONE, RunFault, price_line};
 use canon::CanonFault;
 use cats_text::{Kind, MAX_STREAM, ReadFault};
 use rounding::{FinePrices, RoundedPrice, round};
@@ -36,6 +37,31 @@ pub fn round_text(alloc: Global, text: &[u8], fine: FinePrices) -> Result<RoundA
         text: rounded.text,
         report,
     })
+}
+
+/// Puts a rounded text into a buffer, or the line of the fault, and answers the status, as `give` does.
+pub fn give_rounded(
+    alloc: Global,
+    answer: &Result<RoundAnswer, RunFault>,
+    out: &mut [u8],
+    needed: &mut usize,
+) -> u8
+    ensures { GivesRounded answer.now out.old out.new needed.new result }
+{
+    match answer {
+        Ok(answer) => put(DONE, answer.text.as_slice(), out, needed),
+        Err(fault) => give_fault(alloc, fault, out, needed),
+    }
+}
+
+/// Puts the report into a buffer. It is empty if the text was refused.
+pub fn give_report(answer: &Result<RoundAnswer, RunFault>, out: &mut [u8], needed: &mut usize) -> u8
+    ensures { GivesReport answer.now out.old out.new needed.new result }
+{
+    match answer {
+        Ok(answer) => put(DONE, answer.report.as_slice(), out, needed),
+        Err(_) => put(DONE, b"", out, needed),
+    }
 }
 
 /// The line of each price whose value changed.
