@@ -8,11 +8,11 @@ use Rattle.cats_text.specs.declared.stream.Watched.{Watched}
 use Rattle.canon.specs.declared.fault.CanonFault.{CanonFault}
 use Rattle.canon.specs.declared.fault.CanonFault.TheVariants.{Memory}
 use Rattle.canon.specs.declared.which.Which.TheVariants.{Only}
-use Rattle.cats_cmd.specs.declared.report.RunFault.{RunFault}
-use Rattle.cats_cmd.specs.declared.report.RunFault.TheVariants.{Refused}
+use Rattle.answers.specs.declared.report.RunFault.{RunFault}
+use Rattle.answers.specs.declared.report.RunFault.TheVariants.{Refused}
 use Rattle.cats_cmd.specs.Internal.Checks.{ChecksInput}
 use Rattle.cats_cmd.specs.Outcomes.{check_outcome, Tells}
-use Rattle.cats_cmd.specs.Outputs.{check_text, sizes_text}
+use Rattle.answers.specs.Outputs.{check_text, sizes_text}
 use Rattle.cats_cmd.specs.Inputs.{ReadsInput}
 use Rattle.cats_cmd.specs.Runs.{RunsOnFile, SendsAs}
 use Rattle.cats_cmd.proofs.RunsOfOneFile.{run_unread, run_unmade, run_told}

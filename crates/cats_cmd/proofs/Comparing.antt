@@ -19,8 +19,8 @@ use Rattle.cats_cmd.specs.Inputs.{IsRefusedFile, ReadsInput, ReadsLightFile}
 use Rattle.cats_cmd.specs.Internal.Differences.{SendsDifference}
 use Rattle.cats_cmd.specs.Outcomes.{Outcome, Tells, normalise_outcome, outcome_of_difference, compare_outcome}
 use Rattle.cats_cmd.specs.Runs.{SendsAs, SendsMadeAs}
-use Rattle.cats_cmd.specs.declared.report.RunFault.{RunFault}
-use Rattle.cats_cmd.specs.declared.report.RunFault.TheVariants.{Refused, GoodRange, Sent}
+use Rattle.answers.specs.declared.report.RunFault.{RunFault}
+use Rattle.answers.specs.declared.report.RunFault.TheVariants.{Refused, GoodRange, Sent}
 use Rattle.cats_cmd.proofs.Normalised.{refused_by_normalising}
 use Rattle.cats_cmd.proofs.RunsOfOneFile.{refused_in_reading, refused_in_making, wrote}
 

@@ -15,27 +15,14 @@ use Rattle.canon.specs.declared.which.Which.TheVariants.{Only}
 use Rattle.explain.specs.Reasons.{Explains, PlainReason, Zero, plain_reason, reason_at}
 use Rattle.explain.specs.declared.reason.Reason.{Reason}
 use Rattle.cats_cmd.specs.Explanations.{ExplainsFile, ReadsExplained, explain_outcome}
-use Rattle.cats_cmd.specs.ExplanationTexts.{explanation_line, explanation_text}
+use Rattle.answers.specs.ExplanationTexts.{explanation_line, explanation_text}
 use Rattle.cats_cmd.specs.Inputs.{ReadsInput, IsRefusedFile}
 use Rattle.cats_cmd.specs.Outcomes.{Tells, normalise_outcome}
 use Rattle.cats_cmd.specs.Runs.{SendsAs}
-use Rattle.cats_cmd.specs.declared.report.RunFault.{RunFault}
-use Rattle.cats_cmd.specs.declared.report.RunFault.TheVariants.{Refused, GoodRange, Sent}
+use Rattle.answers.specs.declared.report.RunFault.{RunFault}
+use Rattle.answers.specs.declared.report.RunFault.TheVariants.{Refused, GoodRange, Sent}
 use Rattle.cats_cmd.proofs.Normalised.{refused_by_normalising}
-use Rattle.cats_cmd.proofs.Printing.{lines_more}
 use Rattle.cats_cmd.proofs.RunsOfOneFile.{refused_in_making, refused_in_reading, wrote}
-
--- the line of one more bid is put behind those of the bids before it
-pub line_of_bid : (reasons : List Reason) (i : ℕ) (reason : Reason) → i < length reasons → reason ≡ get_or reasons i reason
-    → (before after : List ℕ)
-    → before ≡ flat_map (λ j. explanation_line j (reason_at (map plain_reason reasons) j)) (range_with_len 0 i)
-    → after ≡ before ++ explanation_line i (plain_reason reason)
-    → after ≡ flat_map (λ j. explanation_line j (reason_at (map plain_reason reasons) j)) (range_with_len 0 (i + 1))
-line_of_bid reasons i reason within is before after so_far more =
-    let own : plain_reason reason ≡ reason_at (map plain_reason reasons) i =
-    ap plain_reason is ∙ sym (get_or-map plain_reason reasons i reason Zero within) in
-    more ∙ ap₂ (λ (xs : List ℕ) (r : PlainReason). xs ++ explanation_line i r) so_far own
-    ∙ lines_more (λ (j : ℕ). explanation_line j (reason_at (map plain_reason reasons) j)) i
 
 module _ {R W : Type 0} (remaining : R → Option (List ℕ)) (contents : W → Option (List ℕ)) (limit : ℕ) (old new : Watched R) where
   -- nothing was written, and this fault of the file is answered

@@ -15,23 +15,9 @@ use Rattle.valuation.specs.Bidders.{bidders_of}
 use Rattle.valuation.specs.Values.{atoms_of, chosen_places, xor_value}
 use Rattle.valuation.specs.Lemmas.Packings.{chosen_places-packing}
 use Rattle.valuation.proofs.Placing.{length-bidders_of}
+use Rattle.answers.proofs.Lines.{lines_more}
 use Rattle.cats_cmd.specs.ValueTexts.{best_place, dummy_line, numbers_text, option_places, or_numbers, xor_line, xor_numbers}
 use Rattle.cats_cmd.proofs.Numbering.{length-or_numbers}
-
-range_more : (a n : ℕ) → range_with_len a (suc n) ≡ range_with_len a n ++ (a + n) ∷ []
-range_more a zero = ap (λ (m : ℕ). m ∷ []) (sym (add-zero a))
-range_more a (suc n) =
-    let e : a + 1 + n ≡ a + suc n = omega arith in
-    ap (λ (xs : List ℕ). a ∷ xs) (range_more (a + 1) n ∙ ap (λ (m : ℕ). range_with_len (a + 1) n ++ m ∷ []) e)
-
--- one more line
-pub lines_more : (f : ℕ → List ℕ) (n : ℕ) → flat_map f (range_with_len 0 n) ++ f n ≡ flat_map f (range_with_len 0 (n + 1))
-lines_more f n =
-    ap (λ (xs : List ℕ). flat_map f (range_with_len 0 n) ++ xs) (sym (append-nil (f n)))
-    ∙ sym (flat_map-append f (range_with_len 0 n) (n ∷ []))
-    ∙ ap (λ (m : ℕ). flat_map f (range_with_len 0 n ++ m ∷ [])) (sym (zero-add n))
-    ∙ ap (flat_map f) (sym (range_more 0 n))
-    ∙ ap (λ (m : ℕ). flat_map f (range_with_len 0 m)) (sym (add-one n))
 
 -- the atoms of a bidder
 pub bidder_at : {S : Type 0} (goods : S → List ℕ) (bidders : List (Vec (Atom S) Global)) (bids : List PlainBid) (n d : ℕ) (v : Vec (Atom S) Global)

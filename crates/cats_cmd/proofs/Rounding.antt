@@ -25,11 +25,12 @@ use Rattle.rounding.specs.declared.text.RoundedPrice.{RoundedPrice}
 use Rattle.rounding.specs.declared.text.RoundedText.{RoundedText}
 use Rattle.cats_cmd.specs.Internal.Roundings.{RoundsText}
 use Rattle.cats_cmd.specs.Inputs.{ReadsAll, ReadsBytes, StopsReading}
-use Rattle.cats_cmd.specs.Rounding.{IsUnrounded, Rounds, round_outcome, rounded_line}
+use Rattle.answers.specs.RoundedLines.{rounded_line}
+use Rattle.cats_cmd.specs.Rounding.{IsUnrounded, Rounds, round_outcome}
 use Rattle.cats_cmd.specs.Runs.{SendsAs}
 use Rattle.cats_cmd.specs.Stops.{Reports, ReportsAll}
-use Rattle.cats_cmd.specs.declared.report.RunFault.{RunFault}
-use Rattle.cats_cmd.specs.declared.report.RunFault.TheVariants.{Refused, GoodRange, Sent}
+use Rattle.answers.specs.declared.report.RunFault.{RunFault}
+use Rattle.answers.specs.declared.report.RunFault.TheVariants.{Refused, GoodRange, Sent}
 use Rattle.cats_cmd.proofs.JudgingPaths.{reports_more}
 use Rattle.cats_cmd.proofs.RunsOfOneFile.{wrote}
 

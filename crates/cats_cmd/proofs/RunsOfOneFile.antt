@@ -10,8 +10,8 @@ use Rattle.cats_cmd.specs.Runs.{RunsOnFile, SendsAs, SendsMadeAs, MakesAs, Write
 use Rattle.canon.specs.declared.fault.CanonFault.{CanonFault}
 use Rattle.canon.specs.declared.fault.CanonFault.TheVariants.{Read, StepLimit, Memory}
 use Rattle.canon.specs.declared.which.Which.TheVariants.{Only}
-use Rattle.cats_cmd.specs.declared.report.RunFault.{RunFault}
-use Rattle.cats_cmd.specs.declared.report.RunFault.TheVariants.{Refused, GoodRange, Sent}
+use Rattle.answers.specs.declared.report.RunFault.{RunFault}
+use Rattle.answers.specs.declared.report.RunFault.TheVariants.{Refused, GoodRange, Sent}
 
 -- the status that was answered is that of the text
 pub wrote : {A W : Type 0} (contents : W → Option (List ℕ)) (Reads : A → Type 0) (outcome : A → Outcome) (old new : Watched W) (given : A) → Reads given

@@ -11,8 +11,8 @@ use Rattle.cats_cmd.specs.Outcomes.{Tells}
 use Rattle.cats_cmd.specs.Paths.{BeginsPaths, Judgement, JudgesPaths, MakesOfPaths, RunsOnPaths, outcome_of_paths}
 use Rattle.cats_cmd.specs.Runs.{SendsAs}
 use Rattle.cats_cmd.specs.declared.paths.Progress.{Progress}
-use Rattle.cats_cmd.specs.declared.report.RunFault.{RunFault}
-use Rattle.cats_cmd.specs.declared.report.RunFault.TheVariants.{Refused, GoodRange, Sent}
+use Rattle.answers.specs.declared.report.RunFault.{RunFault}
+use Rattle.answers.specs.declared.report.RunFault.TheVariants.{Refused, GoodRange, Sent}
 use Rattle.cats_cmd.proofs.RunsOfOneFile.{wrote}
 use Rattle.cats_cmd.specs.declared.source.Unopened.{Unopened}
 

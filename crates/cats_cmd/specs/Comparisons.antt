@@ -9,8 +9,8 @@ use Rattle.canon.specs.declared.which.Which.TheVariants.{Only, First, Second, Bo
 use Rattle.cats_cmd.specs.Inputs.{IsRefusedFile, ReadsLightFile}
 use Rattle.cats_cmd.specs.Outcomes.{Outcome, normalise_outcome, compare_outcome}
 use Rattle.cats_cmd.specs.Runs.{FailsInText, WritesText}
-use Rattle.cats_cmd.specs.declared.report.RunFault.{RunFault}
-use Rattle.cats_cmd.specs.declared.report.RunFault.TheVariants.{Refused, GoodRange, Sent}
+use Rattle.answers.specs.declared.report.RunFault.{RunFault}
+use Rattle.answers.specs.declared.report.RunFault.TheVariants.{Refused, GoodRange, Sent}
 
 -- ---- one of the files
 

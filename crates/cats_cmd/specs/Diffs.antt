@@ -8,10 +8,10 @@ use Rattle.canon.specs.Canonical.{canonical_file}
 use Rattle.canon.specs.Renaming.{kept_dummies}
 use Rattle.differences.specs.Differences.{PlainDifferences, AreAllDifferences}
 use Rattle.cats_cmd.specs.Comparisons.{ReadsBoth, RunsOnBoth}
-use Rattle.cats_cmd.specs.DiffTexts.{diff_text}
+use Rattle.answers.specs.DiffTexts.{diff_text}
 use Rattle.cats_cmd.specs.Outcomes.{Outcome, Tells}
-use Rattle.cats_cmd.specs.Statuses.{status_of_differences}
-use Rattle.cats_cmd.specs.declared.report.RunFault.{RunFault}
+use Rattle.answers.specs.Statuses.{status_of_differences}
+use Rattle.answers.specs.declared.report.RunFault.{RunFault}
 
 -- of the differences of two files
 abbrev pub diff_outcome : PlainFile × PlainFile × PlainDifferences → Outcome

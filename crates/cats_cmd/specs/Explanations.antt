@@ -3,12 +3,12 @@ use Rattle.std.specs.Prelude.{ℕ, List, Option, Result, Ok, Err}
 use Rattle.bid_file.specs.Files.{PlainFile}
 use Rattle.cats_text.specs.declared.stream.Watched.{Watched}
 use Rattle.explain.specs.Reasons.{Explains, PlainReason}
-use Rattle.cats_cmd.specs.ExplanationTexts.{explanation_text}
+use Rattle.answers.specs.ExplanationTexts.{explanation_text}
 use Rattle.cats_cmd.specs.Inputs.{ReadsLightFile}
 use Rattle.cats_cmd.specs.Outcomes.{Outcome, Tells, normalise_outcome}
 use Rattle.cats_cmd.specs.Runs.{FailsInText, RefusesFile, WritesText}
-use Rattle.cats_cmd.specs.declared.report.RunFault.{RunFault}
-use Rattle.cats_cmd.specs.declared.report.RunFault.TheVariants.{Refused, GoodRange, Sent}
+use Rattle.answers.specs.declared.report.RunFault.{RunFault}
+use Rattle.answers.specs.declared.report.RunFault.TheVariants.{Refused, GoodRange, Sent}
 
 -- of reasons for the bids of a file
 abbrev pub explain_outcome : PlainFile × List PlainReason → Outcome

@@ -1,11 +1,5 @@
 -- What the contracts of this crate cite.
-pub mod Outputs
-pub mod KindNames
-pub mod FaultLines
-pub mod Statuses
 pub mod ValueTexts
-pub mod DifferenceTexts
-pub mod DiffTexts
 pub mod Outcomes
 pub mod Examples
 pub mod Inputs
@@ -13,7 +7,6 @@ pub mod Stops
 pub mod Runs
 pub mod Comparisons
 pub mod Diffs
-pub mod ExplanationTexts
 pub mod Explanations
 pub mod Escaping
 pub mod DuplicateTexts

@@ -7,9 +7,9 @@ use Rattle.valuation.specs.Packings.{count_packings}
 use Rattle.prune.specs.SearchSteps.{first_heavy}
 use Rattle.canon.specs.Canonical.{canonical_text}
 use Rattle.canon.specs.Difference.{Difference, first_difference}
-use Rattle.cats_cmd.specs.DifferenceTexts.{difference_text}
-use Rattle.cats_cmd.specs.Outputs.{check_text}
-use Rattle.cats_cmd.specs.Statuses.{status_of_difference}
+use Rattle.answers.specs.DifferenceTexts.{difference_text}
+use Rattle.answers.specs.Outputs.{check_text}
+use Rattle.answers.specs.Statuses.{status_of_difference}
 use Rattle.cats_cmd.specs.ValueTexts.{bundle_from, value_text}
 
 pub data Outcome : Type 0 where

@@ -22,8 +22,8 @@ use Rattle.cats_cmd.specs.declared.program.Stop.{Stop}
 use Rattle.cats_cmd.specs.declared.program.Stop.TheVariants.{CannotOpen, NotOpened, Run}
 use Rattle.cats_cmd.specs.declared.source.Unopened.{Unopened}
 use Rattle.cats_cmd.specs.declared.source.Unopened.TheVariants.{Other}
-use Rattle.cats_cmd.specs.declared.report.RunFault.{RunFault}
-use Rattle.cats_cmd.specs.declared.report.RunFault.TheVariants.{Refused, GoodRange, Sent}
+use Rattle.answers.specs.declared.report.RunFault.{RunFault}
+use Rattle.answers.specs.declared.report.RunFault.TheVariants.{Refused, GoodRange, Sent}
 
 -- what became of the file at a path
 pub data Judgement : Type 0 where

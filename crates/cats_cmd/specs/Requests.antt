@@ -34,7 +34,7 @@ use Rattle.cats_cmd.specs.declared.paths.Progress.{Progress}
 use Rattle.cats_cmd.specs.declared.paths.Progress.TheVariants.{Silent, Lines, Terminal as OnTerminal}
 use Rattle.cats_cmd.specs.declared.program.Stop.{Stop}
 use Rattle.cats_cmd.specs.declared.program.Stop.TheVariants.{CannotOpen, NotOpened, Run}
-use Rattle.cats_cmd.specs.declared.report.RunFault.{RunFault}
+use Rattle.answers.specs.declared.report.RunFault.{RunFault}
 use Rattle.cats_cmd.specs.declared.source.Unopened.{Unopened}
 
 -- ---- a command line without a request

@@ -4,8 +4,8 @@ use Rattle.std.specs.Borrow.{Bor}
 use Rattle.cats_text.specs.Streams.{has_failed, Sends}
 use Rattle.cats_text.specs.declared.fault.SendFault.{SendFault}
 use Rattle.cats_text.specs.declared.stream.Watched.{Watched}
-use Rattle.cats_cmd.specs.FaultLines.{line_of_fault, prefix_of}
-use Rattle.cats_cmd.specs.Statuses.{status_of_fault}
+use Rattle.answers.specs.FaultLines.{line_of_fault, prefix_of}
+use Rattle.answers.specs.Statuses.{status_of_fault}
 use Rattle.command_line.specs.declared.request.Request.{Request}
 use Rattle.command_line.specs.declared.request.Request.TheVariants.{Round, Duplicates, Sizes}
 use Rattle.cats_cmd.specs.declared.program.Stop.{Stop}

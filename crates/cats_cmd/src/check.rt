@@ -1,17 +1,16 @@
 //! `cats check`: the sizes of a bid file.
 
-ghost use Rattle.std.specs.Prelude.{◌≡◌, IfOk, false, string_bytes};
+ghost use Rattle.std.specs.Prelude.{◌≡◌, false};
 ghost use Rattle.cats_text.specs.Streams.{has_ended, has_failed};
 ghost use Rattle.cats_cmd.specs.Internal.Checks.{ChecksInput};
 ghost use Rattle.cats_cmd.specs.Outcomes.{check_outcome};
-ghost use Rattle.cats_cmd.specs.Outputs.{sizes_text};
 ghost use Rattle.cats_cmd.specs.Runs.{RunsOnFile};
 
-use crate::report::{DONE, RunFault};
 use crate::run::send_text;
+use answers::{DONE, RunFault, sizes_line};
 use canon::CanonFault;
 use cats_text::{Header, Watched, check_from};
-use std::alloc::{AllocError, Global};
+use std::alloc::Global;
 use std::io::{Read, Write};
 
 /// Judges a bid file, and sends how many goods, bids and dummy goods it has. No bid is kept.
@@ -40,11 +39,4 @@ fn check_file<R: Read>(alloc: Global, input: &mut Watched<R>) -> Result<Header, 
         Ok(header) => Ok(header),
         Err(fault) => Err(CanonFault::from(fault)),
     }
-}
-
-fn sizes_line(alloc: Global, header: Header) -> Result<String, AllocError>
-    ensures { IfOk result (λ text. string_bytes text ≡ sizes_text header.goods header.bids header.dummy) }
-{
-    let Header { goods, bids, dummy } = header;
-    format!(in alloc; "goods {goods} bids {bids} dummy {dummy}\n")
 }

@@ -1,24 +1,19 @@
 //! `cats compare`: whether two bid files are the same auction, and else their first difference.
 
-mod text;
-
 ghost use Rattle.std.specs.Prelude.{◌≡◌, false, IfOk};
 ghost use Rattle.cats_text.specs.Streams.{has_ended, has_failed};
 ghost use Rattle.canon.specs.Canonical.{IsCanonicalFile};
-ghost use Rattle.canon.specs.Verdicts.{plain_verdict};
 ghost use Rattle.cats_cmd.specs.Comparisons.{Compares, ReadsCanonical};
 ghost use Rattle.cats_cmd.specs.Internal.Differences.{SendsDifference};
 ghost use Rattle.cats_cmd.specs.Outcomes.{Tells, compare_outcome};
-ghost use Rattle.cats_cmd.specs.Statuses.{status_of_difference};
 
-use crate::report::{DIFFERENT, DONE, RunFault};
 use crate::run::{read_packed_file, send_text};
+use answers::{RunFault, verdict_status, verdict_text};
 use bid_file::PackedFile;
-use canon::{CanonFault, Verdict, Which, compare_files, normal_packed_file};
+use canon::{CanonFault, Which, compare_files, normal_packed_file};
 use cats_text::Watched;
 use std::alloc::{AllocError, Global};
 use std::io::{Read, Write};
-use text::verdict_text;
 
 /// Reads and normalises the first file, and then the second, and sends whether they are the same auction, or their
 /// first difference. `limit` bounds the steps of each search that decides on a bundle of an OR bidder.
@@ -95,14 +90,5 @@ fn difference_text(
     ensures { IfOk result (λ t. compare_outcome left.now right.now ≡ Tells t.0 t.1.items) }
 {
     let verdict = compare_files(alloc, left, right)?;
-    Ok((status_of(&verdict), verdict_text(alloc, &verdict)?))
-}
-
-fn status_of(verdict: &Verdict) -> u8
-    ensures { result ≡ status_of_difference (plain_verdict verdict.now) }
-{
-    match verdict {
-        Verdict::Same => DONE,
-        _ => DIFFERENT,
-    }
+    Ok((verdict_status(&verdict), verdict_text(alloc, &verdict)?))
 }

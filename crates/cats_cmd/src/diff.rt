@@ -1,22 +1,17 @@
 //! `cats diff`: all differences of two bid files.
 
-mod text;
-
-ghost use Rattle.std.specs.Prelude.{◌≡◌, false, IfOk};
+ghost use Rattle.std.specs.Prelude.{◌≡◌, IfOk, false};
 ghost use Rattle.cats_text.specs.Streams.{has_ended, has_failed};
-ghost use Rattle.differences.specs.Views.{plain_differences};
 ghost use Rattle.cats_cmd.specs.Diffs.{DiffsFiles};
-ghost use Rattle.cats_cmd.specs.Internal.Diffs.{IsNamedFile, ReadsNamed, SendsDifferences, TellsDifferences};
-ghost use Rattle.cats_cmd.specs.Statuses.{status_of_differences};
+ghost use Rattle.answers.specs.NamedFiles.{IsNamedFile};
+ghost use Rattle.cats_cmd.specs.Internal.Diffs.{ReadsNamed, SendsDifferences};
 
-use crate::report::{DIFFERENT, DONE, RunFault};
 use crate::run::{read_packed_file, send_text};
+use answers::{RunFault, differences_text};
 use canon::{CanonFault, NamedFile, Which, named_normal_file};
 use cats_text::Watched;
-use differences::{Differences, all_differences};
 use std::alloc::{AllocError, Global};
 use std::io::{Read, Write};
-use text::diff_text;
 
 /// Reads and normalises the first file, and then the second, and sends a line for each difference. `limit` bounds the steps
 /// of each search that decides on a bundle of an OR bidder.
@@ -79,29 +74,5 @@ fn send_differences<W: Write>(
     match differences_text(alloc, left, right) {
         Ok((status, text)) => send_text(out, status, text.as_slice()),
         Err(AllocError) => Err(RunFault::Refused(Which::Both, CanonFault::Memory)),
-    }
-}
-
-/// The status and the text of all differences.
-fn differences_text(
-    alloc: Global,
-    left: &NamedFile,
-    right: &NamedFile,
-) -> Result<(u8, Vec<u8>), AllocError>
-    requires left { IsNamedFile left.now }
-    requires right { IsNamedFile right.now }
-    ensures { IfOk result (λ t. TellsDifferences left.now right.now t.0 t.1.items) }
-{
-    let differences = all_differences(alloc, &left.file, &right.file)?;
-    let text = diff_text(alloc, &differences, left, right)?;
-    Ok((status_of(&differences), text))
-}
-
-fn status_of(differences: &Differences<'_>) -> u8
-    ensures { result ≡ status_of_differences (plain_differences differences.now) }
-{
-    match differences {
-        Differences::Bids { bundles, bidders } if bundles.is_empty() && bidders.is_empty() => DONE,
-        _ => DIFFERENT,
     }
 }

@@ -9,8 +9,8 @@ ghost use Rattle.cats_cmd.specs.Paths.{RunsOnPaths};
 
 use crate::paths::{Collection, Ending, ManyFiles, run_on_paths};
 use crate::program::Stop;
-use crate::report::RunFault;
 use crate::source::Source;
+use answers::RunFault;
 use canon::AuctionIndex;
 use cats_text::Watched;
 use std::alloc::{AllocError, AllocGlobal, Global};

@@ -1,18 +1,15 @@
 //! `cats explain`: why each bid of a file is in its canonical file, or is dropped.
 
-mod text;
-
 ghost use Rattle.std.specs.Prelude.{◌≡◌, false};
 ghost use Rattle.cats_text.specs.Streams.{has_ended, has_failed};
 ghost use Rattle.cats_cmd.specs.Explanations.{ExplainsFile};
 
-use crate::report::{DONE, RunFault};
 use crate::run::{read_packed_file, send_text};
+use answers::{DONE, RunFault, explanation_text};
 use cats_text::Watched;
 use explain::explain;
 use std::alloc::Global;
 use std::io::{Read, Write};
-use text::explanation_text;
 
 /// Reads a bid file, and sends a line for each of its bids: its number, and why it is in the canonical file or is not.
 /// `limit` bounds the steps of each search that decides on a bundle of the OR bidder.

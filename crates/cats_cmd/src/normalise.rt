@@ -5,8 +5,8 @@ ghost use Rattle.cats_text.specs.Streams.{has_ended, has_failed};
 ghost use Rattle.cats_cmd.specs.Outcomes.{normalise_outcome};
 ghost use Rattle.cats_cmd.specs.Runs.{RunsOnFile};
 
-use crate::report::RunFault;
 use crate::run::{read_packed_file, send_packed_file};
+use answers::RunFault;
 use canon::normal_packed_file;
 use cats_text::Watched;
 use std::alloc::Global;

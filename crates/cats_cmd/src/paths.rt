@@ -12,9 +12,9 @@ ghost use Rattle.cats_cmd.specs.declared.program.Stop.{Stop};
 
 use crate::escaping::escape_into;
 use crate::program::{Stop, report, report_text, status_of, stop_line};
-use crate::report::{DONE, RunFault};
 use crate::run::send_text;
 use crate::source::{Source, Unopened};
+use answers::{DONE, RunFault};
 use cats_text::Watched;
 use std::alloc::{AllocError, AllocGlobal, Global};
 use std::io::{Read, Write};

@@ -1,20 +1,21 @@
 //! `cats round`: a bid file's text with every price made valid.
 
-ghost use Rattle.std.specs.Prelude.{◌≡◌, map, IfOk, false};
+ghost use Rattle.std.specs.Prelude.{◌≡◌, map, false};
 ghost use Rattle.cats_text.specs.Streams.{has_ended, has_failed};
-ghost use Rattle.rounding.specs.Views.{plain_change, plain_changes};
-ghost use Rattle.cats_cmd.specs.Rounding.{Rounds, rounded_line};
+ghost use Rattle.rounding.specs.Views.{plain_changes};
+ghost use Rattle.answers.specs.RoundedLines.{rounded_line};
+ghost use Rattle.cats_cmd.specs.Rounding.{Rounds};
 ghost use Rattle.cats_cmd.specs.Internal.Roundings.{RoundsText};
 ghost use Rattle.cats_cmd.specs.Stops.{ReportsAll};
 
 use crate::bytes::read_bytes;
 use crate::program::report;
-use crate::report::{DONE, RunFault};
 use crate::run::send_text;
+use answers::{DONE, RunFault, price_line};
 use canon::CanonFault;
-use cats_text::{Watched, push_price};
+use cats_text::Watched;
 use rounding::{FinePrices, RoundedPrice, RoundedText, round};
-use std::alloc::{AllocError, Global};
+use std::alloc::Global;
 use std::io::{Read, Write};
 
 /// Reads a text, rounds each price of it that is finer than a millionth, or refuses it, and writes each that is written
@@ -57,17 +58,4 @@ fn report_prices<E: Write>(alloc: Global, prices: &[RoundedPrice], err: &mut Wat
     for price in prices {
         report(err, &price_line(alloc, price));
     }
-}
-
-fn price_line(alloc: Global, price: &RoundedPrice) -> Result<Vec<u8>, AllocError>
-    ensures { IfOk result (λ line. line.items ≡ rounded_line (plain_change price.now)) }
-{
-    let number = price.line;
-    let start = format!(in alloc; "line {number}: ")?;
-    let mut line = start.into_bytes();
-    line.extend_from_slice(price.word.as_slice())?;
-    line.extend_from_slice(b" rounded to ")?;
-    push_price(&mut line, u128::from(price.price))?;
-    line.push(b'\n')?;
-    Ok(line)
 }

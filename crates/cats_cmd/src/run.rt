@@ -7,7 +7,7 @@ ghost use Rattle.canon.specs.declared.which.Which.TheVariants.{Only};
 ghost use Rattle.cats_cmd.specs.Inputs.{ReadsInput};
 ghost use Rattle.cats_cmd.specs.Runs.{SendsAs, SendsMadeAs};
 
-use crate::report::{DONE, RunFault};
+use answers::{DONE, RunFault};
 use bid_file::PackedFile;
 use canon::CanonFault;
 use cats_text::{Watched, read_packed_from, send, send_file};

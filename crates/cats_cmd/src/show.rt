@@ -5,8 +5,8 @@ ghost use Rattle.cats_text.specs.Streams.{has_ended, has_failed};
 ghost use Rattle.cats_cmd.specs.Outcomes.{show_outcome};
 ghost use Rattle.cats_cmd.specs.Runs.{RunsOnFile};
 
-use crate::report::RunFault;
 use crate::run::{read_packed_file, send_packed_file};
+use answers::RunFault;
 use cats_text::Watched;
 use std::alloc::Global;
 use std::io::{Read, Write};

@@ -13,8 +13,8 @@ ghost use Rattle.cats_cmd.specs.Runs.{MakesAs, RunsOnFile};
 ghost use Rattle.cats_cmd.specs.Internal.Searches.{SearchesAs};
 ghost use Rattle.cats_cmd.specs.ValueTexts.{bundle_from};
 
-use crate::report::{DONE, RunFault};
 use crate::run::{read_packed_file, send_text};
+use answers::{DONE, RunFault};
 use bid_file::PackedFile;
 use bundles::bundle_of;
 use canon::CanonFault;

@@ -5,7 +5,7 @@ use Rattle.cats_text.specs.declared.stream.Watched.{Watched}
 use Rattle.canon.specs.declared.which.Which.TheVariants.{Both}
 use Rattle.cats_cmd.specs.Outcomes.{Tells, compare_outcome}
 use Rattle.cats_cmd.specs.Runs.{SendsMadeAs}
-use Rattle.cats_cmd.specs.declared.report.RunFault.{RunFault}
+use Rattle.answers.specs.declared.report.RunFault.{RunFault}
 
 -- the text of the difference is sent, with its status; memory that is refused belongs to both files
 pub record SendsDifference {W : Type 0} (contents : W → Option (List ℕ)) (left right : PlainFile) (old new : Watched W)

@@ -1,30 +1,19 @@
 -- What the parts of `cats diff` do: reading a file with its names, and sending all differences of two.
-use Rattle.std.specs.Prelude.{◌≡◌, ℕ, List, length, Option, Result, Ok, Err, All}
-use Rattle.bid_file.specs.Files.{PlainFile, IsPlainFile, IsDummyBelow}
+use Rattle.std.specs.Prelude.{◌≡◌, ℕ, List, Option, Result, Ok, Err}
+use Rattle.bid_file.specs.Files.{PlainFile}
 use Rattle.cats_text.specs.declared.stream.Watched.{Watched}
-use Rattle.valuation.specs.Auctions.{auction_from}
-use Rattle.canon.specs.Canonical.{IsCanonicalFile, canonical_file}
-use Rattle.canon.specs.Renaming.{kept_dummies}
 use Rattle.canon.specs.declared.fault.CanonFault.{CanonFault}
 use Rattle.canon.specs.declared.fault.CanonFault.TheVariants.{Memory}
 use Rattle.canon.specs.declared.named.NamedFile.{NamedFile}
 use Rattle.canon.specs.declared.which.Which.TheVariants.{Both}
-use Rattle.differences.specs.BidderChanges.{PlainBidderChange}
-use Rattle.differences.specs.Differences.{PlainDifferences, InGoods, InBids, AreAllDifferences}
-use Rattle.cats_cmd.specs.DiffTexts.{diff_text}
+use Rattle.answers.specs.NamedFiles.{IsNamed, TellsDifferences}
 use Rattle.cats_cmd.specs.Inputs.{IsRefusedFile, ReadsLightFile}
 use Rattle.cats_cmd.specs.Outcomes.{normalise_outcome}
 use Rattle.cats_cmd.specs.Runs.{SendsAs}
-use Rattle.cats_cmd.specs.Statuses.{status_of_differences}
-use Rattle.cats_cmd.specs.declared.report.RunFault.{RunFault}
-use Rattle.cats_cmd.specs.declared.report.RunFault.TheVariants.{Refused}
+use Rattle.answers.specs.declared.report.RunFault.{RunFault}
+use Rattle.answers.specs.declared.report.RunFault.TheVariants.{Refused}
 
 -- ---- one of the files
-
--- the canonical file of this file, with its names
-pub record IsNamed (file : PlainFile) (named : NamedFile) : Type 0 where
-  pub canonical : named.file ≡ canonical_file file
-  pub dummies : named.dummies.items ≡ kept_dummies file
 
 module _ {R : Type 0} (remaining : R → Option (List ℕ)) (limit : ℕ) where
   -- a file that was read, with its canonical file
@@ -38,31 +27,7 @@ module _ {R : Type 0} (remaining : R → Option (List ℕ)) (limit : ℕ) where
   ReadsNamed old new (Ok named) = ReadsNamedFile old new named
   ReadsNamed old new (Err fault) = IsRefusedFile remaining (normalise_outcome limit) old new fault
 
--- ---- the bidders of the changes
-
--- the bidders are among so many on the left and so many on the right
-pub record IsAmong (lefts rights : ℕ) (c : PlainBidderChange) : Type 0 where
-  pub left : IsDummyBelow lefts c.left
-  pub right : IsDummyBelow rights c.right
-
-abbrev pub AreAmong : ℕ → ℕ → PlainDifferences → Type 0
-AreAmong lefts rights (InGoods m n) = Unit {0}
-AreAmong lefts rights (InBids bundles bidders) = All (IsAmong lefts rights) bidders
-
 -- ---- both files
-
--- the canonical file of some file, which has a dummy good for each of its bidders
-pub record IsNamedFile (named : NamedFile) : Type 0 where
-  pub facts : IsPlainFile named.file
-  pub canonical : IsCanonicalFile named.file
-  pub bidders : length (auction_from named.file).xor_bidders ≡ length named.dummies.items
-
--- this status and this text are those of all differences
-pub record TellsDifferences (left right : NamedFile) (status : ℕ) (text : List ℕ) : Type 0 where
-  pub differences : PlainDifferences
-  pub all : AreAllDifferences (auction_from left.file) (auction_from right.file) differences
-  pub is_status : status ≡ status_of_differences differences
-  pub is_text : text ≡ diff_text left.file.goods left.dummies.items right.dummies.items differences
 
 module _ {W : Type 0} (contents : W → Option (List ℕ)) (left right : NamedFile) where
   -- the text was made and sent

@@ -2,7 +2,7 @@ use Rattle.std.proofs.Common.{map, ap, ◌∙◌}
 use Rattle.explain.specs.Reasons.{plain_reason}
 use Rattle.explain.specs.declared.reason.Reason.{Reason}
 use Rattle.std.proofs.Common.{List}
-use Rattle.cats_cmd.specs.ExplanationTexts.{explanation_text}
+use Rattle.answers.specs.ExplanationTexts.{explanation_text}
 use Rattle.cats_cmd.proofs.Explaining.{explained, unexplained_auction, unexplained_memory, unexplained_unread}
 use Rattle.cats_cmd.proofs.explanation.run_explain.Goals as goal
 

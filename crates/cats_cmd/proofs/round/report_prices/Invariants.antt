@@ -1,6 +1,6 @@
 use Rattle.std.proofs.Common.{map, take}
 use Rattle.rounding.specs.Views.{plain_changes}
-use Rattle.cats_cmd.specs.Rounding.{rounded_line}
+use Rattle.answers.specs.RoundedLines.{rounded_line}
 use Rattle.cats_cmd.specs.Stops.{ReportsAll}
 use Rattle.cats_cmd.proofs.round.report_prices.Given as goal
 

@@ -3,7 +3,7 @@ use Rattle.rounding.specs.Answers.{IsRounded}
 use Rattle.rounding.specs.Views.{plain_changes}
 use Rattle.rounding.specs.declared.text.RoundedPrice.{RoundedPrice}
 use Rattle.cats_cmd.specs.Internal.Roundings.{RoundsText}
-use Rattle.cats_cmd.specs.Rounding.{rounded_line}
+use Rattle.answers.specs.RoundedLines.{rounded_line}
 use Rattle.cats_cmd.specs.Runs.{SendsAs}
 use Rattle.cats_cmd.specs.Stops.{ReportsAll}
 use Rattle.cats_cmd.proofs.Rounding.{round_unread, round_unmade, round_unsent, round_told}

@@ -4,4 +4,4 @@ use Rattle.cats_cmd.proofs.worked.rounded_texts.Goals as goal
 
 pub returns : goal.returns
 unfolding digits
-returns c = record { text = refl; line = refl }
+returns c = refl

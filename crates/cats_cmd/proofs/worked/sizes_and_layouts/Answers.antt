@@ -4,4 +4,4 @@ use Rattle.cats_cmd.proofs.worked.sizes_and_layouts.Goals as goal
 
 pub returns : goal.returns
 unfolding digits
-returns c = record { sizes = refl; check = refl; show = refl }
+returns c = record { check = refl; show = refl }

@@ -1,0 +1,14 @@
+use Rattle.std.proofs.Common.{refl}
+use Rattle.std.specs.Fmt.{digits}
+use Rattle.answers.proofs.worked.differences.Goals as goal
+
+pub returns : goal.returns
+unfolding digits
+returns c = record {
+  same = refl;
+  goods = refl;
+  below = refl;
+  pair = refl;
+  bidder = refl;
+  statuses = refl;
+}

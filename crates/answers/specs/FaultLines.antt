@@ -1,0 +1,40 @@
+-- How the faults of a run are told on standard error.
+use Rattle.std.specs.Prelude.{ℕ, List, [], ◌++◌, codes, decimal}
+use Rattle.cats_text.specs.declared.fault.Kind.{Kind}
+use Rattle.cats_text.specs.declared.fault.Kind.TheVariants.{TooLong, Device, Memory as NoMemory}
+use Rattle.cats_text.specs.declared.fault.ReadFault.{ReadFault}
+use Rattle.canon.specs.declared.fault.CanonFault.{CanonFault}
+use Rattle.canon.specs.declared.fault.CanonFault.TheVariants.{Read, StepLimit, Memory}
+use Rattle.canon.specs.declared.which.Which.{Which}
+use Rattle.canon.specs.declared.which.Which.TheVariants.{Only, First, Second, Both}
+use Rattle.answers.specs.declared.report.RunFault.{RunFault}
+use Rattle.answers.specs.declared.report.RunFault.TheVariants.{Refused, GoodRange, Sent}
+use Rattle.answers.specs.KindNames.{name_of_kind}
+use Rattle.answers.specs.Outputs.{bundle_text}
+
+-- which of two files was refused
+abbrev pub prefix_of : Which → List ℕ
+prefix_of Only = []
+prefix_of First = codes "first: "
+prefix_of Second = codes "second: "
+prefix_of Both = []
+
+-- a fault of this kind in this line
+abbrev pub text_of_kind : ℕ → Kind → List ℕ
+text_of_kind line TooLong = name_of_kind TooLong
+text_of_kind line Device = name_of_kind Device
+text_of_kind line NoMemory = codes "want of memory"
+text_of_kind line kind = codes "line " ++ decimal line ++ codes ": " ++ name_of_kind kind
+
+abbrev pub text_of_read_fault : ReadFault → List ℕ
+text_of_read_fault fault = text_of_kind fault.line fault.kind
+
+abbrev pub text_of_canon_fault : CanonFault → List ℕ
+text_of_canon_fault (Read fault) = text_of_read_fault fault
+text_of_canon_fault (StepLimit goods) = codes "step limit at " ++ bundle_text goods.items
+text_of_canon_fault Memory = codes "want of memory"
+
+abbrev pub line_of_fault : RunFault → List ℕ
+line_of_fault (Refused which fault) = prefix_of which ++ text_of_canon_fault fault ++ codes "\n"
+line_of_fault (GoodRange good) = codes "good " ++ decimal good ++ codes " out of range\n"
+line_of_fault (Sent fault) = codes "output failed after " ++ decimal fault.written ++ codes " bytes\n"

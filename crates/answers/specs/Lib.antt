@@ -1,0 +1,11 @@
+-- What the contracts of this crate cite.
+pub mod Outputs
+pub mod KindNames
+pub mod FaultLines
+pub mod Statuses
+pub mod DifferenceTexts
+pub mod DiffTexts
+pub mod ExplanationTexts
+pub mod RoundedLines
+pub mod NamedFiles
+pub mod Internal

@@ -1,0 +1,100 @@
+//! What `cats compare` prints, and its status.
+
+ghost use Rattle.std.specs.Prelude.{◌≡◌, ◌++◌, IfOk, codes};
+ghost use Rattle.canon.specs.Verdicts.{plain_verdict, told_atoms};
+ghost use Rattle.answers.specs.DifferenceTexts.{bidder_text, difference_text, parted_text, side_text};
+ghost use Rattle.answers.specs.Statuses.{status_of_difference};
+
+use crate::report::{DIFFERENT, DONE, joined_goods};
+use canon::{Side, Verdict};
+use cats_text::push_price;
+use std::alloc::{AllocError, Global};
+
+/// The status of a comparison.
+pub fn verdict_status(verdict: &Verdict) -> u8
+    ensures { result ≡ status_of_difference (plain_verdict verdict.now) }
+{
+    match verdict {
+        Verdict::Same => DONE,
+        _ => DIFFERENT,
+    }
+}
+
+/// `same`, or `different`, where the two auctions part, and both sides of it, each on a line.
+pub fn verdict_text(alloc: Global, verdict: &Verdict) -> Result<Vec<u8>, AllocError>
+    ensures { IfOk result (λ text. text.items ≡ difference_text (plain_verdict verdict.now)) }
+{
+    match verdict {
+        Verdict::Same => Vec::from_slice(alloc, b"same\n"),
+        Verdict::Goods(left, right) => {
+            let left = left.to_string(alloc)?;
+            let right = right.to_string(alloc)?;
+            parted(alloc, b"goods", left.as_bytes(), right.as_bytes())
+        }
+        Verdict::Or {
+            bundle,
+            left,
+            right,
+        } => {
+            let bundle = joined_goods(alloc, bundle.as_slice())?;
+            let place = format!(in alloc; "or {bundle}")?;
+            let left = side(alloc, *left)?;
+            let right = side(alloc, *right)?;
+            parted(alloc, place.as_bytes(), left.as_slice(), right.as_slice())
+        }
+        Verdict::Xor {
+            bidder,
+            left,
+            right,
+        } => {
+            let place = bids(alloc, bidder.as_slice())?;
+            let left = left.to_string(alloc)?;
+            let right = right.to_string(alloc)?;
+            parted(alloc, place.as_slice(), left.as_bytes(), right.as_bytes())
+        }
+    }
+}
+
+/// That two auctions are different, where they part, and what is told of each.
+fn parted(alloc: Global, place: &[u8], left: &[u8], right: &[u8]) -> Result<Vec<u8>, AllocError>
+    ensures { IfOk result (λ text. text.items ≡ parted_text place.now left.now right.now) }
+{
+    let mut text = Vec::from_slice(alloc, b"different\n")?;
+    text.extend_from_slice(place)?;
+    text.extend_from_slice(b"\nleft ")?;
+    text.extend_from_slice(left)?;
+    text.extend_from_slice(b"\nright ")?;
+    text.extend_from_slice(right)?;
+    text.extend_from_slice(b"\n")?;
+    Ok(text)
+}
+
+/// What is told of one auction's OR value.
+fn side(alloc: Global, side: Side) -> Result<Vec<u8>, AllocError>
+    ensures { IfOk result (λ text. text.items ≡ side_text side) }
+{
+    let mut text = Vec::new(alloc);
+    match side {
+        Side::Exactly(price) => push_price(&mut text, u128::from(price))?,
+        Side::Below(price) => {
+            text.extend_from_slice(b"below ")?;
+            push_price(&mut text, u128::from(price))?;
+        }
+    }
+    Ok(text)
+}
+
+/// An XOR bidder's bids, each as its goods and its price.
+fn bids(alloc: Global, bidder: &[(Vec<u16>, u64)]) -> Result<Vec<u8>, AllocError>
+    ensures { IfOk result (λ text. text.items ≡ codes "xor" ++ bidder_text (told_atoms bidder.now)) }
+{
+    let mut text = Vec::from_slice(alloc, b"xor")?;
+    for (goods, price) in bidder {
+        let bundle = joined_goods(alloc, goods.as_slice())?;
+        text.extend_from_slice(b" ")?;
+        text.extend_from_slice(bundle.as_bytes())?;
+        text.extend_from_slice(b":")?;
+        push_price(&mut text, u128::from(*price))?;
+    }
+    Ok(text)
+}

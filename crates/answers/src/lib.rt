@@ -1,0 +1,20 @@
+//! What the program and the library print, and the statuses that they answer.
+#![tactic(auto)]
+
+mod comparison;
+mod diff;
+mod explanation;
+mod report;
+mod rounded;
+mod sizes;
+pub mod worked;
+
+pub use comparison::{verdict_status, verdict_text};
+pub use diff::differences_text;
+pub use explanation::explanation_text;
+pub use report::{
+    DEVICE_FAILED, DIFFERENT, DONE, FILE_REFUSED, NO_MEMORY, RunFault, STEPS_EXCEEDED, WRONG_USAGE,
+    fault_line, joined_goods, status,
+};
+pub use rounded::price_line;
+pub use sizes::sizes_line;

@@ -1,0 +1,152 @@
+//! Each call on texts of which the answer is known.
+
+use answers::RunFault;
+use cats_calls::{
+    Answer, TOO_SMALL, check, compare, diff, explain_text, give, give_report, give_rounded,
+    normalise, round_text,
+};
+use rounding::FinePrices;
+use std::alloc::Global;
+use std::process::Abort;
+use std::test::Fail;
+
+/// A bid of 3 for the good 0, and one of 4 for the good 1.
+static SINGLES: &[u8] = b"goods 2\nbids 2\ndummy 0\n0\t3\t0\t#\n1\t4\t1\t#\n";
+
+/// The same bids, and one of 7 for both goods.
+static PAIR_AT_7: &[u8] = b"goods 2\nbids 3\ndummy 0\n0\t3\t0\t#\n1\t4\t1\t#\n2\t7\t0\t1\t#\n";
+
+/// The same with one of 8.
+static PAIR_AT_8: &[u8] = b"goods 2\nbids 3\ndummy 0\n0\t3\t0\t#\n1\t4\t1\t#\n2\t8\t0\t1\t#\n";
+
+/// A bid for a good that the file does not have.
+static BEYOND: &[u8] = b"goods 2\nbids 1\ndummy 0\n0\t3\t2\t#\n";
+
+/// A price that is finer than a millionth.
+static FINE: &[u8] = b"goods 1\nbids 1\ndummy 0\n0 0.0123456 0 #\n";
+
+/// Steps enough for these texts.
+const STEPS: u64 = 1_000;
+
+/// What a call gives.
+fn expect(
+    rt: &impl Abort,
+    alloc: Global,
+    answer: &Result<Answer, RunFault>,
+    status: u8,
+    text: &[u8],
+) {
+    let mut buffer = [0; 64];
+    let mut needed = 0;
+    let given = give(alloc, answer, &mut buffer, &mut needed);
+    assert_eq!(rt; given, status);
+    assert_eq!(rt; needed, text.len());
+    assert!(rt; buffer.starts_with(text));
+}
+
+#[test]
+fn one_text(rt: HostRuntime) -> Result<(), Fail> {
+    let alloc = rt.alloc();
+    let refused = b"line 4: GoodRange\n";
+    let reasons = b"0\tkeep\t0\n1\tkeep\t1\n2\tpacking\t0\t1\n";
+    expect(
+        &rt,
+        alloc,
+        &check(alloc, SINGLES),
+        0,
+        b"goods 2 bids 2 dummy 0\n",
+    );
+    expect(&rt, alloc, &check(alloc, BEYOND), 2, refused);
+    expect(&rt, alloc, &normalise(alloc, PAIR_AT_7, STEPS), 0, SINGLES);
+    expect(&rt, alloc, &normalise(alloc, BEYOND, STEPS), 2, refused);
+    expect(
+        &rt,
+        alloc,
+        &explain_text(alloc, PAIR_AT_7, STEPS),
+        0,
+        reasons,
+    );
+    Ok(())
+}
+
+#[test]
+fn first_differences(rt: HostRuntime) -> Result<(), Fail> {
+    let alloc = rt.alloc();
+    let different = b"different\nor 0,1\nleft below 8\nright 8\n";
+    let refused = b"second: line 4: GoodRange\n";
+    expect(
+        &rt,
+        alloc,
+        &compare(alloc, SINGLES, PAIR_AT_7, STEPS),
+        0,
+        b"same\n",
+    );
+    expect(
+        &rt,
+        alloc,
+        &compare(alloc, SINGLES, PAIR_AT_8, STEPS),
+        1,
+        different,
+    );
+    expect(
+        &rt,
+        alloc,
+        &compare(alloc, SINGLES, BEYOND, STEPS),
+        2,
+        refused,
+    );
+    Ok(())
+}
+
+#[test]
+fn all_differences(rt: HostRuntime) -> Result<(), Fail> {
+    let alloc = rt.alloc();
+    let refused = b"first: line 4: GoodRange\n";
+    expect(&rt, alloc, &diff(alloc, SINGLES, PAIR_AT_7, STEPS), 0, b"");
+    expect(
+        &rt,
+        alloc,
+        &diff(alloc, SINGLES, PAIR_AT_8, STEPS),
+        1,
+        b"or\t0,1\t-\t8\n",
+    );
+    expect(&rt, alloc, &diff(alloc, BEYOND, BEYOND, STEPS), 2, refused);
+    Ok(())
+}
+
+#[test]
+fn rounded_text(rt: HostRuntime) -> Result<(), Fail> {
+    let rounded = round_text(rt.alloc(), FINE, FinePrices::Round);
+    let mut out = [0; 64];
+    let mut report = [0; 64];
+    let mut needed = 0;
+    let mut report_needed = 0;
+    assert_eq!(rt;
+        give_rounded(rt.alloc(), &rounded, &mut out, &mut needed),
+        0
+    );
+    assert_eq!(rt; give_report(&rounded, &mut report, &mut report_needed), 0);
+    assert!(rt; out.starts_with(b"goods 1\nbids 1\ndummy 0\n0 0.012346 0 #\n"));
+    assert_eq!(rt; needed, 38);
+    assert!(rt; report.starts_with(b"line 4: 0.0123456 rounded to 0.012346\n"));
+    assert_eq!(rt; report_needed, 38);
+    Ok(())
+}
+
+#[test]
+fn buffers(rt: HostRuntime) -> Result<(), Fail> {
+    let answer = compare(rt.alloc(), SINGLES, SINGLES, STEPS);
+    let mut needed = 0;
+    let mut short = *b"....";
+    assert_eq!(rt;
+        give(rt.alloc(), &answer, &mut short, &mut needed),
+        TOO_SMALL
+    );
+    assert_eq!(rt; needed, 5);
+    assert!(rt; short == *b"....");
+    let mut enough = *b".....";
+    assert_eq!(rt; give(rt.alloc(), &answer, &mut enough, &mut needed), 0);
+    assert_eq!(rt; needed, 5);
+    assert!(rt; enough == *b"same\n");
+    Ok(())
+}

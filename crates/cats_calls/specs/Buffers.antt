@@ -1,0 +1,56 @@
+-- What a call puts into its caller's buffer.
+use Rattle.std.specs.Prelude.{◌≡◌, ◌⊎◌, ◌≤◌, ◌<◌, ℕ, List, ◌++◌, length, drop, Result, Ok, Err, codes}
+use Rattle.canon.specs.declared.fault.CanonFault.{CanonFault}
+use Rattle.canon.specs.declared.which.Which.{Which}
+use Rattle.answers.specs.FaultLines.{line_of_fault}
+use Rattle.answers.specs.Statuses.{status_of_fault}
+use Rattle.answers.specs.declared.report.RunFault.{RunFault}
+use Rattle.answers.specs.declared.report.RunFault.TheVariants.{Refused}
+use Rattle.cats_calls.specs.declared.answer.Answer.{Answer}
+
+-- The text is at the front of the buffer, and the rest of the buffer is as it was; if it does not fit, so is all of it, and the
+-- status is another.
+pub record PutsInto (status : ℕ) (text old new : List ℕ) (answer : ℕ) : Type 0 where
+  pub fits : length text ≤ length old → (answer ≡ status) × (new ≡ text ++ drop (length text) old)
+  pub small : length old < length text → (answer ≡ 6) × (new ≡ old)
+
+-- what is given of a fault: its line, or want of memory in the place of that line
+abbrev pub IsLineFor : RunFault → List ℕ → Type 0
+IsLineFor fault text = (text ≡ line_of_fault fault) ⊎ (text ≡ codes "want of memory\n")
+
+-- a fault is given with its status
+pub record GivesFault (fault : RunFault) (old new : List ℕ) (needed answer : ℕ) : Type 0 where
+  pub text : List ℕ
+  pub is : IsLineFor fault text
+  pub is_needed : needed ≡ length text
+  pub puts : PutsInto (status_of_fault fault) text old new answer
+
+-- a text is given with its status
+pub record GivesText (status : ℕ) (text old new : List ℕ) (needed answer : ℕ) : Type 0 where
+  pub is_needed : needed ≡ length text
+  pub puts : PutsInto status text old new answer
+
+-- what a call answered is given
+abbrev pub Gives : Result Answer RunFault → List ℕ → List ℕ → ℕ → ℕ → Type 0
+Gives (Ok given) old new needed answer = GivesText given.status given.text.items old new needed answer
+Gives (Err fault) old new needed answer = GivesFault fault old new needed answer
+
+-- ---- a call
+
+-- a text is refused, and the fault is given with its status
+pub record RefusesBy (Refuses : Which → CanonFault → Type 0) (status : ℕ) (text : List ℕ) : Type 0 where
+  pub which : Which
+  pub fault : CanonFault
+  pub refused : Refuses which fault
+  pub is_status : status ≡ status_of_fault (Refused which fault)
+  pub is_line : IsLineFor (Refused which fault) text
+
+-- What a call does with its buffer. `Says` is of the status and of the text, and `Refuses` of which text is refused and of the
+-- fault.
+pub record Calls (Says : ℕ → List ℕ → Type 0) (Refuses : Which → CanonFault → Type 0) (old new : List ℕ) (needed answer : ℕ)
+    : Type 0 where
+  pub status : ℕ
+  pub text : List ℕ
+  pub is : Says status text ⊎ RefusesBy Refuses status text
+  pub is_needed : needed ≡ length text
+  pub puts : PutsInto status text old new answer

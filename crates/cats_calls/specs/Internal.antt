@@ -1,0 +1,3 @@
+-- What the contracts of private functions cite. No public contract rests on them.
+pub mod Reading
+pub mod Comparing

@@ -1,0 +1,29 @@
+-- What the calls on one text print, with their status.
+use Rattle.std.specs.Prelude.{◌≡◌, ℕ, List}
+use Rattle.bid_file.specs.Files.{PlainFile}
+use Rattle.cats_text.specs.Grammar.{Spells}
+use Rattle.canon.specs.Comparing.{SpellsLight}
+use Rattle.canon.specs.Normalising.{IsText, Normalises}
+use Rattle.explain.specs.Reasons.{Explains, PlainReason}
+use Rattle.answers.specs.ExplanationTexts.{explanation_text}
+use Rattle.answers.specs.Outputs.{check_text}
+
+-- the sizes of the file that the text spells
+pub record ChecksText (text : List ℕ) (status : ℕ) (out : List ℕ) : Type 0 where
+  pub file : PlainFile
+  pub spelled : Spells text file
+  pub is_status : status ≡ 0
+  pub is_text : out ≡ check_text file
+
+-- its canonical text
+pub record NormalisesText (limit : ℕ) (text : List ℕ) (status : ℕ) (out : List ℕ) : Type 0 where
+  pub is_status : status ≡ 0
+  pub is_text : Normalises limit text (IsText out)
+
+-- the line of each bid of the file, for reasons that are true
+pub record ExplainsText (limit : ℕ) (text : List ℕ) (status : ℕ) (out : List ℕ) : Type 0 where
+  pub given : SpellsLight limit text
+  pub reasons : List PlainReason
+  pub explains : Explains given.file reasons
+  pub is_status : status ≡ 0
+  pub is_text : out ≡ explanation_text reasons

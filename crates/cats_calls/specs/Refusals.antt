@@ -1,0 +1,47 @@
+-- Why a text is refused. No more of it is read than of a stream.
+use Rattle.std.specs.Prelude.{◌≡◌, ◌⊎◌, ℕ, nat_le, if◌then◌else◌, true, List, length, take, Option, Some}
+use Rattle.cats_text.specs.Faults.{first_fault, has_bid_line}
+use Rattle.cats_text.specs.Fed.{fed_fault}
+use Rattle.cats_text.specs.declared.fault.ReadFault.{ReadFault}
+use Rattle.cats_text.specs.declared.limits.TheConstants.{MAX_STREAM}
+use Rattle.canon.specs.Answers.{SpellsFile}
+use Rattle.canon.specs.Comparing.{SpellsLight}
+use Rattle.canon.specs.Normalising.{ExceedsSteps, Normalises}
+use Rattle.canon.specs.declared.fault.CanonFault.{CanonFault}
+use Rattle.canon.specs.declared.fault.CanonFault.TheVariants.{Read, StepLimit, Memory}
+use Rattle.canon.specs.declared.which.Which.{Which}
+use Rattle.canon.specs.declared.which.Which.TheVariants.{Only, First, Second, Both}
+
+-- the fault of a text: its first one, or, if it is longer than a stream may be, the one that its first bytes have or its length
+abbrev pub text_fault : List ℕ → Option ReadFault
+text_fault text = if nat_le (length text) MAX_STREAM then first_fault text else fed_fault MAX_STREAM text
+
+-- memory is refused only if a bid line has begun, as in reading the text, or if the text spells a file
+abbrev pub WantsMemoryFor : List ℕ → Type 0
+WantsMemoryFor text = (has_bid_line (take MAX_STREAM text) ≡ true) ⊎ SpellsFile text
+
+-- why a text is refused as a bid file
+abbrev pub IsUnread : List ℕ → CanonFault → Type 0
+IsUnread text (Read fault) = text_fault text ≡ Some fault
+IsUnread text (StepLimit goods) = ⊥
+IsUnread text Memory = WantsMemoryFor text
+
+-- why a text has no canonical text
+abbrev pub IsUnmade : ℕ → List ℕ → CanonFault → Type 0
+IsUnmade limit text (Read fault) = text_fault text ≡ Some fault
+IsUnmade limit text (StepLimit goods) = Normalises limit text (ExceedsSteps goods.items)
+IsUnmade limit text Memory = WantsMemoryFor text
+
+-- ---- which text is refused
+
+-- the only one
+abbrev pub OfOnly : (CanonFault → Type 0) → Which → CanonFault → Type 0
+OfOnly Refuses Only fault = Refuses fault
+OfOnly Refuses which fault = ⊥
+
+-- One of two, or both: the second is refused only if the first is not, and both only by want of memory if neither is.
+abbrev pub OfTwo : ℕ → List ℕ → List ℕ → Which → CanonFault → Type 0
+OfTwo limit left right Only fault = ⊥
+OfTwo limit left right First fault = IsUnmade limit left fault
+OfTwo limit left right Second fault = SpellsLight limit left × IsUnmade limit right fault
+OfTwo limit left right Both fault = SpellsLight limit left × SpellsLight limit right × (fault ≡ Memory)

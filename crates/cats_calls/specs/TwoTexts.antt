@@ -1,0 +1,30 @@
+-- What the calls on two texts print, with their status. It is 0 exactly for the same auction.
+use Rattle.std.specs.Prelude.{◌≡◌, ◌↔◌, ℕ, List}
+use Rattle.valuation.specs.Auctions.{auction_from}
+use Rattle.canon.specs.Canonical.{canonical_file}
+use Rattle.canon.specs.Comparing.{Differ, SpellsLight}
+use Rattle.canon.specs.Difference.{Difference}
+use Rattle.canon.specs.Renaming.{kept_dummies}
+use Rattle.canon.specs.Sameness.{AreSameTexts}
+use Rattle.differences.specs.Differences.{AreAllDifferences, PlainDifferences}
+use Rattle.answers.specs.DiffTexts.{diff_text}
+use Rattle.answers.specs.DifferenceTexts.{difference_text}
+use Rattle.answers.specs.Statuses.{status_of_difference, status_of_differences}
+
+-- the first difference of the auctions of two texts
+pub record ComparesTexts (limit : ℕ) (left right : List ℕ) (status : ℕ) (out : List ℕ) : Type 0 where
+  pub difference : Difference
+  pub differ : Differ limit left right difference
+  pub is_status : status ≡ status_of_difference difference
+  pub is_text : out ≡ difference_text difference
+  pub same : status ≡ 0 ↔ AreSameTexts left right
+
+-- all differences, of which more than one list may be true
+pub record DiffsTexts (limit : ℕ) (left right : List ℕ) (status : ℕ) (out : List ℕ) : Type 0 where
+  pub first : SpellsLight limit left
+  pub second : SpellsLight limit right
+  pub differences : PlainDifferences
+  pub all : AreAllDifferences (auction_from (canonical_file first.file)) (auction_from (canonical_file second.file)) differences
+  pub is_status : status ≡ status_of_differences differences
+  pub is_text : out ≡ diff_text first.file.goods (kept_dummies first.file) (kept_dummies second.file) differences
+  pub same : status ≡ 0 ↔ AreSameTexts left right

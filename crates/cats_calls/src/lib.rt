@@ -1,0 +1,15 @@
+//! The calls of the C library, over values: what each answers of texts, and how an answer is put into a caller's buffer.
+#![tactic(auto)]
+
+mod answer;
+mod buffer;
+mod one_text;
+mod reading;
+mod rounded_text;
+mod two_texts;
+
+pub use answer::Answer;
+pub use buffer::{TOO_SMALL, give};
+pub use one_text::{check, explain_text, normalise};
+pub use rounded_text::{RoundAnswer, give_report, give_rounded, round_text};
+pub use two_texts::{compare, diff};

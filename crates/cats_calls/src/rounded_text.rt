@@ -1,0 +1,77 @@
+//! The call that rounds the prices of a text. It has two texts: the rounded text, and the report of the prices that changed.
+
+ghost use Rattle.std.specs.Prelude.{◌≡◌, ◌++◌, IfOk, OnOk};
+ghost use Rattle.rounding.specs.Views.{plain_changes};
+ghost use Rattle.cats_calls.specs.Roundings.{AnswersRounding, GivesReport, GivesRounded, lines_of};
+
+use crate::buffer::{give_fault, put};
+use answers::{DONE, RunFault, price_line};
+use canon::CanonFault;
+use cats_text::{Kind, MAX_STREAM, ReadFault};
+use rounding::{FinePrices, RoundedPrice, round};
+use std::alloc::{AllocError, Global};
+
+/// A text with its prices rounded, and a line for each price whose value changed.
+#[derive(Drop)]
+pub struct RoundAnswer {
+    pub text: Vec<u8>,
+    pub report: Vec<u8>,
+}
+
+/// `cats round` on a text.
+pub fn round_text(alloc: Global, text: &[u8], fine: FinePrices) -> Result<RoundAnswer, RunFault>
+    ensures { AnswersRounding fine text.now result }
+{
+    if text.len() as u64 > MAX_STREAM {
+        return Err(RunFault::from(CanonFault::Read(ReadFault {
+            line: 0,
+            kind: Kind::TooLong,
+        })));
+    }
+    let rounded = match round(alloc, text, fine) {
+        Ok(rounded) => rounded,
+        Err(fault) => return Err(RunFault::from(CanonFault::from(fault))),
+    };
+    let report = report_text(alloc, rounded.prices.as_slice())?;
+    Ok(RoundAnswer {
+        text: rounded.text,
+        report,
+    })
+}
+
+/// Puts a rounded text into a buffer, or the line of the fault, and answers the status, as `give` does.
+pub fn give_rounded(
+    alloc: Global,
+    answer: &Result<RoundAnswer, RunFault>,
+    out: &mut [u8],
+    needed: &mut usize,
+) -> u8
+    ensures { GivesRounded answer.now out.old out.new needed.new result }
+{
+    match answer {
+        Ok(answer) => put(DONE, answer.text.as_slice(), out, needed),
+        Err(fault) => give_fault(alloc, fault, out, needed),
+    }
+}
+
+/// Puts the report into a buffer. It is empty if the text was refused.
+pub fn give_report(answer: &Result<RoundAnswer, RunFault>, out: &mut [u8], needed: &mut usize) -> u8
+    ensures { GivesReport answer.now out.old out.new needed.new result }
+{
+    match answer {
+        Ok(answer) => put(DONE, answer.report.as_slice(), out, needed),
+        Err(_) => put(DONE, b"", out, needed),
+    }
+}
+
+/// The line of each price whose value changed.
+fn report_text(alloc: Global, prices: &[RoundedPrice]) -> Result<Vec<u8>, AllocError>
+    ensures { IfOk result (λ report. report.items ≡ lines_of (plain_changes prices.now)) }
+{
+    let mut report = Vec::new(alloc);
+    for price in prices {
+        let line = price_line(alloc, price)?;
+        report.extend_from_slice(line.as_slice())?;
+    }
+    Ok(report)
+}

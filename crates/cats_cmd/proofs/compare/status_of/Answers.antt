@@ -1,5 +1,0 @@
-use Rattle.std.proofs.Common.{rules}
-use Rattle.cats_cmd.proofs.compare.status_of.Goals as goal
-
-pub returns-in_default : goal.returns-in_default
-returns-in_default c = search rules

@@ -1,9 +1,0 @@
-use Rattle.std.proofs.Common.{◌≡◌, ◌++◌, map, take}
-use Rattle.std.specs.List.{flat_map}
-use Rattle.differences.specs.Views.{plain_bidder_change}
-use Rattle.cats_cmd.specs.DiffTexts.{bidder_lines}
-use Rattle.cats_cmd.proofs.diff.text.push_bidders.Given as goal
-
--- the lines of the bidders so far are appended
-abbrev pub invariant-loop-bidder : goal.invariant-loop-bidder
-invariant-loop-bidder l = l.text.items ≡ l.initial.text.items ++ flat_map (bidder_lines l.goods l.left l.right) (map plain_bidder_change (take l.bidder-index l.bidders))
