@@ -94,7 +94,7 @@ class RefusedText(CatsError):
     """A text is not a bid file, or is longer than is read: the fault has a kind, and a line if it belongs to one."""
 
     def __init__(self, kind, line=None, which=None):
-        super().__init__(f"line {line}: {kind}" if line else kind, which)
+        super().__init__(f"line {line}: {kind}" if line is not None else kind, which)
         self.kind, self.line = kind, line
 
 

@@ -8,6 +8,7 @@ what is wrong and 'N calls, M wrong'; the status is 0 if M is 0, and else 1.
 """
 import ctypes
 import doctest
+import mmap
 import os
 import pathlib
 import random
@@ -30,6 +31,10 @@ THREADS = 8
 
 # Of so many of the files every buffer length and every allocation is tried. The outputs of the given files are larger.
 FEW = 40
+
+# The most bytes of a text, and a text of some bids.
+MAX_STREAM = 2_147_483_648
+BIDS = b"goods 2\nbids 2\ndummy 0\n0 3 0 #\n1 4 1 #\n"
 
 # What is behind a buffer, and in it before a call.
 GUARD, MARK = 64, 0xA5
@@ -114,9 +119,9 @@ def random_price(choose):
     """Mostly a price of the format, and else one that `round` takes or none does."""
     whole = str(choose.choice([0, 1, 2, 3, 5, 8, choose.randrange(100), choose.randrange(10**12)]))
     form = choose.random()
-    if form < 0.6:
+    if form < 0.7:
         return whole
-    if form < 0.85:
+    if form < 0.96:
         return whole + "." + "".join(choose.choices("0123456789", k=choose.randrange(1, 7)))
     return choose.choice(["1e3", "2.5e-07", "0.0123456", ".5", "5.", "1e99", "-1", "1,5", "007.50", whole + "e-2"])
 
@@ -161,8 +166,8 @@ def broken(text, choose):
 
 
 def made_texts():
-    """Random files. Every fourth one is the one before it with its bids written in another order, and every second one is broken."""
-    choose, texts = random.Random(7), []
+    """Random files. Of four that follow one another the second has the bids of the first in another order, and the other two are these, broken."""
+    choose, texts = random.Random(7), [b""]
     while len(texts) < MADE:
         goods, dummies = choose.randrange(1, 6), choose.randrange(4)
         bids = random_bids(choose, goods, dummies)
@@ -199,9 +204,9 @@ def room_of(size):
 
 
 def call_library(library, call, texts, sizes):
-    """The status of a call with buffers of these sizes, and the buffers."""
+    """The status of a call with buffers of these sizes, and the buffers. A text is its bytes, or a pointer and a length."""
     rooms = [room_of(size) for size in sizes]
-    words = [word for text in texts for word in (text, len(text))]
+    words = [word for text in texts for word in (text if isinstance(text, tuple) else (text, len(text)))]
     buffers = [word for room in rooms for word in (room.bytes, room.size, ctypes.byref(room.needed))]
     return getattr(library, call.function)(*words, *call.argument, *buffers), rooms
 
@@ -362,6 +367,19 @@ def check_threads(cases):
         list(pool.map(make_calls, range(THREADS)))
 
 
+def check_long_texts():
+    """A text of as many bytes as are read, and of one more."""
+    pages = mmap.mmap(-1, MAX_STREAM + 1, flags=mmap.MAP_PRIVATE | mmap.MAP_ANONYMOUS)
+    zeros = ctypes.cast((ctypes.c_char * len(pages)).from_buffer(pages), ctypes.c_char_p)
+    for call in (call for call in CALLS if not call.words):
+        for length, line in ((MAX_STREAM, b"line 1: Header\n"), (MAX_STREAM + 1, b"TooLong\n")):
+            before = [BIDS] * (call.texts - 1)
+            status, rooms = call_library(cats.LIBRARY, call, [*before, (zeros, length)], [cats.LINE] * call.outputs())
+            out = rooms[0].bytes.raw[: rooms[0].needed.value]
+            wanted = (cats.REFUSED, b"second: " + line if before else line)
+            TALLY.judge((status, out) == wanted, f"{call} on {length} bytes", (status, out))
+
+
 def main():
     texts = [pathlib.Path(file).read_bytes() for file in FILES] + made_texts()
     with tempfile.TemporaryDirectory() as folder:
@@ -370,6 +388,8 @@ def main():
     for check, on in ((check_answers, cases), (check_module, cases), (check_threads, cases), (check_sizes, few), (check_refusals, few)):
         print(check.__doc__.split("\n")[0], flush=True)
         check(on)
+    print(check_long_texts.__doc__, flush=True)
+    check_long_texts()
     print(f"{TALLY.calls} calls, {TALLY.wrong} wrong")
     return 1 if TALLY.wrong else 0
 

@@ -1,12 +1,13 @@
 // Prints whether two bid files are the same auction, and if not, where they first differ; then the canonical text of the first file.
 //     example FILE FILE
-// The status is that of the last call that failed, 0 if none did, and 1 for different auctions; 5: a file cannot be read.
+// The status is 0 for the same auction, 1 for different ones, and else that of the call that failed. 5: a file cannot be read. 64: the
+// command line is wrong.
 #include <stdio.h>
 #include <stdlib.h>
 
 #include "cats.h"
 
-enum { FILE_FAILED = 5 };
+enum { FILE_FAILED = 5, WRONG_USAGE = 64 };
 
 // The bytes of a file.
 struct text {
@@ -14,7 +15,7 @@ struct text {
     size_t length;
 };
 
-// Reads the whole of a file, twice as much at a time. Ends the program if that fails.
+// Reads the whole of a file into a block that is made twice as large until it suffices. Ends the program if that fails.
 static struct text read_text(const char *path) {
     struct text text = {NULL, 0};
     size_t room = 1 << 12;
@@ -25,12 +26,12 @@ static struct text read_text(const char *path) {
             break;
         text.bytes = bytes;
         text.length += fread(bytes + text.length, 1, room - text.length, file);
-        if (text.length < room && !ferror(file)) {
+        if (ferror(file))
+            break;
+        if (text.length < room) {
             fclose(file);
             return text;
         }
-        if (ferror(file))
-            break;
         room *= 2;
     }
     fprintf(stderr, "%s cannot be read\n", path);
@@ -67,7 +68,7 @@ static uint8_t normalise(struct text text) {
 int main(int count, char **words) {
     if (count != 3) {
         fprintf(stderr, "usage: example FILE FILE\n");
-        return 64;
+        return WRONG_USAGE;
     }
     struct text left = read_text(words[1]), right = read_text(words[2]);
     uint8_t status = compare(left, right);
