@@ -7,19 +7,19 @@ void *__real_malloc(size_t size);
 void *__real_realloc(void *block, size_t size);
 void __real_free(void *block);
 
-static size_t asked, refused_from, refused_to;
+static size_t counted, refused_from, refused_to;
 static long held;
 
 // From now on allocations are counted from 1, and those from one number to another are refused. None is refused from 0.
 void refuse_allocations(size_t from, size_t to) {
-    asked = 0;
+    counted = 0;
     refused_from = from;
     refused_to = to;
 }
 
 // How many allocations there were.
 size_t count_allocations(void) {
-    return asked;
+    return counted;
 }
 
 // How many blocks are held that were not freed.
@@ -28,8 +28,8 @@ long count_held(void) {
 }
 
 static bool is_refused(void) {
-    asked++;
-    return refused_from > 0 && asked >= refused_from && asked <= refused_to;
+    counted++;
+    return refused_from > 0 && counted >= refused_from && counted <= refused_to;
 }
 
 void *__wrap_malloc(size_t size) {

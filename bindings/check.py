@@ -371,13 +371,13 @@ def check_long_texts():
     """A text of as many bytes as are read, and of one more."""
     pages = mmap.mmap(-1, MAX_STREAM + 1, flags=mmap.MAP_PRIVATE | mmap.MAP_ANONYMOUS)
     zeros = ctypes.cast((ctypes.c_char * len(pages)).from_buffer(pages), ctypes.c_char_p)
-    for call in (call for call in CALLS if not call.words):
-        for length, line in ((MAX_STREAM, b"line 1: Header\n"), (MAX_STREAM + 1, b"TooLong\n")):
-            before = [BIDS] * (call.texts - 1)
-            status, rooms = call_library(cats.LIBRARY, call, [*before, (zeros, length)], [cats.LINE] * call.outputs())
-            out = rooms[0].bytes.raw[: rooms[0].needed.value]
-            wanted = (cats.REFUSED, b"second: " + line if before else line)
-            TALLY.judge((status, out) == wanted, f"{call} on {length} bytes", (status, out))
+    tried = [(call, MAX_STREAM + 1, b"TooLong\n") for call in CALLS if not call.words] + [(CALLS[0], MAX_STREAM, b"line 1: Header\n")]
+    for call, length, line in tried:
+        before = [BIDS] * (call.texts - 1)
+        status, rooms = call_library(cats.LIBRARY, call, [*before, (zeros, length)], [cats.LINE] * call.outputs())
+        out = rooms[0].bytes.raw[: rooms[0].needed.value]
+        wanted = (cats.REFUSED, b"second: " + line if before else line)
+        TALLY.judge((status, out) == wanted, f"{call} on {length} bytes", (status, out))
 
 
 def main():

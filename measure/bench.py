@@ -285,8 +285,8 @@ def measure_library(folder, size, bids, goods, most):
         return
     path = f"{folder}/bids"
     made(generate, path, bids, goods, 5, 20, 3)
-    told = subprocess.run([sys.executable, "-B", CALLS, PROGRAM, LIBRARY, path], stdout=subprocess.PIPE, text=True, check=True).stdout
-    for name, call, process in (line.split() for line in told.splitlines()):
+    printed = subprocess.run([sys.executable, "-B", CALLS, PROGRAM, LIBRARY, path], stdout=subprocess.PIPE, text=True, check=True).stdout
+    for name, call, process in (line.split() for line in printed.splitlines()):
         calls, processes = 1 / float(call), 1 / float(process)
         print(f"{f'library, {size}: {name}':50} {calls:8.0f} calls/s {processes:8.0f} processes/s", flush=True)
         bound(f"library, {size}: {name}, a call, times a process", processes / calls, most)
