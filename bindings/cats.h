@@ -7,7 +7,7 @@
 // - An output buffer is a pointer and its size in bytes. `needed` gets the length of the output, whatever the status.
 // - With every status but CATS_BUFFER_TOO_SMALL, the first `*needed` bytes of the buffer are the output: what the program `cats` prints
 //   on standard output, or, if the text is refused, the line that it prints on standard error. There is no NUL behind it.
-// - With CATS_BUFFER_TOO_SMALL the buffer is as it was, and a call with a buffer of `*needed` bytes gives the output.
+// - With CATS_BUFFER_TOO_SMALL the buffer that is too small is as it was, and a call with a buffer of `*needed` bytes gives the output.
 // - For each function the macro CATS_.._SIZE is a buffer size that always suffices, for the output and for the line of a fault.
 //
 // The caller has to guarantee that each pointer is valid for its length or size and not null (for 0 bytes too), that the buffers, `needed`
@@ -71,8 +71,8 @@ uint8_t cats_diff(const uint8_t *left, size_t left_length, const uint8_t *right,
 #define CATS_DIFF_SIZE(left_length, right_length) (2 * ((size_t)(left_length) + (size_t)(right_length)) + 128)
 
 // Reads a text, and writes it with each price that is a decimal rounded to the nearest millionth. A second buffer gets a line for each price
-// whose value changed. If `exact`, a text with such a price is refused. The second buffer gets nothing if the text is refused. If either
-// buffer is too small, both are as they were, and both lengths are set.
+// whose value changed. If `exact`, a text with such a price is refused. The second buffer gets nothing if the text is refused. With
+// CATS_BUFFER_TOO_SMALL one of the two is too small, or both, which the lengths show: it is as it was.
 // Returns CATS_DONE, CATS_REFUSED, CATS_WANT_OF_MEMORY or CATS_BUFFER_TOO_SMALL.
 uint8_t cats_round(const uint8_t *text, size_t length, bool exact, uint8_t *out, size_t size, size_t *needed, uint8_t *report,
                    size_t report_size, size_t *report_needed);

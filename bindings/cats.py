@@ -178,6 +178,9 @@ CHANGE = re.compile(r"line (\d+): (.*) rounded to (\S+)")
 
 
 def bytes_of(text):
+    """The bytes of a text. Those that another thread may change are copied."""
+    if isinstance(text, bytes):
+        return text
     return text.encode() if isinstance(text, str) else bytes(memoryview(text))
 
 

@@ -298,15 +298,17 @@ def check_module(cases):
 
 
 def is_right_with(one, sizes):
-    """Whether a call with buffers of these sizes writes all or nothing, sets each length, and keeps what is behind the buffers."""
+    """Whether a call with buffers of these sizes fills each or leaves it as it was, sets each length, and keeps what is behind it."""
     status, rooms = call_library(cats.LIBRARY, one.call, one.texts, sizes)
     outputs = one.own[1 : 1 + len(rooms)]
     if [room.needed.value for room in rooms] != list(map(len, outputs)):
         return False
-    if any(room.size < len(output) for room, output in zip(rooms, outputs)):
-        return status == cats.BUFFER_TOO_SMALL and all(room.is_marked(0) for room in rooms)
-    fits = all(room.bytes.raw[: len(output)] == output for room, output in zip(rooms, outputs))
-    return status == one.own.status and fits and all(room.is_marked(room.size) for room in rooms)
+    are_small = [room.size < len(output) for room, output in zip(rooms, outputs)]
+    if not all(room.is_marked(0 if is_small else room.size) for room, is_small in zip(rooms, are_small)):
+        return False
+    if any(are_small):
+        return status == cats.BUFFER_TOO_SMALL
+    return status == one.own.status and all(room.bytes.raw[: len(output)] == output for room, output in zip(rooms, outputs))
 
 
 def check_sizes(cases):
