@@ -91,12 +91,13 @@ static uint8_t call_with(call *made, struct edge *edge, size_t size, size_t repo
     return status;
 }
 
-// A call with no room, with a byte too few, and with as much as is needed.
-static void try_sizes(const char *name, call *made, struct edge *edge) {
+// A call with no room, with a byte too few, and with as much as is needed, which is at most what cats.h says.
+static void try_sizes(const char *name, call *made, struct edge *edge, size_t most) {
     uint8_t none = call_with(made, edge, 0, 0);
     size_t needed = edge->needed, report_needed = edge->report_needed;
     uint8_t status = call_with(made, edge, needed, report_needed);
     bool is_wrong = needed + report_needed > 0 ? none != CATS_BUFFER_TOO_SMALL : none != status;
+    is_wrong = is_wrong || needed > most || report_needed > CATS_ROUND_REPORT_SIZE(edge->left.size);
     is_wrong = is_wrong || status == CATS_BUFFER_TOO_SMALL || edge->needed != needed || edge->report_needed != report_needed;
     if (needed > 0)
         is_wrong = is_wrong || call_with(made, edge, needed - 1, report_needed) != CATS_BUFFER_TOO_SMALL;
@@ -109,12 +110,12 @@ static void try_sizes(const char *name, call *made, struct edge *edge) {
 
 static void try_calls(struct block left, struct block right) {
     struct edge edge = {.left = left, .right = right};
-    try_sizes("cats_check", check, &edge);
-    try_sizes("cats_normalise", normalise, &edge);
-    try_sizes("cats_explain", explain, &edge);
-    try_sizes("cats_compare", compare, &edge);
-    try_sizes("cats_diff", diff, &edge);
-    try_sizes("cats_round", round_prices, &edge);
+    try_sizes("cats_check", check, &edge, CATS_CHECK_SIZE);
+    try_sizes("cats_normalise", normalise, &edge, CATS_NORMALISE_SIZE(left.size));
+    try_sizes("cats_explain", explain, &edge, CATS_EXPLAIN_SIZE(left.size));
+    try_sizes("cats_compare", compare, &edge, CATS_COMPARE_SIZE(left.size, right.size));
+    try_sizes("cats_diff", diff, &edge, CATS_DIFF_SIZE(left.size, right.size));
+    try_sizes("cats_round", round_prices, &edge, CATS_ROUND_SIZE(left.size));
 }
 
 int main(int count, char **paths) {
