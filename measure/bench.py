@@ -22,6 +22,8 @@ from searches import SEARCHES
 
 PROGRAM, GENERATE = sys.argv[1:3]
 WORD = sys.argv[3] if len(sys.argv) > 3 else ""
+LIBRARY = os.path.join(os.path.dirname(PROGRAM), "library")
+CALLS = os.path.join(os.path.dirname(os.path.abspath(__file__)), "calls.py")
 EMPTY = os.path.join(os.path.dirname(GENERATE), "examples", "empty.cats")
 TIMES = 5
 ROUNDS = 3
@@ -276,6 +278,20 @@ def measure_held_duplicates(folder):
     bound(f"{name}: what it holds, times that of a half", each.held / once.held, 1.2)
 
 
+def measure_library(folder, size, bids, goods, most):
+    """Calls of the library on a file of about so many bytes, beside a process each, by the clock."""
+    if not os.path.exists(f"{LIBRARY}/libcats.so"):
+        print(f"{f'library, {size}':50} not measured: ./library --build makes it")
+        return
+    path = f"{folder}/bids"
+    made(generate, path, bids, goods, 5, 20, 3)
+    printed = subprocess.run([sys.executable, "-B", CALLS, PROGRAM, LIBRARY, path], stdout=subprocess.PIPE, text=True, check=True).stdout
+    for name, call, process in (line.split() for line in printed.splitlines()):
+        calls, processes = 1 / float(call), 1 / float(process)
+        print(f"{f'library, {size}: {name}':50} {calls:8.0f} calls/s {processes:8.0f} processes/s", flush=True)
+        bound(f"library, {size}: {name}, a call, times a process", processes / calls, most)
+
+
 def one_bidder(many):
     """So many bids of one XOR bidder, on so many goods each."""
     return lambda path, count: bidders(path, count, many, count)
@@ -298,6 +314,9 @@ PRUNINGS = (
     ("pruning of OR bids", or_bids, 3),
 )
 
+# The sizes of files on which the library is called, with the bids and goods of such a file, and the most that a call may take of a process.
+LIBRARY_FILES = (("1 KB", 34, 24, 0.5), ("20 KB", 670, 64, 0.5), ("1 MB", 28_000, 1024, 1.1))
+
 GROUPS = {
     "an empty auction": measure_start,
     "comments": measure_comments,
@@ -310,6 +329,7 @@ GROUPS = {
     "sizes": measure_sizes,
     "duplicates of larger files": measure_large_duplicates,
     "what duplicates holds": measure_held_duplicates,
+    **{f"library, {size}": partial(measure_library, size=size, bids=bids, goods=goods, most=most) for size, bids, goods, most in LIBRARY_FILES},
     **{name: partial(measure_pruning, name=name, write_bids=write_bids, most=most) for name, write_bids, most in PRUNINGS},
 }
 

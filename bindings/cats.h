@@ -1,0 +1,86 @@
+// The proved library libcats: bid files of combinatorial auctions, checked, normalised, explained, rounded and compared. docs/C.md shows
+// how it is used, and docs/FORMAT.md has the texts.
+//
+// What all functions have in common:
+//
+// - A text is a pointer and a length in bytes. Only these bytes are read. It needs no NUL at its end.
+// - An output buffer is a pointer and its size in bytes. `needed` gets the length of the output, whatever the status.
+// - With every status but CATS_BUFFER_TOO_SMALL, the first `*needed` bytes of the buffer are the output: what the program `cats` prints
+//   on standard output, or, if the text is refused, the line that it prints on standard error. There is no NUL behind it.
+// - With CATS_BUFFER_TOO_SMALL the buffer that is too small is as it was, and a call with a buffer of `*needed` bytes gives the output.
+// - For each function the macro CATS_.._SIZE is a buffer size that always suffices, for the output and for the line of a fault.
+//
+// The caller has to guarantee that each pointer is valid for its length or size and not null (for 0 bytes too), that the buffers, `needed`
+// and the texts do not overlap, but that the two texts may be the same, and that nothing else changes a text or uses a buffer during
+// the call. A call needs some 180 KiB of stack. It is not made from a signal handler, or in the forked child of a process with threads.
+// `malloc`, `realloc` and `free` are those of one allocator, which aligns a block as the C library's does.
+//
+// No call keeps anything, ends the process, or hands out memory that has to be freed. Several threads may call at once.
+#ifndef CATS_H
+#define CATS_H
+
+#include <stdbool.h>
+#include <stddef.h>
+#include <stdint.h>
+
+#ifdef __cplusplus
+extern "C" {
+#endif
+
+// What a call returns. The first five are the statuses of the program.
+enum cats_status {
+    CATS_DONE = 0,            // done; of cats_compare and cats_diff: the same auction
+    CATS_DIFFERENT = 1,       // of cats_compare and cats_diff: different auctions
+    CATS_REFUSED = 2,         // a text is not a bid file, or is longer than is read
+    CATS_STEP_LIMIT = 3,      // a search takes more steps than its limit
+    CATS_WANT_OF_MEMORY = 4,  // memory was refused
+    CATS_BUFFER_TOO_SMALL = 6 // an output needs a larger buffer
+};
+
+// The limit on steps that the program has without `--steps`. A call takes any limit. It is one for each search, of which a file may need as
+// many as it has bids.
+#define CATS_STEPS 1000000
+
+// Reads a text of `length` bytes and writes how many goods, bids and dummy goods it has, as `goods G bids B dummy D` and LF.
+// Returns CATS_DONE, CATS_REFUSED, CATS_WANT_OF_MEMORY or CATS_BUFFER_TOO_SMALL.
+uint8_t cats_check(const uint8_t *text, size_t length, uint8_t *out, size_t size, size_t *needed);
+#define CATS_CHECK_SIZE ((size_t)64)
+
+// Reads a text and writes the canonical text of its auction, which is the same for two texts exactly if they are the same auction.
+// Returns CATS_DONE, CATS_REFUSED, CATS_STEP_LIMIT, CATS_WANT_OF_MEMORY or CATS_BUFFER_TOO_SMALL.
+uint8_t cats_normalise(const uint8_t *text, size_t length, uint64_t steps, uint8_t *out, size_t size, size_t *needed);
+#define CATS_NORMALISE_SIZE(length) ((size_t)(length) + (size_t)(length) / 2 + 64)
+
+// Reads a text and writes a line for each of its bids: its number, and why the canonical text has it or not.
+// Returns CATS_DONE, CATS_REFUSED, CATS_STEP_LIMIT, CATS_WANT_OF_MEMORY or CATS_BUFFER_TOO_SMALL.
+uint8_t cats_explain(const uint8_t *text, size_t length, uint64_t steps, uint8_t *out, size_t size, size_t *needed);
+#define CATS_EXPLAIN_SIZE(length) (3 * (size_t)(length) + 64)
+
+// Reads two texts and writes `same` and LF, or four lines: `different`, and where the two auctions first differ.
+// The line of a refused text begins with `first: ` or `second: `.
+// Returns CATS_DONE, CATS_DIFFERENT, CATS_REFUSED, CATS_STEP_LIMIT, CATS_WANT_OF_MEMORY or CATS_BUFFER_TOO_SMALL.
+uint8_t cats_compare(const uint8_t *left, size_t left_length, const uint8_t *right, size_t right_length, uint64_t steps, uint8_t *out,
+                     size_t size, size_t *needed);
+#define CATS_COMPARE_SIZE(left_length, right_length) ((size_t)(left_length) + (size_t)(right_length) + 128)
+
+// Reads two texts and writes a line for each difference of the two auctions, and nothing if they are the same.
+// The line of a refused text begins with `first: ` or `second: `.
+// Returns CATS_DONE, CATS_DIFFERENT, CATS_REFUSED, CATS_STEP_LIMIT, CATS_WANT_OF_MEMORY or CATS_BUFFER_TOO_SMALL.
+uint8_t cats_diff(const uint8_t *left, size_t left_length, const uint8_t *right, size_t right_length, uint64_t steps, uint8_t *out,
+                  size_t size, size_t *needed);
+#define CATS_DIFF_SIZE(left_length, right_length) (2 * ((size_t)(left_length) + (size_t)(right_length)) + 128)
+
+// Reads a text, and writes it with each price that is a decimal rounded to the nearest millionth. A second buffer gets a line for each price
+// whose value changed. If `exact`, a text with such a price is refused. The second buffer gets nothing if the text is refused. With
+// CATS_BUFFER_TOO_SMALL one of the two is too small, or both, which the lengths show: it is as it was.
+// Returns CATS_DONE, CATS_REFUSED, CATS_WANT_OF_MEMORY or CATS_BUFFER_TOO_SMALL.
+uint8_t cats_round(const uint8_t *text, size_t length, bool exact, uint8_t *out, size_t size, size_t *needed, uint8_t *report,
+                   size_t report_size, size_t *report_needed);
+#define CATS_ROUND_SIZE(length) (2 * (size_t)(length) + 64)
+#define CATS_ROUND_REPORT_SIZE(length) (5 * (size_t)(length) + 64)
+
+#ifdef __cplusplus
+}
+#endif
+
+#endif

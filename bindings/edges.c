@@ -1,0 +1,132 @@
+// Calls each function on each file, and on each two files that follow one another, with every text and every buffer in a block of exactly
+// its size, so that valgrind sees a byte that is read or written beyond it. Prints what is wrong.
+//     edges FILE..
+#include <stdio.h>
+#include <stdlib.h>
+
+#include "cats.h"
+
+enum { FEW_STEPS = 3 };
+
+struct block {
+    uint8_t *bytes;
+    size_t size;
+};
+
+// What a call reads and writes. The report is of cats_round alone.
+struct edge {
+    struct block left, right, out, report;
+    size_t needed, report_needed;
+};
+
+typedef uint8_t call(struct edge *edge);
+
+static int wrong = 0;
+static volatile size_t zeros = 0;
+
+static struct block new_block(size_t size) {
+    struct block block = {malloc(size ? size : 1), size};
+    if (!block.bytes)
+        exit(70);
+    return block;
+}
+
+static struct block read_file(const char *path) {
+    FILE *file = fopen(path, "rb");
+    if (!file || fseek(file, 0, SEEK_END) != 0)
+        exit(70);
+    struct block text = new_block((size_t)ftell(file));
+    rewind(file);
+    if (fread(text.bytes, 1, text.size, file) != text.size)
+        exit(70);
+    fclose(file);
+    return text;
+}
+
+static uint8_t check(struct edge *it) {
+    return cats_check(it->left.bytes, it->left.size, it->out.bytes, it->out.size, &it->needed);
+}
+
+static uint8_t normalise(struct edge *it) {
+    return cats_normalise(it->left.bytes, it->left.size, CATS_STEPS, it->out.bytes, it->out.size, &it->needed);
+}
+
+static uint8_t explain(struct edge *it) {
+    return cats_explain(it->left.bytes, it->left.size, FEW_STEPS, it->out.bytes, it->out.size, &it->needed);
+}
+
+static uint8_t compare(struct edge *it) {
+    return cats_compare(it->left.bytes, it->left.size, it->right.bytes, it->right.size, CATS_STEPS, it->out.bytes, it->out.size,
+                        &it->needed);
+}
+
+static uint8_t diff(struct edge *it) {
+    return cats_diff(it->left.bytes, it->left.size, it->right.bytes, it->right.size, CATS_STEPS, it->out.bytes, it->out.size, &it->needed);
+}
+
+static uint8_t round_prices(struct edge *it) {
+    return cats_round(it->left.bytes, it->left.size, false, it->out.bytes, it->out.size, &it->needed, it->report.bytes, it->report.size,
+                      &it->report_needed);
+}
+
+// Branches on each byte: valgrind reports one that was not written.
+static void read_all(const uint8_t *bytes, size_t length) {
+    for (size_t at = 0; at < length; at++)
+        if (bytes[at] == 0)
+            zeros++;
+}
+
+// Makes a call with buffers of these sizes, and frees them.
+static uint8_t call_with(call *made, struct edge *edge, size_t size, size_t report_size) {
+    edge->out = new_block(size);
+    edge->report = new_block(report_size);
+    edge->needed = edge->report_needed = 0;
+    uint8_t status = made(edge);
+    if (status != CATS_BUFFER_TOO_SMALL) {
+        read_all(edge->out.bytes, edge->needed);
+        read_all(edge->report.bytes, edge->report_needed);
+    }
+    free(edge->out.bytes);
+    free(edge->report.bytes);
+    return status;
+}
+
+// A call with no room, with a byte too few, and with as much as is needed, which is at most what cats.h says.
+static void try_sizes(const char *name, call *made, struct edge *edge, size_t most) {
+    uint8_t none = call_with(made, edge, 0, 0);
+    size_t needed = edge->needed, report_needed = edge->report_needed;
+    uint8_t status = call_with(made, edge, needed, report_needed);
+    bool is_wrong = needed + report_needed > 0 ? none != CATS_BUFFER_TOO_SMALL : none != status;
+    is_wrong = is_wrong || needed > most || report_needed > CATS_ROUND_REPORT_SIZE(edge->left.size);
+    is_wrong = is_wrong || status == CATS_BUFFER_TOO_SMALL || edge->needed != needed || edge->report_needed != report_needed;
+    if (needed > 0)
+        is_wrong = is_wrong || call_with(made, edge, needed - 1, report_needed) != CATS_BUFFER_TOO_SMALL;
+    if (report_needed > 0)
+        is_wrong = is_wrong || call_with(made, edge, needed, report_needed - 1) != CATS_BUFFER_TOO_SMALL;
+    if (is_wrong)
+        printf("wrong: %s with exact sizes\n", name);
+    wrong += is_wrong;
+}
+
+static void try_calls(struct block left, struct block right) {
+    struct edge edge = {.left = left, .right = right};
+    try_sizes("cats_check", check, &edge, CATS_CHECK_SIZE);
+    try_sizes("cats_normalise", normalise, &edge, CATS_NORMALISE_SIZE(left.size));
+    try_sizes("cats_explain", explain, &edge, CATS_EXPLAIN_SIZE(left.size));
+    try_sizes("cats_compare", compare, &edge, CATS_COMPARE_SIZE(left.size, right.size));
+    try_sizes("cats_diff", diff, &edge, CATS_DIFF_SIZE(left.size, right.size));
+    try_sizes("cats_round", round_prices, &edge, CATS_ROUND_SIZE(left.size));
+}
+
+int main(int count, char **paths) {
+    struct block left = new_block(0);
+    for (int number = 1; number < count; number++) {
+        struct block right = read_file(paths[number]);
+        try_calls(left, right);
+        free(left.bytes);
+        left = right;
+    }
+    try_calls(left, left);
+    free(left.bytes);
+    return wrong ? 1 : 0;
+}
