@@ -2,16 +2,17 @@
 #![tactic(auto)]
 
 ghost use Rattle.rounding.specs.declared.replacement.FinePrices.TheVariants.{Refuse, Round};
-ghost use Rattle.std.specs.Prelude.{if◌then◌else◌};
+ghost use Rattle.std.specs.Prelude.{◌≡◌, if◌then◌else◌};
 ghost use Rattle.cats_calls.specs.Buffers.{Calls};
 ghost use Rattle.cats_calls.specs.OneText.{ChecksText, ExplainsText, NormalisesText};
 ghost use Rattle.cats_calls.specs.Refusals.{IsUnmade, IsUnread, OfOnly, OfTwo};
-ghost use Rattle.cats_calls.specs.Roundings.{RoundCalls};
+ghost use Rattle.cats_calls.specs.Roundings.{AnswersRounding, RoundCalls, whole_status};
 ghost use Rattle.cats_calls.specs.TwoTexts.{ComparesTexts, DiffsTexts};
 
+use answers::RunFault;
 use cats_calls::{
-    TOO_SMALL, check, compare, diff, explain_text, give, give_report, give_rounded, normalise,
-    round_text,
+    RoundAnswer, TOO_SMALL, check, compare, diff, explain_text, give, give_report, give_rounded,
+    normalise, round_text,
 };
 use rounding::FinePrices;
 use std::alloc::Global;
@@ -97,10 +98,16 @@ pub extern "C" fn cats_round(
     ensures { RoundCalls (if exact then Refuse else Round) text.now out.old out.new needed.new report.old report.new
         report_needed.new result }
 {
-    let fine = fine_prices(exact);
-    let rounded = round_text(alloc, text, fine);
+    let rounded = round_as(alloc, text, exact);
     let reported = give_report(&rounded, report, report_needed);
     let given = give_rounded(alloc, &rounded, out, needed);
+    whole_status(given, reported)
+}
+
+/// The status of a call with two buffers.
+fn whole_status(given: u8, reported: u8) -> u8
+    ensures { result ≡ whole_status given reported }
+{
     if reported == TOO_SMALL {
         TOO_SMALL
     } else {
@@ -108,12 +115,13 @@ pub extern "C" fn cats_round(
     }
 }
 
-fn fine_prices(exact: bool) -> FinePrices
-    ensures { result ≡ if exact then Refuse else Round }
+/// Rounds the prices of a text. A price that is finer than a millionth is refused if `exact` is set.
+fn round_as(alloc: Global, text: &[u8], exact: bool) -> Result<RoundAnswer, RunFault>
+    ensures { AnswersRounding (if exact then Refuse else Round) text.now result }
 {
     if exact {
-        FinePrices::Refuse
+        round_text(alloc, text, FinePrices::Refuse)
     } else {
-        FinePrices::Round
+        round_text(alloc, text, FinePrices::Round)
     }
 }

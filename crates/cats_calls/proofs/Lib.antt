@@ -1,5 +1,4 @@
 -- Proofs that several functions of this crate cite.
-pub mod Reading
-pub mod OneText
+pub mod Refusing
 pub mod TwoTexts
 pub mod Given

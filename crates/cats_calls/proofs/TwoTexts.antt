@@ -1,7 +1,7 @@
 -- The calls on two texts. What is said of their canonical files is said of the files that they spell, since each is the same auction as
 -- its canonical file; and the status is 0 exactly for the same auction.
-use Rattle.std.proofs.Common.{◌≡◌, ◌++◌, ℕ, Bool, true, false, List, Result, Ok, Err, refl, sym, ap, ap₂, ◌∙◌, subst}
-use Rattle.std.specs.Prelude.{◌↔◌, if◌then◌else◌}
+use Rattle.std.proofs.Common.{◌≡◌, ℕ, Bool, true, false, cond, List, Result, Ok, Err, refl, sym, ap, ap₂, ◌∙◌, subst}
+use Rattle.std.specs.Prelude.{◌↔◌}
 use Rattle.bid_file.specs.Files.{PlainFile, IsPlainFile}
 use Rattle.cats_text.specs.Grammar.{Spells}
 use Rattle.cats_text.proofs.Spelling.Files.{spells_one}
@@ -56,7 +56,7 @@ module _ (limit : ℕ) (left right : List ℕ) (h k : PlainFile) (n : IsNormalFi
 
 -- ---- all differences
 
-zero_by_test : (none : Bool) → ((if none then 0 else 1) ≡ 0) → none ≡ true
+zero_by_test : (none : Bool) → cond {A = ℕ} none 0 1 ≡ 0 → none ≡ true
 zero_by_test true e = refl
 zero_by_test false e = absurd (cc)
 
@@ -103,7 +103,7 @@ module _ (left right : List ℕ) (f g : PlainFile) (s : Spells left f) (t : Spel
   zero_exactly d all status is =
       let none = none_exactly d all in (
         λ zero. same_texts (none.0 (zero_by_test (is_none_at_all d) (sym is ∙ zero))),
-        λ texts. is ∙ ap (λ (b : Bool). if b then 0 else 1) (none.1 (same_files texts)),
+        λ texts. is ∙ ap (λ (b : Bool). cond {A = ℕ} b 0 1) (none.1 (same_files texts)),
       )
 
 module _ (limit : ℕ) (left right : List ℕ) (one other : NamedFile) (n : IsNamedOf limit left one) (m : IsNamedOf limit right other) where

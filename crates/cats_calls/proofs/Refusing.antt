@@ -1,19 +1,19 @@
 -- A text that is read and normalised. One that is longer than a stream may be has a fault: that of its first bytes, or its length.
-use Rattle.std.proofs.Common.{◌≡◌, ◌≢◌, ◌<◌, ◌≤◌, ◌++◌, ℕ, ◌⊎◌, inl, inr, true, List, [], length, take, Option, Some, None, Result, Ok, Err, refl, sym, ap, ◌∙◌, subst, IfSome, arith}
+use Rattle.std.proofs.Common.{◌≡◌, ◌≢◌, ◌<◌, ◌≤◌, ℕ, ◌⊎◌, inl, inr, true, List, [], length, take, Option, Some, None, Result, Ok, Err, refl, sym, ap, ◌∙◌, subst, IfSome}
 use Rattle.std.specs.Prelude.{IsErrAnd, IfOk}
 use Rattle.std.proofs.lemmas.Bool.{le-leb, lt-leb}
 use Rattle.std.proofs.lemmas.List.{take_all}
 use Rattle.bid_file.specs.Files.{PlainFile}
-use Rattle.cats_text.specs.Faults.{first_fault, has_bid_line, fault_at}
+use Rattle.cats_text.specs.Faults.{first_fault, has_bid_line}
 use Rattle.cats_text.specs.Fed.{Fed, fed_fault}
 use Rattle.cats_text.specs.Grammar.{Spells}
-use Rattle.cats_text.specs.Reading.{FeedAnswer, FeedsAs, FeedsOn, WantsMemory}
+use Rattle.cats_text.specs.Reading.{FeedsAs, FeedsOn, WantsMemory}
 use Rattle.cats_text.specs.declared.fault.Kind.{Kind}
 use Rattle.cats_text.specs.declared.fault.Kind.TheVariants.{Memory as NoMemory}
 use Rattle.cats_text.specs.declared.fault.ReadFault.{ReadFault}
 use Rattle.cats_text.specs.declared.limits.TheConstants.{MAX_STREAM}
-use Rattle.cats_text.proofs.Texts.FaultKinds.{IsFaultOfBytes, fed_fault-of_bytes, fed_within, first_fault-of_bytes}
-use Rattle.valuation.specs.Auctions.{auction_from, or_atoms_of}
+use Rattle.cats_text.proofs.Texts.FaultKinds.{IsFaultOfBytes, fed_fault-of_bytes, first_fault-of_bytes}
+use Rattle.valuation.specs.Auctions.{auction_from}
 use Rattle.canon.specs.Answers.{NormalisesPlainAs, RefusesAuction, unnamed_answer}
 use Rattle.canon.specs.Normalising.{unless_heavy}
 use Rattle.canon.specs.Refusals.{refusal_by_kind, refusal_of}
@@ -24,7 +24,7 @@ use Rattle.canon.specs.declared.named.NamedFile.{NamedFile}
 use Rattle.answers.specs.NamedFiles.{IsNamed, IsNamedFile}
 use Rattle.answers.proofs.NamedFiles.{named_file}
 use Rattle.cats_calls.specs.Refusals.{IsUnmade, IsUnread, text_fault}
-use Rattle.cats_calls.specs.Internal.Reading.{NamesAs, NormalisesAs, ReadsAs}
+use Rattle.cats_calls.specs.Internal.Reading.{NamesAs, ReadsAs}
 
 -- ---- faults of the text
 
@@ -71,16 +71,7 @@ module _ (text : List ℕ) (long : MAX_STREAM < length text) where
   long_is : text_fault text ≡ fed_fault MAX_STREAM text
   long_is = rw (lt-leb (length text) MAX_STREAM long) refl
 
-  -- it has a fault
-  pub long_has_fault : (new : Fed) → FeedsOn (record { limit = MAX_STREAM; bytes = []; failed = None }) text new (Ok tt) → ⊥
-  long_has_fault new fed =
-      let bytes : new.bytes ≡ text = fed.bytes in
-      let none : fed_fault MAX_STREAM text ≡ None =
-      sym (ap (λ (limit : ℕ). fed_fault limit text) fed.limit) ∙ sym (ap (fed_fault new.limit) bytes) ∙ fed.answer.0 in
-      let within = fed_within MAX_STREAM text none in
-      omega arith
-
-  pub long_unread : (new : Fed) (why : ReadFault) → FeedsOn (record { limit = MAX_STREAM; bytes = []; failed = None }) text new (Err why)
+  long_unread : (new : Fed) (why : ReadFault) → FeedsOn (record { limit = MAX_STREAM; bytes = []; failed = None }) text new (Err why)
       → IsUnread text (refusal_of why)
   long_unread new why fed = unread_by text why (subst (λ (fault : Option ReadFault). IfSome fault IsFaultOfBytes) (sym long_is) (fed_fault-of_bytes MAX_STREAM text))
       (by fed.answer.0)
@@ -96,34 +87,20 @@ module _ (text : List ℕ) (long : MAX_STREAM < length text) where
       by (inl found) = inl (long_is ∙ sym of_text ∙ found)
       by (inr wants) = inr (ap (λ (w : ReadFault). w.kind) wants.0, ap has_bid_line (sym first_bytes) ∙ wants.1)
 
+  -- what a reader that was fed the text answers
+  pub long_fed : (old new : Fed) → old ≡ record { limit = MAX_STREAM; bytes = []; failed = None } → (why : ReadFault) → FeedsAs old text new (Err why)
+      → IsUnread text (refusal_of why)
+  long_fed old new is why fed = long_unread new why (subst (λ (o : Fed). FeedsAs o text new (Err why)) is fed)
+
 -- ---- a text that was read
 
-pub unmade_unread : (limit : ℕ) (text : List ℕ) (fault : CanonFault) → IsUnread text fault → IsUnmade limit text fault
-unmade_unread limit text (Read why) h = h
-unmade_unread limit text (StepLimit goods) h = absurd h
-unmade_unread limit text Memory h = h
-
-pub unmade : (limit : ℕ) (text : List ℕ) (file : PlainFile) → Spells text file → (fault : CanonFault) → RefusesAuction limit (auction_from file) fault
+unmade : (limit : ℕ) (text : List ℕ) (file : PlainFile) → Spells text file → (fault : CanonFault) → RefusesAuction limit (auction_from file) fault
     → IsUnmade limit text fault
 unmade limit text file spelled (Read why) r = absurd r
 unmade limit text file spelled (StepLimit goods) r = record { file = file; spelled = spelled; is = ap (unless_heavy file) r }
 unmade limit text file spelled Memory r = inr (record { file = file; spelled = spelled })
 
 module _ (limit : ℕ) (text : List ℕ) where
-  pub normal_unread : (fault : CanonFault) → IsUnread text fault → (r : Result PlainFile CanonFault) → IsErrAnd r (λ why. why ≡ fault)
-      → NormalisesAs limit text r
-  normal_unread fault h (Ok file) is = absurd is
-  normal_unread fault h (Err why) is = subst (IsUnmade limit text) (sym is) (unmade_unread limit text fault h)
-
-  pub normal_read : (file : PlainFile) → Spells text file → (r : Result PlainFile CanonFault) → NormalisesPlainAs limit file r → NormalisesAs limit text r
-  normal_read file spelled (Ok h) n = record { file = file; spelled = spelled; normal = n }
-  normal_read file spelled (Err fault) n = unmade limit text file spelled fault n
-
-  pub named_unread : (fault : CanonFault) → IsUnread text fault → (r : Result NamedFile CanonFault) → IsErrAnd r (λ why. why ≡ fault)
-      → NamesAs limit text r
-  named_unread fault h (Ok named) is = absurd is
-  named_unread fault h (Err why) is = subst (IsUnmade limit text) (sym is) (unmade_unread limit text fault h)
-
   is_named : (file : PlainFile) (named : NamedFile) → NormalisesPlainAs limit file (Ok named.file) → named.dummies.items ≡ kept_dummies file → IsNamed file named
   is_named file named n dummies = record { canonical = n.canonical; dummies = dummies }
 

@@ -1,0 +1,9 @@
+use Rattle.std.specs.Prelude.{if◌then◌else◌}
+use Rattle.rounding.specs.declared.replacement.FinePrices.TheVariants.{Refuse, Round}
+use Rattle.cats_calls.proofs.Given.{given_rounding}
+use Rattle.cats_c.proofs.cats_round.Goals as goal
+
+pub returns : goal.returns
+returns c =
+    given_rounding (if c.args.exact then Refuse else Round) c.args.text.now c.round_as.result c.round_as.ensures _ _ _ _ c.give_rounded.ensures
+    _ _ _ _ c.give_report.ensures _ c.whole_status.ensures
