@@ -7,12 +7,13 @@ use Rattle.answers.specs.Statuses.{status_of_fault}
 use Rattle.answers.specs.declared.report.RunFault.{RunFault}
 use Rattle.answers.specs.declared.report.RunFault.TheVariants.{Refused}
 use Rattle.cats_calls.specs.declared.answer.Answer.{Answer}
+use Rattle.cats_calls.specs.declared.buffer.TheConstants.{TOO_SMALL}
 
 -- The text is at the front of the buffer, and the rest of the buffer is as it was; if it does not fit, so is all of it, and the
 -- status is another.
 pub record PutsInto (status : ℕ) (text old new : List ℕ) (answer : ℕ) : Type 0 where
   pub fits : length text ≤ length old → (answer ≡ status) × (new ≡ text ++ drop (length text) old)
-  pub small : length old < length text → (answer ≡ 6) × (new ≡ old)
+  pub small : length old < length text → (answer ≡ TOO_SMALL) × (new ≡ old)
 
 -- what is given of a fault: its line, or want of memory in the place of that line
 abbrev pub IsLineFor : RunFault → List ℕ → Type 0

@@ -16,6 +16,7 @@ use Rattle.answers.specs.declared.report.RunFault.{RunFault}
 use Rattle.answers.specs.declared.report.RunFault.TheVariants.{Refused, GoodRange, Sent}
 use Rattle.cats_calls.specs.Buffers.{GivesFault, GivesText, PutsInto, RefusesBy}
 use Rattle.cats_calls.specs.Refusals.{OfOnly}
+use Rattle.cats_calls.specs.declared.buffer.TheConstants.{TOO_SMALL}
 use Rattle.cats_calls.specs.declared.rounded_text.RoundAnswer.{RoundAnswer}
 
 -- the lines of prices whose values changed
@@ -61,7 +62,7 @@ GivesReport (Err fault) old new needed answer = GivesText 0 [] old new needed an
 
 -- the status of both: that of the text, unless the report does not fit
 abbrev pub whole_status : ℕ → ℕ → ℕ
-whole_status given reported = if reported == 6 then 6 else given
+whole_status given reported = if reported == TOO_SMALL then TOO_SMALL else given
 
 -- what the call does with both buffers
 pub record RoundCalls (fine : FinePrices) (bytes old new : List ℕ) (needed : ℕ) (report_old report_new : List ℕ)
