@@ -1,4 +1,4 @@
--- What `cats compare` prints: where two auctions part first, and both sides of it.
+-- What `cats compare` prints: where two auctions first differ, and both sides of it.
 use Rattle.std.specs.Prelude.{ℕ, List, ◌∷◌, ◌++◌, codes, decimal}
 use Rattle.std.specs.List.{flat_map}
 use Rattle.cats_text.specs.Layout.{price_text}
@@ -20,7 +20,7 @@ atom_text a = bundle_text a.bundle ++ codes ":" ++ price_text a.price
 abbrev pub bidder_text : List (Atom (List ℕ)) → List ℕ
 bidder_text bidder = flat_map (λ a. 32 ∷ atom_text a) bidder
 
--- where two auctions part, and what is told of each
+-- where two auctions first differ, and what is reported of each
 abbrev pub parted_text : List ℕ → List ℕ → List ℕ → List ℕ
 parted_text place left right = codes "different\n" ++ place ++ codes "\nleft " ++ left ++ codes "\nright " ++ right
     ++ codes "\n"

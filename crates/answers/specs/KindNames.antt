@@ -1,4 +1,4 @@
--- The names under which the kinds of faults are told.
+-- The names under which the kinds of faults are reported.
 use Rattle.std.specs.Prelude.{ℕ, List, codes}
 use Rattle.cats_text.specs.declared.fault.Kind.{Kind}
 use Rattle.cats_text.specs.declared.fault.Kind.TheVariants.{Header, NotANumber, TooLarge, ExtraBid, BidNumber}

@@ -55,7 +55,7 @@ pub fn verdict_text(alloc: Global, verdict: &Verdict) -> Result<Vec<u8>, AllocEr
     }
 }
 
-/// That two auctions are different, where they part, and what is told of each.
+/// That two auctions are different, where they first differ, and what is reported of each.
 fn parted(alloc: Global, place: &[u8], left: &[u8], right: &[u8]) -> Result<Vec<u8>, AllocError>
     ensures { IfOk result (λ text. text.items ≡ parted_text place.now left.now right.now) }
 {
@@ -69,7 +69,7 @@ fn parted(alloc: Global, place: &[u8], left: &[u8], right: &[u8]) -> Result<Vec<
     Ok(text)
 }
 
-/// What is told of one auction's OR value.
+/// What is reported of one auction's OR value.
 fn side(alloc: Global, side: Side) -> Result<Vec<u8>, AllocError>
     ensures { IfOk result (λ text. text.items ≡ side_text side) }
 {

@@ -28,7 +28,7 @@ pub const NO_MEMORY: u8 = 4;
 /// A file could not be opened, read or written.
 pub const DEVICE_FAILED: u8 = 5;
 
-/// The command line asks for nothing that the program does.
+/// The command line names nothing that the program does.
 pub const WRONG_USAGE: u8 = 64;
 
 /// Why a run gave no status of its own.
@@ -69,7 +69,7 @@ impl From<AllocError> for RunFault {
     }
 }
 
-/// The exit status that tells the fault.
+/// The exit status of the fault.
 pub fn status(fault: &RunFault) -> u8
     ensures { result ≡ status_of_fault fault.now }
 {
@@ -100,7 +100,7 @@ fn read_status(kind: Kind) -> u8
     }
 }
 
-/// The line that tells the fault, with its LF.
+/// The line that reports the fault, with its LF.
 pub fn fault_line(alloc: Global, fault: &RunFault) -> Result<Vec<u8>, AllocError>
     ensures { IfOk result (λ line. line.items ≡ line_of_fault fault.now) }
 {

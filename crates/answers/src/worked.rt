@@ -26,7 +26,7 @@ ghost use Rattle.answers.specs.RoundedLines.{rounded_line};
 ghost use Rattle.answers.specs.Statuses.{status_of_difference, status_of_differences, status_of_fault};
 ghost use Rattle.answers.specs.declared.report.RunFault.TheVariants.{Refused, GoodRange, Sent};
 
-/// How faults are told.
+/// How faults are reported.
 pub fn fault_lines()
     ensures { map line_of_fault
         (Refused Only (Read (record { line = 5; kind = TwoDummies }))
@@ -54,7 +54,7 @@ pub fn fault_statuses()
         2 ∷ 2 ∷ 5 ∷ 4 ∷ 4 ∷ 4 ∷ 64 ∷ 5 ∷ [] }
 {}
 
-/// How a step limit is told, whatever vector holds the goods, and its status.
+/// How a step limit is reported, whatever vector holds the goods, and its status.
 pub fn step_limits()
     ensures bundle { (goods : Vec ℕ Global) → goods.items ≡ 0 ∷ 1 ∷ 2 ∷ []
         → line_of_fault (Refused Only (StepLimit goods)) ≡ codes "step limit at 0,1,2\n" }
@@ -85,7 +85,7 @@ pub fn explanations()
     ensures last_bid { explanation_line 65535 (Keep 65534) ≡ codes "65535\tkeep\t65534\n" }
 {}
 
-/// How differences are told, and the statuses of comparisons.
+/// How differences are printed, and the statuses of comparisons.
 pub fn differences()
     ensures same { difference_text NoDifference ≡ codes "same\n" }
     ensures goods { difference_text (InGoods 1 2) ≡ codes "different\ngoods\nleft 1\nright 2\n" }

@@ -1,4 +1,4 @@
--- A kind that belongs to a line is told with its line.
+-- A kind that belongs to a line is reported with its line.
 use Rattle.std.proofs.Common.{◌≡◌, ◌≢◌, ◌++◌, ℕ, refl, codes, decimal}
 use Rattle.cats_text.specs.declared.fault.Kind.{Kind}
 use Rattle.cats_text.specs.declared.fault.Kind.TheVariants.{TooLong, Device, Memory}
