@@ -7,7 +7,7 @@ use Rattle.answers.specs.declared.report.RunFault.{RunFault}
 use Rattle.answers.specs.declared.report.RunFault.TheVariants.{Refused, GoodRange, Sent}
 use Rattle.rounding.specs.declared.replacement.FinePrices.{FinePrices}
 use Rattle.cats_calls.specs.Answers.{Answers}
-use Rattle.cats_calls.specs.Buffers.{Calls, Gives, PutsInto}
+use Rattle.cats_calls.specs.Buffers.{Calls, Gives}
 use Rattle.cats_calls.specs.Roundings.{AnswersRounding, GivesReport, GivesRounded, RoundCalls, whole_status}
 use Rattle.cats_calls.specs.declared.answer.Answer.{Answer}
 use Rattle.cats_calls.specs.declared.rounded_text.RoundAnswer.{RoundAnswer}

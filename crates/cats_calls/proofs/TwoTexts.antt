@@ -1,13 +1,13 @@
 -- The calls on two texts. What is said of their canonical files is said of the files that they spell, since each is the same auction as
 -- its canonical file; and the status is 0 exactly for the same auction.
-use Rattle.std.proofs.Common.{◌≡◌, ℕ, Bool, true, false, cond, List, Result, Ok, Err, refl, sym, ap, ap₂, ◌∙◌, subst}
+use Rattle.std.proofs.Common.{◌≡◌, ℕ, Bool, true, false, cond, List, Ok, refl, sym, ap, ap₂, ◌∙◌, subst}
 use Rattle.std.specs.Prelude.{◌↔◌}
 use Rattle.bid_file.specs.Files.{PlainFile, IsPlainFile}
 use Rattle.cats_text.specs.Grammar.{Spells}
 use Rattle.cats_text.proofs.Spelling.Files.{spells_one}
-use Rattle.valuation.specs.Auctions.{PlainAuction, auction_from}
+use Rattle.valuation.specs.Auctions.{auction_from}
 use Rattle.canon.specs.Canonical.{IsCanonical, canonical_auction, canonical_file}
-use Rattle.canon.specs.Comparing.{Differ, IsNormalFileOf, SpellsLight}
+use Rattle.canon.specs.Comparing.{Differ, IsNormalFileOf}
 use Rattle.canon.specs.Renaming.{kept_dummies}
 use Rattle.canon.specs.Sameness.{AreSameFiles, AreSameTexts, IsSameAuction}
 use Rattle.canon.specs.Verdicts.{plain_verdict}
@@ -15,8 +15,7 @@ use Rattle.canon.specs.declared.fault.CanonFault.{CanonFault}
 use Rattle.canon.specs.declared.named.NamedFile.{NamedFile}
 use Rattle.canon.specs.declared.verdict.Verdict.{Verdict}
 use Rattle.canon.specs.declared.verdict.Verdict.TheVariants.{Same, Goods, Or, Xor}
-use Rattle.canon.specs.declared.which.Which.{Which}
-use Rattle.canon.proofs.Comparisons.{compared_as, light_text, same_by_texts}
+use Rattle.canon.proofs.Comparisons.{compared_as, same_by_texts}
 use Rattle.canon.proofs.Files.{auction_from-file_from}
 use Rattle.canon.proofs.Sames.{same_sym, same_trans}
 use Rattle.canon.proofs.Texts.{HasAtoms-file, IsPlainFile-canonical, canonical_file_is_fixed, canonical_file_is_same}

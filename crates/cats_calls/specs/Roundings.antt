@@ -5,7 +5,6 @@ use Rattle.bid_file.specs.Files.{PlainFile}
 use Rattle.cats_text.specs.Faults.{fault_at, first_fault}
 use Rattle.cats_text.specs.Grammar.{Spells}
 use Rattle.cats_text.specs.declared.fault.Kind.TheVariants.{TooLong}
-use Rattle.cats_text.specs.declared.fault.ReadFault.{ReadFault}
 use Rattle.cats_text.specs.declared.limits.TheConstants.{MAX_STREAM}
 use Rattle.canon.specs.declared.fault.CanonFault.{CanonFault}
 use Rattle.canon.specs.declared.fault.CanonFault.TheVariants.{Read, StepLimit, Memory}
