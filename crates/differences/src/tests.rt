@@ -18,13 +18,18 @@ use std::test::Fail;
 /// A step limit that no search of these files reaches.
 const AMPLE: u64 = 1_000_000;
 
-/// The text of a file with these bids, each without its number and its mark.
+/// The line of a bid, which is given without its number and its mark.
+fn push_bid(alloc: Global, number: usize, bid: &str, text: &mut String) -> Result<(), AllocError> {
+    let line = format!(in alloc; "{number} {bid} #\n")?;
+    text.push_str(&line)
+}
+
+/// The text of a file with these bids.
 fn text_of(alloc: Global, goods: u16, dummy: u32, bids: &[&str]) -> Result<String, AllocError> {
     let count = bids.len();
     let mut text = format!(in alloc; "goods {goods}\nbids {count}\ndummy {dummy}\n")?;
     for (number, bid) in bids.iter().enumerate() {
-        let line = format!(in alloc; "{number} {bid} #\n")?;
-        text.push_str(&line)?;
+        push_bid(alloc, number, bid, &mut text)?;
     }
     Ok(text)
 }
@@ -88,7 +93,8 @@ fn expect(
 ) -> Result<(), Fail> {
     let one = canonical_file(rt.alloc(), left)?;
     let other = canonical_file(rt.alloc(), right)?;
-    let goods = (one.goods(), other.goods());
+    // by these calls the check knows what holds of each file
+    let _goods = (one.goods(), other.goods());
     let differences = all_differences(rt.alloc(), &one, &other)?;
     let lines = lines_of(rt.alloc(), &differences)?;
     assert_eq!(rt; lines.as_str(), expected, "of {left} and {right}");

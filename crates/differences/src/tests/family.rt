@@ -9,11 +9,13 @@ use std::test::Fail;
 
 const FILES: usize = 40;
 
-const BIDS: u64 = 5;
+const FEWEST_BIDS: u64 = 6;
 
-const DUMMIES: u64 = 3;
+const MOST_BIDS: u64 = 10;
 
-const PRICE: u64 = 3;
+const DUMMIES: u64 = 4;
+
+const PRICE: u64 = 2;
 
 /// All bundles over 3 goods, in order.
 static BUNDLES: [&[u16]; 7] = [&[0], &[1], &[2], &[0, 1], &[0, 2], &[1, 2], &[0, 1, 2]];
@@ -29,7 +31,7 @@ fn up_to(state: &mut u64, most: u64) -> u64 {
     (*state >> 33) % most.saturating_add(1).max(1)
 }
 
-/// The goods of a bid, at least one, and a dummy good or none.
+/// The goods of a bid, mostly one, and a dummy good or, in one of ten bids, none. So many bidders have a bid in common.
 fn push_goods(
     alloc: Global,
     state: &mut u64,
@@ -38,14 +40,13 @@ fn push_goods(
 ) -> Result<(), AllocError> {
     let surely = up_to(state, goods.saturating_sub(1));
     for good in 0..goods {
-        if good == surely || up_to(state, 2) == 0 {
+        if good == surely || up_to(state, 9) == 0 {
             let word = format!(in alloc; " {good}")?;
             text.push_str(&word)?;
         }
     }
-    let dummy = up_to(state, DUMMIES);
-    if dummy < DUMMIES {
-        let number = goods.saturating_add(dummy);
+    if up_to(state, 9) != 0 {
+        let number = goods.saturating_add(up_to(state, DUMMIES - 1));
         let word = format!(in alloc; " {number}")?;
         text.push_str(&word)?;
     }
@@ -55,7 +56,7 @@ fn push_goods(
 /// The next file, as a text: mostly of 3 goods, and else of 2.
 fn next_text(alloc: Global, state: &mut u64) -> Result<String, AllocError> {
     let goods = if up_to(state, 7) == 0 { 2 } else { 3 };
-    let bids = up_to(state, BIDS);
+    let bids = up_to(state, MOST_BIDS - FEWEST_BIDS).saturating_add(FEWEST_BIDS);
     let mut text = format!(in alloc; "goods {goods}\nbids {bids}\ndummy {DUMMIES}\n")?;
     for number in 0..bids {
         let price = up_to(state, PRICE);
@@ -151,16 +152,17 @@ fn take_partner(prices: &Prices, file: &PackedFile, waiting: &mut Vec<u32>) -> O
 
 fn bidder_change(
     alloc: Global,
-    files: (&PackedFile, &PackedFile),
-    left: Option<u32>,
-    right: Option<u32>,
+    left: &PackedFile,
+    right: &PackedFile,
+    own: Option<u32>,
+    other: Option<u32>,
 ) -> Result<BidderChange<'static>, AllocError> {
-    let own = prices_beside(files.0, left);
-    let others = prices_beside(files.1, right);
+    let own_prices = prices_beside(left, own);
+    let other_prices = prices_beside(right, other);
     Ok(BidderChange {
-        left,
-        right,
-        bids: price_changes(alloc, &own, &others)?,
+        left: own,
+        right: other,
+        bids: price_changes(alloc, &own_prices, &other_prices)?,
     })
 }
 
@@ -169,15 +171,14 @@ fn bidder_changes(
     left: &PackedFile,
     right: &PackedFile,
 ) -> Result<Vec<BidderChange<'static>>, AllocError> {
-    let files = (left, right);
     let mut waiting = excess_of(alloc, right, left)?;
     let mut changes = Vec::new(alloc);
     for dummy in excess_of(alloc, left, right)? {
         let partner = take_partner(&prices_of(left, Some(dummy)), right, &mut waiting);
-        changes.push(bidder_change(alloc, files, Some(dummy), partner)?)?;
+        changes.push(bidder_change(alloc, left, right, Some(dummy), partner)?)?;
     }
     for dummy in waiting {
-        changes.push(bidder_change(alloc, files, None, Some(dummy))?)?;
+        changes.push(bidder_change(alloc, left, right, None, Some(dummy))?)?;
     }
     Ok(changes)
 }

@@ -12,7 +12,18 @@ struct Row {
     lines: &'static str,
 }
 
-static BUNDLES: [Row; 4] = [
+static BUNDLES: [Row; 6] = [
+    Row {
+        left: &[],
+        right: &[],
+        lines: "",
+    },
+    // a bid at a price of 0
+    Row {
+        left: &["0 1", "3 0"],
+        right: &[],
+        lines: "[0] Some(3000000) None\n",
+    },
     // a bid that the two others make worthless
     Row {
         left: &["3 0", "4 1", "7 0 1"],
