@@ -8,6 +8,8 @@ mod excess;
 pub mod laws;
 mod partners;
 mod price_changes;
+#[cfg(test)]
+mod tests;
 pub mod worked;
 
 pub use auctions::all_differences;
