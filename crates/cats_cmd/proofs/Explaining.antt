@@ -1,8 +1,6 @@
 -- A run that explains a file: the file was read, and then it was refused as in `cats normalise`, or the lines of its reasons were sent.
-use Rattle.std.proofs.Common.{◌≡◌, ◌<◌, ◌+◌, ◌++◌, ℕ, List, length, map, get_or, Option, None, Result, Ok, Err, refl, sym, ap, ap₂, ◌∙◌, subst, inr}
+use Rattle.std.proofs.Common.{◌≡◌, ℕ, List, Option, None, Result, Ok, Err, refl, sym, ap, ◌∙◌, subst, inr}
 use Rattle.std.specs.Prelude.{IsErrAnd}
-use Rattle.std.specs.List.{flat_map, range_with_len}
-use Rattle.std.proofs.lemmas.List.{get_or-map}
 use Rattle.std.proofs.lemmas.Result.{err_from_is_err_and}
 use Rattle.bid_file.specs.Files.{PlainFile}
 use Rattle.cats_text.specs.declared.stream.Watched.{Watched}
@@ -12,10 +10,9 @@ use Rattle.canon.specs.Answers.{RefusesAuction}
 use Rattle.canon.specs.declared.fault.CanonFault.{CanonFault}
 use Rattle.canon.specs.declared.fault.CanonFault.TheVariants.{Memory}
 use Rattle.canon.specs.declared.which.Which.TheVariants.{Only}
-use Rattle.explain.specs.Reasons.{Explains, PlainReason, Zero, plain_reason, reason_at}
-use Rattle.explain.specs.declared.reason.Reason.{Reason}
+use Rattle.explain.specs.Reasons.{Explains, PlainReason}
 use Rattle.cats_cmd.specs.Explanations.{ExplainsFile, ReadsExplained, explain_outcome}
-use Rattle.answers.specs.ExplanationTexts.{explanation_line, explanation_text}
+use Rattle.answers.specs.ExplanationTexts.{explanation_text}
 use Rattle.cats_cmd.specs.Inputs.{ReadsInput, IsRefusedFile}
 use Rattle.cats_cmd.specs.Outcomes.{Tells, normalise_outcome}
 use Rattle.cats_cmd.specs.Runs.{SendsAs}
