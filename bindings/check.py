@@ -352,7 +352,8 @@ def check_refusals(cases):
                 wants += lacks
                 if is_last:
                     break
-        TALLY.judge(wants or one.own.status == cats.REFUSED, f"{one}: no want of memory was answered")
+        makes_none = number == 1
+        TALLY.judge(wants or makes_none or one.own.status == cats.REFUSED, f"{one}: no want of memory was answered")
 
 
 def check_threads(cases):
