@@ -23,8 +23,9 @@ from searches import SEARCHES
 PROGRAM, GENERATE = sys.argv[1:3]
 WORD = sys.argv[3] if len(sys.argv) > 3 else ""
 LIBRARY = os.path.join(os.path.dirname(PROGRAM), "library")
-CALLS = os.path.join(os.path.dirname(os.path.abspath(__file__)), "calls.py")
-EMPTY = os.path.join(os.path.dirname(GENERATE), "examples", "empty.cats")
+FOLDER = os.path.dirname(os.path.abspath(__file__))
+CALLS = os.path.join(FOLDER, "calls.py")
+EMPTY = os.path.join(os.path.dirname(FOLDER), "examples", "empty.cats")
 TIMES = 5
 ROUNDS = 3
 

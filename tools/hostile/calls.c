@@ -1,4 +1,4 @@
-// Preloaded into the program by ./faults: one of its calls fails, or its reads and writes move few bytes at a time.
+// Preloaded into the program by tools/faults: one of its calls fails, or its reads and writes move few bytes at a time.
 //
 // The environment says what happens:
 //   FAULTS_CALL    allocation, read, write, open, or denied: an opening that fails for want of permission
