@@ -1,5 +1,5 @@
 """Runs the commands on many files where memory, reads, writes and opening fail, and judges each answer: such a run reports the file
-and goes on with the others.
+and continues with the others.
 
     folders.py PROGRAM CALLS GENERATED LARGE
 
@@ -26,7 +26,7 @@ def beside(one, left_out):
 
 
 def reported(one, path, status, line):
-    """What a run answers that cannot judge one of its files: the line on it stands among those on the others, by the order of the files."""
+    """What a run answers that cannot judge one of its files: the line on it is among those on the others, in the order of the files."""
     others = beside(one, path)
     lines = {its.split(b": ")[0]: its for its in others.err.splitlines(True)}
     lines[os.fsencode(path)] = os.fsencode(path) + b": " + line
@@ -39,7 +39,7 @@ def opens(one):
     for call, line in (("open", b"cannot open\n"), ("denied", b"cannot open: permission denied\n")):
         for number, path in enumerate(one.files, 1):
             answer = run(one.words(), call=call, number=number)
-            TALLY.judge(answer.told() == reported(one, path, DEVICE_FAILED, line), f"{one}: {call} {number}", answer)
+            TALLY.judge(answer.printed() == reported(one, path, DEVICE_FAILED, line), f"{one}: {call} {number}", answer)
 
 
 def reads(one, piece):
@@ -49,7 +49,7 @@ def reads(one, piece):
         for _ in range(many):
             number += 1
             answer = run(one.words(), call="read", number=number, piece=piece)
-            TALLY.judge(answer.told() == reported(one, path, DEVICE_FAILED, b"Device\n"), f"{one}: read {number}", answer)
+            TALLY.judge(answer.printed() == reported(one, path, DEVICE_FAILED, b"Device\n"), f"{one}: read {number}", answer)
     answer = run(one.words(), call="read", number=number + 1, piece=piece)
     TALLY.judge(answer == one.own, f"{one}: no read of {piece} bytes", answer)
 
@@ -70,14 +70,14 @@ def memory(one, rest):
         answer = run(one.words(), call="allocation", number=number, rest=rest)
         if not answer.failures:
             break
-        told = answer.told()
-        is_right = is_whole_run_refused(answer) or told == one.own.told() or (not rest and (told in refused or told in lacking))
+        printed = answer.printed()
+        is_right = is_whole_run_refused(answer) or printed == one.own.printed() or (not rest and (printed in refused or printed in lacking))
         TALLY.judge(is_right, f"{what} {number}", answer)
-        whats.add(told)
-    TALLY.judge(answer.told() == one.own.told(), f"{what}: none", answer)
+        whats.add(printed)
+    TALLY.judge(answer.printed() == one.own.printed(), f"{what}: none", answer)
     if not rest:
         TALLY.judge(refused <= whats, f"{what}: a file was never reported for want of memory", refused - whats)
-    TALLY.judge(any(told[0] == NO_MEMORY for told in whats), f"{what}: no want of memory was reported", None)
+    TALLY.judge(any(printed[0] == NO_MEMORY for printed in whats), f"{what}: no want of memory was reported", None)
 
 
 def writes(one):
@@ -85,11 +85,11 @@ def writes(one):
     for rest in (False, True):
         answer = run(one.words(), call="write", number=1, piece=PIECE, rest=rest)
         wanted = (DEVICE_FAILED, b"", b"" if rest else b"output failed after 0 bytes\n")
-        TALLY.judge(answer.told() == wanted, f"{one}: the first write", answer)
+        TALLY.judge(answer.printed() == wanted, f"{one}: the first write", answer)
 
 
 def other_inputs(one):
-    """A folder, a device that gives nothing and a path where nothing is stand among the files."""
+    """A folder, a device that gives nothing and a path where nothing is are among the files."""
     for path, status, line in (
         ("/", DEVICE_FAILED, b"cannot open: is a folder\n"),
         ("/dev/null", FILE_REFUSED, b"line 1: Missing\n"),
@@ -104,8 +104,8 @@ def other_inputs(one):
 
 def is_told(answer, status, out, lines):
     """Whether the run answered this, with a line on standard error for each of these beginnings."""
-    told = answer.err.splitlines(True)
-    return answer.told()[:2] == (status, out) and len(told) == len(lines) and all(map(bytes.startswith, told, lines))
+    printed = answer.err.splitlines(True)
+    return answer.printed()[:2] == (status, out) and len(printed) == len(lines) and all(map(bytes.startswith, printed, lines))
 
 
 def lists(folder):
@@ -156,7 +156,7 @@ def lists(folder):
         TALLY.judge(is_told(answer, status, b"", [line]), f"{words}", answer)
     for words in (["sizes", "--files0-from", path, one], ["duplicates", "--files0-from", path, "--files0-from", path], ["sizes"]):
         answer = run(words)
-        TALLY.judge(answer.told()[:2] == (WRONG_USAGE, b"") and answer.err.startswith(b"error: "), f"{words}", answer)
+        TALLY.judge(answer.printed()[:2] == (WRONG_USAGE, b"") and answer.err.startswith(b"error: "), f"{words}", answer)
 
 
 # Names whose bytes are escaped on a line, and how they are printed there.
@@ -190,11 +190,11 @@ def names(folder):
         answer = run(["duplicates", "-0", *words])
         TALLY.judge(is_told(answer, 0, listed, []), "names with NUL", answer)
         answer = run(["sizes", *words])
-        told = [line.split(b"\t", 8)[-1] for line in answer.out.splitlines()[1:]]
-        TALLY.judge(answer.told()[::2] == (0, b"") and told == lines, "escaped names in a table", answer)
+        printed = [line.split(b"\t", 8)[-1] for line in answer.out.splitlines()[1:]]
+        TALLY.judge(answer.printed()[::2] == (0, b"") and printed == lines, "escaped names in a table", answer)
         answer = run(["sizes", "-0", *words])
-        told = [line.split(b"\t", 8)[-1] for line in answer.out.split(b"\0")[1:-1]]
-        TALLY.judge(answer.told()[::2] == (0, b"") and told == paths, "names with NUL in a table", answer)
+        printed = [line.split(b"\t", 8)[-1] for line in answer.out.split(b"\0")[1:-1]]
+        TALLY.judge(answer.printed()[::2] == (0, b"") and printed == paths, "names with NUL in a table", answer)
     # such names of files that are not there
     absent = [path + b"/" + name for name in NAMES]
     lines = [path + b"/" + line + b": cannot open\n" for line in NAMES.values()]

@@ -38,7 +38,7 @@ class Answer(NamedTuple):
     err: bytes
     failures: int = 0
 
-    def told(self):
+    def printed(self):
         return self[:3]
 
 
@@ -84,12 +84,12 @@ def environment(fault, report):
     """What calls.c reads: each word of a fault by its name."""
     if not fault:
         return {}
-    told = {f"FAULTS_{name.upper()}": str(value) for name, value in fault.items() if value}
-    return {"LD_PRELOAD": CALLS, "FAULTS_REPORT": str(report), **told}
+    words = {f"FAULTS_{name.upper()}": str(value) for name, value in fault.items() if value}
+    return {"LD_PRELOAD": CALLS, "FAULTS_REPORT": str(report), **words}
 
 
 def ended(process, report):
-    """Waits for a process, and answers what it told."""
+    """Waits for a process, and answers what it printed."""
     try:
         out, err = process.communicate(timeout=SECONDS)
     except subprocess.TimeoutExpired:
@@ -102,17 +102,17 @@ def ended(process, report):
 
 
 def start(words, out=subprocess.PIPE, err=subprocess.PIPE, **fault):
-    """Starts the program under a fault, and answers its process and the descriptor on which failures are told."""
-    report, told = os.pipe()
+    """Starts the program under a fault, and answers its process and the descriptor on which failures are counted."""
+    report, counted = os.pipe()
     process = subprocess.Popen(
         [PROGRAM, *words],
         stdin=subprocess.DEVNULL,
         stdout=out,
         stderr=err,
-        env=environment(fault, told),
-        pass_fds=[told],
+        env=environment(fault, counted),
+        pass_fds=[counted],
     )
-    os.close(told)
+    os.close(counted)
     return process, report
 
 
@@ -150,7 +150,7 @@ AUCTIONS = {
 # A file two of whose prices are rounded. `round --exact` refuses it.
 SIX_DIGITS = header(2, 4, 0) + "0\t1.02345e+06\t0\t#\n1\t0.0123456\t1\t#\n2\t2.5e-07\t0\t1\t#\n3\t7\t0\t#\n"
 
-# A file with a fault, and how many of its bytes are read before that is told.
+# A file with a fault, and how many of its bytes are read before that is reported.
 FAULTY = header(2, 2, 2) + "0 1 0 2 #\n1 1 1 2 3 #\n"
 FAULT_AT = 43
 
@@ -199,7 +199,7 @@ def lacks_line(one, answer):
     """Whether a run found the fault of its file or printed its text, and had no memory for a line on the fault or on a rounded price."""
     lines, own = answer.err.splitlines(True), one.own.err.splitlines(True)
     is_lacking = len(lines) == len(own) and all(line in (b"want of memory\n", its) for line, its in zip(lines, own))
-    return is_lacking and lines != own and answer.told()[:2] == one.own.told()[:2]
+    return is_lacking and lines != own and answer.printed()[:2] == one.own.printed()[:2]
 
 
 def places(answers):
@@ -218,10 +218,10 @@ def memory(one, rest):
         if not answer.failures:
             break
         is_want, lacks = is_want_of_memory(one, answer), lacks_line(one, answer)
-        TALLY.judge(is_want or lacks or answer.told() == one.own.told(), f"{what} {number}", answer)
+        TALLY.judge(is_want or lacks or answer.printed() == one.own.printed(), f"{what} {number}", answer)
         wants += [answer] * is_want
         lacking += lacks
-    TALLY.judge(answer.told() == one.own.told(), f"{what}: none", answer)
+    TALLY.judge(answer.printed() == one.own.printed(), f"{what}: none", answer)
     TALLY.judge(wants, f"{what}: no want of memory was printed", None)
     if one.own.err:
         TALLY.judge(lacking, f"{what}: no line on standard error ever lacked memory", None)
@@ -282,7 +282,7 @@ def writes(one, piece, rest):
     begun = writes_of(one, piece)
     for number, (is_output, at) in enumerate(begun, 1):
         answer = run(one.words(), call="write", number=number, piece=piece, rest=rest)
-        TALLY.judge(answer.told() == cut_off(one, is_output, at, rest), f"{one}: write {number} of {piece} bytes", answer)
+        TALLY.judge(answer.printed() == cut_off(one, is_output, at, rest), f"{one}: write {number} of {piece} bytes", answer)
     answer = run(one.words(), call="write", number=len(begun) + 1, piece=piece, rest=rest)
     TALLY.judge(answer == one.own, f"{one}: no write of {piece} bytes", answer)
 
@@ -303,12 +303,12 @@ def short(one):
 
 def full(one):
     """The output is a full device, and then standard error too."""
-    status, _, line = cut_off(one, True, 0, False) if one.own.out else one.own.told()
+    status, _, line = cut_off(one, True, 0, False) if one.own.out else one.own.printed()
     with open("/dev/full", "wb") as device:
         answer = run(one.words(), out=device)
-        TALLY.judge(answer.told() == (status, None, line), f"{one}: a full output", answer)
+        TALLY.judge(answer.printed() == (status, None, line), f"{one}: a full output", answer)
         answer = run(one.words(), out=device, err=device)
-        TALLY.judge(answer.told() == (status, None, None), f"{one}: a full output and standard error", answer)
+        TALLY.judge(answer.printed() == (status, None, None), f"{one}: a full output and standard error", answer)
 
 
 def read_from_pipe(pipe, size):
@@ -335,7 +335,7 @@ def closed(one, size):
     answer = ended(process, report)
     most = size + PIPE if size else 0
     lines = {b"output failed after %d bytes\n" % at for at in range(size, min(most + 1, len(one.own.out)))}
-    is_whole = answer.told() == (one.own.status, None, one.own.err) and len(one.own.out) <= most
+    is_whole = answer.printed() == (one.own.status, None, one.own.err) and len(one.own.out) <= most
     is_cut_off = answer.status == DEVICE_FAILED and answer.err in lines
     is_right = (is_whole or is_cut_off) and came == one.own.out[:size]
     TALLY.judge(is_right, f"{one}: an output that is closed after {size} bytes", answer)
@@ -365,12 +365,12 @@ def fifos(one, piece):
     TALLY.judge(answer == one.own, f"{one}: FIFOs in pieces of {piece} bytes", answer)
 
 
-# What stands in place of a file, and what is told of it: a directory, and a device that gives nothing.
+# What is in place of a file, and what is reported of it: a directory, and a device that gives nothing.
 NO_FILES = {"/": (DEVICE_FAILED, b"Device\n"), "/dev/null": (FILE_REFUSED, b"line 1: Missing\n")}
 
 
 def other_inputs(one, at, path):
-    """Something else stands in place of a file."""
+    """Something else is in place of a file."""
     status, line = NO_FILES[path]
     files = [*one.files[:at], path, *one.files[at + 1 :]]
     answer = run(one.words(files))
@@ -378,7 +378,7 @@ def other_inputs(one, at, path):
 
 
 def refused_cases(folder):
-    """Each subcommand on a file with a fault, and how many reads of a byte it takes of each file until that is told."""
+    """Each subcommand on a file with a fault, and how many reads of a byte it takes of each file until that is reported."""
     faulty = write_file(folder, "faulty", FAULTY)
     nothing = write_file(folder, "nothing", header(0, 0, 0))
     fine = write_file(folder, "fine", SIX_DIGITS)
@@ -398,7 +398,7 @@ def large_cases(folder):
 
 
 def side_by_side(one, piece):
-    """The runs on a case that may go on beside others."""
+    """The runs on a case that may run beside others."""
     yield lambda: both_orders(one) if len(one.files) == 2 else memory(one, rest=False)
     yield lambda: memory(one, rest=True)
     yield lambda: reads(one, PIECE)
@@ -409,7 +409,7 @@ def side_by_side(one, piece):
 
 
 def on_its_own(one, piece):
-    """The runs on a case that go on alone, since another that begins could hold their pipes open."""
+    """The runs on a case that run alone, since another that begins could hold their pipes open."""
     opens(one)
     short(one)
     full(one)

@@ -70,13 +70,13 @@ def difference(bids, whose):
     """What `cats compare` prints of the canonical file of these bids and of one that lacks the last of them."""
     last = bids[-1]
     if whose == OR:
-        told = f"or {named(last)[0]}\nleft {last.price}\nright below {last.price}\n"
+        printed = f"or {named(last)[0]}\nleft {last.price}\nright below {last.price}\n"
     elif whose == ONE_XOR:
         # the bidder with fewer bids is the lesser one
-        told = "xor " + " ".join(named(bid)[1] for bid in bids[:-1]) + "\nleft 0\nright 1\n"
+        printed = "xor " + " ".join(named(bid)[1] for bid in bids[:-1]) + "\nleft 0\nright 1\n"
     else:
-        told = f"xor {named(last)[1]}\nleft {bids.count(last)}\nright {bids.count(last) - 1}\n"
-    return "different\n" + told
+        printed = f"xor {named(last)[1]}\nleft {bids.count(last)}\nright {bids.count(last) - 1}\n"
+    return "different\n" + printed
 
 
 def value(goods, bids, whose):
