@@ -7,7 +7,7 @@ pub mod Appends
 pub mod Rests
 pub mod ManyBytes
 pub mod FewDigits
-pub mod Fronts
+pub mod LeadingTokens
 pub mod WholeWords
 pub mod ManyGoods
 pub mod BidEnds

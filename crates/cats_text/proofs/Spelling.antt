@@ -3,7 +3,7 @@ pub mod Rising
 pub mod Distinct
 pub mod Marks
 pub mod Tests
-pub mod Slots
+pub mod BidsByNumber
 pub mod Members
 pub mod Prices
 pub mod Goods

@@ -1,4 +1,4 @@
--- A word: what is kept of it while its bytes come tells all that the grammar asks of it.
+-- A word: what is kept of it while its bytes come says all that the grammar needs of it.
 pub mod Places
 pub mod Kept
 pub mod Tests

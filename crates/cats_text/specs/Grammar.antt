@@ -26,7 +26,7 @@ AreDistinct (x ∷ xs) = AllByRecursion (λ y. x ≢ y) xs × AreDistinct xs
 abbrev pub has_number : List ℕ → ℕ → Bool
 has_number xs n = list_any (λ x. x == n) xs
 
--- the words of a line spell a bid of the file: the one with the number that stands first
+-- the words of a line spell a bid of the file: the one with the number that is first
 pub record SpellsBid (f : PlainFile) (words : List Word) : Type 0 where
   pub number : Word
   pub price : Word

@@ -3,9 +3,9 @@
 
 mod bid_lines;
 mod eight;
-mod fault;
-mod feeder;
-mod front;
+mod read_fault;
+mod push_reader;
+mod leading_token;
 mod good_list;
 mod history;
 mod keep;
@@ -17,7 +17,7 @@ mod price;
 mod reader;
 mod scanner;
 mod sending;
-mod slots;
+mod bids_by_number;
 mod stream;
 mod word;
 pub mod worked;
@@ -25,7 +25,7 @@ pub mod worked;
 pub use bid_file::{
     Bid, BidFile, MAX_BIDS, MAX_DUMMY, MAX_GOODS, MAX_PRICE, PackedBids, PackedFile,
 };
-pub use fault::{Kind, ReadFault, SendFault};
+pub use read_fault::{Kind, ReadFault, SendFault};
 pub use layout::write;
 pub use limits::MAX_STREAM;
 pub use parser::Header;

@@ -3,20 +3,20 @@
 
 mod best;
 mod commonness;
-mod fault;
+mod prune_fault;
 mod laws;
 mod or;
 mod packing_finder;
 mod point_index;
 mod posting;
 mod prefix;
-mod search;
+mod packing_search;
 mod sorting;
 mod subset_index;
 mod worked;
 mod xor;
 
-pub use fault::PruneFault;
+pub use prune_fault::PruneFault;
 pub use laws::{
     goods_without_bids, no_new_heavy_bundle, no_points_no_values, none_heavy_for_points,
     points_are, points_are_bids, points_keep_values, points_of_points, same_tables_same_points,

@@ -10,7 +10,7 @@ pub mod laws;
 mod order;
 mod packing;
 mod path;
-mod search;
+mod value_search;
 mod set_choice;
 pub mod worked;
 mod xor;

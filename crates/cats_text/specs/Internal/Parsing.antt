@@ -8,8 +8,8 @@ use Rattle.cats_text.specs.FileLines.{rising_of, put_slot}
 use Rattle.cats_text.specs.Internal.Keywords.{keyword_text}
 use Rattle.cats_text.specs.Internal.Progress.{Progress}
 use Rattle.cats_text.specs.Internal.Kept.{is_some_bid}
-use Rattle.cats_text.specs.declared.fault.Kind.{Kind}
-use Rattle.cats_text.specs.declared.fault.Kind.TheVariants as kinds
+use Rattle.cats_text.specs.declared.read_fault.Kind.{Kind}
+use Rattle.cats_text.specs.declared.read_fault.Kind.TheVariants as kinds
 use Rattle.cats_text.specs.declared.word.Keyword.{Keyword}
 use Rattle.cats_text.specs.declared.word.Keyword.TheVariants as keywords
 use Rattle.cats_text.specs.declared.word.Word.{Word}

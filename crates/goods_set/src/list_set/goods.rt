@@ -2,7 +2,7 @@
 ghost use Rattle.std.specs.Prelude.{◌≡◌, ◌≤◌, [], length, IfOk, OnOk, OnErr};
 ghost use Rattle.std.specs.List.{insert};
 
-use crate::list_set::few::{FEW, FewGoods};
+use crate::list_set::few::{INLINE_GOODS, FewGoods};
 use std::alloc::{AllocError, Global};
 use std::marker::Model;
 
@@ -40,7 +40,7 @@ impl Goods {
     pub(crate) fn from_slice(alloc: Global, goods: &[u16]) -> Result<Goods, AllocError>
         ensures { IfOk result (λ g. g ≡ goods.now) }
     {
-        if goods.len() <= FEW {
+        if goods.len() <= INLINE_GOODS {
             return Ok(Goods {
                 held: Held::Few(alloc, FewGoods::from_slice(goods)),
             });
@@ -69,10 +69,10 @@ impl Goods {
         match &mut self.held {
             Held::Few(alloc, few) => {
                 let goods = few.as_slice();
-                if goods.len() < FEW {
+                if goods.len() < INLINE_GOODS {
                     *few = few.with(place, good);
                 } else {
-                    let mut many = Vec::with_capacity(*alloc, 2 * FEW)?;
+                    let mut many = Vec::with_capacity(*alloc, 2 * INLINE_GOODS)?;
                     many.extend_from_slice(goods)?;
                     many.insert(place, good)?;
                     self.held = Held::Many(many);
