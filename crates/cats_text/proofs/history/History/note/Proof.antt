@@ -24,7 +24,7 @@ use denote.Steps.{opens, closes}
 use denote.Triple.Entry.{on_entry}
 use denote.Triple.Spec.{Meets, triple_of}
 use denote.Triple.Table.{entered}
-use denote.Triple.Walked.{says, Stays, stay_ref, walk_of, AllGo, KeepsLineCount-ref, Walks, ends_at, walked, walk_Meets}
+use denote.Triple.Walked.{says, Stays, stay_ref, walk_of, AllGo, Goes-ref, Walks, ends_at, walked, walk_Meets}
 use Rattle.cats_text.specs.declared.history.History.{History}
 use Rattle.cats_text.specs.contracts.history.History as T
 use Rattle.cats_text.specs.contracts.history.History.note.Key.{name as #it}
@@ -35,7 +35,7 @@ use denote.Ref.{Bor}
 use denote.Builtin.{u8}
 use denote.Exit.{yes}
 use denote.Slice.{ShrSlice, slice_val, shr_slice_vals, shr_slice_Tells}
-use denote.Triple.Walked.{stay_none_slice, KeepsLineCount-none_slice}
+use denote.Triple.Walked.{stay_none_slice, Goes-none_slice}
 use Rattle.std.proofs.Common.{◌<◌, ◌^◌, length}
 
 abbrev Arg : Type 0
@@ -97,7 +97,7 @@ module _ {M : Type 1} {𝓤 : Ura M} (𝓛 : Logic 𝓤) (at_mem : Memory → SP
       Λ are.1.0.0.1.0))
 
   goes : AllGo 𝓛 2 (it.signature).params (it.ended).kept stayed
-  goes = (KeepsLineCount-ref 𝓛 2 0 tt (plain (λ _. T.the_row)), (KeepsLineCount-none_slice 𝓛 2 (1 ∷ []) tt (plain (λ _. u8)) yes, tt))
+  goes = (Goes-ref 𝓛 2 0 tt (plain (λ _. T.the_row)), (Goes-none_slice 𝓛 2 (1 ∷ []) tt (plain (λ _. u8)) yes, tt))
 
 meets : {M : Type 1} {𝓤 : Ura M} (𝓛 : Logic 𝓤) → (at_mem : Memory → SProp 𝓤) (run : Routine → Fun 𝓤) (𝓣 : Tables 𝓤 𝓛.H)
     → Meets 𝓛 it.signature (WpFn 𝓤 𝓛.H 𝓣.C 𝓣.Λ code.function) (it.spec 𝓛 at_mem run)
