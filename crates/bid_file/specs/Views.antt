@@ -1,4 +1,4 @@
--- what callers see of a bid file
+-- What contracts see of a bid file.
 use Rattle.std.specs.Prelude.{ℕ, List, slice_range}
 use Rattle.bid_file.specs.Files.{PlainBid, PlainFile, plain_bids}
 use Rattle.bid_file.specs.declared.bid.BidFile.{BidFile}

@@ -1,4 +1,4 @@
-//! Bids, and a bid file, in little memory.
+//! `PackedBids` and `PackedFile`: bids in little memory.
 
 ghost use Rattle.std.specs.Prelude.{
   ◌≡◌,

@@ -1,4 +1,4 @@
--- What the calls answer, by what normalising a file or a text gives. Want of memory may come in the place of each
+-- What the calls answer. It depends on what normalising gives. Want of memory may come in the place of each
 -- answer.
 use Rattle.std.specs.Prelude.{◌≡◌, ◌⊎◌, ℕ, true, List, Result, Ok, Err, Some, None, Vec}
 use Rattle.std.specs.Global.{Global}

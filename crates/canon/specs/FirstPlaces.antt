@@ -1,4 +1,4 @@
--- The first file of an auction, among files that were added one by one.
+-- The first file of each auction, among added files.
 use Rattle.std.specs.Map.{lookup}
 use Rattle.std.specs.Prelude.{◌≡◌, ◌⊎◌, ℕ, ◌+◌, ◌<◌, List, [], length, position, Option, Some, None, slice_get, bytes_eq, cond, unwrap_or}
 use Rattle.std.specs.Prelude.{Result, Ok, Err}

@@ -1,4 +1,4 @@
-//! Which auctions came among files that are added one by one, and which file of each came first.
+//! `AuctionIndex`: the first file of each auction, among added files.
 
 ghost use Rattle.std.specs.Prelude.{◌≡◌, ℕ, List, cond, unwrap_or, bytes_eq, Some, IfOk, IfErr, OnOk, OnErr, false};
 ghost use Rattle.cats_text.specs.Streams.{has_ended, has_failed};

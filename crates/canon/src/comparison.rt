@@ -1,4 +1,4 @@
-//! The first difference of two files or texts, and whether they are the same auction.
+//! The first difference of two files or texts. If there is none, they are the same auction.
 
 ghost use Rattle.std.specs.Prelude.{◌≡◌, ◌↔◌, ◌≤◌, length, IfOk, IfErr, OnErr};
 ghost use Rattle.bid_file.specs.Files.{IsPlainFile};

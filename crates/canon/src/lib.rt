@@ -1,4 +1,4 @@
-//! The one text of an auction: the canonical auction, its file and its bytes, and whether two files are the same
+//! The canonical auction, file and text of a file. The crate also decides whether two files are the same
 //! auction.
 #![tactic(auto)]
 

@@ -1,4 +1,4 @@
-//! The canonical file of a file, and which of the file's bidders each of its bidders is.
+//! The canonical file, and which source bidder each of its bidders is.
 
 ghost use Rattle.std.specs.Prelude.{◌≡◌, ◌≤◌, IfOk};
 ghost use Rattle.canon.specs.Answers.{NormalisesPlainAs, unnamed_answer};

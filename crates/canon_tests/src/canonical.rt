@@ -1,4 +1,4 @@
-//! Each public call once, with ample memory, on worked rows.
+//! Each public call once, on worked rows. Each has ample memory.
 
 use crate::refusals::{expect_line, refusal_text};
 use bid_file::{BidFile, Bids, PackedFile};

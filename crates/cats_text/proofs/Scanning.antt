@@ -1,4 +1,4 @@
--- From bytes to words: the scanner over bytes gives what the parser gives over the words of their lines.
+-- From bytes to words: the scanner gives what the parser gives. The parser has the words of the bytes' lines.
 pub mod Lines
 pub mod AllBytes
 pub mod BidLines

@@ -1,4 +1,4 @@
--- The definitions among themselves: a text without a fault spells exactly one file.
+-- A text without a fault spells exactly one file. These lemmas are on the definitions alone.
 pub mod Rising
 pub mod Distinct
 pub mod Marks

@@ -1,4 +1,4 @@
--- What contracts see of a reader: its limit, the bytes that it was fed, and the fault that it answered.
+-- What contracts see of a reader. It is the limit, the bytes that came, and the fault that it answered.
 use Rattle.std.specs.Prelude.{ℕ, nat_le, if◌then◌else◌, List, length, take, Option, Some}
 use Rattle.std.specs.Option.{option_or}
 use Rattle.cats_text.specs.Faults.{complete_fault, fault_at}

@@ -1,4 +1,4 @@
--- When a text spells a bid file (README of CATS 2.0: three header lines, then one line for each bid, "its number, its
+-- When a text spells a bid file. (README of CATS 2.0: three header lines, then one line for each bid, "its number, its
 -- price, the numbers of its goods, then `#`"; this project's profile says which spellings of them are taken).
 use Rattle.std.specs.Prelude.{◌≡◌, ◌≢◌, ℕ, ◌==◌, Bool, true, false, List, [], ◌∷◌, ◌++◌, map, length, slice_get, Some}
 use Rattle.std.specs.Prelude.{codes}

@@ -1,4 +1,4 @@
--- The lines and words of a text, by the README of CATS 2.0 ("a bid file is a text of lines; lines that begin with `%`
+-- The lines and words of a text. By the README of CATS 2.0 ("a bid file is a text of lines; lines that begin with `%`
 -- are comments") and this project's profile of it: a line ends with LF, a word is a longest run of bytes that are no
 -- blank.
 use Rattle.std.specs.Prelude.{ℕ, suc, ◌==◌, Bool, true, false, not, ◌&&◌, ◌||◌, if◌then◌else◌, List, [], ◌∷◌, length}

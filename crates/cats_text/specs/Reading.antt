@@ -1,4 +1,4 @@
--- What a reader in pieces answers.
+-- What a `Reader` answers.
 use Rattle.std.specs.Prelude.{◌≡◌, ◌⊎◌, ℕ, List, ◌++◌, take, true, Some, None, Result, Ok, Err, MatchOption}
 use Rattle.cats_text.specs.Faults.{first_fault, has_bid_line, fault_at}
 use Rattle.cats_text.specs.Grammar.{Spells}

@@ -1,4 +1,4 @@
--- What a contract sees of a `Watched` reader or writer, which answers of a call make it failed or ended, and what
+-- Streams, as contracts see them. The definitions say when a `Watched` reader or writer failed or ended, and what
 -- reading a stream answers.
 use Rattle.std.specs.Prelude.{◌≡◌, ◌⊎◌, ◌≤◌, ℕ, Bool, true, false, ◌==◌, ◌||◌, List, [], ◌∷◌, length, take, Option}
 use Rattle.std.specs.Prelude.{Some, None, Result, Ok, Err, is_err}

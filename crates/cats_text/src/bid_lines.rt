@@ -1,4 +1,4 @@
-//! Bid lines as they mostly are, in straight sequence: number, price, goods, `#`, LF. Where a line goes on in another
+//! The fast path for whole bid lines. It takes number, price, goods, `#`, LF. If a line continues in another
 //! way, the scanner goes on with it.
 
 ghost use Rattle.std.specs.Prelude.{◌≡◌, ◌+◌, ◌-◌, ◌<◌, ◌≤◌, ◌^◌, false, length, ℕ, List, IfOk, OnErr};

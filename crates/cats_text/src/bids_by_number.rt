@@ -1,4 +1,4 @@
-//! The bids that have come, each at its number.
+//! `BidsByNumber`: the bids that have come, each at its number.
 
 ghost use Rattle.std.specs.Prelude.{◌≡◌, ◌<◌, ℕ, [], List, length, slice_get, Some, IfOk, OnOk, OnErr};
 ghost use Rattle.bid_file.specs.Files.{PlainBid};

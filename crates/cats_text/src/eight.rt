@@ -1,4 +1,4 @@
-//! The digits at the start of eight bytes, all read at once, as the toolchain's `core::dec2flt` reads them: its
+//! Eight leading digits, read at once. The method is that of the toolchain's `core::dec2flt`, but its
 //! `read_digits` goes on behind the eight, and that loop is a third of the instructions where a number is short.
 
 ghost use Rattle.core.specs.Prelude.{◌≡◌, ℕ, ◌-◌, ◌*◌, ◌%◌, ◌^◌, ◌<◌, ◌≤◌, List, length, take, nat_le, IfSome};

@@ -1,4 +1,4 @@
-//! Laws of the definitions: the grammar of texts and their faults leave nothing open, and what is written spells what
+//! Laws of the definitions. The grammar of texts and their faults leave nothing open, and what is written spells what
 //! it was written from.
 
 ghost use Rattle.std.specs.Prelude.{◌≡◌, ◌≢◌, ◌⊎◌, ◌++◌, ℕ, List, Some, None};

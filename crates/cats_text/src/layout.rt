@@ -1,4 +1,4 @@
-//! Bid files as text.
+//! `write`: the text of a bid file.
 
 ghost use Rattle.std.specs.Prelude.{
   ◌≡◌,

@@ -1,4 +1,4 @@
-//! The word at the start of bytes, where it is there whole.
+//! The leading token of bytes, if it is whole.
 
 ghost use Rattle.std.specs.Prelude.{◌≡◌, ◌≤◌, true, fold, length, take, IfSome};
 ghost use Rattle.std.specs.Bool.{OnTrue};

@@ -1,4 +1,4 @@
-//! CATS 2.0 bid files as text: reading, writing, and the streams that they come from and go to.
+//! CATS 2.0 bid files as text. The crate reads and writes them, in memory and on streams.
 #![tactic(auto)]
 
 mod bid_lines;

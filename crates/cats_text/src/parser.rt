@@ -1,4 +1,4 @@
-//! From words to bids: what is due, and what has come.
+//! The parser: from words to bids.
 
 ghost use Rattle.std.specs.Prelude.{◌≡◌, ◌<◌, [], length, Ok, IfOk, OnOk, OnErr};
 ghost use Rattle.std.specs.Bool.{OnTrue};

@@ -1,4 +1,4 @@
-//! Prices: the decimals that come, their value in millionths, and their text.
+//! Prices: read as decimals, kept in millionths, and written.
 
 ghost use Rattle.std.specs.Prelude.{◌≡◌, ◌+◌, ◌++◌, ◌<◌, ◌≤◌, length, drop, OnOk, decimal};
 ghost use Rattle.cats_text.specs.Layout.{price_text, places_text, without_zeros};

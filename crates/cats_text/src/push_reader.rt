@@ -1,4 +1,4 @@
-//! Feeding bytes to the scanner, as many as a limit lets in.
+//! `PushReader`: bytes pushed to the scanner, up to a limit.
 
 ghost use Rattle.std.specs.Prelude.{◌≡◌, ◌^◌, ◌<◌, [], None};
 ghost use Rattle.cats_text.specs.Faults.{fault_at};

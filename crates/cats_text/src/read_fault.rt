@@ -1,4 +1,4 @@
-//! Why a text is not a bid file, or could not be read or sent whole.
+//! Why reading or sending a text failed. The text may not be a bid file, or a stream may have failed.
 
 use thiserror::Error;
 

@@ -1,4 +1,4 @@
-//! Reading a bid file in pieces.
+//! `read`, and `Reader`, which reads in pieces.
 
 ghost use Rattle.std.specs.Prelude.{◌≡◌, ◌^◌, ◌<◌, [], None};
 ghost use Rattle.cats_text.specs.Reading.{FinishAnswer, PackedAnswer};

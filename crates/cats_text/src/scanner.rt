@@ -1,4 +1,4 @@
-//! From bytes to words and line ends.
+//! The scanner: from bytes to words and line ends.
 
 ghost use Rattle.std.specs.Prelude.{◌≡◌, ◌+◌, ◌-◌, ◌<◌, ◌≤◌, ◌^◌, ◌==◌, true, position, length, false, OnOk, IfOk, ℕ, List};
 ghost use Rattle.cats_text.specs.Internal.LeadingToken.{IsLeadingToken};

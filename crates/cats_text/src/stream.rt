@@ -1,4 +1,4 @@
-//! Readers and writers that are watched for failures, and reading a stream.
+//! `Watched` readers and writers, and reading a stream.
 
 ghost use Rattle.std.specs.Prelude.{
   ◌≡◌,

@@ -1,4 +1,4 @@
-//! The goods of a set, one after another.
+//! The goods of a set as a list.
 ghost use Rattle.std.specs.Prelude.{◌≡◌, IfOk};
 
 use crate::set::GoodsSet;

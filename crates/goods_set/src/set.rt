@@ -1,4 +1,4 @@
-//! What the crates above know of a set of goods.
+//! The trait `GoodsSet`: what the crates above know of sets.
 ghost use Rattle.std.specs.Prelude.{◌≡◌, ◌⊎◌, ℕ, ◌<◌, ◌≤◌, List, [], ◌++◌, not, length, IfOk, IfSome, OnOk, OnErr};
 ghost use Rattle.std.specs.Cmp.{IsTotalOrder};
 ghost use Rattle.std.specs.declared.cmp.Ordering.TheVariants.{Less, Equal};

@@ -1,4 +1,4 @@
-//! Pruning: of a bidder's atomic bids exactly the points are kept, the bids that its values need.
+//! Pruning: the bids that a bidder's values need. Of its atomic bids exactly these, the points, are kept.
 #![tactic(auto)]
 
 mod best;

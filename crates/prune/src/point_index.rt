@@ -1,4 +1,4 @@
-//! The points that a pruning kept, found by their goods: which of them reach the price of a bid that was dropped.
+//! `PointIndex`: the kept points, found by their goods. It answers which of them reach the price of a dropped bid.
 ghost use Rattle.std.specs.Prelude.{◌≡◌, ◌+◌, ◌<◌, ◌≤◌, None, IfOk, IfSome, IsErrOf};
 ghost use Rattle.valuation.specs.Values.{atoms_of, or_value, xor_value};
 ghost use Rattle.prune.specs.Internal.PointIndexes.{IsPointIndex, MayFind};

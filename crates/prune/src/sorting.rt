@@ -1,4 +1,4 @@
-//! Bids put in order, mostly by the sort keys of their bundles, which are numbers: the bids' indices are sorted by these,
+//! Bids put in order, mostly by sort keys. These are numbers: the bids' indices are sorted by these,
 //! sets are compared only if keys are equal, and a bid is moved once or twice. It is only for speed: no clause says that
 //! the bids are in order, and who needs that sorts them, which then takes no more than to find them in order.
 ghost use Rattle.std.specs.Prelude.{◌≡◌, vec_len, IsPermutation};

@@ -1,3 +1,4 @@
+//! Streams that fail, end, or take few bytes at a time.
 ghost use Rattle.std.specs.Prelude.{◌≡◌, false};
 ghost use Rattle.cats_text.specs.Streams.{has_ended, has_failed};
 

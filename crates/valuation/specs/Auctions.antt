@@ -1,4 +1,4 @@
--- Auctions: a number of goods, the atoms of the OR bidder, and the atoms of each XOR bidder. The bids of a file without
+-- Auctions, and the auction of a file. Each has the OR bidder's atoms and each XOR bidder's. The bids of a file without
 -- a dummy good are the OR bidder's, and those that share a dummy good are one XOR bidder's (README of CATS 2.0, and
 -- Nisan's phantom goods).
 use Rattle.std.specs.Prelude.{ℕ, ◌+◌, ◌<◌, ◌≤◌, ◌==◌, Bool, false, Option, Some, None, is_none, List, length, map}

@@ -1,4 +1,4 @@
--- That the goods of bids are in one list.
+-- The goods of all bids in one list.
 use Rattle.std.specs.Prelude.{ℕ, ◌≤◌, List}
 use Rattle.std.specs.List.{AllByRecursion}
 use Rattle.bid_file.specs.declared.packed.BidSpan.{BidSpan}

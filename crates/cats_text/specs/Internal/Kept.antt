@@ -1,4 +1,4 @@
--- What is kept of the bids that come, without where it lies in memory.
+-- What is kept of the bids so far. It is the same wherever it lies in memory.
 use Rattle.std.specs.Prelude.{◌≡◌, ℕ, zero, suc, ◌+◌, ◌-◌, ◌≤◌, List, [], ◌∷◌, ◌++◌, length, replicate, map, slice_get, Bool, true, false, Option, Some, None}
 use Rattle.std.specs.List.{AllByRecursion}
 use Rattle.bid_file.specs.Files.{PlainBid}

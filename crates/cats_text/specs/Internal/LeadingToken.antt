@@ -1,4 +1,4 @@
--- The word at the start of bytes.
+-- The leading token of bytes.
 use Rattle.std.specs.Prelude.{◌≡◌, ◌<◌, ◌≤◌, ◌==◌, ◌||◌, ◌+◌, if◌then◌else◌, ℕ, Bool, true, false, List, length, take, fold}
 use Rattle.std.specs.Prelude.{slice_index}
 use Rattle.std.specs.List.{AllByRecursion}

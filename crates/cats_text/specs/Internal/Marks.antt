@@ -1,4 +1,4 @@
--- The marks of the goods that have come in a bid.
+-- The marks of a bid's goods so far.
 use Rattle.std.specs.Prelude.{◌≡◌, ℕ, ◌<◌, ◌≤◌, ◌==◌, Bool, true, false, if◌then◌else◌, List, [], slice_index}
 use Rattle.bid_file.specs.Files.{IsRising}
 use Rattle.cats_text.specs.Grammar.{has_number, AreDistinct}

@@ -1,4 +1,4 @@
--- What a word, a line's end and the input's end do to what the parser keeps.
+-- The steps of the parser. They are what a word, a line's end and the input's end do to what it keeps.
 use Rattle.std.specs.Prelude.{ℕ, ◌+◌, ◌-◌, ◌*◌, ◌^◌, ◌==◌, nat_lt, nat_le, min, Bool, true, false, ◌&&◌, ◌||◌}
 use Rattle.std.specs.Prelude.{if◌then◌else◌, [], ◌∷◌, ◌++◌, length, slice_get, Option, Some, None, Result, Ok, Err}
 use Rattle.cats_text.specs.Numbers.{GREATEST_PRICE}

@@ -1,4 +1,4 @@
--- What the parser keeps of the lines so far, without where it lies in memory.
+-- What the parser keeps of the lines so far. It is the same wherever it lies in memory.
 use Rattle.std.specs.Prelude.{◌≡◌, ℕ, List, Option, Result, Ok, Err}
 use Rattle.bid_file.specs.Files.{PlainBid}
 use Rattle.cats_text.specs.declared.read_fault.Kind.{Kind}

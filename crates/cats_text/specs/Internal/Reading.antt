@@ -1,4 +1,4 @@
--- What a reader keeps: the scanner has taken all bytes that came, unless a fault was answered.
+-- What a reader keeps. The scanner has taken all bytes that came, unless a fault was answered.
 use Rattle.std.specs.Prelude.{◌≡◌, ◌⊎◌, ◌<◌, ◌≤◌, ◌^◌, ℕ, List, length, Option, Some, None, Result, Ok, Err}
 use Rattle.std.specs.Prelude.{MatchOption}
 use Rattle.cats_text.specs.Faults.{first_fault, fault_at}

@@ -1,4 +1,4 @@
--- What a byte and the input's end do to what the scanner keeps.
+-- The steps of the scanner. They are what a byte and the input's end do to what it keeps.
 use Rattle.std.specs.Prelude.{◌≡◌, ℕ, suc, ◌==◌, Bool, true, false, if◌then◌else◌, List, [], ◌∷◌, ◌⊎◌, IsOkAnd, Result}
 use Rattle.std.specs.Prelude.{Ok, Err, length, ◌<◌, ◌≤◌, drop}
 use Rattle.cats_text.specs.Lines.{is_blank}

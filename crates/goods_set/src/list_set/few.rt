@@ -1,4 +1,4 @@
-//! A few goods, which take no memory of their own.
+//! Up to eleven goods, without memory of their own.
 ghost use Rattle.std.specs.Prelude.{◌≡◌, ◌+◌, ◌<◌, ◌≤◌, [], ◌∷◌, ◌++◌, length};
 ghost use Rattle.std.specs.List.{insert};
 ghost use Rattle.goods_set.specs.declared.list_set.few.TheConstants.{INLINE_GOODS};

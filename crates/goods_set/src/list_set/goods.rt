@@ -1,4 +1,4 @@
-//! The goods of a set: a few of them in the value itself, more in a vector.
+//! The goods of a set. A few of them are in the value itself, more are in a vector.
 ghost use Rattle.std.specs.Prelude.{◌≡◌, ◌≤◌, [], length, IfOk, OnOk, OnErr};
 ghost use Rattle.std.specs.List.{insert};
 

@@ -1,4 +1,4 @@
-//! Files that are accepted, and what is written of them.
+//! Files that are accepted, and how they are written.
 
 use super::{assert_bytes, assert_written, sizes};
 use bid_file::{Bid, PackedBids, PackedFile};
