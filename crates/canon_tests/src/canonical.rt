@@ -152,7 +152,10 @@ fn printed_file(alloc: Global, answer: Result<BidFile, CanonFault>) -> Result<St
 }
 
 /// The packed file that a call answered, as its text, or why there is none.
-fn printed_packed_file(alloc: Global, answer: Result<PackedFile, CanonFault>) -> Result<String, Fail> {
+fn printed_packed_file(
+    alloc: Global,
+    answer: Result<PackedFile, CanonFault>,
+) -> Result<String, Fail> {
     match answer {
         Ok(file) => text_of(alloc, &file),
         Err(fault) => refusal_text(alloc, fault),
@@ -185,7 +188,10 @@ fn canonical_packed_files(rt: HostRuntime) -> Result<(), Fail> {
 }
 
 /// The file that a call answered, as its text with the dummy goods behind it, or why there is none.
-fn printed_named_file(alloc: Global, answer: Result<NamedFile, CanonFault>) -> Result<String, Fail> {
+fn printed_named_file(
+    alloc: Global,
+    answer: Result<NamedFile, CanonFault>,
+) -> Result<String, Fail> {
     match answer {
         Ok(named) => {
             let text = text_of(alloc, &named.file)?;

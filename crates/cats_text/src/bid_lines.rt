@@ -6,9 +6,9 @@ ghost use Rattle.cats_text.specs.Internal.LeadingToken.{IsLeadingToken};
 ghost use Rattle.cats_text.specs.declared.parser.Stage.TheVariants.{Bid};
 ghost use Rattle.cats_text.specs.Internal.Scanning.{state, IsGoodDue, ScansTo};
 
-use crate::leading_token::{ends_bid, leading_token, number};
 use crate::keep::Keep;
-use crate::scanner::{ScanError, Mode, Scanner};
+use crate::leading_token::{ends_bid, leading_token, number};
+use crate::scanner::{Mode, ScanError, Scanner};
 use crate::word::Word;
 
 impl<K: Keep> Scanner<K> {

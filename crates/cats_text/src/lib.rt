@@ -2,22 +2,22 @@
 #![tactic(auto)]
 
 mod bid_lines;
+mod bids_by_number;
 mod eight;
-mod read_fault;
-mod push_reader;
-mod leading_token;
 mod good_list;
 mod history;
 mod keep;
 pub mod laws;
 mod layout;
+mod leading_token;
 mod limits;
 mod parser;
 mod price;
+mod push_reader;
+mod read_fault;
 mod reader;
 mod scanner;
 mod sending;
-mod bids_by_number;
 mod stream;
 mod word;
 pub mod worked;
@@ -25,11 +25,11 @@ pub mod worked;
 pub use bid_file::{
     Bid, BidFile, MAX_BIDS, MAX_DUMMY, MAX_GOODS, MAX_PRICE, PackedBids, PackedFile,
 };
-pub use read_fault::{Kind, ReadFault, SendFault};
 pub use layout::write;
 pub use limits::MAX_STREAM;
 pub use parser::Header;
 pub use price::push_price;
+pub use read_fault::{Kind, ReadFault, SendFault};
 pub use reader::{Reader, read, read_packed};
 pub use sending::{send, send_file};
 pub use stream::{Watched, check_from, read_from, read_packed_from};

@@ -22,11 +22,11 @@ ghost use Rattle.cats_text.specs.Internal.Parsing.{
   is_due,
 };
 
-use crate::read_fault::Kind;
+use crate::bids_by_number::BidsByNumber;
 use crate::good_list::GoodList;
 use crate::keep::Keep;
 use crate::price::price_of;
-use crate::bids_by_number::BidsByNumber;
+use crate::read_fault::Kind;
 use crate::word::{Keyword, Word};
 use bid_file::{MAX_BIDS, MAX_DUMMY, MAX_GOODS};
 use std::alloc::{AllocError, AllocFailed, Global};

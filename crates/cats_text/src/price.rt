@@ -7,8 +7,8 @@ ghost use Rattle.cats_text.specs.Internal.Keywords.{place_value_of};
 ghost use Rattle.cats_text.specs.Internal.Parsing.{price_parts};
 ghost use Rattle.cats_text.specs.Internal.Progress.{Answers};
 
-use crate::read_fault::Kind;
 use crate::parser::ParseError;
+use crate::read_fault::Kind;
 use bid_file::MAX_PRICE;
 use itoa::{Buffer, write_digits};
 use std::alloc::AllocError;

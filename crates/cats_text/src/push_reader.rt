@@ -5,10 +5,10 @@ ghost use Rattle.cats_text.specs.Faults.{fault_at};
 ghost use Rattle.cats_text.specs.Internal.Reading.{reported_fault, PartsAs, PackedAs, Unpacks};
 ghost use Rattle.cats_text.specs.Reading.{FeedsAs};
 
-use crate::read_fault::{Kind, ReadFault};
 use crate::history::History;
 use crate::keep::Keep;
 use crate::parser::Header;
+use crate::read_fault::{Kind, ReadFault};
 use crate::scanner::{ScanError, Scanner};
 use bid_file::{BidFile, PackedBids, PackedFile};
 use std::alloc::Global;

@@ -3,8 +3,8 @@
 ghost use Rattle.std.specs.Prelude.{◌≡◌, ◌^◌, ◌<◌, [], None};
 ghost use Rattle.cats_text.specs.Reading.{FinishAnswer, PackedAnswer};
 
-use crate::read_fault::ReadFault;
 use crate::push_reader::{PushReader, finish_packed, unpacked};
+use crate::read_fault::ReadFault;
 use bid_file::{BidFile, PackedBids, PackedFile};
 use std::alloc::Global;
 use std::marker::Model;

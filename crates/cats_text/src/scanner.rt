@@ -24,10 +24,10 @@ ghost use Rattle.cats_text.specs.Internal.Scanning.{
   IsInLine,
 };
 
-use crate::read_fault::{Kind, ReadFault};
-use crate::leading_token::{leading_token, with_digits};
 use crate::keep::Keep;
-use crate::parser::{Header, Parser, ParseError};
+use crate::leading_token::{leading_token, with_digits};
+use crate::parser::{Header, ParseError, Parser};
+use crate::read_fault::{Kind, ReadFault};
 use crate::word::Word;
 use std::alloc::Global;
 

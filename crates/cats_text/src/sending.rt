@@ -24,8 +24,8 @@ ghost use Rattle.cats_text.specs.Layout.{headers_text, layout};
 ghost use Rattle.cats_text.specs.declared.sending.TheConstants.{PAGE};
 ghost use Rattle.cats_text.specs.Streams.{inner_of, has_failed, has_ended, Sends, SendsPart, SendsWhole};
 
-use crate::read_fault::SendFault;
 use crate::layout::{LONGEST_LINE, push_header, write_bid};
+use crate::read_fault::SendFault;
 use crate::stream::Watched;
 use bid_file::Bids;
 use std::alloc::{AllocError, Global};

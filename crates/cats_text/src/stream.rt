@@ -30,11 +30,11 @@ ghost use Rattle.cats_text.specs.Streams.{
   FeedsFrom,
 };
 
-use crate::read_fault::{Kind, ReadFault};
-use crate::push_reader::{PushReader, finish_packed, unpacked};
 use crate::keep::{BidCount, Keep};
 use crate::limits::MAX_STREAM;
 use crate::parser::Header;
+use crate::push_reader::{PushReader, finish_packed, unpacked};
+use crate::read_fault::{Kind, ReadFault};
 use bid_file::{BidFile, PackedBids, PackedFile};
 use std::alloc::Global;
 use std::io;

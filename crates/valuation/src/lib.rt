@@ -10,8 +10,8 @@ pub mod laws;
 mod order;
 mod packing;
 mod path;
-mod value_search;
 mod set_choice;
+mod value_search;
 pub mod worked;
 mod xor;
 

@@ -2,7 +2,7 @@
 ghost use Rattle.std.specs.Prelude.{◌≡◌, ◌≤◌, [], length, IfOk, OnOk, OnErr};
 ghost use Rattle.std.specs.List.{insert};
 
-use crate::list_set::few::{INLINE_GOODS, FewGoods};
+use crate::list_set::few::{FewGoods, INLINE_GOODS};
 use std::alloc::{AllocError, Global};
 use std::marker::Model;
 
