@@ -53,7 +53,7 @@ impl AuctionIndex {
     /// An index to which `usize::MAX` files were added takes no more, and reports want of memory.
     pub fn add(&mut self, alloc: Global, file: PackedFile, limit: u64) -> Result<usize, CanonFault>
         ensures added { IfOk result (AddsText self.old self.new (canonical_text file)) }
-        ensures light { OnOk result (normalised_file limit file ≡ IsText (canonical_text file)) }
+        ensures within_limit { OnOk result (normalised_file limit file ≡ IsText (canonical_text file)) }
         ensures refused { IfErr result (RefusesAs (normalised_file limit file)) }
         ensures unchanged { OnErr result (self.new ≡ self.old) }
     {

@@ -85,7 +85,7 @@ fn canonical_within_limit<S: GoodsSet>(
     ensures canonical { IfOk result (λ c. plain_auction c.auction ≡ canonical_auction (plain_auction auction)) }
     ensures fixed { IfOk result (λ c. IsCanonical (plain_auction c.auction)) }
     ensures dummies { IfOk result (λ c. c.dummies.items ≡ kept_numbers (plain_auction auction)) }
-    ensures light { let a = plain_auction auction in
+    ensures within_limit { let a = plain_auction auction in
         OnOk result (first_heavy a.goods limit a.or_atoms ≡ None) }
     ensures refused { IfErr result (λ fault. RefusesAuction limit (plain_auction auction) fault) }
 {
