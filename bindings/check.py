@@ -185,7 +185,7 @@ def answer_of_program(call, paths):
     return Answer(ran.returncode, ran.stderr)
 
 
-class Room(NamedTuple):
+class GuardedBuffer(NamedTuple):
     """A buffer with a guard behind it, and the length that a call says it needs."""
 
     size: int
@@ -200,7 +200,7 @@ class Room(NamedTuple):
 def buffer_of(size):
     marked = (ctypes.c_char * (size + GUARD))()
     ctypes.memset(marked, MARK, size + GUARD)
-    return Room(size, marked, ctypes.c_size_t())
+    return GuardedBuffer(size, marked, ctypes.c_size_t())
 
 
 def call_library(library, call, texts, sizes):
