@@ -2,12 +2,14 @@
 #![tactic(auto)]
 
 mod auctions;
+mod bidder_set;
 mod bidder_changes;
 mod change;
 mod excess;
 pub mod laws;
 mod partners;
 mod price_changes;
+mod shared_bids;
 #[cfg(test)]
 mod tests;
 pub mod worked;
