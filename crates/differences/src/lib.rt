@@ -2,8 +2,8 @@
 #![tactic(auto)]
 
 mod auctions;
-mod bidder_set;
 mod bidder_changes;
+mod bidder_set;
 mod change;
 mod excess;
 pub mod laws;

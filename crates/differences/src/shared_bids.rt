@@ -220,9 +220,11 @@ impl<'a> SharedBids<'a> {
 
     /// A bid of the left bidder: it is among the common ones, or is counted for each waiting bidder that has it.
     fn count(&mut self, bid: &BidRef<'_>) -> Result<(), AllocError> {
-        let number = self
-            .common
-            .partition_point(|other| order_of_bids(other.goods, other.price, bid).is_lt());
+        let number = self.common.partition_point(|other| order_of_bids(
+            other.goods,
+            other.price,
+            bid,
+        ).is_lt());
         match self.common.get(number) {
             Some(other) if order_of_bids(other.goods, other.price, bid).is_eq() => {
                 self.found.push(number)?;
@@ -233,9 +235,11 @@ impl<'a> SharedBids<'a> {
     }
 
     fn count_rare(&mut self, bid: &BidRef<'_>) -> Result<(), AllocError> {
-        let first = self
-            .bids
-            .partition_point(|other| order_of_bids(other.goods, other.price, bid).is_lt());
+        let first = self.bids.partition_point(|other| order_of_bids(
+            other.goods,
+            other.price,
+            bid,
+        ).is_lt());
         for other in &self.bids[first..] {
             if other.price != bid.price || other.goods != bid.goods {
                 break;
