@@ -79,7 +79,7 @@ module _ {X : Type 0} (cmp : X → X → Ordering) (none : X) where
       → count_of cmp x (drop index xs) ≡ cond {A = ℕ} (is_eq (cmp x (get_or xs index none))) 1 0 + count_of cmp x (drop (index + 1) xs)
   count_from x xs index l = sum_by-drop_more (λ y. cond {A = ℕ} (is_eq (cmp x y)) 1 0) xs index none l
 
-  count_from-le : (x : X) (xs : List X) (index : ℕ) → count_of cmp x (drop index xs) ≤ count_of cmp x xs
+  pub count_from-le : (x : X) (xs : List X) (index : ℕ) → count_of cmp x (drop index xs) ≤ count_of cmp x xs
   count_from-le x xs index = let all = sum_by-take-drop (λ y. cond {A = ℕ} (is_eq (cmp x y)) 1 0) xs index in omega arith
 
   -- the elements between two places are none of these

@@ -41,6 +41,9 @@ excess_within bidders others excess e =
 
 -- ---- the bidders of a canonical file
 
+pub canonical_from_file : (f : PlainFile) → IsCanonicalFile f → IsCanonical (auction_from f)
+canonical_from_file f canonical = sym (auction_from-file_from (canonical_auction (auction_from f))) ∙ ap auction_from canonical
+
 pairs_from_ordered : (bidders : List (List (Atom (List ℕ)))) → IsOrdered bidder_cmp bidders → NeverFall bidders
 pairs_from_ordered [] h = AllPairs-nil (λ x y. is_gt (bidder_cmp x y) ≡ false)
 pairs_from_ordered (b ∷ bidders) h =
@@ -50,7 +53,7 @@ pairs_from_ordered (b ∷ bidders) h =
 module _ (f : PlainFile) (plain : IsPlainFile f) (canonical : IsCanonicalFile f) (or_bids : List PlainBid) (xor_bidders : List (List PlainBid))
     (are : AreBidders (auction_from f) or_bids xor_bidders) where
   is_canonical : IsCanonical (auction_from f)
-  is_canonical = sym (auction_from-file_from (canonical_auction (auction_from f))) ∙ ap auction_from canonical
+  is_canonical = canonical_from_file f canonical
 
   pub or_bids_in_order : IsInOrder (offers or_bids)
   or_bids_in_order = subst IsInOrder (sym are.or) (or_atoms_in_order (auction_from f) is_canonical)

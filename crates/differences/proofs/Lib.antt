@@ -12,3 +12,5 @@ pub mod PriceWalks
 pub mod ExcessBidders
 pub mod ExcessWalks
 pub mod Indices
+pub mod SameAuctions
+pub mod WorkedRows

@@ -11,11 +11,11 @@ use crate::bidder_changes::bidder_changes;
 use crate::change::Differences;
 use crate::price_changes::price_changes;
 use bid_file::Bids;
-use canon::bidders_of;
+use canon::{Verdict, bidders_of, compare_files};
 use std::alloc::{AllocError, Global};
 
 /// All differences of the auctions of two canonical files, of bids that lie in memory in any way. No bid is copied: the
-/// differences borrow the goods of the files.
+/// differences borrow the goods of the files. Files of the same auction are only compared.
 pub fn all_differences<'a, B: Bids>(
     alloc: Global,
     left: &'a B,
@@ -30,6 +30,12 @@ pub fn all_differences<'a, B: Bids>(
 {
     if left.goods() != right.goods() {
         return Ok(Differences::Goods(left.goods(), right.goods()));
+    }
+    if let Verdict::Same = compare_files(alloc, left, right)? {
+        return Ok(Differences::Bids {
+            bundles: Vec::new(alloc),
+            bidders: Vec::new(alloc),
+        });
     }
     let own = bidders_of(alloc, left)?;
     let others = bidders_of(alloc, right)?;

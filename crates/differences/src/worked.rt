@@ -1,8 +1,12 @@
 //! Worked examples of the definitions, computed by the prover.
 
 ghost use Rattle.std.specs.Prelude.{◌≡◌, [], ◌∷◌, Some, None};
-ghost use Rattle.differences.specs.BidderChanges.{excess_bidders};
-ghost use Rattle.differences.specs.Examples.{atom, change};
+ghost use Rattle.canon.specs.Difference.{InOr, InXor, NoDifference};
+ghost use Rattle.canon.specs.Examples.{auction};
+ghost use Rattle.canon.specs.declared.verdict.Side.TheVariants.{Exactly};
+ghost use Rattle.differences.specs.BidderChanges.{AreBidderChanges, excess_bidders};
+ghost use Rattle.differences.specs.Differences.{AreAllDifferences, BeginsWith, InBids, InGoods};
+ghost use Rattle.differences.specs.Examples.{atom, bidder_change, change};
 ghost use Rattle.differences.specs.PriceChanges.{ArePriceChanges, price_on};
 
 /// The price on a bundle.
@@ -31,4 +35,38 @@ pub fn price_changes_worked()
     ensures equal { ArePriceChanges (atom (0 ∷ []) 3 ∷ []) (atom (0 ∷ []) 3 ∷ []) [] }
     ensures missing { ¬ ArePriceChanges (atom (0 ∷ []) 3 ∷ []) [] [] }
     ensures wrong_price { ¬ ArePriceChanges (atom (0 ∷ []) 3 ∷ []) [] (change (0 ∷ []) (Some 4) None ∷ []) }
+{}
+
+/// A bidder of one file alone is a change; two bidders beside each other are one change; equal bidders are none.
+pub fn bidder_changes_worked()
+    ensures equal { AreBidderChanges ((atom (0 ∷ []) 3 ∷ []) ∷ []) ((atom (0 ∷ []) 3 ∷ []) ∷ []) [] }
+    ensures left_only { AreBidderChanges ((atom (0 ∷ []) 3 ∷ []) ∷ []) []
+        (bidder_change (Some 0) None (change (0 ∷ []) (Some 3) None ∷ []) ∷ []) }
+    ensures beside { AreBidderChanges ((atom (0 ∷ []) 3 ∷ []) ∷ []) ((atom (0 ∷ []) 4 ∷ []) ∷ [])
+        (bidder_change (Some 0) (Some 0) (change (0 ∷ []) (Some 3) (Some 4) ∷ []) ∷ []) }
+    ensures missing { ¬ AreBidderChanges ((atom (0 ∷ []) 3 ∷ []) ∷ []) [] [] }
+    ensures right_missing { ¬ AreBidderChanges [] ((atom (0 ∷ []) 3 ∷ []) ∷ []) [] }
+{}
+
+/// The numbers of goods, if they differ, and else the bids.
+pub fn all_differences_worked()
+    ensures goods { AreAllDifferences (auction 1 [] []) (auction 2 [] []) (InGoods 1 2) }
+    ensures bids { AreAllDifferences (auction 1 (atom (0 ∷ []) 3 ∷ []) []) (auction 1 (atom (0 ∷ []) 4 ∷ []) [])
+        (InBids (change (0 ∷ []) (Some 3) (Some 4) ∷ []) []) }
+    ensures same { AreAllDifferences (auction 1 (atom (0 ∷ []) 3 ∷ []) []) (auction 1 (atom (0 ∷ []) 3 ∷ []) []) (InBids [] []) }
+    ensures missing { ¬ AreAllDifferences (auction 1 (atom (0 ∷ []) 3 ∷ []) []) (auction 1 [] []) (InBids [] []) }
+    ensures goods_missing { ¬ AreAllDifferences (auction 1 [] []) (auction 2 [] []) (InBids [] []) }
+{}
+
+/// The first difference is of the kind of the first change, and on its bundle.
+pub fn first_changes()
+    ensures none { BeginsWith NoDifference (InBids [] []) }
+    ensures some { ¬ BeginsWith NoDifference (InBids (change (0 ∷ []) (Some 3) None ∷ []) []) }
+    ensures bundle { BeginsWith (InOr (0 ∷ []) (Exactly 3) (Exactly 4)) (InBids (change (0 ∷ []) (Some 3) (Some 4) ∷ []) []) }
+    ensures another_bundle { ¬ BeginsWith (InOr (1 ∷ []) (Exactly 3) (Exactly 4))
+        (InBids (change (0 ∷ []) (Some 3) (Some 4) ∷ []) []) }
+    ensures bidder { BeginsWith (InXor (atom (0 ∷ []) 3 ∷ []) 1 0)
+        (InBids [] (bidder_change (Some 0) None (change (0 ∷ []) (Some 3) None ∷ []) ∷ [])) }
+    ensures bundle_first { ¬ BeginsWith (InXor (atom (0 ∷ []) 3 ∷ []) 1 0)
+        (InBids (change (0 ∷ []) (Some 3) None ∷ []) (bidder_change (Some 0) None (change (0 ∷ []) (Some 3) None ∷ []) ∷ [])) }
 {}

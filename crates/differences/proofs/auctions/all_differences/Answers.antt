@@ -1,5 +1,6 @@
--- The bids and the bidders of canonical files are in order.
+-- The bids and the bidders of canonical files are in order. Files of the same auction have no differences.
 use Rattle.differences.proofs.Indices.{or_bids_in_order, bids_of_each_in_order, bidders_never_fall, few_bidders}
+use Rattle.differences.proofs.SameAuctions.{no_differences_of_same}
 use Rattle.differences.proofs.auctions.all_differences.Goals as goal
 
 pub price_changes-requires-clause-left_in_order : goal.price_changes-requires-clause-left_in_order
@@ -41,3 +42,9 @@ pub bidder_changes-requires-clause-right_few : goal.bidder_changes-requires-clau
 bidder_changes-requires-clause-right_few g c =
     rw c.deref-2.ensures.value (few_bidders (g.B.Bids.file c.args.right.now) c.requires.right_facts c.requires.right_canonical
     c.in_ok-others.others.or_bids c.in_ok-others.others.xor_bidders.items c.in_ok-others.ensures)
+
+pub returns-in-Same : goal.returns-in-Same
+returns-in-Same g c =
+    rw (c.new.ensures.items, c.new-in-Same.ensures.items)
+    (no_differences_of_same (g.B.Bids.file c.args.left.now) (g.B.Bids.file c.args.right.now) c.requires.left_facts c.requires.right_facts
+    c.requires.left_canonical c.requires.right_canonical (c.in_ok-compare_files.ensures.same.0 c.in-Same.is))

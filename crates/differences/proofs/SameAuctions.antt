@@ -1,0 +1,64 @@
+-- Two canonical files of the same auction are equal, and equal auctions have no differences.
+use Rattle.std.proofs.Common.{◌≡◌, ℕ, Bool, false, cond, List, [], ◌∷◌, length, drop, refl, sym, ap, ◌∙◌, subst, Less}
+use Rattle.std.specs.List.{filter, range_with_len}
+use Rattle.std.specs.Ordering.{nat_cmp}
+use Rattle.std.proofs.lemmas.Bool.{le-ltb}
+use Rattle.std.proofs.lemmas.List.Elements.{All-nil}
+use Rattle.bid_file.specs.Files.{PlainFile, IsPlainFile}
+use Rattle.bid_file.specs.declared.limits.TheConstants.{MAX_GOODS}
+use Rattle.goods_set.specs.Orders.{bundle_cmp}
+use Rattle.valuation.specs.declared.atom.Atom.{Atom}
+use Rattle.valuation.specs.Auctions.{PlainAuction, auction_from}
+use Rattle.valuation.specs.Lemmas.AuctionsOfFiles.{IsAuction-auction_from}
+use Rattle.valuation.specs.Lemmas.Lists.{AllPairs-nil}
+use Rattle.valuation.specs.Orders.{bidder_cmp}
+use Rattle.valuation.specs.Sorting.{count_of}
+use Rattle.canon.specs.Canonical.{IsCanonicalFile}
+use Rattle.canon.specs.Sameness.{AreSameFiles}
+use Rattle.canon.proofs.Atoms.{HasAtoms}
+use Rattle.canon.proofs.Sames.{HasAtoms-auction, same_canonical}
+use Rattle.differences.specs.BidderChanges.{AreBidderChanges, IsBidderChange, bidder_at, excess_bidders, is_excess}
+use Rattle.differences.specs.Differences.{AreAllDifferences, InBids}
+use Rattle.differences.specs.PriceChanges.{PlainChange, IsPriceChange, ArePriceChanges}
+use Rattle.differences.proofs.ExcessWalks.{count_from-le}
+use Rattle.differences.proofs.Indices.{canonical_from_file}
+
+pub no_price_changes : (atoms : List (Atom (List ℕ))) → ArePriceChanges atoms atoms []
+no_price_changes atoms = record {
+  in_order = AllPairs-nil (λ (c d : PlainChange). bundle_cmp c.bundle d.bundle ≡ Less);
+  each = All-nil (IsPriceChange atoms atoms);
+  all = λ bundle differ. absurd (differ refl);
+}
+
+none_pass : (passes : ℕ → Bool) → ((i : ℕ) → passes i ≡ false) → (xs : List ℕ) → filter passes xs ≡ []
+none_pass passes none [] = refl
+none_pass passes none (x ∷ xs) =
+    ap (λ b. cond b (x ∷ filter passes xs) (filter passes xs)) (none x) ∙ none_pass passes none xs
+
+none_in_excess : (bidders : List (List (Atom (List ℕ)))) → excess_bidders bidders bidders ≡ []
+none_in_excess bidders =
+    none_pass (is_excess bidders bidders)
+    (λ i. let x = bidder_at bidders i in
+    le-ltb (count_of bidder_cmp x bidders) (count_of bidder_cmp x (drop i bidders)) (count_from-le bidder_cmp [] x bidders i))
+    (range_with_len 0 (length bidders))
+
+pub no_bidder_changes : (bidders : List (List (Atom (List ℕ)))) → AreBidderChanges bidders bidders []
+no_bidder_changes bidders = record {
+  each = All-nil (IsBidderChange bidders bidders);
+  lefts = sym (none_in_excess bidders);
+  rights = λ index. ap (λ (xs : List ℕ). count_of nat_cmp index xs) (sym (none_in_excess bidders));
+}
+
+no_differences : (a : PlainAuction) → AreAllDifferences a a (InBids [] [])
+no_differences a = record { goods = refl; bundles = no_price_changes a.or_atoms; bidders = no_bidder_changes a.xor_bidders }
+
+atoms_of : (f : PlainFile) → IsPlainFile f → HasAtoms (auction_from f)
+atoms_of f plain = HasAtoms-auction MAX_GOODS (auction_from f) (IsAuction-auction_from MAX_GOODS f plain plain.goods)
+
+pub no_differences_of_same : (f g : PlainFile) → IsPlainFile f → IsPlainFile g → IsCanonicalFile f → IsCanonicalFile g → AreSameFiles f g
+    → AreAllDifferences (auction_from f) (auction_from g) (InBids [] [])
+no_differences_of_same f g plain also_plain canonical also_canonical same =
+    let equal : auction_from f ≡ auction_from g =
+    sym (canonical_from_file f canonical)
+    ∙ same_canonical (auction_from f) (auction_from g) (atoms_of f plain) (atoms_of g also_plain) same ∙ canonical_from_file g also_canonical in
+    subst (λ (b : PlainAuction). AreAllDifferences (auction_from f) b (InBids [] [])) equal (no_differences (auction_from f))
