@@ -9,14 +9,14 @@ ghost use Rattle.by_definition.specs.Lists.{atoms_in, bundles_in, points_among};
 
 use crate::auction::{Bidder, ListAtom};
 use crate::bundle::{all_bundles, is_inside, without};
-use crate::fault::{NoAnswer, sum};
+use crate::no_answer::{NoAnswer, sum};
 use crate::list::prepend;
 use crate::values::{or_value, xor_value};
 use std::alloc::{AllocError, Global};
 use valuation::Atom;
 
 /// An atom on a copy of the bundle.
-fn atom_on(alloc: Global, bundle: &[u16], price: u64) -> Result<ListAtom, AllocError>
+pub fn atom_on(alloc: Global, bundle: &[u16], price: u64) -> Result<ListAtom, AllocError>
     ensures { IfOk result (λ atom. (atom.bundle.items ≡ bundle.now) × (atom.price ≡ price)) }
 {
     Ok(Atom {
