@@ -1,4 +1,4 @@
-//! Where two auctions part first.
+//! The first difference of two auctions.
 
 ghost use Rattle.std.specs.Prelude.{◌≡◌, ◌==◌, ◌+◌, ◌<◌, ◌^◌, not, IfOk, option_map};
 ghost use Rattle.std.specs.List.{find};
@@ -16,8 +16,8 @@ ghost use Rattle.by_definition.specs.Internal.Differences.{bidder_difference, is
 use crate::auction::{Bidder, ListAtom, ListedAuction, auction_from};
 use crate::bundle::all_bundles;
 use crate::canonical::canonical_auction;
-use crate::no_answer::NoAnswer;
 use crate::list::prepend;
+use crate::no_answer::NoAnswer;
 use crate::order::{compare_bidders, sort_bidders};
 use crate::points::is_or_point;
 use crate::values::or_value;
@@ -49,7 +49,7 @@ fn first_unequal_bundle(
     }
 }
 
-/// What a difference on the bundle reports of the first auction, where the list has all bundles.
+/// What a difference on the bundle reports of the first auction. The list has all bundles.
 fn side_of(
     alloc: Global,
     all: &[Vec<u16>],

@@ -184,7 +184,7 @@ fn first_members(alloc: Global, count: u64) -> Result<Vec<Member>, Fail> {
 /// of values alone.
 const EQUAL_PAIRS: u64 = 68_380;
 
-/// Two texts are equal exactly where the tables of values say that the auctions are the same.
+/// Two texts are equal exactly if the tables of values say that the auctions are the same.
 #[test]
 fn equal_text_exactly_for_the_same_auction(rt: HostRuntime) -> Result<(), Fail> {
     let members = first_members(rt.alloc(), 1000)?;
@@ -297,7 +297,7 @@ fn expect_step_limit(rt: &impl Abort, fault: CanonFault, bundle: Option<Vec<u16>
     assert_eq!(rt; bundle, Some(goods));
 }
 
-/// The answer refuses the first of two texts that has a heavy bundle, where these are the first of each.
+/// The answer refuses the first of two texts that has a heavy bundle. These are the first heavy bundles of both.
 fn expect_refused(
     rt: &impl Abort,
     answer: Result<Verdict, (Which, CanonFault)>,
@@ -330,7 +330,7 @@ fn expect_refusal(
     Ok(())
 }
 
-/// How many pairs of the first 300 members part on a bundle, and how many in a bidder, counted in the same way.
+/// How many pairs of the first 300 members differ on a bundle, and how many in a bidder, counted in the same way.
 const UNEQUAL_BUNDLES: u64 = 30_488;
 
 const UNEQUAL_BIDDERS: u64 = 9_024;

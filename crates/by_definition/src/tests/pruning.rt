@@ -153,7 +153,7 @@ const PAIRS: &[PricedGoods] = &[(&[0], 2), (&[1], 2), (&[2], 2), (&[0, 1, 2], 5)
 
 const REACHED: &[PricedGoods] = &[(&[0], 3), (&[1], 4), (&[0, 1], 7)];
 
-// The search is cut where the prices left do not suffice, and ends where the price is reached.
+// The search is cut if the prices left do not suffice, and ends once the price is reached.
 static STEP_ROWS: [OrRow; 8] = [
     (&[(&[0], 1)], 0, Pruned::StoppedAt(&[0])),
     (&[(&[1], 1), (&[0], 1)], 0, Pruned::StoppedAt(&[0])),
@@ -256,7 +256,12 @@ fn long_lists_on_both_sets(rt: HostRuntime) -> Result<(), Fail> {
 fn nested_bids(alloc: Global, n: u16) -> Result<Bidder, AllocError> {
     let mut bids = Vec::new(alloc);
     for good in 0..n {
-        push_bid(alloc, &mut bids, &goods_below(alloc, good + 1)?, u64::from(good) + 1)?;
+        push_bid(
+            alloc,
+            &mut bids,
+            &goods_below(alloc, good + 1)?,
+            u64::from(good) + 1,
+        )?;
     }
     Ok(bids)
 }
@@ -364,7 +369,11 @@ fn family_bids(alloc: Global, bundles: &[Vec<u16>], seed: u64) -> Result<Bidder,
 }
 
 // Both prunings give exactly the points of the slow program, in order.
-fn points_agree<S: GoodsSet>(rt: &impl Abort, alloc: Global, bids: &[ListAtom]) -> Result<(), Fail> {
+fn points_agree<S: GoodsSet>(
+    rt: &impl Abort,
+    alloc: Global,
+    bids: &[ListAtom],
+) -> Result<(), Fail> {
     let points = or_points(alloc, 3, bids)?;
     let kept = expect_kept(rt, prune_on::<S>(rt, alloc, bids, AMPLE)?, points.len());
     expect_bids(rt, alloc, &kept, &points)?;

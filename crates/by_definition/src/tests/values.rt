@@ -41,7 +41,7 @@ fn xor_values_on_both_sets(rt: HostRuntime) -> Result<(), Fail> {
     xor_values::<WordSet<64>>(&rt, rt.alloc())
 }
 
-// What a search for a value answers: the value and the places of the atoms, or nothing where its steps do not suffice.
+// What a search for a value answers: the value and the places of the atoms, or nothing if its steps do not suffice.
 type Found = Option<(u128, &'static [usize])>;
 
 const PAIR: &[PricedGoods] = &[(&[0], 3_000_000), (&[1], 4_000_000), (&[0, 1], 7_000_000)];
