@@ -31,6 +31,6 @@ module _ (a b : PlainAuction) where
       ∙ ap (bidder_difference (canonical_auction a).xor_bidders (canonical_auction b).xor_bidders) least
       ∙ at_bidder (least_unequal_bidder a b)
 
-  -- where the OR values agree, the bidders decide
+  -- if the OR values agree, the bidders decide
   pub no_bundle_differs : a.goods ≡ b.goods → first_unequal_bundle a b ≡ None → first_difference a b ≡ xor_difference a b (least_unequal_bidder a b)
   no_bundle_differs e n = cond-true _ _ _ (eq-eqb a.goods b.goods e) ∙ ap (or_difference a b) n

@@ -11,6 +11,9 @@ use std::alloc::{AllocError, Global};
 use std::process::Abort;
 use valuation::Atom;
 
+/// A limit that no search of a small example reaches.
+pub const AMPLE: u64 = 1_000_000;
+
 /// A million millionths.
 pub const UNIT: u64 = 1_000_000;
 
@@ -76,7 +79,7 @@ pub fn bundle_of<S: GoodsSet>(
     Ok(bundle)
 }
 
-/// The bid on a set, where it keeps the limits.
+/// The bid on a set. It keeps the limits.
 fn atom_on_set<S: GoodsSet>(
     rt: &impl Abort,
     alloc: Global,

@@ -4,6 +4,7 @@ use crate::canonical::canonical_text;
 use crate::difference::first_difference;
 use crate::same::are_same_files;
 use crate::steps::first_heavy;
+use crate::tests::bids::AMPLE;
 use crate::tests::random::up_to;
 use bid_file::BidFile;
 use canon::{AuctionIndex, CanonFault, Verdict, Which, compare, normalise};
@@ -11,9 +12,6 @@ use cats_text::{read, read_packed};
 use std::alloc::{AllocError, Global};
 use std::process::Abort;
 use std::test::Fail;
-
-/// A limit that no search of a family reaches.
-const AMPLE: u64 = 1_000_000;
 
 /// How large the auctions of a family are.
 #[derive(Clone, Copy)]

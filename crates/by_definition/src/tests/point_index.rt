@@ -2,16 +2,13 @@
 //! succeed.
 
 use crate::auction::{Bidder, ListAtom};
-use crate::tests::bids::{PricedGoods, atoms_on, bids_of, bundle_of, push_bid, row_on};
+use crate::tests::bids::{AMPLE, PricedGoods, atoms_on, bids_of, bundle_of, push_bid, row_on};
 use goods_set::{GoodsSet, ListSet, WordSet};
 use prune::PointIndex;
 use std::alloc::{AllocError, Global};
 use std::process::Abort;
 use std::test::Fail;
 use valuation::{Atom, ValueFault};
-
-// A limit that no search of these reaches.
-const AMPLE: u64 = 1_000;
 
 const POINTS: &[PricedGoods] = &[(&[0], 3), (&[1], 4), (&[2], 5), (&[0, 1], 8)];
 

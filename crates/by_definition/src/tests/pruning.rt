@@ -4,8 +4,8 @@ use crate::auction::{Bidder, ListAtom};
 use crate::bundle::all_bundles;
 use crate::points::{or_points, xor_points};
 use crate::tests::bids::{
-    LADDER, PricedGoods, TRIPLE, UNIT, atoms_on, bids_of, expect_bids, expect_bundle, expect_row,
-    goods_below, push_bid, row_on, singles,
+    AMPLE, LADDER, PricedGoods, TRIPLE, UNIT, atoms_on, bids_of, expect_bids, expect_bundle,
+    expect_row, goods_below, push_bid, row_on, singles,
 };
 use crate::tests::random::next_number;
 use goods_set::{GoodsSet, ListSet, WordSet};
@@ -14,9 +14,6 @@ use std::alloc::{AllocError, Global};
 use std::process::Abort;
 use std::test::Fail;
 use valuation::Atom;
-
-// A limit that no search of a small example reaches.
-const AMPLE: u64 = 1_000_000;
 
 // Bids, and the points of their XOR bidder.
 static XOR_ROWS: [(&[PricedGoods], &[PricedGoods]); 9] = [
