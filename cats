@@ -1,6 +1,6 @@
 #!/bin/sh
-# Runs the proved program; ./build proves and builds it first if it is not built from the files as they are. Status 70: that
+# Runs the proved program; tools/build proves and builds it first if it is not built from the files as they are. Status 70: that
 # failed. It may be called through a symbolic link.
 root=$(dirname "$(readlink -f -- "$0")") || exit 70
-"$root/build" || exit 70
+"$root/tools/build" || exit 70
 exec "$root/out/cats" "$@"

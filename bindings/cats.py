@@ -148,13 +148,13 @@ class Buffer:
     """Room for an output, and the length that is needed."""
 
     def __init__(self, size):
-        self.room, self.size, self.needed = ctypes.create_string_buffer(size), size, c_size_t()
+        self.buffer, self.size, self.needed = ctypes.create_string_buffer(size), size, c_size_t()
 
     def arguments(self):
-        return [self.room, self.size, byref(self.needed)]
+        return [self.buffer, self.size, byref(self.needed)]
 
     def output(self):
-        return ctypes.string_at(self.room, self.needed.value)
+        return ctypes.string_at(self.buffer, self.needed.value)
 
     def is_too_small(self):
         return self.needed.value > self.size

@@ -185,7 +185,7 @@ def answer_of_program(call, paths):
     return Answer(ran.returncode, ran.stderr)
 
 
-class Room(NamedTuple):
+class GuardedBuffer(NamedTuple):
     """A buffer with a guard behind it, and the length that a call says it needs."""
 
     size: int
@@ -197,18 +197,18 @@ class Room(NamedTuple):
         return self.bytes.raw[begin:] == bytes([MARK]) * (self.size + GUARD - begin)
 
 
-def room_of(size):
+def buffer_of(size):
     marked = (ctypes.c_char * (size + GUARD))()
     ctypes.memset(marked, MARK, size + GUARD)
-    return Room(size, marked, ctypes.c_size_t())
+    return GuardedBuffer(size, marked, ctypes.c_size_t())
 
 
 def call_library(library, call, texts, sizes):
     """The status of a call with buffers of these sizes, and the buffers. A text is its bytes, or a pointer and a length."""
-    rooms = [room_of(size) for size in sizes]
+    buffers = [buffer_of(size) for size in sizes]
     words = [word for text in texts for word in (text if isinstance(text, tuple) else (text, len(text)))]
-    buffers = [word for room in rooms for word in (room.bytes, room.size, ctypes.byref(room.needed))]
-    return getattr(library, call.function)(*words, *call.argument, *buffers), rooms
+    arguments = [word for buffer in buffers for word in (buffer.bytes, buffer.size, ctypes.byref(buffer.needed))]
+    return getattr(library, call.function)(*words, *call.argument, *arguments), buffers
 
 
 def ample_sizes(call, texts):
@@ -219,10 +219,10 @@ def ample_sizes(call, texts):
 
 
 def answer_of_library(library, call, texts):
-    status, rooms = call_library(library, call, texts, ample_sizes(call, texts))
-    if any(room.needed.value > room.size for room in rooms):
+    status, buffers = call_library(library, call, texts, ample_sizes(call, texts))
+    if any(buffer.needed.value > buffer.size for buffer in buffers):
         return Answer(status, b"the sizes of cats.h are too small")
-    return Answer(status, *(room.bytes.raw[: room.needed.value] for room in rooms))
+    return Answer(status, *(buffer.bytes.raw[: buffer.needed.value] for buffer in buffers))
 
 
 # ---- what is compared
@@ -299,16 +299,16 @@ def check_module(cases):
 
 def is_right_with(one, sizes):
     """Whether a call with buffers of these sizes fills each or leaves it as it was, sets each length, and keeps what is behind it."""
-    status, rooms = call_library(cats.LIBRARY, one.call, one.texts, sizes)
-    outputs = one.own[1 : 1 + len(rooms)]
-    if [room.needed.value for room in rooms] != list(map(len, outputs)):
+    status, buffers = call_library(cats.LIBRARY, one.call, one.texts, sizes)
+    outputs = one.own[1 : 1 + len(buffers)]
+    if [buffer.needed.value for buffer in buffers] != list(map(len, outputs)):
         return False
-    are_small = [room.size < len(output) for room, output in zip(rooms, outputs)]
-    if not all(room.is_marked(0 if is_small else room.size) for room, is_small in zip(rooms, are_small)):
+    are_small = [buffer.size < len(output) for buffer, output in zip(buffers, outputs)]
+    if not all(buffer.is_marked(0 if is_small else buffer.size) for buffer, is_small in zip(buffers, are_small)):
         return False
     if any(are_small):
         return status == cats.BUFFER_TOO_SMALL
-    return status == one.own.status and all(room.bytes.raw[: len(output)] == output for room, output in zip(rooms, outputs))
+    return status == one.own.status and all(buffer.bytes.raw[: len(output)] == output for buffer, output in zip(buffers, outputs))
 
 
 def check_sizes(cases):
@@ -377,8 +377,8 @@ def check_long_texts():
     tried = [(call, MAX_STREAM + 1, b"TooLong\n") for call in CALLS if not call.words] + [(CALLS[0], MAX_STREAM, b"line 1: Header\n")]
     for call, length, line in tried:
         before = [BIDS] * (call.texts - 1)
-        status, rooms = call_library(cats.LIBRARY, call, [*before, (zeros, length)], [cats.LINE] * call.outputs())
-        out = rooms[0].bytes.raw[: rooms[0].needed.value]
+        status, buffers = call_library(cats.LIBRARY, call, [*before, (zeros, length)], [cats.LINE] * call.outputs())
+        out = buffers[0].bytes.raw[: buffers[0].needed.value]
         wanted = (cats.REFUSED, b"second: " + line if before else line)
         TALLY.judge((status, out) == wanted, f"{call} on {length} bytes", (status, out))
 

@@ -91,7 +91,7 @@ static uint8_t call_with(call *made, struct edge *edge, size_t size, size_t repo
     return status;
 }
 
-// A call with no room, with a byte too few, and with as much as is needed, which is at most what cats.h says.
+// A call with no space, with a byte too few, and with as much as is needed, which is at most what cats.h says.
 static void try_sizes(const char *name, call *made, struct edge *edge, size_t most) {
     uint8_t none = call_with(made, edge, 0, 0);
     size_t needed = edge->needed, report_needed = edge->report_needed;

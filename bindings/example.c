@@ -18,21 +18,21 @@ struct text {
 // Reads the whole of a file into a block that is made twice as large until it suffices. Ends the program if that fails.
 static struct text read_text(const char *path) {
     struct text text = {NULL, 0};
-    size_t room = 1 << 12;
+    size_t capacity = 1 << 12;
     FILE *file = fopen(path, "rb");
     while (file) {
-        uint8_t *bytes = realloc(text.bytes, room);
+        uint8_t *bytes = realloc(text.bytes, capacity);
         if (!bytes)
             break;
         text.bytes = bytes;
-        text.length += fread(bytes + text.length, 1, room - text.length, file);
+        text.length += fread(bytes + text.length, 1, capacity - text.length, file);
         if (ferror(file))
             break;
-        if (text.length < room) {
+        if (text.length < capacity) {
             fclose(file);
             return text;
         }
-        room *= 2;
+        capacity *= 2;
     }
     fprintf(stderr, "%s cannot be read\n", path);
     exit(FILE_FAILED);

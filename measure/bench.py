@@ -3,7 +3,7 @@
     bench.py PROGRAM GENERATE [WORD]
 
 With a word, only groups of rows whose name has it. Each time is the least processor seconds of some runs, in which the commands of a
-group take turns; the memory is the most that the kernel counted, and told as at least what this script holds itself. A bound is
+group take turns; the memory is the most that the kernel counted, and at least what this script holds itself. A bound is
 a ratio between two rows of the same group. A group of which a bound is broken is measured again, at most twice, since a machine that
 does something else for a moment breaks some. The script ends with a line for each bound that is broken each time, and its status is
 then 1.
@@ -23,8 +23,9 @@ from searches import SEARCHES
 PROGRAM, GENERATE = sys.argv[1:3]
 WORD = sys.argv[3] if len(sys.argv) > 3 else ""
 LIBRARY = os.path.join(os.path.dirname(PROGRAM), "library")
-CALLS = os.path.join(os.path.dirname(os.path.abspath(__file__)), "calls.py")
-EMPTY = os.path.join(os.path.dirname(GENERATE), "examples", "empty.cats")
+FOLDER = os.path.dirname(os.path.abspath(__file__))
+CALLS = os.path.join(FOLDER, "calls.py")
+EMPTY = os.path.join(os.path.dirname(FOLDER), "examples", "empty.cats")
 TIMES = 5
 ROUNDS = 3
 
@@ -269,7 +270,7 @@ def measure_large_duplicates(folder):
 
 
 def measure_held_duplicates(folder):
-    """What is held for files of which each stands once, and for those with as many that are the same."""
+    """What is held for files of which each is there once, and for those with as many that are the same."""
     paths = [f"{folder}/{number}" for number in range(80)]
     made(pairs, paths[:40], paths[40:], 16_384, 1024, 5, 20)
     each, once = measure_alternately([cats("duplicates", *paths), cats("duplicates", *paths[:40])], 1)

@@ -3,7 +3,7 @@
     growth.py PROGRAM [WORD]
 
 With a word, only inputs whose name has it. Times are processor seconds. The growth is how often the time of a byte is that of the
-size before, left out where that took less than 50 ms: near 1 for a time that is linear in the bytes. What a run held is told as at
+size before, left out where that took less than 50 ms: near 1 for a time that is linear in the bytes. What a run held is reported as at
 least some 15 MiB, which this script holds itself.
 """
 import os
@@ -25,7 +25,7 @@ GOODS, BIDS = 4096, 65_536
 # So many bidders of so many bids each are the most bids of a file.
 SIDE = 256
 
-# What stands for the file's path in a command.
+# What represents the file's path in a command.
 FILE = "FILE"
 
 
@@ -70,7 +70,7 @@ def by_number(order, count):
 
 
 def by_goods(order, count):
-    """Bids of 300 goods, which stand in an order."""
+    """Bids of 300 goods, which are in an order."""
     lines = (bid(number, 1 + number % 1000, order(goods)) for number, goods in enumerate(bundles_of(count, 300)))
     return [header(GOODS, count, 0), *lines]
 
@@ -222,7 +222,7 @@ def row(name, size, command, path, before):
     now = (os.path.getsize(path), took.seconds)
     words = " ".join(command[: command.index(FILE)])
     figures = f"{now[0]:14,} {took.seconds:9.3f} s {growth(before, now)} {took.held / MEBIBYTE:6.0f} MiB"
-    print(f"{name:30} {words:28} {size:6} {figures}  {took.told}", flush=True)
+    print(f"{name:30} {words:28} {size:6} {figures}  {took.printed}", flush=True)
     return now
 
 
@@ -240,7 +240,7 @@ def rows(given, folder):
 
 def main():
     set_start_method("fork")
-    print(f"{'input':30} {'command':28} {'size':>6} {'bytes':>14} {'time':>11} {'grew':>5} {'held':>10}  told")
+    print(f"{'input':30} {'command':28} {'size':>6} {'bytes':>14} {'time':>11} {'grew':>5} {'held':>10}  printed")
     with tempfile.TemporaryDirectory() as folder:
         for given in INPUTS:
             if WORD in given.name:

@@ -1,6 +1,6 @@
 """Texts on which the time is that of the searches through packings, and the commands to run on each: for bench.py.
 
-A text is made by a function of a path. Rows whose number of steps is known by arithmetic have it, so that a step's time can be told.
+A text is made by a function of a path. Rows whose number of steps is known by arithmetic have it, so that a step's time is known.
 """
 import random
 from itertools import combinations

@@ -15,8 +15,8 @@ use Rattle.bid_file.specs.Files.{PlainFile, IsPlainFile, IsDummyBelow}
 use Rattle.valuation.specs.declared.atom.Atom.{Atom}
 use Rattle.valuation.specs.Auctions.{PlainAuction, auction_from}
 use Rattle.valuation.specs.Sorting.{count_of}
-use Rattle.canon.proofs.Files.{auction_from-file_from}
-use Rattle.canon.proofs.Texts.{canonical_file_is_fixed, IsPlainFile-canonical}
+use Rattle.canon.proofs.CanonicalFiles.Files.{auction_from-file_from}
+use Rattle.canon.proofs.CanonicalFiles.Texts.{canonical_file_is_fixed, IsPlainFile-canonical}
 use Rattle.canon.specs.Canonical.{canonical_auction, canonical_file}
 use Rattle.canon.specs.Lemmas.Finding.{counted_is_there}
 use Rattle.canon.specs.Lemmas.Renaming.{points_of_kept_dummies}

@@ -1,10 +1,10 @@
 -- The names under which the kinds of faults are reported.
 use Rattle.std.specs.Prelude.{ℕ, List, codes}
-use Rattle.cats_text.specs.declared.fault.Kind.{Kind}
-use Rattle.cats_text.specs.declared.fault.Kind.TheVariants.{Header, NotANumber, TooLarge, ExtraBid, BidNumber}
-use Rattle.cats_text.specs.declared.fault.Kind.TheVariants.{RepeatedNumber, TooFine, GoodRange, RepeatedGood}
-use Rattle.cats_text.specs.declared.fault.Kind.TheVariants.{TwoDummies, EmptyBundle, NoEnd, AfterEnd, Missing, TooLong}
-use Rattle.cats_text.specs.declared.fault.Kind.TheVariants.{Device, Memory}
+use Rattle.cats_text.specs.declared.read_fault.Kind.{Kind}
+use Rattle.cats_text.specs.declared.read_fault.Kind.TheVariants.{Header, NotANumber, TooLarge, ExtraBid, BidNumber}
+use Rattle.cats_text.specs.declared.read_fault.Kind.TheVariants.{RepeatedNumber, TooFine, GoodRange, RepeatedGood}
+use Rattle.cats_text.specs.declared.read_fault.Kind.TheVariants.{TwoDummies, EmptyBundle, NoEnd, AfterEnd, Missing, TooLong}
+use Rattle.cats_text.specs.declared.read_fault.Kind.TheVariants.{Device, Memory}
 
 abbrev pub name_of_kind : Kind → List ℕ
 name_of_kind Header = codes "Header"

@@ -1,11 +1,11 @@
 -- The exit statuses of the faults of a run and of the answer of a comparison, as users know them: they are written
 -- out here, and the code's constants are proved to be these.
 use Rattle.std.specs.Prelude.{ℕ, if◌then◌else◌}
-use Rattle.cats_text.specs.declared.fault.Kind.{Kind}
-use Rattle.cats_text.specs.declared.fault.Kind.TheVariants.{Device, Memory as NoMemory}
+use Rattle.cats_text.specs.declared.read_fault.Kind.{Kind}
+use Rattle.cats_text.specs.declared.read_fault.Kind.TheVariants.{Device, Memory as NoMemory}
 use Rattle.canon.specs.Difference.{Difference, NoDifference}
-use Rattle.canon.specs.declared.fault.CanonFault.{CanonFault}
-use Rattle.canon.specs.declared.fault.CanonFault.TheVariants.{Read, StepLimit, Memory}
+use Rattle.canon.specs.declared.canon_fault.CanonFault.{CanonFault}
+use Rattle.canon.specs.declared.canon_fault.CanonFault.TheVariants.{Read, StepLimit, Memory}
 use Rattle.differences.specs.Differences.{PlainDifferences, is_none_at_all}
 use Rattle.answers.specs.declared.report.RunFault.{RunFault}
 use Rattle.answers.specs.declared.report.RunFault.TheVariants.{Refused, GoodRange, Sent}

@@ -1,7 +1,7 @@
 //! What `cats compare` prints, and its status.
 
 ghost use Rattle.std.specs.Prelude.{◌≡◌, ◌++◌, IfOk, codes};
-ghost use Rattle.canon.specs.Verdicts.{plain_verdict, told_atoms};
+ghost use Rattle.canon.specs.Verdicts.{plain_verdict, printed_atoms};
 ghost use Rattle.answers.specs.DifferenceTexts.{bidder_text, difference_text, parted_text, side_text};
 ghost use Rattle.answers.specs.Statuses.{status_of_difference};
 
@@ -86,7 +86,7 @@ fn side(alloc: Global, side: Side) -> Result<Vec<u8>, AllocError>
 
 /// An XOR bidder's bids, each as its goods and its price.
 fn bids(alloc: Global, bidder: &[(Vec<u16>, u64)]) -> Result<Vec<u8>, AllocError>
-    ensures { IfOk result (λ text. text.items ≡ codes "xor" ++ bidder_text (told_atoms bidder.now)) }
+    ensures { IfOk result (λ text. text.items ≡ codes "xor" ++ bidder_text (printed_atoms bidder.now)) }
 {
     let mut text = Vec::from_slice(alloc, b"xor")?;
     for (goods, price) in bidder {

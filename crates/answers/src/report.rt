@@ -60,7 +60,7 @@ impl From<AllocError> for RunFault {
     ghost use Rattle.std.specs.Prelude.{◌≡◌};
     ghost use Rattle.answers.specs.declared.report.RunFault.TheVariants.{Refused};
     ghost use Rattle.canon.specs.declared.which.Which.TheVariants.{Only};
-    ghost use Rattle.canon.specs.declared.fault.CanonFault.TheVariants.{Memory};
+    ghost use Rattle.canon.specs.declared.canon_fault.CanonFault.TheVariants.{Memory};
 
     ghost from_gives = { λ _ fault. fault ≡ Refused Only Memory };
 

@@ -2,7 +2,7 @@
 
 ghost use Rattle.std.specs.Prelude.{◌≡◌, ℕ, [], ◌∷◌, map, codes, Vec, Some, None};
 ghost use Rattle.std.specs.Global.{Global};
-ghost use Rattle.cats_text.specs.declared.fault.Kind.TheVariants.{
+ghost use Rattle.cats_text.specs.declared.read_fault.Kind.TheVariants.{
   TwoDummies,
   NoEnd,
   TooLong,
@@ -11,7 +11,7 @@ ghost use Rattle.cats_text.specs.declared.fault.Kind.TheVariants.{
 };
 ghost use Rattle.valuation.specs.Examples.{atom};
 ghost use Rattle.canon.specs.Difference.{NoDifference, InGoods, InOr, InXor};
-ghost use Rattle.canon.specs.declared.fault.CanonFault.TheVariants.{Read, StepLimit, Memory};
+ghost use Rattle.canon.specs.declared.canon_fault.CanonFault.TheVariants.{Read, StepLimit, Memory};
 ghost use Rattle.canon.specs.declared.verdict.Side.TheVariants.{Exactly, Below};
 ghost use Rattle.canon.specs.declared.which.Which.TheVariants.{Only, First, Second, Both};
 ghost use Rattle.explain.specs.Reasons.{Keep, Zero, Same, Inside, Packing};

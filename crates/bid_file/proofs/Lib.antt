@@ -1,2 +1,2 @@
 -- Proofs that several functions of this crate cite.
-pub mod Offers
+pub mod Spans

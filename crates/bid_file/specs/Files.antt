@@ -1,4 +1,4 @@
--- A bid file without where it lies in memory, and what holds of each. By the README of CATS 2.0: bids are numbered from
+-- Bid files as mathematical values, and what holds of each. By the README of CATS 2.0: bids are numbered from
 -- 0, and with G goods and D dummies the real goods are 0 to G - 1 and the dummy goods G to G + D - 1.
 use Rattle.std.specs.Prelude.{ℕ, ◌+◌, ◌<◌, ◌≤◌, List, [], ◌∷◌, ◌++◌, map, length, Option, Some, None}
 use Rattle.std.specs.List.{AllByRecursion}

@@ -1,16 +1,16 @@
--- what callers see of a bid file
+-- What contracts see of a bid file.
 use Rattle.std.specs.Prelude.{ℕ, List, slice_range}
 use Rattle.bid_file.specs.Files.{PlainBid, PlainFile, plain_bids}
 use Rattle.bid_file.specs.declared.bid.BidFile.{BidFile}
 use Rattle.bid_file.specs.declared.bids.BidRef.{BidRef}
-use Rattle.bid_file.specs.declared.packed.Offer.{Offer}
+use Rattle.bid_file.specs.declared.packed.BidSpan.{BidSpan}
 
 abbrev pub plain_file : BidFile → PlainFile
 plain_file f = record { goods = f.goods; dummy = f.dummy; bids = plain_bids f.bids.items }
 
--- the bid of an offer of a packed file, whose goods stand in this list
-abbrev pub offered : List ℕ → Offer → PlainBid
-offered goods o = record { price = o.price; goods = slice_range goods o.start o.end; dummy = o.dummy }
+-- the bid of a span of a packed file, whose goods are in this list
+abbrev pub spanned : List ℕ → BidSpan → PlainBid
+spanned goods o = record { price = o.price; goods = slice_range goods o.start o.end; dummy = o.dummy }
 
 -- a bid as it is seen in a file
 abbrev pub seen_bid : BidRef → PlainBid

@@ -1,4 +1,4 @@
-//! A bid file as a value.
+//! `Bid` and `BidFile`: a bid file as a value.
 
 ghost use Rattle.std.specs.Prelude.{◌≡◌};
 ghost use Rattle.bid_file.specs.Files.{IsBidFile, plain_bids};

@@ -1,4 +1,4 @@
-//! A bid file as it is read, however its bids lie in memory.
+//! The trait `Bids`: a file to read, however its bids lie in memory.
 
 ghost use Rattle.std.specs.Prelude.{◌≡◌, ◌<◌, ℕ, length, slice_get, Some};
 ghost use Rattle.bid_file.specs.Files.{PlainBid, PlainFile, IsPlainFile};

@@ -1,4 +1,4 @@
-//! CATS 2.0 bid files as values: their bids, their limits, and what holds of each file.
+//! CATS 2.0 bid files as values. The crate has their bids, their limits, and what holds of each file.
 #![tactic(auto)]
 
 mod bid;

@@ -1,4 +1,4 @@
-//! Bids, and a bid file, in little memory.
+//! `PackedBids` and `PackedFile`: bids in little memory.
 
 ghost use Rattle.std.specs.Prelude.{
   ◌≡◌,
@@ -26,7 +26,7 @@ use std::marker::Model;
 
 /// A bid, whose goods are in a list from one index to another.
 #[derive(Clone, Copy)]
-pub struct Offer {
+pub struct BidSpan {
     price: u64,
     start: u32,
     end: u32,
@@ -36,25 +36,25 @@ pub struct Offer {
 /// Bids by number. The goods of all of them are in one vector.
 #[derive(Drop)]
 pub struct PackedBids {
-    offers: Vec<Offer>,
+    spans: Vec<BidSpan>,
     goods: Vec<u16>,
 }
 
 impl Model for PackedBids {
     ghost use Rattle.std.specs.Prelude.{List, length, map};
     ghost use Rattle.bid_file.specs.Files.{PlainBid};
-    ghost use Rattle.bid_file.specs.Views.{offered};
+    ghost use Rattle.bid_file.specs.Views.{spanned};
     ghost use Rattle.bid_file.specs.Internal.Packed.{AreHeld};
 
     ghost Value = { List PlainBid };
 
-    ghost view = { λ b. map (offered b.goods.items) b.offers.items };
+    ghost view = { λ b. map (spanned b.goods.items) b.spans.items };
 
-    ghost invariant = { λ b. AreHeld (length b.goods.items) b.offers.items };
+    ghost invariant = { λ b. AreHeld (length b.goods.items) b.spans.items };
 }
 
 /// So few goods are put one by one, which takes less time than to copy their memory.
-const FEW: usize = 16;
+const SHORT: usize = 16;
 
 /// Appends goods, for which there is capacity.
 #[inline(always)]
@@ -73,7 +73,7 @@ fn push_goods(all: &mut Vec<u16>, goods: &[u16]) -> Result<(), AllocError>
     ensures goods { OnOk result (all.new.items ≡ all.old.items ++ goods.now) }
     ensures same { OnErr result (all.new.items ≡ all.old.items) }
 {
-    if goods.len() <= FEW && all.len() + goods.len() <= all.capacity() {
+    if goods.len() <= SHORT && all.len() + goods.len() <= all.capacity() {
         push_each(all, goods);
         return Ok(());
     }
@@ -83,15 +83,15 @@ fn push_goods(all: &mut Vec<u16>, goods: &[u16]) -> Result<(), AllocError>
 
 /// Appends the span of a bid.
 #[inline(always)]
-fn push_offer(offers: &mut Vec<Offer>, offer: Offer) -> Result<(), AllocError>
-    ensures offers { OnOk result (offers.new.items ≡ offers.old.items ++ offer ∷ []) }
-    ensures same { OnErr result (offers.new.items ≡ offers.old.items) }
+fn push_span(spans: &mut Vec<BidSpan>, span: BidSpan) -> Result<(), AllocError>
+    ensures spans { OnOk result (spans.new.items ≡ spans.old.items ++ span ∷ []) }
+    ensures same { OnErr result (spans.new.items ≡ spans.old.items) }
 {
-    if offers.len() < offers.capacity() {
-        offers.push_reserved(offer);
+    if spans.len() < spans.capacity() {
+        spans.push_reserved(span);
         return Ok(());
     }
-    offers.push(offer)?;
+    spans.push(span)?;
     Ok(())
 }
 
@@ -119,7 +119,7 @@ impl PackedBids {
         ensures { result ≡ [] }
     {
         PackedBids {
-            offers: Vec::new(alloc),
+            spans: Vec::new(alloc),
             goods: Vec::new(alloc),
         }
     }
@@ -129,14 +129,14 @@ impl PackedBids {
     pub fn len(&self) -> usize
         ensures { result ≡ length self.now }
     {
-        self.offers.len()
+        self.spans.len()
     }
 
     /// Reserves memory for so many more bids, without their goods.
     pub fn reserve(&mut self, count: usize) -> Result<(), AllocError>
         ensures { self.new ≡ self.old }
     {
-        self.offers.reserve(count)?;
+        self.spans.reserve(count)?;
         Ok(())
     }
 
@@ -148,13 +148,13 @@ impl PackedBids {
         ensures same { OnErr result (self.new ≡ self.old) }
     {
         let (start, end) = append(&mut self.goods, goods)?;
-        let offer = Offer {
+        let span = BidSpan {
             price,
             start,
             end,
             dummy,
         };
-        push_offer(&mut self.offers, offer)?;
+        push_span(&mut self.spans, span)?;
         Ok(())
     }
 
@@ -165,9 +165,9 @@ impl PackedBids {
         ensures { let bid : PlainBid = record { price = result.0; goods = result.1.now; dummy = result.2 } in
             slice_get self.now place ≡ Some bid }
     {
-        let offer = self.offers[place];
-        let goods = &self.goods[offer.start as usize..offer.end as usize];
-        (offer.price, goods, offer.dummy)
+        let span = self.spans[place];
+        let goods = &self.goods[span.start as usize..span.end as usize];
+        (span.price, goods, span.dummy)
     }
 }
 

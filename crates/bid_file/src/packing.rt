@@ -1,4 +1,4 @@
-//! A packed file of any bids.
+//! The packed file of any `Bids`.
 
 ghost use Rattle.std.specs.Prelude.{◌≡◌, IfOk};
 

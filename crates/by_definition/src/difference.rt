@@ -9,7 +9,7 @@ ghost use Rattle.valuation.specs.Orders.{bidder_cmp};
 ghost use Rattle.valuation.specs.Sorting.{count_of};
 ghost use Rattle.valuation.specs.Values.{or_value};
 ghost use Rattle.canon.specs.Difference.{first_difference, side_of, xor_difference, least_unequal_bidder};
-ghost use Rattle.canon.specs.Verdicts.{plain_verdict, told_atoms};
+ghost use Rattle.canon.specs.Verdicts.{plain_verdict, printed_atoms};
 ghost use Rattle.by_definition.specs.Lists.{atoms_in, auction_in, bidders_in, bundles_in, goods_in};
 ghost use Rattle.by_definition.specs.Internal.Differences.{bidder_difference, is_unequal};
 
@@ -88,7 +88,7 @@ fn count_of(bidder: &[ListAtom], bidders: &[Bidder]) -> Result<u32, NoAnswer>
 
 /// The atoms, each as its goods and its price.
 fn printed_atoms(alloc: Global, atoms: &[ListAtom]) -> Result<Vec<(Vec<u16>, u64)>, AllocError>
-    ensures { IfOk result (λ bids. told_atoms bids.items ≡ atoms_in atoms.now) }
+    ensures { IfOk result (λ bids. printed_atoms bids.items ≡ atoms_in atoms.now) }
 {
     let [atom, rest @ ..] = atoms else {
         return Ok(Vec::new(alloc));

@@ -1,22 +1,5 @@
 -- Proofs that several functions of this crate cite.
-pub mod Atoms
-pub mod Counting
-pub mod Sames
-pub mod Files
-pub mod Smaller
-pub mod Texts
-pub mod Least
-pub mod Numbering
-pub mod Bidders
-pub mod BidderKeys
-pub mod Filing
-pub mod Answering
-pub mod Differences
-pub mod BidRuns
-pub mod BidOrders
-pub mod BidderWalks
-pub mod SplitBidders
-pub mod SameDifferences
-pub mod OrWalks
-pub mod Comparisons
-pub mod Indexing
+pub mod CanonicalAuctions
+pub mod CanonicalFiles
+pub mod Walks
+pub mod Comparing

@@ -1,4 +1,4 @@
--- What the calls answer, by what normalising a file or a text gives. Want of memory may come in the place of each
+-- What the calls answer. It depends on what normalising gives. Want of memory may come in the place of each
 -- answer.
 use Rattle.std.specs.Prelude.{◌≡◌, ◌⊎◌, ℕ, true, List, Result, Ok, Err, Some, None, Vec}
 use Rattle.std.specs.Global.{Global}
@@ -11,9 +11,9 @@ use Rattle.valuation.specs.Auctions.{PlainAuction, auction_from}
 use Rattle.prune.specs.SearchSteps.{first_heavy}
 use Rattle.canon.specs.Canonical.{canonical_auction, file_from}
 use Rattle.canon.specs.Normalising.{Normalised, IsNoFile, ExceedsSteps, IsText, Normalises}
-use Rattle.canon.specs.declared.fault.CanonFault.{CanonFault}
+use Rattle.canon.specs.declared.canon_fault.CanonFault.{CanonFault}
 use Rattle.canon.specs.declared.named.NamedFile.{NamedFile}
-use Rattle.canon.specs.declared.fault.CanonFault.TheVariants.{Read, StepLimit, Memory}
+use Rattle.canon.specs.declared.canon_fault.CanonFault.TheVariants.{Read, StepLimit, Memory}
 
 -- why there is no text
 abbrev pub RefusesAs : Normalised → CanonFault → Type 0
@@ -43,7 +43,7 @@ NormalisesTextAs limit text (Err fault) = RefusesText limit text fault
 -- the file of the canonical auction where no bundle is heavy, and else the first heavy bundle
 pub record IsNormalFile (limit : ℕ) (a : PlainAuction) (h : PlainFile) : Type 0 where
   pub canonical : h ≡ file_from (canonical_auction a)
-  pub light : first_heavy a.goods limit a.or_atoms ≡ None
+  pub within_limit : first_heavy a.goods limit a.or_atoms ≡ None
 
 abbrev pub RefusesAuction : ℕ → PlainAuction → CanonFault → Type 0
 RefusesAuction limit a (Read fault) = ⊥

@@ -8,22 +8,22 @@ use Rattle.prune.specs.SearchSteps.{first_heavy}
 use Rattle.canon.specs.Answers.{IsNormalFile, RefusesText}
 use Rattle.canon.specs.Difference.{Difference, first_difference}
 use Rattle.canon.specs.Verdicts.{NamesGoods, plain_verdict}
-use Rattle.canon.specs.declared.fault.CanonFault.{CanonFault}
-use Rattle.canon.specs.declared.fault.CanonFault.TheVariants.{Memory}
+use Rattle.canon.specs.declared.canon_fault.CanonFault.{CanonFault}
+use Rattle.canon.specs.declared.canon_fault.CanonFault.TheVariants.{Memory}
 use Rattle.canon.specs.declared.verdict.Verdict.{Verdict}
 use Rattle.canon.specs.declared.which.Which.{Which}
 use Rattle.canon.specs.declared.which.Which.TheVariants.{Only, First, Second, Both}
 
 -- the text spells a file without a heavy bundle
-pub record SpellsLight (limit : ℕ) (text : List ℕ) : Type 0 where
+pub record SpellsWithinLimit (limit : ℕ) (text : List ℕ) : Type 0 where
   pub file : PlainFile
   pub spelled : Spells text file
-  pub light : first_heavy file.goods limit (or_atoms_of file.bids) ≡ None
+  pub within_limit : first_heavy file.goods limit (or_atoms_of file.bids) ≡ None
 
 -- both texts do, and this is the first difference of the auctions of their files
 pub record Differ (limit : ℕ) (one other : List ℕ) (difference : Difference) : Type 0 where
-  pub first : SpellsLight limit one
-  pub second : SpellsLight limit other
+  pub first : SpellsWithinLimit limit one
+  pub second : SpellsWithinLimit limit other
   pub is : first_difference (auction_from first.file) (auction_from second.file) ≡ difference
 
 -- they differ in a bundle or in a bidder, of which the verdict names the goods
@@ -37,7 +37,7 @@ pub record DifferInGoods (limit : ℕ) (one other : List ℕ) : Type 0 where
 abbrev pub RefusesOf : ℕ → List ℕ → List ℕ → Which → CanonFault → Type 0
 RefusesOf limit one other Only fault = ⊥
 RefusesOf limit one other First fault = RefusesText limit one fault
-RefusesOf limit one other Second fault = SpellsLight limit one × RefusesText limit other fault
+RefusesOf limit one other Second fault = SpellsWithinLimit limit one × RefusesText limit other fault
 RefusesOf limit one other Both fault = DifferInGoods limit one other × (fault ≡ Memory)
 
 abbrev pub ComparesAs : ℕ → List ℕ → List ℕ → Result Verdict (Which × CanonFault) → Type 0

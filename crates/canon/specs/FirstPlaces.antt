@@ -1,18 +1,18 @@
--- The first file of an auction, among files that were added one by one.
+-- The first file of each auction, among added files.
 use Rattle.std.specs.Map.{lookup}
 use Rattle.std.specs.Prelude.{◌≡◌, ◌⊎◌, ℕ, ◌+◌, ◌<◌, List, [], length, position, Option, Some, None, slice_get, bytes_eq, cond, unwrap_or}
 use Rattle.std.specs.Prelude.{Result, Ok, Err}
 use Rattle.std.specs.Io.KnownBytes.{Consumes}
 use Rattle.bid_file.specs.Files.{PlainFile, IsPlainFile}
 use Rattle.cats_text.specs.Streams.{inner_of, ReadsAs, ReadsFile}
-use Rattle.cats_text.specs.declared.fault.ReadFault.{ReadFault}
+use Rattle.cats_text.specs.declared.read_fault.ReadFault.{ReadFault}
 use Rattle.cats_text.specs.declared.stream.Watched.{Watched}
 use Rattle.canon.specs.Answers.{RefusesAs}
 use Rattle.canon.specs.Canonical.{canonical_text}
 use Rattle.canon.specs.Normalising.{IsText, normalised_file}
 use Rattle.canon.specs.Refusals.{refusal_of}
 use Rattle.canon.specs.Sameness.{AreSameFiles}
-use Rattle.canon.specs.declared.fault.CanonFault.{CanonFault}
+use Rattle.canon.specs.declared.canon_fault.CanonFault.{CanonFault}
 
 -- the place, counted from 0, of the first of the files that is the same auction as the given one
 pub record IsFirstPlace (files : List PlainFile) (given : PlainFile) (place : ℕ) : Type 0 where
@@ -76,7 +76,7 @@ module _ {R : Type 0} (remaining : R → Option (List ℕ)) where
     where
       pub file : PlainFile
       pub reads : ReadsFile remaining bytes input file
-      pub light : normalised_file limit file ≡ IsText (canonical_text file)
+      pub within_limit : normalised_file limit file ≡ IsText (canonical_text file)
       pub added : AddsText old new (canonical_text file) place
 
   -- the bytes spell no file, or no more came

@@ -1,4 +1,4 @@
--- No file of the same auction says it with less.
+-- The canonical file is the smallest of its auction.
 use Rattle.std.specs.Prelude.{◌≡◌, ℕ, ◌<◌, ◌≤◌, List, length, map, All, Contains}
 use Rattle.bid_file.specs.Files.{PlainFile, IsPlainFile}
 use Rattle.valuation.specs.declared.atom.Atom.{Atom}

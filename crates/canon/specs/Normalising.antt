@@ -3,14 +3,14 @@ use Rattle.std.specs.Prelude.{◌≡◌, ℕ, List, Option, Some, None}
 use Rattle.bid_file.specs.Files.{PlainFile}
 use Rattle.cats_text.specs.Faults.{first_fault}
 use Rattle.cats_text.specs.Grammar.{Spells}
-use Rattle.cats_text.specs.declared.fault.ReadFault.{ReadFault}
+use Rattle.cats_text.specs.declared.read_fault.ReadFault.{ReadFault}
 use Rattle.valuation.specs.Auctions.{or_atoms_of}
 use Rattle.prune.specs.SearchSteps.{first_heavy}
 use Rattle.canon.specs.Canonical.{canonical_file, canonical_text}
 use Rattle.canon.specs.Sameness.{AreSameFiles}
 
 pub data Normalised : Type 0 where
-  -- the text is no bid file, by this fault
+  -- the text is not a bid file, by this fault
   IsNoFile : ReadFault → Normalised
   -- the search on the bundle of these goods takes more steps than the limit
   ExceedsSteps : List ℕ → Normalised
@@ -21,7 +21,7 @@ abbrev pub unless_heavy : PlainFile → Option (List ℕ) → Normalised
 unless_heavy f None = IsText (canonical_text f)
 unless_heavy f (Some goods) = ExceedsSteps goods
 
--- of a file: its canonical text, unless some bundle of the OR bidder is heavy, of which the first is told
+-- of a file: its canonical text, unless some bundle of the OR bidder is heavy, of which the first is reported
 abbrev pub normalised_file : ℕ → PlainFile → Normalised
 normalised_file limit f = unless_heavy f (first_heavy f.goods limit (or_atoms_of f.bids))
 

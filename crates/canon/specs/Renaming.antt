@@ -1,4 +1,4 @@
--- The canonical file with the dummy goods of the file that it is of. Bidders that are equal in the canonical file keep
+-- The canonical file with the source file's dummy goods. Bidders that are equal in the canonical file keep
 -- the order of their dummy goods.
 use Rattle.std.specs.Prelude.{ℕ, List, map, filter, slice_index_or, Option, Some, None}
 use Rattle.std.specs.List.{range_with_len}

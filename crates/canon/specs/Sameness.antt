@@ -1,6 +1,6 @@
--- When two auctions ask for the same things. Values are those of Nisan ("Bidding and allocation in combinatorial
+-- When two auctions are the same. Values are those of Nisan ("Bidding and allocation in combinatorial
 -- auctions", 2000); a table has them on all bundles. XOR bidders have no names, so they are counted, each valuation by
--- itself; one that is 0 on every bundle asks for nothing and does not count.
+-- itself; one that is 0 on every bundle offers nothing and does not count.
 use Rattle.std.specs.Prelude.{◌≡◌, ℕ, Bool, true, List}
 use Rattle.std.specs.List.{count_by}
 use Rattle.std.specs.Ordering.{nat_cmp, is_eq}

@@ -7,14 +7,14 @@ use Rattle.canon.specs.declared.verdict.Verdict.TheVariants.{Same, Goods, Or, Xo
 use Rattle.canon.specs.Difference.{Difference, NoDifference, InGoods, InOr, InXor}
 
 -- bids by their goods and prices
-abbrev pub told_atoms : List (Vec ℕ Global × ℕ) → List (Atom (List ℕ))
-told_atoms bids = map (λ b. record { bundle = b.0.items; price = b.1 }) bids
+abbrev pub printed_atoms : List (Vec ℕ Global × ℕ) → List (Atom (List ℕ))
+printed_atoms bids = map (λ b. record { bundle = b.0.items; price = b.1 }) bids
 
 abbrev pub plain_verdict : Verdict → Difference
 plain_verdict Same = NoDifference
 plain_verdict (Goods left right) = InGoods left right
 plain_verdict (Or bundle left right) = InOr bundle.items left right
-plain_verdict (Xor bidder left right) = InXor (told_atoms bidder.items) left right
+plain_verdict (Xor bidder left right) = InXor (printed_atoms bidder.items) left right
 
 -- a difference in a bundle or in a bidder: its verdict has their goods, and so takes memory
 abbrev pub NamesGoods : Difference → Type 0

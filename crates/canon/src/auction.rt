@@ -111,7 +111,7 @@ fn dummies_of<S: GoodsSet>(alloc: Global, keyed: &[KeyedBidder<S>]) -> Result<Ve
     Ok(dummies)
 }
 
-/// The bidders without what stands beside them.
+/// The bidders without what is beside them.
 fn without_keys<S: GoodsSet>(
     alloc: Global,
     keyed: Vec<KeyedBidder<S>>,

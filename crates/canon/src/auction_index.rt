@@ -1,4 +1,4 @@
-//! Which auctions came among files that are added one by one, and which file of each came first.
+//! `AuctionIndex`: the first file of each auction, among added files.
 
 ghost use Rattle.std.specs.Prelude.{◌≡◌, ℕ, List, cond, unwrap_or, bytes_eq, Some, IfOk, IfErr, OnOk, OnErr, false};
 ghost use Rattle.cats_text.specs.Streams.{has_ended, has_failed};
@@ -8,7 +8,7 @@ ghost use Rattle.canon.specs.FirstPlaces.{AddsStream, AddsText, IsEmptyIndex};
 ghost use Rattle.canon.specs.Normalising.{IsText, normalised_file};
 ghost use Rattle.canon.specs.Internal.TextPlaces.{place_of};
 
-use crate::fault::CanonFault;
+use crate::canon_fault::CanonFault;
 use crate::normal::normal_packed_file;
 use bid_file::PackedFile;
 use cats_text::{Watched, read_packed_from, write};
@@ -50,10 +50,10 @@ impl AuctionIndex {
     /// Adds a packed file, and answers the place, counted from 0, of the first file added that is the same auction;
     /// that is its own place where there is none. `limit` bounds each search that decides on a bundle of the OR bidder.
     ///
-    /// An index to which `usize::MAX` files were added takes no more, and tells want of memory.
+    /// An index to which `usize::MAX` files were added takes no more, and reports want of memory.
     pub fn add(&mut self, alloc: Global, file: PackedFile, limit: u64) -> Result<usize, CanonFault>
         ensures added { IfOk result (AddsText self.old self.new (canonical_text file)) }
-        ensures light { OnOk result (normalised_file limit file ≡ IsText (canonical_text file)) }
+        ensures within_limit { OnOk result (normalised_file limit file ≡ IsText (canonical_text file)) }
         ensures refused { IfErr result (RefusesAs (normalised_file limit file)) }
         ensures unchanged { OnErr result (self.new ≡ self.old) }
     {

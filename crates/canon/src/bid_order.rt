@@ -17,7 +17,7 @@ pub fn order_of_bundles(one: &[u16], other: &[u16]) -> Ordering
 }
 
 /// The order of bids: by bundle, and on one bundle by price, the smaller first.
-pub(crate) fn order_of_bids(one: &BidRef<'_>, other: &BidRef<'_>) -> Ordering
+pub(crate) fn canonical_order(one: &BidRef<'_>, other: &BidRef<'_>) -> Ordering
     ensures { result ≡ atom_cmp (atom_of (seen_bid one.now)) (atom_of (seen_bid other.now)) }
 {
     match order_of_bundles(one.goods, other.goods) {

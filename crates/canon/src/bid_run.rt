@@ -1,4 +1,4 @@
-//! Bids of a file that lie side by side, for the walks that compare two files.
+//! Adjacent bids of a file. The walks that compare two files use them.
 
 ghost use Rattle.std.specs.Prelude.{◌≡◌, ◌<◌, ◌≤◌, length, take, drop, slice_get, Some};
 ghost use Rattle.bid_file.specs.Files.{IsPlainFile};

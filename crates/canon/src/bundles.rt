@@ -1,4 +1,4 @@
-//! The first bundle on which the OR values of two canonical files differ.
+//! The first bundle on which the OR values differ. The values are those of two canonical files.
 //!
 //! In a canonical file the OR bids are the points of their bidder, in the order of their bundles. So the two files are
 //! walked side by side up to the first bids that differ, and the lesser of their two bundles is the one.

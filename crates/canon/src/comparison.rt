@@ -1,4 +1,4 @@
-//! The first difference of two files or texts, and whether they are the same auction.
+//! The first difference of two files or texts. If there is none, they are the same auction.
 
 ghost use Rattle.std.specs.Prelude.{◌≡◌, ◌↔◌, ◌≤◌, length, IfOk, IfErr, OnErr};
 ghost use Rattle.bid_file.specs.Files.{IsPlainFile};
@@ -11,13 +11,13 @@ ghost use Rattle.canon.specs.Internal.BidderBids.{HasBidders};
 ghost use Rattle.canon.specs.Internal.OrBids.{HasOrBids};
 ghost use Rattle.canon.specs.Sameness.{AreSameFiles, AreSameTexts};
 ghost use Rattle.canon.specs.Verdicts.{NamesGoods, plain_verdict};
-ghost use Rattle.canon.specs.declared.fault.CanonFault.TheVariants.{Memory};
+ghost use Rattle.canon.specs.declared.canon_fault.CanonFault.TheVariants.{Memory};
 ghost use Rattle.canon.specs.declared.verdict.Verdict.TheVariants.{Same};
 ghost use Rattle.canon.specs.declared.which.Which.TheVariants.{First, Second, Both};
 
 use crate::bid_run::BidRun;
 use crate::bundles::bundle_verdict;
-use crate::fault::CanonFault;
+use crate::canon_fault::CanonFault;
 use crate::normal::normal_packed_file;
 use crate::verdict::Verdict;
 use crate::which::Which;

@@ -29,7 +29,7 @@ pub fn packed_file_of<S: GoodsSet>(
 {
     let bidders = auction.xor_bidders();
     let mut bids = PackedBids::new(alloc);
-    bids.reserve(count_bids(auction))?;
+    bids.reserve(count_atoms(auction))?;
     let mut bundle = Vec::new(alloc);
     push_bids(&mut bids, &mut bundle, auction.or_atoms(), None)?;
     for (dummy, bidder) in bidders.iter().enumerate() {
@@ -40,7 +40,7 @@ pub fn packed_file_of<S: GoodsSet>(
 }
 
 /// How many bids the file of an auction has, which says how much capacity it needs.
-fn count_bids<S: GoodsSet>(auction: &Auction<S>) -> usize {
+fn count_atoms<S: GoodsSet>(auction: &Auction<S>) -> usize {
     let mut count = auction.or_atoms().len();
     for bidder in auction.xor_bidders() {
         count = count.saturating_add(bidder.len());

@@ -1,4 +1,4 @@
-//! The bidders of a canonical file: where the bids of each of them lie.
+//! Where each bidder's bids lie in a canonical file.
 
 ghost use Rattle.std.specs.Prelude.{◌≡◌, ◌≤◌, ℕ, List, IfOk, length};
 ghost use Rattle.bid_file.specs.Files.{IsPlainFile};

@@ -1,4 +1,4 @@
-//! A bidder with its dummy good, and with a key by which most bidders are told apart: their atoms lie apart in memory.
+//! A bidder with its dummy good and its sort key. The key orders most bidders; their atoms lie apart in memory.
 
 ghost use Rattle.std.specs.Prelude.{◌≡◌};
 ghost use Rattle.std.specs.Ordering.{nat_cmp, ordering_then};

@@ -101,7 +101,7 @@ pub fn differences_exchanged()
 {}
 
 /// The first difference depends on what is asked for alone: in the place of either auction, or of either file, the same
-/// one may stand.
+/// one may be.
 pub fn same_auctions_have_one_difference()
     ensures auctions { (cap : ℕ) (a c b d : PlainAuction) → IsAuction cap a → IsAuction cap c → IsAuction cap b
         → IsAuction cap d

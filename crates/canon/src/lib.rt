@@ -1,5 +1,5 @@
-//! The one text of an auction: the canonical auction, its file and its bytes, and whether two files ask for the same
-//! things.
+//! The canonical auction, file and text of a file. The crate also decides whether two files are the same
+//! auction.
 #![tactic(auto)]
 
 mod auction;
@@ -7,15 +7,15 @@ mod auction_index;
 mod bid_order;
 mod bid_run;
 mod bundles;
+mod canon_fault;
 mod comparison;
-mod fault;
 mod file;
 mod file_bidders;
 mod keyed_bidder;
 pub mod laws;
 mod named;
 mod normal;
-mod text;
+mod normal_text;
 mod verdict;
 mod which;
 pub mod worked;
@@ -25,13 +25,13 @@ pub use auction::canonical;
 pub use auction_index::AuctionIndex;
 pub use bid_order::order_of_bundles;
 pub use bid_run::BidRun;
+pub use canon_fault::CanonFault;
 pub use comparison::{compare, compare_files};
-pub use fault::CanonFault;
 pub use file::{file_of, packed_file_of};
 pub use file_bidders::{FileBidders, bidders_of};
 pub use named::{NamedFile, named_normal_file};
 pub use normal::{normal_file, normal_packed_file};
-pub use text::normalise;
+pub use normal_text::normalise;
 pub use verdict::{Side, Verdict};
 pub use which::Which;
 pub use xor_bidders::order_of_bidders;

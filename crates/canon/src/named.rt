@@ -1,10 +1,10 @@
-//! The canonical file of a file, and which of the file's bidders each of its bidders is.
+//! The canonical file, and which source bidder each of its bidders is.
 
 ghost use Rattle.std.specs.Prelude.{◌≡◌, ◌≤◌, IfOk};
 ghost use Rattle.canon.specs.Answers.{NormalisesPlainAs, unnamed_answer};
 ghost use Rattle.canon.specs.Renaming.{kept_dummies};
 
-use crate::fault::CanonFault;
+use crate::canon_fault::CanonFault;
 use crate::normal::normal_auction_file;
 use bid_file::{MAX_GOODS, PackedFile};
 use goods_set::GoodsSet;

@@ -11,7 +11,7 @@ ghost use Rattle.canon.specs.Least.{IsLeastFor};
 ghost use Rattle.canon.specs.Sameness.{AreSameFiles};
 
 use crate::auction::{NamedAuction, named_canonical};
-use crate::fault::CanonFault;
+use crate::canon_fault::CanonFault;
 use crate::file::packed_file_of;
 use crate::named::NamedFile;
 use bid_file::{BidFile, PackedFile, pack};
@@ -71,13 +71,13 @@ pub(crate) fn normal_auction_file<S: GoodsSet>(
     ensures dummies { IfOk result (λ named. named.dummies.items ≡ kept_numbers (plain_auction auction)) }
     ensures canonical { IfOk result (λ named. IsCanonicalFile named.file) }
 {
-    let NamedAuction { auction, dummies } = light_canonical(alloc, auction, limit)?;
+    let NamedAuction { auction, dummies } = canonical_within_limit(alloc, auction, limit)?;
     let file = packed_file_of(alloc, &auction)?;
     Ok(NamedFile { file, dummies })
 }
 
 /// The canonical auction, if no bundle is heavy.
-fn light_canonical<S: GoodsSet>(
+fn canonical_within_limit<S: GoodsSet>(
     alloc: Global,
     auction: Auction<S>,
     limit: u64,
@@ -85,7 +85,7 @@ fn light_canonical<S: GoodsSet>(
     ensures canonical { IfOk result (λ c. plain_auction c.auction ≡ canonical_auction (plain_auction auction)) }
     ensures fixed { IfOk result (λ c. IsCanonical (plain_auction c.auction)) }
     ensures dummies { IfOk result (λ c. c.dummies.items ≡ kept_numbers (plain_auction auction)) }
-    ensures light { let a = plain_auction auction in
+    ensures within_limit { let a = plain_auction auction in
         OnOk result (first_heavy a.goods limit a.or_atoms ≡ None) }
     ensures refused { IfErr result (λ fault. RefusesAuction limit (plain_auction auction) fault) }
 {

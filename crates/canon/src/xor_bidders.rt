@@ -13,9 +13,9 @@ ghost use Rattle.valuation.specs.Sorting.{count_of};
 ghost use Rattle.canon.specs.Bidders.{offers};
 ghost use Rattle.canon.specs.Internal.BidderBids.{AreBidsOf, HasBidders, IsFirstBidder};
 ghost use Rattle.canon.specs.Difference.{least_unequal_bidder, xor_difference};
-ghost use Rattle.canon.specs.Verdicts.{NamesGoods, plain_verdict, told_atoms};
+ghost use Rattle.canon.specs.Verdicts.{NamesGoods, plain_verdict, printed_atoms};
 
-use crate::bid_order::order_of_bids;
+use crate::bid_order::canonical_order;
 use crate::bid_run::BidRun;
 use crate::verdict::Verdict;
 use bid_file::Bids;
@@ -99,7 +99,7 @@ pub fn order_of_bidders<B: Bids>(one: &BidRun<'_, B>, other: &BidRun<'_, B>) -> 
 {
     let both = one.len().min(other.len());
     for i in 0..both {
-        let bids = order_of_bids(&one.at(i), &other.at(i));
+        let bids = canonical_order(&one.at(i), &other.at(i));
         if bids.is_ne() {
             return bids;
         }
@@ -112,7 +112,7 @@ fn named_bids<B: Bids>(
     alloc: Global,
     bids: &BidRun<'_, B>,
 ) -> Result<Vec<(Vec<u16>, u64)>, AllocError>
-    ensures { IfOk result (λ named. told_atoms named.items ≡ offers bids.now) }
+    ensures { IfOk result (λ named. printed_atoms named.items ≡ offers bids.now) }
 {
     let mut named = Vec::with_capacity(alloc, bids.len())?;
     for i in 0..bids.len() {

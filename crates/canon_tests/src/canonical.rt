@@ -1,4 +1,4 @@
-//! Each public call once, with ample memory, on worked rows.
+//! Each public call once, on worked rows. Each has ample memory.
 
 use crate::refusals::{expect_line, refusal_text};
 use bid_file::{BidFile, Bids, PackedFile};
@@ -25,14 +25,14 @@ const LARGER_BID_TEXT: &str = "goods 2\nbids 2\ndummy 0\n0\t3\t0\t#\n1\t4\t1\t#\
 
 /// Four bidders whose first bundles have four goods, three of them the same, so that the fourth good, the price and the
 /// next bid settle their order; and one whose bundle has three goods, and comes first.
-const EQUAL_FRONTS: &str = concat!(
+const EQUAL_SORT_KEYS: &str = concat!(
     "goods 6\nbids 7\ndummy 5\n",
     "0\t1\t0\t1\t2\t5\t6\t#\n1\t3\t0\t1\t2\t4\t7\t#\n2\t2\t0\t1\t2\t4\t8\t#\n",
     "3\t4\t0\t1\t2\t3\t4\t8\t#\n4\t2\t0\t1\t2\t4\t9\t#\n5\t3\t0\t1\t2\t3\t4\t9\t#\n",
     "6\t9\t3\t4\t5\t10\t#\n"
 );
 
-const EQUAL_FRONTS_TEXT: &str = concat!(
+const EQUAL_SORT_KEYS_TEXT: &str = concat!(
     "goods 6\nbids 7\ndummy 5\n",
     "0\t9\t3\t4\t5\t6\t#\n1\t2\t0\t1\t2\t4\t7\t#\n2\t3\t0\t1\t2\t3\t4\t7\t#\n",
     "3\t2\t0\t1\t2\t4\t8\t#\n4\t4\t0\t1\t2\t3\t4\t8\t#\n5\t3\t0\t1\t2\t4\t9\t#\n",
@@ -75,7 +75,7 @@ fn canonical_auctions(rt: HostRuntime) -> Result<(), Fail> {
     for (text, expected) in &[
         (EQUAL_BIDDERS, EQUAL_BIDDERS_TEXT),
         (LARGER_BID, LARGER_BID_TEXT),
-        (EQUAL_FRONTS, EQUAL_FRONTS_TEXT),
+        (EQUAL_SORT_KEYS, EQUAL_SORT_KEYS_TEXT),
     ] {
         let file = read(rt.alloc(), text.as_bytes())?;
         assert!(rt; file.goods() <= 64);
@@ -111,21 +111,21 @@ fn files_of_auctions(rt: HostRuntime) -> Result<(), Fail> {
 }
 
 /// What a call answered, as a line.
-fn told(alloc: Global, answer: Result<Vec<u8>, CanonFault>) -> Result<String, Fail> {
+fn printed(alloc: Global, answer: Result<Vec<u8>, CanonFault>) -> Result<String, Fail> {
     match answer {
         Ok(text) => Ok(String::from_utf8(text)?),
         Err(fault) => refusal_text(alloc, fault),
     }
 }
 
-/// What a call answered is told by this line.
-fn expect_told(
+/// What a call answered is printed by this line.
+fn expect_printed(
     rt: &impl Abort,
     alloc: Global,
     answer: Result<Vec<u8>, CanonFault>,
     expected: &str,
 ) -> Result<(), Fail> {
-    expect_line(rt, &told(alloc, answer)?, expected);
+    expect_line(rt, &printed(alloc, answer)?, expected);
     Ok(())
 }
 
@@ -138,13 +138,13 @@ fn canonical_texts(rt: HostRuntime) -> Result<(), Fail> {
         ("goods 2\n", 2, "line 2: Missing"),
     ] {
         let answer = normalise(rt.alloc(), text.as_bytes(), *limit);
-        expect_told(&rt, rt.alloc(), answer, expected)?;
+        expect_printed(&rt, rt.alloc(), answer, expected)?;
     }
     Ok(())
 }
 
 /// The file that a call answered, as its text, or why there is none.
-fn told_file(alloc: Global, answer: Result<BidFile, CanonFault>) -> Result<String, Fail> {
+fn printed_file(alloc: Global, answer: Result<BidFile, CanonFault>) -> Result<String, Fail> {
     match answer {
         Ok(file) => text_of(alloc, &file),
         Err(fault) => refusal_text(alloc, fault),
@@ -152,7 +152,10 @@ fn told_file(alloc: Global, answer: Result<BidFile, CanonFault>) -> Result<Strin
 }
 
 /// The packed file that a call answered, as its text, or why there is none.
-fn told_packed_file(alloc: Global, answer: Result<PackedFile, CanonFault>) -> Result<String, Fail> {
+fn printed_packed_file(
+    alloc: Global,
+    answer: Result<PackedFile, CanonFault>,
+) -> Result<String, Fail> {
     match answer {
         Ok(file) => text_of(alloc, &file),
         Err(fault) => refusal_text(alloc, fault),
@@ -164,7 +167,7 @@ fn canonical_files(rt: HostRuntime) -> Result<(), Fail> {
     for (limit, expected) in &[(3, LARGER_BID_TEXT), (2, "steps [0, 1]")] {
         let file = read(rt.alloc(), LARGER_BID.as_bytes())?;
         let answer = normal_file(rt.alloc(), &file, *limit);
-        expect_line(&rt, &told_file(rt.alloc(), answer)?, expected);
+        expect_line(&rt, &printed_file(rt.alloc(), answer)?, expected);
     }
     Ok(())
 }
@@ -175,17 +178,20 @@ fn canonical_packed_files(rt: HostRuntime) -> Result<(), Fail> {
         (LARGER_BID, 3, LARGER_BID_TEXT),
         (LARGER_BID, 2, "steps [0, 1]"),
         (FEW_OF_MANY, 3, FEW_OF_MANY_TEXT),
-        (EQUAL_FRONTS, 1, EQUAL_FRONTS_TEXT),
+        (EQUAL_SORT_KEYS, 1, EQUAL_SORT_KEYS_TEXT),
     ] {
         let file = read_packed(rt.alloc(), text.as_bytes())?;
         let answer = normal_packed_file(rt.alloc(), file, *limit);
-        expect_line(&rt, &told_packed_file(rt.alloc(), answer)?, expected);
+        expect_line(&rt, &printed_packed_file(rt.alloc(), answer)?, expected);
     }
     Ok(())
 }
 
 /// The file that a call answered, as its text with the dummy goods behind it, or why there is none.
-fn told_named_file(alloc: Global, answer: Result<NamedFile, CanonFault>) -> Result<String, Fail> {
+fn printed_named_file(
+    alloc: Global,
+    answer: Result<NamedFile, CanonFault>,
+) -> Result<String, Fail> {
     match answer {
         Ok(named) => {
             let text = text_of(alloc, &named.file)?;
@@ -204,7 +210,7 @@ fn named_files(rt: HostRuntime) -> Result<(), Fail> {
     ] {
         let file = read_packed(rt.alloc(), text.as_bytes())?;
         let answer = named_normal_file(rt.alloc(), &file, *limit);
-        expect_line(&rt, &told_named_file(rt.alloc(), answer)?, expected);
+        expect_line(&rt, &printed_named_file(rt.alloc(), answer)?, expected);
     }
     Ok(())
 }

@@ -109,7 +109,7 @@ fn refused_text(alloc: Global, which: Which, why: &str) -> Result<String, AllocE
 }
 
 /// What comparing answered, as a line.
-fn told(alloc: Global, answer: Result<Verdict, (Which, CanonFault)>) -> Result<String, Fail> {
+fn printed(alloc: Global, answer: Result<Verdict, (Which, CanonFault)>) -> Result<String, Fail> {
     match answer {
         Ok(verdict) => Ok(verdict_text(alloc, &verdict)?),
         Err((which, fault)) => {
@@ -123,7 +123,7 @@ fn told(alloc: Global, answer: Result<Verdict, (Which, CanonFault)>) -> Result<S
 fn texts_differ(rt: HostRuntime) -> Result<(), Fail> {
     for (left, right, expected) in &ROWS {
         let answer = compare(rt.alloc(), left.as_bytes(), right.as_bytes(), 100);
-        expect_line(&rt, &told(rt.alloc(), answer)?, expected);
+        expect_line(&rt, &printed(rt.alloc(), answer)?, expected);
     }
     Ok(())
 }
@@ -190,7 +190,7 @@ fn canonical_packed_files_differ(rt: HostRuntime) -> Result<(), Fail> {
 
 const FAULT: &str = "goods 2\n";
 
-/// Pairs of texts, of which two steps are too few for those with a pair, and what is told.
+/// Pairs of texts, of which two steps are too few for those with a pair, and what is printed.
 static REFUSALS: [(&str, &str, &str); 9] = [
     (FAULT, "goods x\n", "First line 2: Missing"),
     (FAULT, PAIR_AT_7, "First line 2: Missing"),
@@ -204,22 +204,22 @@ static REFUSALS: [(&str, &str, &str); 9] = [
 ];
 
 #[test]
-fn the_first_refusal_is_told(rt: HostRuntime) -> Result<(), Fail> {
+fn the_first_refusal_is_reported(rt: HostRuntime) -> Result<(), Fail> {
     for (left, right, expected) in &REFUSALS {
         let answer = compare(rt.alloc(), left.as_bytes(), right.as_bytes(), 2);
-        expect_line(&rt, &told(rt.alloc(), answer)?, expected);
+        expect_line(&rt, &printed(rt.alloc(), answer)?, expected);
     }
     Ok(())
 }
 
-/// Goods that differ are told only of files that both have a canonical file.
+/// Goods that differ are printed only of files that both have a canonical file.
 #[test]
 fn a_heavy_bundle_comes_before_goods(rt: HostRuntime) -> Result<(), Fail> {
     let few = "goods 1024\nbids 3\ndummy 0\n0\t3\t0\t#\n1\t4\t1\t#\n2\t7\t0\t1\t#\n";
     let many = "goods 4096\nbids 0\ndummy 0\n";
     for (limit, expected) in &[(2, "First steps [0, 1]"), (3, "Goods(1024, 4096)")] {
         let answer = compare(rt.alloc(), few.as_bytes(), many.as_bytes(), *limit);
-        expect_line(&rt, &told(rt.alloc(), answer)?, expected);
+        expect_line(&rt, &printed(rt.alloc(), answer)?, expected);
     }
     Ok(())
 }

@@ -7,7 +7,7 @@ use std::alloc::{AllocError, Global};
 use std::process::Abort;
 use std::test::Fail;
 
-/// Texts that are added in this order, the steps that a search may take, and what is told: a place, or why there is
+/// Texts that are added in this order, the steps that a search may take, and what is printed: a place, or why there is
 /// none.
 static ROWS: [(&str, u64, &str); 14] = [
     (
@@ -65,15 +65,15 @@ fn place_text(alloc: Global, place: usize) -> Result<String, AllocError> {
     Ok(format!(in alloc; "{place}")?)
 }
 
-/// What was told of a file.
-fn told(alloc: Global, answer: Result<usize, CanonFault>) -> Result<String, Fail> {
+/// What was printed of a file.
+fn printed(alloc: Global, answer: Result<usize, CanonFault>) -> Result<String, Fail> {
     match answer {
         Ok(place) => Ok(place_text(alloc, place)?),
         Err(fault) => refusal_text(alloc, fault),
     }
 }
 
-/// This is the line that is told of a text.
+/// This is the line that is printed of a text.
 fn expect_place(rt: &impl Abort, line: &str, expected: &str, text: &str) {
     assert_eq!(rt; line, expected, "of {text:?}");
 }
@@ -86,7 +86,7 @@ fn places_of_files(rt: HostRuntime) -> Result<(), Fail> {
             Ok(file) => index.add(rt.alloc(), file, *limit),
             Err(fault) => Err(CanonFault::from(fault)),
         };
-        expect_place(&rt, &told(rt.alloc(), answer)?, expected, text);
+        expect_place(&rt, &printed(rt.alloc(), answer)?, expected, text);
     }
     Ok(())
 }
@@ -97,7 +97,7 @@ fn places_of_streams(rt: HostRuntime) -> Result<(), Fail> {
     for (text, limit, expected) in &ROWS {
         let mut input = Watched::new(text.as_bytes());
         let answer = index.add_from(rt.alloc(), &mut input, *limit);
-        expect_place(&rt, &told(rt.alloc(), answer)?, expected, text);
+        expect_place(&rt, &printed(rt.alloc(), answer)?, expected, text);
     }
     Ok(())
 }

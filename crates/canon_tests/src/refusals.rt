@@ -1,4 +1,4 @@
-//! Why there is no canonical file, as a line, and what is expected of such lines.
+//! Why there is no canonical file, as a line. The module also has what tests expect of such lines.
 
 use canon::CanonFault;
 use cats_text::ReadFault;

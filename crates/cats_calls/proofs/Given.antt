@@ -1,6 +1,6 @@
 -- What a call answered is given: a text with its status, or a fault.
 use Rattle.std.proofs.Common.{◌≡◌, ℕ, inl, inr, List, [], Result, Ok, Err, refl}
-use Rattle.canon.specs.declared.fault.CanonFault.{CanonFault}
+use Rattle.canon.specs.declared.canon_fault.CanonFault.{CanonFault}
 use Rattle.canon.specs.declared.which.Which.{Which}
 use Rattle.answers.specs.Statuses.{status_of_fault}
 use Rattle.answers.specs.declared.report.RunFault.{RunFault}

@@ -8,9 +8,9 @@ use Rattle.cats_text.specs.Faults.{first_fault, has_bid_line}
 use Rattle.cats_text.specs.Fed.{Fed, fed_fault}
 use Rattle.cats_text.specs.Grammar.{Spells}
 use Rattle.cats_text.specs.Reading.{FeedsAs, FeedsOn, WantsMemory}
-use Rattle.cats_text.specs.declared.fault.Kind.{Kind}
-use Rattle.cats_text.specs.declared.fault.Kind.TheVariants.{Memory as NoMemory}
-use Rattle.cats_text.specs.declared.fault.ReadFault.{ReadFault}
+use Rattle.cats_text.specs.declared.read_fault.Kind.{Kind}
+use Rattle.cats_text.specs.declared.read_fault.Kind.TheVariants.{Memory as NoMemory}
+use Rattle.cats_text.specs.declared.read_fault.ReadFault.{ReadFault}
 use Rattle.cats_text.specs.declared.limits.TheConstants.{MAX_STREAM}
 use Rattle.cats_text.proofs.Texts.FaultKinds.{IsFaultOfBytes, fed_fault-of_bytes, first_fault-of_bytes}
 use Rattle.valuation.specs.Auctions.{auction_from}
@@ -18,8 +18,8 @@ use Rattle.canon.specs.Answers.{NormalisesPlainAs, RefusesAuction, unnamed_answe
 use Rattle.canon.specs.Normalising.{unless_heavy}
 use Rattle.canon.specs.Refusals.{refusal_by_kind, refusal_of}
 use Rattle.canon.specs.Renaming.{kept_dummies}
-use Rattle.canon.specs.declared.fault.CanonFault.{CanonFault}
-use Rattle.canon.specs.declared.fault.CanonFault.TheVariants.{Read, StepLimit, Memory}
+use Rattle.canon.specs.declared.canon_fault.CanonFault.{CanonFault}
+use Rattle.canon.specs.declared.canon_fault.CanonFault.TheVariants.{Read, StepLimit, Memory}
 use Rattle.canon.specs.declared.named.NamedFile.{NamedFile}
 use Rattle.answers.specs.NamedFiles.{IsNamed, IsNamedFile}
 use Rattle.answers.proofs.NamedFiles.{named_file}

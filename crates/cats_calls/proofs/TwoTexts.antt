@@ -11,14 +11,14 @@ use Rattle.canon.specs.Comparing.{Differ, IsNormalFileOf}
 use Rattle.canon.specs.Renaming.{kept_dummies}
 use Rattle.canon.specs.Sameness.{AreSameFiles, AreSameTexts, IsSameAuction}
 use Rattle.canon.specs.Verdicts.{plain_verdict}
-use Rattle.canon.specs.declared.fault.CanonFault.{CanonFault}
+use Rattle.canon.specs.declared.canon_fault.CanonFault.{CanonFault}
 use Rattle.canon.specs.declared.named.NamedFile.{NamedFile}
 use Rattle.canon.specs.declared.verdict.Verdict.{Verdict}
 use Rattle.canon.specs.declared.verdict.Verdict.TheVariants.{Same, Goods, Or, Xor}
-use Rattle.canon.proofs.Comparisons.{compared_as, same_by_texts}
-use Rattle.canon.proofs.Files.{auction_from-file_from}
-use Rattle.canon.proofs.Sames.{same_sym, same_trans}
-use Rattle.canon.proofs.Texts.{HasAtoms-file, IsPlainFile-canonical, canonical_file_is_fixed, canonical_file_is_same}
+use Rattle.canon.proofs.Comparing.Comparisons.{compared_as, same_by_texts}
+use Rattle.canon.proofs.CanonicalFiles.Files.{auction_from-file_from}
+use Rattle.canon.proofs.CanonicalAuctions.Sames.{same_sym, same_trans}
+use Rattle.canon.proofs.CanonicalFiles.Texts.{HasAtoms-file, IsPlainFile-canonical, canonical_file_is_fixed, canonical_file_is_same}
 use Rattle.differences.specs.Differences.{AreAllDifferences, PlainDifferences, is_none_at_all}
 use Rattle.differences.proofs.BeginAuctions.{begins_with_first, none_exactly_for_same}
 use Rattle.answers.specs.DiffTexts.{diff_text}

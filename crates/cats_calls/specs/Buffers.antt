@@ -1,6 +1,6 @@
 -- What a call puts into its caller's buffer.
 use Rattle.std.specs.Prelude.{◌≡◌, ◌⊎◌, ◌≤◌, ◌<◌, ℕ, List, ◌++◌, length, drop, Result, Ok, Err, codes}
-use Rattle.canon.specs.declared.fault.CanonFault.{CanonFault}
+use Rattle.canon.specs.declared.canon_fault.CanonFault.{CanonFault}
 use Rattle.canon.specs.declared.which.Which.{Which}
 use Rattle.answers.specs.FaultLines.{line_of_fault}
 use Rattle.answers.specs.Statuses.{status_of_fault}

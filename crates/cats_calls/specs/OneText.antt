@@ -2,7 +2,7 @@
 use Rattle.std.specs.Prelude.{◌≡◌, ℕ, List}
 use Rattle.bid_file.specs.Files.{PlainFile}
 use Rattle.cats_text.specs.Grammar.{Spells}
-use Rattle.canon.specs.Comparing.{SpellsLight}
+use Rattle.canon.specs.Comparing.{SpellsWithinLimit}
 use Rattle.canon.specs.Normalising.{IsText, Normalises}
 use Rattle.explain.specs.Reasons.{Explains, PlainReason}
 use Rattle.answers.specs.ExplanationTexts.{explanation_text}
@@ -22,7 +22,7 @@ pub record NormalisesText (limit : ℕ) (text : List ℕ) (status : ℕ) (out : 
 
 -- the line of each bid of the file, for reasons that are true
 pub record ExplainsText (limit : ℕ) (text : List ℕ) (status : ℕ) (out : List ℕ) : Type 0 where
-  pub given : SpellsLight limit text
+  pub given : SpellsWithinLimit limit text
   pub reasons : List PlainReason
   pub explains : Explains given.file reasons
   pub is_status : status ≡ 0

@@ -2,13 +2,13 @@
 use Rattle.std.specs.Prelude.{◌≡◌, ◌⊎◌, ℕ, nat_le, if◌then◌else◌, true, List, length, take, Option, Some}
 use Rattle.cats_text.specs.Faults.{first_fault, has_bid_line}
 use Rattle.cats_text.specs.Fed.{fed_fault}
-use Rattle.cats_text.specs.declared.fault.ReadFault.{ReadFault}
+use Rattle.cats_text.specs.declared.read_fault.ReadFault.{ReadFault}
 use Rattle.cats_text.specs.declared.limits.TheConstants.{MAX_STREAM}
 use Rattle.canon.specs.Answers.{SpellsFile}
-use Rattle.canon.specs.Comparing.{SpellsLight}
+use Rattle.canon.specs.Comparing.{SpellsWithinLimit}
 use Rattle.canon.specs.Normalising.{ExceedsSteps, Normalises}
-use Rattle.canon.specs.declared.fault.CanonFault.{CanonFault}
-use Rattle.canon.specs.declared.fault.CanonFault.TheVariants.{Read, StepLimit, Memory}
+use Rattle.canon.specs.declared.canon_fault.CanonFault.{CanonFault}
+use Rattle.canon.specs.declared.canon_fault.CanonFault.TheVariants.{Read, StepLimit, Memory}
 use Rattle.canon.specs.declared.which.Which.{Which}
 use Rattle.canon.specs.declared.which.Which.TheVariants.{Only, First, Second, Both}
 
@@ -43,5 +43,5 @@ OfOnly Refuses which fault = ⊥
 abbrev pub OfTwo : ℕ → List ℕ → List ℕ → Which → CanonFault → Type 0
 OfTwo limit left right Only fault = ⊥
 OfTwo limit left right First fault = IsUnmade limit left fault
-OfTwo limit left right Second fault = SpellsLight limit left × IsUnmade limit right fault
-OfTwo limit left right Both fault = SpellsLight limit left × SpellsLight limit right × (fault ≡ Memory)
+OfTwo limit left right Second fault = SpellsWithinLimit limit left × IsUnmade limit right fault
+OfTwo limit left right Both fault = SpellsWithinLimit limit left × SpellsWithinLimit limit right × (fault ≡ Memory)

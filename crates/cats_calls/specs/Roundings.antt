@@ -4,10 +4,10 @@ use Rattle.std.specs.List.{flat_map}
 use Rattle.bid_file.specs.Files.{PlainFile}
 use Rattle.cats_text.specs.Faults.{fault_at, first_fault}
 use Rattle.cats_text.specs.Grammar.{Spells}
-use Rattle.cats_text.specs.declared.fault.Kind.TheVariants.{TooLong}
+use Rattle.cats_text.specs.declared.read_fault.Kind.TheVariants.{TooLong}
 use Rattle.cats_text.specs.declared.limits.TheConstants.{MAX_STREAM}
-use Rattle.canon.specs.declared.fault.CanonFault.{CanonFault}
-use Rattle.canon.specs.declared.fault.CanonFault.TheVariants.{Read, StepLimit, Memory}
+use Rattle.canon.specs.declared.canon_fault.CanonFault.{CanonFault}
+use Rattle.canon.specs.declared.canon_fault.CanonFault.TheVariants.{Read, StepLimit, Memory}
 use Rattle.rounding.specs.Texts.{PlainChange, rounded_prices, rounded_text}
 use Rattle.rounding.specs.declared.replacement.FinePrices.{FinePrices}
 use Rattle.answers.specs.RoundedLines.{rounded_line}

@@ -2,7 +2,7 @@
 use Rattle.std.specs.Prelude.{◌≡◌, ◌↔◌, ℕ, List}
 use Rattle.valuation.specs.Auctions.{auction_from}
 use Rattle.canon.specs.Canonical.{canonical_file}
-use Rattle.canon.specs.Comparing.{Differ, SpellsLight}
+use Rattle.canon.specs.Comparing.{Differ, SpellsWithinLimit}
 use Rattle.canon.specs.Difference.{Difference}
 use Rattle.canon.specs.Renaming.{kept_dummies}
 use Rattle.canon.specs.Sameness.{AreSameTexts}
@@ -21,8 +21,8 @@ pub record ComparesTexts (limit : ℕ) (left right : List ℕ) (status : ℕ) (o
 
 -- all differences, of which more than one list may be true
 pub record DiffsTexts (limit : ℕ) (left right : List ℕ) (status : ℕ) (out : List ℕ) : Type 0 where
-  pub first : SpellsLight limit left
-  pub second : SpellsLight limit right
+  pub first : SpellsWithinLimit limit left
+  pub second : SpellsWithinLimit limit right
   pub differences : PlainDifferences
   pub all : AreAllDifferences (auction_from (canonical_file first.file)) (auction_from (canonical_file second.file)) differences
   pub is_status : status ≡ status_of_differences differences

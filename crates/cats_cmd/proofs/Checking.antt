@@ -5,8 +5,8 @@ use Rattle.bid_file.specs.Files.{PlainFile}
 use Rattle.cats_text.specs.Views.{HasSizes}
 use Rattle.cats_text.specs.declared.parser.Header.{Header}
 use Rattle.cats_text.specs.declared.stream.Watched.{Watched}
-use Rattle.canon.specs.declared.fault.CanonFault.{CanonFault}
-use Rattle.canon.specs.declared.fault.CanonFault.TheVariants.{Memory}
+use Rattle.canon.specs.declared.canon_fault.CanonFault.{CanonFault}
+use Rattle.canon.specs.declared.canon_fault.CanonFault.TheVariants.{Memory}
 use Rattle.canon.specs.declared.which.Which.TheVariants.{Only}
 use Rattle.answers.specs.declared.report.RunFault.{RunFault}
 use Rattle.answers.specs.declared.report.RunFault.TheVariants.{Refused}

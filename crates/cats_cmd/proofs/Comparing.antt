@@ -5,13 +5,13 @@ use Rattle.std.proofs.lemmas.Result.{err_from_is_err_and}
 use Rattle.bid_file.specs.Files.{PlainFile, IsPlainFile}
 use Rattle.cats_text.specs.declared.stream.Watched.{Watched}
 use Rattle.valuation.specs.Auctions.{auction_from}
-use Rattle.canon.proofs.SameDifferences.{difference_of_same_files}
-use Rattle.canon.proofs.Sames.{same_sym}
-use Rattle.canon.proofs.Texts.{canonical_file_is_same, IsPlainFile-canonical}
+use Rattle.canon.proofs.Comparing.SameDifferences.{difference_of_same_files}
+use Rattle.canon.proofs.CanonicalAuctions.Sames.{same_sym}
+use Rattle.canon.proofs.CanonicalFiles.Texts.{canonical_file_is_same, IsPlainFile-canonical}
 use Rattle.canon.specs.Answers.{NormalisesPlainAs}
 use Rattle.canon.specs.Canonical.{canonical_file}
-use Rattle.canon.specs.declared.fault.CanonFault.{CanonFault}
-use Rattle.canon.specs.declared.fault.CanonFault.TheVariants.{Memory}
+use Rattle.canon.specs.declared.canon_fault.CanonFault.{CanonFault}
+use Rattle.canon.specs.declared.canon_fault.CanonFault.TheVariants.{Memory}
 use Rattle.canon.specs.declared.which.Which.{Which}
 use Rattle.canon.specs.declared.which.Which.TheVariants.{Both}
 use Rattle.cats_cmd.specs.Comparisons.{Compares, ReadsBoth, ReadsCanonicalFile, ReadsCanonical, RefusesSecond, RunsOnBoth}

@@ -8,7 +8,7 @@ use Rattle.valuation.specs.Auctions.{auction_from}
 use Rattle.canon.specs.Answers.{NormalisesPlainAs, unnamed_answer}
 use Rattle.canon.specs.Canonical.{canonical_file}
 use Rattle.canon.specs.Renaming.{kept_dummies}
-use Rattle.canon.specs.declared.fault.CanonFault.{CanonFault}
+use Rattle.canon.specs.declared.canon_fault.CanonFault.{CanonFault}
 use Rattle.canon.specs.declared.named.NamedFile.{NamedFile}
 use Rattle.differences.specs.Differences.{AreAllDifferences}
 use Rattle.cats_cmd.specs.Diffs.{DiffsFiles, ReadsDifferences, diff_outcome}

@@ -7,8 +7,8 @@ use Rattle.cats_text.specs.declared.stream.Watched.{Watched}
 use Rattle.valuation.specs.Auctions.{auction_from, or_atoms_of}
 use Rattle.prune.specs.SearchSteps.{first_heavy}
 use Rattle.canon.specs.Answers.{RefusesAuction}
-use Rattle.canon.specs.declared.fault.CanonFault.{CanonFault}
-use Rattle.canon.specs.declared.fault.CanonFault.TheVariants.{Memory}
+use Rattle.canon.specs.declared.canon_fault.CanonFault.{CanonFault}
+use Rattle.canon.specs.declared.canon_fault.CanonFault.TheVariants.{Memory}
 use Rattle.canon.specs.declared.which.Which.TheVariants.{Only}
 use Rattle.explain.specs.Reasons.{Explains, PlainReason}
 use Rattle.cats_cmd.specs.Explanations.{ExplainsFile, ReadsExplained, explain_outcome}

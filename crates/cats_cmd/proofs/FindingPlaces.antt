@@ -9,7 +9,7 @@ use Rattle.std.proofs.lemmas.Option.{slice_get_within}
 use Rattle.bid_file.specs.Files.{PlainFile, IsPlainFile}
 use Rattle.canon.specs.Canonical.{canonical_text}
 use Rattle.canon.specs.FirstPlaces.{AddsText, IsEmptyIndex, IsFirstPlace, IsIndexOf, TextIndex}
-use Rattle.canon.proofs.Indexing.{first_place_stays, index_of_none, index_of_more, place_of_more}
+use Rattle.canon.proofs.Comparing.Indexing.{first_place_stays, index_of_none, index_of_more, place_of_more}
 use Rattle.cats_cmd.specs.DuplicateTexts.{found_paths}
 use Rattle.cats_cmd.specs.Duplicates.{files_if_judged, judged_files, paths_if_judged}
 use Rattle.cats_cmd.specs.Internal.Judging.{KeepsGroups}

@@ -6,9 +6,9 @@ use Rattle.std.specs.declared.alloc.AllocError.{AllocError}
 use Rattle.std.specs.Io.KnownBytes.{Consumes}
 use Rattle.bid_file.specs.Files.{PlainFile}
 use Rattle.cats_text.specs.Streams.{inner_of, FaultsAt}
-use Rattle.cats_text.specs.declared.fault.Kind.{Kind}
-use Rattle.cats_text.specs.declared.fault.Kind.TheVariants.{Memory as NoMemory}
-use Rattle.cats_text.specs.declared.fault.ReadFault.{ReadFault}
+use Rattle.cats_text.specs.declared.read_fault.Kind.{Kind}
+use Rattle.cats_text.specs.declared.read_fault.Kind.TheVariants.{Memory as NoMemory}
+use Rattle.cats_text.specs.declared.read_fault.ReadFault.{ReadFault}
 use Rattle.cats_text.specs.declared.stream.Watched.{Watched}
 use Rattle.valuation.specs.Auctions.{or_atoms_of}
 use Rattle.prune.specs.SearchSteps.{first_heavy}
@@ -17,8 +17,8 @@ use Rattle.canon.specs.Canonical.{canonical_text}
 use Rattle.canon.specs.FirstPlaces.{AddsStream, IsUnread, IsUnmade, TextIndex}
 use Rattle.canon.specs.Normalising.{IsText, ExceedsSteps as Exceeds, IsNoFile, normalised_file, unless_heavy}
 use Rattle.canon.specs.Refusals.{refusal_by_kind, refusal_of}
-use Rattle.canon.specs.declared.fault.CanonFault.{CanonFault}
-use Rattle.canon.specs.declared.fault.CanonFault.TheVariants.{Read, StepLimit, Memory}
+use Rattle.canon.specs.declared.canon_fault.CanonFault.{CanonFault}
+use Rattle.canon.specs.declared.canon_fault.CanonFault.TheVariants.{Read, StepLimit, Memory}
 use Rattle.canon.specs.declared.which.Which.TheVariants.{Only}
 use Rattle.cats_cmd.specs.DuplicateTexts.{found_paths}
 use Rattle.cats_cmd.specs.Inputs.{IsOpened, IsRefusedByReading, IsRefusedFile}
@@ -38,9 +38,9 @@ use Rattle.cats_cmd.specs.declared.source.Unopened.{Unopened}
 
 -- ---- heavy bundles
 
-light_text : (file : PlainFile) (heavy : Option (List ℕ)) (text : List ℕ) → unless_heavy file heavy ≡ IsText text → heavy ≡ None
-light_text file None text is = refl
-light_text file (Some goods) text is = cc
+text_within_limit : (file : PlainFile) (heavy : Option (List ℕ)) (text : List ℕ) → unless_heavy file heavy ≡ IsText text → heavy ≡ None
+text_within_limit file None text is = refl
+text_within_limit file (Some goods) text is = cc
 
 no_fault_made : (file : PlainFile) (heavy : Option (List ℕ)) (why : ReadFault) → unless_heavy file heavy ≡ IsNoFile why → ⊥
 no_fault_made file None why is = cc
@@ -136,7 +136,7 @@ module _ {R : Type 0} (remaining : R → Option (List ℕ)) (limit : ℕ) (old n
         judgement = IsJudged a.file;
         judges = record {
           reads = record { bytes = added.bytes; consumes = added.consumes; reads = a.reads };
-          light = light_text a.file (first_heavy a.file.goods limit (or_atoms_of a.file.bids)) (canonical_text a.file) a.light;
+          light = text_within_limit a.file (first_heavy a.file.goods limit (or_atoms_of a.file.bids)) (canonical_text a.file) a.light;
         };
         adds = λ js h. has_after (js ++ (path.now, IsJudged a.file) ∷ []) (groups_more index more found longer path a.file place a.reads.spelled.facts a.added put js (has js h));
         is_stop = refl;

@@ -7,8 +7,8 @@ use Rattle.std.proofs.lemmas.List.{append_assoc, length-map, map-append}
 use Rattle.std.proofs.lemmas.List.Splits.{length-slice_split, slice_split_at}
 use Rattle.std.proofs.lemmas.List.Elements.{All-head, All-tail}
 use Rattle.cats_text.specs.declared.stream.Watched.{Watched}
-use Rattle.canon.specs.declared.fault.CanonFault.{CanonFault}
-use Rattle.canon.specs.declared.fault.CanonFault.TheVariants.{Read, StepLimit, Memory}
+use Rattle.canon.specs.declared.canon_fault.CanonFault.{CanonFault}
+use Rattle.canon.specs.declared.canon_fault.CanonFault.TheVariants.{Read, StepLimit, Memory}
 use Rattle.canon.specs.declared.which.Which.TheVariants.{Only}
 use Rattle.cats_cmd.specs.FileLists.{IsUnread}
 use Rattle.cats_cmd.specs.Inputs.{IsOpened, ReadsBytes}

@@ -4,8 +4,8 @@ use Rattle.bid_file.specs.Files.{PlainFile}
 use Rattle.cats_text.specs.Layout.{layout}
 use Rattle.valuation.specs.Auctions.{auction_from}
 use Rattle.canon.specs.Answers.{IsNormalFile, RefusesAuction}
-use Rattle.canon.specs.declared.fault.CanonFault.{CanonFault}
-use Rattle.canon.specs.declared.fault.CanonFault.TheVariants.{Read, StepLimit, Memory}
+use Rattle.canon.specs.declared.canon_fault.CanonFault.{CanonFault}
+use Rattle.canon.specs.declared.canon_fault.CanonFault.TheVariants.{Read, StepLimit, Memory}
 use Rattle.cats_cmd.specs.Outcomes.{Tells, text_unless_heavy, normalise_outcome}
 use Rattle.cats_cmd.specs.Runs.{MakesAs}
 

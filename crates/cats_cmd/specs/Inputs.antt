@@ -5,14 +5,14 @@ use Rattle.std.specs.Global.{Global}
 use Rattle.std.specs.Io.KnownBytes.{Consumes, IsAtEnd}
 use Rattle.bid_file.specs.Files.{PlainFile}
 use Rattle.cats_text.specs.Streams.{inner_of, has_failed, has_ended, ReadsFile, FaultsAt}
-use Rattle.cats_text.specs.declared.fault.Kind.{Kind}
-use Rattle.cats_text.specs.declared.fault.Kind.TheVariants.{Device, TooLong, Memory as NoMemory}
+use Rattle.cats_text.specs.declared.read_fault.Kind.{Kind}
+use Rattle.cats_text.specs.declared.read_fault.Kind.TheVariants.{Device, TooLong, Memory as NoMemory}
 use Rattle.cats_text.specs.declared.limits.TheConstants.{MAX_STREAM}
 use Rattle.cats_text.specs.declared.stream.Watched.{Watched}
 use Rattle.valuation.specs.Auctions.{or_atoms_of}
 use Rattle.prune.specs.SearchSteps.{first_heavy}
-use Rattle.canon.specs.declared.fault.CanonFault.{CanonFault}
-use Rattle.canon.specs.declared.fault.CanonFault.TheVariants.{Read, StepLimit, Memory}
+use Rattle.canon.specs.declared.canon_fault.CanonFault.{CanonFault}
+use Rattle.canon.specs.declared.canon_fault.CanonFault.TheVariants.{Read, StepLimit, Memory}
 use Rattle.cats_cmd.specs.Outcomes.{Outcome, ExceedsSteps}
 use Rattle.cats_cmd.specs.declared.source.Unopened.{Unopened}
 

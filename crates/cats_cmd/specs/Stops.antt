@@ -2,7 +2,7 @@
 use Rattle.std.specs.Prelude.{◌≡◌, ◌⊎◌, ◌++◌, ◌||◌, ℕ, Bool, true, false, List, [], ◌∷◌, Option, Result, codes, bytes_eq}
 use Rattle.std.specs.Borrow.{Bor}
 use Rattle.cats_text.specs.Streams.{has_failed, Sends}
-use Rattle.cats_text.specs.declared.fault.SendFault.{SendFault}
+use Rattle.cats_text.specs.declared.read_fault.SendFault.{SendFault}
 use Rattle.cats_text.specs.declared.stream.Watched.{Watched}
 use Rattle.answers.specs.FaultLines.{line_of_fault, prefix_of}
 use Rattle.answers.specs.Statuses.{status_of_fault}

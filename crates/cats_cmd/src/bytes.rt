@@ -3,7 +3,7 @@
 ghost use Rattle.std.specs.Prelude.{◌≡◌, false};
 ghost use Rattle.cats_text.specs.Faults.{fault_at};
 ghost use Rattle.cats_text.specs.Streams.{has_ended, has_failed};
-ghost use Rattle.canon.specs.declared.fault.CanonFault.TheVariants.{Read as IsRead};
+ghost use Rattle.canon.specs.declared.canon_fault.CanonFault.TheVariants.{Read as IsRead};
 ghost use Rattle.cats_cmd.specs.Inputs.{ReadsBytes};
 
 use canon::CanonFault;

@@ -2,7 +2,7 @@
 
 ghost use Rattle.std.specs.Prelude.{◌≡◌, ℕ, [], ◌∷◌, map, codes, Vec, Ok, Err, Some, None, true, false};
 ghost use Rattle.std.specs.Global.{Global};
-ghost use Rattle.cats_text.specs.declared.fault.Kind.TheVariants.{
+ghost use Rattle.cats_text.specs.declared.read_fault.Kind.TheVariants.{
   TwoDummies,
   NoEnd,
   TooLong,
@@ -40,7 +40,7 @@ ghost use Rattle.cats_cmd.specs.declared.program.Stop.TheVariants.{CannotOpen, N
 ghost use Rattle.cats_cmd.specs.declared.source.Unopened.TheVariants.{NoSuchFile, PermissionDenied, IsFolder, Other};
 ghost use Rattle.answers.specs.Statuses.{status_of_difference, status_of_differences, status_of_fault};
 ghost use Rattle.canon.specs.declared.which.Which.TheVariants.{Only, First, Second, Both};
-ghost use Rattle.canon.specs.declared.fault.CanonFault.TheVariants.{Read, StepLimit, Memory};
+ghost use Rattle.canon.specs.declared.canon_fault.CanonFault.TheVariants.{Read, StepLimit, Memory};
 ghost use Rattle.answers.specs.declared.report.RunFault.TheVariants.{Refused, GoodRange, Sent};
 
 /// What `cats check` and `cats show` make of files.

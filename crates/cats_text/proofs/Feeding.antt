@@ -1,4 +1,4 @@
--- Pieces: a reader that is fed pieces answers by all bytes that came, and a stream's answers follow from the reader's.
+-- Pieces: a reader answers by all bytes that came. A stream's answers follow from the reader's.
 pub mod Streams
 pub mod Files
 pub mod Pieces

@@ -1,4 +1,4 @@
--- From words to lines: the parser's steps give what the definitions say of the lines and words so far.
+-- From words to lines: the parser gives what the definitions say. They say it of the lines and words so far.
 pub mod States
 pub mod NumbersTaken
 pub mod Headers

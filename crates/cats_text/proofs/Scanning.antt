@@ -1,4 +1,4 @@
--- From bytes to words: the scanner over bytes gives what the parser gives over the words of their lines.
+-- From bytes to words: the scanner gives what the parser gives. The parser has the words of the bytes' lines.
 pub mod Lines
 pub mod AllBytes
 pub mod BidLines
@@ -7,7 +7,7 @@ pub mod Appends
 pub mod Rests
 pub mod ManyBytes
 pub mod FewDigits
-pub mod Fronts
+pub mod LeadingTokens
 pub mod WholeWords
 pub mod ManyGoods
 pub mod BidEnds

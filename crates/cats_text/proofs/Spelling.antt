@@ -1,9 +1,9 @@
--- The definitions among themselves: a text without a fault spells exactly one file.
+-- A text without a fault spells exactly one file. These lemmas are on the definitions alone.
 pub mod Rising
 pub mod Distinct
 pub mod Marks
 pub mod Tests
-pub mod Slots
+pub mod BidsByNumber
 pub mod Members
 pub mod Prices
 pub mod Goods

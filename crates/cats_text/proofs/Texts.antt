@@ -1,4 +1,4 @@
--- Whole texts: the machine run on all bytes gives what the definitions say of the text.
+-- Whole texts: the machine gives what the definitions say.
 pub mod FirstFaults
 pub mod FaultKinds
 pub mod MachineAnswers

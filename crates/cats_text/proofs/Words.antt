@@ -1,4 +1,4 @@
--- A word: what is kept of it while its bytes come tells all that the grammar asks of it.
+-- A word: what is kept of it answers all tests of the grammar.
 pub mod Places
 pub mod Kept
 pub mod Tests

@@ -1,4 +1,4 @@
--- The layout of a file spells the file, and goes out in pieces.
+-- The layout of a file spells it. It is sent in pieces.
 pub mod Zeros
 pub mod Numerals
 pub mod SixDigits

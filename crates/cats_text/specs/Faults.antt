@@ -8,12 +8,12 @@ use Rattle.std.specs.Str.{bytes_eq}
 use Rattle.cats_text.specs.Lines.{Word, Line, is_blank, significant_lines, line_count}
 use Rattle.cats_text.specs.Numbers.{is_number, number_of, is_price, is_too_large, is_too_fine}
 use Rattle.cats_text.specs.Grammar.{line_number}
-use Rattle.cats_text.specs.declared.fault.Kind.{Kind}
-use Rattle.cats_text.specs.declared.fault.Kind.TheVariants.{Header, NotANumber, TooLarge, ExtraBid, BidNumber}
-use Rattle.cats_text.specs.declared.fault.Kind.TheVariants.{RepeatedNumber, TooFine, GoodRange, RepeatedGood}
-use Rattle.cats_text.specs.declared.fault.Kind.TheVariants.{TwoDummies, EmptyBundle, NoEnd, AfterEnd, Missing, TooLong}
-use Rattle.cats_text.specs.declared.fault.Kind.TheVariants.{Device, Memory}
-use Rattle.cats_text.specs.declared.fault.ReadFault.{ReadFault}
+use Rattle.cats_text.specs.declared.read_fault.Kind.{Kind}
+use Rattle.cats_text.specs.declared.read_fault.Kind.TheVariants.{Header, NotANumber, TooLarge, ExtraBid, BidNumber}
+use Rattle.cats_text.specs.declared.read_fault.Kind.TheVariants.{RepeatedNumber, TooFine, GoodRange, RepeatedGood}
+use Rattle.cats_text.specs.declared.read_fault.Kind.TheVariants.{TwoDummies, EmptyBundle, NoEnd, AfterEnd, Missing, TooLong}
+use Rattle.cats_text.specs.declared.read_fault.Kind.TheVariants.{Device, Memory}
+use Rattle.cats_text.specs.declared.read_fault.ReadFault.{ReadFault}
 use Rattle.bid_file.specs.declared.limits.TheConstants.{MAX_GOODS, MAX_BIDS, MAX_DUMMY}
 
 -- this kind if the test holds, and else what the later tests say
@@ -129,7 +129,7 @@ pub record IsOfText (e : ReadFault) : Type 0 where
   pub kind : is_text_kind e.kind ≡ true
   pub line : 0 < e.line
 
--- The places of a line; its end is judged where an LF stands there, or where the input is whole.
+-- The places of a line; its end is judged where an LF is there, or where the input is whole.
 abbrev pub line_fault : Bool → List (List Word) → Line → Option ReadFault
 line_fault whole lines l =
     option_map (fault_at l.number)

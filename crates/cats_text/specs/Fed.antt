@@ -1,9 +1,9 @@
--- What contracts see of a reader: its limit, the bytes that it was fed, and the fault that it answered.
+-- What contracts see of a reader. It is the limit, the bytes that came, and the fault that it answered.
 use Rattle.std.specs.Prelude.{ℕ, nat_le, if◌then◌else◌, List, length, take, Option, Some}
 use Rattle.std.specs.Option.{option_or}
 use Rattle.cats_text.specs.Faults.{complete_fault, fault_at}
-use Rattle.cats_text.specs.declared.fault.ReadFault.{ReadFault}
-use Rattle.cats_text.specs.declared.fault.Kind.TheVariants.{TooLong}
+use Rattle.cats_text.specs.declared.read_fault.ReadFault.{ReadFault}
+use Rattle.cats_text.specs.declared.read_fault.Kind.TheVariants.{TooLong}
 
 -- the fault of a reader with this limit that was fed these bytes
 abbrev pub fed_fault : ℕ → List ℕ → Option ReadFault

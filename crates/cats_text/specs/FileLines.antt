@@ -1,4 +1,4 @@
--- The file that lines of words say, where they have no fault.
+-- The file that lines without a fault spell.
 use Rattle.std.specs.Prelude.{ℕ, ◌+◌, ◌-◌, ◌==◌, nat_lt, nat_le, not, if◌then◌else◌, List, [], ◌∷◌, ◌++◌, length, map}
 use Rattle.std.specs.Prelude.{filter, filter_map, find, fold, take_while, set, replicate, Option, Some, None}
 use Rattle.std.specs.Prelude.{option_map}

@@ -1,4 +1,4 @@
--- When a text spells a bid file (README of CATS 2.0: three header lines, then one line for each bid, "its number, its
+-- When a text spells a bid file. (README of CATS 2.0: three header lines, then one line for each bid, "its number, its
 -- price, the numbers of its goods, then `#`"; this project's profile says which spellings of them are taken).
 use Rattle.std.specs.Prelude.{◌≡◌, ◌≢◌, ℕ, ◌==◌, Bool, true, false, List, [], ◌∷◌, ◌++◌, map, length, slice_get, Some}
 use Rattle.std.specs.Prelude.{codes}
@@ -26,7 +26,7 @@ AreDistinct (x ∷ xs) = AllByRecursion (λ y. x ≢ y) xs × AreDistinct xs
 abbrev pub has_number : List ℕ → ℕ → Bool
 has_number xs n = list_any (λ x. x == n) xs
 
--- the words of a line spell a bid of the file: the one with the number that stands first
+-- the words of a line spell a bid of the file: the one with the number that is first
 pub record SpellsBid (f : PlainFile) (words : List Word) : Type 0 where
   pub number : Word
   pub price : Word

@@ -1,6 +1,6 @@
 -- What the contracts of private functions cite, and the facts that private types keep. No public contract rests on
 -- them.
-pub mod Front
+pub mod LeadingToken
 pub mod Kept
 pub mod Keywords
 pub mod Machine

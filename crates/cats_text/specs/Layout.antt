@@ -1,4 +1,4 @@
--- The one layout that is written: header lines, then a line for each bid, by number.
+-- The layout of a file. Header lines come first, then a line for each bid, by number.
 use Rattle.std.specs.Prelude.{ℕ, suc, ◌/◌, ◌%◌, ◌+◌, ◌*◌, ◌==◌, if◌then◌else◌, List, [], ◌∷◌, ◌++◌, length, map, codes}
 use Rattle.std.specs.Prelude.{decimal}
 use Rattle.std.specs.List.{flat_map}

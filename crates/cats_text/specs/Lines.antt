@@ -1,4 +1,4 @@
--- The lines and words of a text, by the README of CATS 2.0 ("a bid file is a text of lines; lines that begin with `%`
+-- The lines and words of a text. By the README of CATS 2.0 ("a bid file is a text of lines; lines that begin with `%`
 -- are comments") and this project's profile of it: a line ends with LF, a word is a longest run of bytes that are no
 -- blank.
 use Rattle.std.specs.Prelude.{ℕ, suc, ◌==◌, Bool, true, false, not, ◌&&◌, ◌||◌, if◌then◌else◌, List, [], ◌∷◌, length}
@@ -30,7 +30,7 @@ pub record RawLine : Type 0 where
   pub bytes : List ℕ
   pub ended : Bool
 
--- one more byte at the front of the first line
+-- one more byte at the start of the first line
 abbrev pub with_byte : ℕ → List RawLine → List RawLine
 with_byte b [] = record { bytes = b ∷ []; ended = false } ∷ []
 with_byte b (l ∷ ls) = record { bytes = b ∷ l.bytes; ended = l.ended } ∷ ls
@@ -39,17 +39,17 @@ with_byte b (l ∷ ls) = record { bytes = b ∷ l.bytes; ended = l.ended } ∷ l
 abbrev pub lines_with : ℕ → List RawLine → List RawLine
 lines_with b ls = if b == 10 then record { bytes = []; ended = true } ∷ ls else with_byte b ls
 
--- a text is cut after each LF; what stands after the last is one more line if it is not empty
+-- a text is cut after each LF; what is after the last is one more line if it is not empty
 abbrev pub raw_lines : List ℕ → List RawLine
 raw_lines [] = []
 raw_lines (b ∷ bs) = lines_with b (raw_lines bs)
 
--- whether a word begins at the front
+-- whether a word begins at the start
 abbrev pub begins_word : List ℕ → Bool
 begins_word [] = false
 begins_word (b ∷ bs) = not (is_blank b)
 
--- one more byte at the front of the first word
+-- one more byte at the start of the first word
 abbrev pub with_letter : ℕ → List Word → List Word
 with_letter b [] = (b ∷ []) ∷ []
 with_letter b (w ∷ ws) = (b ∷ w) ∷ ws

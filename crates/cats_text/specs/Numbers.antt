@@ -19,7 +19,7 @@ is_number (b ∷ bs) = digits_alone (b ∷ bs)
 abbrev pub number_of : Word → ℕ
 number_of w = fold (λ n b. 10 * n + (b - 48)) 0 w
 
--- the digits before the first point, and what stands behind it
+-- the digits before the first point, and what is behind it
 abbrev pub whole_part : Word → Word
 whole_part [] = []
 whole_part (b ∷ bs) = if b == 46 then [] else b ∷ whole_part bs

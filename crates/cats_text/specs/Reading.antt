@@ -1,4 +1,4 @@
--- What a reader in pieces answers.
+-- What a `Reader` answers.
 use Rattle.std.specs.Prelude.{◌≡◌, ◌⊎◌, ℕ, List, ◌++◌, take, true, Some, None, Result, Ok, Err, MatchOption}
 use Rattle.cats_text.specs.Faults.{first_fault, has_bid_line, fault_at}
 use Rattle.cats_text.specs.Grammar.{Spells}
@@ -6,8 +6,8 @@ use Rattle.bid_file.specs.Files.{PlainFile}
 use Rattle.bid_file.specs.Views.{plain_file}
 use Rattle.cats_text.specs.Fed.{fed_fault, Fed}
 use Rattle.bid_file.specs.declared.bid.BidFile.{BidFile}
-use Rattle.cats_text.specs.declared.fault.ReadFault.{ReadFault}
-use Rattle.cats_text.specs.declared.fault.Kind.TheVariants.{Memory as NoMemory}
+use Rattle.cats_text.specs.declared.read_fault.ReadFault.{ReadFault}
+use Rattle.cats_text.specs.declared.read_fault.Kind.TheVariants.{Memory as NoMemory}
 
 abbrev pub WantsMemory : List ℕ → ReadFault → Type 0
 WantsMemory bytes e = (e ≡ fault_at 0 NoMemory) × (has_bid_line bytes ≡ true)

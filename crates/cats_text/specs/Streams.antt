@@ -1,4 +1,4 @@
--- What a contract sees of a `Watched` reader or writer, which answers of a call make it failed or ended, and what
+-- Streams, as contracts see them. The definitions say when a `Watched` reader or writer failed or ended, and what
 -- reading a stream answers.
 use Rattle.std.specs.Prelude.{◌≡◌, ◌⊎◌, ◌≤◌, ℕ, Bool, true, false, ◌==◌, ◌||◌, List, [], ◌∷◌, length, take, Option}
 use Rattle.std.specs.Prelude.{Some, None, Result, Ok, Err, is_err}
@@ -11,10 +11,10 @@ use Rattle.cats_text.specs.Grammar.{Spells}
 use Rattle.cats_text.specs.Faults.{first_fault, has_bid_line, fault_at}
 use Rattle.cats_text.specs.Fed.{Fed, fed_fault}
 use Rattle.bid_file.specs.declared.bid.BidFile.{BidFile}
-use Rattle.cats_text.specs.declared.fault.Kind.{Kind}
-use Rattle.cats_text.specs.declared.fault.Kind.TheVariants.{Device, Memory}
-use Rattle.cats_text.specs.declared.fault.ReadFault.{ReadFault}
-use Rattle.cats_text.specs.declared.fault.SendFault.{SendFault}
+use Rattle.cats_text.specs.declared.read_fault.Kind.{Kind}
+use Rattle.cats_text.specs.declared.read_fault.Kind.TheVariants.{Device, Memory}
+use Rattle.cats_text.specs.declared.read_fault.ReadFault.{ReadFault}
+use Rattle.cats_text.specs.declared.read_fault.SendFault.{SendFault}
 use Rattle.cats_text.specs.declared.parser.Header.{Header}
 use Rattle.cats_text.specs.declared.limits.TheConstants.{MAX_STREAM}
 use Rattle.cats_text.specs.declared.stream.Watched.{Watched}
@@ -44,12 +44,12 @@ failed_to_write answer piece = is_err answer || moved_nothing answer piece
 
 -- What sending a text does.
 module _ {W : Type 0} (contents : W → Option (List ℕ)) where
-  -- the whole text went out
+  -- the whole text was sent
   pub record SendsWhole (old new : Watched W) (text : List ℕ) : Type 0 where
     pub appended : Appends (contents (inner_of old)) (contents (inner_of new)) text
     pub works : has_failed new ≡ false
 
-  -- the writer failed, and so many of the first bytes of the text went out
+  -- the writer failed, and so many of the first bytes of the text were sent
   pub record SendsPart (old new : Watched W) (text : List ℕ) (written : ℕ) : Type 0 where
     pub within : written ≤ length text
     pub appended : Appends (contents (inner_of old)) (contents (inner_of new)) (take written text)

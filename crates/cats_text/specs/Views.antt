@@ -1,4 +1,4 @@
--- what callers see of the sizes of a file
+-- What contracts see of the sizes of a file.
 use Rattle.std.specs.Prelude.{◌≡◌, length}
 use Rattle.bid_file.specs.Files.{PlainFile}
 use Rattle.cats_text.specs.declared.parser.Header.{Header}

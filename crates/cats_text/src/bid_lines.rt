@@ -1,23 +1,23 @@
-//! Bid lines as they mostly stand, in straight sequence: number, price, goods, `#`, LF. Where a line goes on in another
+//! The fast path for whole bid lines. It takes number, price, goods, `#`, LF. If a line continues in another
 //! way, the scanner goes on with it.
 
 ghost use Rattle.std.specs.Prelude.{◌≡◌, ◌+◌, ◌-◌, ◌<◌, ◌≤◌, ◌^◌, false, length, ℕ, List, IfOk, OnErr};
-ghost use Rattle.cats_text.specs.Internal.Front.{IsFront};
+ghost use Rattle.cats_text.specs.Internal.LeadingToken.{IsLeadingToken};
 ghost use Rattle.cats_text.specs.declared.parser.Stage.TheVariants.{Bid};
 ghost use Rattle.cats_text.specs.Internal.Scanning.{state, IsGoodDue, ScansTo};
 
-use crate::front::{ends_bid, front, number};
 use crate::keep::Keep;
-use crate::scanner::{Halt, Mode, Scanner};
+use crate::leading_token::{ends_bid, leading_token, number};
+use crate::scanner::{Mode, ScanError, Scanner};
 use crate::word::Word;
 
 impl<K: Keep> Scanner<K> {
-    /// Takes a good that is due, which with its blank has so many bytes in front; tells how many.
+    /// Takes a good that is due, which with its blank has so many bytes at the start; answers how many.
     #[inline(always)]
-    fn take_good(&mut self, good: u64, taken: usize) -> Result<usize, Halt>
+    fn take_good(&mut self, good: u64, taken: usize) -> Result<usize, ScanError>
         requires waits { self.old.waiting ≡ false }
         requires due { IsGoodDue (state K.keep self.old) }
-        ensures scanned { (bytes : List ℕ) → IsFront bytes (Word.Number good) taken
+        ensures scanned { (bytes : List ℕ) → IsLeadingToken bytes (Word.Number good) taken
             → ScansTo (state K.keep self.old) (state K.keep self.new) self.new.waiting bytes result }
         ensures count { IfOk result (λ count. count ≡ taken) }
         ensures due { IsGoodDue (state K.keep self.new) }
@@ -25,14 +25,14 @@ impl<K: Keep> Scanner<K> {
         ensures waiting { self.new.waiting ≡ self.old.waiting }
     {
         if let Err(stop) = self.parser.take_good(good) {
-            return Err(Halt::at(self.line, stop));
+            return Err(ScanError::at(self.line, stop));
         }
         Ok(taken)
     }
 
-    /// Goods in front, where a good is due; tells how many bytes they and their blanks have.
+    /// Goods at the start, where a good is due; answers how many bytes they and their blanks have.
     #[inline(always)]
-    fn take_goods(&mut self, bytes: &[u8]) -> Result<usize, Halt>
+    fn take_goods(&mut self, bytes: &[u8]) -> Result<usize, ScanError>
         requires waits { self.old.waiting ≡ false }
         requires due { IsGoodDue (state K.keep self.old) }
         ensures scanned { ScansTo (state K.keep self.old) (state K.keep self.new) self.new.waiting
@@ -48,29 +48,29 @@ impl<K: Keep> Scanner<K> {
         Ok(place)
     }
 
-    /// The `#` and the LF that stand in front, where a good is due; tells how many bytes they have.
+    /// The `#` and the LF that are at the start, where a good is due; answers how many bytes they have.
     #[inline(always)]
-    fn take_bid_end(&mut self) -> Result<usize, Halt>
+    fn take_bid_end(&mut self) -> Result<usize, ScanError>
         requires waits { self.old.waiting ≡ false }
         requires due { IsGoodDue (state K.keep self.old) }
         requires line { self.old.line < 2 ^ 64 - 1 }
-        ensures scanned { (bytes : List ℕ) → IsFront bytes Word.End 1
+        ensures scanned { (bytes : List ℕ) → IsLeadingToken bytes Word.End 1
             → ScansTo (state K.keep self.old) (state K.keep self.new) self.new.waiting bytes result }
         ensures line { IfOk result (λ count. self.new.line ≤ self.old.line + count) }
         ensures halted { OnErr result (self.new.line ≡ self.old.line) }
         ensures waiting { self.new.waiting ≡ self.old.waiting }
     {
         if let Err(stop) = self.parser.close_bid() {
-            return Err(Halt::at(self.line, stop));
+            return Err(ScanError::at(self.line, stop));
         }
         self.mode = Mode::Start;
         self.line += 1;
         Ok(2)
     }
 
-    /// A bid line in front, with its LF; or, where it does not stand there whole in the usual order, its words as far as
-    /// they do. Tells how many bytes these have.
-    fn read_bid_line(&mut self, bytes: &[u8]) -> Result<usize, Halt>
+    /// A bid line at the start, with its LF; or, where it is not there whole in the usual order, its words as far as
+    /// they do. Summarises how many bytes these have.
+    fn read_bid_line(&mut self, bytes: &[u8]) -> Result<usize, ScanError>
         requires waits { self.old.waiting ≡ false }
         requires start { self.old.mode ≡ Mode.Start }
         requires stage { self.old.parser.stage ≡ Bid }
@@ -84,7 +84,7 @@ impl<K: Keep> Scanner<K> {
             return Ok(0);
         };
         let mut place = self.take_word(Word::Number(number), taken)?;
-        let Some((price, taken)) = front(&bytes[place..]) else {
+        let Some((price, taken)) = leading_token(&bytes[place..]) else {
             return Ok(place);
         };
         place += self.take_word(price, taken)?;
@@ -99,11 +99,11 @@ impl<K: Keep> Scanner<K> {
         Ok(place)
     }
 
-    /// Whole bid lines in front, and of one more the words that stand there whole; tells how many bytes they have.
-    pub fn read_bid_lines(&mut self, bytes: &[u8]) -> Result<usize, Halt>
+    /// Whole bid lines at the start, and of one more the words that are there whole; answers how many bytes they have.
+    pub fn read_bid_lines(&mut self, bytes: &[u8]) -> Result<usize, ScanError>
         requires waits { self.old.waiting ≡ false }
         requires start { self.old.mode ≡ Mode.Start }
-        requires room { self.old.line + length bytes.now < 2 ^ 64 }
+        requires space { self.old.line + length bytes.now < 2 ^ 64 }
         ensures scanned { ScansTo (state K.keep self.old) (state K.keep self.new) self.new.waiting bytes.now result }
         ensures line { IfOk result (λ count. self.new.line ≤ self.old.line + count) }
         ensures most { self.new.line ≤ self.old.line + length bytes.now }

@@ -1,4 +1,4 @@
-//! The digits in front of eight bytes, all read at once, as the toolchain's `core::dec2flt` reads them: its
+//! Eight leading digits, read at once. The method is that of the toolchain's `core::dec2flt`, but its
 //! `read_digits` goes on behind the eight, and that loop is a third of the instructions where a number is short.
 
 ghost use Rattle.core.specs.Prelude.{◌≡◌, ℕ, ◌-◌, ◌*◌, ◌%◌, ◌^◌, ◌<◌, ◌≤◌, List, length, take, nat_le, IfSome};
@@ -40,7 +40,7 @@ fn value_of_eight(eight: u64) -> u64
     first.wrapping_add(second) >> 32
 }
 
-/// The first `count` bytes moved up to the end, with zeros in front of them.
+/// The first `count` bytes moved up to the end, with zeros before them.
 #[inline(always)]
 fn keep_first(eight: u64, count: u32) -> u64
     requires { count < 8 }
@@ -50,7 +50,7 @@ fn keep_first(eight: u64, count: u32) -> u64
     eight << (56 - 8 * count) << 8
 }
 
-/// How many digits stand in front of the eight bytes, and the number that they spell; eight digits are left to others.
+/// How many digits are at the start of the eight bytes, and the number that they spell; eight digits are left to others.
 #[inline(always)]
 pub fn few_digits(bytes: &[u8]) -> Option<(u64, usize)>
     requires { 8 ≤ length bytes.now }

@@ -82,7 +82,7 @@ fn mark_all(marks: &mut Vec<u32>, goods: &[u16], bid_mark: u32) -> Result<(), Al
     Ok(())
 }
 
-/// Puts a good behind the others and marks it unless it has a mark, and tells whether it was new.
+/// Puts a good behind the others and marks it unless it has a mark, and says whether it was new.
 fn put_marked(
     goods: &mut Vec<u16>,
     marks: &mut Vec<u32>,
@@ -127,7 +127,7 @@ impl GoodList {
         self.goods.is_empty()
     }
 
-    /// Puts a good behind the others where they rise and it is above them, and tells whether it did.
+    /// Puts a good behind the others where they rise and it is above them, and says whether it did.
     #[inline(always)]
     pub fn put_next(&mut self, good: u16) -> Result<bool, AllocError>
         ensures new { IfOk result (λ is_put. is_put ≡ true → has_number self.old good ≡ false) }
@@ -141,7 +141,7 @@ impl GoodList {
         Ok(true)
     }
 
-    /// Puts a good behind the others unless it has come, and tells whether it was new.
+    /// Puts a good behind the others unless it has come, and says whether it was new.
     pub fn put(&mut self, good: u16) -> Result<bool, AllocError>
         ensures new { IfOk result (λ is_new. is_new ≡ not (has_number self.old good)) }
         ensures goods { IfOk result (λ is_new. self.new ≡ (if is_new then self.old ++ good ∷ [] else self.old)) }

@@ -1,4 +1,4 @@
-//! The bytes that a reader was fed, which contracts alone see: they take no memory.
+//! The bytes that a reader was fed. Only contracts see them, so they take no memory.
 
 ghost use Rattle.std.specs.Prelude.{◌≡◌, ℕ, List, [], ◌++◌};
 ghost use Rattle.std.specs.Borrow.{ftrue};

@@ -1,4 +1,4 @@
-//! What a reader keeps of the bids that come: the bids, packed, or only how many they are.
+//! The trait `Keep`: what a reader keeps of the bids. It keeps them packed, or only counts them.
 
 ghost use Rattle.std.specs.Prelude.{◌≡◌, ◌<◌, [], ◌∷◌, ◌++◌, List, Some, length, slice_get, replicate, OnOk, OnErr};
 ghost use Rattle.bid_file.specs.Files.{PlainBid};

@@ -1,4 +1,4 @@
-//! Laws of the definitions: the grammar of texts and their faults leave nothing open, and what is written spells what
+//! Laws of the definitions. The grammar of texts and their faults leave nothing open, and what is written spells what
 //! it was written from.
 
 ghost use Rattle.std.specs.Prelude.{◌≡◌, ◌≢◌, ◌⊎◌, ◌++◌, ℕ, List, Some, None};
@@ -7,8 +7,8 @@ ghost use Rattle.cats_text.specs.Grammar.{Spells};
 ghost use Rattle.cats_text.specs.Faults.{first_fault, complete_fault, IsOfText};
 ghost use Rattle.cats_text.specs.FileLines.{spelled_file};
 ghost use Rattle.cats_text.specs.Layout.{layout};
-ghost use Rattle.cats_text.specs.declared.fault.ReadFault.{ReadFault};
-ghost use Rattle.cats_text.specs.declared.fault.Kind.TheVariants.{Missing};
+ghost use Rattle.cats_text.specs.declared.read_fault.ReadFault.{ReadFault};
+ghost use Rattle.cats_text.specs.declared.read_fault.Kind.TheVariants.{Missing};
 
 /// The layout of a file spells that file and no other.
 pub fn layout_spells()

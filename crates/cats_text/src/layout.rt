@@ -1,4 +1,4 @@
-//! Bid files as text.
+//! `write`: the text of a bid file.
 
 ghost use Rattle.std.specs.Prelude.{
   ◌≡◌,
@@ -21,7 +21,7 @@ ghost use Rattle.std.specs.Prelude.{
 ghost use Rattle.bid_file.specs.Files.{PlainBid, dummy_good};
 ghost use Rattle.cats_text.specs.Grammar.{Spells};
 ghost use Rattle.cats_text.specs.Layout.{layout, header_text, headers_text, bid_text, bids_text, tabbed, price_text};
-ghost use Rattle.cats_text.specs.declared.layout.TheConstants.{OFFER, GOOD, DUMMY, LONGEST_LINE};
+ghost use Rattle.cats_text.specs.declared.layout.TheConstants.{NUMBER_AND_PRICE, GOOD, DUMMY, LONGEST_LINE};
 
 use crate::price::write_price;
 use bid_file::{Bids, MAX_GOODS};
@@ -29,12 +29,12 @@ use itoa::{Buffer, Integer, write_digits};
 use std::alloc::{AllocError, Global};
 
 /// The text of a file: its header, then its bids in order of number, each with its goods rising and its dummy good
-/// last. Words are joined by single tabs in a bid line and by a space in a header line; nothing else stands there.
+/// last. Words are joined by single tabs in a bid line and by a space in a header line; nothing else is there.
 pub fn write<B: Bids>(alloc: Global, file: &B) -> Result<Vec<u8>, AllocError>
     ensures layout { IfOk result (λ out. out.items ≡ layout (B.file file.now)) }
     ensures spells { IfOk result (λ out. Spells out.items (B.file file.now)) }
 {
-    let mut out = Vec::with_capacity(alloc, room_for(file))?;
+    let mut out = Vec::with_capacity(alloc, buffer_size(file))?;
     push_header(&mut out, file.goods(), file.len(), file.dummy() as usize)?;
     push_bids(&mut out, file)?;
     Ok(out)
@@ -47,7 +47,7 @@ pub const LONGEST_LINE: usize = LINE + GOOD * MAX_GOODS as usize;
 const LINE: usize = 64;
 
 /// The bytes that a number and a price have at most, with the tab between them.
-const OFFER: usize = 48;
+const NUMBER_AND_PRICE: usize = 48;
 
 /// The bytes that a real good has at most, with the tab before it.
 const GOOD: usize = 6;
@@ -56,13 +56,13 @@ const GOOD: usize = 6;
 const DUMMY: usize = 11;
 
 /// As many bytes as the text of a file has at most. No file is so large that it saturates.
-fn room_for<B: Bids>(file: &B) -> usize {
-    let mut room = 3 * LINE;
+fn buffer_size<B: Bids>(file: &B) -> usize {
+    let mut space = 3 * LINE;
     for number in 0..file.len() {
         let goods = file.at(number).goods.len();
-        room = room.saturating_add(goods.saturating_mul(GOOD).saturating_add(LINE));
+        space = space.saturating_add(goods.saturating_mul(GOOD).saturating_add(LINE));
     }
-    room
+    space
 }
 
 /// Appends the header of a file of so many goods, bids and dummy goods. If memory is refused, some of it may be there.
@@ -108,7 +108,7 @@ fn push_bids<B: Bids>(out: &mut Vec<u8>, file: &B) -> Result<(), AllocError>
 /// start, as the digits of a number come.
 pub fn write_bid<B: Bids>(file: &B, number: usize, line: &mut [u8]) -> usize
     requires number { number < length (B.file file.now).bids }
-    requires room { length line.old ≡ LONGEST_LINE }
+    requires space { length line.old ≡ LONGEST_LINE }
     ensures start { result ≤ LONGEST_LINE }
     ensures written { let f = B.file file.now in (bid : PlainBid)
         × (slice_get f.bids number ≡ Some bid) × (drop result line.new ≡ bid_text f.goods number bid) }
@@ -118,13 +118,13 @@ pub fn write_bid<B: Bids>(file: &B, number: usize, line: &mut [u8]) -> usize
     let end = write_line_end(line);
     let end = write_dummy(goods, bid.dummy, line, end);
     let end = write_goods(bid.goods, line, end);
-    write_offer(number, bid.price, line, end)
+    write_number_and_price(number, bid.price, line, end)
 }
 
 /// Writes the number and the price of a bid, so that their text ends at `end`, and returns where it starts.
 #[inline(always)]
-fn write_offer(number: usize, price: u64, text: &mut [u8], end: usize) -> usize
-    requires room { OFFER ≤ end }
+fn write_number_and_price(number: usize, price: u64, text: &mut [u8], end: usize) -> usize
+    requires space { NUMBER_AND_PRICE ≤ end }
     requires inside { end ≤ length text.old }
     ensures start { result ≤ end }
     ensures written { drop result text.new ≡ (decimal number ++ 9 ∷ price_text price) ++ drop end text.old }
@@ -135,7 +135,7 @@ fn write_offer(number: usize, price: u64, text: &mut [u8], end: usize) -> usize
 }
 
 fn write_line_end(line: &mut [u8]) -> usize
-    requires room { length line.old ≡ LONGEST_LINE }
+    requires space { length line.old ≡ LONGEST_LINE }
     ensures start { result + 3 ≡ LONGEST_LINE }
     ensures written { drop result line.new ≡ codes "\t#\n" }
 {
@@ -148,7 +148,7 @@ fn write_line_end(line: &mut [u8]) -> usize
 
 /// The dummy good of a bid, if it has one, numbered behind the real goods.
 fn write_dummy(goods: u16, dummy: Option<u32>, text: &mut [u8], end: usize) -> usize
-    requires room { DUMMY ≤ end }
+    requires space { DUMMY ≤ end }
     requires inside { end ≤ length text.old }
     ensures start { (result ≤ end) × (end ≤ result + DUMMY) }
     ensures written { drop result text.new ≡ tabbed (dummy_good goods dummy) ++ drop end text.old }
@@ -161,22 +161,22 @@ fn write_dummy(goods: u16, dummy: Option<u32>, text: &mut [u8], end: usize) -> u
 
 /// Writes goods, each behind a tab, so that their text ends at `end`, and returns where it starts.
 fn write_goods(goods: &[u16], text: &mut [u8], end: usize) -> usize
-    requires room { GOOD * length goods.now ≤ end }
+    requires space { GOOD * length goods.now ≤ end }
     requires inside { end ≤ length text.old }
     ensures start { (result ≤ end) × (end ≤ result + GOOD * length goods.now) }
     ensures written { drop result text.new ≡ tabbed goods.now ++ drop end text.old }
 {
     let mut left = goods;
     let mut start = end;
-    while let [front @ .., good] = left {
+    while let [prefix @ .., good] = left {
         start = write_good(u64::from(*good), text, start);
-        left = front;
+        left = prefix;
     }
     start
 }
 
 fn write_good(good: u64, text: &mut [u8], end: usize) -> usize
-    requires room { length (decimal good) < end }
+    requires space { length (decimal good) < end }
     requires inside { end ≤ length text.old }
     ensures start { result + length (decimal good) + 1 ≡ end }
     ensures written { drop result text.new ≡ (9 ∷ decimal good) ++ drop end text.old }

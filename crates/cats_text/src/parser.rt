@@ -1,9 +1,9 @@
-//! From words to bids: what is due, and what has come.
+//! The parser: from words to bids.
 
 ghost use Rattle.std.specs.Prelude.{◌≡◌, ◌<◌, [], length, Ok, IfOk, OnOk, OnErr};
 ghost use Rattle.std.specs.Bool.{OnTrue};
 ghost use Rattle.cats_text.specs.FileLines.{put_slot, filled};
-ghost use Rattle.cats_text.specs.Internal.Progress.{progress, Gives, AsksOnBidLines};
+ghost use Rattle.cats_text.specs.Internal.Progress.{progress, Gives, NeedsMemoryOnBidLines};
 ghost use Rattle.cats_text.specs.Internal.Parsing.{
   start,
   keyword_read,
@@ -22,43 +22,43 @@ ghost use Rattle.cats_text.specs.Internal.Parsing.{
   is_due,
 };
 
-use crate::fault::Kind;
+use crate::bids_by_number::BidsByNumber;
 use crate::good_list::GoodList;
 use crate::keep::Keep;
 use crate::price::price_of;
-use crate::slots::Slots;
+use crate::read_fault::Kind;
 use crate::word::{Keyword, Word};
 use bid_file::{MAX_BIDS, MAX_DUMMY, MAX_GOODS};
 use std::alloc::{AllocError, AllocFailed, Global};
 
 /// Why parsing stops.
 #[derive(Clone, Copy)]
-pub enum Stop {
+pub enum ParseError {
     /// A fault of the text.
     Fault(Kind),
     /// Memory was refused.
     Memory,
 }
 
-impl From<AllocError> for Stop {
+impl From<AllocError> for ParseError {
     ghost use Rattle.std.specs.Prelude.{◌≡◌};
-    ghost use Rattle.cats_text.specs.declared.parser.Stop.TheVariants.{Memory};
+    ghost use Rattle.cats_text.specs.declared.parser.ParseError.TheVariants.{Memory};
 
     ghost from_gives = { λ _ stop. stop ≡ Memory };
 
-    fn from(_refused: AllocError) -> Stop {
-        Stop::Memory
+    fn from(_refused: AllocError) -> ParseError {
+        ParseError::Memory
     }
 }
 
-impl<T: Drop> From<AllocFailed<T>> for Stop {
+impl<T: Drop> From<AllocFailed<T>> for ParseError {
     ghost use Rattle.std.specs.Prelude.{◌≡◌};
-    ghost use Rattle.cats_text.specs.declared.parser.Stop.TheVariants.{Memory};
+    ghost use Rattle.cats_text.specs.declared.parser.ParseError.TheVariants.{Memory};
 
     ghost from_gives = { λ _ stop. stop ≡ Memory };
 
-    fn from(_refused: AllocFailed<T>) -> Stop {
-        Stop::Memory
+    fn from(_refused: AllocFailed<T>) -> ParseError {
+        ParseError::Memory
     }
 }
 
@@ -106,7 +106,7 @@ pub struct Parser<K: Keep> {
     pub header: Header,
     /// How many bid lines are still due.
     pub due: u32,
-    pub slots: Slots<K>,
+    pub slots: BidsByNumber<K>,
     pub draft: Draft,
     pub goods: GoodList,
 }
@@ -126,7 +126,7 @@ impl<K: Keep> Parser<K> {
                 dummy: 0,
             },
             due: 0,
-            slots: Slots::new(alloc),
+            slots: BidsByNumber::new(alloc),
             draft: Draft {
                 number: 0,
                 price: 0,
@@ -136,26 +136,26 @@ impl<K: Keep> Parser<K> {
         }
     }
 
-    fn take_keyword(&mut self, keyword: Keyword, word: Word) -> Result<(), Stop>
+    fn take_keyword(&mut self, keyword: Keyword, word: Word) -> Result<(), ParseError>
         ensures reads { Gives (progress K.keep self.new) result (keyword_read (progress K.keep self.old) keyword word) }
-        ensures memory { AsksOnBidLines (progress K.keep self.old) result }
+        ensures memory { NeedsMemoryOnBidLines (progress K.keep self.old) result }
         ensures stage { self.new.stage ≡ self.old.stage }
     {
         if word == Word::Keyword(keyword, keyword.text().len()) {
             self.column = Column::Second;
             Ok(())
         } else {
-            Err(Stop::Fault(Kind::Header))
+            Err(ParseError::Fault(Kind::Header))
         }
     }
 
-    fn take_header_number(&mut self, word: Word) -> Result<(), Stop>
+    fn take_header_number(&mut self, word: Word) -> Result<(), ParseError>
         ensures reads { Gives (progress K.keep self.new) result (header_number_read (progress K.keep self.old) word) }
-        ensures memory { AsksOnBidLines (progress K.keep self.old) result }
+        ensures memory { NeedsMemoryOnBidLines (progress K.keep self.old) result }
         ensures stage { self.new.stage ≡ self.old.stage }
     {
         let Word::Number(value) = word else {
-            return Err(Stop::Fault(Kind::NotANumber));
+            return Err(ParseError::Fault(Kind::NotANumber));
         };
         match self.stage {
             Stage::Goods if value <= u64::from(MAX_GOODS) => self.header.goods = value as u16,
@@ -164,29 +164,29 @@ impl<K: Keep> Parser<K> {
                 self.due = value as u32;
             }
             Stage::Dummy if value <= u64::from(MAX_DUMMY) => self.header.dummy = value as u32,
-            Stage::Bid => return Err(Stop::Fault(Kind::Header)),
-            _ => return Err(Stop::Fault(Kind::TooLarge)),
+            Stage::Bid => return Err(ParseError::Fault(Kind::Header)),
+            _ => return Err(ParseError::Fault(Kind::TooLarge)),
         }
         self.column = Column::Later;
         Ok(())
     }
 
-    fn take_number(&mut self, word: Word) -> Result<(), Stop>
+    fn take_number(&mut self, word: Word) -> Result<(), ParseError>
         ensures reads { Gives (progress K.keep self.new) result (number_read (progress K.keep self.old) word) }
-        ensures memory { AsksOnBidLines (progress K.keep self.old) result }
+        ensures memory { NeedsMemoryOnBidLines (progress K.keep self.old) result }
         ensures stage { self.new.stage ≡ self.old.stage }
     {
         let Word::Number(value) = word else {
-            return Err(Stop::Fault(Kind::NotANumber));
+            return Err(ParseError::Fault(Kind::NotANumber));
         };
         if self.due == 0 {
-            return Err(Stop::Fault(Kind::ExtraBid));
+            return Err(ParseError::Fault(Kind::ExtraBid));
         }
         if value >= u64::from(self.header.bids) {
-            return Err(Stop::Fault(Kind::BidNumber));
+            return Err(ParseError::Fault(Kind::BidNumber));
         }
         if self.slots.has(value as u32) {
-            return Err(Stop::Fault(Kind::RepeatedNumber));
+            return Err(ParseError::Fault(Kind::RepeatedNumber));
         }
         self.draft = Draft {
             number: value as u32,
@@ -197,9 +197,9 @@ impl<K: Keep> Parser<K> {
         Ok(())
     }
 
-    fn take_price(&mut self, word: Word) -> Result<(), Stop>
+    fn take_price(&mut self, word: Word) -> Result<(), ParseError>
         ensures reads { Gives (progress K.keep self.new) result (price_read (progress K.keep self.old) word) }
-        ensures memory { AsksOnBidLines (progress K.keep self.old) result }
+        ensures memory { NeedsMemoryOnBidLines (progress K.keep self.old) result }
         ensures stage { self.new.stage ≡ self.old.stage }
     {
         self.draft.price = match word {
@@ -207,7 +207,7 @@ impl<K: Keep> Parser<K> {
             Word::Decimal(decimal) if decimal.decimals > 0 => {
                 price_of(decimal.whole, decimal.millionths, decimal.fine)?
             }
-            _ => return Err(Stop::Fault(Kind::NotANumber)),
+            _ => return Err(ParseError::Fault(Kind::NotANumber)),
         };
         self.column = Column::Later;
         Ok(())
@@ -215,9 +215,9 @@ impl<K: Keep> Parser<K> {
 
     /// A good of the bid whose line has begun.
     #[inline(always)]
-    pub fn take_good(&mut self, value: u64) -> Result<(), Stop>
+    pub fn take_good(&mut self, value: u64) -> Result<(), ParseError>
         ensures reads { Gives (progress K.keep self.new) result (good_read (progress K.keep self.old) value) }
-        ensures memory { (progress K.keep self.old).stage ≡ Stage.Bid → AsksOnBidLines (progress K.keep self.old) result }
+        ensures memory { (progress K.keep self.old).stage ≡ Stage.Bid → NeedsMemoryOnBidLines (progress K.keep self.old) result }
         ensures stage { self.new.stage ≡ self.old.stage }
         ensures column { self.new.column ≡ self.old.column }
     {
@@ -230,11 +230,11 @@ impl<K: Keep> Parser<K> {
             return if self.goods.put(good)? {
                 Ok(())
             } else {
-                Err(Stop::Fault(Kind::RepeatedGood))
+                Err(ParseError::Fault(Kind::RepeatedGood))
             };
         }
         if value >= goods + u64::from(self.header.dummy) {
-            return Err(Stop::Fault(Kind::GoodRange));
+            return Err(ParseError::Fault(Kind::GoodRange));
         }
         let dummy = (value - goods) as u32;
         match self.draft.dummy {
@@ -242,25 +242,25 @@ impl<K: Keep> Parser<K> {
                 self.draft.dummy = Some(dummy);
                 Ok(())
             }
-            Some(before) if before == dummy => Err(Stop::Fault(Kind::RepeatedGood)),
-            Some(_) => Err(Stop::Fault(Kind::TwoDummies)),
+            Some(before) if before == dummy => Err(ParseError::Fault(Kind::RepeatedGood)),
+            Some(_) => Err(ParseError::Fault(Kind::TwoDummies)),
         }
     }
 
     #[inline(always)]
-    fn take_good_or_end(&mut self, word: Word) -> Result<(), Stop>
+    fn take_good_or_end(&mut self, word: Word) -> Result<(), ParseError>
         ensures reads { Gives (progress K.keep self.new) result (good_or_end_read (progress K.keep self.old) word) }
-        ensures memory { (progress K.keep self.old).stage ≡ Stage.Bid → AsksOnBidLines (progress K.keep self.old) result }
+        ensures memory { (progress K.keep self.old).stage ≡ Stage.Bid → NeedsMemoryOnBidLines (progress K.keep self.old) result }
         ensures stage { self.new.stage ≡ self.old.stage }
     {
         match word {
             Word::Number(value) => self.take_good(value),
-            Word::End if self.goods.is_empty() => Err(Stop::Fault(Kind::EmptyBundle)),
+            Word::End if self.goods.is_empty() => Err(ParseError::Fault(Kind::EmptyBundle)),
             Word::End => {
                 self.column = Column::Ended;
                 Ok(())
             }
-            _ => Err(Stop::Fault(Kind::NotANumber)),
+            _ => Err(ParseError::Fault(Kind::NotANumber)),
         }
     }
 
@@ -280,9 +280,9 @@ impl<K: Keep> Parser<K> {
 
     /// The next word of a line.
     #[inline(always)]
-    pub fn take_word(&mut self, word: Word) -> Result<(), Stop>
+    pub fn take_word(&mut self, word: Word) -> Result<(), ParseError>
         ensures reads { Gives (progress K.keep self.new) result (word_read (progress K.keep self.old) word) }
-        ensures memory { AsksOnBidLines (progress K.keep self.old) result }
+        ensures memory { NeedsMemoryOnBidLines (progress K.keep self.old) result }
         ensures stage { self.new.stage ≡ self.old.stage }
     {
         match (self.column, self.stage) {
@@ -293,8 +293,8 @@ impl<K: Keep> Parser<K> {
             (Column::Second, Stage::Bid) => self.take_price(word),
             (Column::Second, _) => self.take_header_number(word),
             (Column::Later, Stage::Bid) => self.take_good_or_end(word),
-            (Column::Later, _) => Err(Stop::Fault(Kind::Header)),
-            (Column::Ended, _) => Err(Stop::Fault(Kind::AfterEnd)),
+            (Column::Later, _) => Err(ParseError::Fault(Kind::Header)),
+            (Column::Ended, _) => Err(ParseError::Fault(Kind::AfterEnd)),
         }
     }
 
@@ -316,9 +316,9 @@ impl<K: Keep> Parser<K> {
 
     /// Puts what is kept of the bid whose line ends.
     #[inline(always)]
-    fn put_bid(&mut self) -> Result<(), Stop>
+    fn put_bid(&mut self) -> Result<(), ParseError>
         ensures reads { Gives (progress K.keep self.new) result (Ok (with_bid (progress K.keep self.old))) }
-        ensures memory { (progress K.keep self.old).stage ≡ Stage.Bid → AsksOnBidLines (progress K.keep self.old) result }
+        ensures memory { (progress K.keep self.old).stage ≡ Stage.Bid → NeedsMemoryOnBidLines (progress K.keep self.old) result }
     {
         self.keep_bid()?;
         // One is due: the line began where one was.
@@ -328,34 +328,34 @@ impl<K: Keep> Parser<K> {
     }
 
     #[inline(always)]
-    fn end_bid(&mut self) -> Result<(), Stop>
+    fn end_bid(&mut self) -> Result<(), ParseError>
         ensures reads { Gives (progress K.keep self.new) result (bid_read (progress K.keep self.old)) }
-        ensures memory { (progress K.keep self.old).stage ≡ Stage.Bid → AsksOnBidLines (progress K.keep self.old) result }
+        ensures memory { (progress K.keep self.old).stage ≡ Stage.Bid → NeedsMemoryOnBidLines (progress K.keep self.old) result }
     {
         if self.column != Column::Ended {
-            return Err(Stop::Fault(Kind::NoEnd));
+            return Err(ParseError::Fault(Kind::NoEnd));
         }
         self.put_bid()
     }
 
     /// The `#` of a bid where a good or `#` is due, and the end of its line behind it.
     #[inline(always)]
-    pub fn close_bid(&mut self) -> Result<(), Stop>
+    pub fn close_bid(&mut self) -> Result<(), ParseError>
         ensures reads { Gives (progress K.keep self.new) result (bid_closed (progress K.keep self.old)) }
-        ensures memory { (progress K.keep self.old).stage ≡ Stage.Bid → AsksOnBidLines (progress K.keep self.old) result }
+        ensures memory { (progress K.keep self.old).stage ≡ Stage.Bid → NeedsMemoryOnBidLines (progress K.keep self.old) result }
     {
         if self.goods.is_empty() {
-            return Err(Stop::Fault(Kind::EmptyBundle));
+            return Err(ParseError::Fault(Kind::EmptyBundle));
         }
         self.put_bid()
     }
 
-    fn end_header_line(&mut self, next: Stage) -> Result<(), Stop>
+    fn end_header_line(&mut self, next: Stage) -> Result<(), ParseError>
         ensures reads { Gives (progress K.keep self.new) result (header_line_read (progress K.keep self.old) next) }
-        ensures memory { AsksOnBidLines (progress K.keep self.old) result }
+        ensures memory { NeedsMemoryOnBidLines (progress K.keep self.old) result }
     {
         if self.column != Column::Later {
-            return Err(Stop::Fault(Kind::Header));
+            return Err(ParseError::Fault(Kind::Header));
         }
         self.stage = next;
         self.column = Column::First;
@@ -364,9 +364,9 @@ impl<K: Keep> Parser<K> {
 
     /// The end of a line that has words.
     #[inline(always)]
-    pub fn end_line(&mut self) -> Result<(), Stop>
+    pub fn end_line(&mut self) -> Result<(), ParseError>
         ensures reads { Gives (progress K.keep self.new) result (line_read (progress K.keep self.old)) }
-        ensures memory { AsksOnBidLines (progress K.keep self.old) result }
+        ensures memory { NeedsMemoryOnBidLines (progress K.keep self.old) result }
     {
         match self.stage {
             Stage::Goods => self.end_header_line(Stage::Bids),

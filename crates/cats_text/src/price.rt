@@ -1,4 +1,4 @@
-//! Prices: the decimals that come, their value in millionths, and their text.
+//! Prices: read as decimals, kept in millionths, and written.
 
 ghost use Rattle.std.specs.Prelude.{◌≡◌, ◌+◌, ◌++◌, ◌<◌, ◌≤◌, length, drop, OnOk, decimal};
 ghost use Rattle.cats_text.specs.Layout.{price_text, places_text, without_zeros};
@@ -7,8 +7,8 @@ ghost use Rattle.cats_text.specs.Internal.Keywords.{place_value_of};
 ghost use Rattle.cats_text.specs.Internal.Parsing.{price_parts};
 ghost use Rattle.cats_text.specs.Internal.Progress.{Answers};
 
-use crate::fault::Kind;
-use crate::parser::Stop;
+use crate::parser::ParseError;
+use crate::read_fault::Kind;
 use bid_file::MAX_PRICE;
 use itoa::{Buffer, write_digits};
 use std::alloc::AllocError;
@@ -71,15 +71,15 @@ impl Decimal {
 }
 
 /// A price of so many whole units and millionths, and perhaps finer places.
-pub fn price_of(whole: u64, millionths: u64, fine: bool) -> Result<u64, Stop>
+pub fn price_of(whole: u64, millionths: u64, fine: bool) -> Result<u64, ParseError>
     ensures { Answers result (price_parts whole millionths fine) }
 {
     let greatest = MAX_PRICE / MILLION;
     if whole > greatest || (whole == greatest && (fine || millionths > 0)) {
-        return Err(Stop::Fault(Kind::TooLarge));
+        return Err(ParseError::Fault(Kind::TooLarge));
     }
     if fine {
-        return Err(Stop::Fault(Kind::TooFine));
+        return Err(ParseError::Fault(Kind::TooFine));
     }
     // Never saturates: the millionths that are read are less than one unit, which their type does not say.
     Ok((whole * MILLION).saturating_add(millionths))
@@ -106,7 +106,7 @@ pub fn push_price(out: &mut Vec<u8>, millionths: u128) -> Result<(), AllocError>
 /// Writes a price that fits 64 bits, so that its text ends at `end`, and returns where it starts.
 #[inline(always)]
 pub fn write_price(millionths: u64, text: &mut [u8], end: usize) -> usize
-    requires room { PRICE ≤ end }
+    requires space { PRICE ≤ end }
     requires inside { end ≤ length text.old }
     ensures start { (result < end) × (end ≤ result + PRICE) }
     ensures written { drop result text.new ≡ price_text millionths ++ drop end text.old }
@@ -118,7 +118,7 @@ pub fn write_price(millionths: u64, text: &mut [u8], end: usize) -> usize
 /// The point and the digits behind it, if there are any.
 fn write_places(millionths: u64, text: &mut [u8], end: usize) -> usize
     requires places { millionths < MILLION }
-    requires room { BEHIND ≤ end }
+    requires space { BEHIND ≤ end }
     requires inside { end ≤ length text.old }
     ensures start { (result ≤ end) × (end ≤ result + BEHIND) }
     ensures written { drop result text.new ≡ places_text millionths ++ drop end text.old }

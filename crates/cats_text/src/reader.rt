@@ -1,10 +1,10 @@
-//! Reading a bid file in pieces.
+//! `read`, and `Reader`, which reads in pieces.
 
 ghost use Rattle.std.specs.Prelude.{◌≡◌, ◌^◌, ◌<◌, [], None};
 ghost use Rattle.cats_text.specs.Reading.{FinishAnswer, PackedAnswer};
 
-use crate::fault::ReadFault;
-use crate::feeder::{Feeder, finish_packed, unpacked};
+use crate::push_reader::{PushReader, finish_packed, unpacked};
+use crate::read_fault::ReadFault;
 use bid_file::{BidFile, PackedBids, PackedFile};
 use std::alloc::Global;
 use std::marker::Model;
@@ -14,7 +14,7 @@ use std::marker::Model;
 #[derive(Drop)]
 pub struct Reader {
     alloc: Global,
-    feeder: Feeder<PackedBids>,
+    push_reader: PushReader<PackedBids>,
 }
 
 impl Model for Reader {
@@ -22,7 +22,7 @@ impl Model for Reader {
 
     ghost Value = { Fed };
 
-    ghost view = { λ r. r.feeder };
+    ghost view = { λ r. r.push_reader };
 }
 
 impl Reader {
@@ -35,7 +35,7 @@ impl Reader {
     {
         Reader {
             alloc,
-            feeder: Feeder::new(alloc, limit),
+            push_reader: PushReader::new(alloc, limit),
         }
     }
 
@@ -43,14 +43,14 @@ impl Reader {
     pub fn feed(&mut self, piece: &[u8]) -> Result<(), ReadFault>
         ensures { FeedsAs self.old piece.now self.new result }
     {
-        self.feeder.feed(piece)
+        self.push_reader.feed(piece)
     }
 
     /// Judges the rest as the end of the input, and gives the file.
     pub fn finish(self) -> Result<BidFile, ReadFault>
         ensures { FinishesAs self result }
     {
-        let file = finish_packed(self.feeder)?;
+        let file = finish_packed(self.push_reader)?;
         unpacked(self.alloc, &file)
     }
 }
@@ -67,7 +67,7 @@ pub fn read(alloc: Global, text: &[u8]) -> Result<BidFile, ReadFault>
 pub fn read_packed(alloc: Global, text: &[u8]) -> Result<PackedFile, ReadFault>
     ensures { PackedAnswer text.now result }
 {
-    let mut feeder = Feeder::new(alloc, text.len() as u64);
-    feeder.feed(text)?;
-    finish_packed(feeder)
+    let mut push_reader = PushReader::new(alloc, text.len() as u64);
+    push_reader.feed(text)?;
+    finish_packed(push_reader)
 }

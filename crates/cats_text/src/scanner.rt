@@ -1,10 +1,10 @@
-//! From bytes to words and line ends.
+//! The scanner: from bytes to words and line ends.
 
 ghost use Rattle.std.specs.Prelude.{◌≡◌, ◌+◌, ◌-◌, ◌<◌, ◌≤◌, ◌^◌, ◌==◌, true, position, length, false, OnOk, IfOk, ℕ, List};
-ghost use Rattle.cats_text.specs.Internal.Front.{IsFront};
+ghost use Rattle.cats_text.specs.Internal.LeadingToken.{IsLeadingToken};
 ghost use Rattle.cats_text.specs.Internal.Returns.{settled, waits, carried, return_byte};
 ghost use Rattle.cats_text.specs.Internal.Scanning.{
-  halt_of,
+  scan_error_of,
   letter_mode,
   state,
   first_state,
@@ -16,38 +16,38 @@ ghost use Rattle.cats_text.specs.Internal.Scanning.{
   is_before_word,
   ScansTo,
   Steps,
-  AsksHere,
-  Asks,
+  NeedsMemoryHere,
+  NeedsMemory,
   ArePartsOf,
   Finishes,
-  AsksAtEnd,
+  NeedsMemoryAtEnd,
   IsInLine,
 };
 
-use crate::fault::{Kind, ReadFault};
-use crate::front::{front, with_digits};
 use crate::keep::Keep;
-use crate::parser::{Header, Parser, Stop};
+use crate::leading_token::{leading_token, with_digits};
+use crate::parser::{Header, ParseError, Parser};
+use crate::read_fault::{Kind, ReadFault};
 use crate::word::Word;
 use std::alloc::Global;
 
 /// Why scanning stops.
 #[derive(Clone, Copy)]
-pub enum Halt {
+pub enum ScanError {
     /// The text has this fault.
     Fault(ReadFault),
     /// Memory was refused.
     Memory,
 }
 
-impl Halt {
-    /// The halt at a line that stopped the parser.
-    pub fn at(line: u64, stop: Stop) -> Halt
-        ensures { result ≡ halt_of line stop }
+impl ScanError {
+    /// The scan_error at a line that stopped the parser.
+    pub fn at(line: u64, stop: ParseError) -> ScanError
+        ensures { result ≡ scan_error_of line stop }
     {
         match stop {
-            Stop::Fault(kind) => Halt::Fault(ReadFault { line, kind }),
-            Stop::Memory => Halt::Memory,
+            ParseError::Fault(kind) => ScanError::Fault(ReadFault { line, kind }),
+            ParseError::Memory => ScanError::Memory,
         }
     }
 }
@@ -68,7 +68,7 @@ pub enum Mode {
 }
 
 impl Mode {
-    /// Goes behind one more byte that is no blank.
+    /// KeepsLineCount behind one more byte that is no blank.
     fn push(&mut self, byte: u8)
         ensures { self.new ≡ letter_mode self.old byte }
     {
@@ -121,9 +121,9 @@ impl<K: Keep> Scanner<K> {
 
     /// A blank, or the end of a line, after which no word goes on.
     #[inline(always)]
-    fn end_word(&mut self) -> Result<(), Halt>
+    fn end_word(&mut self) -> Result<(), ScanError>
         ensures steps { Steps (state K.keep self.new) result (blank_step (state K.keep self.old)) }
-        ensures memory { AsksHere (state K.keep self.old) result }
+        ensures memory { NeedsMemoryHere (state K.keep self.old) result }
         ensures begun { IsInLine self.new.mode → IsInLine self.old.mode }
         ensures stage { self.new.parser.stage ≡ self.old.parser.stage }
         ensures line { self.new.line ≡ self.old.line }
@@ -132,7 +132,7 @@ impl<K: Keep> Scanner<K> {
         match self.mode {
             Mode::Inside(word) => {
                 if let Err(stop) = self.parser.take_word(word) {
-                    return Err(Halt::at(self.line, stop));
+                    return Err(ScanError::at(self.line, stop));
                 }
                 self.mode = Mode::Between;
             }
@@ -144,15 +144,15 @@ impl<K: Keep> Scanner<K> {
 
     /// The end of the words of a line.
     #[inline(always)]
-    fn end_words(&mut self) -> Result<(), Halt>
+    fn end_words(&mut self) -> Result<(), ScanError>
         ensures steps { Steps (state K.keep self.new) result (words_step (state K.keep self.old)) }
-        ensures memory { AsksHere (state K.keep self.old) result }
+        ensures memory { NeedsMemoryHere (state K.keep self.old) result }
         ensures line { self.new.line ≡ self.old.line }
         ensures waiting { self.new.waiting ≡ self.old.waiting }
     {
         if let Mode::Between = self.mode {
             if let Err(stop) = self.parser.end_line() {
-                return Err(Halt::at(self.line, stop));
+                return Err(ScanError::at(self.line, stop));
             }
         }
         Ok(())
@@ -160,10 +160,10 @@ impl<K: Keep> Scanner<K> {
 
     /// The next byte, no CR that ends a line.
     #[inline(always)]
-    fn take_byte(&mut self, byte: u8) -> Result<(), Halt>
+    fn take_byte(&mut self, byte: u8) -> Result<(), ScanError>
         requires { self.old.line < 2 ^ 64 - 1 }
         ensures steps { Steps (state K.keep self.new) result (byte_step (state K.keep self.old) byte) }
-        ensures memory { AsksHere (state K.keep self.old) result }
+        ensures memory { NeedsMemoryHere (state K.keep self.old) result }
         ensures line { self.new.line ≤ self.old.line + 1 }
         ensures waiting { self.new.waiting ≡ self.old.waiting }
     {
@@ -183,12 +183,12 @@ impl<K: Keep> Scanner<K> {
         }
     }
 
-    /// Takes this word, which with its blank has so many bytes in front; tells how many.
+    /// Takes this word, which with its blank has so many bytes at the start; answers how many.
     #[inline(always)]
-    pub fn take_word(&mut self, word: Word, taken: usize) -> Result<usize, Halt>
+    pub fn take_word(&mut self, word: Word, taken: usize) -> Result<usize, ScanError>
         requires waits { self.old.waiting ≡ false }
         requires before { is_before_word self.old.mode ≡ true }
-        ensures scanned { (bytes : List ℕ) → IsFront bytes word taken
+        ensures scanned { (bytes : List ℕ) → IsLeadingToken bytes word taken
             → ScansTo (state K.keep self.old) (state K.keep self.new) self.new.waiting bytes result }
         ensures count { IfOk result (λ count. count ≡ taken) }
         ensures mode { OnOk result (self.new.mode ≡ Mode.Between) }
@@ -197,31 +197,31 @@ impl<K: Keep> Scanner<K> {
         ensures waiting { self.new.waiting ≡ self.old.waiting }
     {
         if let Err(stop) = self.parser.take_word(word) {
-            return Err(Halt::at(self.line, stop));
+            return Err(ScanError::at(self.line, stop));
         }
         self.mode = Mode::Between;
         Ok(taken)
     }
 
-    /// Whole words in front; tells how many bytes they and their blanks have.
-    fn read_words(&mut self, bytes: &[u8]) -> Result<usize, Halt>
+    /// Whole words at the start; answers how many bytes they and their blanks have.
+    fn read_words(&mut self, bytes: &[u8]) -> Result<usize, ScanError>
         requires waits { self.old.waiting ≡ false }
         requires before { is_before_word self.old.mode ≡ true }
         ensures scanned { ScansTo (state K.keep self.old) (state K.keep self.new) self.new.waiting bytes.now result }
         ensures line { self.new.line ≡ self.old.line }
     {
         let mut place = 0;
-        while let Some((word, taken)) = front(&bytes[place..]) {
+        while let Some((word, taken)) = leading_token(&bytes[place..]) {
             place += self.take_word(word, taken)?;
         }
         Ok(place)
     }
 
-    /// Goes on with a comment or a number as far as it goes, or reads whole words; tells how many bytes these have.
-    fn go_on(&mut self, bytes: &[u8]) -> Result<usize, Halt>
+    /// Continues a comment or a number as far as it reaches, or reads whole words; answers how many bytes these have.
+    fn go_on(&mut self, bytes: &[u8]) -> Result<usize, ScanError>
         requires waits { self.old.waiting ≡ false }
         requires some { 0 < length bytes.now }
-        requires room { self.old.line + length bytes.now < 2 ^ 64 }
+        requires space { self.old.line + length bytes.now < 2 ^ 64 }
         ensures scanned { ScansTo (state K.keep self.old) (state K.keep self.new) self.new.waiting bytes.now result }
         ensures line { IfOk result (λ count. self.new.line ≤ self.old.line + count) }
         ensures most { self.new.line ≤ self.old.line + length bytes.now }
@@ -244,11 +244,11 @@ impl<K: Keep> Scanner<K> {
     }
 
     /// The next bytes, behind no CR that waits.
-    fn scan(&mut self, bytes: &[u8]) -> Result<(), Halt>
+    fn scan(&mut self, bytes: &[u8]) -> Result<(), ScanError>
         requires waits { self.old.waiting ≡ false }
-        requires room { self.old.line + length bytes.now < 2 ^ 64 }
+        requires space { self.old.line + length bytes.now < 2 ^ 64 }
         ensures steps { Steps (state K.keep self.new) result (scan (state K.keep self.old) (settled bytes.now)) }
-        ensures memory { Asks (state K.keep self.old) (settled bytes.now) result }
+        ensures memory { NeedsMemory (state K.keep self.old) (settled bytes.now) result }
         ensures waiting { OnOk result (self.new.waiting ≡ waits bytes.now) }
         ensures line { self.new.line ≤ self.old.line + length bytes.now }
     {
@@ -271,11 +271,11 @@ impl<K: Keep> Scanner<K> {
     }
 
     /// The next bytes.
-    pub fn take(&mut self, bytes: &[u8]) -> Result<(), Halt>
+    pub fn take(&mut self, bytes: &[u8]) -> Result<(), ScanError>
         requires { self.old.line + length bytes.now < 2 ^ 64 - 1 }
         ensures steps { Steps (state K.keep self.new) result
             (scan (state K.keep self.old) (settled (carried self.old.waiting bytes.now))) }
-        ensures memory { Asks (state K.keep self.old) (settled (carried self.old.waiting bytes.now)) result }
+        ensures memory { NeedsMemory (state K.keep self.old) (settled (carried self.old.waiting bytes.now)) result }
         ensures waiting { OnOk result (self.new.waiting ≡ waits (carried self.old.waiting bytes.now)) }
         ensures line { self.new.line ≤ self.old.line + length bytes.now + 1 }
     {
@@ -290,10 +290,10 @@ impl<K: Keep> Scanner<K> {
     }
 
     /// The end of the input.
-    fn end(&mut self) -> Result<(), Halt>
+    fn end(&mut self) -> Result<(), ScanError>
         requires { self.old.line < 2 ^ 64 - 2 }
         ensures steps { Steps (state K.keep self.new) result (end_of self.old.waiting (state K.keep self.old)) }
-        ensures memory { AsksHere (state K.keep self.old) result }
+        ensures memory { NeedsMemoryHere (state K.keep self.old) result }
     {
         if self.waiting {
             self.take_byte(b' ')?;
@@ -306,7 +306,7 @@ impl<K: Keep> Scanner<K> {
         self.end_word()?;
         self.end_words()?;
         if self.parser.is_due() {
-            return Err(Halt::Fault(ReadFault {
+            return Err(ScanError::Fault(ReadFault {
                 line: lines,
                 kind: Kind::Missing,
             }));
@@ -315,15 +315,15 @@ impl<K: Keep> Scanner<K> {
     }
 
     /// The end of the input: what the header lines said, and what is kept of the bids.
-    pub fn finish(mut self) -> Result<(Header, K), Halt>
+    pub fn finish(mut self) -> Result<(Header, K), ScanError>
         requires { self.line < 2 ^ 64 - 2 }
         ensures steps { Finishes (ArePartsOf K.bids) result (end_of self.waiting (state K.keep self)) }
-        ensures memory { AsksAtEnd self.waiting (state K.keep self) result }
+        ensures memory { NeedsMemoryAtEnd self.waiting (state K.keep self) result }
     {
         self.end()?;
         match self.parser.into_parts() {
             Ok(parts) => Ok(parts),
-            Err(_) => Err(Halt::Memory),
+            Err(_) => Err(ScanError::Memory),
         }
     }
 }

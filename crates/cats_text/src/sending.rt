@@ -24,14 +24,14 @@ ghost use Rattle.cats_text.specs.Layout.{headers_text, layout};
 ghost use Rattle.cats_text.specs.declared.sending.TheConstants.{PAGE};
 ghost use Rattle.cats_text.specs.Streams.{inner_of, has_failed, has_ended, Sends, SendsPart, SendsWhole};
 
-use crate::fault::SendFault;
 use crate::layout::{LONGEST_LINE, push_header, write_bid};
+use crate::read_fault::SendFault;
 use crate::stream::Watched;
 use bid_file::Bids;
 use std::alloc::{AllocError, Global};
 use std::io::Write;
 
-/// Sends the whole text and then flushes once. Where the writer fails, what went out is the beginning of the text that
+/// Sends the whole text and then flushes once. Where the writer fails, what was sent is the beginning of the text that
 /// the fault counts.
 pub fn send<W: Write>(out: &mut Watched<W>, text: &[u8]) -> Result<(), SendFault>
     requires { has_failed out.old ≡ false }
@@ -72,7 +72,7 @@ fn send_bids<W: Write, B: Bids>(
     requires works { has_failed out.old ≡ false }
     requires file { IsPlainFile (B.file file.now) }
     requires header { let f = B.file file.now in page.items ≡ headers_text f.goods (length f.bids) f.dummy }
-    requires room { PAGE ≤ vec_capacity page }
+    requires space { PAGE ≤ vec_capacity page }
     ensures sends { Sends W.contents out.old out.new (layout (B.file file.now)) result }
     ensures ended { has_ended out.new ≡ has_ended out.old }
 {
@@ -81,7 +81,7 @@ fn send_bids<W: Write, B: Bids>(
     for number in 0..file.len() {
         let start = write_bid(file, number, &mut line);
         let text = &line[start..];
-        written = make_room(out, &mut page, text.len(), written)?;
+        written = flush_unless_fits(out, &mut page, text.len(), written)?;
         let Ok(()) = page.extend_from_slice(text) else {
             unreachable!()
         };
@@ -90,9 +90,9 @@ fn send_bids<W: Write, B: Bids>(
     flush(out, written + page.len() as u64)
 }
 
-/// Sends and empties a page that has no room for so many bytes more, of a text of which so many went out before, and
-/// returns how many have gone out.
-fn make_room<W: Write>(
+/// Sends and empties a page that has no space for so many bytes more, of a text of which so many bytes were sent before, and
+/// returns how many have been sent.
+fn flush_unless_fits<W: Write>(
     out: &mut Watched<W>,
     page: &mut Vec<u8>,
     more: usize,
@@ -104,7 +104,7 @@ fn make_room<W: Write>(
     ensures count { IfOk result (λ count. before ≤ count × count ≤ before + length page.old.items) }
     ensures sent { IfOk result (λ count. SendsWhole W.contents out.old out.new (take (count - before) page.old.items)) }
     ensures left { IfOk result (λ count. page.new.items ≡ drop (count - before) page.old.items) }
-    ensures room { OnOk result (length page.new.items + more ≤ PAGE) }
+    ensures space { OnOk result (length page.new.items + more ≤ PAGE) }
     ensures capacity { vec_capacity page.new ≡ vec_capacity page.old }
     ensures counts { IfErr result (λ fault. before ≤ fault.written) }
     ensures part { IfErr result (λ fault.
@@ -120,7 +120,7 @@ fn make_room<W: Write>(
     Ok(written)
 }
 
-/// Sends a piece of a text, of which so many bytes went out before.
+/// Sends a piece of a text, of which so many bytes were sent before.
 fn send_piece<W: Write>(out: &mut Watched<W>, piece: &[u8], before: u64) -> Result<(), SendFault>
     requires works { has_failed out.old ≡ false }
     requires counted { before + length piece.now < 2 ^ 64 }

@@ -1,4 +1,4 @@
-//! Readers and writers that are watched for failures, and reading a stream.
+//! `Watched` readers and writers, and reading a stream.
 
 ghost use Rattle.std.specs.Prelude.{
   ◌≡◌,
@@ -30,11 +30,11 @@ ghost use Rattle.cats_text.specs.Streams.{
   FeedsFrom,
 };
 
-use crate::fault::{Kind, ReadFault};
-use crate::feeder::{Feeder, finish_packed, unpacked};
 use crate::keep::{BidCount, Keep};
 use crate::limits::MAX_STREAM;
 use crate::parser::Header;
+use crate::push_reader::{PushReader, finish_packed, unpacked};
+use crate::read_fault::{Kind, ReadFault};
 use bid_file::{BidFile, PackedBids, PackedFile};
 use std::alloc::Global;
 use std::io;
@@ -176,7 +176,7 @@ pub fn read_from<R: Read>(alloc: Global, input: &mut Watched<R>) -> Result<BidFi
     unpacked(alloc, &file)
 }
 
-/// Reads the whole stream as `read_from` does, as a file in little memory: the goods of all bids stand together, and so
+/// Reads the whole stream as `read_from` does, as a file in little memory: the goods of all bids are together, and so
 /// a file of many bids takes less memory and less time.
 pub fn read_packed_from<R: Read>(
     alloc: Global,
@@ -187,9 +187,9 @@ pub fn read_packed_from<R: Read>(
     ensures { (bytes : List ℕ) × Consumes (R.remaining (inner_of input.old)) (R.remaining (inner_of input.new)) bytes
         × ReadsPlainAs R.remaining bytes input.new result }
 {
-    let mut feeder: Feeder<PackedBids> = Feeder::new(alloc, MAX_STREAM);
-    feed_from(&mut feeder, input)?;
-    finish_packed(feeder)
+    let mut push_reader: PushReader<PackedBids> = PushReader::new(alloc, MAX_STREAM);
+    feed_from(&mut push_reader, input)?;
+    finish_packed(push_reader)
 }
 
 /// Judges the whole stream as `read_from` does, and answers what the header lines of its file say: how many goods, bids
@@ -200,29 +200,29 @@ pub fn check_from<R: Read>(alloc: Global, input: &mut Watched<R>) -> Result<Head
     ensures { (bytes : List ℕ) × Consumes (R.remaining (inner_of input.old)) (R.remaining (inner_of input.new)) bytes
         × ChecksAs R.remaining bytes input.new result }
 {
-    let mut feeder: Feeder<BidCount> = Feeder::new(alloc, MAX_STREAM);
-    feed_from(&mut feeder, input)?;
-    let (header, _count) = feeder.finish()?;
+    let mut push_reader: PushReader<BidCount> = PushReader::new(alloc, MAX_STREAM);
+    feed_from(&mut push_reader, input)?;
+    let (header, _count) = push_reader.finish()?;
     Ok(header)
 }
 
 /// Feeds the whole stream, a piece at a time.
 fn feed_from<K: Keep, R: Read>(
-    feeder: &mut Feeder<K>,
+    push_reader: &mut PushReader<K>,
     input: &mut Watched<R>,
 ) -> Result<(), ReadFault>
     requires works { has_failed input.old ≡ false }
     requires fresh { has_ended input.old ≡ false }
-    requires new { feeder.old ≡ record { limit = MAX_STREAM; bytes = []; failed = None } }
+    requires new { push_reader.old ≡ record { limit = MAX_STREAM; bytes = []; failed = None } }
     ensures bytes { Consumes (R.remaining (inner_of input.old)) (R.remaining (inner_of input.new))
-        feeder.new.bytes }
-    ensures answer { FeedsFrom R.remaining feeder.new input.new result }
+        push_reader.new.bytes }
+    ensures answer { FeedsFrom R.remaining push_reader.new input.new result }
 {
     let mut piece = [0; PIECE];
     loop {
         match input.read(&mut piece) {
             Ok(0) => return Ok(()),
-            Ok(count) => feeder.feed(&piece[..count])?,
+            Ok(count) => push_reader.feed(&piece[..count])?,
             Err(_) => return Err(device_failed()),
         }
     }

@@ -1,4 +1,4 @@
-//! What the reader keeps of a word: enough for every test that the grammar makes of it, whatever the word's length.
+//! What the reader keeps of a word. It suffices for every test of the grammar, whatever the word's length.
 
 ghost use Rattle.std.specs.Prelude.{◌≡◌, ◌≤◌};
 ghost use Rattle.cats_text.specs.Internal.Keywords.{keyword_text};

@@ -11,7 +11,7 @@ ghost use Rattle.cats_text.specs.Reading.{PackedAnswer};
 ghost use Rattle.cats_text.specs.Streams.{ReadsPlainAs, ChecksAs, Sends, moved_nothing, failed_to_write};
 ghost use Rattle.cats_text.specs.Layout.{layout, price_text, six_digits};
 ghost use Rattle.cats_text.specs.declared.limits.TheConstants.{MAX_STREAM};
-ghost use Rattle.cats_text.specs.declared.fault.Kind.TheVariants.{
+ghost use Rattle.cats_text.specs.declared.read_fault.Kind.TheVariants.{
   Header,
   NotANumber,
   TooLarge,

@@ -18,8 +18,8 @@ use Rattle.canon.specs.Lemmas.BidderDifferences.{least_uneven, least_uneven_is, 
 use Rattle.canon.specs.Lemmas.CanonicalOrders.{or_atoms_in_order}
 use Rattle.canon.specs.Lemmas.OrDifferences.{are_unequal, equal_test, ArePoints}
 use Rattle.canon.specs.Sameness.{IsSameAuction}
-use Rattle.canon.proofs.Atoms.{HasAtoms}
-use Rattle.canon.proofs.Differences.{at_same_goods, at_other_goods, same_from_no_difference, no_difference_from_same}
+use Rattle.canon.proofs.CanonicalAuctions.Atoms.{HasAtoms}
+use Rattle.canon.proofs.Comparing.Differences.{at_same_goods, at_other_goods, same_from_no_difference, no_difference_from_same}
 use Rattle.differences.specs.BidderChanges.{PlainBidderChange, IsBidderChange, AreBidderChanges, bidder_at}
 use Rattle.differences.specs.Differences.{AreAllDifferences, BeginsWith, DifferInBids, InBids, InGoods, PlainDifferences, is_none_at_all}
 use Rattle.differences.specs.PriceChanges.{PlainChange}

@@ -18,7 +18,7 @@ use Rattle.prune.specs.InOrder.{IsInOrder}
 use Rattle.canon.specs.Bidders.{AreBidders, offers}
 use Rattle.canon.specs.Canonical.{IsCanonical, IsCanonicalFile, canonical_auction}
 use Rattle.canon.specs.Lemmas.CanonicalOrders.{or_atoms_in_order, bidders_ordered, each_in_order}
-use Rattle.canon.proofs.Files.{auction_from-file_from}
+use Rattle.canon.proofs.CanonicalFiles.Files.{auction_from-file_from}
 use Rattle.differences.specs.BidderChanges.{excess_bidders, is_excess}
 use Rattle.differences.specs.Internal.Orders.{NeverFall}
 

@@ -14,7 +14,7 @@ use Rattle.valuation.specs.Auctions.{auction_from}
 use Rattle.canon.specs.Canonical.{bid_from, dummy_bids, canonical_auction, canonical_file}
 use Rattle.canon.specs.Renaming.{kept_bids, kept_dummies, named_bid, points_of_dummy}
 use Rattle.canon.specs.declared.named.NamedFile.{NamedFile}
-use Rattle.canon.proofs.Texts.{IsPlainFile-canonical}
+use Rattle.canon.proofs.CanonicalFiles.Texts.{IsPlainFile-canonical}
 use Rattle.explain.specs.Bids.{bid_at, is_best, IsBestFor}
 use Rattle.explain.specs.Reasons.{IsKeptAs}
 use Rattle.explain.specs.Internal.Deciding.{IsNoPoint}

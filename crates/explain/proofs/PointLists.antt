@@ -15,7 +15,7 @@ use Rattle.prune.specs.Points.{or_points}
 use Rattle.prune.specs.Reached.{HaveGoods}
 use Rattle.canon.specs.Canonical.{bid_from, canonical_auction, canonical_file}
 use Rattle.canon.specs.Renaming.{kept_bids, kept_dummies, named_bid, named_dummy}
-use Rattle.canon.proofs.Files.{auction_from-file_from}
+use Rattle.canon.proofs.CanonicalFiles.Files.{auction_from-file_from}
 use Rattle.explain.specs.Bids.{bid_at}
 use Rattle.explain.specs.Reasons.{IsKeptAs}
 use Rattle.explain.specs.Internal.BidderPoints.{points_at, IsPointOf, ArePoints, AreFilePoints, HasNone, HasMore}

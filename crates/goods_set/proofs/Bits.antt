@@ -1,4 +1,4 @@
--- One good's bit in the words of a set: read, set, and in a set with no goods. It stands in the word of the good, at the good modulo
+-- One good's bit in the words of a set: read, set, and in a set with no goods. It is in the word of the good, at the good modulo
 -- 64, and setting it leaves all others as they are.
 use Rattle.std.proofs.Common.{◌≡◌, ℕ, ◌*◌, ◌/◌, ◌%◌, ◌^◌, min, ◌<◌, ◌≤◌, ◌≢◌, true, false, not, eqb, ltb, ◌⊎◌, inl, inr, ⊎_elim, List, [], length, get_or, take}
 use Rattle.std.proofs.Common.{set, replicate, refl, sym, ap, ◌∙◌, subst, arith, w64, shl_exact, pow_pos, get_or-set_same, get_or-set_other, get_or-take}

@@ -78,7 +78,7 @@ pub equal_words : (n : ℕ) (us vs : List ℕ) → AreSameWords us vs n → slic
 equal_words n us vs h = subst (λ xs. slice_cmp nat_cmp (word_goods (64 * n) us) xs ≡ Equal) (word_goods_same (64 * n) us vs (λ g l. same_bits us vs n g h l))
     (tied_itself nat_list_cmp_total (word_goods (64 * n) us))
 
--- what the lowest one of `x ^ y` tells
+-- what the lowest one of `x ^ y` says
 pub record DiffersFirst (x y i : ℕ) : Type 0 where
   pub within : i < 64
   pub differs : bit_at x i + bit_at y i ≡ 1

@@ -1,4 +1,4 @@
--- A loop that takes words eight at a time: what a fold of lanes tells of each, and what the lanes are of the words.
+-- A loop that takes words eight at a time: what a fold of lanes says of each, and what the lanes are of the words.
 use Rattle.std.proofs.Common.{◌≡◌, ℕ, zero, suc, ◌+◌, ◌-◌, ◌<◌, ◌≤◌, ◌≢◌, ⊎_elim, List, [], ◌∷◌, map, length, get_or, refl, sym, ap, ap₂, ◌∙◌, subst, arith}
 use Rattle.std.proofs.Common.{w64}
 use Rattle.std.specs.Simd.Lanes.{zip2, chunk, fold_l, put_chunk}

@@ -95,6 +95,6 @@ with_long_bit ws g w d e l =
     ∙ ap (λ x. word_goods (64 * length ws) (set ws (g / 64) (bit_or x (1 * 2 ^ (g % 64) % 2 ^ 64)))) (e ∙ get_or_default_zero ws (g / 64) d l)
     ∙ with_bit (64 * length ws) ws g (g / 64) refl l (omega arith)
 
--- what stands of a vector whose items were written through a slice
+-- what is in a vector whose items were written through a slice
 pub written_back : (ws vs : List ℕ) (n : ℕ) → length vs ≡ length ws → n ≡ length ws → take n (vs ++ drop (length vs) ws) ≡ vs
 written_back ws vs n e f = ap (λ xs. take n (vs ++ xs)) (drop_all (length vs) ws (omega arith)) ∙ ap (take n) (append-nil vs) ∙ take_all n vs (omega arith)

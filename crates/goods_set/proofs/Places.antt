@@ -1,4 +1,4 @@
--- Where a good stands in a rising list, or where it goes: what a binary search and a partition point tell.
+-- Where a good is in a rising list, or where it goes: what a binary search and a partition point say.
 use Rattle.std.proofs.Common.{◌≡◌, ℕ, zero, suc, ◌+◌, ◌<◌, ◌≤◌, true, false, eqb, ltb, List, [], ◌∷◌, length, get_or, refl, sym, ap, ◌∙◌}
 use Rattle.std.proofs.Common.{arith, subst, MatchResult, Bor}
 use Rattle.std.specs.Prelude.{Result, Ok, Err, Option, Some, None}

@@ -1,4 +1,4 @@
--- Bundles of goods (Nisan, "Bidding and allocation in combinatorial auctions", 2000): a bundle over G goods is a
+-- Bundles of goods. After Nisan ("Bidding and allocation in combinatorial auctions", 2000), a bundle over G goods is a
 -- strictly rising list of numbers below G. Inside, apart and without are those of sets.
 use Rattle.std.specs.Prelude.{ℕ, ◌<◌, zero, suc, ◌+◌, ◌==◌, nat_lt, nat_le, Bool, not, IsTrue, cond, List, [], ◌∷◌}
 use Rattle.std.specs.Prelude.{◌++◌, map, Option}

@@ -1,4 +1,4 @@
--- The fingerprint of a bundle: each of its goods marks one of 128 bits.
+-- The fingerprint of a bundle. Each of its goods marks one of 128 bits.
 use Rattle.std.specs.Prelude.{ℕ, ◌≡◌, ◌+◌, ◌*◌, ◌/◌, ◌%◌, ◌==◌, nat_lt, cond, true, List}
 use Rattle.std.specs.Int.{bit_at}
 use Rattle.goods_set.specs.Bundles.{has_good}

@@ -1,4 +1,4 @@
--- The order of bundles: by size, then lexicographically by their rising lists of goods.
+-- The order of bundles. It is by size, then lexicographic by their rising lists of goods.
 use Rattle.std.proofs.Common.{ℕ, List, length, Ordering, nat_cmp}
 use Rattle.std.specs.Ordering.{ordering_then}
 use Rattle.std.specs.Cmp.Lexicographic.{slice_cmp}

@@ -1,4 +1,4 @@
--- The goods of a set of each type, and the indices of a long mask.
+-- The goods of sets, and the indices of masks.
 use Rattle.std.specs.Prelude.{ℕ, ◌*◌, List, length}
 use Rattle.goods_set.specs.declared.list_set.ListSet.{ListSet}
 use Rattle.goods_set.specs.declared.long_mask.LongMask.{LongMask}

@@ -1,4 +1,4 @@
--- How many goods a list has and the first three of them, as one number of 16 bits each, the size in the highest. The
+-- The sort key of a list of goods. It has its size and its first three goods, 16 bits each, the size highest. The
 -- longest lists have no goods in it.
 use Rattle.std.specs.Prelude.{ℕ, ◌+◌, ◌*◌, ◌^◌, List, length, get_or, cond, nat_lt}
 

@@ -1,4 +1,4 @@
--- Bundles as words of 64 bits: the good g is bit g % 64 of word g / 64.
+-- Bundles as words of 64 bits. The good g is bit g % 64 of word g / 64.
 use Rattle.std.proofs.Common.{ℕ, ◌*◌, ◌/◌, ◌%◌, min, eqb, List, get_or}
 use Rattle.std.specs.List.{filter, range_with_len}
 use Rattle.std.specs.Int.{bit_at}

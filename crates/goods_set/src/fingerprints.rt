@@ -1,4 +1,4 @@
-//! Fingerprints of bundles: most bundles that are not inside another are told from it without a look at their goods.
+//! Fingerprints of bundles. Most bundles that are not inside another are rejected without reading their goods.
 ghost use Rattle.std.specs.Prelude.{◌≡◌, ℕ, true, List};
 ghost use Rattle.goods_set.specs.Bundles.{IsInside};
 ghost use Rattle.goods_set.specs.Fingerprints.{AreMarks, mark_of};

@@ -1,4 +1,4 @@
-//! The laws of bundles, over lists of goods: the sets have them too, as laws of the trait.
+//! The laws of bundles, over lists of goods. The sets have them too, as laws of the trait.
 ghost use Rattle.std.specs.Prelude.{◌≡◌, ◌<◌, ◌⊎◌, ℕ, List};
 ghost use Rattle.std.specs.List.{All, AllPairs, Contains};
 ghost use Rattle.std.specs.Cmp.{IsTotalOrder};

@@ -1,4 +1,4 @@
-//! The least mask that holds so many indices.
+//! The smallest mask for a number of indices.
 
 /// Calls a function that is generic over masks, behind its first type, on the least that holds so many indices.
 #[macro_export]

@@ -1,4 +1,4 @@
-//! Bundles of goods: the trait that values, pruning and the canonical form are written over, a list
+//! Bundles of goods. The crate has the trait that values, pruning and the canonical form are written over, a list
 //! and a bit set that implement it, and the order of bundles.
 #![tactic(auto)]
 

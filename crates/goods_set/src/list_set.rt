@@ -6,7 +6,7 @@ ghost use Rattle.std.specs.Prelude.{◌≡◌, ◌<◌, ◌≤◌, [], length, n
 ghost use Rattle.std.specs.List.{insert};
 ghost use Rattle.std.specs.List.Sorted.{IsPartitionPoint};
 ghost use Rattle.goods_set.specs.Bundles.{IsBundle, has_good, is_inside, with_good, without};
-ghost use Rattle.goods_set.specs.declared.list_set.few.TheConstants.{FEW};
+ghost use Rattle.goods_set.specs.declared.list_set.few.TheConstants.{INLINE_GOODS};
 ghost use Rattle.goods_set.specs.Lemmas.BundleFacts.{IsBundle-prop};
 
 use crate::list_set::few::FewGoods;
@@ -47,7 +47,7 @@ impl ListSet {
         ListSet { goods: rising }
     }
 
-    // Where the good stands, or else where it goes.
+    // Where the good is, or else where it goes.
     fn place(&self, good: u16) -> Result<usize, usize>
         ensures { MatchResult result
             (λ i. has_good self.now.goods good ≡ true)
@@ -70,7 +70,7 @@ impl ListSet {
 
     // The few goods that are not in the set.
     fn left_of(&self, goods: &[u16]) -> FewGoods
-        requires { length goods.now ≤ FEW }
+        requires { length goods.now ≤ INLINE_GOODS }
         ensures { result ≡ without goods.now self.now.goods }
     {
         let mut left = FewGoods::none();

@@ -1,4 +1,4 @@
-//! The goods of a set, one after another.
+//! The goods of a set as a list.
 ghost use Rattle.std.specs.Prelude.{◌≡◌, IfOk};
 
 use crate::set::GoodsSet;
@@ -13,19 +13,19 @@ pub fn goods_of<S: GoodsSet>(alloc: Global, set: &S) -> Result<Vec<u16>, AllocEr
     Ok(goods)
 }
 
-/// The goods of a set, rising: where they stand so in memory, or else in `room`, in the place of what stood there.
+/// The goods of a set, rising: where they are so in memory, or else in `buffer`, in the place of what was there.
 pub fn rising_goods<'a, S: GoodsSet>(
     set: &'a S,
-    room: &'a mut Vec<u16>,
+    buffer: &'a mut Vec<u16>,
 ) -> Result<&'a [u16], AllocError>
     ensures { IfOk result (λ goods. goods.now ≡ S.goods set.now) }
 {
     match set.as_slice() {
         Some(goods) => Ok(goods),
         None => {
-            room.clear();
-            set.list_into(room)?;
-            Ok(room.as_slice())
+            buffer.clear();
+            set.list_into(buffer)?;
+            Ok(buffer.as_slice())
         }
     }
 }

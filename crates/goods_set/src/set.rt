@@ -1,4 +1,4 @@
-//! What the crates above know of a set of goods.
+//! The trait `GoodsSet`: what the crates above know of sets.
 ghost use Rattle.std.specs.Prelude.{◌≡◌, ◌⊎◌, ℕ, ◌<◌, ◌≤◌, List, [], ◌++◌, not, length, IfOk, IfSome, OnOk, OnErr};
 ghost use Rattle.std.specs.Cmp.{IsTotalOrder};
 ghost use Rattle.std.specs.declared.cmp.Ordering.TheVariants.{Less, Equal};
@@ -43,7 +43,7 @@ pub trait GoodsSet: Sized + Drop {
         requires below { AreBelow CAP rising.now }
         ensures { IfOk result (λ s. goods s ≡ rising.now) };
 
-    /// Puts a good in, and says whether it is new. Where memory is refused the set is as it was.
+    /// Puts a good in, and says whether it is new. If memory is refused the set is as it was.
     fn put(&mut self, good: u16) -> Result<bool, AllocError>
         requires { good < CAP }
         ensures added { IfOk result (λ new. new ≡ not (has_good (goods self.old) good)) }
@@ -62,11 +62,11 @@ pub trait GoodsSet: Sized + Drop {
     fn next_from(&self, from: u32) -> Option<u16>
         ensures { result ≡ good_from (goods self.now) from };
 
-    /// Appends the goods of the set, rising. Where memory is refused, some of them may stand there.
+    /// Appends the goods of the set, rising. If memory is refused, some of them may be there.
     fn list_into(&self, out: &mut Vec<u16>) -> Result<(), AllocError>
         ensures { OnOk result (out.new.items ≡ out.old.items ++ goods self.now) };
 
-    /// The goods, rising, where they stand so in memory.
+    /// The goods, rising, where they are so in memory.
     fn as_slice(&self) -> Option<&[u16]>
         ensures { IfSome result (λ listed. listed.now ≡ goods self.now) };
 

@@ -1,4 +1,4 @@
-//! The number that a set is sorted by before its goods are looked at. It is only for speed: the order of sets doesn't
+//! The sort keys of sets, compared before their goods. They are only for speed: the order of sets doesn't
 //! depend on it.
 ghost use Rattle.std.specs.Prelude.{◌≡◌, ℕ, ◌+◌, List, length, get_or};
 ghost use Rattle.std.specs.List.{slice_get};

@@ -1,6 +1,6 @@
 -- What a fault of a pruning says.
-use Rattle.prune.specs.declared.fault.PruneFault.{PruneFault}
-use Rattle.prune.specs.declared.fault.PruneFault.TheVariants.{StepLimit, Memory}
+use Rattle.prune.specs.declared.prune_fault.PruneFault.{PruneFault}
+use Rattle.prune.specs.declared.prune_fault.PruneFault.TheVariants.{StepLimit, Memory}
 
 -- if the fault is a step limit, the fact holds of its bundle
 abbrev pub IfStepLimit : {S : Type 0} → PruneFault S → (S → Type 0) → Type 0

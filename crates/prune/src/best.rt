@@ -3,7 +3,7 @@ ghost use Rattle.std.specs.Prelude.{◌≤◌, OnOk, vec_len};
 ghost use Rattle.valuation.specs.Values.{atoms_of};
 ghost use Rattle.prune.specs.Internal.BestBids.{AreBestBids};
 
-use crate::sorting::{order_of_bids, put_in_order};
+use crate::sorting::{greater_price_first, put_in_order};
 use goods_set::GoodsSet;
 use std::alloc::{AllocError, Global};
 use valuation::Atom;
@@ -15,7 +15,7 @@ pub fn keep_best_bids<S: GoodsSet>(alloc: Global, bids: &mut Vec<Atom<S>>) -> Re
 {
     bids.retain(|bid| bid.price > 0);
     put_in_order(alloc, bids)?;
-    bids.sort_unstable_by(|a, b| order_of_bids(a, b));
+    bids.sort_unstable_by(|a, b| greater_price_first(a, b));
     // In order, a later bid's bundle is inside that of the one before it only if the two are the same.
     bids.dedup_by(|later, best| later.bundle.is_inside(&best.bundle));
     Ok(())

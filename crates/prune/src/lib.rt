@@ -1,22 +1,21 @@
-//! Pruning: of a bidder's atomic bids exactly the points are kept, the bids that its values need.
+//! Pruning: the bids that a bidder's values need. Of its atomic bids exactly these, the points, are kept.
 #![tactic(auto)]
 
 mod best;
 mod commonness;
-mod fault;
 mod laws;
 mod or;
 mod packing_finder;
+mod packing_search;
 mod point_index;
 mod posting;
 mod prefix;
-mod search;
+mod prune_fault;
 mod sorting;
 mod subset_index;
 mod worked;
 mod xor;
 
-pub use fault::PruneFault;
 pub use laws::{
     goods_without_bids, no_new_heavy_bundle, no_points_no_values, none_heavy_for_points,
     points_are, points_are_bids, points_keep_values, points_of_points, same_tables_same_points,
@@ -24,5 +23,6 @@ pub use laws::{
 };
 pub use or::prune_or;
 pub use point_index::PointIndex;
+pub use prune_fault::PruneFault;
 pub use worked::{or_points_worked, steps_worked, xor_points_worked};
 pub use xor::prune_xor;

@@ -1,4 +1,4 @@
-//! The points that a pruning kept, found by their goods: which of them reach the price of a bid that was dropped.
+//! `PointIndex`: the kept points, found by their goods. It answers which of them reach the price of a dropped bid.
 ghost use Rattle.std.specs.Prelude.{◌≡◌, ◌+◌, ◌<◌, ◌≤◌, None, IfOk, IfSome, IsErrOf};
 ghost use Rattle.valuation.specs.Values.{atoms_of, or_value, xor_value};
 ghost use Rattle.prune.specs.Internal.PointIndexes.{IsPointIndex, MayFind};
@@ -7,7 +7,7 @@ ghost use Rattle.prune.specs.SearchSteps.{atoms_inside, cut_steps};
 
 use crate::packing_finder::PackingFinder;
 use crate::subset_index::SubsetIndex;
-use crate::xor::{FEW, first_dominating};
+use crate::xor::{PAIRWISE, first_dominating};
 use goods_set::{GoodsSet, rising_goods};
 use std::alloc::{AllocError, Global};
 use std::marker::Model;
@@ -77,7 +77,7 @@ impl<'a, S: GoodsSet> PointIndex<'a, S> {
             → 0 < bid.now.price → xor_value self.old (S.goods bid.now.bundle) < bid.now.price) }
     {
         let points = self.points;
-        if points.len() <= FEW {
+        if points.len() <= PAIRWISE {
             return Ok(first_dominating(bid, points));
         }
         let finder = finder_of(self.alloc, points, self.finder.take())?;

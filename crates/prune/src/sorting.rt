@@ -1,4 +1,4 @@
-//! Bids put in order, mostly by the sort keys of their bundles, which are numbers: the bids' indices are sorted by these,
+//! Bids put in order, mostly by sort keys. These are numbers: the bids' indices are sorted by these,
 //! sets are compared only if keys are equal, and a bid is moved once or twice. It is only for speed: no clause says that
 //! the bids are in order, and who needs that sorts them, which then takes no more than to find them in order.
 ghost use Rattle.std.specs.Prelude.{◌≡◌, vec_len, IsPermutation};
@@ -11,7 +11,7 @@ use std::cmp::Ordering;
 use valuation::Atom;
 
 /// So few bids are left as they are: to sort them without keys takes less time than to list the keys.
-const FEW: usize = 32;
+const SHORT_LIST: usize = 32;
 
 /// A bid, by the sort key of its bundle and its place.
 #[derive(Clone, Copy)]
@@ -21,7 +21,7 @@ struct KeyedPlace {
 }
 
 /// The order of bids: by bundle, and on one bundle the greater price first.
-pub fn order_of_bids<S: GoodsSet>(one: &Atom<S>, other: &Atom<S>) -> Ordering
+pub fn greater_price_first<S: GoodsSet>(one: &Atom<S>, other: &Atom<S>) -> Ordering
     ensures { result ≡ bid_cmp (plain_atom S.goods one.now) (plain_atom S.goods other.now) }
 {
     one.bundle
@@ -33,7 +33,7 @@ pub fn order_of_bids<S: GoodsSet>(one: &Atom<S>, other: &Atom<S>) -> Ordering
 fn order_by_keys<S: GoodsSet>(bids: &[Atom<S>], one: &KeyedPlace, other: &KeyedPlace) -> Ordering {
     match one.key.cmp(&other.key) {
         Ordering::Equal => match (bids.get(one.place), bids.get(other.place)) {
-            (Some(one), Some(other)) => order_of_bids(one, other),
+            (Some(one), Some(other)) => greater_price_first(one, other),
             _ => Ordering::Equal,
         },
         unequal => unequal,
@@ -76,7 +76,7 @@ pub fn put_in_order<S: GoodsSet>(alloc: Global, bids: &mut Vec<Atom<S>>) -> Resu
     ensures permutation { IsPermutation bids.old.items bids.new.items }
     ensures len { vec_len bids.new ≡ vec_len bids.old }
 {
-    if bids.len() <= FEW {
+    if bids.len() <= SHORT_LIST {
         return Ok(());
     }
     let mut places = places_in_order(alloc, bids)?;

@@ -1,4 +1,4 @@
-//! The index of the atoms that a pruning keeps: those inside a bundle are found by its goods.
+//! `SubsetIndex`: the kept atoms. Those inside a bundle are found by its goods.
 ghost use Rattle.std.specs.Prelude.{◌≡◌, ℕ, List, ◌+◌, ◌<◌, ◌≤◌, false, map, length, All, IfOk, IfSome, OnOk, is_some, [], ◌∷◌, ◌++◌};
 ghost use Rattle.std.specs.Bool.{OnTrue};
 ghost use Rattle.std.specs.List.{filter, list_any, range_with_len};

@@ -37,7 +37,7 @@ use std::alloc::{AllocError, Global};
 use valuation::Atom;
 
 /// So few bids are compared one by one: this is only for speed, since to list each at a good takes longer.
-pub const FEW: usize = 32;
+pub const PAIRWISE: usize = 32;
 
 /// Whether the atom is inside the bid's bundle and has at least its price.
 fn is_dominated_by<S: GoodsSet>(bid: &Atom<S>, atom: &Atom<S>) -> bool
@@ -64,7 +64,7 @@ pub fn first_dominating<S: GoodsSet>(bid: &Atom<S>, atoms: &[Atom<S>]) -> Option
 fn are_few_and_undominated<S: GoodsSet>(bids: &[Atom<S>]) -> bool
     ensures { result ≡ true → AreUndominated (atoms_of S.goods bids.now) }
 {
-    if bids.len() > FEW {
+    if bids.len() > PAIRWISE {
         return false;
     }
     for (place, bid) in bids.iter().enumerate() {
@@ -127,7 +127,7 @@ pub fn prune_xor<S: GoodsSet>(
     if are_few_and_undominated(atoms.as_slice()) {
         return Ok(atoms);
     }
-    let few = atoms.len() <= FEW;
+    let few = atoms.len() <= PAIRWISE;
     let mut index = SubsetIndex::of(alloc, &atoms)?;
     let mut buffer = Vec::new(alloc);
     let mut kept = 0;

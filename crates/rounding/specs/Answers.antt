@@ -3,8 +3,8 @@ use Rattle.std.specs.Prelude.{◌≡◌, ◌⊎◌, ℕ, List, Some, Result, Ok,
 use Rattle.cats_text.specs.Faults.{first_fault, fault_at}
 use Rattle.cats_text.specs.Grammar.{Spells}
 use Rattle.bid_file.specs.Files.{PlainFile}
-use Rattle.cats_text.specs.declared.fault.ReadFault.{ReadFault}
-use Rattle.cats_text.specs.declared.fault.Kind.TheVariants.{Memory as NoMemory}
+use Rattle.cats_text.specs.declared.read_fault.ReadFault.{ReadFault}
+use Rattle.cats_text.specs.declared.read_fault.Kind.TheVariants.{Memory as NoMemory}
 use Rattle.rounding.specs.Texts.{rounded_text, rounded_prices}
 use Rattle.rounding.specs.Views.{plain_changes}
 use Rattle.rounding.specs.declared.replacement.FinePrices.{FinePrices}

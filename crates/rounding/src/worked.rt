@@ -2,7 +2,7 @@
 
 ghost use Rattle.std.specs.Prelude.{◌≡◌, ◌^◌, List, [], ◌∷◌, ◌++◌, map, true, false, codes, Some, None};
 ghost use Rattle.cats_text.specs.Faults.{first_fault, fault_at};
-ghost use Rattle.cats_text.specs.declared.fault.Kind.TheVariants.{TooLarge as IsTooLarge, TooFine as IsTooFine, NotANumber};
+ghost use Rattle.cats_text.specs.declared.read_fault.Kind.TheVariants.{TooLarge as IsTooLarge, TooFine as IsTooFine, NotANumber};
 ghost use Rattle.rounding.specs.Decimals.{is_decimal, top, bottom};
 ghost use Rattle.rounding.specs.Nearest.{nearest};
 ghost use Rattle.rounding.specs.Replacements.{replacement, rounded_word};

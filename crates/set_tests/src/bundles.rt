@@ -1,4 +1,4 @@
-//! What is seen of sets of both kinds, at worked examples. Each call is made with ample memory, so
+//! Sets of both kinds, on worked examples. Each call is made with ample memory, so
 //! that it has to succeed.
 use goods_set::{
     GoodsSet, ListSet, WordSet, fingerprint, goods_of, may_be_subset, rising_goods, sort_key,

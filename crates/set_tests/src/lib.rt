@@ -1,4 +1,4 @@
-//! Tests of `goods_set`, on worked rows. They stand in a crate of their own, since a crate's functions are proved with its
+//! Tests of `goods_set`, on worked rows. They are in their own crate, since a crate's functions are proved with its
 //! tests once more.
 #![tactic(auto)]
 

@@ -1,4 +1,4 @@
-//! What is seen of masks of both kinds, at worked examples. Each call is made with ample memory, so
+//! Masks of both kinds, on worked examples. Each call is made with ample memory, so
 //! that it has to succeed.
 ghost use Rattle.std.specs.Prelude.{◌≤◌};
 

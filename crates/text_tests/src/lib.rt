@@ -1,4 +1,4 @@
-//! Tests of `cats_text`, on texts whose files and faults are known. They stand in a crate of their own, since a crate's
+//! Tests of `bid_file` and `cats_text`, on known files and faults. They are in their own crate, since a crate's
 //! functions are proved with its tests once more.
 #![tactic(auto)]
 

@@ -1,3 +1,4 @@
+//! Streams that fail, end, or take few bytes at a time.
 ghost use Rattle.std.specs.Prelude.{◌≡◌, false};
 ghost use Rattle.cats_text.specs.Streams.{has_ended, has_failed};
 
@@ -55,20 +56,20 @@ fn reader(text: &[u8], cut: Option<usize>, kind: ErrorKind) -> Watched<ByteReade
     })
 }
 
-/// What a writer does when it has no room.
+/// What a writer does when it has no capacity.
 #[derive(Clone, Copy, PartialEq, Eq, Drop)]
 enum Full {
     Fails(ErrorKind),
     TakesNothing,
 }
 
-/// Takes at most `step` bytes a call, and counts the calls. After `room` bytes in all a write fails, once: a write after
+/// Takes at most `step` bytes a call, and counts the calls. After `capacity` bytes in all a write fails, once: a write after
 /// that one would be taken. Its flush fails where it is to, once too.
 #[derive(Drop)]
 struct StepWriter {
     taken: Vec<u8>,
     step: usize,
-    room: usize,
+    capacity: usize,
     full: Full,
     flush_fails: bool,
     writes: u64,
@@ -78,13 +79,13 @@ struct StepWriter {
 impl Write for StepWriter {
     fn write(&mut self, piece: &[u8]) -> io::Result<usize> {
         self.writes = self.writes.saturating_add(1);
-        let count = piece.len().min(self.step).min(self.room);
+        let count = piece.len().min(self.step).min(self.capacity);
         if count > 0 || piece.is_empty() {
-            self.room -= count;
+            self.capacity -= count;
             self.taken.extend_from_slice(&piece[..count])?;
             return Ok(count);
         }
-        self.room = usize::MAX;
+        self.capacity = usize::MAX;
         match self.full {
             Full::Fails(kind) => Err(io::Error::from(kind)),
             Full::TakesNothing => Ok(0),
@@ -104,7 +105,7 @@ impl Write for StepWriter {
 fn writer(
     alloc: Global,
     step: usize,
-    room: usize,
+    capacity: usize,
     full: Full,
     flush_fails: bool,
 ) -> Watched<StepWriter>
@@ -113,7 +114,7 @@ fn writer(
     Watched::new(StepWriter {
         taken: Vec::new(alloc),
         step,
-        room,
+        capacity,
         full,
         flush_fails,
         writes: 0,
@@ -162,8 +163,8 @@ fn assert_read(
     } else {
         input.read(&mut [])
     };
-    let told = (kind_of(answer), piece[0], input.ended(), input.failed());
-    assert_eq!(rt; told, (want, first, ended, failed));
+    let reported = (kind_of(answer), piece[0], input.ended(), input.failed());
+    assert_eq!(rt; reported, (want, first, ended, failed));
 }
 
 #[test]
@@ -190,7 +191,7 @@ fn kind_of(answer: io::Result<usize>) -> Result<usize, ErrorKind> {
 /// A write of a piece, or else a flush; what it answers, a flush with 0; whether the writer has failed afterwards.
 type WriteStep = (Option<&'static [u8]>, Result<usize, ErrorKind>, bool);
 
-/// What a writer of three bytes a call does that has room for so many, and whose flush may fail; what it takes, and how
+/// What a writer of three bytes a call does that has capacity for so many, and whose flush may fail; what it takes, and how
 /// many writes and flushes reach it.
 type Writes = (
     usize,
@@ -261,8 +262,8 @@ fn assert_taken(rt: &impl Abort, inner: &StepWriter, taken: &[u8], writes: u64, 
 
 #[test]
 fn writes_pass_through_until_one_fails(rt: HostRuntime) -> Result<(), Fail> {
-    for (room, full, flush_fails, steps, taken, writes, flushes) in &WRITES {
-        let mut out = writer(rt.alloc(), 3, *room, *full, *flush_fails);
+    for (capacity, full, flush_fails, steps, taken, writes, flushes) in &WRITES {
+        let mut out = writer(rt.alloc(), 3, *capacity, *full, *flush_fails);
         for step in *steps {
             assert_write(&rt, &mut out, step);
         }
@@ -271,7 +272,7 @@ fn writes_pass_through_until_one_fails(rt: HostRuntime) -> Result<(), Fail> {
     Ok(())
 }
 
-/// Asserts that so many first bytes of the text went out, and how many flushes reached the writer.
+/// Asserts that so many first bytes of the text were sent, and how many flushes reached the writer.
 fn assert_sent(rt: &impl Abort, inner: &StepWriter, text: &[u8], written: u64, flushes: u64) {
     assert_eq!(rt; inner.taken.len() as u64, written);
     assert!(rt; text.starts_with(&inner.taken));
@@ -315,9 +316,9 @@ fn counts_what_went_out(rt: HostRuntime) {
         Full::Fails(ErrorKind::Interrupted),
         Full::TakesNothing,
     ] {
-        for room in 0..7 {
-            let out = writer(rt.alloc(), 2, room, full, false);
-            let written = room as u64;
+        for capacity in 0..7 {
+            let out = writer(rt.alloc(), 2, capacity, full, false);
+            let written = capacity as u64;
             assert_sends(&rt, out, b"goods 0", Err(SendFault { written }), 0);
         }
     }
@@ -348,7 +349,7 @@ fn long_text(alloc: Global, bids: u32) -> Result<Vec<u8>, AllocError> {
     Ok(text)
 }
 
-/// Asserts what a writer that has room for so many bytes makes of a file that is sent.
+/// Asserts what a writer that has capacity for so many bytes makes of a file that is sent.
 fn assert_sends_file(
     rt: &impl Abort,
     alloc: Global,
@@ -374,9 +375,9 @@ fn assert_sends_file(
 fn sends_a_file_in_pages(rt: HostRuntime) -> Result<(), Fail> {
     let text = long_text(rt.alloc(), 9)?;
     let file = read_packed_from(rt.alloc(), &mut Watched::new(text.as_slice()))?;
-    for room in [0, 1, 22, 23, 20_000, 65_536, 100_000, 150_000] {
-        let out = writer(rt.alloc(), 30_000, room, BROKEN, false);
-        let written = room as u64;
+    for capacity in [0, 1, 22, 23, 20_000, 65_536, 100_000, 150_000] {
+        let out = writer(rt.alloc(), 30_000, capacity, BROKEN, false);
+        let written = capacity as u64;
         assert_sends_file(
             &rt,
             rt.alloc(),
@@ -498,8 +499,8 @@ fn reads_until_a_fault_or_the_end(rt: HostRuntime) -> Result<(), Fail> {
     for (text, cut, kind, want, ended, failed, calls) in &STREAMS {
         let mut input = reader(text, *cut, *kind);
         let answer = sizes(read_from(rt.alloc(), &mut input));
-        let told = (answer, input.ended(), input.failed());
-        assert_eq!(rt; told, (*want, *ended, *failed));
+        let reported = (answer, input.ended(), input.failed());
+        assert_eq!(rt; reported, (*want, *ended, *failed));
         assert_eq!(rt; input.into_inner().calls, *calls);
     }
     Ok(())
@@ -516,8 +517,8 @@ fn checks_as_it_reads(rt: HostRuntime) -> Result<(), Fail> {
     for (text, cut, kind, want, ended, failed, calls) in &STREAMS {
         let mut input = reader(text, *cut, *kind);
         let answer = header_sizes(check_from(rt.alloc(), &mut input));
-        let told = (answer, input.ended(), input.failed());
-        assert_eq!(rt; told, (*want, *ended, *failed));
+        let reported = (answer, input.ended(), input.failed());
+        assert_eq!(rt; reported, (*want, *ended, *failed));
         assert_eq!(rt; input.into_inner().calls, *calls);
     }
     Ok(())
@@ -528,8 +529,8 @@ fn reads_to_send_as_it_reads(rt: HostRuntime) -> Result<(), Fail> {
     for (text, cut, kind, want, ended, failed, calls) in &STREAMS {
         let mut input = reader(text, *cut, *kind);
         let answer = read_packed_from(rt.alloc(), &mut input);
-        let told = (answer.err(), input.ended(), input.failed());
-        assert_eq!(rt; told, (want.err(), *ended, *failed));
+        let reported = (answer.err(), input.ended(), input.failed());
+        assert_eq!(rt; reported, (want.err(), *ended, *failed));
         assert_eq!(rt; input.into_inner().calls, *calls);
     }
     Ok(())

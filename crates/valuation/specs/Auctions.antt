@@ -1,4 +1,4 @@
--- Auctions: a number of goods, the atoms of the OR bidder, and the atoms of each XOR bidder. The bids of a file without
+-- Auctions, and the auction of a file. Each has the OR bidder's atoms and each XOR bidder's. The bids of a file without
 -- a dummy good are the OR bidder's, and those that share a dummy good are one XOR bidder's (README of CATS 2.0, and
 -- Nisan's phantom goods).
 use Rattle.std.specs.Prelude.{ℕ, ◌+◌, ◌<◌, ◌≤◌, ◌==◌, Bool, false, Option, Some, None, is_none, List, length, map}
@@ -9,7 +9,7 @@ use Rattle.goods_set.specs.Bundles.{IsBundle}
 use Rattle.bid_file.specs.Files.{PlainBid, PlainFile}
 use Rattle.bid_file.specs.declared.limits.TheConstants.{MAX_GOODS, MAX_BIDS, MAX_DUMMY, MAX_PRICE}
 
--- an atom of an auction with that many goods: it asks for a bundle of some of them, at a price within the limit
+-- an atom of an auction with that many goods: it is on a bundle of some of them, at a price within the limit
 pub record IsAtom (goods : ℕ) (a : Atom (List ℕ)) : Type 0 where
   pub nonempty : 0 < length a.bundle
   pub bundle : IsBundle goods a.bundle
@@ -49,7 +49,7 @@ or_atoms_of bids = map atom_of (filter (λ b. is_none b.dummy) bids)
 abbrev pub xor_atoms_of : List PlainBid → ℕ → List (Atom (List ℕ))
 xor_atoms_of bids d = map atom_of (filter (λ b. is_dummy d b.dummy) bids)
 
--- the auction that a file stands for, its atoms in the order of the bids' numbers
+-- the auction that a file represents, its atoms in the order of the bids' numbers
 abbrev pub auction_from : PlainFile → PlainAuction
 auction_from f = record {
   goods = f.goods;

@@ -1,4 +1,4 @@
--- what callers see of an auction's lists
+-- What contracts see of an auction's lists.
 use Rattle.std.specs.Prelude.{ℕ, map, List, Vec}
 use Rattle.std.specs.Global.{Global}
 use Rattle.valuation.specs.declared.atom.Atom.{Atom}

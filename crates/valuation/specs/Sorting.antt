@@ -1,4 +1,4 @@
--- Putting a list in order, by insertion, and how often a list has an element.
+-- Insertion sort, and how often a list has an element.
 use Rattle.std.proofs.Common.{ℕ, cond, List, [], ◌∷◌, Ordering}
 use Rattle.std.specs.List.{count_by}
 use Rattle.std.specs.Ordering.{is_eq, is_gt}

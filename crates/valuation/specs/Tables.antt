@@ -1,4 +1,4 @@
--- A bidder's values on all bundles over G goods, in the order of bundles. The tables have 2^G entries, and no code
+-- The table of a bidder's values. It is over all bundles, in their order. The tables have 2^G entries, and no code
 -- builds them.
 use Rattle.std.specs.Prelude.{ℕ, Bool, not, ◌==◌, map, List}
 use Rattle.std.specs.List.{list_any}

@@ -1,4 +1,4 @@
--- what callers see of an auction
+-- What contracts see of an auction.
 use Rattle.goods_set.specs.declared.set.GoodsSet.{Ghosts}
 use Rattle.valuation.specs.Auctions.{PlainAuction}
 use Rattle.valuation.specs.Bidders.{plain_auction_of}

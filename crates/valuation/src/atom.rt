@@ -9,14 +9,14 @@ use goods_set::GoodsSet;
 /// An atomic bid: it offers its price for every bundle that contains its own.
 #[derive(Debug, Drop)]
 pub struct Atom<S> {
-    /// The goods that it asks for.
+    /// The goods of the bid.
     pub bundle: S,
     /// What it offers, in millionths.
     pub price: u64,
 }
 
 impl<S: GoodsSet> Atom<S> {
-    /// Whether it may stand in an auction with that many goods: it asks for some goods, all of the auction, at a price
+    /// Whether it may be in an auction with that many goods: it is on some goods, all of the auction, at a price
     /// within the limit.
     pub fn keeps_limits(&self, goods: u16) -> bool
         ensures { IsTrue result ↔ IsAtom goods (plain_atom S.goods self.now) }

@@ -1,4 +1,4 @@
-//! Auctions.
+//! `Auction`, whose type keeps its limits.
 ghost use Rattle.valuation.specs.Auctions.{IsAuction};
 ghost use Rattle.valuation.specs.Lemmas.Limits.{IsAuction-prop};
 ghost use Rattle.valuation.specs.Bidders.{plain_auction_of};

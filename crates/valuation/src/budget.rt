@@ -1,4 +1,4 @@
-//! How much a search may do.
+//! `Budget`: how many steps a search may make.
 ghost use Rattle.std.specs.Prelude.{◌≡◌, ◌+◌, false, if◌then◌else◌};
 
 use std::marker::Model;

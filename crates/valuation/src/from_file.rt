@@ -13,7 +13,7 @@ use std::alloc::{AllocError, Global};
 
 /// How many bids have no dummy good, and how many have each, so that no bidder's vector takes more memory than it has
 /// to. No file has so many that a count saturates.
-fn count_bids<B: Bids>(alloc: Global, file: &B) -> Result<(usize, Vec<usize>), AllocError>
+fn count_by_bidder<B: Bids>(alloc: Global, file: &B) -> Result<(usize, Vec<usize>), AllocError>
     requires { IsPlainFile (B.file file.now) }
     ensures { IfOk result (λ counts. vec_len counts.1 ≡ (B.file file.now).dummy) }
 {
@@ -53,7 +53,7 @@ pub fn auction_of<S: GoodsSet, B: Bids>(alloc: Global, file: &B) -> Result<Aucti
     ensures { IfOk result (λ a. plain_auction a ≡ auction_from (B.file file.now)) }
 {
     let goods = file.goods();
-    let (without, counts) = count_bids(alloc, file)?;
+    let (without, counts) = count_by_bidder(alloc, file)?;
     let mut or_atoms = Vec::with_capacity(alloc, without)?;
     let mut xor_bidders = empty_bidders(alloc, &counts)?;
     for number in 0..file.len() {

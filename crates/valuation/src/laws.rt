@@ -35,7 +35,7 @@ pub fn xor_value_laws()
         → xor_value some bundle ≡ xor_value other bundle }
 {}
 
-/// The OR value grows with the bundle, and does not depend on the order of the atoms. Where each atom asks for some
+/// The OR value grows with the bundle, and does not depend on the order of the atoms. Where each atom is on some
 /// good, the values of two parts of a bundle together are at most its own, and an atom that the others outbid on its
 /// own bundle changes no value.
 pub fn or_value_laws()
@@ -66,7 +66,7 @@ pub fn sorting_laws()
         → IsSorted bidder_cmp other → some ≡ other }
 {}
 
-/// The auction that a file stands for keeps the limits of auctions, where its goods fit the sets.
+/// The auction that a file represents keeps the limits of auctions, where its goods fit the sets.
 pub fn auctions_of_files_keep_limits()
     ensures { (cap : ℕ) (file : PlainFile) → IsPlainFile file → file.goods ≤ cap → IsAuction cap (auction_from file) }
 {}

@@ -1,4 +1,4 @@
-//! What atomic bids are worth: Nisan's bidding languages XOR and OR over bundles of goods.
+//! What atomic bids are worth. The bidding languages are Nisan's XOR and OR, over bundles of goods.
 #![tactic(auto)]
 
 mod atom;
@@ -10,8 +10,8 @@ pub mod laws;
 mod order;
 mod packing;
 mod path;
-mod search;
 mod set_choice;
+mod value_search;
 pub mod worked;
 mod xor;
 

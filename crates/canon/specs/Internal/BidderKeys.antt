@@ -1,4 +1,4 @@
--- The sort key of a bidder, by which most bidders are in order.
+-- The sort key of a bidder. It puts most bidders in order.
 use Rattle.std.specs.Prelude.{ℕ, List, [], ◌∷◌}
 use Rattle.goods_set.specs.SortKeys.{sort_key_of}
 use Rattle.valuation.specs.declared.atom.Atom.{Atom}

@@ -1,4 +1,4 @@
--- What contracts see of bidders with their numbers and keys.
+-- What contracts see of bidders with numbers and keys.
 use Rattle.std.specs.Prelude.{ℕ, ◌+◌, List, [], ◌∷◌, map, filter}
 use Rattle.std.specs.Ordering.{nat_cmp, ordering_then}
 use Rattle.std.specs.declared.cmp.Ordering.{Ordering}

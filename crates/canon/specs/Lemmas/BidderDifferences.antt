@@ -1,5 +1,5 @@
 -- The least element that two lists in order do not have equally often. It is the first such one of both lists, put in order together;
--- where two lists that never fall part, it is the lesser of the two elements there, since what stands behind is no less.
+-- where two lists that never fall part, it is the lesser of the two elements there, since what is behind is no less.
 use Rattle.std.proofs.Common.{◌≡◌, ℕ, ◌+◌, ◌<◌, Bool, true, false, not, eqb, cond, ⊎_elim, List, [], ◌∷◌, ◌++◌, refl, ap, ◌∙◌, subst, arith, Option, Some, None}
 use Rattle.std.proofs.Common.{Ordering, Less, Equal, Greater}
 use Rattle.std.specs.Prelude.{Contains}
@@ -125,20 +125,20 @@ module _ {X : Type 0} (cmp : X → X → Ordering) (total : IsTotalOrder cmp) (e
   behind_further w x (y ∷ ys) l h = (total.trans w x y l h.0, behind_further w x ys l h.1)
 
   -- the first list goes on with x, the second behind x or not at all
-  pub parts_at_left : (front : List X) (x : X) (xs ys : List X) → IsOrdered cmp (x ∷ xs) → AllByRecursion (λ y. cmp x y ≡ Less) ys
-      → least_uneven (front ++ (x ∷ xs)) (front ++ ys) ≡ Some x
-  parts_at_left front x xs ys s h =
-      least_uneven_found (front ++ (x ∷ xs)) (front ++ ys) x (record {
+  pub parts_at_left : (prefix : List X) (x : X) (xs ys : List X) → IsOrdered cmp (x ∷ xs) → AllByRecursion (λ y. cmp x y ≡ Less) ys
+      → least_uneven (prefix ++ (x ∷ xs)) (prefix ++ ys) ≡ Some x
+  parts_at_left prefix x xs ys s h =
+      least_uneven_found (prefix ++ (x ∷ xs)) (prefix ++ ys) x (record {
         differ = λ e.
-            let a = count_of-append cmp x front (x ∷ xs) in
-            let b = count_of-append cmp x front ys in
+            let a = count_of-append cmp x prefix (x ∷ xs) in
+            let b = count_of-append cmp x prefix ys in
             let none = count_none cmp total x ys h in
             let here : cond {A = ℕ} (is_eq (cmp x x)) 1 0 ≡ 1 = ap (λ o. cond {A = ℕ} (is_eq o) 1 0) (tied_itself total x) in
             let some = sum_by-cons (λ y. cond {A = ℕ} (is_eq (cmp x y)) 1 0) x xs in
             omega arith;
         earlier = λ y l.
-            let a = count_of-append cmp y front (x ∷ xs) in
-            let b = count_of-append cmp y front ys in
+            let a = count_of-append cmp y prefix (x ∷ xs) in
+            let b = count_of-append cmp y prefix ys in
             let here = count_none cmp total y (x ∷ xs) (behind y x xs s l) in
             let there = count_none cmp total y ys (behind_further y x ys l h) in
             omega arith;

@@ -56,7 +56,7 @@ find_it R p (z ∷ zs) s x f =
     ∙ find_it R p zs (AllPairs-tail R z zs s) x (record { there = d; passes = f.passes; first = λ y c r. f.first y (Contains-tail z zs y c) r }))
     (Contains-cons_cases z zs x f.there)
 
--- ---- lists in an order, in which elements may stand more than once
+-- ---- lists in an order, in which elements may be more than once
 
 module _ {X : Type 0} (cmp : X → X → Ordering) (total : IsTotalOrder cmp) (exact : (x y : X) → cmp x y ≡ Equal → x ≡ y) where
   each_at : (P : X → Type 0) (xs : List X) (x : X) → AllByRecursion P xs → Contains xs x → P x
@@ -77,7 +77,7 @@ module _ {X : Type 0} (cmp : X → X → Ordering) (total : IsTotalOrder cmp) (e
       by later n Equal e = let d : z ≡ x = exact z x e in ap (λ b. cond b (Some z) (find p zs)) (ap p d ∙ t) ∙ ap Some d
       by later n Greater e = absurd (let g : is_gt (cmp z x) ≡ true = ap is_gt e in both_ways (is_gt (cmp z x)) n g)
 
-  -- what is found passes, and no lesser element does that stands there
+  -- what is found passes, and no lesser element does that is there
   pub record IsLeast (p : X → Bool) (xs : List X) (x : X) : Type 0 where
     pub there : Contains xs x
     pub passes : p x ≡ true

@@ -2,8 +2,8 @@
 use Rattle.std.specs.Prelude.{ℕ, List, Result, Ok, Err}
 use Rattle.bid_file.specs.Files.{PlainFile}
 use Rattle.cats_text.specs.Grammar.{Spells}
-use Rattle.canon.specs.Comparing.{IsNormalFileOf, SpellsLight}
-use Rattle.canon.specs.declared.fault.CanonFault.{CanonFault}
+use Rattle.canon.specs.Comparing.{IsNormalFileOf, SpellsWithinLimit}
+use Rattle.canon.specs.declared.canon_fault.CanonFault.{CanonFault}
 use Rattle.canon.specs.declared.named.NamedFile.{NamedFile}
 use Rattle.answers.specs.NamedFiles.{IsNamed}
 use Rattle.cats_calls.specs.Refusals.{IsUnmade, IsUnread}
@@ -18,7 +18,7 @@ NormalisesAs limit text (Err fault) = IsUnmade limit text fault
 
 -- the canonical file of the file that the text spells, which has no heavy bundle, with its names
 pub record IsNamedOf (limit : ℕ) (text : List ℕ) (named : NamedFile) : Type 0 where
-  pub given : SpellsLight limit text
+  pub given : SpellsWithinLimit limit text
   pub is : IsNamed given.file named
 
 abbrev pub NamesAs : ℕ → List ℕ → Result NamedFile CanonFault → Type 0

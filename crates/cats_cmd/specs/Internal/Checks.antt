@@ -4,7 +4,7 @@ use Rattle.std.specs.Io.KnownBytes.{Consumes}
 use Rattle.cats_text.specs.Streams.{inner_of, ReadsSizes}
 use Rattle.cats_text.specs.declared.parser.Header.{Header}
 use Rattle.cats_text.specs.declared.stream.Watched.{Watched}
-use Rattle.canon.specs.declared.fault.CanonFault.{CanonFault}
+use Rattle.canon.specs.declared.canon_fault.CanonFault.{CanonFault}
 use Rattle.cats_cmd.specs.Inputs.{IsRefusedByReading}
 
 module _ {R : Type 0} (remaining : R → Option (List ℕ)) where

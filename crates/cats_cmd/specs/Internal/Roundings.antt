@@ -1,8 +1,8 @@
 -- What rounding the bytes of a file answers.
 use Rattle.std.specs.Prelude.{◌≡◌, ℕ, List, Some, Result, Ok, Err}
 use Rattle.cats_text.specs.Faults.{first_fault}
-use Rattle.canon.specs.declared.fault.CanonFault.{CanonFault}
-use Rattle.canon.specs.declared.fault.CanonFault.TheVariants.{Read, StepLimit, Memory}
+use Rattle.canon.specs.declared.canon_fault.CanonFault.{CanonFault}
+use Rattle.canon.specs.declared.canon_fault.CanonFault.TheVariants.{Read, StepLimit, Memory}
 use Rattle.rounding.specs.Answers.{IsRounded}
 use Rattle.rounding.specs.Texts.{rounded_text}
 use Rattle.rounding.specs.declared.replacement.FinePrices.{FinePrices}

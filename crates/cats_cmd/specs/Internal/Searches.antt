@@ -4,8 +4,8 @@ use Rattle.valuation.specs.declared.atom.Atom.{Atom}
 use Rattle.valuation.specs.declared.packing.Packing.{Packing}
 use Rattle.valuation.specs.Values.{or_value, chosen_places}
 use Rattle.valuation.specs.Packings.{count_packings}
-use Rattle.canon.specs.declared.fault.CanonFault.{CanonFault}
-use Rattle.canon.specs.declared.fault.CanonFault.TheVariants.{Read, StepLimit, Memory}
+use Rattle.canon.specs.declared.canon_fault.CanonFault.{CanonFault}
+use Rattle.canon.specs.declared.canon_fault.CanonFault.TheVariants.{Read, StepLimit, Memory}
 
 -- the packing that is chosen
 pub record IsChosen (atoms : List (Atom (List ℕ))) (bundle : List ℕ) (limit : ℕ) (packing : Packing) : Type 0 where

@@ -11,7 +11,7 @@ use Rattle.cats_text.specs.Grammar.{Spells, significant_words}
 use Rattle.cats_text.specs.Reading.{PackedAnswer, FinishAnswer, FinishesAs}
 use Rattle.cats_text.specs.Internal.Kept.{whole}
 use Rattle.cats_text.specs.Internal.Reading.{PartsAnswer, PartsAs, PackedAs, Unpacks}
-use Rattle.cats_text.specs.declared.fault.ReadFault.{ReadFault}
+use Rattle.cats_text.specs.declared.read_fault.ReadFault.{ReadFault}
 use Rattle.cats_text.specs.declared.parser.Header.{Header}
 
 same_file : (g d : ℕ) (bids : List PlainBid) (f : PlainFile) → g ≡ f.goods → d ≡ f.dummy → bids ≡ f.bids
@@ -34,8 +34,8 @@ module _ {K : Type 0} (bids : K → List PlainBid) where
   by_failed (Some e) bytes parts q = absurd (not_err parts e q)
 
   -- it is a bid file, and what is answered of it
-  pub parts_told : (fed : Fed) (parts : Header × K) → PartsAs whole bids fed (Ok parts) → IsPlainFile (file_of parts) × PackedAs fed (Ok (file_of parts))
-  parts_told fed parts told = by_failed fed.failed fed.bytes parts told
+  pub parts_reported : (fed : Fed) (parts : Header × K) → PartsAs whole bids fed (Ok parts) → IsPlainFile (file_of parts) × PackedAs fed (Ok (file_of parts))
+  parts_reported fed parts reported = by_failed fed.failed fed.bytes parts reported
 
 -- ---- the same file with a vector for each bid
 
@@ -47,9 +47,9 @@ has_line bytes file spelled some =
     lt-ltb 3 (length (significant_lines bytes)) (omega (arith, lines, same, spelled.count, some))
 
 -- what is answered of it
-pub unpacked_told : (bytes : List ℕ) (file : PlainFile) (answer : Result BidFile ReadFault) → Spells bytes file → Unpacks file answer → FinishAnswer bytes answer
-unpacked_told bytes file (Ok f) spelled is = subst (Spells bytes) (sym is) spelled
-unpacked_told bytes file (Err e) spelled refused = inr (refused.0, has_line bytes file spelled refused.1)
+pub unpacked_reported : (bytes : List ℕ) (file : PlainFile) (answer : Result BidFile ReadFault) → Spells bytes file → Unpacks file answer → FinishAnswer bytes answer
+unpacked_reported bytes file (Ok f) spelled is = subst (Spells bytes) (sym is) spelled
+unpacked_reported bytes file (Err e) spelled refused = inr (refused.0, has_line bytes file spelled refused.1)
 
 no_file : (file : PlainFile) (e : ReadFault) → Ok file ≡ Err e → ⊥
 no_file file e q = cc
@@ -57,11 +57,11 @@ no_file file e q = cc
 by_fed : (failed : Option ReadFault) (bytes : List ℕ) (file : PlainFile) (answer : Result BidFile ReadFault) → Unpacks file answer
     → MatchOption failed (PackedAnswer bytes (Ok file)) (λ (e : ReadFault). Ok file ≡ Err e)
     → MatchOption failed (FinishAnswer bytes answer) (λ (e : ReadFault). answer ≡ Err e)
-by_fed None bytes file answer is spelled = unpacked_told bytes file answer spelled is
+by_fed None bytes file answer is spelled = unpacked_reported bytes file answer spelled is
 by_fed (Some e) bytes file answer is q = absurd (no_file file e q)
 
 pub unpacked_as : (fed : Fed) (file : PlainFile) (answer : Result BidFile ReadFault) → Unpacks file answer → PackedAs fed (Ok file) → FinishesAs fed answer
-unpacked_as fed file answer is told = by_fed fed.failed fed.bytes file answer is told
+unpacked_as fed file answer is reported = by_fed fed.failed fed.bytes file answer is reported
 
 abbrev no_packed : ReadFault → Result PlainFile ReadFault
 no_packed e = Err e
@@ -75,9 +75,9 @@ same_fault e f q = cc
 by_fault : (failed : Option ReadFault) (bytes : List ℕ) (e : ReadFault)
     → MatchOption failed (PackedAnswer bytes (no_packed e)) (λ (f : ReadFault). no_packed e ≡ no_packed f)
     → MatchOption failed (FinishAnswer bytes (no_whole e)) (λ (f : ReadFault). no_whole e ≡ no_whole f)
-by_fault None bytes e told = told
+by_fault None bytes e reported = reported
 by_fault (Some f) bytes e q = same_fault e f q
 
 -- a fault of the packed file is one of the file
 pub fault_as : (fed : Fed) (e : ReadFault) → PackedAs fed (no_packed e) → FinishesAs fed (no_whole e)
-fault_as fed e told = by_fault fed.failed fed.bytes e told
+fault_as fed e reported = by_fault fed.failed fed.bytes e reported

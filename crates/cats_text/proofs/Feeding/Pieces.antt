@@ -7,7 +7,7 @@ use Rattle.std.proofs.lemmas.Bool.{le-leb, lt-leb}
 use Rattle.std.proofs.lemmas.Bool.Decides.{leb_tells}
 use Rattle.cats_text.specs.Faults.{complete_fault, first_fault, has_bid_line, fault_at}
 use Rattle.cats_text.specs.Fed.{Fed, fed_fault}
-use Rattle.cats_text.specs.Internal.Reading.{HasTaken, IsReading, SpellsParts, fault_told}
+use Rattle.cats_text.specs.Internal.Reading.{HasTaken, IsReading, SpellsParts, reported_fault}
 use Rattle.cats_text.specs.Reading.{WantsMemory, FeedsAs}
 use Rattle.cats_text.specs.Internal.Returns.{settled, waits, carried}
 use Rattle.cats_text.specs.Internal.Scanning.{
@@ -18,22 +18,22 @@ use Rattle.cats_text.specs.Internal.Scanning.{
   scan,
   and_then,
   Steps,
-  Asks,
+  NeedsMemory,
   MeetsBidLine,
   end_of,
   ArePartsOf,
   Finishes,
 }
-use Rattle.cats_text.specs.Internal.Scanning.{AsksAtEnd, IsInBidLine, HasBids}
-use Rattle.cats_text.specs.declared.fault.ReadFault.{ReadFault}
-use Rattle.cats_text.specs.declared.fault.Kind.TheVariants.{TooLong}
+use Rattle.cats_text.specs.Internal.Scanning.{NeedsMemoryAtEnd, IsInBidLine, HasBids}
+use Rattle.cats_text.specs.declared.read_fault.ReadFault.{ReadFault}
+use Rattle.cats_text.specs.declared.read_fault.Kind.TheVariants.{TooLong}
 use Rattle.cats_text.specs.declared.parser.Header.{Header}
 use Rattle.bid_file.specs.Files.{PlainBid}
-use Rattle.cats_text.specs.declared.scanner.Halt.{Halt}
-use Rattle.cats_text.specs.declared.scanner.Halt.TheVariants.{Fault, Memory}
+use Rattle.cats_text.specs.declared.scanner.ScanError.{ScanError}
+use Rattle.cats_text.specs.declared.scanner.ScanError.TheVariants.{Fault, Memory}
 use Rattle.cats_text.specs.declared.scanner.Scanner.{Scanner}
 use Rattle.cats_text.proofs.Scanning.Lines.{scan-append}
-use Rattle.cats_text.proofs.Texts.MachineAnswers.{stops_at_complete_fault, goes_on_without_fault, meets_bid_line, complete_fault_is_first, ends_at_parts}
+use Rattle.cats_text.proofs.Texts.MachineAnswers.{stops_at_complete_fault, continues_without_fault, meets_bid_line, complete_fault_is_first, ends_at_parts}
 use Rattle.cats_text.proofs.Texts.MachineAnswers.{ends_at_first_fault, ends_in_bid_line}
 use Rattle.cats_text.proofs.Scanning.Pieces.{settled-append, waits-append}
 use Rattle.std.proofs.lemmas.List.{take_all}
@@ -100,16 +100,16 @@ nothing_taken k limit scanner bytes first waiting none = record {
 -- ---- the answers
 
 -- the scanner stopped in the bytes that are judged
-pub halted : {K : Type 0} (k : PlainBid → PlainBid) (limit taken : ℕ) (scanner : Scanner K) (bytes judged all : List ℕ) (new : State) (halt : Halt) → HasTaken k limit taken scanner bytes
+pub halted : {K : Type 0} (k : PlainBid → PlainBid) (limit taken : ℕ) (scanner : Scanner K) (bytes judged all : List ℕ) (new : State) (scan_error : ScanError) → HasTaken k limit taken scanner bytes
     → bytes ++ judged ≡ take limit all
-    → Steps {A = Unit {0}} new (Err halt) (scan (state k scanner) (settled (carried scanner.waiting judged)))
-    → Asks {A = Unit {0}} (state k scanner) (settled (carried scanner.waiting judged)) (Err halt)
-    → (fed_fault limit all ≡ Some (fault_told halt)) ⊎ WantsMemory (take limit all) (fault_told halt)
-halted k limit taken scanner bytes judged all new (Fault e) kept is steps asks =
+    → Steps {A = Unit {0}} new (Err scan_error) (scan (state k scanner) (settled (carried scanner.waiting judged)))
+    → NeedsMemory {A = Unit {0}} (state k scanner) (settled (carried scanner.waiting judged)) (Err scan_error)
+    → (fed_fault limit all ≡ Some (reported_fault scan_error)) ⊎ WantsMemory (take limit all) (reported_fault scan_error)
+halted k limit taken scanner bytes judged all new (Fault e) kept is steps needs =
     inl (fed-judged limit all e (ap complete_fault (sym is) ∙
     stops_at_complete_fault k (bytes ++ judged) e (scan_on k bytes judged (state k scanner) scanner.waiting kept.runs kept.waiting ∙ steps)))
-halted k limit taken scanner bytes judged all new Memory kept is steps asks =
-    let behind = meets_behind (first_state k) (state k scanner) (settled bytes) (settled (carried scanner.waiting judged)) kept.runs asks in
+halted k limit taken scanner bytes judged all new Memory kept is steps needs =
+    let behind = meets_behind (first_state k) (state k scanner) (settled bytes) (settled (carried scanner.waiting judged)) kept.runs needs in
     let met : MeetsBidLine (first_state k) (settled (bytes ++ judged)) = rw (settled-append bytes judged, ← kept.waiting) behind in
     inr (refl, ap has_bid_line (sym is) ∙ meets_bid_line k (bytes ++ judged) met)
 
@@ -118,7 +118,7 @@ pub went_on : {K : Type 0} (k : PlainBid → PlainBid) (limit taken : ℕ) (old 
     → scan (state k old) (settled (carried old.waiting judged)) ≡ Ok (state k new)
     → complete_fault (bytes ++ judged) ≡ None
 went_on k limit taken old new bytes judged kept steps =
-    goes_on_without_fault k (bytes ++ judged) (state k new) (scan_on k bytes judged (state k old) old.waiting kept.runs kept.waiting ∙ steps)
+    continues_without_fault k (bytes ++ judged) (state k new) (scan_on k bytes judged (state k old) old.waiting kept.runs kept.waiting ∙ steps)
 
 -- and has taken them then
 pub took : {K : Type 0} (k : PlainBid → PlainBid) (limit before count : ℕ) (old new : Scanner K) (bytes judged : List ℕ) → HasTaken k limit before old bytes
@@ -146,13 +146,13 @@ abbrev pub IsJudged : {K : Type 0} → (PlainBid → PlainBid) → ℕ → ℕ �
 IsJudged k limit count scanner all (Ok u) = (fed_fault limit all ≡ None) × HasTaken k limit count scanner all
 IsJudged k limit count scanner all (Err e) = (fed_fault limit all ≡ Some e) ⊎ WantsMemory (take limit all) e
 
-pub judged_halted : {K : Type 0} (k : PlainBid → PlainBid) (limit count taken : ℕ) (old new : Scanner K) (bytes judged all : List ℕ) (halt : Halt) → HasTaken k limit taken old bytes
+pub judged_halted : {K : Type 0} (k : PlainBid → PlainBid) (limit count taken : ℕ) (old new : Scanner K) (bytes judged all : List ℕ) (scan_error : ScanError) → HasTaken k limit taken old bytes
     → bytes ++ judged ≡ take limit all
-    → Steps {A = Unit {0}} (state k new) (Err halt) (scan (state k old) (settled (carried old.waiting judged)))
-    → Asks {A = Unit {0}} (state k old) (settled (carried old.waiting judged)) (Err halt)
-    → IsJudged k limit count new all (Err (fault_told halt))
-judged_halted k limit count taken old new bytes judged all halt kept is steps asks =
-    halted k limit taken old bytes judged all (state k new) halt kept is steps asks
+    → Steps {A = Unit {0}} (state k new) (Err scan_error) (scan (state k old) (settled (carried old.waiting judged)))
+    → NeedsMemory {A = Unit {0}} (state k old) (settled (carried old.waiting judged)) (Err scan_error)
+    → IsJudged k limit count new all (Err (reported_fault scan_error))
+judged_halted k limit count taken old new bytes judged all scan_error kept is steps needs =
+    halted k limit taken old bytes judged all (state k new) scan_error kept is steps needs
 
 pub judged_too_long : {K : Type 0} (k : PlainBid → PlainBid) (limit count taken : ℕ) (old new : Scanner K) (bytes judged all : List ℕ) → HasTaken k limit taken old bytes
     → bytes ++ judged ≡ take limit all → limit < length all
@@ -174,14 +174,14 @@ judged_ok k limit count before old new bytes judged all kept is within steps wai
 -- the reader keeps what it has to
 pub still_reading : {K : Type 0} (k : PlainBid → PlainBid) (limit count : ℕ) (scanner : Scanner K) (all : List ℕ) (judged : Result (Unit {0}) ReadFault) → limit < 2 ^ 63
     → IsJudged k limit count scanner all judged → IsReading k limit count scanner (result_err judged) all
-still_reading k limit count scanner all (Ok u) small told = record { limit = small; taken = λ none. told.1 }
-still_reading k limit count scanner all (Err e) small told = record { limit = small; taken = λ none. cc }
+still_reading k limit count scanner all (Ok u) small reported = record { limit = small; taken = λ none. reported.1 }
+still_reading k limit count scanner all (Err e) small reported = record { limit = small; taken = λ none. cc }
 
-pub fed_told : {K : Type 0} (k : PlainBid → PlainBid) (old : Fed) (piece : List ℕ) (count : ℕ) (scanner : Scanner K) (judged : Result (Unit {0}) ReadFault) → old.failed ≡ None
+pub fed_reported : {K : Type 0} (k : PlainBid → PlainBid) (old : Fed) (piece : List ℕ) (count : ℕ) (scanner : Scanner K) (judged : Result (Unit {0}) ReadFault) → old.failed ≡ None
     → IsJudged k old.limit count scanner (old.bytes ++ piece) judged
     → FeedsAs old piece (record { limit = old.limit; bytes = old.bytes ++ piece; failed = result_err judged }) judged
-fed_told k old piece count scanner (Ok u) none told = rw none (record { limit = refl; bytes = refl; answer = (told.0, refl) })
-fed_told k old piece count scanner (Err e) none told = rw none (record { limit = refl; bytes = refl; answer = (told, refl) })
+fed_reported k old piece count scanner (Ok u) none reported = rw none (record { limit = refl; bytes = refl; answer = (reported.0, refl) })
+fed_reported k old piece count scanner (Err e) none reported = rw none (record { limit = refl; bytes = refl; answer = (reported, refl) })
 
 -- ---- the end of the input
 
@@ -194,24 +194,24 @@ ended_parts bids k limit taken scanner bytes parts kept are = at_end (end_of sca
     at_end (Ok t) e same = rw (same.0, same.1) (ends_at_parts k bytes (state k scanner) t kept.runs (ap (λ w. end_of w (state k scanner)) (sym kept.waiting) ∙ e))
     at_end (Err fault) e same = absurd same
 
-pub ended_fault : {K : Type 0} {A : Type 0} (IsOf : A → Scan → Type 0) (k : PlainBid → PlainBid) (limit taken : ℕ) (scanner : Scanner K) (bytes : List ℕ) (halt : Halt)
+pub ended_fault : {K : Type 0} {A : Type 0} (IsOf : A → Scan → Type 0) (k : PlainBid → PlainBid) (limit taken : ℕ) (scanner : Scanner K) (bytes : List ℕ) (scan_error : ScanError)
     → HasTaken k limit taken scanner bytes
-    → Finishes IsOf (Err halt) (end_of scanner.waiting (state k scanner)) → AsksAtEnd {A = A} scanner.waiting (state k scanner) (Err halt)
-    → (first_fault bytes ≡ Some (fault_told halt)) ⊎ WantsMemory bytes (fault_told halt)
-ended_fault IsOf k limit taken scanner bytes (Fault e) kept ends asks =
+    → Finishes IsOf (Err scan_error) (end_of scanner.waiting (state k scanner)) → NeedsMemoryAtEnd {A = A} scanner.waiting (state k scanner) (Err scan_error)
+    → (first_fault bytes ≡ Some (reported_fault scan_error)) ⊎ WantsMemory bytes (reported_fault scan_error)
+ended_fault IsOf k limit taken scanner bytes (Fault e) kept ends needs =
     inl (ends_at_first_fault k bytes (state k scanner) e kept.runs (ap (λ w. end_of w (state k scanner)) (sym kept.waiting) ∙ ends))
-ended_fault IsOf k limit taken scanner bytes Memory kept ends asks =
-    let memory : IsInBidLine (state k scanner) ⊎ HasBids (end_of (waits bytes) (state k scanner)) = rw (← kept.waiting) asks in
+ended_fault IsOf k limit taken scanner bytes Memory kept ends needs =
+    let memory : IsInBidLine (state k scanner) ⊎ HasBids (end_of (waits bytes) (state k scanner)) = rw (← kept.waiting) needs in
     inr (refl, ends_in_bid_line k bytes (state k scanner) kept.runs memory)
 
 -- a whole text that was fed at once
-pub whole_told : (text bytes : List ℕ) (limit : ℕ) (e : ReadFault) → limit ≡ length text → bytes ≡ text
+pub whole_reported : (text bytes : List ℕ) (limit : ℕ) (e : ReadFault) → limit ≡ length text → bytes ≡ text
     → (fed_fault limit bytes ≡ Some e) ⊎ WantsMemory (take limit bytes) e → (first_fault text ≡ Some e) ⊎ WantsMemory text e
-whole_told text bytes limit e most same (inl fault) =
+whole_reported text bytes limit e most same (inl fault) =
     let within : length text ≤ limit = omega arith in
-    let told : fed_fault limit text ≡ Some e = rw (← same) fault in
-    inl (complete_fault_is_first text e (sym (fed-within limit text within) ∙ told))
-whole_told text bytes limit e most same (inr want) =
+    let reported : fed_fault limit text ≡ Some e = rw (← same) fault in
+    inl (complete_fault_is_first text e (sym (fed-within limit text within) ∙ reported))
+whole_reported text bytes limit e most same (inr want) =
     let within : length bytes ≤ limit = rw same (omega arith) in
     let all : take limit bytes ≡ text = take_all limit bytes within ∙ same in
     inr (rw (← all) want)

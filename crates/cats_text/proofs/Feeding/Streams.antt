@@ -8,9 +8,9 @@ use Rattle.cats_text.specs.Reading.{PackedAnswer, WantsMemory, FinishAnswer}
 use Rattle.cats_text.specs.Internal.Reading.{SpellsParts}
 use Rattle.cats_text.specs.Streams.{has_failed, IsWhole, IsTextFault, FaultsAt, ReadsAs, ReadsPlainAs, ChecksAs}
 use Rattle.bid_file.specs.declared.bid.BidFile.{BidFile}
-use Rattle.cats_text.specs.declared.fault.Kind.{Kind}
-use Rattle.cats_text.specs.declared.fault.Kind.TheVariants.{Device, Memory}
-use Rattle.cats_text.specs.declared.fault.ReadFault.{ReadFault}
+use Rattle.cats_text.specs.declared.read_fault.Kind.{Kind}
+use Rattle.cats_text.specs.declared.read_fault.Kind.TheVariants.{Device, Memory}
+use Rattle.cats_text.specs.declared.read_fault.ReadFault.{ReadFault}
 use Rattle.cats_text.specs.declared.parser.Header.{Header}
 use Rattle.cats_text.specs.declared.limits.TheConstants.{MAX_STREAM}
 use Rattle.cats_text.specs.declared.stream.Watched.{Watched}
@@ -20,43 +20,43 @@ found : (fault : Option ReadFault) (e : ReadFault) → IfSome fault IsFaultOfByt
 found fault e h is = rw is at h
 
 module _ {R : Type 0} (remaining : R → Option (List ℕ)) where
-  fault_told : (bytes : List ℕ) (input : Watched R) (line : ℕ) (kind : Kind) → has_failed input ≡ false → IsFaultOfBytes (fault_at line kind)
+  reported_fault : (bytes : List ℕ) (input : Watched R) (line : ℕ) (kind : Kind) → has_failed input ≡ false → IsFaultOfBytes (fault_at line kind)
       → IsTextFault remaining bytes input (fault_at line kind) → FaultsAt remaining bytes input line kind
-  fault_told bytes input line Device works free text = absurd (free.0 refl)
-  fault_told bytes input line Memory works free text = absurd (free.1 refl)
-  fault_told bytes input line kind works free text = (works, text)
+  reported_fault bytes input line Device works free text = absurd (free.0 refl)
+  reported_fault bytes input line Memory works free text = absurd (free.1 refl)
+  reported_fault bytes input line kind works free text = (works, text)
 
-  memory_told : (bytes : List ℕ) (input : Watched R) (e : ReadFault) → has_failed input ≡ false → WantsMemory (take MAX_STREAM bytes) e
+  memory_reported : (bytes : List ℕ) (input : Watched R) (e : ReadFault) → has_failed input ≡ false → WantsMemory (take MAX_STREAM bytes) e
       → FaultsAt remaining bytes input e.line e.kind
-  memory_told bytes input e works want = rw (want.0) (refl, works, want.1)
+  memory_reported bytes input e works want = rw (want.0) (refl, works, want.1)
 
   -- the fault of feeding the bytes that came
-  pub fed_told : (bytes : List ℕ) (input : Watched R) (e : ReadFault) → has_failed input ≡ false
+  pub fed_reported : (bytes : List ℕ) (input : Watched R) (e : ReadFault) → has_failed input ≡ false
       → (fed_fault MAX_STREAM bytes ≡ Some e) ⊎ WantsMemory (take MAX_STREAM bytes) e → FaultsAt remaining bytes input e.line e.kind
-  fed_told bytes input e works (inl is) =
-      fault_told bytes input e.line e.kind works (found (fed_fault MAX_STREAM bytes) e (fed_fault-of_bytes MAX_STREAM bytes) is) (inl is)
-  fed_told bytes input e works (inr want) = memory_told bytes input e works want
+  fed_reported bytes input e works (inl is) =
+      reported_fault bytes input e.line e.kind works (found (fed_fault MAX_STREAM bytes) e (fed_fault-of_bytes MAX_STREAM bytes) is) (inl is)
+  fed_reported bytes input e works (inr want) = memory_reported bytes input e works want
 
   -- the fault at the end of the bytes
-  pub ended_told : (bytes : List ℕ) (input : Watched R) (e : ReadFault) → has_failed input ≡ false → IsWhole remaining bytes input
+  pub ended_reported : (bytes : List ℕ) (input : Watched R) (e : ReadFault) → has_failed input ≡ false → IsWhole remaining bytes input
       → (first_fault bytes ≡ Some e) ⊎ WantsMemory bytes e → FaultsAt remaining bytes input e.line e.kind
-  ended_told bytes input e works whole (inl is) =
-      fault_told bytes input e.line e.kind works (found (first_fault bytes) e (first_fault-of_bytes bytes) is) (inr (whole, is))
-  ended_told bytes input e works whole (inr want) =
-      memory_told bytes input e works (rw (take_all MAX_STREAM bytes (fed_within MAX_STREAM bytes whole.no_fault)) want)
+  ended_reported bytes input e works whole (inl is) =
+      reported_fault bytes input e.line e.kind works (found (first_fault bytes) e (first_fault-of_bytes bytes) is) (inr (whole, is))
+  ended_reported bytes input e works whole (inr want) =
+      memory_reported bytes input e works (rw (take_all MAX_STREAM bytes (fed_within MAX_STREAM bytes whole.no_fault)) want)
 
   -- the answers at the end of the bytes
-  pub finished_told : (bytes : List ℕ) (input : Watched R) (answer : Result BidFile ReadFault) → has_failed input ≡ false → IsWhole remaining bytes input
+  pub finished_reported : (bytes : List ℕ) (input : Watched R) (answer : Result BidFile ReadFault) → has_failed input ≡ false → IsWhole remaining bytes input
       → FinishAnswer bytes answer → ReadsAs remaining bytes input answer
-  finished_told bytes input (Ok file) works whole spelled = record { spelled = spelled; whole = whole; works = works }
-  finished_told bytes input (Err e) works whole told = ended_told bytes input e works whole told
+  finished_reported bytes input (Ok file) works whole spelled = record { spelled = spelled; whole = whole; works = works }
+  finished_reported bytes input (Err e) works whole reported = ended_reported bytes input e works whole reported
 
-  pub packed_told : (bytes : List ℕ) (input : Watched R) (answer : Result PlainFile ReadFault) → has_failed input ≡ false
+  pub packed_reported : (bytes : List ℕ) (input : Watched R) (answer : Result PlainFile ReadFault) → has_failed input ≡ false
       → IsWhole remaining bytes input → PackedAnswer bytes answer → ReadsPlainAs remaining bytes input answer
-  packed_told bytes input (Ok file) works whole spelled = record { spelled = spelled; whole = whole; works = works }
-  packed_told bytes input (Err e) works whole told = ended_told bytes input e works whole told
+  packed_reported bytes input (Ok file) works whole spelled = record { spelled = spelled; whole = whole; works = works }
+  packed_reported bytes input (Err e) works whole reported = ended_reported bytes input e works whole reported
 
-  pub checked_told : (keep : PlainBid → PlainBid) (bytes : List ℕ) (input : Watched R) (header : Header) (bids : List PlainBid) → has_failed input ≡ false
+  pub checked_reported : (keep : PlainBid → PlainBid) (bytes : List ℕ) (input : Watched R) (header : Header) (bids : List PlainBid) → has_failed input ≡ false
       → IsWhole remaining bytes input → SpellsParts keep bytes header bids → ChecksAs remaining bytes input (Ok header)
-  checked_told keep bytes input header bids works whole says =
+  checked_reported keep bytes input header bids works whole says =
       record { file = says.file; reads = record { spelled = says.spelled; whole = whole; works = works }; sizes = says.sizes }

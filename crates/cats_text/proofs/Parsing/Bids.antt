@@ -11,8 +11,8 @@ use Rattle.cats_text.specs.FileLines.{bid_of}
 use Rattle.cats_text.specs.Internal.Progress.{Progress}
 use Rattle.cats_text.specs.Internal.Parsing.{Reading, number_read, price_read, price_parts, with_price}
 use Rattle.cats_text.specs.Internal.Kept.{is_some_bid}
-use Rattle.cats_text.specs.declared.fault.Kind.{Kind}
-use Rattle.cats_text.specs.declared.fault.Kind.TheVariants as kinds
+use Rattle.cats_text.specs.declared.read_fault.Kind.{Kind}
+use Rattle.cats_text.specs.declared.read_fault.Kind.TheVariants as kinds
 use Rattle.cats_text.specs.declared.word.Word.{Word}
 use Rattle.cats_text.specs.declared.price.Decimal.{Decimal}
 use Rattle.cats_text.specs.declared.word.Word.TheVariants.{Keyword, Number, Decimal as Fraction, End, Other}
@@ -21,8 +21,8 @@ use Rattle.cats_text.specs.declared.parser.Header.{Header}
 use Rattle.cats_text.specs.declared.parser.Column.TheVariants.{Later}
 use Rattle.bid_file.specs.declared.limits.TheConstants.{MAX_BIDS}
 use Rattle.cats_text.proofs.Words.Places.{digit_bounds, places_from, places-six, places_below_one, place_not_zero}
-use Rattle.cats_text.proofs.Words.Kept.{Tells, Holds, whole-digits, whole-point, places-point}
-use Rattle.cats_text.proofs.Words.Tests.{IsTold}
+use Rattle.cats_text.proofs.Words.Kept.{Summarises, Holds, whole-digits, whole-point, places-point}
+use Rattle.cats_text.proofs.Words.Tests.{IsTested}
 use Rattle.cats_text.proofs.Parsing.States.{IsAt, WordFollows}
 use Rattle.cats_text.proofs.Parsing.Headers.{holds_le, holds_same}
 use Rattle.cats_text.proofs.Parsing.NumbersTaken.{taken}
@@ -54,7 +54,7 @@ none_due bids count = elim (leb bids count) as (λ b. leb bids count ≡ b → e
   | false ↦ λ (h : leb bids count ≡ false). let l : count < bids = leb-false bids count h in ne_eqb (bids - count) 0 (λ e. absurd (omega arith))
 ] refl
 
-number_follows : (g b d : List (List ℕ)) (lines : List (List (List ℕ))) (w : List ℕ) (v : ℕ) (p : Progress) → Tells w (Number v) → IsAt (g ∷ b ∷ d ∷ lines) [] p
+number_follows : (g b d : List (List ℕ)) (lines : List (List (List ℕ))) (w : List ℕ) (v : ℕ) (p : Progress) → Summarises w (Number v) → IsAt (g ∷ b ∷ d ∷ lines) [] p
     → WordFollows (g ∷ b ∷ d ∷ lines) [] w (number_read p (Number v))
 number_follows g b d lines w v p t at =
     let bids : p.header.bids ≡ header_value b = ap (λ (h : Header). h.bids) at.header in
@@ -87,13 +87,13 @@ number_follows g b d lines w v p t at =
       },
     ))))
 
-pub bid_first : (g b d : List (List ℕ)) (lines : List (List (List ℕ))) (w : List ℕ) (s : Word) (p : Progress) → IsTold w s → Tells w s
+pub bid_first : (g b d : List (List ℕ)) (lines : List (List (List ℕ))) (w : List ℕ) (s : Word) (p : Progress) → IsTested w s → Summarises w s
     → IsAt (g ∷ b ∷ d ∷ lines) [] p → WordFollows (g ∷ b ∷ d ∷ lines) [] w (number_read p s)
-bid_first g b d lines w (Number v) p told t at = number_follows g b d lines w v p t at
-bid_first g b d lines w (Keyword j n) p told t at = fault_named (g ∷ b ∷ d ∷ lines) [] w _ _ _ refl (ap not told.number)
-bid_first g b d lines w (Fraction e) p told t at = fault_named (g ∷ b ∷ d ∷ lines) [] w _ _ _ refl (ap not told.number)
-bid_first g b d lines w End p told t at = fault_named (g ∷ b ∷ d ∷ lines) [] w _ _ _ refl (ap not told.number)
-bid_first g b d lines w Other p told t at = fault_named (g ∷ b ∷ d ∷ lines) [] w _ _ _ refl (ap not told.number)
+bid_first g b d lines w (Number v) p tested t at = number_follows g b d lines w v p t at
+bid_first g b d lines w (Keyword j n) p tested t at = fault_named (g ∷ b ∷ d ∷ lines) [] w _ _ _ refl (ap not tested.number)
+bid_first g b d lines w (Fraction e) p tested t at = fault_named (g ∷ b ∷ d ∷ lines) [] w _ _ _ refl (ap not tested.number)
+bid_first g b d lines w End p tested t at = fault_named (g ∷ b ∷ d ∷ lines) [] w _ _ _ refl (ap not tested.number)
+bid_first g b d lines w Other p tested t at = fault_named (g ∷ b ∷ d ∷ lines) [] w _ _ _ refl (ap not tested.number)
 
 -- ---- the price
 
@@ -148,7 +148,7 @@ places-digits [] h = refl
 places-digits (a ∷ w) h = let q = and_parts (is_digit a) (digits_alone w) h in
     let no : eqb a 46 ≡ false = ne_eqb a 46 (λ e. let low : 48 ≤ a = (digit_bounds a q.0).0 in absurd (omega arith)) in rw no (places-digits w q.1)
 
-priced_number : (w : List ℕ) (v : ℕ) → Tells w (Number v) → IsPriced w v 0 false
+priced_number : (w : List ℕ) (v : ℕ) → Summarises w (Number v) → IsPriced w v 0 false
 priced_number [] v t = absurd (both_ways false refl t.0)
 priced_number (a ∷ w) v t =
     let none : places (a ∷ w) ≡ [] = places-digits (a ∷ w) t.0 in record {
@@ -159,7 +159,7 @@ priced_number (a ∷ w) v t =
       below = omega arith;
     }
 
-priced_fraction : (w : List ℕ) (d : Decimal) → Tells w (Fraction d) → IsPriced w d.whole d.millionths d.fine
+priced_fraction : (w : List ℕ) (d : Decimal) → Summarises w (Fraction d) → IsPriced w d.whole d.millionths d.fine
 priced_fraction w d f = at f.whole f.is f.number f.value
   where
     at : (whole : List ℕ) → w ≡ whole ++ 46 ∷ f.behind → is_number whole ≡ true → Holds d.whole (number_of whole) → IsPriced w d.whole d.millionths d.fine
@@ -191,19 +191,19 @@ behind_price g b d lines n w p at x e = record {
   dummy = at.dummy;
 }
 
-pub bid_second : (g b d : List (List ℕ)) (lines : List (List (List ℕ))) (n w : List ℕ) (s : Word) (p : Progress) → IsTold w s → Tells w s
+pub bid_second : (g b d : List (List ℕ)) (lines : List (List (List ℕ))) (n w : List ℕ) (s : Word) (p : Progress) → IsTested w s → Summarises w s
     → IsAt (g ∷ b ∷ d ∷ lines) (n ∷ []) p
     → WordFollows (g ∷ b ∷ d ∷ lines) (n ∷ []) w (price_read p s)
-bid_second g b d lines n w (Number v) p told t at =
-    price_follows (g ∷ b ∷ d ∷ lines) n w p v 0 false (priced_number w v t) (passes (g ∷ b ∷ d ∷ lines) (n ∷ []) w _ _ _ refl (ap not told.price))
+bid_second g b d lines n w (Number v) p tested t at =
+    price_follows (g ∷ b ∷ d ∷ lines) n w p v 0 false (priced_number w v t) (passes (g ∷ b ∷ d ∷ lines) (n ∷ []) w _ _ _ refl (ap not tested.price))
     (behind_price g b d lines n w p at)
-bid_second g b d lines n w (Fraction e) p told t at =
+bid_second g b d lines n w (Fraction e) p tested t at =
     elim (eqb e.decimals 0) as (λ x. eqb e.decimals 0 ≡ x
     → WordFollows (g ∷ b ∷ d ∷ lines) (n ∷ []) w (cond x (Err kinds.NotANumber) (with_price p (price_parts e.whole e.millionths e.fine)))) [
-      | true ↦ λ (q : eqb e.decimals 0 ≡ true). fault_named (g ∷ b ∷ d ∷ lines) (n ∷ []) w _ _ _ refl (ap not (told.price ∙ ap not q))
+      | true ↦ λ (q : eqb e.decimals 0 ≡ true). fault_named (g ∷ b ∷ d ∷ lines) (n ∷ []) w _ _ _ refl (ap not (tested.price ∙ ap not q))
       | false ↦ λ (q : eqb e.decimals 0 ≡ false). price_follows (g ∷ b ∷ d ∷ lines) n w p e.whole e.millionths e.fine (priced_fraction w e t)
-          (passes (g ∷ b ∷ d ∷ lines) (n ∷ []) w _ _ _ refl (ap not (told.price ∙ ap not q))) (behind_price g b d lines n w p at)
+          (passes (g ∷ b ∷ d ∷ lines) (n ∷ []) w _ _ _ refl (ap not (tested.price ∙ ap not q))) (behind_price g b d lines n w p at)
     ] refl
-bid_second g b d lines n w (Keyword j k) p told t at = fault_named (g ∷ b ∷ d ∷ lines) (n ∷ []) w _ _ _ refl (ap not told.price)
-bid_second g b d lines n w End p told t at = fault_named (g ∷ b ∷ d ∷ lines) (n ∷ []) w _ _ _ refl (ap not told.price)
-bid_second g b d lines n w Other p told t at = fault_named (g ∷ b ∷ d ∷ lines) (n ∷ []) w _ _ _ refl (ap not told.price)
+bid_second g b d lines n w (Keyword j k) p tested t at = fault_named (g ∷ b ∷ d ∷ lines) (n ∷ []) w _ _ _ refl (ap not tested.price)
+bid_second g b d lines n w End p tested t at = fault_named (g ∷ b ∷ d ∷ lines) (n ∷ []) w _ _ _ refl (ap not tested.price)
+bid_second g b d lines n w Other p tested t at = fault_named (g ∷ b ∷ d ∷ lines) (n ∷ []) w _ _ _ refl (ap not tested.price)

@@ -129,7 +129,7 @@ length-padded : (old padded : List ℕ) (n : ℕ) → (p : IsPadded old padded n
 length-padded old padded n p = ap length p.is ∙ length-append old (replicate p.count 0) ∙ ap (λ k. length old + k) (length-replicate p.count 0)
 
 pub padded_more : (old padded next : List ℕ) (n : ℕ) → IsPadded old padded n → length padded ≤ n → next ≡ padded ++ 0 ∷ [] → IsPadded old next n
-padded_more old padded next n p room e = record {
+padded_more old padded next n p space e = record {
   count = p.count + 1;
   is = e ∙ ap (λ ys. ys ++ 0 ∷ []) p.is ∙ append_assoc old (replicate p.count 0) (0 ∷ [])
       ∙ ap (λ ys. old ++ ys) (replicate-append-replicate p.count 1 0);

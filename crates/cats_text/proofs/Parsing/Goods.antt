@@ -10,14 +10,14 @@ use Rattle.cats_text.specs.Faults.{header_value, word_fault, when, has_end, is_e
 use Rattle.cats_text.specs.FileLines.{before_end, real_goods, dummy_in}
 use Rattle.cats_text.specs.Internal.Progress.{Progress}
 use Rattle.cats_text.specs.Internal.Parsing.{good_or_end_read, good_read, dummy_read, end_read}
-use Rattle.cats_text.specs.declared.fault.Kind.{Kind}
-use Rattle.cats_text.specs.declared.fault.Kind.TheVariants as kinds
+use Rattle.cats_text.specs.declared.read_fault.Kind.{Kind}
+use Rattle.cats_text.specs.declared.read_fault.Kind.TheVariants as kinds
 use Rattle.cats_text.specs.declared.word.Word.{Word}
 use Rattle.cats_text.specs.declared.word.Word.TheVariants.{Keyword, Number, Decimal as Fraction, End, Other}
 use Rattle.cats_text.specs.declared.parser.Header.{Header}
 use Rattle.bid_file.specs.declared.limits.TheConstants.{MAX_GOODS, MAX_DUMMY}
-use Rattle.cats_text.proofs.Words.Kept.{Tells}
-use Rattle.cats_text.proofs.Words.Tests.{IsTold, tells_number, tells_end}
+use Rattle.cats_text.proofs.Words.Kept.{Summarises}
+use Rattle.cats_text.proofs.Words.Tests.{IsTested, is_number_by, ends_by}
 use Rattle.cats_text.proofs.Parsing.States.{IsAt, WordFollows, HasOneDummy, ended_column}
 use Rattle.cats_text.proofs.Parsing.Headers.{holds_le, holds_same}
 use Rattle.cats_text.proofs.Parsing.Bids.{follow_test, fault_named, passes}
@@ -38,29 +38,29 @@ tests_from_number G D gs w = when (not (is_number w)) kinds.NotANumber (tests_fr
 abbrev tests_from_end : ℕ → ℕ → List (List ℕ) → List ℕ → Option Kind
 tests_from_end G D gs w = cond (is_end w) (when (not (list_any (λ g. ltb (number_of g) G) gs)) kinds.EmptyBundle None) (tests_from_number G D gs w)
 
--- ---- what stands behind the goods so far
+-- ---- what is behind the goods so far
 
 -- a bid line whose goods go on
-pub record GoesOn (g b d : List (List ℕ)) (lines : List (List (List ℕ))) (n x : List ℕ) (gs : List (List ℕ)) (p : Progress) : Type 0 where
+pub record Continues (g b d : List (List ℕ)) (lines : List (List (List ℕ))) (n x : List ℕ) (gs : List (List ℕ)) (p : Progress) : Type 0 where
   pub at : IsAt (g ∷ b ∷ d ∷ lines) (n ∷ x ∷ gs) p
   pub on : has_end gs ≡ false
 
-goods_are : (g b d : List (List ℕ)) (lines : List (List (List ℕ))) (n x : List ℕ) (gs : List (List ℕ)) (p : Progress) → GoesOn g b d lines n x gs p
+goods_are : (g b d : List (List ℕ)) (lines : List (List (List ℕ))) (n x : List ℕ) (gs : List (List ℕ)) (p : Progress) → Continues g b d lines n x gs p
     → p.goods ≡ real_goods p.header.goods gs
 goods_are g b d lines n x gs p o = o.at.draft.goods ∙ ap (real_goods p.header.goods) (before_end-all gs o.on)
 
-dummy_is : (g b d : List (List ℕ)) (lines : List (List (List ℕ))) (n x : List ℕ) (gs : List (List ℕ)) (p : Progress) → GoesOn g b d lines n x gs p
+dummy_is : (g b d : List (List ℕ)) (lines : List (List (List ℕ))) (n x : List ℕ) (gs : List (List ℕ)) (p : Progress) → Continues g b d lines n x gs p
     → p.draft.dummy ≡ dummy_in p.header.goods gs
 dummy_is g b d lines n x gs p o = o.at.draft.dummy ∙ ap (dummy_in p.header.goods) (before_end-all gs o.on)
 
-one_dummy : (g b d : List (List ℕ)) (lines : List (List (List ℕ))) (n x : List ℕ) (gs : List (List ℕ)) (p : Progress) → GoesOn g b d lines n x gs p
+one_dummy : (g b d : List (List ℕ)) (lines : List (List (List ℕ))) (n x : List ℕ) (gs : List (List ℕ)) (p : Progress) → Continues g b d lines n x gs p
     → HasOneDummy p.header.goods (values gs)
 one_dummy g b d lines n x gs p o = subst (λ ws. HasOneDummy p.header.goods (values ws)) (before_end-all gs o.on) o.at.draft.one
 
 -- ---- the `#`
 
 end_follows : (g b d : List (List ℕ)) (lines : List (List (List ℕ))) (n x : List ℕ) (gs : List (List ℕ)) (w : List ℕ) (p : Progress)
-    → GoesOn g b d lines n x gs p → is_end w ≡ true
+    → Continues g b d lines n x gs p → is_end w ≡ true
     → word_fault (g ∷ b ∷ d ∷ lines) (n ∷ x ∷ gs) w ≡ tests_from_end (header_value g) (header_value d) gs w
     → WordFollows (g ∷ b ∷ d ∷ lines) (n ∷ x ∷ gs) w (end_read p)
 end_follows g b d lines n x gs w p o e fault =
@@ -95,7 +95,7 @@ end_follows g b d lines n x gs w p o e fault =
 -- ---- a real good
 
 real_follows : (g b d : List (List ℕ)) (lines : List (List (List ℕ))) (n x : List ℕ) (gs : List (List ℕ)) (w : List ℕ) (v : ℕ) (p : Progress)
-    → GoesOn g b d lines n x gs p → is_end w ≡ false
+    → Continues g b d lines n x gs p → is_end w ≡ false
     → v ≡ number_of w → v < p.header.goods
     → word_fault (g ∷ b ∷ d ∷ lines) (n ∷ x ∷ gs) w ≡ when (list_any (λ y. eqb (number_of y) (number_of w)) gs) kinds.RepeatedGood
     (when (leb p.header.goods (number_of w) && list_any (λ y. leb p.header.goods (number_of y)) gs) kinds.TwoDummies None)
@@ -137,7 +137,7 @@ same_behind G e v le lv = elim (eqb e v) as (λ t. eqb e v ≡ t → eqb (e - G)
 ] refl
 
 dummy_follows : (g b d : List (List ℕ)) (lines : List (List (List ℕ))) (n x : List ℕ) (gs : List (List ℕ)) (w : List ℕ) (p : Progress)
-    → GoesOn g b d lines n x gs p → is_end w ≡ false
+    → Continues g b d lines n x gs p → is_end w ≡ false
     → p.header.goods ≤ number_of w
     → word_fault (g ∷ b ∷ d ∷ lines) (n ∷ x ∷ gs) w ≡ when (list_any (λ y. eqb (number_of y) (number_of w)) gs) kinds.RepeatedGood
     (when (leb p.header.goods (number_of w) && list_any (λ y. leb p.header.goods (number_of y)) gs) kinds.TwoDummies None)
@@ -192,7 +192,7 @@ dummy_follows g b d lines n x gs w p o e le fault (Some f) found =
 -- ---- a good
 
 good_follows : (g b d : List (List ℕ)) (lines : List (List (List ℕ))) (n x : List ℕ) (gs : List (List ℕ)) (w : List ℕ) (v : ℕ) (p : Progress)
-    → GoesOn g b d lines n x gs p → is_end w ≡ false → Tells w (Number v)
+    → Continues g b d lines n x gs p → is_end w ≡ false → Summarises w (Number v)
     → word_fault (g ∷ b ∷ d ∷ lines) (n ∷ x ∷ gs) w ≡ tests_from_range p.header.goods p.header.dummy gs w
     → WordFollows (g ∷ b ∷ d ∷ lines) (n ∷ x ∷ gs) w (good_read p v)
 good_follows g b d lines n x gs w v p o e t fault =
@@ -215,29 +215,29 @@ good_follows g b d lines n x gs w v p o e t fault =
 -- ---- a word behind the price
 
 tests_here : (g b d : List (List ℕ)) (lines : List (List (List ℕ))) (n x : List ℕ) (gs : List (List ℕ)) (w : List ℕ) (p : Progress)
-    → GoesOn g b d lines n x gs p
+    → Continues g b d lines n x gs p
     → word_fault (g ∷ b ∷ d ∷ lines) (n ∷ x ∷ gs) w ≡ tests_from_end p.header.goods p.header.dummy gs w
 tests_here g b d lines n x gs w p o = ap (λ t. when t kinds.AfterEnd (tests_from_end (header_value g) (header_value d) gs w)) o.on
     ∙ sym (ap (λ (h : Header). tests_from_end h.goods h.dummy gs w) o.at.header)
 
 no_good : (g b d : List (List ℕ)) (lines : List (List (List ℕ))) (n x : List ℕ) (gs : List (List ℕ)) (w : List ℕ) (s : Word) (p : Progress)
-    → GoesOn g b d lines n x gs p → IsTold w s
-    → tells_end s ≡ false → tells_number s ≡ false → WordFollows (g ∷ b ∷ d ∷ lines) (n ∷ x ∷ gs) w (Err kinds.NotANumber)
-no_good g b d lines n x gs w s p o told e m = tests_here g b d lines n x gs w p o
+    → Continues g b d lines n x gs p → IsTested w s
+    → ends_by s ≡ false → is_number_by s ≡ false → WordFollows (g ∷ b ∷ d ∷ lines) (n ∷ x ∷ gs) w (Err kinds.NotANumber)
+no_good g b d lines n x gs w s p o tested e m = tests_here g b d lines n x gs w p o
     ∙ ap (λ t. cond t (when (not (list_any (λ v. ltb (number_of v) p.header.goods) gs)) kinds.EmptyBundle None)
-    (tests_from_number p.header.goods p.header.dummy gs w)) (told.ended ∙ e)
-    ∙ ap (λ t. when (not t) kinds.NotANumber (tests_from_range p.header.goods p.header.dummy gs w)) (told.number ∙ m)
+    (tests_from_number p.header.goods p.header.dummy gs w)) (tested.ended ∙ e)
+    ∙ ap (λ t. when (not t) kinds.NotANumber (tests_from_range p.header.goods p.header.dummy gs w)) (tested.number ∙ m)
 
-pub bid_later : (g b d : List (List ℕ)) (lines : List (List (List ℕ))) (n x : List ℕ) (gs : List (List ℕ)) (w : List ℕ) (s : Word) (p : Progress) → IsTold w s
-    → Tells w s → GoesOn g b d lines n x gs p
+pub bid_later : (g b d : List (List ℕ)) (lines : List (List (List ℕ))) (n x : List ℕ) (gs : List (List ℕ)) (w : List ℕ) (s : Word) (p : Progress) → IsTested w s
+    → Summarises w s → Continues g b d lines n x gs p
     → WordFollows (g ∷ b ∷ d ∷ lines) (n ∷ x ∷ gs) w (good_or_end_read p s)
-bid_later g b d lines n x gs w (Number v) p told t o = good_follows g b d lines n x gs w v p o told.ended t
+bid_later g b d lines n x gs w (Number v) p tested t o = good_follows g b d lines n x gs w v p o tested.ended t
     (tests_here g b d lines n x gs w p o
     ∙ ap (λ u. cond u (when (not (list_any (λ v. ltb (number_of v) p.header.goods) gs)) kinds.EmptyBundle None)
-    (tests_from_number p.header.goods p.header.dummy gs w)) told.ended
-    ∙ ap (λ u. when (not u) kinds.NotANumber (tests_from_range p.header.goods p.header.dummy gs w)) told.number)
-bid_later g b d lines n x gs w End p told t o =
-    end_follows g b d lines n x gs w p o told.ended (ap (λ u. when u kinds.AfterEnd (tests_from_end (header_value g) (header_value d) gs w)) o.on)
-bid_later g b d lines n x gs w (Keyword j k) p told t o = no_good g b d lines n x gs w (Keyword j k) p o told refl refl
-bid_later g b d lines n x gs w (Fraction f) p told t o = no_good g b d lines n x gs w (Fraction f) p o told refl refl
-bid_later g b d lines n x gs w Other p told t o = no_good g b d lines n x gs w Other p o told refl refl
+    (tests_from_number p.header.goods p.header.dummy gs w)) tested.ended
+    ∙ ap (λ u. when (not u) kinds.NotANumber (tests_from_range p.header.goods p.header.dummy gs w)) tested.number)
+bid_later g b d lines n x gs w End p tested t o =
+    end_follows g b d lines n x gs w p o tested.ended (ap (λ u. when u kinds.AfterEnd (tests_from_end (header_value g) (header_value d) gs w)) o.on)
+bid_later g b d lines n x gs w (Keyword j k) p tested t o = no_good g b d lines n x gs w (Keyword j k) p o tested refl refl
+bid_later g b d lines n x gs w (Fraction f) p tested t o = no_good g b d lines n x gs w (Fraction f) p o tested refl refl
+bid_later g b d lines n x gs w Other p tested t o = no_good g b d lines n x gs w Other p o tested refl refl

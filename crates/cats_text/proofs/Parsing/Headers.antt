@@ -7,8 +7,8 @@ use Rattle.cats_text.specs.Faults.{header_word, word_fault, when, header_value}
 use Rattle.cats_text.specs.Internal.Keywords.{keyword_text}
 use Rattle.cats_text.specs.Internal.Progress.{Progress}
 use Rattle.cats_text.specs.Internal.Parsing.{Reading, keyword_read, header_number_read, number_read, price_read, good_or_end_read, word_read}
-use Rattle.cats_text.specs.declared.fault.Kind.{Kind}
-use Rattle.cats_text.specs.declared.fault.Kind.TheVariants as kinds
+use Rattle.cats_text.specs.declared.read_fault.Kind.{Kind}
+use Rattle.cats_text.specs.declared.read_fault.Kind.TheVariants as kinds
 use Rattle.cats_text.specs.declared.word.Keyword.{Keyword as Key}
 use Rattle.cats_text.specs.declared.word.Keyword.TheVariants as keywords
 use Rattle.cats_text.specs.declared.word.Word.{Word}
@@ -20,8 +20,8 @@ use Rattle.cats_text.specs.declared.parser.Stage.TheVariants.{Goods, Bids, Dummy
 use Rattle.cats_text.specs.declared.parser.Column.{Column}
 use Rattle.cats_text.specs.declared.parser.Column.TheVariants.{First, Second, Later, Ended}
 use Rattle.bid_file.specs.declared.limits.TheConstants.{MAX_GOODS, MAX_BIDS, MAX_DUMMY}
-use Rattle.cats_text.proofs.Words.Kept.{Tells, Holds}
-use Rattle.cats_text.proofs.Words.Tests.{IsTold, tells_number, tells_keyword}
+use Rattle.cats_text.proofs.Words.Kept.{Summarises, Holds}
+use Rattle.cats_text.proofs.Words.Tests.{IsTested, is_number_by, is_keyword_by}
 use Rattle.cats_text.proofs.Parsing.States.{IsAt, WordFollows}
 
 -- ---- a word by its column, the column and the line given
@@ -54,31 +54,31 @@ holds_same v n small h = ⊎_elim (λ (e : v ≡ n). e) (λ (above : (HELD ≤ v
 
 -- ---- the first word of a header line
 
-pub keyword_good : (p : Progress) (k : Key) (s : Word) → tells_keyword k s ≡ true → keyword_read p k s ≡ Ok (record p { column = Second })
+pub keyword_good : (p : Progress) (k : Key) (s : Word) → is_keyword_by k s ≡ true → keyword_read p k s ≡ Ok (record p { column = Second })
 keyword_good p k (Keyword j n) h = rw h refl
 keyword_good p k (Number v) h = absurd (both_ways false refl h)
 keyword_good p k (Fraction d) h = absurd (both_ways false refl h)
 keyword_good p k End h = absurd (both_ways false refl h)
 keyword_good p k Other h = absurd (both_ways false refl h)
 
-pub keyword_bad : (p : Progress) (k : Key) (s : Word) → tells_keyword k s ≡ false → keyword_read p k s ≡ Err kinds.Header
+pub keyword_bad : (p : Progress) (k : Key) (s : Word) → is_keyword_by k s ≡ false → keyword_read p k s ≡ Err kinds.Header
 keyword_bad p k (Keyword j n) h = rw h refl
 keyword_bad p k (Number v) h = refl
 keyword_bad p k (Fraction d) h = refl
 keyword_bad p k End h = refl
 keyword_bad p k Other h = refl
 
-first_word : (lines : List (List (List ℕ))) (k : Key) (limit : ℕ) (p : Progress) (s : Word) (w : List ℕ) → IsTold w s
+first_word : (lines : List (List (List ℕ))) (k : Key) (limit : ℕ) (p : Progress) (s : Word) (w : List ℕ) → IsTested w s
     → word_read p s ≡ keyword_read p k s → word_fault lines [] w ≡ header_word (keyword_text k) limit [] w
     → IsAt lines (w ∷ []) (record p { column = Second }) → WordFollows lines [] w (word_read p s)
 first_word lines k limit p s w t read fault next = subst (WordFollows lines [] w) (sym read)
-    (elim (tells_keyword k s) as (λ b. tells_keyword k s ≡ b → WordFollows lines [] w (keyword_read p k s)) [
-      | true ↦ λ (h : tells_keyword k s ≡ true). subst (WordFollows lines [] w) (sym (keyword_good p k s h)) (
+    (elim (is_keyword_by k s) as (λ b. is_keyword_by k s ≡ b → WordFollows lines [] w (keyword_read p k s)) [
+      | true ↦ λ (h : is_keyword_by k s ≡ true). subst (WordFollows lines [] w) (sym (keyword_good p k s h)) (
         fault
             ∙ ap (λ b. when (not b) kinds.Header None) (t.keyword k ∙ h),
         next,
       )
-      | false ↦ λ (h : tells_keyword k s ≡ false). subst (WordFollows lines [] w) (sym (keyword_bad p k s h)) (fault
+      | false ↦ λ (h : is_keyword_by k s ≡ false). subst (WordFollows lines [] w) (sym (keyword_bad p k s h)) (fault
           ∙ ap (λ b. when (not b) kinds.Header None) (t.keyword k ∙ h))
     ] refl)
 
@@ -92,7 +92,7 @@ number_word_none : (w : List ℕ) (limit n : ℕ) → is_number w ≡ true → n
     → when (not (is_number w)) kinds.NotANumber (when (ltb limit (number_of w)) kinds.TooLarge None) ≡ None
 number_word_none w limit n h e l = rw (h, e, l) refl
 
-second_number : (lines : List (List (List ℕ))) (before : List (List ℕ)) (limit : ℕ) (q : Progress) (v : ℕ) (w : List ℕ) → limit < HELD → Tells w (Number v)
+second_number : (lines : List (List (List ℕ))) (before : List (List ℕ)) (limit : ℕ) (q : Progress) (v : ℕ) (w : List ℕ) → limit < HELD → Summarises w (Number v)
     → word_fault lines before w ≡ when (not (is_number w)) kinds.NotANumber (when (ltb limit (number_of w)) kinds.TooLarge None)
     → (v ≡ number_of w → v ≤ limit → IsAt lines (before ++ w ∷ []) q) → WordFollows lines before w (limited limit q v)
 second_number lines before limit q v w small t fault next =
@@ -112,22 +112,22 @@ no_number lines before w rest h fault = fault ∙ ap (λ b. when (not b) kinds.N
 header_value_of : (k w : List ℕ) (v : ℕ) → is_number w ≡ true → v ≡ number_of w → v ≡ header_value (k ∷ w ∷ [])
 header_value_of k w v h e = e ∙ sym (ap (λ b. cond b (number_of w) 0) h)
 
-second_word : (lines : List (List (List ℕ))) (k : List ℕ) (limit : ℕ) (p : Progress) (s : Word) (w : List ℕ) → limit < HELD → IsTold w s → Tells w s
+second_word : (lines : List (List (List ℕ))) (k : List ℕ) (limit : ℕ) (p : Progress) (s : Word) (w : List ℕ) → limit < HELD → IsTested w s → Summarises w s
     → (q : ℕ → Progress) → ((v : ℕ) → word_read p (Number v) ≡ limited limit (q v) v)
-    → ((x : Word) → tells_number x ≡ false → word_read p x ≡ Err kinds.NotANumber)
+    → ((x : Word) → is_number_by x ≡ false → word_read p x ≡ Err kinds.NotANumber)
     → word_fault lines (k ∷ []) w ≡ when (not (is_number w)) kinds.NotANumber (when (ltb limit (number_of w)) kinds.TooLarge None)
     → ((v : ℕ) → v ≡ header_value (k ∷ w ∷ []) → v ≤ limit → IsAt lines (k ∷ w ∷ []) (q v)) → WordFollows lines (k ∷ []) w (word_read p s)
-second_word lines k limit p (Number v) w small told t q number other fault next =
+second_word lines k limit p (Number v) w small tested t q number other fault next =
     subst (WordFollows lines (k ∷ []) w) (sym (number v))
     (second_number lines (k ∷ []) limit (q v) v w small t fault (λ e le. next v (header_value_of k w v t.0 e) le))
-second_word lines k limit p (Keyword j n) w small told t q number other fault next =
-    subst (WordFollows lines (k ∷ []) w) (sym (other (Keyword j n) refl)) (no_number lines (k ∷ []) w _ told.number fault)
-second_word lines k limit p (Fraction d) w small told t q number other fault next =
-    subst (WordFollows lines (k ∷ []) w) (sym (other (Fraction d) refl)) (no_number lines (k ∷ []) w _ told.number fault)
-second_word lines k limit p End w small told t q number other fault next =
-    subst (WordFollows lines (k ∷ []) w) (sym (other End refl)) (no_number lines (k ∷ []) w _ told.number fault)
-second_word lines k limit p Other w small told t q number other fault next =
-    subst (WordFollows lines (k ∷ []) w) (sym (other Other refl)) (no_number lines (k ∷ []) w _ told.number fault)
+second_word lines k limit p (Keyword j n) w small tested t q number other fault next =
+    subst (WordFollows lines (k ∷ []) w) (sym (other (Keyword j n) refl)) (no_number lines (k ∷ []) w _ tested.number fault)
+second_word lines k limit p (Fraction d) w small tested t q number other fault next =
+    subst (WordFollows lines (k ∷ []) w) (sym (other (Fraction d) refl)) (no_number lines (k ∷ []) w _ tested.number fault)
+second_word lines k limit p End w small tested t q number other fault next =
+    subst (WordFollows lines (k ∷ []) w) (sym (other End refl)) (no_number lines (k ∷ []) w _ tested.number fault)
+second_word lines k limit p Other w small tested t q number other fault next =
+    subst (WordFollows lines (k ∷ []) w) (sym (other Other refl)) (no_number lines (k ∷ []) w _ tested.number fault)
 
 -- ---- a header line, whichever it is
 
@@ -135,7 +135,7 @@ second_word lines k limit p Other w small told t q number other fault next =
 pub read_there : (column : Column) (stage : Stage) (p : Progress) (s : Word) → p.column ≡ column → p.stage ≡ stage → word_read p s ≡ read_at column stage p s
 read_there column stage p s e f = ap₂ (λ (x : Column) (y : Stage). read_at x y p s) e f
 
-not_number_read : (p : Progress) (x : Word) → tells_number x ≡ false → header_number_read p x ≡ Err kinds.NotANumber
+not_number_read : (p : Progress) (x : Word) → is_number_by x ≡ false → header_number_read p x ≡ Err kinds.NotANumber
 not_number_read p (Number v) h = absurd (both_ways true h refl)
 not_number_read p (Keyword j n) h = refl
 not_number_read p (Fraction d) h = refl
@@ -153,9 +153,9 @@ numbers_at stage p v = elim stage [
 number_there : (stage : Stage) (p : Progress) (v : ℕ) → p.stage ≡ stage → header_number_read p (Number v) ≡ numbers_at stage p v
 number_there stage p v e = ap (λ (x : Stage). numbers_at x p v) e
 
-pub goods_word : (words : List (List ℕ)) (w : List ℕ) (s : Word) (p : Progress) → IsTold w s → Tells w s → IsAt [] words p
+pub goods_word : (words : List (List ℕ)) (w : List ℕ) (s : Word) (p : Progress) → IsTested w s → Summarises w s → IsAt [] words p
     → WordFollows [] words w (word_read p s)
-goods_word [] w s p told t at = first_word [] keywords.Goods MAX_GOODS p s w told (read_there First Goods p s at.column at.stage) refl
+goods_word [] w s p tested t at = first_word [] keywords.Goods MAX_GOODS p s w tested (read_there First Goods p s at.column at.stage) refl
     (record {
       stage = at.stage;
       column = refl;
@@ -167,8 +167,8 @@ goods_word [] w s p told t at = first_word [] keywords.Goods MAX_GOODS p s w tol
       bids = at.bids;
       dummy = at.dummy;
     })
-goods_word (k ∷ []) w s p told t at =
-    second_word [] k MAX_GOODS p s w (lit< tt) told t (λ v. record p { column = Later; header = record p.header { goods = v } })
+goods_word (k ∷ []) w s p tested t at =
+    second_word [] k MAX_GOODS p s w (lit< tt) tested t (λ v. record p { column = Later; header = record p.header { goods = v } })
     (λ v. read_there Second Goods p (Number v) at.column at.stage ∙ number_there Goods p v at.stage)
     (λ x h. read_there Second Goods p x at.column at.stage ∙ not_number_read p x h) refl
     (λ v e le. record {
@@ -182,11 +182,11 @@ goods_word (k ∷ []) w s p told t at =
       bids = at.bids;
       dummy = at.dummy;
     })
-goods_word (k ∷ v ∷ words) w s p told t at = subst (WordFollows [] (k ∷ v ∷ words) w) (sym (read_there Later Goods p s at.column at.stage)) refl
+goods_word (k ∷ v ∷ words) w s p tested t at = subst (WordFollows [] (k ∷ v ∷ words) w) (sym (read_there Later Goods p s at.column at.stage)) refl
 
-pub bids_word : (g : List (List ℕ)) (words : List (List ℕ)) (w : List ℕ) (s : Word) (p : Progress) → IsTold w s → Tells w s → IsAt (g ∷ []) words p
+pub bids_word : (g : List (List ℕ)) (words : List (List ℕ)) (w : List ℕ) (s : Word) (p : Progress) → IsTested w s → Summarises w s → IsAt (g ∷ []) words p
     → WordFollows (g ∷ []) words w (word_read p s)
-bids_word g [] w s p told t at = first_word (g ∷ []) keywords.Bids MAX_BIDS p s w told (read_there First Bids p s at.column at.stage) refl
+bids_word g [] w s p tested t at = first_word (g ∷ []) keywords.Bids MAX_BIDS p s w tested (read_there First Bids p s at.column at.stage) refl
     (record {
       stage = at.stage;
       column = refl;
@@ -198,8 +198,8 @@ bids_word g [] w s p told t at = first_word (g ∷ []) keywords.Bids MAX_BIDS p 
       bids = at.bids;
       dummy = at.dummy;
     })
-bids_word g (k ∷ []) w s p told t at =
-    second_word (g ∷ []) k MAX_BIDS p s w (lit< tt) told t (λ v. record p { column = Later; header = record p.header { bids = v }; due = v })
+bids_word g (k ∷ []) w s p tested t at =
+    second_word (g ∷ []) k MAX_BIDS p s w (lit< tt) tested t (λ v. record p { column = Later; header = record p.header { bids = v }; due = v })
     (λ v. read_there Second Bids p (Number v) at.column at.stage ∙ number_there Bids p v at.stage)
     (λ x h. read_there Second Bids p x at.column at.stage ∙ not_number_read p x h) refl
     (λ v e le. record {
@@ -213,11 +213,11 @@ bids_word g (k ∷ []) w s p told t at =
       bids = le;
       dummy = at.dummy;
     })
-bids_word g (k ∷ v ∷ words) w s p told t at = subst (WordFollows (g ∷ []) (k ∷ v ∷ words) w) (sym (read_there Later Bids p s at.column at.stage)) refl
+bids_word g (k ∷ v ∷ words) w s p tested t at = subst (WordFollows (g ∷ []) (k ∷ v ∷ words) w) (sym (read_there Later Bids p s at.column at.stage)) refl
 
-pub dummy_word : (g b : List (List ℕ)) (words : List (List ℕ)) (w : List ℕ) (s : Word) (p : Progress) → IsTold w s → Tells w s → IsAt (g ∷ b ∷ []) words p
+pub dummy_word : (g b : List (List ℕ)) (words : List (List ℕ)) (w : List ℕ) (s : Word) (p : Progress) → IsTested w s → Summarises w s → IsAt (g ∷ b ∷ []) words p
     → WordFollows (g ∷ b ∷ []) words w (word_read p s)
-dummy_word g b [] w s p told t at = first_word (g ∷ b ∷ []) keywords.Dummy MAX_DUMMY p s w told (read_there First Dummy p s at.column at.stage) refl
+dummy_word g b [] w s p tested t at = first_word (g ∷ b ∷ []) keywords.Dummy MAX_DUMMY p s w tested (read_there First Dummy p s at.column at.stage) refl
     (record {
       stage = at.stage;
       column = refl;
@@ -229,8 +229,8 @@ dummy_word g b [] w s p told t at = first_word (g ∷ b ∷ []) keywords.Dummy M
       bids = at.bids;
       dummy = at.dummy;
     })
-dummy_word g b (k ∷ []) w s p told t at =
-    second_word (g ∷ b ∷ []) k MAX_DUMMY p s w (lit< tt) told t (λ v. record p { column = Later; header = record p.header { dummy = v } })
+dummy_word g b (k ∷ []) w s p tested t at =
+    second_word (g ∷ b ∷ []) k MAX_DUMMY p s w (lit< tt) tested t (λ v. record p { column = Later; header = record p.header { dummy = v } })
     (λ v. read_there Second Dummy p (Number v) at.column at.stage ∙ number_there Dummy p v at.stage)
     (λ x h. read_there Second Dummy p x at.column at.stage ∙ not_number_read p x h) refl
     (λ v e le. record {
@@ -244,4 +244,4 @@ dummy_word g b (k ∷ []) w s p told t at =
       bids = at.bids;
       dummy = le;
     })
-dummy_word g b (k ∷ v ∷ words) w s p told t at = subst (WordFollows (g ∷ b ∷ []) (k ∷ v ∷ words) w) (sym (read_there Later Dummy p s at.column at.stage)) refl
+dummy_word g b (k ∷ v ∷ words) w s p tested t at = subst (WordFollows (g ∷ b ∷ []) (k ∷ v ∷ words) w) (sym (read_there Later Dummy p s at.column at.stage)) refl

@@ -10,15 +10,15 @@ use Rattle.cats_text.specs.FileLines.{rising_of, put_slot, before_end, real_good
 use Rattle.bid_file.specs.Files.{PlainBid}
 use Rattle.cats_text.specs.Internal.Progress.{Progress}
 use Rattle.cats_text.specs.Internal.Parsing.{Reading, word_read, line_read, with_bid, drafted, is_due}
-use Rattle.cats_text.specs.declared.fault.Kind.TheVariants as kinds
+use Rattle.cats_text.specs.declared.read_fault.Kind.TheVariants as kinds
 use Rattle.cats_text.specs.declared.parser.Header.{Header}
 use Rattle.cats_text.specs.declared.parser.Stage.{Stage}
 use Rattle.cats_text.specs.declared.parser.Stage.TheVariants.{Goods, Bids, Dummy, Bid}
 use Rattle.cats_text.specs.declared.parser.Column.{Column}
 use Rattle.cats_text.specs.declared.parser.Column.TheVariants.{First, Second, Later, Ended}
 use Rattle.cats_text.specs.Internal.Machine.{summary}
-use Rattle.cats_text.proofs.Words.Kept.{tells}
-use Rattle.cats_text.proofs.Words.Tests.{told}
+use Rattle.cats_text.proofs.Words.Kept.{summarises}
+use Rattle.cats_text.proofs.Words.Tests.{tested}
 use Rattle.cats_text.proofs.Parsing.States.{IsAt, IsDraft, WordFollows, LineFollows, ended_column, kept_slots}
 use Rattle.cats_text.proofs.Parsing.Headers.{read_there, goods_word, bids_word, dummy_word}
 use Rattle.cats_text.proofs.Parsing.Bids.{fault_named, bid_first, bid_second}
@@ -30,10 +30,10 @@ bid_word_step : (g b d : List (List ℕ)) (lines : List (List (List ℕ))) (word
     → IsAt (g ∷ b ∷ d ∷ lines) words p
     → WordFollows (g ∷ b ∷ d ∷ lines) words (a ∷ w) (word_read p (summary (a ∷ w)))
 bid_word_step g b d lines [] a w p at = subst (WordFollows (g ∷ b ∷ d ∷ lines) [] (a ∷ w)) (sym (read_there First Bid p (summary (a ∷ w)) at.column at.stage))
-    (bid_first g b d lines (a ∷ w) (summary (a ∷ w)) p (told a w (summary (a ∷ w)) (tells a w)) (tells a w) at)
+    (bid_first g b d lines (a ∷ w) (summary (a ∷ w)) p (tested a w (summary (a ∷ w)) (summarises a w)) (summarises a w) at)
 bid_word_step g b d lines (n ∷ []) a w p at =
     subst (WordFollows (g ∷ b ∷ d ∷ lines) (n ∷ []) (a ∷ w)) (sym (read_there Second Bid p (summary (a ∷ w)) at.column at.stage))
-    (bid_second g b d lines n (a ∷ w) (summary (a ∷ w)) p (told a w (summary (a ∷ w)) (tells a w)) (tells a w) at)
+    (bid_second g b d lines n (a ∷ w) (summary (a ∷ w)) p (tested a w (summary (a ∷ w)) (summarises a w)) (summarises a w) at)
 bid_word_step g b d lines (n ∷ x ∷ gs) a w p at =
     elim (has_end gs) as (λ t. has_end gs ≡ t → WordFollows (g ∷ b ∷ d ∷ lines) (n ∷ x ∷ gs) (a ∷ w) (word_read p (summary (a ∷ w)))) [
       | true ↦ λ (e : has_end gs ≡ true). subst (WordFollows (g ∷ b ∷ d ∷ lines) (n ∷ x ∷ gs) (a ∷ w))
@@ -41,14 +41,14 @@ bid_word_step g b d lines (n ∷ x ∷ gs) a w p at =
           (fault_named (g ∷ b ∷ d ∷ lines) (n ∷ x ∷ gs) (a ∷ w) _ _ _ refl e)
       | false ↦ λ (e : has_end gs ≡ false). subst (WordFollows (g ∷ b ∷ d ∷ lines) (n ∷ x ∷ gs) (a ∷ w))
           (sym (read_there Later Bid p (summary (a ∷ w)) (at.column ∙ ap ended_column e) at.stage))
-          (bid_later g b d lines n x gs (a ∷ w) (summary (a ∷ w)) p (told a w (summary (a ∷ w)) (tells a w)) (tells a w) (record { at = at; on = e }))
+          (bid_later g b d lines n x gs (a ∷ w) (summary (a ∷ w)) p (tested a w (summary (a ∷ w)) (summarises a w)) (summarises a w) (record { at = at; on = e }))
     ] refl
 
 pub word_step : (lines : List (List (List ℕ))) (words : List (List ℕ)) (a : ℕ) (w : List ℕ) (p : Progress) → IsAt lines words p
     → WordFollows lines words (a ∷ w) (word_read p (summary (a ∷ w)))
-word_step [] words a w p at = goods_word words (a ∷ w) (summary (a ∷ w)) p (told a w (summary (a ∷ w)) (tells a w)) (tells a w) at
-word_step (g ∷ []) words a w p at = bids_word g words (a ∷ w) (summary (a ∷ w)) p (told a w (summary (a ∷ w)) (tells a w)) (tells a w) at
-word_step (g ∷ b ∷ []) words a w p at = dummy_word g b words (a ∷ w) (summary (a ∷ w)) p (told a w (summary (a ∷ w)) (tells a w)) (tells a w) at
+word_step [] words a w p at = goods_word words (a ∷ w) (summary (a ∷ w)) p (tested a w (summary (a ∷ w)) (summarises a w)) (summarises a w) at
+word_step (g ∷ []) words a w p at = bids_word g words (a ∷ w) (summary (a ∷ w)) p (tested a w (summary (a ∷ w)) (summarises a w)) (summarises a w) at
+word_step (g ∷ b ∷ []) words a w p at = dummy_word g b words (a ∷ w) (summary (a ∷ w)) p (tested a w (summary (a ∷ w)) (summarises a w)) (summarises a w) at
 word_step (g ∷ b ∷ d ∷ lines) words a w p at = bid_word_step g b d lines words a w p at
 
 -- ---- the end of a line

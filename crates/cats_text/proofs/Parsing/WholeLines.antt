@@ -8,8 +8,8 @@ use Rattle.cats_text.specs.Lines.{Word, Line}
 use Rattle.cats_text.specs.Faults.{end_fault, words_fault, line_fault, lines_fault, fault_at, is_line_due}
 use Rattle.cats_text.specs.Internal.Progress.{Progress}
 use Rattle.cats_text.specs.Internal.Parsing.{Reading, word_read, line_read, is_due}
-use Rattle.cats_text.specs.declared.fault.Kind.TheVariants.{Missing}
-use Rattle.cats_text.specs.declared.fault.ReadFault.{ReadFault}
+use Rattle.cats_text.specs.declared.read_fault.Kind.TheVariants.{Missing}
+use Rattle.cats_text.specs.declared.read_fault.ReadFault.{ReadFault}
 use Rattle.cats_text.specs.Internal.Machine.{summary}
 use Rattle.cats_text.proofs.Parsing.States.{IsAt, WordFollows, LineFollows}
 use Rattle.cats_text.proofs.Parsing.Lines.{word_step, line_step, due_step}

@@ -9,8 +9,8 @@ use Rattle.cats_text.specs.Internal.Progress.{Progress}
 use Rattle.cats_text.specs.Internal.Parsing.{Reading, line_read, is_due}
 use Rattle.cats_text.specs.Internal.Scanning.{State, Scan, and_then, scan, byte_step, blank_step, words_step, next_line, end_step, missing_step, line_behind}
 use Rattle.cats_text.specs.Internal.Scanning.{with_reading, letter_mode}
-use Rattle.cats_text.specs.declared.fault.Kind.TheVariants.{Missing}
-use Rattle.cats_text.specs.declared.fault.ReadFault.{ReadFault}
+use Rattle.cats_text.specs.declared.read_fault.Kind.TheVariants.{Missing}
+use Rattle.cats_text.specs.declared.read_fault.ReadFault.{ReadFault}
 use Rattle.cats_text.specs.declared.scanner.Mode.{Mode}
 use Rattle.cats_text.specs.declared.scanner.Mode.TheVariants.{Start, Blank, Comment, Between, Inside}
 use Rattle.cats_text.specs.Internal.Machine.{word_from}
@@ -27,14 +27,14 @@ pub text_of-lines : (text : List ℕ) → text_of (raw_lines text) ≡ text
 text_of-lines [] = refl
 text_of-lines (b ∷ bs) = joined b (raw_lines bs) ∙ ap (λ ds. b ∷ ds) (text_of-lines bs)
   where
-    front : (b : ℕ) (ls : List RawLine) → text_of (with_byte b ls) ≡ b ∷ text_of ls
-    front b [] = refl
-    front b (l ∷ ls) = refl
+    prefix : (b : ℕ) (ls : List RawLine) → text_of (with_byte b ls) ≡ b ∷ text_of ls
+    prefix b [] = refl
+    prefix b (l ∷ ls) = refl
 
     joined : (b : ℕ) (ls : List RawLine) → text_of (lines_with b ls) ≡ b ∷ text_of ls
     joined b ls = elim (eqb b 10) as (λ t. eqb b 10 ≡ t → text_of (cond t (record { bytes = []; ended = true } ∷ ls) (with_byte b ls)) ≡ b ∷ text_of ls) [
       | true ↦ λ (e : eqb b 10 ≡ true). ap (λ c. c ∷ text_of ls) (sym (eqb-true b 10 e))
-      | false ↦ λ (e : eqb b 10 ≡ false). front b ls
+      | false ↦ λ (e : eqb b 10 ≡ false). prefix b ls
     ] refl
 
 -- no LF in a line; only the last may lack one behind it, and then it is not empty
@@ -80,7 +80,7 @@ abbrev pub then_from : Scanned → (Progress → Scan) → Scan
 then_from (Ok p) f = f p
 then_from (Err e) f = Err e
 
--- the end of the words, from what stands behind the last blank
+-- the end of the words, from what is behind the last blank
 quiet_words : (n : ℕ) (ws : List Word) (p : Progress) → words_step (standing (quiet ws) n p) ≡ Ok (standing (quiet ws) n p)
 quiet_words n [] p = refl
 quiet_words n (w ∷ ws) p = refl

@@ -3,7 +3,7 @@ use Rattle.std.proofs.Common.{◌≡◌, ℕ, suc, ◌+◌, ◌≤◌, ◌==◌,
 use Rattle.std.proofs.Common.{if◌then◌else◌}
 use Rattle.cats_text.specs.Lines.{is_blank}
 use Rattle.cats_text.specs.Internal.Returns.{settled, settle}
-use Rattle.cats_text.specs.declared.fault.ReadFault.{ReadFault}
+use Rattle.cats_text.specs.declared.read_fault.ReadFault.{ReadFault}
 use Rattle.cats_text.specs.declared.scanner.Mode.{Mode}
 use Rattle.cats_text.specs.declared.scanner.Mode.TheVariants.{Start, Blank, Comment, Between, Inside}
 use Rattle.cats_text.specs.Internal.Parsing.{Reading, word_read, line_read}
@@ -24,7 +24,7 @@ then_meets (Err fault) t xs ys h e = absurd (no e)
     no : err fault ≡ ok t → ⊥
     no q = cc
 
--- a bid line that is met behind the first bytes is met from their front
+-- a bid line that is met behind the first bytes is met from their prefix
 pub meets_behind : (s t : State) (xs ys : List ℕ) → scan s xs ≡ Ok t → MeetsBidLine t ys → MeetsBidLine s (xs ++ ys)
 meets_behind s t [] ys e m = let same : s ≡ t = cc in rw same m
 meets_behind s t (b ∷ xs) ys e m = inr (then_meets (byte_step s b) t xs ys (λ u e'. meets_behind u t xs ys e' m) e)

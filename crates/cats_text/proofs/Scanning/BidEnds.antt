@@ -1,37 +1,37 @@
 -- The `#` and the LF that end a bid line.
 use Rattle.std.proofs.Common.{◌≡◌, ◌≢◌, ℕ, ◌+◌, ◌<◌, Bool, true, false, cond, eqb, List, length, get_or, refl, sym, ap, ap₂, subst, ◌∙◌, arith, Ok, Err, add-one}
 use Rattle.std.proofs.lemmas.Bool.{eqb-true}
-use Rattle.cats_text.specs.Internal.Front.{IsFront}
+use Rattle.cats_text.specs.Internal.LeadingToken.{IsLeadingToken}
 use Rattle.cats_text.specs.Internal.Parsing.{word_read, line_read, end_read, bid_closed, with_bid}
-use Rattle.cats_text.specs.Internal.Progress.{Progress, Gives, AsksOnBidLines}
-use Rattle.cats_text.specs.Internal.Scanning.{State, byte_step, is_before_word, halt_of, IsGoodDue, ScansTo}
-use Rattle.cats_text.specs.declared.fault.Kind.{Kind}
-use Rattle.cats_text.specs.declared.fault.Kind.TheVariants.{EmptyBundle}
+use Rattle.cats_text.specs.Internal.Progress.{Progress, Gives, NeedsMemoryOnBidLines}
+use Rattle.cats_text.specs.Internal.Scanning.{State, byte_step, is_before_word, scan_error_of, IsGoodDue, ScansTo}
+use Rattle.cats_text.specs.declared.read_fault.Kind.{Kind}
+use Rattle.cats_text.specs.declared.read_fault.Kind.TheVariants.{EmptyBundle}
 use Rattle.cats_text.specs.declared.parser.Column.{Column}
 use Rattle.cats_text.specs.declared.parser.Column.TheVariants.{Later, Ended}
 use Rattle.cats_text.specs.declared.parser.Stage.{Stage}
 use Rattle.cats_text.specs.declared.parser.Stage.TheVariants.{Bid}
-use Rattle.cats_text.specs.declared.parser.Stop.{Stop}
-use Rattle.cats_text.specs.declared.parser.Stop.TheVariants.{Fault, Memory}
-use Rattle.cats_text.specs.declared.scanner.Halt.{Halt}
+use Rattle.cats_text.specs.declared.parser.ParseError.{ParseError}
+use Rattle.cats_text.specs.declared.parser.ParseError.TheVariants.{Fault, Memory}
+use Rattle.cats_text.specs.declared.scanner.ScanError.{ScanError}
 use Rattle.cats_text.specs.declared.scanner.Mode.TheVariants.{Start}
 use Rattle.cats_text.specs.declared.word.Word.{Word}
 use Rattle.cats_text.specs.declared.word.Word.TheVariants.{End}
 use Rattle.cats_text.proofs.Scanning.Rests.{scan_byte_at}
 use Rattle.cats_text.proofs.Scanning.WholeWords.{behind_word, word_taken, word_halts}
 
--- behind a word of one byte with no blank stands LF
-front_one : (bytes : List ℕ) (w : Word) → IsFront bytes w 1 → (1 < length bytes) × (get_or bytes 1 0 ≡ 10)
-front_one bytes w front =
-    let some : 0 < front.count = front.kept.some in
-    let is : 1 ≡ front.count + cond (eqb (get_or bytes front.count 0) 10) 0 1 = front.is in
-    elim (eqb (get_or bytes front.count 0) 10) as (λ t. eqb (get_or bytes front.count 0) 10 ≡ t → (1 < length bytes) × (get_or bytes 1 0 ≡ 10)) [
-      | true ↦ λ (e : eqb (get_or bytes front.count 0) 10 ≡ true).
-          let all : front.count + cond (eqb (get_or bytes front.count 0) 10) 0 1 ≡ front.count + 0 = ap (λ t. front.count + cond t 0 1) e in
-          let one : front.count ≡ 1 = omega arith in
-          (subst (λ k. k < length bytes) one front.within, subst (λ k. get_or bytes k 0 ≡ 10) one (eqb-true _ _ e))
-      | false ↦ λ (e : eqb (get_or bytes front.count 0) 10 ≡ false).
-          let all : front.count + cond (eqb (get_or bytes front.count 0) 10) 0 1 ≡ front.count + 1 = ap (λ t. front.count + cond t 0 1) e in
+-- behind a word of one byte with no blank there is LF
+token_one : (bytes : List ℕ) (w : Word) → IsLeadingToken bytes w 1 → (1 < length bytes) × (get_or bytes 1 0 ≡ 10)
+token_one bytes w token =
+    let some : 0 < token.count = token.kept.some in
+    let is : 1 ≡ token.count + cond (eqb (get_or bytes token.count 0) 10) 0 1 = token.is in
+    elim (eqb (get_or bytes token.count 0) 10) as (λ t. eqb (get_or bytes token.count 0) 10 ≡ t → (1 < length bytes) × (get_or bytes 1 0 ≡ 10)) [
+      | true ↦ λ (e : eqb (get_or bytes token.count 0) 10 ≡ true).
+          let all : token.count + cond (eqb (get_or bytes token.count 0) 10) 0 1 ≡ token.count + 0 = ap (λ t. token.count + cond t 0 1) e in
+          let one : token.count ≡ 1 = omega arith in
+          (subst (λ k. k < length bytes) one token.within, subst (λ k. get_or bytes k 0 ≡ 10) one (eqb-true _ _ e))
+      | false ↦ λ (e : eqb (get_or bytes token.count 0) 10 ≡ false).
+          let all : token.count + cond (eqb (get_or bytes token.count 0) 10) 0 1 ≡ token.count + 1 = ap (λ t. token.count + cond t 0 1) e in
           absurd (omega arith)
     ] refl
 
@@ -64,14 +64,14 @@ stopped_by p kind false h = cc
 
 -- ---- the scanner
 
-pub end_passed : (s : State) (p : Progress) (v w : Bool) (bytes : List ℕ) → IsGoodDue s → IsFront bytes End 1 → bid_closed s.progress ≡ Ok p → v ≡ false → w ≡ v
+pub end_passed : (s : State) (p : Progress) (v w : Bool) (bytes : List ℕ) → IsGoodDue s → IsLeadingToken bytes End 1 → bid_closed s.progress ≡ Ok p → v ≡ false → w ≡ v
     → ScansTo s (record { mode = Start; line = s.line + 1; progress = p }) w bytes (Ok 2)
-end_passed s p v w bytes due front closed e same =
+end_passed s p v w bytes due token closed e same =
     let before : is_before_word s.mode ≡ true = ap is_before_word due.mode in
     let put = put_by s.progress p (eqb (length s.progress.goods) 0) closed in
     let read : word_read s.progress End ≡ Ok (ended s.progress) = end_word s.progress due.stage due.column ∙ put.0 in
-    let hash : ScansTo s (behind_word s (ended s.progress)) v bytes (Ok 1) = word_taken s (ended s.progress) v bytes End 1 before front read refl e in
-    let ends = front_one bytes End front in
+    let hash : ScansTo s (behind_word s (ended s.progress)) v bytes (Ok 1) = word_taken s (ended s.progress) v bytes End 1 before token read refl e in
+    let ends = token_one bytes End token in
     let line : byte_step (behind_word s (ended s.progress)) 10 ≡ Ok (record { mode = Start; line = s.line + 1; progress = p }) =
     rw (end_line s.progress due.stage, put.1, add-one) refl in (
       scan_byte_at s (behind_word s (ended s.progress)) (record { mode = Start; line = s.line + 1; progress = p }) v w bytes 1 ends.0
@@ -80,14 +80,14 @@ end_passed s p v w bytes due front closed e same =
       omega (arith, ends.0),
     )
 
-gives_end : (s : State) (u : Progress) (stop : Stop) → IsGoodDue s → Gives {A = Unit {0}} u (Err stop) (bid_closed s.progress)
+gives_end : (s : State) (u : Progress) (stop : ParseError) → IsGoodDue s → Gives {A = Unit {0}} u (Err stop) (bid_closed s.progress)
     → Gives {A = Unit {0}} u (Err stop) (word_read s.progress End)
 gives_end s u (Fault kind) due read = end_word s.progress due.stage due.column ∙ stopped_by s.progress kind (eqb (length s.progress.goods) 0) read
 gives_end s u Memory due read = tt
 
 -- or the parser stops
-pub end_halts : (s t : State) (u : Progress) (v : Bool) (bytes : List ℕ) (stop : Stop) (halt : Halt) → IsGoodDue s → IsFront bytes End 1
-    → Gives {A = Unit {0}} u (Err stop) (bid_closed s.progress) → AsksOnBidLines {A = Unit {0}} s.progress (Err stop)
-    → halt ≡ halt_of s.line stop → ScansTo s t v bytes (Err halt)
-end_halts s t u v bytes stop halt due front read asks e =
-    word_halts s t u v bytes End 1 stop halt (ap is_before_word due.mode) front (gives_end s u stop due read) asks e
+pub end_halts : (s t : State) (u : Progress) (v : Bool) (bytes : List ℕ) (stop : ParseError) (scan_error : ScanError) → IsGoodDue s → IsLeadingToken bytes End 1
+    → Gives {A = Unit {0}} u (Err stop) (bid_closed s.progress) → NeedsMemoryOnBidLines {A = Unit {0}} s.progress (Err stop)
+    → scan_error ≡ scan_error_of s.line stop → ScansTo s t v bytes (Err scan_error)
+end_halts s t u v bytes stop scan_error due token read needs e =
+    word_halts s t u v bytes End 1 stop scan_error (ap is_before_word due.mode) token (gives_end s u stop due read) needs e

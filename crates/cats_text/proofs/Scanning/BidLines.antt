@@ -12,8 +12,8 @@ use Rattle.cats_text.specs.Internal.Progress.{Progress}
 use Rattle.cats_text.specs.Internal.Parsing.{Reading, keyword_read, header_number_read, number_read, price_parts, with_price, price_read}
 use Rattle.cats_text.specs.Internal.Kept.{is_some_bid}
 use Rattle.cats_text.specs.Internal.Parsing.{dummy_read, good_or_end_read, word_read, line_read}
-use Rattle.cats_text.specs.declared.fault.Kind.{Kind}
-use Rattle.cats_text.specs.declared.fault.Kind.TheVariants as kinds
+use Rattle.cats_text.specs.declared.read_fault.Kind.{Kind}
+use Rattle.cats_text.specs.declared.read_fault.Kind.TheVariants as kinds
 use Rattle.cats_text.specs.declared.word.Keyword.{Keyword as Key}
 use Rattle.cats_text.specs.declared.word.Keyword.TheVariants as keywords
 use Rattle.cats_text.specs.declared.word.Word.TheVariants.{Keyword, Number, Decimal as Fraction, End, Other}
@@ -81,13 +81,13 @@ first_bytes (l ∷ ls) = l.bytes
 significant_letter : (b : ℕ) (bs : List ℕ) → is_blank b ≡ false → is_significant (line_words (b ∷ bs)) ≡ not (eqb b 37)
 significant_letter b bs e = joined (line_words bs)
   where
-    front : (ws : List Word) → is_significant (with_letter b ws) ≡ not (eqb b 37)
-    front [] = refl
-    front (w ∷ ws) = refl
+    token : (ws : List Word) → is_significant (with_letter b ws) ≡ not (eqb b 37)
+    token [] = refl
+    token (w ∷ ws) = refl
 
     joined : (ws : List Word) → is_significant (words_with b bs ws) ≡ not (eqb b 37)
     joined ws = ap (λ t. is_significant (cond t ws (cond (begins_word bs) (with_letter b ws) ((b ∷ []) ∷ ws)))) e
-        ∙ (elim (begins_word bs) as (λ t. is_significant (cond t (with_letter b ws) ((b ∷ []) ∷ ws)) ≡ not (eqb b 37)) [ true ↦ front ws | false ↦ refl ])
+        ∙ (elim (begins_word bs) as (λ t. is_significant (cond t (with_letter b ws) ((b ∷ []) ∷ ws)) ≡ not (eqb b 37)) [ true ↦ token ws | false ↦ refl ])
 
 counted_first : (ls : List RawLine) → counted 1 ls ≡ one_if (is_significant (line_words (first_bytes ls))) + counted 1 (behind_first ls)
 counted_first [] = refl
@@ -352,75 +352,75 @@ Begun Between stage c = suc (rank stage) ≤ c
 Begun (Inside w) stage c = suc (rank stage) ≤ c
 
 -- a step keeps the count of the lines that begin from here on
-record Goes (c total : ℕ) (bs : List ℕ) (t : State) : Type 0 where
+record KeepsLineCount (c total : ℕ) (bs : List ℕ) (t : State) : Type 0 where
   count : ℕ
   begun : Begun t.mode t.progress.stage count
   fewer : count + begins_after (decided_in t.mode) bs ≤ c + total
 
-abbrev GoesOn : ℕ → ℕ → List ℕ → Scan → Type 0
-GoesOn c total bs (Ok t) = Goes c total bs t
-GoesOn c total bs (Err e) = Unit {0}
+abbrev Continues : ℕ → ℕ → List ℕ → Scan → Type 0
+Continues c total bs (Ok t) = KeepsLineCount c total bs t
+Continues c total bs (Err e) = Unit {0}
 
-goes_reading : (c : ℕ) (bs : List ℕ) (s : State) (r : Reading) → Keeps s.progress r → suc (rank s.progress.stage) ≤ c
-    → GoesOn c (begins_after true bs) bs (with_reading s Between r)
-goes_reading c bs s (Ok q) k l = record { count = c; begun = subst (λ (x : Stage). suc (rank x) ≤ c) (sym (k.same q refl)) l; fewer = omega arith }
-goes_reading c bs s (Err kind) k l = tt
+continues_reading : (c : ℕ) (bs : List ℕ) (s : State) (r : Reading) → Keeps s.progress r → suc (rank s.progress.stage) ≤ c
+    → Continues c (begins_after true bs) bs (with_reading s Between r)
+continues_reading c bs s (Ok q) k l = record { count = c; begun = subst (λ (x : Stage). suc (rank x) ≤ c) (sym (k.same q refl)) l; fewer = omega arith }
+continues_reading c bs s (Err kind) k l = tt
 
-goes_blank : (c : ℕ) (bs : List ℕ) (m : Mode) (n : ℕ) (p : Progress) → Begun m p.stage c
-    → GoesOn c (begins_after (decided_in m) bs) bs (blank_step (standing m n p))
-goes_blank c bs Start n p l = record { count = c; begun = l; fewer = omega arith }
-goes_blank c bs Blank n p l = record { count = c; begun = l; fewer = omega arith }
-goes_blank c bs Comment n p l = record { count = c; begun = l; fewer = omega arith }
-goes_blank c bs Between n p l = record { count = c; begun = l; fewer = omega arith }
-goes_blank c bs (Inside w) n p l = goes_reading c bs (standing (Inside w) n p) (word_read p w) (keeps_word p w) l
+continues_blank : (c : ℕ) (bs : List ℕ) (m : Mode) (n : ℕ) (p : Progress) → Begun m p.stage c
+    → Continues c (begins_after (decided_in m) bs) bs (blank_step (standing m n p))
+continues_blank c bs Start n p l = record { count = c; begun = l; fewer = omega arith }
+continues_blank c bs Blank n p l = record { count = c; begun = l; fewer = omega arith }
+continues_blank c bs Comment n p l = record { count = c; begun = l; fewer = omega arith }
+continues_blank c bs Between n p l = record { count = c; begun = l; fewer = omega arith }
+continues_blank c bs (Inside w) n p l = continues_reading c bs (standing (Inside w) n p) (word_read p w) (keeps_word p w) l
 
-goes_line_read : (c : ℕ) (bs : List ℕ) (n : ℕ) (p : Progress) (r : Reading) → ranked (rank p.stage) r → suc (rank p.stage) ≤ c
-    → GoesOn c (begins_after false bs) bs (and_then (with_reading (standing Between n p) Between r) next_line)
-goes_line_read c bs n p (Ok q) k l = record { count = c; begun = omega arith; fewer = omega arith }
-goes_line_read c bs n p (Err kind) k l = tt
+continues_line_read : (c : ℕ) (bs : List ℕ) (n : ℕ) (p : Progress) (r : Reading) → ranked (rank p.stage) r → suc (rank p.stage) ≤ c
+    → Continues c (begins_after false bs) bs (and_then (with_reading (standing Between n p) Between r) next_line)
+continues_line_read c bs n p (Ok q) k l = record { count = c; begun = omega arith; fewer = omega arith }
+continues_line_read c bs n p (Err kind) k l = tt
 
-goes_word_line : (c : ℕ) (bs : List ℕ) (n : ℕ) (w : Kept) (p : Progress) (r : Reading) → Keeps p r → suc (rank p.stage) ≤ c
-    → GoesOn c (begins_after false bs) bs (and_then (and_then (with_reading (standing (Inside w) n p) Between r) words_step) next_line)
-goes_word_line c bs n w p (Ok q) k l = goes_line_read c bs n q (line_read q) (ranked_line q) (subst (λ (x : Stage). suc (rank x) ≤ c) (sym (k.same q refl)) l)
-goes_word_line c bs n w p (Err kind) k l = tt
+continues_word_line : (c : ℕ) (bs : List ℕ) (n : ℕ) (w : Kept) (p : Progress) (r : Reading) → Keeps p r → suc (rank p.stage) ≤ c
+    → Continues c (begins_after false bs) bs (and_then (and_then (with_reading (standing (Inside w) n p) Between r) words_step) next_line)
+continues_word_line c bs n w p (Ok q) k l = continues_line_read c bs n q (line_read q) (ranked_line q) (subst (λ (x : Stage). suc (rank x) ≤ c) (sym (k.same q refl)) l)
+continues_word_line c bs n w p (Err kind) k l = tt
 
-goes_line : (c : ℕ) (bs : List ℕ) (m : Mode) (n : ℕ) (p : Progress) → Begun m p.stage c → GoesOn c (begins_after false bs) bs (line_step (standing m n p))
-goes_line c bs Start n p l = record { count = c; begun = l; fewer = omega arith }
-goes_line c bs Blank n p l = record { count = c; begun = l; fewer = omega arith }
-goes_line c bs Comment n p l = record { count = c; begun = l; fewer = omega arith }
-goes_line c bs Between n p l = goes_line_read c bs n p (line_read p) (ranked_line p) l
-goes_line c bs (Inside w) n p l = goes_word_line c bs n w p (word_read p w) (keeps_word p w) l
+continues_line : (c : ℕ) (bs : List ℕ) (m : Mode) (n : ℕ) (p : Progress) → Begun m p.stage c → Continues c (begins_after false bs) bs (line_step (standing m n p))
+continues_line c bs Start n p l = record { count = c; begun = l; fewer = omega arith }
+continues_line c bs Blank n p l = record { count = c; begun = l; fewer = omega arith }
+continues_line c bs Comment n p l = record { count = c; begun = l; fewer = omega arith }
+continues_line c bs Between n p l = continues_line_read c bs n p (line_read p) (ranked_line p) l
+continues_line c bs (Inside w) n p l = continues_word_line c bs n w p (word_read p w) (keeps_word p w) l
 
-goes_first : (c b : ℕ) (bs : List ℕ) (p : Progress) → rank p.stage ≤ c → (t : Bool) → (n : ℕ)
-    → Goes c (cond t (begins_after true bs) (suc (begins_after true bs))) bs (standing (cond t Comment (Inside (word_from b))) n p)
-goes_first c b bs p l true n = record { count = c; begun = l; fewer = omega arith }
-goes_first c b bs p l false n = record { count = suc c; begun = omega arith; fewer = omega arith }
+continues_first : (c b : ℕ) (bs : List ℕ) (p : Progress) → rank p.stage ≤ c → (t : Bool) → (n : ℕ)
+    → KeepsLineCount c (cond t (begins_after true bs) (suc (begins_after true bs))) bs (standing (cond t Comment (Inside (word_from b))) n p)
+continues_first c b bs p l true n = record { count = c; begun = l; fewer = omega arith }
+continues_first c b bs p l false n = record { count = suc c; begun = omega arith; fewer = omega arith }
 
 abbrev letter_begins : Bool → ℕ → ℕ → ℕ
 letter_begins decided b later = cond decided later (cond (eqb b 37) later (suc later))
 
-goes_letter : (c b : ℕ) (bs : List ℕ) (m : Mode) (n : ℕ) (p : Progress) → Begun m p.stage c
-    → Goes c (letter_begins (decided_in m) b (begins_after true bs)) bs (standing (letter_mode m b) n p)
-goes_letter c b bs Start n p l = goes_first c b bs p l (eqb b 37) n
-goes_letter c b bs Blank n p l = goes_first c b bs p l (eqb b 37) n
-goes_letter c b bs Comment n p l = record { count = c; begun = l; fewer = omega arith }
-goes_letter c b bs Between n p l = record { count = c; begun = l; fewer = omega arith }
-goes_letter c b bs (Inside w) n p l = record { count = c; begun = l; fewer = omega arith }
+continues_letter : (c b : ℕ) (bs : List ℕ) (m : Mode) (n : ℕ) (p : Progress) → Begun m p.stage c
+    → KeepsLineCount c (letter_begins (decided_in m) b (begins_after true bs)) bs (standing (letter_mode m b) n p)
+continues_letter c b bs Start n p l = continues_first c b bs p l (eqb b 37) n
+continues_letter c b bs Blank n p l = continues_first c b bs p l (eqb b 37) n
+continues_letter c b bs Comment n p l = record { count = c; begun = l; fewer = omega arith }
+continues_letter c b bs Between n p l = record { count = c; begun = l; fewer = omega arith }
+continues_letter c b bs (Inside w) n p l = record { count = c; begun = l; fewer = omega arith }
 
-goes_byte : (c b : ℕ) (bs : List ℕ) (s : State) → Begun s.mode s.progress.stage c → GoesOn c (begins_after (decided_in s.mode) (b ∷ bs)) bs (byte_step s b)
-goes_byte c b bs s l = subst (λ k. GoesOn c k bs (byte_step s b)) (sym (begins-cons (decided_in s.mode) b bs))
-    (elim (eqb b 10) as (λ t. GoesOn c
+continues_byte : (c b : ℕ) (bs : List ℕ) (s : State) → Begun s.mode s.progress.stage c → Continues c (begins_after (decided_in s.mode) (b ∷ bs)) bs (byte_step s b)
+continues_byte c b bs s l = subst (λ k. Continues c k bs (byte_step s b)) (sym (begins-cons (decided_in s.mode) b bs))
+    (elim (eqb b 10) as (λ t. Continues c
     (cond t (begins_after false bs)
     (cond (decided_in s.mode) (begins_after true bs)
     (cond (is_blank b) (begins_after false bs) (cond (eqb b 37) (begins_after true bs) (suc (begins_after true bs)))))) bs
     (cond t (line_step s) (cond (is_blank b) (blank_step s) (Ok (record s { mode = letter_mode s.mode b }))))) [
-      | true ↦ goes_line c bs s.mode s.line s.progress l
-      | false ↦ elim (is_blank b) as (λ t. GoesOn c
+      | true ↦ continues_line c bs s.mode s.line s.progress l
+      | false ↦ elim (is_blank b) as (λ t. Continues c
           (cond (decided_in s.mode) (begins_after true bs)
           (cond t (begins_after false bs) (cond (eqb b 37) (begins_after true bs) (suc (begins_after true bs))))) bs
           (cond t (blank_step s) (Ok (record s { mode = letter_mode s.mode b })))) [
-            | true ↦ subst (λ k. GoesOn c k bs (blank_step s)) (by_decided (decided_in s.mode)) (goes_blank c bs s.mode s.line s.progress l)
-            | false ↦ goes_letter c b bs s.mode s.line s.progress l
+            | true ↦ subst (λ k. Continues c k bs (blank_step s)) (by_decided (decided_in s.mode)) (continues_blank c bs s.mode s.line s.progress l)
+            | false ↦ continues_letter c b bs s.mode s.line s.progress l
           ]
     ])
   where
@@ -439,20 +439,20 @@ four_begin : (bytes : List ℕ) (s : State) (c : ℕ) → Begun s.mode s.progres
 four_begin [] s c l m = let here : 4 ≤ c = here_counts s.mode s.progress.stage c m.0 m.1 l in omega arith
 four_begin (b ∷ bs) s c l m = ⊎_elim
     (λ (i : IsInBidLine s). let here : 4 ≤ c = here_counts s.mode s.progress.stage c i.0 i.1 l in omega arith)
-    (λ (later : IsOkAnd (byte_step s b) (λ t. MeetsBidLine t bs)). step (byte_step s b) (goes_byte c b bs s l) later (λ t k g n. four_begin bs t k g n)) m
+    (λ (later : IsOkAnd (byte_step s b) (λ t. MeetsBidLine t bs)). step (byte_step s b) (continues_byte c b bs s l) later (λ t k g n. four_begin bs t k g n)) m
   where
-    step : (r : Scan) → GoesOn c (begins_after (decided_in s.mode) (b ∷ bs)) bs r → IsOkAnd r (λ t. MeetsBidLine t bs)
+    step : (r : Scan) → Continues c (begins_after (decided_in s.mode) (b ∷ bs)) bs r → IsOkAnd r (λ t. MeetsBidLine t bs)
         → ((t : State) (k : ℕ) → Begun t.mode t.progress.stage k → MeetsBidLine t bs → 4 ≤ k + begins_after (decided_in t.mode) bs)
         → 4 ≤ c + begins_after (decided_in s.mode) (b ∷ bs)
     step (Ok t) g n again = let more : 4 ≤ g.count + begins_after (decided_in t.mode) bs = again t g.count g.begun n in
         let le : g.count + begins_after (decided_in t.mode) bs ≤ c + begins_after (decided_in s.mode) (b ∷ bs) = g.fewer in omega arith
     step (Err e) g n again = absurd n
 
--- a bid line met in the bytes that are decided stands in the text
-pub bid_line_met : (k : PlainBid → PlainBid) (text front back : List ℕ) → blank_returns text ≡ front ++ back → MeetsBidLine (first_state k) front → has_bid_line text ≡ true
-bid_line_met k text front back e m =
-    let four : 4 ≤ 0 + begins_after false front = four_begin front (first_state k) 0 (omega arith) m in
-    let more : begins_after false front ≤ begins_after false (front ++ back) = begins_more false front back in
-    let all : begins_after false (front ++ back) ≡ length (significant_lines text) = ap (begins_after false) (sym e)
+-- a bid line met in the bytes that are decided is in the text
+pub bid_line_met : (k : PlainBid → PlainBid) (text token back : List ℕ) → blank_returns text ≡ token ++ back → MeetsBidLine (first_state k) token → has_bid_line text ≡ true
+bid_line_met k text token back e m =
+    let four : 4 ≤ 0 + begins_after false token = four_begin token (first_state k) 0 (omega arith) m in
+    let more : begins_after false token ≤ begins_after false (token ++ back) = begins_more false token back in
+    let all : begins_after false (token ++ back) ≡ length (significant_lines text) = ap (begins_after false) (sym e)
     ∙ (begins_are (blank_returns text)).fresh in
     lt-ltb 3 (length (significant_lines text)) (omega arith)

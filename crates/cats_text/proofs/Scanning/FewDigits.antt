@@ -1,4 +1,4 @@
--- The digits in front of bytes and the number that they spell, where they are few.
+-- The digits at the start of bytes and the number that they spell, where they are few.
 use Rattle.std.proofs.Common.{◌≡◌, ℕ, suc, ◌+◌, ◌-◌, ◌*◌, ◌%◌, ◌^◌, ◌<◌, ◌≤◌, min, true, false, cond, List, [], ◌∷◌, length, take, drop, slice_range, fold, Option, Some, None, IfSome}
 use Rattle.std.proofs.Common.{refl, sym, ap, ◌∙◌, subst, arith, lt_of_lt_of_le}
 use Rattle.std.proofs.Math.Nat.{pow-suc, pow-le-pow_right, mod-eq_of_lt}
@@ -13,14 +13,14 @@ use Rattle.cats_text.specs.Internal.Machine.{word_with}
 use Rattle.cats_text.specs.declared.word.Word.TheVariants.{Number}
 use Rattle.cats_text.specs.declared.word.TheConstants.{HELD}
 use Rattle.cats_text.proofs.Words.Places.{digit_bounds}
-use Rattle.cats_text.specs.Internal.Front.{IsNumberSoFar}
+use Rattle.cats_text.specs.Internal.LeadingToken.{IsNumberSoFar}
 use Rattle.cats_text.proofs.Scanning.ManyBytes.{number_with}
 
-digits_in_front : (bs : List ℕ) → digits_alone (take (digits_len bs) bs) ≡ true
-digits_in_front [] = refl
-digits_in_front (b ∷ bs) = elim (is_digit b) as (λ t. is_digit b ≡ t → digits_alone (take (cond t (1 + digits_len bs) 0) (b ∷ bs)) ≡ true) [
+digits_in_prefix : (bs : List ℕ) → digits_alone (take (digits_len bs) bs) ≡ true
+digits_in_prefix [] = refl
+digits_in_prefix (b ∷ bs) = elim (is_digit b) as (λ t. is_digit b ≡ t → digits_alone (take (cond t (1 + digits_len bs) 0) (b ∷ bs)) ≡ true) [
   | true ↦ λ (d : is_digit b ≡ true). let n : 1 + digits_len bs ≡ suc (digits_len bs) = omega arith in
-      subst (λ k. digits_alone (take k (b ∷ bs)) ≡ true) (sym n) (and_from (is_digit b) (digits_alone (take (digits_len bs) bs)) d (digits_in_front bs))
+      subst (λ k. digits_alone (take k (b ∷ bs)) ≡ true) (sym n) (and_from (is_digit b) (digits_alone (take (digits_len bs) bs)) d (digits_in_prefix bs))
   | false ↦ λ (d : is_digit b ≡ false). refl
 ] refl
 
@@ -29,14 +29,14 @@ few_spell : (ds : List ℕ) (v k : ℕ) → v < 10 ^ k → k + length ds ≤ 13 
     → (Number (digits_value_after 10 v ds) ≡ fold word_with (Number v) ds) × (digits_value_after 10 v ds < 10 ^ 13)
 few_spell [] v k small few h =
     let ten : 0 < 10 = omega arith in
-    let room : k ≤ 13 = omega arith in
-    (refl, lt_of_lt_of_le small (pow-le-pow_right ten room))
+    let space : k ≤ 13 = omega arith in
+    (refl, lt_of_lt_of_le small (pow-le-pow_right ten space))
 few_spell (b ∷ ds) v k small few h =
     let p = and_parts (is_digit b) (digits_alone ds) h in
     let bounds = digit_bounds b p.0 in
     let ten : 0 < 10 = omega arith in
-    let room : k ≤ 13 = omega arith in
-    let below : 10 ^ k ≤ 10 ^ 13 = pow-le-pow_right ten room in
+    let space : k ≤ 13 = omega arith in
+    let below : 10 ^ k ≤ 10 ^ 13 = pow-le-pow_right ten space in
     let held : v < HELD = omega arith in
     let worth : digit_value b ≡ b - 48 = (digit_worth b bounds.0 bounds.1).1 in
     let step : word_with (Number v) b ≡ Number (v * 10 + digit_value b) =
@@ -47,11 +47,11 @@ few_spell (b ∷ ds) v k small few h =
     let rest = few_spell ds (v * 10 + digit_value b) (suc k) more (omega arith) p.1 in
     (rest.0 ∙ ap (λ w. fold word_with w ds) (sym step), rest.1)
 
--- few digits in front and what they are worth
+-- few digits at the start and what they are worth
 few_spelt : (bytes : List ℕ) (count value : ℕ) → digits_len bytes ≡ count → count ≤ 13 → value ≡ digits_value 10 (take count bytes)
     → IsNumberSoFar 0 bytes count value
-few_spelt bytes count value front few worth =
-    let digits : digits_alone (take count bytes) ≡ true = subst (λ k. digits_alone (take k bytes) ≡ true) front (digits_in_front bytes) in
+few_spelt bytes count value prefix few worth =
+    let digits : digits_alone (take count bytes) ≡ true = subst (λ k. digits_alone (take k bytes) ≡ true) prefix (digits_in_prefix bytes) in
     let long : length (take count bytes) ≡ min count (length bytes) = length-take count bytes in
     record { digits = digits; value = ap (λ n. Number n) worth ∙ (few_spell (take count bytes) 0 0 (omega arith) (omega arith) digits).0 }
 
@@ -73,12 +73,12 @@ if_eight_read bytes (Some r) few is worth = eight_read bytes r.1 r.0 few is wort
 pub few_read : (bytes : List ℕ) (count value : ℕ) → count ≡ 0 + digits_len (drop 0 bytes) → count ≤ 13
     → value ≡ (0 * 10 ^ (count - 0) + digits_value 10 (slice_range bytes 0 count)) % 2 ^ 64 → IsNumberSoFar 0 bytes count value
 few_read bytes count value all few is =
-    let front : digits_len bytes ≡ count = omega arith in
-    let digits : digits_alone (take count bytes) ≡ true = subst (λ k. digits_alone (take k bytes) ≡ true) front (digits_in_front bytes) in
+    let prefix : digits_len bytes ≡ count = omega arith in
+    let digits : digits_alone (take count bytes) ≡ true = subst (λ k. digits_alone (take k bytes) ≡ true) prefix (digits_in_prefix bytes) in
     let long : length (take count bytes) ≡ min count (length bytes) = length-take count bytes in
     let same : count - 0 ≡ count = omega arith in
     let worth : digits_value 10 (slice_range bytes 0 count) ≡ digits_value 10 (take count bytes) = ap (λ k. digits_value 10 (take k bytes)) same in
     let small : digits_value 10 (take count bytes) < 10 ^ 13 = (few_spell (take count bytes) 0 0 (omega arith) (omega arith) digits).1 in
     let sum : 0 * 10 ^ (count - 0) + digits_value 10 (slice_range bytes 0 count) ≡ digits_value 10 (take count bytes) = omega arith in
     let fits : digits_value 10 (take count bytes) < 2 ^ 64 = omega arith in
-    few_spelt bytes count value front few (is ∙ ap (λ n. n % 2 ^ 64) sum ∙ mod-eq_of_lt fits)
+    few_spelt bytes count value prefix few (is ∙ ap (λ n. n % 2 ^ 64) sum ∙ mod-eq_of_lt fits)

@@ -20,7 +20,7 @@ use Rattle.cats_text.proofs.Scanning.Appends.{meets_behind}
 use Rattle.cats_text.proofs.Scanning.Lines.{IsNoEnd, standing, scan-append, in_comment, byte_letter}
 use Rattle.cats_text.specs.Numbers.{is_digit, digits_alone}
 use Rattle.cats_text.specs.Internal.Machine.{word_from, word_with, decimal_with, summary}
-use Rattle.cats_text.specs.Internal.Front.{IsPlain, IsKept, IsNumberSoFar}
+use Rattle.cats_text.specs.Internal.LeadingToken.{IsPlain, IsKept, IsNumberSoFar}
 use Rattle.cats_text.specs.declared.word.Word.{Word}
 use Rattle.cats_text.specs.declared.word.Word.TheVariants.{Number, Decimal as Fraction}
 use Rattle.cats_text.specs.declared.price.Decimal.{Decimal}
@@ -68,11 +68,11 @@ decimal_more first bytes i sum next l d so e = record {
 
 -- ---- over several bytes at once
 
-waits_behind : (front back : List ℕ) → 0 < length back → waits (front ++ back) ≡ waits back
+waits_behind : (prefix back : List ℕ) → 0 < length back → waits (prefix ++ back) ≡ waits back
 waits_behind [] back l = refl
 waits_behind (a ∷ []) [] l = absurd (let no : 0 < 0 = l in omega arith)
 waits_behind (a ∷ []) (c ∷ cs) l = refl
-waits_behind (a ∷ b ∷ front) back l = waits_behind (b ∷ front) back l
+waits_behind (a ∷ b ∷ prefix) back l = waits_behind (b ∷ prefix) back l
 
 waits_last : (xs : List ℕ) → 0 < length xs → waits xs ≡ eqb (get_or xs (length xs - 1) 0) 13
 waits_last [] l = absurd (let no : 0 < 0 = l in omega arith)
@@ -85,10 +85,10 @@ waits_last (a ∷ b ∷ xs) l = waits_last (b ∷ xs) (omega arith) ∙ ap (λ c
 -- ---- the bytes of a comment
 
 -- what is decided of bytes without LF has no LF
-settled_split : (front back : List ℕ) → AllByRecursion IsNoEnd front → (decided : List ℕ) × (settled (front ++ back) ≡ decided ++ settled back)
+settled_split : (prefix back : List ℕ) → AllByRecursion IsNoEnd prefix → (decided : List ℕ) × (settled (prefix ++ back) ≡ decided ++ settled back)
     × AllByRecursion IsNoEnd decided
 settled_split [] back h = ([], refl, tt)
-settled_split (b ∷ front) back h = let later = settled_split front back h.1 in joined (front ++ back) refl later.0 later.1 later.2
+settled_split (b ∷ prefix) back h = let later = settled_split prefix back h.1 in joined (prefix ++ back) refl later.0 later.1 later.2
   where
     one : (c : ℕ) → IsNoEnd (cond (eqb b 13) (return_byte c) b)
     one c = elim (eqb b 13) as (λ t. eqb (cond t (return_byte c) b) 10 ≡ false) [
@@ -99,9 +99,9 @@ settled_split (b ∷ front) back h = let later = settled_split front back h.1 in
       | false ↦ h.0
     ]
 
-    joined : (rest : List ℕ) → front ++ back ≡ rest → (decided : List ℕ) → settled (front ++ back) ≡ decided ++ settled back → AllByRecursion IsNoEnd decided
-        → (all : List ℕ) × (settled (b ∷ (front ++ back)) ≡ all ++ settled back) × AllByRecursion IsNoEnd all
-    joined [] e decided is none = elim (eqb b 13) as (λ t. eqb b 13 ≡ t → (all : List ℕ) × (settled (b ∷ (front ++ back)) ≡ all ++ settled back)
+    joined : (rest : List ℕ) → prefix ++ back ≡ rest → (decided : List ℕ) → settled (prefix ++ back) ≡ decided ++ settled back → AllByRecursion IsNoEnd decided
+        → (all : List ℕ) × (settled (b ∷ (prefix ++ back)) ≡ all ++ settled back) × AllByRecursion IsNoEnd all
+    joined [] e decided is none = elim (eqb b 13) as (λ t. eqb b 13 ≡ t → (all : List ℕ) × (settled (b ∷ (prefix ++ back)) ≡ all ++ settled back)
         × AllByRecursion IsNoEnd all) [
           | true ↦ λ (q : eqb b 13 ≡ true). (decided, ap (λ ds. settled (b ∷ ds)) e ∙ ap (λ t. cond t [] (b ∷ [])) q ∙ ap settled (sym e) ∙ is, none)
           | false ↦ λ (q : eqb b 13 ≡ false). (
@@ -118,10 +118,10 @@ settled_split (b ∷ front) back h = let later = settled_split front back h.1 in
       (one c, none),
     )
 
-comment_scan : (n : ℕ) (p : Progress) (front back : List ℕ) → AllByRecursion IsNoEnd front
-    → (scan (standing Comment n p) (settled back) ≡ scan (standing Comment n p) (settled (front ++ back))) × (MeetsBidLine (standing Comment n p) (settled back)
-    → MeetsBidLine (standing Comment n p) (settled (front ++ back)))
-comment_scan n p front back h = let split = settled_split front back h in
+comment_scan : (n : ℕ) (p : Progress) (prefix back : List ℕ) → AllByRecursion IsNoEnd prefix
+    → (scan (standing Comment n p) (settled back) ≡ scan (standing Comment n p) (settled (prefix ++ back))) × (MeetsBidLine (standing Comment n p) (settled back)
+    → MeetsBidLine (standing Comment n p) (settled (prefix ++ back)))
+comment_scan n p prefix back h = let split = settled_split prefix back h in
     let quiet : scan (standing Comment n p) split.0 ≡ Ok (standing Comment n p) = in_comment n p split.0 split.2 in (
       sym (ap (scan (standing Comment n p)) split.1 ∙ scan-append (standing Comment n p) split.0 (settled back)
           ∙ ap (λ r. and_then r (λ t. scan t (settled back))) quiet),
@@ -129,13 +129,13 @@ comment_scan n p front back h = let split = settled_split front back h in
           m),
     )
 
-no_feed_front : (bytes : List ℕ) → AllByRecursion IsNoEnd (take (prefix_len (λ b. not (eqb b 10)) bytes) bytes)
-no_feed_front [] = tt
-no_feed_front (b ∷ bs) =
+no_feed_prefix : (bytes : List ℕ) → AllByRecursion IsNoEnd (take (prefix_len (λ b. not (eqb b 10)) bytes) bytes)
+no_feed_prefix [] = tt
+no_feed_prefix (b ∷ bs) =
     elim (eqb b 10) as (λ t. eqb b 10 ≡ t → AllByRecursion IsNoEnd (take (cond (not t) (1 + prefix_len (λ c. not (eqb c 10)) bs) 0) (b ∷ bs))) [
       | true ↦ λ e. tt
       | false ↦ λ (e : eqb b 10 ≡ false). let n : 1 + prefix_len (λ c. not (eqb c 10)) bs ≡ suc (prefix_len (λ c. not (eqb c 10)) bs) = omega arith in
-          subst (λ k. AllByRecursion IsNoEnd (take k (b ∷ bs))) (sym n) (e, no_feed_front bs)
+          subst (λ k. AllByRecursion IsNoEnd (take k (b ∷ bs))) (sym n) (e, no_feed_prefix bs)
     ] refl
 
 min_le_right : (k i n : ℕ) → k ≡ min i n → k ≤ n
@@ -168,14 +168,14 @@ pub comment_scanned : (s : State) (rest : List ℕ) (count : ℕ) (w : Bool) →
 comment_scanned s rest count w mode some feed e =
     let is : s ≡ standing Comment s.line s.progress = ap (λ (m : Mode). standing m s.line s.progress) mode in
     let parts : take count rest ++ drop count rest ≡ rest = take-append-drop count rest in
-    let front : AllByRecursion IsNoEnd (take count rest) = subst (λ k. AllByRecursion IsNoEnd (take k rest)) (sym (feed ∙ feed_at rest)) (no_feed_front rest) in
-    let both = comment_scan s.line s.progress (take count rest) (drop count rest) front in
+    let prefix : AllByRecursion IsNoEnd (take count rest) = subst (λ k. AllByRecursion IsNoEnd (take k rest)) (sym (feed ∙ feed_at rest)) (no_feed_prefix rest) in
+    let both = comment_scan s.line s.progress (take count rest) (drop count rest) prefix in
     let left : length (drop count rest) ≡ length rest - count = length-drop count rest in
     let within : count ≤ length rest = comment_within rest count feed in
     record {
       steps = ap (λ t. scan t (settled (drop count rest))) is ∙ both.0 ∙ ap (λ ds. scan (standing Comment s.line s.progress) (settled ds)) parts
           ∙ ap (λ t. scan t (settled rest)) (sym is);
-      asks = λ m. subst (λ t. MeetsBidLine t (settled rest)) (sym is) (subst (λ ds. MeetsBidLine (standing Comment s.line s.progress) (settled ds)) parts
+      needs = λ m. subst (λ t. MeetsBidLine t (settled rest)) (sym is) (subst (λ ds. MeetsBidLine (standing Comment s.line s.progress) (settled ds)) parts
           (both.1 (subst (λ t. MeetsBidLine t (settled (drop count rest))) is m)));
       last = λ l. sym (waits_behind (take count rest) (drop count rest) l) ∙ ap waits parts;
       going = λ l. e ∙ ap (λ t. t && eqb (get_or rest (count - 1) 0) 13) (ne_eqb count (length rest) (λ q. absurd (omega arith)));
@@ -189,9 +189,9 @@ comment_scanned s rest count w mode some feed e =
 plain_no_return : (b : ℕ) → IsPlain b → b ≢ 13
 plain_no_return b p e = let low : 32 < b = p.0 in absurd (omega arith)
 
-settled_plain : (front back : List ℕ) → AllByRecursion IsPlain front → settled (front ++ back) ≡ front ++ settled back
+settled_plain : (prefix back : List ℕ) → AllByRecursion IsPlain prefix → settled (prefix ++ back) ≡ prefix ++ settled back
 settled_plain [] back h = refl
-settled_plain (b ∷ front) back h = settled-other b (front ++ back) (plain_no_return b h.0) ∙ ap (λ ds. b ∷ ds) (settled_plain front back h.1)
+settled_plain (b ∷ prefix) back h = settled-other b (prefix ++ back) (plain_no_return b h.0) ∙ ap (λ ds. b ∷ ds) (settled_plain prefix back h.1)
 
 waits_plain : (xs : List ℕ) → AllByRecursion IsPlain xs → waits xs ≡ false
 waits_plain [] h = refl
@@ -225,7 +225,7 @@ word_scan m n p (b ∷ ds) before l h = let letter = plain_letter b h.0 in
     ap (λ r. and_then r (λ t. scan t ds)) (byte_letter (standing m n p) b letter.0 letter.1 ∙ ap (λ k. Ok (standing k n p)) (plain_begins m b before h.0))
     ∙ plain_scan (word_from b) n p ds h.1
 
--- bytes of a word in front, which lead from one state to another
+-- bytes of a word at the start, which lead from one state to another
 plain_scanned : (s t : State) (rest : List ℕ) (count : ℕ) (w : Bool) → AllByRecursion IsPlain (take count rest) → scan s (take count rest) ≡ Ok t → w ≡ false
     → IsScanned s t w rest (drop count rest)
 plain_scanned s t rest count w plain ran e =
@@ -235,7 +235,7 @@ plain_scanned s t rest count w plain ran e =
     record {
       steps = sym (ap (scan s) split ∙ scan-append s (take count rest) (settled (drop count rest))
           ∙ ap (λ r. and_then r (λ t. scan t (settled (drop count rest)))) ran);
-      asks = λ m. subst (MeetsBidLine s) (sym split) (meets_behind s t (take count rest) (settled (drop count rest)) ran m);
+      needs = λ m. subst (MeetsBidLine s) (sym split) (meets_behind s t (take count rest) (settled (drop count rest)) ran m);
       last = λ l. sym (waits_behind (take count rest) (drop count rest) l) ∙ ap waits parts;
       going = λ l. e;
       ended = λ q. e ∙ sym (ap waits (sym parts ∙ ap (λ ds. take count rest ++ ds) q ∙ append-nil (take count rest)) ∙ waits_plain (take count rest) plain);

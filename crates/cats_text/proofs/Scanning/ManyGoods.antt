@@ -1,15 +1,15 @@
 -- A good that is due is read as any word in its column is.
 use Rattle.std.proofs.Common.{◌≡◌, ℕ, Bool, true, List, sym, ap, ap₂, ◌∙◌, subst, false, Ok, Err}
-use Rattle.cats_text.specs.Internal.Front.{IsFront}
-use Rattle.cats_text.specs.Internal.Progress.{Progress, Gives, AsksOnBidLines}
+use Rattle.cats_text.specs.Internal.LeadingToken.{IsLeadingToken}
+use Rattle.cats_text.specs.Internal.Progress.{Progress, Gives, NeedsMemoryOnBidLines}
 use Rattle.cats_text.specs.Internal.Parsing.{good_read, word_read}
-use Rattle.cats_text.specs.Internal.Scanning.{State, IsGoodDue, ScansTo, is_before_word, halt_of}
+use Rattle.cats_text.specs.Internal.Scanning.{State, IsGoodDue, ScansTo, is_before_word, scan_error_of}
 use Rattle.cats_text.specs.declared.parser.Stage.{Stage}
 use Rattle.cats_text.specs.declared.parser.Column.{Column}
-use Rattle.cats_text.specs.declared.parser.Stop.{Stop}
+use Rattle.cats_text.specs.declared.parser.ParseError.{ParseError}
 use Rattle.cats_text.specs.declared.parser.Stage.TheVariants.{Bid}
 use Rattle.cats_text.specs.declared.parser.Column.TheVariants.{Later}
-use Rattle.cats_text.specs.declared.scanner.Halt.{Halt}
+use Rattle.cats_text.specs.declared.scanner.ScanError.{ScanError}
 use Rattle.cats_text.specs.declared.scanner.Mode.{Mode}
 use Rattle.cats_text.specs.declared.word.Word.TheVariants.{Number}
 use Rattle.cats_text.proofs.Scanning.WholeWords.{behind_word, word_taken, word_halts}
@@ -20,19 +20,19 @@ good_word p n stage column =
     ap (λ (q : Progress). word_read q (Number n)) is ∙ sym (ap (λ (q : Progress). good_read q n) is)
 
 -- it stays behind a word
-pub good_taken : (s : State) (p : Progress) (v : Bool) (bytes : List ℕ) (good taken : ℕ) → IsGoodDue s → IsFront bytes (Number good) taken
+pub good_taken : (s : State) (p : Progress) (v : Bool) (bytes : List ℕ) (good taken : ℕ) → IsGoodDue s → IsLeadingToken bytes (Number good) taken
     → good_read s.progress good ≡ Ok p → p.stage ≡ s.progress.stage → v ≡ false → ScansTo s (record s { progress = p }) v bytes (Ok taken)
-good_taken s p v bytes good taken due front read stage e =
+good_taken s p v bytes good taken due token read stage e =
     let before : is_before_word s.mode ≡ true = ap is_before_word due.mode in
     let same : behind_word s p ≡ record s { progress = p } = ap (λ (m : Mode). record s { mode = m; progress = p }) (sym due.mode) in
     subst (λ (t : State). ScansTo s t v bytes (Ok taken)) same
-    (word_taken s p v bytes (Number good) taken before front (good_word s.progress good due.stage due.column ∙ read) stage e)
+    (word_taken s p v bytes (Number good) taken before token (good_word s.progress good due.stage due.column ∙ read) stage e)
 
 -- or stops the parser
-pub good_halts : (s t : State) (u : Progress) (v : Bool) (bytes : List ℕ) (good taken : ℕ) (stop : Stop) (halt : Halt) → IsGoodDue s
-    → IsFront bytes (Number good) taken → Gives {A = Unit {0}} u (Err stop) (good_read s.progress good)
-    → AsksOnBidLines {A = Unit {0}} s.progress (Err stop) → halt ≡ halt_of s.line stop → ScansTo s t v bytes (Err halt)
-good_halts s t u v bytes good taken stop halt due front read asks e =
+pub good_halts : (s t : State) (u : Progress) (v : Bool) (bytes : List ℕ) (good taken : ℕ) (stop : ParseError) (scan_error : ScanError) → IsGoodDue s
+    → IsLeadingToken bytes (Number good) taken → Gives {A = Unit {0}} u (Err stop) (good_read s.progress good)
+    → NeedsMemoryOnBidLines {A = Unit {0}} s.progress (Err stop) → scan_error ≡ scan_error_of s.line stop → ScansTo s t v bytes (Err scan_error)
+good_halts s t u v bytes good taken stop scan_error due token read needs e =
     let before : is_before_word s.mode ≡ true = ap is_before_word due.mode in
-    word_halts s t u v bytes (Number good) taken stop halt before front
-    (subst (Gives {A = Unit {0}} u (Err stop)) (sym (good_word s.progress good due.stage due.column)) read) asks e
+    word_halts s t u v bytes (Number good) taken stop scan_error before token
+    (subst (Gives {A = Unit {0}} u (Err stop)) (sym (good_word s.progress good due.stage due.column)) read) needs e

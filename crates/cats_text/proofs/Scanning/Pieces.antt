@@ -71,7 +71,7 @@ end_of_text k text s e = end_waiting (waits text) s
 abbrev pub AreOpen : List ℕ → Type 0
 AreOpen bytes = AllByRecursion (λ b. is_final b ≡ false) bytes
 
--- what stands behind the last final byte
+-- what is behind the last final byte
 pub record IsCut (text rest : List ℕ) : Type 0 where
   pub is : text ≡ up_to_final text ++ rest
   pub open_rest : AreOpen rest
@@ -118,7 +118,7 @@ ends_returns [] f = tt
 ends_returns (b ∷ []) f = subst (λ n. is_final n ≡ true) (sym (ap (λ t. cond (t && true) 32 b) (final_no_return b f))) f
 ends_returns (b ∷ c ∷ cs) f = ends_returns (c ∷ cs) f
 
--- nothing behind a final byte changes what stands before
+-- nothing behind a final byte changes what is before
 settled-final : (y t : List ℕ) → EndsFinal y → settled (y ++ t) ≡ blank_returns y ++ settled t
 settled-final [] t f = refl
 settled-final (b ∷ []) t f = last t

@@ -24,7 +24,7 @@ scan_decided : (s0 s t : State) (w : Bool) (bytes rest after : List ℕ) (b : �
     → (scan t after ≡ scan s0 (settled bytes)) × (MeetsBidLine t after → MeetsBidLine s0 (settled bytes))
 scan_decided s0 s t w bytes rest after b e p step = (
   rw step at (sym (ap (λ ds. scan s ds) e) ∙ p.steps),
-  λ m. p.asks (rw e (let here : MeetsBidLine s (b ∷ after) = inr (rw step m) in here)),
+  λ m. p.needs (rw e (let here : MeetsBidLine s (b ∷ after) = inr (rw step m) in here)),
 )
 
 pub scan_byte : (s0 s t : State) (w : Bool) (bytes : List ℕ) (b : ℕ) (rest : List ℕ) → b ≢ 13 → IsScanned s0 s w bytes (b ∷ rest) → byte_step s b ≡ Ok t
@@ -33,7 +33,7 @@ scan_byte s0 s t w bytes b rest ne p step = let both : (scan t (settled rest) �
     × (MeetsBidLine t (settled rest) → MeetsBidLine s0 (settled bytes)) =
     scan_decided s0 s t w bytes (b ∷ rest) (settled rest) b (settled-other b rest ne) p step in record {
       steps = both.0;
-      asks = both.1;
+      needs = both.1;
       last = more rest p.last;
       going = λ l. p.going (omega arith);
       ended = λ e. p.going (omega arith) ∙ sym (waits-one b ne) ∙ ap (λ bs. waits (b ∷ bs)) (sym e) ∙ p.last (omega arith);
@@ -46,7 +46,7 @@ scan_byte s0 s t w bytes b rest ne p step = let both : (scan t (settled rest) �
 pub scan_last_return : (s0 s : State) (w : Bool) (bytes : List ℕ) (b : ℕ) → b ≡ 13 → IsScanned s0 s w bytes (b ∷ []) → IsScanned s0 s true bytes []
 scan_last_return s0 s w bytes b e p = record {
   steps = ap (λ ds. scan s ds) (sym (settled-last_return b e)) ∙ p.steps;
-  asks = λ m. p.asks (rw (settled-last_return b e) m);
+  needs = λ m. p.needs (rw (settled-last_return b e) m);
   last = λ l. absurd (let no : 0 < 0 = l in omega arith);
   going = λ l. absurd (let no : 0 < 0 = l in omega arith);
   ended = λ q. sym (eq-eqb b 13 e) ∙ p.last (omega arith);
@@ -58,7 +58,7 @@ scan_return s0 s t w bytes b c cs e p step = let both : (scan t (settled (c ∷ 
     × (MeetsBidLine t (settled (c ∷ cs)) → MeetsBidLine s0 (settled bytes)) =
     scan_decided s0 s t w bytes (b ∷ c ∷ cs) (settled (c ∷ cs)) (return_byte c) (settled-return b c cs e) p step in record {
       steps = both.0;
-      asks = both.1;
+      needs = both.1;
       last = λ l. p.last (omega arith);
       going = λ l. p.going (omega arith);
       ended = λ q. absurd (cons_not_nil c cs q);
@@ -101,7 +101,7 @@ pub scanned_then : (s0 s t : State) (w v : Bool) (bytes mid rest : List ℕ) →
     → (0 < length rest → 0 < length mid) → (mid ≡ [] → rest ≡ [] → v ≡ w) → IsScanned s0 t v bytes rest
 scanned_then s0 s t w v bytes mid rest p q more none = record {
   steps = q.steps ∙ p.steps;
-  asks = λ m. p.asks (q.asks m);
+  needs = λ m. p.needs (q.needs m);
   last = λ l. q.last l ∙ p.last (more l);
   going = q.going;
   ended = λ e. by_mid mid refl e;

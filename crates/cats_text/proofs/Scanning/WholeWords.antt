@@ -1,4 +1,4 @@
--- Whole words in front of bytes, each read before the byte that ends it.
+-- Whole words at the start of bytes, each read before the byte that ends it.
 use Rattle.std.proofs.Common.{◌≡◌, ◌≢◌, ℕ, ◌+◌, ◌-◌, ◌<◌, ◌≤◌, Bool, true, false, ◌||◌, cond, eqb, ⊎_elim, inl, inr, List, [], ◌∷◌, length, get_or, take, drop}
 use Rattle.std.proofs.Common.{refl, sym, ap, ◌∙◌, subst, arith, Result, Ok, Err, IsOkAnd, IsErr, IsErrAnd}
 use Rattle.std.proofs.lemmas.Bool.{both_ways}
@@ -6,29 +6,29 @@ use Rattle.std.proofs.lemmas.List.{length-drop, drop-drop}
 use Rattle.cats_text.specs.Lines.{is_blank}
 use Rattle.cats_text.specs.Internal.Returns.{settled}
 use Rattle.cats_text.specs.Faults.{fault_at}
-use Rattle.cats_text.specs.Internal.Front.{IsFront, ends_word}
-use Rattle.cats_text.specs.Internal.Progress.{Progress, Gives, AsksOnBidLines}
+use Rattle.cats_text.specs.Internal.LeadingToken.{IsLeadingToken, ends_word}
+use Rattle.cats_text.specs.Internal.Progress.{Progress, Gives, NeedsMemoryOnBidLines}
 use Rattle.cats_text.specs.Internal.Parsing.{word_read}
 use Rattle.cats_text.specs.Internal.Scanning.{
   State,
   and_then,
   scan,
   byte_step,
-  halt_of,
+  scan_error_of,
   is_before_word,
-  AsksHere,
+  NeedsMemoryHere,
   IsInBidLine,
   MeetsBidLine,
   IsScanned,
   ScansTo,
 }
-use Rattle.cats_text.specs.Internal.Scanning.{Steps, Asks}
-use Rattle.cats_text.specs.declared.fault.Kind.{Kind}
-use Rattle.cats_text.specs.declared.parser.Stop.{Stop}
-use Rattle.cats_text.specs.declared.parser.Stop.TheVariants.{Fault, Memory}
+use Rattle.cats_text.specs.Internal.Scanning.{Steps, NeedsMemory}
+use Rattle.cats_text.specs.declared.read_fault.Kind.{Kind}
+use Rattle.cats_text.specs.declared.parser.ParseError.{ParseError}
+use Rattle.cats_text.specs.declared.parser.ParseError.TheVariants.{Fault, Memory}
 use Rattle.cats_text.specs.declared.parser.Stage.TheVariants.{Bid}
-use Rattle.cats_text.specs.declared.scanner.Halt.{Halt}
-use Rattle.cats_text.specs.declared.scanner.Halt.TheVariants as halts
+use Rattle.cats_text.specs.declared.scanner.ScanError.{ScanError}
+use Rattle.cats_text.specs.declared.scanner.ScanError.TheVariants as halts
 use Rattle.cats_text.specs.declared.scanner.Mode.TheVariants.{Between, Inside}
 use Rattle.cats_text.specs.declared.word.Word.{Word}
 use Rattle.cats_text.proofs.Scanning.Rests.{settled-other, at_place, scan_byte_at, scanned_then}
@@ -84,7 +84,7 @@ byte_faults s w kind b ends read = elim (eqb b 10) as (λ t. eqb b 10 ≡ t → 
 blank_stays : (s : State) (p : Progress) (b : ℕ) → eqb b 10 ≡ false → is_blank b ≡ true → byte_step (behind_word s p) b ≡ Ok (behind_word s p)
 blank_stays s p b e h = rw (e, h) refl
 
--- ---- the word in front
+-- ---- the word at the start
 
 -- the byte that ends the word, and what is decided behind it
 settled_end : (bytes : List ℕ) (count : ℕ) → count < length bytes → ends_word (get_or bytes count 0) ≡ true → settled (drop count bytes) ≡ get_or bytes count 0
@@ -93,45 +93,45 @@ settled_end bytes count within ends = ap settled (at_place bytes count within)
     ∙ settled-other (get_or bytes count 0) (drop (count + 1) bytes) (ends_no_return (get_or bytes count 0) ends)
 
 -- the word is read before the byte that ends it
-read_scanned : (s : State) (p : Progress) (bytes : List ℕ) (w : Word) (taken : ℕ) (v : Bool) → is_before_word s.mode ≡ true → (front : IsFront bytes w taken)
+read_scanned : (s : State) (p : Progress) (bytes : List ℕ) (w : Word) (taken : ℕ) (v : Bool) → is_before_word s.mode ≡ true → (token : IsLeadingToken bytes w taken)
     → word_read s.progress w ≡ Ok p
-    → p.stage ≡ s.progress.stage → v ≡ false → IsScanned s (behind_word s p) v bytes (drop front.count bytes)
-read_scanned s p bytes w taken v before front read stage e =
-    let count : ℕ = front.count in
-    let b : ℕ = get_or bytes front.count 0 in
-    let later : List ℕ = settled (drop (front.count + 1) bytes) in
-    let come : IsScanned s (in_word s w) v bytes (drop front.count bytes) = word_scanned s bytes w count v before front.kept e in
-    let split : settled (drop front.count bytes) ≡ b ∷ later = settled_end bytes count front.within front.ends in
-    let same : byte_step (in_word s w) b ≡ byte_step (behind_word s p) b = byte_ends s w p b front.ends read in
+    → p.stage ≡ s.progress.stage → v ≡ false → IsScanned s (behind_word s p) v bytes (drop token.count bytes)
+read_scanned s p bytes w taken v before token read stage e =
+    let count : ℕ = token.count in
+    let b : ℕ = get_or bytes token.count 0 in
+    let later : List ℕ = settled (drop (token.count + 1) bytes) in
+    let come : IsScanned s (in_word s w) v bytes (drop token.count bytes) = word_scanned s bytes w count v before token.kept e in
+    let split : settled (drop token.count bytes) ≡ b ∷ later = settled_end bytes count token.within token.ends in
+    let same : byte_step (in_word s w) b ≡ byte_step (behind_word s p) b = byte_ends s w p b token.ends read in
     let again : MeetsBidLine (behind_word s p) (b ∷ later) → MeetsBidLine (in_word s w) (b ∷ later) =
     ⊎_elim (λ (m : IsInBidLine (behind_word s p)). inl (sym stage ∙ m.0, tt)) (λ (m : IsOkAnd (byte_step (behind_word s p) b) (λ t. MeetsBidLine t later)). inr
     (subst (λ r. IsOkAnd r (λ t. MeetsBidLine t later)) (sym same) m)) in
     record {
       steps = ap (scan (behind_word s p)) split ∙ sym (ap (λ r. and_then r (λ t. scan t later)) same) ∙ sym (ap (scan (in_word s w)) split) ∙ come.steps;
-      asks = λ m. come.asks (subst (MeetsBidLine (in_word s w)) (sym split) (again (subst (MeetsBidLine (behind_word s p)) split m)));
+      needs = λ m. come.needs (subst (MeetsBidLine (in_word s w)) (sym split) (again (subst (MeetsBidLine (behind_word s p)) split m)));
       last = come.last;
       going = come.going;
       ended = come.ended;
     }
 
-front_faults : (s : State) (bytes : List ℕ) (w : Word) (taken : ℕ) (kind : Kind) → is_before_word s.mode ≡ true → IsFront bytes w taken
+token_faults : (s : State) (bytes : List ℕ) (w : Word) (taken : ℕ) (kind : Kind) → is_before_word s.mode ≡ true → IsLeadingToken bytes w taken
     → word_read s.progress w ≡ Err kind → scan s (settled bytes) ≡ Err (fault_at s.line kind)
-front_faults s bytes w taken kind before front read =
-    let come : IsScanned s (in_word s w) false bytes (drop front.count bytes) = word_scanned s bytes w front.count false before front.kept refl in
-    sym come.steps ∙ ap (scan (in_word s w)) (settled_end bytes front.count front.within front.ends)
-    ∙ ap (λ r. and_then r (λ t. scan t (settled (drop (front.count + 1) bytes)))) (byte_faults s w kind (get_or bytes front.count 0) front.ends read)
+token_faults s bytes w taken kind before token read =
+    let come : IsScanned s (in_word s w) false bytes (drop token.count bytes) = word_scanned s bytes w token.count false before token.kept refl in
+    sym come.steps ∙ ap (scan (in_word s w)) (settled_end bytes token.count token.within token.ends)
+    ∙ ap (λ r. and_then r (λ t. scan t (settled (drop (token.count + 1) bytes)))) (byte_faults s w kind (get_or bytes token.count 0) token.ends read)
 
-front_asks : (s : State) (bytes : List ℕ) (w : Word) (taken : ℕ) → is_before_word s.mode ≡ true → IsFront bytes w taken → s.progress.stage ≡ Bid
+token_needs : (s : State) (bytes : List ℕ) (w : Word) (taken : ℕ) → is_before_word s.mode ≡ true → IsLeadingToken bytes w taken → s.progress.stage ≡ Bid
     → MeetsBidLine s (settled bytes)
-front_asks s bytes w taken before front stage =
-    let come : IsScanned s (in_word s w) false bytes (drop front.count bytes) = word_scanned s bytes w front.count false before front.kept refl in
-    come.asks (subst (MeetsBidLine (in_word s w)) (sym (settled_end bytes front.count front.within front.ends)) (inl (stage, tt)))
+token_needs s bytes w taken before token stage =
+    let come : IsScanned s (in_word s w) false bytes (drop token.count bytes) = word_scanned s bytes w token.count false before token.kept refl in
+    come.needs (subst (MeetsBidLine (in_word s w)) (sym (settled_end bytes token.count token.within token.ends)) (inl (stage, tt)))
 
 -- and its blank, if it has one
-front_taken : (s : State) (p : Progress) (v : Bool) (bytes : List ℕ) (count taken : ℕ) → count < length bytes → ends_word (get_or bytes count 0) ≡ true
+token_taken : (s : State) (p : Progress) (v : Bool) (bytes : List ℕ) (count taken : ℕ) → count < length bytes → ends_word (get_or bytes count 0) ≡ true
     → taken ≡ count + cond (eqb (get_or bytes count 0) 10) 0 1
     → IsScanned s (behind_word s p) v bytes (drop count bytes) → IsScanned s (behind_word s p) v bytes (drop taken bytes) × (taken ≤ length bytes)
-front_taken s p v bytes count taken within ends is so_far = elim (eqb (get_or bytes count 0) 10) as (λ t. eqb (get_or bytes count 0) 10 ≡ t
+token_taken s p v bytes count taken within ends is so_far = elim (eqb (get_or bytes count 0) 10) as (λ t. eqb (get_or bytes count 0) 10 ≡ t
     → IsScanned s (behind_word s p) v bytes (drop taken bytes) × (taken ≤ length bytes)) [
       | true ↦ λ (e : eqb (get_or bytes count 0) 10 ≡ true). let at : count ≡ taken = sym (is ∙ ap (λ t. count + cond t 0 1) e ∙ omega arith) in
           (subst (λ k. IsScanned s (behind_word s p) v bytes (drop k bytes)) at so_far, omega arith)
@@ -143,20 +143,20 @@ front_taken s p v bytes count taken within ends is so_far = elim (eqb (get_or by
       )
     ] refl
 
--- the word in front is read
-pub word_taken : (s : State) (p : Progress) (v : Bool) (bytes : List ℕ) (word : Word) (taken : ℕ) → is_before_word s.mode ≡ true → IsFront bytes word taken
+-- the word at the start is read
+pub word_taken : (s : State) (p : Progress) (v : Bool) (bytes : List ℕ) (word : Word) (taken : ℕ) → is_before_word s.mode ≡ true → IsLeadingToken bytes word taken
     → word_read s.progress word ≡ Ok p → p.stage ≡ s.progress.stage → v ≡ false → ScansTo s (behind_word s p) v bytes (Ok taken)
-word_taken s p v bytes word taken before front read stage e =
-    front_taken s p v bytes front.count taken front.within front.ends front.is (read_scanned s p bytes word taken v before front read stage e)
+word_taken s p v bytes word taken before token read stage e =
+    token_taken s p v bytes token.count taken token.within token.ends token.is (read_scanned s p bytes word taken v before token read stage e)
 
 -- or stops the parser
-pub word_halts : (s t : State) (u : Progress) (v : Bool) (bytes : List ℕ) (word : Word) (taken : ℕ) (stop : Stop) (halt : Halt) → is_before_word s.mode ≡ true
-    → IsFront bytes word taken → Gives {A = Unit {0}} u (Err stop) (word_read s.progress word) → AsksOnBidLines {A = Unit {0}} s.progress (Err stop)
-    → halt ≡ halt_of s.line stop → ScansTo s t v bytes (Err halt)
-word_halts s t u v bytes word taken (Fault kind) halt before front read asks e =
-    subst (λ (h : Halt). ScansTo s t v bytes (Err h)) (sym e) (front_faults s bytes word taken kind before front read)
-word_halts s t u v bytes word taken Memory halt before front read asks e =
-    subst (λ (h : Halt). ScansTo s t v bytes (Err h)) (sym e) (front_asks s bytes word taken before front asks)
+pub word_halts : (s t : State) (u : Progress) (v : Bool) (bytes : List ℕ) (word : Word) (taken : ℕ) (stop : ParseError) (scan_error : ScanError) → is_before_word s.mode ≡ true
+    → IsLeadingToken bytes word taken → Gives {A = Unit {0}} u (Err stop) (word_read s.progress word) → NeedsMemoryOnBidLines {A = Unit {0}} s.progress (Err stop)
+    → scan_error ≡ scan_error_of s.line stop → ScansTo s t v bytes (Err scan_error)
+word_halts s t u v bytes word taken (Fault kind) scan_error before token read needs e =
+    subst (λ (h : ScanError). ScansTo s t v bytes (Err h)) (sym e) (token_faults s bytes word taken kind before token read)
+word_halts s t u v bytes word taken Memory scan_error before token read needs e =
+    subst (λ (h : ScanError). ScansTo s t v bytes (Err h)) (sym e) (token_needs s bytes word taken before token needs)
 
 -- ---- one word after another
 
@@ -185,32 +185,32 @@ rest_scanned s0 s t w v bytes place count l so_far next =
     let left : length (drop place bytes) ≡ length bytes - place = length-drop place bytes in
     rest_then s0 s t w v bytes place count (omega arith) (λ q. absurd (let none : length (drop place bytes) ≡ 0 = ap length q in omega arith)) so_far next
 
-pub rest_stops_to : (s0 s t u : State) (w v x : Bool) (bytes : List ℕ) (place : ℕ) (halt : Halt) → IsScanned s0 s w bytes (drop place bytes)
-    → ScansTo s t v (take (length bytes - place) (drop place bytes)) (Err halt) → ScansTo s0 u x bytes (Err halt)
+pub rest_stops_to : (s0 s t u : State) (w v x : Bool) (bytes : List ℕ) (place : ℕ) (scan_error : ScanError) → IsScanned s0 s w bytes (drop place bytes)
+    → ScansTo s t v (take (length bytes - place) (drop place bytes)) (Err scan_error) → ScansTo s0 u x bytes (Err scan_error)
 rest_stops_to s0 s t u w v x bytes place (halts.Fault e) so_far stop = sym so_far.steps ∙ subst (λ ds. scan s (settled ds) ≡ Err e) (rest_is bytes place) stop
-rest_stops_to s0 s t u w v x bytes place halts.Memory so_far stop = so_far.asks (subst (λ ds. MeetsBidLine s (settled ds)) (rest_is bytes place) stop)
+rest_stops_to s0 s t u w v x bytes place halts.Memory so_far stop = so_far.needs (subst (λ ds. MeetsBidLine s (settled ds)) (rest_is bytes place) stop)
 
 -- behind that call a byte stopped
-pub byte_stops : (s0 s t u : State) (w v : Bool) (bytes : List ℕ) (place count : ℕ) (halt : Halt) → place < length bytes
+pub byte_stops : (s0 s t u : State) (w v : Bool) (bytes : List ℕ) (place count : ℕ) (scan_error : ScanError) → place < length bytes
     → IsScanned s0 s w bytes (drop place bytes) → ScansTo s t v (take (length bytes - place) (drop place bytes)) (Ok count)
-    → place + count < length bytes → get_or bytes (place + count) 0 ≢ 13 → Steps {A = Unit {0}} u (Err halt) (byte_step t (get_or bytes (place + count) 0))
-    → AsksHere {A = Unit {0}} t (Err halt)
-    → Steps {A = Unit {0}} u (Err halt) (scan s0 (settled bytes)) × Asks {A = Unit {0}} s0 (settled bytes) (Err halt)
-byte_stops s0 s t u w v bytes place count halt l so_far next here ne steps asks =
+    → place + count < length bytes → get_or bytes (place + count) 0 ≢ 13 → Steps {A = Unit {0}} u (Err scan_error) (byte_step t (get_or bytes (place + count) 0))
+    → NeedsMemoryHere {A = Unit {0}} t (Err scan_error)
+    → Steps {A = Unit {0}} u (Err scan_error) (scan s0 (settled bytes)) × NeedsMemory {A = Unit {0}} s0 (settled bytes) (Err scan_error)
+byte_stops s0 s t u w v bytes place count scan_error l so_far next here ne steps needs =
     let both = rest_scanned s0 s t w v bytes place count l so_far next in
     let b : ℕ = get_or bytes (place + count) 0 in
     let split : settled (drop (place + count) bytes) ≡ b ∷ settled (drop (place + count + 1) bytes) = ap settled (at_place bytes (place + count) here)
     ∙ settled-other b (drop (place + count + 1) bytes) ne in
-    at_byte s0 t u v bytes (drop (place + count) bytes) b (settled (drop (place + count + 1) bytes)) halt both.0 split steps asks
+    at_byte s0 t u v bytes (drop (place + count) bytes) b (settled (drop (place + count + 1) bytes)) scan_error both.0 split steps needs
   where
-    at_byte : (s0 t u : State) (v : Bool) (bytes rest : List ℕ) (b : ℕ) (later : List ℕ) (halt : Halt) → IsScanned s0 t v bytes rest → settled rest ≡ b ∷ later
-        → Steps {A = Unit {0}} u (Err halt) (byte_step t b) → AsksHere {A = Unit {0}} t (Err halt)
-        → Steps {A = Unit {0}} u (Err halt) (scan s0 (settled bytes)) × Asks {A = Unit {0}} s0 (settled bytes) (Err halt)
-    at_byte s0 t u v bytes rest b later (halts.Fault e) so_far split steps asks =
+    at_byte : (s0 t u : State) (v : Bool) (bytes rest : List ℕ) (b : ℕ) (later : List ℕ) (scan_error : ScanError) → IsScanned s0 t v bytes rest → settled rest ≡ b ∷ later
+        → Steps {A = Unit {0}} u (Err scan_error) (byte_step t b) → NeedsMemoryHere {A = Unit {0}} t (Err scan_error)
+        → Steps {A = Unit {0}} u (Err scan_error) (scan s0 (settled bytes)) × NeedsMemory {A = Unit {0}} s0 (settled bytes) (Err scan_error)
+    at_byte s0 t u v bytes rest b later (halts.Fault e) so_far split steps needs =
         (sym so_far.steps ∙ ap (scan t) split ∙ ap (λ r. and_then r (λ x. scan x later)) steps, tt)
-    at_byte s0 t u v bytes rest b later halts.Memory so_far split steps asks = (tt, so_far.asks (subst (MeetsBidLine t) (sym split) (inl asks)))
+    at_byte s0 t u v bytes rest b later halts.Memory so_far split steps needs = (tt, so_far.needs (subst (MeetsBidLine t) (sym split) (inl needs)))
 
 -- what a `?` answers
-pub residual_is : {A : Type 0} (r : Result A Halt) (halt : Halt) (P : Result A Halt → Type 0) → IsErr r → IsErrAnd r (λ h. h ≡ halt) → P (Err halt) → P r
-residual_is (Ok x) halt P err is p = cc
-residual_is (Err h) halt P err is p = subst (λ (k : Halt). P (Err k)) (sym is) p
+pub residual_is : {A : Type 0} (r : Result A ScanError) (scan_error : ScanError) (P : Result A ScanError → Type 0) → IsErr r → IsErrAnd r (λ h. h ≡ scan_error) → P (Err scan_error) → P r
+residual_is (Ok x) scan_error P err is p = cc
+residual_is (Err h) scan_error P err is p = subst (λ (k : ScanError). P (Err k)) (sym is) p

@@ -1,4 +1,4 @@
--- Lists of numbers in which none stands twice. The idea: how often a number stands in a list is the same however the list is
+-- Lists of numbers in which none is twice. The idea: how often a number is in a list is the same however the list is
 -- ordered, and in a list without repeats it is at most 1; so such a list rises once it is sorted.
 use Rattle.std.proofs.Common.{◌≡◌, ◌≢◌, ℕ, zero, suc, ◌+◌, ◌<◌, ◌≤◌, true, false, cond, eqb, List, [], ◌∷◌, length, get_or, refl, sym, ap, subst, arith}
 use Rattle.std.proofs.lemmas.Bool.{eqb-true, eq-eqb, ne_eqb}
@@ -12,7 +12,7 @@ use Rattle.cats_text.specs.Grammar.{AreDistinct}
 abbrev one_at : ℕ → ℕ → ℕ
 one_at g x = cond (eqb x g) 1 0
 
--- how often g stands in the list
+-- how often g is in the list
 abbrev pub times : List ℕ → ℕ → ℕ
 times xs g = sum_by (one_at g) xs
 
@@ -74,7 +74,7 @@ apart_from_above : (x : ℕ) (xs : List ℕ) → AreAbove x xs → AllByRecursio
 apart_from_above x [] h = tt
 apart_from_above x (y ∷ ys) h = (λ e. let less : x < y = h.0 in let same : x ≡ y = e in omega arith, apart_from_above x ys h.1)
 
--- numbers that rise stand there once
+-- numbers that rise are there once
 pub distinct_from_rising : (xs : List ℕ) → IsRising xs → AreDistinct xs
 distinct_from_rising [] h = tt
 distinct_from_rising (x ∷ xs) h = (apart_from_above x xs h.0, distinct_from_rising xs h.1)

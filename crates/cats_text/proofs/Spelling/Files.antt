@@ -8,9 +8,9 @@ use Rattle.bid_file.specs.Files.{PlainFile, IsBid, IsPlainFile}
 use Rattle.cats_text.specs.Grammar.{Spells, SpellsBid, SpellsNumber, line_number, significant_words}
 use Rattle.cats_text.specs.Faults.{bounds_of, header_value, first_fault}
 use Rattle.cats_text.specs.FileLines.{filled, bid_of, slots_of, file_of_lines, spelled_file}
-use Rattle.cats_text.specs.declared.fault.ReadFault.{ReadFault}
+use Rattle.cats_text.specs.declared.read_fault.ReadFault.{ReadFault}
 use Rattle.bid_file.specs.declared.limits.TheConstants.{MAX_GOODS, MAX_BIDS, MAX_DUMMY}
-use Rattle.cats_text.proofs.Spelling.Slots.{FillPlaces, length_bids, bids_stand, bids_all, bids_are}
+use Rattle.cats_text.proofs.Spelling.BidsByNumber.{FillPlaces, length_bids, bids_stand, bids_all, bids_are}
 use Rattle.cats_text.proofs.Spelling.Tests.{IsHeader, header_number}
 use Rattle.cats_text.proofs.Spelling.Goods.{IsBidLine}
 use Rattle.cats_text.proofs.Spelling.Lines.{words_from, words_none, AreBidLines, AreFileLines, lines_from, lines_none, fill_places}

@@ -9,11 +9,11 @@ use Rattle.std.specs.Prelude.{codes}
 use Rattle.cats_text.specs.Lines.{Word, Line}
 use Rattle.cats_text.specs.Grammar.{AreDistinct, line_number}
 use Rattle.cats_text.specs.Faults.{Bounds, bounds_of, words_fault, end_fault, is_line_due, fault_at, line_fault, lines_fault}
-use Rattle.cats_text.specs.declared.fault.Kind.TheVariants.{Missing}
+use Rattle.cats_text.specs.declared.read_fault.Kind.TheVariants.{Missing}
 use Rattle.bid_file.specs.declared.limits.TheConstants.{MAX_GOODS, MAX_BIDS, MAX_DUMMY}
 use Rattle.cats_text.proofs.Spelling.Marks.{AreDistinct-push}
 use Rattle.cats_text.proofs.Spelling.Members.{new_at}
-use Rattle.cats_text.proofs.Spelling.Slots.{FillPlaces}
+use Rattle.cats_text.proofs.Spelling.BidsByNumber.{FillPlaces}
 use Rattle.cats_text.proofs.Spelling.Tests.{or_none, none_or, map_none, cond_none, or_whole, IsHeader, header_from, header_none}
 use Rattle.cats_text.proofs.Spelling.Goods.{IsBidLine, IsNewLine, bid_line_from, bid_line_none}
 

@@ -76,11 +76,11 @@ none_take p (suc k) [] h = refl
 none_take p (suc k) (x ∷ xs) h = let q : (p x ≡ false) × (list_any p xs ≡ false) = or_parts (p x) (list_any p xs) h in
     or_from (p x) (list_any p (take k xs)) q.0 (none_take p k xs q.1)
 
-none_front : (p : ℕ → Bool) (k : ℕ) (xs ys : List ℕ) → list_any p (take k (xs ++ ys)) ≡ false → list_any p (take k xs) ≡ false
-none_front p zero xs ys h = refl
-none_front p (suc k) [] ys h = refl
-none_front p (suc k) (x ∷ xs) ys h = let q : (p x ≡ false) × (list_any p (take k (xs ++ ys)) ≡ false) = or_parts (p x) (list_any p (take k (xs ++ ys))) h in
-    or_from (p x) (list_any p (take k xs)) q.0 (none_front p k xs ys q.1)
+none_in_prefix : (p : ℕ → Bool) (k : ℕ) (xs ys : List ℕ) → list_any p (take k (xs ++ ys)) ≡ false → list_any p (take k xs) ≡ false
+none_in_prefix p zero xs ys h = refl
+none_in_prefix p (suc k) [] ys h = refl
+none_in_prefix p (suc k) (x ∷ xs) ys h = let q : (p x ≡ false) × (list_any p (take k (xs ++ ys)) ≡ false) = or_parts (p x) (list_any p (take k (xs ++ ys))) h in
+    or_from (p x) (list_any p (take k xs)) q.0 (none_in_prefix p k xs ys q.1)
 
 six_digits_alone : (ds : Word) → digits_alone ds ≡ true → digits_alone (six_places ds) ≡ true
 six_digits_alone ds h = all_take is_digit 6 (ds ++ zeros) (list_all-append is_digit ds zeros ∙ and_from (digits_alone ds) true h refl)
@@ -102,7 +102,7 @@ zero_six : (ds : Word) → digits_alone ds ≡ true → has_place_from 6 ds ≡ 
 zero_six ds h fine e =
     sym (ap (list_any is_place) (take-append-drop 6 ds)) ∙ list_any-append is_place (take 6 ds) (drop 6 ds)
     ∙ or_from (list_any is_place (take 6 ds)) (list_any is_place (drop 6 ds))
-    (none_front is_place 6 ds zeros (zero_value 0 (six_places ds) (six_digits_alone ds h) e)) fine
+    (none_in_prefix is_place 6 ds zeros (zero_value 0 (six_places ds) (six_digits_alone ds h) e)) fine
 
 -- ---- prices
 

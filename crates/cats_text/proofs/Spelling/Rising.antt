@@ -67,7 +67,7 @@ has_at [] i d l = absurd (let none : i < 0 = l in omega arith)
 has_at (x ∷ xs) zero d l = has_head x xs
 has_at (x ∷ xs) (suc i) d l = has_tail x xs (get_or xs i d) (has_at xs i d (omega arith))
 
--- none stands before itself
+-- none is before itself
 pub rising_new : (xs : List ℕ) (i d : ℕ) → IsRising xs → i < length xs → has_number (take i xs) (get_or xs i d) ≡ false
 rising_new [] i d r l = absurd (let none : i < 0 = l in omega arith)
 rising_new (x ∷ xs) zero d r l = refl

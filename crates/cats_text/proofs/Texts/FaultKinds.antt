@@ -8,9 +8,9 @@ use Rattle.cats_text.specs.Faults.{when, header_word, header_end, number_word, p
 use Rattle.cats_text.specs.Faults.{words_fault, fault_at, line_fault, lines_fault, first_fault, complete_fault, up_to_final, is_line_due, is_text_kind}
 use Rattle.cats_text.specs.Faults.{IsOfText}
 use Rattle.cats_text.specs.Fed.{fed_fault}
-use Rattle.cats_text.specs.declared.fault.Kind.{Kind}
-use Rattle.cats_text.specs.declared.fault.Kind.TheVariants.{Missing, TooLong, Device, Memory}
-use Rattle.cats_text.specs.declared.fault.ReadFault.{ReadFault}
+use Rattle.cats_text.specs.declared.read_fault.Kind.{Kind}
+use Rattle.cats_text.specs.declared.read_fault.Kind.TheVariants.{Missing, TooLong, Device, Memory}
+use Rattle.cats_text.specs.declared.read_fault.ReadFault.{ReadFault}
 
 -- a word, or a line's end, may have a fault of this kind
 abbrev is_line_kind : Kind → Bool

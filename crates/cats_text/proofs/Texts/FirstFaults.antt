@@ -11,7 +11,7 @@ use Rattle.cats_text.specs.Internal.Progress.{Progress}
 use Rattle.cats_text.specs.Internal.Parsing.{Reading, start, is_due, line_read}
 use Rattle.cats_text.specs.Internal.Scanning.{Scan, first_state, and_then, scan, byte_step, blank_step, end_step}
 use Rattle.bid_file.specs.Files.{PlainBid}
-use Rattle.cats_text.specs.declared.fault.Kind.TheVariants.{Missing}
+use Rattle.cats_text.specs.declared.read_fault.Kind.TheVariants.{Missing}
 use Rattle.cats_text.specs.declared.scanner.Mode.TheVariants.{Start, Between}
 use Rattle.cats_text.proofs.Scanning.Lines.{scan-append, IsNoEnd, standing, fresh_outcome, lifted, quiet, from_start, byte_blank, words_blank}
 use Rattle.cats_text.proofs.Parsing.WholeLines.{words_read, on_line, reading_then, Scanned, scanned_then, lines_scan, lines_step, LinesAre, IsLine, IsWord}
@@ -79,15 +79,15 @@ words_are : (bytes : List ℕ) → AllByRecursion IsWord (line_words bytes)
 words_are [] = tt
 words_are (b ∷ bs) = joined (line_words bs) (words_are bs)
   where
-    front : (ws : List Word) → AllByRecursion IsWord ws → AllByRecursion IsWord (with_letter b ws)
-    front [] h = (omega arith, tt)
-    front (w ∷ ws) h = (omega arith, h.1)
+    prefix : (ws : List Word) → AllByRecursion IsWord ws → AllByRecursion IsWord (with_letter b ws)
+    prefix [] h = (omega arith, tt)
+    prefix (w ∷ ws) h = (omega arith, h.1)
 
     joined : (ws : List Word) → AllByRecursion IsWord ws → AllByRecursion IsWord (words_with b bs ws)
     joined ws h = elim (is_blank b) as (λ t. AllByRecursion IsWord (cond t ws (cond (begins_word bs) (with_letter b ws) ((b ∷ []) ∷ ws)))) [
       | true ↦ h
       | false ↦ elim (begins_word bs) as (λ t. AllByRecursion IsWord (cond t (with_letter b ws) ((b ∷ []) ∷ ws))) [
-        | true ↦ front ws h
+        | true ↦ prefix ws h
         | false ↦ (omega arith, h)
       ]
     ]
@@ -105,10 +105,10 @@ kept_are n (l ∷ ls) = elim (is_significant (line_words l.bytes)) as (λ t. is_
       | false ↦ λ (e : is_significant (line_words l.bytes) ≡ false). kept_are (suc n) ls
     ] refl
 
--- a line in front that has its LF, or is the last
-ends_front : (l : Line) (ls : List Line) → (0 < length ls → l.ended ≡ true) → AreEndedButLast ls → AreEndedButLast (l ∷ ls)
-ends_front l [] h e = tt
-ends_front l (m ∷ ls) h e = (h (omega arith), e)
+-- a line in prefix that has its LF, or is the last
+ends_prefix : (l : Line) (ls : List Line) → (0 < length ls → l.ended ≡ true) → AreEndedButLast ls → AreEndedButLast (l ∷ ls)
+ends_prefix l [] h e = tt
+ends_prefix l (m ∷ ls) h e = (h (omega arith), e)
 
 ended_or_last : (l : RawLine) (ls : List RawLine) (n : ℕ) → AreRaw (l ∷ ls) → 0 < length (kept (numbered n ls)) → l.ended ≡ true
 ended_or_last l [] n r h = absurd (let no : 0 < 0 = h in omega arith)
@@ -119,7 +119,7 @@ kept_ends n [] r = tt
 kept_ends n (l ∷ ls) r =
     elim (is_significant (line_words l.bytes)) as (λ t. AreEndedButLast
     (cond t (record { number = n; words = line_words l.bytes; ended = l.ended } ∷ kept (numbered (suc n) ls)) (kept (numbered (suc n) ls)))) [
-      | true ↦ ends_front (record { number = n; words = line_words l.bytes; ended = l.ended }) (kept (numbered (suc n) ls)) (ended_or_last l ls (suc n) r)
+      | true ↦ ends_prefix (record { number = n; words = line_words l.bytes; ended = l.ended }) (kept (numbered (suc n) ls)) (ended_or_last l ls (suc n) r)
           (kept_ends (suc n) ls (tail_raw l ls r))
       | false ↦ kept_ends (suc n) ls (tail_raw l ls r)
     ]
@@ -171,9 +171,9 @@ EndsFinal [] = Unit {0}
 EndsFinal (b ∷ []) = is_final b ≡ true
 EndsFinal (b ∷ c ∷ cs) = EndsFinal (c ∷ cs)
 
-blank_front : (l : RawLine) (ls : List RawLine) → l.ended ≡ true → EndsBlank ls → EndsBlank (l ∷ ls)
-blank_front l [] e h = λ f. absurd (both_ways l.ended f e)
-blank_front l (m ∷ ls) e h = h
+blank_prefix : (l : RawLine) (ls : List RawLine) → l.ended ≡ true → EndsBlank ls → EndsBlank (l ∷ ls)
+blank_prefix l [] e h = λ f. absurd (both_ways l.ended f e)
+blank_prefix l (m ∷ ls) e h = h
 
 blank_with : (b : ℕ) (l : RawLine) (ls : List RawLine) → EndsBlank (l ∷ ls) → EndsBlank (record { bytes = b ∷ l.bytes; ended = l.ended } ∷ ls)
 blank_with b l [] h = λ e. let k = h e in (b ∷ k.0, k.1, ap (λ ds. b ∷ ds) k.2, k.3)
@@ -189,14 +189,14 @@ blank_of_final b f e = right (is_blank b) (eqb b 10) f e
 some_line : (c : ℕ) (cs : List ℕ) → (l : RawLine) × (ls : List RawLine) × (raw_lines (c ∷ cs) ≡ l ∷ ls)
 some_line c cs = joined (raw_lines cs)
   where
-    front : (ls : List RawLine) → (l : RawLine) × (ms : List RawLine) × (with_byte c ls ≡ l ∷ ms)
-    front [] = (record { bytes = c ∷ []; ended = false }, [], refl)
-    front (l ∷ ls) = (record { bytes = c ∷ l.bytes; ended = l.ended }, ls, refl)
+    prefix : (ls : List RawLine) → (l : RawLine) × (ms : List RawLine) × (with_byte c ls ≡ l ∷ ms)
+    prefix [] = (record { bytes = c ∷ []; ended = false }, [], refl)
+    prefix (l ∷ ls) = (record { bytes = c ∷ l.bytes; ended = l.ended }, ls, refl)
 
     joined : (ls : List RawLine) → (l : RawLine) × (ms : List RawLine) × (lines_with c ls ≡ l ∷ ms)
     joined ls = elim (eqb c 10) as (λ t. (l : RawLine) × (ms : List RawLine) × (cond t (record { bytes = []; ended = true } ∷ ls) (with_byte c ls) ≡ l ∷ ms)) [
       | true ↦ (record { bytes = []; ended = true }, ls, refl)
-      | false ↦ front ls
+      | false ↦ prefix ls
     ]
 
 EndsBlank-lines : (text : List ℕ) → EndsFinal text → EndsBlank (raw_lines text)
@@ -211,7 +211,7 @@ EndsBlank-lines (b ∷ c ∷ cs) f =
     let later : EndsBlank (some.0 ∷ some.1) = subst EndsBlank some.2 (EndsBlank-lines (c ∷ cs) f) in
     subst (λ ls. EndsBlank (lines_with b ls)) (sym some.2)
     (elim (eqb b 10) as (λ t. EndsBlank (cond t (record { bytes = []; ended = true } ∷ (some.0 ∷ some.1)) (with_byte b (some.0 ∷ some.1)))) [
-      | true ↦ blank_front (record { bytes = []; ended = true }) (some.0 ∷ some.1) refl later
+      | true ↦ blank_prefix (record { bytes = []; ended = true }) (some.0 ∷ some.1) refl later
       | false ↦ blank_with b some.0 some.1 later
     ])
 

@@ -14,7 +14,7 @@ use Rattle.cats_text.specs.Internal.Progress.{Progress}
 use Rattle.cats_text.specs.FileLines.{filled, file_of_lines, slots_of}
 use Rattle.cats_text.specs.Internal.Scanning.{State, Scan, first_state, and_then, scan, byte_step, end_step, end_of, MeetsBidLine, IsInBidLine, HasBids}
 use Rattle.cats_text.specs.Internal.Kept.{whole}
-use Rattle.cats_text.specs.declared.fault.ReadFault.{ReadFault}
+use Rattle.cats_text.specs.declared.read_fault.ReadFault.{ReadFault}
 use Rattle.cats_text.specs.declared.parser.Header.{Header}
 use Rattle.cats_text.proofs.Scanning.AllBytes.{outcome}
 use Rattle.cats_text.proofs.Texts.FirstFaults.{WholeIs, whole_fault}
@@ -36,8 +36,8 @@ pub stops_at_complete_fault : (k : PlainBid → PlainBid) (bytes : List ℕ) (e 
 stops_at_complete_fault k bytes e h = subst (λ (r : Scan). CompleteIs bytes (outcome r)) h (complete_is k bytes)
 
 -- where the machine goes on, no fault is complete
-pub goes_on_without_fault : (k : PlainBid → PlainBid) (bytes : List ℕ) (s : State) → scan (first_state k) (settled bytes) ≡ ok s → complete_fault bytes ≡ None
-goes_on_without_fault k bytes s h = subst (λ (r : Scan). CompleteIs bytes (outcome r)) h (complete_is k bytes)
+pub continues_without_fault : (k : PlainBid → PlainBid) (bytes : List ℕ) (s : State) → scan (first_state k) (settled bytes) ≡ ok s → complete_fault bytes ≡ None
+continues_without_fault k bytes s h = subst (λ (r : Scan). CompleteIs bytes (outcome r)) h (complete_is k bytes)
 
 -- the answer of the machine for the whole text, where it stopped at a fault already
 stopped : (k : PlainBid → PlainBid) (bytes : List ℕ) (e : ReadFault) → scan (first_state k) (settled bytes) ≡ err e → first_fault bytes ≡ Some e
@@ -54,7 +54,7 @@ complete_fault_is_first bytes e h = by_scan (scan (first_state whole) (settled b
     no q = cc
 
     by_scan : (r : Scan) → scan (first_state whole) (settled bytes) ≡ r → first_fault bytes ≡ Some e
-    by_scan (Ok s) is = absurd (no (sym (goes_on_without_fault whole bytes s is) ∙ h))
+    by_scan (Ok s) is = absurd (no (sym (continues_without_fault whole bytes s is) ∙ h))
     by_scan (Err c) is = stopped whole bytes c is ∙ sym (stops_at_complete_fault whole bytes c is) ∙ h
 
 -- it is complete in every longer text too
@@ -68,7 +68,7 @@ complete_fault-append bytes rest e h = by_scan (scan (first_state whole) (settle
     more = settled (carried (waits bytes) rest)
 
     by_scan : (r : Scan) → scan (first_state whole) (settled bytes) ≡ r → complete_fault (bytes ++ rest) ≡ Some e
-    by_scan (Ok s) is = absurd (no (sym (goes_on_without_fault whole bytes s is) ∙ h))
+    by_scan (Ok s) is = absurd (no (sym (continues_without_fault whole bytes s is) ∙ h))
     by_scan (Err c) is = stops_at_complete_fault whole (bytes ++ rest) c
         (ap (scan (first_state whole)) (settled-append bytes rest) ∙ scan-append (first_state whole) (settled bytes) more
         ∙ ap (λ (r : Scan). and_then r (λ t. scan t more)) is)

@@ -1,4 +1,4 @@
--- What the reader keeps of a word tells all that the grammar asks of the word. The idea: `Tells w s` says it of each kind of
+-- What the reader keeps of a word says all that the grammar needs of the word. The idea: `Summarises w s` says it of each kind of
 -- summary s, and one more byte keeps it.
 use Rattle.std.proofs.Common.{◌≡◌, ◌≢◌, ℕ, zero, suc, ◌+◌, ◌-◌, ◌*◌, ◌^◌, ◌<◌, ◌≤◌, min, Bool, true, false, not, ◌&&◌, ◌||◌, cond, eqb, ltb, ◌⊎◌, inl, inr}
 use Rattle.std.proofs.Common.{⊎_elim, List, [], ◌∷◌, ◌++◌, length, get_or, drop, take, fold, refl, sym, ap, ◌∙◌, subst, arith, append_assoc, add-one}
@@ -48,12 +48,12 @@ pub record IsFraction (w : List ℕ) (d : Decimal) : Type 0 where
   pub millionths : d.millionths ≡ places_from 0 behind
   pub fine : d.fine ≡ has_place_from 6 behind
 
-abbrev pub Tells : List ℕ → Word → Type 0
-Tells w (Keyword k n) = (w ≡ take n (keyword_text k)) × (0 < n) × (n ≤ length (keyword_text k))
-Tells w (Number v) = (is_number w ≡ true) × Holds v (number_of w)
-Tells w (Fraction d) = IsFraction w d
-Tells w End = w ≡ 35 ∷ []
-Tells w Other = (t : List ℕ) → IsOther (w ++ t)
+abbrev pub Summarises : List ℕ → Word → Type 0
+Summarises w (Keyword k n) = (w ≡ take n (keyword_text k)) × (0 < n) × (n ≤ length (keyword_text k))
+Summarises w (Number v) = (is_number w ≡ true) × Holds v (number_of w)
+Summarises w (Fraction d) = IsFraction w d
+Summarises w End = w ≡ 35 ∷ []
+Summarises w Other = (t : List ℕ) → IsOther (w ++ t)
 
 -- ---- words that nothing can mend
 
@@ -149,21 +149,21 @@ holds_more v n d h = elim (ltb v HELD) as (λ t. ltb v HELD ≡ t → Holds (con
 
 -- ---- the first byte
 
-pub tells_first : (a : ℕ) → Tells (a ∷ []) (word_from a)
-tells_first a = elim (is_digit a) as (λ t. is_digit a ≡ t
-    → Tells (a ∷ []) (cond t (Number (a - 48))
+pub summarises_first : (a : ℕ) → Summarises (a ∷ []) (word_from a)
+summarises_first a = elim (is_digit a) as (λ t. is_digit a ≡ t
+    → Summarises (a ∷ []) (cond t (Number (a - 48))
     (cond (eqb a 35) End (cond (eqb a 103) (Keyword Goods 1) (cond (eqb a 98) (Keyword Bids 1) (cond (eqb a 100) (Keyword Dummy 1) Other)))))) [
       | true ↦ λ (e : is_digit a ≡ true). (rw e refl, inl (omega arith))
       | false ↦ λ (digit : is_digit a ≡ false). elim (eqb a 35) as (λ t. eqb a 35 ≡ t
-          → Tells (a ∷ []) (cond t End (cond (eqb a 103) (Keyword Goods 1) (cond (eqb a 98) (Keyword Bids 1) (cond (eqb a 100) (Keyword Dummy 1) Other))))) [
+          → Summarises (a ∷ []) (cond t End (cond (eqb a 103) (Keyword Goods 1) (cond (eqb a 98) (Keyword Bids 1) (cond (eqb a 100) (Keyword Dummy 1) Other))))) [
             | true ↦ λ (e : eqb a 35 ≡ true). ap (λ n. n ∷ []) (eqb-true a 35 e)
             | false ↦ λ (hash : eqb a 35 ≡ false). elim (eqb a 103) as (λ t. eqb a 103 ≡ t
-                → Tells (a ∷ []) (cond t (Keyword Goods 1) (cond (eqb a 98) (Keyword Bids 1) (cond (eqb a 100) (Keyword Dummy 1) Other)))) [
+                → Summarises (a ∷ []) (cond t (Keyword Goods 1) (cond (eqb a 98) (Keyword Bids 1) (cond (eqb a 100) (Keyword Dummy 1) Other)))) [
                   | true ↦ λ (e : eqb a 103 ≡ true). (ap (λ n. n ∷ []) (eqb-true a 103 e), omega arith, omega arith)
                   | false ↦ λ (g : eqb a 103 ≡ false). elim (eqb a 98) as (λ t. eqb a 98 ≡ t
-                      → Tells (a ∷ []) (cond t (Keyword Bids 1) (cond (eqb a 100) (Keyword Dummy 1) Other))) [
+                      → Summarises (a ∷ []) (cond t (Keyword Bids 1) (cond (eqb a 100) (Keyword Dummy 1) Other))) [
                         | true ↦ λ (e : eqb a 98 ≡ true). (ap (λ n. n ∷ []) (eqb-true a 98 e), omega arith, omega arith)
-                        | false ↦ λ (b : eqb a 98 ≡ false). elim (eqb a 100) as (λ t. eqb a 100 ≡ t → Tells (a ∷ []) (cond t (Keyword Dummy 1) Other)) [
+                        | false ↦ λ (b : eqb a 98 ≡ false). elim (eqb a 100) as (λ t. eqb a 100 ≡ t → Summarises (a ∷ []) (cond t (Keyword Dummy 1) Other)) [
                           | true ↦ λ (e : eqb a 100 ≡ true). (ap (λ n. n ∷ []) (eqb-true a 100 e), omega arith, omega arith)
                           | false ↦ λ (d : eqb a 100 ≡ false). λ t. other_first a t digit (eqb-false a 35 hash) (eqb-false a 103 g) (eqb-false a 98 b)
                               (eqb-false a 100 d)
@@ -184,15 +184,15 @@ number_other a w b t h digit point =
     digit_is_other a (w ++ b ∷ t) first.0 (digits-not (a ∷ w) t b digit)
     (ap (λ x. x && (not (has_point ((a ∷ w) ++ b ∷ t)) || is_number (places ((a ∷ w) ++ b ∷ t)))) none)
 
-tells_number : (a : ℕ) (w : List ℕ) (b v : ℕ) → Tells (a ∷ w) (Number v) → Tells ((a ∷ w) ++ b ∷ []) (word_with (Number v) b)
-tells_number a w b v h =
+summarises_number : (a : ℕ) (w : List ℕ) (b v : ℕ) → Summarises (a ∷ w) (Number v) → Summarises ((a ∷ w) ++ b ∷ []) (word_with (Number v) b)
+summarises_number a w b v h =
     elim (is_digit b) as (λ t. is_digit b ≡ t
-    → Tells ((a ∷ w) ++ b ∷ [])
+    → Summarises ((a ∷ w) ++ b ∷ [])
     (cond t (Number (cond (ltb v HELD) (v * 10 + (b - 48)) v)) (cond (eqb b 46) (Fraction (record { whole = v; millionths = 0; decimals = 0; fine = false }))
     Other))) [
       | true ↦ λ (digit : is_digit b ≡ true). (digits-more (a ∷ w) b h.0 digit, rw (number_of-push (a ∷ w) b) (holds_more v (number_of (a ∷ w)) (b - 48) h.1))
       | false ↦ λ (digit : is_digit b ≡ false). elim (eqb b 46) as (λ t. eqb b 46 ≡ t
-          → Tells ((a ∷ w) ++ b ∷ []) (cond t (Fraction (record { whole = v; millionths = 0; decimals = 0; fine = false })) Other)) [
+          → Summarises ((a ∷ w) ++ b ∷ []) (cond t (Fraction (record { whole = v; millionths = 0; decimals = 0; fine = false })) Other)) [
             | true ↦ λ (point : eqb b 46 ≡ true). record {
               whole = a ∷ w;
               behind = [];
@@ -295,8 +295,8 @@ fraction_late w d b f digit late =
       fine = ap (λ x. x || not (eqb (b - 48) 0)) f.fine ∙ ap (λ x. has_place_from 6 f.behind || not x) (zero_digit b digit) ∙ one_more f.behind b long;
     }
 
-tells_fraction : (a : ℕ) (w : List ℕ) (b : ℕ) (d : Decimal) → Tells (a ∷ w) (Fraction d) → Tells ((a ∷ w) ++ b ∷ []) (word_with (Fraction d) b)
-tells_fraction a w b d f = elim (is_digit b) as (λ t. is_digit b ≡ t → Tells ((a ∷ w) ++ b ∷ []) (cond t (Fraction (decimal_with d (b - 48))) Other)) [
+summarises_fraction : (a : ℕ) (w : List ℕ) (b : ℕ) (d : Decimal) → Summarises (a ∷ w) (Fraction d) → Summarises ((a ∷ w) ++ b ∷ []) (word_with (Fraction d) b)
+summarises_fraction a w b d f = elim (is_digit b) as (λ t. is_digit b ≡ t → Summarises ((a ∷ w) ++ b ∷ []) (cond t (Fraction (decimal_with d (b - 48))) Other)) [
   | true ↦ λ (digit : is_digit b ≡ true). elim (ltb d.decimals 6) as (λ t. ltb d.decimals 6 ≡ t
       → IsFraction ((a ∷ w) ++ b ∷ [])
       (cond t (record d { millionths = min (d.millionths + (b - 48) * place_value_of d.decimals) (2 ^ 64 - 1); decimals = d.decimals + 1 })
@@ -313,7 +313,7 @@ tells_fraction a w b d f = elim (is_digit b) as (λ t. is_digit b ≡ t → Tell
     other [] behind t n digit e = absurd (both_ways false refl n)
     other (c ∷ cs) behind t n digit e = subst IsOther (sym e) (fraction_other c cs behind b t n digit)
 
--- behind the front of a keyword, another byte than its next
+-- behind the prefix of a keyword, another byte than its next
 bytes_mismatch : (n : ℕ) (s : List ℕ) (b : ℕ) (t : List ℕ) → n ≤ length s → (ltb n (length s) && eqb (get_or s n 0) b) ≡ false
     → bytes_eq (take n s ++ b ∷ t) s ≡ false
 bytes_mismatch zero [] b t l h = refl
@@ -334,7 +334,7 @@ bytes_mismatch (suc n) (x ∷ xs) b t l h = rw (eq-eqb x x refl) (bytes_mismatch
               rw (le-ltb (suc n) (suc (length xs)) (omega arith)) refl
         ] refl
 
--- the first byte of a keyword's front
+-- the first byte of a keyword's prefix
 pub first_of_take : (a : ℕ) (w : List ℕ) (x : ℕ) (xs : List ℕ) (n : ℕ) → a ∷ w ≡ take n (x ∷ xs) → a ≡ x
 first_of_take a w x xs zero e = absurd (no e)
   where
@@ -376,10 +376,10 @@ keyword_other Dummy a w n b t e l h = let first : a ≡ 100 = first_of_take a w 
   ];
 }
 
-tells_keyword : (k : Key) (a : ℕ) (w : List ℕ) (b n : ℕ) → Tells (a ∷ w) (Keyword k n) → Tells ((a ∷ w) ++ b ∷ []) (word_with (Keyword k n) b)
-tells_keyword k a w b n h =
+summarises_keyword : (k : Key) (a : ℕ) (w : List ℕ) (b n : ℕ) → Summarises (a ∷ w) (Keyword k n) → Summarises ((a ∷ w) ++ b ∷ []) (word_with (Keyword k n) b)
+summarises_keyword k a w b n h =
     elim (ltb n (length (keyword_text k)) && eqb (get_or (keyword_text k) n 0) b) as (λ t. (ltb n (length (keyword_text k))
-    && eqb (get_or (keyword_text k) n 0) b) ≡ t → Tells ((a ∷ w) ++ b ∷ []) (cond t (Keyword k (n + 1)) Other)) [
+    && eqb (get_or (keyword_text k) n 0) b) ≡ t → Summarises ((a ∷ w) ++ b ∷ []) (cond t (Keyword k (n + 1)) Other)) [
       | true ↦ λ (e : (ltb n (length (keyword_text k)) && eqb (get_or (keyword_text k) n 0) b) ≡ true).
           let both = and_parts (ltb n (length (keyword_text k))) (eqb (get_or (keyword_text k) n 0) b) e in
           let l : n < length (keyword_text k) = ltb-true n (length (keyword_text k)) both.0 in (
@@ -395,18 +395,18 @@ tells_keyword k a w b n h =
 hash_other : (b : ℕ) (t : List ℕ) → IsOther (35 ∷ b ∷ t)
 hash_other b t = record { number = refl; price = not_price_first 35 (b ∷ t) refl; ended = refl; keyword = elim [ Goods ↦ refl | Bids ↦ refl | Dummy ↦ refl ] }
 
-tells_more : (a : ℕ) (w : List ℕ) (b : ℕ) (s : Word) → Tells (a ∷ w) s → Tells ((a ∷ w) ++ b ∷ []) (word_with s b)
-tells_more a w b (Keyword k n) h = tells_keyword k a w b n h
-tells_more a w b (Number v) h = tells_number a w b v h
-tells_more a w b (Fraction d) h = tells_fraction a w b d h
-tells_more a w b End h = λ t. subst IsOther (sym (ap (λ ds. (ds ++ b ∷ []) ++ t) h)) (hash_other b t)
-tells_more a w b Other h = λ t. subst IsOther (sym (append_assoc (a ∷ w) (b ∷ []) t)) (h (b ∷ t))
+summarises_more : (a : ℕ) (w : List ℕ) (b : ℕ) (s : Word) → Summarises (a ∷ w) s → Summarises ((a ∷ w) ++ b ∷ []) (word_with s b)
+summarises_more a w b (Keyword k n) h = summarises_keyword k a w b n h
+summarises_more a w b (Number v) h = summarises_number a w b v h
+summarises_more a w b (Fraction d) h = summarises_fraction a w b d h
+summarises_more a w b End h = λ t. subst IsOther (sym (ap (λ ds. (ds ++ b ∷ []) ++ t) h)) (hash_other b t)
+summarises_more a w b Other h = λ t. subst IsOther (sym (append_assoc (a ∷ w) (b ∷ []) t)) (h (b ∷ t))
 
-tells_fold : (a : ℕ) (w rest : List ℕ) (s : Word) → Tells (a ∷ w) s → Tells ((a ∷ w) ++ rest) (fold word_with s rest)
-tells_fold a w [] s h = subst (λ ds. Tells ds s) (sym (append-nil (a ∷ w))) h
-tells_fold a w (b ∷ rest) s h = subst (λ ds. Tells ds (fold word_with (word_with s b) rest)) (append_assoc (a ∷ w) (b ∷ []) rest)
-    (tells_fold a (w ++ b ∷ []) rest (word_with s b) (tells_more a w b s h))
+summarises_fold : (a : ℕ) (w rest : List ℕ) (s : Word) → Summarises (a ∷ w) s → Summarises ((a ∷ w) ++ rest) (fold word_with s rest)
+summarises_fold a w [] s h = subst (λ ds. Summarises ds s) (sym (append-nil (a ∷ w))) h
+summarises_fold a w (b ∷ rest) s h = subst (λ ds. Summarises ds (fold word_with (word_with s b) rest)) (append_assoc (a ∷ w) (b ∷ []) rest)
+    (summarises_fold a (w ++ b ∷ []) rest (word_with s b) (summarises_more a w b s h))
 
--- what is kept of a word tells of the word
-pub tells : (a : ℕ) (w : List ℕ) → Tells (a ∷ w) (summary (a ∷ w))
-tells a w = tells_fold a [] w (word_from a) (tells_first a)
+-- what is kept of a word says of the word
+pub summarises : (a : ℕ) (w : List ℕ) → Summarises (a ∷ w) (summary (a ∷ w))
+summarises a w = summarises_fold a [] w (word_from a) (summarises_first a)

@@ -12,32 +12,32 @@ use Rattle.cats_text.specs.declared.word.Keyword.TheVariants.{Goods, Bids, Dummy
 use Rattle.cats_text.specs.declared.word.Word.{Word}
 use Rattle.cats_text.specs.declared.price.Decimal.{Decimal}
 use Rattle.cats_text.specs.declared.word.Word.TheVariants.{Keyword, Number, Decimal as Fraction, End, Other}
-use Rattle.cats_text.proofs.Words.Kept.{Tells, IsOther, digit_not, first_of_take, digits-not, whole-digits, point-digits, whole-point, places-point}
+use Rattle.cats_text.proofs.Words.Kept.{Summarises, IsOther, digit_not, first_of_take, digits-not, whole-digits, point-digits, whole-point, places-point}
 use Rattle.cats_text.proofs.Words.Kept.{point-point}
 
-abbrev pub tells_number : Word → Bool
-tells_number (Number v) = true
-tells_number _ = false
+abbrev pub is_number_by : Word → Bool
+is_number_by (Number v) = true
+is_number_by _ = false
 
-abbrev pub tells_price : Word → Bool
-tells_price (Number v) = true
-tells_price (Fraction d) = not (eqb d.decimals 0)
-tells_price _ = false
+abbrev pub is_price_by : Word → Bool
+is_price_by (Number v) = true
+is_price_by (Fraction d) = not (eqb d.decimals 0)
+is_price_by _ = false
 
-abbrev pub tells_end : Word → Bool
-tells_end End = true
-tells_end _ = false
+abbrev pub ends_by : Word → Bool
+ends_by End = true
+ends_by _ = false
 
-abbrev pub tells_keyword : Key → Word → Bool
-tells_keyword k (Keyword j n) = is_same_keyword j k && eqb n (length (keyword_text k))
-tells_keyword k _ = false
+abbrev pub is_keyword_by : Key → Word → Bool
+is_keyword_by k (Keyword j n) = is_same_keyword j k && eqb n (length (keyword_text k))
+is_keyword_by k _ = false
 
 -- the tests of a word, answered by what is kept of it
-pub record IsTold (w : List ℕ) (s : Word) : Type 0 where
-  pub number : is_number w ≡ tells_number s
-  pub price : is_price w ≡ tells_price s
-  pub ended : is_end w ≡ tells_end s
-  pub keyword : (k : Key) → bytes_eq w (keyword_text k) ≡ tells_keyword k s
+pub record IsTested (w : List ℕ) (s : Word) : Type 0 where
+  pub number : is_number w ≡ is_number_by s
+  pub price : is_price w ≡ is_price_by s
+  pub ended : is_end w ≡ ends_by s
+  pub keyword : (k : Key) → bytes_eq w (keyword_text k) ≡ is_keyword_by k s
 
 first_not_digit : (a : ℕ) (w : List ℕ) → is_digit a ≡ false → (is_number (a ∷ w) ≡ false) × (is_price (a ∷ w) ≡ false)
 first_not_digit a w h = (
@@ -46,12 +46,12 @@ first_not_digit a w h = (
       ≡ false) [ true ↦ refl | false ↦ rw h refl ],
 )
 
--- the front of a keyword is the keyword where it is all of it
-same_front : (s : List ℕ) (n : ℕ) → n ≤ length s → bytes_eq (take n s) s ≡ eqb n (length s)
-same_front [] zero l = refl
-same_front [] (suc n) l = absurd (let no : suc n ≤ 0 = l in omega arith)
-same_front (x ∷ xs) zero l = sym (ne_eqb 0 (length (x ∷ xs)) (λ e. absurd (omega arith)))
-same_front (x ∷ xs) (suc n) l = rw (eq-eqb x x refl) (same_front xs n (omega arith) ∙ shift)
+-- the prefix of a keyword is the keyword where it is all of it
+same_prefix : (s : List ℕ) (n : ℕ) → n ≤ length s → bytes_eq (take n s) s ≡ eqb n (length s)
+same_prefix [] zero l = refl
+same_prefix [] (suc n) l = absurd (let no : suc n ≤ 0 = l in omega arith)
+same_prefix (x ∷ xs) zero l = sym (ne_eqb 0 (length (x ∷ xs)) (λ e. absurd (omega arith)))
+same_prefix (x ∷ xs) (suc n) l = rw (eq-eqb x x refl) (same_prefix xs n (omega arith) ∙ shift)
   where
     shift : eqb n (length xs) ≡ eqb (suc n) (length (x ∷ xs))
     shift = elim (eqb n (length xs)) as (λ t. eqb n (length xs) ≡ t → t ≡ eqb (suc n) (length (x ∷ xs))) [
@@ -60,28 +60,28 @@ same_front (x ∷ xs) (suc n) l = rw (eq-eqb x x refl) (same_front xs n (omega a
           sym (ne_eqb (suc n) (length (x ∷ xs)) (λ q. ne (omega arith)))
     ] refl
 
-told_keyword : (j : Key) (a : ℕ) (w : List ℕ) (n : ℕ) → Tells (a ∷ w) (Keyword j n) → IsTold (a ∷ w) (Keyword j n)
-told_keyword Goods a w n h = let first : a ≡ 103 = first_of_take a w 103 _ n h.0 in record {
+tested_keyword : (j : Key) (a : ℕ) (w : List ℕ) (n : ℕ) → Summarises (a ∷ w) (Keyword j n) → IsTested (a ∷ w) (Keyword j n)
+tested_keyword Goods a w n h = let first : a ≡ 103 = first_of_take a w 103 _ n h.0 in record {
   number = rw first refl;
   price = (first_not_digit a w (rw first refl)).1;
   ended = rw first refl;
   keyword = elim [
-    | Goods ↦ ap (λ ds. bytes_eq ds (keyword_text Goods)) h.0 ∙ same_front (keyword_text Goods) n h.2
+    | Goods ↦ ap (λ ds. bytes_eq ds (keyword_text Goods)) h.0 ∙ same_prefix (keyword_text Goods) n h.2
     | Bids ↦ rw first refl
     | Dummy ↦ rw first refl
   ];
 }
-told_keyword Bids a w n h = let first : a ≡ 98 = first_of_take a w 98 _ n h.0 in record {
+tested_keyword Bids a w n h = let first : a ≡ 98 = first_of_take a w 98 _ n h.0 in record {
   number = rw first refl;
   price = (first_not_digit a w (rw first refl)).1;
   ended = rw first refl;
   keyword = elim [
     | Goods ↦ rw first refl
-    | Bids ↦ ap (λ ds. bytes_eq ds (keyword_text Bids)) h.0 ∙ same_front (keyword_text Bids) n h.2
+    | Bids ↦ ap (λ ds. bytes_eq ds (keyword_text Bids)) h.0 ∙ same_prefix (keyword_text Bids) n h.2
     | Dummy ↦ rw first refl
   ];
 }
-told_keyword Dummy a w n h = let first : a ≡ 100 = first_of_take a w 100 _ n h.0 in record {
+tested_keyword Dummy a w n h = let first : a ≡ 100 = first_of_take a w 100 _ n h.0 in record {
   number = rw first refl;
   price = (first_not_digit a w (rw first refl)).1;
   ended = rw first refl;
@@ -89,7 +89,7 @@ told_keyword Dummy a w n h = let first : a ≡ 100 = first_of_take a w 100 _ n h
     | Goods ↦ rw first refl
     | Bids ↦ rw first refl
     | Dummy ↦ ap (λ ds. bytes_eq ds (keyword_text Dummy)) h.0
-        ∙ same_front (keyword_text Dummy) n h.2
+        ∙ same_prefix (keyword_text Dummy) n h.2
   ];
 }
 
@@ -104,8 +104,8 @@ digit_first a w h = (
   ],
 )
 
-told_number : (a : ℕ) (w : List ℕ) (v : ℕ) → Tells (a ∷ w) (Number v) → IsTold (a ∷ w) (Number v)
-told_number a w v h = let first = digit_first a w (and_parts (is_digit a) (digits_alone w) h.0).0 in record {
+tested_number : (a : ℕ) (w : List ℕ) (v : ℕ) → Summarises (a ∷ w) (Number v) → IsTested (a ∷ w) (Number v)
+tested_number a w v h = let first = digit_first a w (and_parts (is_digit a) (digits_alone w) h.0).0 in record {
   number = h.0;
   price = rw (whole-digits (a ∷ w) h.0, point-digits (a ∷ w) h.0, h.0) refl;
   ended = first.0;
@@ -116,10 +116,10 @@ price_behind : (behind : List ℕ) (count : ℕ) → digits_alone behind ≡ tru
 price_behind [] count h e = rw e refl
 price_behind (b ∷ bs) count h e = h ∙ sym (ap not (ne_eqb count 0 (λ z. absurd (let pos : 0 < length (b ∷ bs) = omega arith in omega arith))))
 
-told_fraction : (a : ℕ) (w : List ℕ) (d : Decimal) → Tells (a ∷ w) (Fraction d) → IsTold (a ∷ w) (Fraction d)
-told_fraction a w d f = at f.whole f.is f.number
+tested_fraction : (a : ℕ) (w : List ℕ) (d : Decimal) → Summarises (a ∷ w) (Fraction d) → IsTested (a ∷ w) (Fraction d)
+tested_fraction a w d f = at f.whole f.is f.number
   where
-    at : (whole : List ℕ) → a ∷ w ≡ whole ++ 46 ∷ f.behind → is_number whole ≡ true → IsTold (a ∷ w) (Fraction d)
+    at : (whole : List ℕ) → a ∷ w ≡ whole ++ 46 ∷ f.behind → is_number whole ≡ true → IsTested (a ∷ w) (Fraction d)
     at [] e n = absurd (both_ways false refl n)
     at (c ∷ cs) e n =
         let first : a ≡ c = cc in
@@ -138,17 +138,17 @@ told_fraction a w d f = at f.whole f.is f.number
         not_number : (ds : List ℕ) → is_number ((c ∷ ds) ++ 46 ∷ f.behind) ≡ false
         not_number ds = digits-not (c ∷ ds) f.behind 46 refl
 
-told_other : (w : List ℕ) → Tells w Other → IsTold w Other
-told_other w h = let o = subst IsOther (append-nil w) (h []) in record { number = o.number; price = o.price; ended = o.ended; keyword = o.keyword }
+tested_other : (w : List ℕ) → Summarises w Other → IsTested w Other
+tested_other w h = let o = subst IsOther (append-nil w) (h []) in record { number = o.number; price = o.price; ended = o.ended; keyword = o.keyword }
 
-pub told : (a : ℕ) (w : List ℕ) (s : Word) → Tells (a ∷ w) s → IsTold (a ∷ w) s
-told a w (Keyword k n) h = told_keyword k a w n h
-told a w (Number v) h = told_number a w v h
-told a w (Fraction d) h = told_fraction a w d h
-told a w End h = subst (λ ds. IsTold ds End) (sym h) (record {
+pub tested : (a : ℕ) (w : List ℕ) (s : Word) → Summarises (a ∷ w) s → IsTested (a ∷ w) s
+tested a w (Keyword k n) h = tested_keyword k a w n h
+tested a w (Number v) h = tested_number a w v h
+tested a w (Fraction d) h = tested_fraction a w d h
+tested a w End h = subst (λ ds. IsTested ds End) (sym h) (record {
   number = refl;
   price = refl;
   ended = refl;
   keyword = elim [ Goods ↦ refl | Bids ↦ refl | Dummy ↦ refl ];
 })
-told a w Other h = told_other (a ∷ w) h
+tested a w Other h = tested_other (a ∷ w) h

@@ -20,20 +20,20 @@ tabbed_all gs hs = flat_map-append (λ g. 9 ∷ decimal g) gs hs
 pub last_good : (gs rest : List ℕ) → 1 ≤ length gs
     → tabbed (take (length gs - 1) gs) ++ ((9 ∷ decimal (get_or gs (length gs - 1) 0)) ++ rest) ≡ tabbed gs ++ rest
 last_good gs rest some =
-    let front = take (length gs - 1) gs in
+    let prefix = take (length gs - 1) gs in
     let good = get_or gs (length gs - 1) 0 in
-    let whole : gs ≡ front ++ good ∷ [] = sym (take_all (length gs - 1 + 1) gs (omega arith)) ∙ take_more gs (length gs - 1) 0 (omega arith) in
-    sym (append_assoc (tabbed front) (9 ∷ decimal good) rest)
-    ∙ ap (λ t. t ++ rest) (ap (λ t. tabbed front ++ t) (sym (append-nil (9 ∷ decimal good))) ∙ sym (tabbed_all front (good ∷ [])) ∙ ap tabbed (sym whole))
+    let whole : gs ≡ prefix ++ good ∷ [] = sym (take_all (length gs - 1 + 1) gs (omega arith)) ∙ take_more gs (length gs - 1) 0 (omega arith) in
+    sym (append_assoc (tabbed prefix) (9 ∷ decimal good) rest)
+    ∙ ap (λ t. t ++ rest) (ap (λ t. tabbed prefix ++ t) (sym (append-nil (9 ∷ decimal good))) ∙ sym (tabbed_all prefix (good ∷ [])) ∙ ap tabbed (sym whole))
 
--- those that are left are the front of them all
-pub shorter_front : (xs whole : List ℕ) → xs ≡ take (length xs) whole → take (length xs - 1) xs ≡ take (length (take (length xs - 1) xs)) whole
-shorter_front xs whole e =
+-- those that are left are the prefix of them all
+pub shorter_prefix : (xs whole : List ℕ) → xs ≡ take (length xs) whole → take (length xs - 1) xs ≡ take (length (take (length xs - 1) xs)) whole
+shorter_prefix xs whole e =
     let n = length xs - 1 in
     ap (take n) e ∙ take-take n (length xs) whole (omega arith) ∙ ap (λ k. take k whole) (sym (length-take-le n xs (omega arith)))
 
-pub last_of_front : (xs whole : List ℕ) → 1 ≤ length xs → xs ≡ take (length xs) whole → get_or xs (length xs - 1) 0 ≡ get_or whole (length xs - 1) 0
-last_of_front xs whole some e = ap (λ ys. get_or ys (length xs - 1) 0) e ∙ get_or-take (length xs) whole (length xs - 1) 0 (omega arith)
+pub last_of_prefix : (xs whole : List ℕ) → 1 ≤ length xs → xs ≡ take (length xs) whole → get_or xs (length xs - 1) 0 ≡ get_or whole (length xs - 1) 0
+last_of_prefix xs whole some e = ap (λ ys. get_or ys (length xs - 1) 0) e ∙ get_or-take (length xs) whole (length xs - 1) 0 (omega arith)
 
 -- ---- a line, in the order in which its parts are written
 

@@ -88,13 +88,13 @@ bid_line_in_line goods n b fits =
     let number = letters_in_line (decimal n) (decimal_is_word n fits.number).letters in
     let price = letters_in_line (price_text b.price) (price_text_is_word b.price fits.price).letters in
     let mark : AllByRecursion IsInLine (codes "\t#") = (tab, (record { feed = refl; return = refl }, tt)) in
-    let front = all_append IsInLine (decimal n) (9 ∷ price_text b.price) number (tab, price) in
+    let prefix = all_append IsInLine (decimal n) (9 ∷ price_text b.price) number (tab, price) in
     all_append IsInLine (decimal n ++ 9 ∷ price_text b.price ++ tabbed (goods_of goods b)) (codes "\t#")
-    (all_append IsInLine (decimal n ++ 9 ∷ price_text b.price) (tabbed (goods_of goods b)) front (tabbed_in_line (goods_of goods b) fits.short))
+    (all_append IsInLine (decimal n ++ 9 ∷ price_text b.price) (tabbed (goods_of goods b)) prefix (tabbed_in_line (goods_of goods b) fits.short))
     mark
 
-ended : (front rest : List ℕ) → front ++ codes "\t#\n" ++ rest ≡ (front ++ codes "\t#") ++ 10 ∷ rest
-ended front rest = ap (λ t. t ++ rest) (sym (append_assoc front (codes "\t#") (10 ∷ []))) ∙ append_assoc (front ++ codes "\t#") (10 ∷ []) rest
+ended : (prefix rest : List ℕ) → prefix ++ codes "\t#\n" ++ rest ≡ (prefix ++ codes "\t#") ++ 10 ∷ rest
+ended prefix rest = ap (λ t. t ++ rest) (sym (append_assoc prefix (codes "\t#") (10 ∷ []))) ∙ append_assoc (prefix ++ codes "\t#") (10 ∷ []) rest
 
 lines_from-bid : (k goods n : ℕ) (b : PlainBid) (rest : List ℕ) → IsBidLine goods n b → lines_from k (bid_text goods n b ++ rest) ≡ bid_words goods n b
     ∷ lines_from (suc k) rest

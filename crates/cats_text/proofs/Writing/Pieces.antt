@@ -1,4 +1,4 @@
--- A text that goes out in pieces: what went out is its beginning, and the page holds its next bytes.
+-- A text that is sent in pieces: what was sent is its beginning, and the page holds its next bytes.
 use Rattle.std.proofs.Common.{arith, ◌≡◌, ◌<◌, ◌≤◌, ◌+◌, ◌-◌, ◌^◌, ◌++◌, ◌∷◌, ℕ, List, [], length, take, drop, decimal, codes}
 use Rattle.std.proofs.Common.{Option, Some, Result, Err, sym, ap, ◌∙◌, subst}
 use Rattle.std.specs.Prelude.{IsErrAnd}
@@ -12,13 +12,13 @@ use Rattle.std.specs.List.{AllByRecursion, slice_get}
 use Rattle.bid_file.specs.Files.{PlainBid, PlainFile, IsRising, AreAbove, IsBid, IsPlainFile}
 use Rattle.cats_text.specs.Layout.{bid_text, bids_text, header_text, headers_text}
 use Rattle.cats_text.specs.Streams.{inner_of, Sends, SendsPart}
-use Rattle.cats_text.specs.declared.fault.SendFault.{SendFault}
+use Rattle.cats_text.specs.declared.read_fault.SendFault.{SendFault}
 use Rattle.cats_text.specs.declared.stream.Watched.{Watched}
 use Rattle.cats_text.proofs.Writing.BidTexts.{bid_at, bids_text_on}
 
--- ---- what goes out, and what is held
+-- ---- what is sent, and what is held
 
--- `count` bytes went out, `before` of them with earlier pieces
+-- `count` bytes were sent, `before` of them with earlier pieces
 module _ (before count : ℕ) (page rest whole : List ℕ) (later : before ≤ count) (held : count ≤ before + length page)
     (next : page ++ rest ≡ drop before whole) where
   behind : before + (count - before) ≡ count

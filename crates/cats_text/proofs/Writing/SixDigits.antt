@@ -46,9 +46,9 @@ seven_digits n places =
 
 place_filled : (b : ℕ) (ws ds : Word) (k : ℕ) → ((j : ℕ) → length ds ≤ j → take (length ds) (ws ++ replicate j 48) ≡ ds) → suc (length ds) ≤ k
     → take (suc (length ds)) (with_place b ws ++ replicate k 48) ≡ b ∷ ds
-place_filled b (c ∷ cs) ds k filled room = ap (λ xs. b ∷ xs) (filled k (omega arith))
-place_filled b [] ds zero filled room = absurd (omega arith)
-place_filled b [] ds (suc k) filled room =
+place_filled b (c ∷ cs) ds k filled space = ap (λ xs. b ∷ xs) (filled k (omega arith))
+place_filled b [] ds zero filled space = absurd (omega arith)
+place_filled b [] ds (suc k) filled space =
     elim (cases_eq b 48) as (λ _. take (suc (length ds)) (with_place b [] ++ replicate (suc k) 48) ≡ b ∷ ds) [
       | inl zero_digit ↦
           subst (λ (a : ℕ). take (suc (length ds)) (with_place a [] ++ replicate (suc k) 48) ≡ a ∷ ds) (sym zero_digit)
@@ -59,8 +59,8 @@ place_filled b [] ds (suc k) filled room =
     ]
 
 without_zeros_filled : (ds : Word) (k : ℕ) → length ds ≤ k → take (length ds) (without_zeros ds ++ replicate k 48) ≡ ds
-without_zeros_filled [] k room = refl
-without_zeros_filled (b ∷ bs) k room = place_filled b (without_zeros bs) bs k (without_zeros_filled bs) room
+without_zeros_filled [] k space = refl
+without_zeros_filled (b ∷ bs) k space = place_filled b (without_zeros bs) bs k (without_zeros_filled bs) space
 
 -- a price reads these as the digits that they were
 pub six_places-without_zeros : (ds : Word) → length ds ≡ 6 → six_places (without_zeros ds) ≡ ds

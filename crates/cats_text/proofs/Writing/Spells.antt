@@ -33,7 +33,7 @@ all_below : (m n : ℕ) (xs : List ℕ) → m ≤ n → AllByRecursion (λ x. x 
 all_below m n [] more below = tt
 all_below m n (x ∷ xs) more below = (omega (arith, below.0), all_below m n xs more below.1)
 
--- the dummy good stands behind the real goods
+-- the dummy good is behind the real goods
 goods_rising : (goods : ℕ) (gs : List ℕ) (d : Option ℕ) → IsRising gs → AllByRecursion (λ g. g < goods) gs → IsRising (gs ++ dummy_good goods d)
 goods_rising goods gs None rising below = subst IsRising (sym (append-nil gs)) rising
 goods_rising goods gs (Some d) rising below = rising_push (goods + d) gs rising (all_below goods (goods + d) gs (omega arith) below)
@@ -50,15 +50,15 @@ numbers (g ∷ gs) short = ((decimal_spells g short.0).number, numbers gs short.
 
 -- ---- a line
 
-standing : (front : List PlainBid) (b : PlainBid) (bs : List PlainBid) → slice_get (front ++ b ∷ bs) (length front) ≡ Some b
+standing : (prefix : List PlainBid) (b : PlainBid) (bs : List PlainBid) → slice_get (prefix ++ b ∷ bs) (length prefix) ≡ Some b
 standing [] b bs = refl
 standing (c ∷ cs) b bs = standing cs b bs
 
-spells_bid : (f : PlainFile) (front : List PlainBid) (b : PlainBid) (bs : List PlainBid) → f.bids ≡ front ++ b ∷ bs
-    → AreBids f.goods f.dummy (length front) (b ∷ bs) → SpellsBid f (bid_words f.goods (length front) b)
-spells_bid f front b bs split bids =
+spells_bid : (f : PlainFile) (prefix : List PlainBid) (b : PlainBid) (bs : List PlainBid) → f.bids ≡ prefix ++ b ∷ bs
+    → AreBids f.goods f.dummy (length prefix) (b ∷ bs) → SpellsBid f (bid_words f.goods (length prefix) b)
+spells_bid f prefix b bs split bids =
     let bid = bids.each.0 in
-    let n : ℕ = length front in
+    let n : ℕ = length prefix in
     let number = decimal_spells n (omega (arith, bids.count)) in
     let short = bid_goods_short f.goods f.dummy b (omega (arith, bids.goods_fit)) bid in
     let same = values (goods_of f.goods b) short in
@@ -69,22 +69,22 @@ spells_bid f front b bs split bids =
       bid = b;
       words_are = refl;
       number_spelled = number.number;
-      stands = ap (λ k. slice_get f.bids k) number.value ∙ ap (λ cs. slice_get cs n) split ∙ standing front b bs;
+      stands = ap (λ k. slice_get f.bids k) number.value ∙ ap (λ cs. slice_get cs n) split ∙ standing prefix b bs;
       price_spelled = price_text_spells b.price (let greatest = bid.price in omega arith);
       goods_spelled = numbers (goods_of f.goods b) short;
       distinct = subst AreDistinct (sym same) (rising_distinct (goods_of f.goods b) (goods_rising f.goods b.goods b.dummy bid.rising bid.below));
       same_goods = λ g. ap (λ gs. has_number gs g) same;
     }
 
-spells_bids : (f : PlainFile) (front bs : List PlainBid) → f.bids ≡ front ++ bs → AreBids f.goods f.dummy (length front) bs
-    → AllByRecursion (SpellsBid f) (bids_words f.goods (length front) bs)
-spells_bids f front [] split bids = tt
-spells_bids f front (b ∷ bs) split bids =
-    let longer : length (front ++ b ∷ []) ≡ suc (length front) = omega (arith, length-append front (b ∷ [])) in
-    let behind : AreBids f.goods f.dummy (length (front ++ b ∷ [])) bs =
-    subst (λ (n : ℕ). AreBids f.goods f.dummy n bs) (sym longer) (behind_first f.goods f.dummy (length front) b bs bids) in
-    let later = spells_bids f (front ++ b ∷ []) bs (split ∙ sym (append_assoc front (b ∷ []) bs)) behind in
-    (spells_bid f front b bs split bids, subst (λ (n : ℕ). AllByRecursion (SpellsBid f) (bids_words f.goods n bs)) longer later)
+spells_bids : (f : PlainFile) (prefix bs : List PlainBid) → f.bids ≡ prefix ++ bs → AreBids f.goods f.dummy (length prefix) bs
+    → AllByRecursion (SpellsBid f) (bids_words f.goods (length prefix) bs)
+spells_bids f prefix [] split bids = tt
+spells_bids f prefix (b ∷ bs) split bids =
+    let longer : length (prefix ++ b ∷ []) ≡ suc (length prefix) = omega (arith, length-append prefix (b ∷ [])) in
+    let behind : AreBids f.goods f.dummy (length (prefix ++ b ∷ [])) bs =
+    subst (λ (n : ℕ). AreBids f.goods f.dummy n bs) (sym longer) (behind_first f.goods f.dummy (length prefix) b bs bids) in
+    let later = spells_bids f (prefix ++ b ∷ []) bs (split ∙ sym (append_assoc prefix (b ∷ []) bs)) behind in
+    (spells_bid f prefix b bs split bids, subst (λ (n : ℕ). AllByRecursion (SpellsBid f) (bids_words f.goods n bs)) longer later)
 
 -- ---- the lines
 

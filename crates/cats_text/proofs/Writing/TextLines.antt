@@ -55,8 +55,8 @@ blank_begins b bs ws blank = cond-true _ _ _ blank
 word_ends : (b : ℕ) (bs : List ℕ) (ws : List Word) → is_blank b ≡ false → begins_word bs ≡ false → words_with b bs ws ≡ (b ∷ []) ∷ ws
 word_ends b bs ws letter ends = cond-false _ _ _ letter ∙ cond-false _ _ _ ends
 
-word_goes_on : (b : ℕ) (bs : List ℕ) (ws : List Word) → is_blank b ≡ false → begins_word bs ≡ true → words_with b bs ws ≡ with_letter b ws
-word_goes_on b bs ws letter on = cond-false _ _ _ letter ∙ cond-true _ _ _ on
+word_continues : (b : ℕ) (bs : List ℕ) (ws : List Word) → is_blank b ≡ false → begins_word bs ≡ true → words_with b bs ws ≡ with_letter b ws
+word_continues b bs ws letter on = cond-false _ _ _ letter ∙ cond-true _ _ _ on
 
 -- a word before a blank
 pub line_words-word : (w : Word) (b : ℕ) (bs : List ℕ) → IsWord w → is_blank b ≡ true → line_words (w ++ b ∷ bs) ≡ w ∷ line_words bs
@@ -66,7 +66,7 @@ line_words-word (a ∷ []) b bs word blank =
     ∙ ap (λ ws. (a ∷ []) ∷ ws) (blank_begins b bs (line_words bs) blank)
 line_words-word (a ∷ c ∷ w) b bs word blank =
     let behind : IsWord (c ∷ w) = record { some = omega arith; letters = word.letters.1 } in
-    word_goes_on a (c ∷ w ++ b ∷ bs) (line_words (c ∷ w ++ b ∷ bs)) word.letters.0.blank (not_from_false (is_blank c) word.letters.1.0.blank)
+    word_continues a (c ∷ w ++ b ∷ bs) (line_words (c ∷ w ++ b ∷ bs)) word.letters.0.blank (not_from_false (is_blank c) word.letters.1.0.blank)
     ∙ ap (with_letter a) (line_words-word (c ∷ w) b bs behind blank)
 
 -- the last word of a line
@@ -75,7 +75,7 @@ line_words-last [] word = absurd (omega (arith, word.some))
 line_words-last (a ∷ []) word = word_ends a [] [] word.letters.0.blank refl
 line_words-last (a ∷ c ∷ w) word =
     let behind : IsWord (c ∷ w) = record { some = omega arith; letters = word.letters.1 } in
-    word_goes_on a (c ∷ w) (line_words (c ∷ w)) word.letters.0.blank (not_from_false (is_blank c) word.letters.1.0.blank)
+    word_continues a (c ∷ w) (line_words (c ∷ w)) word.letters.0.blank (not_from_false (is_blank c) word.letters.1.0.blank)
     ∙ ap (with_letter a) (line_words-last (c ∷ w) behind)
 
 -- ---- lines

@@ -1,4 +1,4 @@
--- What is kept of the bids that come, without where it lies in memory.
+-- What is kept of the bids so far. It is the same wherever it lies in memory.
 use Rattle.std.specs.Prelude.{◌≡◌, ℕ, zero, suc, ◌+◌, ◌-◌, ◌≤◌, List, [], ◌∷◌, ◌++◌, length, replicate, map, slice_get, Bool, true, false, Option, Some, None}
 use Rattle.std.specs.List.{AllByRecursion}
 use Rattle.bid_file.specs.Files.{PlainBid}
@@ -32,7 +32,7 @@ placed came places = map (slot_at came) places
 abbrev pub AreWithin : ℕ → List ℕ → Type 0
 AreWithin n places = AllByRecursion (λ p. p ≤ n) places
 
--- the places that were there, and zeros behind them, as many as a number asks for at most
+-- the places that were there, and zeros behind them, as many as a number needs for at most
 pub record IsPadded (old padded : List ℕ) (n : ℕ) : Type 0 where
   pub count : ℕ
   pub is : padded ≡ old ++ replicate count 0

@@ -1,4 +1,4 @@
--- The reader's tables.
+-- The keywords of the header lines.
 use Rattle.std.specs.Prelude.{ℕ, List, codes, ◌==◌, if◌then◌else◌}
 use Rattle.cats_text.specs.declared.word.Keyword.{Keyword}
 use Rattle.cats_text.specs.declared.word.Keyword.TheVariants.{Goods, Bids, Dummy}

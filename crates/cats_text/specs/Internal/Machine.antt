@@ -1,4 +1,4 @@
--- The reader as a machine over bytes: what each call of it does to what it keeps. Private to the reader: its contracts
+-- The reader as a machine over bytes. Each function is what a call does to it. Private to the reader: its contracts
 -- speak of the definitions over whole texts, to which the proofs tie it.
 use Rattle.std.specs.Prelude.{ℕ, ◌+◌, ◌-◌, ◌*◌, ◌^◌, ◌==◌, nat_lt, min, false, not, ◌&&◌, ◌||◌, if◌then◌else◌, List, []}
 use Rattle.std.specs.Prelude.{◌∷◌, fold, length, get_or}

@@ -1,9 +1,9 @@
--- The marks of the goods that have come in a bid.
+-- The marks of a bid's goods so far.
 use Rattle.std.specs.Prelude.{◌≡◌, ℕ, ◌<◌, ◌≤◌, ◌==◌, Bool, true, false, if◌then◌else◌, List, [], slice_index}
 use Rattle.bid_file.specs.Files.{IsRising}
 use Rattle.cats_text.specs.Grammar.{has_number, AreDistinct}
 
--- those marked as this bid's are the goods, none of which stands twice, and no mark is of a later bid
+-- those marked as this bid's are the goods, none of which is twice, and no mark is of a later bid
 pub record IsMarked (goods marks : List ℕ) (bid_mark : ℕ) : Type 0 where
   pub begun : 0 < bid_mark
   pub marked : (g : ℕ) → (slice_index marks g == bid_mark) ≡ has_number goods g

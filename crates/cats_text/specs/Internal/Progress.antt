@@ -1,9 +1,9 @@
--- What the parser keeps of the lines so far, without where it lies in memory.
+-- What the parser keeps of the lines so far. It is the same wherever it lies in memory.
 use Rattle.std.specs.Prelude.{◌≡◌, ℕ, List, Option, Result, Ok, Err}
 use Rattle.bid_file.specs.Files.{PlainBid}
-use Rattle.cats_text.specs.declared.fault.Kind.{Kind}
-use Rattle.cats_text.specs.declared.parser.Stop.{Stop}
-use Rattle.cats_text.specs.declared.parser.Stop.TheVariants.{Fault, Memory}
+use Rattle.cats_text.specs.declared.read_fault.Kind.{Kind}
+use Rattle.cats_text.specs.declared.parser.ParseError.{ParseError}
+use Rattle.cats_text.specs.declared.parser.ParseError.TheVariants.{Fault, Memory}
 use Rattle.cats_text.specs.declared.parser.Stage.{Stage}
 use Rattle.cats_text.specs.declared.parser.Stage.TheVariants.{Bid}
 use Rattle.cats_text.specs.declared.parser.Column.{Column}
@@ -36,19 +36,19 @@ module _ {K : Type 0} (keep : PlainBid → PlainBid) where
   }
 
 -- a call gave what the machine gives, unless memory was refused
-abbrev pub Gives : {A B : Type 0} → B → Result A Stop → Result B Kind → Type 0
+abbrev pub Gives : {A B : Type 0} → B → Result A ParseError → Result B Kind → Type 0
 Gives new (Ok x) read = read ≡ Ok new
 Gives new (Err (Fault kind)) read = read ≡ Err kind
 Gives new (Err Memory) read = Unit {0}
 
 -- memory is asked for on bid lines alone
-abbrev pub AsksOnBidLines : {A : Type 0} → Progress → Result A Stop → Type 0
-AsksOnBidLines old (Ok x) = Unit {0}
-AsksOnBidLines old (Err (Fault kind)) = Unit {0}
-AsksOnBidLines old (Err Memory) = old.stage ≡ Bid
+abbrev pub NeedsMemoryOnBidLines : {A : Type 0} → Progress → Result A ParseError → Type 0
+NeedsMemoryOnBidLines old (Ok x) = Unit {0}
+NeedsMemoryOnBidLines old (Err (Fault kind)) = Unit {0}
+NeedsMemoryOnBidLines old (Err Memory) = old.stage ≡ Bid
 
--- the same of a call that asks for no memory
-abbrev pub Answers : {A : Type 0} → Result A Stop → Result A Kind → Type 0
+-- the same of a call that needs for no memory
+abbrev pub Answers : {A : Type 0} → Result A ParseError → Result A Kind → Type 0
 Answers (Ok x) read = read ≡ Ok x
 Answers (Err (Fault kind)) read = read ≡ Err kind
 Answers (Err Memory) read = ⊥

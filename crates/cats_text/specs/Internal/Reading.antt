@@ -1,4 +1,4 @@
--- What a reader keeps: the scanner has taken all bytes that came, unless a fault was answered.
+-- What a reader keeps. The scanner has taken all bytes that came, unless a fault was answered.
 use Rattle.std.specs.Prelude.{◌≡◌, ◌⊎◌, ◌<◌, ◌≤◌, ◌^◌, ℕ, List, length, Option, Some, None, Result, Ok, Err}
 use Rattle.std.specs.Prelude.{MatchOption}
 use Rattle.cats_text.specs.Faults.{first_fault, fault_at}
@@ -11,17 +11,17 @@ use Rattle.cats_text.specs.Views.{HasSizes}
 use Rattle.cats_text.specs.Fed.{Fed}
 use Rattle.cats_text.specs.Internal.Returns.{settled, waits}
 use Rattle.cats_text.specs.Internal.Scanning.{state, first_state, scan}
-use Rattle.cats_text.specs.declared.fault.ReadFault.{ReadFault}
-use Rattle.cats_text.specs.declared.fault.Kind.TheVariants.{Memory as NoMemory}
+use Rattle.cats_text.specs.declared.read_fault.ReadFault.{ReadFault}
+use Rattle.cats_text.specs.declared.read_fault.Kind.TheVariants.{Memory as NoMemory}
 use Rattle.cats_text.specs.declared.parser.Header.{Header}
-use Rattle.cats_text.specs.declared.scanner.Halt.{Halt}
-use Rattle.cats_text.specs.declared.scanner.Halt.TheVariants.{Fault, Memory}
+use Rattle.cats_text.specs.declared.scanner.ScanError.{ScanError}
+use Rattle.cats_text.specs.declared.scanner.ScanError.TheVariants.{Fault, Memory}
 use Rattle.cats_text.specs.declared.scanner.Scanner.{Scanner}
 use Rattle.cats_text.specs.Reading.{PackedAnswer, WantsMemory}
 
-abbrev pub fault_told : Halt → ReadFault
-fault_told (Fault e) = e
-fault_told Memory = fault_at 0 NoMemory
+abbrev pub reported_fault : ScanError → ReadFault
+reported_fault (Fault e) = e
+reported_fault Memory = fault_at 0 NoMemory
 
 -- the scanner, which keeps this of each bid, has taken these bytes
 pub record HasTaken {K : Type 0} (keep : PlainBid → PlainBid) (limit taken : ℕ) (scanner : Scanner K) (bytes : List ℕ) : Type 0 where

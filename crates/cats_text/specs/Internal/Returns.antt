@@ -1,4 +1,4 @@
--- A CR is decided by the byte after it: the bytes of a text so far that are decided, each CR before an LF as a space.
+-- CRs, each decided by the byte after it. A CR before an LF is a space, and a CR at the end is not yet decided.
 use Rattle.std.specs.Prelude.{ℕ, ◌==◌, Bool, true, false, if◌then◌else◌, List, [], ◌∷◌}
 
 abbrev pub return_byte : ℕ → ℕ

@@ -1,4 +1,4 @@
--- What a byte and the input's end do to what the scanner keeps.
+-- The steps of the scanner. They are what a byte and the input's end do to what it keeps.
 use Rattle.std.specs.Prelude.{◌≡◌, ℕ, suc, ◌==◌, Bool, true, false, if◌then◌else◌, List, [], ◌∷◌, ◌⊎◌, IsOkAnd, Result}
 use Rattle.std.specs.Prelude.{Ok, Err, length, ◌<◌, ◌≤◌, drop}
 use Rattle.cats_text.specs.Lines.{is_blank}
@@ -9,15 +9,15 @@ use Rattle.cats_text.specs.FileLines.{filled}
 use Rattle.cats_text.specs.Internal.Machine.{word_from, word_with}
 use Rattle.cats_text.specs.Internal.Progress.{Progress, progress}
 use Rattle.cats_text.specs.Internal.Parsing.{Reading, start, word_read, line_read, is_due}
-use Rattle.cats_text.specs.declared.fault.Kind.TheVariants.{Missing}
-use Rattle.cats_text.specs.declared.fault.ReadFault.{ReadFault}
+use Rattle.cats_text.specs.declared.read_fault.Kind.TheVariants.{Missing}
+use Rattle.cats_text.specs.declared.read_fault.ReadFault.{ReadFault}
 use Rattle.cats_text.specs.declared.parser.Header.{Header}
-use Rattle.cats_text.specs.declared.parser.Stop.{Stop}
-use Rattle.cats_text.specs.declared.parser.Stop.TheVariants as stops
+use Rattle.cats_text.specs.declared.parser.ParseError.{ParseError}
+use Rattle.cats_text.specs.declared.parser.ParseError.TheVariants as stops
 use Rattle.cats_text.specs.declared.parser.Stage.TheVariants.{Bid}
 use Rattle.cats_text.specs.declared.parser.Column.TheVariants.{Later}
-use Rattle.cats_text.specs.declared.scanner.Halt.{Halt}
-use Rattle.cats_text.specs.declared.scanner.Halt.TheVariants.{Fault, Memory}
+use Rattle.cats_text.specs.declared.scanner.ScanError.{ScanError}
+use Rattle.cats_text.specs.declared.scanner.ScanError.TheVariants.{Fault, Memory}
 use Rattle.cats_text.specs.declared.scanner.Mode.{Mode}
 use Rattle.cats_text.specs.declared.scanner.Mode.TheVariants.{Start, Blank, Comment, Between, Inside}
 use Rattle.cats_text.specs.declared.scanner.Scanner.{Scanner}
@@ -37,9 +37,9 @@ first_state keep = record { mode = Start; line = 1; progress = start keep }
 abbrev pub Scan : Type 0
 Scan = Result State ReadFault
 
-abbrev pub halt_of : ℕ → Stop → Halt
-halt_of line (stops.Fault kind) = Fault (fault_at line kind)
-halt_of line stops.Memory = Memory
+abbrev pub scan_error_of : ℕ → ParseError → ScanError
+scan_error_of line (stops.Fault kind) = Fault (fault_at line kind)
+scan_error_of line stops.Memory = Memory
 
 abbrev pub and_then : Scan → (State → Scan) → Scan
 and_then (Ok s) f = f s
@@ -134,7 +134,7 @@ end_of false s = end_step s
 -- ---- what the code's calls give
 
 -- a call gave what the machine gives, unless memory was refused
-abbrev pub Steps : {A : Type 0} → State → Result A Halt → Scan → Type 0
+abbrev pub Steps : {A : Type 0} → State → Result A ScanError → Scan → Type 0
 Steps new (Ok x) read = read ≡ Ok new
 Steps new (Err (Fault e)) read = read ≡ Err e
 Steps new (Err Memory) read = Unit {0}
@@ -151,20 +151,20 @@ abbrev pub IsInBidLine : State → Type 0
 IsInBidLine s = (s.progress.stage ≡ Bid) × IsInLine s.mode
 
 -- memory was refused in a bid line, in this state
-abbrev pub AsksHere : {A : Type 0} → State → Result A Halt → Type 0
-AsksHere s (Ok x) = Unit {0}
-AsksHere s (Err (Fault e)) = Unit {0}
-AsksHere s (Err Memory) = IsInBidLine s
+abbrev pub NeedsMemoryHere : {A : Type 0} → State → Result A ScanError → Type 0
+NeedsMemoryHere s (Ok x) = Unit {0}
+NeedsMemoryHere s (Err (Fault e)) = Unit {0}
+NeedsMemoryHere s (Err Memory) = IsInBidLine s
 
--- a bid line stands in the bytes
+-- a bid line is in the bytes
 abbrev pub MeetsBidLine : State → List ℕ → Type 0
 MeetsBidLine s [] = IsInBidLine s
 MeetsBidLine s (b ∷ bs) = IsInBidLine s ⊎ IsOkAnd (byte_step s b) (λ t. MeetsBidLine t bs)
 
-abbrev pub Asks : {A : Type 0} → State → List ℕ → Result A Halt → Type 0
-Asks s bytes (Ok x) = Unit {0}
-Asks s bytes (Err (Fault e)) = Unit {0}
-Asks s bytes (Err Memory) = MeetsBidLine s bytes
+abbrev pub NeedsMemory : {A : Type 0} → State → List ℕ → Result A ScanError → Type 0
+NeedsMemory s bytes (Ok x) = Unit {0}
+NeedsMemory s bytes (Err (Fault e)) = Unit {0}
+NeedsMemory s bytes (Err Memory) = MeetsBidLine s bytes
 
 -- the header lines, and what is kept of the bids, at the end of the input
 abbrev pub ArePartsOf : {K : Type 0} → (K → List PlainBid) → Header × K → Scan → Type 0
@@ -172,7 +172,7 @@ ArePartsOf bids parts (Ok s) = (parts.0 ≡ s.progress.header) × (bids parts.1 
 ArePartsOf bids parts (Err e) = ⊥
 
 -- a call at the end of the input gave what is asked for of it, or what the machine gives
-abbrev pub Finishes : {A : Type 0} → (A → Scan → Type 0) → Result A Halt → Scan → Type 0
+abbrev pub Finishes : {A : Type 0} → (A → Scan → Type 0) → Result A ScanError → Scan → Type 0
 Finishes IsOf (Ok x) read = IsOf x read
 Finishes IsOf (Err (Fault e)) read = read ≡ Err e
 Finishes IsOf (Err Memory) read = Unit {0}
@@ -182,21 +182,21 @@ abbrev pub HasBids : Scan → Type 0
 HasBids (Ok s) = 0 < length s.progress.slots
 HasBids (Err e) = ⊥
 
-abbrev pub AsksAtEnd : {A : Type 0} → Bool → State → Result A Halt → Type 0
-AsksAtEnd waiting s (Ok x) = Unit {0}
-AsksAtEnd waiting s (Err (Fault e)) = Unit {0}
-AsksAtEnd waiting s (Err Memory) = IsInBidLine s ⊎ HasBids (end_of waiting s)
+abbrev pub NeedsMemoryAtEnd : {A : Type 0} → Bool → State → Result A ScanError → Type 0
+NeedsMemoryAtEnd waiting s (Ok x) = Unit {0}
+NeedsMemoryAtEnd waiting s (Err (Fault e)) = Unit {0}
+NeedsMemoryAtEnd waiting s (Err Memory) = IsInBidLine s ⊎ HasBids (end_of waiting s)
 
 -- What is left of a scan does to the state reached what the whole does to the first, and a CR waits at the end.
 pub record IsScanned (s0 s : State) (waiting : Bool) (bytes rest : List ℕ) : Type 0 where
   pub steps : scan s (settled rest) ≡ scan s0 (settled bytes)
-  pub asks : MeetsBidLine s (settled rest) → MeetsBidLine s0 (settled bytes)
+  pub needs : MeetsBidLine s (settled rest) → MeetsBidLine s0 (settled bytes)
   pub last : 0 < length rest → waits rest ≡ waits bytes
   pub going : 0 < length rest → waiting ≡ false
   pub ended : rest ≡ [] → waiting ≡ waits bytes
 
 -- a call scanned so many of the bytes, or stopped at what the machine says of them
-abbrev pub ScansTo : State → State → Bool → List ℕ → Result ℕ Halt → Type 0
+abbrev pub ScansTo : State → State → Bool → List ℕ → Result ℕ ScanError → Type 0
 ScansTo s0 s waiting bytes (Ok count) = IsScanned s0 s waiting bytes (drop count bytes) × (count ≤ length bytes)
 ScansTo s0 s waiting bytes (Err (Fault e)) = scan s0 (settled bytes) ≡ Err e
 ScansTo s0 s waiting bytes (Err Memory) = MeetsBidLine s0 (settled bytes)

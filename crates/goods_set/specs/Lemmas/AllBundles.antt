@@ -212,6 +212,6 @@ pairs_from_sorted [] s = λ i j d l m. absurd (omega arith)
 pairs_from_sorted (b ∷ bs) s = AllPairs-cons (λ xs ys. bundle_cmp xs ys ≡ Less) b bs (All-from_recursion (λ ys. bundle_cmp b ys ≡ Less) bs s.0)
     (pairs_from_sorted bs s.1)
 
--- each bundle of the list comes before all later ones, so that none stands twice
+-- each bundle of the list comes before all later ones, so that none is twice
 pub all_bundles_rise : (G : ℕ) → AllPairs (λ xs ys. bundle_cmp xs ys ≡ Less) (all_bundles G)
 all_bundles_rise G = pairs_from_sorted (all_bundles G) (all_bundles_sorted G)

@@ -76,7 +76,7 @@ word_goods_past cap ws g l = false_from_ne_true (has_good (word_goods cap ws) g)
 
 -- ---- one word
 
--- no bit of a is outside b: what `a & !b == 0` tells, and its contrary
+-- no bit of a is outside b: what `a & !b == 0` says, and its contrary
 pub bits_inside : (a b i : ℕ) → b < 2 ^ 64 → bit_and a (bit_not w64 b) ≡ 0 → i < 64 → bit_at a i ≡ 1 → bit_at b i ≡ 1
 bits_inside a b i l e m h =
     let n : bit_at (bit_not w64 b) i ≡ 1 - bit_at b i = bit_at_not w64 b i l m in
@@ -102,7 +102,7 @@ bit_outside a b l m n =
     let s : bit_at a i < 2 = bit_at-lt a i in
     record { bit = i; within = t.0; there = omega arith; missing = omega arith }
 
--- a and b share no bit: what `a & b == 0` tells, and its contrary
+-- a and b share no bit: what `a & b == 0` says, and its contrary
 pub bits_apart : (a b i : ℕ) → bit_and a b ≡ 0 → bit_at a i ≡ 1 → bit_at b i ≡ 0
 bits_apart a b i e h =
     let z : min (bit_at a i) (bit_at b i) ≡ 0 = sym (bit_at_and a b i) ∙ ap (λ x. bit_at x i) e ∙ bit_at-zero i in

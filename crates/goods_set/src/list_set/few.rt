@@ -1,31 +1,31 @@
-//! A few goods, which take no memory of their own.
+//! Up to eleven goods, without memory of their own.
 ghost use Rattle.std.specs.Prelude.{◌≡◌, ◌+◌, ◌<◌, ◌≤◌, [], ◌∷◌, ◌++◌, length};
 ghost use Rattle.std.specs.List.{insert};
-ghost use Rattle.goods_set.specs.declared.list_set.few.TheConstants.{FEW};
+ghost use Rattle.goods_set.specs.declared.list_set.few.TheConstants.{INLINE_GOODS};
 
 use std::marker::Model;
 
 /// How many goods fit.
-pub(crate) const FEW: usize = 11;
+pub(crate) const INLINE_GOODS: usize = 11;
 
-/// Up to `FEW` goods, one after another.
+/// Up to `INLINE_GOODS` goods, one after another.
 #[derive(Debug, Drop)]
 pub(crate) struct FewGoods {
-    /// Takes no room, but places the others so that they are moved as whole words.
+    /// Takes no space, but places the others so that they are moved as whole words.
     words: [u64; 0],
     count: u8,
-    goods: [u16; FEW],
+    goods: [u16; INLINE_GOODS],
 }
 
 impl Model for FewGoods {
     ghost use Rattle.std.specs.Prelude.{ℕ, List, take, ◌≤◌};
-    ghost use Rattle.goods_set.specs.declared.list_set.few.TheConstants.{FEW};
+    ghost use Rattle.goods_set.specs.declared.list_set.few.TheConstants.{INLINE_GOODS};
 
     ghost Value = { List ℕ };
 
     ghost view = { λ f. take f.count f.goods };
 
-    ghost invariant = { λ f. f.count ≤ FEW };
+    ghost invariant = { λ f. f.count ≤ INLINE_GOODS };
 }
 
 impl FewGoods {
@@ -35,12 +35,12 @@ impl FewGoods {
         FewGoods {
             words: [],
             count: 0,
-            goods: [0; FEW],
+            goods: [0; INLINE_GOODS],
         }
     }
 
     pub(crate) fn from_slice(goods: &[u16]) -> FewGoods
-        requires { length goods.now ≤ FEW }
+        requires { length goods.now ≤ INLINE_GOODS }
         ensures { result ≡ goods.now }
     {
         let mut few = FewGoods::none();
@@ -51,13 +51,13 @@ impl FewGoods {
     #[inline(always)]
     pub(crate) fn as_slice(&self) -> &[u16]
         ensures goods { result.now ≡ self.now }
-        ensures fits { length self.now ≤ FEW }
+        ensures fits { length self.now ≤ INLINE_GOODS }
     {
         &self.goods[..usize::from(self.count)]
     }
 
     pub(crate) fn push(&mut self, good: u16)
-        requires { length self.old < FEW }
+        requires { length self.old < INLINE_GOODS }
         ensures { self.new ≡ self.old ++ good ∷ [] }
     {
         self.goods[usize::from(self.count)] = good;
@@ -65,7 +65,7 @@ impl FewGoods {
     }
 
     pub(crate) fn append(&mut self, goods: &[u16])
-        requires { length self.old + length goods.now ≤ FEW }
+        requires { length self.old + length goods.now ≤ INLINE_GOODS }
         ensures { self.new ≡ self.old ++ goods.now }
     {
         let start = usize::from(self.count);
@@ -76,7 +76,7 @@ impl FewGoods {
 
     /// The goods with another at a place.
     pub(crate) fn with(&self, place: usize, good: u16) -> FewGoods
-        requires room { length self.now < FEW }
+        requires space { length self.now < INLINE_GOODS }
         requires place { place ≤ length self.now }
         ensures { result ≡ insert self.now place good }
     {

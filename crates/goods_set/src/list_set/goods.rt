@@ -1,8 +1,8 @@
-//! The goods of a set: a few of them in the value itself, more in a vector.
+//! The goods of a set. A few of them are in the value itself, more are in a vector.
 ghost use Rattle.std.specs.Prelude.{◌≡◌, ◌≤◌, [], length, IfOk, OnOk, OnErr};
 ghost use Rattle.std.specs.List.{insert};
 
-use crate::list_set::few::{FEW, FewGoods};
+use crate::list_set::few::{FewGoods, INLINE_GOODS};
 use std::alloc::{AllocError, Global};
 use std::marker::Model;
 
@@ -40,7 +40,7 @@ impl Goods {
     pub(crate) fn from_slice(alloc: Global, goods: &[u16]) -> Result<Goods, AllocError>
         ensures { IfOk result (λ g. g ≡ goods.now) }
     {
-        if goods.len() <= FEW {
+        if goods.len() <= INLINE_GOODS {
             return Ok(Goods {
                 held: Held::Few(alloc, FewGoods::from_slice(goods)),
             });
@@ -69,10 +69,10 @@ impl Goods {
         match &mut self.held {
             Held::Few(alloc, few) => {
                 let goods = few.as_slice();
-                if goods.len() < FEW {
+                if goods.len() < INLINE_GOODS {
                     *few = few.with(place, good);
                 } else {
-                    let mut many = Vec::with_capacity(*alloc, 2 * FEW)?;
+                    let mut many = Vec::with_capacity(*alloc, 2 * INLINE_GOODS)?;
                     many.extend_from_slice(goods)?;
                     many.insert(place, good)?;
                     self.held = Held::Many(many);

@@ -1,4 +1,4 @@
-//! The kernels: what is said of two bundles of words, eight words at a time and then one by one.
+//! The loops over two lists of words. They take eight words at a time, and then one by one.
 ghost use Rattle.std.specs.Prelude.{◌≡◌, ℕ, ◌*◌, ◌<◌, ◌≤◌, length, get_or};
 ghost use Rattle.std.specs.Int.{bit_not, w64};
 ghost use Rattle.std.specs.Int.RustNames.{bit_and};

@@ -1,4 +1,4 @@
-//! What goes through the words of a set from the first: how many goods they hold, the next good, all
+//! The loops over single words. They find how many goods the words hold, the next good, all
 //! goods, and which of two sets comes first.
 ghost use Rattle.std.specs.Prelude.{◌≡◌, ◌+◌, ◌*◌, ◌^◌, ◌≤◌, [], ◌∷◌, ◌++◌, map, length, OnOk};
 ghost use Rattle.std.specs.Ordering.{nat_cmp};

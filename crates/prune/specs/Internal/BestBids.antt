@@ -1,4 +1,4 @@
--- The best bid of each bundle: what a pruning has to decide on.
+-- The best bid of each bundle. A pruning decides on these.
 use Rattle.std.specs.Prelude.{◌≡◌, ℕ, ◌<◌, ◌≤◌, List, All, Contains}
 use Rattle.std.specs.Ordering.{nat_cmp, ordering_then}
 use Rattle.std.specs.declared.cmp.Ordering.{Ordering}

@@ -1,4 +1,4 @@
--- Atoms listed by their goods, so that those inside a bundle are found through the goods of the bundle.
+-- Atoms listed by their goods. Those inside a bundle are found through the goods of the bundle.
 use Rattle.std.specs.Prelude.{◌≡◌, ◌≢◌, ℕ, ◌<◌, ◌≤◌, Bool, ◌&&◌, true, false, nat_le, map, slice_index_or, List, [], length}
 use Rattle.std.specs.Prelude.{take, All, AllPairs, Contains}
 use Rattle.std.proofs.Common.{Less}

@@ -123,7 +123,7 @@ static BID_TEXTS: [(&[u8], u64, Kind); 22] = [
     ),
 ];
 
-/// The same where a number is above its limit, or stands at it.
+/// The same where a number is above its limit, or is at it.
 static ABOVE_SIZES: [(&[u8], u64, Kind); 9] = [
     (
         b"goods 1024\nbids 1\ndummy 0\n0\t1000000000001\t1023\t#\n",

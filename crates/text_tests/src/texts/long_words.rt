@@ -18,7 +18,7 @@ fn with_digits_between(alloc: Global, digit: u8, parts: &[&[u8]]) -> Result<Vec<
     Ok(text)
 }
 
-/// Parts between which zeros stand, and what is written.
+/// Parts between which zeros are, and what is written.
 static ZEROS: [(&[&[u8]], &[u8]); 2] = [
     (
         &[b"goods ", b"2\nbids 0\ndummy 0\n"],
@@ -39,7 +39,7 @@ fn zeros_before_numbers(rt: HostRuntime) -> Result<(), Fail> {
     Ok(())
 }
 
-/// A digit and the parts that it stands between, and the line and the kind of the fault.
+/// A digit and the parts that it is between, and the line and the kind of the fault.
 static FAULTS: [(u8, &[&[u8]], u64, Kind); 13] = [
     (
         b'0',

@@ -30,11 +30,11 @@ static FIRST_BYTES: [(usize, usize, Option<(u64, Kind)>); 14] = [
 /// Asserts the fault of so many bytes.
 fn assert_fault_of_bytes(
     rt: &impl Abort,
-    told: Option<ReadFault>,
+    reported: Option<ReadFault>,
     want: Option<ReadFault>,
     count: usize,
 ) {
-    assert_eq!(rt; told, want, "{count} bytes");
+    assert_eq!(rt; reported, want, "{count} bytes");
 }
 
 /// Asserts the fault of so many first bytes of `CATS`: whole, and byte by byte.
@@ -46,8 +46,8 @@ fn assert_first_bytes(
 ) -> Result<(), Fail> {
     let text = CATS.get(..count).ok_or("too short")?;
     assert_fault_of_bytes(rt, fault_of(alloc, text), want, count);
-    let told = outcome_of_bytes(alloc, text)?.err();
-    assert_fault_of_bytes(rt, told, want, count);
+    let reported = outcome_of_bytes(alloc, text)?.err();
+    assert_fault_of_bytes(rt, reported, want, count);
     Ok(())
 }
 
@@ -66,14 +66,14 @@ fn first_bytes_of_a_file(rt: HostRuntime) -> Result<(), Fail> {
 }
 
 #[test]
-fn fault_told_once_it_is_complete(rt: HostRuntime) -> Result<(), Fail> {
+fn fault_reported_once_it_is_complete(rt: HostRuntime) -> Result<(), Fail> {
     let text = b"goods 2\nbids 2\ndummy 2\n0\t1\t0\t2\t#\n1\t1\t1\t2\t3\t#\n";
     let two_dummies = fault(5, Kind::TwoDummies);
     for count in 0..=45 {
         let piece = text.get(..count).ok_or("too short")?;
-        let told = Reader::new(rt.alloc(), MAX_STREAM).feed(piece).err();
+        let reported = Reader::new(rt.alloc(), MAX_STREAM).feed(piece).err();
         let want = if count < 43 { None } else { two_dummies };
-        assert_fault_of_bytes(&rt, told, want, count);
+        assert_fault_of_bytes(&rt, reported, want, count);
     }
     Ok(())
 }
@@ -180,36 +180,36 @@ fn answers(
     requires { limit < 2 ^ 63 }
 {
     let mut reader = Reader::new(alloc, limit);
-    let mut told = Vec::new(alloc);
+    let mut reported = Vec::new(alloc);
     for piece in pieces {
-        told.push(reader.feed(piece).err())?;
+        reported.push(reader.feed(piece).err())?;
     }
-    Ok((told, reader.finish().err()))
+    Ok((reported, reader.finish().err()))
 }
 
-/// Asserts what was told of pieces.
-fn assert_told(
+/// Asserts what was reported of pieces.
+fn assert_reported(
     rt: &impl Abort,
-    told: &[Option<ReadFault>],
+    reported: &[Option<ReadFault>],
     want: &[Option<ReadFault>],
     pieces: &[&[u8]],
 ) {
-    assert_eq!(rt; told, want, "{pieces:?}");
+    assert_eq!(rt; reported, want, "{pieces:?}");
 }
 
 #[test]
 fn answers_to_each_piece_and_at_the_end(rt: HostRuntime) -> Result<(), Fail> {
     for (limit, pieces, want, end) in &ANSWERS {
-        let (told, last) = answers(rt.alloc(), (*limit).min(MAX_STREAM), pieces)?;
-        assert_told(&rt, &told, want, pieces);
-        assert_told(&rt, &[last], &[*end], pieces);
+        let (reported, last) = answers(rt.alloc(), (*limit).min(MAX_STREAM), pieces)?;
+        assert_reported(&rt, &reported, want, pieces);
+        assert_reported(&rt, &[last], &[*end], pieces);
     }
     Ok(())
 }
 
 /// Asserts that a stream is too long.
-fn assert_too_long(rt: &impl Abort, told: Option<ReadFault>) {
-    assert_eq!(rt; told, fault(0, Kind::TooLong));
+fn assert_too_long(rt: &impl Abort, reported: Option<ReadFault>) {
+    assert_eq!(rt; reported, fault(0, Kind::TooLong));
 }
 
 #[test]

@@ -1,4 +1,4 @@
-//! Files that are accepted, and what is written of them.
+//! Files that are accepted, and how they are written.
 
 use super::{assert_bytes, assert_written, sizes};
 use bid_file::{Bid, PackedBids, PackedFile};
@@ -139,8 +139,8 @@ fn pieces_are_read(rt: HostRuntime) -> Result<(), Fail> {
 fn bytes_are_read(rt: HostRuntime) -> Result<(), Fail> {
     let mut input = Watched::new(CATS);
     let file = read_from(rt.alloc(), &mut input)?;
-    let told = (file.bids().len(), input.ended(), input.failed());
-    assert_eq!(rt; told, (2, true, false));
+    let reported = (file.bids().len(), input.ended(), input.failed());
+    assert_eq!(rt; reported, (2, true, false));
     assert!(rt; input.into_inner().is_empty());
     Ok(())
 }

@@ -182,7 +182,7 @@ IsBid-at G D bids i b l e h =
     let long = length-map bids plain_bid in
     subst (IsBid G D) (plain_bid_at bids i b l e) (All-from_recursion (IsBid G D) (plain_bids bids) h i (plain_bid b) (omega arith))
 
--- ---- a bid that stands in a list of the bids of a file
+-- ---- a bid that is in a list of the bids of a file
 
 pub IsBid-there : (G D : ℕ) (bids : List PlainBid) (i : ℕ) (b : PlainBid) → AllByRecursion (IsBid G D) bids → slice_get bids i ≡ Some b → IsBid G D b
 IsBid-there G D bids i b h e =

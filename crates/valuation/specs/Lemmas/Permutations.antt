@@ -1,5 +1,5 @@
 -- What a list and its permutation share. A relation that every list has to itself, that two steps join, and that goes through one
--- more element at the front and an exchange of the first two, a list has to each of its permutations.
+-- more element at the start and an exchange of the first two, a list has to each of its permutations.
 use Rattle.std.proofs.Common.{ℕ, zero, suc, ◌<◌, List, [], ◌∷◌, length, get_or, set, arith}
 use Rattle.std.specs.Prelude.{IsPermutation, swap}
 use Rattle.std.proofs.lemmas.List.Sorted.{IsPermutation-keeps}
@@ -7,7 +7,7 @@ use Rattle.std.proofs.lemmas.List.Sorted.{IsPermutation-keeps}
 module _ {X : Type 0} (R : List X → List X → Type 0)
     (same : (xs : List X) → R xs xs)
     (join : (xs ys zs : List X) → R xs ys → R ys zs → R xs zs)
-    (front : (x : X) (xs ys : List X) → R xs ys → R (x ∷ xs) (x ∷ ys))
+    (prefix : (x : X) (xs ys : List X) → R xs ys → R (x ∷ xs) (x ∷ ys))
     (exchange : (x y : X) (xs : List X) → R (x ∷ y ∷ xs) (y ∷ x ∷ xs))
   where
     -- the first element and one behind it change places
@@ -16,7 +16,7 @@ module _ {X : Type 0} (R : List X → List X → Type 0)
     with_first x (z ∷ zs) zero d l = exchange x z zs
     with_first x (z ∷ zs) (suc j) d l =
         let lower : j < length zs = omega arith in
-        join _ _ _ (exchange x z zs) (join _ _ _ (front z _ _ (with_first x zs j d lower)) (exchange z (get_or zs j d) (set zs j x)))
+        join _ _ _ (exchange x z zs) (join _ _ _ (prefix z _ _ (with_first x zs j d lower)) (exchange z (get_or zs j d) (set zs j x)))
 
     -- two elements change places
     exchanged : (xs : List X) (i j : ℕ) (d : X) → i < length xs → j < length xs → R xs (set (set xs i (get_or xs j d)) j (get_or xs i d))
@@ -27,7 +27,7 @@ module _ {X : Type 0} (R : List X → List X → Type 0)
     exchanged (x ∷ xs) (suc i) (suc j) d l m =
         let left : i < length xs = omega arith in
         let right : j < length xs = omega arith in
-        front x _ _ (exchanged xs i j d left right)
+        prefix x _ _ (exchanged xs i j d left right)
 
     swapped : (xs : List X) (i j : ℕ) → i < length xs → j < length xs → R xs (swap xs i j)
     swapped [] i j l m = absurd (omega arith)

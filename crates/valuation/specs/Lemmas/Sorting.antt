@@ -27,7 +27,7 @@ pub sum_by-insert_by : {X : Type 0} (cmp : X → X → Ordering) (f : X → ℕ)
 sum_by-insert_by cmp f x [] = sum_by-cons f x []
 sum_by-insert_by {X} cmp f x (y ∷ ys) =
     let later = sum_by-insert_by cmp f x ys in
-    let front = sum_by-cons f y (insert_by cmp x ys) in
+    let prefix = sum_by-cons f y (insert_by cmp x ys) in
     let rest = sum_by-cons f y ys in
     let goes_on : sum_by f (y ∷ insert_by cmp x ys) ≡ f x + sum_by f (y ∷ ys) = omega arith in
     elim (is_gt (cmp x y)) as (λ b. sum_by f (cond b (y ∷ insert_by cmp x ys) (x ∷ (y ∷ ys))) ≡ f x + sum_by f (y ∷ ys)) [
@@ -144,7 +144,7 @@ module _ {X : Type 0} (cmp : X → X → Ordering) (total : IsTotalOrder cmp) wh
 
       rest : x ≡ y → (z : X) → count_of cmp z xs ≡ count_of cmp z ys
       rest d z =
-          let front : cond {A = ℕ} (is_eq (cmp z x)) 1 0 ≡ cond {A = ℕ} (is_eq (cmp z y)) 1 0 = ap (λ w. cond {A = ℕ} (is_eq (cmp z w)) 1 0) d in
+          let prefix : cond {A = ℕ} (is_eq (cmp z x)) 1 0 ≡ cond {A = ℕ} (is_eq (cmp z y)) 1 0 = ap (λ w. cond {A = ℕ} (is_eq (cmp z w)) 1 0) d in
           let all = e z in
           omega (arith, sum_by-cons (λ w. cond (is_eq (cmp z w)) 1 0) x xs, sum_by-cons (λ w. cond (is_eq (cmp z w)) 1 0) y ys)
 

@@ -51,9 +51,9 @@ xor_value-grows (a ∷ rest) small large i =
     (λ j. xor_value-price a rest large (inside_trans a.bundle small large j i))
 
 -- it does not depend on the order of the atoms
-xor_value-front : (a : Atom (List ℕ)) (xs ys : List (Atom (List ℕ))) → ((bundle : List ℕ) → xor_value xs bundle ≤ xor_value ys bundle) → (bundle : List ℕ)
+xor_value-prefix : (a : Atom (List ℕ)) (xs ys : List (Atom (List ℕ))) → ((bundle : List ℕ) → xor_value xs bundle ≤ xor_value ys bundle) → (bundle : List ℕ)
     → xor_value (a ∷ xs) bundle ≤ xor_value (a ∷ ys) bundle
-xor_value-front a xs ys h bundle =
+xor_value-prefix a xs ys h bundle =
     xor_value-least a xs bundle _ (le_trans (h bundle) (xor_value-rest a ys bundle)) (xor_value-price a ys bundle)
 
 xor_value-exchange : (a b : Atom (List ℕ)) (rest : List (Atom (List ℕ))) (bundle : List ℕ) → xor_value (a ∷ b ∷ rest) bundle ≤ xor_value (b ∷ a ∷ rest) bundle
@@ -65,7 +65,7 @@ xor_value-exchange a b rest bundle =
 xor_value-at_most : (xs ys : List (Atom (List ℕ))) → IsPermutation xs ys → (bundle : List ℕ) → xor_value xs bundle ≤ xor_value ys bundle
 xor_value-at_most =
     from_permutation (λ xs ys. (bundle : List ℕ) → xor_value xs bundle ≤ xor_value ys bundle) (λ xs bundle. le_refl _)
-    (λ xs ys zs h k bundle. le_trans (h bundle) (k bundle)) xor_value-front xor_value-exchange
+    (λ xs ys zs h k bundle. le_trans (h bundle) (k bundle)) xor_value-prefix xor_value-exchange
 
 pub xor_value-permutation : (xs ys : List (Atom (List ℕ))) → IsPermutation xs ys → (bundle : List ℕ) → xor_value xs bundle ≡ xor_value ys bundle
 xor_value-permutation xs ys p bundle = le_antisymm (xor_value-at_most xs ys p bundle) (xor_value-at_most ys xs (IsPermutation-sym xs ys p) bundle)

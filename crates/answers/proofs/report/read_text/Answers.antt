@@ -1,7 +1,7 @@
 -- A kind that belongs to a line is reported with its line.
 use Rattle.std.proofs.Common.{◌≡◌, ◌≢◌, ◌++◌, ℕ, refl, codes, decimal}
-use Rattle.cats_text.specs.declared.fault.Kind.{Kind}
-use Rattle.cats_text.specs.declared.fault.Kind.TheVariants.{TooLong, Device, Memory}
+use Rattle.cats_text.specs.declared.read_fault.Kind.{Kind}
+use Rattle.cats_text.specs.declared.read_fault.Kind.TheVariants.{TooLong, Device, Memory}
 use Rattle.answers.specs.KindNames.{name_of_kind}
 use Rattle.answers.specs.FaultLines.{text_of_kind}
 use Rattle.answers.proofs.report.read_text.Goals as goal

@@ -1,7 +1,7 @@
 use Rattle.std.proofs.Common.{◌∙◌, List, ◌++◌, ◌∷◌, [], ap, sym}
 use Rattle.bid_file.specs.Files.{PlainBid}
 use Rattle.bid_file.specs.Views.{seen_bid}
-use Rattle.bid_file.proofs.Offers.{take_bid}
+use Rattle.bid_file.proofs.Spans.{take_bid}
 use Rattle.bid_file.proofs.packing.pack.Goals as goal
 
 pub loop-number-preserved : goal.loop-number-preserved

@@ -2,7 +2,7 @@ use Rattle.std.proofs.Common.{sym, subst}
 use Rattle.valuation.specs.Auctions.{PlainAuction}
 use Rattle.valuation.specs.Views.{plain_auction}
 use Rattle.canon.specs.Sameness.{IsSameAuction}
-use Rattle.canon.proofs.Sames.{HasAtoms-auction, canonical_is_same}
+use Rattle.canon.proofs.CanonicalAuctions.Sames.{HasAtoms-auction, canonical_is_same}
 use Rattle.canon.proofs.auction.canonical.Goals as goal
 
 pub returns-clause-same : goal.returns-clause-same

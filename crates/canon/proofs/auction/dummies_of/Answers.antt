@@ -2,7 +2,7 @@ use Rattle.std.proofs.Common.{◌++◌, ◌∷◌, [], ◌∙◌, ap, sym, arith
 use Rattle.std.proofs.lemmas.Simd.{map-map}
 use Rattle.canon.specs.declared.keyed_bidder.KeyedBidder.{KeyedBidder}
 use Rattle.canon.specs.Internal.KeyedBidders.{NumberedBidder, keyed_bidder}
-use Rattle.canon.proofs.Numbering.{one_more_number, all_numbers}
+use Rattle.canon.proofs.CanonicalFiles.Numbering.{one_more_number, all_numbers}
 use Rattle.canon.proofs.auction.dummies_of.Goals as goal
 
 pub loop-bidder-preserved : goal.loop-bidder-preserved

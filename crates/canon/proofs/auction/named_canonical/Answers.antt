@@ -10,9 +10,9 @@ use Rattle.valuation.specs.Views.{plain_auction}
 use Rattle.canon.specs.Canonical.{IsCanonical, canonical_auction}
 use Rattle.canon.specs.declared.keyed_bidder.KeyedBidder.{KeyedBidder}
 use Rattle.canon.specs.Internal.KeyedBidders.{NumberedBidder, keyed_bidders}
-use Rattle.canon.proofs.Bidders.{or_part, xor_part, few_bidders, canonical_parts, number_parts, light_parts}
-use Rattle.canon.proofs.Sames.{HasAtoms-auction, canonical_is_fixed}
-use Rattle.canon.proofs.Smaller.{IsAuction-canonical}
+use Rattle.canon.proofs.CanonicalFiles.Bidders.{or_part, xor_part, few_bidders, canonical_parts, number_parts, parts_within_limit}
+use Rattle.canon.proofs.CanonicalAuctions.Sames.{HasAtoms-auction, canonical_is_fixed}
+use Rattle.canon.proofs.CanonicalAuctions.Smaller.{IsAuction-canonical}
 use Rattle.canon.proofs.auction.named_canonical.Given.{Over}
 use Rattle.canon.proofs.auction.named_canonical.Goals as goal
 
@@ -67,5 +67,5 @@ returns-clause-dummies g c =
 
 pub returns-clause-none_heavy : goal.returns-clause-none_heavy
 returns-clause-none_heavy g c =
-    light_parts g.S.GoodsSet.CAP (plain_auction c.args.auction) c.args.auction.facts _ _ _ c.into_parts-goods.ensures c.args.limit
+    parts_within_limit g.S.GoodsSet.CAP (plain_auction c.args.auction) c.args.auction.facts _ _ _ c.into_parts-goods.ensures c.args.limit
     c.in_ok-or_points.ensures.none_heavy

@@ -3,8 +3,8 @@ use Rattle.std.proofs.lemmas.Fn.{always_returns_same}
 use Rattle.std.proofs.lemmas.List.Sorted.{ranks_by}
 use Rattle.std.specs.Ordering.{is_lt}
 use Rattle.canon.specs.Internal.KeyedBidders.{keyed_bidder, numbered_cmp}
-use Rattle.canon.proofs.Bidders.{bidders_sorted}
-use Rattle.canon.proofs.Numbering.{numbered_cmp_total}
+use Rattle.canon.proofs.CanonicalFiles.Bidders.{bidders_sorted}
+use Rattle.canon.proofs.CanonicalFiles.Numbering.{numbered_cmp_total}
 use Rattle.canon.proofs.auction.sort_bidders.Goals as goal
 
 pub returns : goal.returns

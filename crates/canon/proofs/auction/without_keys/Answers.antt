@@ -7,7 +7,7 @@ use Rattle.std.proofs.lemmas.Simd.{map-map}
 use Rattle.valuation.specs.declared.atom.Atom.{Atom}
 use Rattle.canon.specs.declared.keyed_bidder.KeyedBidder.{KeyedBidder}
 use Rattle.canon.specs.Internal.KeyedBidders.{NumberedBidder, keyed_bidder}
-use Rattle.canon.proofs.Bidders.{bare_pushed, bare_done}
+use Rattle.canon.proofs.CanonicalFiles.Bidders.{bare_pushed, bare_done}
 use Rattle.canon.proofs.auction.without_keys.Goals as goal
 
 pub loop-bidder-preserved : goal.loop-bidder-preserved

@@ -1,6 +1,6 @@
 use Rattle.std.proofs.Common.{rules, ◌≡◌, ℕ, List, cond, bytes_eq, Some, subst}
 use Rattle.canon.specs.Internal.TextPlaces.{place_of}
-use Rattle.canon.proofs.Indexing.{updated}
+use Rattle.canon.proofs.Comparing.Indexing.{updated}
 use Rattle.canon.proofs.auction_index.place_text.Goals as goal
 
 pub returns-clause-placed : goal.returns-clause-placed

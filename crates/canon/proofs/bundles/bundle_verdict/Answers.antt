@@ -1,7 +1,7 @@
 use Rattle.std.proofs.Common.{ℕ, List, sym, ap, ◌∙◌, subst}
 use Rattle.canon.specs.Difference.{InOr}
 use Rattle.canon.specs.Verdicts.{NamesGoods}
-use Rattle.canon.proofs.OrWalks.{on_err}
+use Rattle.canon.proofs.Walks.OrWalks.{on_err}
 use Rattle.canon.proofs.bundles.bundle_verdict.Goals as goal
 
 pub returns-in_ok-from_slice-in-Some-clause-verdict : goal.returns-in_ok-from_slice-in-Some-clause-verdict

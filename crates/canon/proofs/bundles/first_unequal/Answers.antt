@@ -4,7 +4,7 @@ use Rattle.std.proofs.Common.{◌≡◌, take, refl, sym, subst, arith}
 use Rattle.bid_file.specs.Views.{seen_bid}
 use Rattle.canon.specs.Bidders.{offers}
 use Rattle.canon.specs.declared.verdict.Side.TheVariants.{Exactly}
-use Rattle.canon.proofs.OrWalks.{left_first, right_first, both_differ, left_longer, right_longer, shared_more, shared_all}
+use Rattle.canon.proofs.Walks.OrWalks.{left_first, right_first, both_differ, left_longer, right_longer, shared_more, shared_all}
 use Rattle.canon.proofs.bundles.first_unequal.Goals as goal
 
 pub returns-in-Less : goal.returns-in-Less

@@ -1,4 +1,4 @@
-use Rattle.canon.proofs.Comparisons.{canonical_of_text, compared_as, first_refused, same_by_texts, second_refused}
+use Rattle.canon.proofs.Comparing.Comparisons.{canonical_of_text, compared_as, first_refused, same_by_texts, second_refused}
 use Rattle.canon.proofs.comparison.compare.Goals as goal
 
 pub returns-in_err-first-clause-answer : goal.returns-in_err-first-clause-answer

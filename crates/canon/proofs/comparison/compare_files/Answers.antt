@@ -2,8 +2,8 @@
 -- auctions: a bundle of the OR bidders, or else the least XOR bidder.
 use Rattle.std.proofs.Common.{◌≡◌, arith}
 use Rattle.valuation.specs.Auctions.{auction_from}
-use Rattle.canon.proofs.Comparisons.{or_found, xor_found, or_named, xor_named, same_by_difference, same_if_ok}
-use Rattle.canon.proofs.OrWalks.{on_err}
+use Rattle.canon.proofs.Comparing.Comparisons.{or_found, xor_found, or_named, xor_named, same_by_difference, same_if_ok}
+use Rattle.canon.proofs.Walks.OrWalks.{on_err}
 use Rattle.canon.proofs.comparison.compare_files.Goals as goal
 
 pub returns-in-Some-clause-difference : goal.returns-in-Some-clause-difference

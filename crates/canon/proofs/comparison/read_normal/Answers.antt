@@ -1,4 +1,4 @@
-use Rattle.canon.proofs.Comparisons.{normal_from_file, normal_unread}
+use Rattle.canon.proofs.Comparing.Comparisons.{normal_from_file, normal_unread}
 use Rattle.canon.proofs.comparison.read_normal.Goals as goal
 
 pub returns-in_err-file : goal.returns-in_err-file

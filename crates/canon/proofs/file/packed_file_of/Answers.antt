@@ -7,7 +7,7 @@ use Rattle.valuation.specs.Values.{atoms_of}
 use Rattle.valuation.specs.Views.{plain_auction}
 use Rattle.valuation.specs.declared.atom.Atom.{Atom}
 use Rattle.canon.specs.Canonical.{bid_from, dummy_bids, file_from}
-use Rattle.canon.proofs.Filing.{one_more_bidder, all_bidders, file_parts, file_limits, length-bidders}
+use Rattle.canon.proofs.CanonicalFiles.Filing.{one_more_bidder, all_bidders, file_parts, file_limits, length-bidders}
 use Rattle.canon.proofs.file.packed_file_of.Goals as goal
 
 pub loop-dummy-init : goal.loop-dummy-init

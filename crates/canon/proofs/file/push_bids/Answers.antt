@@ -2,7 +2,7 @@ use Rattle.std.proofs.Common.{arith, ◌∙◌}
 use Rattle.valuation.specs.Lemmas.Atoms.{length-atoms_of}
 use Rattle.valuation.specs.Values.{atoms_of}
 use Rattle.canon.specs.Canonical.{bid_from}
-use Rattle.canon.proofs.Filing.{one_more_bid, all_bids}
+use Rattle.canon.proofs.CanonicalFiles.Filing.{one_more_bid, all_bids}
 use Rattle.canon.proofs.file.push_bids.Goals as goal
 
 pub loop-atom-preserved : goal.loop-atom-preserved

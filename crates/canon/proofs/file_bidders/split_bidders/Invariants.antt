@@ -1,7 +1,7 @@
 use Rattle.std.proofs.Common.{ℕ, List, length}
 use Rattle.valuation.specs.declared.atom.Atom.{Atom}
 use Rattle.canon.specs.Internal.BidderBids.{AreBidsOf}
-use Rattle.canon.proofs.SplitBidders.{AreSplit}
+use Rattle.canon.proofs.Walks.SplitBidders.{AreSplit}
 use Rattle.canon.proofs.file_bidders.split_bidders.Given as goal
 
 -- the bidders so far are split, and the others are still to come

@@ -1,4 +1,4 @@
-use Rattle.canon.proofs.Indexing.{index_of_none, index_of_more, place_of_more}
+use Rattle.canon.proofs.Comparing.Indexing.{index_of_none, index_of_more, place_of_more}
 use Rattle.canon.proofs.laws.added_files_have_first_places.Goals as goal
 
 pub returns : goal.returns

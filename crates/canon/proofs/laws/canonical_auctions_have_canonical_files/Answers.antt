@@ -1,6 +1,6 @@
 use Rattle.std.proofs.Common.{refl}
 use Rattle.canon.specs.Canonical.{file_from}
-use Rattle.canon.proofs.Answering.{canonical_file_is, canonical_auction_is}
+use Rattle.canon.proofs.Comparing.Answering.{canonical_file_is, canonical_auction_is}
 use Rattle.canon.proofs.laws.canonical_auctions_have_canonical_files.Goals as goal
 
 pub returns : goal.returns

@@ -1,6 +1,6 @@
-use Rattle.canon.proofs.Sames as proof
-use Rattle.canon.proofs.Sames.{HasAtoms-auction, canonical_is_fixed}
-use Rattle.canon.proofs.Smaller.{IsAuction-canonical}
+use Rattle.canon.proofs.CanonicalAuctions.Sames as proof
+use Rattle.canon.proofs.CanonicalAuctions.Sames.{HasAtoms-auction, canonical_is_fixed}
+use Rattle.canon.proofs.CanonicalAuctions.Smaller.{IsAuction-canonical}
 use Rattle.canon.proofs.laws.canonical_is_same.Goals as goal
 
 pub returns : goal.returns

@@ -1,6 +1,6 @@
 use Rattle.std.proofs.Common.{sym, ◌∙◌}
-use Rattle.canon.proofs.Differences.{unequal_bundle_is, unequal_bundle_swap, greater_has_point}
-use Rattle.canon.proofs.Sames.{HasAtoms-auction}
+use Rattle.canon.proofs.Comparing.Differences.{unequal_bundle_is, unequal_bundle_swap, greater_has_point}
+use Rattle.canon.proofs.CanonicalAuctions.Sames.{HasAtoms-auction}
 use Rattle.canon.proofs.laws.difference_is_a_point.Goals as goal
 
 pub returns : goal.returns

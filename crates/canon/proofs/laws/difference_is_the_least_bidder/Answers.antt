@@ -1,5 +1,5 @@
-use Rattle.canon.proofs.Differences.{unequal_bidder_is, numbers_by_table}
-use Rattle.canon.proofs.Sames.{HasAtoms-auction}
+use Rattle.canon.proofs.Comparing.Differences.{unequal_bidder_is, numbers_by_table}
+use Rattle.canon.proofs.CanonicalAuctions.Sames.{HasAtoms-auction}
 use Rattle.canon.proofs.laws.difference_is_the_least_bidder.Goals as goal
 
 pub returns : goal.returns

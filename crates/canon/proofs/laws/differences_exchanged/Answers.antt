@@ -1,4 +1,4 @@
-use Rattle.canon.proofs.Differences.{differences_swap}
+use Rattle.canon.proofs.Comparing.Differences.{differences_swap}
 use Rattle.canon.proofs.laws.differences_exchanged.Goals as goal
 
 pub returns : goal.returns

@@ -1,4 +1,4 @@
-use Rattle.canon.proofs.Texts.{text_from_normalised, normalised_from_text, normalised_again, equal_texts, texts_equal, spells_canonical}
+use Rattle.canon.proofs.CanonicalFiles.Texts.{text_from_normalised, normalised_from_text, normalised_again, equal_texts, texts_equal, spells_canonical}
 use Rattle.canon.proofs.laws.equal_text_exactly_for_the_same_auction.Goals as goal
 
 pub returns : goal.returns

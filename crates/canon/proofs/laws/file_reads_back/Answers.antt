@@ -1,4 +1,4 @@
-use Rattle.canon.proofs.Files.{auction_from-file_from, IsPlainFile-file_from}
+use Rattle.canon.proofs.CanonicalFiles.Files.{auction_from-file_from, IsPlainFile-file_from}
 use Rattle.canon.proofs.laws.file_reads_back.Goals as goal
 
 pub returns : goal.returns

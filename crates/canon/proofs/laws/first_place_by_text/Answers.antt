@@ -1,4 +1,4 @@
-use Rattle.canon.proofs.Indexing.{first_place_is}
+use Rattle.canon.proofs.Comparing.Indexing.{first_place_is}
 use Rattle.canon.proofs.laws.first_place_by_text.Goals as goal
 
 pub returns : goal.returns

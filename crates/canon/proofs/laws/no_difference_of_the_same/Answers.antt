@@ -1,5 +1,5 @@
-use Rattle.canon.proofs.Differences.{no_difference_same}
-use Rattle.canon.proofs.Sames.{HasAtoms-auction}
+use Rattle.canon.proofs.Comparing.Differences.{no_difference_same}
+use Rattle.canon.proofs.CanonicalAuctions.Sames.{HasAtoms-auction}
 use Rattle.canon.proofs.laws.no_difference_of_the_same.Goals as goal
 
 pub returns : goal.returns

@@ -1,5 +1,5 @@
-use Rattle.canon.proofs.Sames.{HasAtoms-auction}
-use Rattle.canon.proofs.SameDifferences.{difference_same, difference_of_same_files}
+use Rattle.canon.proofs.CanonicalAuctions.Sames.{HasAtoms-auction}
+use Rattle.canon.proofs.Comparing.SameDifferences.{difference_same, difference_of_same_files}
 use Rattle.canon.proofs.laws.same_auctions_have_one_difference.Goals as goal
 
 pub returns : goal.returns

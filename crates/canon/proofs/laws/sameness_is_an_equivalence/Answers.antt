@@ -1,4 +1,4 @@
-use Rattle.canon.proofs.Sames.{same_refl, same_sym, same_trans}
+use Rattle.canon.proofs.CanonicalAuctions.Sames.{same_refl, same_sym, same_trans}
 use Rattle.canon.proofs.laws.sameness_is_an_equivalence.Goals as goal
 
 pub returns : goal.returns

@@ -3,7 +3,7 @@ use Rattle.std.proofs.lemmas.Result.{IfOk-weaker}
 use Rattle.valuation.specs.Views.{plain_auction}
 use Rattle.canon.specs.Internal.KeyedBidders.{kept_numbers}
 use Rattle.canon.specs.Renaming.{kept_dummies}
-use Rattle.canon.proofs.Numbering.{kept_numbers_are}
+use Rattle.canon.proofs.CanonicalFiles.Numbering.{kept_numbers_are}
 use Rattle.canon.proofs.named.named_file_on.Goals as goal
 
 pub returns-clause-dummies : goal.returns-clause-dummies

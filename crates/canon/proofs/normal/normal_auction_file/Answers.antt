@@ -1,4 +1,4 @@
-use Rattle.canon.proofs.Answering.{canonical_file_is}
+use Rattle.canon.proofs.Comparing.Answering.{canonical_file_is}
 use Rattle.canon.proofs.normal.normal_auction_file.Goals as goal
 
 pub returns-clause-canonical : goal.returns-clause-canonical

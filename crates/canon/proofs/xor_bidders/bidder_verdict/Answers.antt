@@ -2,9 +2,9 @@ use Rattle.std.proofs.Common.{ℕ, List, Option, sym, ap, subst}
 use Rattle.valuation.specs.declared.atom.Atom.{Atom}
 use Rattle.canon.specs.Bidders.{offers}
 use Rattle.canon.specs.Difference.{xor_difference}
-use Rattle.canon.specs.Verdicts.{NamesGoods, told_atoms}
-use Rattle.canon.proofs.BidderWalks.{bids_of_canonical, numbers_named}
-use Rattle.canon.proofs.OrWalks.{on_err}
+use Rattle.canon.specs.Verdicts.{NamesGoods, printed_atoms}
+use Rattle.canon.proofs.Walks.BidderWalks.{bids_of_canonical, numbers_named}
+use Rattle.canon.proofs.Walks.OrWalks.{on_err}
 use Rattle.canon.proofs.xor_bidders.bidder_verdict.Goals as goal
 
 pub returns-in-None-clause-verdict : goal.returns-in-None-clause-verdict
@@ -12,7 +12,7 @@ returns-in-None-clause-verdict g c = λ a b h k. sym (ap (xor_difference a b) (c
 
 pub returns-in_ok-named_bids-in-Some-clause-verdict : goal.returns-in_ok-named_bids-in-Some-clause-verdict
 returns-in_ok-named_bids-in-Some-clause-verdict g c = λ a b h k.
-    numbers_named a b c.args.left.now c.args.right.now h k (told_atoms c.in_ok-named_bids-in-Some.field-0.items) (offers c.in-Some.bidder)
+    numbers_named a b c.args.left.now c.args.right.now h k (printed_atoms c.in_ok-named_bids-in-Some.field-0.items) (offers c.in-Some.bidder)
     c.count_copies.result c.count_copies-in-Some.result
     c.in_ok-named_bids-in-Some.ensures (c.count_copies.ensures a.xor_bidders (bids_of_canonical a c.args.left.now h))
     (c.count_copies-in-Some.ensures b.xor_bidders (bids_of_canonical b c.args.right.now k))

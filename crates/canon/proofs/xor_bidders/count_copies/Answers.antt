@@ -5,7 +5,7 @@ use Rattle.std.specs.Ordering.{is_eq}
 use Rattle.std.proofs.lemmas.List.{length-drop}
 use Rattle.valuation.specs.Orders.{bidder_cmp}
 use Rattle.canon.specs.Bidders.{offers}
-use Rattle.canon.proofs.BidderWalks.{one_more_counted, all_counted}
+use Rattle.canon.proofs.Walks.BidderWalks.{one_more_counted, all_counted}
 use Rattle.canon.proofs.xor_bidders.count_copies.Goals as goal
 use Rattle.canon.proofs.xor_bidders.count_copies.Goals.{then-is_eq, else-is_eq}
 

@@ -2,7 +2,7 @@ use Rattle.std.proofs.Common.{ℕ, ◌+◌, ◌≤◌, List, length}
 use Rattle.valuation.specs.declared.atom.Atom.{Atom}
 use Rattle.canon.specs.Bidders.{offers}
 use Rattle.canon.specs.Internal.BidderBids.{AreBidsOf}
-use Rattle.canon.proofs.BidderWalks.{IsCounted}
+use Rattle.canon.proofs.Walks.BidderWalks.{IsCounted}
 use Rattle.canon.proofs.xor_bidders.count_copies.Given as goal
 
 -- each copy took a bid at least, and the other copies are still to come

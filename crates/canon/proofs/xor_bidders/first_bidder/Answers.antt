@@ -1,6 +1,6 @@
 use Rattle.std.proofs.lemmas.List.Sums.{prefix_len-le-length}
 use Rattle.bid_file.specs.Views.{seen_bid}
-use Rattle.canon.proofs.BidderWalks.{leading_bids}
+use Rattle.canon.proofs.Walks.BidderWalks.{leading_bids}
 use Rattle.canon.proofs.xor_bidders.first_bidder.Goals as goal
 
 pub up_to-requires : goal.up_to-requires

@@ -5,7 +5,7 @@ use Rattle.std.specs.Prelude.{MatchOption}
 use Rattle.bid_file.specs.Files.{PlainBid}
 use Rattle.canon.specs.Bidders.{offers}
 use Rattle.canon.specs.Difference.{least_unequal_bidder}
-use Rattle.canon.proofs.BidderWalks.{alike_further, alike_canonical, least_left, least_right, least_at_end}
+use Rattle.canon.proofs.Walks.BidderWalks.{alike_further, alike_canonical, least_left, least_right, least_at_end}
 use Rattle.canon.proofs.xor_bidders.least_unequal.Goals as goal
 use Rattle.canon.proofs.xor_bidders.least_unequal.Goals.{in_default, in_default-2}
 

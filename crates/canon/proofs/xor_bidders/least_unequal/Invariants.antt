@@ -1,7 +1,7 @@
 use Rattle.std.proofs.Common.{length}
 use Rattle.valuation.specs.Auctions.{PlainAuction}
 use Rattle.canon.specs.Internal.BidderBids.{HasBidders}
-use Rattle.canon.proofs.BidderWalks.{AreAlike}
+use Rattle.canon.proofs.Walks.BidderWalks.{AreAlike}
 use Rattle.canon.proofs.xor_bidders.least_unequal.Given as goal
 
 -- the bidders so far were the same

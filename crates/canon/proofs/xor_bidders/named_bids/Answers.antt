@@ -1,5 +1,5 @@
 use Rattle.bid_file.specs.Views.{seen_bid}
-use Rattle.canon.proofs.BidOrders.{one_more_named}
+use Rattle.canon.proofs.Walks.BidOrders.{one_more_named}
 use Rattle.canon.proofs.xor_bidders.named_bids.Goals as goal
 
 pub loop-i-preserved : goal.loop-i-preserved

@@ -3,7 +3,7 @@ use Rattle.bid_file.specs.Views.{seen_bid}
 use Rattle.valuation.specs.Orders.{atom_cmp, bidder_cmp}
 use Rattle.canon.specs.Bidders.{offers}
 use Rattle.valuation.specs.Lemmas.Orders.{then-decided, then-left, slice_cmp-ended}
-use Rattle.canon.proofs.BidOrders.{bidder_cmp-drop, length-offers}
+use Rattle.canon.proofs.Walks.BidOrders.{bidder_cmp-drop, length-offers}
 use Rattle.canon.proofs.xor_bidders.order_of_bidders.Goals as goal
 
 pub returns-then-is_ne : goal.returns-then-is_ne
@@ -13,8 +13,8 @@ returns-then-is_ne g c =
     let i = c.loop-i.i in
     let later = bidder_cmp (drop (i + 1) (offers some)) (drop (i + 1) (offers other)) in
     let turn = bidder_cmp-drop some other i (seen_bid c.at.result) (seen_bid c.at-in-loop-i.result) c.at.ensures c.at-in-loop-i.ensures in
-    let differ = rw c.order_of_bids-bids.ensures at (sym c.is_ne.ensures ∙ c.if-is_ne.true) in
-    c.order_of_bids-bids.ensures ∙ sym (then-decided _ later differ) ∙ sym turn ∙ c.loop-i.invariant
+    let differ = rw c.canonical_order-bids.ensures at (sym c.is_ne.ensures ∙ c.if-is_ne.true) in
+    c.canonical_order-bids.ensures ∙ sym (then-decided _ later differ) ∙ sym turn ∙ c.loop-i.invariant
 
 pub loop-i-preserved : goal.loop-i-preserved
 loop-i-preserved g c =
@@ -23,7 +23,7 @@ loop-i-preserved g c =
     let i = c.loop-i.i in
     let later = bidder_cmp (drop (i + 1) (offers some)) (drop (i + 1) (offers other)) in
     let turn = bidder_cmp-drop some other i (seen_bid c.at.result) (seen_bid c.at-in-loop-i.result) c.at.ensures c.at-in-loop-i.ensures in
-    let same = rw c.order_of_bids-bids.ensures at (sym c.is_ne.ensures ∙ c.if-is_ne.false) in
+    let same = rw c.canonical_order-bids.ensures at (sym c.is_ne.ensures ∙ c.if-is_ne.false) in
     sym (then-left _ later same) ∙ sym turn ∙ c.loop-i.invariant
 
 pub returns : goal.returns

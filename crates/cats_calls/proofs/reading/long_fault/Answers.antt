@@ -1,5 +1,5 @@
 use Rattle.std.proofs.Common.{sym, subst}
-use Rattle.canon.specs.declared.fault.CanonFault.{CanonFault}
+use Rattle.canon.specs.declared.canon_fault.CanonFault.{CanonFault}
 use Rattle.cats_calls.specs.Refusals.{IsUnread}
 use Rattle.cats_calls.proofs.Refusing.{long_fed}
 use Rattle.cats_calls.proofs.reading.long_fault.Goals as goal

@@ -9,7 +9,7 @@ loop-good-init c =
     let goods = c.args.goods.now in
     record {
       marked = IsMarked-covered [] c.args.marks.now.items c.cover.new.marks.items c.args.bid_mark c.requires.fresh c.cover.ensures.same;
-      room = λ k l.
+      space = λ k l.
           let last : c.from.result ≡ get_or goods (length goods - 1) 0 = c.from.ensures in
           let most : get_or goods k 0 ≤ get_or goods (length goods - 1) 0 = last_is_most goods 0 (get_or goods k 0) c.requires.rising (has_at goods k 0 l) in
           let covered : c.from.result < vec_len c.cover.new.marks = c.in_ok-cover.ensures.covered in
@@ -25,6 +25,6 @@ loop-good-preserved c =
     record {
       marked = rw (take_more goods i 0 here, place) (IsMarked-push (take i goods) c.loop-good.marks.items c.args.bid_mark (get_or goods i 0)
           c.loop-good.invariant.marked (rising_new goods i 0 c.requires.rising here)
-          (omega (arith, c.loop-good.invariant.room i here, c.loop-good.marks.ok.0)));
-      room = c.loop-good.invariant.room;
+          (omega (arith, c.loop-good.invariant.space i here, c.loop-good.marks.ok.0)));
+      space = c.loop-good.invariant.space;
     }

@@ -6,13 +6,13 @@ use Rattle.cats_text.proofs.Writing.Ends.{whole_line}
 use Rattle.cats_text.proofs.Writing.Pieces.{bundle_within}
 use Rattle.cats_text.proofs.layout.write_bid.Goals as goal
 
-pub write_goods-end-requires-clause-room : goal.write_goods-end-requires-clause-room
-write_goods-end-requires-clause-room g c =
+pub write_goods-end-requires-clause-space : goal.write_goods-end-requires-clause-space
+write_goods-end-requires-clause-space g c =
     let few = bundle_within (g.B.Bids.file c.args.file.now) c.args.number (seen_bid c.at-bid.result) c.goods-goods.ensures.file c.at-bid.ensures in
     omega (arith, few, c.write_line_end-end.ensures.start, c.write_dummy-end.ensures.start.1)
 
-pub write_offer-requires-clause-room : goal.write_offer-requires-clause-room
-write_offer-requires-clause-room g c =
+pub write_number_and_price-requires-clause-space : goal.write_number_and_price-requires-clause-space
+write_number_and_price-requires-clause-space g c =
     let few = bundle_within (g.B.Bids.file c.args.file.now) c.args.number (seen_bid c.at-bid.result) c.goods-goods.ensures.file c.at-bid.ensures in
     omega (arith, few, c.write_line_end-end.ensures.start, c.write_dummy-end.ensures.start.1, c.write_goods-end.ensures.start.1)
 
@@ -22,7 +22,7 @@ returns-clause-written g c =
     let offer = decimal c.args.number ++ 9 ∷ price_text bid.price in (
       seen_bid bid,
       c.at-bid.ensures,
-      c.write_offer.ensures.written
+      c.write_number_and_price.ensures.written
           ∙ ap (λ (t : List ℕ). offer ++ t)
           (c.write_goods-end.ensures.written
           ∙ ap (λ (t : List ℕ). tabbed bid.goods.now ++ t)

@@ -2,9 +2,9 @@ use Rattle.std.proofs.Common.{◌+◌, arith}
 use Rattle.std.proofs.lemmas.Fmt.{length-decimal-le}
 use Rattle.cats_text.proofs.layout.write_dummy.Goals as goal
 
-pub write_good-requires-clause-room : goal.write_good-requires-clause-room
-write_good-requires-clause-room c =
-    omega (arith, c.requires.room, length-decimal-le 10 (c.from.result + c.from-in-Some.result) (omega arith) (omega arith) (omega arith))
+pub write_good-requires-clause-space : goal.write_good-requires-clause-space
+write_good-requires-clause-space c =
+    omega (arith, c.requires.space, length-decimal-le 10 (c.from.result + c.from-in-Some.result) (omega arith) (omega arith) (omega arith))
 
 pub returns-in-Some-clause-start : goal.returns-in-Some-clause-start
 returns-in-Some-clause-start c =

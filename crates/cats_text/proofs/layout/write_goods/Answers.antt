@@ -2,15 +2,15 @@ use Rattle.std.proofs.Common.{◌≡◌, ◌-◌, ◌≤◌, ◌∷◌, ◌++◌
 use Rattle.std.proofs.lemmas.Fmt.{length-decimal-le}
 use Rattle.std.proofs.lemmas.List.{length-take-le}
 use Rattle.cats_text.specs.Layout.{tabbed}
-use Rattle.cats_text.proofs.Writing.Ends.{last_good, shorter_front, last_of_front}
+use Rattle.cats_text.proofs.Writing.Ends.{last_good, shorter_prefix, last_of_prefix}
 use Rattle.cats_text.proofs.layout.write_goods.Goals as goal
 
-pub write_good-start-requires-clause-room : goal.write_good-start-requires-clause-room
-write_good-start-requires-clause-room c =
+pub write_good-start-requires-clause-space : goal.write_good-start-requires-clause-space
+write_good-start-requires-clause-space c =
     let l = c.loop-left in
     let some = c.in-len1-up.len_at_least in
     let good : c.from.result ≡ get_or c.args.goods.now (length l.left.now - 1) 0 =
-    c.from.ensures ∙ last_of_front l.left.now c.args.goods.now some l.invariant.3 in
+    c.from.ensures ∙ last_of_prefix l.left.now c.args.goods.now some l.invariant.3 in
     let fits = (c.type_inv.goods (length l.left.now - 1)).fits in
     omega (arith, l.invariant.0, length-decimal-le 5 c.from.result (omega arith) (omega arith) (omega arith))
 
@@ -19,16 +19,16 @@ loop-left-preserved c =
     let l = c.loop-left in
     let some = c.in-len1-up.len_at_least in
     let good : c.from.result ≡ get_or c.args.goods.now (length l.left.now - 1) 0 =
-    c.from.ensures ∙ last_of_front l.left.now c.args.goods.now some l.invariant.3 in
+    c.from.ensures ∙ last_of_prefix l.left.now c.args.goods.now some l.invariant.3 in
     let fits = (c.type_inv.goods (length l.left.now - 1)).fits in
     let digits : length (decimal c.from.result) ≤ 5 = length-decimal-le 5 c.from.result (omega arith) (omega arith) (omega arith) in
-    let front = take (length l.left.now - 1) l.left.now in
+    let prefix = take (length l.left.now - 1) l.left.now in
     let fewer = length-take-le (length l.left.now - 1) l.left.now (omega arith) in (
       omega (arith, l.invariant.0, c.write_good-start.ensures.start),
       omega (arith, l.invariant.1, c.write_good-start.ensures.start),
       omega (arith, l.invariant.2, c.write_good-start.ensures.start, digits),
-      shorter_front l.left.now c.args.goods.now l.invariant.3,
-      ap (λ t. tabbed front ++ t) (c.write_good-start.ensures.written ∙ ap (λ g. (9 ∷ decimal g) ++ drop l.start l.text) c.from.ensures)
+      shorter_prefix l.left.now c.args.goods.now l.invariant.3,
+      ap (λ t. tabbed prefix ++ t) (c.write_good-start.ensures.written ∙ ap (λ g. (9 ∷ decimal g) ++ drop l.start l.text) c.from.ensures)
           ∙ last_good l.left.now (drop l.start l.text) some
           ∙ l.invariant.4,
     )

@@ -14,7 +14,7 @@ write_digits-point-requires c =
     let shown = c.without_zeros.result in
     let most = c.without_zeros.ensures.size.1 in
     let places = c.requires.places in
-    (omega (arith, c.requires.room, length-decimal-le 7 shown (omega arith) (omega arith) (omega arith)), c.requires.inside)
+    (omega (arith, c.requires.space, length-decimal-le 7 shown (omega arith) (omega arith) (omega arith)), c.requires.inside)
 
 pub bounds-text-point : goal.bounds-text-point
 bounds-text-point c =

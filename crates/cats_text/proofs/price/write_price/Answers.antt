@@ -5,7 +5,7 @@ use Rattle.cats_text.proofs.price.write_price.Goals as goal
 pub write_digits-requires : goal.write_digits-requires
 write_digits-requires c =
     let start = c.write_places-point.ensures.start in
-    let room = c.requires.room in
+    let space = c.requires.space in
     let inside = c.requires.inside in
     (omega (arith, start.1, length-decimal-le 20 (c.args.millionths / 1000000) (omega arith) (omega arith) (omega arith)), omega (arith, start.0))
 

@@ -1,16 +1,16 @@
--- What a feeder that was fed the whole text answers.
+-- What a push_reader that was fed the whole text answers.
 use Rattle.std.proofs.lemmas.Result.{err_from_is_err_and}
-use Rattle.cats_text.proofs.Feeding.Pieces.{whole_told}
+use Rattle.cats_text.proofs.Feeding.Pieces.{whole_reported}
 use Rattle.cats_text.proofs.reader.read_packed.Goals as goal
 
 pub returns-in_err-feed : goal.returns-in_err-feed
 returns-in_err-feed c =
-    let fed = rw c.new-feeder.ensures at c.in_err-feed.ensures in
-    let told = err_from_is_err_and c.from_residual.result c.from_residual.ensures.1 in
-    rw (told.1, told.2)
-    (whole_told c.args.text.now c.feed.new.self.bytes c.feed.new.self.limit c.in_err-feed.field-0.0 fed.limit fed.bytes fed.answer.0)
+    let fed = rw c.new-push_reader.ensures at c.in_err-feed.ensures in
+    let reported = err_from_is_err_and c.from_residual.result c.from_residual.ensures.1 in
+    rw (reported.1, reported.2)
+    (whole_reported c.args.text.now c.feed.new.self.bytes c.feed.new.self.limit c.in_err-feed.field-0.0 fed.limit fed.bytes fed.answer.0)
 
 pub returns : goal.returns
 returns c =
-    let fed = rw c.new-feeder.ensures at c.in_ok-feed.ensures in
+    let fed = rw c.new-push_reader.ensures at c.in_ok-feed.ensures in
     rw (fed.answer.1, fed.bytes) at c.finish_packed.ensures

@@ -23,7 +23,7 @@ loop-number-init g c =
       within = omega arith;
       sent = Appends-nil _;
       left = ap (λ t. t ++ bids_text file.goods 0 file.bids) c.requires.header;
-      room = c.requires.room;
+      space = c.requires.space;
       counted = omega arith;
     }
 
@@ -32,21 +32,21 @@ returns-in_err-written-clause-sends g c =
     let now = c.loop-number in
     let file : PlainFile = g.B.Bids.file c.args.file.now in
     let wrote = c.in_err-written.ensures in
-    failed_in_piece g.W.Write.contents c.args.out.now now.out c.make_room.new.out now.written now.page.items now.page.items
+    failed_in_piece g.W.Write.contents c.args.out.now now.out c.flush_unless_fits.new.out now.written now.page.items now.page.items
     (bids_text file.goods now.number (drop now.number file.bids))
     (layout file) c.in_err-written.field-0.0 refl now.invariant.left now.invariant.within now.invariant.sent
     wrote.counts wrote.part _ c.from_residual.ensures.1
 
-pub make_room-requires-clause-counted : goal.make_room-requires-clause-counted
-make_room-requires-clause-counted g c =
+pub flush_unless_fits-requires-clause-counted : goal.flush_unless_fits-requires-clause-counted
+flush_unless_fits-requires-clause-counted g c =
     let bound : length (g.B.Bids.file c.args.file.now).bids ≤ 65536 = c.requires.file.count in
     omega (arith, c.loop-number.invariant.counted)
 
 pub unreachable-requires : goal.unreachable-requires
 unreachable-requires g c =
-    let room = c.loop-number.invariant.room in
+    let space = c.loop-number.invariant.space in
     let wrote = c.in_ok-written.ensures in
-    false≢true (c.in_default.ensures.succeeds (omega (arith, room, wrote.capacity, wrote.room)))
+    false≢true (c.in_default.ensures.succeeds (omega (arith, space, wrote.capacity, wrote.space)))
 
 pub loop-number-preserved : goal.loop-number-preserved
 loop-number-preserved g c =
@@ -56,7 +56,7 @@ loop-number-preserved g c =
     let count = c.in_ok-written.written in
     let line = c.write_bid-start.ensures.written in
     let text = rest_of LONGEST_LINE c.write_bid-start.result c.write_bid-start.new.line (c.write_bid-start.auto.line ∙ c.loop-number-test.array_long) in
-    let held = c.in-Ok.ensures.items ∙ ap (λ (t : List ℕ). c.make_room.new.page.items ++ t) text in
+    let held = c.in-Ok.ensures.items ∙ ap (λ (t : List ℕ). c.flush_unless_fits.new.page.items ++ t) text in
     record {
       working = wrote.sent.works;
       ended = wrote.ended ∙ now.invariant.ended;
@@ -64,8 +64,8 @@ loop-number-preserved g c =
       sent = sent_on now.written count now.page.items _ (layout file) wrote.count.0 wrote.count.1 now.invariant.left _ _ _ now.invariant.sent
           wrote.sent.appended;
       left = line_held file.goods file.bids now.number line.0 now.written count now.page.items _ _ (layout file)
-          line.1 wrote.count.0 wrote.count.1 now.invariant.left wrote.left (held ∙ ap (λ (t : List ℕ). c.make_room.new.page.items ++ t) line.2);
-      room = omega (arith, now.invariant.room, wrote.capacity, c.in-Ok.ensures.capacity);
+          line.1 wrote.count.0 wrote.count.1 now.invariant.left wrote.left (held ∙ ap (λ (t : List ℕ). c.flush_unless_fits.new.page.items ++ t) line.2);
+      space = omega (arith, now.invariant.space, wrote.capacity, c.in-Ok.ensures.capacity);
       counted = omega (
         arith,
         now.invariant.counted,
@@ -74,7 +74,7 @@ loop-number-preserved g c =
         ap length wrote.left,
         length-drop (count - now.written) now.page.items,
         ap length held,
-        length-append c.make_room.new.page.items (drop c.write_bid-start.result c.write_bid-start.new.line),
+        length-append c.flush_unless_fits.new.page.items (drop c.write_bid-start.result c.write_bid-start.new.line),
         length-drop c.write_bid-start.result c.write_bid-start.new.line,
         c.write_bid-start.auto.line ∙ c.loop-number-test.array_long,
       );

@@ -13,6 +13,6 @@ invariant-loop-number g l = let file = g.B.Bids.file l.file in record {
   within : l.written ≤ length (layout file);
   sent : Appends (g.W.Write.contents (inner_of l.fn.out)) (g.W.Write.contents (inner_of l.out)) (take l.written (layout file));
   left : l.page.items ++ bids_text file.goods l.number (drop l.number file.bids) ≡ drop l.written (layout file);
-  room : PAGE ≤ vec_capacity l.page;
+  space : PAGE ≤ vec_capacity l.page;
   counted : l.written + length l.page.items ≤ 128 + LONGEST_LINE * l.number;
 }

@@ -1,4 +1,4 @@
--- One more piece went out: what went out is still the beginning of the text, and the writer still works.
+-- One more piece was sent: what was sent is still the beginning of the text, and the writer still works.
 use Rattle.std.proofs.Common.{arith, ◌≡◌, ◌<◌, ◌≤◌, ◌∷◌, List, [], length, take, drop, false, ℕ, ◌+◌, ◌-◌, Ok, Option, refl, ◌∙◌}
 use Rattle.std.proofs.Math.Seq.{take-add, take-length}
 use Rattle.std.proofs.lemmas.List.{length-drop}

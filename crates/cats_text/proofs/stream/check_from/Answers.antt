@@ -1,23 +1,23 @@
--- The header lines of all bytes that were fed, or the fault that feeding them told.
+-- The header lines of all bytes that were fed, or the fault that feeding them reported.
 use Rattle.std.proofs.lemmas.Result.{err_from_is_err_and}
-use Rattle.cats_text.proofs.Feeding.Streams.{checked_told, ended_told}
+use Rattle.cats_text.proofs.Feeding.Streams.{checked_reported, ended_reported}
 use Rattle.cats_text.proofs.stream.check_from.Goals as goal
 
 pub feed_from-requires-clause-new : goal.feed_from-requires-clause-new
-feed_from-requires-clause-new g c = c.new-feeder.ensures
+feed_from-requires-clause-new g c = c.new-push_reader.ensures
 
 pub returns-in_err-feed_from : goal.returns-in_err-feed_from
 returns-in_err-feed_from g c =
-    let told = err_from_is_err_and c.from_residual.result c.from_residual.ensures.1 in
-    (c.feed_from.new.feeder.bytes, c.in_err-feed_from.ensures.bytes, rw (told.1, told.2) c.in_err-feed_from.ensures.answer)
+    let reported = err_from_is_err_and c.from_residual.result c.from_residual.ensures.1 in
+    (c.feed_from.new.push_reader.bytes, c.in_err-feed_from.ensures.bytes, rw (reported.1, reported.2) c.in_err-feed_from.ensures.answer)
 
 pub returns-in_err-header : goal.returns-in_err-header
 returns-in_err-header g c =
-    let told = err_from_is_err_and c.from_residual-in_err-header.result c.from_residual-in_err-header.ensures.1 in
+    let reported = err_from_is_err_and c.from_residual-in_err-header.result c.from_residual-in_err-header.ensures.1 in
     let fed = c.in_ok-feed_from.ensures.answer in (
-      c.feed_from.new.feeder.bytes,
+      c.feed_from.new.push_reader.bytes,
       c.in_ok-feed_from.ensures.bytes,
-      rw (told.1, told.2) (ended_told g.R.Read.remaining c.feed_from.new.feeder.bytes c.feed_from.new.input c.in_err-header.field-0.0 fed.1 fed.2
+      rw (reported.1, reported.2) (ended_reported g.R.Read.remaining c.feed_from.new.push_reader.bytes c.feed_from.new.input c.in_err-header.field-0.0 fed.1 fed.2
           (rw fed.0 at c.in_err-header.ensures)),
     )
 
@@ -25,7 +25,7 @@ pub returns : goal.returns
 returns g c =
     let fed = c.in_ok-feed_from.ensures.answer in
     let says = rw fed.0 at c.in_ok-header.ensures in (
-      c.feed_from.new.feeder.bytes,
+      c.feed_from.new.push_reader.bytes,
       c.in_ok-feed_from.ensures.bytes,
-      checked_told g.R.Read.remaining _ c.feed_from.new.feeder.bytes c.feed_from.new.input c.in_ok-header.header _ fed.1 fed.2 says,
+      checked_reported g.R.Read.remaining _ c.feed_from.new.push_reader.bytes c.feed_from.new.input c.in_ok-header.header _ fed.1 fed.2 says,
     )

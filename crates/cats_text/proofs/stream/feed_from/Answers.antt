@@ -6,7 +6,7 @@ use Rattle.std.proofs.KnownBytes.{Consumes-trans, Consumes-kept}
 use Rattle.std.specs.Io.KnownBytes.{Consumes}
 use Rattle.cats_text.specs.Streams.{moved_nothing}
 use Rattle.cats_text.proofs.Texts.FaultKinds.{fed_within}
-use Rattle.cats_text.proofs.Feeding.Streams.{fed_told}
+use Rattle.cats_text.proofs.Feeding.Streams.{fed_reported}
 use Rattle.cats_text.proofs.stream.feed_from.Goals as goal
 
 -- a read that gave nothing
@@ -15,23 +15,23 @@ no_more a b c bytes piece n none came gave =
     let joined = Consumes-trans a b c bytes [] came (rw none at gave) in rw append-nil at joined
 
 at_the_end : (before : Bool) (n : ℕ) (piece : List ℕ) → n ≡ 0 → 0 < length piece → (before || moved_nothing (Ok n) piece) ≡ true
-at_the_end before n [] none room = absurd (omega arith)
-at_the_end before n (byte ∷ piece) none room = grind arith
+at_the_end before n [] none space = absurd (omega arith)
+at_the_end before n (byte ∷ piece) none space = grind arith
 
 pub returns-in-Ok-eq0 : goal.returns-in-Ok-eq0
 returns-in-Ok-eq0 g c =
     let none = c.in-Ok-eq0.field-0-test in
     let kept = c.loop-count.invariant in
     let gave = c.in-Ok-eq0.ensures in
-    let room : 0 < length c.read.new.piece = rw c.read.auto.piece kept.room in
+    let space : 0 < length c.read.new.piece = rw c.read.auto.piece kept.space in
     record {
-      bytes = no_more _ _ _ c.loop-count.feeder.bytes c.read.new.piece c.in-Ok-eq0.field-0 none kept.came gave.bytes.0;
+      bytes = no_more _ _ _ c.loop-count.push_reader.bytes c.read.new.piece c.in-Ok-eq0.field-0 none kept.came gave.bytes.0;
       answer = (
         kept.working,
         gave.failed,
         record {
-          ended = gave.ended ∙ at_the_end _ c.in-Ok-eq0.field-0 c.read.new.piece none room;
-          at_end = gave.bytes.1 none room;
+          ended = gave.ended ∙ at_the_end _ c.in-Ok-eq0.field-0 c.read.new.piece none space;
+          at_end = gave.bytes.1 none space;
           no_fault = kept.no_fault;
         },
       );
@@ -49,8 +49,8 @@ pub loop-count-smaller : goal.loop-count-smaller
 loop-count-smaller g c =
     let kept = c.loop-count.invariant in
     let fed = rw kept.working at c.in_ok-feed-in-Ok.ensures in
-    let before = fed_within MAX_STREAM c.loop-count.feeder.bytes kept.no_fault in
-    let grown = more_bytes c.loop-count.feeder.bytes _ c.feed.new.self.bytes c.in-Ok.count c.in-Ok.count-test.1 c.in-Ok.ensures.bound.1 fed.bytes in
+    let before = fed_within MAX_STREAM c.loop-count.push_reader.bytes kept.no_fault in
+    let grown = more_bytes c.loop-count.push_reader.bytes _ c.feed.new.self.bytes c.in-Ok.count c.in-Ok.count-test.1 c.in-Ok.ensures.bound.1 fed.bytes in
     omega arith
 
 pub loop-count-preserved : goal.loop-count-preserved
@@ -62,21 +62,21 @@ loop-count-preserved g c =
       limit = limit;
       working = fed.answer.1;
       no_fault = rw limit at fed.answer.0;
-      came = came_more _ _ _ c.loop-count.feeder.bytes _ c.feed.new.self.bytes kept.came c.in-Ok.ensures.bytes.0 fed.bytes;
+      came = came_more _ _ _ c.loop-count.push_reader.bytes _ c.feed.new.self.bytes kept.came c.in-Ok.ensures.bytes.0 fed.bytes;
       device = c.in-Ok.ensures.failed;
-      room = rw c.read.auto.piece kept.room;
+      space = rw c.read.auto.piece kept.space;
     }
 
 pub returns-in_err-feed-in-Ok : goal.returns-in_err-feed-in-Ok
 returns-in_err-feed-in-Ok g c =
     let kept = c.loop-count.invariant in
     let fed = rw kept.working at c.in_err-feed-in-Ok.ensures in
-    let told = err_from_is_err_and c.from_residual.result c.from_residual.ensures.1 in
+    let reported = err_from_is_err_and c.from_residual.result c.from_residual.ensures.1 in
     let limit = fed.limit ∙ kept.limit in
     record {
-      bytes = came_more _ _ _ c.loop-count.feeder.bytes _ c.feed.new.self.bytes kept.came c.in-Ok.ensures.bytes.0 fed.bytes;
-      answer = rw (told.1, told.2)
-          (fed_told g.R.Read.remaining c.feed.new.self.bytes c.read.new.self c.in_err-feed-in-Ok.field-0.0 c.in-Ok.ensures.failed
+      bytes = came_more _ _ _ c.loop-count.push_reader.bytes _ c.feed.new.self.bytes kept.came c.in-Ok.ensures.bytes.0 fed.bytes;
+      answer = rw (reported.1, reported.2)
+          (fed_reported g.R.Read.remaining c.feed.new.self.bytes c.read.new.self c.in_err-feed-in-Ok.field-0.0 c.in-Ok.ensures.failed
           (rw limit at fed.answer.0));
     }
 
@@ -84,6 +84,6 @@ pub returns-in-Err : goal.returns-in-Err
 returns-in-Err g c =
     let kept = c.loop-count.invariant in
     record {
-      bytes = Consumes-kept _ _ _ c.loop-count.feeder.bytes kept.came c.in-Err.ensures.bytes;
+      bytes = Consumes-kept _ _ _ c.loop-count.push_reader.bytes kept.came c.in-Err.ensures.bytes;
       answer = rw c.device_failed.ensures (refl, c.in-Err.ensures.failed, kept.no_fault);
     }

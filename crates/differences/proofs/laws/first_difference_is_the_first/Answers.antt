@@ -1,4 +1,4 @@
-use Rattle.canon.proofs.Sames.{HasAtoms-auction}
+use Rattle.canon.proofs.CanonicalAuctions.Sames.{HasAtoms-auction}
 use Rattle.differences.proofs.BeginAuctions.{begins_with_first, none_exactly_for_same}
 use Rattle.differences.proofs.laws.first_difference_is_the_first.Goals as goal
 

@@ -4,7 +4,7 @@ use Rattle.std.proofs.lemmas.List.{map_push, take_all}
 use Rattle.std.specs.List.{slice_get}
 use Rattle.bid_file.specs.declared.bid.Bid.{Bid}
 use Rattle.bid_file.specs.Files.{IsBidFile, PlainBid, PlainFile, plain_bid, plain_bids}
-use Rattle.bid_file.proofs.Offers.{take_bid}
+use Rattle.bid_file.proofs.Spans.{take_bid}
 use Rattle.bid_file.proofs.packed.PackedFile.to_file.Goals as goal
 
 pub loop-number-preserved : goal.loop-number-preserved

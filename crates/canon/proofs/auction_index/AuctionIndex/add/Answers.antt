@@ -1,9 +1,9 @@
 use Rattle.std.proofs.Common.{◌≡◌, ◌+◌, arith, subst}
-use Rattle.canon.proofs.Answering.{text_of_normal}
+use Rattle.canon.proofs.Comparing.Answering.{text_of_normal}
 use Rattle.canon.specs.Canonical.{canonical_text}
 use Rattle.canon.specs.FirstPlaces.{AddsText, TextIndex}
-use Rattle.canon.proofs.Indexing.{added_text, seen_texts}
-use Rattle.canon.proofs.Texts.{text_of_file}
+use Rattle.canon.proofs.Comparing.Indexing.{added_text, seen_texts}
+use Rattle.canon.proofs.CanonicalFiles.Texts.{text_of_file}
 use Rattle.canon.proofs.auction_index.AuctionIndex.add.Goals as goal
 
 pub returns-clause-added : goal.returns-clause-added

@@ -1,4 +1,4 @@
-use Rattle.canon.proofs.Indexing.{stream_added, stream_unread}
+use Rattle.canon.proofs.Comparing.Indexing.{stream_added, stream_unread}
 use Rattle.canon.proofs.auction_index.AuctionIndex.add_from.Goals as goal
 
 pub returns-in_err-file : goal.returns-in_err-file
@@ -12,5 +12,5 @@ returns g c =
     let read = c.in_ok-file.ensures in
     let added = c.add.ensures in
     stream_added g.R.Read.remaining c.args.limit c.args.self.now c.add.new.self c.args.input.now c.read_packed_from.new.input read.0 c.in_ok-file.file
-    read.1 read.2 c.add.result added.added added.light
+    read.1 read.2 c.add.result added.added added.within_limit
     added.refused added.unchanged

@@ -1,6 +1,6 @@
 use Rattle.std.proofs.Common.{◌≡◌, ◌∙◌, length, sym, ap, slice_get, arith}
 use Rattle.std.specs.List.{slice_range}
-use Rattle.canon.proofs.BidRuns.{get_in_range, range_length}
+use Rattle.canon.proofs.Walks.BidRuns.{get_in_range, range_length}
 use Rattle.canon.proofs.bid_run.BidRun.at.Goals as goal
 
 pub returns : goal.returns

@@ -1,6 +1,6 @@
 use Rattle.std.proofs.Common.{◌∙◌, sym, arith}
 use Rattle.bid_file.specs.Views.{seen_bid}
-use Rattle.canon.proofs.BidRuns.{one_more_leads, none_leads}
+use Rattle.canon.proofs.Walks.BidRuns.{one_more_leads, none_leads}
 use Rattle.canon.proofs.bid_run.BidRun.count_leading.Goals as goal
 
 pub loop-count-preserved : goal.loop-count-preserved

@@ -1,6 +1,6 @@
 use Rattle.std.proofs.Common.{◌≡◌, ◌∙◌, length, drop, ap, arith}
 use Rattle.std.specs.List.{slice_range}
-use Rattle.canon.proofs.BidRuns.{range_length, rest_of_range}
+use Rattle.canon.proofs.Walks.BidRuns.{range_length, rest_of_range}
 use Rattle.canon.proofs.bid_run.BidRun.from.Goals as goal
 
 pub returns : goal.returns

@@ -2,7 +2,7 @@ use Rattle.std.proofs.Common.{◌∙◌, List, sym, ap}
 use Rattle.std.specs.List.{slice_get}
 use Rattle.std.specs.Option.{option_copied}
 use Rattle.valuation.specs.declared.atom.Atom.{Atom}
-use Rattle.canon.proofs.BidderKeys.{key_of_first, key_of_none}
+use Rattle.canon.proofs.CanonicalFiles.BidderKeys.{key_of_first, key_of_none}
 use Rattle.canon.proofs.keyed_bidder.KeyedBidder.new.Goals.{in-Some, in-None}
 use Rattle.canon.proofs.keyed_bidder.KeyedBidder.new.Goals as goal
 

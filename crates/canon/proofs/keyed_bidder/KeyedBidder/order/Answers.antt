@@ -3,7 +3,7 @@ use Rattle.goods_set.specs.Lemmas.Members.{AreBelow-higher}
 use Rattle.valuation.specs.Orders.{bidder_cmp}
 use Rattle.valuation.specs.Values.{atoms_of}
 use Rattle.canon.specs.Internal.BidderKeys.{bidder_key}
-use Rattle.canon.proofs.BidderKeys.{order_by_bidder_key, decided}
+use Rattle.canon.proofs.CanonicalFiles.BidderKeys.{order_by_bidder_key, decided}
 use Rattle.canon.proofs.keyed_bidder.KeyedBidder.order.Goals as goal
 
 pub returns-in_default : goal.returns-in_default

@@ -1,4 +1,4 @@
--- What is kept of the bid stands at its number, and its goods are gone.
+-- What is kept of the bid is at its number, and its goods are gone.
 use Rattle.std.proofs.Common.{◌≡◌, ◌∙◌, ℕ, ◌-◌, [], Ok, sym, ap}
 use Rattle.cats_text.specs.FileLines.{put_slot}
 use Rattle.cats_text.specs.Internal.Parsing.{drafted}

@@ -5,8 +5,8 @@ use Rattle.cats_text.proofs.reader.Reader.finish.Goals as goal
 
 pub returns-in_err-file : goal.returns-in_err-file
 returns-in_err-file c =
-    let told = err_from_is_err_and c.from_residual.result c.from_residual.ensures.1 in
-    rw (← c.self.view_is, told.1, told.2) (fault_as c.self.inside.feeder c.in_err-file.field-0.0 c.in_err-file.ensures)
+    let reported = err_from_is_err_and c.from_residual.result c.from_residual.ensures.1 in
+    rw (← c.self.view_is, reported.1, reported.2) (fault_as c.self.inside.push_reader c.in_err-file.field-0.0 c.in_err-file.ensures)
 
 pub returns : goal.returns
-returns c = rw (← c.self.view_is) (unpacked_as c.self.inside.feeder c.in_ok-file.file c.unpacked.result c.unpacked.ensures c.in_ok-file.ensures)
+returns c = rw (← c.self.view_is) (unpacked_as c.self.inside.push_reader c.in_ok-file.file c.unpacked.result c.unpacked.ensures c.in_ok-file.ensures)

@@ -1,6 +1,6 @@
 -- The bytes so far are scanned; what goes on from there, and one more byte where it stops short, make the scan longer.
 use Rattle.std.proofs.Common.{◌≡◌, ◌≢◌, ◌+◌, ◌≤◌, ◌<◌, Ok, length, drop, get_or, arith, rules}
-use Rattle.cats_text.specs.Internal.Scanning.{state, scan, byte_step, IsScanned, Steps, Asks}
+use Rattle.cats_text.specs.Internal.Scanning.{state, scan, byte_step, IsScanned, Steps, NeedsMemory}
 use Rattle.cats_text.specs.Internal.Returns.{settled, return_byte}
 use Rattle.cats_text.proofs.Scanning.Rests.{scan_byte_at, scan_last_return_at, scan_return_at}
 use Rattle.cats_text.proofs.Scanning.WholeWords.{rest_scanned, byte_stops, residual_is}
@@ -32,7 +32,7 @@ returns-in_err-take_byte-clause-memory g c =
     let ne : get_or c.args.bytes.now (c.loop-place.place + c.in_ok-place.field-0) 0 ≢ 13 = c.if-bytes-place-ne13.true in
     let stops = byte_stops _ _ _ (state g.K.Keep.keep c.take_byte.new.self) _ _ c.args.bytes.now c.loop-place.place c.in_ok-place.field-0 c.in_err-take_byte.field-0.0
     c.loop-place-test.true c.loop-place.invariant.0 c.in_ok-place.ensures.scanned here ne c.in_err-take_byte.ensures.steps c.in_err-take_byte.ensures.memory in
-    residual_is c.from_residual-in_err-take_byte.result c.in_err-take_byte.field-0.0 (λ r. Asks (state g.K.Keep.keep c.args.self.now) (settled c.args.bytes.now) r)
+    residual_is c.from_residual-in_err-take_byte.result c.in_err-take_byte.field-0.0 (λ r. NeedsMemory (state g.K.Keep.keep c.args.self.now) (settled c.args.bytes.now) r)
     c.from_residual-in_err-take_byte.ensures.0 c.from_residual-in_err-take_byte.ensures.1 stops.1
 
 pub loop-place-preserved : goal.loop-place-preserved

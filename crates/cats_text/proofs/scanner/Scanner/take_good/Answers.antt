@@ -4,11 +4,11 @@ use Rattle.cats_text.proofs.Scanning.ManyGoods.{good_taken, good_halts}
 use Rattle.cats_text.proofs.scanner.Scanner.take_good.Goals as goal
 
 pub returns-clause-scanned : goal.returns-clause-scanned
-returns-clause-scanned g c bytes front = good_taken (state g.K.Keep.keep c.args.self.now) (progress g.K.Keep.keep c.take_good.new.self) c.args.self.now.waiting bytes c.args.good
-    c.args.taken c.requires.due front c.in_default.ensures.reads c.in_default.ensures.stage c.requires.waits
+returns-clause-scanned g c bytes leading_token = good_taken (state g.K.Keep.keep c.args.self.now) (progress g.K.Keep.keep c.take_good.new.self) c.args.self.now.waiting bytes c.args.good
+    c.args.taken c.requires.due leading_token c.in_default.ensures.reads c.in_default.ensures.stage c.requires.waits
 
 pub returns-in-Err-clause-scanned : goal.returns-in-Err-clause-scanned
-returns-in-Err-clause-scanned g c bytes front = good_halts (state g.K.Keep.keep c.args.self.now)
+returns-in-Err-clause-scanned g c bytes leading_token = good_halts (state g.K.Keep.keep c.args.self.now)
     (state g.K.Keep.keep (record c.args.self.now { parser = c.take_good.new.self }))
     (progress g.K.Keep.keep c.take_good.new.self) c.args.self.now.waiting bytes c.args.good c.args.taken c.in-Err.stop c.at.result
-    c.requires.due front c.in-Err.ensures.reads (c.in-Err.ensures.memory c.requires.due.stage) c.at.ensures
+    c.requires.due leading_token c.in-Err.ensures.reads (c.in-Err.ensures.memory c.requires.due.stage) c.at.ensures

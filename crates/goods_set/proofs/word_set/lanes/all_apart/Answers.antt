@@ -9,8 +9,8 @@ returns-then-shared-ne0 c =
     let xs = c.args.one.now in
     let ys = c.args.other.now in
     let i : ℕ = c.loop-i.i in
-    let room : i + 8 ≤ length xs = omega arith in
-    let s = some_here (bit_and) xs ys i _ (lanes_shared xs ys i room c.requires) room c.if-shared-ne0.true in
+    let space : i + 8 ≤ length xs = omega arith in
+    let s = some_here (bit_and) xs ys i _ (lanes_shared xs ys i space c.requires) space c.if-shared-ne0.true in
     sym (words_sharing (length xs) xs ys s.place (λ k. (c.type_inv.one k).fits) s.within s.holds)
 
 pub loop-i-preserved : goal.loop-i-preserved
@@ -18,8 +18,8 @@ loop-i-preserved c =
     let xs = c.args.one.now in
     let ys = c.args.other.now in
     let i : ℕ = c.loop-i.i in
-    let room : i + 8 ≤ length xs = omega arith in
-    record { within = room; none = none_more (bit_and) xs ys i _ (lanes_shared xs ys i room c.requires) c.if-shared-ne0.false c.loop-i.invariant.none }
+    let space : i + 8 ≤ length xs = omega arith in
+    record { within = space; none = none_more (bit_and) xs ys i _ (lanes_shared xs ys i space c.requires) c.if-shared-ne0.false c.loop-i.invariant.none }
 
 pub returns-then-one-k-ne0 : goal.returns-then-one-k-ne0
 returns-then-one-k-ne0 c =

@@ -10,8 +10,8 @@ returns-then-outside-ne0 c =
     let xs = c.args.inner.now in
     let ys = c.args.outer.now in
     let i : ℕ = c.loop-i.i in
-    let room : i + 8 ≤ length xs = omega arith in
-    let s = some_here (λ x y. bit_and x (bit_not w64 y)) xs ys i _ (lanes_outside xs ys i room c.requires) room c.if-outside-ne0.true in
+    let space : i + 8 ≤ length xs = omega arith in
+    let s = some_here (λ x y. bit_and x (bit_not w64 y)) xs ys i _ (lanes_outside xs ys i space c.requires) space c.if-outside-ne0.true in
     sym (words_outside (length xs) xs ys s.place (λ k. (c.type_inv.inner k).fits) (λ k. (c.type_inv.outer k).fits) s.within s.holds)
 
 pub loop-i-preserved : goal.loop-i-preserved
@@ -19,10 +19,10 @@ loop-i-preserved c =
     let xs = c.args.inner.now in
     let ys = c.args.outer.now in
     let i : ℕ = c.loop-i.i in
-    let room : i + 8 ≤ length xs = omega arith in
+    let space : i + 8 ≤ length xs = omega arith in
     record {
-      within = room;
-      none = none_more (λ x y. bit_and x (bit_not w64 y)) xs ys i _ (lanes_outside xs ys i room c.requires) c.if-outside-ne0.false
+      within = space;
+      none = none_more (λ x y. bit_and x (bit_not w64 y)) xs ys i _ (lanes_outside xs ys i space c.requires) c.if-outside-ne0.false
           c.loop-i.invariant.none;
     }
 

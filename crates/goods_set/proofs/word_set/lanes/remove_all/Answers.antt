@@ -11,11 +11,11 @@ loop-words-preserved c =
     let xs = c.loop-words.words in
     let ys = c.args.taken.now in
     let i : ℕ = c.loop-words.i in
-    let room : i + 8 ≤ length xs = omega arith in
-    let lanes = lanes_outside xs ys i room (omega arith) in
+    let space : i + 8 ≤ length xs = omega arith in
+    let lanes = lanes_outside xs ys i space (omega arith) in
     record {
       within = omega (arith, length-put_chunk {A = ℕ});
-      done = written_more (λ x y. bit_and x (bit_not w64 y)) c.args.words.now xs ys i _ lanes room c.loop-words.invariant.done c.loop-words.invariant.rest;
+      done = written_more (λ x y. bit_and x (bit_not w64 y)) c.args.words.now xs ys i _ lanes space c.loop-words.invariant.done c.loop-words.invariant.rest;
       rest = unwritten_more (λ x y. bit_and x (bit_not w64 y)) c.args.words.now xs ys i _ lanes c.loop-words.invariant.rest;
     }
 

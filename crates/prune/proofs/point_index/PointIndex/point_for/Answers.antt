@@ -5,8 +5,8 @@ use Rattle.valuation.specs.Values.{atoms_of, xor_value}
 use Rattle.prune.proofs.PointPlaces.{xor_short}
 use Rattle.prune.proofs.point_index.PointIndex.point_for.Goals as goal
 
-pub returns-then-points-le-FEW-clause-none : goal.returns-then-points-le-FEW-clause-none
-returns-then-points-le-FEW-clause-none g c = λ none positive.
+pub returns-then-points-le-PAIRWISE-clause-none : goal.returns-then-points-le-PAIRWISE-clause-none
+returns-then-points-le-PAIRWISE-clause-none g c = λ none positive.
     let goods = g.S.GoodsSet.goods in
     let bundle : List ℕ = goods c.args.bid.now.bundle in
     subst (λ (points : List (Atom (List ℕ))). xor_value points bundle < c.args.bid.now.price) c.self.view_is

@@ -1,0 +1,107 @@
+-- The canonical auction has no more atoms and no more bidders than the auction, so it is an auction too. Points are atoms on
+-- different bundles, so each takes an atom of its own.
+use Rattle.std.proofs.Common.{◌≡◌, ℕ, ◌+◌, ◌≤◌, true, false, ⊎_elim, List, [], ◌∷◌, length, refl, sym, ap, subst, arith}
+use Rattle.std.specs.Prelude.{All, Contains, sum_by, remove}
+use Rattle.std.proofs.lemmas.Bool.{cases_Bool}
+use Rattle.std.proofs.lemmas.List.Elements.{All-head, All-tail, All-contains}
+use Rattle.std.proofs.lemmas.List.Sorted.{IsPermutation-remove, Contains-permutation, length_permutation}
+use Rattle.std.proofs.lemmas.List.Sums.{sum_by-cons}
+use Rattle.valuation.specs.declared.atom.Atom.{Atom}
+use Rattle.valuation.specs.Auctions.{PlainAuction, IsAtom, IsAuction}
+use Rattle.valuation.specs.Lemmas.Lists.{Contains-cons_cases, AllPairs-head, AllPairs-tail}
+use Rattle.valuation.specs.Orders.{bidder_cmp}
+use Rattle.valuation.specs.Sorting.{sort_by}
+use Rattle.valuation.specs.Lemmas.Sorting.{sum_by-sort_by}
+use Rattle.valuation.specs.Tables.{xor_table, is_nonzero}
+use Rattle.prune.specs.InOrder.{IsBefore, IsInOrder}
+use Rattle.prune.specs.Lemmas.InOrder.{before_itself}
+use Rattle.prune.specs.Lemmas.Lists.{All-from_Contains, Contains-tail}
+use Rattle.prune.specs.Lemmas.KeptBids.{just_bundles, or_points_are_atoms, xor_points_are_atoms, on_bundles}
+use Rattle.prune.specs.Lemmas.Points.{points_where-in_order}
+use Rattle.prune.specs.Points.{or_points, xor_points, is_or_point, is_xor_point}
+use Rattle.valuation.specs.Values.{or_value, xor_value}
+use Rattle.canon.specs.Canonical.{canonical_auction, points_of_bidders}
+use Rattle.canon.proofs.CanonicalAuctions.Atoms.{HasAtoms}
+use Rattle.canon.proofs.CanonicalAuctions.Counting.{points_more, points_without}
+use Rattle.canon.proofs.CanonicalAuctions.Sames.{HasAtoms-auction, HasAtoms-canonical}
+
+-- atoms in order, each in a list, are no more than the list has
+no_more : (points atoms : List (Atom (List ℕ))) → IsInOrder points → All (Contains atoms) points → length points ≤ length atoms
+no_more [] atoms s h = omega arith
+no_more (x ∷ rest) atoms s h =
+    let c = All-head (Contains atoms) x rest h in
+    let p = IsPermutation-remove atoms c.0 x c.1 (sym c.2) in
+    let later = no_more rest (remove atoms c.0) (AllPairs-tail IsBefore x rest s)
+    (All-from_Contains (Contains (remove atoms c.0)) rest (λ y d.
+    ⊎_elim
+    (λ (e : x ≡ y). absurd (before_itself y.bundle
+    (subst (λ (z : Atom (List ℕ)). IsBefore z y) e (All-contains (IsBefore x) rest y (AllPairs-head IsBefore x rest s) d))))
+    (λ (k : Contains (remove atoms c.0) y). k)
+    (Contains-cons_cases x (remove atoms c.0) y
+    (Contains-permutation atoms (x ∷ remove atoms c.0) y p (All-contains (Contains atoms) (x ∷ rest) y h (Contains-tail x rest y d)))))) in
+    let long = length_permutation atoms (x ∷ remove atoms c.0) p in
+    omega arith
+
+pub length-or_points : (goods : ℕ) (atoms : List (Atom (List ℕ))) → All (IsAtom goods) atoms → length (or_points goods atoms) ≤ length atoms
+length-or_points goods atoms h =
+    no_more (or_points goods atoms) atoms (points_where-in_order (is_or_point goods atoms) (or_value atoms) goods)
+    (or_points_are_atoms goods atoms (on_bundles goods atoms h))
+
+pub length-xor_points : (goods : ℕ) (atoms : List (Atom (List ℕ))) → All (IsAtom goods) atoms → length (xor_points goods atoms) ≤ length atoms
+length-xor_points goods atoms h =
+    no_more (xor_points goods atoms) atoms (points_where-in_order (is_xor_point atoms) (xor_value atoms) goods)
+    (xor_points_are_atoms goods atoms (just_bundles goods atoms (on_bundles goods atoms h)))
+
+-- so many in all, by what each counts
+no_more_bidders : (goods : ℕ) (f : List (Atom (List ℕ)) → ℕ) → ((b : List (Atom (List ℕ))) → All (IsAtom goods) b → f (xor_points goods b) ≤ f b)
+    → (bidders : List (List (Atom (List ℕ)))) → All (All (IsAtom goods)) bidders → sum_by f (points_of_bidders goods bidders) ≤ sum_by f bidders
+no_more_bidders goods f less [] h = omega arith
+no_more_bidders goods f less (b ∷ bs) h =
+    let later = no_more_bidders goods f less bs (All-tail (All (IsAtom goods)) b bs h) in
+    let first = less b (All-head (All (IsAtom goods)) b bs h) in
+    let all = sum_by-cons f b bs in
+    ⊎_elim
+    (λ (e : is_nonzero (xor_table b goods) ≡ true).
+    let more = ap (sum_by f) (points_more goods b bs e) in
+    let split = sum_by-cons f (xor_points goods b) (points_of_bidders goods bs) in
+    omega arith)
+    (λ (e : is_nonzero (xor_table b goods) ≡ false). let same = ap (sum_by f) (points_without goods b bs e) in omega arith)
+    (cases_Bool (is_nonzero (xor_table b goods)))
+
+count_is_length : {X : Type 0} (xs : List X) → sum_by (λ x. 1) xs ≡ length xs
+count_is_length [] = refl
+count_is_length {X} (x ∷ xs) = let later = count_is_length xs in omega (arith, sum_by-cons (λ (y : X). 1) x xs)
+
+-- the canonical auction has no more bidders
+pub no_more_canonical_bidders : (a : PlainAuction) → HasAtoms a → length (canonical_auction a).xor_bidders ≤ length a.xor_bidders
+no_more_canonical_bidders a h =
+    let sorted = sort_by bidder_cmp (points_of_bidders a.goods a.xor_bidders) in
+    let one : List (Atom (List ℕ)) → ℕ = λ b. 1 in
+    let same : sum_by one sorted ≡ sum_by one (points_of_bidders a.goods a.xor_bidders) =
+    sum_by-sort_by bidder_cmp one (points_of_bidders a.goods a.xor_bidders) in
+    let fewer = no_more_bidders a.goods one (λ b k. omega arith) a.xor_bidders h.xor_atoms in
+    let long : sum_by one sorted ≡ length sorted = count_is_length sorted in
+    let all : sum_by one a.xor_bidders ≡ length a.xor_bidders = count_is_length a.xor_bidders in
+    omega arith
+
+-- and no more atoms
+pub no_more_canonical_atoms : (a : PlainAuction) → HasAtoms a → length (canonical_auction a).or_atoms + sum_by length (canonical_auction a).xor_bidders
+    ≤ length a.or_atoms + sum_by length a.xor_bidders
+no_more_canonical_atoms a h =
+    let same = sum_by-sort_by bidder_cmp (length {A = Atom (List ℕ)}) (points_of_bidders a.goods a.xor_bidders) in
+    let fewer = no_more_bidders a.goods length (λ b k. length-xor_points a.goods b k) a.xor_bidders h.xor_atoms in
+    let ors = length-or_points a.goods a.or_atoms h.or_atoms in
+    omega arith
+
+pub IsAuction-canonical : (cap : ℕ) (a : PlainAuction) → IsAuction cap a → IsAuction cap (canonical_auction a)
+IsAuction-canonical cap a h =
+    let given = HasAtoms-auction cap a h in
+    let atoms = HasAtoms-canonical a given in
+    record {
+      goods = h.goods;
+      fits = h.fits;
+      or_atoms = atoms.or_atoms;
+      xor_atoms = atoms.xor_atoms;
+      bidders = omega (arith, h.bidders, no_more_canonical_bidders a given);
+      atoms = omega (arith, h.atoms, no_more_canonical_atoms a given);
+    }

@@ -1,0 +1,7 @@
+-- The canonical file and its text: how it is made of an auction, bidder by bidder, and what it represents.
+pub mod Files
+pub mod Texts
+pub mod Filing
+pub mod Numbering
+pub mod Bidders
+pub mod BidderKeys

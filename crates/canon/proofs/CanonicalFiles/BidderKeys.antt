@@ -1,0 +1,50 @@
+-- Bidders are ordered by their keys, where these differ: the bundles of the first atoms are then in the order of the keys, so that these
+-- atoms settle it, or one bidder has no atom.
+use Rattle.std.proofs.Common.{◌≡◌, ℕ, List, [], ◌∷◌, Ordering, Less, Equal, Greater, refl, sym, ap, ◌∙◌, nat_cmp, Some, None}
+use Rattle.std.specs.List.{slice_get}
+use Rattle.std.specs.Ordering.{ordering_then}
+use Rattle.goods_set.specs.Bundles.{AreBelow}
+use Rattle.goods_set.specs.SortKeys.{sort_key_of}
+use Rattle.goods_set.specs.Lemmas.SortKeys.{order_by_key}
+use Rattle.goods_set.specs.Lemmas.Orders.{nat_cmp-lt, nat_cmp-gt, nat_cmp-refl}
+use Rattle.valuation.specs.declared.atom.Atom.{Atom}
+use Rattle.valuation.specs.Orders.{bidder_cmp}
+use Rattle.valuation.specs.Values.{atoms_of}
+use Rattle.canon.specs.Internal.BidderKeys.{bidder_key}
+use Rattle.canon.proofs.CanonicalFiles.Bidders.{positive}
+
+-- what comes first decides, unless it is equal
+first_decides : (o price rest : Ordering) → (o ≡ Equal → ⊥) → o ≡ ordering_then (ordering_then o price) rest
+first_decides Less price rest n = refl
+first_decides Equal price rest n = absurd (n refl)
+first_decides Greater price rest n = refl
+
+pub decided : (o rest : Ordering) → (o ≡ Equal → ⊥) → o ≡ ordering_then o rest
+decided Less rest n = refl
+decided Equal rest n = absurd (n refl)
+decided Greater rest n = refl
+
+pub order_by_bidder_key : {S : Type 0} (goods : S → List ℕ) → ((s : S) → AreBelow 65536 (goods s)) → (one other : List (Atom S))
+    → (nat_cmp (bidder_key (atoms_of goods one)) (bidder_key (atoms_of goods other)) ≡ Equal → ⊥)
+    → nat_cmp (bidder_key (atoms_of goods one)) (bidder_key (atoms_of goods other)) ≡ bidder_cmp (atoms_of goods one) (atoms_of goods other)
+order_by_bidder_key goods below [] [] n = absurd (n (nat_cmp-refl 0))
+order_by_bidder_key goods below [] (b ∷ others) n =
+    let key : ℕ = sort_key_of (goods b.bundle) in
+    nat_cmp-lt 0 key (positive key (λ e. n (ap (nat_cmp 0) e ∙ nat_cmp-refl 0)))
+order_by_bidder_key goods below (a ∷ ones) [] n =
+    let key : ℕ = sort_key_of (goods a.bundle) in
+    nat_cmp-gt key 0 (positive key (λ e. n (ap (λ k. nat_cmp k 0) e ∙ nat_cmp-refl 0)))
+order_by_bidder_key goods below (a ∷ ones) (b ∷ others) n =
+    let bundles = order_by_key (goods a.bundle) (goods b.bundle) (below a.bundle) (below b.bundle) n in
+    bundles ∙ first_decides _ (nat_cmp a.price b.price) (bidder_cmp (atoms_of goods ones) (atoms_of goods others)) (λ e. n (bundles ∙ e))
+
+-- ---- from the first atom, if there is one
+
+pub key_of_first : {S : Type 0} (goods : S → List ℕ) (atoms : List (Atom S)) (first : Atom S) → slice_get atoms 0 ≡ Some first
+    → sort_key_of (goods first.bundle) ≡ bidder_key (atoms_of goods atoms)
+key_of_first goods [] first e = absurd (cc)
+key_of_first {S} goods (a ∷ atoms) first e = let same : a ≡ first = cc in ap (λ (b : Atom S). sort_key_of (goods b.bundle)) (sym same)
+
+pub key_of_none : {S : Type 0} (goods : S → List ℕ) (atoms : List (Atom S)) → slice_get atoms 0 ≡ None → 0 ≡ bidder_key (atoms_of goods atoms)
+key_of_none goods [] e = refl
+key_of_none goods (a ∷ atoms) e = absurd (cc)

@@ -1,0 +1,170 @@
+-- The bidders as the code has them: what holds of each, one more, and putting them in order.
+use Rattle.std.proofs.Common.{◌≡◌, ℕ, ◌<◌, ◌≤◌, ⊎_elim, List, [], ◌∷◌, ◌++◌, length, map, None, sym, ap, ap₂, ◌∙◌, subst}
+use Rattle.std.proofs.Common.{arith, append_assoc, Global}
+use Rattle.std.specs.Prelude.{All, Vec, IsPermutation}
+use Rattle.std.specs.List.Sorted.{IsSortedBy}
+use Rattle.std.specs.Ordering.{is_lt}
+use Rattle.std.proofs.lemmas.List.{map-append, map_push, append-nil, length-append, length-map, nil_from_length}
+use Rattle.std.proofs.lemmas.Simd.{map-map}
+use Rattle.std.proofs.lemmas.List.Elements.{All-contains, All-weaker, Contains-append_right}
+use Rattle.std.proofs.lemmas.List.Sorted.{IsPermutation-map}
+use Rattle.bid_file.specs.declared.limits.TheConstants.{MAX_GOODS, MAX_DUMMY}
+use Rattle.goods_set.specs.Lemmas.Members.{AreBelow-higher}
+use Rattle.valuation.specs.declared.atom.Atom.{Atom}
+use Rattle.valuation.specs.Auctions.{PlainAuction, IsAtom, IsAuction}
+use Rattle.valuation.specs.Lemmas.Atoms.{length-atoms_of}
+use Rattle.valuation.specs.Bidders.{bidders_of}
+use Rattle.valuation.specs.Sorting.{sort_by}
+use Rattle.valuation.specs.Lemmas.Sorting.{sorted_is_sort_by}
+use Rattle.valuation.specs.Values.{atoms_of}
+use Rattle.prune.specs.Lemmas.Lists.{Contains-head, zero_or_more}
+use Rattle.prune.specs.Points.{xor_points, or_points}
+use Rattle.prune.specs.SearchSteps.{first_heavy}
+use Rattle.canon.specs.Canonical.{canonical_auction}
+use Rattle.canon.specs.Internal.KeyedBidders.{NumberedBidder, numbered_points, numbered_cmp, kept_numbers}
+use Rattle.canon.specs.Lemmas.Renaming.{map-sorted}
+use Rattle.canon.proofs.CanonicalFiles.Numbering.{numbered_cmp_total, numbered_cmp_equal, points_push, points_skip, atoms_in_order}
+
+-- atoms over fewer goods are atoms over more
+pub atoms_within : (fewer more : ℕ) (atoms : List (Atom (List ℕ))) → fewer ≤ more → All (IsAtom fewer) atoms → All (IsAtom more) atoms
+atoms_within fewer more atoms l h =
+    All-weaker (IsAtom fewer) (IsAtom more) (λ a p. record {
+      nonempty = p.nonempty;
+      bundle = (p.bundle.0, AreBelow-higher fewer more a.bundle l p.bundle.1);
+      price = p.price;
+    }) atoms h
+
+pub bidders_within : (fewer more : ℕ) (bidders : List (List (Atom (List ℕ)))) → fewer ≤ more → All (All (IsAtom fewer)) bidders
+    → All (All (IsAtom more)) bidders
+bidders_within fewer more bidders l h = All-weaker (All (IsAtom fewer)) (All (IsAtom more)) (λ b p. atoms_within fewer more b l p) bidders h
+
+pub positive : (n : ℕ) → (n ≡ 0 → ⊥) → 0 < n
+positive n h = ⊎_elim (λ (z : n ≡ 0). absurd (h z)) (λ (l : 0 < n). l) (zero_or_more n)
+
+-- what holds of each element holds of one in the middle
+pub all_middle : {X Y : Type 0} (seen : X → Y) (P : Y → Type 0) (all done rest : List X) (x : X) → all ≡ done ++ x ∷ rest → All P (map seen all) → P (seen x)
+all_middle {X} {Y} seen P all done rest x e h =
+    let parts : map seen all ≡ map seen done ++ seen x ∷ map seen rest = ap (map seen) e ∙ map-append seen done (x ∷ rest) in
+    All-contains P (map seen done ++ seen x ∷ map seen rest) (seen x) (subst (λ (ys : List Y). All P ys) parts h)
+    (Contains-append_right (map seen done) (seen x ∷ map seen rest) (seen x) (Contains-head (seen x) (map seen rest)))
+
+-- ---- in order
+
+pub bidders_sorted : {X : Type 0} (seen : X → NumberedBidder) (old new : List X) → IsPermutation old new
+    → IsSortedBy (λ a b. is_lt (numbered_cmp (seen a) (seen b))) new → map seen new ≡ sort_by numbered_cmp (map seen old)
+bidders_sorted seen old new p up =
+    sorted_is_sort_by numbered_cmp numbered_cmp_total numbered_cmp_equal (map seen old) (map seen new) (IsPermutation-map seen old new p)
+    (map-sorted seen (λ a b. is_lt (numbered_cmp a b)) new up)
+
+-- ---- the loop over the bidders
+
+-- the bidders that are done are fewer, where one is still to come
+pub fewer_done : {X : Type 0} (all done left rest : List X) (b : X) → all ≡ done ++ left → left ≡ b ∷ rest → length done < length all
+fewer_done all done left rest b parts next =
+    let long = ap length parts ∙ length-append done left in
+    let some : length left ≡ length (b ∷ rest) = ap length next in
+    omega arith
+
+module _ {S : Type 0} (goods : S → List ℕ) (all done more left rest : List (Vec (Atom S) Global)) (b : Vec (Atom S) Global) (parts : all ≡ done ++ left)
+    (grown : more ≡ done ++ b ∷ []) (next : left ≡ b ∷ rest) where
+  pub bidder_next : (P : List (Atom (List ℕ)) → Type 0) → All P (bidders_of goods all) → P (atoms_of goods b.items)
+  bidder_next P h = all_middle (λ (v : Vec (Atom S) Global). atoms_of goods v.items) P all done rest b (parts
+      ∙ ap (λ (zs : List (Vec (Atom S) Global)). done ++ zs) next) h
+
+  pub bidder_taken : all ≡ more ++ rest
+  bidder_taken =
+      parts ∙ ap (λ (zs : List (Vec (Atom S) Global)). done ++ zs) next ∙ sym (append_assoc done (b ∷ []) rest)
+      ∙ ap (λ (zs : List (Vec (Atom S) Global)). zs ++ rest) (sym grown)
+
+  -- the points so far, each bidder seen with its number
+  module _ {X : Type 0} (seen : X → NumberedBidder) (n : ℕ) (atoms : All (All (IsAtom n)) (bidders_of goods all)) (points : List X)
+      (own : Vec (Atom S) Global) (are : All (IsAtom n) (atoms_of goods b.items) → atoms_of goods own.items ≡ xor_points n (atoms_of goods b.items))
+      (so_far : map seen points ≡ numbered_points n (bidders_of goods done)) where
+    own_atoms : All (IsAtom n) (atoms_of goods b.items)
+    own_atoms = bidder_next (All (IsAtom n)) atoms
+
+    one_more : bidders_of goods more ≡ bidders_of goods done ++ atoms_of goods b.items ∷ []
+    one_more = ap (bidders_of goods) grown ∙ map_push (λ (v : Vec (Atom S) Global). atoms_of goods v.items) done b
+
+    pub points_pushed : (all_points : List X) (made : X) (number : ℕ) → all_points ≡ points ++ made ∷ [] → number ≡ length done
+        → seen made ≡ record { number = number; atoms = atoms_of goods own.items } → 0 < length own.items
+        → map seen all_points ≡ numbered_points n (bidders_of goods more)
+    points_pushed all_points made number e is f some =
+        let count : number ≡ length (bidders_of goods done) = is ∙ sym (length-map done (λ (v : Vec (Atom S) Global). atoms_of goods v.items)) in
+        ap (map seen) e ∙ map_push seen points made
+        ∙ ap₂ (λ (zs : List NumberedBidder) (own : NumberedBidder). zs ++ own ∷ []) so_far
+        (f ∙ ap (λ k. record { number = k; atoms = atoms_of goods own.items }) count)
+        ∙ sym (ap (numbered_points n) one_more
+        ∙ points_push n (bidders_of goods done) (atoms_of goods b.items) (atoms_of goods own.items) own_atoms (are own_atoms)
+        (λ none. let long = length-atoms_of goods own.items in let zero : length (atoms_of goods own.items) ≡ 0 = ap length none in omega arith))
+
+    pub points_skipped : length own.items ≡ 0 → map seen points ≡ numbered_points n (bidders_of goods more)
+    points_skipped zero =
+        let none : atoms_of goods own.items ≡ [] = ap (atoms_of goods) (nil_from_length own.items zero) in
+        so_far
+        ∙ sym (ap (numbered_points n) one_more
+        ∙ points_skip n (bidders_of goods done) (atoms_of goods b.items) (atoms_of goods own.items) own_atoms (are own_atoms) none)
+
+-- no bidder is left
+pub points_done : {S X : Type 0} (goods : S → List ℕ) (seen : X → NumberedBidder) (n : ℕ) (all done left : List (Vec (Atom S) Global))
+    (points : List X) → all ≡ done ++ left → left ≡ [] → map seen points ≡ numbered_points n (bidders_of goods done)
+    → map seen points ≡ numbered_points n (bidders_of goods all)
+points_done {S} goods seen n all done left points parts none h =
+    h ∙ ap (λ (zs : List (Vec (Atom S) Global)). numbered_points n (bidders_of goods zs))
+    (sym (parts ∙ ap (λ (zs : List (Vec (Atom S) Global)). done ++ zs) none ∙ append-nil done))
+
+-- ---- bidders with more beside them, of which `bare` is the bidder: what is taken out of them one by one
+
+module _ {S X : Type 0} (goods : S → List ℕ) (bare : X → Vec (Atom S) Global) (all done left : List X) (bidders : List (Vec (Atom S) Global))
+    (parts : all ≡ done ++ left) (so_far : bidders ≡ map bare done) where
+  pub bare_pushed : (rest : List X) (b : X) (more : List (Vec (Atom S) Global)) → left ≡ b ∷ rest → more ≡ bidders ++ bare b ∷ []
+      → (all ≡ (done ++ b ∷ []) ++ rest) × (more ≡ map bare (done ++ b ∷ []))
+  bare_pushed rest b more next e = (
+    parts ∙ ap (λ (zs : List X). done ++ zs) next ∙ sym (append_assoc done (b ∷ []) rest),
+    e ∙ ap (λ (zs : List (Vec (Atom S) Global)). zs ++ bare b ∷ []) so_far ∙ sym (map_push bare done b),
+  )
+
+  pub bare_done : left ≡ [] → bidders_of goods bidders ≡ map (λ x. atoms_of goods (bare x).items) all
+  bare_done none =
+      let whole : done ≡ all = sym (parts ∙ ap (λ (zs : List X). done ++ zs) none ∙ append-nil done) in
+      ap (bidders_of goods) (so_far ∙ ap (map bare) whole) ∙ map-map (λ (v : Vec (Atom S) Global). atoms_of goods v.items) bare all
+
+-- ---- the parts of an auction
+
+module _ (cap : ℕ) (a : PlainAuction) (facts : IsAuction cap a) (n : ℕ) (ors : List (Atom (List ℕ))) (xors : List (List (Atom (List ℕ))))
+    (parts : a ≡ record { goods = n; or_atoms = ors; xor_bidders = xors }) where
+  made : IsAuction cap (record { goods = n; or_atoms = ors; xor_bidders = xors })
+  made = subst (λ (x : PlainAuction). IsAuction cap x) parts facts
+
+  pub or_part : All (IsAtom MAX_GOODS) ors
+  or_part = atoms_within n MAX_GOODS ors made.goods made.or_atoms
+
+  pub few_bidders : length xors ≤ MAX_DUMMY
+  few_bidders = made.bidders
+
+  pub xor_part : All (All (IsAtom MAX_GOODS)) xors
+  xor_part = bidders_within n MAX_GOODS xors made.goods made.xor_atoms
+
+  -- the parts of the canonical auction
+  pub canonical_parts : (points : List (Atom (List ℕ))) (unsorted : List NumberedBidder) (sorted : List (List (Atom (List ℕ))))
+      → ((m : ℕ) → All (IsAtom m) ors → points ≡ or_points m ors) → ((m : ℕ) → All (All (IsAtom m)) xors → unsorted ≡ numbered_points m xors)
+      → sorted ≡ map (λ b. b.atoms) (sort_by numbered_cmp unsorted)
+      → ◌≡◌ {A = PlainAuction} (record { goods = n; or_atoms = points; xor_bidders = sorted }) (canonical_auction a)
+  canonical_parts points unsorted sorted h k e =
+      ap₂ (λ (or_atoms : List (Atom (List ℕ))) (xor_bidders : List (List (Atom (List ℕ)))). record {
+        goods = n;
+        or_atoms = or_atoms;
+        xor_bidders = xor_bidders;
+      })
+      (h n made.or_atoms) (e ∙ ap (λ (bs : List NumberedBidder). map (λ b. b.atoms) (sort_by numbered_cmp bs)) (k n made.xor_atoms)
+      ∙ atoms_in_order n xors)
+      ∙ ap canonical_auction (sym parts)
+
+  -- the numbers of its bidders
+  pub number_parts : (unsorted : List NumberedBidder) (numbers : List ℕ) → ((m : ℕ) → All (All (IsAtom m)) xors → unsorted ≡ numbered_points m xors)
+      → numbers ≡ map (λ b. b.number) (sort_by numbered_cmp unsorted) → numbers ≡ kept_numbers a
+  number_parts unsorted numbers k e =
+      e ∙ ap (λ (bs : List NumberedBidder). map (λ b. b.number) (sort_by numbered_cmp bs)) (k n made.xor_atoms) ∙ ap kept_numbers (sym parts)
+
+  pub parts_within_limit : (limit : ℕ) → ((m : ℕ) → All (IsAtom m) ors → first_heavy m limit ors ≡ None) → first_heavy a.goods limit a.or_atoms ≡ None
+  parts_within_limit limit h = ap (λ (x : PlainAuction). first_heavy x.goods limit x.or_atoms) parts ∙ h n made.or_atoms

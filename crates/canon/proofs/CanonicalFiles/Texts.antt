@@ -1,0 +1,168 @@
+-- Files of the same auction have one text, and only these: the layout spells the file, the file represents its auction, and the
+-- canonical auction is the same auction.
+use Rattle.std.proofs.Common.{◌≡◌, ℕ, List, Option, Some, None, refl, sym, ap, ◌∙◌, subst, le_refl}
+use Rattle.bid_file.specs.Files.{PlainFile, IsPlainFile}
+use Rattle.cats_text.specs.Grammar.{Spells}
+use Rattle.cats_text.specs.Faults.{first_fault}
+use Rattle.cats_text.specs.FileLines.{spelled_file}
+use Rattle.cats_text.specs.Layout.{layout}
+use Rattle.cats_text.specs.declared.read_fault.ReadFault.{ReadFault}
+use Rattle.cats_text.proofs.Writing.Spells as laid_out
+use Rattle.cats_text.proofs.Spelling.Files.{spells_from_no_fault, no_fault_from_spells, spells_one}
+use Rattle.valuation.specs.Auctions.{PlainAuction, IsAuction, or_atoms_of, auction_from}
+use Rattle.valuation.specs.Lemmas.AuctionsOfFiles.{IsAuction-auction_from}
+use Rattle.prune.specs.Points.{or_points}
+use Rattle.prune.specs.SearchSteps.{first_heavy}
+use Rattle.prune.specs.Lemmas.SearchSteps.{no_heavy_point}
+use Rattle.prune.specs.Lemmas.KeptBids.{on_bundles}
+use Rattle.canon.specs.Sameness.{IsSameAuction, AreSameFiles, AreSameTexts}
+use Rattle.canon.specs.Canonical.{canonical_auction, file_from, canonical_file, canonical_text}
+use Rattle.canon.specs.Normalising.{Normalised, IsNoFile, ExceedsSteps, IsText, HasOutcome, IsNormalised, Normalises, SpellsCanonicalFile, unless_heavy, normalised_file}
+use Rattle.canon.proofs.CanonicalAuctions.Atoms.{HasAtoms}
+use Rattle.canon.proofs.CanonicalAuctions.Sames.{HasAtoms-auction, canonical_is_same, same_canonical, same_from_canonical, canonical_is_fixed}
+use Rattle.canon.proofs.CanonicalFiles.Files.{auction_from-file_from, IsPlainFile-file_from}
+use Rattle.canon.proofs.CanonicalAuctions.Smaller.{IsAuction-canonical}
+
+-- ---- the auction and the canonical file of a file
+
+IsAuction-file : (f : PlainFile) → IsPlainFile f → IsAuction f.goods (auction_from f)
+IsAuction-file f h = IsAuction-auction_from f.goods f h (le_refl f.goods)
+
+pub HasAtoms-file : (f : PlainFile) → IsPlainFile f → HasAtoms (auction_from f)
+HasAtoms-file f h = HasAtoms-auction f.goods (auction_from f) (IsAuction-file f h)
+
+pub IsPlainFile-canonical : (f : PlainFile) → IsPlainFile f → IsPlainFile (canonical_file f)
+IsPlainFile-canonical f h =
+    IsPlainFile-file_from f.goods (canonical_auction (auction_from f)) (IsAuction-canonical f.goods (auction_from f) (IsAuction-file f h))
+
+pub canonical_file_is_same : (f : PlainFile) → IsPlainFile f → AreSameFiles f (canonical_file f)
+canonical_file_is_same f h =
+    subst (λ (a : PlainAuction). IsSameAuction (auction_from f) a) (sym (auction_from-file_from (canonical_auction (auction_from f))))
+    (canonical_is_same (auction_from f) (HasAtoms-file f h))
+
+pub canonical_file_is_fixed : (f : PlainFile) → IsPlainFile f → canonical_file (canonical_file f) ≡ canonical_file f
+canonical_file_is_fixed f h =
+    ap (λ (a : PlainAuction). file_from (canonical_auction a)) (auction_from-file_from (canonical_auction (auction_from f)))
+    ∙ ap file_from (canonical_is_fixed (auction_from f) (HasAtoms-file f h))
+
+-- ---- one text for each auction
+
+pub same_text : (f g : PlainFile) → IsPlainFile f → IsPlainFile g → AreSameFiles f g → canonical_text f ≡ canonical_text g
+same_text f g h k s = ap (λ (a : PlainAuction). layout (file_from a)) (same_canonical (auction_from f) (auction_from g) (HasAtoms-file f h) (HasAtoms-file g k)
+    s)
+
+pub same_from_text : (f g : PlainFile) → IsPlainFile f → IsPlainFile g → canonical_text f ≡ canonical_text g → AreSameFiles f g
+same_from_text f g h k e =
+    let one : Spells (canonical_text g) (canonical_file f) =
+    subst (λ (text : List ℕ). Spells text (canonical_file f)) e (laid_out.layout_spells (canonical_file f) (IsPlainFile-canonical f h)) in
+    let other : Spells (canonical_text g) (canonical_file g) = laid_out.layout_spells (canonical_file g) (IsPlainFile-canonical g k) in
+    let files : canonical_file f ≡ canonical_file g = spells_one (canonical_text g) (canonical_file f) (canonical_file g) one other in
+    same_from_canonical (auction_from f) (auction_from g) (HasAtoms-file f h) (HasAtoms-file g k)
+    (sym (auction_from-file_from (canonical_auction (auction_from f))) ∙ ap auction_from files ∙ auction_from-file_from (canonical_auction (auction_from g)))
+
+-- ---- what normalising answers
+
+-- the text spells a file without a heavy bundle, whose canonical text is this
+pub record IsNormalText (limit : ℕ) (text out : List ℕ) : Type 0 where
+  pub file : PlainFile
+  pub spelled : Spells text file
+  pub within_limit : first_heavy file.goods limit (or_atoms_of file.bids) ≡ None
+  pub is : out ≡ canonical_text file
+
+pub text_of_file : (limit : ℕ) (f : PlainFile) (out : List ℕ) → normalised_file limit f ≡ IsText out → (first_heavy f.goods limit (or_atoms_of f.bids) ≡ None)
+    × (out ≡ canonical_text f)
+text_of_file limit f out = by (first_heavy f.goods limit (or_atoms_of f.bids)) refl
+  where
+    by : (o : Option (List ℕ)) → first_heavy f.goods limit (or_atoms_of f.bids) ≡ o → unless_heavy f o ≡ IsText out
+        → (first_heavy f.goods limit (or_atoms_of f.bids) ≡ None) × (out ≡ canonical_text f)
+    by None e q = (e, cc)
+    by (Some goods) e q = absurd (cc)
+
+pub text_from_normalised : (limit : ℕ) (text out : List ℕ) → Normalises limit text (IsText out) → IsNormalText limit text out
+text_from_normalised limit text out n = let r = text_of_file limit n.file out n.is in record {
+  file = n.file;
+  spelled = n.spelled;
+  within_limit = r.0;
+  is = r.1;
+}
+
+pub normalised_from_text : (limit : ℕ) (text out : List ℕ) → IsNormalText limit text out → Normalises limit text (IsText out)
+normalised_from_text limit text out n = record {
+  file = n.file;
+  spelled = n.spelled;
+  is = ap (unless_heavy n.file) n.within_limit ∙ ap IsText (sym n.is);
+}
+
+-- each text has one outcome
+pub has_outcome : (limit : ℕ) (text : List ℕ) → IsNormalised limit text
+has_outcome limit text = by (first_fault text) refl
+  where
+    of_file : (f : PlainFile) → Spells text f → (o : Option (List ℕ)) → first_heavy f.goods limit (or_atoms_of f.bids) ≡ o → IsNormalised limit text
+    of_file f s None e = record { outcome = IsText (canonical_text f); normalises = record { file = f; spelled = s; is = ap (unless_heavy f) e } }
+    of_file f s (Some goods) e = record { outcome = ExceedsSteps goods; normalises = record { file = f; spelled = s; is = ap (unless_heavy f) e } }
+
+    by : (o : Option ReadFault) → first_fault text ≡ o → IsNormalised limit text
+    by None e = of_file (spelled_file text) (spells_from_no_fault text e) (first_heavy (spelled_file text).goods limit (or_atoms_of (spelled_file text).bids)) refl
+    by (Some fault) e = record { outcome = IsNoFile fault; normalises = e }
+
+module _ (limit : ℕ) (text : List ℕ) where
+  no_outcome : (fault : ReadFault) (o : Normalised) → first_fault text ≡ Some fault → HasOutcome limit text o → ⊥
+  no_outcome fault o e n = let none = no_fault_from_spells text n.file n.spelled in absurd (cc)
+
+  same_outcome : (one other : Normalised) → HasOutcome limit text one → HasOutcome limit text other → one ≡ other
+  same_outcome one other p q = sym p.is ∙ ap (normalised_file limit) (spells_one text p.file q.file p.spelled q.spelled) ∙ q.is
+
+  pub one_outcome : (one other : Normalised) → Normalises limit text one → Normalises limit text other → one ≡ other
+  one_outcome (IsNoFile a) (IsNoFile b) p q = cc
+  one_outcome (IsNoFile a) (ExceedsSteps goods) p q = absurd (no_outcome a (ExceedsSteps goods) p q)
+  one_outcome (IsNoFile a) (IsText out) p q = absurd (no_outcome a (IsText out) p q)
+  one_outcome (ExceedsSteps goods) (IsNoFile b) p q = absurd (no_outcome b (ExceedsSteps goods) q p)
+  one_outcome (ExceedsSteps goods) (ExceedsSteps other) p q = same_outcome (ExceedsSteps goods) (ExceedsSteps other) p q
+  one_outcome (ExceedsSteps goods) (IsText out) p q = same_outcome (ExceedsSteps goods) (IsText out) p q
+  one_outcome (IsText out) (IsNoFile b) p q = absurd (no_outcome b (IsText out) q p)
+  one_outcome (IsText out) (ExceedsSteps goods) p q = same_outcome (IsText out) (ExceedsSteps goods) p q
+  one_outcome (IsText out) (IsText other) p q = same_outcome (IsText out) (IsText other) p q
+
+-- what normalising gives, normalised again
+pub normalised_again : (limit : ℕ) (text out : List ℕ) → IsNormalText limit text out → IsNormalText limit out out
+normalised_again limit text out n =
+    let f = n.file in
+    let facts : IsPlainFile f = n.spelled.facts in
+    let atoms = HasAtoms-file f facts in
+    let ors : or_atoms_of (canonical_file f).bids ≡ or_points f.goods (or_atoms_of f.bids) =
+    ap (λ (a : PlainAuction). a.or_atoms) (auction_from-file_from (canonical_auction (auction_from f))) in
+    record {
+      file = canonical_file f;
+      spelled = subst (λ (t : List ℕ). Spells t (canonical_file f)) (sym n.is) (laid_out.layout_spells (canonical_file f) (IsPlainFile-canonical f facts));
+      within_limit = ap (first_heavy f.goods limit) ors ∙ no_heavy_point f.goods limit (or_atoms_of f.bids) (on_bundles f.goods (or_atoms_of f.bids) atoms.or_atoms)
+          n.within_limit;
+      is = n.is ∙ ap layout (sym (canonical_file_is_fixed f facts));
+    }
+
+-- two outputs are equal exactly for texts of the same auction
+pub equal_texts : (m n : ℕ) (one other s t : List ℕ) → IsNormalText m one s → IsNormalText n other t → s ≡ t → AreSameTexts one other
+equal_texts m n one other s t p q e = record {
+  first = p.file;
+  second = q.file;
+  first_spelled = p.spelled;
+  second_spelled = q.spelled;
+  same = same_from_text p.file q.file p.spelled.facts q.spelled.facts (sym p.is ∙ e ∙ q.is);
+}
+
+pub texts_equal : (m n : ℕ) (one other s t : List ℕ) → IsNormalText m one s → IsNormalText n other t → AreSameTexts one other → s ≡ t
+texts_equal m n one other s t p q same =
+    let f = spells_one one same.first p.file same.first_spelled p.spelled in
+    let g = spells_one other same.second q.file same.second_spelled q.spelled in
+    let files : AreSameFiles p.file q.file =
+    subst (λ (x : PlainFile). AreSameFiles x q.file) f (subst (λ (x : PlainFile). AreSameFiles same.first x) g same.same) in
+    p.is ∙ same_text p.file q.file p.spelled.facts q.spelled.facts files ∙ sym q.is
+
+-- the text that normalising gives spells the canonical file
+pub spells_canonical : (limit : ℕ) (text out : List ℕ) → IsNormalText limit text out → SpellsCanonicalFile text out
+unfolding normalised_again
+spells_canonical limit text out n = record {
+  file = n.file;
+  spelled = n.spelled;
+  canonical_spelled = (normalised_again limit text out n).spelled;
+  same = canonical_file_is_same n.file n.spelled.facts;
+}

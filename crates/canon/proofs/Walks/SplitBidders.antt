@@ -1,0 +1,36 @@
+-- The bids of XOR bidders, split bidder by bidder: those that are split, with the bidders of the rest behind them, are all bidders.
+use Rattle.std.proofs.Common.{◌≡◌, ℕ, ◌+◌, List, [], ◌∷◌, ◌++◌, length, map, drop, append_assoc, refl, sym, ap, ◌∙◌}
+use Rattle.std.proofs.lemmas.List.{append-nil, map-append}
+use Rattle.bid_file.specs.Files.{PlainBid}
+use Rattle.valuation.specs.declared.atom.Atom.{Atom}
+use Rattle.canon.specs.Bidders.{offers}
+use Rattle.canon.specs.Internal.BidderBids.{AreBidsOf, IsFirstBidder}
+use Rattle.canon.proofs.Walks.BidderWalks.{next_bidder, no_bidder}
+
+pub record AreSplit (bidders : List (List (Atom (List ℕ)))) (split : List (List PlainBid)) (bids : List PlainBid) : Type 0 where
+  pub dummy : ℕ
+  pub later : List (List (Atom (List ℕ)))
+  pub rest : AreBidsOf dummy later bids
+  pub all : map offers split ++ later ≡ bidders
+
+pub none_split : (bidders : List (List (Atom (List ℕ)))) (bids : List PlainBid) → AreBidsOf 0 bidders bids → AreSplit bidders [] bids
+none_split bidders bids h = record { dummy = 0; later = bidders; rest = h; all = refl }
+
+pub one_more_split : (bidders : List (List (Atom (List ℕ)))) (split : List (List PlainBid)) (bids first : List PlainBid) → IsFirstBidder bids first
+    → AreSplit bidders split bids → AreSplit bidders (split ++ first ∷ []) (drop (length first) bids)
+one_more_split bidders split bids first f h =
+    let next = next_bidder h.dummy h.later bids first h.rest f in
+    record {
+      dummy = h.dummy + 1;
+      later = next.later;
+      rest = next.rest;
+      all = ap (λ (xs : List (List (Atom (List ℕ)))). xs ++ next.later) (map-append offers split (first ∷ []))
+          ∙ append_assoc (map offers split) (offers first ∷ []) next.later
+          ∙ ap (λ (xs : List (List (Atom (List ℕ)))). map offers split ++ xs) (sym next.are) ∙ h.all;
+    }
+
+pub all_split : (bidders : List (List (Atom (List ℕ)))) (split : List (List PlainBid)) (bids : List PlainBid) → length bids ≡ 0
+    → AreSplit bidders split bids → map offers split ≡ bidders
+all_split bidders split bids e h =
+    sym (append-nil (map offers split))
+    ∙ ap (λ (xs : List (List (Atom (List ℕ)))). map offers split ++ xs) (sym (no_bidder h.dummy h.later bids h.rest e)) ∙ h.all

@@ -1,0 +1,109 @@
+-- What is kept of the word at the start of bytes: of digits, of digits and a point, and of `#`.
+use Rattle.std.proofs.Common.{◌≡◌, ℕ, ◌+◌, ◌-◌, ◌<◌, ◌≤◌, min, true, false, List, [], ◌∷◌, ◌++◌, length, get_or, take, drop, fold, refl, sym, ap, ◌∙◌, subst}
+use Rattle.std.proofs.Common.{arith, zero, suc, zero-add, cond, eqb}
+use Rattle.std.proofs.lemmas.Bool.{and_parts, both_ways, eqb-true, eq-eqb, or_left, or_right}
+use Rattle.std.proofs.lemmas.List.{length-take, length-drop}
+use Rattle.std.proofs.lemmas.List.Sums.{fold-append}
+use Rattle.std.specs.List.{AllByRecursion}
+use Rattle.cats_text.specs.Lines.{is_blank}
+use Rattle.cats_text.specs.Numbers.{is_digit, digits_alone}
+use Rattle.cats_text.specs.Internal.Machine.{word_from, word_with, summary}
+use Rattle.cats_text.specs.Internal.LeadingToken.{IsPlain, IsKept, IsLeadingToken}
+use Rattle.cats_text.specs.declared.word.Word.{Word}
+use Rattle.cats_text.specs.declared.price.Decimal.{Decimal}
+use Rattle.cats_text.specs.declared.word.Word.TheVariants.{Number, Decimal as Fraction, End}
+use Rattle.cats_text.proofs.Scanning.ManyBytes.{digits_plain}
+
+first_digit : (b : ℕ) → is_digit b ≡ true → word_from b ≡ word_with (Number 0) b
+first_digit b d = rw d (ap (λ n. Number n) (sym (zero-add (b - 48))))
+
+digits_summary : (ds : List ℕ) (v : ℕ) → 0 < length ds → digits_alone ds ≡ true → Number v ≡ fold word_with (Number 0) ds → Number v ≡ summary ds
+digits_summary [] v l h e = absurd (let no : 0 < 0 = l in omega arith)
+digits_summary (b ∷ ds) v l h e = let p = and_parts (is_digit b) (digits_alone ds) h in e ∙ ap (λ w. fold word_with w ds) (sym (first_digit b p.0))
+
+plain-append : (xs ys : List ℕ) → AllByRecursion IsPlain xs → AllByRecursion IsPlain ys → AllByRecursion IsPlain (xs ++ ys)
+plain-append [] ys h k = k
+plain-append (x ∷ xs) ys h k = (h.0, plain-append xs ys h.1 k)
+
+summary-append : (xs ys : List ℕ) → 0 < length xs → summary (xs ++ ys) ≡ fold word_with (summary xs) ys
+summary-append [] ys l = absurd (let no : 0 < 0 = l in omega arith)
+summary-append (x ∷ xs) ys l = fold-append word_with (word_from x) xs ys
+
+-- the digits at the start, the byte behind them, and what is at the start behind it
+take_parts : (bytes : List ℕ) (i k : ℕ) → i < length bytes → take (i + 1 + k) bytes ≡ take i bytes ++ get_or bytes i 0 ∷ take k (drop (i + 1) bytes)
+take_parts [] i k l = absurd (let no : i < 0 = l in omega arith)
+take_parts (b ∷ bytes) zero k l = let e : 0 + 1 + k ≡ suc k = omega arith in ap (λ n. take n (b ∷ bytes)) e
+take_parts (b ∷ bytes) (suc i) k l = let e : suc i + 1 + k ≡ suc (i + 1 + k) = omega arith in let f : suc i + 1 ≡ suc (i + 1) = omega arith in
+    ap (λ n. take n (b ∷ bytes)) e ∙ ap (λ ds. b ∷ ds) (take_parts bytes i k (omega arith))
+    ∙ sym (ap (λ n. b ∷ (take i bytes ++ get_or bytes i 0 ∷ take k (drop n (b ∷ bytes)))) f)
+
+pub number_kept : (bytes : List ℕ) (count v : ℕ) → 0 < count → count ≤ length bytes → digits_alone (take count bytes) ≡ true
+    → Number v ≡ fold word_with (Number 0) (take count bytes) → IsKept bytes (Number v) count
+number_kept bytes count v some within digits value = let long : length (take count bytes) ≡ min count (length bytes) = length-take count bytes in record {
+  some = some;
+  within = within;
+  plain = digits_plain (take count bytes) digits;
+  word = digits_summary (take count bytes) v (omega arith) digits value;
+}
+
+pub end_kept : (bytes : List ℕ) → 0 < length bytes → get_or bytes 0 0 ≡ 35 → IsKept bytes End 1
+end_kept [] l e = absurd (let no : 0 < 0 = l in omega arith)
+end_kept (b ∷ bytes) l e = record {
+  some = omega arith;
+  within = omega arith;
+  plain = subst (λ c. AllByRecursion IsPlain (c ∷ [])) (sym e) ((omega arith, refl), tt);
+  word = ap word_from (sym e);
+}
+
+pub decimal_kept : (bytes : List ℕ) (count v : ℕ) (d : Decimal) (places : ℕ) → 0 < count → count < length bytes → get_or bytes count 0 ≡ 46
+    → digits_alone (take count bytes) ≡ true → Number v ≡ fold word_with (Number 0) (take count bytes)
+    → places ≤ length (drop (count + 1) bytes) → digits_alone (take places (drop (count + 1) bytes)) ≡ true
+    → Fraction d ≡ fold word_with (Fraction (record { whole = v; millionths = 0; decimals = 0; fine = false })) (take places (drop (count + 1) bytes))
+    → IsKept bytes (Fraction d) (count + 1 + places)
+decimal_kept bytes count v d places some within point digits value space more fraction =
+    let rest : length (drop (count + 1) bytes) ≡ length bytes - (count + 1) = length-drop (count + 1) bytes in
+    let long : length (take count bytes) ≡ min count (length bytes) = length-take count bytes in
+    let prefix : List ℕ = take count bytes in
+    let back : List ℕ = take places (drop (count + 1) bytes) in
+    let parts : take (count + 1 + places) bytes ≡ prefix ++ 46 ∷ back = take_parts bytes count places within ∙ ap (λ c. prefix ++ c ∷ back) point in
+    record {
+      some = omega arith;
+      within = omega arith;
+      plain = subst (AllByRecursion IsPlain) (sym parts) (plain-append prefix (46 ∷ back) (digits_plain prefix digits) (
+        (omega arith, refl),
+        digits_plain back more,
+      ));
+      word = fraction ∙ sym (ap summary parts ∙ summary-append prefix (46 ∷ back) (omega arith)
+          ∙ ap (λ w. fold word_with w (46 ∷ back)) (sym (digits_summary prefix v (omega arith) digits value)));
+    }
+
+-- ---- the word and what is behind it
+
+blank_no_feed : (b : ℕ) → is_blank b ≡ true → eqb b 10 ≡ false
+blank_no_feed b h = elim (eqb b 10) as (λ t. eqb b 10 ≡ t → t ≡ false) [
+  | true ↦ λ (e : eqb b 10 ≡ true). absurd (both_ways (is_blank 10) refl (subst (λ c. is_blank c ≡ true) (eqb-true b 10 e) h))
+  | false ↦ λ e. refl
+] refl
+
+pub token_before_blank : (bytes : List ℕ) (w : Word) (count : ℕ) → IsKept bytes w count → count < length bytes → is_blank (get_or bytes count 0) ≡ true
+    → IsLeadingToken bytes w (count + 1)
+token_before_blank bytes w count kept within blank = record {
+  count = count;
+  kept = kept;
+  within = within;
+  ends = or_left (is_blank (get_or bytes count 0)) (eqb (get_or bytes count 0) 10) blank;
+  is = sym (ap (λ t. count + cond t 0 1) (blank_no_feed (get_or bytes count 0) blank));
+}
+
+pub token_before_feed : (bytes : List ℕ) (w : Word) (count : ℕ) → IsKept bytes w count → count < length bytes → get_or bytes count 0 ≡ 10 → IsLeadingToken bytes w count
+token_before_feed bytes w count kept within feed = let is : eqb (get_or bytes count 0) 10 ≡ true = eq-eqb (get_or bytes count 0) 10 feed in record {
+  count = count;
+  kept = kept;
+  within = within;
+  ends = or_right (is_blank (get_or bytes count 0)) (eqb (get_or bytes count 0) 10) is;
+  is = sym (ap (λ t. count + cond t 0 1) is ∙ omega arith);
+}
+
+-- `#` and LF
+pub token_of_end : (bytes : List ℕ) → 1 < length bytes → get_or bytes 0 0 ≡ 35 → get_or bytes 1 0 ≡ 10 → IsLeadingToken bytes End 1
+token_of_end bytes two hash feed = token_before_feed bytes End 1 (end_kept bytes (omega arith) hash) two feed

@@ -1,0 +1,30 @@
+use Rattle.std.proofs.Common.{◌≡◌, ◌≤◌, length, sym, arith, rules}
+use Rattle.std.proofs.lemmas.Grind.{common_steps}
+use Rattle.cats_text.specs.Internal.Kept.{AreWithin}
+use Rattle.cats_text.proofs.Parsing.BidsByNumber.{numbered, none_numbered, next_numbered, all_listed, listed, within_numbered}
+use Rattle.cats_text.proofs.bids_by_number.list_places.Goals as goal
+
+pub loop-places-init : goal.loop-places-init
+loop-places-init c =
+    let none : length c.args.places.now.items ≡ 0 = first_of (search rules, grind (arith, common_steps)) in
+    record { numbers = none_numbered c.args.places.now.items none; within = omega (arith, none) }
+
+pub loop-places-preserved : goal.loop-places-preserved
+loop-places-preserved c = record {
+  numbers = next_numbered c.loop-places.places.items c.push.new.self.items _ c.loop-places.invariant.numbers (first_of (search rules, grind (arith, common_steps))) c.in_ok-push.ensures.items;
+  within = first_of (search rules, grind (arith, common_steps));
+}
+
+pub returns-in_err-push-clause-within : goal.returns-in_err-push-clause-within
+returns-in_err-push-clause-within c = λ all. rw (c.in_err-push.ensures.items, c.loop-places.invariant.numbers)
+    (within_numbered c.args.count (length c.loop-places.places.items) c.loop-places.invariant.within)
+
+pub returns-clause-within : goal.returns-clause-within
+returns-clause-within c = λ all. rw c.loop-places.invariant.numbers
+    (within_numbered c.args.count (length c.loop-places.places.items) c.loop-places.invariant.within)
+
+pub returns-clause-listed : goal.returns-clause-listed
+returns-clause-listed c = λ came long.
+    let none : length c.args.places.now.items ≡ 0 = first_of (search rules, grind (arith, common_steps)) in
+    all_listed came c.args.places.now.items c.loop-places.places.items c.args.count none long c.loop-places.invariant.numbers
+    (let most = c.loop-places.invariant.within in let least : c.args.count ≤ length c.loop-places.places.items = search rules in omega arith)

@@ -1,5 +1,0 @@
-use Rattle.cats_text.specs.Internal.Front.{IsNumberSoFar}
-use Rattle.cats_text.proofs.front.with_digits.Given as goal
-
-abbrev pub invariant-loop-count : goal.invariant-loop-count
-invariant-loop-count l = IsNumberSoFar l.fn.value l.bytes l.count l.value

@@ -1,0 +1,60 @@
+//! Why reading or sending a text failed. The text may not be a bid file, or a stream may have failed.
+
+use thiserror::Error;
+
+/// What is wrong. The first fourteen kinds are faults of the text itself; a text's fault is the first of its places
+/// that has one, and there the first test that holds. The last three come from outside the text.
+#[derive(Clone, Copy, PartialEq, Eq, Debug, Drop)]
+pub enum Kind {
+    /// A header line is not its keyword and one number.
+    Header,
+    /// A word that has to be a number, or a price, is none.
+    NotANumber,
+    /// A number of the header, or a price, is above its limit.
+    TooLarge,
+    /// More bid lines are there than the header says.
+    ExtraBid,
+    /// A bid's number is not below the number of bids.
+    BidNumber,
+    /// An earlier bid line has this number.
+    RepeatedNumber,
+    /// A price has more than six decimal places.
+    TooFine,
+    /// A good is neither a real good nor a dummy good of the file.
+    GoodRange,
+    /// A bid names a good twice.
+    RepeatedGood,
+    /// A bid names two dummy goods.
+    TwoDummies,
+    /// A bid names no real good.
+    EmptyBundle,
+    /// A bid line ends without `#`.
+    NoEnd,
+    /// A word is after a bid's `#`.
+    AfterEnd,
+    /// The text ends where a header line or a bid line is still due.
+    Missing,
+    /// The text is longer than its reader takes.
+    TooLong,
+    /// A read failed.
+    Device,
+    /// Memory was refused.
+    Memory,
+}
+
+/// Why a text gave no bid file. `line` counts the text's lines from 1; it is 0 for the kinds `TooLong`, `Device` and
+/// `Memory`, which belong to no line.
+#[derive(Clone, Copy, PartialEq, Eq, Debug, Drop, Error)]
+#[error("line {line}: {kind:?}")]
+pub struct ReadFault {
+    pub line: u64,
+    pub kind: Kind,
+}
+
+/// A writer failed. It took the first `written` bytes of what was sent to it, which is all of them where only the last
+/// flush failed.
+#[derive(Clone, Copy, PartialEq, Eq, Debug, Drop, Error)]
+#[error("the writer failed after {written} bytes")]
+pub struct SendFault {
+    pub written: u64,
+}

@@ -1,0 +1,167 @@
+"""Runs the built program on as many files, bids and goods as it takes, and compares each answer with one that is known beforehand.
+
+    sizes.py PROGRAM
+
+No contract can forbid a program that gives up above some size, since memory may be refused at any time. So each answer here is
+wanted in whole. What is wanted comes of how the files were made, and not of the program. Prints what is wrong and 'N runs, M
+wrong'; the status is 0 if M is 0, and else 1.
+"""
+import os
+import random
+import resource
+import subprocess
+import sys
+import tempfile
+from typing import NamedTuple
+
+PROGRAM = os.path.abspath(sys.argv[1])
+SECONDS = 120
+
+# The limits of the format: docs/FORMAT.md. Prices are whole here.
+GOODS, BIDS, GREATEST_PRICE = 4096, 65_536, 1_000_000_000_000
+
+# Whose the bids of a file are: the OR bidder's, one XOR bidder's, or each an XOR bidder's of its own.
+OR, ONE_XOR, MANY_XOR = "OR bids", "bids of one XOR bidder", "XOR bidders of one bid"
+
+chosen = random.Random(1)
+tally = {"runs": 0, "wrong": 0}
+
+
+class Bid(NamedTuple):
+    """A price, and goods that rise."""
+
+    price: int
+    goods: tuple
+
+
+def dummies(bids, whose):
+    """How many dummy goods a file has."""
+    return {OR: 0, ONE_XOR: 1, MANY_XOR: len(bids)}[whose]
+
+
+def text_of(goods, bids, whose):
+    """A file in the layout of `cats show`."""
+    lines = [f"goods {goods}\nbids {len(bids)}\ndummy {dummies(bids, whose)}\n"]
+    for number, bid in enumerate(bids):
+        dummy = {OR: (), ONE_XOR: (goods,), MANY_XOR: (goods + number,)}[whose]
+        lines.append("\t".join(map(str, (number, bid.price, *bid.goods, *dummy, "#"))) + "\n")
+    return "".join(lines)
+
+
+def canonical(bids):
+    """Bids on bundles of one size, in the order of the canonical text. Such bids are all points."""
+    return sorted(bids, key=lambda bid: (bid.goods, bid.price))
+
+
+def named(bid):
+    """A bundle, and the bid on it, as `cats compare` prints them."""
+    bundle = ",".join(map(str, bid.goods))
+    return bundle, f"{bundle}:{bid.price}"
+
+
+def explanation(bids):
+    """What `cats explain` prints of bids that are all points: of equal bidders the first comes first in the canonical text."""
+    in_order = sorted(range(len(bids)), key=lambda number: (bids[number].goods, bids[number].price))
+    kept = {number: place for place, number in enumerate(in_order)}
+    return "".join(f"{number}\tkeep\t{kept[number]}\n" for number in range(len(bids)))
+
+
+def difference(bids, whose):
+    """What `cats compare` prints of the canonical file of these bids and of one that lacks the last of them."""
+    last = bids[-1]
+    if whose == OR:
+        printed = f"or {named(last)[0]}\nleft {last.price}\nright below {last.price}\n"
+    elif whose == ONE_XOR:
+        # the bidder with fewer bids is the lesser one
+        printed = "xor " + " ".join(named(bid)[1] for bid in bids[:-1]) + "\nleft 0\nright 1\n"
+    else:
+        printed = f"xor {named(last)[1]}\nleft {bids.count(last)}\nright {bids.count(last) - 1}\n"
+    return "different\n" + printed
+
+
+def value(goods, bids, whose):
+    """What `cats value` prints of a file on the bundle of its first bid, on which there is no other one."""
+    first = bids[0]
+    if whose == OR:
+        return f"or {first.price} 0\n"
+    own = f"or 0\nxor {goods} {first.price} 0\n"
+    return own if whose == ONE_XOR else own + "".join(f"xor {goods + number} 0\n" for number in range(1, len(bids)))
+
+
+def run(words, wanted, folder):
+    """Runs the program in the folder, and compares its status, its output and its standard error with what is wanted."""
+    ran = subprocess.run([PROGRAM, *words], cwd=folder, stdin=subprocess.DEVNULL, capture_output=True, timeout=SECONDS)
+    status, out, err = wanted
+    tally["runs"] += 1
+    if (ran.returncode, ran.stdout, ran.stderr) != (status, out.encode(), err.encode()):
+        tally["wrong"] += 1
+        command = " ".join([*words[:4], *[".."] * (len(words) > 4)])
+        print(f"wrong: {command}: status {ran.returncode}, {ran.stdout[:100]}, on standard error {ran.stderr[:300]}", flush=True)
+
+
+def write(folder, name, text):
+    with open(os.path.join(folder, name), "w", encoding="ascii") as file:
+        file.write(text)
+
+
+def judge_file(folder, bids, whose):
+    """Each subcommand on a file of these bids, on one with the same bids in another order, and on one that lacks a bid."""
+    print(f"{whose}: {len(bids):,} bids, {sum(len(bid.goods) for bid in bids):,} goods in them", flush=True)
+    in_order = canonical(bids)
+    write(folder, "one", text_of(GOODS, bids, whose))
+    write(folder, "other", text_of(GOODS, chosen.sample(bids, len(bids)), whose))
+    write(folder, "lacking", text_of(GOODS, in_order[:-1], whose))
+    asked = map(str, bids[0].goods)
+    run(["check", "one"], (0, f"goods {GOODS} bids {len(bids)} dummy {dummies(bids, whose)}\n", ""), folder)
+    run(["show", "one"], (0, text_of(GOODS, bids, whose), ""), folder)
+    run(["value", "one", *asked], (0, value(GOODS, bids, whose), ""), folder)
+    run(["normalise", "one"], (0, text_of(GOODS, in_order, whose), ""), folder)
+    run(["normalise", "other"], (0, text_of(GOODS, in_order, whose), ""), folder)
+    run(["explain", "one"], (0, explanation(bids), ""), folder)
+    run(["compare", "one", "other"], (0, "same\n", ""), folder)
+    run(["compare", "one", "lacking"], (1, difference(in_order, whose), ""), folder)
+    run(["duplicates", "one", "lacking", "other"], (0, "one\nother\n", ""), folder)
+
+
+def bids_on(count, size):
+    """So many bids on different bundles of so many goods."""
+    bundles = set()
+    while len(bundles) < count:
+        bundles.add(tuple(sorted(chosen.sample(range(GOODS), size))))
+    return [Bid(1 + chosen.randrange(GREATEST_PRICE), bundle) for bundle in chosen.sample(sorted(bundles), count)]
+
+
+def judge_files(folder):
+    """3,000 files, of which the last 1,000 are rewritings of others, and then one file 70,000 times; all listed too, and one file
+    300,000 times, whose paths are more than one command takes."""
+    print("3,000 files, one file 70,000 times, and lists of these and of 300,000 paths", flush=True)
+    for number in range(2000):
+        write(folder, str(number), text_of(2, [Bid(5, (0, 1)), Bid(1 + number, (1,))], MANY_XOR))
+    for number in range(1000):
+        write(folder, str(2000 + number), text_of(2, [Bid(1 + 2 * number, (1,)), Bid(5, (0, 1))], MANY_XOR))
+    paths = [str(number) for number in range(3000)]
+    groups = "\n".join(f"{2 * number}\n{2000 + number}\n" for number in range(1000))
+    progress = "".join(f"{number} of 3000 {number - 1}\n" for number in range(100, 3001, 100))
+    run(["duplicates", *paths], (0, groups, ""), folder)
+    run(["duplicates", "--progress", *paths], (0, groups, progress), folder)
+    run(["duplicates", *["0"] * 70_000], (0, "0\n" * 70_000, ""), folder)
+    write(folder, "list", "".join(path + "\0" for path in paths))
+    run(["duplicates", "--progress", "--files0-from", "list"], (0, groups, progress), folder)
+    write(folder, "list", "\0".join(["./0"] * 300_000))
+    run(["duplicates", "--files0-from", "list"], (0, "./0\n" * 300_000, ""), folder)
+
+
+def main():
+    resource.setrlimit(resource.RLIMIT_CORE, (0, 0))
+    with tempfile.TemporaryDirectory() as folder:
+        judge_files(folder)
+        for whose in (OR, ONE_XOR, MANY_XOR):
+            judge_file(folder, bids_on(4000, 512), whose)
+            judge_file(folder, bids_on(BIDS, 31), whose)
+        run(["check", "/dev/zero"], (2, "", "TooLong\n"), folder)
+    print(f"{tally['runs']} runs, {tally['wrong']} wrong")
+    return 1 if tally["wrong"] else 0
+
+
+if __name__ == "__main__":
+    sys.exit(main())
