@@ -1,4 +1,4 @@
 -- Proofs that several functions of this crate cite.
 pub mod Frequent
-pub mod Parting
+pub mod FirstDifference
 pub mod Stepping

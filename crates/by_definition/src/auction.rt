@@ -96,7 +96,7 @@ fn bidders_from(
     prepend(xor_atoms_of(alloc, bids, dummy)?, later)
 }
 
-/// The auction that the file stands for.
+/// The auction of the file.
 pub fn auction_from(alloc: Global, file: &BidFile) -> Result<ListedAuction, AllocError>
     ensures { IfOk result (λ auction. auction_in auction ≡ auction_from (plain_file file.now)) }
 {

@@ -6,9 +6,9 @@ ghost use Rattle.canon.specs.Canonical.{canonical_auction, canonical_text, point
 ghost use Rattle.by_definition.specs.Lists.{auction_in, bidders_in};
 
 use crate::auction::{Bidder, ListedAuction, auction_from};
-use crate::fault::NoAnswer;
 use crate::file::file_from;
 use crate::list::prepend;
+use crate::no_answer::NoAnswer;
 use crate::order::sort_bidders;
 use crate::points::{or_points, xor_points};
 use crate::values::{is_nonzero, xor_table};

@@ -1,4 +1,4 @@
-//! Where two auctions part first.
+//! The first difference of two auctions.
 
 ghost use Rattle.std.specs.Prelude.{◌≡◌, ◌==◌, ◌+◌, ◌<◌, ◌^◌, not, IfOk, option_map};
 ghost use Rattle.std.specs.List.{find};
@@ -16,8 +16,8 @@ ghost use Rattle.by_definition.specs.Internal.Differences.{bidder_difference, is
 use crate::auction::{Bidder, ListAtom, ListedAuction, auction_from};
 use crate::bundle::all_bundles;
 use crate::canonical::canonical_auction;
-use crate::fault::NoAnswer;
 use crate::list::prepend;
+use crate::no_answer::NoAnswer;
 use crate::order::{compare_bidders, sort_bidders};
 use crate::points::is_or_point;
 use crate::values::or_value;
@@ -49,7 +49,7 @@ fn first_unequal_bundle(
     }
 }
 
-/// What is told of the first auction on the bundle, where the list has all bundles.
+/// What a difference on the bundle reports of the first auction. The list has all bundles.
 fn side_of(
     alloc: Global,
     all: &[Vec<u16>],
@@ -87,14 +87,14 @@ fn count_of(bidder: &[ListAtom], bidders: &[Bidder]) -> Result<u32, NoAnswer>
 }
 
 /// The atoms, each as its goods and its price.
-fn told(alloc: Global, atoms: &[ListAtom]) -> Result<Vec<(Vec<u16>, u64)>, AllocError>
+fn printed_atoms(alloc: Global, atoms: &[ListAtom]) -> Result<Vec<(Vec<u16>, u64)>, AllocError>
     ensures { IfOk result (λ bids. printed_atoms bids.items ≡ atoms_in atoms.now) }
 {
     let [atom, rest @ ..] = atoms else {
         return Ok(Vec::new(alloc));
     };
     let goods = Vec::from_slice(alloc, atom.bundle.as_slice())?;
-    prepend((goods, atom.price), told(alloc, rest)?)
+    prepend((goods, atom.price), printed_atoms(alloc, rest)?)
 }
 
 /// Whether one of the lists has the bidder more often.
@@ -121,7 +121,7 @@ fn first_unequal_bidder(
     };
     if is_unequal(one, other, bidder.as_slice())? {
         Ok(Verdict::Xor {
-            bidder: told(alloc, bidder.as_slice())?,
+            bidder: printed_atoms(alloc, bidder.as_slice())?,
             left: count_of(bidder.as_slice(), one)?,
             right: count_of(bidder.as_slice(), other)?,
         })

@@ -1,6 +1,6 @@
-//! The definitions as a program, slow and plain, which the tests compare the program's answers with. Bundles are lists
-//! of goods, bidders are gone through bundle by bundle, and each function's contract is the definition that it
-//! computes. All but the auction of a file is for these tests alone.
+//! The definitions as a program, slow and plain, which the tests compare the answers of `valuation`, `prune` and `canon`
+//! with. Bundles are lists of goods, bidders are gone through bundle by bundle, and each function's contract is the
+//! definition that it computes. All but the auction of a file is for these tests alone.
 #![tactic(auto)]
 
 pub mod auction;
@@ -11,10 +11,10 @@ mod canonical;
 #[cfg(test)]
 mod difference;
 #[cfg(test)]
-mod fault;
-#[cfg(test)]
 mod file;
 mod list;
+#[cfg(test)]
+mod no_answer;
 #[cfg(test)]
 mod order;
 #[cfg(test)]

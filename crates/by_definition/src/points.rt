@@ -9,14 +9,14 @@ ghost use Rattle.by_definition.specs.Lists.{atoms_in, bundles_in, points_among};
 
 use crate::auction::{Bidder, ListAtom};
 use crate::bundle::{all_bundles, is_inside, without};
-use crate::fault::{NoAnswer, sum};
 use crate::list::prepend;
+use crate::no_answer::{NoAnswer, sum};
 use crate::values::{or_value, xor_value};
 use std::alloc::{AllocError, Global};
 use valuation::Atom;
 
 /// An atom on a copy of the bundle.
-fn atom_on(alloc: Global, bundle: &[u16], price: u64) -> Result<ListAtom, AllocError>
+pub fn atom_on(alloc: Global, bundle: &[u16], price: u64) -> Result<ListAtom, AllocError>
     ensures { IfOk result (λ atom. (atom.bundle.items ≡ bundle.now) × (atom.price ≡ price)) }
 {
     Ok(Atom {
@@ -125,7 +125,7 @@ fn each_split_is_less(
     }
 }
 
-/// Whether the bundle is a point of the OR bidder with these atoms, where the list has all bundles.
+/// Whether the bundle is a point of the OR bidder with these atoms. The list has all bundles.
 #[tactic(auto, unfolding(prune::specs::Points::is_or_point))]
 pub fn is_or_point(
     alloc: Global,

@@ -10,7 +10,7 @@ ghost use Rattle.by_definition.specs.Lists.{atoms_in, auction_in, bidders_in};
 ghost use Rattle.by_definition.specs.Internal.Tables.{is_as_frequent};
 
 use crate::auction::{Bidder, ListAtom, ListedAuction, auction_from};
-use crate::fault::{NoAnswer, sum};
+use crate::no_answer::{NoAnswer, sum};
 use crate::values::{is_nonzero, or_table, xor_table};
 use bid_file::BidFile;
 use std::alloc::Global;

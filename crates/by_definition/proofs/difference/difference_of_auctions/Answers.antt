@@ -7,7 +7,7 @@ use Rattle.canon.specs.declared.verdict.Verdict.{Verdict}
 use Rattle.canon.specs.Difference.{first_difference, first_unequal_bundle, xor_difference, least_unequal_bidder}
 use Rattle.canon.specs.Verdicts.{plain_verdict}
 use Rattle.by_definition.specs.Lists.{auction_in, bundles_in, goods_in}
-use Rattle.by_definition.proofs.Parting.{no_bundle_differs}
+use Rattle.by_definition.proofs.FirstDifference.{no_bundle_differs}
 use Rattle.by_definition.proofs.difference.difference_of_auctions.Goals as goal
 
 pub returns : goal.returns

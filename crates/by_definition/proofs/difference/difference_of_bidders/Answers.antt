@@ -11,7 +11,7 @@ use Rattle.canon.specs.Difference.{xor_difference, least_unequal_bidder}
 use Rattle.canon.specs.Verdicts.{plain_verdict}
 use Rattle.by_definition.specs.Internal.Differences.{bidder_difference, is_unequal}
 use Rattle.by_definition.specs.Lists.{auction_in, bidders_in}
-use Rattle.by_definition.proofs.Parting.{bidders_differ}
+use Rattle.by_definition.proofs.FirstDifference.{bidders_differ}
 use Rattle.by_definition.proofs.difference.difference_of_bidders.Goals as goal
 
 pub returns : goal.returns

@@ -1,3 +1,0 @@
--- Proofs that several functions of this crate cite.
-mod Choosing
-mod PlainPoints

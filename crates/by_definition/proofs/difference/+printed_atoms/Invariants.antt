@@ -1,0 +1,5 @@
+use Rattle.std.proofs.Common.{length}
+use Rattle.by_definition.proofs.difference.+printed_atoms.Given as goal
+
+abbrev pub decreases-printed_atoms : goal.decreases-printed_atoms
+decreases-printed_atoms l = length l.atoms.now
