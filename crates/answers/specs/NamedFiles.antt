@@ -21,7 +21,7 @@ pub record IsNamedFile (named : NamedFile) : Type 0 where
   pub bidders : length (auction_from named.file).xor_bidders ≡ length named.dummies.items
 
 -- this status and this text are those of all differences
-pub record TellsDifferences (left right : NamedFile) (status : ℕ) (text : List ℕ) : Type 0 where
+pub record PrintsDifferences (left right : NamedFile) (status : ℕ) (text : List ℕ) : Type 0 where
   pub differences : PlainDifferences
   pub all : AreAllDifferences (auction_from left.file) (auction_from right.file) differences
   pub is_status : status ≡ status_of_differences differences

@@ -31,7 +31,7 @@ pub use duplicates::run_duplicates;
 pub use explanation::run_explain;
 pub use normalise::run_normalise;
 pub use paths::{Ending, ManyFiles, Progress};
-pub use program::{run_cats, run_program};
+pub use program::{Process, run_cats, run_program};
 pub use round::run_round;
 pub use rounding::FinePrices;
 pub use show::run_show;

@@ -106,7 +106,7 @@ fn raised_number(number: u64, power: u64) -> u64
 
 /// The digits of two runs, one behind the other, cut so many places before their end.
 fn cut_value(whole: &[u8], places: &[u8], power: u64) -> Value
-    requires room { length whole.now + length places.now < 2 ^ 64 }
+    requires short { length whole.now + length places.now < 2 ^ 64 }
     requires power { power ≤ suc (length whole.now + length places.now) }
     requires digits { digits_alone (whole.now ++ places.now) ≡ true }
     ensures { Holds result (number_of (whole.now ++ places.now)) (10 ^ power) }

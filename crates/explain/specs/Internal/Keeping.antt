@@ -1,4 +1,4 @@
--- The canonical file of a file with the names of its bidders, and where the two have the same bids.
+-- The canonical file of a file with the names of its bidders, and the places at which the two have the same bids.
 use Rattle.std.specs.Prelude.{◌≡◌, ℕ, ◌<◌, List, length, slice_index_or, Option, Some, None}
 use Rattle.bid_file.specs.Files.{PlainFile, IsPlainFile}
 use Rattle.canon.specs.Canonical.{canonical_file}

@@ -21,7 +21,7 @@ pub record IsKnown {S : Type 0} (goods : S → List ℕ) (known : Known S) : Typ
   pub order : AreInOrder known.file.now known.bids.items
   pub kept : AreKept known.file.now known.kept
   pub points : AreFilePoints goods known.file.now (length (kept_bids known.file.now)) known.points
-  pub light : first_heavy known.file.now.goods known.limit (or_atoms_of known.file.now.bids) ≡ None
+  pub within : first_heavy known.file.now.goods known.limit (or_atoms_of known.file.now.bids) ≡ None
 
 -- the index is that of its bidder's points
 pub record IsCurrent {S : Type 0} (goods : S → List ℕ) (known : Known S) (current : CurrentIndex S) : Type 0 where

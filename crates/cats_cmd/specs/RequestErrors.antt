@@ -1,4 +1,4 @@
--- Why the program stops without an answer of a run, with which status, and what standard error gets.
+-- Why a request has no answer, with which status, and what standard error gets.
 use Rattle.std.specs.Prelude.{◌≡◌, ◌⊎◌, ◌++◌, ◌||◌, ℕ, Bool, true, false, List, [], ◌∷◌, Option, Result, codes, bytes_eq}
 use Rattle.std.specs.Borrow.{Bor}
 use Rattle.cats_text.specs.Streams.{has_failed, Sends}
@@ -8,8 +8,8 @@ use Rattle.answers.specs.FaultLines.{line_of_fault, prefix_of}
 use Rattle.answers.specs.Statuses.{status_of_fault}
 use Rattle.command_line.specs.declared.request.Request.{Request}
 use Rattle.command_line.specs.declared.request.Request.TheVariants.{Round, Duplicates, Sizes}
-use Rattle.cats_cmd.specs.declared.program.Stop.{Stop}
-use Rattle.cats_cmd.specs.declared.program.Stop.TheVariants.{CannotOpen, NotOpened, Run}
+use Rattle.cats_cmd.specs.declared.program.RequestError.{RequestError}
+use Rattle.cats_cmd.specs.declared.program.RequestError.TheVariants.{CannotOpen, NotOpened, Run}
 use Rattle.cats_cmd.specs.declared.source.Unopened.{Unopened}
 use Rattle.cats_cmd.specs.declared.source.Unopened.TheVariants.{NoSuchFile, PermissionDenied, IsFolder, Other}
 
@@ -36,10 +36,10 @@ abbrev pub names_reporting : List (Bor (List ℕ)) → Bool
 names_reporting (name ∷ (word ∷ words)) = bytes_eq word.now (codes "round") || names_many_files (name ∷ (word ∷ words))
 names_reporting words = false
 
-abbrev pub status_of_stop : Stop → ℕ
-status_of_stop (CannotOpen which) = 5
-status_of_stop (NotOpened why) = 5
-status_of_stop (Run fault) = status_of_fault fault
+abbrev pub status_of_request_error : RequestError → ℕ
+status_of_request_error (CannotOpen which) = 5
+status_of_request_error (NotOpened why) = 5
+status_of_request_error (Run fault) = status_of_fault fault
 
 abbrev pub line_of_unopened : Unopened → List ℕ
 line_of_unopened NoSuchFile = codes "cannot open: no such file\n"
@@ -47,10 +47,10 @@ line_of_unopened PermissionDenied = codes "cannot open: permission denied\n"
 line_of_unopened IsFolder = codes "cannot open: is a folder\n"
 line_of_unopened Other = codes "cannot open\n"
 
-abbrev pub line_of_stop : Stop → List ℕ
-line_of_stop (CannotOpen which) = prefix_of which ++ codes "cannot open\n"
-line_of_stop (NotOpened why) = line_of_unopened why
-line_of_stop (Run fault) = line_of_fault fault
+abbrev pub line_of_request_error : RequestError → List ℕ
+line_of_request_error (CannotOpen which) = prefix_of which ++ codes "cannot open\n"
+line_of_request_error (NotOpened why) = line_of_unopened why
+line_of_request_error (Run fault) = line_of_fault fault
 
 -- ---- what is sent to a stream for messages
 

@@ -3,7 +3,7 @@ use Rattle.std.proofs.lemmas.Bool.{ne_eqb, eq-eqb}
 use Rattle.std.proofs.lemmas.List.{at_drop_all}
 use Rattle.rounding.specs.Internal.RawTexts.{first_line}
 use Rattle.rounding.proofs.Spans.{line_further, line_found}
-use Rattle.rounding.proofs.text.line_length.Goals as goal
+use Rattle.rounding.proofs.round_text.line_length.Goals as goal
 
 pub loop-place-preserved : goal.loop-place-preserved
 loop-place-preserved c =

@@ -3,7 +3,7 @@ use Rattle.std.proofs.lemmas.List.{append-nil}
 use Rattle.rounding.specs.Texts.{PlainChange}
 use Rattle.rounding.specs.Views.{plain_changes}
 use Rattle.rounding.proofs.TextLines.{bid_line_text, bid_line_change, no_change, change_pushed}
-use Rattle.rounding.proofs.text.RoundedText.push_bid_line.Goals as goal
+use Rattle.rounding.proofs.round_text.RoundedText.push_bid_line.Goals as goal
 
 pub returns-in_ok-push-clause-text : goal.returns-in_ok-push-clause-text
 returns-in_ok-push-clause-text c =
