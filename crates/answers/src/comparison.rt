@@ -56,7 +56,12 @@ pub fn verdict_text(alloc: Global, verdict: &Verdict) -> Result<Vec<u8>, AllocEr
 }
 
 /// That two auctions are different, where they first differ, and what is reported of each.
-fn difference_lines(alloc: Global, place: &[u8], left: &[u8], right: &[u8]) -> Result<Vec<u8>, AllocError>
+fn difference_lines(
+    alloc: Global,
+    place: &[u8],
+    left: &[u8],
+    right: &[u8],
+) -> Result<Vec<u8>, AllocError>
     ensures { IfOk result (λ text. text.items ≡ difference_lines place.now left.now right.now) }
 {
     let mut text = Vec::from_slice(alloc, b"different\n")?;

@@ -7,6 +7,7 @@ mod devices;
 mod diff;
 mod duplicates;
 mod explanations;
+mod files;
 mod normalise;
 mod program;
 mod round;

@@ -13,9 +13,9 @@ use crate::source::Source;
 use answers::RunFault;
 use canon::AuctionIndex;
 use cats_text::Watched;
+use lines::duplicates_text;
 use std::alloc::{AllocError, AllocGlobal, Global};
 use std::io::{Read, Write};
-use lines::duplicates_text;
 
 /// The files that were judged, by their auctions.
 #[derive(Drop)]

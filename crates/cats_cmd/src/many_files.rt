@@ -95,7 +95,12 @@ fn read_list<S: Source + AllocGlobal>(source: &S, list: &str) -> Result<Vec<u8>,
 }
 
 /// Reports why the list at this path was not read, and answers the status.
-fn refuse_list<E: Write>(alloc: Global, list: &str, error: &RequestError, err: &mut Watched<E>) -> u8
+fn refuse_list<E: Write>(
+    alloc: Global,
+    list: &str,
+    error: &RequestError,
+    err: &mut Watched<E>,
+) -> u8
     ensures reports { Reports E.contents (refusal_line list.now error.now) err.old err.new }
     ensures status { result ≡ status_of_request_error error.now }
 {

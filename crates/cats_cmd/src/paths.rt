@@ -11,7 +11,7 @@ ghost use Rattle.cats_cmd.specs.declared.paths.Progress.TheVariants.{Lines};
 ghost use Rattle.cats_cmd.specs.declared.program.RequestError.{RequestError};
 
 use crate::escaping::escape_into;
-use crate::program::{RequestError, report, report_text, status_of, request_error_line};
+use crate::program::{RequestError, report, report_text, request_error_line, status_of};
 use crate::run::send_text;
 use crate::source::{Source, Unopened};
 use answers::{DONE, RunFault};
@@ -211,7 +211,11 @@ pub(crate) fn open_file<S: Source>(source: &S, path: &str) -> Result<Watched<S::
 }
 
 /// The line that says why the file at a path was not judged.
-pub(crate) fn path_refusal(alloc: Global, path: &[u8], error: &RequestError) -> Result<Vec<u8>, AllocError>
+pub(crate) fn path_refusal(
+    alloc: Global,
+    path: &[u8],
+    error: &RequestError,
+) -> Result<Vec<u8>, AllocError>
     ensures { IfOk result (λ line. line.items ≡ refusal_line path.now error.now) }
 {
     let mut line = Vec::new(alloc);
@@ -248,7 +252,12 @@ fn remove_progress<E: Write>(progress: Progress, number: usize, err: &mut Watche
 }
 
 /// Reports why the file at a path was not judged, if it was not.
-fn report_refusal<E: Write>(alloc: Global, path: &[u8], error: &Option<RequestError>, err: &mut Watched<E>)
+fn report_refusal<E: Write>(
+    alloc: Global,
+    path: &[u8],
+    error: &Option<RequestError>,
+    err: &mut Watched<E>,
+)
     ensures { ReportsAll E.contents (refusal_lines path.now error.now) err.old err.new }
 {
     if let Some(error) = error {

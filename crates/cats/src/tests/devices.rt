@@ -140,7 +140,12 @@ fn inputs_fail(rt: HostRuntime) -> Result<(), Fail> {
 fn a_byte_a_call(rt: HostRuntime) -> Result<(), Fail> {
     for (run, sent, _) in &RUNS {
         let mut input = byte_reader(TEXT.as_bytes(), None);
-        let answer = answer(rt.alloc(), *run, &mut input, writer(rt.alloc(), 1, CAPACITY))?;
+        let answer = answer(
+            rt.alloc(),
+            *run,
+            &mut input,
+            writer(rt.alloc(), 1, CAPACITY),
+        )?;
         expect(&rt, &answer, 0, sent, "");
     }
     Ok(())

@@ -58,8 +58,22 @@ type Row = (&'static str, usize, usize, u8, &'static str, &'static str);
 
 static ROWS: [Row; 19] = [
     ("cats duplicates @a @b", CAPACITY, CAPACITY, 0, "", ""),
-    ("cats duplicates @a @a2", CAPACITY, CAPACITY, 0, "@a\n@a2\n", ""),
-    ("cats duplicates @a @a", CAPACITY, CAPACITY, 0, "@a\n@a\n", ""),
+    (
+        "cats duplicates @a @a2",
+        CAPACITY,
+        CAPACITY,
+        0,
+        "@a\n@a2\n",
+        "",
+    ),
+    (
+        "cats duplicates @a @a",
+        CAPACITY,
+        CAPACITY,
+        0,
+        "@a\n@a\n",
+        "",
+    ),
     // three auctions, one after the other
     (
         "cats duplicates @a @b @c @c2 @a2 @b2",
@@ -178,7 +192,12 @@ fn with_start(alloc: Global, start: &str, text: &str) -> Result<String, AllocErr
 }
 
 /// What a command line answers, whose words have a blank between each two.
-fn run(rt: &HostRuntime, line: &str, out_capacity: usize, err_capacity: usize) -> Result<RunAnswer, Fail> {
+fn run(
+    rt: &HostRuntime,
+    line: &str,
+    out_capacity: usize,
+    err_capacity: usize,
+) -> Result<RunAnswer, Fail> {
     let mut words = Vec::new(rt.alloc());
     for word in line.split(' ') {
         words.push(word)?;
