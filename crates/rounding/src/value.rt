@@ -122,10 +122,10 @@ fn cut_value(whole: &[u8], places: &[u8], power: u64) -> Value
     let kept = size - power;
     let of_whole = kept.min(whole.len());
     let of_places = kept - of_whole;
-    let front = held_number(&whole[..of_whole], 0, HELD);
+    let leading = held_number(&whole[..of_whole], 0, HELD);
     let behind = rest_after(&whole[of_whole..], Rest::Nothing);
     Value {
-        whole: held_number(&places[..of_places], front, HELD),
+        whole: held_number(&places[..of_places], leading, HELD),
         rest: rest_after(&places[of_places..], behind),
     }
 }
