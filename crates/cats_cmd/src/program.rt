@@ -79,7 +79,7 @@ pub fn run_cats<F: Files + AllocGlobal, W: Write, E: Write>(
         version: VERSION,
         terminal: false,
     };
-    run_program(&SystemFiles::new(rt), words, out, err, process)
+    run_program(&SystemFiles::new(rt), words, out, err, &process)
 }
 
 /// Does what a command line says, on the files of a source, and answers the exit status. The line's first word is the
@@ -93,12 +93,12 @@ pub fn run_program<S: Source + AllocGlobal, W: Write, E: Write>(
     words: &[&str],
     out: &mut Watched<W>,
     err: &mut Watched<E>,
-    process: Process<'_>,
+    process: &Process<'_>,
 ) -> u8
     requires out_works { has_failed out.old ≡ false }
     requires err_works { has_failed err.old ≡ false }
     ensures answers { AnswersLine (S.may_open source.now) (S.may_refuse source.now) S.Stream.remaining W.contents
-        E.contents process.terminal words.now out.old out.new err.old err.new result }
+        E.contents process.now.terminal words.now out.old out.new err.old err.new result }
     ensures silent { names_many_files words.now ≡ false → result ≢ 0 → result ≢ 1 → result ≢ 5 → out.new ≡ out.old }
     ensures done { names_reporting words.now ≡ false → result ≤ 1 → err.new ≡ err.old }
 {

@@ -379,7 +379,7 @@ fn judge_rows(
             version: version.as_str(),
             terminal,
         };
-        let status_answered = run_program(&source, words, &mut out, &mut err, process);
+        let status_answered = run_program(&source, words, &mut out, &mut err, &process);
         let answer = RunAnswer {
             status: status_answered,
             sent: text_taken(out)?,
