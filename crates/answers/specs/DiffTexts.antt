@@ -1,4 +1,4 @@
--- What `cats diff` prints: a line for each difference, with tabs between its words, what is on the left before what is on the
+-- What `cats diff` prints. It has a line for each difference, with tabs between its words, left before
 -- right.
 use Rattle.std.specs.Prelude.{ℕ, ◌+◌, List, ◌++◌, Option, Some, None, codes, decimal, slice_index_or}
 use Rattle.std.specs.List.{flat_map}

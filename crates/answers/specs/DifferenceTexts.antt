@@ -1,4 +1,4 @@
--- What `cats compare` prints: where two auctions first differ, and both sides of it.
+-- What `cats compare` prints. It is where two auctions first differ, and both sides of it.
 use Rattle.std.specs.Prelude.{ℕ, List, ◌∷◌, ◌++◌, codes, decimal}
 use Rattle.std.specs.List.{flat_map}
 use Rattle.cats_text.specs.Layout.{price_text}
@@ -21,14 +21,14 @@ abbrev pub bidder_text : List (Atom (List ℕ)) → List ℕ
 bidder_text bidder = flat_map (λ a. 32 ∷ atom_text a) bidder
 
 -- where two auctions first differ, and what is reported of each
-abbrev pub parted_text : List ℕ → List ℕ → List ℕ → List ℕ
-parted_text place left right = codes "different\n" ++ place ++ codes "\nleft " ++ left ++ codes "\nright " ++ right
+abbrev pub difference_lines : List ℕ → List ℕ → List ℕ → List ℕ
+difference_lines place left right = codes "different\n" ++ place ++ codes "\nleft " ++ left ++ codes "\nright " ++ right
     ++ codes "\n"
 
 abbrev pub difference_text : Difference → List ℕ
 difference_text NoDifference = codes "same\n"
-difference_text (InGoods left right) = parted_text (codes "goods") (decimal left) (decimal right)
-difference_text (InOr bundle left right) = parted_text (codes "or " ++ bundle_text bundle) (side_text left)
+difference_text (InGoods left right) = difference_lines (codes "goods") (decimal left) (decimal right)
+difference_text (InOr bundle left right) = difference_lines (codes "or " ++ bundle_text bundle) (side_text left)
     (side_text right)
-difference_text (InXor bidder left right) = parted_text (codes "xor" ++ bidder_text bidder) (decimal left)
+difference_text (InXor bidder left right) = difference_lines (codes "xor" ++ bidder_text bidder) (decimal left)
     (decimal right)

@@ -1,4 +1,4 @@
--- What `cats explain` prints: a line for each bid, with its number and its reason.
+-- What `cats explain` prints. It is a line for each bid, with its number and its reason.
 use Rattle.std.specs.Prelude.{ℕ, List, [], ◌∷◌, ◌++◌, length, codes, decimal}
 use Rattle.std.specs.List.{flat_map, range_with_len}
 use Rattle.cats_text.specs.Layout.{tabbed}

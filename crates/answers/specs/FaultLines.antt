@@ -1,4 +1,4 @@
--- How the faults of a run are reported on standard error.
+-- How faults are reported on standard error.
 use Rattle.std.specs.Prelude.{ℕ, List, [], ◌++◌, codes, decimal}
 use Rattle.cats_text.specs.declared.read_fault.Kind.{Kind}
 use Rattle.cats_text.specs.declared.read_fault.Kind.TheVariants.{TooLong, Device, Memory as NoMemory}

@@ -1,4 +1,4 @@
--- The names under which the kinds of faults are reported.
+-- The names of the kinds of faults.
 use Rattle.std.specs.Prelude.{ℕ, List, codes}
 use Rattle.cats_text.specs.declared.read_fault.Kind.{Kind}
 use Rattle.cats_text.specs.declared.read_fault.Kind.TheVariants.{Header, NotANumber, TooLarge, ExtraBid, BidNumber}

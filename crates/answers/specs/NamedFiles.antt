@@ -1,4 +1,4 @@
--- The canonical file of a file, with the dummy goods that its bidders have in that file, and all differences of two such files.
+-- Canonical files with dummy goods, and all their differences. The dummy goods are those of the source file.
 use Rattle.std.specs.Prelude.{◌≡◌, ℕ, List, length}
 use Rattle.bid_file.specs.Files.{PlainFile, IsPlainFile}
 use Rattle.valuation.specs.Auctions.{auction_from}
@@ -21,7 +21,7 @@ pub record IsNamedFile (named : NamedFile) : Type 0 where
   pub bidders : length (auction_from named.file).xor_bidders ≡ length named.dummies.items
 
 -- this status and this text are those of all differences
-pub record TellsDifferences (left right : NamedFile) (status : ℕ) (text : List ℕ) : Type 0 where
+pub record PrintsDifferences (left right : NamedFile) (status : ℕ) (text : List ℕ) : Type 0 where
   pub differences : PlainDifferences
   pub all : AreAllDifferences (auction_from left.file) (auction_from right.file) differences
   pub is_status : status ≡ status_of_differences differences

@@ -1,4 +1,4 @@
--- What the runs print.
+-- What `cats check` prints, and lists of goods.
 use Rattle.std.specs.Prelude.{ℕ, List, [], ◌∷◌, ◌++◌, length, codes, decimal}
 use Rattle.std.specs.List.{flat_map}
 use Rattle.bid_file.specs.Files.{PlainFile}

@@ -1,4 +1,4 @@
--- The exit statuses of the faults of a run and of the answer of a comparison, as users know them: they are written
+-- The exit statuses. They are those of a run's faults and of a comparison, as users know them: they are written
 -- out here, and the code's constants are proved to be these.
 use Rattle.std.specs.Prelude.{ℕ, if◌then◌else◌}
 use Rattle.cats_text.specs.declared.read_fault.Kind.{Kind}

@@ -2,7 +2,7 @@
 
 ghost use Rattle.std.specs.Prelude.{◌≡◌, ◌++◌, IfOk, codes};
 ghost use Rattle.canon.specs.Verdicts.{plain_verdict, printed_atoms};
-ghost use Rattle.answers.specs.DifferenceTexts.{bidder_text, difference_text, parted_text, side_text};
+ghost use Rattle.answers.specs.DifferenceTexts.{bidder_text, difference_text, difference_lines, side_text};
 ghost use Rattle.answers.specs.Statuses.{status_of_difference};
 
 use crate::report::{DIFFERENT, DONE, joined_goods};
@@ -20,7 +20,7 @@ pub fn verdict_status(verdict: &Verdict) -> u8
     }
 }
 
-/// `same`, or `different`, where the two auctions part, and both sides of it, each on a line.
+/// `same`, or `different`, where the two auctions first differ, and both sides of the difference, each on a line.
 pub fn verdict_text(alloc: Global, verdict: &Verdict) -> Result<Vec<u8>, AllocError>
     ensures { IfOk result (λ text. text.items ≡ difference_text (plain_verdict verdict.now)) }
 {
@@ -29,7 +29,7 @@ pub fn verdict_text(alloc: Global, verdict: &Verdict) -> Result<Vec<u8>, AllocEr
         Verdict::Goods(left, right) => {
             let left = left.to_string(alloc)?;
             let right = right.to_string(alloc)?;
-            parted(alloc, b"goods", left.as_bytes(), right.as_bytes())
+            difference_lines(alloc, b"goods", left.as_bytes(), right.as_bytes())
         }
         Verdict::Or {
             bundle,
@@ -40,7 +40,7 @@ pub fn verdict_text(alloc: Global, verdict: &Verdict) -> Result<Vec<u8>, AllocEr
             let place = format!(in alloc; "or {bundle}")?;
             let left = side(alloc, *left)?;
             let right = side(alloc, *right)?;
-            parted(alloc, place.as_bytes(), left.as_slice(), right.as_slice())
+            difference_lines(alloc, place.as_bytes(), left.as_slice(), right.as_slice())
         }
         Verdict::Xor {
             bidder,
@@ -50,14 +50,19 @@ pub fn verdict_text(alloc: Global, verdict: &Verdict) -> Result<Vec<u8>, AllocEr
             let place = bids(alloc, bidder.as_slice())?;
             let left = left.to_string(alloc)?;
             let right = right.to_string(alloc)?;
-            parted(alloc, place.as_slice(), left.as_bytes(), right.as_bytes())
+            difference_lines(alloc, place.as_slice(), left.as_bytes(), right.as_bytes())
         }
     }
 }
 
 /// That two auctions are different, where they first differ, and what is reported of each.
-fn parted(alloc: Global, place: &[u8], left: &[u8], right: &[u8]) -> Result<Vec<u8>, AllocError>
-    ensures { IfOk result (λ text. text.items ≡ parted_text place.now left.now right.now) }
+fn difference_lines(
+    alloc: Global,
+    place: &[u8],
+    left: &[u8],
+    right: &[u8],
+) -> Result<Vec<u8>, AllocError>
+    ensures { IfOk result (λ text. text.items ≡ difference_lines place.now left.now right.now) }
 {
     let mut text = Vec::from_slice(alloc, b"different\n")?;
     text.extend_from_slice(place)?;

@@ -6,7 +6,7 @@ ghost use Rattle.bid_file.specs.Files.{IsDummyBelow};
 ghost use Rattle.differences.specs.Views.{plain_bidder_change, plain_change, plain_differences};
 ghost use Rattle.answers.specs.DiffTexts.{bidder_lines, bidder_word, change_line, diff_text, goods_line, price_word};
 ghost use Rattle.answers.specs.Internal.Among.{AreAmong, IsAmong};
-ghost use Rattle.answers.specs.NamedFiles.{IsNamedFile, TellsDifferences};
+ghost use Rattle.answers.specs.NamedFiles.{IsNamedFile, PrintsDifferences};
 ghost use Rattle.answers.specs.Outputs.{bundle_text};
 ghost use Rattle.answers.specs.Statuses.{status_of_differences};
 
@@ -26,7 +26,7 @@ pub fn differences_text(
 ) -> Result<(u8, Vec<u8>), AllocError>
     requires left { IsNamedFile left.now }
     requires right { IsNamedFile right.now }
-    ensures { IfOk result (λ t. TellsDifferences left.now right.now t.0 t.1.items) }
+    ensures { IfOk result (λ t. PrintsDifferences left.now right.now t.0 t.1.items) }
 {
     let differences = all_differences(alloc, &left.file, &right.file)?;
     let text = diff_text(alloc, &differences, left, right)?;

@@ -1,4 +1,4 @@
-//! What the program and the library print, and the statuses that they answer.
+//! What the program and the library print, and their statuses.
 #![tactic(auto)]
 
 mod comparison;

@@ -1,4 +1,4 @@
-//! How a run's fault is reported: its line and its status.
+//! How a fault is reported: its line and its status.
 
 ghost use Rattle.std.specs.Prelude.{◌≡◌, ◌++◌, IfOk, codes, decimal, string_bytes};
 ghost use Rattle.answers.specs.Outputs.{bundle_text};
@@ -10,13 +10,13 @@ use canon::{CanonFault, Which};
 use cats_text::{Kind, ReadFault, SendFault};
 use std::alloc::{AllocError, Global};
 
-/// A run did what it was asked for.
+/// A run did what its request says.
 pub const DONE: u8 = 0;
 
 /// Two files are different auctions.
 pub const DIFFERENT: u8 = 1;
 
-/// A file is no bid file.
+/// A file is not a bid file.
 pub const FILE_REFUSED: u8 = 2;
 
 /// A search took more steps than its limit.

@@ -1,4 +1,4 @@
-//! Worked examples of what is printed, computed by the prover.
+//! Worked examples of what is printed. The prover computes them.
 
 ghost use Rattle.std.specs.Prelude.{◌≡◌, ℕ, [], ◌∷◌, map, codes, Vec, Some, None};
 ghost use Rattle.std.specs.Global.{Global};

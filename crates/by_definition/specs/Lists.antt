@@ -1,4 +1,4 @@
--- What callers see of bundles that are lists of goods, and of bids and bidders on them.
+-- What contracts see of bundles, bids and bidders. These are lists of goods, and what is made of them.
 use Rattle.std.specs.Prelude.{ℕ, List, map, Vec}
 use Rattle.std.specs.List.{filter}
 use Rattle.std.specs.Prelude.{Bool}

@@ -1,4 +1,4 @@
-//! The canonical auction of an auction, and the canonical text of a file.
+//! The canonical auction of an auction, and the canonical text.
 
 ghost use Rattle.std.specs.Prelude.{◌≡◌, ◌+◌, ◌<◌, ◌^◌, IfOk};
 ghost use Rattle.bid_file.specs.Views.{plain_file};

@@ -1,4 +1,4 @@
-//! The first difference of two auctions.
+//! Where two auctions first differ.
 
 ghost use Rattle.std.specs.Prelude.{◌≡◌, ◌==◌, ◌+◌, ◌<◌, ◌^◌, not, IfOk, option_map};
 ghost use Rattle.std.specs.List.{find};

@@ -1,4 +1,4 @@
-//! Lists that are made from their end, and taken apart from their front.
+//! Lists made from their end. They are taken apart from their front.
 
 ghost use Rattle.std.specs.Prelude.{◌≡◌, ◌∷◌, [], IfOk, MatchOption};
 

@@ -1,4 +1,4 @@
-//! Whether two files are of the same auction, by tables of values.
+//! Whether two files are the same auction, by tables.
 
 ghost use Rattle.std.specs.Prelude.{◌≡◌, ◌+◌, ◌<◌, ◌^◌, ◌↔◌, IfOk, IsTrue};
 ghost use Rattle.std.specs.Cmp.Lexicographic.{slice_cmp};

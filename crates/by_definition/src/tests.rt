@@ -1,4 +1,4 @@
-//! The program's answers beside those of the definitions, and worked rows of the calls below `canon`.
+//! The program's answers on small auctions. Each is compared with what the definitions give.
 
 mod auctions;
 mod bids;

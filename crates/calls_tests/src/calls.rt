@@ -1,4 +1,4 @@
-//! Each call on texts of which the answer is known.
+//! Each call on texts whose answer is known.
 
 use answers::RunFault;
 use cats_calls::{

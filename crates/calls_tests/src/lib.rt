@@ -1,4 +1,4 @@
-//! Tests of `cats_calls`: each call with ample memory, and a buffer that is just large enough or too small. They are in a crate
+//! Tests of `cats_calls`, on known answers, with buffers that suffice or do not. They are in a crate
 //! of their own, since a crate's functions are proved with its tests once more.
 #![tactic(auto)]
 

@@ -1,4 +1,4 @@
-//! Worked rows of the runs and of the program, each by the call of `cats_cmd` that it shows.
+//! Worked rows of the runs and of the program. Each is by the call of `cats_cmd` that it shows.
 
 mod check;
 mod command_lines;
@@ -7,6 +7,7 @@ mod devices;
 mod diff;
 mod duplicates;
 mod explanations;
+mod files;
 mod normalise;
 mod program;
 mod round;

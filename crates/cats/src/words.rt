@@ -1,4 +1,4 @@
-//! The words of the command line, of which the first that is not UTF-8 is found.
+//! The first word of the command line that is not UTF-8.
 
 use std::alloc::{AllocError, Global};
 use std::env::{Env, FillError};
@@ -6,7 +6,7 @@ use std::env::{Env, FillError};
 /// The size of the first buffer for a word.
 const SHORT: usize = 4096;
 
-/// The place of the first word of the command line that is not UTF-8, where the program's name has the place 0.
+/// The place of the first word of the command line that is not UTF-8. The program's name has the place 0.
 pub fn first_broken_word<E: Env>(env: &E, alloc: Global) -> Result<Option<usize>, AllocError> {
     for place in 0..usize::MAX {
         let Some(word) = read_word(env, alloc, place)? else {

@@ -1,4 +1,4 @@
-//! The C library: each call puts what it answers into its caller's buffer. Nothing is kept between calls.
+//! The exports of the C library. Each call puts what it answers into its caller's buffer, and nothing is kept.
 #![tactic(auto)]
 
 ghost use Rattle.rounding.specs.declared.replacement.FinePrices.TheVariants.{Refuse, Round};

@@ -107,7 +107,7 @@ module _ (limit : ℕ) (text : List ℕ) where
   pub named_read : (file : PlainFile) → Spells text file → (r : Result NamedFile CanonFault) → NormalisesPlainAs limit file (unnamed_answer r)
       → IfOk r (λ named. named.dummies.items ≡ kept_dummies file) → NamesAs limit text r
   named_read file spelled (Ok named) n dummies =
-      record { given = record { file = file; spelled = spelled; light = n.light }; is = is_named file named n dummies }
+      record { given = record { file = file; spelled = spelled; within_limit = n.within_limit }; is = is_named file named n dummies }
   named_read file spelled (Err fault) n dummies = unmade limit text file spelled fault n
 
   pub named_facts : (file : PlainFile) → Spells text file → (r : Result NamedFile CanonFault) → NormalisesPlainAs limit file (unnamed_answer r)

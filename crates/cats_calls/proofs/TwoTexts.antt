@@ -22,7 +22,7 @@ use Rattle.canon.proofs.CanonicalFiles.Texts.{HasAtoms-file, IsPlainFile-canonic
 use Rattle.differences.specs.Differences.{AreAllDifferences, PlainDifferences, is_none_at_all}
 use Rattle.differences.proofs.BeginAuctions.{begins_with_first, none_exactly_for_same}
 use Rattle.answers.specs.DiffTexts.{diff_text}
-use Rattle.answers.specs.NamedFiles.{TellsDifferences}
+use Rattle.answers.specs.NamedFiles.{PrintsDifferences}
 use Rattle.answers.specs.Statuses.{status_of_difference, status_of_differences}
 use Rattle.cats_calls.specs.Internal.Comparing.{ComparesFiles}
 use Rattle.cats_calls.specs.Internal.Reading.{IsNamedOf}
@@ -106,14 +106,14 @@ module _ (left right : List ℕ) (f g : PlainFile) (s : Spells left f) (t : Spel
       )
 
 module _ (limit : ℕ) (left right : List ℕ) (one other : NamedFile) (n : IsNamedOf limit left one) (m : IsNamedOf limit right other) where
-  pub diffed : (status : ℕ) (text : List ℕ) → TellsDifferences one other status text → DiffsTexts limit left right status text
-  diffed status text told =
+  pub diffed : (status : ℕ) (text : List ℕ) → PrintsDifferences one other status text → DiffsTexts limit left right status text
+  diffed status text printed =
       let f = n.given.file in
       let g = m.given.file in
-      let d = told.differences in
+      let d = printed.differences in
       let all : AreAllDifferences (auction_from (canonical_file f)) (auction_from (canonical_file g)) d =
       subst (λ (h : PlainFile). AreAllDifferences (auction_from (canonical_file f)) (auction_from h) d) m.is.canonical
-      (subst (λ (h : PlainFile). AreAllDifferences (auction_from h) (auction_from other.file) d) n.is.canonical told.all) in
+      (subst (λ (h : PlainFile). AreAllDifferences (auction_from h) (auction_from other.file) d) n.is.canonical printed.all) in
       let names : diff_text one.file.goods one.dummies.items other.dummies.items d ≡ diff_text f.goods (kept_dummies f) (kept_dummies g) d =
       ap (λ (goods : ℕ). diff_text goods one.dummies.items other.dummies.items d) (ap (λ (h : PlainFile). h.goods) n.is.canonical)
       ∙ ap₂ (λ (xs ys : List ℕ). diff_text f.goods xs ys d) n.is.dummies m.is.dummies in
@@ -122,7 +122,7 @@ module _ (limit : ℕ) (left right : List ℕ) (one other : NamedFile) (n : IsNa
         second = m.given;
         differences = d;
         all = all;
-        is_status = told.is_status;
-        is_text = told.is_text ∙ names;
-        same = zero_exactly left right f g n.given.spelled m.given.spelled d all status told.is_status;
+        is_status = printed.is_status;
+        is_text = printed.is_text ∙ names;
+        same = zero_exactly left right f g n.given.spelled m.given.spelled d all status printed.is_status;
       }

@@ -1,4 +1,4 @@
--- What a call answers: a status with a text, or the fault by which a text is refused.
+-- What a call answers. It is a status with a text, or the fault by which a text is refused.
 use Rattle.std.specs.Prelude.{ℕ, List, Result, Ok, Err}
 use Rattle.canon.specs.declared.canon_fault.CanonFault.{CanonFault}
 use Rattle.canon.specs.declared.which.Which.{Which}

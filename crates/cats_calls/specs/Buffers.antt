@@ -15,7 +15,7 @@ pub record PutsInto (status : ℕ) (text old new : List ℕ) (answer : ℕ) : Ty
   pub fits : length text ≤ length old → (answer ≡ status) × (new ≡ text ++ drop (length text) old)
   pub small : length old < length text → (answer ≡ TOO_SMALL) × (new ≡ old)
 
--- what is given of a fault: its line, or want of memory in the place of that line
+-- what is given of a fault: its line, or `want of memory` instead of that line
 abbrev pub IsLineFor : RunFault → List ℕ → Type 0
 IsLineFor fault text = (text ≡ line_of_fault fault) ⊎ (text ≡ codes "want of memory\n")
 

@@ -1,4 +1,4 @@
--- What rounding the prices of a text gives: the text, and what is reported.
+-- What rounding a text gives. It is the rounded text, and what is reported.
 use Rattle.std.specs.Prelude.{◌≡◌, ◌⊎◌, ◌<◌, ◌==◌, ℕ, if◌then◌else◌, List, [], length, Some, Result, Ok, Err}
 use Rattle.std.specs.List.{flat_map}
 use Rattle.bid_file.specs.Files.{PlainFile}

@@ -1,4 +1,4 @@
-//! A caller's buffer: a text is put into it whole, or not at all.
+//! A caller's buffer. A text is put into it whole, or not at all.
 
 ghost use Rattle.std.specs.Prelude.{◌≡◌, length};
 ghost use Rattle.cats_calls.specs.Buffers.{Gives, GivesFault, PutsInto};

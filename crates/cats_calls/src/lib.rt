@@ -1,4 +1,4 @@
-//! The calls of the C library, over values: what each answers of texts, and how an answer is put into a caller's buffer.
+//! The calls of the C library, over values. Each answers texts, and its answer is put into a caller's buffer.
 #![tactic(auto)]
 
 mod answer;

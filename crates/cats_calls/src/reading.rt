@@ -1,4 +1,4 @@
-//! Texts as they are read: no more of one than of a stream.
+//! The texts that a call reads. No more of one is read than of a stream.
 
 ghost use Rattle.std.specs.Prelude.{◌<◌, IfOk, length};
 ghost use Rattle.canon.specs.Canonical.{IsCanonicalFile};

@@ -45,7 +45,7 @@ pub place_of_best : (atoms : List (Atom (List ℕ))) (bundle : List ℕ) (place 
 place_of_best atoms bundle (Some i) first none = at_first atoms bundle i first
 place_of_best atoms bundle None first none = nowhere atoms bundle (none refl)
 
--- the place has a number where each atom has one
+-- the place has a number if each atom has one
 pub place_within : (atoms : List (Atom (List ℕ))) (bundle numbers : List ℕ) (place : Option ℕ) → IfSome place (λ i. IsFirstBest atoms bundle i)
     → length numbers ≡ length atoms → IfSome place (λ i. i < length numbers)
 place_within atoms bundle numbers (Some i) first long = omega (arith, first.within, long)

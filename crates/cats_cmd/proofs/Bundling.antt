@@ -1,4 +1,4 @@
--- Where a file misses none of the goods that are asked for, all are below its count of goods, by induction on them.
+-- If a file misses none of the goods of a request, all are below its count of goods, by induction on them.
 use Rattle.std.proofs.Common.{◌≡◌, ℕ, ◌<◌, Bool, true, false, cond, List, [], ◌∷◌, Some, None, sym, ap, ◌∙◌, ⊎_elim}
 use Rattle.std.specs.Prelude.{All, nat_le}
 use Rattle.std.specs.List.{AllByRecursion}
@@ -6,7 +6,7 @@ use Rattle.std.proofs.lemmas.Bool.{leb-false, cases_Bool}
 use Rattle.std.proofs.lemmas.List.Elements.{All-from_recursion}
 use Rattle.cats_cmd.specs.Outcomes.{missing_good}
 
--- where a file misses none of the goods, all are below its count
+-- if a file misses none of the goods, all are below its count
 below_by_recursion : (count : ℕ) (goods : List ℕ) → missing_good count goods ≡ None → AllByRecursion (λ g. g < count) goods
 below_by_recursion count [] h = tt
 below_by_recursion count (g ∷ goods) h =

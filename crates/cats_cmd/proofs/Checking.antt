@@ -11,11 +11,11 @@ use Rattle.canon.specs.declared.which.Which.TheVariants.{Only}
 use Rattle.answers.specs.declared.report.RunFault.{RunFault}
 use Rattle.answers.specs.declared.report.RunFault.TheVariants.{Refused}
 use Rattle.cats_cmd.specs.Internal.Checks.{ChecksInput}
-use Rattle.cats_cmd.specs.Outcomes.{check_outcome, Tells}
+use Rattle.cats_cmd.specs.Outcomes.{check_outcome, Prints}
 use Rattle.answers.specs.Outputs.{check_text, sizes_text}
 use Rattle.cats_cmd.specs.Inputs.{ReadsInput}
 use Rattle.cats_cmd.specs.Runs.{RunsOnFile, SendsAs}
-use Rattle.cats_cmd.proofs.RunsOfOneFile.{run_unread, run_unmade, run_told}
+use Rattle.cats_cmd.proofs.RunsOfOneFile.{run_unread, run_unmade, run_printed}
 
 -- the text of the header lines is that of the file
 text_of_sizes : (header : Header) (file : PlainFile) → HasSizes header file → check_text file ≡ sizes_text header.goods header.bids header.dummy
@@ -33,21 +33,21 @@ module _ {R : Type 0} (remaining : R → Option (List ℕ)) where
 
 module _ {R W : Type 0} (remaining : R → Option (List ℕ)) (contents : W → Option (List ℕ)) where
   pub check_unread : (old new : Watched R) (out : Watched W) (fault : CanonFault) → ChecksInput remaining old new (Err fault)
-      → (answer : Result ℕ RunFault) → IsErrAnd answer (λ told. told ≡ Refused Only fault)
+      → (answer : Result ℕ RunFault) → IsErrAnd answer (λ reported. reported ≡ Refused Only fault)
       → RunsOnFile remaining contents check_outcome old new out out answer
   check_unread old new out fault judged answer is =
       run_unread remaining contents check_outcome old new out fault (unread remaining old new fault judged) answer is
 
   pub check_unmade : (old new : Watched R) (out : Watched W) (header : Header) → ChecksInput remaining old new (Ok header)
-      → (answer : Result ℕ RunFault) → IsErrAnd answer (λ told. told ≡ Refused Only Memory)
+      → (answer : Result ℕ RunFault) → IsErrAnd answer (λ reported. reported ≡ Refused Only Memory)
       → RunsOnFile remaining contents check_outcome old new out out answer
   check_unmade old new out header judged answer is =
       run_unmade remaining contents check_outcome old new out judged.checks.file (read_whole remaining old new header judged) Memory tt answer is
 
-  pub check_told : (old new : Watched R) (out out_after : Watched W) (header : Header) → ChecksInput remaining old new (Ok header)
+  pub check_printed : (old new : Watched R) (out out_after : Watched W) (header : Header) → ChecksInput remaining old new (Ok header)
       → (text : List ℕ) → text ≡ sizes_text header.goods header.bids header.dummy
       → (answer : Result ℕ RunFault) → SendsAs contents 0 text out out_after answer
       → RunsOnFile remaining contents check_outcome old new out out_after answer
-  check_told old new out out_after header judged text made answer sends =
-      run_told remaining contents check_outcome old new out out_after judged.checks.file (read_whole remaining old new header judged) 0 text
-      (ap (λ t. Tells 0 t) (text_of_sizes header judged.checks.file judged.checks.sizes ∙ sym made)) answer sends
+  check_printed old new out out_after header judged text made answer sends =
+      run_printed remaining contents check_outcome old new out out_after judged.checks.file (read_whole remaining old new header judged) 0 text
+      (ap (λ t. Prints 0 t) (text_of_sizes header judged.checks.file judged.checks.sizes ∙ sym made)) answer sends

@@ -15,9 +15,9 @@ use Rattle.canon.specs.declared.canon_fault.CanonFault.TheVariants.{Memory}
 use Rattle.canon.specs.declared.which.Which.{Which}
 use Rattle.canon.specs.declared.which.Which.TheVariants.{Both}
 use Rattle.cats_cmd.specs.Comparisons.{Compares, ReadsBoth, ReadsCanonicalFile, ReadsCanonical, RefusesSecond, RunsOnBoth}
-use Rattle.cats_cmd.specs.Inputs.{IsRefusedFile, ReadsInput, ReadsLightFile}
+use Rattle.cats_cmd.specs.Inputs.{IsRefusedFile, ReadsInput, ReadsWithinLimit}
 use Rattle.cats_cmd.specs.Internal.Differences.{SendsDifference}
-use Rattle.cats_cmd.specs.Outcomes.{Outcome, Tells, normalise_outcome, outcome_of_difference, compare_outcome}
+use Rattle.cats_cmd.specs.Outcomes.{Outcome, Prints, normalise_outcome, outcome_of_difference, compare_outcome}
 use Rattle.cats_cmd.specs.Runs.{SendsAs, SendsMadeAs}
 use Rattle.answers.specs.declared.report.RunFault.{RunFault}
 use Rattle.answers.specs.declared.report.RunFault.TheVariants.{Refused, GoodRange, Sent}
@@ -28,10 +28,10 @@ use Rattle.cats_cmd.proofs.RunsOfOneFile.{refused_in_reading, refused_in_making,
 
 module _ {R : Type 0} (remaining : R → Option (List ℕ)) (limit : ℕ) where
   pub canonical_unread : (old new : Watched R) (fault : CanonFault) → ReadsInput remaining old new (Err fault)
-      → (answer : Result PlainFile CanonFault) → IsErrAnd answer (λ told. told ≡ fault) → ReadsCanonical remaining limit old new answer
+      → (answer : Result PlainFile CanonFault) → IsErrAnd answer (λ reported. reported ≡ fault) → ReadsCanonical remaining limit old new answer
   canonical_unread old new fault reads answer is =
-      let told = err_from_is_err_and answer is in
-      let only : answer ≡ Err fault = told.1 ∙ ap (λ (f : CanonFault). Err f) told.2 in
+      let reported = err_from_is_err_and answer is in
+      let only : answer ≡ Err fault = reported.1 ∙ ap (λ (f : CanonFault). Err f) reported.2 in
       subst (λ (r : Result PlainFile CanonFault). ReadsCanonical remaining limit old new r) (sym only)
       (refused_in_reading remaining (normalise_outcome limit) old new fault reads)
 
@@ -39,7 +39,7 @@ module _ {R : Type 0} (remaining : R → Option (List ℕ)) (limit : ℕ) where
       → (answer : Result PlainFile CanonFault) → NormalisesPlainAs limit file answer → ReadsCanonical remaining limit old new answer
   canonical_read old new file reads (Ok canonical) n = record {
     file = file;
-    given = record { reads = reads; light = n.light };
+    given = record { reads = reads; within = n.within_limit };
     is = n.canonical;
   }
   canonical_read old new file reads (Err fault) n =
@@ -57,14 +57,14 @@ canonical_outcome f g h k =
 module _ {R S W : Type 0} (remaining_first : R → Option (List ℕ)) (remaining_second : S → Option (List ℕ)) (contents : W → Option (List ℕ)) (limit : ℕ)
     (first first_after : Watched R) (second second_after : Watched S) (out out_after : Watched W) where
   -- a text that was made of both files was sent
-  pub told_of_both : {A : Type 0} (Reads : A → Type 0) (outcome : A → Outcome) (given : A) → Reads given
-      → (status : ℕ) (text : List ℕ) → outcome given ≡ Tells status text → (answer : Result ℕ RunFault) → SendsAs contents status text out out_after answer
+  pub printed_of_both : {A : Type 0} (Reads : A → Type 0) (outcome : A → Outcome) (given : A) → Reads given
+      → (status : ℕ) (text : List ℕ) → outcome given ≡ Prints status text → (answer : Result ℕ RunFault) → SendsAs contents status text out out_after answer
       → RunsOnBoth remaining_first remaining_second contents limit Reads outcome first first_after second second_after out out_after answer
-  told_of_both Reads outcome given reads status text is (Ok told) sends =
-      wrote contents Reads outcome out out_after given reads status text is told sends
-  told_of_both Reads outcome given reads status text is (Err (Refused which fault)) sends = absurd sends
-  told_of_both Reads outcome given reads status text is (Err (GoodRange good)) sends = absurd sends
-  told_of_both Reads outcome given reads status text is (Err (Sent fault)) sends = record {
+  printed_of_both Reads outcome given reads status text is (Ok reported) sends =
+      wrote contents Reads outcome out out_after given reads status text is reported sends
+  printed_of_both Reads outcome given reads status text is (Err (Refused which fault)) sends = absurd sends
+  printed_of_both Reads outcome given reads status text is (Err (GoodRange good)) sends = absurd sends
+  printed_of_both Reads outcome given reads status text is (Err (Sent fault)) sends = record {
     given = given;
     reads = reads;
     status = status;
@@ -82,19 +82,19 @@ module _ {R S W : Type 0} (remaining_first : R → Option (List ℕ)) (remaining
       subst (λ (w : Which). RunsOnBoth remaining_first remaining_second contents limit Reads outcome first first_after second second_after out out_after
       (Err (Refused w fault))) (sym refused.0) (record { files = files; reads = reads; memory = refused.1; silent = refused.2 })
 
-  files_told : (left right : PlainFile) → ReadsBoth remaining_first remaining_second contents limit first first_after second second_after (left, right)
-      → (status : ℕ) (text : List ℕ) → compare_outcome left right ≡ Tells status text
+  files_printed : (left right : PlainFile) → ReadsBoth remaining_first remaining_second contents limit first first_after second second_after (left, right)
+      → (status : ℕ) (text : List ℕ) → compare_outcome left right ≡ Prints status text
       → (answer : Result ℕ RunFault) → SendsMadeAs contents Both status text out out_after answer
       → Compares remaining_first remaining_second contents limit first first_after second second_after out out_after answer
-  files_told left right both status text is (Err (Refused which fault)) sends =
+  files_printed left right both status text is (Err (Refused which fault)) sends =
       both_refused (ReadsBoth remaining_first remaining_second contents limit first first_after second second_after)
       (λ (files : PlainFile × PlainFile). compare_outcome files.0 files.1) (left, right) both which fault sends
-  files_told left right both status text is (Ok told) sends =
-      told_of_both (ReadsBoth remaining_first remaining_second contents limit first first_after second second_after)
-      (λ (files : PlainFile × PlainFile). compare_outcome files.0 files.1) (left, right) both status text is (Ok told) sends
-  files_told left right both status text is (Err (GoodRange good)) sends = absurd sends
-  files_told left right both status text is (Err (Sent fault)) sends =
-      told_of_both (ReadsBoth remaining_first remaining_second contents limit first first_after second second_after)
+  files_printed left right both status text is (Ok reported) sends =
+      printed_of_both (ReadsBoth remaining_first remaining_second contents limit first first_after second second_after)
+      (λ (files : PlainFile × PlainFile). compare_outcome files.0 files.1) (left, right) both status text is (Ok reported) sends
+  files_printed left right both status text is (Err (GoodRange good)) sends = absurd sends
+  files_printed left right both status text is (Err (Sent fault)) sends =
+      printed_of_both (ReadsBoth remaining_first remaining_second contents limit first first_after second second_after)
       (λ (files : PlainFile × PlainFile). compare_outcome files.0 files.1) (left, right) both status text is (Err (Sent fault)) sends
 
   -- a run that sent the difference of the canonical files
@@ -106,10 +106,10 @@ module _ {R S W : Type 0} (remaining_first : R → Option (List ℕ)) (remaining
       let given : compare_outcome left right ≡ compare_outcome one.file other.file =
       ap₂ compare_outcome one.is other.is
       ∙ (canonical_outcome one.file other.file one.given.reads.reads.spelled.facts other.given.reads.reads.spelled.facts) in
-      files_told one.file other.file (one.given, other.given) d.status d.text (sym given ∙ d.made) answer d.sends
+      files_printed one.file other.file (one.given, other.given) d.status d.text (sym given ∙ d.made) answer d.sends
 
   -- a run whose second file was refused
-  pub run_second_refused : (left : PlainFile) → ReadsLightFile remaining_first limit first first_after left → (fault : CanonFault)
+  pub run_second_refused : (left : PlainFile) → ReadsWithinLimit remaining_first limit first first_after left → (fault : CanonFault)
       → IsRefusedFile remaining_second (normalise_outcome limit) second second_after fault → out_after ≡ out
       → RefusesSecond remaining_first remaining_second contents limit first first_after second second_after out out_after fault
   run_second_refused left one fault refused silent = record { left = left; reads = one; refused = refused; silent = silent }

@@ -15,21 +15,21 @@ use Rattle.cats_cmd.specs.Diffs.{DiffsFiles, ReadsDifferences, diff_outcome}
 use Rattle.answers.specs.DiffTexts.{diff_text}
 use Rattle.cats_cmd.specs.Inputs.{ReadsInput}
 use Rattle.answers.proofs.NamedFiles.{named_file}
-use Rattle.answers.specs.NamedFiles.{IsNamedFile, TellsDifferences}
+use Rattle.answers.specs.NamedFiles.{IsNamedFile, PrintsDifferences}
 use Rattle.cats_cmd.specs.Internal.Diffs.{ReadsNamed, ReadsNamedFile, SendsAllDifferences, SendsDifferences}
-use Rattle.cats_cmd.specs.Outcomes.{Tells, normalise_outcome}
+use Rattle.cats_cmd.specs.Outcomes.{Prints, normalise_outcome}
 use Rattle.answers.specs.declared.report.RunFault.{RunFault}
 use Rattle.answers.specs.declared.report.RunFault.TheVariants.{Refused, GoodRange, Sent}
-use Rattle.cats_cmd.proofs.Comparing.{both_refused, told_of_both}
+use Rattle.cats_cmd.proofs.Comparing.{both_refused, printed_of_both}
 use Rattle.cats_cmd.proofs.Normalised.{refused_by_normalising}
 use Rattle.cats_cmd.proofs.RunsOfOneFile.{refused_in_reading, refused_in_making}
 
 module _ {R : Type 0} (remaining : R → Option (List ℕ)) (limit : ℕ) (old new : Watched R) where
   pub named_unread : (fault : CanonFault) → ReadsInput remaining old new (Err fault)
-      → (answer : Result NamedFile CanonFault) → IsErrAnd answer (λ told. told ≡ fault) → ReadsNamed remaining limit old new answer
+      → (answer : Result NamedFile CanonFault) → IsErrAnd answer (λ reported. reported ≡ fault) → ReadsNamed remaining limit old new answer
   named_unread fault reads answer is =
-      let told = err_from_is_err_and answer is in
-      let only : answer ≡ Err fault = told.1 ∙ ap (λ (f : CanonFault). Err f) told.2 in
+      let reported = err_from_is_err_and answer is in
+      let only : answer ≡ Err fault = reported.1 ∙ ap (λ (f : CanonFault). Err f) reported.2 in
       subst (λ (r : Result NamedFile CanonFault). ReadsNamed remaining limit old new r) (sym only)
       (refused_in_reading remaining (normalise_outcome limit) old new fault reads)
 
@@ -37,7 +37,7 @@ module _ {R : Type 0} (remaining : R → Option (List ℕ)) (limit : ℕ) (old n
       → (answer : Result NamedFile CanonFault) → NormalisesPlainAs limit file (unnamed_answer answer)
       → IfOk answer (λ named. named.dummies.items ≡ kept_dummies file) → ReadsNamed remaining limit old new answer
   named_read file reads (Ok named) n dummies =
-      record { file = file; given = record { reads = reads; light = n.light }; is = record { canonical = n.canonical; dummies = dummies } }
+      record { file = file; given = record { reads = reads; within = n.within_limit }; is = record { canonical = n.canonical; dummies = dummies } }
   named_read file reads (Err fault) n dummies =
       refused_in_making remaining (normalise_outcome limit) old new file reads fault (refused_by_normalising limit file fault n)
 
@@ -52,20 +52,20 @@ module _ {R S W : Type 0} (remaining_first : R → Option (List ℕ)) (remaining
   -- the differences of the canonical files are those of the files
   differences_of : (left right : NamedFile) → (one : ReadsNamedFile remaining_first limit first first_after left)
       → (other : ReadsNamedFile remaining_second limit second second_after right)
-      → (status : ℕ) (text : List ℕ) → (told : TellsDifferences left right status text)
-      → ReadsDifferences remaining_first remaining_second contents limit first first_after second second_after (one.file, other.file, told.differences)
-      × (diff_outcome (one.file, other.file, told.differences) ≡ Tells status text)
-  differences_of left right one other status text told =
-      let d = told.differences in
+      → (status : ℕ) (text : List ℕ) → (printed : PrintsDifferences left right status text)
+      → ReadsDifferences remaining_first remaining_second contents limit first first_after second second_after (one.file, other.file, printed.differences)
+      × (diff_outcome (one.file, other.file, printed.differences) ≡ Prints status text)
+  differences_of left right one other status text printed =
+      let d = printed.differences in
       let all : AreAllDifferences (auction_from (canonical_file one.file)) (auction_from (canonical_file other.file)) d =
       subst (λ (h : PlainFile). AreAllDifferences (auction_from (canonical_file one.file)) (auction_from h) d) other.is.canonical
-      (subst (λ (h : PlainFile). AreAllDifferences (auction_from h) (auction_from right.file) d) one.is.canonical told.all) in
+      (subst (λ (h : PlainFile). AreAllDifferences (auction_from h) (auction_from right.file) d) one.is.canonical printed.all) in
       let names : diff_text left.file.goods left.dummies.items right.dummies.items d
       ≡ diff_text one.file.goods (kept_dummies one.file) (kept_dummies other.file) d =
       ap (λ (goods : ℕ). diff_text goods left.dummies.items right.dummies.items d) (ap (λ (h : PlainFile). h.goods) one.is.canonical)
       ∙ ap₂ (λ (xs ys : List ℕ). diff_text one.file.goods xs ys d) one.is.dummies other.is.dummies in (
         record { reads = (one.given, other.given); all = all },
-        ap₂ (λ (s : ℕ) (xs : List ℕ). Tells s xs) (sym told.is_status) (sym (told.is_text ∙ names)),
+        ap₂ (λ (s : ℕ) (xs : List ℕ). Prints s xs) (sym printed.is_status) (sym (printed.is_text ∙ names)),
       )
 
   sent_text : (left right : NamedFile) → ReadsNamedFile remaining_first limit first first_after left
@@ -73,10 +73,10 @@ module _ {R S W : Type 0} (remaining_first : R → Option (List ℕ)) (remaining
       → (answer : Result ℕ RunFault) → SendsAllDifferences contents left right out out_after answer
       → DiffsFiles remaining_first remaining_second contents limit first first_after second second_after out out_after answer
   sent_text left right one other answer s =
-      let d = differences_of left right one other s.status s.text s.told in
-      told_of_both remaining_first remaining_second contents limit first first_after second second_after out out_after
+      let d = differences_of left right one other s.status s.text s.printed in
+      printed_of_both remaining_first remaining_second contents limit first first_after second second_after out out_after
       (ReadsDifferences remaining_first remaining_second contents limit first first_after second second_after) diff_outcome
-      (one.file, other.file, s.told.differences) d.0 s.status s.text d.1 answer s.sends
+      (one.file, other.file, s.printed.differences) d.0 s.status s.text d.1 answer s.sends
 
   -- a run that sent the differences of the canonical files
   pub run_differed : (left right : NamedFile) → ReadsNamedFile remaining_first limit first first_after left

@@ -14,7 +14,7 @@ use Rattle.explain.specs.Reasons.{Explains, PlainReason}
 use Rattle.cats_cmd.specs.Explanations.{ExplainsFile, ReadsExplained, explain_outcome}
 use Rattle.answers.specs.ExplanationTexts.{explanation_text}
 use Rattle.cats_cmd.specs.Inputs.{ReadsInput, IsRefusedFile}
-use Rattle.cats_cmd.specs.Outcomes.{Tells, normalise_outcome}
+use Rattle.cats_cmd.specs.Outcomes.{Prints, normalise_outcome}
 use Rattle.cats_cmd.specs.Runs.{SendsAs}
 use Rattle.answers.specs.declared.report.RunFault.{RunFault}
 use Rattle.answers.specs.declared.report.RunFault.TheVariants.{Refused, GoodRange, Sent}
@@ -24,29 +24,29 @@ use Rattle.cats_cmd.proofs.RunsOfOneFile.{refused_in_making, refused_in_reading,
 module _ {R W : Type 0} (remaining : R → Option (List ℕ)) (contents : W → Option (List ℕ)) (limit : ℕ) (old new : Watched R) where
   -- nothing was written, and this fault of the file is answered
   unexplained : (out : Watched W) (fault : CanonFault) → IsRefusedFile remaining (normalise_outcome limit) old new fault
-      → (answer : Result ℕ RunFault) → IsErrAnd answer (λ told. told ≡ Refused Only fault) → ExplainsFile remaining contents limit old new out out answer
+      → (answer : Result ℕ RunFault) → IsErrAnd answer (λ reported. reported ≡ Refused Only fault) → ExplainsFile remaining contents limit old new out out answer
   unexplained out fault refused answer is =
-      let told = err_from_is_err_and answer is in
-      let only : answer ≡ Err (Refused Only fault) = told.1 ∙ ap (λ (f : RunFault). Err f) told.2 in
+      let reported = err_from_is_err_and answer is in
+      let only : answer ≡ Err (Refused Only fault) = reported.1 ∙ ap (λ (f : RunFault). Err f) reported.2 in
       subst (λ (r : Result ℕ RunFault). ExplainsFile remaining contents limit old new out out r) (sym only)
       (record { only = refl; refused = refused; silent = refl })
 
   -- the file was refused in reading
   pub unexplained_unread : (out : Watched W) (fault : CanonFault) → ReadsInput remaining old new (Err fault)
-      → (answer : Result ℕ RunFault) → IsErrAnd answer (λ told. told ≡ Refused Only fault) → ExplainsFile remaining contents limit old new out out answer
+      → (answer : Result ℕ RunFault) → IsErrAnd answer (λ reported. reported ≡ Refused Only fault) → ExplainsFile remaining contents limit old new out out answer
   unexplained_unread out fault reads answer is =
       unexplained out fault (refused_in_reading remaining (normalise_outcome limit) old new fault reads) answer is
 
   module _ (file : PlainFile) (reads : ReadsInput remaining old new (Ok file)) where
     -- its reasons were refused
     pub unexplained_auction : (out : Watched W) (fault : CanonFault) → RefusesAuction limit (auction_from file) fault
-        → (answer : Result ℕ RunFault) → IsErrAnd answer (λ told. told ≡ Refused Only fault) → ExplainsFile remaining contents limit old new out out answer
+        → (answer : Result ℕ RunFault) → IsErrAnd answer (λ reported. reported ≡ Refused Only fault) → ExplainsFile remaining contents limit old new out out answer
     unexplained_auction out fault refused answer is =
         unexplained out fault (refused_in_making remaining (normalise_outcome limit) old new file reads fault (refused_by_normalising limit file fault refused))
         answer is
 
     -- memory for the text was refused
-    pub unexplained_memory : (out : Watched W) (answer : Result ℕ RunFault) → IsErrAnd answer (λ told. told ≡ Refused Only Memory)
+    pub unexplained_memory : (out : Watched W) (answer : Result ℕ RunFault) → IsErrAnd answer (λ reported. reported ≡ Refused Only Memory)
         → ExplainsFile remaining contents limit old new out out answer
     unexplained_memory out answer is = unexplained out Memory (inr (record { file = file; reads = reads })) answer is
 
@@ -54,16 +54,16 @@ module _ {R W : Type 0} (remaining : R → Option (List ℕ)) (contents : W → 
     pub explained : (out out_after : Watched W) → first_heavy file.goods limit (or_atoms_of file.bids) ≡ None
         → (reasons : List PlainReason) → Explains file reasons → (text : List ℕ) → text ≡ explanation_text reasons
         → (answer : Result ℕ RunFault) → SendsAs contents 0 text out out_after answer → ExplainsFile remaining contents limit old new out out_after answer
-    explained out out_after light reasons explains text is (Ok told) sends =
+    explained out out_after within reasons explains text is (Ok reported) sends =
         wrote contents (ReadsExplained remaining limit old new) explain_outcome out out_after (file, reasons)
-        (record { reads = record { reads = reads; light = light }; explains = explains }) 0 text (ap (λ (xs : List ℕ). Tells 0 xs) (sym is)) told sends
-    explained out out_after light reasons explains text is (Err (Refused which fault)) sends = absurd sends
-    explained out out_after light reasons explains text is (Err (GoodRange good)) sends = absurd sends
-    explained out out_after light reasons explains text is (Err (Sent fault)) sends = record {
+        (record { reads = record { reads = reads; within = within }; explains = explains }) 0 text (ap (λ (xs : List ℕ). Prints 0 xs) (sym is)) reported sends
+    explained out out_after within reasons explains text is (Err (Refused which fault)) sends = absurd sends
+    explained out out_after within reasons explains text is (Err (GoodRange good)) sends = absurd sends
+    explained out out_after within reasons explains text is (Err (Sent fault)) sends = record {
       given = (file, reasons);
-      reads = record { reads = record { reads = reads; light = light }; explains = explains };
+      reads = record { reads = record { reads = reads; within = within }; explains = explains };
       status = 0;
       text = text;
-      made = ap (λ (xs : List ℕ). Tells 0 xs) (sym is);
+      made = ap (λ (xs : List ℕ). Prints 0 xs) (sym is);
       sent = sends;
     }

@@ -33,9 +33,9 @@ pub groups_more : (old new : TextIndex) (found longer : List (Bor (List ℕ) × 
 groups_more old new found longer path file place facts added put js h =
     let all : judged_files (js ++ (path.now, IsJudged file) ∷ []) ≡ judged_files js ++ file ∷ [] =
     flat_map-append (λ (j : List ℕ × Judgement). files_if_judged j.1) js ((path.now, IsJudged file) ∷ []) in
-    let told : found_paths longer ≡ found_paths found ++ (path.now, place) ∷ [] = ap found_paths put
+    let more_paths : found_paths longer ≡ found_paths found ++ (path.now, place) ∷ [] = ap found_paths put
     ∙ map-append (λ (f : Bor (List ℕ) × ℕ). (f.0.now, f.1)) found ((path, place) ∷ []) in
-    rw told (record {
+    rw more_paths (record {
       is_index = subst (λ (fs : List PlainFile). IsIndexOf new fs) (sym all) (index_of_more old new place (judged_files js) file facts h.is_index added);
       finds = record {
         judged = map-append (λ (f : List ℕ × ℕ). f.0) (found_paths found) ((path.now, place) ∷ [])

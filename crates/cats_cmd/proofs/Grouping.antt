@@ -1,5 +1,5 @@
--- The paths of the files for each place: each goes behind those of its place. And the text of the groups: a group of two paths has
--- lines, so the next group stands behind an empty line.
+-- The paths of the files for each place: each is put after those of its place. And the text of the groups: a group of two paths has
+-- lines, so the next group comes after an empty line.
 use Rattle.std.proofs.Common.{append_assoc, fold, length-append, ◌≡◌, ℕ, zero, suc, ◌+◌, ◌<◌, ◌≤◌, ◌==◌, Bool, true, false, cond, ⊎_elim, List, [], ◌∷◌}
 use Rattle.std.proofs.Common.{◌++◌, length, map, get_or, set, take, replicate, Global, refl, sym, ap, ap₂, ◌∙◌, arith, append-nil, zero-add}
 use Rattle.std.specs.Borrow.{Bor}
@@ -112,49 +112,49 @@ module _ (ending : Ending) where
   repeated_push [] paths h e = (e, tt)
   repeated_push (group ∷ groups) paths h e = (h.0, repeated_push groups paths h.1 e)
 
-  abbrev AreTold : List (List (List ℕ)) → List (List (List ℕ)) → Type 0
-  AreTold groups told = fold (with_group ending) (groups_text ending told) groups ≡ groups_text ending (told ++ filter is_repeated groups)
+  abbrev ArePrinted : List (List (List ℕ)) → List (List (List ℕ)) → Type 0
+  ArePrinted groups printed = fold (with_group ending) (groups_text ending printed) groups ≡ groups_text ending (printed ++ filter is_repeated groups)
 
-  told_next : (told : List (List (List ℕ))) (paths : List (List ℕ)) (groups : List (List (List ℕ))) → AllByRecursion (λ g. is_repeated g ≡ true) told
-      → ((more : List (List (List ℕ))) → AllByRecursion (λ g. is_repeated g ≡ true) more → AreTold groups more) → AreTold (paths ∷ groups) told
-  told_next told paths groups h others =
+  printed_next : (printed : List (List (List ℕ))) (paths : List (List ℕ)) (groups : List (List (List ℕ))) → AllByRecursion (λ g. is_repeated g ≡ true) printed
+      → ((more : List (List (List ℕ))) → AllByRecursion (λ g. is_repeated g ≡ true) more → ArePrinted groups more) → ArePrinted (paths ∷ groups) printed
+  printed_next printed paths groups h others =
       ⊎_elim
       (λ (e : is_repeated paths ≡ true).
-      ap (λ (text : List ℕ). fold (with_group ending) text groups) (cond-true (is_repeated paths) (behind ending (groups_text ending told) (lines_of ending paths)) (groups_text ending told) e
-      ∙ behind_groups told paths h)
-      ∙ others (told ++ paths ∷ []) (repeated_push told paths h e)
-      ∙ ap (groups_text ending) (append_assoc told (paths ∷ []) (filter is_repeated groups)
-      ∙ ap (λ (gs : List (List (List ℕ))). told ++ gs)
+      ap (λ (text : List ℕ). fold (with_group ending) text groups) (cond-true (is_repeated paths) (behind ending (groups_text ending printed) (lines_of ending paths)) (groups_text ending printed) e
+      ∙ behind_groups printed paths h)
+      ∙ others (printed ++ paths ∷ []) (repeated_push printed paths h e)
+      ∙ ap (groups_text ending) (append_assoc printed (paths ∷ []) (filter is_repeated groups)
+      ∙ ap (λ (gs : List (List (List ℕ))). printed ++ gs)
       (sym (cond-true (is_repeated paths) (paths ∷ filter is_repeated groups) (filter is_repeated groups) e))))
       (λ (e : is_repeated paths ≡ false).
-      ap (λ (text : List ℕ). fold (with_group ending) text groups) (cond-false (is_repeated paths) (behind ending (groups_text ending told) (lines_of ending paths)) (groups_text ending told) e)
-      ∙ others told h
-      ∙ ap (λ (gs : List (List (List ℕ))). groups_text ending (told ++ gs))
+      ap (λ (text : List ℕ). fold (with_group ending) text groups) (cond-false (is_repeated paths) (behind ending (groups_text ending printed) (lines_of ending paths)) (groups_text ending printed) e)
+      ∙ others printed h
+      ∙ ap (λ (gs : List (List (List ℕ))). groups_text ending (printed ++ gs))
       (sym (cond-false (is_repeated paths) (paths ∷ filter is_repeated groups) (filter is_repeated groups) e)))
       (cases_Bool (is_repeated paths))
 
-  told_behind : (told groups : List (List (List ℕ))) → AllByRecursion (λ g. is_repeated g ≡ true) told → AreTold groups told
-  told_behind told [] h = ap (groups_text ending) (sym (append-nil told))
-  told_behind told (paths ∷ groups) h = told_next told paths groups h (λ more k. told_behind more groups k)
+  printed_behind : (printed groups : List (List (List ℕ))) → AllByRecursion (λ g. is_repeated g ≡ true) printed → ArePrinted groups printed
+  printed_behind printed [] h = ap (groups_text ending) (sym (append-nil printed))
+  printed_behind printed (paths ∷ groups) h = printed_next printed paths groups h (λ more k. printed_behind more groups k)
 
   -- the groups, one after the other
-  pub groups_told : (groups : List (List (List ℕ))) → fold (with_group ending) [] groups ≡ groups_text ending (filter is_repeated groups)
-  groups_told groups = told_behind [] groups tt
+  pub groups_printed : (groups : List (List (List ℕ))) → fold (with_group ending) [] groups ≡ groups_text ending (filter is_repeated groups)
+  groups_printed groups = printed_behind [] groups tt
 
   -- one more group
-  pub group_told : (groups : List Group) (i : ℕ) (group : Group) (before after : List ℕ) → i < length groups → group ≡ get_or groups i group
+  pub group_printed : (groups : List Group) (i : ℕ) (group : Group) (before after : List ℕ) → i < length groups → group ≡ get_or groups i group
       → before ≡ fold (with_group ending) [] (plain_groups (take i groups)) → after ≡ with_group ending before (plain_group group)
       → after ≡ fold (with_group ending) [] (plain_groups (take (i + 1) groups))
-  group_told groups i group before after l e b a =
+  group_printed groups i group before after l e b a =
       a ∙ ap (λ (text : List ℕ). with_group ending text (plain_group group)) b
       ∙ sym (ap (λ (gs : List Group). fold (with_group ending) [] (plain_groups gs)) (take_more groups i group l ∙ ap (λ (g : Group). take i groups ++ g ∷ []) (sym e))
       ∙ ap (fold (with_group ending) []) (map-append plain_group (take i groups) (group ∷ []))
       ∙ fold_push (with_group ending) [] (plain_groups (take i groups)) (plain_group group))
 
   -- all groups
-  pub text_told : (items groups : List Group) (i : ℕ) (text : List ℕ) (found : List Found) → text ≡ fold (with_group ending) [] (plain_groups (take i items))
+  pub all_groups_printed : (items groups : List Group) (i : ℕ) (text : List ℕ) (found : List Found) → text ≡ fold (with_group ending) [] (plain_groups (take i items))
       → length items ≤ i → items ≡ groups → plain_groups groups ≡ groups_of found
       → text ≡ duplicates_text ending found
-  text_told items groups i text found told l same of =
-      told ∙ ap (λ (gs : List Group). fold (with_group ending) [] (plain_groups gs)) (take_all i items l ∙ same) ∙ groups_told (plain_groups groups)
+  all_groups_printed items groups i text found printed l same of =
+      printed ∙ ap (λ (gs : List Group). fold (with_group ending) [] (plain_groups gs)) (take_all i items l ∙ same) ∙ groups_printed (plain_groups groups)
       ∙ ap (λ (gs : List (List (List ℕ))). groups_text ending (filter is_repeated gs)) of

@@ -23,14 +23,14 @@ use Rattle.canon.specs.declared.which.Which.TheVariants.{Only}
 use Rattle.cats_cmd.specs.DuplicateTexts.{found_paths}
 use Rattle.cats_cmd.specs.Inputs.{IsOpened, IsRefusedByReading, IsRefusedFile}
 use Rattle.cats_cmd.specs.Internal.Judging.{AddsFile, AddsOpened, AddsPath, KeepsGroups}
-use Rattle.cats_cmd.specs.Paths.{IsUnopened, Judgement, IsHeavy, IsJudged, IsStopped, Judges, JudgesStream, lines_on, status_if, stop_of}
+use Rattle.cats_cmd.specs.Paths.{IsUnopened, Judgement, IsHeavy, IsJudged, IsUnjudged, Judges, JudgesStream, lines_on, status_if, request_error_of}
 use Rattle.cats_cmd.proofs.Skipping.{nothing_more}
 use Rattle.cats_cmd.specs.Outcomes.{ExceedsSteps, normalise_outcome, text_unless_heavy}
 use Rattle.cats_cmd.specs.Runs.{MakesAs}
-use Rattle.cats_cmd.specs.Stops.{ReportsAll}
+use Rattle.cats_cmd.specs.RequestErrors.{ReportsAll}
 use Rattle.cats_cmd.specs.declared.paths.Progress.{Progress}
-use Rattle.cats_cmd.specs.declared.program.Stop.{Stop}
-use Rattle.cats_cmd.specs.declared.program.Stop.TheVariants.{CannotOpen, NotOpened, Run}
+use Rattle.cats_cmd.specs.declared.program.RequestError.{RequestError}
+use Rattle.cats_cmd.specs.declared.program.RequestError.TheVariants.{CannotOpen, NotOpened, Run}
 use Rattle.answers.specs.declared.report.RunFault.TheVariants.{Refused}
 use Rattle.cats_cmd.proofs.FindingPlaces.{groups_more}
 use Rattle.cats_cmd.proofs.RunsOfOneFile.{refused_in_reading, refused_in_making}
@@ -96,9 +96,9 @@ module _ {R : Type 0} (remaining : R → Option (List ℕ)) where
 -- what became of a file that was refused so
 module _ {R : Type 0} (remaining : R → Option (List ℕ)) (limit : ℕ) (old new : Watched R) where
   abbrev refused_judgement : (fault : CanonFault) → IsRefusedFile remaining (normalise_outcome limit) old new fault → Judgement
-  refused_judgement (Read why) refused = IsStopped (Run (Refused Only (Read why)))
+  refused_judgement (Read why) refused = IsUnjudged (Run (Refused Only (Read why)))
   refused_judgement (StepLimit goods) refused = IsHeavy refused.file goods
-  refused_judgement Memory refused = IsStopped (Run (Refused Only Memory))
+  refused_judgement Memory refused = IsUnjudged (Run (Refused Only Memory))
 
   refused_judges : (fault : CanonFault) (refused : IsRefusedFile remaining (normalise_outcome limit) old new fault)
       → JudgesStream remaining limit old new (refused_judgement fault refused)
@@ -109,19 +109,19 @@ module _ {R : Type 0} (remaining : R → Option (List ℕ)) (limit : ℕ) (old n
   }
   refused_judges Memory refused = (refl, refused)
 
-  refused_stop : (fault : CanonFault) (refused : IsRefusedFile remaining (normalise_outcome limit) old new fault)
-      → Some (Run (Refused Only fault)) ≡ stop_of (refused_judgement fault refused)
-  refused_stop (Read why) refused = refl
-  refused_stop (StepLimit goods) refused = refl
-  refused_stop Memory refused = refl
+  refused_error : (fault : CanonFault) (refused : IsRefusedFile remaining (normalise_outcome limit) old new fault)
+      → Some (Run (Refused Only fault)) ≡ request_error_of (refused_judgement fault refused)
+  refused_error (Read why) refused = refl
+  refused_error (StepLimit goods) refused = refl
+  refused_error Memory refused = refl
 
   -- no group has the file
   refused_groups : (fault : CanonFault) (refused : IsRefusedFile remaining (normalise_outcome limit) old new fault) (index : TextIndex)
       (found : List (List ℕ × ℕ)) (path : List ℕ) (js : List (List ℕ × Judgement)) → KeepsGroups index found js
       → KeepsGroups index found (js ++ (path, refused_judgement fault refused) ∷ [])
-  refused_groups (Read why) refused index found path js h = nothing_more index found js path (IsStopped (Run (Refused Only (Read why)))) refl refl h
+  refused_groups (Read why) refused index found path js h = nothing_more index found js path (IsUnjudged (Run (Refused Only (Read why)))) refl refl h
   refused_groups (StepLimit goods) refused index found path js h = nothing_more index found js path (IsHeavy refused.file goods) refl refl h
-  refused_groups Memory refused index found path js h = nothing_more index found js path (IsStopped (Run (Refused Only Memory))) refl refl h
+  refused_groups Memory refused index found path js h = nothing_more index found js path (IsUnjudged (Run (Refused Only Memory))) refl refl h
 
   -- the file was added to the groups
   pub groups_judged : {C : Type 0} (Has : C → List (List ℕ × Judgement) → Type 0) (before after : C) (index more : TextIndex)
@@ -136,10 +136,10 @@ module _ {R : Type 0} (remaining : R → Option (List ℕ)) (limit : ℕ) (old n
         judgement = IsJudged a.file;
         judges = record {
           reads = record { bytes = added.bytes; consumes = added.consumes; reads = a.reads };
-          light = text_within_limit a.file (first_heavy a.file.goods limit (or_atoms_of a.file.bids)) (canonical_text a.file) a.light;
+          within = text_within_limit a.file (first_heavy a.file.goods limit (or_atoms_of a.file.bids)) (canonical_text a.file) a.within_limit;
         };
         adds = λ js h. has_after (js ++ (path.now, IsJudged a.file) ∷ []) (groups_more index more found longer path a.file place a.reads.spelled.facts a.added put js (has js h));
-        is_stop = refl;
+        is_error = refl;
       }
 
   pub groups_refused : {C : Type 0} (Has : C → List (List ℕ × Judgement) → Type 0) (before after : C) (index more : TextIndex)
@@ -156,7 +156,7 @@ module _ {R : Type 0} (remaining : R → Option (List ℕ)) (limit : ℕ) (old n
         adds = λ js h. has_after (js ++ (path, refused_judgement fault refused) ∷ [])
             (subst (λ (i : TextIndex). KeepsGroups i found (js ++ (path, refused_judgement fault refused) ∷ [])) (sym added.adds.0)
             (refused_groups fault refused index found path js (has js h)));
-        is_stop = refused_stop fault refused;
+        is_error = refused_error fault refused;
       }
 
 -- ---- the file at a path
@@ -167,47 +167,47 @@ module _ {C F : Type 0} (Has : C → List (List ℕ × Judgement) → Type 0) (m
       → Judges may_open may_refuse remaining limit (path, j)
   opened_judges before after opened (IsJudged file) judges = record { before = before; after = after; opened = opened; judges = judges }
   opened_judges before after opened (IsHeavy file goods) judges = record { before = before; after = after; opened = opened; judges = judges }
-  opened_judges before after opened (IsStopped (CannotOpen which)) judges = absurd judges
-  opened_judges before after opened (IsStopped (NotOpened why)) judges = absurd judges
-  opened_judges before after opened (IsStopped (Run fault)) judges = record { before = before; after = after; opened = opened; judges = judges }
+  opened_judges before after opened (IsUnjudged (CannotOpen which)) judges = absurd judges
+  opened_judges before after opened (IsUnjudged (NotOpened why)) judges = absurd judges
+  opened_judges before after opened (IsUnjudged (Run fault)) judges = record { before = before; after = after; opened = opened; judges = judges }
 
-  pub file_added : (before after : Watched F) → IsOpened may_open path before → (stop : Option Stop)
-      → AddsOpened Has remaining limit path kept more before after stop → AddsFile Has may_open may_refuse remaining limit path kept more stop
-  file_added before after opened stop a = record {
+  pub file_added : (before after : Watched F) → IsOpened may_open path before → (error : Option RequestError)
+      → AddsOpened Has remaining limit path kept more before after error → AddsFile Has may_open may_refuse remaining limit path kept more error
+  file_added before after opened error a = record {
     judgement = a.judgement;
     judges = opened_judges before after opened a.judgement a.judges;
     adds = a.adds;
-    is_stop = a.is_stop;
+    is_error = a.is_error;
   }
 
-  pub file_if_added : (before after : Watched F) → IsOpened may_open path before → (answer : Result (Option Stop) AllocError)
-      → IfOk answer (λ stop. AddsOpened Has remaining limit path kept more before after stop)
+  pub file_if_added : (before after : Watched F) → IsOpened may_open path before → (answer : Result (Option RequestError) AllocError)
+      → IfOk answer (λ error. AddsOpened Has remaining limit path kept more before after error)
       → IfOk answer (AddsFile Has may_open may_refuse remaining limit path kept more)
-  file_if_added before after opened (Ok stop) a = file_added before after opened stop a
+  file_if_added before after opened (Ok error) a = file_added before after opened error a
   file_if_added before after opened (Err e) a = tt
 
 -- no stream was opened at the path
 pub file_unopened : {C F : Type 0} (Has : C → List (List ℕ × Judgement) → Type 0) (may_open : List ℕ → F → Type 0) (may_refuse : List ℕ → Unopened → Type 0)
     (remaining : F → Option (List ℕ)) (limit : ℕ) (path : List ℕ) (kept : C)
-    → ((js : List (List ℕ × Judgement)) (p : List ℕ) (stop : Stop) → Has kept js → Has kept (js ++ (p, IsStopped stop) ∷ []))
+    → ((js : List (List ℕ × Judgement)) (p : List ℕ) (error : RequestError) → Has kept js → Has kept (js ++ (p, IsUnjudged error) ∷ []))
     → (why : Unopened) → IsUnopened may_refuse path why → AddsFile Has may_open may_refuse remaining limit path kept kept (Some (NotOpened why))
 file_unopened Has may_open may_refuse remaining limit path kept skips why refuses = record {
-  judgement = IsStopped (NotOpened why);
+  judgement = IsUnjudged (NotOpened why);
   judges = refuses;
   adds = λ js h. skips js path (NotOpened why) h;
-  is_stop = refl;
+  is_error = refl;
 }
 
 -- the file was judged, and reported
 pub path_judged : {C F E : Type 0} (Has : C → List (List ℕ × Judgement) → Type 0) (may_open : List ℕ → F → Type 0)
     (may_refuse : List ℕ → Unopened → Type 0) (remaining : F → Option (List ℕ)) (limit : ℕ) (messages : E → Option (List ℕ)) (progress : Progress)
-    (count number : ℕ) (path : List ℕ) (kept more : C) (err err_after : Watched E) (stop : Option Stop) (status : ℕ)
-    → AddsFile Has may_open may_refuse remaining limit path kept more stop → ReportsAll messages (lines_on progress count number path stop) err err_after
-    → status ≡ status_if stop → AddsPath Has may_open may_refuse remaining limit messages progress count number path kept more err err_after status
-path_judged Has may_open may_refuse remaining limit messages progress count number path kept more err err_after stop status a reports is = record {
+    (count number : ℕ) (path : List ℕ) (kept more : C) (err err_after : Watched E) (error : Option RequestError) (status : ℕ)
+    → AddsFile Has may_open may_refuse remaining limit path kept more error → ReportsAll messages (lines_on progress count number path error) err err_after
+    → status ≡ status_if error → AddsPath Has may_open may_refuse remaining limit messages progress count number path kept more err err_after status
+path_judged Has may_open may_refuse remaining limit messages progress count number path kept more err err_after error status a reports is = record {
   judgement = a.judgement;
   judges = a.judges;
   adds = a.adds;
-  reports = subst (λ (s : Option Stop). ReportsAll messages (lines_on progress count number path s) err err_after) a.is_stop reports;
-  is_status = is ∙ ap status_if a.is_stop;
+  reports = subst (λ (s : Option RequestError). ReportsAll messages (lines_on progress count number path s) err err_after) a.is_error reports;
+  is_status = is ∙ ap status_if a.is_error;
 }

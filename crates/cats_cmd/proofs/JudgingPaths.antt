@@ -15,7 +15,7 @@ use Rattle.cats_cmd.specs.Paths.{is_counted, Judgement, Judges, JudgesPaths, gre
 use Rattle.cats_cmd.specs.Paths.{line_removal, progress_line, progress_lines, removal_lines, report_lines, status_of_judgement}
 use Rattle.cats_cmd.specs.declared.paths.Progress.{Progress}
 use Rattle.cats_cmd.specs.declared.paths.Progress.TheVariants.{Lines, Terminal}
-use Rattle.cats_cmd.specs.Stops.{Reports, ReportsAll}
+use Rattle.cats_cmd.specs.RequestErrors.{Reports, ReportsAll}
 use Rattle.cats_cmd.specs.declared.source.Unopened.{Unopened}
 
 pub all_push : {X : Type 0} (P : X → Type 0) (xs : List X) (x : X) → AllByRecursion P xs → P x → AllByRecursion P (xs ++ x ∷ [])

@@ -5,7 +5,7 @@ mod Numbering
 mod Bundling
 mod BestPlaces
 mod Printing
-mod Stopping
+mod AnswersOfRequests
 mod Comparing
 mod Diffing
 mod Explaining

@@ -12,7 +12,7 @@ use Rattle.canon.specs.declared.canon_fault.CanonFault.TheVariants.{Read, StepLi
 use Rattle.canon.specs.declared.which.Which.TheVariants.{Only}
 use Rattle.cats_cmd.specs.FileLists.{IsUnread}
 use Rattle.cats_cmd.specs.Inputs.{IsOpened, ReadsBytes}
-use Rattle.cats_cmd.specs.declared.program.Stop.TheVariants.{Run}
+use Rattle.cats_cmd.specs.declared.program.RequestError.TheVariants.{Run}
 use Rattle.answers.specs.declared.report.RunFault.TheVariants.{Refused}
 use Rattle.cats_cmd.specs.PathLists.{ended, parts_in, paths_in, without_empty_end}
 use Rattle.cats_cmd.specs.declared.source.Unopened.{Unopened}
@@ -83,10 +83,10 @@ parts_back end (part ∷ parts) plain =
 -- ---- the stream of a list
 
 -- why the bytes of the list were not read
-pub stopped_reading : {F : Type 0} (may_open : List ℕ → F → Type 0) (may_refuse : List ℕ → Unopened → Type 0) (remaining : F → Option (List ℕ)) (list : List ℕ)
+pub list_unread : {F : Type 0} (may_open : List ℕ → F → Type 0) (may_refuse : List ℕ → Unopened → Type 0) (remaining : F → Option (List ℕ)) (list : List ℕ)
     (fault : CanonFault) (before after : Watched F) → IsOpened may_open list before → ReadsBytes remaining before after (Err fault)
     → IsUnread may_open may_refuse remaining list (Run (Refused Only fault))
-stopped_reading may_open may_refuse remaining list (Read fault) before after opened stops =
+list_unread may_open may_refuse remaining list (Read fault) before after opened stops =
     (refl, record { before = before; after = after; opened = opened; stops = stops })
-stopped_reading may_open may_refuse remaining list (StepLimit goods) before after opened stops = absurd stops
-stopped_reading may_open may_refuse remaining list Memory before after opened stops = refl
+list_unread may_open may_refuse remaining list (StepLimit goods) before after opened stops = absurd stops
+list_unread may_open may_refuse remaining list Memory before after opened stops = refl

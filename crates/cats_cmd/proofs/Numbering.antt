@@ -1,4 +1,4 @@
--- The numbers of the bids behind an auction's atoms, bid by bid: each number goes to the end of the OR bidder's list, or of the list
+-- The numbers of the bids behind an auction's atoms, bid by bid: each number is put at the end of the OR bidder's list, or of the list
 -- of one XOR bidder. There are as many numbers as atoms.
 use Rattle.std.proofs.Common.{◌≡◌, ℕ, zero, suc, ◌+◌, ◌<◌, Bool, true, false, cond, ⊎_elim, List, [], ◌∷◌, ◌++◌, length, map, get_or, set, take, replicate}
 use Rattle.std.proofs.Common.{Some, None, is_none, Global, refl, sym, ap, ap₂, ◌∙◌, arith, append_assoc, append-nil, add-zero, zero-add}

@@ -15,7 +15,7 @@ use Rattle.cats_cmd.specs.DuplicateTexts.{after_empty_lines, duplicates_text, gr
 use Rattle.cats_cmd.specs.Escaping.{end_of, escaped, is_control, path_text}
 use Rattle.cats_cmd.specs.OutputPaths.{IsPath, behind_tabs, end_byte, groups_in, has_lines, is_empty, paths_if_read, paths_in_table, read_path, read_paths}
 use Rattle.cats_cmd.specs.PathLists.{ended, parts_in}
-use Rattle.cats_cmd.specs.Paths.{Judgement, IsHeavy, IsJudged, IsStopped}
+use Rattle.cats_cmd.specs.Paths.{Judgement, IsHeavy, IsJudged, IsUnjudged}
 use Rattle.cats_cmd.specs.SizesTables.{MakesTable, counts_of, line_if_read, lines_of_table, sizes_header, sizes_of, with_tabs}
 use Rattle.cats_cmd.specs.declared.paths.Ending.{Ending}
 use Rattle.cats_cmd.specs.declared.paths.Ending.TheVariants.{Line, Null}
@@ -217,7 +217,7 @@ module _ (ending : Ending) where
   abbrev lines_if_read : List ℕ → Judgement → List (List ℕ)
   lines_if_read path (IsJudged file) = ((with_tabs (sizes_of file) ++ with_tabs (counts_of (canonical_file file))) ++ printed ending path) ∷ []
   lines_if_read path (IsHeavy file goods) = ((with_tabs (sizes_of file) ++ unknown) ++ printed ending path) ∷ []
-  lines_if_read path (IsStopped stop) = []
+  lines_if_read path (IsUnjudged error) = []
 
   abbrev table_lines : List (List ℕ × Judgement) → List (List ℕ)
   table_lines judgements = flat_map (λ j. lines_if_read j.0 j.1) judgements
@@ -231,7 +231,7 @@ module _ (ending : Ending) where
   line_ended : (path : List ℕ) (j : Judgement) → line_if_read ending path j ≡ ended (end_byte ending) (lines_if_read path j)
   line_ended path (IsJudged file) = one_ended (with_tabs (sizes_of file) ++ with_tabs (counts_of (canonical_file file))) path
   line_ended path (IsHeavy file goods) = one_ended (with_tabs (sizes_of file) ++ unknown) path
-  line_ended path (IsStopped stop) = refl
+  line_ended path (IsUnjudged error) = refl
 
   table_ended : (js : List (List ℕ × Judgement)) → lines_of_table ending js ≡ ended (end_byte ending) (table_lines js)
   table_ended [] = refl
@@ -255,7 +255,7 @@ module _ (ending : Ending) where
       (numbers_lack ending (counts_of (canonical_file file))) plain
   line_lacks dashes path (IsHeavy file goods) plain =
       one_lacks (with_tabs (sizes_of file)) unknown path (numbers_lack ending (sizes_of file)) dashes plain
-  line_lacks dashes path (IsStopped stop) plain = All-nil (Lacks (end_byte ending))
+  line_lacks dashes path (IsUnjudged error) plain = All-nil (Lacks (end_byte ending))
 
   table_lacks : Lacks (end_byte ending) unknown → (js : List (List ℕ × Judgement)) → All (λ j. Lacks 0 j.0) js → All (Lacks (end_byte ending)) (table_lines js)
   table_lacks dashes [] plain = All-nil (Lacks (end_byte ending))
@@ -282,7 +282,7 @@ module _ (ending : Ending) where
       (ap (λ (text : List ℕ). behind_tabs text 8) (append_assoc (with_tabs (sizes_of file)) unknown (printed ending path))
       ∙ behind_numbers (sizes_of file) (unknown ++ printed ending path) 3 8 refl)
       ∙ ap (λ (text : List ℕ). text ∷ []) (printed_back ending path)
-  line_back path (IsStopped stop) = refl
+  line_back path (IsUnjudged error) = refl
 
   lines_back : (js : List (List ℕ × Judgement)) → map path_of (table_lines js) ≡ read_paths js
   lines_back [] = refl

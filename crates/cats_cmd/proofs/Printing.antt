@@ -38,21 +38,21 @@ line_added file bundle old before after d good atoms numbers b a g seen listed =
     a ∙ ap₂ (λ (xs ys : List ℕ). xs ++ ys) b line ∙ append_assoc old (flat_map (dummy_line file bundle) (range_with_len 0 d)) (dummy_line file bundle d)
     ∙ ap (λ (xs : List ℕ). old ++ xs) (lines_more (dummy_line file bundle) d)
 
--- where it succeeded, this was appended
+-- if it succeeded, this was appended
 pub appended : {T E : Type 0} (r : Result T E) (new longer old : List ℕ) → new ≡ (if is_ok r then longer else old) → OnOk r (new ≡ longer)
 appended (Ok x) new longer old e = e
 appended (Err x) new longer old e = tt
 
 -- the line of a bidder, piece by piece
-pub xor_line_made : (good value : ℕ) (place : Option ℕ) (atoms : List (Atom (List ℕ))) (numbers bundle old keyword named spaced priced told after : List ℕ)
+pub xor_line_made : (good value : ℕ) (place : Option ℕ) (atoms : List (Atom (List ℕ))) (numbers bundle old keyword named spaced priced printed after : List ℕ)
     → value ≡ xor_value atoms bundle → best_place atoms bundle ≡ place
     → keyword ≡ old ++ codes "xor" → named ≡ keyword ++ 32 ∷ decimal good → spaced ≡ named ++ codes " " → priced ≡ spaced ++ price_text value
-    → told ≡ priced ++ numbers_text numbers (option_places place) → after ≡ told ++ codes "\n" → after ≡ old ++ xor_line good atoms numbers bundle
-xor_line_made good value place atoms numbers bundle old keyword named spaced priced told after v p k n s c t a =
+    → printed ≡ priced ++ numbers_text numbers (option_places place) → after ≡ printed ++ codes "\n" → after ≡ old ++ xor_line good atoms numbers bundle
+xor_line_made good value place atoms numbers bundle old keyword named spaced priced printed after v p k n s c t a =
     let rest : List ℕ = numbers_text numbers (option_places (best_place atoms bundle)) in
-    let told_best : told ≡ priced ++ rest = t ∙ ap (λ (o : Option ℕ). priced ++ numbers_text numbers (option_places o)) (sym p) in
+    let printed_best : printed ≡ priced ++ rest = t ∙ ap (λ (o : Option ℕ). priced ++ numbers_text numbers (option_places o)) (sym p) in
     let priced_value : priced ≡ spaced ++ price_text (xor_value atoms bundle) = c ∙ ap (λ (m : ℕ). spaced ++ price_text m) v in
-    a ∙ ap (λ (xs : List ℕ). xs ++ codes "\n") (told_best ∙ ap (λ (xs : List ℕ). xs ++ rest) (priced_value
+    a ∙ ap (λ (xs : List ℕ). xs ++ codes "\n") (printed_best ∙ ap (λ (xs : List ℕ). xs ++ rest) (priced_value
     ∙ ap (λ (xs : List ℕ). xs ++ price_text (xor_value atoms bundle)) (s
     ∙ ap (λ (xs : List ℕ). xs ++ codes " ") (n ∙ ap (λ (xs : List ℕ). xs ++ 32 ∷ decimal good) k))))
     ∙ joined old (codes "xor") (32 ∷ decimal good) (codes " ") (price_text (xor_value atoms bundle)) rest (codes "\n")

@@ -21,14 +21,14 @@ use Rattle.rounding.specs.Answers.{IsRounded, RoundAnswer}
 use Rattle.rounding.specs.Texts.{rounded_text}
 use Rattle.rounding.specs.Views.{plain_change, plain_changes}
 use Rattle.rounding.specs.declared.replacement.FinePrices.{FinePrices}
-use Rattle.rounding.specs.declared.text.RoundedPrice.{RoundedPrice}
-use Rattle.rounding.specs.declared.text.RoundedText.{RoundedText}
+use Rattle.rounding.specs.declared.round_text.RoundedPrice.{RoundedPrice}
+use Rattle.rounding.specs.declared.round_text.RoundedText.{RoundedText}
 use Rattle.cats_cmd.specs.Internal.Roundings.{RoundsText}
 use Rattle.cats_cmd.specs.Inputs.{ReadsAll, ReadsBytes, StopsReading}
 use Rattle.answers.specs.RoundedLines.{rounded_line}
 use Rattle.cats_cmd.specs.Rounding.{IsUnrounded, Rounds, round_outcome}
 use Rattle.cats_cmd.specs.Runs.{SendsAs}
-use Rattle.cats_cmd.specs.Stops.{Reports, ReportsAll}
+use Rattle.cats_cmd.specs.RequestErrors.{Reports, ReportsAll}
 use Rattle.answers.specs.declared.report.RunFault.{RunFault}
 use Rattle.answers.specs.declared.report.RunFault.TheVariants.{Refused, GoodRange, Sent}
 use Rattle.cats_cmd.proofs.JudgingPaths.{reports_more}
@@ -42,8 +42,8 @@ no_more a b c bytes piece n none came gave =
     let joined = Consumes-trans a b c bytes [] came (rw none at gave) in rw append-nil at joined
 
 pub at_the_end : (before : Bool) (n : ℕ) (piece : List ℕ) → n ≡ 0 → 0 < length piece → (before || moved_nothing (Ok n) piece) ≡ true
-at_the_end before n [] none room = absurd (omega arith)
-at_the_end before n (byte ∷ piece) none room = grind arith
+at_the_end before n [] none not_empty = absurd (omega arith)
+at_the_end before n (byte ∷ piece) none not_empty = grind arith
 
 -- a read that gave a piece
 pub came_more : (a b c : Option (List ℕ)) (bytes piece all : List ℕ) → Consumes a b bytes → Consumes b c piece → all ≡ bytes ++ piece → Consumes a c all
@@ -109,11 +109,11 @@ rounding_refused fine text why answer fault is =
 module _ {R W E : Type 0} (remaining : R → Option (List ℕ)) (contents : W → Option (List ℕ)) (messages : E → Option (List ℕ)) (fine : FinePrices)
     (old new : Watched R) where
   run_refused : (out : Watched W) (err : Watched E) (fault : CanonFault) → IsUnrounded remaining contents messages fine old new fault
-      → (answer : Result ℕ RunFault) → IsErrAnd answer (λ told. told ≡ Refused Only fault)
+      → (answer : Result ℕ RunFault) → IsErrAnd answer (λ reported. reported ≡ Refused Only fault)
       → Rounds remaining contents messages fine old new out out err err answer
   run_refused out err fault refused answer is =
-      let told = err_from_is_err_and answer is in
-      let only : answer ≡ Err (Refused Only fault) = told.1 ∙ ap (λ (f : RunFault). Err f) told.2 in
+      let reported = err_from_is_err_and answer is in
+      let only : answer ≡ Err (Refused Only fault) = reported.1 ∙ ap (λ (f : RunFault). Err f) reported.2 in
       subst (λ (r : Result ℕ RunFault). Rounds remaining contents messages fine old new out out err err r) (sym only)
       (record { only = refl; refused = refused; silent = refl; quiet = refl })
 
@@ -129,25 +129,25 @@ module _ {R W E : Type 0} (remaining : R → Option (List ℕ)) (contents : W �
   unmade bytes all Memory first = tt
 
   pub round_unread : (out : Watched W) (err : Watched E) (fault : CanonFault) → ReadsBytes remaining old new (Err fault)
-      → (answer : Result ℕ RunFault) → IsErrAnd answer (λ told. told ≡ Refused Only fault)
+      → (answer : Result ℕ RunFault) → IsErrAnd answer (λ reported. reported ≡ Refused Only fault)
       → Rounds remaining contents messages fine old new out out err err answer
   round_unread out err fault stops answer is = run_refused out err fault (unread fault stops) answer is
 
   pub round_unmade : (out : Watched W) (err : Watched E) (bytes : List ℕ) → ReadsAll remaining old new bytes → (fault : CanonFault)
-      → RoundsText fine bytes (Err fault) → (answer : Result ℕ RunFault) → IsErrAnd answer (λ told. told ≡ Refused Only fault)
+      → RoundsText fine bytes (Err fault) → (answer : Result ℕ RunFault) → IsErrAnd answer (λ reported. reported ≡ Refused Only fault)
       → Rounds remaining contents messages fine old new out out err err answer
   round_unmade out err bytes all fault first answer is = run_refused out err fault (unmade bytes all fault first) answer is
 
   -- the output failed in the text
   pub round_unsent : (out out_after : Watched W) (err : Watched E) (bytes : List ℕ) → ReadsAll remaining old new bytes → (rounded : RoundedText)
       → IsRounded fine bytes rounded → (fault : RunFault) → SendsAs contents 0 (rounded_text fine bytes) out out_after (Err fault)
-      → (answer : Result ℕ RunFault) → IsErrAnd answer (λ told. told ≡ fault)
+      → (answer : Result ℕ RunFault) → IsErrAnd answer (λ reported. reported ≡ fault)
       → Rounds remaining contents messages fine old new out out_after err err answer
   round_unsent out out_after err bytes all rounded r (Refused which fault) sends answer is = absurd sends
   round_unsent out out_after err bytes all rounded r (GoodRange good) sends answer is = absurd sends
   round_unsent out out_after err bytes all rounded r (Sent fault) sends answer is =
-      let told = err_from_is_err_and answer is in
-      let only : answer ≡ Err (Sent fault) = told.1 ∙ ap (λ (f : RunFault). Err f) told.2 in
+      let reported = err_from_is_err_and answer is in
+      let only : answer ≡ Err (Sent fault) = reported.1 ∙ ap (λ (f : RunFault). Err f) reported.2 in
       subst (λ (a : Result ℕ RunFault). Rounds remaining contents messages fine old new out out_after err err a) (sym only) (record {
         fails = record {
           given = bytes;
@@ -161,11 +161,11 @@ module _ {R W E : Type 0} (remaining : R → Option (List ℕ)) (contents : W �
       })
 
   -- the text was sent, and the prices whose values changed were reported
-  pub round_told : (out out_after : Watched W) (err err_after : Watched E) (bytes : List ℕ) → ReadsAll remaining old new bytes → (rounded : RoundedText)
+  pub round_printed : (out out_after : Watched W) (err err_after : Watched E) (bytes : List ℕ) → ReadsAll remaining old new bytes → (rounded : RoundedText)
       → IsRounded fine bytes rounded → (status : ℕ) → SendsAs contents 0 (rounded_text fine bytes) out out_after (Ok status)
       → ReportsAll messages (map rounded_line (plain_changes rounded.prices.items)) err err_after
       → Rounds remaining contents messages fine old new out out_after err err_after (Ok status)
-  round_told out out_after err err_after bytes all rounded r status sends reports =
+  round_printed out out_after err err_after bytes all rounded r status sends reports =
       wrote contents _ (round_outcome fine) out out_after bytes
       (record {
         reads = record { all = all; file = r.file; spells = rw r.text_is at r.spells };

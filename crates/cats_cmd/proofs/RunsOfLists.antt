@@ -20,12 +20,12 @@ module _ {F W E : Type 0} (may_open : List ℕ → F → Type 0) (may_refuse : L
   none_begun paths = record { count = 0; judgements = []; judges = record { of_paths = refl; each = tt; reports = refl } }
 
   pub list_refused : (list bytes : List ℕ) → ReadsList may_open may_refuse remaining list bytes → (out : Watched W)
-      → (answer : Result ℕ RunFault) → IsErrAnd answer (λ told. told ≡ Refused Only Memory)
+      → (answer : Result ℕ RunFault) → IsErrAnd answer (λ reported. reported ≡ Refused Only Memory)
       → RunsOnList may_open may_refuse remaining messages
       (λ (paths : List (List ℕ)). RunsOnPaths may_open may_refuse remaining contents messages limit Makes paths progress) list out out err err answer
   list_refused list bytes reads out answer is =
-      let told = err_from_is_err_and answer is in
-      let only : answer ≡ Err (Refused Only Memory) = told.1 ∙ ap (λ (f : RunFault). Err f) told.2 in
+      let reported = err_from_is_err_and answer is in
+      let only : answer ≡ Err (Refused Only Memory) = reported.1 ∙ ap (λ (f : RunFault). Err f) reported.2 in
       subst
       (λ (r : Result ℕ RunFault). RunsOnList may_open may_refuse remaining messages
       (λ (paths : List (List ℕ)). RunsOnPaths may_open may_refuse remaining contents messages limit Makes paths progress) list out out err err r)

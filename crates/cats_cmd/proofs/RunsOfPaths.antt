@@ -7,7 +7,7 @@ use Rattle.cats_text.specs.declared.stream.Watched.{Watched}
 use Rattle.canon.specs.declared.canon_fault.CanonFault.TheVariants.{Memory}
 use Rattle.canon.specs.declared.which.Which.TheVariants.{Only}
 use Rattle.cats_cmd.specs.Internal.Judging.{HasJudged}
-use Rattle.cats_cmd.specs.Outcomes.{Tells}
+use Rattle.cats_cmd.specs.Outcomes.{Prints}
 use Rattle.cats_cmd.specs.Paths.{BeginsPaths, Judgement, JudgesPaths, MakesOfPaths, RunsOnPaths, outcome_of_paths}
 use Rattle.cats_cmd.specs.Runs.{SendsAs}
 use Rattle.cats_cmd.specs.declared.paths.Progress.{Progress}
@@ -21,18 +21,18 @@ module _ {F W E : Type 0} (may_open : List ℕ → F → Type 0) (may_refuse : L
     (paths : List (List ℕ)) (progress : Progress) (err err_after : Watched E) where
   -- memory was refused after the first of the paths
   pub paths_refused : (out : Watched W) → BeginsPaths may_open may_refuse remaining messages limit progress paths err err_after
-      → (answer : Result ℕ RunFault) → IsErrAnd answer (λ told. told ≡ Refused Only Memory)
+      → (answer : Result ℕ RunFault) → IsErrAnd answer (λ reported. reported ≡ Refused Only Memory)
       → RunsOnPaths may_open may_refuse remaining contents messages limit Makes paths progress out out err err_after answer
   paths_refused out begins answer is =
-      let told = err_from_is_err_and answer is in
-      let only : answer ≡ Err (Refused Only Memory) = told.1 ∙ ap (λ (f : RunFault). Err f) told.2 in
+      let reported = err_from_is_err_and answer is in
+      let only : answer ≡ Err (Refused Only Memory) = reported.1 ∙ ap (λ (f : RunFault). Err f) reported.2 in
       subst (λ (r : Result ℕ RunFault). RunsOnPaths may_open may_refuse remaining contents messages limit Makes paths progress out out err err_after r)
       (sym only) (record { only = refl; memory = refl; silent = refl; begins = begins })
 
   module _ {C : Type 0} (Has : C → List (List ℕ × Judgement) → Type 0) (kept : C) (greatest : ℕ)
       (h : HasJudged Has may_open may_refuse remaining limit messages progress (length paths) paths kept err err_after greatest) where
     -- memory was refused after all of them
-    pub text_refused : (out : Watched W) (answer : Result ℕ RunFault) → IsErrAnd answer (λ told. told ≡ Refused Only Memory)
+    pub text_refused : (out : Watched W) (answer : Result ℕ RunFault) → IsErrAnd answer (λ reported. reported ≡ Refused Only Memory)
         → RunsOnPaths may_open may_refuse remaining contents messages limit Makes paths progress out out err err_after answer
     text_refused out answer is =
         paths_refused out (record {
@@ -45,20 +45,20 @@ module _ {F W E : Type 0} (may_open : List ℕ → F → Type 0) (may_refuse : L
         }) answer is
 
     -- the text is sent
-    pub text_told : (out out_after : Watched W) (text : List ℕ) → Makes h.judgements text
+    pub paths_printed : (out out_after : Watched W) (text : List ℕ) → Makes h.judgements text
         → (answer : Result ℕ RunFault) → SendsAs contents greatest text out out_after answer
         → RunsOnPaths may_open may_refuse remaining contents messages limit Makes paths progress out out_after err err_after answer
-    text_told out out_after text made (Ok told) sends =
+    paths_printed out out_after text made (Ok reported) sends =
         wrote contents (MakesOfPaths may_open may_refuse remaining contents messages limit Makes paths progress err err_after) outcome_of_paths out out_after
         (record { judgements = h.judgements; text = text }) (record { judges = h.judges; makes = made }) greatest text
-        (ap (λ (s : ℕ). Tells s text) (sym h.is_greatest)) told sends
-    text_told out out_after text made (Err (Refused which fault)) sends = absurd sends
-    text_told out out_after text made (Err (GoodRange good)) sends = absurd sends
-    text_told out out_after text made (Err (Sent fault)) sends = record {
+        (ap (λ (s : ℕ). Prints s text) (sym h.is_greatest)) reported sends
+    paths_printed out out_after text made (Err (Refused which fault)) sends = absurd sends
+    paths_printed out out_after text made (Err (GoodRange good)) sends = absurd sends
+    paths_printed out out_after text made (Err (Sent fault)) sends = record {
       given = record { judgements = h.judgements; text = text };
       reads = record { judges = h.judges; makes = made };
       status = greatest;
       text = text;
-      made = ap (λ (s : ℕ). Tells s text) (sym h.is_greatest);
+      made = ap (λ (s : ℕ). Prints s text) (sym h.is_greatest);
       sent = sends;
     }

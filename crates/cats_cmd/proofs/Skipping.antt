@@ -6,10 +6,10 @@ use Rattle.bid_file.specs.Files.{PlainFile}
 use Rattle.canon.specs.FirstPlaces.{IsFirstPlace, IsIndexOf, TextIndex}
 use Rattle.cats_cmd.specs.Duplicates.{files_if_judged, judged_files, judged_paths, paths_if_judged}
 use Rattle.cats_cmd.specs.Internal.Judging.{KeepsGroups}
-use Rattle.cats_cmd.specs.Paths.{Judgement, IsStopped}
+use Rattle.cats_cmd.specs.Paths.{Judgement, IsUnjudged}
 use Rattle.cats_cmd.specs.SizesTables.{line_if_read, lines_of_table}
 use Rattle.cats_cmd.specs.declared.paths.Ending.{Ending}
-use Rattle.cats_cmd.specs.declared.program.Stop.{Stop}
+use Rattle.cats_cmd.specs.declared.program.RequestError.{RequestError}
 
 -- a judgement of which no file was judged
 pub nothing_more : (index : TextIndex) (found : List (List ℕ × ℕ)) (js : List (List ℕ × Judgement)) (path : List ℕ) (j : Judgement)
@@ -18,20 +18,20 @@ nothing_more index found js path j no_file no_path h =
     let all : judged_files (js ++ (path, j) ∷ []) ≡ judged_files js =
     flat_map-append (λ (x : List ℕ × Judgement). files_if_judged x.1) js ((path, j) ∷ [])
     ∙ ap (λ (fs : List PlainFile). judged_files js ++ (fs ++ [])) no_file ∙ append-nil (judged_files js) in
-    let told : judged_paths (js ++ (path, j) ∷ []) ≡ judged_paths js =
+    let same_paths : judged_paths (js ++ (path, j) ∷ []) ≡ judged_paths js =
     flat_map-append (λ (x : List ℕ × Judgement). paths_if_judged x.0 x.1) js ((path, j) ∷ [])
     ∙ ap (λ (ps : List (List ℕ)). judged_paths js ++ (ps ++ [])) no_path ∙ append-nil (judged_paths js) in
     record {
       is_index = subst (λ (fs : List PlainFile). IsIndexOf index fs) (sym all) h.is_index;
       finds = record {
-        judged = h.finds.judged ∙ sym told;
+        judged = h.finds.judged ∙ sym same_paths;
         places = subst (λ (fs : List PlainFile). AllZip (λ f g. IsFirstPlace fs g f.1) found fs) (sym all) h.finds.places;
       };
     }
 
-pub groups_skip : (index : TextIndex) (found : List (List ℕ × ℕ)) (js : List (List ℕ × Judgement)) (path : List ℕ) (stop : Stop)
-    → KeepsGroups index found js → KeepsGroups index found (js ++ (path, IsStopped stop) ∷ [])
-groups_skip index found js path stop h = nothing_more index found js path (IsStopped stop) refl refl h
+pub groups_skip : (index : TextIndex) (found : List (List ℕ × ℕ)) (js : List (List ℕ × Judgement)) (path : List ℕ) (error : RequestError)
+    → KeepsGroups index found js → KeepsGroups index found (js ++ (path, IsUnjudged error) ∷ [])
+groups_skip index found js path error h = nothing_more index found js path (IsUnjudged error) refl refl h
 
 -- ---- a table
 
@@ -40,6 +40,6 @@ pub line_more : (ending : Ending) (js : List (List ℕ × Judgement)) (path : Li
 line_more ending js path j = flat_map-append (λ (x : List ℕ × Judgement). line_if_read ending x.0 x.1) js ((path, j) ∷ [])
     ∙ ap (λ (line : List ℕ). lines_of_table ending js ++ line) (append-nil (line_if_read ending path j))
 
-pub table_skips : (ending : Ending) (lines : List ℕ) (js : List (List ℕ × Judgement)) (path : List ℕ) (stop : Stop) → lines ≡ lines_of_table ending js
-    → lines ≡ lines_of_table ending (js ++ (path, IsStopped stop) ∷ [])
-table_skips ending lines js path stop h = h ∙ sym (line_more ending js path (IsStopped stop) ∙ append-nil (lines_of_table ending js))
+pub table_skips : (ending : Ending) (lines : List ℕ) (js : List (List ℕ × Judgement)) (path : List ℕ) (error : RequestError) → lines ≡ lines_of_table ending js
+    → lines ≡ lines_of_table ending (js ++ (path, IsUnjudged error) ∷ [])
+table_skips ending lines js path error h = h ∙ sym (line_more ending js path (IsUnjudged error) ∙ append-nil (lines_of_table ending js))

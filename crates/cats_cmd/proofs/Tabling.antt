@@ -21,12 +21,12 @@ use Rattle.canon.specs.declared.which.Which.TheVariants.{Only}
 use Rattle.cats_cmd.specs.Inputs.{ReadsInput}
 use Rattle.cats_cmd.specs.Internal.Judging.{AddsOpened}
 use Rattle.cats_cmd.proofs.Skipping.{line_more, table_skips}
-use Rattle.cats_cmd.specs.Paths.{Judgement, IsHeavy, IsJudged, IsStopped, JudgesStream}
+use Rattle.cats_cmd.specs.Paths.{Judgement, IsHeavy, IsJudged, IsUnjudged, JudgesStream}
 use Rattle.cats_cmd.specs.SizesTables.{has_dummy, line_if_read, lines_of_table}
 use Rattle.cats_cmd.specs.Escaping.{path_text}
 use Rattle.cats_cmd.specs.declared.paths.Ending.{Ending}
-use Rattle.cats_cmd.specs.declared.program.Stop.{Stop}
-use Rattle.cats_cmd.specs.declared.program.Stop.TheVariants.{Run}
+use Rattle.cats_cmd.specs.declared.program.RequestError.{RequestError}
+use Rattle.cats_cmd.specs.declared.program.RequestError.TheVariants.{Run}
 use Rattle.answers.specs.declared.report.RunFault.{RunFault}
 use Rattle.answers.specs.declared.report.RunFault.TheVariants.{Refused}
 
@@ -52,29 +52,29 @@ module _ {R : Type 0} (ending : Ending) (remaining : R → Option (List ℕ)) (l
     (Has : C → List (List ℕ × Judgement) → Type 0) (kept more : C) (lines longer path : List ℕ)
     (has : (js : List (List ℕ × Judgement)) → Has kept js → lines ≡ lines_of_table ending js)
     (has_more : (js : List (List ℕ × Judgement)) → longer ≡ lines_of_table ending js → Has more js) where
-  stopped : longer ≡ lines → (stop : Stop) → JudgesStream remaining limit old new (IsStopped stop)
-      → AddsOpened Has remaining limit path kept more old new (Some stop)
-  stopped same stop judges = record {
-    judgement = IsStopped stop;
+  unjudged : longer ≡ lines → (error : RequestError) → JudgesStream remaining limit old new (IsUnjudged error)
+      → AddsOpened Has remaining limit path kept more old new (Some error)
+  unjudged same error judges = record {
+    judgement = IsUnjudged error;
     judges = judges;
-    adds = λ js h. has_more (js ++ (path, IsStopped stop) ∷ []) (same ∙ table_skips ending lines js path stop (has js h));
-    is_stop = refl;
+    adds = λ js h. has_more (js ++ (path, IsUnjudged error) ∷ []) (same ∙ table_skips ending lines js path error (has js h));
+    is_error = refl;
   }
 
   pub table_unread : longer ≡ lines → (fault : CanonFault) → ReadsInput remaining old new (Err fault)
       → AddsOpened Has remaining limit path kept more old new (Some (Run (Refused Only fault)))
-  table_unread same (Read why) reads = stopped same (Run (Refused Only (Read why))) (refl, reads)
+  table_unread same (Read why) reads = unjudged same (Run (Refused Only (Read why))) (refl, reads)
   table_unread same (StepLimit goods) reads = absurd reads.reads
-  table_unread same Memory reads = stopped same (Run (Refused Only Memory)) (refl, inl reads)
+  table_unread same Memory reads = unjudged same (Run (Refused Only Memory)) (refl, inl reads)
 
   module _ (file : PlainFile) (reads : ReadsInput remaining old new (Ok file)) where
     pub table_judged : first_heavy file.goods limit (or_atoms_of file.bids) ≡ None → longer ≡ lines ++ line_if_read ending path (IsJudged file)
         → AddsOpened Has remaining limit path kept more old new None
-    table_judged light put = record {
+    table_judged within put = record {
       judgement = IsJudged file;
-      judges = record { reads = reads; light = light };
+      judges = record { reads = reads; within = within };
       adds = λ js h. has_more (js ++ (path, IsJudged file) ∷ []) (table_more ending lines longer path (IsJudged file) put js (has js h));
-      is_stop = refl;
+      is_error = refl;
     }
 
     pub table_heavy : (goods : Vec ℕ Global) → first_heavy file.goods limit (or_atoms_of file.bids) ≡ Some goods.items
@@ -84,11 +84,11 @@ module _ {R : Type 0} (ending : Ending) (remaining : R → Option (List ℕ)) (l
       judgement = IsHeavy file goods;
       judges = record { reads = reads; heavy = heavy };
       adds = λ js h. has_more (js ++ (path, IsHeavy file goods) ∷ []) (table_more ending lines longer path (IsHeavy file goods) put js (has js h));
-      is_stop = ap (λ (f : RunFault). Some (Run f)) is;
+      is_error = ap (λ (f : RunFault). Some (Run f)) is;
     }
 
     pub table_unmade : longer ≡ lines → AddsOpened Has remaining limit path kept more old new (Some (Run (Refused Only Memory)))
-    table_unmade same = stopped same (Run (Refused Only Memory)) (refl, inr (record { file = file; reads = reads }))
+    table_unmade same = unjudged same (Run (Refused Only Memory)) (refl, inr (record { file = file; reads = reads }))
 
 -- ---- marks
 

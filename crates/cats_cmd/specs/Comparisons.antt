@@ -6,7 +6,7 @@ use Rattle.canon.specs.Canonical.{canonical_file}
 use Rattle.canon.specs.declared.canon_fault.CanonFault.{CanonFault}
 use Rattle.canon.specs.declared.canon_fault.CanonFault.TheVariants.{Memory}
 use Rattle.canon.specs.declared.which.Which.TheVariants.{Only, First, Second, Both}
-use Rattle.cats_cmd.specs.Inputs.{IsRefusedFile, ReadsLightFile}
+use Rattle.cats_cmd.specs.Inputs.{IsRefusedFile, ReadsWithinLimit}
 use Rattle.cats_cmd.specs.Outcomes.{Outcome, normalise_outcome, compare_outcome}
 use Rattle.cats_cmd.specs.Runs.{FailsInText, WritesText}
 use Rattle.answers.specs.declared.report.RunFault.{RunFault}
@@ -18,7 +18,7 @@ module _ {R : Type 0} (remaining : R → Option (List ℕ)) (limit : ℕ) where
   -- a file that was read, with its canonical file
   pub record ReadsCanonicalFile (old new : Watched R) (canonical : PlainFile) : Type 0 where
     pub file : PlainFile
-    pub given : ReadsLightFile remaining limit old new file
+    pub given : ReadsWithinLimit remaining limit old new file
     pub is : canonical ≡ canonical_file file
 
   -- reading a file and normalising it
@@ -33,8 +33,8 @@ module _ {R S W : Type 0} (remaining_first : R → Option (List ℕ)) (remaining
   -- both files were read, and neither has a heavy bundle
   abbrev pub ReadsBoth : Watched R → Watched R → Watched S → Watched S → PlainFile × PlainFile → Type 0
   ReadsBoth first first_after second second_after files =
-      ReadsLightFile remaining_first limit first first_after files.0
-      × ReadsLightFile remaining_second limit second second_after files.1
+      ReadsWithinLimit remaining_first limit first first_after files.0
+      × ReadsWithinLimit remaining_second limit second second_after files.1
 
   -- the first file was refused; the second was not read, and nothing was written
   pub record RefusesFirst (first first_after : Watched R) (second second_after : Watched S) (out out_after : Watched W)
@@ -47,7 +47,7 @@ module _ {R S W : Type 0} (remaining_first : R → Option (List ℕ)) (remaining
   pub record RefusesSecond (first first_after : Watched R) (second second_after : Watched S) (out out_after : Watched W)
       (fault : CanonFault) : Type 0 where
     pub left : PlainFile
-    pub reads : ReadsLightFile remaining_first limit first first_after left
+    pub reads : ReadsWithinLimit remaining_first limit first first_after left
     pub refused : IsRefusedFile remaining_second (normalise_outcome limit) second second_after fault
     pub silent : out_after ≡ out
 

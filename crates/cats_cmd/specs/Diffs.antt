@@ -9,13 +9,13 @@ use Rattle.canon.specs.Renaming.{kept_dummies}
 use Rattle.differences.specs.Differences.{PlainDifferences, AreAllDifferences}
 use Rattle.cats_cmd.specs.Comparisons.{ReadsBoth, RunsOnBoth}
 use Rattle.answers.specs.DiffTexts.{diff_text}
-use Rattle.cats_cmd.specs.Outcomes.{Outcome, Tells}
+use Rattle.cats_cmd.specs.Outcomes.{Outcome, Prints}
 use Rattle.answers.specs.Statuses.{status_of_differences}
 use Rattle.answers.specs.declared.report.RunFault.{RunFault}
 
 -- of the differences of two files
 abbrev pub diff_outcome : PlainFile × PlainFile × PlainDifferences → Outcome
-diff_outcome compared = Tells (status_of_differences compared.2)
+diff_outcome compared = Prints (status_of_differences compared.2)
     (diff_text compared.0.goods (kept_dummies compared.0) (kept_dummies compared.1) compared.2)
 
 module _ {R S W : Type 0} (remaining_first : R → Option (List ℕ)) (remaining_second : S → Option (List ℕ))

@@ -1,4 +1,4 @@
--- What `cats duplicates` prints: of the files that were found to be auctions, those that are not the only one of
+-- What `cats duplicates` prints. Of the files that were found to be auctions, it has those that are not the only one of
 -- theirs.
 use Rattle.std.specs.Prelude.{ℕ, ◌==◌, nat_lt, if◌then◌else◌, Bool, List, [], ◌∷◌, ◌++◌, length, map, filter}
 use Rattle.std.specs.Prelude.{Vec}
@@ -42,7 +42,7 @@ groups_text ending (paths ∷ groups) = lines_of ending paths ++ after_empty_lin
 abbrev pub duplicates_text : Ending → List (List ℕ × ℕ) → List ℕ
 duplicates_text ending found = groups_text ending (filter is_repeated (groups_of found))
 
--- the lines behind a text, with an empty line between them where there is a text
+-- the lines after a text, with an empty line between them if there is a text
 abbrev pub behind : Ending → List ℕ → List ℕ → List ℕ
 behind ending text lines = if length text == 0 then lines else text ++ end_of ending ++ lines
 

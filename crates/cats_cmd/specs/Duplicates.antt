@@ -1,21 +1,21 @@
--- What `cats duplicates` makes of the files at some paths.
+-- What `cats duplicates` finds among files.
 use Rattle.std.specs.Prelude.{◌≡◌, ℕ, List, [], ◌∷◌, map}
 use Rattle.std.specs.List.{AllZip, flat_map}
 use Rattle.bid_file.specs.Files.{PlainFile}
 use Rattle.canon.specs.FirstPlaces.{IsFirstPlace}
 use Rattle.cats_cmd.specs.DuplicateTexts.{duplicates_text}
 use Rattle.cats_cmd.specs.declared.paths.Ending.{Ending}
-use Rattle.cats_cmd.specs.Paths.{Judgement, IsJudged, IsHeavy, IsStopped}
+use Rattle.cats_cmd.specs.Paths.{Judgement, IsJudged, IsHeavy, IsUnjudged}
 
 abbrev pub files_if_judged : Judgement → List PlainFile
 files_if_judged (IsJudged file) = file ∷ []
 files_if_judged (IsHeavy file goods) = []
-files_if_judged (IsStopped stop) = []
+files_if_judged (IsUnjudged error) = []
 
 abbrev pub paths_if_judged : List ℕ → Judgement → List (List ℕ)
 paths_if_judged path (IsJudged file) = path ∷ []
 paths_if_judged path (IsHeavy file goods) = []
-paths_if_judged path (IsStopped stop) = []
+paths_if_judged path (IsUnjudged error) = []
 
 -- the files that were judged, and their paths, in the order of the paths
 abbrev pub judged_files : List (List ℕ × Judgement) → List PlainFile

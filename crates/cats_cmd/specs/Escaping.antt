@@ -1,4 +1,4 @@
--- How a path is printed: on a line, where no byte of it can end the line or control a terminal, or as it is. And how it
+-- How a path is printed. On a line, no byte of it can end the line or control a terminal; else it is raw. And how it
 -- is read back from a line.
 use Rattle.std.specs.Prelude.{ℕ, ◌+◌, ◌*◌, ◌/◌, ◌%◌, ◌==◌, ◌||◌, nat_lt, if◌then◌else◌, Bool, List, [], ◌∷◌, ◌++◌, fold}
 use Rattle.std.specs.Char.{digit_char, digit_value}

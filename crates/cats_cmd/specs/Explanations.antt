@@ -4,20 +4,20 @@ use Rattle.bid_file.specs.Files.{PlainFile}
 use Rattle.cats_text.specs.declared.stream.Watched.{Watched}
 use Rattle.explain.specs.Reasons.{Explains, PlainReason}
 use Rattle.answers.specs.ExplanationTexts.{explanation_text}
-use Rattle.cats_cmd.specs.Inputs.{ReadsLightFile}
-use Rattle.cats_cmd.specs.Outcomes.{Outcome, Tells, normalise_outcome}
+use Rattle.cats_cmd.specs.Inputs.{ReadsWithinLimit}
+use Rattle.cats_cmd.specs.Outcomes.{Outcome, Prints, normalise_outcome}
 use Rattle.cats_cmd.specs.Runs.{FailsInText, RefusesFile, WritesText}
 use Rattle.answers.specs.declared.report.RunFault.{RunFault}
 use Rattle.answers.specs.declared.report.RunFault.TheVariants.{Refused, GoodRange, Sent}
 
 -- of reasons for the bids of a file
 abbrev pub explain_outcome : PlainFile × List PlainReason → Outcome
-explain_outcome explained = Tells 0 (explanation_text explained.1)
+explain_outcome explained = Prints 0 (explanation_text explained.1)
 
 -- a file without a heavy bundle was read, and these are reasons of its bids
 pub record ReadsExplained {R : Type 0} (remaining : R → Option (List ℕ)) (limit : ℕ) (before after : Watched R)
     (explained : PlainFile × List PlainReason) : Type 0 where
-  pub reads : ReadsLightFile remaining limit before after explained.0
+  pub reads : ReadsWithinLimit remaining limit before after explained.0
   pub explains : Explains explained.0 explained.1
 
 module _ {R W : Type 0} (remaining : R → Option (List ℕ)) (contents : W → Option (List ℕ)) (limit : ℕ) where

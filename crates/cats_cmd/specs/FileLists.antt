@@ -1,4 +1,4 @@
--- A run on many files whose paths are words of the command line, or are in a list of paths.
+-- Runs on many files. Their paths are words of the command line, or are in a list of paths.
 use Rattle.std.specs.Prelude.{◌≡◌, ◌⊎◌, ℕ, List, map, Option, Result, Ok, Err}
 use Rattle.cats_text.specs.declared.read_fault.ReadFault.{ReadFault}
 use Rattle.cats_text.specs.declared.stream.Watched.{Watched}
@@ -9,9 +9,9 @@ use Rattle.command_line.specs.declared.request.FilePaths.TheVariants.{Given, Lis
 use Rattle.cats_cmd.specs.Inputs.{IsOpened, ReadsAll, StopsReading}
 use Rattle.cats_cmd.specs.PathLists.{paths_in}
 use Rattle.cats_cmd.specs.Paths.{refusal_line}
-use Rattle.cats_cmd.specs.Stops.{Reports, status_of_stop}
-use Rattle.cats_cmd.specs.declared.program.Stop.{Stop}
-use Rattle.cats_cmd.specs.declared.program.Stop.TheVariants.{CannotOpen, NotOpened, Run}
+use Rattle.cats_cmd.specs.RequestErrors.{Reports, status_of_request_error}
+use Rattle.cats_cmd.specs.declared.program.RequestError.{RequestError}
+use Rattle.cats_cmd.specs.declared.program.RequestError.TheVariants.{CannotOpen, NotOpened, Run}
 use Rattle.cats_cmd.specs.declared.source.Unopened.{Unopened}
 use Rattle.answers.specs.declared.report.RunFault.{RunFault}
 use Rattle.answers.specs.declared.report.RunFault.TheVariants.{Refused, GoodRange, Sent}
@@ -33,7 +33,7 @@ module _ {F : Type 0} (may_open : List ℕ → F → Type 0) (may_refuse : List 
     pub stops : StopsReading remaining before after fault.line fault.kind
 
   -- why the list was not read; memory may be refused
-  abbrev pub IsUnread : Stop → Type 0
+  abbrev pub IsUnread : RequestError → Type 0
   IsUnread (CannotOpen which) = ⊥
   IsUnread (NotOpened why) = may_refuse list why
   IsUnread (Run (Refused which (Read fault))) = (which ≡ Only) × StopsList fault
@@ -56,11 +56,11 @@ module _ {F W E : Type 0} (may_open : List ℕ → F → Type 0) (may_refuse : L
   -- the list was not read, which was reported as of a file, and nothing was written
   pub record RefusesList (list : List ℕ) (out out_after : Watched W) (err err_after : Watched E) (status : ℕ)
       : Type 0 where
-    pub stop : Stop
-    pub unread : IsUnread may_open may_refuse remaining list stop
-    pub reports : Reports messages (refusal_line list stop) err err_after
+    pub error : RequestError
+    pub unread : IsUnread may_open may_refuse remaining list error
+    pub reports : Reports messages (refusal_line list error) err err_after
     pub silent : out_after ≡ out
-    pub is_status : status ≡ status_of_stop stop
+    pub is_status : status ≡ status_of_request_error error
 
   abbrev pub RunsOnList : List ℕ → Watched W → Watched W → Watched E → Watched E → Result ℕ RunFault → Type 0
   RunsOnList list out out_after err err_after (Ok status) =

@@ -1,4 +1,4 @@
--- What a run does with its inputs: which stream was opened at a path, what reading it gave, and why its file was refused.
+-- What a run does with its inputs. It is which stream was opened at a path, what it gave, and why its file was refused.
 use Rattle.std.specs.Prelude.{◌≡◌, ◌≢◌, ◌⊎◌, ◌<◌, ◌≤◌, ℕ, true, false, List, length, Option, Some, None, Result, Ok, Err}
 use Rattle.std.specs.Prelude.{Vec}
 use Rattle.std.specs.Global.{Global}
@@ -54,12 +54,12 @@ module _ {R : Type 0} (remaining : R → Option (List ℕ)) where
     pub reads : ReadsInput old new (Ok file)
 
   -- the bytes that were read spell a file without a heavy bundle
-  pub record ReadsLightFile (limit : ℕ) (old new : Watched R) (file : PlainFile) : Type 0 where
+  pub record ReadsWithinLimit (limit : ℕ) (old new : Watched R) (file : PlainFile) : Type 0 where
     pub reads : ReadsInput old new (Ok file)
-    pub light : first_heavy file.goods limit (or_atoms_of file.bids) ≡ None
+    pub within : first_heavy file.goods limit (or_atoms_of file.bids) ≡ None
 
   -- the bytes that were read spell a file, of which the bundle of these goods is the first heavy one
-  pub record ReadsHeavyFile (limit : ℕ) (old new : Watched R) (file : PlainFile) (goods : List ℕ) : Type 0 where
+  pub record ReadsOverLimit (limit : ℕ) (old new : Watched R) (file : PlainFile) (goods : List ℕ) : Type 0 where
     pub reads : ReadsInput old new (Ok file)
     pub heavy : first_heavy file.goods limit (or_atoms_of file.bids) ≡ Some goods
 

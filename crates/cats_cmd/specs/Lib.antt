@@ -3,7 +3,7 @@ pub mod ValueTexts
 pub mod Outcomes
 pub mod Examples
 pub mod Inputs
-pub mod Stops
+pub mod RequestErrors
 pub mod Runs
 pub mod Comparisons
 pub mod Diffs

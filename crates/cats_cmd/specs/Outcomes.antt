@@ -1,4 +1,4 @@
--- What a run makes of the files that it read: a text with a status, or why there is none.
+-- What a run makes of its files. It is a text with a status, or why there is none.
 use Rattle.std.specs.Prelude.{ℕ, List, Option, Some, None, find, nat_le, nat_lt, if◌then◌else◌}
 use Rattle.bid_file.specs.Files.{PlainFile}
 use Rattle.cats_text.specs.Layout.{layout}
@@ -14,7 +14,7 @@ use Rattle.cats_cmd.specs.ValueTexts.{bundle_from, value_text}
 
 pub data Outcome : Type 0 where
   -- this status, and this text on the output
-  Tells : ℕ → List ℕ → Outcome
+  Prints : ℕ → List ℕ → Outcome
   -- the file does not have this good
   LacksGood : ℕ → Outcome
   -- a search on the bundle of these goods takes more steps than the limit
@@ -22,11 +22,11 @@ pub data Outcome : Type 0 where
 
 -- of `cats check`
 abbrev pub check_outcome : PlainFile → Outcome
-check_outcome file = Tells 0 (check_text file)
+check_outcome file = Prints 0 (check_text file)
 
 -- of `cats show`
 abbrev pub show_outcome : PlainFile → Outcome
-show_outcome file = Tells 0 (layout file)
+show_outcome file = Prints 0 (layout file)
 
 -- the first of the goods that a file with so many does not have
 abbrev pub missing_good : ℕ → List ℕ → Option ℕ
@@ -40,7 +40,7 @@ outcome_unless (Some good) outcome = LacksGood good
 abbrev pub values_within : ℕ → List ℕ → PlainFile → Outcome
 values_within limit bundle file =
     if nat_lt limit (count_packings (or_atoms_of file.bids) bundle) then ExceedsSteps bundle
-    else Tells 0 (value_text file bundle)
+    else Prints 0 (value_text file bundle)
 
 -- of `cats value` on these goods
 abbrev pub value_outcome : List ℕ → ℕ → PlainFile → Outcome
@@ -48,7 +48,7 @@ value_outcome goods limit file =
     outcome_unless (missing_good file.goods goods) (values_within limit (bundle_from goods) file)
 
 abbrev pub text_unless_heavy : PlainFile → Option (List ℕ) → Outcome
-text_unless_heavy file None = Tells 0 (canonical_text file)
+text_unless_heavy file None = Prints 0 (canonical_text file)
 text_unless_heavy file (Some goods) = ExceedsSteps goods
 
 -- of `cats normalise`: the canonical text, unless a bundle of the OR bidder is heavy
@@ -56,7 +56,7 @@ abbrev pub normalise_outcome : ℕ → PlainFile → Outcome
 normalise_outcome limit file = text_unless_heavy file (first_heavy file.goods limit (or_atoms_of file.bids))
 
 abbrev pub outcome_of_difference : Difference → Outcome
-outcome_of_difference difference = Tells (status_of_difference difference) (difference_text difference)
+outcome_of_difference difference = Prints (status_of_difference difference) (difference_text difference)
 
 -- of `cats compare` on two files
 abbrev pub compare_outcome : PlainFile → PlainFile → Outcome

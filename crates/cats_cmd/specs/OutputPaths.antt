@@ -1,10 +1,10 @@
--- How the paths are read back from the whole output of `cats duplicates` and of `cats sizes`.
+-- The paths, read back from a whole output. It is that of `cats duplicates` or of `cats sizes`.
 use Rattle.std.specs.Prelude.{◌==◌, ◌<◌, nat_lt, if◌then◌else◌, ℕ, zero, suc, Bool, false, List, [], ◌∷◌, length, filter, map, drop}
 use Rattle.std.specs.Prelude.{◌≡◌}
 use Rattle.std.specs.List.{All, flat_map, slice_split}
 use Rattle.cats_cmd.specs.Escaping.{unescaped}
 use Rattle.cats_cmd.specs.PathLists.{parts_in}
-use Rattle.cats_cmd.specs.Paths.{Judgement, IsJudged, IsHeavy, IsStopped}
+use Rattle.cats_cmd.specs.Paths.{Judgement, IsJudged, IsHeavy, IsUnjudged}
 use Rattle.cats_cmd.specs.declared.paths.Ending.{Ending}
 use Rattle.cats_cmd.specs.declared.paths.Ending.TheVariants.{Line, Null}
 
@@ -54,7 +54,7 @@ paths_in_table ending text = map (λ line. read_path ending (behind_tabs line 8)
 abbrev pub paths_if_read : List ℕ → Judgement → List (List ℕ)
 paths_if_read path (IsJudged file) = path ∷ []
 paths_if_read path (IsHeavy file goods) = path ∷ []
-paths_if_read path (IsStopped stop) = []
+paths_if_read path (IsUnjudged error) = []
 
 -- the paths of the files that were read
 abbrev pub read_paths : List (List ℕ × Judgement) → List (List ℕ)

@@ -1,4 +1,4 @@
--- The paths in a text that lists them, as the programs `sort`, `wc` and `du` take it.
+-- The paths in a list. It is a text as the programs `sort`, `wc` and `du` take it.
 use Rattle.std.specs.Prelude.{ℕ, List, [], ◌∷◌, ◌++◌, ◌==◌}
 use Rattle.std.specs.List.{flat_map, slice_split}
 

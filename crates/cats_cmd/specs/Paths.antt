@@ -1,4 +1,4 @@
--- A run on many files: what became of the file at each path, what is reported of it, and the text that is made of all.
+-- The contract of a run on many files. It has what became of each file, what is reported, and the text that is sent.
 use Rattle.std.specs.Prelude.{◌≡◌, ◌⊎◌, ◌==◌, ◌||◌, ◌%◌, nat_lt, if◌then◌else◌, ℕ, suc, max, Bool}
 use Rattle.std.specs.Prelude.{List, [], ◌∷◌, ◌++◌, length, fold, map, take, Vec}
 use Rattle.std.specs.Prelude.{Option, Some, None, Result, Ok, Err, codes, decimal}
@@ -12,14 +12,14 @@ use Rattle.canon.specs.declared.canon_fault.CanonFault.TheVariants.{Read, StepLi
 use Rattle.canon.specs.declared.which.Which.{Which}
 use Rattle.canon.specs.declared.which.Which.TheVariants.{Only}
 use Rattle.cats_cmd.specs.Escaping.{escaped}
-use Rattle.cats_cmd.specs.Inputs.{IsOpened, IsRefusedFile, ReadsHeavyFile, ReadsLightFile}
-use Rattle.cats_cmd.specs.Outcomes.{Outcome, Tells, normalise_outcome}
+use Rattle.cats_cmd.specs.Inputs.{IsOpened, IsRefusedFile, ReadsOverLimit, ReadsWithinLimit}
+use Rattle.cats_cmd.specs.Outcomes.{Outcome, Prints, normalise_outcome}
 use Rattle.cats_cmd.specs.Runs.{FailsInText, WritesText}
-use Rattle.cats_cmd.specs.Stops.{ReportsAll, line_of_stop, status_of_stop}
+use Rattle.cats_cmd.specs.RequestErrors.{ReportsAll, line_of_request_error, status_of_request_error}
 use Rattle.cats_cmd.specs.declared.paths.Progress.{Progress}
 use Rattle.cats_cmd.specs.declared.paths.Progress.TheVariants.{Silent, Lines, Terminal}
-use Rattle.cats_cmd.specs.declared.program.Stop.{Stop}
-use Rattle.cats_cmd.specs.declared.program.Stop.TheVariants.{CannotOpen, NotOpened, Run}
+use Rattle.cats_cmd.specs.declared.program.RequestError.{RequestError}
+use Rattle.cats_cmd.specs.declared.program.RequestError.TheVariants.{CannotOpen, NotOpened, Run}
 use Rattle.cats_cmd.specs.declared.source.Unopened.{Unopened}
 use Rattle.cats_cmd.specs.declared.source.Unopened.TheVariants.{Other}
 use Rattle.answers.specs.declared.report.RunFault.{RunFault}
@@ -32,36 +32,36 @@ pub data Judgement : Type 0 where
   -- it spells this file, of which the bundle of these goods is the first heavy one
   IsHeavy : PlainFile → Vec ℕ Global → Judgement
   -- it was not judged, for this reason
-  IsStopped : Stop → Judgement
+  IsUnjudged : RequestError → Judgement
 
 -- why the file was not judged
-abbrev pub stop_of : Judgement → Option Stop
-stop_of (IsJudged file) = None
-stop_of (IsHeavy file goods) = Some (Run (Refused Only (StepLimit goods)))
-stop_of (IsStopped stop) = Some stop
+abbrev pub request_error_of : Judgement → Option RequestError
+request_error_of (IsJudged file) = None
+request_error_of (IsHeavy file goods) = Some (Run (Refused Only (StepLimit goods)))
+request_error_of (IsUnjudged error) = Some error
 
-abbrev pub status_if : Option Stop → ℕ
+abbrev pub status_if : Option RequestError → ℕ
 status_if None = 0
-status_if (Some stop) = status_of_stop stop
+status_if (Some error) = status_of_request_error error
 
 abbrev pub status_of_judgement : Judgement → ℕ
-status_of_judgement judgement = status_if (stop_of judgement)
+status_of_judgement judgement = status_if (request_error_of judgement)
 
 abbrev pub greatest_status : List (List ℕ × Judgement) → ℕ
 greatest_status judgements = fold (λ greatest j. max greatest (status_of_judgement j.1)) 0 judgements
 
 -- ---- what is reported
 
-abbrev pub refusal_line : List ℕ → Stop → List ℕ
-refusal_line path stop = escaped path ++ codes ": " ++ line_of_stop stop
+abbrev pub refusal_line : List ℕ → RequestError → List ℕ
+refusal_line path error = escaped path ++ codes ": " ++ line_of_request_error error
 
 abbrev pub progress_line : ℕ → ℕ → List ℕ → List ℕ
 progress_line number count path =
     decimal number ++ codes " of " ++ decimal count ++ codes " " ++ escaped path ++ codes "\n"
 
-abbrev pub refusal_lines : List ℕ → Option Stop → List (List ℕ)
+abbrev pub refusal_lines : List ℕ → Option RequestError → List (List ℕ)
 refusal_lines path None = []
-refusal_lines path (Some stop) = refusal_line path stop ∷ []
+refusal_lines path (Some error) = refusal_line path error ∷ []
 
 -- whether it is reported how many files were read, after the one with this number among so many: after each hundredth,
 -- and after the last
@@ -72,7 +72,7 @@ is_counted number count = (number % 100 == 0) || (number == count)
 abbrev pub count_line : ℕ → ℕ → List ℕ
 count_line number count = decimal number ++ codes " of " ++ decimal count ++ codes "\n"
 
--- what takes away the line above: the cursor goes up, and the line is erased
+-- what removes the line above: the cursor moves up, and the line is erased
 abbrev pub line_removal : List ℕ
 line_removal = 27 ∷ codes "[A" ++ 27 ∷ codes "[K"
 
@@ -89,12 +89,12 @@ removal_lines Lines number = []
 removal_lines Terminal number = if nat_lt 1 number then line_removal ∷ [] else []
 
 -- of the path with this number, among so many, and why its file was not judged
-abbrev pub lines_on : Progress → ℕ → ℕ → List ℕ → Option Stop → List (List ℕ)
-lines_on progress count number path stop =
-    removal_lines progress number ++ refusal_lines path stop ++ progress_lines progress number count path
+abbrev pub lines_on : Progress → ℕ → ℕ → List ℕ → Option RequestError → List (List ℕ)
+lines_on progress count number path error =
+    removal_lines progress number ++ refusal_lines path error ++ progress_lines progress number count path
 
 abbrev pub lines_of_path : Progress → ℕ → ℕ → List ℕ × Judgement → List (List ℕ)
-lines_of_path progress count number j = lines_on progress count number j.0 (stop_of j.1)
+lines_of_path progress count number j = lines_on progress count number j.0 (request_error_of j.1)
 
 -- of paths of which the first has this number
 abbrev pub lines_from : Progress → ℕ → ℕ → List (List ℕ × Judgement) → List (List ℕ)
@@ -115,17 +115,17 @@ IsUnopened may_refuse path why = may_refuse path why ⊎ ((why ≡ Other) × (Is
 module _ {F : Type 0} (remaining : F → Option (List ℕ)) (limit : ℕ) where
   -- Reading the stream gives this. Of no stream but one that spells a file is a bundle heavy.
   abbrev pub JudgesStream : Watched F → Watched F → Judgement → Type 0
-  JudgesStream before after (IsJudged file) = ReadsLightFile remaining limit before after file
-  JudgesStream before after (IsHeavy file goods) = ReadsHeavyFile remaining limit before after file goods.items
-  JudgesStream before after (IsStopped (CannotOpen which)) = ⊥
-  JudgesStream before after (IsStopped (NotOpened why)) = ⊥
-  JudgesStream before after (IsStopped (Run (Refused which (Read fault)))) =
+  JudgesStream before after (IsJudged file) = ReadsWithinLimit remaining limit before after file
+  JudgesStream before after (IsHeavy file goods) = ReadsOverLimit remaining limit before after file goods.items
+  JudgesStream before after (IsUnjudged (CannotOpen which)) = ⊥
+  JudgesStream before after (IsUnjudged (NotOpened why)) = ⊥
+  JudgesStream before after (IsUnjudged (Run (Refused which (Read fault)))) =
       (which ≡ Only) × IsRefusedFile remaining (normalise_outcome limit) before after (Read fault)
-  JudgesStream before after (IsStopped (Run (Refused which (StepLimit goods)))) = ⊥
-  JudgesStream before after (IsStopped (Run (Refused which Memory))) =
+  JudgesStream before after (IsUnjudged (Run (Refused which (StepLimit goods)))) = ⊥
+  JudgesStream before after (IsUnjudged (Run (Refused which Memory))) =
       (which ≡ Only) × IsRefusedFile remaining (normalise_outcome limit) before after Memory
-  JudgesStream before after (IsStopped (Run (GoodRange good))) = ⊥
-  JudgesStream before after (IsStopped (Run (Sent fault))) = ⊥
+  JudgesStream before after (IsUnjudged (Run (GoodRange good))) = ⊥
+  JudgesStream before after (IsUnjudged (Run (Sent fault))) = ⊥
 
 module _ {F : Type 0} (may_open : List ℕ → F → Type 0) (may_refuse : List ℕ → Unopened → Type 0) (remaining : F → Option (List ℕ))
     (limit : ℕ) where
@@ -139,9 +139,9 @@ module _ {F : Type 0} (may_open : List ℕ → F → Type 0) (may_refuse : List 
   abbrev pub Judges : List ℕ × Judgement → Type 0
   Judges (path, IsJudged file) = JudgesOpened path (IsJudged file)
   Judges (path, IsHeavy file goods) = JudgesOpened path (IsHeavy file goods)
-  Judges (path, IsStopped (CannotOpen which)) = ⊥
-  Judges (path, IsStopped (NotOpened why)) = IsUnopened may_refuse path why
-  Judges (path, IsStopped (Run fault)) = JudgesOpened path (IsStopped (Run fault))
+  Judges (path, IsUnjudged (CannotOpen which)) = ⊥
+  Judges (path, IsUnjudged (NotOpened why)) = IsUnopened may_refuse path why
+  Judges (path, IsUnjudged (Run fault)) = JudgesOpened path (IsUnjudged (Run fault))
 
 -- ---- the files at all paths
 
@@ -168,7 +168,7 @@ module _ {F E : Type 0} (may_open : List ℕ → F → Type 0) (may_refuse : Lis
 -- ---- the run
 
 abbrev pub outcome_of_paths : Made → Outcome
-outcome_of_paths made = Tells (greatest_status made.judgements) made.text
+outcome_of_paths made = Prints (greatest_status made.judgements) made.text
 
 -- `Makes` says which text is made of what became of the files
 module _ {F W E : Type 0} (may_open : List ℕ → F → Type 0) (may_refuse : List ℕ → Unopened → Type 0)

@@ -1,4 +1,4 @@
--- What the program does for a command line: the run of its request, on the files at its paths, what is sent where, and
+-- The contract of the program. It is the run of the request, on the files at its paths, what is sent where, and
 -- with which status.
 use Rattle.std.specs.Prelude.{◌≡◌, ◌⊎◌, ℕ, Bool, true, false, List, [], ◌∷◌, Option, Result, Ok, Err, IfOk, codes, string_bytes}
 use Rattle.std.specs.Borrow.{Bor}
@@ -20,7 +20,7 @@ use Rattle.cats_cmd.specs.Runs.{RunsOnFile}
 use Rattle.cats_cmd.specs.SizesTables.{MakesTable}
 use Rattle.rounding.specs.declared.replacement.FinePrices.{FinePrices}
 use Rattle.rounding.specs.declared.replacement.FinePrices.TheVariants.{Round as RoundFine, Refuse}
-use Rattle.cats_cmd.specs.Stops.{Reports, SendsText, line_of_stop, status_of_stop}
+use Rattle.cats_cmd.specs.RequestErrors.{Reports, SendsText, line_of_request_error, status_of_request_error}
 use Rattle.command_line.specs.Requests.{IsNamedIn}
 use Rattle.command_line.specs.declared.request.NoRequest.{NoRequest}
 use Rattle.command_line.specs.declared.request.NoRequest.TheVariants.{Help, WrongUsage, NoMemory}
@@ -32,14 +32,14 @@ use Rattle.cats_cmd.specs.declared.paths.Ending.{Ending}
 use Rattle.cats_cmd.specs.declared.paths.Ending.TheVariants.{Line, Null}
 use Rattle.cats_cmd.specs.declared.paths.Progress.{Progress}
 use Rattle.cats_cmd.specs.declared.paths.Progress.TheVariants.{Silent, Lines, Terminal as OnTerminal}
-use Rattle.cats_cmd.specs.declared.program.Stop.{Stop}
-use Rattle.cats_cmd.specs.declared.program.Stop.TheVariants.{CannotOpen, NotOpened, Run}
+use Rattle.cats_cmd.specs.declared.program.RequestError.{RequestError}
+use Rattle.cats_cmd.specs.declared.program.RequestError.TheVariants.{CannotOpen, NotOpened, Run}
 use Rattle.answers.specs.declared.report.RunFault.{RunFault}
 use Rattle.cats_cmd.specs.declared.source.Unopened.{Unopened}
 
 -- ---- a command line without a request
 
--- a text of want of memory, or another if memory for it was refused too
+-- a text that says that memory was refused, or another if memory for it was refused too
 abbrev pub memory_text : List ℕ → List ℕ
 memory_text [] = codes "want of memory\n"
 memory_text (b ∷ bs) = b ∷ bs
@@ -179,7 +179,7 @@ module _ {F W E : Type 0} (may_open : List ℕ → F → Type 0) (may_refuse : L
   CannotOpenOf (Sizes files) which = ⊥
 
   -- the request's run answers, or a file of it cannot be opened, and then nothing was read, written or reported
-  abbrev pub CarriesOut : Request → Watched W → Watched W → Watched E → Watched E → Result ℕ Stop → Type 0
+  abbrev pub CarriesOut : Request → Watched W → Watched W → Watched E → Watched E → Result ℕ RequestError → Type 0
   CarriesOut request out out_after err err_after (Ok status) = RunsFor request out out_after err err_after (Ok status)
   CarriesOut request out out_after err err_after (Err (Run fault)) =
       RunsFor request out out_after err err_after (Err fault)
@@ -187,19 +187,19 @@ module _ {F W E : Type 0} (may_open : List ℕ → F → Type 0) (may_refuse : L
       CannotOpenOf request which × (out_after ≡ out) × (err_after ≡ err)
   CarriesOut request out out_after err err_after (Err (NotOpened why)) = ⊥
 
-  -- the request stopped; its line was reported after what its run reported, and the status is its own
-  pub record StopsRequest (request : Request) (out out_after : Watched W) (err err_after : Watched E) (status : ℕ)
+  -- the request failed; its line was reported after what its run reported, and the status is its own
+  pub record FailsRequest (request : Request) (out out_after : Watched W) (err err_after : Watched E) (status : ℕ)
       : Type 0 where
-    pub stop : Stop
+    pub error : RequestError
     pub between : Watched E
-    pub carries : CarriesOut request out out_after err between (Err stop)
-    pub reports : Reports messages (line_of_stop stop) between err_after
-    pub is_status : status ≡ status_of_stop stop
+    pub carries : CarriesOut request out out_after err between (Err error)
+    pub reports : Reports messages (line_of_request_error error) between err_after
+    pub is_status : status ≡ status_of_request_error error
 
   abbrev pub AnswersRequest : Request → Watched W → Watched W → Watched E → Watched E → ℕ → Type 0
   AnswersRequest request out out_after err err_after status =
       CarriesOut request out out_after err err_after (Ok status)
-      ⊎ StopsRequest request out out_after err err_after status
+      ⊎ FailsRequest request out out_after err err_after status
 
   -- ---- any command line
 

@@ -1,4 +1,4 @@
--- What `cats round` does: the bytes that it read, the text with their prices rounded, and what it reports.
+-- What `cats round` does. It reads bytes, sends the text with their prices rounded, and reports.
 use Rattle.std.specs.Prelude.{◌≡◌, ◌⊎◌, ℕ, List, map, Some, Option, Result, Ok, Err}
 use Rattle.bid_file.specs.Files.{PlainFile}
 use Rattle.cats_text.specs.Faults.{first_fault}
@@ -13,15 +13,15 @@ use Rattle.rounding.specs.Texts.{rounded_prices, rounded_text}
 use Rattle.rounding.specs.declared.replacement.FinePrices.{FinePrices}
 use Rattle.answers.specs.RoundedLines.{rounded_line}
 use Rattle.cats_cmd.specs.Inputs.{ReadsAll, StopsReading}
-use Rattle.cats_cmd.specs.Outcomes.{Outcome, Tells}
+use Rattle.cats_cmd.specs.Outcomes.{Outcome, Prints}
 use Rattle.cats_cmd.specs.Runs.{FailsInText, WritesText}
-use Rattle.cats_cmd.specs.Stops.{ReportsAll}
+use Rattle.cats_cmd.specs.RequestErrors.{ReportsAll}
 use Rattle.answers.specs.declared.report.RunFault.{RunFault}
 use Rattle.answers.specs.declared.report.RunFault.TheVariants.{Refused, GoodRange, Sent}
 
 -- the text with its prices rounded, with status 0
 abbrev pub round_outcome : FinePrices → List ℕ → Outcome
-round_outcome fine bytes = Tells 0 (rounded_text fine bytes)
+round_outcome fine bytes = Prints 0 (rounded_text fine bytes)
 
 -- ---- the run
 

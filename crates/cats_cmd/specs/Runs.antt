@@ -9,7 +9,7 @@ use Rattle.canon.specs.declared.canon_fault.CanonFault.TheVariants.{Read, StepLi
 use Rattle.canon.specs.declared.which.Which.{Which}
 use Rattle.canon.specs.declared.which.Which.TheVariants.{Only}
 use Rattle.cats_cmd.specs.Inputs.{ReadsFrom, IsRefusedFile}
-use Rattle.cats_cmd.specs.Outcomes.{Outcome, Tells, LacksGood, ExceedsSteps}
+use Rattle.cats_cmd.specs.Outcomes.{Outcome, Prints, LacksGood, ExceedsSteps}
 use Rattle.answers.specs.declared.report.RunFault.{RunFault}
 use Rattle.answers.specs.declared.report.RunFault.TheVariants.{Refused, GoodRange, Sent}
 
@@ -17,7 +17,7 @@ use Rattle.answers.specs.declared.report.RunFault.TheVariants.{Refused, GoodRang
 
 -- Making a run's whole text, when this is to come of it. Memory may be refused in place of either outcome.
 abbrev pub MakesAs : Outcome → Result (Vec ℕ Global) CanonFault → Type 0
-MakesAs outcome (Ok text) = outcome ≡ Tells 0 text.items
+MakesAs outcome (Ok text) = outcome ≡ Prints 0 text.items
 MakesAs outcome (Err (Read fault)) = ⊥
 MakesAs outcome (Err (StepLimit goods)) = outcome ≡ ExceedsSteps goods.items
 MakesAs outcome (Err Memory) = Unit {0}
@@ -46,7 +46,7 @@ module _ {A W : Type 0} (contents : W → Option (List ℕ)) (Reads : A → Type
     pub given : A
     pub reads : Reads given
     pub text : List ℕ
-    pub made : outcome given ≡ Tells status text
+    pub made : outcome given ≡ Prints status text
     pub sent : SendsWhole contents old new text
 
   -- a text was made, and the output failed in it
@@ -55,7 +55,7 @@ module _ {A W : Type 0} (contents : W → Option (List ℕ)) (Reads : A → Type
     pub reads : Reads given
     pub status : ℕ
     pub text : List ℕ
-    pub made : outcome given ≡ Tells status text
+    pub made : outcome given ≡ Prints status text
     pub sent : SendsPart contents old new text written
 
   -- a good that was named is missing, and nothing was written

@@ -1,4 +1,4 @@
--- What `cats sizes` prints: a header, and of each file that was read a line with its numbers and those of its canonical
+-- What `cats sizes` prints. It is a header, and a line for each file, with its numbers and those of its canonical
 -- file.
 use Rattle.std.specs.Prelude.{◌≡◌, ℕ, Bool, List, [], ◌∷◌, ◌++◌, length, filter, is_none, codes, decimal}
 use Rattle.std.specs.List.{flat_map, list_any, range_with_len}
@@ -6,7 +6,7 @@ use Rattle.bid_file.specs.Files.{PlainBid, PlainFile}
 use Rattle.valuation.specs.Auctions.{is_dummy}
 use Rattle.canon.specs.Canonical.{canonical_file}
 use Rattle.cats_cmd.specs.Escaping.{end_of, path_text}
-use Rattle.cats_cmd.specs.Paths.{Judgement, IsJudged, IsHeavy, IsStopped}
+use Rattle.cats_cmd.specs.Paths.{Judgement, IsJudged, IsHeavy, IsUnjudged}
 use Rattle.cats_cmd.specs.declared.paths.Ending.{Ending}
 
 -- whether some bid has the dummy good d
@@ -37,7 +37,7 @@ abbrev pub line_if_read : Ending → List ℕ → Judgement → List ℕ
 line_if_read ending path (IsJudged file) =
     with_tabs (sizes_of file) ++ with_tabs (counts_of (canonical_file file)) ++ path_text ending path
 line_if_read ending path (IsHeavy file goods) = with_tabs (sizes_of file) ++ codes "-\t-\t-\t" ++ path_text ending path
-line_if_read ending path (IsStopped stop) = []
+line_if_read ending path (IsUnjudged error) = []
 
 abbrev pub lines_of_table : Ending → List (List ℕ × Judgement) → List ℕ
 lines_of_table ending judgements = flat_map (λ j. line_if_read ending j.0 j.1) judgements

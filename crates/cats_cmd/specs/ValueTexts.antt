@@ -1,4 +1,4 @@
--- What `cats value` prints: the values of a bundle, with the bids that give them.
+-- What `cats value` prints. It is the values of a bundle, with the bids that give them.
 use Rattle.std.specs.Prelude.{ℕ, suc, ◌+◌, ◌==◌, ◌&&◌, if◌then◌else◌, Bool, List, [], ◌∷◌, ◌++◌, Option, Some, None}
 use Rattle.std.specs.Prelude.{is_none, fold, map, position, slice_index, codes, decimal, Vec}
 use Rattle.std.specs.Global.{Global}

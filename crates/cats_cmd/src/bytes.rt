@@ -1,4 +1,4 @@
-//! The bytes of a stream, all of them.
+//! All bytes of a stream.
 
 ghost use Rattle.std.specs.Prelude.{◌≡◌, false};
 ghost use Rattle.cats_text.specs.Faults.{fault_at};

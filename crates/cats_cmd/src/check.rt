@@ -29,7 +29,7 @@ pub fn run_check<R: Read, W: Write>(
     send_text(out, DONE, text.as_bytes())
 }
 
-/// Judges a bid file. What the judging is refused in memory is the run's want of memory.
+/// Judges a bid file. If memory is refused to the judging, the run answers that memory was refused.
 fn check_file<R: Read>(alloc: Global, input: &mut Watched<R>) -> Result<Header, CanonFault>
     requires works { has_failed input.old ≡ false }
     requires fresh { has_ended input.old ≡ false }

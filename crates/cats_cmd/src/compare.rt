@@ -1,11 +1,11 @@
-//! `cats compare`: whether two bid files are the same auction, and else their first difference.
+//! `cats compare`: whether two files are the same auction. If not, it prints their first difference.
 
 ghost use Rattle.std.specs.Prelude.{◌≡◌, false, IfOk};
 ghost use Rattle.cats_text.specs.Streams.{has_ended, has_failed};
 ghost use Rattle.canon.specs.Canonical.{IsCanonicalFile};
 ghost use Rattle.cats_cmd.specs.Comparisons.{Compares, ReadsCanonical};
 ghost use Rattle.cats_cmd.specs.Internal.Differences.{SendsDifference};
-ghost use Rattle.cats_cmd.specs.Outcomes.{Tells, compare_outcome};
+ghost use Rattle.cats_cmd.specs.Outcomes.{Prints, compare_outcome};
 
 use crate::run::{read_packed_file, send_text};
 use answers::{RunFault, verdict_status, verdict_text};
@@ -18,8 +18,8 @@ use std::io::{Read, Write};
 /// Reads and normalises the first file, and then the second, and sends whether they are the same auction, or their
 /// first difference. `limit` bounds the steps of each search that decides on a bundle of an OR bidder.
 ///
-/// The status is 0 for the same auction, and 1 for a difference. A fault of a file tells which of the two it belongs
-/// to; want of memory that is met while the two are compared belongs to both.
+/// The status is 0 for the same auction, and 1 for a difference. A fault of a file says which of the two it belongs
+/// to; a refusal of memory while the two are compared belongs to both.
 pub fn run_compare<R: Read, S: Read, W: Write>(
     alloc: Global,
     first: &mut Watched<R>,
@@ -61,7 +61,7 @@ fn read_canonical<R: Read>(
     normal_packed_file(alloc, file, limit)
 }
 
-/// Sends where two canonical files part first. Memory that is refused here belongs to both files.
+/// Sends where two canonical files first differ. A refusal of memory here belongs to both files.
 fn send_difference<W: Write>(
     alloc: Global,
     left: &PackedFile,
@@ -87,7 +87,7 @@ fn difference_text(
 ) -> Result<(u8, Vec<u8>), AllocError>
     requires left { IsCanonicalFile left.now }
     requires right { IsCanonicalFile right.now }
-    ensures { IfOk result (λ t. compare_outcome left.now right.now ≡ Tells t.0 t.1.items) }
+    ensures { IfOk result (λ t. compare_outcome left.now right.now ≡ Prints t.0 t.1.items) }
 {
     let verdict = compare_files(alloc, left, right)?;
     Ok((verdict_status(&verdict), verdict_text(alloc, &verdict)?))

@@ -17,7 +17,7 @@ use std::io::{Read, Write};
 /// of each search that decides on a bundle of an OR bidder.
 ///
 /// The status is 0 for the same auction, and 1 for a difference. A fault of a file says which of the two it belongs to;
-/// want of memory after both files are normalised belongs to both.
+/// a refusal of memory after both files are normalised belongs to both.
 pub fn run_diff<R: Read, S: Read, W: Write>(
     alloc: Global,
     first: &mut Watched<R>,

@@ -1,6 +1,6 @@
-//! `cats duplicates`: which of many bid files are the same auction.
+//! `cats duplicates`: which of many files are the same auction.
 
-mod text;
+mod lines;
 
 ghost use Rattle.std.specs.Prelude.{◌≡◌, map, false};
 ghost use Rattle.cats_text.specs.Streams.{has_failed};
@@ -8,14 +8,14 @@ ghost use Rattle.cats_cmd.specs.Duplicates.{MakesGroups};
 ghost use Rattle.cats_cmd.specs.Paths.{RunsOnPaths};
 
 use crate::paths::{Collection, Ending, ManyFiles, run_on_paths};
-use crate::program::Stop;
+use crate::program::RequestError;
 use crate::source::Source;
 use answers::RunFault;
 use canon::AuctionIndex;
 use cats_text::Watched;
+use lines::duplicates_text;
 use std::alloc::{AllocError, AllocGlobal, Global};
 use std::io::{Read, Write};
-use text::duplicates_text;
 
 /// The files that were judged, by their auctions.
 #[derive(Drop)]
@@ -47,13 +47,13 @@ impl<'a> Collection<'a> for Groups<'a> {
         path: &'a [u8],
         input: &mut Watched<R>,
         many: ManyFiles,
-    ) -> Result<Option<Stop>, AllocError> {
+    ) -> Result<Option<RequestError>, AllocError> {
         match self.index.add_from(alloc, input, many.limit) {
             Ok(place) => {
                 self.found.push((path, place))?;
                 Ok(None)
             }
-            Err(fault) => Ok(Some(Stop::Run(RunFault::from(fault)))),
+            Err(fault) => Ok(Some(RequestError::Run(RunFault::from(fault)))),
         }
     }
 

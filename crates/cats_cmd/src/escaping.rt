@@ -1,4 +1,4 @@
-//! Paths as they are printed: on a line, with control bytes and backslashes escaped, or as they are.
+//! Paths as they are printed. On a line, control bytes and backslashes are escaped.
 
 ghost use Rattle.std.specs.Prelude.{◌≡◌, ◌<◌, ◌++◌, OnOk};
 ghost use Rattle.std.specs.Char.{digit_char};

@@ -1,4 +1,4 @@
-//! `cats explain`: why each bid of a file is in its canonical file, or is dropped.
+//! `cats explain`: why each bid is kept or dropped.
 
 ghost use Rattle.std.specs.Prelude.{◌≡◌, false};
 ghost use Rattle.cats_text.specs.Streams.{has_ended, has_failed};

@@ -1,4 +1,4 @@
-//! The runs of the program `cats`: each reads bid files, makes its text and sends it.
+//! The runs of the program `cats`. Each reads bid files, makes its text and sends it.
 #![tactic(auto)]
 
 mod bytes;
@@ -31,7 +31,7 @@ pub use duplicates::run_duplicates;
 pub use explanation::run_explain;
 pub use normalise::run_normalise;
 pub use paths::{Ending, ManyFiles, Progress};
-pub use program::{run_cats, run_program};
+pub use program::{Process, run_cats, run_program};
 pub use round::run_round;
 pub use rounding::FinePrices;
 pub use show::run_show;

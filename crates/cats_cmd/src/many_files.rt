@@ -1,4 +1,4 @@
-//! Runs on many files whose paths are words of the command line, or are in a list of paths.
+//! Runs on many files. Their paths are words of the command line, or are in a list of paths.
 
 ghost use Rattle.std.specs.Prelude.{◌≡◌, IfErr, IfOk, false};
 ghost use Rattle.cats_text.specs.Streams.{has_failed};
@@ -6,13 +6,13 @@ ghost use Rattle.cats_cmd.specs.Duplicates.{MakesGroups};
 ghost use Rattle.cats_cmd.specs.FileLists.{IsUnread, ReadsList, RunsOnFiles};
 ghost use Rattle.cats_cmd.specs.Paths.{RunsOnPaths, refusal_line};
 ghost use Rattle.cats_cmd.specs.SizesTables.{MakesTable};
-ghost use Rattle.cats_cmd.specs.Stops.{Reports, status_of_stop};
+ghost use Rattle.cats_cmd.specs.RequestErrors.{Reports, status_of_request_error};
 
 use crate::bytes::read_bytes;
 use crate::duplicates::run_duplicates;
 use crate::path_list::split_paths;
 use crate::paths::{ManyFiles, open_file, path_refusal};
-use crate::program::{Stop, report, status_of};
+use crate::program::{RequestError, report, status_of};
 use crate::sizes::run_sizes;
 use crate::source::Source;
 use answers::RunFault;
@@ -45,7 +45,7 @@ pub(crate) fn run_duplicates_of<S: Source + AllocGlobal, W: Write, E: Write>(
             let paths = split_paths(source.alloc(), text.as_slice())?;
             run_duplicates(source, paths.as_slice(), many, out, err)
         }
-        Err(stop) => Ok(refuse_list(source.alloc(), list, &stop, err)),
+        Err(error) => Ok(refuse_list(source.alloc(), list, &error, err)),
     }
 }
 
@@ -73,12 +73,12 @@ pub(crate) fn run_sizes_of<S: Source + AllocGlobal, W: Write, E: Write>(
             let paths = split_paths(source.alloc(), text.as_slice())?;
             run_sizes(source, paths.as_slice(), many, out, err)
         }
-        Err(stop) => Ok(refuse_list(source.alloc(), list, &stop, err)),
+        Err(error) => Ok(refuse_list(source.alloc(), list, &error, err)),
     }
 }
 
 /// Reads the list of paths in the file at this path.
-fn read_list<S: Source + AllocGlobal>(source: &S, list: &str) -> Result<Vec<u8>, Stop>
+fn read_list<S: Source + AllocGlobal>(source: &S, list: &str) -> Result<Vec<u8>, RequestError>
     ensures read { IfOk result (λ text. ReadsList (S.may_open source.now) (S.may_refuse source.now) S.Stream.remaining
         list.now text.items) }
     ensures unread { IfErr result (IsUnread (S.may_open source.now) (S.may_refuse source.now) S.Stream.remaining
@@ -86,19 +86,24 @@ fn read_list<S: Source + AllocGlobal>(source: &S, list: &str) -> Result<Vec<u8>,
 {
     let mut input = match open_file(source, list) {
         Ok(input) => input,
-        Err(why) => return Err(Stop::NotOpened(why)),
+        Err(why) => return Err(RequestError::NotOpened(why)),
     };
     match read_bytes(source.alloc(), &mut input) {
         Ok(text) => Ok(text),
-        Err(fault) => Err(Stop::Run(RunFault::from(fault))),
+        Err(fault) => Err(RequestError::Run(RunFault::from(fault))),
     }
 }
 
 /// Reports why the list at this path was not read, and answers the status.
-fn refuse_list<E: Write>(alloc: Global, list: &str, stop: &Stop, err: &mut Watched<E>) -> u8
-    ensures reports { Reports E.contents (refusal_line list.now stop.now) err.old err.new }
-    ensures status { result ≡ status_of_stop stop.now }
+fn refuse_list<E: Write>(
+    alloc: Global,
+    list: &str,
+    error: &RequestError,
+    err: &mut Watched<E>,
+) -> u8
+    ensures reports { Reports E.contents (refusal_line list.now error.now) err.old err.new }
+    ensures status { result ≡ status_of_request_error error.now }
 {
-    report(err, &path_refusal(alloc, list.as_bytes(), stop));
-    status_of(stop)
+    report(err, &path_refusal(alloc, list.as_bytes(), error));
+    status_of(error)
 }

@@ -1,4 +1,4 @@
-//! `cats normalise`: the one canonical text of a bid file's auction.
+//! `cats normalise`: the canonical text of a bid file.
 
 ghost use Rattle.std.specs.Prelude.{◌≡◌, false};
 ghost use Rattle.cats_text.specs.Streams.{has_ended, has_failed};

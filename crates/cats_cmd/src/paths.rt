@@ -1,17 +1,17 @@
-//! Runs on many files: the files at some paths are judged one after the other, and a text is made of all.
+//! The loop over many files. They are judged one after the other, and a text is made of all.
 
 ghost use Rattle.std.specs.Prelude.{◌≡◌, ◌++◌, ℕ, List, [], ◌∷◌, map, IfErr, IfOk, false, true};
 ghost use Rattle.cats_text.specs.Streams.{has_ended, has_failed};
 ghost use Rattle.cats_cmd.specs.Inputs.{IsOpened};
-ghost use Rattle.cats_cmd.specs.Paths.{Judgement, IsStopped, IsUnopened, RunsOnPaths, count_line, lines_on, progress_line, progress_lines, refusal_line, refusal_lines, removal_lines, status_if};
-ghost use Rattle.cats_cmd.specs.Stops.{ReportsAll};
+ghost use Rattle.cats_cmd.specs.Paths.{Judgement, IsUnjudged, IsUnopened, RunsOnPaths, count_line, lines_on, progress_line, progress_lines, refusal_line, refusal_lines, removal_lines, status_if};
+ghost use Rattle.cats_cmd.specs.RequestErrors.{ReportsAll};
 ghost use Rattle.cats_cmd.specs.Internal.Judging.{AddsFile, AddsPathAs, AddsOpened, HasSome, JudgesAllAs};
 ghost use Rattle.cats_cmd.specs.declared.paths.Ending.{Ending};
 ghost use Rattle.cats_cmd.specs.declared.paths.Progress.TheVariants.{Lines};
-ghost use Rattle.cats_cmd.specs.declared.program.Stop.{Stop};
+ghost use Rattle.cats_cmd.specs.declared.program.RequestError.{RequestError};
 
 use crate::escaping::escape_into;
-use crate::program::{Stop, report, report_text, status_of, stop_line};
+use crate::program::{RequestError, report, report_text, request_error_line, status_of};
 use crate::run::send_text;
 use crate::source::{Source, Unopened};
 use answers::{DONE, RunFault};
@@ -56,7 +56,7 @@ struct Turn<'a> {
     count: usize,
 }
 
-/// What takes away the line above, on a terminal: the cursor goes up, and the line is erased.
+/// What removes the line above, on a terminal: the cursor moves up, and the line is erased.
 const REMOVAL: &str = "\x1b[A\x1b[K";
 
 /// What a run makes of the files at some paths, which are judged one after the other.
@@ -76,11 +76,11 @@ pub(crate) trait Collection<'a>: Sized + Drop {
         path: &'a [u8],
         input: &mut Watched<R>,
         many: ManyFiles,
-    ) -> Result<Option<Stop>, AllocError>
+    ) -> Result<Option<RequestError>, AllocError>
         requires works { has_failed input.old ≡ false }
         requires fresh { has_ended input.old ≡ false }
-        ensures { IfOk result (λ stop. AddsOpened (has many.ending) R.remaining many.limit path.now self.old self.new input.old input.new
-            stop) };
+        ensures { IfOk result (λ error. AddsOpened (has many.ending) R.remaining many.limit path.now self.old self.new input.old input.new
+            error) };
 
     /// The text of all.
     fn text(&self, alloc: Global, ending: Ending) -> Result<Vec<u8>, AllocError>
@@ -90,8 +90,8 @@ pub(crate) trait Collection<'a>: Sized + Drop {
 
     /// A path at which no file was opened adds nothing.
     fn skip(&self)
-        ensures { (ending : Ending) (judgements : List (List ℕ × Judgement)) (path : List ℕ) (stop : Stop)
-            → has ending self.now judgements → has ending self.now (judgements ++ (path, IsStopped stop) ∷ []) };
+        ensures { (ending : Ending) (judgements : List (List ℕ × Judgement)) (path : List ℕ) (error : RequestError)
+            → has ending self.now judgements → has ending self.now (judgements ++ (path, IsUnjudged error) ∷ []) };
 }
 
 /// Judges the files at these paths, one after the other, and sends the text that is made of them.
@@ -154,18 +154,18 @@ fn judge_path<'a, C: Collection<'a>, S: Source + AllocGlobal, E: Write>(
     ensures { AddsPathAs (C.has many.ending) (S.may_open source.now) (S.may_refuse source.now) S.Stream.remaining many.limit E.contents
         many.progress turn.now.count turn.now.number turn.now.path.now collection.old collection.new err.old err.new result }
 {
-    let stop = judge(source, collection, turn.path, many)?;
-    report_path(source.alloc(), many.progress, turn, &stop, err);
-    Ok(status_if(&stop))
+    let error = judge(source, collection, turn.path, many)?;
+    report_path(source.alloc(), many.progress, turn, &error, err);
+    Ok(status_if(&error))
 }
 
 /// The status of a file that was judged, or of the reason why it was not.
-fn status_if(stop: &Option<Stop>) -> u8
-    ensures { result ≡ status_if stop.now }
+fn status_if(error: &Option<RequestError>) -> u8
+    ensures { result ≡ status_if error.now }
 {
-    match stop {
+    match error {
         None => DONE,
-        Some(stop) => status_of(stop),
+        Some(error) => status_of(error),
     }
 }
 
@@ -175,7 +175,7 @@ fn judge<'a, C: Collection<'a>, S: Source + AllocGlobal>(
     collection: &mut C,
     path: &'a [u8],
     many: ManyFiles,
-) -> Result<Option<Stop>, AllocError>
+) -> Result<Option<RequestError>, AllocError>
     ensures { IfOk result (AddsFile (C.has many.ending) (S.may_open source.now) (S.may_refuse source.now) S.Stream.remaining many.limit
         path.now collection.old collection.new) }
 {
@@ -183,7 +183,7 @@ fn judge<'a, C: Collection<'a>, S: Source + AllocGlobal>(
         Ok(mut input) => collection.add(source.alloc(), path, &mut input, many),
         Err(why) => {
             collection.skip();
-            Ok(Some(Stop::NotOpened(why)))
+            Ok(Some(RequestError::NotOpened(why)))
         }
     }
 }
@@ -211,13 +211,17 @@ pub(crate) fn open_file<S: Source>(source: &S, path: &str) -> Result<Watched<S::
 }
 
 /// The line that says why the file at a path was not judged.
-pub(crate) fn path_refusal(alloc: Global, path: &[u8], stop: &Stop) -> Result<Vec<u8>, AllocError>
-    ensures { IfOk result (λ line. line.items ≡ refusal_line path.now stop.now) }
+pub(crate) fn path_refusal(
+    alloc: Global,
+    path: &[u8],
+    error: &RequestError,
+) -> Result<Vec<u8>, AllocError>
+    ensures { IfOk result (λ line. line.items ≡ refusal_line path.now error.now) }
 {
     let mut line = Vec::new(alloc);
     escape_into(path, &mut line)?;
     line.extend_from_slice(b": ")?;
-    line.extend_from_slice(stop_line(alloc, stop)?.as_slice())?;
+    line.extend_from_slice(request_error_line(alloc, error)?.as_slice())?;
     Ok(line)
 }
 
@@ -226,17 +230,17 @@ fn report_path<E: Write>(
     alloc: Global,
     progress: Progress,
     turn: &Turn<'_>,
-    stop: &Option<Stop>,
+    error: &Option<RequestError>,
     err: &mut Watched<E>,
 )
-    ensures { ReportsAll E.contents (lines_on progress turn.now.count turn.now.number turn.now.path.now stop.now) err.old err.new }
+    ensures { ReportsAll E.contents (lines_on progress turn.now.count turn.now.number turn.now.path.now error.now) err.old err.new }
 {
     remove_progress(progress, turn.number, err);
-    report_refusal(alloc, turn.path, stop, err);
+    report_refusal(alloc, turn.path, error, err);
     report_progress(alloc, progress, turn, err);
 }
 
-/// Takes away the line of progress of a terminal, which is there after the first file.
+/// Removes the line of progress of a terminal, which is there after the first file.
 fn remove_progress<E: Write>(progress: Progress, number: usize, err: &mut Watched<E>)
     ensures { ReportsAll E.contents (removal_lines progress number) err.old err.new }
 {
@@ -248,11 +252,16 @@ fn remove_progress<E: Write>(progress: Progress, number: usize, err: &mut Watche
 }
 
 /// Reports why the file at a path was not judged, if it was not.
-fn report_refusal<E: Write>(alloc: Global, path: &[u8], stop: &Option<Stop>, err: &mut Watched<E>)
-    ensures { ReportsAll E.contents (refusal_lines path.now stop.now) err.old err.new }
+fn report_refusal<E: Write>(
+    alloc: Global,
+    path: &[u8],
+    error: &Option<RequestError>,
+    err: &mut Watched<E>,
+)
+    ensures { ReportsAll E.contents (refusal_lines path.now error.now) err.old err.new }
 {
-    if let Some(stop) = stop {
-        report(err, &path_refusal(alloc, path, stop));
+    if let Some(error) = error {
+        report(err, &path_refusal(alloc, path, error));
     }
 }
 

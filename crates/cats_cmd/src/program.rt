@@ -1,11 +1,11 @@
-//! The program `cats`, but for its process: a command line, two output streams and an exit status.
+//! The program `cats`, but for its process. It has a command line, two output streams and an exit status.
 
 ghost use Rattle.std.specs.Prelude.{◌≡◌, ◌≢◌, ◌≤◌, ℕ, List, IfErr, IfOk, false};
 ghost use Rattle.canon.specs.declared.which.Which.TheVariants.{Only};
 ghost use Rattle.cats_text.specs.Streams.{has_failed};
 ghost use Rattle.cats_cmd.specs.Inputs.{IsOpened, MayRefuse};
 ghost use Rattle.cats_cmd.specs.Requests.{AnswersLine, AnswersNoRequest, AnswersRequest, CarriesOut, ending_of, fine_of, memory_text, progress_of};
-ghost use Rattle.cats_cmd.specs.Stops.{Reports, is_for_many_files, is_reporting, line_of_stop, names_many_files, names_reporting, status_of_stop};
+ghost use Rattle.cats_cmd.specs.RequestErrors.{Reports, is_for_many_files, is_reporting, line_of_request_error, names_many_files, names_reporting, status_of_request_error};
 
 use crate::check::run_check;
 use crate::compare::run_compare;
@@ -21,18 +21,27 @@ use crate::value::run_value;
 use answers::{DEVICE_FAILED, DONE, NO_MEMORY, RunFault, WRONG_USAGE, fault_line, status};
 use canon::Which;
 use cats_text::{Watched, send};
-use command_line::{FilesRequest, NoRequest, Request, parse};
+use command_line::{FilesRequest, NoRequest, Request, VERSION, parse};
 use rounding::FinePrices;
 use std::alloc::{AllocError, AllocGlobal, Global};
 use std::io::Write;
 use std::rt::Files;
 
-/// What is sent in the place of a line for which memory is refused.
+/// What is sent instead of a line for which memory is refused.
 const NO_MEMORY_LINE: &str = "want of memory\n";
+
+/// What the program has from its process and from its build.
+#[derive(Clone, Copy)]
+pub struct Process<'a> {
+    /// What `--version` prints after the program's name.
+    pub version: &'a str,
+    /// Whether standard error is a terminal.
+    pub terminal: bool,
+}
 
 /// Why a request has no answer.
 #[derive(Drop)]
-pub(crate) enum Stop {
+pub(crate) enum RequestError {
     /// A file of a request for one or two files could not be opened.
     CannotOpen(Which),
     /// One of many files could not be opened.
@@ -40,14 +49,14 @@ pub(crate) enum Stop {
     Run(RunFault),
 }
 
-impl From<RunFault> for Stop {
+impl From<RunFault> for RequestError {
     ghost use Rattle.std.specs.Prelude.{◌≡◌};
-    ghost use Rattle.cats_cmd.specs.declared.program.Stop.TheVariants.{Run};
+    ghost use Rattle.cats_cmd.specs.declared.program.RequestError.TheVariants.{Run};
 
-    ghost from_gives = { λ fault stop. stop ≡ Run fault };
+    ghost from_gives = { λ fault error. error ≡ Run fault };
 
-    fn from(fault: RunFault) -> Stop {
-        Stop::Run(fault)
+    fn from(fault: RunFault) -> RequestError {
+        RequestError::Run(fault)
     }
 }
 
@@ -66,31 +75,35 @@ pub fn run_cats<F: Files + AllocGlobal, W: Write, E: Write>(
     ensures silent { names_many_files words.now ≡ false → result ≢ 0 → result ≢ 1 → result ≢ 5 → out.new ≡ out.old }
     ensures done { names_reporting words.now ≡ false → result ≤ 1 → err.new ≡ err.old }
 {
-    run_program(&SystemFiles::new(rt), words, out, err, false)
+    let process = Process {
+        version: VERSION,
+        terminal: false,
+    };
+    run_program(&SystemFiles::new(rt), words, out, err, &process)
 }
 
 /// Does what a command line says, on the files of a source, and answers the exit status. The line's first word is the
-/// program's name; `out` and `err` are the standard streams, and `terminal` says whether `err` is a terminal.
+/// program's name, and `out` and `err` are the standard streams.
 ///
-/// A fault's line is sent to `err`. If memory for it is refused, `want of memory` is sent in its place; the status is
+/// A fault's line is sent to `err`. If memory for it is refused, `want of memory` is sent instead; the status is
 /// that of the fault in any case.
-#[tactic(auto, using(crate::proofs::Stopping::few_files, crate::proofs::Stopping::quiet_request))]
+#[tactic(auto, using(crate::proofs::AnswersOfRequests::few_files, crate::proofs::AnswersOfRequests::quiet_request))]
 pub fn run_program<S: Source + AllocGlobal, W: Write, E: Write>(
     source: &S,
     words: &[&str],
     out: &mut Watched<W>,
     err: &mut Watched<E>,
-    terminal: bool,
+    process: &Process<'_>,
 ) -> u8
     requires out_works { has_failed out.old ≡ false }
     requires err_works { has_failed err.old ≡ false }
     ensures answers { AnswersLine (S.may_open source.now) (S.may_refuse source.now) S.Stream.remaining W.contents
-        E.contents terminal words.now out.old out.new err.old err.new result }
+        E.contents process.now.terminal words.now out.old out.new err.old err.new result }
     ensures silent { names_many_files words.now ≡ false → result ≢ 0 → result ≢ 1 → result ≢ 5 → out.new ≡ out.old }
     ensures done { names_reporting words.now ≡ false → result ≤ 1 → err.new ≡ err.old }
 {
-    match parse(source.alloc(), words) {
-        Ok(request) => answer_request(source, &request, out, err, terminal),
+    match parse(source.alloc(), process.version, words) {
+        Ok(request) => answer_request(source, &request, out, err, process.terminal),
         Err(no_request) => answer_no_request(&no_request, out, err),
     }
 }
@@ -110,7 +123,7 @@ fn answer_request<S: Source + AllocGlobal, W: Write, E: Write>(
 {
     match carry_out(source, request, out, err, terminal) {
         Ok(status) => status,
-        Err(stop) => report_stop(source.alloc(), &stop, err),
+        Err(error) => report_request_error(source.alloc(), &error, err),
     }
 }
 
@@ -121,7 +134,7 @@ fn carry_out<S: Source + AllocGlobal, W: Write, E: Write>(
     out: &mut Watched<W>,
     err: &mut Watched<E>,
     terminal: bool,
-) -> Result<u8, Stop>
+) -> Result<u8, RequestError>
     requires { has_failed out.old ≡ false }
     ensures { CarriesOut (S.may_open source.now) (S.may_refuse source.now) S.Stream.remaining W.contents E.contents terminal
         request.now out.old out.new err.old err.new result }
@@ -201,20 +214,20 @@ fn fine_prices(exact: bool) -> FinePrices
 }
 
 /// Opens the one file of a request.
-fn open_only<S: Source>(source: &S, path: &str) -> Result<Watched<S::Stream>, Stop>
+fn open_only<S: Source>(source: &S, path: &str) -> Result<Watched<S::Stream>, RequestError>
     ensures opened { IfOk result (IsOpened (S.may_open source.now) path.now) }
-    ensures refused { IfErr result (λ stop. (stop ≡ Stop.CannotOpen Only) × MayRefuse (S.may_refuse source.now) path.now) }
+    ensures refused { IfErr result (λ error. (error ≡ RequestError.CannotOpen Only) × MayRefuse (S.may_refuse source.now) path.now) }
 {
     open(source, path, Which::Only)
 }
 
-fn open<S: Source>(source: &S, path: &str, which: Which) -> Result<Watched<S::Stream>, Stop>
+fn open<S: Source>(source: &S, path: &str, which: Which) -> Result<Watched<S::Stream>, RequestError>
     ensures opened { IfOk result (IsOpened (S.may_open source.now) path.now) }
-    ensures refused { IfErr result (λ stop. (stop ≡ Stop.CannotOpen which) × MayRefuse (S.may_refuse source.now) path.now) }
+    ensures refused { IfErr result (λ error. (error ≡ RequestError.CannotOpen which) × MayRefuse (S.may_refuse source.now) path.now) }
 {
     match source.open(path) {
         Ok(stream) => Ok(Watched::new(stream)),
-        Err(_) => Err(Stop::CannotOpen(which)),
+        Err(_) => Err(RequestError::CannotOpen(which)),
     }
 }
 
@@ -244,7 +257,7 @@ fn answer_no_request<W: Write, E: Write>(
     }
 }
 
-/// The text of want of memory, in whose place there is one if memory for it was refused too.
+/// The text that says that memory was refused, or another if memory for it was refused too.
 fn memory_text(text: &str) -> &str
     ensures { result.now ≡ memory_text text.now }
 {
@@ -256,19 +269,19 @@ fn memory_text(text: &str) -> &str
 }
 
 /// Reports why a request has no answer, and answers the exit status for it.
-fn report_stop<E: Write>(alloc: Global, stop: &Stop, err: &mut Watched<E>) -> u8
-    ensures status { result ≡ status_of_stop stop.now }
-    ensures line { Reports E.contents (line_of_stop stop.now) err.old err.new }
+fn report_request_error<E: Write>(alloc: Global, error: &RequestError, err: &mut Watched<E>) -> u8
+    ensures status { result ≡ status_of_request_error error.now }
+    ensures line { Reports E.contents (line_of_request_error error.now) err.old err.new }
 {
-    match stop {
-        Stop::CannotOpen(which) => report_text(err, unopened(*which).as_bytes()),
-        Stop::NotOpened(why) => report_text(err, not_opened(*why).as_bytes()),
-        Stop::Run(why) => report(err, &fault_line(alloc, why)),
+    match error {
+        RequestError::CannotOpen(which) => report_text(err, unopened(*which).as_bytes()),
+        RequestError::NotOpened(why) => report_text(err, not_opened(*why).as_bytes()),
+        RequestError::Run(why) => report(err, &fault_line(alloc, why)),
     }
-    status_of(stop)
+    status_of(error)
 }
 
-/// Sends a line, unless the stream has failed. If memory for the line was refused, the stream gets that in its place.
+/// Sends a line, unless the stream has failed. If memory for the line was refused, that is sent instead.
 pub(crate) fn report<E: Write>(err: &mut Watched<E>, line: &Result<Vec<u8>, AllocError>)
     ensures { (text : List ℕ) → IfOk line.now (λ made. made.items ≡ text) → Reports E.contents text err.old err.new }
 {
@@ -288,29 +301,29 @@ pub(crate) fn report_text<E: Write>(err: &mut Watched<E>, text: &[u8])
 }
 
 /// The exit status that says why a request has no answer.
-pub(crate) fn status_of(stop: &Stop) -> u8
-    ensures { result ≡ status_of_stop stop.now }
+pub(crate) fn status_of(error: &RequestError) -> u8
+    ensures { result ≡ status_of_request_error error.now }
 {
-    match stop {
-        Stop::CannotOpen(_) | Stop::NotOpened(_) => DEVICE_FAILED,
-        Stop::Run(why) => status(why),
+    match error {
+        RequestError::CannotOpen(_) | RequestError::NotOpened(_) => DEVICE_FAILED,
+        RequestError::Run(why) => status(why),
     }
 }
 
 /// The line that says it, with its LF.
-pub(crate) fn stop_line(alloc: Global, stop: &Stop) -> Result<Vec<u8>, AllocError>
-    ensures { IfOk result (λ line. line.items ≡ line_of_stop stop.now) }
+pub(crate) fn request_error_line(alloc: Global, error: &RequestError) -> Result<Vec<u8>, AllocError>
+    ensures { IfOk result (λ line. line.items ≡ line_of_request_error error.now) }
 {
-    match stop {
-        Stop::CannotOpen(which) => Vec::from_slice(alloc, unopened(*which).as_bytes()),
-        Stop::NotOpened(why) => Vec::from_slice(alloc, not_opened(*why).as_bytes()),
-        Stop::Run(why) => fault_line(alloc, why),
+    match error {
+        RequestError::CannotOpen(which) => Vec::from_slice(alloc, unopened(*which).as_bytes()),
+        RequestError::NotOpened(why) => Vec::from_slice(alloc, not_opened(*why).as_bytes()),
+        RequestError::Run(why) => fault_line(alloc, why),
     }
 }
 
 /// The line of a file that cannot be opened.
 fn unopened(which: Which) -> &'static str
-    ensures { result.now ≡ line_of_stop (Stop.CannotOpen which) }
+    ensures { result.now ≡ line_of_request_error (RequestError.CannotOpen which) }
 {
     match which {
         Which::First => "first: cannot open\n",
@@ -321,7 +334,7 @@ fn unopened(which: Which) -> &'static str
 
 /// The line of one of many files that cannot be opened.
 fn not_opened(why: Unopened) -> &'static str
-    ensures { result.now ≡ line_of_stop (Stop.NotOpened why) }
+    ensures { result.now ≡ line_of_request_error (RequestError.NotOpened why) }
 {
     match why {
         Unopened::NoSuchFile => "cannot open: no such file\n",

@@ -1,4 +1,4 @@
-//! `cats round`: a bid file's text with every price made valid.
+//! `cats round`: a text with every price made valid.
 
 ghost use Rattle.std.specs.Prelude.{◌≡◌, map, false};
 ghost use Rattle.cats_text.specs.Streams.{has_ended, has_failed};
@@ -6,7 +6,7 @@ ghost use Rattle.rounding.specs.Views.{plain_changes};
 ghost use Rattle.answers.specs.RoundedLines.{rounded_line};
 ghost use Rattle.cats_cmd.specs.Rounding.{Rounds};
 ghost use Rattle.cats_cmd.specs.Internal.Roundings.{RoundsText};
-ghost use Rattle.cats_cmd.specs.Stops.{ReportsAll};
+ghost use Rattle.cats_cmd.specs.RequestErrors.{ReportsAll};
 
 use crate::bytes::read_bytes;
 use crate::program::report;
@@ -41,7 +41,7 @@ pub fn run_round<R: Read, W: Write, E: Write>(
     Ok(status)
 }
 
-/// The text with its prices rounded. Memory that the rounding is refused is the run's want of memory.
+/// The text with its prices rounded. If memory is refused to the rounding, the run answers that memory was refused.
 fn round_bytes(alloc: Global, text: &[u8], fine: FinePrices) -> Result<RoundedText, CanonFault>
     ensures { RoundsText fine text.now result }
 {

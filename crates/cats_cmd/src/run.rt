@@ -1,4 +1,4 @@
-//! What the runs share: reading a file, telling why it was refused, and sending a text or a file.
+//! What the runs share. They read a file, report why it was refused, and send a text or a file.
 
 ghost use Rattle.std.specs.Prelude.{◌≡◌, false};
 ghost use Rattle.cats_text.specs.Layout.{layout};
@@ -14,7 +14,7 @@ use cats_text::{Watched, read_packed_from, send, send_file};
 use std::alloc::Global;
 use std::io::{Read, Write};
 
-/// Reads a bid file. What a reader is refused in memory is the run's want of memory.
+/// Reads a bid file. If memory is refused to the reader, the run answers that memory was refused.
 pub(crate) fn read_packed_file<R: Read>(
     alloc: Global,
     input: &mut Watched<R>,

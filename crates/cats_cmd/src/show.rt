@@ -1,4 +1,4 @@
-//! `cats show`: a bid file in the one layout that is written.
+//! `cats show`: a bid file in its one layout.
 
 ghost use Rattle.std.specs.Prelude.{◌≡◌, false};
 ghost use Rattle.cats_text.specs.Streams.{has_ended, has_failed};

@@ -1,4 +1,4 @@
-//! `cats sizes`: the numbers of many bid files and of their canonical files, in a table.
+//! `cats sizes`: a table of the numbers of files. Each line has those of a bid file and of its canonical file.
 
 mod count;
 
@@ -10,7 +10,7 @@ ghost use Rattle.cats_cmd.specs.SizesTables.{MakesTable};
 
 use crate::escaping::{push_end, push_path};
 use crate::paths::{Collection, Ending, ManyFiles, run_on_paths};
-use crate::program::Stop;
+use crate::program::RequestError;
 use crate::run::read_packed_file;
 use crate::source::Source;
 use answers::RunFault;
@@ -52,10 +52,10 @@ impl<'a> Collection<'a> for Table {
         path: &'a [u8],
         input: &mut Watched<R>,
         many: ManyFiles,
-    ) -> Result<Option<Stop>, AllocError> {
+    ) -> Result<Option<RequestError>, AllocError> {
         let file = match read_packed_file(alloc, input) {
             Ok(file) => file,
-            Err(fault) => return Ok(Some(Stop::Run(RunFault::from(fault)))),
+            Err(fault) => return Ok(Some(RequestError::Run(RunFault::from(fault)))),
         };
         let mut line = Vec::new(alloc);
         push_sizes(alloc, &mut line, &file)?;
@@ -68,10 +68,10 @@ impl<'a> Collection<'a> for Table {
             Err(CanonFault::StepLimit { goods }) => {
                 line.extend_from_slice(UNKNOWN.as_bytes())?;
                 push_line(&mut self.lines, line.as_slice(), path, many.ending)?;
-                Ok(Some(Stop::Run(RunFault::from(CanonFault::StepLimit { goods }))))
+                Ok(Some(RequestError::Run(RunFault::from(CanonFault::StepLimit { goods }))))
             }
             // a file that was read is refused for nothing else
-            Err(_) => Ok(Some(Stop::Run(RunFault::from(CanonFault::Memory)))),
+            Err(_) => Ok(Some(RequestError::Run(RunFault::from(CanonFault::Memory)))),
         }
     }
 

@@ -1,4 +1,4 @@
-//! `cats value`: what the bidders of a file offer for a bundle.
+//! `cats value`: what a file's bidders offer for a bundle.
 
 mod bundles;
 mod lines;

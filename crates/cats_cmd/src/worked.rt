@@ -1,4 +1,4 @@
-//! Worked examples of what the runs print, computed by the prover.
+//! Worked examples of what the runs print. The prover computes them.
 
 ghost use Rattle.std.specs.Prelude.{◌≡◌, ℕ, [], ◌∷◌, map, codes, Vec, Ok, Err, Some, None, true, false};
 ghost use Rattle.std.specs.Global.{Global};
@@ -19,7 +19,7 @@ ghost use Rattle.answers.specs.DiffTexts.{diff_text};
 ghost use Rattle.answers.specs.DifferenceTexts.{difference_text};
 ghost use Rattle.cats_cmd.specs.Examples.{larger_bid, xor_ladder};
 ghost use Rattle.answers.specs.ExplanationTexts.{explanation_line, explanation_text};
-ghost use Rattle.cats_cmd.specs.Outcomes.{LacksGood, ExceedsSteps, Tells, check_outcome, show_outcome, value_outcome};
+ghost use Rattle.cats_cmd.specs.Outcomes.{LacksGood, ExceedsSteps, Prints, check_outcome, show_outcome, value_outcome};
 ghost use Rattle.answers.specs.Outputs.{bundle_text, sizes_text};
 ghost use Rattle.cats_cmd.specs.ValueTexts.{bundle_from};
 ghost use Rattle.answers.specs.FaultLines.{line_of_fault};
@@ -29,14 +29,14 @@ ghost use Rattle.cats_cmd.specs.Duplicates.{judged_paths};
 ghost use Rattle.cats_cmd.specs.PathLists.{paths_in};
 ghost use Rattle.cats_cmd.specs.declared.paths.Ending.TheVariants.{Line, Null};
 ghost use Rattle.cats_cmd.specs.declared.paths.Progress.TheVariants.{Silent, Lines, Terminal};
-ghost use Rattle.cats_cmd.specs.Paths.{IsHeavy, IsJudged, IsStopped, greatest_status, progress_lines, report_lines};
+ghost use Rattle.cats_cmd.specs.Paths.{IsHeavy, IsJudged, IsUnjudged, greatest_status, progress_lines, report_lines};
 ghost use Rattle.cats_cmd.specs.SizesTables.{MakesTable, counts_of, line_if_read, sizes_of};
 ghost use Rattle.answers.specs.RoundedLines.{rounded_line};
 ghost use Rattle.cats_cmd.specs.Rounding.{round_outcome};
 ghost use Rattle.rounding.specs.declared.replacement.FinePrices.TheVariants.{Round};
 ghost use Rattle.cats_cmd.specs.Runs.{SendsMadeAs};
-ghost use Rattle.cats_cmd.specs.Stops.{Reports, line_of_stop};
-ghost use Rattle.cats_cmd.specs.declared.program.Stop.TheVariants.{CannotOpen, NotOpened};
+ghost use Rattle.cats_cmd.specs.RequestErrors.{Reports, line_of_request_error};
+ghost use Rattle.cats_cmd.specs.declared.program.RequestError.TheVariants.{CannotOpen, NotOpened};
 ghost use Rattle.cats_cmd.specs.declared.source.Unopened.TheVariants.{NoSuchFile, PermissionDenied, IsFolder, Other};
 ghost use Rattle.answers.specs.Statuses.{status_of_difference, status_of_differences, status_of_fault};
 ghost use Rattle.canon.specs.declared.which.Which.TheVariants.{Only, First, Second, Both};
@@ -45,26 +45,26 @@ ghost use Rattle.answers.specs.declared.report.RunFault.TheVariants.{Refused, Go
 
 /// What `cats check` and `cats show` make of files.
 pub fn sizes_and_layouts()
-    ensures check { check_outcome xor_ladder ≡ Tells 0 (codes "goods 2 bids 3 dummy 1\n") }
+    ensures check { check_outcome xor_ladder ≡ Prints 0 (codes "goods 2 bids 3 dummy 1\n") }
     ensures show { show_outcome xor_ladder
-        ≡ Tells 0 (codes "goods 2\nbids 3\ndummy 1\n0\t5\t0\t2\t#\n1\t1.5\t1\t#\n2\t6\t0\t1\t2\t#\n") }
+        ≡ Prints 0 (codes "goods 2\nbids 3\ndummy 1\n0\t5\t0\t2\t#\n1\t1.5\t1\t#\n2\t6\t0\t1\t2\t#\n") }
 {}
 
 /// What `cats value` makes of two files.
 pub fn values()
-    ensures best_packing { value_outcome (1 ∷ 0 ∷ 1 ∷ []) 5 larger_bid ≡ Tells 0 (codes "or 7 2\n") }
-    ensures one_good { value_outcome (1 ∷ []) 2 larger_bid ≡ Tells 0 (codes "or 4 1\n") }
+    ensures best_packing { value_outcome (1 ∷ 0 ∷ 1 ∷ []) 5 larger_bid ≡ Prints 0 (codes "or 7 2\n") }
+    ensures one_good { value_outcome (1 ∷ []) 2 larger_bid ≡ Prints 0 (codes "or 4 1\n") }
     ensures step_limit { value_outcome (1 ∷ 0 ∷ []) 4 larger_bid ≡ ExceedsSteps (0 ∷ 1 ∷ []) }
     ensures missing { value_outcome (0 ∷ 3 ∷ 2 ∷ []) 0 larger_bid ≡ LacksGood 3 }
-    ensures both { value_outcome (0 ∷ 1 ∷ []) 2 xor_ladder ≡ Tells 0 (codes "or 1.5 1\nxor 2 6 2\n") }
-    ensures first { value_outcome (0 ∷ []) 1 xor_ladder ≡ Tells 0 (codes "or 0\nxor 2 5 0\n") }
-    ensures none_inside { value_outcome [] 1 xor_ladder ≡ Tells 0 (codes "or 0\nxor 2 0\n") }
+    ensures both { value_outcome (0 ∷ 1 ∷ []) 2 xor_ladder ≡ Prints 0 (codes "or 1.5 1\nxor 2 6 2\n") }
+    ensures first { value_outcome (0 ∷ []) 1 xor_ladder ≡ Prints 0 (codes "or 0\nxor 2 5 0\n") }
+    ensures none_inside { value_outcome [] 1 xor_ladder ≡ Prints 0 (codes "or 0\nxor 2 0\n") }
     ensures bundle { bundle_from (3 ∷ 1 ∷ 3 ∷ 0 ∷ []) ≡ 0 ∷ 1 ∷ 3 ∷ [] }
 {}
 
 /// The line of a file that cannot be opened: of the only one, of the first of two, and of one of many.
 pub fn unopened_lines()
-    ensures { map line_of_stop (CannotOpen Only ∷ CannotOpen First ∷ NotOpened NoSuchFile ∷ NotOpened PermissionDenied
+    ensures { map line_of_request_error (CannotOpen Only ∷ CannotOpen First ∷ NotOpened NoSuchFile ∷ NotOpened PermissionDenied
         ∷ NotOpened IsFolder ∷ NotOpened Other ∷ []) ≡
         codes "cannot open\n" ∷ codes "first: cannot open\n" ∷ codes "cannot open: no such file\n"
         ∷ codes "cannot open: permission denied\n" ∷ codes "cannot open: is a folder\n" ∷ codes "cannot open\n" ∷ [] }
@@ -73,17 +73,17 @@ pub fn unopened_lines()
 /// What `cats duplicates` reports of two paths: the reason for the one that was not judged, and, with progress, how many
 /// were read. On a terminal the line of progress is taken away before anything else is printed. Of 250 files that is reported after the hundredth, the two hundredth and the last.
 pub fn paths_reported()
-    ensures reason { report_lines Silent 2 ((codes "a", IsStopped (NotOpened NoSuchFile)) ∷ (codes "b", IsJudged larger_bid) ∷ [])
+    ensures reason { report_lines Silent 2 ((codes "a", IsUnjudged (NotOpened NoSuchFile)) ∷ (codes "b", IsJudged larger_bid) ∷ [])
         ≡ codes "a: cannot open: no such file\n" ∷ [] }
-    ensures progress { report_lines Lines 2 ((codes "a", IsStopped (NotOpened NoSuchFile)) ∷ (codes "b", IsJudged larger_bid) ∷ [])
+    ensures progress { report_lines Lines 2 ((codes "a", IsUnjudged (NotOpened NoSuchFile)) ∷ (codes "b", IsJudged larger_bid) ∷ [])
         ≡ codes "a: cannot open: no such file\n" ∷ codes "2 of 2 b\n" ∷ [] }
     ensures counted { map (λ number. progress_lines Lines number 250 (codes "a")) (1 ∷ 99 ∷ 100 ∷ 200 ∷ 249 ∷ 250 ∷ [])
         ≡ [] ∷ [] ∷ (codes "100 of 250 a\n" ∷ []) ∷ (codes "200 of 250 a\n" ∷ []) ∷ []
         ∷ (codes "250 of 250 a\n" ∷ []) ∷ [] }
-    ensures terminal { report_lines Terminal 2 ((codes "a", IsJudged larger_bid) ∷ (codes "b", IsStopped (NotOpened NoSuchFile)) ∷ [])
+    ensures terminal { report_lines Terminal 2 ((codes "a", IsJudged larger_bid) ∷ (codes "b", IsUnjudged (NotOpened NoSuchFile)) ∷ [])
         ≡ codes "1 of 2\n" ∷ (27 ∷ 91 ∷ 65 ∷ 27 ∷ 91 ∷ 75 ∷ []) ∷ codes "b: cannot open: no such file\n" ∷ codes "2 of 2\n" ∷ [] }
-    ensures status { greatest_status ((codes "a", IsStopped (NotOpened NoSuchFile)) ∷ (codes "b", IsJudged larger_bid) ∷ []) ≡ 5 }
-    ensures judged { judged_paths ((codes "a", IsStopped (NotOpened NoSuchFile)) ∷ (codes "b", IsJudged larger_bid) ∷ [])
+    ensures status { greatest_status ((codes "a", IsUnjudged (NotOpened NoSuchFile)) ∷ (codes "b", IsJudged larger_bid) ∷ []) ≡ 5 }
+    ensures judged { judged_paths ((codes "a", IsUnjudged (NotOpened NoSuchFile)) ∷ (codes "b", IsJudged larger_bid) ∷ [])
         ≡ codes "b" ∷ [] }
 {}
 
@@ -104,13 +104,13 @@ pub fn table_lines()
     ensures header { MakesTable Line [] (codes "goods\tbids\tor\txor\tdummy\tkept\tkept_or\tkept_xor\tfile\n") }
     ensures heavy { (goods : Vec ℕ Global) → line_if_read Line (codes "a b") (IsHeavy larger_bid goods)
         ≡ codes "2\t3\t3\t0\t0\t-\t-\t-\ta b\n" }
-    ensures refused { line_if_read Line (codes "a") (IsStopped (NotOpened NoSuchFile)) ≡ [] }
+    ensures refused { line_if_read Line (codes "a") (IsUnjudged (NotOpened NoSuchFile)) ≡ [] }
 {}
 
 /// What `cats round` makes of bytes.
 pub fn rounded_texts()
     ensures { round_outcome Round (codes "goods 1\nbids 1\ndummy 0\n0 0.0123456 0 #\n")
-        ≡ Tells 0 (codes "goods 1\nbids 1\ndummy 0\n0 0.012346 0 #\n") }
+        ≡ Prints 0 (codes "goods 1\nbids 1\ndummy 0\n0 0.012346 0 #\n") }
 {}
 
 /// What becomes of a line for standard error: it is sent, or `want of memory` is; after a failure nothing is.

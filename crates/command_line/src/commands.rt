@@ -1,4 +1,4 @@
-//! The commands as `clap` takes them: their arguments, options and help. The subcommands are a table.
+//! The commands as `clap` takes them. They have arguments, options and help. The subcommands are a table.
 
 use crate::help;
 use clap::{Arg, ArgAction, Command, value_parser};
@@ -26,10 +26,10 @@ pub(crate) const EXACT: &str = "exact";
 /// The most steps that a command line may allow a search.
 const MAX_STEPS: i64 = 1_000_000_000;
 
-/// The steps that a search may make where the command line says nothing.
+/// The steps that a search may make if the command line names no limit.
 const DEFAULT_STEPS: &str = "1000000";
 
-/// What may stand behind the name of a subcommand.
+/// What may come after the name of a subcommand.
 #[derive(Clone, Copy)]
 enum Argument {
     File,
@@ -51,7 +51,7 @@ struct Subcommand {
     name: &'static str,
     /// What it is for, in a line.
     about: &'static str,
-    /// What its help says behind its arguments.
+    /// What its help says after its arguments.
     help: &'static str,
     arguments: &'static [Argument],
 }
@@ -103,7 +103,7 @@ static SUBCOMMANDS: [Subcommand; 10] = [
     },
     Subcommand {
         name: "compare",
-        about: "Tells whether two bid files are the same auction, and else where they part first",
+        about: "Prints whether two bid files are the same auction, or where they first differ",
         help: help::COMPARE,
         arguments: &[
             Argument::Steps(STEPS_OF_BUNDLE),
@@ -147,10 +147,11 @@ static SUBCOMMANDS: [Subcommand; 10] = [
     },
 ];
 
-pub(crate) fn cats_command<'a>(alloc: Global) -> Result<Command<'a>, AllocError> {
+/// The command of the program. `--version` prints this version after the program's name.
+pub(crate) fn cats_command<'a>(alloc: Global, version: &'a str) -> Result<Command<'a>, AllocError> {
     let mut cats = Command::new(alloc, "cats")
         .about("Reads auction bid files in the format of CATS 2.0")
-        .version(help::VERSION)
+        .version(version)
         .after_help(help::CATS)
         .subcommand_required(true);
     for subcommand in &SUBCOMMANDS {

@@ -1,35 +1,35 @@
-//! The version, and what the help of each subcommand has below its options: what is printed, an example, and the
+//! The version, and the help below each subcommand's options. It says what is printed, and has an example and the
 //! statuses.
 
-/// What `cats --version` prints after the program's name.
-pub(crate) const VERSION: &str = "0.1.0";
+/// The version of the program.
+pub const VERSION: &str = "0.1.0";
 
 pub(crate) const CATS: &str = "\
 A fault is one line on standard error. Statuses:
    0  done; of compare and diff: the same auction
    1  of compare and diff: different auctions
-   2  a file is no bid file, or longer than is read
+   2  a file is not a bid file, or longer than is read
    3  a search takes more steps than its limit
    4  memory was refused
    5  a file cannot be opened, a read failed, or the output failed
-  64  the command line is wrong, or asks for a good that the file does not have
+  64  the command line is wrong, or names a good that the file does not have
 
-The first fault of a file is told as 'line L: KIND':
+The first fault of a file is reported as 'line L: KIND':
   Header          not the line that is due: 'goods N', 'bids N' and 'dummy N', in this order
-  NotANumber      a word that is no number; a price has digits and at most one point, and no exponent
+  NotANumber      a word that is not a number; a price has digits and at most one point, and no exponent
   TooLarge        a number above its limit
   ExtraBid        more bids than the header says
   BidNumber       a bid's number is not below the number of bids; they count from 0
   RepeatedNumber  two bids have one number
-  TooFine         a price has more than six places behind the point
+  TooFine         a price has more than six places after the point
   GoodRange       a good is not below goods + dummy; they count from 0
-  RepeatedGood    a good stands twice in a bid
-  TwoDummies      two dummy goods stand in a bid
-  EmptyBundle     a bid has no good that is no dummy good
+  RepeatedGood    a bid has a good twice
+  TwoDummies      a bid has two dummy goods
+  EmptyBundle     a bid has no good that is not a dummy good
   NoEnd           a bid's line does not end with '#'
-  AfterEnd        something stands after '#'
+  AfterEnd        there is something after '#'
   Missing         the file ends before its header and all of its bids have come
-Told without a line: TooLong, the file is longer than is read; Device, a read failed, as of a folder.";
+Reported without a line: TooLong, the file is longer than is read; Device, a read failed, as of a folder.";
 
 pub(crate) const CHECK: &str = "\
 Prints one line. For example:
@@ -39,13 +39,13 @@ Prints one line. For example:
 The path /dev/stdin is standard input:
   $ zcat auction.txt.gz | cats check /dev/stdin
 
-Statuses: 0; 2 for a file that is no bid file, 4, 5 and 64 as 'cats --help' tells";
+Statuses: 0; 2 if the file is not a bid file, 4, 5 and 64 as 'cats --help' lists them";
 
 pub(crate) const SHOW: &str = "\
 Prints the three lines of the header and a line for each bid, without comments. For example:
   $ cats show examples/two_bids.cats
 
-Statuses: 0; 2 for a file that is no bid file, 4, 5 and 64 as 'cats --help' tells";
+Statuses: 0; 2 if the file is not a bid file, 4, 5 and 64 as 'cats --help' lists them";
 
 pub(crate) const VALUE: &str = "\
 Prints 'or', the greatest sum of prices of bids without a dummy good that lie in the bundle and share no good, and the
@@ -58,18 +58,18 @@ takes 5 to 20 nanoseconds with up to 128 such bids, and some 50 nanoseconds more
 N packings, the program prints 'step limit at GOODS', with status 3, and a greater N lets the search go on:
   $ cats value --steps 1000000000 auction.txt $(seq 0 39)
 
-Statuses: 0; 2 for a file that is no bid file; 3 for the step limit; 64 for a good that the file does not have; 4 and 5
-as 'cats --help' tells";
+Statuses: 0; 2 if the file is not a bid file; 3 for the step limit; 64 for a good that the file does not have; 4 and 5
+as 'cats --help' lists them";
 
 pub(crate) const NORMALISE: &str = "\
-Prints the header and the bids that remain: those that the bidders' values ask for, in one order. Two files give the
+Prints the header and the bids that remain: those that the bidders' values need, in one order. Two files give the
 same text exactly if they are the same auction. For example:
   $ cats normalise examples/ladder.cats
 
-A step is one family of bids below a bundle that the search on this bundle enters; each bundle has N of them. Where one
-takes more, 'step limit at GOODS' is told with it, with status 3, and a greater N lets the search go on.
+A step is one family of bids below a bundle that the search on this bundle enters; each bundle has N of them. If one
+takes more, 'step limit at GOODS' is reported, with status 3, and a greater N lets the search go on.
 
-Statuses: 0; 2 for a file that is no bid file; 3 for the step limit; 4, 5 and 64 as 'cats --help' tells";
+Statuses: 0; 2 if the file is not a bid file; 3 for the step limit; 4, 5 and 64 as 'cats --help' lists them";
 
 pub(crate) const EXPLAIN: &str = "\
 Prints a line for each bid, in order of number, with tabs between the words: the bid's number, and why the text that
@@ -106,24 +106,24 @@ Each price whose value changed is one line on standard error:
 If there is no such line, each price has the value that it had. With --exact, a price that would be rounded is refused
 as TooFine, and nothing is printed.
 
-The output is always a bid file. If the text with its prices rounded is none, its first fault is reported as by
-'cats check', and nothing is printed. Another command takes the output from standard input:
+The output is always a bid file. If the text with its prices rounded is not one, its first fault is reported as
+by 'cats check', and nothing is printed. Another command takes the output from standard input:
   $ cats round auction.txt | cats normalise /dev/stdin
 
-Statuses: 0, whether or not a price was rounded; 2 for a text that is no bid file with its prices rounded; 4, 5 and 64
-as 'cats --help' tells";
+Statuses: 0, whether or not a price was rounded; 2 if the text with its prices rounded is not a bid file; 4, 5 and
+64 as 'cats --help' lists them";
 
 pub(crate) const COMPARE: &str = "\
-Prints 'same', or 'different' and where the two part first: in their goods, in the OR value of a bundle, or in how often
-they have an XOR bidder. For example:
+Prints 'same', or 'different' and where the two first differ: in their goods, in the OR value of a bundle, or in how
+often they have an XOR bidder. For example:
   $ cats compare examples/ladder.cats examples/ladder_rewritten.cats
   same
 
-A step is that of 'cats normalise', to which each file is put first. A fault's line begins with 'first: ' or 'second: '.
+A step is that of 'cats normalise': each file is normalised first. A fault's line begins with 'first: ' or 'second: '.
 'cats diff' prints all differences.
 
-Statuses: 0 for the same auction, 1 for different ones; 2 for a file that is no bid file; 3 for the step limit; 4, 5 and
-64 as 'cats --help' tells";
+Statuses: 0 for the same auction, 1 for different ones; 2 if a file is not a bid file; 3 for the step limit; 4, 5 and 64
+as 'cats --help' lists them";
 
 pub(crate) const DIFF: &str = "\
 Prints a line for each difference, with tabs between the words, the first file before the second, and nothing if both
@@ -143,7 +143,7 @@ beside the bidder of the second file that has most bids in common with it, if th
 the files and 'cats value' print. If several bidders of a file have the same bids, the smallest number that is not
 printed yet is used.
 
-A step is that of 'cats normalise', to which each file is put first. A fault's line begins with 'first: ' or 'second: '.
+A step is that of 'cats normalise': each file is normalised first. A fault's line begins with 'first: ' or 'second: '.
 
 Statuses: 0 for the same auction, 1 for different ones; 2 if a file is not a bid file; 3 for the step limit; 4, 5 and 64
 as 'cats --help' lists them";
@@ -163,10 +163,10 @@ path of the output is printed as it is, and each line ends with NUL.
 
 A file that is refused is reported at once, with its path before the fault, and the others go on. So is a list that
 cannot be read, and then no file is. With --progress a line says how many files were read, after each hundred and at the
-end; on a terminal it is one line, which is replaced after each file. A step is that of 'cats normalise', to which each file is put.
+end; on a terminal it is one line, which is replaced after each file. A step is that of 'cats normalise'.
 
 Statuses: 0 where every file was judged, whether or not some are one auction; else the greatest status of those that
-were not: 2 for a file that is no bid file, 3 for the step limit, 4, 5 and 64 as 'cats --help' tells";
+were not: 2 for a file that is not a bid file, 3 for the step limit, 4, 5 and 64 as 'cats --help' lists them";
 
 pub(crate) const SIZES: &str = "\
 Prints a header and a line for each file, in the order given, with tabs between the words. For example:
@@ -182,11 +182,11 @@ Prints a header and a line for each file, in the order given, with tabs between 
 
 The table is printed once all files were read. A file that is refused is reported at once, with its path before the
 fault, and the others go on. If only the step limit stops a file, its line has '-' for the numbers of its canonical
-file. A step is that of 'cats normalise', to which each file is put. 'cats help duplicates' says how paths are printed,
-and what --progress reports.
+file. A step is that of 'cats normalise'. 'cats help duplicates' says how paths are printed, and what --progress
+reports.
 
 All files below a folder, however many there are:
   $ find folder -name '*.cats' -print0 | cats sizes --files0-from /dev/stdin
 
-Statuses: 0 if every file was judged; else the greatest status of those that were not: 2 for a file that is no bid file,
-3 for the step limit, 4, 5 and 64 as 'cats --help' tells";
+Statuses: 0 if every file was judged; else the greatest status of those that were not: 2 for a file that is not a bid
+file, 3 for the step limit, 4, 5 and 64 as 'cats --help' lists them";

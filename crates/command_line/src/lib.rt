@@ -1,4 +1,4 @@
-//! What a command line of `cats` asks for. `clap` reads it; no type and no clause that a caller sees names it.
+//! What a command line of `cats` means. `clap` reads it; no type and no clause that a caller sees names it.
 #![tactic(auto)]
 
 mod commands;
@@ -6,5 +6,6 @@ mod help;
 mod parser;
 mod request;
 
+pub use help::VERSION;
 pub use parser::parse;
 pub use request::{FilePaths, FilesRequest, NoRequest, PairRequest, Request};

@@ -13,19 +13,23 @@ use clap::error::ErrorKind;
 use clap::{ArgMatches, Error};
 use std::alloc::{AllocError, Global};
 
-/// Reads a command line, whose first word is the program's name.
-pub fn parse<'a>(alloc: Global, words: &'a [&'a str]) -> Result<Request<'a>, NoRequest>
+/// Reads a command line, whose first word is the program's name. `--version` prints `version` after that name.
+pub fn parse<'a>(
+    alloc: Global,
+    version: &'a str,
+    words: &'a [&'a str],
+) -> Result<Request<'a>, NoRequest>
     ensures { IfOk result (IsNamedIn words.now) }
 {
-    match find_request(alloc, words) {
+    match find_request(alloc, version, words) {
         Ok(Some(request)) => Ok(request),
-        // `clap` takes no such line
+        // `clap` accepts no such line
         Ok(None) => Err(NoRequest::WrongUsage(String::new(alloc))),
         Err(error) => Err(no_request(alloc, &error)),
     }
 }
 
-/// What `clap` tells where it gives no matches.
+/// What `clap` reports if it gives no matches.
 fn no_request(alloc: Global, error: &Error) -> NoRequest
     ensures wrong { kind_of error.now ≢ DisplayHelp → kind_of error.now ≢ DisplayVersion
         → kind_of error.now ≢ OutOfMemory → is_wrong_usage result ≡ true }
@@ -48,11 +52,15 @@ fn no_request(alloc: Global, error: &Error) -> NoRequest
     }
 }
 
-/// `None` is for a line that `clap` takes and that names no subcommand or no file: it takes none such.
-fn find_request<'a>(alloc: Global, words: &'a [&'a str]) -> Result<Option<Request<'a>>, Error>
+/// `None` is for a line that `clap` accepts and that names no subcommand or no file: it accepts no such line.
+fn find_request<'a>(
+    alloc: Global,
+    version: &'a str,
+    words: &'a [&'a str],
+) -> Result<Option<Request<'a>>, Error>
     ensures { IfOk result (λ found. IfSome found (IsNamedIn words.now)) }
 {
-    let matches = cats_command(alloc)?.try_get_matches_from(words)?;
+    let matches = cats_command(alloc, version)?.try_get_matches_from(words)?;
     let Some(name) = words.get(1) else {
         return Ok(None);
     };
@@ -206,7 +214,7 @@ fn find_files_request<'a>(
     }))
 }
 
-/// Where the paths are: `clap` takes a list or words, and not both.
+/// Where the paths are: `clap` accepts a list or words, and not both.
 fn find_paths<'a>(
     alloc: Global,
     given: &ArgMatches<'a>,

@@ -1,6 +1,6 @@
-//! What a command line asks for, or why it asks for nothing.
+//! `Request` and `NoRequest`: what a command line means.
 
-/// What a command line asks for: its subcommand, with the words and numbers behind it.
+/// What the program has to do: the subcommand of a command line, with the words and numbers after it.
 #[derive(Debug, Drop)]
 pub enum Request<'a> {
     Check {
@@ -40,7 +40,7 @@ pub struct PairRequest<'a> {
     pub limit: u64,
 }
 
-/// What is asked for of many files.
+/// What is to be done with many files.
 #[derive(Debug, Drop)]
 pub struct FilesRequest<'a> {
     pub paths: FilePaths<'a>,
@@ -60,12 +60,12 @@ pub enum FilePaths<'a> {
     ListedIn(&'a str),
 }
 
-/// Why a command line asks for no run. Each has its text, which is empty where memory for it was refused.
+/// Why a command line is not a request. Each has its text, which is empty if memory for it was refused.
 #[derive(Debug, Drop)]
 pub enum NoRequest {
-    /// It asks for help or the version: this text, for standard output.
+    /// It names help or the version: this text, for standard output.
     Help(String),
-    /// It is wrong: this says where, for standard error.
+    /// It is wrong: this says why, for standard error.
     WrongUsage(String),
     /// Memory was refused: this says so, for standard error.
     NoMemory(String),

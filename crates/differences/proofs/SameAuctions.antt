@@ -15,8 +15,8 @@ use Rattle.valuation.specs.Orders.{bidder_cmp}
 use Rattle.valuation.specs.Sorting.{count_of}
 use Rattle.canon.specs.Canonical.{IsCanonicalFile}
 use Rattle.canon.specs.Sameness.{AreSameFiles}
-use Rattle.canon.proofs.Atoms.{HasAtoms}
-use Rattle.canon.proofs.Sames.{HasAtoms-auction, same_canonical}
+use Rattle.canon.proofs.CanonicalAuctions.Atoms.{HasAtoms}
+use Rattle.canon.proofs.CanonicalAuctions.Sames.{HasAtoms-auction, same_canonical}
 use Rattle.differences.specs.BidderChanges.{AreBidderChanges, IsBidderChange, bidder_at, excess_bidders, is_excess}
 use Rattle.differences.specs.Differences.{AreAllDifferences, InBids}
 use Rattle.differences.specs.PriceChanges.{PlainChange, IsPriceChange, ArePriceChanges}

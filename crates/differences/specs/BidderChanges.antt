@@ -1,4 +1,4 @@
--- The XOR bidders that two canonical files do not have equally often. A bidder is named by its index among the bidders of its
+-- XOR bidders that two files do not have equally often. A bidder is named by its index among the bidders of its
 -- file, which are in order, equal ones beside one another.
 use Rattle.std.specs.Prelude.{◌≡◌, ℕ, Bool, true, nat_lt, Option, Some, None, is_some, ◌||◌, List, [], length, drop, slice_index_or, All}
 use Rattle.std.specs.List.{filter, filter_map, range_with_len}

@@ -1,4 +1,4 @@
--- What callers see of the differences.
+-- What contracts see of the differences.
 use Rattle.std.specs.Prelude.{map}
 use Rattle.differences.specs.PriceChanges.{PlainChange}
 use Rattle.differences.specs.BidderChanges.{PlainBidderChange}

@@ -1,4 +1,4 @@
-//! The XOR bidders that two canonical files do not have equally often, each beside the one that it is most like.
+//! The XOR bidders that differ. They are those that the two files do not have equally often, each beside its partner.
 
 ghost use Rattle.std.specs.Prelude.{◌≡◌, ◌<◌, ◌≤◌, ◌||◌, ◌++◌, All, IfOk, IfSome, OnOk, is_some, length, map, true};
 ghost use Rattle.std.specs.List.{filter_map};

@@ -1,4 +1,4 @@
-//! The XOR bidders that a canonical file has more often than another.
+//! The XOR bidders that one canonical file has more often.
 
 ghost use Rattle.std.specs.Prelude.{◌≡◌, ℕ, true, false, ◌+◌, ◌<◌, ◌≤◌, IfOk, length, map};
 ghost use Rattle.std.specs.Ordering.{is_lt};

@@ -1,4 +1,4 @@
-//! What is promised of all differences, over the definitions alone.
+//! What is promised of all differences. The laws are over the definitions alone.
 
 ghost use Rattle.std.specs.Prelude.{◌≡◌, ◌↔◌, ◌≢◌, ℕ, ◌-◌, List, Some, map, true, All};
 ghost use Rattle.std.specs.Ordering.{nat_cmp};

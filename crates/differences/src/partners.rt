@@ -1,4 +1,4 @@
-//! Which bidder of the right file is shown beside a bidder of the left file: the one that shares most bids with it.
+//! Which bidders of two files are shown side by side. A left one's partner is the right one with most bids in common.
 //!
 //! The choice only serves clarity, and no clause fixes it. The contract says that the bidder is one of those that wait.
 

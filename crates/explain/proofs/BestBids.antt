@@ -1,5 +1,5 @@
 -- In a list of all bids in order, the first bid that does not come before a bidder and a bundle is the best of that bidder's bids
--- on that bundle, if there are any: each of them stands there or behind it.
+-- on that bundle, if there are any: each of them is there or after it.
 use Rattle.std.proofs.Common.{◌≡◌, ℕ, zero, suc, ◌+◌, ◌<◌, ◌≤◌, true, false, ◌&&◌, ltb, eqb, ⊎_elim, List, [], ◌∷◌, length, get_or, refl, sym, ap, ap₂, ◌∙◌, subst, arith}
 use Rattle.std.proofs.Common.{Ordering, Less, Equal, Greater, is_lt, nat_cmp}
 use Rattle.std.specs.Prelude.{Contains}

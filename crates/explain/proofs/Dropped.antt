@@ -46,8 +46,8 @@ xor_value-more (a ∷ xs) ys h bundle =
     (λ inside. xor_value-member ys a (h a (Contains-head a xs)) bundle inside)
 
 -- what `is_none` answers
-pub told_none : (o : Option ℕ) (answer is : Bool) → is_some o ≡ not answer → answer ≡ is → is_none o ≡ is
-told_none o answer is e t = ap not e ∙ twice answer ∙ t
+pub none_answered : (o : Option ℕ) (answer is : Bool) → is_some o ≡ not answer → answer ≡ is → is_none o ≡ is
+none_answered o answer is e t = ap not e ∙ twice answer ∙ t
   where
     twice : (b : Bool) → not (not b) ≡ b
     twice true = refl
@@ -109,7 +109,7 @@ module _ {S : Type 0} (goods : S → List ℕ) (known : Known S) (is : IsKnown g
       let greatest : greatest_price bids own.goods ≡ own.price = greatest-is-best f i within drop.bid.best none in
       let positive = drop.bid.positive in
       let auction = IsAuction-auction_from f.goods f is.plain (omega arith) in
-      let steps = search-within f.goods known.limit bids own.goods auction.or_atoms (bundle_here f is.plain i within) is.within_limit (omega arith) (no_point_there none) in
+      let steps = search-within f.goods known.limit bids own.goods auction.or_atoms (bundle_here f is.plain i within) is.within (omega arith) (no_point_there none) in
       subst (λ (p : ℕ). 1 + cut_steps (atoms_inside all (goods atom.bundle)) (goods atom.bundle) p ≤ known.limit) (greatest ∙ sym price_is)
       (subst (λ (xs : List ℕ). 1 + cut_steps (atoms_inside all xs) xs (greatest_price bids own.goods) ≤ known.limit) (sym bundle_is)
       (subst (λ (ys : List (Atom (List ℕ))). 1 + cut_steps (atoms_inside ys own.goods) own.goods (greatest_price bids own.goods) ≤ known.limit) (sym (or_all none)) steps))

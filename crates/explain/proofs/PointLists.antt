@@ -1,4 +1,4 @@
--- The points of a file's bidders, one bid of the canonical file after another: each goes behind the others of its bidder.
+-- The points of a file's bidders, one bid of the canonical file after another: each is put after the others of its bidder.
 use Rattle.std.proofs.Common.{◌≡◌, ◌≢◌, ℕ, ◌+◌, ◌<◌, ◌≤◌, ◌⊎◌, inl, inr, ⊎_elim, List, [], ◌∷◌, ◌++◌, length, get_or, take, Option, Some, None, refl, sym, ap, ap₂, ◌∙◌, subst, subst₂, arith}
 use Rattle.std.specs.Prelude.{All, Contains}
 use Rattle.std.specs.List.{slice_get}

@@ -1,4 +1,4 @@
--- The bids of a file by number, and which is the best of a bidder's bids on a bundle: the one of the highest price, and
+-- Bids by number, and a bidder's best bid on a bundle. The best one has the highest price, and it is
 -- of those the one of the smallest number.
 use Rattle.std.specs.Prelude.{◌≡◌, ℕ, ◌+◌, ◌<◌, Bool, true, ◌&&◌, ◌||◌, not, ◌==◌, nat_lt, List, [], length, slice_index_or, Option, Some, None}
 use Rattle.std.specs.List.{list_any, range_with_len}

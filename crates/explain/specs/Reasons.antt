@@ -1,4 +1,4 @@
--- Why each bid of a file is in its canonical file, or is not.
+-- Why each bid of a file is kept or dropped.
 use Rattle.std.specs.Prelude.{◌≡◌, ℕ, ◌<◌, ◌≤◌, ◌==◌, Bool, true, false, ◌&&◌, List, [], ◌∷◌, length, slice_get, slice_index_or, Some, None}
 use Rattle.std.specs.Prelude.{is_some, sum_by, count_by}
 use Rattle.std.specs.List.{AllByRecursion, list_all, range_with_len}

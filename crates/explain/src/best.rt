@@ -1,4 +1,4 @@
-//! The best of a bidder's bids on a bundle, found in a list of all bids in order.
+//! A bidder's best bid on a bundle. It is found in a list of all bids in order.
 
 ghost use Rattle.std.specs.Prelude.{◌≡◌, ℕ, ◌<◌, IfOk, length};
 ghost use Rattle.goods_set.specs.Orders.{bundle_cmp};
@@ -45,7 +45,7 @@ fn order_of_keys(one: &BidRef<'_>, other: &BidRef<'_>) -> Ordering
 }
 
 /// By bidder and goods, the higher price first, and of equal ones by number.
-fn order_of_bids(one: &NumberedBid<'_>, other: &NumberedBid<'_>) -> Ordering
+fn best_first(one: &NumberedBid<'_>, other: &NumberedBid<'_>) -> Ordering
     ensures { result ≡ numbered_cmp one.now other.now }
 {
     order_of_keys(&one.bid, &other.bid)
@@ -78,7 +78,7 @@ pub(crate) fn bids_in_order(
     ensures { IfOk result (λ bids. AreInOrder file.now bids.items) }
 {
     let mut bids = numbered_bids(alloc, file)?;
-    bids.sort_unstable_by(|one, other| order_of_bids(one, other));
+    bids.sort_unstable_by(|one, other| best_first(one, other));
     Ok(bids)
 }
 

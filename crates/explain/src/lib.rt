@@ -1,4 +1,4 @@
-//! Which bids of a file are dropped from its canonical file, and why.
+//! Which bids are dropped from a canonical file, and why.
 #![tactic(auto)]
 
 mod best;

@@ -1,4 +1,4 @@
-//! The points of each bidder of a file: its kept bids.
+//! The kept bids of each bidder, which are its points.
 
 ghost use Rattle.std.specs.Prelude.{◌≡◌, ◌≢◌, ℕ, ◌≤◌, IfOk, OnOk, Option, length};
 ghost use Rattle.goods_set.specs.Bundles.{AreBelow, IsRising};

@@ -1,4 +1,4 @@
-//! Why a bid is in the canonical file, or is not.
+//! `Reason`: why a bid is kept or dropped.
 
 /// Why a bid of a file is in the canonical file, or is not. Bids are named by their numbers in the file.
 #[derive(PartialEq, Eq, Debug, Drop)]

@@ -1,4 +1,4 @@
-//! Why bids are kept or dropped, of files that are read from their texts.
+//! The reasons of files that are read from their texts.
 
 mod family;
 

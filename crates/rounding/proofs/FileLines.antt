@@ -13,7 +13,7 @@ use Rattle.cats_text.proofs.Writing.Prices.{price_text_spells}
 use Rattle.bid_file.specs.declared.limits.TheConstants.{MAX_PRICE}
 use Rattle.bid_file.specs.Files.{PlainFile, PlainBid, IsPlainFile, IsBid}
 use Rattle.rounding.specs.Replacements.{replacement, rounded_word}
-use Rattle.rounding.specs.Texts.{behind_blanks, front_word, behind_word, from_second, before_second, second_word, behind_second, with_rounded, is_significant_line, is_bid_line, before_next}
+use Rattle.rounding.specs.Texts.{behind_blanks, leading_word, behind_word, from_second, before_second, second_word, behind_second, with_rounded, is_significant_line, is_bid_line, before_next}
 use Rattle.rounding.specs.Texts.{rounded_line, rounded_lines, lines_text, line_changes, lines_changes, rounded_text, rounded_prices, change_by, PlainChange}
 use Rattle.rounding.specs.declared.replacement.FinePrices.{FinePrices}
 use Rattle.rounding.proofs.Words.{byte_stays, word_both, second_both}
@@ -23,12 +23,12 @@ use Rattle.rounding.proofs.Words.{byte_stays, word_both, second_both}
 abbrev line_of : List ℕ → List Word
 line_of l = line_words (blank_returns l)
 
--- the front word, and the words behind it
+-- the leading word, and the words behind it
 abbrev split_first : List ℕ → List Word
 split_first [] = []
-split_first (b ∷ bs) = front_word (b ∷ bs) ∷ line_of (behind_word (b ∷ bs))
+split_first (b ∷ bs) = leading_word (b ∷ bs) ∷ line_of (behind_word (b ∷ bs))
 
--- one byte in front of words
+-- one byte before words
 blank_skips : (x : ℕ) (bs : List ℕ) (ws : List Word) → is_blank x ≡ true → words_with x bs ws ≡ ws
 blank_skips x bs ws e = rw e refl
 
@@ -41,14 +41,14 @@ letter_alone x c cs ws e f = rw e (rw f refl)
 letter_joins : (x c : ℕ) (cs : List ℕ) (ws : List Word) → is_blank x ≡ false → is_blank c ≡ false → words_with x (c ∷ cs) ws ≡ with_letter x ws
 letter_joins x c cs ws e f = rw e (rw f refl)
 
-front_letter : (b : ℕ) (xs : List ℕ) → is_blank (line_byte b xs) ≡ false → front_word (b ∷ xs) ≡ b ∷ front_word xs
-front_letter b xs e = rw e refl
+leading_letter : (b : ℕ) (xs : List ℕ) → is_blank (line_byte b xs) ≡ false → leading_word (b ∷ xs) ≡ b ∷ leading_word xs
+leading_letter b xs e = rw e refl
 
 behind_letter : (b : ℕ) (xs : List ℕ) → is_blank (line_byte b xs) ≡ false → behind_word (b ∷ xs) ≡ behind_word xs
 behind_letter b xs e = rw e refl
 
-front_blank : (c : ℕ) (cs : List ℕ) → is_blank (line_byte c cs) ≡ true → front_word (c ∷ cs) ≡ []
-front_blank c cs e = rw e refl
+leading_blank : (c : ℕ) (cs : List ℕ) → is_blank (line_byte c cs) ≡ true → leading_word (c ∷ cs) ≡ []
+leading_blank c cs e = rw e refl
 
 behind_blank : (c : ℕ) (cs : List ℕ) → is_blank (line_byte c cs) ≡ true → behind_word (c ∷ cs) ≡ c ∷ cs
 behind_blank c cs e = rw e refl
@@ -59,9 +59,9 @@ letter_stays b bs e = rw e refl
 blank_passed : (b : ℕ) (bs : List ℕ) → is_blank (line_byte b bs) ≡ true → behind_blanks (b ∷ bs) ≡ behind_blanks bs
 blank_passed b bs e = rw e refl
 
-split_letter : (b : ℕ) (xs : List ℕ) → is_blank (line_byte b xs) ≡ false → (b ∷ front_word xs) ∷ line_of (behind_word xs) ≡ split_first (b ∷ xs)
-split_letter b xs e = sym (ap (λ (w : Word). w ∷ line_of (behind_word (b ∷ xs))) (front_letter b xs e)
-    ∙ ap (λ (t : List ℕ). (b ∷ front_word xs) ∷ line_of t) (behind_letter b xs e))
+split_letter : (b : ℕ) (xs : List ℕ) → is_blank (line_byte b xs) ≡ false → (b ∷ leading_word xs) ∷ line_of (behind_word xs) ≡ split_first (b ∷ xs)
+split_letter b xs e = sym (ap (λ (w : Word). w ∷ line_of (behind_word (b ∷ xs))) (leading_letter b xs e)
+    ∙ ap (λ (t : List ℕ). (b ∷ leading_word xs) ∷ line_of t) (behind_letter b xs e))
 
 first_word : (b : ℕ) (bs : List ℕ) → is_blank (line_byte b bs) ≡ false → line_of (b ∷ bs) ≡ split_first (b ∷ bs)
 first_word b [] e = letter_last (line_byte b []) e ∙ ap (λ x. (x ∷ []) ∷ []) (byte_stays b [] e) ∙ split_letter b [] e
@@ -69,12 +69,12 @@ first_word b (c ∷ cs) e = ⊎_elim
     (λ (f : is_blank (line_byte c cs) ≡ true).
     letter_alone (line_byte b (c ∷ cs)) (line_byte c cs) (blank_returns cs) (line_of (c ∷ cs)) e f
     ∙ ap (λ x. (x ∷ []) ∷ line_of (c ∷ cs)) (byte_stays b (c ∷ cs) e)
-    ∙ sym (ap (λ (w : Word). (b ∷ w) ∷ line_of (behind_word (c ∷ cs))) (front_blank c cs f) ∙ ap (λ (t : List ℕ). (b ∷ []) ∷ line_of t) (behind_blank c cs f))
+    ∙ sym (ap (λ (w : Word). (b ∷ w) ∷ line_of (behind_word (c ∷ cs))) (leading_blank c cs f) ∙ ap (λ (t : List ℕ). (b ∷ []) ∷ line_of t) (behind_blank c cs f))
     ∙ split_letter b (c ∷ cs) e)
     (λ (f : is_blank (line_byte c cs) ≡ false).
     letter_joins (line_byte b (c ∷ cs)) (line_byte c cs) (blank_returns cs) (line_of (c ∷ cs)) e f
     ∙ ap (with_letter (line_byte b (c ∷ cs))) (first_word c cs f)
-    ∙ ap (λ x. (x ∷ front_word (c ∷ cs)) ∷ line_of (behind_word (c ∷ cs))) (byte_stays b (c ∷ cs) e)
+    ∙ ap (λ x. (x ∷ leading_word (c ∷ cs)) ∷ line_of (behind_word (c ∷ cs))) (byte_stays b (c ∷ cs) e)
     ∙ split_letter b (c ∷ cs) e)
     (cases_Bool (is_blank (line_byte c cs)))
 
@@ -89,7 +89,7 @@ heads : (x : List ℕ) (n : Word) (ws : List Word) → split_first x ≡ n ∷ w
 heads [] n ws e = absurd (cc)
 heads (b ∷ bs) n ws e = cc
 
-head_word : (x : List ℕ) (n : Word) (ws : List Word) → split_first x ≡ n ∷ ws → front_word x ≡ n
+head_word : (x : List ℕ) (n : Word) (ws : List Word) → split_first x ≡ n ∷ ws → leading_word x ≡ n
 head_word [] n ws e = absurd (cc)
 head_word (b ∷ bs) n ws e = cc
 

@@ -7,7 +7,7 @@ use Rattle.std.proofs.lemmas.List.{take_rest, drop_all}
 use Rattle.cats_text.specs.Lines.{Word, is_blank, line_byte}
 use Rattle.cats_text.specs.Numbers.{whole_part, places, has_point}
 use Rattle.rounding.specs.Decimals.{significand, exponent, has_exponent}
-use Rattle.rounding.specs.Texts.{blanks, behind_blanks, front_word, behind_word}
+use Rattle.rounding.specs.Texts.{blanks, behind_blanks, leading_word, behind_word}
 use Rattle.rounding.specs.Internal.RawTexts.{first_line, behind_line, has_line_end}
 
 -- ---- whole_part
@@ -130,28 +130,28 @@ blanks_dropped [] = refl
 blanks_dropped (b ∷ bs) = elim (is_blank (line_byte b bs)) as (λ v. drop (length (if v then (b ∷ blanks bs) else [])) (b ∷ bs) ≡ (if v then behind_blanks bs else (b ∷ bs)))
     [ true ↦ blanks_dropped bs | false ↦ refl ]
 
--- ---- front_word
+-- ---- leading_word
 
 pub word_further : (w : Word) (i : ℕ) → i < length w → (is_blank (line_byte (get_or w i 0) (drop (suc i) w))) ≡ false
-    → length (front_word (drop i w)) ≡ suc (length (front_word (drop (suc i) w)))
+    → length (leading_word (drop i w)) ≡ suc (length (leading_word (drop (suc i) w)))
 word_further w i h e = rw (drop-cons w i 0) (rw e refl)
 
-pub word_found : (w : Word) (i : ℕ) → i < length w → (is_blank (line_byte (get_or w i 0) (drop (suc i) w))) ≡ true → length (front_word (drop i w)) ≡ 0
+pub word_found : (w : Word) (i : ℕ) → i < length w → (is_blank (line_byte (get_or w i 0) (drop (suc i) w))) ≡ true → length (leading_word (drop i w)) ≡ 0
 word_found w i h e = rw (drop-cons w i 0) (rw e refl)
 
-pub word_taken : (w : Word) → take (length (front_word w)) w ≡ front_word w
+pub word_taken : (w : Word) → take (length (leading_word w)) w ≡ leading_word w
 word_taken [] = refl
-word_taken (b ∷ bs) = elim (is_blank (line_byte b bs)) as (λ v. take (length (if v then [] else (b ∷ front_word bs))) (b ∷ bs) ≡ (if v then [] else (b ∷ front_word bs)))
+word_taken (b ∷ bs) = elim (is_blank (line_byte b bs)) as (λ v. take (length (if v then [] else (b ∷ leading_word bs))) (b ∷ bs) ≡ (if v then [] else (b ∷ leading_word bs)))
     [ true ↦ refl | false ↦ ap (λ (ws : Word). b ∷ ws) (word_taken bs) ]
 
-pub word_within : (w : Word) → length (front_word w) ≤ length w
+pub word_within : (w : Word) → length (leading_word w) ≤ length w
 word_within [] = omega arith
-word_within (b ∷ bs) = elim (is_blank (line_byte b bs)) as (λ v. length (if v then [] else (b ∷ front_word bs)) ≤ suc (length bs))
+word_within (b ∷ bs) = elim (is_blank (line_byte b bs)) as (λ v. length (if v then [] else (b ∷ leading_word bs)) ≤ suc (length bs))
     [ true ↦ omega arith | false ↦ omega (arith, word_within bs) ]
 
-pub word_dropped : (w : Word) → drop (length (front_word w)) w ≡ behind_word w
+pub word_dropped : (w : Word) → drop (length (leading_word w)) w ≡ behind_word w
 word_dropped [] = refl
-word_dropped (b ∷ bs) = elim (is_blank (line_byte b bs)) as (λ v. drop (length (if v then [] else (b ∷ front_word bs))) (b ∷ bs) ≡ (if v then (b ∷ bs) else behind_word bs))
+word_dropped (b ∷ bs) = elim (is_blank (line_byte b bs)) as (λ v. drop (length (if v then [] else (b ∷ leading_word bs))) (b ∷ bs) ≡ (if v then (b ∷ bs) else behind_word bs))
     [ true ↦ refl | false ↦ word_dropped bs ]
 
 -- ---- first_line

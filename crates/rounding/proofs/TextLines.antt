@@ -8,10 +8,10 @@ use Rattle.std.proofs.lemmas.List.Prefix.{front_rest}
 use mir.Val.{bool_byte}
 use Rattle.cats_text.specs.Lines.{Word, RawLine, raw_lines, lines_with, with_byte, blank_returns, line_words, is_significant}
 use Rattle.rounding.specs.Replacements.{replacement, replacement_text, rounded_word}
-use Rattle.rounding.specs.Texts.{from_second, before_second, second_word, behind_second, front_word, behind_word, with_rounded, rounded_text, rounded_prices, rounded_lines}
+use Rattle.rounding.specs.Texts.{from_second, before_second, second_word, behind_second, leading_word, behind_word, with_rounded, rounded_text, rounded_prices, rounded_lines}
 use Rattle.rounding.specs.Texts.{rounded_line, lines_text, line_text, lines_changes, line_changes, change_by, PlainChange, is_bid_line, before_next, is_significant_line}
 use Rattle.rounding.specs.Views.{plain_change, plain_changes}
-use Rattle.rounding.specs.declared.text.RoundedPrice.{RoundedPrice}
+use Rattle.rounding.specs.declared.round_text.RoundedPrice.{RoundedPrice}
 use Rattle.rounding.specs.Internal.RawTexts.{first_line, behind_line, has_line_end}
 use Rattle.rounding.specs.declared.replacement.FinePrices.{FinePrices}
 use Rattle.rounding.specs.declared.replacement.Replacement.{Replacement}
@@ -25,26 +25,26 @@ pub second_from : (l : List ℕ) (k : ℕ) → k ≡ length (before_second l) �
 second_from l k e = take_rest l k ∙ ap (λ n. drop n l) e ∙ front_rest l (before_second l) (from_second l) (sym (second_both l))
 
 pub bid_line_text : (fine : FinePrices) (l word behind t0 t1 t2 t3 : List ℕ) (k : ℕ) (r : Replacement) → k ≡ length (before_second l)
-    → word ≡ front_word (take (length l - k) (drop k l)) → behind ≡ behind_word (take (length l - k) (drop k l)) → r ≡ replacement fine word
+    → word ≡ leading_word (take (length l - k) (drop k l)) → behind ≡ behind_word (take (length l - k) (drop k l)) → r ≡ replacement fine word
     → t1 ≡ t0 ++ take k l → t2 ≡ t1 ++ replacement_text word r → t3 ≡ t2 ++ behind → t3 ≡ t0 ++ with_rounded fine l
 bid_line_text fine l word behind t0 t1 t2 t3 k r ek ew eb er e1 e2 e3 =
     let from : take (length l - k) (drop k l) ≡ from_second l = second_from l k ek in
-    let word_is : word ≡ second_word l = ew ∙ ap front_word from in
+    let word_is : word ≡ second_word l = ew ∙ ap leading_word from in
     let behind_is : behind ≡ behind_second l = eb ∙ ap behind_word from in
-    let front_is : take k l ≡ before_second l = ap (λ n. take n l) ek ∙ second_taken l in
+    let leading_is : take k l ≡ before_second l = ap (λ n. take n l) ek ∙ second_taken l in
     let text_is : replacement_text word r ≡ rounded_word fine (second_word l) =
     ap (replacement_text word) er ∙ ap (λ (v : Word). replacement_text v (replacement fine v)) word_is in
-    e3 ∙ ap (λ (t : List ℕ). t ++ behind) (e2 ∙ ap (λ (t : List ℕ). t ++ replacement_text word r) (e1 ∙ ap (λ (t : List ℕ). t0 ++ t) front_is)
+    e3 ∙ ap (λ (t : List ℕ). t ++ behind) (e2 ∙ ap (λ (t : List ℕ). t ++ replacement_text word r) (e1 ∙ ap (λ (t : List ℕ). t0 ++ t) leading_is)
     ∙ ap (λ (t : List ℕ). (t0 ++ before_second l) ++ t) text_is)
     ∙ ap (λ (t : List ℕ). ((t0 ++ before_second l) ++ rounded_word fine (second_word l)) ++ t) behind_is
     ∙ ap (λ (t : List ℕ). t ++ behind_second l) (append_assoc t0 (before_second l) (rounded_word fine (second_word l)))
     ∙ append_assoc t0 (before_second l ++ rounded_word fine (second_word l)) (behind_second l)
 
 pub bid_line_change : (fine : FinePrices) (l word : List ℕ) (k number : ℕ) (r : Replacement) → k ≡ length (before_second l)
-    → word ≡ front_word (take (length l - k) (drop k l)) → r ≡ replacement fine word
+    → word ≡ leading_word (take (length l - k) (drop k l)) → r ≡ replacement fine word
     → change_by number word r ≡ change_by number (second_word l) (replacement fine (second_word l))
 bid_line_change fine l word k number r ek ew er =
-    let word_is : word ≡ second_word l = ew ∙ ap front_word (second_from l k ek) in
+    let word_is : word ≡ second_word l = ew ∙ ap leading_word (second_from l k ek) in
     ap (change_by number word) er ∙ ap (λ (v : Word). change_by number v (replacement fine v)) word_is
 
 pub no_change : (number : ℕ) (word : Word) (r : Replacement) → ((price : ℕ) → r ≡ Rounded price → ⊥) → change_by number word r ≡ []

@@ -9,17 +9,17 @@ use Rattle.std.proofs.Math.Seq.{take-append_seam, drop-nil}
 use Rattle.cats_text.specs.Lines.{Word, is_blank, line_byte, line_ends, blank_returns, line_words, with_letter, begins_word, is_significant}
 use Rattle.cats_text.specs.Numbers.{is_number, digits_alone, is_digit, whole_part, places, has_point, is_price}
 use Rattle.rounding.specs.Decimals.{significand, exponent, has_exponent, without_sign, is_decimal, digits}
-use Rattle.rounding.specs.Texts.{blanks, behind_blanks, front_word, behind_word, from_second, before_second}
+use Rattle.rounding.specs.Texts.{blanks, behind_blanks, leading_word, behind_word, from_second, before_second}
 use Rattle.rounding.proofs.Spans.{blanks_taken, blanks_dropped, word_taken, word_dropped, mark_has, mark_has_none, point_has, point_has_none, point_within}
 
 -- ---- digits in two runs
 
-pub number_front : (b : ℕ) (bs ds : Word) → is_number (b ∷ bs ++ ds) ≡ (digits_alone (b ∷ bs) && digits_alone ds)
-number_front b bs ds = list_all-append is_digit (b ∷ bs) ds
+pub number_leading : (b : ℕ) (bs ds : Word) → is_number (b ∷ bs ++ ds) ≡ (digits_alone (b ∷ bs) && digits_alone ds)
+number_leading b bs ds = list_all-append is_digit (b ∷ bs) ds
 
 pub digits_both : (a b : Word) → eqb (length a) 0 ≡ false → is_number (a ++ b) ≡ (digits_alone a && digits_alone b)
 digits_both [] b h = absurd (both_ways (eqb 0 0) h refl)
-digits_both (x ∷ xs) b h = number_front x xs b
+digits_both (x ∷ xs) b h = number_leading x xs b
 
 -- ---- decimals
 
@@ -60,15 +60,15 @@ pub blanks_both : (l : List ℕ) → blanks l ++ behind_blanks l ≡ l
 blanks_both l = sym (ap (λ (t : List ℕ). t ++ behind_blanks l) (blanks_taken l)) ∙ ap (λ (t : List ℕ). take (length (blanks l)) l ++ t) (sym (blanks_dropped l))
     ∙ take-append-drop (length (blanks l)) l
 
-pub word_both : (l : List ℕ) → front_word l ++ behind_word l ≡ l
-word_both l = sym (ap (λ (t : List ℕ). t ++ behind_word l) (word_taken l)) ∙ ap (λ (t : List ℕ). take (length (front_word l)) l ++ t) (sym (word_dropped l))
-    ∙ take-append-drop (length (front_word l)) l
+pub word_both : (l : List ℕ) → leading_word l ++ behind_word l ≡ l
+word_both l = sym (ap (λ (t : List ℕ). t ++ behind_word l) (word_taken l)) ∙ ap (λ (t : List ℕ). take (length (leading_word l)) l ++ t) (sym (word_dropped l))
+    ∙ take-append-drop (length (leading_word l)) l
 
 pub second_both : (l : List ℕ) → before_second l ++ from_second l ≡ l
 second_both l =
-    append_assoc (blanks l ++ front_word (behind_blanks l)) (blanks (behind_word (behind_blanks l))) (from_second l)
-    ∙ ap (λ (t : List ℕ). (blanks l ++ front_word (behind_blanks l)) ++ t) (blanks_both (behind_word (behind_blanks l)))
-    ∙ append_assoc (blanks l) (front_word (behind_blanks l)) (behind_word (behind_blanks l))
+    append_assoc (blanks l ++ leading_word (behind_blanks l)) (blanks (behind_word (behind_blanks l))) (from_second l)
+    ∙ ap (λ (t : List ℕ). (blanks l ++ leading_word (behind_blanks l)) ++ t) (blanks_both (behind_word (behind_blanks l)))
+    ∙ append_assoc (blanks l) (leading_word (behind_blanks l)) (behind_word (behind_blanks l))
     ∙ ap (λ (t : List ℕ). blanks l ++ t) (word_both (behind_blanks l))
     ∙ blanks_both l
 
@@ -98,18 +98,18 @@ drop_more l zero b = let same : 0 + b ≡ b = omega arith in ap (λ n. drop n l)
 drop_more [] (suc a) b = drop-nil (suc a + b) ∙ sym (drop-nil b)
 drop_more (x ∷ xs) (suc a) b = let same : suc a + b ≡ suc (a + b) = omega arith in ap (λ n. drop n (x ∷ xs)) same ∙ drop_more xs a b
 
-pub second_count : (l : List ℕ) (a b c : ℕ) → a ≡ length (blanks l) → b ≡ length (front_word (take (length l - a) (drop a l)))
+pub second_count : (l : List ℕ) (a b c : ℕ) → a ≡ length (blanks l) → b ≡ length (leading_word (take (length l - a) (drop a l)))
     → c ≡ length (blanks (take (length l - (a + b)) (drop (a + b) l))) → a + b + c ≡ length (before_second l)
 second_count l a b c ea eb ec =
     let first : drop a l ≡ behind_blanks l = ap (λ n. drop n l) ea ∙ blanks_dropped l in
-    let word : b ≡ length (front_word (behind_blanks l)) = eb ∙ ap (λ (t : List ℕ). length (front_word t)) (take_rest l a ∙ first) in
+    let word : b ≡ length (leading_word (behind_blanks l)) = eb ∙ ap (λ (t : List ℕ). length (leading_word t)) (take_rest l a ∙ first) in
     let rest : drop (a + b) l ≡ behind_word (behind_blanks l) =
     drop_more l a b ∙ ap (drop b) first ∙ ap (λ n. drop n (behind_blanks l)) word ∙ word_dropped (behind_blanks l) in
     let last : c ≡ length (blanks (behind_word (behind_blanks l))) = ec ∙ ap (λ (t : List ℕ). length (blanks t)) (take_rest l (a + b) ∙ rest) in
     omega (
       arith,
-      length-append (blanks l ++ front_word (behind_blanks l)) (blanks (behind_word (behind_blanks l))),
-      length-append (blanks l) (front_word (behind_blanks l)),
+      length-append (blanks l ++ leading_word (behind_blanks l)) (blanks (behind_word (behind_blanks l))),
+      length-append (blanks l) (leading_word (behind_blanks l)),
     )
 
 -- ---- significant lines

@@ -141,9 +141,9 @@ digits_behind : (xs ys : Word) → digits_alone (xs ++ ys) ≡ true → digits_a
 digits_behind xs ys h =
     let p : (digits_alone xs ≡ true) × (digits_alone ys ≡ true) = and_parts (digits_alone xs) (digits_alone ys) (sym (list_all-append is_digit xs ys) ∙ h) in p.1
 
-pub cut_front : (xs ys : Word) (m : ℕ) (r : Rest) → digits_alone (xs ++ ys) ≡ true → m ≡ min (suc MAX_PRICE) (value 0 xs)
+pub cut_leading : (xs ys : Word) (m : ℕ) (r : Rest) → digits_alone (xs ++ ys) ≡ true → m ≡ min (suc MAX_PRICE) (value 0 xs)
     → r ≡ fold rest_with Nothing ys → Holds (record { whole = m; rest = r }) (number_of (xs ++ ys)) (10 ^ length ys)
-cut_front xs ys m r h em er =
+cut_leading xs ys m r h em er =
     let behind : digits_alone ys ≡ true = digits_behind xs ys h in
     let small : value 0 ys < 10 ^ length ys = value_below ys behind in
     let is : number_of (xs ++ ys) ≡ value 0 xs * 10 ^ length ys + value 0 ys = number_append xs ys in
@@ -188,12 +188,12 @@ split_two a b i j (inr e) =
     ∙ sym (append_assoc (take i a) (drop i a) b)
     ∙ ap (λ (t : Word). t ++ b) (take-append-drop i a)
 
-pub cut_two : (a b : Word) (power i j front whole : ℕ) (behind rest : Rest) → digits_alone (a ++ b) ≡ true
+pub cut_two : (a b : Word) (power i j leading whole : ℕ) (behind rest : Rest) → digits_alone (a ++ b) ≡ true
     → power ≤ length a + length b → i ≡ min (length a + length b - power) (length a) → j ≡ length a + length b - power - i
-    → front ≡ min (suc MAX_PRICE) (value 0 (take i a)) → whole ≡ min (suc MAX_PRICE) (value front (take j b))
+    → leading ≡ min (suc MAX_PRICE) (value 0 (take i a)) → whole ≡ min (suc MAX_PRICE) (value leading (take j b))
     → behind ≡ fold rest_with Nothing (take (length a - i) (drop i a)) → rest ≡ fold rest_with behind (take (length b - j) (drop j b))
     → Holds (record { whole = whole; rest = rest }) (number_of (a ++ b)) (10 ^ power)
-cut_two a b power i j front whole behind rest h le ei ej ef ew eb er =
+cut_two a b power i j leading whole behind rest h le ei ej ef ew eb er =
     let which : (i ≡ length a) ⊎ (j ≡ 0) = either (length a) (length a + length b - power) i j ei ej in
     let is : (take i a ++ take j b) ++ (drop i a ++ drop j b) ≡ a ++ b = split_two a b i j which in
     let size : length (drop i a ++ drop j b) ≡ power = omega (arith, length-append (drop i a) (drop j b), length-drop i a, length-drop j b) in
@@ -202,8 +202,8 @@ cut_two a b power i j front whole behind rest h le ei ej ef ew eb er =
     ∙ ap (λ (s : Rest). fold rest_with s (drop j b)) behind_is ∙ sym (fold-append rest_with Nothing (drop i a) (drop j b)) in
     subst (λ k. Holds (record { whole = whole; rest = rest }) (number_of (a ++ b)) (10 ^ k)) size
     (subst (λ (t : Word). Holds (record { whole = whole; rest = rest }) (number_of t) (10 ^ length (drop i a ++ drop j b))) is
-    (cut_front (take i a ++ take j b) (drop i a ++ drop j b) whole rest (ap digits_alone is ∙ h)
-    (held_two (suc MAX_PRICE) front whole (take i a) (take j b) ef ew) rest_is))
+    (cut_leading (take i a ++ take j b) (drop i a ++ drop j b) whole rest (ap digits_alone is ∙ h)
+    (held_two (suc MAX_PRICE) leading whole (take i a) (take j b) ef ew) rest_is))
   where
     either : (la kept i j : ℕ) → i ≡ min kept la → j ≡ kept - i → (i ≡ la) ⊎ (j ≡ 0)
     either la kept i j ei ej = ⊎_elim (λ (l : la < kept). inl (omega arith)) (λ (l : kept ≤ la). inr (omega arith)) (cases_lt la kept)
@@ -241,10 +241,10 @@ raised_once m k held e =
     one : suc k ≡ k + 1
     one = omega arith
 
-pub raised_value : (a b : Word) (up front number whole : ℕ) → front ≡ min (suc MAX_PRICE) (value 0 a) → number ≡ min (suc MAX_PRICE) (value front b)
+pub raised_value : (a b : Word) (up leading number whole : ℕ) → leading ≡ min (suc MAX_PRICE) (value 0 a) → number ≡ min (suc MAX_PRICE) (value leading b)
     → whole ≡ min (suc MAX_PRICE) (number * 10 ^ up) → Holds (record { whole = whole; rest = Nothing }) (number_of (a ++ b) * 10 ^ up) 1
-raised_value a b up front number whole ef en ew =
-    let is : number ≡ min (suc MAX_PRICE) (value 0 (a ++ b)) = held_two (suc MAX_PRICE) front number a b ef en in
+raised_value a b up leading number whole ef en ew =
+    let is : number ≡ min (suc MAX_PRICE) (value 0 (a ++ b)) = held_two (suc MAX_PRICE) leading number a b ef en in
     let all : number_of (a ++ b) * 10 ^ up / 1 ≡ number_of (a ++ b) * 10 ^ up = div-one (number_of (a ++ b) * 10 ^ up) in
     record {
       whole = ew ∙ ap (λ n. min (suc MAX_PRICE) (n * 10 ^ up)) is ∙ held_times (suc MAX_PRICE) (value 0 (a ++ b)) (10 ^ up) (one-le-pow up 10 (omega arith))
@@ -324,11 +324,11 @@ cut_in w s a b x up down v h some held =
     once : (n : ℕ) → n * 10 ^ 0 ≡ n
     once n = omega arith
 
-pub raised_in : (w s a b x : Word) (up down front number whole : ℕ) → IsSplit w s a b x up down → down ≤ 0
-    → front ≡ min (suc MAX_PRICE) (value 0 a) → number ≡ min (suc MAX_PRICE) (value front b) → whole ≡ min (suc MAX_PRICE) (number * 10 ^ up)
+pub raised_in : (w s a b x : Word) (up down leading number whole : ℕ) → IsSplit w s a b x up down → down ≤ 0
+    → leading ≡ min (suc MAX_PRICE) (value 0 a) → number ≡ min (suc MAX_PRICE) (value leading b) → whole ≡ min (suc MAX_PRICE) (number * 10 ^ up)
     → Holds (record { whole = whole; rest = Nothing }) (top w) (bottom w)
-raised_in w s a b x up down front number whole h none ef en ew =
+raised_in w s a b x up down leading number whole h none ef en ew =
     let zero_down : down ≡ 0 = omega arith in
     let one : 1 ≡ bottom w = sym (ap (λ k. 10 ^ k) zero_down) ∙ bottom_is w s a b x up down h in
     held_of (record { whole = whole; rest = Nothing }) (number_of (a ++ b) * 10 ^ up) (top w) 1 (bottom w) (top_is w s a b x up down h) one
-    (raised_value a b up front number whole ef en ew)
+    (raised_value a b up leading number whole ef en ew)

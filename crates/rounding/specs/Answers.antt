@@ -8,7 +8,7 @@ use Rattle.cats_text.specs.declared.read_fault.Kind.TheVariants.{Memory as NoMem
 use Rattle.rounding.specs.Texts.{rounded_text, rounded_prices}
 use Rattle.rounding.specs.Views.{plain_changes}
 use Rattle.rounding.specs.declared.replacement.FinePrices.{FinePrices}
-use Rattle.rounding.specs.declared.text.RoundedText.{RoundedText}
+use Rattle.rounding.specs.declared.round_text.RoundedText.{RoundedText}
 
 -- the rounded text, which spells a file, and the prices that were rounded
 pub record IsRounded (fine : FinePrices) (text : List ℕ) (r : RoundedText) : Type 0 where
@@ -17,7 +17,7 @@ pub record IsRounded (fine : FinePrices) (text : List ℕ) (r : RoundedText) : T
   pub file : PlainFile
   pub spells : Spells r.text.items file
 
--- the rounded text and its rounded prices; or the first fault of the rounded text; or want of memory
+-- the rounded text and its rounded prices; or the first fault of the rounded text; or that memory was refused
 abbrev pub RoundAnswer : FinePrices → List ℕ → Result RoundedText ReadFault → Type 0
 RoundAnswer fine text (Ok r) = IsRounded fine text r
 RoundAnswer fine text (Err e) = (first_fault (rounded_text fine text) ≡ Some e) ⊎ (e ≡ fault_at 0 NoMemory)

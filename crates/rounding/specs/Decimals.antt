@@ -1,4 +1,4 @@
--- Decimals as words: one or more digits with at most one point before, among or behind them; then perhaps `e` or `E`, a
+-- Decimals as words. One has one or more digits with at most one point among or beside them; then perhaps `e` or `E`, a
 -- sign or none, and one or more digits. The value is exact, however long the word is.
 use Rattle.std.specs.Prelude.{ℕ, suc, ◌+◌, ◌-◌, ◌*◌, ◌^◌, ◌==◌, Bool, false, not, ◌&&◌, ◌||◌, if◌then◌else◌}
 use Rattle.std.specs.Prelude.{[], ◌∷◌, ◌++◌, length, min}
@@ -59,7 +59,7 @@ raised w = 6 + (if has_minus (exponent w) then 0 else exponent_size w)
 abbrev pub lowered : Word → ℕ
 lowered w = length (places (significand w)) + (if has_minus (exponent w) then exponent_size w else 0)
 
--- The same as a fraction, in which one of the two powers of ten is 1. They are cut where a greater one has the same
+-- The same as a fraction, in which one of the two powers of ten is 1. They are cut if a greater one has the same
 -- replacement, by the law `laws::cut_powers`: 10^19 millionths are above the greatest price, and a number of some digits is
 -- less than half of the power that has one place more than it has digits. So a long exponent makes no large number.
 abbrev pub top : Word → ℕ

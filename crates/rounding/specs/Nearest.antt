@@ -1,4 +1,4 @@
--- Rounding to the nearest whole number, and between two to the even one.
+-- Rounding to the nearest whole number, ties to even.
 use Rattle.std.specs.Prelude.{◌≡◌, ◌⊎◌, ℕ, ◌+◌, ◌*◌, ◌/◌, ◌%◌, ◌≤◌, ◌==◌, nat_lt, if◌then◌else◌}
 
 -- The whole number m is a nearest one to the fraction n / d: twice the distance is at most 1. If it is exactly 1, then

@@ -1,4 +1,4 @@
--- What is written in the place of a word that has to be a price.
+-- What is written in place of a price.
 use Rattle.std.specs.Prelude.{ℕ, ◌*◌, ◌/◌, ◌%◌, ◌==◌, nat_lt, not, is_none, if◌then◌else◌, codes}
 use Rattle.cats_text.specs.Lines.{Word}
 use Rattle.cats_text.specs.Faults.{price_word}

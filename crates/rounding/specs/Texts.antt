@@ -1,4 +1,4 @@
--- A text with its prices rounded, line by line: only the second words of bid lines may be other words.
+-- A text with its prices rounded, line by line. Only the second words of bid lines may be other words.
 use Rattle.std.specs.Prelude.{ℕ, suc, nat_le, Bool, ◌&&◌, if◌then◌else◌, List, [], ◌∷◌, ◌++◌}
 use Rattle.std.specs.List.{flat_map}
 use Rattle.cats_text.specs.Lines.{Word, RawLine, is_blank, line_byte, blank_returns, raw_lines, line_words, is_significant}
@@ -9,7 +9,7 @@ use Rattle.rounding.specs.declared.replacement.Replacement.TheVariants.{Itself, 
 
 -- ---- the second word of a line
 
--- the blanks at the front of a line, and what is behind them; a CR that ends the line is a blank
+-- the blanks at the beginning of a line, and what is behind them; a CR that ends the line is a blank
 abbrev pub blanks : List ℕ → List ℕ
 blanks [] = []
 blanks (b ∷ bs) = if is_blank (line_byte b bs) then b ∷ blanks bs else []
@@ -18,10 +18,10 @@ abbrev pub behind_blanks : List ℕ → List ℕ
 behind_blanks [] = []
 behind_blanks (b ∷ bs) = if is_blank (line_byte b bs) then behind_blanks bs else b ∷ bs
 
--- the word at the front, and what is behind it
-abbrev pub front_word : List ℕ → Word
-front_word [] = []
-front_word (b ∷ bs) = if is_blank (line_byte b bs) then [] else b ∷ front_word bs
+-- the word at the beginning, and what is behind it
+abbrev pub leading_word : List ℕ → Word
+leading_word [] = []
+leading_word (b ∷ bs) = if is_blank (line_byte b bs) then [] else b ∷ leading_word bs
 
 abbrev pub behind_word : List ℕ → List ℕ
 behind_word [] = []
@@ -33,10 +33,10 @@ from_second line = behind_blanks (behind_word (behind_blanks line))
 
 -- what is before the second word, the second word, and what is behind it
 abbrev pub before_second : List ℕ → List ℕ
-before_second line = blanks line ++ front_word (behind_blanks line) ++ blanks (behind_word (behind_blanks line))
+before_second line = blanks line ++ leading_word (behind_blanks line) ++ blanks (behind_word (behind_blanks line))
 
 abbrev pub second_word : List ℕ → Word
-second_word line = front_word (from_second line)
+second_word line = leading_word (from_second line)
 
 abbrev pub behind_second : List ℕ → List ℕ
 behind_second line = behind_word (from_second line)

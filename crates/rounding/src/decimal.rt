@@ -1,4 +1,4 @@
-//! Words taken apart: the digits before the point and behind it, and the exponent.
+//! The parts of a decimal. They are the digits before the point and behind it, and the exponent.
 
 ghost use Rattle.std.specs.Prelude.{◌≡◌, ◌<◌, ◌≤◌, ◌++◌, length};
 ghost use Rattle.cats_text.specs.Numbers.{is_number, whole_part, places};

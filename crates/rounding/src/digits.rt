@@ -1,4 +1,4 @@
-//! Runs of digits: the number that they spell, held at a bound, and what they are worth behind the place where a number
+//! The values of runs of digits. Each is held at a bound, or is what digits are worth behind the place where a number
 //! is cut.
 
 ghost use Rattle.std.specs.Prelude.{◌≡◌, ◌+◌, ◌-◌, ◌*◌, ◌<◌, ◌≤◌, ◌==◌, fold, min, not};
@@ -50,7 +50,7 @@ pub fn held_number(digits: &[u8], start: u64, bound: u64) -> u64
     held
 }
 
-/// What digits are worth behind the place where a number is cut.
+/// What digits are worth after the place where a number is cut.
 #[derive(Clone, Copy, PartialEq, Eq)]
 pub enum Rest {
     /// No digit is behind it.

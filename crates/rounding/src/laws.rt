@@ -1,4 +1,4 @@
-//! Laws of the definitions: what rounding means over whole numbers, and which texts it leaves as they are.
+//! Laws of the definitions. They say what rounding means over whole numbers, and which texts it leaves as they are.
 
 ghost use Rattle.std.specs.Prelude.{◌≡◌, ◌⊎◌, ◌*◌, ◌<◌, ◌≤◌, ◌∷◌, ◌++◌, ℕ, List, [], true, None};
 ghost use Rattle.bid_file.specs.Files.{PlainFile};

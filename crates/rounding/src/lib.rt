@@ -1,5 +1,5 @@
-//! The prices of a bid file's text, made valid: each decimal that `cats_text` does not read is written as a price that
-//! it reads, and where it is finer than a millionth it is rounded.
+//! The prices of a text, made valid. Each decimal that `cats_text` does not read is written as a price that
+//! it reads, and rounded if it is finer than a millionth.
 #![tactic(auto)]
 
 mod decimal;
@@ -7,9 +7,9 @@ mod digits;
 pub mod laws;
 mod line;
 mod replacement;
-mod text;
+mod round_text;
 mod value;
 pub mod worked;
 
 pub use replacement::{FinePrices, Replacement, replacement_of};
-pub use text::{RoundedPrice, RoundedText, round};
+pub use round_text::{RoundedPrice, RoundedText, round};

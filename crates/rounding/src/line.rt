@@ -1,8 +1,8 @@
-//! Lines taken apart: blanks, and the first and the second word.
+//! The parts of a line. They are blanks, and the first and the second word.
 
 ghost use Rattle.std.specs.Prelude.{◌≡◌, suc, ◌<◌, ◌≤◌, length, take, drop, slice_index, true, false};
 ghost use Rattle.cats_text.specs.Lines.{is_blank, line_byte, line_ends, blank_returns, line_words, is_significant};
-ghost use Rattle.rounding.specs.Texts.{blanks, behind_blanks, front_word, behind_word, before_second, from_second};
+ghost use Rattle.rounding.specs.Texts.{blanks, behind_blanks, leading_word, behind_word, before_second, from_second};
 
 /// Whether a line ends before these bytes.
 fn line_ends(bytes: &[u8]) -> bool
@@ -20,7 +20,7 @@ fn is_blank(line: &[u8], place: usize) -> bool
     byte == b' ' || byte == b'\t' || (byte == b'\r' && line_ends(&line[place + 1..]))
 }
 
-/// How many blanks are at the front.
+/// How many blanks are at the beginning.
 fn count_blanks(line: &[u8]) -> usize
     ensures count { result ≡ length (blanks line.now) }
     ensures within { result ≤ length line.now }
@@ -33,9 +33,9 @@ fn count_blanks(line: &[u8]) -> usize
     line.len()
 }
 
-/// How many bytes the word at the front has.
+/// How many bytes the word at the beginning has.
 fn word_length(line: &[u8]) -> usize
-    ensures count { result ≡ length (front_word line.now) }
+    ensures count { result ≡ length (leading_word line.now) }
     ensures within { result ≤ length line.now }
 {
     for place in 0..line.len() {
@@ -64,9 +64,9 @@ pub fn second_start(line: &[u8]) -> usize
     behind + count_blanks(&line[behind..])
 }
 
-/// A word at the front of bytes, and what is behind it.
+/// A word at the beginning of bytes, and what is behind it.
 pub fn split_word(bytes: &[u8]) -> (&[u8], &[u8])
-    ensures word { result.0.now ≡ front_word bytes.now }
+    ensures word { result.0.now ≡ leading_word bytes.now }
     ensures behind { result.1.now ≡ behind_word bytes.now }
 {
     bytes.split_at(word_length(bytes))

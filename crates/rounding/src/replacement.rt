@@ -1,4 +1,4 @@
-//! What is written in the place of a price.
+//! `replacement_of`: what is written in place of a price.
 
 ghost use Rattle.std.specs.Prelude.{◌≡◌, is_none};
 ghost use Rattle.cats_text.specs.Faults.{price_word};

@@ -1,4 +1,4 @@
-//! The value of a decimal, as far as its replacement depends on it.
+//! The value of a decimal. It is held as far as its replacement depends on it.
 
 ghost use Rattle.std.specs.Prelude.{◌≡◌, ℕ, suc, ◌%◌, ◌==◌, nat_lt, ◌+◌, ◌*◌, ◌^◌, ◌<◌, ◌≤◌, ◌++◌, length, min, true};
 ghost use Rattle.cats_text.specs.Numbers.{number_of, digits_alone};
@@ -106,7 +106,7 @@ fn raised_number(number: u64, power: u64) -> u64
 
 /// The digits of two runs, one behind the other, cut so many places before their end.
 fn cut_value(whole: &[u8], places: &[u8], power: u64) -> Value
-    requires room { length whole.now + length places.now < 2 ^ 64 }
+    requires short { length whole.now + length places.now < 2 ^ 64 }
     requires power { power ≤ suc (length whole.now + length places.now) }
     requires digits { digits_alone (whole.now ++ places.now) ≡ true }
     ensures { Holds result (number_of (whole.now ++ places.now)) (10 ^ power) }
@@ -122,10 +122,10 @@ fn cut_value(whole: &[u8], places: &[u8], power: u64) -> Value
     let kept = size - power;
     let of_whole = kept.min(whole.len());
     let of_places = kept - of_whole;
-    let front = held_number(&whole[..of_whole], 0, HELD);
+    let leading = held_number(&whole[..of_whole], 0, HELD);
     let behind = rest_after(&whole[of_whole..], Rest::Nothing);
     Value {
-        whole: held_number(&places[..of_places], front, HELD),
+        whole: held_number(&places[..of_places], leading, HELD),
         rest: rest_after(&places[of_places..], behind),
     }
 }

@@ -1,4 +1,4 @@
-//! Tests of `rounding`, on texts whose rounded prices are known. They are in a crate of their own, since a crate's
+//! Tests of `rounding`, on known rounded prices. They are in their own crate, since a crate's
 //! functions are proved with its tests once more.
 #![tactic(auto)]
 

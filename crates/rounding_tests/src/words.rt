@@ -1,10 +1,10 @@
-//! Words in the place of a price.
+//! Words in place of a price.
 
 use rounding::{FinePrices, Replacement, replacement_of};
 use std::alloc::{AllocError, Global};
 use std::test::Fail;
 
-/// Words, and their replacements where fine prices are rounded and where they are refused.
+/// Words, and their replacements if fine prices are rounded and if they are refused.
 static WORDS: [(&[u8], Replacement, Replacement); 27] = [
     (
         b"1e6",

@@ -1,4 +1,4 @@
--- Which bidders changes name: each is among those of its file.
+-- The bidders that changes name. Each is among those of its file.
 use Rattle.std.specs.Prelude.{ℕ, All}
 use Rattle.bid_file.specs.Files.{IsDummyBelow}
 use Rattle.differences.specs.BidderChanges.{PlainBidderChange}

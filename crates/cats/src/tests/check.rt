@@ -1,3 +1,5 @@
+//! `cats check`: sizes, faults, and comments between lines.
+
 use super::streams::{Comments, RunAnswer, answer_of, expect, reader, writer};
 use cats_cmd::run_check;
 use cats_text::Watched;
@@ -5,16 +7,16 @@ use std::alloc::Global;
 use std::process::Abort;
 use std::test::Fail;
 
-/// What `check` answers of a text, with a writer of this step and room.
+/// What `check` answers of a text, with a writer of this step and capacity.
 fn checked(
     alloc: Global,
     text: &[u8],
     fails: bool,
     step: usize,
-    room: usize,
+    capacity: usize,
 ) -> Result<RunAnswer, Fail> {
     let mut input = reader(text, fails);
-    let mut out = writer(alloc, step, room);
+    let mut out = writer(alloc, step, capacity);
     let answer = run_check(alloc, &mut input, &mut out);
     answer_of(alloc, answer, out)
 }
@@ -28,12 +30,12 @@ fn takes(rt: &(impl Abort + AllocGlobal), rows: &[(&[u8], &str)]) -> Result<(), 
     Ok(())
 }
 
-/// Each header with the lines behind it, and what `check` tells of the two on standard error.
+/// Each header with the lines behind it, and what `check` reports of the two on standard error.
 fn refuses(rt: &(impl Abort + AllocGlobal), rows: &[(&str, &str, &str)]) -> Result<(), Fail> {
-    for (header, lines, told) in rows {
+    for (header, lines, reported) in rows {
         let text = format!(in rt.alloc(); "{header}{lines}")?;
         let answer = checked(rt.alloc(), text.as_bytes(), false, 4096, 4096)?;
-        expect(rt, &answer, 2, "", told);
+        expect(rt, &answer, 2, "", reported);
     }
     Ok(())
 }
@@ -212,7 +214,7 @@ fn faults_of_bid_lines(rt: HostRuntime) -> Result<(), Fail> {
 
 #[test]
 fn streams_fail(rt: HostRuntime) -> Result<(), Fail> {
-    for (text, fails, step, room, status, sent, line) in &[
+    for (text, fails, step, capacity, status, sent, line) in &[
         // the output takes one byte a call, or fails after five, or at its flush
         (EMPTY, false, 1, 4096, 0, SIZES, ""),
         (
@@ -238,7 +240,7 @@ fn streams_fail(rt: HostRuntime) -> Result<(), Fail> {
         (EMPTY, true, 4096, 4096, 5, "", "Device\n"),
         ("Goods 0\n", true, 4096, 4096, 2, "", "line 1: Header\n"),
     ] {
-        let answer = checked(rt.alloc(), text.as_bytes(), *fails, *step, *room)?;
+        let answer = checked(rt.alloc(), text.as_bytes(), *fails, *step, *capacity)?;
         expect(&rt, &answer, *status, sent, line);
     }
     Ok(())

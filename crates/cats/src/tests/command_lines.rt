@@ -1,10 +1,10 @@
-//! What no clause says of command lines: the files, goods and limits that they ask for, and what `clap` tells.
+//! What no clause says of command lines. It is the files, goods and limits that they name, and what `clap` prints.
 
-use command_line::{NoRequest, Request, parse};
+use command_line::{NoRequest, Request, VERSION, parse};
 use std::process::Abort;
 use std::test::Fail;
 
-/// Command lines, and what they ask for.
+/// Command lines, and their requests.
 static REQUESTS: [(&[&str], &str); 21] = [
     (&["cats", "check", "a"], "Check { file: \"a\" }"),
     (&["cats", "show", "a"], "Show { file: \"a\" }"),
@@ -92,7 +92,7 @@ static REQUESTS: [(&[&str], &str); 21] = [
     ),
 ];
 
-/// That this is asked for by these words.
+/// That these words are this request.
 fn expect_request(
     rt: &(impl Abort + AllocGlobal),
     words: &[&str],
@@ -107,7 +107,7 @@ fn expect_request(
 #[test]
 fn requests(rt: HostRuntime) -> Result<(), Fail> {
     for (words, asked) in &REQUESTS {
-        let request = parse(rt.alloc(), words)?;
+        let request = parse(rt.alloc(), VERSION, words)?;
         expect_request(&rt, words, &request, asked)?;
     }
     Ok(())
@@ -116,16 +116,16 @@ fn requests(rt: HostRuntime) -> Result<(), Fail> {
 #[test]
 fn help_and_version(rt: HostRuntime) {
     let alloc = rt.alloc();
-    let help = parse(alloc, &["cats", "help", "check"]);
+    let help = parse(alloc, VERSION, &["cats", "help", "check"]);
     let is_help = matches!(&help, Err(NoRequest::Help(text)) if text.contains("Usage: cats check"));
     assert!(rt; is_help, "{help:?}");
-    let version = parse(alloc, &["cats", "--version"]);
+    let version = parse(alloc, "1.2 (test)", &["cats", "--version"]);
     let is_version =
-        matches!(&version, Err(NoRequest::Help(text)) if text.as_str() == "cats 0.1.0\n");
+        matches!(&version, Err(NoRequest::Help(text)) if text.as_str() == "cats 1.2 (test)\n");
     assert!(rt; is_version, "{version:?}");
 }
 
-/// Command lines that ask for nothing that the program does.
+/// Command lines that are no request.
 static WRONG_LINES: [&[&str]; 17] = [
     &[],
     &["cats"],
@@ -150,7 +150,7 @@ static WRONG_LINES: [&[&str]; 17] = [
 #[test]
 fn wrong_usage(rt: HostRuntime) {
     for words in &WRONG_LINES {
-        let answer = parse(rt.alloc(), words);
+        let answer = parse(rt.alloc(), VERSION, words);
         let is_wrong = matches!(&answer, Err(NoRequest::WrongUsage(text)) if !text.is_empty());
         assert!(rt; is_wrong, "of {words:?}: {answer:?}");
     }

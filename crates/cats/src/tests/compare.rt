@@ -1,3 +1,5 @@
+//! `cats compare`: verdicts and first differences.
+
 use super::streams::{RunAnswer, answer_of, expect, reader, writer};
 use cats_cmd::run_compare;
 use std::alloc::Global;
@@ -6,19 +8,19 @@ use std::test::Fail;
 
 const STEPS: u64 = 1_000_000;
 
-const ROOM: usize = 65_536;
+const CAPACITY: usize = 65_536;
 
-/// What `compare` answers of two texts under a step limit, with a writer that has this room in all.
+/// What `compare` answers of two texts under a step limit, with a writer that has this capacity in all.
 fn compared(
     alloc: Global,
     first: &str,
     second: &str,
     limit: u64,
-    room: usize,
+    capacity: usize,
 ) -> Result<RunAnswer, Fail> {
     let mut left = reader(first.as_bytes(), false);
     let mut right = reader(second.as_bytes(), false);
-    let mut out = writer(alloc, 4096, room);
+    let mut out = writer(alloc, 4096, capacity);
     let answer = run_compare(alloc, &mut left, &mut right, limit, &mut out);
     answer_of(alloc, answer, out)
 }
@@ -37,34 +39,34 @@ const TWO_DUMMIES: &str = "goods 2\nbids 2\ndummy 2\n0\t1\t0\t2\t#\n1\t1\t1\t2\t
 
 const NO_END: &str = "goods 1\nbids 3\ndummy 0\n0\t5\t0\t#\n1\t5\t0\t#\n2 5 0\n";
 
-/// That a comparison of two texts has this status, and tells this.
-fn tells(
+/// That a comparison of two texts has this status, and prints this.
+fn prints(
     rt: &(impl Abort + AllocGlobal),
     first: &str,
     second: &str,
     status: u8,
-    told: &str,
+    reported: &str,
 ) -> Result<(), Fail> {
-    let answer = compared(rt.alloc(), first, second, STEPS, ROOM)?;
-    expect(rt, &answer, status, told, "");
+    let answer = compared(rt.alloc(), first, second, STEPS, CAPACITY)?;
+    expect(rt, &answer, status, reported, "");
     Ok(())
 }
 
-/// Pairs of texts, and for each its status and what it tells, in this order and with the texts exchanged.
-fn tells_both_ways(
+/// Pairs of texts, and for each its status and what it prints, in this order and with the texts exchanged.
+fn prints_both_ways(
     rt: &(impl Abort + AllocGlobal),
     rows: &[(&str, &str, u8, &str, &str)],
 ) -> Result<(), Fail> {
     for (first, second, status, there, back) in rows {
-        tells(rt, first, second, *status, there)?;
-        tells(rt, second, first, *status, back)?;
+        prints(rt, first, second, *status, there)?;
+        prints(rt, second, first, *status, back)?;
     }
     Ok(())
 }
 
 #[test]
 fn same_auctions(rt: HostRuntime) -> Result<(), Fail> {
-    tells_both_ways(
+    prints_both_ways(
         &rt,
         &[
             (NOTHING, NOTHING, 0, "same\n", "same\n"),
@@ -108,7 +110,7 @@ pub(super) const FOUR: &str = "goods 1\nbids 1\ndummy 0\n0\t4\t0\t#\n";
 
 #[test]
 fn differences(rt: HostRuntime) -> Result<(), Fail> {
-    tells_both_ways(
+    prints_both_ways(
         &rt,
         &[
             // goods
@@ -210,10 +212,10 @@ pub(super) static REFUSALS: [(&str, &str, u64, u8, &str); 9] = [
 #[test]
 fn refusals_in_order(rt: HostRuntime) -> Result<(), Fail> {
     for (first, second, limit, status, line) in &REFUSALS {
-        let answer = compared(rt.alloc(), first, second, *limit, ROOM)?;
+        let answer = compared(rt.alloc(), first, second, *limit, CAPACITY)?;
         expect(&rt, &answer, *status, "", line);
     }
-    let answer = compared(rt.alloc(), LARGER_BID, SINGLES, 3, ROOM)?;
+    let answer = compared(rt.alloc(), LARGER_BID, SINGLES, 3, CAPACITY)?;
     expect(&rt, &answer, 0, "same\n", "");
     Ok(())
 }
@@ -230,7 +232,7 @@ fn devices_that_fail_in_a_comparison(rt: HostRuntime) -> Result<(), Fail> {
     ] {
         let mut left = reader(SINGLES.as_bytes(), *first_fails);
         let mut right = reader(LARGER_BID.as_bytes(), *second_fails);
-        let mut out = writer(alloc, 4096, ROOM);
+        let mut out = writer(alloc, 4096, CAPACITY);
         let answer = run_compare(alloc, &mut left, &mut right, STEPS, &mut out);
         expect(&rt, &answer_of(alloc, answer, out)?, 5, "", line);
     }

@@ -56,7 +56,7 @@ fn answer(
 
 const STEPS: u64 = 1_000_000;
 
-const ROOM: usize = 4096;
+const CAPACITY: usize = 4096;
 
 const TEXT: &str = "goods 2\nbids 3\ndummy 0\n0\t3\t0\t#\n1\t4\t1\t#\n2\t7\t0\t1\t#\n";
 
@@ -93,13 +93,13 @@ fn expect_failure(
     line: &str,
 ) -> Result<(), Fail> {
     let mut input = byte_reader(bytes, Some(failure));
-    let out = writer(rt.alloc(), ROOM, ROOM);
+    let out = writer(rt.alloc(), CAPACITY, CAPACITY);
     let answer = answer(rt.alloc(), run, &mut input, out)?;
     expect(rt, &answer, status, "", line);
     Ok(())
 }
 
-/// What a run tells of an input that fails after each number of bytes of a text: its fault from so many bytes on, and
+/// What a run reports of an input that fails after each number of bytes of a text: its fault from so many bytes on, and
 /// else the failure.
 fn fails_in(
     rt: &(impl Abort + AllocGlobal),
@@ -140,23 +140,28 @@ fn inputs_fail(rt: HostRuntime) -> Result<(), Fail> {
 fn a_byte_a_call(rt: HostRuntime) -> Result<(), Fail> {
     for (run, sent, _) in &RUNS {
         let mut input = byte_reader(TEXT.as_bytes(), None);
-        let answer = answer(rt.alloc(), *run, &mut input, writer(rt.alloc(), 1, ROOM))?;
+        let answer = answer(
+            rt.alloc(),
+            *run,
+            &mut input,
+            writer(rt.alloc(), 1, CAPACITY),
+        )?;
         expect(&rt, &answer, 0, sent, "");
     }
     Ok(())
 }
 
-/// What a run tells of an output that fails, and of one that stalls, after each number of bytes of what it sends.
+/// What a run reports of an output that fails, and of one that stalls, after each number of bytes of what it sends.
 fn cut_off(rt: &(impl Abort + AllocGlobal), run: Run, sent: &str) -> Result<(), Fail> {
-    for room in 0..sent.len() {
+    for capacity in 0..sent.len() {
         let mut input = reader(TEXT.as_bytes(), false);
-        let failing = writer(rt.alloc(), ROOM, room);
+        let failing = writer(rt.alloc(), CAPACITY, capacity);
         let failed = answer(rt.alloc(), run, &mut input, failing)?;
-        expect_cut_off(rt, &failed, sent, room)?;
+        expect_cut_off(rt, &failed, sent, capacity)?;
         let mut input = reader(TEXT.as_bytes(), false);
-        let stalling = stalling_writer(rt.alloc(), room);
+        let stalling = stalling_writer(rt.alloc(), capacity);
         let stalled = answer(rt.alloc(), run, &mut input, stalling)?;
-        expect_cut_off(rt, &stalled, sent, room)?;
+        expect_cut_off(rt, &stalled, sent, capacity)?;
     }
     Ok(())
 }
@@ -167,7 +172,7 @@ fn outputs_fail(rt: HostRuntime) -> Result<(), Fail> {
         cut_off(&rt, *run, sent)?;
         // the flush alone fails
         let mut input = reader(TEXT.as_bytes(), false);
-        let out = writer(rt.alloc(), 0, ROOM);
+        let out = writer(rt.alloc(), 0, CAPACITY);
         let answer = answer(rt.alloc(), *run, &mut input, out)?;
         expect_cut_off(&rt, &answer, sent, sent.len())?;
     }

@@ -1,3 +1,5 @@
+//! `cats diff`: all differences, as they are printed.
+
 use super::compare::{
     APART, EQUAL_BIDDERS, FIVE, FOUR, LARGER_BID, NOTHING, REFUSALS, SINGLES, TOGETHER,
 };
@@ -9,19 +11,19 @@ use std::test::Fail;
 
 const STEPS: u64 = 1_000_000;
 
-const ROOM: usize = 65_536;
+const CAPACITY: usize = 65_536;
 
-/// What `diff` answers of two texts under a step limit, with a writer that has this room in all.
+/// What `diff` answers of two texts under a step limit, with a writer that has this capacity in all.
 fn differed(
     alloc: Global,
     first: &str,
     second: &str,
     limit: u64,
-    room: usize,
+    capacity: usize,
 ) -> Result<RunAnswer, Fail> {
     let mut left = reader(first.as_bytes(), false);
     let mut right = reader(second.as_bytes(), false);
-    let mut out = writer(alloc, 4096, room);
+    let mut out = writer(alloc, 4096, capacity);
     let answer = run_diff(alloc, &mut left, &mut right, limit, &mut out);
     answer_of(alloc, answer, out)
 }
@@ -33,7 +35,7 @@ fn differ(
     second: &str,
     lines: &str,
 ) -> Result<(), Fail> {
-    let answer = differed(rt.alloc(), first, second, STEPS, ROOM)?;
+    let answer = differed(rt.alloc(), first, second, STEPS, CAPACITY)?;
     let status = if lines.is_empty() { 0 } else { 1 };
     expect(rt, &answer, status, lines, "");
     Ok(())
@@ -283,19 +285,19 @@ fn both_kinds_of_bidders(rt: HostRuntime) -> Result<(), Fail> {
 #[test]
 fn diff_refuses_as_compare_does(rt: HostRuntime) -> Result<(), Fail> {
     for (first, second, limit, status, line) in &REFUSALS {
-        let answer = differed(rt.alloc(), first, second, *limit, ROOM)?;
+        let answer = differed(rt.alloc(), first, second, *limit, CAPACITY)?;
         expect(&rt, &answer, *status, "", line);
     }
-    let answer = differed(rt.alloc(), LARGER_BID, SINGLES, 3, ROOM)?;
+    let answer = differed(rt.alloc(), LARGER_BID, SINGLES, 3, CAPACITY)?;
     expect(&rt, &answer, 0, "", "");
     Ok(())
 }
 
 #[test]
 fn outputs_of_diff_fail(rt: HostRuntime) -> Result<(), Fail> {
-    for room in 0..BOTH_LINES.len() {
-        let cut_off = differed(rt.alloc(), BOTH_KINDS, BOTH_KINDS_DIFFER, STEPS, room)?;
-        expect_cut_off(&rt, &cut_off, BOTH_LINES, room)?;
+    for capacity in 0..BOTH_LINES.len() {
+        let cut_off = differed(rt.alloc(), BOTH_KINDS, BOTH_KINDS_DIFFER, STEPS, capacity)?;
+        expect_cut_off(&rt, &cut_off, BOTH_LINES, capacity)?;
     }
     Ok(())
 }

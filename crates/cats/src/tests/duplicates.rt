@@ -1,4 +1,4 @@
-//! `cats duplicates` on new files, whose paths begin with what `@` stands for.
+//! `cats duplicates` on new files. Their paths begin with what `@` stands for.
 
 use super::program::run_words;
 use super::streams::{RunAnswer, expect};
@@ -50,29 +50,43 @@ static FILES: [(&str, &str); 12] = [
     ("empty", ""),
 ];
 
-const ROOM: usize = 65_536;
+const CAPACITY: usize = 65_536;
 
-/// A command line with its room for output and faults, and what it answers: its status, its output and its faults'
+/// A command line with its capacity for output and faults, and what it answers: its status, its output and its faults'
 /// lines.
 type Row = (&'static str, usize, usize, u8, &'static str, &'static str);
 
 static ROWS: [Row; 19] = [
-    ("cats duplicates @a @b", ROOM, ROOM, 0, "", ""),
-    ("cats duplicates @a @a2", ROOM, ROOM, 0, "@a\n@a2\n", ""),
-    ("cats duplicates @a @a", ROOM, ROOM, 0, "@a\n@a\n", ""),
+    ("cats duplicates @a @b", CAPACITY, CAPACITY, 0, "", ""),
+    (
+        "cats duplicates @a @a2",
+        CAPACITY,
+        CAPACITY,
+        0,
+        "@a\n@a2\n",
+        "",
+    ),
+    (
+        "cats duplicates @a @a",
+        CAPACITY,
+        CAPACITY,
+        0,
+        "@a\n@a\n",
+        "",
+    ),
     // three auctions, one after the other
     (
         "cats duplicates @a @b @c @c2 @a2 @b2",
-        ROOM,
-        ROOM,
+        CAPACITY,
+        CAPACITY,
         0,
         "@a\n@a2\n\n@b\n@b2\n\n@c\n@c2\n",
         "",
     ),
     (
         "cats duplicates @price @good @bidder @goods @a @c @a2",
-        ROOM,
-        ROOM,
+        CAPACITY,
+        CAPACITY,
         0,
         "@a\n@a2\n",
         "",
@@ -80,24 +94,24 @@ static ROWS: [Row; 19] = [
     // a refused file between two equal ones
     (
         "cats duplicates @a @bad @a2",
-        ROOM,
-        ROOM,
+        CAPACITY,
+        CAPACITY,
         2,
         "@a\n@a2\n",
         "@bad: line 2: Missing\n",
     ),
     (
         "cats duplicates @none @b @empty @b2",
-        ROOM,
-        ROOM,
+        CAPACITY,
+        CAPACITY,
         5,
         "@b\n@b2\n",
         "@none: cannot open: no such file\n@empty: line 1: Missing\n",
     ),
     (
         "cats duplicates --steps 2 @a2 @a @bad @a2",
-        ROOM,
-        ROOM,
+        CAPACITY,
+        CAPACITY,
         3,
         "@a2\n@a2\n",
         "@a: step limit at 0,1\n@bad: line 2: Missing\n",
@@ -105,32 +119,32 @@ static ROWS: [Row; 19] = [
     // a folder among files, and one file alone
     (
         "cats duplicates @a /tmp @a2",
-        ROOM,
-        ROOM,
+        CAPACITY,
+        CAPACITY,
         5,
         "@a\n@a2\n",
         "/tmp: cannot open: is a folder\n",
     ),
     (
         "cats duplicates @a @a/b",
-        ROOM,
-        ROOM,
+        CAPACITY,
+        CAPACITY,
         5,
         "",
         "@a/b: cannot open\n",
     ),
-    ("cats duplicates @a", ROOM, ROOM, 0, "", ""),
+    ("cats duplicates @a", CAPACITY, CAPACITY, 0, "", ""),
     (
         "cats duplicates @none @bad",
-        ROOM,
-        ROOM,
+        CAPACITY,
+        CAPACITY,
         5,
         "",
         "@none: cannot open: no such file\n@bad: line 2: Missing\n",
     ),
     (
         "cats duplicates @bad @a @a2 @empty",
-        ROOM,
+        CAPACITY,
         0,
         2,
         "@a\n@a2\n",
@@ -138,8 +152,8 @@ static ROWS: [Row; 19] = [
     ),
     (
         "cats duplicates --progress @a @bad @a2",
-        ROOM,
-        ROOM,
+        CAPACITY,
+        CAPACITY,
         2,
         "@a\n@a2\n",
         "@bad: line 2: Missing\n3 of 3 @a2\n",
@@ -147,7 +161,7 @@ static ROWS: [Row; 19] = [
     (
         "cats duplicates @c @c2",
         4,
-        ROOM,
+        CAPACITY,
         5,
         "/tmp",
         "output failed after 4 bytes\n",
@@ -156,34 +170,39 @@ static ROWS: [Row; 19] = [
     ("cats duplicates @c @bad @c2", 4, 0, 5, "/tmp", ""),
     (
         "cats duplicates @a @a2 --steps=3",
-        ROOM,
-        ROOM,
+        CAPACITY,
+        CAPACITY,
         0,
         "@a\n@a2\n",
         "",
     ),
     (
         "cats duplicates @c @a @c2 --progress",
-        ROOM,
-        ROOM,
+        CAPACITY,
+        CAPACITY,
         0,
         "@c\n@c2\n",
         "3 of 3 @c2\n",
     ),
 ];
 
-/// A text in which the beginning of the paths stands for each `@`.
+/// A text in which the beginning of the paths replaces each `@`.
 fn with_start(alloc: Global, start: &str, text: &str) -> Result<String, AllocError> {
     text.replace(alloc, '@', start)
 }
 
 /// What a command line answers, whose words have a blank between each two.
-fn run(rt: &HostRuntime, line: &str, out_room: usize, err_room: usize) -> Result<RunAnswer, Fail> {
+fn run(
+    rt: &HostRuntime,
+    line: &str,
+    out_capacity: usize,
+    err_capacity: usize,
+) -> Result<RunAnswer, Fail> {
     let mut words = Vec::new(rt.alloc());
     for word in line.split(' ') {
         words.push(word)?;
     }
-    run_words(rt, words.as_slice(), out_room, err_room)
+    run_words(rt, words.as_slice(), out_capacity, err_capacity)
 }
 
 #[test]
@@ -194,12 +213,12 @@ fn duplicates(rt: HostRuntime) -> Result<(), Fail> {
         let path = format!(in rt.alloc(); "{start}{name}")?;
         fs::write(&rt, path.as_str(), *text)?;
     }
-    for (line, out_room, err_room, status, sent, told) in &ROWS {
+    for (line, out_capacity, err_capacity, status, sent, reported) in &ROWS {
         let line = with_start(rt.alloc(), start.as_str(), line)?;
         let sent = with_start(rt.alloc(), start.as_str(), sent)?;
-        let told = with_start(rt.alloc(), start.as_str(), told)?;
-        let answer = run(&rt, line.as_str(), *out_room, *err_room)?;
-        expect(&rt, &answer, *status, sent.as_str(), told.as_str());
+        let reported = with_start(rt.alloc(), start.as_str(), reported)?;
+        let answer = run(&rt, line.as_str(), *out_capacity, *err_capacity)?;
+        expect(&rt, &answer, *status, sent.as_str(), reported.as_str());
     }
     for (name, _) in &FILES {
         let path = format!(in rt.alloc(); "{start}{name}")?;

@@ -1,3 +1,5 @@
+//! `cats explain`: the reasons, as they are printed.
+
 use super::normalise::bids_on_one_good;
 use super::streams::{RunAnswer, answer_of, expect, reader, writer};
 use cats_cmd::run_explain;
@@ -7,12 +9,12 @@ use std::test::Fail;
 
 const STEPS: u64 = 1_000_000;
 
-const ROOM: usize = 8_388_608;
+const CAPACITY: usize = 8_388_608;
 
 /// What `explain` answers of a text under a step limit.
 fn explained(alloc: Global, text: &[u8], fails: bool, limit: u64) -> Result<RunAnswer, Fail> {
     let mut input = reader(text, fails);
-    let mut out = writer(alloc, 4096, ROOM);
+    let mut out = writer(alloc, 4096, CAPACITY);
     let answer = run_explain(alloc, &mut input, limit, &mut out);
     answer_of(alloc, answer, out)
 }

@@ -1,3 +1,5 @@
+//! `cats normalise`: canonical texts, and files that are refused.
+
 use super::streams::{RunAnswer, answer_of, expect, reader, writer};
 use cats_cmd::run_normalise;
 use std::alloc::{AllocError, Global};
@@ -7,12 +9,12 @@ use std::test::Fail;
 
 const STEPS: u64 = 1_000_000;
 
-const ROOM: usize = 8_388_608;
+const CAPACITY: usize = 8_388_608;
 
 /// What `normalise` answers of a text under a step limit.
 fn normal(alloc: Global, text: &[u8], fails: bool, limit: u64) -> Result<RunAnswer, Fail> {
     let mut input = reader(text, fails);
-    let mut out = writer(alloc, 4096, ROOM);
+    let mut out = writer(alloc, 4096, CAPACITY);
     let answer = run_normalise(alloc, &mut input, limit, &mut out);
     answer_of(alloc, answer, out)
 }

@@ -1,19 +1,20 @@
+//! The program on files of the system, by command lines.
+
 use super::streams::{RunAnswer, expect, text_taken, writer};
 use cats_cmd::run_cats;
 use std::process::Abort;
 use std::test::Fail;
-use std::{env, fs, process};
 
-/// What a command line of these words answers, with so much room for its output and for its faults.
+/// What a command line of these words answers, with so much capacity for its output and for its faults.
 pub fn run_words(
     rt: &HostRuntime,
     words: &[&str],
-    out_room: usize,
-    err_room: usize,
+    out_capacity: usize,
+    err_capacity: usize,
 ) -> Result<RunAnswer, Fail> {
     let alloc = rt.alloc();
-    let mut out = writer(alloc, 4096, out_room);
-    let mut err = writer(alloc, 4096, err_room);
+    let mut out = writer(alloc, 4096, out_capacity);
+    let mut err = writer(alloc, 4096, err_capacity);
     let status = run_cats(rt, words, &mut out, &mut err);
     Ok(RunAnswer {
         status,
@@ -22,15 +23,15 @@ pub fn run_words(
     })
 }
 
-/// What a command line answers, whose words have a blank between each two, and in which FILE stands for a path, and
-/// OTHER for another.
-fn run(
+/// What a command line answers, whose words have a blank between each two, with a path in the place of FILE, and
+/// another in that of OTHER.
+pub(super) fn run(
     rt: &HostRuntime,
     line: &str,
     path: &str,
     other: &str,
-    out_room: usize,
-    err_room: usize,
+    out_capacity: usize,
+    err_capacity: usize,
 ) -> Result<RunAnswer, Fail> {
     let mut words = Vec::new(rt.alloc());
     for word in line.split(' ') {
@@ -40,12 +41,12 @@ fn run(
             _ => word,
         })?;
     }
-    run_words(rt, words.as_slice(), out_room, err_room)
+    run_words(rt, words.as_slice(), out_capacity, err_capacity)
 }
 
-const ROOM: usize = 65_536;
+pub(super) const CAPACITY: usize = 65_536;
 
-/// Command lines that ask for nothing that the program does.
+/// Command lines that are no request.
 static WRONG_LINES: [&str; 38] = [
     "cats",
     "cats check",
@@ -87,25 +88,28 @@ static WRONG_LINES: [&str; 38] = [
     "cats duplicates --progress=yes a b",
 ];
 
-/// That a command line has this status, and that what it told is as it should be.
-fn expect_told(rt: &impl Abort, line: &str, answer: &RunAnswer, status: u8, told: bool) {
-    assert!(rt; told && answer.status == status, "of {line:?}: {answer:?}");
+/// That a command line has this status, and that what it reported is as it should be.
+fn expect_reported(rt: &impl Abort, line: &str, answer: &RunAnswer, status: u8, reported: bool) {
+    assert!(rt;
+        reported && answer.status == status,
+        "of {line:?}: {answer:?}"
+    );
 }
 
 #[test]
 fn usage_faults(rt: HostRuntime) -> Result<(), Fail> {
     for line in &WRONG_LINES {
-        for err_room in [ROOM, 3] {
-            let answer = run(&rt, line, "", "", ROOM, err_room)?;
-            let told = answer.sent.is_empty() && !answer.line.is_empty();
-            expect_told(&rt, line, &answer, 64, told);
+        for err_capacity in [CAPACITY, 3] {
+            let answer = run(&rt, line, "", "", CAPACITY, err_capacity)?;
+            let reported = answer.sent.is_empty() && !answer.line.is_empty();
+            expect_reported(&rt, line, &answer, 64, reported);
         }
     }
-    assert!(rt; run_words(&rt, &[], ROOM, ROOM)?.status == 64);
+    assert!(rt; run_words(&rt, &[], CAPACITY, CAPACITY)?.status == 64);
     Ok(())
 }
 
-/// Command lines that ask for help.
+/// Command lines that name help.
 static HELP_LINES: [&str; 12] = [
     "cats --help",
     "cats -h",
@@ -124,12 +128,12 @@ static HELP_LINES: [&str; 12] = [
 #[test]
 fn help(rt: HostRuntime) -> Result<(), Fail> {
     for line in &HELP_LINES {
-        let answer = run(&rt, line, "", "", ROOM, ROOM)?;
+        let answer = run(&rt, line, "", "", CAPACITY, CAPACITY)?;
         let text = answer.sent.as_str();
-        let told = text.contains("Usage: cats") && text.contains("Statuses:");
-        expect_told(&rt, line, &answer, 0, told && answer.line.is_empty());
-        let cut_off = run(&rt, line, "", "", 3, ROOM)?;
-        expect_told(&rt, line, &cut_off, 5, true);
+        let reported = text.contains("Usage: cats") && text.contains("Statuses:");
+        expect_reported(&rt, line, &answer, 0, reported && answer.line.is_empty());
+        let cut_off = run(&rt, line, "", "", 3, CAPACITY)?;
+        expect_reported(&rt, line, &cut_off, 5, true);
     }
     Ok(())
 }
@@ -137,9 +141,9 @@ fn help(rt: HostRuntime) -> Result<(), Fail> {
 #[test]
 fn version(rt: HostRuntime) -> Result<(), Fail> {
     for line in &["cats --version", "cats -V"] {
-        let answer = run(&rt, line, "", "", ROOM, ROOM)?;
+        let answer = run(&rt, line, "", "", CAPACITY, CAPACITY)?;
         expect(&rt, &answer, 0, "cats 0.1.0\n", "");
-        let cut_off = run(&rt, line, "", "", 3, ROOM)?;
+        let cut_off = run(&rt, line, "", "", 3, CAPACITY)?;
         expect(&rt, &cut_off, 5, "cat", "");
     }
     Ok(())
@@ -147,366 +151,20 @@ fn version(rt: HostRuntime) -> Result<(), Fail> {
 
 #[test]
 fn cannot_open(rt: HostRuntime) -> Result<(), Fail> {
-    for (path, room, told) in &[
-        ("/tmp/cats_cmd_no_such_folder/a.cats", ROOM, "cannot open\n"),
+    for (path, capacity, reported) in &[
+        (
+            "/tmp/cats_cmd_no_such_folder/a.cats",
+            CAPACITY,
+            "cannot open\n",
+        ),
         ("/tmp/cats_cmd_no_such_folder/a.cats", 0, ""),
-        ("", ROOM, "cannot open\n"),
-        ("a\0b", ROOM, "cannot open\n"),
+        ("", CAPACITY, "cannot open\n"),
+        ("a\0b", CAPACITY, "cannot open\n"),
         // a folder is opened, and cannot be read
-        ("/tmp", ROOM, "Device\n"),
+        ("/tmp", CAPACITY, "Device\n"),
     ] {
-        let answer = run(&rt, "cats check FILE", path, "", ROOM, *room)?;
-        expect(&rt, &answer, 5, "", told);
+        let answer = run(&rt, "cats check FILE", path, "", CAPACITY, *capacity)?;
+        expect(&rt, &answer, 5, "", reported);
     }
     Ok(())
-}
-
-/// A command line with its room for output and faults, and what it answers: its status, its output and its fault's
-/// line.
-type Row<'a> = (&'a str, usize, usize, u8, &'a str, &'a str);
-
-/// The path of a new file with this text.
-fn new_file(rt: &HostRuntime, name: &str, text: &str) -> Result<String, Fail> {
-    let id = process::id(rt.process());
-    let path = format!(in rt.alloc(); "/tmp/cats_cmd_{id}_{name}.cats")?;
-    fs::write(rt, path.as_str(), text)?;
-    Ok(path)
-}
-
-/// What command lines answer of two new files with these texts.
-fn answers(
-    rt: &HostRuntime,
-    abort: &impl Abort,
-    text: &str,
-    other_text: &str,
-    rows: &[Row<'_>],
-) -> Result<(), Fail> {
-    let path = new_file(rt, "one", text)?;
-    let other = new_file(rt, "other", other_text)?;
-    for (line, out_room, err_room, status, sent, told) in rows {
-        let answer = run(
-            rt,
-            line,
-            path.as_str(),
-            other.as_str(),
-            *out_room,
-            *err_room,
-        )?;
-        expect(abort, &answer, *status, sent, told);
-    }
-    fs::remove_file(rt, path.as_str())?;
-    fs::remove_file(rt, other.as_str())?;
-    Ok(())
-}
-
-const SIZES: &str = "goods 2\nbids 0\ndummy 1\n";
-
-static SIZES_ROWS: [Row<'static>; 3] = [
-    (
-        "cats check FILE",
-        ROOM,
-        ROOM,
-        0,
-        "goods 2 bids 0 dummy 1\n",
-        "",
-    ),
-    (
-        "cats check FILE",
-        5,
-        ROOM,
-        5,
-        "goods",
-        "output failed after 5 bytes\n",
-    ),
-    ("cats check FILE", 5, 0, 5, "goods", ""),
-];
-
-const SHOWN: &str = "%% out of order\ngoods 2\nbids 2\ndummy 1\n1 0.50 2 0 #\n0 07 1 0 #\n";
-
-const LAYOUT: &str = "goods 2\nbids 2\ndummy 1\n0\t7\t0\t1\t#\n1\t0.5\t0\t2\t#\n";
-
-static SHOWN_ROWS: [Row<'static>; 2] = [
-    ("cats show FILE", ROOM, ROOM, 0, LAYOUT, ""),
-    (
-        "cats show FILE",
-        8,
-        ROOM,
-        5,
-        "goods 2\n",
-        "output failed after 8 bytes\n",
-    ),
-];
-
-const MISSING: &str = "goods 2\nbids 0\n";
-
-static MISSING_ROWS: [Row<'static>; 14] = [
-    ("cats check FILE", ROOM, ROOM, 2, "", "line 3: Missing\n"),
-    ("cats check FILE", ROOM, 0, 2, "", ""),
-    ("cats show FILE", ROOM, ROOM, 2, "", "line 3: Missing\n"),
-    ("cats show FILE", ROOM, 0, 2, "", ""),
-    ("cats value FILE", ROOM, ROOM, 2, "", "line 3: Missing\n"),
-    ("cats value FILE", ROOM, 0, 2, "", ""),
-    (
-        "cats normalise FILE",
-        ROOM,
-        ROOM,
-        2,
-        "",
-        "line 3: Missing\n",
-    ),
-    ("cats normalise FILE", ROOM, 0, 2, "", ""),
-    ("cats explain FILE", ROOM, ROOM, 2, "", "line 3: Missing\n"),
-    (
-        "cats compare FILE FILE",
-        ROOM,
-        ROOM,
-        2,
-        "",
-        "first: line 3: Missing\n",
-    ),
-    // both files are opened before either is read
-    (
-        "cats compare FILE /tmp/cats_cmd_no_such_folder/a.cats",
-        ROOM,
-        ROOM,
-        5,
-        "",
-        "second: cannot open\n",
-    ),
-    (
-        "cats compare /tmp/cats_cmd_no_such_folder/a.cats /tmp/cats_cmd_no_such_folder/b.cats",
-        ROOM,
-        ROOM,
-        5,
-        "",
-        "first: cannot open\n",
-    ),
-    (
-        "cats diff FILE FILE",
-        ROOM,
-        ROOM,
-        2,
-        "",
-        "first: line 3: Missing\n",
-    ),
-    (
-        "cats diff FILE /tmp/cats_cmd_no_such_folder/a.cats",
-        ROOM,
-        ROOM,
-        5,
-        "",
-        "second: cannot open\n",
-    ),
-];
-
-const VALUED: &str = "goods 2\nbids 3\ndummy 1\n0 3 0 #\n1 4.5 1 #\n2 7 0 1 2 #\n";
-
-static VALUED_ROWS: [Row<'static>; 8] = [
-    (
-        "cats value FILE 1 0 +1 01",
-        ROOM,
-        ROOM,
-        0,
-        "or 7.5 0 1\nxor 2 7 2\n",
-        "",
-    ),
-    ("cats value FILE", ROOM, ROOM, 0, "or 0\nxor 2 0\n", ""),
-    (
-        "cats value --steps 4 FILE 0 1",
-        ROOM,
-        ROOM,
-        0,
-        "or 7.5 0 1\nxor 2 7 2\n",
-        "",
-    ),
-    (
-        "cats value --steps=1000000000 FILE 1",
-        ROOM,
-        ROOM,
-        0,
-        "or 4.5 1\nxor 2 0\n",
-        "",
-    ),
-    (
-        "cats value FILE 0 1 --steps 3",
-        ROOM,
-        ROOM,
-        3,
-        "",
-        "step limit at 0,1\n",
-    ),
-    (
-        "cats value FILE 0 --steps 1",
-        ROOM,
-        ROOM,
-        3,
-        "",
-        "step limit at 0\n",
-    ),
-    (
-        "cats value FILE --steps 1",
-        ROOM,
-        ROOM,
-        0,
-        "or 0\nxor 2 0\n",
-        "",
-    ),
-    (
-        "cats value FILE 0 65535 2",
-        ROOM,
-        ROOM,
-        64,
-        "",
-        "good 65535 out of range\n",
-    ),
-];
-
-const LARGER_BID: &str = "goods 2\nbids 3\ndummy 0\n0 3 0 #\n1 4 1 #\n2 7 0 1 #\n";
-
-const LARGER_BID_TEXT: &str = "goods 2\nbids 2\ndummy 0\n0\t3\t0\t#\n1\t4\t1\t#\n";
-
-static LARGER_BID_ROWS: [Row<'static>; 16] = [
-    ("cats normalise FILE", ROOM, ROOM, 0, LARGER_BID_TEXT, ""),
-    (
-        "cats explain FILE",
-        ROOM,
-        ROOM,
-        0,
-        "0\tkeep\t0\n1\tkeep\t1\n2\tpacking\t0\t1\n",
-        "",
-    ),
-    (
-        "cats explain FILE --steps=2",
-        ROOM,
-        ROOM,
-        3,
-        "",
-        "step limit at 0,1\n",
-    ),
-    (
-        "cats explain FILE",
-        8,
-        ROOM,
-        5,
-        "0\tkeep\t0",
-        "output failed after 8 bytes\n",
-    ),
-    ("cats compare FILE FILE", ROOM, ROOM, 0, "same\n", ""),
-    (
-        "cats compare FILE OTHER",
-        ROOM,
-        ROOM,
-        1,
-        "different\nor 0\nleft 3\nright below 3\n",
-        "",
-    ),
-    (
-        "cats compare OTHER FILE",
-        ROOM,
-        ROOM,
-        1,
-        "different\nor 0\nleft below 3\nright 3\n",
-        "",
-    ),
-    (
-        "cats compare --steps=2 OTHER FILE",
-        ROOM,
-        ROOM,
-        3,
-        "",
-        "second: step limit at 0,1\n",
-    ),
-    (
-        "cats compare FILE --steps 2 FILE",
-        ROOM,
-        ROOM,
-        3,
-        "",
-        "first: step limit at 0,1\n",
-    ),
-    ("cats diff FILE FILE", ROOM, ROOM, 0, "", ""),
-    (
-        "cats diff FILE OTHER",
-        ROOM,
-        ROOM,
-        1,
-        "or\t0\t3\t-\nor\t1\t4\t-\n",
-        "",
-    ),
-    (
-        "cats diff OTHER FILE",
-        ROOM,
-        ROOM,
-        1,
-        "or\t0\t-\t3\nor\t1\t-\t4\n",
-        "",
-    ),
-    (
-        "cats diff --steps=2 OTHER FILE",
-        ROOM,
-        ROOM,
-        3,
-        "",
-        "second: step limit at 0,1\n",
-    ),
-    (
-        "cats normalise --steps 3 FILE",
-        ROOM,
-        ROOM,
-        0,
-        LARGER_BID_TEXT,
-        "",
-    ),
-    (
-        "cats normalise FILE --steps=2",
-        ROOM,
-        ROOM,
-        3,
-        "",
-        "step limit at 0,1\n",
-    ),
-    (
-        "cats normalise FILE",
-        8,
-        ROOM,
-        5,
-        "goods 2\n",
-        "output failed after 8 bytes\n",
-    ),
-];
-
-/// A bid for each of 20 goods: 2 to the 19 packings are within the steps that are allowed where the command line says
-/// nothing, and 2 to the 20 are not.
-const SINGLES: &str =
-    "goods 20\nbids 20\ndummy 0\n0 1 0 #\n1 1 1 #\n2 1 2 #\n3 1 3 #\n4 1 4 #\n5 1 5 #\n6 1 6 #\n7 1 7 #\n\
-    8 1 8 #\n9 1 9 #\n10 1 10 #\n11 1 11 #\n12 1 12 #\n13 1 13 #\n14 1 14 #\n15 1 15 #\n16 1 16 #\n17 1 17 #\n\
-    18 1 18 #\n19 1 19 #\n";
-
-static SINGLES_ROWS: [Row<'static>; 2] = [
-    (
-        "cats value FILE 0 1 2 3 4 5 6 7 8 9 10 11 12 13 14 15 16 17 18",
-        ROOM,
-        ROOM,
-        0,
-        "or 19 0 1 2 3 4 5 6 7 8 9 10 11 12 13 14 15 16 17 18\n",
-        "",
-    ),
-    (
-        "cats value FILE 0 1 2 3 4 5 6 7 8 9 10 11 12 13 14 15 16 17 18 19",
-        ROOM,
-        ROOM,
-        3,
-        "",
-        "step limit at 0,1,2,3,4,5,6,7,8,9,10,11,12,13,14,15,16,17,18,19\n",
-    ),
-];
-
-#[test]
-fn files(rt: HostRuntime) -> Result<(), Fail> {
-    answers(&rt, &rt, SIZES, "", &SIZES_ROWS)?;
-    answers(&rt, &rt, SHOWN, "", &SHOWN_ROWS)?;
-    answers(&rt, &rt, MISSING, "", &MISSING_ROWS)?;
-    answers(&rt, &rt, VALUED, "", &VALUED_ROWS)?;
-    answers(&rt, &rt, LARGER_BID, SIZES, &LARGER_BID_ROWS)?;
-    answers(&rt, &rt, SINGLES, "", &SINGLES_ROWS)
 }

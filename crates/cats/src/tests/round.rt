@@ -1,4 +1,4 @@
-//! `cats round`: texts with their prices rounded, what is reported of them, and texts that are refused.
+//! `cats round`: rounded texts, reports and refusals.
 
 use super::streams::{RunAnswer, answer_of, expect, reader, text_taken, writer};
 use cats_cmd::{FinePrices, run_round};

@@ -1,3 +1,5 @@
+//! `cats show`: files in their layout.
+
 use super::streams::{RunAnswer, answer_of, expect, reader, writer};
 use cats_cmd::run_show;
 use std::alloc::Global;

@@ -1,11 +1,12 @@
-//! The program on files in memory, of which its contract says what it does for a command line.
+//! The program on files in memory. Its contract says what it does there for a command line.
 
 ghost use Rattle.std.specs.List.{Any};
 ghost use Rattle.std.specs.Prelude.{◌≡◌, ◌⊎◌};
 ghost use Rattle.cats_cmd.specs.declared.source.Unopened.TheVariants.{NoSuchFile};
 
 use super::streams::{RunAnswer, expect, text_taken, writer};
-use cats_cmd::{Source, Unopened, run_program};
+use crate::version::version_text;
+use cats_cmd::{Process, Source, Unopened, run_program};
 use std::alloc::{Alloc, AllocGlobal, Global};
 use std::process::Abort;
 use std::test::Fail;
@@ -95,7 +96,13 @@ static REFUSED: [(&str, Unopened); 3] = [
 /// A command line's words, and what it answers: its status, its output and its faults' lines.
 type Row<'a> = (&'a [&'a str], u8, &'a str, &'a str);
 
-static ROWS: [Row<'static>; 35] = [
+static ROWS: [Row<'static>; 36] = [
+    (
+        &["cats", "--version"],
+        0,
+        "cats 0.1.0 (logic dac8208d650f15bf, x86-64-v2)\n",
+        "",
+    ),
     (
         &["cats", "check", "same"],
         0,
@@ -311,7 +318,7 @@ Usage: cats duplicates --files0-from <LIST> [FILE]...\n\nFor more information, t
     ),
 ];
 
-/// The same where standard error is a terminal.
+/// The same if standard error is a terminal.
 static TERMINAL_ROWS: [Row<'static>; 4] = [
     (
         &[
@@ -359,21 +366,26 @@ fn judge_rows(
     terminal: bool,
 ) -> Result<(), Fail> {
     let alloc = rt.alloc();
+    let version = version_text(alloc)?;
     let source = FilesInMemory {
         files: &FILES,
         refused: &REFUSED,
         alloc,
     };
-    for (words, status, sent, told) in rows {
+    for (words, status, sent, reported) in rows {
         let mut out = writer(alloc, 4096, 4096);
         let mut err = writer(alloc, 4096, 4096);
-        let status_answered = run_program(&source, words, &mut out, &mut err, terminal);
+        let process = Process {
+            version: version.as_str(),
+            terminal,
+        };
+        let status_answered = run_program(&source, words, &mut out, &mut err, &process);
         let answer = RunAnswer {
             status: status_answered,
             sent: text_taken(out)?,
             line: text_taken(err)?,
         };
-        expect(rt, &answer, *status, sent, told);
+        expect(rt, &answer, *status, sent, reported);
     }
     Ok(())
 }

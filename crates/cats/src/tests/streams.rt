@@ -1,4 +1,4 @@
-//! Readers and writers over memory that fail, and what a run did with them.
+//! Readers and writers in memory that fail. Tests ask them what a run did with them.
 
 ghost use Rattle.std.specs.Prelude.{◌≡◌, false};
 ghost use Rattle.cats_text.specs.Streams.{has_ended, has_failed};
@@ -11,7 +11,7 @@ use std::io::{ErrorKind, Read, Write};
 use std::process::Abort;
 use std::test::Fail;
 
-/// Gives at most `step` bytes of its text a call, and in place of its end it fails, where it is to.
+/// Gives at most `step` bytes of its text a call, and in place of its end it fails, if it is to.
 #[derive(Drop)]
 pub struct StepReader<'a> {
     text: &'a [u8],
@@ -31,7 +31,7 @@ impl Read for StepReader<'_> {
     }
 }
 
-/// Gives the whole text, or, where it fails, gives it byte by byte and then fails.
+/// Gives the whole text, or, if it fails, gives it byte by byte and then fails.
 pub fn reader(text: &[u8], fails: bool) -> Watched<StepReader<'_>>
     ensures works { has_failed result ≡ false }
     ensures fresh { has_ended result ≡ false }
@@ -72,23 +72,23 @@ impl Read for Comments {
     }
 }
 
-/// Takes at most `step` bytes a call and `room` in all, and then fails, or stalls: it takes nothing more. With no step
+/// Takes at most `step` bytes a call and `capacity` in all, and then fails, or stalls: it takes nothing more. With no step
 /// it fails at its flush alone.
 #[derive(Drop)]
 pub struct StepWriter {
     pub taken: Vec<u8>,
     step: usize,
-    room: usize,
+    capacity: usize,
     stalls: bool,
 }
 
 impl Write for StepWriter {
     fn write(&mut self, piece: &[u8]) -> io::Result<usize> {
-        let count = piece.len().min(self.step.max(1)).min(self.room);
+        let count = piece.len().min(self.step.max(1)).min(self.capacity);
         if count == 0 && !piece.is_empty() && !self.stalls {
             return Err(io::Error::from(ErrorKind::BrokenPipe));
         }
-        self.room -= count;
+        self.capacity -= count;
         self.taken.extend_from_slice(&piece[..count])?;
         Ok(count)
     }
@@ -101,25 +101,25 @@ impl Write for StepWriter {
     }
 }
 
-pub fn writer(alloc: Global, step: usize, room: usize) -> Watched<StepWriter>
+pub fn writer(alloc: Global, step: usize, capacity: usize) -> Watched<StepWriter>
     ensures { has_failed result ≡ false }
 {
     Watched::new(StepWriter {
         taken: Vec::new(alloc),
         step,
-        room,
+        capacity,
         stalls: false,
     })
 }
 
 /// Takes so many bytes, and then nothing of any piece.
-pub fn stalling_writer(alloc: Global, room: usize) -> Watched<StepWriter>
+pub fn stalling_writer(alloc: Global, capacity: usize) -> Watched<StepWriter>
     ensures { has_failed result ≡ false }
 {
     Watched::new(StepWriter {
         taken: Vec::new(alloc),
         step: 4096,
-        room,
+        capacity,
         stalls: true,
     })
 }
@@ -171,8 +171,8 @@ pub fn expect(rt: &impl Abort, answer: &RunAnswer, status: u8, sent: &str, line:
 }
 
 /// The line of an output that failed after so many bytes.
-fn cut_off_line(alloc: Global, room: usize) -> Result<String, AllocError> {
-    Ok(format!(in alloc; "output failed after {room} bytes\n")?)
+fn cut_off_line(alloc: Global, capacity: usize) -> Result<String, AllocError> {
+    Ok(format!(in alloc; "output failed after {capacity} bytes\n")?)
 }
 
 /// That the output failed after so many bytes of this text.
@@ -180,10 +180,10 @@ pub fn expect_cut_off(
     rt: &(impl Abort + AllocGlobal),
     answer: &RunAnswer,
     text: &str,
-    room: usize,
+    capacity: usize,
 ) -> Result<(), Fail> {
-    let line = cut_off_line(rt.alloc(), room)?;
-    let sent = text.get(..room).unwrap_or(text);
+    let line = cut_off_line(rt.alloc(), capacity)?;
+    let sent = text.get(..capacity).unwrap_or(text);
     expect(rt, answer, 5, sent, line.as_str());
     Ok(())
 }

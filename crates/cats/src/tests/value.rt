@@ -1,3 +1,5 @@
+//! `cats value`: values and the bids that give them.
+
 use super::streams::{RunAnswer, answer_of, expect, reader, writer};
 use cats_cmd::run_value;
 use std::alloc::Global;
@@ -77,7 +79,7 @@ fn values_of_bundles(rt: HostRuntime) -> Result<(), Fail> {
             ),
             (OUT_OF_ORDER, &[0], "or 1 2\nxor 3 9 0\nxor 4 0\nxor 5 0\n"),
             (OUT_OF_ORDER, &[2], "or 4 6\nxor 3 0\nxor 4 0\nxor 5 0\n"),
-            // a bid of nothing is told, where no bid is not
+            // a bid with price 0 is printed, and a missing bid is not
             (
                 "goods 2\nbids 1\ndummy 1\n0 0 0 2 #\n",
                 &[0],

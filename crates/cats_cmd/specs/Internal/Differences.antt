@@ -3,7 +3,7 @@ use Rattle.std.specs.Prelude.{◌≡◌, ℕ, List, Option, Result}
 use Rattle.bid_file.specs.Files.{PlainFile}
 use Rattle.cats_text.specs.declared.stream.Watched.{Watched}
 use Rattle.canon.specs.declared.which.Which.TheVariants.{Both}
-use Rattle.cats_cmd.specs.Outcomes.{Tells, compare_outcome}
+use Rattle.cats_cmd.specs.Outcomes.{Prints, compare_outcome}
 use Rattle.cats_cmd.specs.Runs.{SendsMadeAs}
 use Rattle.answers.specs.declared.report.RunFault.{RunFault}
 
@@ -12,5 +12,5 @@ pub record SendsDifference {W : Type 0} (contents : W → Option (List ℕ)) (le
     (answer : Result ℕ RunFault) : Type 0 where
   pub status : ℕ
   pub text : List ℕ
-  pub made : compare_outcome left right ≡ Tells status text
+  pub made : compare_outcome left right ≡ Prints status text
   pub sends : SendsMadeAs contents Both status text old new answer

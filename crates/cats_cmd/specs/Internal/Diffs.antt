@@ -1,4 +1,4 @@
--- What the parts of `cats diff` do: reading a file with its names, and sending all differences of two.
+-- The parts of `cats diff`. One reads a file with its names, and one sends all differences of two.
 use Rattle.std.specs.Prelude.{◌≡◌, ℕ, List, Option, Result, Ok, Err}
 use Rattle.bid_file.specs.Files.{PlainFile}
 use Rattle.cats_text.specs.declared.stream.Watched.{Watched}
@@ -6,8 +6,8 @@ use Rattle.canon.specs.declared.canon_fault.CanonFault.{CanonFault}
 use Rattle.canon.specs.declared.canon_fault.CanonFault.TheVariants.{Memory}
 use Rattle.canon.specs.declared.named.NamedFile.{NamedFile}
 use Rattle.canon.specs.declared.which.Which.TheVariants.{Both}
-use Rattle.answers.specs.NamedFiles.{IsNamed, TellsDifferences}
-use Rattle.cats_cmd.specs.Inputs.{IsRefusedFile, ReadsLightFile}
+use Rattle.answers.specs.NamedFiles.{IsNamed, PrintsDifferences}
+use Rattle.cats_cmd.specs.Inputs.{IsRefusedFile, ReadsWithinLimit}
 use Rattle.cats_cmd.specs.Outcomes.{normalise_outcome}
 use Rattle.cats_cmd.specs.Runs.{SendsAs}
 use Rattle.answers.specs.declared.report.RunFault.{RunFault}
@@ -19,7 +19,7 @@ module _ {R : Type 0} (remaining : R → Option (List ℕ)) (limit : ℕ) where
   -- a file that was read, with its canonical file
   pub record ReadsNamedFile (old new : Watched R) (named : NamedFile) : Type 0 where
     pub file : PlainFile
-    pub given : ReadsLightFile remaining limit old new file
+    pub given : ReadsWithinLimit remaining limit old new file
     pub is : IsNamed file named
 
   -- reading a file and normalising it
@@ -34,7 +34,7 @@ module _ {W : Type 0} (contents : W → Option (List ℕ)) (left right : NamedFi
   pub record SendsAllDifferences (old new : Watched W) (answer : Result ℕ RunFault) : Type 0 where
     pub status : ℕ
     pub text : List ℕ
-    pub told : TellsDifferences left right status text
+    pub printed : PrintsDifferences left right status text
     pub sends : SendsAs contents status text old new answer
 
   -- the text of all differences is sent, with its status; memory that is refused belongs to both files

@@ -1,14 +1,14 @@
--- What judging the file at one path does, among files that are judged one after the other, and what is kept of them.
+-- Judging the file at one path of many. The definitions say what it does, and what is kept.
 use Rattle.std.specs.Prelude.{◌≡◌, ℕ, List, [], ◌∷◌, ◌++◌, length, Option, Result, Ok, Err}
 use Rattle.std.specs.declared.alloc.AllocError.{AllocError}
 use Rattle.cats_text.specs.declared.stream.Watched.{Watched}
 use Rattle.canon.specs.FirstPlaces.{IsIndexOf, TextIndex}
 use Rattle.cats_cmd.specs.Duplicates.{FindsPlaces, judged_files}
 use Rattle.cats_cmd.specs.Paths.{BeginsPaths, Judgement, Judges, JudgesPaths, JudgesStream, greatest_status, lines_of_path}
-use Rattle.cats_cmd.specs.Paths.{status_of_judgement, stop_of}
-use Rattle.cats_cmd.specs.Stops.{ReportsAll}
+use Rattle.cats_cmd.specs.Paths.{status_of_judgement, request_error_of}
+use Rattle.cats_cmd.specs.RequestErrors.{ReportsAll}
 use Rattle.cats_cmd.specs.declared.paths.Progress.{Progress}
-use Rattle.cats_cmd.specs.declared.program.Stop.{Stop}
+use Rattle.cats_cmd.specs.declared.program.RequestError.{RequestError}
 use Rattle.cats_cmd.specs.declared.source.Unopened.{Unopened}
 
 -- what `cats duplicates` keeps: an index of the files that were judged, and what was found of them
@@ -29,20 +29,20 @@ module _ {C : Type 0} (Has : C → List (List ℕ × Judgement) → Type 0) wher
 
   -- the stream was judged, and this is why it was not
   pub record AddsOpened {F : Type 0} (remaining : F → Option (List ℕ)) (limit : ℕ) (path : List ℕ) (old new : C)
-      (before after : Watched F) (stop : Option Stop) : Type 0 where
+      (before after : Watched F) (error : Option RequestError) : Type 0 where
     pub judgement : Judgement
     pub judges : JudgesStream remaining limit before after judgement
     pub adds : AddsJudgement path judgement old new
-    pub is_stop : stop ≡ stop_of judgement
+    pub is_error : error ≡ request_error_of judgement
 
   module _ {F : Type 0} (may_open : List ℕ → F → Type 0) (may_refuse : List ℕ → Unopened → Type 0)
       (remaining : F → Option (List ℕ)) (limit : ℕ) where
     -- the file at the path was judged
-    pub record AddsFile (path : List ℕ) (old new : C) (stop : Option Stop) : Type 0 where
+    pub record AddsFile (path : List ℕ) (old new : C) (error : Option RequestError) : Type 0 where
       pub judgement : Judgement
       pub judges : Judges may_open may_refuse remaining limit (path, judgement)
       pub adds : AddsJudgement path judgement old new
-      pub is_stop : stop ≡ stop_of judgement
+      pub is_error : error ≡ request_error_of judgement
 
     -- the file at the path with this number, among so many, was judged and reported
     pub record AddsPath {E : Type 0} (messages : E → Option (List ℕ)) (progress : Progress) (count number : ℕ)

@@ -1,4 +1,4 @@
--- A bidder that is taken from those that wait for a partner.
+-- A bidder that is taken from those without a partner.
 use Rattle.std.specs.Prelude.{◌≡◌, ℕ, Option, Some, None, List, ◌∷◌}
 use Rattle.std.specs.Ordering.{nat_cmp}
 use Rattle.valuation.specs.Sorting.{count_of}

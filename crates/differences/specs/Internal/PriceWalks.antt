@@ -1,4 +1,4 @@
--- The bundle that comes first in two lists of bids in order.
+-- The first bundle of two ordered lists of bids.
 use Rattle.std.specs.Prelude.{◌≡◌, ◌≢◌, ℕ, true, is_some, ◌||◌, List, All}
 use Rattle.std.specs.declared.cmp.Ordering.TheVariants.{Less}
 use Rattle.goods_set.specs.Orders.{bundle_cmp}

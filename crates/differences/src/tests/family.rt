@@ -1,4 +1,4 @@
-//! All pairs of many small files, each compared by a slow program: it looks up the price of each bidder on each bundle, and
+//! All pairs of many small files. A slow program compares each: it looks up each bidder's price on each bundle, and
 //! compares each bidder with each other one.
 
 use super::{canonical_file, expect, lines_of};

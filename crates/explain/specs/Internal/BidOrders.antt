@@ -1,4 +1,4 @@
--- The bids of a file in order, so that the best of a bidder's bids on a bundle is the first of them.
+-- The bids of a file in order. The best of a bidder's bids on a bundle is the first of them.
 use Rattle.std.specs.Prelude.{◌≡◌, ℕ, ◌<◌, List, length, IsPermutation, slice_index_or}
 use Rattle.std.specs.List.Sorted.{IsSortedBy}
 use Rattle.std.specs.Ordering.{nat_cmp, ordering_then, is_lt}

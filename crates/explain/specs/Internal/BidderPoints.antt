@@ -1,4 +1,4 @@
--- The points of each bidder of a file: the bids of the canonical file, as atoms, with their numbers in the file.
+-- The points of each bidder of a file. They are the bids of the canonical file, with their numbers in the file.
 use Rattle.std.specs.Prelude.{◌≡◌, ℕ, ◌<◌, List, [], ◌∷◌, ◌++◌, length, take, slice_get, slice_index_or, Contains, Option, Some, None}
 use Rattle.bid_file.specs.Files.{PlainFile, IsDummyBelow}
 use Rattle.valuation.specs.declared.atom.Atom.{Atom}

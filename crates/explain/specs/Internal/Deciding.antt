@@ -1,4 +1,4 @@
--- What the code finds out for each bid: its reason, and that the bids that the reason names are in the canonical file. If
+-- What the code finds out for each bid. It is its reason, and that the bids it names are in the canonical file. If
 -- each bid has such a reason, the reasons explain the file.
 use Rattle.std.specs.Prelude.{◌≡◌, ℕ, ◌≤◌, List, slice_get, Some, None, is_some, sum_by, true}
 use Rattle.std.specs.List.{AllByRecursion}

@@ -1,4 +1,4 @@
--- The canonical file of a file with the names of its bidders, and where the two have the same bids.
+-- The canonical file with dummy goods, and its bids in the file.
 use Rattle.std.specs.Prelude.{◌≡◌, ℕ, ◌<◌, List, length, slice_index_or, Option, Some, None}
 use Rattle.bid_file.specs.Files.{PlainFile, IsPlainFile}
 use Rattle.canon.specs.Canonical.{canonical_file}

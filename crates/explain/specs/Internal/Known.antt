@@ -1,4 +1,4 @@
--- What is known of a file's bids when their reasons are found.
+-- What is known when the reasons are found.
 use Rattle.std.specs.Prelude.{◌≡◌, ℕ, ◌<◌, List, length, map, slice_index_or, None}
 use Rattle.bid_file.specs.Files.{PlainFile, IsPlainFile, IsDummyBelow}
 use Rattle.bid_file.specs.Views.{seen_bid}
@@ -21,7 +21,7 @@ pub record IsKnown {S : Type 0} (goods : S → List ℕ) (known : Known S) : Typ
   pub order : AreInOrder known.file.now known.bids.items
   pub kept : AreKept known.file.now known.kept
   pub points : AreFilePoints goods known.file.now (length (kept_bids known.file.now)) known.points
-  pub within_limit : first_heavy known.file.now.goods known.limit (or_atoms_of known.file.now.bids) ≡ None
+  pub within : first_heavy known.file.now.goods known.limit (or_atoms_of known.file.now.bids) ≡ None
 
 -- the index is that of its bidder's points
 pub record IsCurrent {S : Type 0} (goods : S → List ℕ) (known : Known S) (current : CurrentIndex S) : Type 0 where

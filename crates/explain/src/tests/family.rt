@@ -1,4 +1,4 @@
-//! The reasons of the bids of many small files, each checked by going through all bids of the file and of its canonical
+//! The reasons of the bids of many small files. Each is checked by reading all bids of the file and of its canonical
 //! file.
 
 use crate::{Reason, explain};

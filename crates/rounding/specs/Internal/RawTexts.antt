@@ -1,4 +1,4 @@
--- The first line of a text, and what is behind it.
+-- The first line of a text, and the rest.
 use Rattle.std.specs.Prelude.{ℕ, ◌==◌, Bool, if◌then◌else◌, List, [], ◌∷◌}
 use Rattle.std.specs.List.{list_any}
 

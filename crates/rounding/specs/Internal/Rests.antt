@@ -1,4 +1,4 @@
--- What digits are worth behind the place where a number is cut.
+-- What the digits behind a cut are worth.
 use Rattle.std.specs.Prelude.{ℕ, ◌==◌, nat_le, if◌then◌else◌}
 use Rattle.rounding.specs.declared.digits.Rest.{Rest}
 use Rattle.rounding.specs.declared.digits.Rest.TheVariants.{Nothing, Zeros, BelowHalf, Half, AboveHalf}

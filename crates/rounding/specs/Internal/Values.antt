@@ -1,4 +1,4 @@
--- What a held value has of a fraction.
+-- What a decimal's held value says of a fraction.
 use Rattle.std.specs.Prelude.{◌≡◌, ℕ, suc, ◌+◌, ◌-◌, ◌*◌, ◌/◌, ◌%◌, ◌<◌, if◌then◌else◌, min}
 use Rattle.bid_file.specs.declared.limits.TheConstants.{MAX_PRICE}
 use Rattle.cats_text.specs.Lines.{Word}

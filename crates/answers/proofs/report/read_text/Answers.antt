@@ -15,5 +15,5 @@ text_in_a_line line kind long device memory = refl
 
 pub returns-in_default : goal.returns-in_default
 returns-in_default c =
-    let told = text_in_a_line c.args.fault.now.line c.args.fault.now.kind c.in_default.not-TooLong c.in_default.not-Device c.in_default.not-Memory in
-    let name = c.kind_name-in_default.ensures in let line = c.at_line.ensures in rw (told, ← name) line
+    let reported = text_in_a_line c.args.fault.now.line c.args.fault.now.kind c.in_default.not-TooLong c.in_default.not-Device c.in_default.not-Memory in
+    let name = c.kind_name-in_default.ensures in let line = c.at_line.ensures in rw (reported, ← name) line

@@ -6,7 +6,7 @@ use Rattle.cats_calls.proofs.one_text.explain_text.Goals as goal
 
 pub returns : goal.returns
 returns c = record {
-  given = record { file = c.in_ok-file.file; spelled = c.in_ok-file.ensures; light = c.in_ok-reasons.ensures.within };
+  given = record { file = c.in_ok-file.file; spelled = c.in_ok-file.ensures; within_limit = c.in_ok-reasons.ensures.within };
   reasons = map plain_reason c.in_ok-reasons.reasons.items;
   explains = c.in_ok-reasons.ensures.reasons;
   is_status = refl;

@@ -7,12 +7,12 @@ returns-in-Ok-eq0 g c =
     let none = c.in-Ok-eq0.field-0-test in
     let kept = c.loop-text.invariant in
     let gave = c.in-Ok-eq0.ensures in
-    let room : 0 < length c.read.new.piece = rw c.read.auto.piece kept.room in
+    let not_empty : 0 < length c.read.new.piece = rw c.read.auto.piece kept.not_empty in
     record {
       consumes = no_more _ _ _ c.loop-text.text.items c.read.new.piece c.in-Ok-eq0.field-0 none kept.came gave.bytes.0;
       within = kept.within;
-      ended = gave.ended ∙ at_the_end _ c.in-Ok-eq0.field-0 c.read.new.piece none room;
-      at_end = gave.bytes.1 none room;
+      ended = gave.ended ∙ at_the_end _ c.in-Ok-eq0.field-0 c.read.new.piece none not_empty;
+      at_end = gave.bytes.1 none not_empty;
       works = gave.failed;
     }
 

@@ -10,7 +10,7 @@ invariant-loop-text g l = record {
   came : Consumes (g.R.Read.remaining (inner_of l.fn.input)) (g.R.Read.remaining (inner_of l.input)) l.text.items;
   within : length l.text.items ≤ MAX_STREAM;
   device : has_failed l.input ≡ false;
-  room : 0 < length l.piece;
+  not_empty : 0 < length l.piece;
 }
 
 abbrev pub decreases-loop-text : goal.decreases-loop-text

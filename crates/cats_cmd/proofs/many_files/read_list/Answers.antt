@@ -1,6 +1,6 @@
-use Rattle.cats_cmd.proofs.ListingPaths.{stopped_reading}
+use Rattle.cats_cmd.proofs.ListingPaths.{list_unread}
 use Rattle.cats_cmd.proofs.many_files.read_list.Goals as goal
 
 pub returns-clause-unread : goal.returns-clause-unread
 returns-clause-unread g c =
-    rw c.from.ensures (stopped_reading _ _ _ c.args.list.now c.in-Err-read_bytes.fault _ _ c.in-Ok.ensures.opened c.in-Err-read_bytes.ensures)
+    rw c.from.ensures (list_unread _ _ _ c.args.list.now c.in-Err-read_bytes.fault _ _ c.in-Ok.ensures.opened c.in-Err-read_bytes.ensures)

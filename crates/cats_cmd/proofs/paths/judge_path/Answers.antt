@@ -3,5 +3,5 @@ use Rattle.cats_cmd.proofs.paths.judge_path.Goals as goal
 
 pub returns : goal.returns
 returns g c =
-    path_judged _ _ _ _ _ _ c.args.many.progress c.args.turn.now.count c.args.turn.now.number c.args.turn.now.path.now _ _ _ _ c.in_ok-stop.stop _
-    c.in_ok-stop.ensures c.report_path.ensures c.status_if.ensures
+    path_judged _ _ _ _ _ _ c.args.many.progress c.args.turn.now.count c.args.turn.now.number c.args.turn.now.path.now _ _ _ _ c.in_ok-error.error _
+    c.in_ok-error.ensures c.report_path.ensures c.status_if.ensures

@@ -4,4 +4,4 @@ use Rattle.cats_cmd.proofs.paths.report_refusal.Goals as goal
 
 pub returns-in-Some : goal.returns-in-Some
 returns-in-Some g c =
-    rw c.in-Some.is (c.report.new.err, c.report.ensures (refusal_line c.args.path.now c.in-Some.stop) c.path_refusal.ensures, refl)
+    rw c.in-Some.is (c.report.new.err, c.report.ensures (refusal_line c.args.path.now c.in-Some.error) c.path_refusal.ensures, refl)

@@ -1,7 +1,7 @@
 use Rattle.std.proofs.Common.{map, take}
 use Rattle.rounding.specs.Views.{plain_changes}
 use Rattle.answers.specs.RoundedLines.{rounded_line}
-use Rattle.cats_cmd.specs.Stops.{ReportsAll}
+use Rattle.cats_cmd.specs.RequestErrors.{ReportsAll}
 use Rattle.cats_cmd.proofs.round.report_prices.Given as goal
 
 -- the prices so far were reported

@@ -1,12 +1,12 @@
 use Rattle.std.proofs.Common.{ℕ, List, Ok, Err, map, ◌∙◌, subst}
 use Rattle.rounding.specs.Answers.{IsRounded}
 use Rattle.rounding.specs.Views.{plain_changes}
-use Rattle.rounding.specs.declared.text.RoundedPrice.{RoundedPrice}
+use Rattle.rounding.specs.declared.round_text.RoundedPrice.{RoundedPrice}
 use Rattle.cats_cmd.specs.Internal.Roundings.{RoundsText}
 use Rattle.answers.specs.RoundedLines.{rounded_line}
 use Rattle.cats_cmd.specs.Runs.{SendsAs}
-use Rattle.cats_cmd.specs.Stops.{ReportsAll}
-use Rattle.cats_cmd.proofs.Rounding.{round_unread, round_unmade, round_unsent, round_told}
+use Rattle.cats_cmd.specs.RequestErrors.{ReportsAll}
+use Rattle.cats_cmd.proofs.Rounding.{round_unread, round_unmade, round_unsent, round_printed}
 use Rattle.cats_cmd.proofs.round.run_round.Goals as goal
 
 pub returns-in_err-text : goal.returns-in_err-text
@@ -34,7 +34,7 @@ returns g c =
     let rounded = c.in_ok-rounded.rounded in
     let is : IsRounded c.args.fine c.in_ok-text.text.items rounded =
     subst (λ (text : List ℕ). IsRounded c.args.fine text rounded) c.as_slice.ensures.value c.in_ok-rounded.ensures in
-    round_told _ _ _ _ _ _ _ _ _ _ c.in_ok-text.text.items c.in_ok-text.ensures rounded is c.in_ok-status.status
+    round_printed _ _ _ _ _ _ _ _ _ _ c.in_ok-text.text.items c.in_ok-text.ensures rounded is c.in_ok-status.status
     (subst (λ (text : List ℕ). SendsAs g.W.Write.contents 0 text c.args.out.now c.send_text.new.out (Ok c.in_ok-status.status))
     (c.as_slice-2.ensures.value ∙ is.text_is) c.in_ok-status.ensures)
     (subst

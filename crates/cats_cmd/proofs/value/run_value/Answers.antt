@@ -1,12 +1,12 @@
 use Rattle.std.proofs.Common.{rules, ◌≡◌, ℕ, List, Option, None, Err, sym, ap, ◌∙◌, subst}
 use Rattle.bid_file.specs.Files.{PlainFile}
-use Rattle.cats_cmd.specs.Outcomes.{Outcome, Tells, missing_good, outcome_unless, value_outcome, values_within}
+use Rattle.cats_cmd.specs.Outcomes.{Outcome, Prints, missing_good, outcome_unless, value_outcome, values_within}
 use Rattle.cats_cmd.specs.Runs.{MakesAs}
 use Rattle.cats_cmd.specs.ValueTexts.{bundle_from}
-use Rattle.cats_cmd.proofs.RunsOfOneFile.{run_unread, run_unmade, run_told}
+use Rattle.cats_cmd.proofs.RunsOfOneFile.{run_unread, run_unmade, run_printed}
 use Rattle.cats_cmd.proofs.value.run_value.Goals as goal
 
--- where the file has all of the goods
+-- if the file has all of the goods
 with_all_goods : (goods : List ℕ) (limit : ℕ) (file : PlainFile) → missing_good file.goods goods ≡ None
     → value_outcome goods limit file ≡ values_within limit (bundle_from goods) file
 with_all_goods goods limit file none = ap (λ (m : Option ℕ). outcome_unless m (values_within limit (bundle_from goods) file)) none
@@ -27,6 +27,6 @@ pub returns : goal.returns
 returns g c =
     let file : PlainFile = c.in_ok-file.file in
     let none : missing_good file.goods c.args.goods.now ≡ None = search rules in
-    run_told _ _ (value_outcome c.args.goods.now c.args.limit) _ _ _ _ _ c.in_ok-file.ensures 0 _
-    (with_all_goods c.args.goods.now c.args.limit file none ∙ c.in_ok-text.ensures ∙ ap (λ text. Tells 0 text) (sym c.as_slice.ensures.value)) _
+    run_printed _ _ (value_outcome c.args.goods.now c.args.limit) _ _ _ _ _ c.in_ok-file.ensures 0 _
+    (with_all_goods c.args.goods.now c.args.limit file none ∙ c.in_ok-text.ensures ∙ ap (λ text. Prints 0 text) (sym c.as_slice.ensures.value)) _
     c.send_text.ensures

@@ -11,7 +11,7 @@ use Rattle.explain.specs.Internal.BidderPoints.{points_at}
 use Rattle.explain.specs.declared.points.BidderPoints.{BidderPoints}
 use Rattle.explain.proofs.KeptBids.{bundle_here}
 use Rattle.explain.proofs.KeptBidsBest.{none_is}
-use Rattle.explain.proofs.Dropped.{told_none, or_reached, or_within, has_packing, xor_reached, has_inside}
+use Rattle.explain.proofs.Dropped.{none_answered, or_reached, or_within, has_packing, xor_reached, has_inside}
 use Rattle.explain.proofs.dropping.reason_to_drop.Goals as goal
 
 pub atom_of-requires-clause-rising : goal.atom_of-requires-clause-rising
@@ -35,7 +35,7 @@ found_packing-requires-clause-reached g c =
     or_reached g.S.GoodsSet.goods known c.requires.known i c.requires.bid.within c.requires.drop c.turn_to.new.self.index
     (c.turn_to.ensures.current.index ∙ ap (λ (o : Option ℕ). atoms_of g.S.GoodsSet.goods (points_at known.points o).atoms.items) (c.turn_to.ensures.dummy ∙ dummy))
     c.in_ok-atom.atom (c.in_ok-atom.ensures ∙ ap atom_of c.requires.bid.is)
-    (sym dummy ∙ none_is c.args.bid.now.bid.dummy (told_none c.args.bid.now.bid.dummy c.is_none.result true c.is_none.ensures c.if-is_none.true))
+    (sym dummy ∙ none_is c.args.bid.now.bid.dummy (none_answered c.args.bid.now.bid.dummy c.is_none.result true c.is_none.ensures c.if-is_none.true))
 
 pub found_packing-requires-clause-within : goal.found_packing-requires-clause-within
 found_packing-requires-clause-within g c =
@@ -45,7 +45,7 @@ found_packing-requires-clause-within g c =
     or_within g.S.GoodsSet.goods known c.requires.known i c.requires.bid.within c.requires.drop c.turn_to.new.self.index
     (c.turn_to.ensures.current.index ∙ ap (λ (o : Option ℕ). atoms_of g.S.GoodsSet.goods (points_at known.points o).atoms.items) (c.turn_to.ensures.dummy ∙ dummy))
     c.in_ok-atom.atom (c.in_ok-atom.ensures ∙ ap atom_of c.requires.bid.is)
-    (sym dummy ∙ none_is c.args.bid.now.bid.dummy (told_none c.args.bid.now.bid.dummy c.is_none.result true c.is_none.ensures c.if-is_none.true))
+    (sym dummy ∙ none_is c.args.bid.now.bid.dummy (none_answered c.args.bid.now.bid.dummy c.is_none.result true c.is_none.ensures c.if-is_none.true))
 
 pub returns-then-is_none-clause-reason : goal.returns-then-is_none-clause-reason
 returns-then-is_none-clause-reason g c =
@@ -58,7 +58,7 @@ returns-then-is_none-clause-reason g c =
     has_packing goods known c.requires.known i c.requires.bid.within c.requires.drop c.turn_to.new.self.index
     (c.turn_to.ensures.current.index ∙ ap (λ (o : Option ℕ). atoms_of goods (points_at known.points o).atoms.items) (c.turn_to.ensures.dummy ∙ dummy))
     atom (c.in_ok-atom.ensures ∙ ap atom_of c.requires.bid.is)
-    (sym dummy ∙ none_is c.args.bid.now.bid.dummy (told_none c.args.bid.now.bid.dummy c.is_none.result true c.is_none.ensures c.if-is_none.true))
+    (sym dummy ∙ none_is c.args.bid.now.bid.dummy (none_answered c.args.bid.now.bid.dummy c.is_none.result true c.is_none.ensures c.if-is_none.true))
     c.deref.result.now c.deref-then-is_none.result.now c.in_ok-numbers_at.field-0.items
     (c.deref.ensures.value ∙ ap (λ (p : BidderPoints g.row.S.Denot). p.numbers.items) of)
     (subst (λ (ps : List ℕ). IsPackingFor c.turn_to.new.self.index (goods atom.bundle) atom.price ps) (sym c.deref-then-is_none.ensures.value)
@@ -73,7 +73,7 @@ found_point-requires-clause-reached g c =
     xor_reached g.S.GoodsSet.goods known c.requires.known i c.requires.bid.within c.requires.drop c.turn_to.new.self.index
     (c.turn_to.ensures.current.index ∙ ap (λ (o : Option ℕ). atoms_of g.S.GoodsSet.goods (points_at known.points o).atoms.items) (c.turn_to.ensures.dummy ∙ dummy))
     c.in_ok-atom.atom (c.in_ok-atom.ensures ∙ ap atom_of c.requires.bid.is)
-    (ap is_none (sym dummy) ∙ told_none c.args.bid.now.bid.dummy c.is_none.result false c.is_none.ensures c.if-is_none.false)
+    (ap is_none (sym dummy) ∙ none_answered c.args.bid.now.bid.dummy c.is_none.result false c.is_none.ensures c.if-is_none.false)
 
 pub returns-clause-reason : goal.returns-clause-reason
 returns-clause-reason g c =
@@ -86,5 +86,5 @@ returns-clause-reason g c =
     has_inside g.S.GoodsSet.goods known c.requires.known i c.requires.bid.within c.requires.drop c.turn_to.new.self.index
     (c.turn_to.ensures.current.index ∙ ap (λ (o : Option ℕ). atoms_of g.S.GoodsSet.goods (points_at known.points o).atoms.items) (c.turn_to.ensures.dummy ∙ dummy))
     c.in_ok-atom.atom (c.in_ok-atom.ensures ∙ ap atom_of c.requires.bid.is)
-    (ap is_none (sym dummy) ∙ told_none c.args.bid.now.bid.dummy c.is_none.result false c.is_none.ensures c.if-is_none.false) place number
+    (ap is_none (sym dummy) ∙ none_answered c.args.bid.now.bid.dummy c.is_none.result false c.is_none.ensures c.if-is_none.false) place number
     (c.index.ensures ∙ ap (λ (p : BidderPoints g.row.S.Denot). get_or p.numbers.items place number) of) c.in_ok-place.ensures.point

@@ -1,7 +1,7 @@
 use Rattle.std.proofs.Common.{arith, add-one, length}
 use Rattle.std.proofs.Common.{sym, ◌∙◌}
 use Rattle.std.proofs.lemmas.List.{at_drop_all}
-use Rattle.rounding.specs.Texts.{front_word}
+use Rattle.rounding.specs.Texts.{leading_word}
 use Rattle.rounding.proofs.Spans.{word_further, word_found}
 use Rattle.rounding.proofs.line.word_length.Goals as goal
 
@@ -14,4 +14,4 @@ returns-then-is_blank-clause-count c =
     omega (arith, c.loop-place.invariant, word_found c.args.line.now c.loop-place.place c.loop-place-test.true (sym c.is_blank.ensures ∙ c.if-is_blank.true))
 
 pub returns-clause-count : goal.returns-clause-count
-returns-clause-count c = omega (arith, c.loop-place.invariant, at_drop_all (λ ws. length (front_word ws)) c.args.line.now c.loop-place.place (omega arith))
+returns-clause-count c = omega (arith, c.loop-place.invariant, at_drop_all (λ ws. length (leading_word ws)) c.args.line.now c.loop-place.place (omega arith))

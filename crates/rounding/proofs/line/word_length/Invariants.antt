@@ -1,6 +1,6 @@
 use Rattle.std.proofs.Common.{◌≡◌, ◌+◌, length, drop}
-use Rattle.rounding.specs.Texts.{front_word}
+use Rattle.rounding.specs.Texts.{leading_word}
 use Rattle.rounding.proofs.line.word_length.Given as goal
 
 abbrev pub invariant-loop-place : goal.invariant-loop-place
-invariant-loop-place l = l.place + length (front_word (drop l.place l.line)) ≡ length (front_word l.line)
+invariant-loop-place l = l.place + length (leading_word (drop l.place l.line)) ≡ length (leading_word l.line)

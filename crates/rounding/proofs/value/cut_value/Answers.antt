@@ -9,7 +9,7 @@ returns-then-power-size c =
 
 pub returns : goal.returns
 returns c =
-    cut_two c.args.whole.now c.args.places.now c.args.power c.min-of_whole.result _ c.held_number-front.result c.held_number.result
+    cut_two c.args.whole.now c.args.places.now c.args.power c.min-of_whole.result _ c.held_number-leading.result c.held_number.result
     c.rest_after-behind.result c.rest_after-2.result
-    c.requires.digits c.if-power-size.false c.min-of_whole.ensures refl c.held_number-front.ensures c.held_number.ensures
+    c.requires.digits c.if-power-size.false c.min-of_whole.ensures refl c.held_number-leading.ensures c.held_number.ensures
     c.rest_after-behind.ensures c.rest_after-2.ensures

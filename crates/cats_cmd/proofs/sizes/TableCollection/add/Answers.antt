@@ -15,7 +15,7 @@ returns-in-Ok-normal_packed_file g c =
     let file = c.in-Ok.file in
     let normal = c.in-Ok-normal_packed_file.ensures.answer in
     table_judged c.args.many.ending g.R.Read.remaining c.args.many.limit _ _ _ c.args.self.now _ c.args.self.now.lines.items c.push_line.new.lines.items c.args.path.now (λ js h. h)
-    (λ js h. h) file c.in-Ok.ensures normal.light
+    (λ js h. h) file c.in-Ok.ensures normal.within_limit
     (line_made c.args.many.ending c.args.self.now.lines.items c.push_line.new.lines.items c.args.path.now c.as_slice.result.now _
     (numbers_made _ _ _ c.as_slice.result.now (with_tabs (sizes_of file)) (with_tabs (counts_of (canonical_file file))) c.new-line.ensures.items
     c.in_ok-push_sizes.ensures

@@ -1,0 +1,406 @@
+//! Command lines on new files.
+
+use super::program::{CAPACITY, run};
+use super::streams::expect;
+use std::process::Abort;
+use std::test::Fail;
+use std::{fs, process};
+
+/// A command line with its capacity for output and faults, and what it answers: its status, its output and its fault's
+/// line.
+type Row<'a> = (&'a str, usize, usize, u8, &'a str, &'a str);
+
+/// The path of a new file with this text.
+fn new_file(rt: &HostRuntime, name: &str, text: &str) -> Result<String, Fail> {
+    let id = process::id(rt.process());
+    let path = format!(in rt.alloc(); "/tmp/cats_cmd_{id}_{name}.cats")?;
+    fs::write(rt, path.as_str(), text)?;
+    Ok(path)
+}
+
+/// What command lines answer of two new files with these texts.
+fn answers(
+    rt: &HostRuntime,
+    abort: &impl Abort,
+    text: &str,
+    other_text: &str,
+    rows: &[Row<'_>],
+) -> Result<(), Fail> {
+    let path = new_file(rt, "one", text)?;
+    let other = new_file(rt, "other", other_text)?;
+    for (line, out_capacity, err_capacity, status, sent, reported) in rows {
+        let answer = run(
+            rt,
+            line,
+            path.as_str(),
+            other.as_str(),
+            *out_capacity,
+            *err_capacity,
+        )?;
+        expect(abort, &answer, *status, sent, reported);
+    }
+    fs::remove_file(rt, path.as_str())?;
+    fs::remove_file(rt, other.as_str())?;
+    Ok(())
+}
+
+const SIZES: &str = "goods 2\nbids 0\ndummy 1\n";
+
+static SIZES_ROWS: [Row<'static>; 3] = [
+    (
+        "cats check FILE",
+        CAPACITY,
+        CAPACITY,
+        0,
+        "goods 2 bids 0 dummy 1\n",
+        "",
+    ),
+    (
+        "cats check FILE",
+        5,
+        CAPACITY,
+        5,
+        "goods",
+        "output failed after 5 bytes\n",
+    ),
+    ("cats check FILE", 5, 0, 5, "goods", ""),
+];
+
+const SHOWN: &str = "%% out of order\ngoods 2\nbids 2\ndummy 1\n1 0.50 2 0 #\n0 07 1 0 #\n";
+
+const LAYOUT: &str = "goods 2\nbids 2\ndummy 1\n0\t7\t0\t1\t#\n1\t0.5\t0\t2\t#\n";
+
+static SHOWN_ROWS: [Row<'static>; 2] = [
+    ("cats show FILE", CAPACITY, CAPACITY, 0, LAYOUT, ""),
+    (
+        "cats show FILE",
+        8,
+        CAPACITY,
+        5,
+        "goods 2\n",
+        "output failed after 8 bytes\n",
+    ),
+];
+
+const MISSING: &str = "goods 2\nbids 0\n";
+
+static MISSING_ROWS: [Row<'static>; 14] = [
+    (
+        "cats check FILE",
+        CAPACITY,
+        CAPACITY,
+        2,
+        "",
+        "line 3: Missing\n",
+    ),
+    ("cats check FILE", CAPACITY, 0, 2, "", ""),
+    (
+        "cats show FILE",
+        CAPACITY,
+        CAPACITY,
+        2,
+        "",
+        "line 3: Missing\n",
+    ),
+    ("cats show FILE", CAPACITY, 0, 2, "", ""),
+    (
+        "cats value FILE",
+        CAPACITY,
+        CAPACITY,
+        2,
+        "",
+        "line 3: Missing\n",
+    ),
+    ("cats value FILE", CAPACITY, 0, 2, "", ""),
+    (
+        "cats normalise FILE",
+        CAPACITY,
+        CAPACITY,
+        2,
+        "",
+        "line 3: Missing\n",
+    ),
+    ("cats normalise FILE", CAPACITY, 0, 2, "", ""),
+    (
+        "cats explain FILE",
+        CAPACITY,
+        CAPACITY,
+        2,
+        "",
+        "line 3: Missing\n",
+    ),
+    (
+        "cats compare FILE FILE",
+        CAPACITY,
+        CAPACITY,
+        2,
+        "",
+        "first: line 3: Missing\n",
+    ),
+    // both files are opened before either is read
+    (
+        "cats compare FILE /tmp/cats_cmd_no_such_folder/a.cats",
+        CAPACITY,
+        CAPACITY,
+        5,
+        "",
+        "second: cannot open\n",
+    ),
+    (
+        "cats compare /tmp/cats_cmd_no_such_folder/a.cats /tmp/cats_cmd_no_such_folder/b.cats",
+        CAPACITY,
+        CAPACITY,
+        5,
+        "",
+        "first: cannot open\n",
+    ),
+    (
+        "cats diff FILE FILE",
+        CAPACITY,
+        CAPACITY,
+        2,
+        "",
+        "first: line 3: Missing\n",
+    ),
+    (
+        "cats diff FILE /tmp/cats_cmd_no_such_folder/a.cats",
+        CAPACITY,
+        CAPACITY,
+        5,
+        "",
+        "second: cannot open\n",
+    ),
+];
+
+const VALUED: &str = "goods 2\nbids 3\ndummy 1\n0 3 0 #\n1 4.5 1 #\n2 7 0 1 2 #\n";
+
+static VALUED_ROWS: [Row<'static>; 8] = [
+    (
+        "cats value FILE 1 0 +1 01",
+        CAPACITY,
+        CAPACITY,
+        0,
+        "or 7.5 0 1\nxor 2 7 2\n",
+        "",
+    ),
+    (
+        "cats value FILE",
+        CAPACITY,
+        CAPACITY,
+        0,
+        "or 0\nxor 2 0\n",
+        "",
+    ),
+    (
+        "cats value --steps 4 FILE 0 1",
+        CAPACITY,
+        CAPACITY,
+        0,
+        "or 7.5 0 1\nxor 2 7 2\n",
+        "",
+    ),
+    (
+        "cats value --steps=1000000000 FILE 1",
+        CAPACITY,
+        CAPACITY,
+        0,
+        "or 4.5 1\nxor 2 0\n",
+        "",
+    ),
+    (
+        "cats value FILE 0 1 --steps 3",
+        CAPACITY,
+        CAPACITY,
+        3,
+        "",
+        "step limit at 0,1\n",
+    ),
+    (
+        "cats value FILE 0 --steps 1",
+        CAPACITY,
+        CAPACITY,
+        3,
+        "",
+        "step limit at 0\n",
+    ),
+    (
+        "cats value FILE --steps 1",
+        CAPACITY,
+        CAPACITY,
+        0,
+        "or 0\nxor 2 0\n",
+        "",
+    ),
+    (
+        "cats value FILE 0 65535 2",
+        CAPACITY,
+        CAPACITY,
+        64,
+        "",
+        "good 65535 out of range\n",
+    ),
+];
+
+const LARGER_BID: &str = "goods 2\nbids 3\ndummy 0\n0 3 0 #\n1 4 1 #\n2 7 0 1 #\n";
+
+const LARGER_BID_TEXT: &str = "goods 2\nbids 2\ndummy 0\n0\t3\t0\t#\n1\t4\t1\t#\n";
+
+static LARGER_BID_ROWS: [Row<'static>; 16] = [
+    (
+        "cats normalise FILE",
+        CAPACITY,
+        CAPACITY,
+        0,
+        LARGER_BID_TEXT,
+        "",
+    ),
+    (
+        "cats explain FILE",
+        CAPACITY,
+        CAPACITY,
+        0,
+        "0\tkeep\t0\n1\tkeep\t1\n2\tpacking\t0\t1\n",
+        "",
+    ),
+    (
+        "cats explain FILE --steps=2",
+        CAPACITY,
+        CAPACITY,
+        3,
+        "",
+        "step limit at 0,1\n",
+    ),
+    (
+        "cats explain FILE",
+        8,
+        CAPACITY,
+        5,
+        "0\tkeep\t0",
+        "output failed after 8 bytes\n",
+    ),
+    (
+        "cats compare FILE FILE",
+        CAPACITY,
+        CAPACITY,
+        0,
+        "same\n",
+        "",
+    ),
+    (
+        "cats compare FILE OTHER",
+        CAPACITY,
+        CAPACITY,
+        1,
+        "different\nor 0\nleft 3\nright below 3\n",
+        "",
+    ),
+    (
+        "cats compare OTHER FILE",
+        CAPACITY,
+        CAPACITY,
+        1,
+        "different\nor 0\nleft below 3\nright 3\n",
+        "",
+    ),
+    (
+        "cats compare --steps=2 OTHER FILE",
+        CAPACITY,
+        CAPACITY,
+        3,
+        "",
+        "second: step limit at 0,1\n",
+    ),
+    (
+        "cats compare FILE --steps 2 FILE",
+        CAPACITY,
+        CAPACITY,
+        3,
+        "",
+        "first: step limit at 0,1\n",
+    ),
+    ("cats diff FILE FILE", CAPACITY, CAPACITY, 0, "", ""),
+    (
+        "cats diff FILE OTHER",
+        CAPACITY,
+        CAPACITY,
+        1,
+        "or\t0\t3\t-\nor\t1\t4\t-\n",
+        "",
+    ),
+    (
+        "cats diff OTHER FILE",
+        CAPACITY,
+        CAPACITY,
+        1,
+        "or\t0\t-\t3\nor\t1\t-\t4\n",
+        "",
+    ),
+    (
+        "cats diff --steps=2 OTHER FILE",
+        CAPACITY,
+        CAPACITY,
+        3,
+        "",
+        "second: step limit at 0,1\n",
+    ),
+    (
+        "cats normalise --steps 3 FILE",
+        CAPACITY,
+        CAPACITY,
+        0,
+        LARGER_BID_TEXT,
+        "",
+    ),
+    (
+        "cats normalise FILE --steps=2",
+        CAPACITY,
+        CAPACITY,
+        3,
+        "",
+        "step limit at 0,1\n",
+    ),
+    (
+        "cats normalise FILE",
+        8,
+        CAPACITY,
+        5,
+        "goods 2\n",
+        "output failed after 8 bytes\n",
+    ),
+];
+
+/// A bid for each of 20 goods: 2 to the 19 packings are within the steps that are allowed if the command line says
+/// nothing, and 2 to the 20 are not.
+const SINGLES: &str =
+    "goods 20\nbids 20\ndummy 0\n0 1 0 #\n1 1 1 #\n2 1 2 #\n3 1 3 #\n4 1 4 #\n5 1 5 #\n6 1 6 #\n7 1 7 #\n\
+    8 1 8 #\n9 1 9 #\n10 1 10 #\n11 1 11 #\n12 1 12 #\n13 1 13 #\n14 1 14 #\n15 1 15 #\n16 1 16 #\n17 1 17 #\n\
+    18 1 18 #\n19 1 19 #\n";
+
+static SINGLES_ROWS: [Row<'static>; 2] = [
+    (
+        "cats value FILE 0 1 2 3 4 5 6 7 8 9 10 11 12 13 14 15 16 17 18",
+        CAPACITY,
+        CAPACITY,
+        0,
+        "or 19 0 1 2 3 4 5 6 7 8 9 10 11 12 13 14 15 16 17 18\n",
+        "",
+    ),
+    (
+        "cats value FILE 0 1 2 3 4 5 6 7 8 9 10 11 12 13 14 15 16 17 18 19",
+        CAPACITY,
+        CAPACITY,
+        3,
+        "",
+        "step limit at 0,1,2,3,4,5,6,7,8,9,10,11,12,13,14,15,16,17,18,19\n",
+    ),
+];
+
+#[test]
+fn files(rt: HostRuntime) -> Result<(), Fail> {
+    answers(&rt, &rt, SIZES, "", &SIZES_ROWS)?;
+    answers(&rt, &rt, SHOWN, "", &SHOWN_ROWS)?;
+    answers(&rt, &rt, MISSING, "", &MISSING_ROWS)?;
+    answers(&rt, &rt, VALUED, "", &VALUED_ROWS)?;
+    answers(&rt, &rt, LARGER_BID, SIZES, &LARGER_BID_ROWS)?;
+    answers(&rt, &rt, SINGLES, "", &SINGLES_ROWS)
+}

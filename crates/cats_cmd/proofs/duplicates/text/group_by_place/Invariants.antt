@@ -1,8 +1,0 @@
-use Rattle.std.proofs.Common.{◌≡◌, length, map, take}
-use Rattle.std.specs.List.{range_with_len}
-use Rattle.cats_cmd.specs.DuplicateTexts.{found_paths, paths_at, plain_groups}
-use Rattle.cats_cmd.proofs.duplicates.text.group_by_place.Given as goal
-
--- the paths of the files so far are there
-abbrev pub invariant-loop-path : goal.invariant-loop-path
-invariant-loop-path l = plain_groups l.groups.items ≡ map (paths_at (take l.path-index (found_paths l.found))) (range_with_len 0 (length l.found))

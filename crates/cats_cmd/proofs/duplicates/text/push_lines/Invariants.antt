@@ -1,7 +1,0 @@
-use Rattle.std.proofs.Common.{◌≡◌, ◌++◌, map, take}
-use Rattle.cats_cmd.specs.DuplicateTexts.{lines_of}
-use Rattle.cats_cmd.proofs.duplicates.text.push_lines.Given as goal
-
--- the paths so far are told
-abbrev pub invariant-loop-path : goal.invariant-loop-path
-invariant-loop-path l = l.text.items ≡ l.initial.text.items ++ lines_of l.ending (map (λ path. path.now) (take l.path-index l.paths))
