@@ -1,4 +1,4 @@
-//! The canonical auction, file and text of a file. The crate also decides whether two files ask for the same
+//! The canonical auction, file and text of a file. The crate also decides whether two files are the same
 //! auction.
 #![tactic(auto)]
 
