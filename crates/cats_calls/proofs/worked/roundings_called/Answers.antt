@@ -16,7 +16,16 @@ returns-clause-both c =
       status = 0;
       text = codes "goods 1\nbids 1\ndummy 0\n0 1 0 #\n";
       report = [];
-      is = inl (refl, record { file = spelled_file (codes "goods 1\nbids 1\ndummy 0\n0 1 0 #\n"); spelled = spells_from_no_fault (codes "goods 1\nbids 1\ndummy 0\n0 1 0 #\n") refl; is_text = refl; is_report = refl });
+      is = inl (
+        refl,
+        record {
+          file = spelled_file (codes "goods 1\nbids 1\ndummy 0\n0 1 0 #\n");
+          spelled = spells_from_no_fault
+              (codes "goods 1\nbids 1\ndummy 0\n0 1 0 #\n") refl;
+          is_text = refl;
+          is_report = refl;
+        },
+      );
       is_needed = refl;
       is_report_needed = refl;
       given = 0;
@@ -33,7 +42,16 @@ returns-clause-report_too_small c =
       status = 0;
       text = codes "goods 1\nbids 1\ndummy 0\n0 0 0 #\n";
       report = codes "line 4: 1e-7 rounded to 0\n";
-      is = inl (refl, record { file = spelled_file (codes "goods 1\nbids 1\ndummy 0\n0 0 0 #\n"); spelled = spells_from_no_fault (codes "goods 1\nbids 1\ndummy 0\n0 0 0 #\n") refl; is_text = refl; is_report = refl });
+      is = inl (
+        refl,
+        record {
+          file = spelled_file (codes "goods 1\nbids 1\ndummy 0\n0 0 0 #\n");
+          spelled = spells_from_no_fault
+              (codes "goods 1\nbids 1\ndummy 0\n0 0 0 #\n") refl;
+          is_text = refl;
+          is_report = refl;
+        },
+      );
       is_needed = refl;
       is_report_needed = refl;
       given = 0;

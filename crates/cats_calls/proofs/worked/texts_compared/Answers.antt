@@ -12,12 +12,15 @@ use Rattle.cats_calls.proofs.worked.texts_compared.Goals as goal
 pub returns-clause-same : goal.returns-clause-same
 unfolding digits first_heavy is_heavy search_steps cut_steps points_where is_or_point is_xor_point or_value xor_value
 returns-clause-same c =
-    compares 1 (codes "goods 1\nbids 2\ndummy 0\n0 2 0 #\n1 3 0 #\n") (codes "goods 1\nbids 1\ndummy 0\n0 3 0 #\n") (within 1 (codes "goods 1\nbids 2\ndummy 0\n0 2 0 #\n1 3 0 #\n") refl refl) (within 1 (codes "goods 1\nbids 1\ndummy 0\n0 3 0 #\n") refl refl) NoDifference refl
+    compares 1 (codes "goods 1\nbids 2\ndummy 0\n0 2 0 #\n1 3 0 #\n") (codes "goods 1\nbids 1\ndummy 0\n0 3 0 #\n") (within 1
+    (codes "goods 1\nbids 2\ndummy 0\n0 2 0 #\n1 3 0 #\n") refl refl) (within 1 (codes "goods 1\nbids 1\ndummy 0\n0 3 0 #\n") refl refl) NoDifference
+    refl
 
 pub returns-clause-different : goal.returns-clause-different
 unfolding digits first_heavy is_heavy search_steps cut_steps points_where is_or_point is_xor_point or_value xor_value
 returns-clause-different c =
-    compares 1 (codes "goods 1\nbids 1\ndummy 0\n0 2 0 #\n") (codes "goods 1\nbids 1\ndummy 0\n0 3 0 #\n") (within 1 (codes "goods 1\nbids 1\ndummy 0\n0 2 0 #\n") refl refl) (within 1 (codes "goods 1\nbids 1\ndummy 0\n0 3 0 #\n") refl refl)
+    compares 1 (codes "goods 1\nbids 1\ndummy 0\n0 2 0 #\n") (codes "goods 1\nbids 1\ndummy 0\n0 3 0 #\n") (within 1
+    (codes "goods 1\nbids 1\ndummy 0\n0 2 0 #\n") refl refl) (within 1 (codes "goods 1\nbids 1\ndummy 0\n0 3 0 #\n") refl refl)
     (InOr (0 ∷ []) (Exactly 2000000) (Exactly 3000000)) refl
 
 pub returns-clause-not_same : goal.returns-clause-not_same
@@ -29,4 +32,5 @@ pub returns-clause-not_exchanged : goal.returns-clause-not_exchanged
 unfolding digits first_heavy is_heavy search_steps cut_steps points_where is_or_point is_xor_point or_value xor_value
 returns-clause-not_exchanged c =
     λ h. other_byte 20 (codes "different\nor 0\nleft 3\nright 2\n") (codes "different\nor 0\nleft 2\nright 3\n") refl
-    (compared_text 1 (codes "goods 1\nbids 1\ndummy 0\n0 2 0 #\n") (codes "goods 1\nbids 1\ndummy 0\n0 3 0 #\n") 1 (codes "different\nor 0\nleft 3\nright 2\n") h)
+    (compared_text 1 (codes "goods 1\nbids 1\ndummy 0\n0 2 0 #\n") (codes "goods 1\nbids 1\ndummy 0\n0 3 0 #\n") 1
+    (codes "different\nor 0\nleft 3\nright 2\n") h)

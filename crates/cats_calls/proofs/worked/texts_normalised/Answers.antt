@@ -11,7 +11,11 @@ use Rattle.cats_calls.proofs.worked.texts_normalised.Goals as goal
 pub returns-clause-text : goal.returns-clause-text
 unfolding digits first_heavy is_heavy search_steps cut_steps points_where is_or_point is_xor_point or_value xor_value
 returns-clause-text c =
-    record { is_status = refl; is_text = outcome 1 (codes "goods 1\nbids 2\ndummy 0\n0 2 0 #\n1 3 0 #\n") (IsText (codes "goods 1\nbids 1\ndummy 0\n0\t3\t0\t#\n")) refl refl }
+    record {
+      is_status = refl;
+      is_text = outcome 1 (codes "goods 1\nbids 2\ndummy 0\n0 2 0 #\n1 3 0 #\n") (IsText
+          (codes "goods 1\nbids 1\ndummy 0\n0\t3\t0\t#\n")) refl refl;
+    }
 
 pub returns-clause-other_text : goal.returns-clause-other_text
 unfolding digits first_heavy is_heavy search_steps cut_steps points_where is_or_point is_xor_point or_value xor_value
@@ -27,4 +31,5 @@ returns-clause-over_limit c =
 pub returns-clause-within_limit : goal.returns-clause-within_limit
 unfolding digits first_heavy is_heavy search_steps cut_steps points_where is_or_point is_xor_point or_value xor_value
 returns-clause-within_limit c =
-    λ goods h. eqb-false 31 0 refl (ap (λ (o : Normalised). length (text_in o)) (outcome_only 1 (codes "goods 1\nbids 1\ndummy 0\n0 3 0 #\n") (ExceedsSteps goods.items) h))
+    λ goods h. eqb-false 31 0 refl (ap (λ (o : Normalised). length (text_in o)) (outcome_only 1 (codes "goods 1\nbids 1\ndummy 0\n0 3 0 #\n") (ExceedsSteps
+    goods.items) h))

@@ -7,4 +7,10 @@ use Rattle.cats_calls.proofs.worked.texts_rounded.Goals as goal
 pub returns-clause-text : goal.returns-clause-text
 unfolding digits
 returns-clause-text c =
-    record { file = spelled_file (codes "goods 1\nbids 1\ndummy 0\n0 0.012346 0 #\n"); spelled = spells_from_no_fault (codes "goods 1\nbids 1\ndummy 0\n0 0.012346 0 #\n") refl; is_text = refl; is_report = refl }
+    record {
+      file = spelled_file (codes "goods 1\nbids 1\ndummy 0\n0 0.012346 0 #\n");
+      spelled = spells_from_no_fault
+          (codes "goods 1\nbids 1\ndummy 0\n0 0.012346 0 #\n") refl;
+      is_text = refl;
+      is_report = refl;
+    }
