@@ -28,7 +28,7 @@ complete -c cats -n __fish_use_subcommand -a value -d 'Print what the bidders of
 complete -c cats -n __fish_use_subcommand -a normalise -d 'Print the canonical text of an auction'
 complete -c cats -n __fish_use_subcommand -a explain -d 'Print why each bid is in the canonical text or is dropped'
 complete -c cats -n __fish_use_subcommand -a round -d 'Print a bid file with its prices rounded to millionths'
-complete -c cats -n __fish_use_subcommand -a compare -d 'Tell whether two bid files are the same auction'
+complete -c cats -n __fish_use_subcommand -a compare -d 'Print whether two bid files are the same auction'
 complete -c cats -n __fish_use_subcommand -a diff -d 'Print all differences of two bid files'
 complete -c cats -n __fish_use_subcommand -a duplicates -d 'Print which of many bid files are the same auction'
 complete -c cats -n __fish_use_subcommand -a sizes -d 'Print a table of the numbers of bid files and of their canonical files'

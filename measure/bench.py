@@ -290,7 +290,8 @@ def measure_library(folder, size, bids, goods, most):
     for name, call, process in (line.split() for line in printed.splitlines()):
         calls, processes = 1 / float(call), 1 / float(process)
         print(f"{f'library, {size}: {name}':50} {calls:8.0f} calls/s {processes:8.0f} processes/s", flush=True)
-        bound(f"library, {size}: {name}, a call, times a process", processes / calls, most)
+        # `explain` also makes a tuple for each bid.
+        bound(f"library, {size}: {name}, a call, times a process", processes / calls, most * (4 if name == "explain" else 1))
 
 
 def one_bidder(many):
@@ -316,7 +317,8 @@ PRUNINGS = (
 )
 
 # The sizes of files on which the library is called, with the bids and goods of such a file, and the most that a call may take of a process.
-LIBRARY_FILES = (("1 KB", 34, 24, 0.5), ("20 KB", 670, 64, 0.5), ("1 MB", 28_000, 1024, 1.1))
+# The library is compiled for lesser processors than the program.
+LIBRARY_FILES = (("1 KB", 34, 24, 0.5), ("20 KB", 670, 64, 0.5), ("1 MB", 28_000, 1024, 1.5))
 
 GROUPS = {
     "an empty auction": measure_start,

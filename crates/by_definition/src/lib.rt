@@ -1,6 +1,6 @@
 //! The definitions as a slow and plain program. The tests compare the program's answers with its own. Bundles are lists
-//! with. Bundles are lists of goods, bidders are gone through bundle by bundle, and each function's contract is the
-//! definition that it computes. All but the auction of a file is for these tests alone.
+//! of goods, bidders are gone through bundle by bundle, and each function's contract is the definition that it computes.
+//! All but the auction of a file is for these tests alone.
 #![tactic(auto)]
 
 pub mod auction;

@@ -1,4 +1,4 @@
-//! The program's answers on small auctions. Each is compared with what the definitions give.
+//! Tests of `valuation`, `prune` and `canon`: on worked rows, and beside the answers of the definitions.
 
 mod auctions;
 mod bids;

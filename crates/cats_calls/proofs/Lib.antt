@@ -2,3 +2,4 @@
 pub mod Refusing
 pub mod TwoTexts
 pub mod Given
+pub mod SmallTexts

@@ -97,7 +97,7 @@ module _ (left right : List ℕ) (f g : PlainFile) (s : Spells left f) (t : Spel
       none_exactly_for_same a b first second d
       (begins_with_first a b first second (canonical_again f s.facts) (canonical_again g t.facts) d all)
 
-  zero_exactly : (d : PlainDifferences) → AreAllDifferences (auction_from (canonical_file f)) (auction_from (canonical_file g)) d
+  pub zero_exactly : (d : PlainDifferences) → AreAllDifferences (auction_from (canonical_file f)) (auction_from (canonical_file g)) d
       → (status : ℕ) → status ≡ status_of_differences d → (status ≡ 0 ↔ AreSameTexts left right)
   zero_exactly d all status is =
       let none = none_exactly d all in (

@@ -7,6 +7,7 @@ mod one_text;
 mod reading;
 mod rounded_text;
 mod two_texts;
+pub mod worked;
 
 pub use answer::Answer;
 pub use buffer::{TOO_SMALL, give};

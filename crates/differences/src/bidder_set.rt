@@ -96,4 +96,13 @@ impl WordCounts {
         }
         (count, best.trailing_zeros() as usize)
     }
+
+    /// The count of the bidder in this bit.
+    pub(crate) fn count_of(&self, bit: usize) -> usize {
+        let mut count = 0;
+        for plane in self.planes.iter().rev() {
+            count = count << 1 | (*plane >> (bit % WORD) & 1) as usize;
+        }
+        count
+    }
 }

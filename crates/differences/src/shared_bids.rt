@@ -101,11 +101,17 @@ impl RareCounts {
         Ok(())
     }
 
-    fn count_of(&self, place: usize) -> usize {
-        match self.counts.get(place) {
+    /// The counted bidder at an index.
+    fn at(&self, index: usize) -> Candidate {
+        let place = match self.counted.get(index) {
+            Some(place) => *place,
+            None => 0,
+        };
+        let count = match self.counts.get(place) {
             Some(count) => *count,
             None => 0,
-        }
+        };
+        Candidate { place, count }
     }
 
     /// All counts are 0.
@@ -208,7 +214,7 @@ impl<'a> SharedBids<'a> {
             self.count(&bidder.at(i))?;
         }
         let common = self.most_common()?;
-        let most = self.most(common);
+        let most = self.most(common)?;
         self.rare.clear();
         self.found.clear();
         if most.count == 0 {
@@ -261,7 +267,8 @@ impl<'a> SharedBids<'a> {
             }
             let waiting = self.waiting.word(number);
             if waiting != 0 {
-                let (count, bit) = self.greatest_in(number, waiting)?;
+                count_word(&self.common, &self.found, number, &mut self.word_counts)?;
+                let (count, bit) = self.word_counts.greatest(waiting);
                 if count > most.count {
                     most = Candidate {
                         place: number.saturating_mul(64).saturating_add(bit),
@@ -273,41 +280,44 @@ impl<'a> SharedBids<'a> {
         Ok(most)
     }
 
-    /// How many of the common bids that were found the bidders of a word have at most, and the first bidder that has so many.
-    fn greatest_in(&mut self, number: usize, waiting: u64) -> Result<(usize, usize), AllocError> {
-        self.word_counts.clear();
-        for found in &self.found {
-            if let Some(bid) = self.common.get(*found) {
-                self.word_counts.add(bid.bidders.word(number))?;
-            }
-        }
-        Ok(self.word_counts.greatest(waiting))
-    }
-
-    /// The best of this candidate and of the bidders that share a rare bid.
-    fn most(&self, common: Candidate) -> Candidate {
+    /// The best of this candidate and of the bidders that share a rare bid. They are looked at in order, so that the common bids
+    /// of each word are counted once.
+    fn most(&mut self, common: Candidate) -> Result<Candidate, AllocError> {
+        self.rare.counted.sort_unstable();
         let mut most = common;
-        for place in &self.rare.counted {
-            let rare = self.rare.count_of(*place);
+        let mut counted = None;
+        for index in 0..self.rare.counted.len() {
+            let rare = self.rare.at(index);
+            let number = rare.place / 64;
+            if counted != Some(number) {
+                count_word(&self.common, &self.found, number, &mut self.word_counts)?;
+                counted = Some(number);
+            }
+            let shared = self.word_counts.count_of(rare.place % 64);
             let candidate = Candidate {
-                place: *place,
-                count: rare.saturating_add(count_having(&self.common, &self.found, *place)),
+                place: rare.place,
+                count: rare.count.saturating_add(shared),
             };
             if candidate.is_before(&most) {
                 most = candidate;
             }
         }
-        most
+        Ok(most)
     }
 }
 
-/// How many of the common bids that were found the bidder has.
-fn count_having(common: &[CommonBid<'_>], found: &[usize], place: usize) -> usize {
-    found
-        .iter()
-        .filter(|number| match common.get(**number) {
-            Some(bid) => bid.bidders.has(place),
-            None => false,
-        })
-        .count()
+/// Counts for each bidder of a word how many of the common bids that were found it has.
+fn count_word(
+    common: &[CommonBid<'_>],
+    found: &[usize],
+    number: usize,
+    counts: &mut WordCounts,
+) -> Result<(), AllocError> {
+    counts.clear();
+    for bid in found {
+        if let Some(bid) = common.get(*bid) {
+            counts.add(bid.bidders.word(number))?;
+        }
+    }
+    Ok(())
 }

@@ -5,6 +5,7 @@ ghost use Rattle.canon.specs.Canonical.{IsCanonicalFile};
 
 mod family;
 mod large;
+mod many;
 mod rows;
 
 use crate::{BidderChange, Differences, PriceChange, all_differences};

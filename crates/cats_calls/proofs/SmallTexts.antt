@@ -1,0 +1,166 @@
+-- What calls answer of a small text, by the file that its lines say.
+use Rattle.std.proofs.Common.{◌≡◌, ◌≢◌, ℕ, nat_le, nat_lt, true, false, eqb, List, [], ◌∷◌, ◌++◌, length, drop, None, slice_index_or, refl, sym, ap, ap₂, ◌∙◌}
+use Rattle.std.proofs.Common.{subst, arith}
+use Rattle.std.proofs.lemmas.Bool.{eqb-false, leb-true, ltb-true}
+use Rattle.bid_file.specs.Files.{PlainFile}
+use Rattle.cats_text.specs.Faults.{first_fault}
+use Rattle.cats_text.specs.FileLines.{spelled_file}
+use Rattle.cats_text.proofs.Spelling.Files.{spells_from_no_fault, says_spelled, spells_one}
+use Rattle.valuation.specs.Auctions.{auction_from, or_atoms_of}
+use Rattle.prune.specs.SearchSteps.{first_heavy}
+use Rattle.canon.specs.Canonical.{canonical_file}
+use Rattle.canon.specs.Comparing.{SpellsWithinLimit}
+use Rattle.canon.specs.Difference.{Difference, NoDifference, InGoods, InOr, InXor, first_difference}
+use Rattle.canon.specs.Normalising.{HasOutcome, Normalised, IsNoFile, ExceedsSteps, IsText, normalised_file}
+use Rattle.canon.specs.Renaming.{kept_dummies}
+use Rattle.canon.specs.Sameness.{AreSameFiles, AreSameTexts}
+use Rattle.canon.proofs.CanonicalFiles.Texts.{HasAtoms-file}
+use Rattle.canon.proofs.Comparing.Differences.{same_from_no_difference, no_difference_from_same}
+use Rattle.differences.specs.Differences.{AreAllDifferences, PlainDifferences, InBids, InGoods as InGoodNumbers}
+use Rattle.explain.specs.Reasons.{PlainReason}
+use Rattle.answers.specs.DiffTexts.{diff_text, goods_line}
+use Rattle.answers.specs.DifferenceTexts.{difference_text}
+use Rattle.answers.specs.ExplanationTexts.{explanation_text}
+use Rattle.answers.specs.Outputs.{check_text}
+use Rattle.answers.specs.Statuses.{status_of_difference, status_of_differences}
+use Rattle.std.specs.Fmt.{digits}
+use Rattle.cats_calls.specs.Buffers.{PutsInto}
+use Rattle.cats_calls.specs.OneText.{ChecksText, ExplainsText}
+use Rattle.cats_calls.specs.TwoTexts.{ComparesTexts, DiffsTexts}
+use Rattle.cats_calls.proofs.TwoTexts.{zero_exactly}
+
+-- texts that have other bytes at an index are not equal
+pub other_byte : (i : ℕ) (a b : List ℕ) → eqb (slice_index_or a i 0) (slice_index_or b i 0) ≡ false → a ≡ b → ⊥
+other_byte i a b other e = eqb-false (slice_index_or a i 0) (slice_index_or b i 0) other (ap (λ (x : List ℕ). slice_index_or x i 0) e)
+
+-- ---- one text
+
+abbrev pub within : (limit : ℕ) (text : List ℕ) → first_fault text ≡ None
+    → first_heavy (spelled_file text).goods limit (or_atoms_of (spelled_file text).bids) ≡ None → SpellsWithinLimit limit text
+within limit text none light = record { file = spelled_file text; spelled = spells_from_no_fault text none; within_limit = light }
+
+pub checks : (text out : List ℕ) → first_fault text ≡ None → out ≡ check_text (spelled_file text) → ChecksText text 0 out
+checks text out none is = record { file = spelled_file text; spelled = spells_from_no_fault text none; is_status = refl; is_text = is }
+
+pub checks_only : (text : List ℕ) (status : ℕ) (out : List ℕ) → ChecksText text status out → out ≡ check_text (spelled_file text)
+checks_only text status out c = c.is_text ∙ ap check_text (says_spelled text c.file c.spelled)
+
+pub outcome : (limit : ℕ) (text : List ℕ) (o : Normalised) → first_fault text ≡ None → normalised_file limit (spelled_file text) ≡ o → HasOutcome limit text o
+outcome limit text o none is = record { file = spelled_file text; spelled = spells_from_no_fault text none; is = is }
+
+pub outcome_only : (limit : ℕ) (text : List ℕ) (o : Normalised) → HasOutcome limit text o → normalised_file limit (spelled_file text) ≡ o
+outcome_only limit text o h = ap (normalised_file limit) (sym (says_spelled text h.file h.spelled)) ∙ h.is
+
+-- the text of an outcome that has one
+abbrev pub text_in : Normalised → List ℕ
+text_in (IsNoFile fault) = []
+text_in (ExceedsSteps goods) = []
+text_in (IsText out) = out
+
+first_line : (reasons : List PlainReason) → eqb (length reasons) 0 ≡ false → slice_index_or (explanation_text reasons) 0 0 ≡ 48
+unfolding digits
+first_line [] some = absurd (cc)
+first_line (reason ∷ reasons) some = refl
+
+-- the first line is that of bid 0
+pub explained_first : (limit : ℕ) (text : List ℕ) (status : ℕ) (out : List ℕ) → eqb (length (spelled_file text).bids) 0 ≡ false
+    → ExplainsText limit text status out → slice_index_or out 0 0 ≡ 48
+explained_first limit text status out some c =
+    let long : length c.reasons ≡ length (spelled_file text).bids =
+    c.explains.long ∙ ap (λ (f : PlainFile). length f.bids) (says_spelled text c.given.file c.given.spelled) in
+    ap (λ (x : List ℕ). slice_index_or x 0 0) c.is_text
+    ∙ first_line c.reasons (ap (λ (n : ℕ). eqb n 0) long ∙ some)
+
+-- ---- two texts
+
+none_from_zero : (d : Difference) → status_of_difference d ≡ 0 → d ≡ NoDifference
+none_from_zero NoDifference e = refl
+none_from_zero (InGoods left right) e = absurd (cc)
+none_from_zero (InOr bundle left right) e = absurd (cc)
+none_from_zero (InXor bidder left right) e = absurd (cc)
+
+module _ (limit : ℕ) (left right : List ℕ) (l : SpellsWithinLimit limit left) (r : SpellsWithinLimit limit right) where
+  same_of : first_difference (auction_from l.file) (auction_from r.file) ≡ NoDifference → AreSameTexts left right
+  same_of e = record {
+    first = l.file;
+    second = r.file;
+    first_spelled = l.spelled;
+    second_spelled = r.spelled;
+    same = same_from_no_difference (auction_from l.file) (auction_from r.file) (HasAtoms-file l.file l.spelled.facts) (HasAtoms-file r.file r.spelled.facts) e;
+  }
+
+  none_of : AreSameTexts left right → first_difference (auction_from l.file) (auction_from r.file) ≡ NoDifference
+  none_of t =
+      let f = spells_one left t.first l.file t.first_spelled l.spelled in
+      let g = spells_one right t.second r.file t.second_spelled r.spelled in
+      no_difference_from_same (auction_from l.file) (auction_from r.file) (HasAtoms-file l.file l.spelled.facts) (HasAtoms-file r.file r.spelled.facts)
+      (subst (λ (x : PlainFile). AreSameFiles x r.file) f (subst (λ (x : PlainFile). AreSameFiles t.first x) g t.same))
+
+  pub compares : (d : Difference) → first_difference (auction_from l.file) (auction_from r.file) ≡ d
+      → ComparesTexts limit left right (status_of_difference d) (difference_text d)
+  compares d e = record {
+    difference = d;
+    differ = record { first = l; second = r; is = e };
+    is_status = refl;
+    is_text = refl;
+    same = (λ zero. same_of (e ∙ none_from_zero d zero), λ t. ap status_of_difference (sym e ∙ none_of t));
+  }
+
+  pub diffs : (d : PlainDifferences) → AreAllDifferences (auction_from (canonical_file l.file)) (auction_from (canonical_file r.file)) d
+      → DiffsTexts limit left right (status_of_differences d) (diff_text l.file.goods (kept_dummies l.file) (kept_dummies r.file) d)
+  diffs d all = record {
+    first = l;
+    second = r;
+    differences = d;
+    all = all;
+    is_status = refl;
+    is_text = refl;
+    same = zero_exactly left right l.file r.file l.spelled r.spelled d all (status_of_differences d) refl;
+  }
+
+-- the first difference of the files that the lines of two texts say
+abbrev pub spelled_difference : List ℕ → List ℕ → Difference
+spelled_difference left right = first_difference (auction_from (spelled_file left)) (auction_from (spelled_file right))
+
+module _ (limit : ℕ) (left right : List ℕ) (status : ℕ) (out : List ℕ) (c : ComparesTexts limit left right status out) where
+  first_is : c.difference ≡ spelled_difference left right
+  first_is = sym c.differ.is
+      ∙ ap₂ (λ (f g : PlainFile). first_difference (auction_from f) (auction_from g)) (says_spelled left c.differ.first.file c.differ.first.spelled)
+      (says_spelled right c.differ.second.file c.differ.second.spelled)
+
+  pub compared_status : status ≡ status_of_difference (spelled_difference left right)
+  compared_status = c.is_status ∙ ap status_of_difference first_is
+
+  pub compared_text : out ≡ difference_text (spelled_difference left right)
+  compared_text = c.is_text ∙ ap difference_text first_is
+
+goods_text : (f g : PlainFile) (d : PlainDifferences) → AreAllDifferences (auction_from (canonical_file f)) (auction_from (canonical_file g)) d
+    → f.goods ≢ g.goods → diff_text f.goods (kept_dummies f) (kept_dummies g) d ≡ goods_line f.goods g.goods
+goods_text f g (InGoodNumbers m n) all other = ap₂ goods_line (sym all.on_left) (sym all.on_right)
+goods_text f g (InBids bundles bidders) all other = absurd (other all.goods)
+
+module _ (limit : ℕ) (left right : List ℕ) (status : ℕ) (out : List ℕ) (c : DiffsTexts limit left right status out) where
+  -- numbers of goods that differ are printed
+  pub diffed_goods : eqb (spelled_file left).goods (spelled_file right).goods ≡ false → out ≡ goods_line (spelled_file left).goods (spelled_file right).goods
+  diffed_goods other =
+      let l : c.first.file.goods ≡ (spelled_file left).goods = ap (λ (f : PlainFile). f.goods) (says_spelled left c.first.file c.first.spelled) in
+      let r : c.second.file.goods ≡ (spelled_file right).goods = ap (λ (f : PlainFile). f.goods) (says_spelled right c.second.file c.second.spelled) in
+      c.is_text
+      ∙ goods_text c.first.file c.second.file c.differences c.all
+      (λ e. eqb-false (spelled_file left).goods (spelled_file right).goods other (sym l ∙ e ∙ r))
+      ∙ ap₂ goods_line l r
+
+-- ---- buffers
+
+pub puts_whole : (status : ℕ) (text old : List ℕ) → nat_le (length text) (length old) ≡ true
+    → PutsInto status text old (text ++ drop (length text) old) status
+puts_whole status text old fit = record {
+  fits = λ h. (refl, refl);
+  small = λ h. absurd (omega (leb-true (length text) (length old) fit, h, arith));
+}
+
+pub puts_none : (status : ℕ) (text old : List ℕ) → nat_lt (length old) (length text) ≡ true → PutsInto status text old old 6
+puts_none status text old small = record {
+  fits = λ h. absurd (omega (ltb-true (length old) (length text) small, h, arith));
+  small = λ h. (refl, refl);
+}

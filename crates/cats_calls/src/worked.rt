@@ -1,0 +1,173 @@
+//! Worked rows of what the calls answer, on small texts. The prover computes them.
+
+ghost use Rattle.std.specs.Prelude.{◌≡◌, ℕ, [], ◌∷◌, codes, Ok, Err, Vec, List};
+ghost use Rattle.std.specs.Global.{Global};
+ghost use Rattle.cats_text.specs.Faults.{fault_at};
+ghost use Rattle.cats_text.specs.declared.read_fault.Kind.TheVariants.{Header, Missing, TooFine, TooLong};
+ghost use Rattle.cats_text.specs.declared.read_fault.ReadFault.{ReadFault};
+ghost use Rattle.canon.specs.declared.canon_fault.CanonFault.TheVariants.{Read, StepLimit, Memory};
+ghost use Rattle.canon.specs.declared.which.Which.TheVariants.{Only, First, Second, Both};
+ghost use Rattle.rounding.specs.declared.replacement.FinePrices.TheVariants.{Round, Refuse};
+ghost use Rattle.answers.specs.declared.report.RunFault.TheVariants.{Refused, GoodRange};
+ghost use Rattle.cats_calls.specs.Answers.{Answers};
+ghost use Rattle.cats_calls.specs.Buffers.{Calls, Gives, PutsInto};
+ghost use Rattle.cats_calls.specs.OneText.{ChecksText, ExplainsText, NormalisesText};
+ghost use Rattle.cats_calls.specs.Refusals.{IsUnmade, IsUnread, OfOnly, OfTwo};
+ghost use Rattle.cats_calls.specs.Roundings.{GivesReport, IsUnrounded, RoundCalls, RoundsText, report_of, whole_status};
+ghost use Rattle.cats_calls.specs.TwoTexts.{ComparesTexts, DiffsTexts};
+ghost use Rattle.cats_calls.specs.declared.answer.Answer.{Answer};
+
+/// What `check` says of a text: the sizes of its file, with status 0. It says nothing of a text that is not a bid file.
+pub fn texts_checked()
+    ensures sizes { ChecksText (codes "goods 2\nbids 1\ndummy 0\n0 3 0 #\n") 0 (codes "goods 2 bids 1 dummy 0\n") }
+    ensures other_sizes { ChecksText (codes "goods 2\nbids 1\ndummy 0\n0 3 0 #\n") 0 (codes "goods 1 bids 1 dummy 0\n") → ⊥ }
+    ensures other_status { ChecksText (codes "goods 2\nbids 1\ndummy 0\n0 3 0 #\n") 1 (codes "goods 2 bids 1 dummy 0\n") → ⊥ }
+    ensures not_a_bid_file { (out : List ℕ) → ChecksText (codes "bids 0\n") 0 out → ⊥ }
+{}
+
+/// Why a text is not a bid file: its first fault. Memory is refused only if a bid line has begun, or for a bid file.
+pub fn texts_unread()
+    ensures fault { IsUnread (codes "bids 0\n") (Read (fault_at 1 Header)) }
+    ensures other_line { IsUnread (codes "bids 0\n") (Read (fault_at 2 Header)) → ⊥ }
+    ensures other_kind { IsUnread (codes "bids 0\n") (Read (fault_at 1 Missing)) → ⊥ }
+    ensures bid_file { (fault : ReadFault) → IsUnread (codes "goods 0\nbids 0\ndummy 0\n") (Read fault) → ⊥ }
+    ensures memory { IsUnread (codes "goods 1\nbids 1\ndummy 0\n0 1 0") Memory }
+    ensures no_memory { IsUnread (codes "bids 0\n") Memory → ⊥ }
+    ensures only { OfOnly (IsUnread (codes "bids 0\n")) Only (Read (fault_at 1 Header)) }
+    ensures not_first { OfOnly (IsUnread (codes "bids 0\n")) First (Read (fault_at 1 Header)) → ⊥ }
+{}
+
+/// The canonical text, and the bundle over a limit.
+pub fn texts_normalised()
+    ensures text { NormalisesText 1 (codes "goods 1\nbids 2\ndummy 0\n0 2 0 #\n1 3 0 #\n") 0
+        (codes "goods 1\nbids 1\ndummy 0\n0\t3\t0\t#\n") }
+    ensures other_text { NormalisesText 1 (codes "goods 1\nbids 2\ndummy 0\n0 2 0 #\n1 3 0 #\n") 0
+        (codes "goods 1\nbids 1\ndummy 0\n0\t2\t0\t#\n") → ⊥ }
+    ensures over_limit { (goods : Vec ℕ Global) → goods.items ≡ 0 ∷ [] → IsUnmade 0
+        (codes "goods 1\nbids 1\ndummy 0\n0 3 0 #\n") (StepLimit goods) }
+    ensures within_limit { (goods : Vec ℕ Global) → IsUnmade 1 (codes "goods 1\nbids 1\ndummy 0\n0 3 0 #\n") (StepLimit goods)
+        → ⊥ }
+{}
+
+/// The reason of each bid.
+pub fn texts_explained()
+    ensures reasons { ExplainsText 1 (codes "goods 1\nbids 2\ndummy 0\n0 2 0 #\n1 3 0 #\n") 0
+        (codes "0\tsame\t1\n1\tkeep\t0\n") }
+    ensures other_status { ExplainsText 1 (codes "goods 1\nbids 2\ndummy 0\n0 2 0 #\n1 3 0 #\n") 1
+        (codes "0\tsame\t1\n1\tkeep\t0\n") → ⊥ }
+    ensures none_left_out { ExplainsText 1 (codes "goods 1\nbids 2\ndummy 0\n0 2 0 #\n1 3 0 #\n") 0 (codes "1\tkeep\t0\n") → ⊥ }
+{}
+
+/// Two texts of one auction, and texts of two.
+pub fn texts_compared()
+    ensures same { ComparesTexts 1 (codes "goods 1\nbids 2\ndummy 0\n0 2 0 #\n1 3 0 #\n")
+        (codes "goods 1\nbids 1\ndummy 0\n0 3 0 #\n") 0 (codes "same\n") }
+    ensures different { ComparesTexts 1 (codes "goods 1\nbids 1\ndummy 0\n0 2 0 #\n")
+        (codes "goods 1\nbids 1\ndummy 0\n0 3 0 #\n") 1
+        (codes "different\nor 0\nleft 2\nright 3\n") }
+    ensures not_same { (out : List ℕ) → ComparesTexts 1 (codes "goods 1\nbids 1\ndummy 0\n0 2 0 #\n")
+        (codes "goods 1\nbids 1\ndummy 0\n0 3 0 #\n") 0 out → ⊥ }
+    ensures not_exchanged { ComparesTexts 1 (codes "goods 1\nbids 1\ndummy 0\n0 2 0 #\n")
+        (codes "goods 1\nbids 1\ndummy 0\n0 3 0 #\n") 1
+        (codes "different\nor 0\nleft 3\nright 2\n") → ⊥ }
+{}
+
+/// All differences of two texts.
+pub fn texts_diffed()
+    ensures same { DiffsTexts 1 (codes "goods 1\nbids 2\ndummy 0\n0 2 0 #\n1 3 0 #\n")
+        (codes "goods 1\nbids 1\ndummy 0\n0 3 0 #\n") 0 [] }
+    ensures goods { DiffsTexts 1 (codes "goods 1\nbids 0\ndummy 0\n") (codes "goods 2\nbids 0\ndummy 0\n") 1
+        (codes "goods\t1\t2\n") }
+    ensures not_same { (out : List ℕ) → DiffsTexts 1 (codes "goods 1\nbids 0\ndummy 0\n") (codes "goods 2\nbids 0\ndummy 0\n")
+        0 out → ⊥ }
+    ensures not_exchanged { DiffsTexts 1 (codes "goods 1\nbids 0\ndummy 0\n") (codes "goods 2\nbids 0\ndummy 0\n") 1
+        (codes "goods\t2\t1\n") → ⊥ }
+{}
+
+/// Which of two texts is refused: the second only if the first is not.
+pub fn one_of_two_refused()
+    ensures first { OfTwo 1 (codes "bids 0\n") (codes "goods 1\n") First (Read (fault_at 1 Header)) }
+    ensures second { OfTwo 1 (codes "goods 0\nbids 0\ndummy 0\n") (codes "bids 0\n") Second (Read (fault_at 1 Header)) }
+    ensures first_is_refused { OfTwo 1 (codes "bids 0\n") (codes "goods 1\n") Second (Read (fault_at 2 Missing)) → ⊥ }
+    ensures fault_of_the_second { OfTwo 1 (codes "bids 0\n") (codes "goods 1\n") First (Read (fault_at 2 Missing)) → ⊥ }
+    ensures both { OfTwo 1 (codes "goods 0\nbids 0\ndummy 0\n") (codes "goods 0\nbids 0\ndummy 0\n") Both Memory }
+    ensures both_by_fault { OfTwo 1 (codes "goods 0\nbids 0\ndummy 0\n") (codes "goods 0\nbids 0\ndummy 0\n") Both
+        (Read (fault_at 1 Header)) → ⊥ }
+{}
+
+/// A text with its prices rounded, and the report; and why there is none.
+pub fn texts_rounded()
+    ensures text { RoundsText Round (codes "goods 1\nbids 1\ndummy 0\n0 0.0123456 0 #\n")
+        (codes "goods 1\nbids 1\ndummy 0\n0 0.012346 0 #\n")
+        (codes "line 4: 0.0123456 rounded to 0.012346\n") }
+    ensures no_report { RoundsText Round (codes "goods 1\nbids 1\ndummy 0\n0 0.0123456 0 #\n")
+        (codes "goods 1\nbids 1\ndummy 0\n0 0.012346 0 #\n") [] → ⊥ }
+    ensures too_fine { IsUnrounded Refuse (codes "goods 1\nbids 1\ndummy 0\n0 0.0123456 0 #\n") (Read (fault_at 4 TooFine)) }
+    ensures other_line { IsUnrounded Refuse (codes "goods 1\nbids 1\ndummy 0\n0 0.0123456 0 #\n") (Read (fault_at 3 TooFine)) →
+        ⊥ }
+    ensures too_long { IsUnrounded Refuse (codes "goods 1\nbids 1\ndummy 0\n0 0.0123456 0 #\n") (Read (fault_at 0 TooLong)) → ⊥ }
+{}
+
+/// A text in a buffer. One that does not fit leaves the buffer as it was.
+pub fn texts_in_buffers()
+    ensures fits { PutsInto 1 (codes "ab") (codes "xyz") (codes "abz") 1 }
+    ensures whole_buffer { PutsInto 1 (codes "abc") (codes "xyz") (codes "abc") 1 }
+    ensures too_small { PutsInto 1 (codes "abcd") (codes "xyz") (codes "xyz") 6 }
+    ensures other_status { PutsInto 1 (codes "ab") (codes "xyz") (codes "abz") 0 → ⊥ }
+    ensures first_byte { PutsInto 1 (codes "ab") (codes "xyz") (codes "xbz") 1 → ⊥ }
+    ensures rest_cleared { PutsInto 1 (codes "ab") (codes "xyz") (97 ∷ 98 ∷ 0 ∷ []) 1 → ⊥ }
+    ensures cut { PutsInto 1 (codes "abcd") (codes "xyz") (codes "abc") 6 → ⊥ }
+    ensures cut_status { PutsInto 1 (codes "abcd") (codes "xyz") (codes "xyz") 1 → ⊥ }
+{}
+
+/// What an answer gives: its text, or the line of its fault.
+pub fn answers_given()
+    ensures text { (answer : Answer) → answer.status ≡ 1 → answer.text.items ≡ codes "ab" → Gives (Ok answer) (codes "xyz")
+        (codes "abz") 2 1 }
+    ensures other_length { (answer : Answer) → answer.text.items ≡ codes "ab" → Gives (Ok answer) (codes "xyz") (codes "abz") 3
+        1 → ⊥ }
+    ensures refused { Answers (ChecksText (codes "bids 0\n")) (OfOnly (IsUnread (codes "bids 0\n")))
+        (Err (Refused Only (Read (fault_at 1 Header)))) }
+    ensures out_of_range { Answers (ChecksText (codes "bids 0\n")) (OfOnly (IsUnread (codes "bids 0\n"))) (Err (GoodRange 0)) →
+        ⊥ }
+    ensures report_of_refused { GivesReport (Err (Refused Only Memory)) (codes ".") (codes ".") 0 0 }
+    ensures fault { Gives (Err (Refused First (Read (fault_at 1 Header)))) (codes "........................")
+        (codes "first: line 1: Header\n..") 22 2 }
+    ensures no_line { Gives (Err (Refused Only (Read (fault_at 1 Header)))) (codes "................")
+        (codes "want of memory\n.") 15 2 }
+    ensures memory { Gives (Err (Refused Only Memory)) (codes "................") (codes "want of memory\n.") 15 4 }
+    ensures memory_as_text { Gives (Err (Refused Only Memory)) (codes "................") (codes "want of memory\n.") 15 0 → ⊥ }
+{}
+
+/// What a whole call does.
+pub fn calls_made()
+    ensures text { let text = codes "goods 2\nbids 1\ndummy 0\n0 3 0 #\n" in Calls (ChecksText text) (OfOnly (IsUnread text))
+        (codes "........................") (codes "goods 2 bids 1 dummy 0\n.") 23 0 }
+    ensures too_small { let text = codes "goods 2\nbids 1\ndummy 0\n0 3 0 #\n" in Calls (ChecksText text) (OfOnly (IsUnread
+        text))
+        (codes "....") (codes "....") 23 6 }
+    ensures cut { let text = codes "goods 2\nbids 1\ndummy 0\n0 3 0 #\n" in Calls (ChecksText text) (OfOnly (IsUnread text))
+        (codes "....") (codes "good") 23 6 → ⊥ }
+    ensures fault { let text = codes "bids 0\n" in Calls (ChecksText text) (OfOnly (IsUnread text))
+        (codes "................") (codes "line 1: Header\n.") 15 2 }
+    ensures fault_as_text { let text = codes "bids 0\n" in Calls (ChecksText text) (OfOnly (IsUnread text))
+        (codes "................") (codes "line 1: Header\n.") 15 0 → ⊥ }
+    ensures memory { let text = codes "goods 2\nbids 1\ndummy 0\n0 3 0 #\n" in Calls (ChecksText text) (OfOnly (IsUnread text))
+        (codes "................") (codes "want of memory\n.") 15 4 }
+{}
+
+/// What rounding does with two buffers. The status is 6 if either is too small.
+pub fn roundings_called()
+    ensures both { RoundCalls Round (codes "goods 1\nbids 1\ndummy 0\n0 1e0 0 #\n") (codes ".................................")
+        (codes "goods 1\nbids 1\ndummy 0\n0 1 0 #\n..") 31
+        (codes ".") (codes ".") 0 0 }
+    ensures report_too_small { RoundCalls Round (codes "goods 1\nbids 1\ndummy 0\n0 1e-7 0 #\n")
+        (codes ".................................") (codes "goods 1\nbids 1\ndummy 0\n0 0 0 #\n..") 31
+        (codes ".") (codes ".") 26 6 }
+    ensures refused { RoundCalls Refuse (codes "goods 1\nbids 1\ndummy 0\n0 1e-7 0 #\n") (codes "................")
+        (codes "line 4: TooFine\n") 16
+        (codes ".") (codes ".") 0 2 }
+    ensures statuses { whole_status 0 0 ∷ whole_status 2 0 ∷ whole_status 6 0 ∷ whole_status 0 6 ∷ whole_status 2 6 ∷ [] ≡ 0 ∷
+        2 ∷ 6 ∷ 6 ∷ 6 ∷ [] }
+    ensures report { report_of Round (codes "goods 1\nbids 1\ndummy 0\n0 1e-7 0 #\n") ≡ codes "line 4: 1e-7 rounded to 0\n" }
+{}
