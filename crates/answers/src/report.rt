@@ -31,7 +31,7 @@ pub const DEVICE_FAILED: u8 = 5;
 /// The command line names nothing that the program does.
 pub const WRONG_USAGE: u8 = 64;
 
-/// Why a run gave no status of its own.
+/// Why a run failed.
 #[derive(PartialEq, Eq, Debug, Drop)]
 pub enum RunFault {
     /// A file was refused.

@@ -3,7 +3,7 @@
 use cats_text::{Kind, ReadFault};
 use std::alloc::AllocError;
 
-/// Why a file gave no canonical file.
+/// Why a file has no canonical file.
 #[derive(PartialEq, Eq, Debug, Drop)]
 pub enum CanonFault {
     /// It is not a bid file, or could not be read.

@@ -42,7 +42,7 @@ pub enum Kind {
     Memory,
 }
 
-/// Why a text gave no bid file. `line` counts the text's lines from 1; it is 0 for the kinds `TooLong`, `Device` and
+/// Why a text is not a bid file. `line` counts the text's lines from 1; it is 0 for the kinds `TooLong`, `Device` and
 /// `Memory`, which belong to no line.
 #[derive(Clone, Copy, PartialEq, Eq, Debug, Drop, Error)]
 #[error("line {line}: {kind:?}")]

@@ -2,6 +2,7 @@
 pub mod Pruning
 pub mod BestBids
 pub mod ListedAtoms
+pub mod WrittenPostings
 pub mod Results
 pub mod Prefixes
 pub mod PruningLoop

@@ -1,16 +1,15 @@
 -- Atoms are found through the goods of a bundle: each atom inside it is listed at one of its goods, which is a good of the bundle.
 -- The places found, sorted, are those of the atoms inside the bundle, since no place is listed twice.
-use Rattle.std.proofs.Common.{◌≡◌, ◌≢◌, ℕ, zero, suc, ◌+◌, ◌<◌, ◌≤◌, Bool, true, false, cond, leb, take, set, get_or-set_same, get_or-set_other, append_assoc}
+use Rattle.std.proofs.Common.{◌≡◌, ◌≢◌, ℕ, zero, suc, ◌+◌, ◌<◌, ◌≤◌, Bool, true, false, cond, leb, take, append_assoc}
 use Rattle.std.proofs.Common.{Bor, eqb, ◌⊎◌, inl, inr, ⊎_elim, List, [], ◌∷◌, ◌++◌, length, map, get_or, refl, sym, ap, ◌∙◌, subst, subst₂, arith, Some, None, nat_cmp, Less, Greater}
 use Rattle.std.specs.Prelude.{All, AllPairs, Contains, IsPermutation}
-use Rattle.std.specs.Global.{Vec}
 use Rattle.std.specs.List.{filter, list_any, range_with_len, slice_get}
 use Rattle.std.specs.List.Sorted.{IsSorted}
 use Rattle.std.proofs.lemmas.Bool.{cases_lt, cases_eq, both_ways, and_parts, and_from, and_right, or_from, false_from_ne_true}
 use Rattle.std.proofs.lemmas.Bool.{eqb-true, eq-eqb, le-leb, lt-leb}
 use Rattle.std.specs.Cmp.{both_ways as same_test}
 use Rattle.std.proofs.lemmas.Bool.Decides.{Decides-eqb}
-use Rattle.std.proofs.lemmas.List.{map-set, map_push, take_more, get_or-map, get_or_append_left, get_or_push, get_or_default, length-map, length_push}
+use Rattle.std.proofs.lemmas.List.{map_push, take_more, get_or-map, get_or_append_left, get_or_push, get_or_default, length-map, length_push}
 use Rattle.std.proofs.lemmas.List.Elements.{filter_more, Contains-get_or, All-append, All-contains, All-filter, All-weaker, Contains-append_left}
 use Rattle.std.proofs.lemmas.List.Elements.{Contains-append_right, Contains-push_cases, Contains-push}
 use Rattle.std.proofs.lemmas.List.Folds.{list_any_none, list_any_more}
@@ -34,7 +33,7 @@ use Rattle.valuation.specs.Lemmas.Atoms.{get_or-atoms_of}
 use Rattle.valuation.specs.Lemmas.Lists.{AllPairs-head, AllPairs-tail, AllPairs-append, Contains-map, Contains-unmap}
 use Rattle.prune.specs.declared.posting.Posting.{Posting}
 use Rattle.prune.specs.InOrder.{IsInOrder}
-use Rattle.prune.specs.Internal.Listings.{lists_of, listed_at, indices_of, places_at, atom_at, is_inside_at, dominates, dominates_at, IsListed, IsPosting, AreListed}
+use Rattle.prune.specs.Internal.Listings.{listed_at, indices_of, places_at, atom_at, is_inside_at, dominates, dominates_at, IsListed, IsPosting, AreListed}
 use Rattle.prune.specs.Internal.Listings.{AreGoodsOf, IsBehind, NoneInsideFrom}
 use Rattle.prune.specs.Lemmas.InOrder.{before_itself}
 use Rattle.prune.specs.Lemmas.Lists.{Contains-head, Contains-tail, Contains-filter, Contains-filter_parts, All-from_Contains, list_any_found, list_any_has}
@@ -43,10 +42,6 @@ use Rattle.prune.specs.Lemmas.KeptBids.{has_from_Contains}
 use Rattle.prune.proofs.BestBids.{map-filter}
 
 -- ---- lists of places
-
-pub listed_there : (vectors : List (Vec Posting)) (good : ℕ) (v : Vec Posting) → good < length vectors → v ≡ get_or vectors good v
-    → listed_at (lists_of vectors) good ≡ v.items
-listed_there vectors good v l e = get_or-map (λ (v : Vec Posting). v.items) vectors good v [] l ∙ ap (λ (v : Vec Posting). v.items) (sym e)
 
 abbrev pub place_of : Posting → ℕ
 place_of posting = posting.index
@@ -487,27 +482,3 @@ seen_more {S} goods atoms inside more places i a l m e h f =
     get_or-atoms_of goods atoms (get_or places i 0) a.now (record { bundle = []; price = 0 }) m e in
     pushed ∙ ap (λ (zs : List (Atom (List ℕ))). zs ++ seen a ∷ []) h
     ∙ sym (taken ∙ ap (λ (b : Atom (List ℕ)). map (atom_at (atoms_of goods atoms)) (take i places) ++ b ∷ []) here)
-
--- ---- the list at one good is written
-
-pub listed-set_same : (vectors : List (Vec Posting)) (good : ℕ) (v : Vec Posting) → good < length vectors → listed_at (lists_of (set vectors good v)) good
-    ≡ v.items
-listed-set_same vectors good v l =
-    let long = length-map vectors (λ (v : Vec Posting). v.items) in
-    let m : good < length (lists_of vectors) = omega arith in
-    ap (λ (zs : List (List Posting)). get_or zs good []) (map-set (λ (v : Vec Posting). v.items) vectors good v)
-    ∙ get_or-set_same (lists_of vectors) good v.items [] m
-
--- a list that is added is empty
-pub listed-pushed : (vectors : List (Vec Posting)) (v : Vec Posting) (k : ℕ) → v.items ≡ [] → listed_at (lists_of (vectors ++ v ∷ [])) k
-    ≡ listed_at (lists_of vectors) k
-listed-pushed [] v zero e = e
-listed-pushed [] v (suc k) e = refl
-listed-pushed (x ∷ xs) v zero e = refl
-listed-pushed (x ∷ xs) v (suc k) e = listed-pushed xs v k e
-
-pub listed-set_other : (vectors : List (Vec Posting)) (good : ℕ) (v : Vec Posting) (g : ℕ) → (g ≡ good → ⊥) → listed_at (lists_of (set vectors good v)) g
-    ≡ listed_at (lists_of vectors) g
-listed-set_other vectors good v g n =
-    ap (λ (zs : List (List Posting)). get_or zs g []) (map-set (λ (v : Vec Posting). v.items) vectors good v)
-    ∙ get_or-set_other (lists_of vectors) good g v.items [] n

@@ -1,4 +1,4 @@
-//! `cats duplicates` on new files. Their paths begin with what `@` stands for.
+//! `cats duplicates` on new files. Their paths begin with what `@` means.
 
 use super::program::run_words;
 use super::streams::{RunAnswer, expect};

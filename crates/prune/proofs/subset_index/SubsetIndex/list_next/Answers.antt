@@ -8,7 +8,8 @@ use Rattle.valuation.specs.declared.atom.Atom.{Atom}
 use Rattle.prune.specs.declared.posting.Posting.{Posting}
 use Rattle.std.specs.Global.{Vec}
 use Rattle.prune.specs.Internal.Listings.{lists_of, listed_at, AreGoodsOf}
-use Rattle.prune.proofs.ListedAtoms.{AreListed-more, listed-set_same, listed-set_other, listed-pushed, listed_there, bundle_there}
+use Rattle.prune.proofs.ListedAtoms.{AreListed-more, bundle_there}
+use Rattle.prune.proofs.WrittenPostings.{listed-set_same, listed-set_other, listed-pushed, listed_there}
 use Rattle.prune.proofs.subset_index.SubsetIndex.list_next.Goals as goal
 
 pub loop-self-preserved : goal.loop-self-preserved

@@ -1,6 +1,6 @@
 use Rattle.std.proofs.Common.{arith, sym, ap, ◌∙◌}
 use Rattle.prune.specs.Internal.Listings.{lists_of, listed_at}
-use Rattle.prune.proofs.ListedAtoms.{listed_there}
+use Rattle.prune.proofs.WrittenPostings.{listed_there}
 use Rattle.prune.proofs.subset_index.SubsetIndex.postings_at.Goals as goal
 
 pub returns-then-place-len : goal.returns-then-place-len
