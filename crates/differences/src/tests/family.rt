@@ -1,21 +1,40 @@
-//! All pairs of many small files. A slow program compares each: it looks up each bidder's price on each bundle, and
-//! compares each bidder with each other one.
+//! All pairs of files of a family, small ones or ones of many bidders. A slow program compares each: it looks up each
+//! bidder's price on each bundle, and compares each bidder with each other one.
 
 use super::{canonical_file, expect, lines_of};
 use crate::{BidderChange, Differences, PriceChange};
 use bid_file::{Bids, PackedFile};
 use std::alloc::{AllocError, Global};
+use std::process::Abort;
 use std::test::Fail;
 
-const FILES: usize = 40;
+/// What files are made.
+#[derive(Clone, Copy)]
+struct Family {
+    files: usize,
+    fewest_bids: u64,
+    most_bids: u64,
+    dummies: u64,
+    /// The greatest price of every second bid. The others cost 2 at most.
+    most: u64,
+}
 
-const FEWEST_BIDS: u64 = 6;
+const SMALL: Family = Family {
+    files: 40,
+    fewest_bids: 6,
+    most_bids: 10,
+    dummies: 4,
+    most: 2,
+};
 
-const MOST_BIDS: u64 = 10;
-
-const DUMMIES: u64 = 4;
-
-const PRICE: u64 = 2;
+/// Of so many bidders, and of so many prices, that many bids are rare among them.
+const OF_MANY_BIDDERS: Family = Family {
+    files: 4,
+    fewest_bids: 500,
+    most_bids: 700,
+    dummies: 200,
+    most: 150,
+};
 
 /// All bundles over 3 goods, in order.
 static BUNDLES: [&[u16]; 7] = [&[0], &[1], &[2], &[0, 1], &[0, 2], &[1, 2], &[0, 1, 2]];
@@ -36,6 +55,7 @@ fn push_goods(
     alloc: Global,
     state: &mut u64,
     goods: u64,
+    dummies: u64,
     text: &mut String,
 ) -> Result<(), AllocError> {
     let surely = up_to(state, goods.saturating_sub(1));
@@ -46,7 +66,7 @@ fn push_goods(
         }
     }
     if up_to(state, 9) != 0 {
-        let number = goods.saturating_add(up_to(state, DUMMIES - 1));
+        let number = goods.saturating_add(up_to(state, dummies.saturating_sub(1)));
         let word = format!(in alloc; " {number}")?;
         text.push_str(&word)?;
     }
@@ -54,15 +74,18 @@ fn push_goods(
 }
 
 /// The next file, as a text: mostly of 3 goods, and else of 2.
-fn next_text(alloc: Global, state: &mut u64) -> Result<String, AllocError> {
+fn next_text(alloc: Global, state: &mut u64, family: &Family) -> Result<String, AllocError> {
     let goods = if up_to(state, 7) == 0 { 2 } else { 3 };
-    let bids = up_to(state, MOST_BIDS - FEWEST_BIDS).saturating_add(FEWEST_BIDS);
-    let mut text = format!(in alloc; "goods {goods}\nbids {bids}\ndummy {DUMMIES}\n")?;
+    let more = family.most_bids.saturating_sub(family.fewest_bids);
+    let bids = up_to(state, more).saturating_add(family.fewest_bids);
+    let dummies = family.dummies;
+    let mut text = format!(in alloc; "goods {goods}\nbids {bids}\ndummy {dummies}\n")?;
     for number in 0..bids {
-        let price = up_to(state, PRICE);
+        let most = if number % 2 == 0 { 2 } else { family.most };
+        let price = up_to(state, most);
         let bid = format!(in alloc; "{number} {price}")?;
         text.push_str(&bid)?;
-        push_goods(alloc, state, goods, &mut text)?;
+        push_goods(alloc, state, goods, dummies, &mut text)?;
         text.push_str(" #\n")?;
     }
     Ok(text)
@@ -82,12 +105,20 @@ fn prices_of(file: &PackedFile, dummy: Option<u32>) -> Prices {
     prices
 }
 
-/// The prices of the XOR bidder, and none beside no bidder.
-fn prices_beside(file: &PackedFile, dummy: Option<u32>) -> Prices {
-    match dummy {
-        Some(_) => prices_of(file, dummy),
-        None => [None; 7],
+/// An XOR bidder of a file.
+#[derive(Clone, Copy)]
+struct XorBidder {
+    dummy: u32,
+    prices: Prices,
+}
+
+fn xor_bidders(alloc: Global, file: &PackedFile) -> Result<Vec<XorBidder>, AllocError> {
+    let mut bidders = Vec::new(alloc);
+    for dummy in 0..file.dummy() {
+        let prices = prices_of(file, Some(dummy));
+        bidders.push(XorBidder { dummy, prices })?;
     }
+    Ok(bidders)
 }
 
 /// The bundles on which the prices differ.
@@ -109,20 +140,25 @@ fn price_changes(
     Ok(changes)
 }
 
-/// How many of the XOR bidders, from one of them on, have these prices.
-fn copies_from(file: &PackedFile, first: u32, prices: &Prices) -> usize {
-    (first..file.dummy())
-        .filter(|dummy| prices_of(file, Some(*dummy)) == *prices)
+/// How many of the bidders have these prices.
+fn count_equal(bidders: &[XorBidder], prices: &Prices) -> usize {
+    bidders
+        .iter()
+        .filter(|bidder| bidder.prices == *prices)
         .count()
 }
 
-/// The XOR bidders of a file that are more often among those from them on than in the other file.
-fn excess_of(alloc: Global, file: &PackedFile, other: &PackedFile) -> Result<Vec<u32>, AllocError> {
+/// The bidders that are more often among those from them on than among the others.
+fn excess_of(
+    alloc: Global,
+    bidders: &[XorBidder],
+    others: &[XorBidder],
+) -> Result<Vec<XorBidder>, AllocError> {
     let mut excess = Vec::new(alloc);
-    for dummy in 0..file.dummy() {
-        let prices = prices_of(file, Some(dummy));
-        if copies_from(file, dummy, &prices) > copies_from(other, 0, &prices) {
-            excess.push(dummy)?;
+    for (place, bidder) in bidders.iter().enumerate() {
+        let prices = &bidder.prices;
+        if count_equal(&bidders[place..], prices) > count_equal(others, prices) {
+            excess.push(*bidder)?;
         }
     }
     Ok(excess)
@@ -136,33 +172,39 @@ fn shared_bids(one: &Prices, other: &Prices) -> usize {
 }
 
 /// Takes the first of the waiting bidders that has most bids in common with the prices, if any has one.
-fn take_partner(prices: &Prices, file: &PackedFile, waiting: &mut Vec<u32>) -> Option<u32> {
+fn take_partner(prices: &Prices, waiting: &mut Vec<XorBidder>) -> Option<XorBidder> {
     let mut partner = None;
     let mut most = 0;
-    for dummy in waiting.iter() {
-        let shared = shared_bids(prices, &prices_of(file, Some(*dummy)));
+    for (place, bidder) in waiting.iter().enumerate() {
+        let shared = shared_bids(prices, &bidder.prices);
         if shared > most {
-            partner = Some(*dummy);
+            partner = Some(place);
             most = shared;
         }
     }
-    waiting.retain(|dummy| Some(*dummy) != partner);
-    partner
+    match partner {
+        Some(place) => Some(waiting.remove(place)),
+        None => None,
+    }
+}
+
+/// The prices of the bidder, and none beside no bidder.
+fn prices_beside(bidder: Option<XorBidder>) -> Prices {
+    match bidder {
+        Some(bidder) => bidder.prices,
+        None => [None; 7],
+    }
 }
 
 fn bidder_change(
     alloc: Global,
-    left: &PackedFile,
-    right: &PackedFile,
-    own: Option<u32>,
-    other: Option<u32>,
+    left: Option<XorBidder>,
+    right: Option<XorBidder>,
 ) -> Result<BidderChange<'static>, AllocError> {
-    let own_prices = prices_beside(left, own);
-    let other_prices = prices_beside(right, other);
     Ok(BidderChange {
-        left: own,
-        right: other,
-        bids: price_changes(alloc, &own_prices, &other_prices)?,
+        left: left.map(|bidder| bidder.dummy),
+        right: right.map(|bidder| bidder.dummy),
+        bids: price_changes(alloc, &prices_beside(left), &prices_beside(right))?,
     })
 }
 
@@ -171,14 +213,16 @@ fn bidder_changes(
     left: &PackedFile,
     right: &PackedFile,
 ) -> Result<Vec<BidderChange<'static>>, AllocError> {
-    let mut waiting = excess_of(alloc, right, left)?;
+    let bidders = xor_bidders(alloc, left)?;
+    let others = xor_bidders(alloc, right)?;
+    let mut waiting = excess_of(alloc, &others, &bidders)?;
     let mut changes = Vec::new(alloc);
-    for dummy in excess_of(alloc, left, right)? {
-        let partner = take_partner(&prices_of(left, Some(dummy)), right, &mut waiting);
-        changes.push(bidder_change(alloc, left, right, Some(dummy), partner)?)?;
+    for bidder in excess_of(alloc, &bidders, &others)? {
+        let partner = take_partner(&bidder.prices, &mut waiting);
+        changes.push(bidder_change(alloc, Some(bidder), partner)?)?;
     }
-    for dummy in waiting {
-        changes.push(bidder_change(alloc, left, right, None, Some(dummy))?)?;
+    for bidder in waiting {
+        changes.push(bidder_change(alloc, None, Some(bidder))?)?;
     }
     Ok(changes)
 }
@@ -200,13 +244,13 @@ fn differences_of(
     })
 }
 
-#[test]
-fn all_pairs_of_small_files(rt: HostRuntime) -> Result<(), Fail> {
+/// Compares each file of a family with each.
+fn compare_all(rt: &(impl Abort + AllocGlobal), family: &Family) -> Result<(), Fail> {
     let alloc = rt.alloc();
     let mut state = 1;
     let mut texts = Vec::new(alloc);
-    for _ in 0..FILES {
-        texts.push(next_text(alloc, &mut state)?)?;
+    for _ in 0..family.files {
+        texts.push(next_text(alloc, &mut state, family)?)?;
     }
     for left in &texts {
         for right in &texts {
@@ -214,8 +258,18 @@ fn all_pairs_of_small_files(rt: HostRuntime) -> Result<(), Fail> {
             let other = canonical_file(alloc, right)?;
             let differences = differences_of(alloc, &one, &other)?;
             let lines = lines_of(alloc, &differences)?;
-            expect(&rt, left, right, &lines)?;
+            expect(rt, left, right, &lines)?;
         }
     }
     Ok(())
+}
+
+#[test]
+fn all_pairs_of_small_files(rt: HostRuntime) -> Result<(), Fail> {
+    compare_all(&rt, &SMALL)
+}
+
+#[test]
+fn all_pairs_of_files_of_many_bidders(rt: HostRuntime) -> Result<(), Fail> {
+    compare_all(&rt, &OF_MANY_BIDDERS)
 }

@@ -1,0 +1,171 @@
+//! What sending a text or a file answers to a writer that fails, or takes few bytes.
+
+ghost use Rattle.std.specs.Prelude.{◌≡◌, false};
+ghost use Rattle.cats_text.specs.Streams.{has_failed};
+
+use super::{BROKEN, Full, StepWriter, writer};
+use crate::texts::assert_bytes;
+use bid_file::PackedFile;
+use cats_text::{SendFault, Watched, push_price, read_packed_from, send, send_file};
+use std::alloc::{AllocError, Global};
+use std::io::ErrorKind;
+use std::process::Abort;
+use std::test::Fail;
+
+/// Asserts that so many first bytes of the text were sent, and how many flushes reached the writer.
+fn assert_sent(rt: &impl Abort, inner: &StepWriter, text: &[u8], written: u64, flushes: u64) {
+    assert_eq!(rt; inner.taken.len() as u64, written);
+    assert!(rt; text.starts_with(&inner.taken));
+    assert_eq!(rt; inner.flushes, flushes);
+}
+
+/// Asserts what a writer that takes so many bytes a call and so many in all makes of a text that is sent: how much goes
+/// out, and whether a flush reaches it.
+fn assert_sends(
+    rt: &impl Abort,
+    mut out: Watched<StepWriter>,
+    text: &[u8],
+    want: Result<(), SendFault>,
+    flushes: u64,
+)
+    requires { has_failed out ≡ false }
+{
+    let written = match want {
+        Ok(()) => text.len() as u64,
+        Err(fault) => fault.written,
+    };
+    assert_eq!(rt; send(&mut out, text), want);
+    assert_eq!(rt; out.failed(), want.is_err());
+    assert_sent(rt, &out.into_inner(), text, written, flushes);
+}
+
+#[test]
+fn sends_the_whole_text_and_flushes_once(rt: HostRuntime) {
+    for step in 1..9 {
+        let out = writer(rt.alloc(), step, 7, BROKEN, false);
+        assert_sends(&rt, out, b"goods 0", Ok(()), 1);
+    }
+    let out = writer(rt.alloc(), 1, 0, BROKEN, false);
+    assert_sends(&rt, out, b"", Ok(()), 1);
+}
+
+#[test]
+fn counts_what_went_out(rt: HostRuntime) {
+    for full in [
+        BROKEN,
+        Full::Fails(ErrorKind::Interrupted),
+        Full::TakesNothing,
+    ] {
+        for capacity in 0..7 {
+            let out = writer(rt.alloc(), 2, capacity, full, false);
+            let written = capacity as u64;
+            assert_sends(&rt, out, b"goods 0", Err(SendFault { written }), 0);
+        }
+    }
+    let out = writer(rt.alloc(), 2, 9, BROKEN, true);
+    assert_sends(&rt, out, b"goods 0", Err(SendFault { written: 7 }), 1);
+}
+
+/// Appends a whole number, as the price of so many whole units.
+fn push_number(text: &mut Vec<u8>, number: u32) -> Result<(), AllocError> {
+    push_price(text, u128::from(number) * 1_000_000)
+}
+
+/// The text of a file of so many bids, each on all of 4,096 goods: its lines have some 20,000 bytes.
+fn long_text(alloc: Global, bids: u32) -> Result<Vec<u8>, AllocError> {
+    let mut text = Vec::new(alloc);
+    text.extend_from_slice(b"goods 4096\nbids ")?;
+    push_number(&mut text, bids)?;
+    text.extend_from_slice(b"\ndummy 0\n")?;
+    for number in 0..bids {
+        push_number(&mut text, number)?;
+        text.extend_from_slice(b"\t7.000001")?;
+        for good in 0..4096 {
+            text.push(b'\t')?;
+            push_number(&mut text, good)?;
+        }
+        text.extend_from_slice(b"\t#\n")?;
+    }
+    Ok(text)
+}
+
+/// Asserts what a writer that has capacity for so many bytes makes of a file that is sent.
+fn assert_sends_file(
+    rt: &impl Abort,
+    alloc: Global,
+    mut out: Watched<StepWriter>,
+    file: &PackedFile,
+    text: &[u8],
+    want: Result<(), SendFault>,
+    flushes: u64,
+) -> Result<(), Fail>
+    requires { has_failed out ≡ false }
+{
+    let written = match want {
+        Ok(()) => text.len() as u64,
+        Err(fault) => fault.written,
+    };
+    assert_eq!(rt; send_file(alloc, &mut out, file)?, want);
+    assert_eq!(rt; out.failed(), want.is_err());
+    assert_sent(rt, &out.into_inner(), text, written, flushes);
+    Ok(())
+}
+
+#[test]
+fn sends_a_file_in_pages(rt: HostRuntime) -> Result<(), Fail> {
+    let text = long_text(rt.alloc(), 9)?;
+    let file = read_packed_from(rt.alloc(), &mut Watched::new(text.as_slice()))?;
+    for capacity in [0, 1, 22, 23, 20_000, 65_536, 100_000, 150_000] {
+        let out = writer(rt.alloc(), 30_000, capacity, BROKEN, false);
+        let written = capacity as u64;
+        assert_sends_file(
+            &rt,
+            rt.alloc(),
+            out,
+            &file,
+            &text,
+            Err(SendFault { written }),
+            0,
+        )?;
+    }
+    let out = writer(rt.alloc(), 30_000, text.len(), BROKEN, false);
+    assert_sends_file(&rt, rt.alloc(), out, &file, &text, Ok(()), 1)?;
+    let out = writer(rt.alloc(), 30_000, text.len(), BROKEN, true);
+    let written = text.len() as u64;
+    assert_sends_file(
+        &rt,
+        rt.alloc(),
+        out,
+        &file,
+        &text,
+        Err(SendFault { written }),
+        1,
+    )
+}
+
+/// A text, and what is sent of its file: bids in order, in no order, and in order up to one that comes late.
+static SENT: [(&[u8], &[u8]); 3] = [
+    (
+        b"goods 3\nbids 2\ndummy 1\n0 1 0 2 #\n1 2.5 1 0 3 #\n",
+        b"goods 3\nbids 2\ndummy 1\n0\t1\t0\t2\t#\n1\t2.5\t0\t1\t3\t#\n",
+    ),
+    (
+        b"goods 3\nbids 2\ndummy 1\n1 1 0 2 #\n0 2.5 3 2 1 #\n",
+        b"goods 3\nbids 2\ndummy 1\n0\t2.5\t1\t2\t3\t#\n1\t1\t0\t2\t#\n",
+    ),
+    (
+        b"goods 3\nbids 4\ndummy 0\n0 1 2 #\n2 3 1 2 #\n1 2 0 #\n3 4 2 1 0 #\n",
+        b"goods 3\nbids 4\ndummy 0\n0\t1\t2\t#\n1\t2\t0\t#\n2\t3\t1\t2\t#\n3\t4\t0\t1\t2\t#\n",
+    ),
+];
+
+#[test]
+fn sends_what_was_read(rt: HostRuntime) -> Result<(), Fail> {
+    for (text, want) in &SENT {
+        let file = read_packed_from(rt.alloc(), &mut Watched::new(*text))?;
+        let mut out = Watched::new(Vec::new(rt.alloc()));
+        send_file(rt.alloc(), &mut out, &file)??;
+        assert_bytes(&rt, &out.into_inner(), want);
+    }
+    Ok(())
+}
