@@ -3,7 +3,7 @@
 use std::alloc::{AllocError, Global};
 
 /// How many bidders a word has.
-const WORD: usize = 64;
+pub(crate) const WORD: usize = 64;
 
 /// A set of right bidders, by their places.
 #[derive(Drop)]

@@ -7,7 +7,7 @@
 
 ghost use Rattle.std.specs.Prelude.{◌<◌, ◌≤◌, length};
 
-use crate::bidder_set::{BidderSet, WordCounts};
+use crate::bidder_set::{BidderSet, WORD, WordCounts};
 use bid_file::{BidRef, Bids};
 use canon::BidRun;
 use std::alloc::{AllocError, Global};
@@ -271,7 +271,7 @@ impl<'a> SharedBids<'a> {
                 let (count, bit) = self.word_counts.greatest(waiting);
                 if count > most.count {
                     most = Candidate {
-                        place: number.saturating_mul(64).saturating_add(bit),
+                        place: number.saturating_mul(WORD).saturating_add(bit),
                         count,
                     };
                 }
@@ -288,12 +288,12 @@ impl<'a> SharedBids<'a> {
         let mut counted = None;
         for index in 0..self.rare.counted.len() {
             let rare = self.rare.at(index);
-            let number = rare.place / 64;
+            let number = rare.place / WORD;
             if counted != Some(number) {
                 count_word(&self.common, &self.found, number, &mut self.word_counts)?;
                 counted = Some(number);
             }
-            let shared = self.word_counts.count_of(rare.place % 64);
+            let shared = self.word_counts.count_of(rare.place % WORD);
             let candidate = Candidate {
                 place: rare.place,
                 count: rare.count.saturating_add(shared),
