@@ -9,7 +9,7 @@ ghost use Rattle.std.specs.Prelude.{◌<◌, ◌≤◌, length};
 
 use crate::bidder_set::{BidderSet, WORD, WordCounts};
 use bid_file::{BidRef, Bids};
-use canon::BidRun;
+use canon::{BidRun, order_of_bundles};
 use std::alloc::{AllocError, Global};
 use std::cmp::Ordering;
 
@@ -65,19 +65,12 @@ pub(crate) struct SharedBids<'a> {
 
 /// By bundle, and on one bundle by price.
 fn order_of_bids(goods: &[u16], price: u64, other: &BidRef<'_>) -> Ordering {
-    goods
-        .len()
-        .cmp(&other.goods.len())
-        .then_with(|| goods.cmp(other.goods))
-        .then_with(|| price.cmp(&other.price))
+    order_of_bundles(goods, other.goods).then_with(|| price.cmp(&other.price))
 }
 
 /// By bundle, price and bidder.
 fn order_of_places(one: &PartnerBid<'_>, other: &PartnerBid<'_>) -> Ordering {
-    one.goods
-        .len()
-        .cmp(&other.goods.len())
-        .then_with(|| one.goods.cmp(other.goods))
+    order_of_bundles(one.goods, other.goods)
         .then_with(|| one.price.cmp(&other.price))
         .then_with(|| one.place.cmp(&other.place))
 }
