@@ -12,41 +12,40 @@ use std::io::ErrorKind;
 use std::process::Abort;
 use std::test::Fail;
 
-/// Asserts that so many first bytes of the text were sent, and how many flushes reached the writer.
-fn assert_sent(rt: &impl Abort, inner: &StepWriter, text: &[u8], written: u64, flushes: u64) {
+/// Asserts what a writer took of a text: its first bytes, so many or all of them. A flush reaches it once all are written.
+fn assert_sent(rt: &impl Abort, inner: &StepWriter, text: &[u8], answer: Result<(), SendFault>) {
+    let all = text.len() as u64;
+    let written = match answer {
+        Ok(()) => all,
+        Err(fault) => fault.written,
+    };
     assert_eq!(rt; inner.taken.len() as u64, written);
     assert!(rt; text.starts_with(&inner.taken));
-    assert_eq!(rt; inner.flushes, flushes);
+    assert_eq!(rt; inner.flushes, if written == all { 1 } else { 0 });
 }
 
-/// Asserts what a writer that takes so many bytes a call and so many in all makes of a text that is sent: how much goes
-/// out, and whether a flush reaches it.
+/// Asserts what a writer makes of a text that is sent.
 fn assert_sends(
     rt: &impl Abort,
     mut out: Watched<StepWriter>,
     text: &[u8],
     want: Result<(), SendFault>,
-    flushes: u64,
 )
     requires { has_failed out ≡ false }
 {
-    let written = match want {
-        Ok(()) => text.len() as u64,
-        Err(fault) => fault.written,
-    };
     assert_eq!(rt; send(&mut out, text), want);
     assert_eq!(rt; out.failed(), want.is_err());
-    assert_sent(rt, &out.into_inner(), text, written, flushes);
+    assert_sent(rt, &out.into_inner(), text, want);
 }
 
 #[test]
 fn sends_the_whole_text_and_flushes_once(rt: HostRuntime) {
     for step in 1..9 {
         let out = writer(rt.alloc(), step, 7, BROKEN, false);
-        assert_sends(&rt, out, b"goods 0", Ok(()), 1);
+        assert_sends(&rt, out, b"goods 0", Ok(()));
     }
     let out = writer(rt.alloc(), 1, 0, BROKEN, false);
-    assert_sends(&rt, out, b"", Ok(()), 1);
+    assert_sends(&rt, out, b"", Ok(()));
 }
 
 #[test]
@@ -59,11 +58,11 @@ fn counts_what_went_out(rt: HostRuntime) {
         for capacity in 0..7 {
             let out = writer(rt.alloc(), 2, capacity, full, false);
             let written = capacity as u64;
-            assert_sends(&rt, out, b"goods 0", Err(SendFault { written }), 0);
+            assert_sends(&rt, out, b"goods 0", Err(SendFault { written }));
         }
     }
     let out = writer(rt.alloc(), 2, 9, BROKEN, true);
-    assert_sends(&rt, out, b"goods 0", Err(SendFault { written: 7 }), 1);
+    assert_sends(&rt, out, b"goods 0", Err(SendFault { written: 7 }));
 }
 
 /// Appends a whole number, as the price of so many whole units.
@@ -89,25 +88,19 @@ fn long_text(alloc: Global, bids: u32) -> Result<Vec<u8>, AllocError> {
     Ok(text)
 }
 
-/// Asserts what a writer that has capacity for so many bytes makes of a file that is sent.
+/// Asserts what a writer makes of a file that is sent, whose text this is.
 fn assert_sends_file(
-    rt: &impl Abort,
-    alloc: Global,
+    rt: &(impl Abort + AllocGlobal),
     mut out: Watched<StepWriter>,
     file: &PackedFile,
     text: &[u8],
     want: Result<(), SendFault>,
-    flushes: u64,
 ) -> Result<(), Fail>
     requires { has_failed out ≡ false }
 {
-    let written = match want {
-        Ok(()) => text.len() as u64,
-        Err(fault) => fault.written,
-    };
-    assert_eq!(rt; send_file(alloc, &mut out, file)?, want);
+    assert_eq!(rt; send_file(rt.alloc(), &mut out, file)?, want);
     assert_eq!(rt; out.failed(), want.is_err());
-    assert_sent(rt, &out.into_inner(), text, written, flushes);
+    assert_sent(rt, &out.into_inner(), text, want);
     Ok(())
 }
 
@@ -118,29 +111,13 @@ fn sends_a_file_in_pages(rt: HostRuntime) -> Result<(), Fail> {
     for capacity in [0, 1, 22, 23, 20_000, 65_536, 100_000, 150_000] {
         let out = writer(rt.alloc(), 30_000, capacity, BROKEN, false);
         let written = capacity as u64;
-        assert_sends_file(
-            &rt,
-            rt.alloc(),
-            out,
-            &file,
-            &text,
-            Err(SendFault { written }),
-            0,
-        )?;
+        assert_sends_file(&rt, out, &file, &text, Err(SendFault { written }))?;
     }
     let out = writer(rt.alloc(), 30_000, text.len(), BROKEN, false);
-    assert_sends_file(&rt, rt.alloc(), out, &file, &text, Ok(()), 1)?;
+    assert_sends_file(&rt, out, &file, &text, Ok(()))?;
     let out = writer(rt.alloc(), 30_000, text.len(), BROKEN, true);
     let written = text.len() as u64;
-    assert_sends_file(
-        &rt,
-        rt.alloc(),
-        out,
-        &file,
-        &text,
-        Err(SendFault { written }),
-        1,
-    )
+    assert_sends_file(&rt, out, &file, &text, Err(SendFault { written }))
 }
 
 /// A text, and what is sent of its file: bids in order, in no order, and in order up to one that comes late.
