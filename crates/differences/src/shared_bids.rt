@@ -1,9 +1,8 @@
 //! Which of the waiting right bidders shares most bids with a left bidder.
 //!
 //! The bids of the right bidders are in one list, in order, so that those equal to a bid are found by bisection. Most bids are
-//! rare: their bidders are counted one by one. A bid that more than one of 64 right bidders has is common: it has a set of its
-//! bidders, and the sets are counted 64 bidders at a time. So a bid of a left bidder takes as many steps as a set has words, at
-//! most.
+//! rare: their bidders are counted one by one. A common bid has a set of its bidders, and the sets are counted 64 bidders at a
+//! time. So a bid of a left bidder takes as many steps as a set has words, at most.
 
 ghost use Rattle.std.specs.Prelude.{◌<◌, ◌≤◌, length};
 
@@ -13,8 +12,12 @@ use canon::{BidRun, order_of_bundles};
 use std::alloc::{AllocError, Global};
 use std::cmp::Ordering;
 
-/// A bid is common if more than one of so many right bidders has it.
-const RARE: usize = 64;
+/// A bid that no more right bidders have is rare.
+const FEW: usize = 2;
+
+/// So is a bid that no more than one in so many right bidders has. All others are common. With fewer common bids the counted
+/// bidders of a large file are slow to sort; with more of them the sets have more memory than the bids.
+const RARE: usize = 1024;
 
 /// A bid of a right bidder.
 #[derive(Clone, Copy)]
@@ -142,7 +145,7 @@ fn common_bids<'a>(
     let mut first = 0;
     while first < bids.len() {
         let end = end_of_equals(bids, first);
-        if end - first > bidders / RARE {
+        if end - first > FEW.max(bidders / RARE) {
             common.push(common_bid(alloc, &bids[first..end], &bids[first], bidders)?)?;
         }
         first = end;
