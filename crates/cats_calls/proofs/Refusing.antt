@@ -1,5 +1,5 @@
 -- A text that is read and normalised. One that is longer than a stream may be has a fault: that of its first bytes, or its length.
-use Rattle.std.proofs.Common.{◌≡◌, ◌≢◌, ◌<◌, ◌≤◌, ℕ, ◌⊎◌, inl, inr, true, List, [], length, take, Option, Some, None, Result, Ok, Err, refl, sym, ap, ◌∙◌, subst, IfSome}
+use Rattle.std.proofs.Common.{◌≡◌, ◌≢◌, ◌<◌, ◌≤◌, ℕ, nat_le, ◌⊎◌, inl, inr, true, false, if◌then◌else◌, List, [], length, take, Option, Some, None, Result, Ok, Err, refl, sym, ap, ◌∙◌, subst, IfSome}
 use Rattle.std.specs.Prelude.{IsErrAnd, IfOk}
 use Rattle.std.proofs.lemmas.Bool.{le-leb, lt-leb}
 use Rattle.std.proofs.lemmas.List.{take_all}
@@ -28,13 +28,21 @@ use Rattle.cats_calls.specs.Internal.Reading.{NamesAs, ReadsAs}
 
 -- ---- faults of the text
 
+-- the fault is of the bytes that are read
+pub text_fault-of_bytes : (text : List ℕ) → IfSome (text_fault text) IsFaultOfBytes
+text_fault-of_bytes text = elim (nat_le (length text) MAX_STREAM)
+    as (λ short. IfSome (if short then first_fault text else fed_fault MAX_STREAM text) IsFaultOfBytes) [
+      | true ↦ first_fault-of_bytes text
+      | false ↦ fed_fault-of_bytes MAX_STREAM text
+    ]
+
 -- the fault of reading, or want of memory, is why the text is refused
-unread_by : (text : List ℕ) (why : ReadFault) → IfSome (text_fault text) IsFaultOfBytes
-    → (text_fault text ≡ Some why) ⊎ ((why.kind ≡ NoMemory) × (has_bid_line (take MAX_STREAM text) ≡ true)) → IsUnread text (refusal_of why)
-unread_by text why of_bytes h = by why.kind refl h
+unread_by : (text : List ℕ) (why : ReadFault) → (text_fault text ≡ Some why) ⊎ ((why.kind ≡ NoMemory) × (has_bid_line (take MAX_STREAM text) ≡ true))
+    → IsUnread text (refusal_of why)
+unread_by text why h = by why.kind refl h
   where
     of_text : text_fault text ≡ Some why → why.kind ≢ NoMemory
-    of_text e = (subst (λ (fault : Option ReadFault). IfSome fault IsFaultOfBytes) e of_bytes).1
+    of_text e = (subst (λ (fault : Option ReadFault). IfSome fault IsFaultOfBytes) e (text_fault-of_bytes text)).1
 
     by : (kind : Kind) → why.kind ≡ kind → (text_fault text ≡ Some why) ⊎ ((why.kind ≡ NoMemory) × (has_bid_line (take MAX_STREAM text) ≡ true))
         → IsUnread text (refusal_by_kind why kind)
@@ -53,12 +61,9 @@ short_wants text short h = ap has_bid_line (take_all MAX_STREAM text short) ∙ 
 
 short_unread : (text : List ℕ) (why : ReadFault) → length text ≤ MAX_STREAM → (first_fault text ≡ Some why) ⊎ WantsMemory text why
     → IsUnread text (refusal_of why)
-short_unread text why short (inl first) =
-    unread_by text why (subst (λ (fault : Option ReadFault). IfSome fault IsFaultOfBytes) (sym (short_fault text short)) (first_fault-of_bytes text))
-    (inl (short_fault text short ∙ first))
+short_unread text why short (inl first) = unread_by text why (inl (short_fault text short ∙ first))
 short_unread text why short (inr wants) =
-    unread_by text why (subst (λ (fault : Option ReadFault). IfSome fault IsFaultOfBytes) (sym (short_fault text short)) (first_fault-of_bytes text))
-    (inr (ap (λ (w : ReadFault). w.kind) wants.0, short_wants text short wants.1))
+    unread_by text why (inr (ap (λ (w : ReadFault). w.kind) wants.0, short_wants text short wants.1))
 
 pub text_unread : (text : List ℕ) (why : ReadFault) → length text ≤ MAX_STREAM → (first_fault text ≡ Some why) ⊎ WantsMemory text why
     → (r : Result PlainFile CanonFault) → IsErrAnd r (λ fault. fault ≡ refusal_of why) → ReadsAs text r
@@ -73,8 +78,7 @@ module _ (text : List ℕ) (long : MAX_STREAM < length text) where
 
   long_unread : (new : Fed) (why : ReadFault) → FeedsOn (record { limit = MAX_STREAM; bytes = []; failed = None }) text new (Err why)
       → IsUnread text (refusal_of why)
-  long_unread new why fed = unread_by text why (subst (λ (fault : Option ReadFault). IfSome fault IsFaultOfBytes) (sym long_is) (fed_fault-of_bytes MAX_STREAM text))
-      (by fed.answer.0)
+  long_unread new why fed = unread_by text why (by fed.answer.0)
     where
       of_text : fed_fault new.limit new.bytes ≡ fed_fault MAX_STREAM text
       of_text = ap (λ (limit : ℕ). fed_fault limit new.bytes) fed.limit ∙ ap (fed_fault MAX_STREAM) fed.bytes

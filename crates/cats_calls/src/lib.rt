@@ -3,6 +3,7 @@
 
 mod answer;
 mod buffer;
+pub mod laws;
 mod one_text;
 mod reading;
 mod rounded_text;
