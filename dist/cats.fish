@@ -1,6 +1,6 @@
 # Completion of `cats` for fish: subcommands, options and paths.
 
-# Whether a path is due: fewer of them stand on the command line than its subcommand takes.
+# Whether a path is due: fewer of them are on the command line than its subcommand takes.
 function __cats_takes_path
     set -l words (commandline -opc)
     set -l operands (string match -v -- '-*' $words[3..-1])

@@ -20,6 +20,8 @@ SECONDS = 120
 # The limits of the format: docs/FORMAT.md. Prices are whole here.
 GOODS, BIDS, GREATEST_PRICE = 4096, 65_536, 1_000_000_000_000
 
+SIZES_HEADER = "goods\tbids\tor\txor\tdummy\tkept\tkept_or\tkept_xor\tfile\n"
+
 # Whose the bids of a file are: the OR bidder's, one XOR bidder's, or each an XOR bidder's of its own.
 OR, ONE_XOR, MANY_XOR = "OR bids", "bids of one XOR bidder", "XOR bidders of one bid"
 
@@ -79,6 +81,21 @@ def difference(bids, whose):
     return "different\n" + printed
 
 
+def differences(bids, last, whose):
+    """What `cats diff` prints of a file with these bids and of one that lacks this bid: of equal bidders the first is printed."""
+    lacking = f"{named(last)[0]}\t{last.price}\t-\n"
+    if whose == OR:
+        return f"or\t{lacking}"
+    bidders = f"{GOODS}\t{GOODS}" if whose == ONE_XOR else f"{GOODS + bids.index(last)}\t-"
+    return f"xor\t{bidders}\nbid\t{lacking}"
+
+
+def sizes(bids, whose):
+    """What `cats sizes` prints of the file `one` with these bids, which are all points."""
+    numbers = f"{len(bids) if whose == OR else 0}\t{dummies(bids, whose)}\t"
+    return f"{SIZES_HEADER}{GOODS}\t{len(bids)}\t{numbers}{dummies(bids, whose)}\t{len(bids)}\t{numbers}one\n"
+
+
 def value(goods, bids, whose):
     """What `cats value` prints of a file on the bundle of its first bid, on which there is no other one."""
     first = bids[0]
@@ -120,6 +137,10 @@ def judge_file(folder, bids, whose):
     run(["explain", "one"], (0, explanation(bids), ""), folder)
     run(["compare", "one", "other"], (0, "same\n", ""), folder)
     run(["compare", "one", "lacking"], (1, difference(in_order, whose), ""), folder)
+    run(["diff", "one", "other"], (0, "", ""), folder)
+    run(["diff", "one", "lacking"], (1, differences(bids, in_order[-1], whose), ""), folder)
+    run(["sizes", "one"], (0, sizes(bids, whose), ""), folder)
+    run(["round", "one"], (0, text_of(GOODS, bids, whose), ""), folder)
     run(["duplicates", "one", "lacking", "other"], (0, "one\nother\n", ""), folder)
 
 

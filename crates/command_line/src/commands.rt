@@ -57,7 +57,8 @@ struct Subcommand {
 }
 
 /// What the limit counts of a subcommand that normalises files.
-const STEPS_OF_BUNDLE: &str = "The most steps that the search on a bundle may take";
+const STEPS_OF_BUNDLE: &str =
+    "The most steps that the search on a bundle may take, from 1 to 1,000,000,000";
 
 /// The subcommands, as the help lists them.
 static SUBCOMMANDS: [Subcommand; 10] = [
@@ -78,7 +79,7 @@ static SUBCOMMANDS: [Subcommand; 10] = [
         about: "Prints what the bidders of a bid file offer for a bundle of goods",
         help: help::VALUE,
         arguments: &[
-            Argument::Steps("The most packings that a search may enter"),
+            Argument::Steps("The most packings that a search may enter, from 1 to 1,000,000,000"),
             Argument::File,
             Argument::Goods,
         ],

@@ -54,7 +54,7 @@ bundle, and the number of the first that has it. For example, for all goods of a
   $ cats value auction.txt $(seq 0 39)
 
 A step is one packing: one family of the bids without a dummy good that lie in the bundle and share no good. A step
-takes 5 to 20 nanoseconds with up to 128 such bids, and some 50 nanoseconds more for each 1,000. If there are more than
+takes 5 to 20 nanoseconds with up to 128 such bids, and some 30 nanoseconds more for each 1,000. If there are more than
 N packings, the program prints 'step limit at GOODS', with status 3, and a greater N lets the search go on:
   $ cats value --steps 1000000000 auction.txt $(seq 0 39)
 
@@ -134,14 +134,13 @@ files are the same auction. For example:
   goods M N      the numbers of goods differ; nothing else is compared
   or BUNDLE P Q  the prices of the OR bidders' bids on a bundle in the canonical files; '-' if there is no bid, although
                  other bids may reach the same value together
-  xor D E        two XOR bidders that differ, one of each file, by their dummy goods; '-' if the other file does not have
-                 the bidder
+  xor D E        two XOR bidders that differ, one of each file, by their dummy goods in the files; '-' if no bidder of that
+                 file is beside the other one
   bid BUNDLE P Q the prices of these two bidders on a bundle; '-' if the bidder has no bid on it
 
-Bidders that both files have equally often are not printed. Of the others, each bidder of the first file is printed
-beside the bidder of the second file that has most bids in common with it, if there is one. D and E are the numbers that
-the files and 'cats value' print. If several bidders of a file have the same bids, the smallest number that is not
-printed yet is used.
+A bidder that one file has N times more often than the other is printed N times. Each such bidder of the first file is
+printed beside the bidder of the second file that has most bids in common with it, if there is one. If several bidders
+of a file have the same bids, the smallest number that is not printed yet is used.
 
 A step is that of 'cats normalise': each file is normalised first. A fault's line begins with 'first: ' or 'second: '.
 
@@ -165,7 +164,7 @@ A file that is refused is reported at once, with its path before the fault, and 
 cannot be read, and then no file is. With --progress a line says how many files were read, after each hundred and at the
 end; on a terminal it is one line, which is replaced after each file. A step is that of 'cats normalise'.
 
-Statuses: 0 where every file was judged, whether or not some are one auction; else the greatest status of those that
+Statuses: 0 if every file was judged, whether or not some are one auction; else the greatest status of those that
 were not: 2 for a file that is not a bid file, 3 for the step limit, 4, 5 and 64 as 'cats --help' lists them";
 
 pub(crate) const SIZES: &str = "\
