@@ -18,16 +18,16 @@ use Rattle.differences.specs.Internal.Partners.{TakesPartner}
 use Rattle.differences.proofs.LawsLists.{all_pass, none_pass}
 use Rattle.differences.proofs.Waiting.{All-counted, still_rise, taken_counted}
 
-lefts-append : (xs ys : List PlainBidderChange) → lefts_of (xs ++ ys) ≡ lefts_of xs ++ lefts_of ys
+pub lefts-append : (xs ys : List PlainBidderChange) → lefts_of (xs ++ ys) ≡ lefts_of xs ++ lefts_of ys
 lefts-append xs ys = filter_map-append (λ c. c.left) xs ys
 
-rights-append : (xs ys : List PlainBidderChange) → rights_of (xs ++ ys) ≡ rights_of xs ++ rights_of ys
+pub rights-append : (xs ys : List PlainBidderChange) → rights_of (xs ++ ys) ≡ rights_of xs ++ rights_of ys
 rights-append xs ys = filter_map-append (λ c. c.right) xs ys
 
-count-append : (i : ℕ) (xs ys : List ℕ) → count_of nat_cmp i (xs ++ ys) ≡ count_of nat_cmp i xs + count_of nat_cmp i ys
+pub count-append : (i : ℕ) (xs ys : List ℕ) → count_of nat_cmp i (xs ++ ys) ≡ count_of nat_cmp i xs + count_of nat_cmp i ys
 count-append i xs ys = sum_by-append (λ y. cond {A = ℕ} (is_eq (nat_cmp i y)) 1 0) xs ys
 
-no_lefts_alone : (changes : List PlainBidderChange) → All (λ c. c.left ≡ None) changes → lefts_of changes ≡ []
+pub no_lefts_alone : (changes : List PlainBidderChange) → All (λ c. c.left ≡ None) changes → lefts_of changes ≡ []
 no_lefts_alone [] h = refl
 no_lefts_alone (c ∷ changes) h =
     ap (λ (o : Option ℕ). cons_option o (lefts_of changes)) (All-head (λ (d : PlainBidderChange). d.left ≡ None) c changes h)

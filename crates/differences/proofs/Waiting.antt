@@ -1,18 +1,18 @@
 -- The bidders that wait for a partner: each is there or is taken, and what is taken is the only one that is gone.
-use Rattle.std.proofs.Common.{◌≡◌, ℕ, zero, suc, ◌+◌, ◌<◌, ◌≤◌, ⊎_elim, cond, List, [], ◌∷◌, ◌++◌, length, map, get_or, set, refl, sym, ap, ◌∙◌, subst, arith, Option, Some, None}
+use Rattle.std.proofs.Common.{◌≡◌, ℕ, zero, suc, ◌+◌, ◌<◌, ◌≤◌, cond, List, [], ◌∷◌, ◌++◌, length, map, get_or, set, refl, sym, ap, subst, arith, Option, Some, None}
 use Rattle.std.specs.Prelude.{All, Contains, IfSome}
 use Rattle.std.specs.FinMap.{nat_cmp-IsAntisymmetric}
 use Rattle.std.specs.List.{filter_map}
 use Rattle.std.specs.Ordering.{nat_cmp, is_eq}
-use Rattle.std.proofs.lemmas.Cmp.{nat_cmp_total, tied_itself}
-use Rattle.std.proofs.lemmas.List.Elements.{All-contains, filter_map-append}
+use Rattle.std.proofs.lemmas.Cmp.{nat_cmp_total}
+use Rattle.std.proofs.lemmas.List.Elements.{All-contains}
 use Rattle.std.proofs.lemmas.List.Sums.{sum_by-append, sum_by-cons}
 use Rattle.goods_set.specs.Bundles.{AreAbove, IsRising}
-use Rattle.valuation.specs.Lemmas.Lists.{Contains-cons_cases}
 use Rattle.valuation.specs.Sorting.{count_of}
-use Rattle.prune.specs.Lemmas.Lists.{All-from_Contains, Contains-nil, Contains-head}
+use Rattle.prune.specs.Lemmas.Lists.{All-from_Contains, Contains-head}
 use Rattle.canon.specs.Lemmas.Finding.{counted_is_there}
 use Rattle.differences.specs.Internal.Partners.{TakesPartner}
+use Rattle.differences.proofs.LawsLists.{there_is_counted}
 
 -- the indices that are there
 abbrev pub there : List (Option ℕ) → List ℕ
@@ -55,10 +55,6 @@ taken_at (None ∷ rest) (suc k) d l = taken_at rest k d (omega arith)
 taken_at (Some index ∷ rest) (suc k) d l =
     taken_behind index (there rest) (there (set rest k None)) (get_or rest k d) (taken_at rest k d (omega arith))
 
--- one more that is there, or none
-pub there-more : (xs : List (Option ℕ)) (x : Option ℕ) → there (xs ++ x ∷ []) ≡ there xs ++ there (x ∷ [])
-there-more xs x = filter_map-append (λ index. index) xs (x ∷ [])
-
 -- ---- those that wait are in order
 
 above_without : (x index : ℕ) (lower higher : List ℕ) → AreAbove x (lower ++ index ∷ higher) → AreAbove x (lower ++ higher)
@@ -75,22 +71,11 @@ still_rise before after (Some index) h r = subst IsRising (sym h.3) (rising_with
 
 -- ---- what holds of all that wait
 
-there_is_counted : (x : ℕ) (xs : List ℕ) → Contains xs x → 0 < count_of nat_cmp x xs
-there_is_counted x [] c = absurd (Contains-nil x c)
-there_is_counted x (y ∷ ys) c =
-    let all = count-cons x y ys in
-    ⊎_elim
-    (λ (e : y ≡ x).
-    let one : one_if x y ≡ 1 = ap (λ (z : ℕ). one_if x z) e ∙ ap (λ o. cond {A = ℕ} (is_eq o) 1 0) (tied_itself nat_cmp_total x) in
-    omega arith)
-    (λ (d : Contains ys x). let later = there_is_counted x ys d in omega arith)
-    (Contains-cons_cases y ys x c)
-
 -- what is there no more often has what holds of all
 pub All-counted : (P : ℕ → Type 0) (xs ys : List ℕ) → ((i : ℕ) → count_of nat_cmp i ys ≤ count_of nat_cmp i xs) → All P xs → All P ys
 All-counted P xs ys less h =
     All-from_Contains P ys (λ y c.
-    let some = there_is_counted y ys c in
+    let some = there_is_counted nat_cmp nat_cmp_total y ys c in
     let most = less y in
     All-contains P xs y h (counted_is_there nat_cmp nat_cmp_total nat_cmp-IsAntisymmetric y xs (omega arith)))
 
@@ -102,6 +87,6 @@ still_wait P before after (Some index) h all = All-counted P before after (λ i.
 pub taken_has : (P : ℕ → Type 0) (before after : List ℕ) (taken : Option ℕ) → TakesPartner before after taken → All P before → IfSome taken P
 taken_has P before after None h all = tt
 taken_has P before after (Some index) h all =
-    let some = there_is_counted index (index ∷ after) (Contains-head index after) in
+    let some = there_is_counted nat_cmp nat_cmp_total index (index ∷ after) (Contains-head index after) in
     let same = taken_counted before after index h index in
     All-contains P before index all (counted_is_there nat_cmp nat_cmp_total nat_cmp-IsAntisymmetric index before (omega arith))
