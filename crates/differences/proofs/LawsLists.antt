@@ -1,13 +1,13 @@
--- Lists: what is there behind a partial map, how often, and that a list in a strict order is what it contains.
-use Rattle.std.proofs.Common.{◌≡◌, ℕ, ◌<◌, cond, ◌⊎◌, inl, inr, ⊎_elim, List, [], ◌∷◌, map, refl, sym, ap, ap₂, ◌∙◌, subst, arith, Option, Some, None, Ordering}
+-- Lists: what is there behind a partial map or a test, how often, and that a list in a strict order is what it contains.
+use Rattle.std.proofs.Common.{◌≡◌, ℕ, ◌<◌, Bool, true, false, cond, ◌⊎◌, inl, inr, ⊎_elim, List, [], ◌∷◌, map, refl, sym, ap, ap₂, ◌∙◌, subst, arith, Option, Some, None, Ordering}
 use Rattle.std.proofs.Common.{nat_cmp}
-use Rattle.std.specs.Prelude.{AllPairs, Contains}
+use Rattle.std.specs.Prelude.{All, AllPairs, Contains}
 use Rattle.std.specs.Cmp.{IsTotalOrder}
 use Rattle.std.specs.FinMap.{nat_cmp-IsAntisymmetric}
-use Rattle.std.specs.List.{filter_map, cons_option, sum_by}
+use Rattle.std.specs.List.{filter, filter_map, cons_option, sum_by}
 use Rattle.std.specs.Ordering.{is_eq}
 use Rattle.std.proofs.lemmas.Cmp.{tied_itself, nat_cmp_total}
-use Rattle.std.proofs.lemmas.List.Elements.{All-contains}
+use Rattle.std.proofs.lemmas.List.Elements.{All-contains, All-head, All-tail}
 use Rattle.std.proofs.lemmas.List.Sums.{sum_by-cons}
 use Rattle.valuation.specs.Sorting.{count_of}
 use Rattle.valuation.specs.Lemmas.Lists.{Contains-cons_cases, AllPairs-head, AllPairs-tail}
@@ -29,6 +29,20 @@ Contains-filter_map {X} {Y} h (z ∷ zs) x y c e =
 pub sum_by-map : {X Y : Type 0} (f : Y → ℕ) (g : X → Y) (xs : List X) → sum_by f (map g xs) ≡ sum_by (λ x. f (g x)) xs
 sum_by-map f g [] = refl
 sum_by-map f g (x ∷ xs) = omega (arith, sum_by-cons f (g x) (map g xs), sum_by-cons (λ z. f (g z)) x xs, sum_by-map f g xs)
+
+-- ---- which pass a test
+
+pub all_pass : {X : Type 0} (p : X → Bool) (xs : List X) → All (λ x. p x ≡ true) xs → filter p xs ≡ xs
+all_pass p [] h = refl
+all_pass {X} p (x ∷ xs) h =
+    ap (λ b. cond {A = List X} b (x ∷ filter p xs) (filter p xs)) (All-head (λ y. p y ≡ true) x xs h)
+    ∙ ap (λ (ys : List X). x ∷ ys) (all_pass p xs (All-tail (λ y. p y ≡ true) x xs h))
+
+pub none_pass : {X : Type 0} (p : X → Bool) (xs : List X) → All (λ x. p x ≡ false) xs → filter p xs ≡ []
+none_pass p [] h = refl
+none_pass {X} p (x ∷ xs) h =
+    ap (λ b. cond {A = List X} b (x ∷ filter p xs) (filter p xs)) (All-head (λ y. p y ≡ false) x xs h)
+    ∙ none_pass p xs (All-tail (λ y. p y ≡ false) x xs h)
 
 -- ---- how often
 

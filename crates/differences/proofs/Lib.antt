@@ -5,6 +5,7 @@ pub mod BidsOfBidders
 pub mod LawsLists
 pub mod LeftBidders
 pub mod ExchangedChanges
+pub mod SamePartners
 pub mod BeginPrices
 pub mod BeginAuctions
 pub mod PriceChanges

@@ -1,6 +1,6 @@
 -- Two canonical files of the same auction are equal, and equal auctions have no differences.
-use Rattle.std.proofs.Common.{◌≡◌, ℕ, Bool, false, cond, List, [], ◌∷◌, length, drop, refl, sym, ap, ◌∙◌, subst, Less}
-use Rattle.std.specs.List.{filter, range_with_len}
+use Rattle.std.proofs.Common.{◌≡◌, ℕ, List, [], get_or, length, drop, refl, sym, ap, ◌∙◌, subst, Less}
+use Rattle.std.specs.List.{range_with_len}
 use Rattle.std.specs.Ordering.{nat_cmp}
 use Rattle.std.proofs.lemmas.Bool.{le-ltb}
 use Rattle.std.proofs.lemmas.List.Elements.{All-nil}
@@ -22,6 +22,7 @@ use Rattle.differences.specs.Differences.{AreAllDifferences, InBids}
 use Rattle.differences.specs.PriceChanges.{PlainChange, IsPriceChange, ArePriceChanges}
 use Rattle.differences.proofs.ExcessWalks.{count_from-le}
 use Rattle.differences.proofs.Indices.{canonical_from_file}
+use Rattle.differences.proofs.LawsLists.{none_pass}
 
 pub no_price_changes : (atoms : List (Atom (List ℕ))) → ArePriceChanges atoms atoms []
 no_price_changes atoms = record {
@@ -30,23 +31,21 @@ no_price_changes atoms = record {
   all = λ bundle differ. absurd (differ refl);
 }
 
-none_pass : (passes : ℕ → Bool) → ((i : ℕ) → passes i ≡ false) → (xs : List ℕ) → filter passes xs ≡ []
-none_pass passes none [] = refl
-none_pass passes none (x ∷ xs) =
-    ap (λ b. cond b (x ∷ filter passes xs) (filter passes xs)) (none x) ∙ none_pass passes none xs
-
 none_in_excess : (bidders : List (List (Atom (List ℕ)))) → excess_bidders bidders bidders ≡ []
 none_in_excess bidders =
-    none_pass (is_excess bidders bidders)
-    (λ i. let x = bidder_at bidders i in
+    let indices = range_with_len 0 (length bidders) in
+    none_pass (is_excess bidders bidders) indices
+    (λ k d l. let i = get_or indices k d in
+    let x = bidder_at bidders i in
     le-ltb (count_of bidder_cmp x bidders) (count_of bidder_cmp x (drop i bidders)) (count_from-le bidder_cmp [] x bidders i))
-    (range_with_len 0 (length bidders))
 
 pub no_bidder_changes : (bidders : List (List (Atom (List ℕ)))) → AreBidderChanges bidders bidders []
 no_bidder_changes bidders = record {
   each = All-nil (IsBidderChange bidders bidders);
   lefts = sym (none_in_excess bidders);
   rights = λ index. ap (λ (xs : List ℕ). count_of nat_cmp index xs) (sym (none_in_excess bidders));
+  alone_last = refl;
+  alone_in_order = tt;
 }
 
 no_differences : (a : PlainAuction) → AreAllDifferences a a (InBids [] [])

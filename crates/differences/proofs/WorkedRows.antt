@@ -23,10 +23,10 @@ left_alone =
     past_change (0 ∷ []) (atom (0 ∷ []) 3 ∷ []) [] [] [] (behind_one (0 ∷ []) 3) (behind_none (0 ∷ [])) [] (no_price_changes [])
     (change (0 ∷ []) (Some 3) None) refl (record { on_left = refl; on_right = refl; differ = λ e. none-some 3 (sym e) })
 
-pub right_alone : ArePriceChanges [] (atom (0 ∷ []) 3 ∷ []) (change (0 ∷ []) None (Some 3) ∷ [])
-right_alone =
-    past_change (0 ∷ []) [] [] (atom (0 ∷ []) 3 ∷ []) [] (behind_none (0 ∷ [])) (behind_one (0 ∷ []) 3) [] (no_price_changes [])
-    (change (0 ∷ []) None (Some 3)) refl (record { on_left = refl; on_right = refl; differ = λ e. none-some 3 e })
+pub right_alone : (price : ℕ) → ArePriceChanges [] (atom (0 ∷ []) price ∷ []) (change (0 ∷ []) None (Some price) ∷ [])
+right_alone price =
+    past_change (0 ∷ []) [] [] (atom (0 ∷ []) price ∷ []) [] (behind_none (0 ∷ [])) (behind_one (0 ∷ []) price) [] (no_price_changes [])
+    (change (0 ∷ []) None (Some price)) refl (record { on_left = refl; on_right = refl; differ = λ e. none-some price e })
 
 pub two_prices : ArePriceChanges (atom (0 ∷ []) 3 ∷ []) (atom (0 ∷ []) 4 ∷ []) (change (0 ∷ []) (Some 3) (Some 4) ∷ [])
 two_prices =

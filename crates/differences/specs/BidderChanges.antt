@@ -1,8 +1,10 @@
 -- XOR bidders that two files do not have equally often. A bidder is named by its index among the bidders of its
 -- file, which are in order, equal ones beside one another.
-use Rattle.std.specs.Prelude.{◌≡◌, ℕ, Bool, true, nat_lt, Option, Some, None, is_some, ◌||◌, List, [], length, drop, slice_index_or, All}
+use Rattle.std.specs.Prelude.{◌≡◌, ℕ, Bool, true, nat_lt, Option, Some, None, is_some, ◌||◌, List, [], ◌++◌, length, drop, slice_index_or, All}
 use Rattle.std.specs.List.{filter, filter_map, range_with_len}
+use Rattle.std.specs.Option.{is_none}
 use Rattle.std.specs.Ordering.{nat_cmp}
+use Rattle.goods_set.specs.Bundles.{IsRising}
 use Rattle.valuation.specs.declared.atom.Atom.{Atom}
 use Rattle.valuation.specs.Orders.{bidder_cmp}
 use Rattle.valuation.specs.Sorting.{count_of}
@@ -42,14 +44,24 @@ lefts_of changes = filter_map (λ c. c.left) changes
 abbrev pub rights_of : List PlainBidderChange → List ℕ
 rights_of changes = filter_map (λ c. c.right) changes
 
+-- the changes of a bidder of the left file, alone or beside one of the right file
+abbrev pub with_left : List PlainBidderChange → List PlainBidderChange
+with_left changes = filter (λ c. is_some c.left) changes
+
+-- and those of a bidder of the right file alone
+abbrev pub right_alone : List PlainBidderChange → List PlainBidderChange
+right_alone changes = filter (λ c. is_none c.left) changes
+
 -- a bidder at least, and exactly the bids in which the two differ
 pub record IsBidderChange (left right : List (List (Atom (List ℕ)))) (c : PlainBidderChange) : Type 0 where
   pub some : is_some c.left || is_some c.right ≡ true
   pub bids : ArePriceChanges (bids_at left c.left) (bids_at right c.right) c.bids
 
--- Each bidder in excess is in one of the changes, those of the left file in order, and no other bidder is. Which bidder of the
--- right file is beside one of the left file is left open.
+-- Each bidder in excess is in one of the changes, and no other bidder is. Those of the left file come first, in order, and then
+-- those of the right file that are alone, in order. Which bidder of the right file is beside one of the left file is left open.
 pub record AreBidderChanges (left right : List (List (Atom (List ℕ)))) (changes : List PlainBidderChange) : Type 0 where
   pub each : All (IsBidderChange left right) changes
   pub lefts : lefts_of changes ≡ excess_bidders left right
   pub rights : (index : ℕ) → count_of nat_cmp index (rights_of changes) ≡ count_of nat_cmp index (excess_bidders right left)
+  pub alone_last : changes ≡ with_left changes ++ right_alone changes
+  pub alone_in_order : IsRising (rights_of (right_alone changes))

@@ -10,7 +10,7 @@ ghost use Rattle.canon.specs.Canonical.{IsCanonical};
 ghost use Rattle.canon.specs.Difference.{first_difference};
 ghost use Rattle.canon.specs.Sameness.{IsSameAuction};
 ghost use Rattle.differences.specs.PriceChanges.{PlainChange};
-ghost use Rattle.differences.specs.BidderChanges.{PlainBidderChange, AreBidderChanges, bidder_at, lefts_of, rights_of};
+ghost use Rattle.differences.specs.BidderChanges.{PlainBidderChange, AreBidderChanges, bidder_at, lefts_of, rights_of, with_left};
 ghost use Rattle.differences.specs.Differences.{AreAllDifferences, BeginsWith, InBids, PlainDifferences, exchanged_change, is_none_at_all};
 
 /// There are no differences exactly if the auctions are the same, and the first of them is that which `compare` names.
@@ -36,6 +36,13 @@ pub fn no_equal_bidders()
     ensures { (left right : List (List (Atom (List ℕ)))) (changes : List PlainBidderChange)
         → AreBidderChanges left right changes → All (λ c. (i j : ℕ) → c.left ≡ Some i → c.right ≡ Some j
         → bidder_at left i ≢ bidder_at right j) changes }
+{}
+
+/// The partners of the left bidders are all that is left open: with the same ones, all changes are the same.
+pub fn partners_are_left_open()
+    ensures { (left right : List (List (Atom (List ℕ)))) (one other : List PlainBidderChange)
+        → AreBidderChanges left right one → AreBidderChanges left right other
+        → map (λ c. c.right) (with_left one) ≡ map (λ c. c.right) (with_left other) → one ≡ other }
 {}
 
 /// Exchanging the auctions exchanges left and right of each bundle, and the bidders that are named.

@@ -37,7 +37,8 @@ pub fn price_changes_worked()
     ensures wrong_price { ¬ ArePriceChanges (atom (0 ∷ []) 3 ∷ []) [] (change (0 ∷ []) (Some 4) None ∷ []) }
 {}
 
-/// A bidder of one file alone is a change; two bidders beside each other are one change; equal bidders are none.
+/// A bidder of one file alone is a change; two bidders beside each other are one change; equal bidders are none. Bidders of
+/// the right file that are alone come last, in order.
 pub fn bidder_changes_worked()
     ensures equal { AreBidderChanges ((atom (0 ∷ []) 3 ∷ []) ∷ []) ((atom (0 ∷ []) 3 ∷ []) ∷ []) [] }
     ensures left_only { AreBidderChanges ((atom (0 ∷ []) 3 ∷ []) ∷ []) []
@@ -46,6 +47,18 @@ pub fn bidder_changes_worked()
         (bidder_change (Some 0) (Some 0) (change (0 ∷ []) (Some 3) (Some 4) ∷ []) ∷ []) }
     ensures missing { ¬ AreBidderChanges ((atom (0 ∷ []) 3 ∷ []) ∷ []) [] [] }
     ensures right_missing { ¬ AreBidderChanges [] ((atom (0 ∷ []) 3 ∷ []) ∷ []) [] }
+    ensures left_first { AreBidderChanges ((atom (0 ∷ []) 3 ∷ []) ∷ []) ((atom (0 ∷ []) 4 ∷ []) ∷ [])
+        (bidder_change (Some 0) None (change (0 ∷ []) (Some 3) None ∷ [])
+        ∷ bidder_change None (Some 0) (change (0 ∷ []) None (Some 4) ∷ []) ∷ []) }
+    ensures right_first { ¬ AreBidderChanges ((atom (0 ∷ []) 3 ∷ []) ∷ []) ((atom (0 ∷ []) 4 ∷ []) ∷ [])
+        (bidder_change None (Some 0) (change (0 ∷ []) None (Some 4) ∷ [])
+        ∷ bidder_change (Some 0) None (change (0 ∷ []) (Some 3) None ∷ []) ∷ []) }
+    ensures rights_rise { AreBidderChanges [] ((atom (0 ∷ []) 3 ∷ []) ∷ (atom (0 ∷ []) 4 ∷ []) ∷ [])
+        (bidder_change None (Some 0) (change (0 ∷ []) None (Some 3) ∷ [])
+        ∷ bidder_change None (Some 1) (change (0 ∷ []) None (Some 4) ∷ []) ∷ []) }
+    ensures rights_fall { ¬ AreBidderChanges [] ((atom (0 ∷ []) 3 ∷ []) ∷ (atom (0 ∷ []) 4 ∷ []) ∷ [])
+        (bidder_change None (Some 1) (change (0 ∷ []) None (Some 4) ∷ [])
+        ∷ bidder_change None (Some 0) (change (0 ∷ []) None (Some 3) ∷ []) ∷ []) }
 {}
 
 /// The numbers of goods, if they differ, and else the bids.

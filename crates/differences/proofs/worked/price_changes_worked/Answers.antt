@@ -12,7 +12,7 @@ pub returns-clause-left_only : goal.returns-clause-left_only
 returns-clause-left_only c = left_alone
 
 pub returns-clause-right_only : goal.returns-clause-right_only
-returns-clause-right_only c = right_alone
+returns-clause-right_only c = right_alone 3
 
 pub returns-clause-another_price : goal.returns-clause-another_price
 returns-clause-another_price c = two_prices
