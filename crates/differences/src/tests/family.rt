@@ -183,8 +183,8 @@ fn take_partner(prices: &Prices, waiting: &mut Vec<XorBidder>) -> Option<XorBidd
         }
     }
     match partner {
-        Some(place) => Some(waiting.remove(place)),
-        None => None,
+        Some(place) if place < waiting.len() => Some(waiting.remove(place)),
+        _ => None,
     }
 }
 
