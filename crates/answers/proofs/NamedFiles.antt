@@ -55,7 +55,8 @@ numbers_below n = λ k d l.
     omega arith
 
 excess_below : (bidders others : List (List (Atom (List ℕ)))) → All (λ i. i < length bidders) (excess_bidders bidders others)
-excess_below bidders others = All-filter (is_excess bidders others) (λ i. i < length bidders) (range_with_len 0 (length bidders)) (numbers_below (length bidders))
+excess_below bidders others = All-filter (is_excess bidders others) (λ i. i < length bidders) (range_with_len 0 (length bidders))
+    (numbers_below (length bidders))
 
 -- a number in a list is counted there
 counted_once : (xs : List ℕ) (k d : ℕ) → k < length xs → 0 < count_of nat_cmp (get_or xs k d) xs
@@ -109,7 +110,8 @@ pub named_among : (left right : NamedFile) → IsNamedFile left → IsNamedFile 
     → AreAllDifferences (auction_from left.file) (auction_from right.file) differences
     → AreAmong (length left.dummies.items) (length right.dummies.items) differences
 named_among left right one other differences are =
-    all_among (length left.dummies.items) (length right.dummies.items) (auction_from left.file) (auction_from right.file) one.bidders other.bidders differences are
+    all_among (length left.dummies.items) (length right.dummies.items) (auction_from left.file)
+    (auction_from right.file) one.bidders other.bidders differences are
 
 pub among_at : (m n : ℕ) (changes : List BidderChange) (i : ℕ) (c : BidderChange) → i < length changes → c ≡ get_or changes i c
     → All (IsAmong m n) (map plain_bidder_change changes) → IsAmong m n (plain_bidder_change c)

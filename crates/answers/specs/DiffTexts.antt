@@ -31,8 +31,8 @@ abbrev pub bidder_lines : ℕ → List ℕ → List ℕ → PlainBidderChange �
 bidder_lines goods left right c = codes "xor\t" ++ bidder_word goods left c.left ++ codes "\t"
     ++ bidder_word goods right c.right ++ codes "\n" ++ flat_map (change_line (codes "bid")) c.bids
 
--- The differences of two files with this number of goods, if that is equal. `left` and `right` have the dummy good, in its
--- file, of each bidder of the canonical file.
+-- The differences of two files with this number of goods, if that is equal. `left` and `right` have the dummy good, in
+-- its file, of each bidder of the canonical file.
 abbrev pub diff_text : ℕ → List ℕ → List ℕ → PlainDifferences → List ℕ
 diff_text goods left right (InGoods m n) = goods_line m n
 diff_text goods left right (InBids bundles bidders) = flat_map (change_line (codes "or")) bundles

@@ -3,7 +3,8 @@ use Rattle.std.specs.Prelude.{ℕ, List, codes}
 use Rattle.cats_text.specs.declared.read_fault.Kind.{Kind}
 use Rattle.cats_text.specs.declared.read_fault.Kind.TheVariants.{Header, NotANumber, TooLarge, ExtraBid, BidNumber}
 use Rattle.cats_text.specs.declared.read_fault.Kind.TheVariants.{RepeatedNumber, TooFine, GoodRange, RepeatedGood}
-use Rattle.cats_text.specs.declared.read_fault.Kind.TheVariants.{TwoDummies, EmptyBundle, NoEnd, AfterEnd, Missing, TooLong}
+use Rattle.cats_text.specs.declared.read_fault.Kind.TheVariants.{TwoDummies, EmptyBundle, NoEnd, AfterEnd, Missing}
+use Rattle.cats_text.specs.declared.read_fault.Kind.TheVariants.{TooLong}
 use Rattle.cats_text.specs.declared.read_fault.Kind.TheVariants.{Device, Memory}
 
 abbrev pub name_of_kind : Kind → List ℕ

@@ -50,7 +50,8 @@ fn diff_text(
     left: &NamedFile,
     right: &NamedFile,
 ) -> Result<Vec<u8>, AllocError>
-    requires { AreAmong (length left.now.dummies.items) (length right.now.dummies.items) (plain_differences differences.now) }
+    requires { AreAmong (length left.now.dummies.items) (length right.now.dummies.items)
+        (plain_differences differences.now) }
     ensures { IfOk result (λ text. text.items ≡ diff_text left.now.file.goods left.now.dummies.items right.now.dummies.items
         (plain_differences differences.now)) }
 {

@@ -99,8 +99,9 @@ pub fn differences()
         ∷ InXor [] 0 1 ∷ []) ≡ 0 ∷ 1 ∷ 1 ∷ 1 ∷ [] }
 {}
 
-/// What `cats diff` prints: numbers of goods; bundles with a price on each side, on the left, and on the right; two bidders beside
-/// each other, the second of the left file with the third of the right one, and a bidder of one file alone; and no difference.
+/// What `cats diff` prints: numbers of goods; bundles with a price on each side, on the left, and on the right; two
+/// bidders beside each other, the second of the left file with the third of the right one, and a bidder of one file
+/// alone; and no difference.
 pub fn all_differences()
     ensures goods { diff_text 2 [] [] (InGoodNumbers 2 5) ≡ codes "goods\t2\t5\n" }
     ensures bundles { diff_text 60 [] [] (InBids (change (18 ∷ []) (Some 173958000) (Some 233145000)
@@ -110,10 +111,12 @@ pub fn all_differences()
         (change (17 ∷ 36 ∷ []) None (Some 413615000) ∷ change (1 ∷ []) (Some 2000000) (Some 3000000) ∷ []) ∷ []))
         ≡ codes "xor\t64\t60\nbid\t17,36\t-\t413.615\nbid\t1\t2\t3\n" }
     ensures alone { diff_text 60 (10 ∷ []) (7 ∷ []) (InBids [] (bidder_change (Some 0) None
-        (change (1 ∷ 2 ∷ []) (Some 5000000) None ∷ []) ∷ bidder_change None (Some 0) (change (3 ∷ []) None (Some 6500000) ∷ []) ∷ []))
+        (change (1 ∷ 2 ∷ []) (Some 5000000) None ∷ [])
+        ∷ bidder_change None (Some 0) (change (3 ∷ []) None (Some 6500000) ∷ []) ∷ []))
         ≡ codes "xor\t70\t-\nbid\t1,2\t5\t-\nxor\t-\t67\nbid\t3\t-\t6.5\n" }
     ensures none { diff_text 60 (10 ∷ []) (7 ∷ []) (InBids [] []) ≡ [] }
-    ensures statuses { map status_of_differences (InBids [] [] ∷ InGoodNumbers 2 5 ∷ InBids (change (0 ∷ []) None (Some 1) ∷ []) []
+    ensures statuses { map status_of_differences (InBids [] [] ∷ InGoodNumbers 2 5
+        ∷ InBids (change (0 ∷ []) None (Some 1) ∷ []) []
         ∷ InBids [] (bidder_change (Some 0) None [] ∷ []) ∷ []) ≡ 0 ∷ 1 ∷ 1 ∷ 1 ∷ [] }
 {}
 

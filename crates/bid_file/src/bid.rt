@@ -21,7 +21,7 @@ pub struct BidFile {
     goods: u16,
     dummy: u32,
     bids: Vec<Bid>,
-    pub ghost facts: { IsBidFile goods dummy (plain_bids bids.items) } by { IsBidFile-prop goods dummy (plain_bids bids.items) },
+    pub ghost facts: { IsBidFile goods dummy (plain_bids bids.items) } by { IsBidFile-prop _ _ (plain_bids bids.items) },
 }
 
 impl BidFile {

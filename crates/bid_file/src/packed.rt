@@ -53,48 +53,6 @@ impl Model for PackedBids {
     ghost invariant = { λ b. AreHeld (length b.goods.items) b.spans.items };
 }
 
-/// So few goods are put one by one, which takes less time than to copy their memory.
-const SHORT: usize = 16;
-
-/// Appends goods, for which there is capacity.
-#[inline(always)]
-fn push_each(all: &mut Vec<u16>, goods: &[u16])
-    requires { vec_len all.old + length goods.now ≤ vec_capacity all.old }
-    ensures { all.new.items ≡ all.old.items ++ goods.now }
-{
-    for good in goods {
-        all.push_reserved(*good);
-    }
-}
-
-/// Appends goods.
-#[inline(always)]
-fn push_goods(all: &mut Vec<u16>, goods: &[u16]) -> Result<(), AllocError>
-    ensures goods { OnOk result (all.new.items ≡ all.old.items ++ goods.now) }
-    ensures same { OnErr result (all.new.items ≡ all.old.items) }
-{
-    if goods.len() <= SHORT && all.len() + goods.len() <= all.capacity() {
-        push_each(all, goods);
-        return Ok(());
-    }
-    all.extend_from_slice(goods)?;
-    Ok(())
-}
-
-/// Appends the span of a bid.
-#[inline(always)]
-fn push_span(spans: &mut Vec<BidSpan>, span: BidSpan) -> Result<(), AllocError>
-    ensures spans { OnOk result (spans.new.items ≡ spans.old.items ++ span ∷ []) }
-    ensures same { OnErr result (spans.new.items ≡ spans.old.items) }
-{
-    if spans.len() < spans.capacity() {
-        spans.push_reserved(span);
-        return Ok(());
-    }
-    spans.push(span)?;
-    Ok(())
-}
-
 /// Appends goods, and answers from which index to which they are. Memory is also refused if there would be 2 to the
 /// power 32 goods, which no file has.
 #[inline(always)]
@@ -109,7 +67,7 @@ fn append(all: &mut Vec<u16>, goods: &[u16]) -> Result<(u32, u32), AllocError>
     if end > u32::MAX as usize {
         return Err(AllocError);
     }
-    push_goods(all, goods)?;
+    all.extend_from_slice(goods)?;
     Ok((start as u32, end as u32))
 }
 
@@ -154,7 +112,7 @@ impl PackedBids {
             end,
             dummy,
         };
-        push_span(&mut self.spans, span)?;
+        self.spans.push(span)?;
         Ok(())
     }
 

@@ -72,7 +72,8 @@ either_keeps k false a b h g = g
 missing_keeps : (behind : ℕ) (s : State) → ScanKeeps s.progress.keep (missing_step behind s)
 missing_keeps behind s = either_keeps s.progress.keep (is_due s.progress) (Err (fault_at behind Missing)) (Ok s) tt refl
 
-then_keeps : (k : PlainBid → PlainBid) (r : Scan) (f : State → Scan) → ScanKeeps k r → ((s : State) → ScanKeeps s.progress.keep (f s)) → ScanKeeps k (and_then r f)
+then_keeps : (k : PlainBid → PlainBid) (r : Scan) (f : State → Scan) → ScanKeeps k r → ((s : State) → ScanKeeps s.progress.keep (f s))
+    → ScanKeeps k (and_then r f)
 then_keeps k (Ok s) f h g = subst (λ (j : PlainBid → PlainBid). ScanKeeps j (f s)) h (g s)
 then_keeps k (Err e) f h g = tt
 

@@ -68,8 +68,8 @@ impl<K: Keep> Scanner<K> {
         Ok(2)
     }
 
-    /// A bid line at the start, with its LF; or, where it is not there whole in the usual order, its words as far as
-    /// they do. Summarises how many bytes these have.
+    /// Reads a bid line at the start, with its LF. If the line is not there whole, or not in the usual order, reads its
+    /// words as far as they are. Answers how many bytes were read.
     fn read_bid_line(&mut self, bytes: &[u8]) -> Result<usize, ScanError>
         requires waits { self.old.waiting ≡ false }
         requires start { self.old.mode ≡ Mode.Start }

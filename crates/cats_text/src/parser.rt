@@ -217,7 +217,8 @@ impl<K: Keep> Parser<K> {
     #[inline(always)]
     pub fn take_good(&mut self, value: u64) -> Result<(), ParseError>
         ensures reads { Gives (progress K.keep self.new) result (good_read (progress K.keep self.old) value) }
-        ensures memory { (progress K.keep self.old).stage ≡ Stage.Bid → NeedsMemoryOnBidLines (progress K.keep self.old) result }
+        ensures memory { (progress K.keep self.old).stage ≡ Stage.Bid
+            → NeedsMemoryOnBidLines (progress K.keep self.old) result }
         ensures stage { self.new.stage ≡ self.old.stage }
         ensures column { self.new.column ≡ self.old.column }
     {
@@ -250,7 +251,8 @@ impl<K: Keep> Parser<K> {
     #[inline(always)]
     fn take_good_or_end(&mut self, word: Word) -> Result<(), ParseError>
         ensures reads { Gives (progress K.keep self.new) result (good_or_end_read (progress K.keep self.old) word) }
-        ensures memory { (progress K.keep self.old).stage ≡ Stage.Bid → NeedsMemoryOnBidLines (progress K.keep self.old) result }
+        ensures memory { (progress K.keep self.old).stage ≡ Stage.Bid
+            → NeedsMemoryOnBidLines (progress K.keep self.old) result }
         ensures stage { self.new.stage ≡ self.old.stage }
     {
         match word {
@@ -318,7 +320,8 @@ impl<K: Keep> Parser<K> {
     #[inline(always)]
     fn put_bid(&mut self) -> Result<(), ParseError>
         ensures reads { Gives (progress K.keep self.new) result (Ok (with_bid (progress K.keep self.old))) }
-        ensures memory { (progress K.keep self.old).stage ≡ Stage.Bid → NeedsMemoryOnBidLines (progress K.keep self.old) result }
+        ensures memory { (progress K.keep self.old).stage ≡ Stage.Bid
+            → NeedsMemoryOnBidLines (progress K.keep self.old) result }
     {
         self.keep_bid()?;
         // One is due: the line began where one was.
@@ -330,7 +333,8 @@ impl<K: Keep> Parser<K> {
     #[inline(always)]
     fn end_bid(&mut self) -> Result<(), ParseError>
         ensures reads { Gives (progress K.keep self.new) result (bid_read (progress K.keep self.old)) }
-        ensures memory { (progress K.keep self.old).stage ≡ Stage.Bid → NeedsMemoryOnBidLines (progress K.keep self.old) result }
+        ensures memory { (progress K.keep self.old).stage ≡ Stage.Bid
+            → NeedsMemoryOnBidLines (progress K.keep self.old) result }
     {
         if self.column != Column::Ended {
             return Err(ParseError::Fault(Kind::NoEnd));
@@ -342,7 +346,8 @@ impl<K: Keep> Parser<K> {
     #[inline(always)]
     pub fn close_bid(&mut self) -> Result<(), ParseError>
         ensures reads { Gives (progress K.keep self.new) result (bid_closed (progress K.keep self.old)) }
-        ensures memory { (progress K.keep self.old).stage ≡ Stage.Bid → NeedsMemoryOnBidLines (progress K.keep self.old) result }
+        ensures memory { (progress K.keep self.old).stage ≡ Stage.Bid
+            → NeedsMemoryOnBidLines (progress K.keep self.old) result }
     {
         if self.goods.is_empty() {
             return Err(ParseError::Fault(Kind::EmptyBundle));

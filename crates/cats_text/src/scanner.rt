@@ -41,7 +41,7 @@ pub enum ScanError {
 }
 
 impl ScanError {
-    /// The scan_error at a line that stopped the parser.
+    /// The error of scanning where the parser stopped at this line.
     pub fn at(line: u64, stop: ParseError) -> ScanError
         ensures { result ≡ scan_error_of line stop }
     {
@@ -68,7 +68,7 @@ pub enum Mode {
 }
 
 impl Mode {
-    /// KeepsLineCount behind one more byte that is no blank.
+    /// Moves behind one more byte that is not a blank.
     fn push(&mut self, byte: u8)
         ensures { self.new ≡ letter_mode self.old byte }
     {

@@ -1,6 +1,7 @@
 -- The goods of words, listed: those of one word after another, and in a word the place of its lowest bit that is set, and then
 -- those of the word without it.
-use Rattle.std.proofs.Common.{◌≡◌, ℕ, zero, suc, ◌+◌, ◌-◌, ◌*◌, ◌/◌, ◌%◌, ◌^◌, ◌<◌, ◌≤◌, ◌≢◌, Bool, true, false, cond, eqb, ⊎_elim, List, [], ◌∷◌, ◌++◌, map, length}
+use Rattle.std.proofs.Common.{◌≡◌, ℕ, zero, suc, ◌+◌, ◌-◌, ◌*◌, ◌/◌, ◌%◌, ◌^◌, ◌<◌, ◌≤◌, ◌≢◌, Bool, true, false, cond, eqb, ⊎_elim, List, [], ◌∷◌, ◌++◌, map}
+use Rattle.std.proofs.Common.{length}
 use Rattle.std.proofs.Common.{get_or, refl, sym, ap, ap₂, ◌∙◌, arith, append_assoc, w64}
 use Rattle.std.specs.List.{filter, range_with_len}
 use Rattle.std.specs.Int.{bit_at, trailing_zeros}

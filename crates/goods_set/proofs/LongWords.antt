@@ -1,12 +1,14 @@
 -- Words that hold goods of any number: past the last word there is none, so what they hold is what their bits are, whatever the bound.
-use Rattle.std.proofs.Common.{◌≡◌, ℕ, ◌+◌, ◌-◌, ◌*◌, ◌/◌, ◌%◌, ◌^◌, ◌<◌, ◌≤◌, ◌⊎◌, inl, inr, ⊎_elim, min, List, length, get_or, take, ◌++◌, set, replicate, drop, refl, sym, ap, ap₂, ◌∙◌, subst, arith, w64}
+use Rattle.std.proofs.Common.{◌≡◌, ℕ, ◌+◌, ◌-◌, ◌*◌, ◌/◌, ◌%◌, ◌^◌, ◌<◌, ◌≤◌, ◌⊎◌, inl, inr, ⊎_elim, min, List, length, get_or, take, ◌++◌, set, replicate}
+use Rattle.std.proofs.Common.{drop, refl, sym, ap, ap₂, ◌∙◌, subst, arith, w64}
 use Rattle.std.specs.Int.{bit_at, bit_not}
 use Rattle.std.specs.Int.RustNames.{bit_and, bit_or}
 use Rattle.std.specs.Int.Bits.{and_zero_l}
 use Rattle.std.proofs.lemmas.Bool.{cases_lt}
 use Rattle.std.proofs.lemmas.Nat.{and_mask}
 use Rattle.std.proofs.lemmas.Nat.Bits.{bit_at-zero}
-use Rattle.std.proofs.lemmas.List.{length-set, length-append, length-drop, get_or-take, get_or-drop, get_or_past, get_or_append_left, get_or-append_right, append-nil, drop_all, take_all}
+use Rattle.std.proofs.lemmas.List.{length-set, length-append, length-drop, get_or-take, get_or-drop, get_or_past, get_or_append_left, get_or-append_right}
+use Rattle.std.proofs.lemmas.List.{append-nil, drop_all, take_all}
 use Rattle.std.proofs.lemmas.Grind.{get_or_default_zero}
 use Rattle.goods_set.specs.Bundles.{with_good, without}
 use Rattle.goods_set.specs.Lemmas.Members.{same_from_has}
@@ -31,7 +33,8 @@ word_goods_wide cap ws l =
 words_alike : (ws vs : List ℕ) → ((k : ℕ) → get_or ws k 0 ≡ get_or vs k 0) → word_goods (64 * length ws) ws ≡ word_goods (64 * length vs) vs
 words_alike ws vs h =
     let cap : ℕ = 64 * length ws + 64 * length vs in
-    sym (word_goods_wide cap ws (omega arith)) ∙ word_goods_same cap ws vs (λ g l. ap (λ w. bit_at w (g % 64)) (h (g / 64))) ∙ word_goods_wide cap vs (omega arith)
+    sym (word_goods_wide cap ws (omega arith)) ∙ word_goods_same cap ws vs (λ g l. ap (λ w. bit_at w (g % 64)) (h (g / 64)))
+    ∙ word_goods_wide cap vs (omega arith)
 
 -- ---- words of no goods appended
 

@@ -7,8 +7,8 @@ use Rattle.goods_set.specs.Bundles.{has_good}
 abbrev pub mixed : ℕ → ℕ
 mixed good = good * 40503 % 65536
 
--- the bit that a mixed good of one of 64 groups marks: of group 0 one of the highest 32, of 1 to 7 one of the 32 below, and of the
--- others one of the lowest 64
+-- the bit that a mixed good of one of 64 groups marks: of group 0 one of the highest 32, of 1 to 7 one of the 32 below,
+-- and of the others one of the lowest 64
 abbrev pub mark_of_mixed : ℕ → ℕ → ℕ
 mark_of_mixed group spread = cond (group == 0) (96 + spread % 32) (cond (nat_lt group 8) (64 + spread % 32) spread)
 

@@ -14,4 +14,15 @@ macro_rules! on_least_mask {
             _ => $call::<$first, $crate::LongMask>($($argument),*),
         }
     };
+    ($count:expr, $call:ident($($argument:expr),*)) => {
+        match $count {
+            0..=64 => $call::<$crate::WordSet<1>>($($argument),*),
+            65..=128 => $call::<$crate::WordSet<2>>($($argument),*),
+            129..=256 => $call::<$crate::WordSet<4>>($($argument),*),
+            257..=512 => $call::<$crate::WordSet<8>>($($argument),*),
+            513..=1024 => $call::<$crate::WordSet<16>>($($argument),*),
+            1025..=4096 => $call::<$crate::WordSet<64>>($($argument),*),
+            _ => $call::<$crate::LongMask>($($argument),*),
+        }
+    };
 }

@@ -16,7 +16,7 @@ use crate::sort_keys::key_of_goods;
 use std::alloc::{AllocError, Global};
 use std::cmp::Ordering;
 
-/// In a list of no more goods than these each is looked at, where it is asked for one.
+/// A list of no more goods than these is searched one by one.
 const LOOKED_AT: usize = 64;
 
 // Whether the good is one of these.

@@ -1,6 +1,7 @@
 //! Worked examples of the definitions, which the check computes.
 ghost use Rattle.std.specs.Prelude.{◌≡◌, ◌<◌, [], ◌∷◌, Some, None, false};
-ghost use Rattle.goods_set.specs.Bundles.{IsBundle, IsInside, AreApart, is_inside, without, with_good, good_from, all_bundles};
+ghost use Rattle.goods_set.specs.Bundles.{IsBundle, IsInside, AreApart, is_inside, without, with_good, good_from};
+ghost use Rattle.goods_set.specs.Bundles.{all_bundles};
 ghost use Rattle.goods_set.specs.Orders.{bundle_cmp};
 ghost use Rattle.goods_set.specs.SortKeys.{sort_key_of};
 ghost use Rattle.goods_set.specs.Fingerprints.{AreMarks, mark_of};

@@ -68,7 +68,8 @@ refuse_whole n d v some e ev w =
     let all : n / d * d + n % d ≡ n = div-add-mod' n d in
     let small : n ≤ MAX_PRICE * d = ltb-false (MAX_PRICE * d) n e in
     let whole : v ≡ n / d = ⊎_elim
-    (λ (l : MAX_PRICE < n / d). absurd (let more : suc MAX_PRICE * d ≤ n / d * d = mul-le (suc MAX_PRICE) d (n / d) d (omega arith) (omega arith) in omega arith))
+    (λ (l : MAX_PRICE < n / d). absurd (let more : suc MAX_PRICE * d ≤ n / d * d = mul-le (suc MAX_PRICE) d (n / d) d (omega arith) (omega arith) in
+    omega arith))
     (λ (l : n / d ≤ MAX_PRICE). omega arith)
     (cases_lt MAX_PRICE (n / d)) in
     rw e (rw w (ap Exact whole))

@@ -1,6 +1,7 @@
 -- Rounding over whole numbers: the nearest number, and powers of ten that are cut.
 use Rattle.std.specs.Prelude.{if◌then◌else◌}
-use Rattle.std.proofs.Common.{◌≡◌, ℕ, suc, ◌+◌, ◌-◌, ◌*◌, ◌/◌, ◌%◌, ◌^◌, ◌<◌, ◌≤◌, min, true, false, eqb, ltb, is_none, length, refl, sym, ap, ◌∙◌, arith, ◌⊎◌, inl, inr, ⊎_elim}
+use Rattle.std.proofs.Common.{◌≡◌, ℕ, suc, ◌+◌, ◌-◌, ◌*◌, ◌/◌, ◌%◌, ◌^◌, ◌<◌, ◌≤◌, min, true, false, eqb, ltb, is_none, length, refl, sym, ap, ◌∙◌, arith, ◌⊎◌}
+use Rattle.std.proofs.Common.{inl, inr, ⊎_elim}
 use Rattle.std.proofs.lemmas.Bool.{lt-ltb, le-ltb, cases_lt, cases_order, eqb-true, eqb-false, ltb-true, ltb-false, cases_Bool, ne_eqb}
 use Rattle.std.proofs.lemmas.Nat.{mul-le, div-add-mod', mod_below, le-div}
 use Rattle.std.proofs.Math.Nat.{pow-le-pow_right, pow-succ', one-le-pow, mod-eq_of_lt, div-eq_of_lt, mul-div_cancel, mul-mod_left}
@@ -165,7 +166,8 @@ cut_up fine n u = ⊎_elim
     far : 19 < u → replacement_of fine (n * 10 ^ 19) 1 ≡ replacement_of fine (n * 10 ^ u) 1
     far l = ⊎_elim
         (λ (z : n < 1). let none : n ≡ 0 = omega arith in
-        ap (λ k. replacement_of fine (k * 10 ^ 19) 1) none ∙ ap (λ k. replacement_of fine k 1) (nothing (10 ^ u)) ∙ sym (ap (λ k. replacement_of fine (k * 10 ^ u) 1) none))
+        ap (λ k. replacement_of fine (k * 10 ^ 19) 1) none ∙ ap (λ k. replacement_of fine k 1) (nothing (10 ^ u))
+        ∙ sym (ap (λ k. replacement_of fine (k * 10 ^ u) 1) none))
         (λ (s : 1 ≤ n).
         let one : 1 * 10 ^ 19 ≤ n * 10 ^ 19 = mul-le 1 (10 ^ 19) n (10 ^ 19) s (omega arith) in
         let power : 10 ^ 19 ≤ 10 ^ u = power_more 19 u (omega arith) in
@@ -204,7 +206,8 @@ cut_both fine n size a b small = ⊎_elim
     once : (n : ℕ) → n * 10 ^ 0 ≡ n
     once n = omega arith
 
-pub powers_cut : (fine : FinePrices) (w : Word) → is_decimal w ≡ true → replacement_of fine (top w) (bottom w) ≡ replacement_of fine (exact_top w) (exact_bottom w)
+pub powers_cut : (fine : FinePrices) (w : Word) → is_decimal w ≡ true
+    → replacement_of fine (top w) (bottom w) ≡ replacement_of fine (exact_top w) (exact_bottom w)
 powers_cut fine w h = cut_both fine (mantissa w) (length (digits w)) (raised w) (lowered w)
     (value_below (digits w) (decimal_digits w (significand w) (whole_part (significand w)) (places (significand w)) h refl refl refl))
 

@@ -1,9 +1,11 @@
 -- The words of lines, and a bid file that is rounded.
 use Rattle.std.specs.Prelude.{if◌then◌else◌}
-use Rattle.std.proofs.Common.{◌≡◌, ℕ, zero, suc, ◌-◌, ◌<◌, ◌≤◌, true, false, ◌&&◌, eqb, leb, List, [], ◌∷◌, ◌++◌, map, filter, drop, refl, sym, ap, ◌∙◌, arith, ⊎_elim, Some, None, append_assoc, subst, slice_get, codes}
+use Rattle.std.proofs.Common.{◌≡◌, ℕ, zero, suc, ◌-◌, ◌<◌, ◌≤◌, true, false, ◌&&◌, eqb, leb, List, [], ◌∷◌, ◌++◌, map, filter, drop, refl, sym, ap, ◌∙◌, arith}
+use Rattle.std.proofs.Common.{⊎_elim, Some, None, append_assoc, subst, slice_get, codes}
 use Rattle.std.proofs.lemmas.Bool.{cases_Bool, both_ways, and_parts, eqb-true, cases_lt, lt-leb}
 use Rattle.std.specs.List.{AllByRecursion}
-use Rattle.cats_text.specs.Lines.{Word, RawLine, Line, is_blank, line_byte, line_ends, blank_returns, raw_lines, lines_with, with_byte, line_words, words_with, with_letter, is_significant, numbered}
+use Rattle.cats_text.specs.Lines.{Word, RawLine, Line, is_blank, line_byte, line_ends, blank_returns, raw_lines, lines_with, with_byte, line_words, words_with}
+use Rattle.cats_text.specs.Lines.{with_letter, is_significant, numbered}
 use Rattle.cats_text.specs.Faults.{price_word}
 use Rattle.cats_text.specs.Grammar.{Spells, SpellsPrice, SpellsBid, significant_words}
 use Rattle.cats_text.specs.Numbers.{number_of, is_price, price_of, is_too_large, is_too_fine}
@@ -13,7 +15,8 @@ use Rattle.cats_text.proofs.Writing.Prices.{price_text_spells}
 use Rattle.bid_file.specs.declared.limits.TheConstants.{MAX_PRICE}
 use Rattle.bid_file.specs.Files.{PlainFile, PlainBid, IsPlainFile, IsBid}
 use Rattle.rounding.specs.Replacements.{replacement, rounded_word}
-use Rattle.rounding.specs.Texts.{behind_blanks, leading_word, behind_word, from_second, before_second, second_word, behind_second, with_rounded, is_significant_line, is_bid_line, before_next}
+use Rattle.rounding.specs.Texts.{behind_blanks, leading_word, behind_word, from_second, before_second, second_word, behind_second, with_rounded}
+use Rattle.rounding.specs.Texts.{is_significant_line, is_bid_line, before_next}
 use Rattle.rounding.specs.Texts.{rounded_line, rounded_lines, lines_text, line_changes, lines_changes, rounded_text, rounded_prices, change_by, PlainChange}
 use Rattle.rounding.specs.declared.replacement.FinePrices.{FinePrices}
 use Rattle.rounding.proofs.Words.{byte_stays, word_both, second_both}
@@ -81,7 +84,8 @@ first_word b (c ∷ cs) e = ⊎_elim
 pub words_split : (l : List ℕ) → line_of l ≡ split_first (behind_blanks l)
 words_split [] = refl
 words_split (b ∷ bs) = ⊎_elim
-    (λ (e : is_blank (line_byte b bs) ≡ true). blank_skips (line_byte b bs) (blank_returns bs) (line_of bs) e ∙ words_split bs ∙ ap split_first (sym (blank_passed b bs e)))
+    (λ (e : is_blank (line_byte b bs) ≡ true). blank_skips (line_byte b bs) (blank_returns bs) (line_of bs) e ∙ words_split bs
+    ∙ ap split_first (sym (blank_passed b bs e)))
     (λ (e : is_blank (line_byte b bs) ≡ false). first_word b bs e ∙ ap split_first (sym (letter_stays b bs e)))
     (cases_Bool (is_blank (line_byte b bs)))
 
@@ -136,7 +140,8 @@ with_blanked b (l ∷ ls) = refl
 pub lines_blanked : (t : List ℕ) → raw_lines (blank_returns t) ≡ map blanked (raw_lines t)
 lines_blanked [] = refl
 lines_blanked (b ∷ bs) = ⊎_elim
-    (λ (e : eqb b 10 ≡ true). ap (λ x. lines_with x (raw_lines (blank_returns bs))) (feed_stays bs b e) ∙ rw e (ap (λ (ls : List RawLine). record { bytes = []; ended = true } ∷ ls) (lines_blanked bs)))
+    (λ (e : eqb b 10 ≡ true). ap (λ x. lines_with x (raw_lines (blank_returns bs))) (feed_stays bs b e)
+    ∙ rw e (ap (λ (ls : List RawLine). record { bytes = []; ended = true } ∷ ls) (lines_blanked bs)))
     (λ (e : eqb b 10 ≡ false). rw e (rw (other_stays bs b e)
     (ap (with_byte (line_byte b bs)) (lines_blanked bs)
     ∙ ap (λ v. with_byte (if (eqb b 13) && v then 32 else b) (map blanked (raw_lines bs))) (ends_same bs)
@@ -149,7 +154,8 @@ abbrev words_from : List RawLine → List (List Word)
 words_from [] = []
 words_from (l ∷ ls) = if is_significant_line l then line_of l.bytes ∷ words_from ls else words_from ls
 
-kept_words : (n : ℕ) (ls : List RawLine) → map (λ (l : Line). l.words) (filter (λ (l : Line). is_significant l.words) (numbered n (map blanked ls))) ≡ words_from ls
+kept_words : (n : ℕ) (ls : List RawLine) → map (λ (l : Line). l.words) (filter (λ (l : Line). is_significant l.words) (numbered n (map blanked ls)))
+    ≡ words_from ls
 kept_words n [] = refl
 kept_words n (l ∷ ls) = ⊎_elim
     (λ (e : is_significant_line l ≡ true). rw e (ap (λ (ws : List (List Word)). line_of l.bytes ∷ ws) (kept_words (suc n) ls)))
@@ -193,13 +199,15 @@ bytes_stay : (fine : FinePrices) (l : List ℕ) → price_word (second_word l) �
 bytes_stay fine l e =
     ap (λ (w : Word). before_second l ++ w ++ behind_second l) (word_stays fine (second_word l) e) ∙ line_parts l
 
-pub line_stays : (fine : FinePrices) (before : ℕ) (l : RawLine) → (is_bid_line before l ≡ true → price_word (second_word l.bytes) ≡ None) → rounded_line fine before l ≡ l
+pub line_stays : (fine : FinePrices) (before : ℕ) (l : RawLine) → (is_bid_line before l ≡ true → price_word (second_word l.bytes) ≡ None)
+    → rounded_line fine before l ≡ l
 line_stays fine before l h = ⊎_elim
     (λ (e : is_bid_line before l ≡ true). rw e (ap (λ (bs : List ℕ). record { bytes = bs; ended = l.ended }) (bytes_stay fine l.bytes (h e))))
     (λ (e : is_bid_line before l ≡ false). rw e refl)
     (cases_Bool (is_bid_line before l))
 
-line_unchanged : (fine : FinePrices) (number before : ℕ) (l : RawLine) → (is_bid_line before l ≡ true → price_word (second_word l.bytes) ≡ None) → line_changes fine number before l ≡ []
+line_unchanged : (fine : FinePrices) (number before : ℕ) (l : RawLine) → (is_bid_line before l ≡ true → price_word (second_word l.bytes) ≡ None)
+    → line_changes fine number before l ≡ []
 line_unchanged fine number before l h = ⊎_elim
     (λ (e : is_bid_line before l ≡ true). rw e (change_none fine number (second_word l.bytes) (h e)))
     (λ (e : is_bid_line before l ≡ false). rw e refl)
@@ -212,7 +220,8 @@ lines_stay fine before (l ∷ ls) h = ap (λ (m : RawLine). m ∷ rounded_lines 
 
 pub lines_unchanged : (fine : FinePrices) (number before : ℕ) (ls : List RawLine) → Valid before ls → lines_changes fine number before ls ≡ []
 lines_unchanged fine number before [] h = refl
-lines_unchanged fine number before (l ∷ ls) h = ap (λ (cs : List PlainChange). cs ++ lines_changes fine (suc number) (before_next before l) ls) (line_unchanged fine number before l h.0)
+lines_unchanged fine number before (l ∷ ls) h = ap (λ (cs : List PlainChange). cs ++ lines_changes fine (suc number) (before_next before l) ls)
+    (line_unchanged fine number before l h.0)
     ∙ lines_unchanged fine (suc number) (before_next before l) ls h.1
 
 -- ---- the bid lines of a file
@@ -240,7 +249,8 @@ valid_more before l ls rest e g =
     ))
     (λ (s : 3 ≤ before). let none : 3 - before ≡ 0 = omega arith in
     let still : 0 ≡ 3 - suc before = omega arith in
-    let all : AllByRecursion HasPrice (line_of l.bytes ∷ words_from ls) = subst (λ n. AllByRecursion HasPrice (drop n (line_of l.bytes ∷ words_from ls))) none g in (
+    let all : AllByRecursion HasPrice (line_of l.bytes ∷ words_from ls) =
+    subst (λ n. AllByRecursion HasPrice (drop n (line_of l.bytes ∷ words_from ls))) none g in (
       λ (b : is_bid_line before l ≡ true). price_of_line l.bytes all.0,
       subst (λ n. Valid n ls) (sym next) (rest (suc before) (subst (λ n. AllByRecursion HasPrice (drop n (words_from ls))) still all.1)),
     ))
@@ -288,7 +298,8 @@ valid_file : (text : List ℕ) (f : PlainFile) → Spells text f → Valid 0 (ra
 valid_file text f s =
     let words : words_from (raw_lines text) ≡ (codes "goods" ∷ s.goods ∷ []) ∷ (codes "bids" ∷ s.bids ∷ []) ∷ (codes "dummy" ∷ s.dummy ∷ []) ∷ s.bid_lines =
     sym (significant_from text) ∙ s.lines_are in
-    valid_from 0 (raw_lines text) (subst (λ (ws : List (List Word)). AllByRecursion HasPrice (drop 3 ws)) (sym words) (spelled_prices f s.bid_lines s.facts s.each))
+    valid_from 0 (raw_lines text) (subst (λ (ws : List (List Word)). AllByRecursion HasPrice (drop 3 ws)) (sym words)
+    (spelled_prices f s.bid_lines s.facts s.each))
 
 pub file_stays : (fine : FinePrices) (text : List ℕ) (f : PlainFile) → Spells text f → rounded_text fine text ≡ text
 file_stays fine text f s = ap lines_text (lines_stay fine 0 (raw_lines text) (valid_file text f s)) ∙ text_of_lines text

@@ -31,7 +31,8 @@ point_within (b ∷ bs) = elim (eqb b 46) as (λ v. length (if v then [] else (b
 
 pub point_dropped : (w : Word) → length (whole_part w) < length w → drop (suc (length (whole_part w))) w ≡ places w
 point_dropped [] = λ (h : 0 < 0). absurd (omega arith)
-point_dropped (b ∷ bs) = elim (eqb b 46) as (λ v. length (if v then [] else (b ∷ whole_part bs)) < length (b ∷ bs) → drop (suc (length (if v then [] else (b ∷ whole_part bs)))) (b ∷ bs) ≡ (if v then bs else places bs))
+point_dropped (b ∷ bs) = elim (eqb b 46) as (λ v. length (if v then [] else (b ∷ whole_part bs)) < length (b ∷ bs)
+    → drop (suc (length (if v then [] else (b ∷ whole_part bs)))) (b ∷ bs) ≡ (if v then bs else places bs))
     [ true ↦ λ h. refl | false ↦ λ (h : suc (length (whole_part bs)) < length (b ∷ bs)). point_dropped bs (omega arith) ]
 
 pub point_none : (w : Word) → length w ≤ length (whole_part w) → places w ≡ []
@@ -46,8 +47,11 @@ point_has (b ∷ bs) = elim (eqb b 46) as (λ v. length (if v then [] else (b �
 
 pub point_has_none : (w : Word) → length w ≤ length (whole_part w) → has_point w ≡ false
 point_has_none [] = λ (h : 0 ≤ 0). refl
-point_has_none (b ∷ bs) = elim (eqb b 46) as (λ v. length (b ∷ bs) ≤ length (if v then [] else (b ∷ whole_part bs)) → (v || has_point bs) ≡ false)
-    [ true ↦ λ (h : suc (length bs) ≤ 0). absurd (omega arith) | false ↦ λ (h : suc (length bs) ≤ suc (length (whole_part bs))). point_has_none bs (omega arith) ]
+point_has_none (b ∷ bs) = elim (eqb b 46) as (λ v. length (b ∷ bs) ≤ length (if v then [] else (b ∷ whole_part bs)) → (v || has_point bs) ≡ false) [
+  | true ↦ λ (h : suc (length bs) ≤ 0). absurd (omega arith)
+  | false ↦
+      λ (h : suc (length bs) ≤ suc (length (whole_part bs))). point_has_none bs (omega arith)
+]
 
 pub point_cut : (w : Word) (k : ℕ) → k ≡ length (whole_part w) → k < length w → take (length w - (k + 1)) (drop (k + 1) w) ≡ places w
 point_cut w k e h = take_rest w (k + 1) ∙ rw add-one (point_at w k e h)
@@ -69,7 +73,8 @@ mark_found w i h e = rw (drop-cons w i 0) (rw e refl)
 
 pub mark_taken : (w : Word) → take (length (significand w)) w ≡ significand w
 mark_taken [] = refl
-mark_taken (b ∷ bs) = elim (eqb b 101 || eqb b 69) as (λ v. take (length (if v then [] else (b ∷ significand bs))) (b ∷ bs) ≡ (if v then [] else (b ∷ significand bs)))
+mark_taken (b ∷ bs) = elim (eqb b 101 || eqb b 69) as (λ v. take (length (if v then [] else (b ∷ significand bs))) (b ∷ bs) ≡
+    (if v then [] else (b ∷ significand bs)))
     [ true ↦ refl | false ↦ ap (λ (ws : Word). b ∷ ws) (mark_taken bs) ]
 
 pub mark_within : (w : Word) → length (significand w) ≤ length w
@@ -79,12 +84,14 @@ mark_within (b ∷ bs) = elim (eqb b 101 || eqb b 69) as (λ v. length (if v the
 
 pub mark_dropped : (w : Word) → length (significand w) < length w → drop (suc (length (significand w))) w ≡ exponent w
 mark_dropped [] = λ (h : 0 < 0). absurd (omega arith)
-mark_dropped (b ∷ bs) = elim (eqb b 101 || eqb b 69) as (λ v. length (if v then [] else (b ∷ significand bs)) < length (b ∷ bs) → drop (suc (length (if v then [] else (b ∷ significand bs)))) (b ∷ bs) ≡ (if v then bs else exponent bs))
+mark_dropped (b ∷ bs) = elim (eqb b 101 || eqb b 69) as (λ v. length (if v then [] else (b ∷ significand bs)) < length (b ∷ bs)
+    → drop (suc (length (if v then [] else (b ∷ significand bs)))) (b ∷ bs) ≡ (if v then bs else exponent bs))
     [ true ↦ λ h. refl | false ↦ λ (h : suc (length (significand bs)) < length (b ∷ bs)). mark_dropped bs (omega arith) ]
 
 pub mark_none : (w : Word) → length w ≤ length (significand w) → exponent w ≡ []
 mark_none [] = λ (h : 0 ≤ 0). refl
-mark_none (b ∷ bs) = elim (eqb b 101 || eqb b 69) as (λ v. length (b ∷ bs) ≤ length (if v then [] else (b ∷ significand bs)) → (if v then bs else exponent bs) ≡ [])
+mark_none (b ∷ bs) = elim (eqb b 101 || eqb b 69) as (λ v. length (b ∷ bs) ≤ length (if v then [] else (b ∷ significand bs))
+    → (if v then bs else exponent bs) ≡ [])
     [ true ↦ λ (h : suc (length bs) ≤ 0). absurd (omega arith) | false ↦ λ (h : suc (length bs) ≤ suc (length (significand bs))). mark_none bs (omega arith) ]
 
 pub mark_has : (w : Word) → length (significand w) < length w → has_exponent w ≡ true
@@ -94,8 +101,12 @@ mark_has (b ∷ bs) = elim (eqb b 101 || eqb b 69) as (λ v. length (if v then [
 
 pub mark_has_none : (w : Word) → length w ≤ length (significand w) → has_exponent w ≡ false
 mark_has_none [] = λ (h : 0 ≤ 0). refl
-mark_has_none (b ∷ bs) = elim (eqb b 101 || eqb b 69) as (λ v. length (b ∷ bs) ≤ length (if v then [] else (b ∷ significand bs)) → (v || has_exponent bs) ≡ false)
-    [ true ↦ λ (h : suc (length bs) ≤ 0). absurd (omega arith) | false ↦ λ (h : suc (length bs) ≤ suc (length (significand bs))). mark_has_none bs (omega arith) ]
+mark_has_none (b ∷ bs) = elim (eqb b 101 || eqb b 69) as (λ v. length (b ∷ bs) ≤ length (if v then [] else (b ∷ significand bs))
+    → (v || has_exponent bs) ≡ false) [
+      | true ↦ λ (h : suc (length bs) ≤ 0). absurd (omega arith)
+      | false ↦
+          λ (h : suc (length bs) ≤ suc (length (significand bs))). mark_has_none bs (omega arith)
+    ]
 
 pub mark_cut : (w : Word) (k : ℕ) → k ≡ length (significand w) → k < length w → take (length w - (k + 1)) (drop (k + 1) w) ≡ exponent w
 mark_cut w k e h = take_rest w (k + 1) ∙ rw add-one (mark_at w k e h)
@@ -117,7 +128,8 @@ blanks_found w i h e = rw (drop-cons w i 0) (rw e refl)
 
 pub blanks_taken : (w : Word) → take (length (blanks w)) w ≡ blanks w
 blanks_taken [] = refl
-blanks_taken (b ∷ bs) = elim (is_blank (line_byte b bs)) as (λ v. take (length (if v then (b ∷ blanks bs) else [])) (b ∷ bs) ≡ (if v then (b ∷ blanks bs) else []))
+blanks_taken (b ∷ bs) = elim (is_blank (line_byte b bs)) as
+    (λ v. take (length (if v then (b ∷ blanks bs) else [])) (b ∷ bs) ≡ (if v then (b ∷ blanks bs) else []))
     [ true ↦ ap (λ (ws : Word). b ∷ ws) (blanks_taken bs) | false ↦ refl ]
 
 pub blanks_within : (w : Word) → length (blanks w) ≤ length w
@@ -127,7 +139,8 @@ blanks_within (b ∷ bs) = elim (is_blank (line_byte b bs)) as (λ v. length (if
 
 pub blanks_dropped : (w : Word) → drop (length (blanks w)) w ≡ behind_blanks w
 blanks_dropped [] = refl
-blanks_dropped (b ∷ bs) = elim (is_blank (line_byte b bs)) as (λ v. drop (length (if v then (b ∷ blanks bs) else [])) (b ∷ bs) ≡ (if v then behind_blanks bs else (b ∷ bs)))
+blanks_dropped (b ∷ bs) = elim (is_blank (line_byte b bs)) as
+    (λ v. drop (length (if v then (b ∷ blanks bs) else [])) (b ∷ bs) ≡ (if v then behind_blanks bs else (b ∷ bs)))
     [ true ↦ blanks_dropped bs | false ↦ refl ]
 
 -- ---- leading_word
@@ -141,7 +154,8 @@ word_found w i h e = rw (drop-cons w i 0) (rw e refl)
 
 pub word_taken : (w : Word) → take (length (leading_word w)) w ≡ leading_word w
 word_taken [] = refl
-word_taken (b ∷ bs) = elim (is_blank (line_byte b bs)) as (λ v. take (length (if v then [] else (b ∷ leading_word bs))) (b ∷ bs) ≡ (if v then [] else (b ∷ leading_word bs)))
+word_taken (b ∷ bs) = elim (is_blank (line_byte b bs)) as
+    (λ v. take (length (if v then [] else (b ∷ leading_word bs))) (b ∷ bs) ≡ (if v then [] else (b ∷ leading_word bs)))
     [ true ↦ refl | false ↦ ap (λ (ws : Word). b ∷ ws) (word_taken bs) ]
 
 pub word_within : (w : Word) → length (leading_word w) ≤ length w
@@ -151,7 +165,8 @@ word_within (b ∷ bs) = elim (is_blank (line_byte b bs)) as (λ v. length (if v
 
 pub word_dropped : (w : Word) → drop (length (leading_word w)) w ≡ behind_word w
 word_dropped [] = refl
-word_dropped (b ∷ bs) = elim (is_blank (line_byte b bs)) as (λ v. drop (length (if v then [] else (b ∷ leading_word bs))) (b ∷ bs) ≡ (if v then (b ∷ bs) else behind_word bs))
+word_dropped (b ∷ bs) = elim (is_blank (line_byte b bs)) as
+    (λ v. drop (length (if v then [] else (b ∷ leading_word bs))) (b ∷ bs) ≡ (if v then (b ∷ bs) else behind_word bs))
     [ true ↦ refl | false ↦ word_dropped bs ]
 
 -- ---- first_line
@@ -175,7 +190,8 @@ line_within (b ∷ bs) = elim (eqb b 10) as (λ v. length (if v then [] else (b 
 
 pub line_dropped : (w : Word) → length (first_line w) < length w → drop (suc (length (first_line w))) w ≡ behind_line w
 line_dropped [] = λ (h : 0 < 0). absurd (omega arith)
-line_dropped (b ∷ bs) = elim (eqb b 10) as (λ v. length (if v then [] else (b ∷ first_line bs)) < length (b ∷ bs) → drop (suc (length (if v then [] else (b ∷ first_line bs)))) (b ∷ bs) ≡ (if v then bs else behind_line bs))
+line_dropped (b ∷ bs) = elim (eqb b 10) as (λ v. length (if v then [] else (b ∷ first_line bs)) < length (b ∷ bs)
+    → drop (suc (length (if v then [] else (b ∷ first_line bs)))) (b ∷ bs) ≡ (if v then bs else behind_line bs))
     [ true ↦ λ h. refl | false ↦ λ (h : suc (length (first_line bs)) < length (b ∷ bs)). line_dropped bs (omega arith) ]
 
 pub line_none : (w : Word) → length w ≤ length (first_line w) → behind_line w ≡ []
@@ -190,5 +206,8 @@ line_has (b ∷ bs) = elim (eqb b 10) as (λ v. length (if v then [] else (b ∷
 
 pub line_has_none : (w : Word) → length w ≤ length (first_line w) → has_line_end w ≡ false
 line_has_none [] = λ (h : 0 ≤ 0). refl
-line_has_none (b ∷ bs) = elim (eqb b 10) as (λ v. length (b ∷ bs) ≤ length (if v then [] else (b ∷ first_line bs)) → (v || has_line_end bs) ≡ false)
-    [ true ↦ λ (h : suc (length bs) ≤ 0). absurd (omega arith) | false ↦ λ (h : suc (length bs) ≤ suc (length (first_line bs))). line_has_none bs (omega arith) ]
+line_has_none (b ∷ bs) = elim (eqb b 10) as (λ v. length (b ∷ bs) ≤ length (if v then [] else (b ∷ first_line bs)) → (v || has_line_end bs) ≡ false) [
+  | true ↦ λ (h : suc (length bs) ≤ 0). absurd (omega arith)
+  | false ↦
+      λ (h : suc (length bs) ≤ suc (length (first_line bs))). line_has_none bs (omega arith)
+]

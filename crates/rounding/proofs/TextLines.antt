@@ -1,6 +1,7 @@
 -- Texts line by line: the first line and what is behind it, and one more line that is rounded.
 use Rattle.std.specs.Prelude.{if◌then◌else◌}
-use Rattle.std.proofs.Common.{◌≡◌, ℕ, suc, ◌+◌, ◌-◌, ◌<◌, ◌≤◌, min, Bool, true, false, ◌&&◌, ◌||◌, eqb, leb, ltb, List, [], ◌∷◌, ◌++◌, length, take, drop, refl, sym, ap, ◌∙◌, ⊎_elim}
+use Rattle.std.proofs.Common.{◌≡◌, ℕ, suc, ◌+◌, ◌-◌, ◌<◌, ◌≤◌, min, Bool, true, false, ◌&&◌, ◌||◌, eqb, leb, ltb, List, [], ◌∷◌, ◌++◌, length, take, drop, refl}
+use Rattle.std.proofs.Common.{sym, ap, ◌∙◌, ⊎_elim}
 use Rattle.std.proofs.Common.{arith, append_assoc}
 use Rattle.std.proofs.lemmas.Bool.{lt-ltb, le-ltb, cases_lt}
 use Rattle.std.proofs.lemmas.List.{map-append, length-drop, take_rest, append-nil, drop_all}
@@ -8,8 +9,10 @@ use Rattle.std.proofs.lemmas.List.Prefix.{front_rest}
 use mir.Val.{bool_byte}
 use Rattle.cats_text.specs.Lines.{Word, RawLine, raw_lines, lines_with, with_byte, blank_returns, line_words, is_significant}
 use Rattle.rounding.specs.Replacements.{replacement, replacement_text, rounded_word}
-use Rattle.rounding.specs.Texts.{from_second, before_second, second_word, behind_second, leading_word, behind_word, with_rounded, rounded_text, rounded_prices, rounded_lines}
-use Rattle.rounding.specs.Texts.{rounded_line, lines_text, line_text, lines_changes, line_changes, change_by, PlainChange, is_bid_line, before_next, is_significant_line}
+use Rattle.rounding.specs.Texts.{from_second, before_second, second_word, behind_second, leading_word, behind_word, with_rounded, rounded_text, rounded_prices}
+use Rattle.rounding.specs.Texts.{rounded_lines}
+use Rattle.rounding.specs.Texts.{rounded_line, lines_text, line_text, lines_changes, line_changes, change_by, PlainChange, is_bid_line, before_next}
+use Rattle.rounding.specs.Texts.{is_significant_line}
 use Rattle.rounding.specs.Views.{plain_change, plain_changes}
 use Rattle.rounding.specs.declared.round_text.RoundedPrice.{RoundedPrice}
 use Rattle.rounding.specs.Internal.RawTexts.{first_line, behind_line, has_line_end}
@@ -77,7 +80,8 @@ first_of_lines (b ∷ c ∷ cs) = λ h.
     let rec : raw_lines (c ∷ cs) ≡ first_raw (c ∷ cs) ∷ raw_lines (behind_line (c ∷ cs)) = first_of_lines (c ∷ cs) (omega arith) in
     ap (lines_with b) rec ∙ elim (eqb b 10) as (λ v. (if v then record { bytes = []; ended = true } ∷ (first_raw (c ∷ cs) ∷ raw_lines (behind_line (c ∷ cs)))
     else with_byte b (first_raw (c ∷ cs) ∷ raw_lines (behind_line (c ∷ cs))))
-    ≡ record { bytes = if v then [] else b ∷ first_line (c ∷ cs); ended = v || has_line_end (c ∷ cs) } ∷ raw_lines (if v then (c ∷ cs) else behind_line (c ∷ cs)))
+    ≡ record { bytes = if v then [] else b ∷ first_line (c ∷ cs); ended = v || has_line_end (c ∷ cs) } ∷ raw_lines
+    (if v then (c ∷ cs) else behind_line (c ∷ cs)))
     [ true ↦ ap (λ (ls : List RawLine). record { bytes = []; ended = true } ∷ ls) (sym rec) | false ↦ refl ]
 
 -- ---- one more line
@@ -122,7 +126,8 @@ pub first_written : (fine : FinePrices) (t line t0 t1 t2 : List ℕ) (p0 p1 : Li
     → p1 ≡ p0 ++ (if is_bid then change_by number (second_word line) (replacement fine (second_word line)) else [])
     → IsFirstLine fine t before number t0 t2 p0 p1
 first_written fine t line t0 t1 t2 p0 p1 before number significant is_bid ended el ee es ei e1 e2 ep =
-    let bid : is_bid ≡ is_bid_line before (first_raw t) = ei ∙ ap (λ v. leb 3 before && v) (es ∙ ap (λ (l : List ℕ). is_significant (line_words (blank_returns l))) el) in
+    let bid : is_bid ≡ is_bid_line before (first_raw t) = ei
+    ∙ ap (λ v. leb 3 before && v) (es ∙ ap (λ (l : List ℕ). is_significant (line_words (blank_returns l))) el) in
     record {
       text_is = e2 ∙ ap (λ (u : List ℕ). u ++ (if ended then 10 ∷ [] else [])) e1
           ∙ append_assoc t0 (if is_bid then with_rounded fine line else line) (if ended then 10 ∷ [] else [])
@@ -131,7 +136,8 @@ first_written fine t line t0 t1 t2 p0 p1 before number significant is_bid ended 
           ∙ ap (λ (l : List ℕ). t0 ++ ((if is_bid_line before (first_raw t) then with_rounded fine l else l) ++ (if has_line_end t then 10 ∷ [] else []))) el;
       prices_are = ep
           ∙ ap (λ v. p0 ++ (if v then change_by number (second_word line) (replacement fine (second_word line)) else [])) bid
-          ∙ ap (λ (l : List ℕ). p0 ++ (if is_bid_line before (first_raw t) then change_by number (second_word l) (replacement fine (second_word l)) else [])) el;
+          ∙ ap (λ (l : List ℕ). p0 ++ (if is_bid_line before (first_raw t) then change_by number (second_word l) (replacement fine (second_word l))
+          else [])) el;
     }
 
 -- so much is written, and the rest of the text is still to come
@@ -142,7 +148,8 @@ pub record IsWritten (fine : FinePrices) (text : List ℕ) (start number before 
 next_before : (before : ℕ) (l : RawLine) (significant : Bool) (more : ℕ) → significant ≡ is_significant_line l → more ≡ (if significant then 1 else 0)
     → before + more ≡ before_next before l
 next_before before l significant more es em =
-    let added : before + more ≡ (if significant then suc before else before) = elim significant as (λ v. more ≡ (if v then 1 else 0) → before + more ≡ (if v then suc before else before))
+    let added : before + more ≡ (if significant then suc before else before) =
+    elim significant as (λ v. more ≡ (if v then 1 else 0) → before + more ≡ (if v then suc before else before))
     [ true ↦ λ (h : more ≡ 1). omega arith | false ↦ λ (h : more ≡ 0). omega arith ] em in
     added ∙ ap (λ v. if v then suc before else before) es
 
@@ -158,7 +165,8 @@ line_more fine text t0 t2 p0 p1 start next number before more significant l en f
     record {
       text_is = ap (λ (t : List ℕ). t2 ++ lines_text (rounded_lines fine (before + more) (raw_lines t))) en
           ∙ ap (λ n. t2 ++ lines_text (rounded_lines fine n (raw_lines (behind_line (drop start text))))) after
-          ∙ ap (λ (t : List ℕ). t ++ lines_text (rounded_lines fine (before_next before (first_raw (drop start text))) (raw_lines (behind_line (drop start text))))) f.text_is
+          ∙ ap (λ (t : List ℕ). t ++ lines_text (rounded_lines fine (before_next before (first_raw (drop start text)))
+          (raw_lines (behind_line (drop start text))))) f.text_is
           ∙ append_assoc t0 (line_text (rounded_line fine before (first_raw (drop start text))))
           (lines_text (rounded_lines fine (before_next before (first_raw (drop start text))) (raw_lines (behind_line (drop start text)))))
           ∙ ap (λ (ls : List RawLine). t0 ++ lines_text (rounded_lines fine before ls)) (sym split)
@@ -166,7 +174,8 @@ line_more fine text t0 t2 p0 p1 start next number before more significant l en f
       prices_are = ap (λ (t : List ℕ). p1 ++ lines_changes fine (number + 1) (before + more) (raw_lines t)) en
           ∙ ap (λ n. p1 ++ lines_changes fine (number + 1) n (raw_lines (behind_line (drop start text)))) after
           ∙ ap (λ n. p1 ++ lines_changes fine n (before_next before (first_raw (drop start text))) (raw_lines (behind_line (drop start text)))) one
-          ∙ ap (λ (ps : List PlainChange). ps ++ lines_changes fine (suc number) (before_next before (first_raw (drop start text))) (raw_lines (behind_line (drop start text)))) f.prices_are
+          ∙ ap (λ (ps : List PlainChange). ps ++ lines_changes fine (suc number) (before_next before (first_raw (drop start text)))
+          (raw_lines (behind_line (drop start text)))) f.prices_are
           ∙ append_assoc p0 (line_changes fine number before (first_raw (drop start text)))
           (lines_changes fine (suc number) (before_next before (first_raw (drop start text))) (raw_lines (behind_line (drop start text))))
           ∙ ap (λ (ls : List RawLine). p0 ++ lines_changes fine number before ls) (sym split)

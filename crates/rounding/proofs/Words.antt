@@ -1,6 +1,7 @@
 -- Words and lines: digits in two runs, blanks, the first word and the second.
 use Rattle.std.specs.Prelude.{if◌then◌else◌}
-use Rattle.std.proofs.Common.{◌≡◌, ℕ, zero, suc, ◌+◌, ◌-◌, ◌<◌, ◌≤◌, Bool, true, false, not, ◌&&◌, ◌||◌, eqb, List, [], ◌∷◌, ◌++◌, length, take, drop, get_or, refl, sym, ap, ◌∙◌, ⊎_elim}
+use Rattle.std.proofs.Common.{◌≡◌, ℕ, zero, suc, ◌+◌, ◌-◌, ◌<◌, ◌≤◌, Bool, true, false, not, ◌&&◌, ◌||◌, eqb, List, [], ◌∷◌, ◌++◌, length, take, drop, get_or}
+use Rattle.std.proofs.Common.{refl, sym, ap, ◌∙◌, ⊎_elim}
 use Rattle.std.proofs.Common.{arith, drop-cons, length-append, append_assoc}
 use Rattle.std.proofs.lemmas.Bool.{both_ways, cases_Bool, and_from, eq-eqb}
 use Rattle.std.proofs.lemmas.List.{take-append-drop, drop_all, take_rest}
@@ -123,7 +124,8 @@ significant_letter x [] = refl
 significant_letter x (w ∷ ws) = refl
 
 pub significant_byte : (x : ℕ) (xs : List ℕ) → is_blank x ≡ false → is_significant (line_words (x ∷ xs)) ≡ not (eqb x 37)
-significant_byte x xs e = rw e (elim (begins_word xs) as (λ v. is_significant (if v then with_letter x (line_words xs) else ((x ∷ []) ∷ line_words xs)) ≡ not (eqb x 37))
+significant_byte x xs e = rw e (elim (begins_word xs) as
+    (λ v. is_significant (if v then with_letter x (line_words xs) else ((x ∷ []) ∷ line_words xs)) ≡ not (eqb x 37))
     [ true ↦ significant_letter x (line_words xs) | false ↦ refl ])
 
 pub significant_line : (l : List ℕ) → is_significant (line_words (blank_returns l)) ≡ begins (behind_blanks l)

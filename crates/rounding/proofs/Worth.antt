@@ -1,6 +1,7 @@
 -- What digits are worth: numbers that are held, cut and raised.
 use Rattle.std.specs.Prelude.{if◌then◌else◌}
-use Rattle.std.proofs.Common.{◌≡◌, ℕ, suc, ◌+◌, ◌-◌, ◌*◌, ◌/◌, ◌%◌, ◌^◌, ◌<◌, ◌≤◌, min, true, false, not, ◌||◌, eqb, leb, [], ◌∷◌, ◌++◌, length, take, drop, refl, sym, ap, ◌∙◌, subst, ◌⊎◌, inl, inr, ⊎_elim}
+use Rattle.std.proofs.Common.{◌≡◌, ℕ, suc, ◌+◌, ◌-◌, ◌*◌, ◌/◌, ◌%◌, ◌^◌, ◌<◌, ◌≤◌, min, true, false, not, ◌||◌, eqb, leb, [], ◌∷◌, ◌++◌, length, take, drop}
+use Rattle.std.proofs.Common.{refl, sym, ap, ◌∙◌, subst, ◌⊎◌, inl, inr, ⊎_elim}
 use Rattle.std.proofs.Common.{arith, length-append, append_assoc, fold}
 use Rattle.std.proofs.lemmas.Bool.{cases_lt, and_parts, cases_Bool, eqb-true, eqb-false, leb-true, leb-false}
 use Rattle.std.proofs.lemmas.List.{take-append-drop, take_rest, length-drop, append-nil}
@@ -139,7 +140,8 @@ rest_all s x p (b ∷ bs) h l r =
 
 digits_behind : (xs ys : Word) → digits_alone (xs ++ ys) ≡ true → digits_alone ys ≡ true
 digits_behind xs ys h =
-    let p : (digits_alone xs ≡ true) × (digits_alone ys ≡ true) = and_parts (digits_alone xs) (digits_alone ys) (sym (list_all-append is_digit xs ys) ∙ h) in p.1
+    let p : (digits_alone xs ≡ true) × (digits_alone ys ≡ true) = and_parts (digits_alone xs) (digits_alone ys) (sym (list_all-append is_digit xs ys) ∙ h) in
+    p.1
 
 pub cut_leading : (xs ys : Word) (m : ℕ) (r : Rest) → digits_alone (xs ++ ys) ≡ true → m ≡ min (suc MAX_PRICE) (value 0 xs)
     → r ≡ fold rest_with Nothing ys → Holds (record { whole = m; rest = r }) (number_of (xs ++ ys)) (10 ^ length ys)
@@ -147,8 +149,10 @@ cut_leading xs ys m r h em er =
     let behind : digits_alone ys ≡ true = digits_behind xs ys h in
     let small : value 0 ys < 10 ^ length ys = value_below ys behind in
     let is : number_of (xs ++ ys) ≡ value 0 xs * 10 ^ length ys + value 0 ys = number_append xs ys in
-    let part : number_of (xs ++ ys) / 10 ^ length ys ≡ value 0 xs = ap (λ n. n / 10 ^ length ys) is ∙ div-mul-add (value 0 xs) (10 ^ length ys) (value 0 ys) small in
-    let left : number_of (xs ++ ys) % 10 ^ length ys ≡ value 0 ys = ap (λ n. n % 10 ^ length ys) is ∙ mod-mul-add (value 0 xs) (10 ^ length ys) (value 0 ys) small in
+    let part : number_of (xs ++ ys) / 10 ^ length ys ≡ value 0 xs = ap (λ n. n / 10 ^ length ys) is
+    ∙ div-mul-add (value 0 xs) (10 ^ length ys) (value 0 ys) small in
+    let left : number_of (xs ++ ys) % 10 ^ length ys ≡ value 0 ys = ap (λ n. n % 10 ^ length ys) is
+    ∙ mod-mul-add (value 0 xs) (10 ^ length ys) (value 0 ys) small in
     let one : 1 * 10 ^ length ys ≡ 10 ^ length ys = omega arith in
     record {
       whole = em ∙ ap (min (suc MAX_PRICE)) (sym part);
@@ -164,8 +168,10 @@ cut_far ds r h er =
     let small : value 0 ds < 10 ^ length ds = value_below ds h in
     let power : 10 ^ (suc (length ds)) ≡ 10 * 10 ^ length ds = pow-succ' 10 (length ds) in
     let sum : value 0 ds ≡ 0 * 10 ^ suc (length ds) + value 0 ds = omega arith in
-    let part : number_of ds / 10 ^ suc (length ds) ≡ 0 = ap (λ n. n / 10 ^ suc (length ds)) sum ∙ div-mul-add 0 (10 ^ suc (length ds)) (value 0 ds) (omega arith) in
-    let left : number_of ds % 10 ^ suc (length ds) ≡ value 0 ds = ap (λ n. n % 10 ^ suc (length ds)) sum ∙ mod-mul-add 0 (10 ^ suc (length ds)) (value 0 ds) (omega arith) in
+    let part : number_of ds / 10 ^ suc (length ds) ≡ 0 = ap (λ n. n / 10 ^ suc (length ds)) sum
+    ∙ div-mul-add 0 (10 ^ suc (length ds)) (value 0 ds) (omega arith) in
+    let left : number_of ds % 10 ^ suc (length ds) ≡ value 0 ds = ap (λ n. n % 10 ^ suc (length ds)) sum
+    ∙ mod-mul-add 0 (10 ^ suc (length ds)) (value 0 ds) (omega arith) in
     record {
       whole = ap (min (suc MAX_PRICE)) (sym part);
       bottom = omega arith;
@@ -311,9 +317,11 @@ top_is w s a b x up down h =
     ∙ ap (λ k. mantissa w * 10 ^ k) (h.up_is ∙ ap (min 19) (ap (shift_up x) (places_in w s b h.significand_is h.places_are)
     ∙ ap (λ (y : Word). shift_up y (length (places (significand w)))) h.exponent_is))
 
-pub cut_in : (w s a b x : Word) (up down : ℕ) (v : Value) → IsSplit w s a b x up down → 0 < down → Holds v (number_of (a ++ b)) (10 ^ down) → Holds v (top w) (bottom w)
+pub cut_in : (w s a b x : Word) (up down : ℕ) (v : Value) → IsSplit w s a b x up down → 0 < down → Holds v (number_of (a ++ b)) (10 ^ down)
+    → Holds v (top w) (bottom w)
 cut_in w s a b x up down v h some held =
-    let none : up ≡ 0 = no_up (length a + length b) up down (shift_up x (length b)) (shift_down x (length b)) (6 + (if has_minus x then 0 else number_of (without_sign x)))
+    let none : up ≡ 0 = no_up (length a + length b) up down (shift_up x (length b)) (shift_down x (length b))
+    (6 + (if has_minus x then 0 else number_of (without_sign x)))
     (length b + (if has_minus x then number_of (without_sign x) else 0)) refl refl h.up_is h.down_is some in
     let one : number_of (a ++ b) ≡ number_of (a ++ b) * 10 ^ up = sym (ap (λ k. number_of (a ++ b) * 10 ^ k) none ∙ once (number_of (a ++ b))) in
     held_of v (number_of (a ++ b)) (top w) (10 ^ down) (bottom w) (one ∙ top_is w s a b x up down h) (bottom_is w s a b x up down h) held

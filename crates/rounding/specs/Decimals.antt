@@ -60,8 +60,9 @@ abbrev pub lowered : Word → ℕ
 lowered w = length (places (significand w)) + (if has_minus (exponent w) then exponent_size w else 0)
 
 -- The same as a fraction, in which one of the two powers of ten is 1. They are cut if a greater one has the same
--- replacement, by the law `laws::cut_powers`: 10^19 millionths are above the greatest price, and a number of some digits is
--- less than half of the power that has one place more than it has digits. So a long exponent makes no large number.
+-- replacement, by the law `laws::cut_powers`: 10^19 millionths are above the greatest price, and a number of some
+-- digits is less than half of the power that has one place more than it has digits. So a long exponent makes no large
+-- number.
 abbrev pub top : Word → ℕ
 top w = mantissa w * 10 ^ min 19 (raised w - lowered w)
 

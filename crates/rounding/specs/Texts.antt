@@ -1,7 +1,8 @@
 -- A text with its prices rounded, line by line. Only the second words of bid lines may be other words.
 use Rattle.std.specs.Prelude.{ℕ, suc, nat_le, Bool, ◌&&◌, if◌then◌else◌, List, [], ◌∷◌, ◌++◌}
 use Rattle.std.specs.List.{flat_map}
-use Rattle.cats_text.specs.Lines.{Word, RawLine, is_blank, line_byte, blank_returns, raw_lines, line_words, is_significant}
+use Rattle.cats_text.specs.Lines.{Word, RawLine, is_blank, line_byte, blank_returns, raw_lines, line_words}
+use Rattle.cats_text.specs.Lines.{is_significant}
 use Rattle.rounding.specs.Replacements.{replacement, rounded_word}
 use Rattle.rounding.specs.declared.replacement.FinePrices.{FinePrices}
 use Rattle.rounding.specs.declared.replacement.Replacement.{Replacement}

@@ -101,7 +101,8 @@ impl RoundedText {
         number: u64,
         fine: FinePrices,
     ) -> Result<(), AllocError>
-        ensures text { OnOk result (self.new.text.items ≡ self.old.text.items ++ (if is_bid then with_rounded fine line.now else line.now)) }
+        ensures text { OnOk result (self.new.text.items ≡ self.old.text.items
+            ++ (if is_bid then with_rounded fine line.now else line.now)) }
         ensures prices { OnOk result (plain_changes self.new.prices.items ≡ plain_changes self.old.prices.items
             ++ (if is_bid then change_by number (second_word line.now) (replacement fine (second_word line.now)) else [])) }
     {

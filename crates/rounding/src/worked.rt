@@ -2,7 +2,8 @@
 
 ghost use Rattle.std.specs.Prelude.{◌≡◌, ◌^◌, List, [], ◌∷◌, ◌++◌, map, true, false, codes, Some, None};
 ghost use Rattle.cats_text.specs.Faults.{first_fault, fault_at};
-ghost use Rattle.cats_text.specs.declared.read_fault.Kind.TheVariants.{TooLarge as IsTooLarge, TooFine as IsTooFine, NotANumber};
+ghost use Rattle.cats_text.specs.declared.read_fault.Kind.TheVariants.{TooLarge as IsTooLarge, TooFine as IsTooFine};
+ghost use Rattle.cats_text.specs.declared.read_fault.Kind.TheVariants.{NotANumber};
 ghost use Rattle.rounding.specs.Decimals.{is_decimal, top, bottom};
 ghost use Rattle.rounding.specs.Nearest.{nearest};
 ghost use Rattle.rounding.specs.Replacements.{replacement, rounded_word};
@@ -30,8 +31,8 @@ pub fn values()
 
 /// Fractions and the nearest whole numbers.
 pub fn nearest_numbers()
-    ensures { nearest 4 10 ∷ nearest 5 10 ∷ nearest 6 10 ∷ nearest 15 10 ∷ nearest 25 10 ∷ nearest 251 100 ∷ nearest 7 1 ∷ [] ≡
-        0 ∷ 0 ∷ 1 ∷ 2 ∷ 2 ∷ 3 ∷ 7 ∷ [] }
+    ensures { nearest 4 10 ∷ nearest 5 10 ∷ nearest 6 10 ∷ nearest 15 10 ∷ nearest 25 10 ∷ nearest 251 100 ∷ nearest 7 1 ∷ []
+        ≡ 0 ∷ 0 ∷ 1 ∷ 2 ∷ 2 ∷ 3 ∷ 7 ∷ [] }
 {}
 
 /// What is written in the place of words, if fine prices are rounded.
@@ -57,7 +58,8 @@ pub fn refusals()
         ∷ codes "1e-7" ∷ codes "12e-999999999" ∷ []) ≡ TooFine ∷ TooFine ∷ TooFine ∷ TooFine ∷ TooFine ∷ TooFine ∷ [] }
     ensures large { map (replacement Refuse) (codes "1e13" ∷ codes "1e999999999" ∷ codes "1000000000000.0000001" ∷ []) ≡
         TooLarge ∷ TooLarge ∷ TooLarge ∷ [] }
-    ensures kept { map (replacement Refuse) (codes "1,5" ∷ codes "-1" ∷ codes "007.50" ∷ []) ≡ Itself ∷ Itself ∷ Itself ∷ [] }
+    ensures kept { map (replacement Refuse) (codes "1,5" ∷ codes "-1" ∷ codes "007.50" ∷ [])
+        ≡ Itself ∷ Itself ∷ Itself ∷ [] }
 {}
 
 /// The words that are written.
@@ -68,16 +70,21 @@ pub fn words()
 
 /// A text whose lines end with CR and LF, with a comment, tabs, and no LF at its end.
 pub fn texts()
-    ensures text { rounded_text Round (codes "goods 1e0\r\nbids 2\ndummy 0 1e1\n% 0 1e3\r\n\t1 \t1E-3\t0 1e2 #\r\n0 0.0123456\r") ≡
-        codes "goods 1e0\r\nbids 2\ndummy 0 1e1\n% 0 1e3\r\n\t1 \t0.001\t0 1e2 #\r\n0 0.012346\r" }
-    ensures prices { rounded_prices Round (codes "goods 1e0\r\nbids 2\ndummy 0 1e1\n% 0 1e3\r\n\t1 \t1E-3\t0 1e2 #\r\n0 0.0123456\r") ≡
-        record { line = 6; word = codes "0.0123456"; price = 12346 } ∷ [] }
+    ensures text { rounded_text Round
+        (codes "goods 1e0\r\nbids 2\ndummy 0 1e1\n% 0 1e3\r\n\t1 \t1E-3\t0 1e2 #\r\n0 0.0123456\r")
+        ≡ codes "goods 1e0\r\nbids 2\ndummy 0 1e1\n% 0 1e3\r\n\t1 \t0.001\t0 1e2 #\r\n0 0.012346\r" }
+    ensures prices { rounded_prices Round
+        (codes "goods 1e0\r\nbids 2\ndummy 0 1e1\n% 0 1e3\r\n\t1 \t1E-3\t0 1e2 #\r\n0 0.0123456\r")
+        ≡ record { line = 6; word = codes "0.0123456"; price = 12346 } ∷ [] }
 {}
 
 /// The first faults of texts with a price that is refused.
 pub fn faults()
-    ensures large { first_fault (rounded_text Round (codes "goods 1\nbids 1\ndummy 0\n0 1e13 0 #\n")) ≡ Some (fault_at 4 IsTooLarge) }
-    ensures fine { first_fault (rounded_text Refuse (codes "goods 1\nbids 1\ndummy 0\n0 1e-7 0 #\n")) ≡ Some (fault_at 4 IsTooFine) }
+    ensures large { first_fault (rounded_text Round (codes "goods 1\nbids 1\ndummy 0\n0 1e13 0 #\n"))
+        ≡ Some (fault_at 4 IsTooLarge) }
+    ensures fine { first_fault (rounded_text Refuse (codes "goods 1\nbids 1\ndummy 0\n0 1e-7 0 #\n"))
+        ≡ Some (fault_at 4 IsTooFine) }
     ensures none { first_fault (rounded_text Round (codes "goods 1\nbids 1\ndummy 0\n0 1e-7 0 #\n")) ≡ None }
-    ensures no_decimal { first_fault (rounded_text Round (codes "goods 1\nbids 1\ndummy 0\n0 1,5 0 #\n")) ≡ Some (fault_at 4 NotANumber) }
+    ensures no_decimal { first_fault (rounded_text Round (codes "goods 1\nbids 1\ndummy 0\n0 1,5 0 #\n"))
+        ≡ Some (fault_at 4 NotANumber) }
 {}

@@ -1,5 +1,5 @@
 -- The file of what the header lines said and the bids that were kept whole.
-use Rattle.std.proofs.Common.{◌≡◌, ◌<◌, ◌+◌, ℕ, true, List, length, Option, Some, None, Result, Ok, Err, MatchOption, refl, sym, subst, ap, inr, arith}
+use Rattle.std.proofs.Common.{◌≡◌, ◌<◌, ℕ, true, List, length, Option, Some, None, Result, Ok, Err, MatchOption, refl, sym, subst, ap, inr, arith}
 use Rattle.std.proofs.lemmas.List.{length-map}
 use Rattle.std.proofs.lemmas.Bool.{lt-ltb}
 use Rattle.cats_text.specs.Lines.{Line, significant_lines}
@@ -29,7 +29,8 @@ module _ {K : Type 0} (bids : K → List PlainBid) where
       → MatchOption failed (PartsAnswer whole bids bytes (Ok parts)) (λ (e : ReadFault). Ok parts ≡ Err e)
       → IsPlainFile (file_of parts) × MatchOption failed (PackedAnswer bytes (Ok (file_of parts))) (λ (e : ReadFault). Ok (file_of parts) ≡ Err e)
   by_failed None bytes parts says =
-      let same : file_of parts ≡ says.file = same_file parts.0.goods parts.0.dummy (bids parts.1) says.file says.sizes.goods says.sizes.dummy (says.bids_are refl) in
+      let same : file_of parts ≡ says.file = same_file parts.0.goods parts.0.dummy (bids parts.1) says.file says.sizes.goods says.sizes.dummy
+      (says.bids_are refl) in
       (subst IsPlainFile (sym same) says.spelled.facts, subst (Spells bytes) (sym same) says.spelled)
   by_failed (Some e) bytes parts q = absurd (not_err parts e q)
 
@@ -47,7 +48,8 @@ has_line bytes file spelled some =
     lt-ltb 3 (length (significant_lines bytes)) (omega (arith, lines, same, spelled.count, some))
 
 -- what is answered of it
-pub unpacked_reported : (bytes : List ℕ) (file : PlainFile) (answer : Result BidFile ReadFault) → Spells bytes file → Unpacks file answer → FinishAnswer bytes answer
+pub unpacked_reported : (bytes : List ℕ) (file : PlainFile) (answer : Result BidFile ReadFault) → Spells bytes file → Unpacks file answer
+    → FinishAnswer bytes answer
 unpacked_reported bytes file (Ok f) spelled is = subst (Spells bytes) (sym is) spelled
 unpacked_reported bytes file (Err e) spelled refused = inr (refused.0, has_line bytes file spelled refused.1)
 

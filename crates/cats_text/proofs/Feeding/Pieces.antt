@@ -88,7 +88,8 @@ pub fed-too_long : (limit : ℕ) (bytes : List ℕ) → limit < length bytes →
     → fed_fault limit bytes ≡ Some (fault_at 0 TooLong)
 fed-too_long limit bytes beyond h = fed-beyond limit bytes beyond ∙ ap (λ f. option_or f (Some (fault_at 0 TooLong))) h
 
-pub nothing_taken : {K : Type 0} (k : PlainBid → PlainBid) (limit : ℕ) (scanner : Scanner K) (bytes : List ℕ) → state k scanner ≡ first_state k → scanner.waiting ≡ false → bytes ≡ []
+pub nothing_taken : {K : Type 0} (k : PlainBid → PlainBid) (limit : ℕ) (scanner : Scanner K) (bytes : List ℕ) → state k scanner ≡ first_state k
+    → scanner.waiting ≡ false → bytes ≡ []
     → HasTaken k limit 0 scanner bytes
 nothing_taken k limit scanner bytes first waiting none = record {
   count = rw none refl;
@@ -100,7 +101,8 @@ nothing_taken k limit scanner bytes first waiting none = record {
 -- ---- the answers
 
 -- the scanner stopped in the bytes that are judged
-pub halted : {K : Type 0} (k : PlainBid → PlainBid) (limit taken : ℕ) (scanner : Scanner K) (bytes judged all : List ℕ) (new : State) (scan_error : ScanError) → HasTaken k limit taken scanner bytes
+pub halted : {K : Type 0} (k : PlainBid → PlainBid) (limit taken : ℕ) (scanner : Scanner K) (bytes judged all : List ℕ) (new : State) (scan_error : ScanError)
+    → HasTaken k limit taken scanner bytes
     → bytes ++ judged ≡ take limit all
     → Steps {A = Unit {0}} new (Err scan_error) (scan (state k scanner) (settled (carried scanner.waiting judged)))
     → NeedsMemory {A = Unit {0}} (state k scanner) (settled (carried scanner.waiting judged)) (Err scan_error)
@@ -133,7 +135,8 @@ took k limit before count old new bytes judged kept steps waiting sum within = r
 }
 
 -- the number of the line stays small
-pub few_lines : {K : Type 0} (k : PlainBid → PlainBid) (limit taken : ℕ) (scanner : Scanner K) (bytes : List ℕ) → HasTaken k limit taken scanner bytes → scanner.line ≤ suc taken
+pub few_lines : {K : Type 0} (k : PlainBid → PlainBid) (limit taken : ℕ) (scanner : Scanner K) (bytes : List ℕ) → HasTaken k limit taken scanner bytes
+    → scanner.line ≤ suc taken
 few_lines k limit taken scanner bytes kept =
     let lines = scan-line (first_state k) (settled bytes) in
     let line : (state k scanner).line ≤ 1 + length (settled bytes) = rw kept.runs at lines in
@@ -146,7 +149,8 @@ abbrev pub IsJudged : {K : Type 0} → (PlainBid → PlainBid) → ℕ → ℕ �
 IsJudged k limit count scanner all (Ok u) = (fed_fault limit all ≡ None) × HasTaken k limit count scanner all
 IsJudged k limit count scanner all (Err e) = (fed_fault limit all ≡ Some e) ⊎ WantsMemory (take limit all) e
 
-pub judged_halted : {K : Type 0} (k : PlainBid → PlainBid) (limit count taken : ℕ) (old new : Scanner K) (bytes judged all : List ℕ) (scan_error : ScanError) → HasTaken k limit taken old bytes
+pub judged_halted : {K : Type 0} (k : PlainBid → PlainBid) (limit count taken : ℕ) (old new : Scanner K) (bytes judged all : List ℕ) (scan_error : ScanError)
+    → HasTaken k limit taken old bytes
     → bytes ++ judged ≡ take limit all
     → Steps {A = Unit {0}} (state k new) (Err scan_error) (scan (state k old) (settled (carried old.waiting judged)))
     → NeedsMemory {A = Unit {0}} (state k old) (settled (carried old.waiting judged)) (Err scan_error)
@@ -154,14 +158,16 @@ pub judged_halted : {K : Type 0} (k : PlainBid → PlainBid) (limit count taken 
 judged_halted k limit count taken old new bytes judged all scan_error kept is steps needs =
     halted k limit taken old bytes judged all (state k new) scan_error kept is steps needs
 
-pub judged_too_long : {K : Type 0} (k : PlainBid → PlainBid) (limit count taken : ℕ) (old new : Scanner K) (bytes judged all : List ℕ) → HasTaken k limit taken old bytes
+pub judged_too_long : {K : Type 0} (k : PlainBid → PlainBid) (limit count taken : ℕ) (old new : Scanner K) (bytes judged all : List ℕ)
+    → HasTaken k limit taken old bytes
     → bytes ++ judged ≡ take limit all → limit < length all
     → scan (state k old) (settled (carried old.waiting judged)) ≡ Ok (state k new)
     → IsJudged k limit count new all (Err (fault_at 0 TooLong))
 judged_too_long k limit count taken old new bytes judged all kept is beyond steps =
     inl (fed-too_long limit all beyond (ap complete_fault (sym is) ∙ went_on k limit taken old new bytes judged kept steps))
 
-pub judged_ok : {K : Type 0} (k : PlainBid → PlainBid) (limit count before : ℕ) (old new : Scanner K) (bytes judged all : List ℕ) → HasTaken k limit before old bytes
+pub judged_ok : {K : Type 0} (k : PlainBid → PlainBid) (limit count before : ℕ) (old new : Scanner K) (bytes judged all : List ℕ)
+    → HasTaken k limit before old bytes
     → bytes ++ judged ≡ all → length all ≤ limit
     → scan (state k old) (settled (carried old.waiting judged)) ≡ Ok (state k new)
     → new.waiting ≡ waits (carried old.waiting judged) → count ≡ before + length judged → count ≤ limit
@@ -172,12 +178,14 @@ judged_ok k limit count before old new bytes judged all kept is within steps wai
     (fed-within limit all within ∙ none, now)
 
 -- the reader keeps what it has to
-pub still_reading : {K : Type 0} (k : PlainBid → PlainBid) (limit count : ℕ) (scanner : Scanner K) (all : List ℕ) (judged : Result (Unit {0}) ReadFault) → limit < 2 ^ 63
+pub still_reading : {K : Type 0} (k : PlainBid → PlainBid) (limit count : ℕ) (scanner : Scanner K) (all : List ℕ) (judged : Result (Unit {0}) ReadFault)
+    → limit < 2 ^ 63
     → IsJudged k limit count scanner all judged → IsReading k limit count scanner (result_err judged) all
 still_reading k limit count scanner all (Ok u) small reported = record { limit = small; taken = λ none. reported.1 }
 still_reading k limit count scanner all (Err e) small reported = record { limit = small; taken = λ none. cc }
 
-pub fed_reported : {K : Type 0} (k : PlainBid → PlainBid) (old : Fed) (piece : List ℕ) (count : ℕ) (scanner : Scanner K) (judged : Result (Unit {0}) ReadFault) → old.failed ≡ None
+pub fed_reported : {K : Type 0} (k : PlainBid → PlainBid) (old : Fed) (piece : List ℕ) (count : ℕ) (scanner : Scanner K) (judged : Result (Unit {0}) ReadFault)
+    → old.failed ≡ None
     → IsJudged k old.limit count scanner (old.bytes ++ piece) judged
     → FeedsAs old piece (record { limit = old.limit; bytes = old.bytes ++ piece; failed = result_err judged }) judged
 fed_reported k old piece count scanner (Ok u) none reported = rw none (record { limit = refl; bytes = refl; answer = (reported.0, refl) })
@@ -191,10 +199,12 @@ pub ended_parts : {K : Type 0} (bids : K → List PlainBid) (k : PlainBid → Pl
 ended_parts bids k limit taken scanner bytes parts kept are = at_end (end_of scanner.waiting (state k scanner)) refl are
   where
     at_end : (r : Scan) → end_of scanner.waiting (state k scanner) ≡ r → ArePartsOf bids parts r → SpellsParts k bytes parts.0 (bids parts.1)
-    at_end (Ok t) e same = rw (same.0, same.1) (ends_at_parts k bytes (state k scanner) t kept.runs (ap (λ w. end_of w (state k scanner)) (sym kept.waiting) ∙ e))
+    at_end (Ok t) e same = rw (same.0, same.1) (ends_at_parts k bytes (state k scanner) t kept.runs (ap (λ w. end_of w (state k scanner)) (sym kept.waiting)
+        ∙ e))
     at_end (Err fault) e same = absurd same
 
-pub ended_fault : {K : Type 0} {A : Type 0} (IsOf : A → Scan → Type 0) (k : PlainBid → PlainBid) (limit taken : ℕ) (scanner : Scanner K) (bytes : List ℕ) (scan_error : ScanError)
+pub ended_fault : {K : Type 0} {A : Type 0} (IsOf : A → Scan → Type 0) (k : PlainBid → PlainBid) (limit taken : ℕ) (scanner : Scanner K) (bytes : List ℕ)
+    (scan_error : ScanError)
     → HasTaken k limit taken scanner bytes
     → Finishes IsOf (Err scan_error) (end_of scanner.waiting (state k scanner)) → NeedsMemoryAtEnd {A = A} scanner.waiting (state k scanner) (Err scan_error)
     → (first_fault bytes ≡ Some (reported_fault scan_error)) ⊎ WantsMemory bytes (reported_fault scan_error)

@@ -54,7 +54,8 @@ none_due bids count = elim (leb bids count) as (λ b. leb bids count ≡ b → e
   | false ↦ λ (h : leb bids count ≡ false). let l : count < bids = leb-false bids count h in ne_eqb (bids - count) 0 (λ e. absurd (omega arith))
 ] refl
 
-number_follows : (g b d : List (List ℕ)) (lines : List (List (List ℕ))) (w : List ℕ) (v : ℕ) (p : Progress) → Summarises w (Number v) → IsAt (g ∷ b ∷ d ∷ lines) [] p
+number_follows : (g b d : List (List ℕ)) (lines : List (List (List ℕ))) (w : List ℕ) (v : ℕ) (p : Progress) → Summarises w (Number v)
+    → IsAt (g ∷ b ∷ d ∷ lines) [] p
     → WordFollows (g ∷ b ∷ d ∷ lines) [] w (number_read p (Number v))
 number_follows g b d lines w v p t at =
     let bids : p.header.bids ≡ header_value b = ap (λ (h : Header). h.bids) at.header in

@@ -1,6 +1,7 @@
 -- The places of the bids by number. The idea: the bids stay in the order in which they came, and a place is a number in
 -- that order, which one more bid behind the others does not change.
-use Rattle.std.proofs.Common.{◌≡◌, ℕ, zero, suc, ◌+◌, ◌-◌, ◌<◌, ◌≤◌, List, [], ◌∷◌, ◌++◌, length, replicate, set, take, get_or, subst, option_map, add-one, Option, Some, None, Result, Ok, Err, OnOk}
+use Rattle.std.proofs.Common.{◌≡◌, ℕ, zero, suc, ◌+◌, ◌-◌, ◌<◌, ◌≤◌, List, [], ◌∷◌, ◌++◌, length, replicate, set, take, get_or, subst, option_map, add-one}
+use Rattle.std.proofs.Common.{Option, Some, None, Result, Ok, Err, OnOk}
 use Rattle.std.proofs.Common.{true, false, nat_lt, inl, inr, ◌⊎◌, map, append-nil, refl, sym, ap, ap₂, ◌∙◌, arith, append_assoc, length-append}
 use Rattle.std.proofs.lemmas.List.{length-replicate, replicate-append-replicate, map-set, map-append, length-map, take_more, take_all}
 use Rattle.std.proofs.lemmas.Option.{slice_get-map, slice_get_past, slice_get-get_or, slice_get_cases}
@@ -192,7 +193,8 @@ pub none_numbered : (places : List ℕ) → length places ≡ 0 → places ≡ n
 none_numbered [] none = refl
 none_numbered (p ∷ places) none = absurd (let no : suc (length places) ≡ 0 = none in omega arith)
 
-pub next_numbered : (places next : List ℕ) (p : ℕ) → places ≡ numbered (length places) → p ≡ length places + 1 → next ≡ places ++ p ∷ [] → next ≡ numbered (length next)
+pub next_numbered : (places next : List ℕ) (p : ℕ) → places ≡ numbered (length places) → p ≡ length places + 1 → next ≡ places ++ p ∷ []
+    → next ≡ numbered (length next)
 next_numbered places next p e at is =
     let long : length next ≡ suc (length places) = ap length is ∙ length-append places (p ∷ []) ∙ add-one (length places) in
     is ∙ ap₂ (λ (ps : List ℕ) (k : ℕ). ps ++ k ∷ []) e (at ∙ add-one (length places)) ∙ ap numbered (sym long)
@@ -221,7 +223,8 @@ filled_all [] [] none = refl
 filled_all (b ∷ came) [] none = ap (λ bs. b ∷ bs) (filled_all came [] none)
 filled_all came (p ∷ places) none = absurd (let no : suc (length places) ≡ 0 = none in omega arith)
 
-filled_more : (came : List PlainBid) (places : List ℕ) (p : ℕ) → filled (placed came (places ++ p ∷ [])) ≡ filled (placed came places) ++ option_to_list (slot_at came p)
+filled_more : (came : List PlainBid) (places : List ℕ) (p : ℕ)
+    → filled (placed came (places ++ p ∷ [])) ≡ filled (placed came places) ++ option_to_list (slot_at came p)
 filled_more came places p =
     ap filled (map-append (slot_at came) places (p ∷ [])) ∙ filter_map-append (λ s. s) (placed came places) (slot_at came p ∷ [])
     ∙ ap (λ bs. filled (placed came places) ++ bs) (one (slot_at came p))
@@ -231,7 +234,8 @@ filled_more came places p =
     one (Some b) = refl
 
 -- no bid is at a place that is 0
-pub kept_none : (came kept : List PlainBid) (places : List ℕ) (p : ℕ) → kept ≡ filled (placed came places) → p ≡ 0 → kept ≡ filled (placed came (places ++ p ∷ []))
+pub kept_none : (came kept : List PlainBid) (places : List ℕ) (p : ℕ) → kept ≡ filled (placed came places) → p ≡ 0
+    → kept ≡ filled (placed came (places ++ p ∷ []))
 kept_none came kept places p e none =
     e ∙ sym (append-nil (filled (placed came places))) ∙ ap (λ (k : ℕ). filled (placed came places) ++ option_to_list (slot_at came k)) (sym none)
     ∙ sym (filled_more came places p)

@@ -41,7 +41,8 @@ bid_word_step g b d lines (n ∷ x ∷ gs) a w p at =
           (fault_named (g ∷ b ∷ d ∷ lines) (n ∷ x ∷ gs) (a ∷ w) _ _ _ refl e)
       | false ↦ λ (e : has_end gs ≡ false). subst (WordFollows (g ∷ b ∷ d ∷ lines) (n ∷ x ∷ gs) (a ∷ w))
           (sym (read_there Later Bid p (summary (a ∷ w)) (at.column ∙ ap ended_column e) at.stage))
-          (bid_later g b d lines n x gs (a ∷ w) (summary (a ∷ w)) p (tested a w (summary (a ∷ w)) (summarises a w)) (summarises a w) (record { at = at; on = e }))
+          (bid_later g b d lines n x gs (a ∷ w) (summary (a ∷ w)) p (tested a w (summary (a ∷ w)) (summarises a w)) (summarises a w)
+          (record { at = at; on = e }))
     ] refl
 
 pub word_step : (lines : List (List (List ℕ))) (words : List (List ℕ)) (a : ℕ) (w : List ℕ) (p : Progress) → IsAt lines words p

@@ -24,7 +24,7 @@ then_meets (Err fault) t xs ys h e = absurd (no e)
     no : err fault ≡ ok t → ⊥
     no q = cc
 
--- a bid line that is met behind the first bytes is met from their prefix
+-- a bid line that is met behind the first bytes is met from their start
 pub meets_behind : (s t : State) (xs ys : List ℕ) → scan s xs ≡ Ok t → MeetsBidLine t ys → MeetsBidLine s (xs ++ ys)
 meets_behind s t [] ys e m = let same : s ≡ t = cc in rw same m
 meets_behind s t (b ∷ xs) ys e m = inr (then_meets (byte_step s b) t xs ys (λ u e'. meets_behind u t xs ys e' m) e)

@@ -1,5 +1,6 @@
 -- The `#` and the LF that end a bid line.
-use Rattle.std.proofs.Common.{◌≡◌, ◌≢◌, ℕ, ◌+◌, ◌<◌, Bool, true, false, cond, eqb, List, length, get_or, refl, sym, ap, ap₂, subst, ◌∙◌, arith, Ok, Err, add-one}
+use Rattle.std.proofs.Common.{◌≡◌, ◌≢◌, ℕ, ◌+◌, ◌<◌, Bool, true, false, cond, eqb, List, length, get_or, refl, sym, ap, ap₂, subst, ◌∙◌, arith, Ok, Err}
+use Rattle.std.proofs.Common.{add-one}
 use Rattle.std.proofs.lemmas.Bool.{eqb-true}
 use Rattle.cats_text.specs.Internal.LeadingToken.{IsLeadingToken}
 use Rattle.cats_text.specs.Internal.Parsing.{word_read, line_read, end_read, bid_closed, with_bid}
@@ -53,18 +54,21 @@ end_line p stage = let is : p ≡ record p { stage = Bid } = ap (λ (s : Stage).
     ap (λ (q : Progress). line_read (ended q)) is ∙ sym (ap (λ (q : Progress). Ok (with_bid q)) is)
 
 -- of a bid with a good the `#` is read, and the bid is put
-put_by : (p q : Progress) (t : Bool) → cond t (Err EmptyBundle) (Ok (with_bid p)) ≡ Ok q → (cond t (Err EmptyBundle) (Ok (ended p)) ≡ Ok (ended p)) × (with_bid p ≡ q)
+put_by : (p q : Progress) (t : Bool) → cond t (Err EmptyBundle) (Ok (with_bid p)) ≡ Ok q
+    → (cond t (Err EmptyBundle) (Ok (ended p)) ≡ Ok (ended p)) × (with_bid p ≡ q)
 put_by p q true h = cc
 put_by p q false h = (refl, cc)
 
 -- of one without a good it is not read
-stopped_by : (p : Progress) (kind : Kind) (t : Bool) → cond t (Err EmptyBundle) (Ok (with_bid p)) ≡ Err kind → cond t (Err EmptyBundle) (Ok (ended p)) ≡ Err kind
+stopped_by : (p : Progress) (kind : Kind) (t : Bool) → cond t (Err EmptyBundle) (Ok (with_bid p)) ≡ Err kind
+    → cond t (Err EmptyBundle) (Ok (ended p)) ≡ Err kind
 stopped_by p kind true h = h
 stopped_by p kind false h = cc
 
 -- ---- the scanner
 
-pub end_passed : (s : State) (p : Progress) (v w : Bool) (bytes : List ℕ) → IsGoodDue s → IsLeadingToken bytes End 1 → bid_closed s.progress ≡ Ok p → v ≡ false → w ≡ v
+pub end_passed : (s : State) (p : Progress) (v w : Bool) (bytes : List ℕ) → IsGoodDue s → IsLeadingToken bytes End 1 → bid_closed s.progress ≡ Ok p → v ≡ false
+    → w ≡ v
     → ScansTo s (record { mode = Start; line = s.line + 1; progress = p }) w bytes (Ok 2)
 end_passed s p v w bytes due token closed e same =
     let before : is_before_word s.mode ≡ true = ap is_before_word due.mode in

@@ -381,10 +381,12 @@ continues_line_read c bs n p (Err kind) k l = tt
 
 continues_word_line : (c : ℕ) (bs : List ℕ) (n : ℕ) (w : Kept) (p : Progress) (r : Reading) → Keeps p r → suc (rank p.stage) ≤ c
     → Continues c (begins_after false bs) bs (and_then (and_then (with_reading (standing (Inside w) n p) Between r) words_step) next_line)
-continues_word_line c bs n w p (Ok q) k l = continues_line_read c bs n q (line_read q) (ranked_line q) (subst (λ (x : Stage). suc (rank x) ≤ c) (sym (k.same q refl)) l)
+continues_word_line c bs n w p (Ok q) k l = continues_line_read c bs n q (line_read q) (ranked_line q)
+    (subst (λ (x : Stage). suc (rank x) ≤ c) (sym (k.same q refl)) l)
 continues_word_line c bs n w p (Err kind) k l = tt
 
-continues_line : (c : ℕ) (bs : List ℕ) (m : Mode) (n : ℕ) (p : Progress) → Begun m p.stage c → Continues c (begins_after false bs) bs (line_step (standing m n p))
+continues_line : (c : ℕ) (bs : List ℕ) (m : Mode) (n : ℕ) (p : Progress) → Begun m p.stage c
+    → Continues c (begins_after false bs) bs (line_step (standing m n p))
 continues_line c bs Start n p l = record { count = c; begun = l; fewer = omega arith }
 continues_line c bs Blank n p l = record { count = c; begun = l; fewer = omega arith }
 continues_line c bs Comment n p l = record { count = c; begun = l; fewer = omega arith }
@@ -407,7 +409,8 @@ continues_letter c b bs Comment n p l = record { count = c; begun = l; fewer = o
 continues_letter c b bs Between n p l = record { count = c; begun = l; fewer = omega arith }
 continues_letter c b bs (Inside w) n p l = record { count = c; begun = l; fewer = omega arith }
 
-continues_byte : (c b : ℕ) (bs : List ℕ) (s : State) → Begun s.mode s.progress.stage c → Continues c (begins_after (decided_in s.mode) (b ∷ bs)) bs (byte_step s b)
+continues_byte : (c b : ℕ) (bs : List ℕ) (s : State) → Begun s.mode s.progress.stage c
+    → Continues c (begins_after (decided_in s.mode) (b ∷ bs)) bs (byte_step s b)
 continues_byte c b bs s l = subst (λ k. Continues c k bs (byte_step s b)) (sym (begins-cons (decided_in s.mode) b bs))
     (elim (eqb b 10) as (λ t. Continues c
     (cond t (begins_after false bs)
@@ -449,7 +452,8 @@ four_begin (b ∷ bs) s c l m = ⊎_elim
     step (Err e) g n again = absurd n
 
 -- a bid line met in the bytes that are decided is in the text
-pub bid_line_met : (k : PlainBid → PlainBid) (text token back : List ℕ) → blank_returns text ≡ token ++ back → MeetsBidLine (first_state k) token → has_bid_line text ≡ true
+pub bid_line_met : (k : PlainBid → PlainBid) (text token back : List ℕ) → blank_returns text ≡ token ++ back → MeetsBidLine (first_state k) token
+    → has_bid_line text ≡ true
 bid_line_met k text token back e m =
     let four : 4 ≤ 0 + begins_after false token = four_begin token (first_state k) 0 (omega arith) m in
     let more : begins_after false token ≤ begins_after false (token ++ back) = begins_more false token back in

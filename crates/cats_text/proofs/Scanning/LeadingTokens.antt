@@ -95,7 +95,8 @@ token_before_blank bytes w count kept within blank = record {
   is = sym (ap (λ t. count + cond t 0 1) (blank_no_feed (get_or bytes count 0) blank));
 }
 
-pub token_before_feed : (bytes : List ℕ) (w : Word) (count : ℕ) → IsKept bytes w count → count < length bytes → get_or bytes count 0 ≡ 10 → IsLeadingToken bytes w count
+pub token_before_feed : (bytes : List ℕ) (w : Word) (count : ℕ) → IsKept bytes w count → count < length bytes → get_or bytes count 0 ≡ 10
+    → IsLeadingToken bytes w count
 token_before_feed bytes w count kept within feed = let is : eqb (get_or bytes count 0) 10 ≡ true = eq-eqb (get_or bytes count 0) 10 feed in record {
   count = count;
   kept = kept;

@@ -119,7 +119,8 @@ settled_split (b ∷ prefix) back h = let later = settled_split prefix back h.1 
     )
 
 comment_scan : (n : ℕ) (p : Progress) (prefix back : List ℕ) → AllByRecursion IsNoEnd prefix
-    → (scan (standing Comment n p) (settled back) ≡ scan (standing Comment n p) (settled (prefix ++ back))) × (MeetsBidLine (standing Comment n p) (settled back)
+    → (scan (standing Comment n p) (settled back) ≡ scan (standing Comment n p) (settled (prefix ++ back)))
+    × (MeetsBidLine (standing Comment n p) (settled back)
     → MeetsBidLine (standing Comment n p) (settled (prefix ++ back)))
 comment_scan n p prefix back h = let split = settled_split prefix back h in
     let quiet : scan (standing Comment n p) split.0 ≡ Ok (standing Comment n p) = in_comment n p split.0 split.2 in (
@@ -168,7 +169,8 @@ pub comment_scanned : (s : State) (rest : List ℕ) (count : ℕ) (w : Bool) →
 comment_scanned s rest count w mode some feed e =
     let is : s ≡ standing Comment s.line s.progress = ap (λ (m : Mode). standing m s.line s.progress) mode in
     let parts : take count rest ++ drop count rest ≡ rest = take-append-drop count rest in
-    let prefix : AllByRecursion IsNoEnd (take count rest) = subst (λ k. AllByRecursion IsNoEnd (take k rest)) (sym (feed ∙ feed_at rest)) (no_feed_prefix rest) in
+    let prefix : AllByRecursion IsNoEnd (take count rest) =
+    subst (λ k. AllByRecursion IsNoEnd (take k rest)) (sym (feed ∙ feed_at rest)) (no_feed_prefix rest) in
     let both = comment_scan s.line s.progress (take count rest) (drop count rest) prefix in
     let left : length (drop count rest) ≡ length rest - count = length-drop count rest in
     let within : count ≤ length rest = comment_within rest count feed in

@@ -93,7 +93,8 @@ settled_end bytes count within ends = ap settled (at_place bytes count within)
     ∙ settled-other (get_or bytes count 0) (drop (count + 1) bytes) (ends_no_return (get_or bytes count 0) ends)
 
 -- the word is read before the byte that ends it
-read_scanned : (s : State) (p : Progress) (bytes : List ℕ) (w : Word) (taken : ℕ) (v : Bool) → is_before_word s.mode ≡ true → (token : IsLeadingToken bytes w taken)
+read_scanned : (s : State) (p : Progress) (bytes : List ℕ) (w : Word) (taken : ℕ) (v : Bool) → is_before_word s.mode ≡ true
+    → (token : IsLeadingToken bytes w taken)
     → word_read s.progress w ≡ Ok p
     → p.stage ≡ s.progress.stage → v ≡ false → IsScanned s (behind_word s p) v bytes (drop token.count bytes)
 read_scanned s p bytes w taken v before token read stage e =
@@ -144,14 +145,17 @@ token_taken s p v bytes count taken within ends is so_far = elim (eqb (get_or by
     ] refl
 
 -- the word at the start is read
-pub word_taken : (s : State) (p : Progress) (v : Bool) (bytes : List ℕ) (word : Word) (taken : ℕ) → is_before_word s.mode ≡ true → IsLeadingToken bytes word taken
+pub word_taken : (s : State) (p : Progress) (v : Bool) (bytes : List ℕ) (word : Word) (taken : ℕ) → is_before_word s.mode ≡ true
+    → IsLeadingToken bytes word taken
     → word_read s.progress word ≡ Ok p → p.stage ≡ s.progress.stage → v ≡ false → ScansTo s (behind_word s p) v bytes (Ok taken)
 word_taken s p v bytes word taken before token read stage e =
     token_taken s p v bytes token.count taken token.within token.ends token.is (read_scanned s p bytes word taken v before token read stage e)
 
 -- or stops the parser
-pub word_halts : (s t : State) (u : Progress) (v : Bool) (bytes : List ℕ) (word : Word) (taken : ℕ) (stop : ParseError) (scan_error : ScanError) → is_before_word s.mode ≡ true
-    → IsLeadingToken bytes word taken → Gives {A = Unit {0}} u (Err stop) (word_read s.progress word) → NeedsMemoryOnBidLines {A = Unit {0}} s.progress (Err stop)
+pub word_halts : (s t : State) (u : Progress) (v : Bool) (bytes : List ℕ) (word : Word) (taken : ℕ) (stop : ParseError) (scan_error : ScanError)
+    → is_before_word s.mode ≡ true
+    → IsLeadingToken bytes word taken → Gives {A = Unit {0}} u (Err stop) (word_read s.progress word)
+    → NeedsMemoryOnBidLines {A = Unit {0}} s.progress (Err stop)
     → scan_error ≡ scan_error_of s.line stop → ScansTo s t v bytes (Err scan_error)
 word_halts s t u v bytes word taken (Fault kind) scan_error before token read needs e =
     subst (λ (h : ScanError). ScansTo s t v bytes (Err h)) (sym e) (token_faults s bytes word taken kind before token read)
@@ -193,7 +197,8 @@ rest_stops_to s0 s t u w v x bytes place halts.Memory so_far stop = so_far.needs
 -- behind that call a byte stopped
 pub byte_stops : (s0 s t u : State) (w v : Bool) (bytes : List ℕ) (place count : ℕ) (scan_error : ScanError) → place < length bytes
     → IsScanned s0 s w bytes (drop place bytes) → ScansTo s t v (take (length bytes - place) (drop place bytes)) (Ok count)
-    → place + count < length bytes → get_or bytes (place + count) 0 ≢ 13 → Steps {A = Unit {0}} u (Err scan_error) (byte_step t (get_or bytes (place + count) 0))
+    → place + count < length bytes → get_or bytes (place + count) 0 ≢ 13
+    → Steps {A = Unit {0}} u (Err scan_error) (byte_step t (get_or bytes (place + count) 0))
     → NeedsMemoryHere {A = Unit {0}} t (Err scan_error)
     → Steps {A = Unit {0}} u (Err scan_error) (scan s0 (settled bytes)) × NeedsMemory {A = Unit {0}} s0 (settled bytes) (Err scan_error)
 byte_stops s0 s t u w v bytes place count scan_error l so_far next here ne steps needs =
@@ -203,7 +208,8 @@ byte_stops s0 s t u w v bytes place count scan_error l so_far next here ne steps
     ∙ settled-other b (drop (place + count + 1) bytes) ne in
     at_byte s0 t u v bytes (drop (place + count) bytes) b (settled (drop (place + count + 1) bytes)) scan_error both.0 split steps needs
   where
-    at_byte : (s0 t u : State) (v : Bool) (bytes rest : List ℕ) (b : ℕ) (later : List ℕ) (scan_error : ScanError) → IsScanned s0 t v bytes rest → settled rest ≡ b ∷ later
+    at_byte : (s0 t u : State) (v : Bool) (bytes rest : List ℕ) (b : ℕ) (later : List ℕ) (scan_error : ScanError) → IsScanned s0 t v bytes rest
+        → settled rest ≡ b ∷ later
         → Steps {A = Unit {0}} u (Err scan_error) (byte_step t b) → NeedsMemoryHere {A = Unit {0}} t (Err scan_error)
         → Steps {A = Unit {0}} u (Err scan_error) (scan s0 (settled bytes)) × NeedsMemory {A = Unit {0}} s0 (settled bytes) (Err scan_error)
     at_byte s0 t u v bytes rest b later (halts.Fault e) so_far split steps needs =
@@ -211,6 +217,7 @@ byte_stops s0 s t u w v bytes place count scan_error l so_far next here ne steps
     at_byte s0 t u v bytes rest b later halts.Memory so_far split steps needs = (tt, so_far.needs (subst (MeetsBidLine t) (sym split) (inl needs)))
 
 -- what a `?` answers
-pub residual_is : {A : Type 0} (r : Result A ScanError) (scan_error : ScanError) (P : Result A ScanError → Type 0) → IsErr r → IsErrAnd r (λ h. h ≡ scan_error) → P (Err scan_error) → P r
+pub residual_is : {A : Type 0} (r : Result A ScanError) (scan_error : ScanError) (P : Result A ScanError → Type 0) → IsErr r → IsErrAnd r (λ h. h ≡ scan_error)
+    → P (Err scan_error) → P r
 residual_is (Ok x) scan_error P err is p = cc
 residual_is (Err h) scan_error P err is p = subst (λ (k : ScanError). P (Err k)) (sym is) p

@@ -138,7 +138,8 @@ within : (G : ℕ) (xs : BidsByNumber) (lines : List (List Word)) (m : ℕ) → 
 within G xs [] m l a = l
 within G xs (w ∷ ws) m l a = within G (put_slot xs (line_number w) (bid_of G w)) ws m (length_put xs (line_number w) (bid_of G w) m l a.0) a.1
 
-all_from : (G : ℕ) (P : PlainBid → Type 0) (xs : BidsByNumber) (lines : List (List Word)) → AllByRecursion P (filled xs) → AllByRecursion (λ l. P (bid_of G l)) lines
+all_from : (G : ℕ) (P : PlainBid → Type 0) (xs : BidsByNumber) (lines : List (List Word)) → AllByRecursion P (filled xs)
+    → AllByRecursion (λ l. P (bid_of G l)) lines
     → AllByRecursion P (filled (slots_from G xs lines))
 all_from G P xs [] a b = a
 all_from G P xs (l ∷ ls) a b = all_from G P (put_slot xs (line_number l) (bid_of G l)) ls (all_put P xs (line_number l) (bid_of G l) a b.0) b.1
@@ -203,7 +204,8 @@ put_agrees bids xs n b s h k c e = ⊎_elim
     ap (slice_get bids) q ∙ s ∙ sym there ∙ e)
     (λ (ne : k ≡ n → ⊥). h k c (sym (put_other xs n b k ne) ∙ e)) (cases_eq k n)
 
-agrees : (G : ℕ) (bids : List PlainBid) (xs : BidsByNumber) (lines : List (List Word)) → AllByRecursion (λ l. slice_get bids (line_number l) ≡ Some (bid_of G l)) lines
+agrees : (G : ℕ) (bids : List PlainBid) (xs : BidsByNumber) (lines : List (List Word))
+    → AllByRecursion (λ l. slice_get bids (line_number l) ≡ Some (bid_of G l)) lines
     → ((k : ℕ) (c : PlainBid) → get_or xs k None ≡ Some c → slice_get bids k ≡ Some c) → (k : ℕ) (c : PlainBid) → get_or (slots_from G xs lines) k None ≡ Some c
     → slice_get bids k ≡ Some c
 agrees G bids xs [] a h = h

@@ -1,5 +1,6 @@
 -- The marks of the goods that have come.
-use Rattle.std.proofs.Common.{◌≡◌, ◌≢◌, ℕ, ◌+◌, ◌<◌, ◌≤◌, Bool, true, false, eqb, List, [], ◌∷◌, ◌++◌, length, get_or, set, refl, sym, ap, ◌∙◌, subst, arith, ◌||◌}
+use Rattle.std.proofs.Common.{◌≡◌, ◌≢◌, ℕ, ◌+◌, ◌<◌, ◌≤◌, Bool, true, false, eqb, List, [], ◌∷◌, ◌++◌, length, get_or, set, refl, sym, ap, ◌∙◌, subst, arith}
+use Rattle.std.proofs.Common.{◌||◌}
 use Rattle.std.proofs.Common.{get_or-set_same, get_or-set_other}
 use Rattle.std.proofs.lemmas.Bool.{eqb-true, eq-eqb, eqb-false, both_ways, or_left, or_right}
 use Rattle.std.proofs.lemmas.List.Sorted.{list_any-IsPermutation}
@@ -85,7 +86,8 @@ IsMarked-sorted goods sorted marks m old moved rises = record {
 }
 
 -- one more good from the least on that is above those that rise
-behind_all : (goods : List ℕ) (g k least : ℕ) → ((j : ℕ) → has_number goods j ≡ true → j < least) → least ≤ g → has_number (goods ++ g ∷ []) k ≡ true → k < g + 1
+behind_all : (goods : List ℕ) (g k least : ℕ) → ((j : ℕ) → has_number goods j ≡ true → j < least) → least ≤ g → has_number (goods ++ g ∷ []) k ≡ true
+    → k < g + 1
 behind_all goods g k least below le h = elim (has_number goods k) as (λ b. has_number goods k ≡ b → (b || eqb g k) ≡ true → k < g + 1) [
   | true ↦ λ (e : has_number goods k ≡ true) (q : true ≡ true). let low : k < least = below k e in omega arith
   | false ↦ λ (e : has_number goods k ≡ false) (q : eqb g k ≡ true). let same : g ≡ k = eqb-true g k q in omega arith

@@ -293,7 +293,7 @@ push_goods G D ns v p m = record {
       (has_append ns (v ∷ []) x h);
 }
 
--- a number does not be before its place
+-- a number of a list without repeats is not before its place
 pub new_at : (before : List ℕ) (v : ℕ) (rest : List ℕ) → AreDistinct (before ++ v ∷ rest) → has_number before v ≡ false
 new_at [] v rest d = refl
 new_at (x ∷ xs) v rest d = or_false (eqb x v) (has_number xs v)

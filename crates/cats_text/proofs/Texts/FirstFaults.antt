@@ -105,7 +105,7 @@ kept_are n (l ∷ ls) = elim (is_significant (line_words l.bytes)) as (λ t. is_
       | false ↦ λ (e : is_significant (line_words l.bytes) ≡ false). kept_are (suc n) ls
     ] refl
 
--- a line in prefix that has its LF, or is the last
+-- a line before others, which has its LF or is the last
 ends_prefix : (l : Line) (ls : List Line) → (0 < length ls → l.ended ≡ true) → AreEndedButLast ls → AreEndedButLast (l ∷ ls)
 ends_prefix l [] h e = tt
 ends_prefix l (m ∷ ls) h e = (h (omega arith), e)

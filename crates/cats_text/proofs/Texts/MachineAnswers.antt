@@ -32,7 +32,8 @@ abbrev err : ReadFault → Scan
 err e = Err e
 
 -- a fault that stops the machine is complete in the bytes
-pub stops_at_complete_fault : (k : PlainBid → PlainBid) (bytes : List ℕ) (e : ReadFault) → scan (first_state k) (settled bytes) ≡ err e → complete_fault bytes ≡ Some e
+pub stops_at_complete_fault : (k : PlainBid → PlainBid) (bytes : List ℕ) (e : ReadFault) → scan (first_state k) (settled bytes) ≡ err e
+    → complete_fault bytes ≡ Some e
 stops_at_complete_fault k bytes e h = subst (λ (r : Scan). CompleteIs bytes (outcome r)) h (complete_is k bytes)
 
 -- where the machine goes on, no fault is complete

@@ -155,7 +155,8 @@ summarises_first a = elim (is_digit a) as (λ t. is_digit a ≡ t
     (cond (eqb a 35) End (cond (eqb a 103) (Keyword Goods 1) (cond (eqb a 98) (Keyword Bids 1) (cond (eqb a 100) (Keyword Dummy 1) Other)))))) [
       | true ↦ λ (e : is_digit a ≡ true). (rw e refl, inl (omega arith))
       | false ↦ λ (digit : is_digit a ≡ false). elim (eqb a 35) as (λ t. eqb a 35 ≡ t
-          → Summarises (a ∷ []) (cond t End (cond (eqb a 103) (Keyword Goods 1) (cond (eqb a 98) (Keyword Bids 1) (cond (eqb a 100) (Keyword Dummy 1) Other))))) [
+          → Summarises (a ∷ []) (cond t End (cond (eqb a 103) (Keyword Goods 1)
+          (cond (eqb a 98) (Keyword Bids 1) (cond (eqb a 100) (Keyword Dummy 1) Other))))) [
             | true ↦ λ (e : eqb a 35 ≡ true). ap (λ n. n ∷ []) (eqb-true a 35 e)
             | false ↦ λ (hash : eqb a 35 ≡ false). elim (eqb a 103) as (λ t. eqb a 103 ≡ t
                 → Summarises (a ∷ []) (cond t (Keyword Goods 1) (cond (eqb a 98) (Keyword Bids 1) (cond (eqb a 100) (Keyword Dummy 1) Other)))) [
@@ -296,17 +297,18 @@ fraction_late w d b f digit late =
     }
 
 summarises_fraction : (a : ℕ) (w : List ℕ) (b : ℕ) (d : Decimal) → Summarises (a ∷ w) (Fraction d) → Summarises ((a ∷ w) ++ b ∷ []) (word_with (Fraction d) b)
-summarises_fraction a w b d f = elim (is_digit b) as (λ t. is_digit b ≡ t → Summarises ((a ∷ w) ++ b ∷ []) (cond t (Fraction (decimal_with d (b - 48))) Other)) [
-  | true ↦ λ (digit : is_digit b ≡ true). elim (ltb d.decimals 6) as (λ t. ltb d.decimals 6 ≡ t
-      → IsFraction ((a ∷ w) ++ b ∷ [])
-      (cond t (record d { millionths = min (d.millionths + (b - 48) * place_value_of d.decimals) (2 ^ 64 - 1); decimals = d.decimals + 1 })
-      (record d { fine = d.fine || not (eqb (b - 48) 0) }))) [
-        | true ↦ λ (e : ltb d.decimals 6 ≡ true). fraction_early (a ∷ w) d b f digit (ltb-true d.decimals 6 e)
-        | false ↦ λ (e : ltb d.decimals 6 ≡ false). fraction_late (a ∷ w) d b f digit (ltb-false d.decimals 6 e)
-      ] refl
-  | false ↦ λ (digit : is_digit b ≡ false). λ t. other f.whole f.behind t f.number digit
-      (append_assoc (a ∷ w) (b ∷ []) t ∙ ap (λ ds. ds ++ b ∷ t) f.is ∙ append_assoc f.whole (46 ∷ f.behind) (b ∷ t))
-] refl
+summarises_fraction a w b d f = elim (is_digit b) as (λ t. is_digit b ≡ t
+    → Summarises ((a ∷ w) ++ b ∷ []) (cond t (Fraction (decimal_with d (b - 48))) Other)) [
+      | true ↦ λ (digit : is_digit b ≡ true). elim (ltb d.decimals 6) as (λ t. ltb d.decimals 6 ≡ t
+          → IsFraction ((a ∷ w) ++ b ∷ [])
+          (cond t (record d { millionths = min (d.millionths + (b - 48) * place_value_of d.decimals) (2 ^ 64 - 1); decimals = d.decimals + 1 })
+          (record d { fine = d.fine || not (eqb (b - 48) 0) }))) [
+            | true ↦ λ (e : ltb d.decimals 6 ≡ true). fraction_early (a ∷ w) d b f digit (ltb-true d.decimals 6 e)
+            | false ↦ λ (e : ltb d.decimals 6 ≡ false). fraction_late (a ∷ w) d b f digit (ltb-false d.decimals 6 e)
+          ] refl
+      | false ↦ λ (digit : is_digit b ≡ false). λ t. other f.whole f.behind t f.number digit
+          (append_assoc (a ∷ w) (b ∷ []) t ∙ ap (λ ds. ds ++ b ∷ t) f.is ∙ append_assoc f.whole (46 ∷ f.behind) (b ∷ t))
+    ] refl
   where
     other : (whole behind t : List ℕ) → is_number whole ≡ true → is_digit b ≡ false → ((a ∷ w) ++ b ∷ []) ++ t ≡ whole ++ 46 ∷ (behind ++ b ∷ t)
         → IsOther (((a ∷ w) ++ b ∷ []) ++ t)

@@ -6,7 +6,8 @@ use Rattle.bid_file.specs.Files.{PlainBid}
 use Rattle.cats_text.specs.Layout.{bid_text, bids_text}
 
 -- all are written
-pub bids_text_all : (goods : ℕ) (bids : List PlainBid) (i : ℕ) (out text : List ℕ) → length bids ≤ i → out ++ bids_text goods i (drop i bids) ≡ text → out ≡ text
+pub bids_text_all : (goods : ℕ) (bids : List PlainBid) (i : ℕ) (out text : List ℕ) → length bids ≤ i → out ++ bids_text goods i (drop i bids) ≡ text
+    → out ≡ text
 bids_text_all goods bids i out text all written =
     sym (append-nil out) ∙ ap (λ bs. out ++ bids_text goods i bs) (sym (drop_all i bids all)) ∙ written
 

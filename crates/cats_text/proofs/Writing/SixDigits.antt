@@ -1,5 +1,6 @@
 -- The six digits behind the point: what they spell, and that taking away the zeros at their end loses nothing.
-use Rattle.std.proofs.Common.{◌≡◌, ℕ, zero, suc, ◌+◌, nat_le, List, map, ◌<◌, ◌≤◌, true, eqb, [], ◌∷◌, ◌++◌, length, take, drop, replicate, decimal, refl, sym, ap}
+use Rattle.std.proofs.Common.{◌≡◌, ℕ, zero, suc, ◌+◌, nat_le, List, map, ◌<◌, ◌≤◌, true, eqb, [], ◌∷◌, ◌++◌, length, take, drop, replicate, decimal, refl, sym}
+use Rattle.std.proofs.Common.{ap}
 use Rattle.std.proofs.Common.{subst, ◌∙◌, inl, inr, arith}
 use Rattle.std.specs.Fmt.{digits}
 use Rattle.std.proofs.lemmas.Bool.{le-leb, and_parts, and_from, cases_eq, cond-false, cond_both, ne_eqb}

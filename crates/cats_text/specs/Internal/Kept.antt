@@ -1,5 +1,6 @@
--- What is kept of the bids so far. It is the same wherever it lies in memory.
-use Rattle.std.specs.Prelude.{◌≡◌, ℕ, zero, suc, ◌+◌, ◌-◌, ◌≤◌, List, [], ◌∷◌, ◌++◌, length, replicate, map, slice_get, Bool, true, false, Option, Some, None}
+-- What is kept of the bids so far. It does not depend on where it is in memory.
+use Rattle.std.specs.Prelude.{◌≡◌, ℕ, zero, suc, ◌+◌, ◌-◌, ◌≤◌, List, [], ◌∷◌, ◌++◌, length, replicate, map, slice_get}
+use Rattle.std.specs.Prelude.{Bool, true, false, Option, Some, None}
 use Rattle.std.specs.List.{AllByRecursion}
 use Rattle.bid_file.specs.Files.{PlainBid}
 use Rattle.cats_text.specs.declared.parser.Draft.{Draft}
@@ -32,7 +33,7 @@ placed came places = map (slot_at came) places
 abbrev pub AreWithin : ℕ → List ℕ → Type 0
 AreWithin n places = AllByRecursion (λ p. p ≤ n) places
 
--- the places that were there, and zeros behind them, as many as a number needs for at most
+-- the places that were there, and zeros behind them: at most as many as the number n needs
 pub record IsPadded (old padded : List ℕ) (n : ℕ) : Type 0 where
   pub count : ℕ
   pub is : padded ≡ old ++ replicate count 0

@@ -1,4 +1,4 @@
--- What the parser keeps of the lines so far. It is the same wherever it lies in memory.
+-- What the parser keeps of the lines so far. It does not depend on where it is in memory.
 use Rattle.std.specs.Prelude.{◌≡◌, ℕ, List, Option, Result, Ok, Err}
 use Rattle.bid_file.specs.Files.{PlainBid}
 use Rattle.cats_text.specs.declared.read_fault.Kind.{Kind}
@@ -41,13 +41,13 @@ Gives new (Ok x) read = read ≡ Ok new
 Gives new (Err (Fault kind)) read = read ≡ Err kind
 Gives new (Err Memory) read = Unit {0}
 
--- memory is asked for on bid lines alone
+-- memory is requested on bid lines alone
 abbrev pub NeedsMemoryOnBidLines : {A : Type 0} → Progress → Result A ParseError → Type 0
 NeedsMemoryOnBidLines old (Ok x) = Unit {0}
 NeedsMemoryOnBidLines old (Err (Fault kind)) = Unit {0}
 NeedsMemoryOnBidLines old (Err Memory) = old.stage ≡ Bid
 
--- the same of a call that needs for no memory
+-- the same of a call that requests no memory
 abbrev pub Answers : {A : Type 0} → Result A ParseError → Result A Kind → Type 0
 Answers (Ok x) read = read ≡ Ok x
 Answers (Err (Fault kind)) read = read ≡ Err kind

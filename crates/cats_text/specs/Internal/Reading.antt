@@ -24,7 +24,8 @@ reported_fault (Fault e) = e
 reported_fault Memory = fault_at 0 NoMemory
 
 -- the scanner, which keeps this of each bid, has taken these bytes
-pub record HasTaken {K : Type 0} (keep : PlainBid → PlainBid) (limit taken : ℕ) (scanner : Scanner K) (bytes : List ℕ) : Type 0 where
+pub record HasTaken {K : Type 0} (keep : PlainBid → PlainBid) (limit taken : ℕ) (scanner : Scanner K)
+    (bytes : List ℕ) : Type 0 where
   pub count : taken ≡ length bytes
   pub within : taken ≤ limit
   pub runs : scan (first_state keep) (settled bytes) ≡ Ok (state keep scanner)
@@ -44,7 +45,8 @@ abbrev pub PackedAs : Fed → Result PlainFile ReadFault → Type 0
 PackedAs fed r = MatchOption fed.failed (PackedAnswer fed.bytes r) (λ e. r ≡ Err e)
 
 -- the bytes spell a file whose header lines say this, and whose bids these are if each is kept whole
-pub record SpellsParts (keep : PlainBid → PlainBid) (bytes : List ℕ) (header : Header) (bids : List PlainBid) : Type 0 where
+pub record SpellsParts (keep : PlainBid → PlainBid) (bytes : List ℕ) (header : Header)
+    (bids : List PlainBid) : Type 0 where
   pub file : PlainFile
   pub spelled : Spells bytes file
   pub sizes : HasSizes header file

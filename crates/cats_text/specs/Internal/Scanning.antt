@@ -171,7 +171,7 @@ abbrev pub ArePartsOf : {K : Type 0} → (K → List PlainBid) → Header × K �
 ArePartsOf bids parts (Ok s) = (parts.0 ≡ s.progress.header) × (bids parts.1 ≡ filled s.progress.slots)
 ArePartsOf bids parts (Err e) = ⊥
 
--- a call at the end of the input gave what is asked for of it, or what the machine gives
+-- a call at the end of the input gave what `IsOf` requires, or the fault that the machine gives
 abbrev pub Finishes : {A : Type 0} → (A → Scan → Type 0) → Result A ScanError → Scan → Type 0
 Finishes IsOf (Ok x) read = IsOf x read
 Finishes IsOf (Err (Fault e)) read = read ≡ Err e

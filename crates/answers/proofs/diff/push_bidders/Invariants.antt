@@ -6,4 +6,5 @@ use Rattle.answers.proofs.diff.push_bidders.Given as goal
 
 -- the lines of the bidders so far are appended
 abbrev pub invariant-loop-bidder : goal.invariant-loop-bidder
-invariant-loop-bidder l = l.text.items ≡ l.initial.text.items ++ flat_map (bidder_lines l.goods l.left l.right) (map plain_bidder_change (take l.bidder-index l.bidders))
+invariant-loop-bidder l = l.text.items ≡ l.initial.text.items ++ flat_map (bidder_lines l.goods l.left l.right)
+    (map plain_bidder_change (take l.bidder-index l.bidders))

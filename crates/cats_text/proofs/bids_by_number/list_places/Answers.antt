@@ -1,7 +1,6 @@
-use Rattle.std.proofs.Common.{◌≡◌, ◌≤◌, length, sym, arith, rules}
+use Rattle.std.proofs.Common.{◌≡◌, ◌≤◌, length, arith, rules}
 use Rattle.std.proofs.lemmas.Grind.{common_steps}
-use Rattle.cats_text.specs.Internal.Kept.{AreWithin}
-use Rattle.cats_text.proofs.Parsing.BidsByNumber.{numbered, none_numbered, next_numbered, all_listed, listed, within_numbered}
+use Rattle.cats_text.proofs.Parsing.BidsByNumber.{none_numbered, next_numbered, all_listed, within_numbered}
 use Rattle.cats_text.proofs.bids_by_number.list_places.Goals as goal
 
 pub loop-places-init : goal.loop-places-init
@@ -11,7 +10,8 @@ loop-places-init c =
 
 pub loop-places-preserved : goal.loop-places-preserved
 loop-places-preserved c = record {
-  numbers = next_numbered c.loop-places.places.items c.push.new.self.items _ c.loop-places.invariant.numbers (first_of (search rules, grind (arith, common_steps))) c.in_ok-push.ensures.items;
+  numbers = next_numbered c.loop-places.places.items c.push.new.self.items _ c.loop-places.invariant.numbers
+      (first_of (search rules, grind (arith, common_steps))) c.in_ok-push.ensures.items;
   within = first_of (search rules, grind (arith, common_steps));
 }
 

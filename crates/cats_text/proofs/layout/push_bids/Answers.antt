@@ -9,7 +9,8 @@ loop-number-preserved g c =
     let file = g.B.Bids.file c.args.file.now in
     let wrote = c.write_bid-start.ensures.written in
     bids_text_on file.goods file.bids c.loop-number.number wrote.0 _ _ _ wrote.1 c.loop-number.invariant
-    (c.in_ok-extend_from_slice.ensures.items ∙ ap (λ (text : List ℕ). c.loop-number.out.items ++ text) (rest_of LONGEST_LINE c.write_bid-start.result c.write_bid-start.new.line (c.write_bid-start.auto.line ∙ c.loop-number-test.array_long) ∙ wrote.2))
+    (c.in_ok-extend_from_slice.ensures.items ∙ ap (λ (text : List ℕ). c.loop-number.out.items ++ text)
+    (rest_of LONGEST_LINE c.write_bid-start.result c.write_bid-start.new.line (c.write_bid-start.auto.line ∙ c.loop-number-test.array_long) ∙ wrote.2))
 
 pub returns : goal.returns
 returns g c =

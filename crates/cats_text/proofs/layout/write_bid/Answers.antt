@@ -26,6 +26,7 @@ returns-clause-written g c =
           ∙ ap (λ (t : List ℕ). offer ++ t)
           (c.write_goods-end.ensures.written
           ∙ ap (λ (t : List ℕ). tabbed bid.goods.now ++ t)
-          (c.write_dummy-end.ensures.written ∙ ap (λ (t : List ℕ). tabbed (dummy_good c.goods-goods.result bid.dummy) ++ t) c.write_line_end-end.ensures.written))
+          (c.write_dummy-end.ensures.written
+          ∙ ap (λ (t : List ℕ). tabbed (dummy_good c.goods-goods.result bid.dummy) ++ t) c.write_line_end-end.ensures.written))
           ∙ whole_line _ _ c.args.number (seen_bid bid) c.goods-goods.ensures.value,
     )

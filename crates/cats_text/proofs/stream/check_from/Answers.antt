@@ -17,7 +17,8 @@ returns-in_err-header g c =
     let fed = c.in_ok-feed_from.ensures.answer in (
       c.feed_from.new.push_reader.bytes,
       c.in_ok-feed_from.ensures.bytes,
-      rw (reported.1, reported.2) (ended_reported g.R.Read.remaining c.feed_from.new.push_reader.bytes c.feed_from.new.input c.in_err-header.field-0.0 fed.1 fed.2
+      rw (reported.1, reported.2) (ended_reported g.R.Read.remaining c.feed_from.new.push_reader.bytes c.feed_from.new.input c.in_err-header.field-0.0 fed.1
+          fed.2
           (rw fed.0 at c.in_err-header.ensures)),
     )
 

@@ -7,11 +7,21 @@ use Rattle.rounding.proofs.decimal.mark_in.Goals as goal
 
 pub loop-place-preserved : goal.loop-place-preserved
 loop-place-preserved c =
-    rw add-one (omega (arith, c.loop-place.invariant, mark_further c.args.word.now c.loop-place.place c.loop-place-test.true (sym c.is_exponent_mark.ensures ∙ c.if-is_exponent_mark.false)))
+    rw add-one (omega (
+      arith,
+      c.loop-place.invariant,
+      mark_further c.args.word.now c.loop-place.place c.loop-place-test.true (sym c.is_exponent_mark.ensures
+          ∙ c.if-is_exponent_mark.false),
+    ))
 
 pub returns-then-is_exponent_mark-clause-count : goal.returns-then-is_exponent_mark-clause-count
 returns-then-is_exponent_mark-clause-count c =
-    omega (arith, c.loop-place.invariant, mark_found c.args.word.now c.loop-place.place c.loop-place-test.true (sym c.is_exponent_mark.ensures ∙ c.if-is_exponent_mark.true))
+    omega (
+      arith,
+      c.loop-place.invariant,
+      mark_found c.args.word.now c.loop-place.place c.loop-place-test.true (sym c.is_exponent_mark.ensures
+          ∙ c.if-is_exponent_mark.true),
+    )
 
 pub returns-clause-count : goal.returns-clause-count
 returns-clause-count c = omega (arith, c.loop-place.invariant, at_drop_all (λ ws. length (significand ws)) c.args.word.now c.loop-place.place (omega arith))

@@ -7,7 +7,12 @@ use Rattle.rounding.proofs.decimal.point_in.Goals as goal
 
 pub loop-place-preserved : goal.loop-place-preserved
 loop-place-preserved c =
-    rw add-one (omega (arith, c.loop-place.invariant, point_further c.args.word.now c.loop-place.place c.loop-place-test.true (ne_eqb _ _ c.if-byte-eq46.false)))
+    rw add-one (omega (
+      arith,
+      c.loop-place.invariant,
+      point_further c.args.word.now c.loop-place.place c.loop-place-test.true
+          (ne_eqb _ _ c.if-byte-eq46.false),
+    ))
 
 pub returns-then-byte-eq46-clause-count : goal.returns-then-byte-eq46-clause-count
 returns-then-byte-eq46-clause-count c =

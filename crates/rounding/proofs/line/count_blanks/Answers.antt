@@ -7,11 +7,21 @@ use Rattle.rounding.proofs.line.count_blanks.Goals as goal
 
 pub loop-place-preserved : goal.loop-place-preserved
 loop-place-preserved c =
-    rw add-one (omega (arith, c.loop-place.invariant, blanks_further c.args.line.now c.loop-place.place c.loop-place-test.true (sym c.is_blank.ensures ∙ c.if-not-is_blank.false)))
+    rw add-one (omega (
+      arith,
+      c.loop-place.invariant,
+      blanks_further c.args.line.now c.loop-place.place c.loop-place-test.true (sym c.is_blank.ensures
+          ∙ c.if-not-is_blank.false),
+    ))
 
 pub returns-then-not-is_blank-clause-count : goal.returns-then-not-is_blank-clause-count
 returns-then-not-is_blank-clause-count c =
-    omega (arith, c.loop-place.invariant, blanks_found c.args.line.now c.loop-place.place c.loop-place-test.true (sym c.is_blank.ensures ∙ c.if-not-is_blank.true))
+    omega (
+      arith,
+      c.loop-place.invariant,
+      blanks_found c.args.line.now c.loop-place.place c.loop-place-test.true (sym c.is_blank.ensures
+          ∙ c.if-not-is_blank.true),
+    )
 
 pub returns-clause-count : goal.returns-clause-count
 returns-clause-count c = omega (arith, c.loop-place.invariant, at_drop_all (λ ws. length (blanks ws)) c.args.line.now c.loop-place.place (omega arith))

@@ -7,4 +7,5 @@ pub returns-then-start-line : goal.returns-then-start-line
 returns-then-start-line c = significant_at c.args.line.now c.count_blanks-start.result c.count_blanks-start.ensures.count c.if-start-line.true
 
 pub returns-else-start-line : goal.returns-else-start-line
-returns-else-start-line c = le-ltb _ _ c.if-start-line.false ∙ sym (significant_none c.args.line.now c.count_blanks-start.result c.count_blanks-start.ensures.count c.if-start-line.false)
+returns-else-start-line c = le-ltb _ _ c.if-start-line.false
+    ∙ sym (significant_none c.args.line.now c.count_blanks-start.result c.count_blanks-start.ensures.count c.if-start-line.false)

@@ -7,7 +7,12 @@ use Rattle.rounding.proofs.line.word_length.Goals as goal
 
 pub loop-place-preserved : goal.loop-place-preserved
 loop-place-preserved c =
-    rw add-one (omega (arith, c.loop-place.invariant, word_further c.args.line.now c.loop-place.place c.loop-place-test.true (sym c.is_blank.ensures ∙ c.if-is_blank.false)))
+    rw add-one (omega (
+      arith,
+      c.loop-place.invariant,
+      word_further c.args.line.now c.loop-place.place c.loop-place-test.true (sym c.is_blank.ensures
+          ∙ c.if-is_blank.false),
+    ))
 
 pub returns-then-is_blank-clause-count : goal.returns-then-is_blank-clause-count
 returns-then-is_blank-clause-count c =

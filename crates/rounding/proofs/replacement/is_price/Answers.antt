@@ -10,5 +10,6 @@ returns-then-whole-word c =
 
 pub returns-else-whole-word : goal.returns-else-whole-word
 returns-else-whole-word c =
-    price_with c.args.word.now _ c.is_number.result c.is_number-else-whole-word.result (ap length c.whole_part-whole.ensures) (c.is_number.ensures ∙ ap is_number c.whole_part-whole.ensures)
+    price_with c.args.word.now _ c.is_number.result c.is_number-else-whole-word.result (ap length c.whole_part-whole.ensures) (c.is_number.ensures
+    ∙ ap is_number c.whole_part-whole.ensures)
     c.if-not-is_number.false c.if-whole-word.false (c.is_number-else-whole-word.ensures ∙ ap is_number c.places.ensures)

@@ -18,7 +18,8 @@ loop-start-preserved c =
     first_written c.args.fine (drop start text) line c.loop-start.rounded.text.items c.push_line.new.self.text.items c.push_end.new.text.items
     (plain_changes c.loop-start.rounded.prices.items) (plain_changes c.push_line.new.self.prices.items) c.loop-start.before c.loop-start.number
     c.is_significant-significant.result c.is_bid_line-is_bid.result ended cut.line_is cut.ended_is
-    c.is_significant-significant.ensures c.is_bid_line-is_bid.ensures c.in_ok-push_line.ensures.text c.in_ok-push_end.ensures c.in_ok-push_line.ensures.prices in
+    c.is_significant-significant.ensures c.is_bid_line-is_bid.ensures c.in_ok-push_line.ensures.text c.in_ok-push_end.ensures c.in_ok-push_line.ensures.prices
+    in
     let small : c.from-before.result ≤ 1 = at_most c.is_significant-significant.result c.from-before.result c.from-before.ensures in (
       omega (arith, c.min-start.ensures, c.loop-start-test.true),
       omega (arith, c.min-start.ensures, c.loop-start-test.true, c.loop-start.invariant.1),

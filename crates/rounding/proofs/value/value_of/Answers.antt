@@ -2,14 +2,19 @@ use Rattle.rounding.proofs.Worth.{sizes_in, decimal_digits, cut_in, raised_in}
 use Rattle.rounding.proofs.value.value_of.Goals as goal
 
 pub shift_of-shift-requires-clause-size : goal.shift_of-shift-requires-clause-size
-shift_of-shift-requires-clause-size c = sizes_in c.args.word.now c.significand-significand.result.now c.whole_part-whole.result.now c.places-places.result.now c.significand-significand.ensures c.whole_part-whole.ensures c.places-places.ensures
+shift_of-shift-requires-clause-size c =
+    sizes_in c.args.word.now c.significand-significand.result.now c.whole_part-whole.result.now c.places-places.result.now c.significand-significand.ensures
+    c.whole_part-whole.ensures c.places-places.ensures
 
 pub cut_value-requires-clause-digits : goal.cut_value-requires-clause-digits
-cut_value-requires-clause-digits c = decimal_digits c.args.word.now c.significand-significand.result.now c.whole_part-whole.result.now c.places-places.result.now c.requires c.significand-significand.ensures c.whole_part-whole.ensures c.places-places.ensures
+cut_value-requires-clause-digits c =
+    decimal_digits c.args.word.now c.significand-significand.result.now c.whole_part-whole.result.now c.places-places.result.now c.requires
+    c.significand-significand.ensures c.whole_part-whole.ensures c.places-places.ensures
 
 pub returns-then-shift-gt0-clause-value : goal.returns-then-shift-gt0-clause-value
 returns-then-shift-gt0-clause-value c =
-    cut_in c.args.word.now c.significand-significand.result.now c.whole_part-whole.result.now c.places-places.result.now c.exponent.result.now c.shift_of-shift.result.up c.shift_of-shift.result.down c.cut_value.result
+    cut_in c.args.word.now c.significand-significand.result.now c.whole_part-whole.result.now c.places-places.result.now c.exponent.result.now
+    c.shift_of-shift.result.up c.shift_of-shift.result.down c.cut_value.result
     (record {
       significand_is = c.significand-significand.ensures;
       whole_is = c.whole_part-whole.ensures;
@@ -22,7 +27,8 @@ returns-then-shift-gt0-clause-value c =
 
 pub returns-clause-value : goal.returns-clause-value
 returns-clause-value c =
-    raised_in c.args.word.now c.significand-significand.result.now c.whole_part-whole.result.now c.places-places.result.now c.exponent.result.now c.shift_of-shift.result.up c.shift_of-shift.result.down c.held_number.result c.held_number-number.result c.raised_number.result
+    raised_in c.args.word.now c.significand-significand.result.now c.whole_part-whole.result.now c.places-places.result.now c.exponent.result.now
+    c.shift_of-shift.result.up c.shift_of-shift.result.down c.held_number.result c.held_number-number.result c.raised_number.result
     (record {
       significand_is = c.significand-significand.ensures;
       whole_is = c.whole_part-whole.ensures;

@@ -1,4 +1,4 @@
-use Rattle.std.proofs.Common.{◌≡◌, ◌<◌, ◌≤◌, ◌+◌, ◌-◌, ◌∙◌, ◌++◌, ◌∷◌, [], ℕ, List, Some, ap, sym, take, get_or, length, arith, rules, refl}
+use Rattle.std.proofs.Common.{◌≡◌, ◌<◌, ◌≤◌, ◌+◌, ◌-◌, ◌∙◌, ◌++◌, ◌∷◌, [], ℕ, List, ap, sym, take, get_or, length, arith, rules, refl}
 use Rattle.std.proofs.lemmas.Grind.{common_steps}
 use Rattle.std.proofs.lemmas.List.{take_all, take_more}
 use Rattle.std.proofs.lemmas.Option.{slice_get-get_or}
@@ -28,7 +28,8 @@ loop-place-preserved g c =
           let some : 0 < p = w.if-place-gt0.true in
           let there : p - 1 < length came = omega arith in
           ap g.K.Keep.bids w.kept-is
-          ∙ kept_more came (g.K.Keep.bids c.loop-place.kept) (g.K.Keep.bids w.add_from.new.self) (take i places) p (p - 1) c.loop-place.invariant some refl there
+          ∙ kept_more came (g.K.Keep.bids c.loop-place.kept) (g.K.Keep.bids w.add_from.new.self) (take i places) p
+          (p - 1) c.loop-place.invariant some refl there
           w.in_ok-add_from.ensures
       | else-place-gt0 w ↦
           let none : p ≤ 0 = w.if-place-gt0.false in

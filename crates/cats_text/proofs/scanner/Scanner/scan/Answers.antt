@@ -16,10 +16,12 @@ returns-in_err-take_byte-clause-steps g c =
     let left : c.loop-place.place + c.in_ok-place.field-0 ≢ length c.args.bytes.now = search rules in
     let here : c.loop-place.place + c.in_ok-place.field-0 < length c.args.bytes.now = omega arith in
     let ne : get_or c.args.bytes.now (c.loop-place.place + c.in_ok-place.field-0) 0 ≢ 13 = c.if-bytes-place-ne13.true in
-    let stops = byte_stops _ _ _ (state g.K.Keep.keep c.take_byte.new.self) _ _ c.args.bytes.now c.loop-place.place c.in_ok-place.field-0 c.in_err-take_byte.field-0.0
+    let stops = byte_stops _ _ _ (state g.K.Keep.keep c.take_byte.new.self) _ _ c.args.bytes.now c.loop-place.place c.in_ok-place.field-0
+    c.in_err-take_byte.field-0.0
     c.loop-place-test.true c.loop-place.invariant.0 c.in_ok-place.ensures.scanned here ne c.in_err-take_byte.ensures.steps c.in_err-take_byte.ensures.memory in
     residual_is c.from_residual-in_err-take_byte.result c.in_err-take_byte.field-0.0
-    (λ r. Steps (state g.K.Keep.keep c.take_byte.new.self) r (scan (state g.K.Keep.keep c.args.self.now) (settled c.args.bytes.now))) c.from_residual-in_err-take_byte.ensures.0
+    (λ r. Steps (state g.K.Keep.keep c.take_byte.new.self) r
+    (scan (state g.K.Keep.keep c.args.self.now) (settled c.args.bytes.now))) c.from_residual-in_err-take_byte.ensures.0
     c.from_residual-in_err-take_byte.ensures.1 stops.0
 
 pub returns-in_err-take_byte-clause-memory : goal.returns-in_err-take_byte-clause-memory
@@ -30,9 +32,11 @@ returns-in_err-take_byte-clause-memory g c =
     let left : c.loop-place.place + c.in_ok-place.field-0 ≢ length c.args.bytes.now = search rules in
     let here : c.loop-place.place + c.in_ok-place.field-0 < length c.args.bytes.now = omega arith in
     let ne : get_or c.args.bytes.now (c.loop-place.place + c.in_ok-place.field-0) 0 ≢ 13 = c.if-bytes-place-ne13.true in
-    let stops = byte_stops _ _ _ (state g.K.Keep.keep c.take_byte.new.self) _ _ c.args.bytes.now c.loop-place.place c.in_ok-place.field-0 c.in_err-take_byte.field-0.0
+    let stops = byte_stops _ _ _ (state g.K.Keep.keep c.take_byte.new.self) _ _ c.args.bytes.now c.loop-place.place c.in_ok-place.field-0
+    c.in_err-take_byte.field-0.0
     c.loop-place-test.true c.loop-place.invariant.0 c.in_ok-place.ensures.scanned here ne c.in_err-take_byte.ensures.steps c.in_err-take_byte.ensures.memory in
-    residual_is c.from_residual-in_err-take_byte.result c.in_err-take_byte.field-0.0 (λ r. NeedsMemory (state g.K.Keep.keep c.args.self.now) (settled c.args.bytes.now) r)
+    residual_is c.from_residual-in_err-take_byte.result c.in_err-take_byte.field-0.0
+    (λ r. NeedsMemory (state g.K.Keep.keep c.args.self.now) (settled c.args.bytes.now) r)
     c.from_residual-in_err-take_byte.ensures.0 c.from_residual-in_err-take_byte.ensures.1 stops.1
 
 pub loop-place-preserved : goal.loop-place-preserved

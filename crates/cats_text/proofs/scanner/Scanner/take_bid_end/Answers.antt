@@ -5,7 +5,8 @@ use Rattle.cats_text.proofs.Scanning.BidEnds.{end_passed, end_halts}
 use Rattle.cats_text.proofs.scanner.Scanner.take_bid_end.Goals as goal
 
 pub returns-clause-scanned : goal.returns-clause-scanned
-returns-clause-scanned g c bytes leading_token = end_passed (state g.K.Keep.keep c.args.self.now) (progress g.K.Keep.keep c.close_bid.new.self) c.args.self.now.waiting
+returns-clause-scanned g c bytes leading_token = end_passed (state g.K.Keep.keep c.args.self.now)
+    (progress g.K.Keep.keep c.close_bid.new.self) c.args.self.now.waiting
     c.args.self.now.waiting bytes c.requires.due leading_token c.in_default.ensures.reads c.requires.waits refl
 
 pub returns-in-Err-clause-scanned : goal.returns-in-Err-clause-scanned

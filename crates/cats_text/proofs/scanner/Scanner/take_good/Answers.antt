@@ -4,7 +4,8 @@ use Rattle.cats_text.proofs.Scanning.ManyGoods.{good_taken, good_halts}
 use Rattle.cats_text.proofs.scanner.Scanner.take_good.Goals as goal
 
 pub returns-clause-scanned : goal.returns-clause-scanned
-returns-clause-scanned g c bytes leading_token = good_taken (state g.K.Keep.keep c.args.self.now) (progress g.K.Keep.keep c.take_good.new.self) c.args.self.now.waiting bytes c.args.good
+returns-clause-scanned g c bytes leading_token = good_taken (state g.K.Keep.keep c.args.self.now)
+    (progress g.K.Keep.keep c.take_good.new.self) c.args.self.now.waiting bytes c.args.good
     c.args.taken c.requires.due leading_token c.in_default.ensures.reads c.in_default.ensures.stage c.requires.waits
 
 pub returns-in-Err-clause-scanned : goal.returns-in-Err-clause-scanned

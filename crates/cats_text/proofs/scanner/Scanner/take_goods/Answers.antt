@@ -5,7 +5,8 @@ use Rattle.cats_text.proofs.scanner.Scanner.take_goods.Goals as goal
 
 pub loop-good-preserved : goal.loop-good-preserved
 loop-good-preserved g c =
-    let next = rest_then _ (state g.K.Keep.keep c.loop-good.self) (state g.K.Keep.keep c.take_good.new.self) c.loop-good.self.waiting c.take_good.new.self.waiting
+    let next = rest_then _ (state g.K.Keep.keep c.loop-good.self)
+    (state g.K.Keep.keep c.take_good.new.self) c.loop-good.self.waiting c.take_good.new.self.waiting
     c.args.bytes.now
     c.loop-good.place c.in_ok-place.field-0
     c.loop-good.invariant.within (λ q. c.take_good.ensures.waiting) c.loop-good.invariant.scanned (c.in_ok-place.ensures.scanned _ c.in-Some.ensures) in

@@ -7,7 +7,8 @@ pub returns-then-is_above : goal.returns-then-is_above
 returns-then-is_above c = λ (n d : ℕ) (h : Holds c.args.self n d). refuse_above n d (sym (c.is_above.ensures n d h) ∙ c.if-is_above.true)
 
 pub returns-then-is_whole : goal.returns-then-is_whole
-returns-then-is_whole c = λ (n d : ℕ) (h : Holds c.args.self n d). refuse_whole n d c.args.self.whole h.bottom (sym (c.is_above.ensures n d h) ∙ c.if-is_above.false)
+returns-then-is_whole c = λ (n d : ℕ) (h : Holds c.args.self n d).
+    refuse_whole n d c.args.self.whole h.bottom (sym (c.is_above.ensures n d h) ∙ c.if-is_above.false)
     h.whole (sym (c.is_whole.ensures n d h) ∙ c.if-is_whole.true)
 
 pub returns-else-is_whole : goal.returns-else-is_whole
