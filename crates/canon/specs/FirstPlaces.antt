@@ -1,6 +1,7 @@
 -- The first file of each auction, among added files.
 use Rattle.std.specs.Map.{lookup}
-use Rattle.std.specs.Prelude.{◌≡◌, ◌⊎◌, ℕ, ◌+◌, ◌<◌, List, [], length, position, Option, Some, None, slice_get, bytes_eq, cond, unwrap_or}
+use Rattle.std.specs.Prelude.{◌≡◌, ◌⊎◌, ℕ, ◌+◌, ◌<◌, List, [], length, position, Option, Some, None, slice_get}
+use Rattle.std.specs.Prelude.{bytes_eq, cond, unwrap_or}
 use Rattle.std.specs.Prelude.{Result, Ok, Err}
 use Rattle.std.specs.Io.KnownBytes.{Consumes}
 use Rattle.bid_file.specs.Files.{PlainFile, IsPlainFile}

@@ -23,7 +23,8 @@ dummy_cmp f d e = ordering_then (bidder_cmp (points_of_dummy f d) (points_of_dum
 
 -- the dummy goods of the bidders that are in the canonical file, in the order in which they are there
 abbrev pub kept_dummies : PlainFile → List ℕ
-kept_dummies f = sort_by (dummy_cmp f) (filter (λ d. is_nonzero (xor_table (xor_atoms_of f.bids d) f.goods)) (range_with_len 0 f.dummy))
+kept_dummies f = sort_by (dummy_cmp f) (filter (λ d. is_nonzero (xor_table (xor_atoms_of f.bids d) f.goods))
+    (range_with_len 0 f.dummy))
 
 -- a dummy good of the canonical file as it is in the file
 abbrev pub named_dummy : List ℕ → Option ℕ → Option ℕ

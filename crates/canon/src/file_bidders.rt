@@ -29,7 +29,8 @@ pub struct FileBidders<'a, B: Bids> {
 pub fn bidders_of<B: Bids>(alloc: Global, file: &B) -> Result<FileBidders<'_, B>, AllocError>
     requires facts { IsPlainFile (B.file file.now) }
     requires canonical { IsCanonicalFile (B.file file.now) }
-    ensures { IfOk result (λ bidders. AreBidders (auction_from (B.file file.now)) bidders.or_bids bidders.xor_bidders.items) }
+    ensures { IfOk result (λ bidders. AreBidders
+        (auction_from (B.file file.now)) bidders.or_bids bidders.xor_bidders.items) }
 {
     let (or_bids, xor_bids) = split_bids(file);
     let xor_bidders = split_bidders(alloc, &xor_bids)?;

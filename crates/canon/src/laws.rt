@@ -16,7 +16,8 @@ ghost use Rattle.valuation.specs.Orders.{bidder_cmp};
 ghost use Rattle.valuation.specs.Tables.{xor_table};
 ghost use Rattle.valuation.specs.Values.{or_value};
 ghost use Rattle.prune.specs.Points.{is_or_point};
-ghost use Rattle.canon.specs.Difference.{first_difference, first_unequal_bundle, least_unequal_bidder, copies_of, exchanged, NoDifference};
+ghost use Rattle.canon.specs.Difference.{first_difference, first_unequal_bundle, least_unequal_bidder, copies_of, exchanged};
+ghost use Rattle.canon.specs.Difference.{NoDifference};
 
 /// The headline. Where neither of two texts is refused, each under a limit of its own, their canonical texts are equal
 /// exactly if their files have the same number of goods, the same OR value on every bundle and the same multiset of

@@ -85,10 +85,13 @@ pub fn first_places()
 
 /// A text that an index has keeps its place, and a new one is placed behind all files.
 pub fn added_texts()
-    ensures new { AddsText (record { texts = []; count = 2 }) (record { texts = (codes "a", 2) ∷ []; count = 3 }) (codes "a") 2 }
-    ensures known { AddsText (record { texts = (codes "a", 0) ∷ []; count = 2 }) (record { texts = (codes "a", 0) ∷ []; count = 3 })
+    ensures new { AddsText (record { texts = []; count = 2 }) (record { texts = (codes "a", 2) ∷ []; count = 3 })
+        (codes "a") 2 }
+    ensures known { AddsText (record { texts = (codes "a", 0) ∷ []; count = 2 })
+        (record { texts = (codes "a", 0) ∷ []; count = 3 })
         (codes "a") 2 → ⊥ }
-    ensures counted { AddsText (record { texts = []; count = 2 }) (record { texts = (codes "a", 2) ∷ []; count = 2 }) (codes "a") 2 → ⊥ }
+    ensures counted { AddsText (record { texts = []; count = 2 }) (record { texts = (codes "a", 2) ∷ []; count = 2 })
+        (codes "a") 2 → ⊥ }
     ensures none { IsEmptyIndex (record { texts = []; count = 0 }) }
     ensures of_none { IsIndexOf (record { texts = []; count = 0 }) [] }
     ensures one_less { IsIndexOf (record { texts = []; count = 0 }) (file_from (auction 1 [] []) ∷ []) → ⊥ }

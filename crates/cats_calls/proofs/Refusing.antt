@@ -1,5 +1,6 @@
 -- A text that is read and normalised. One that is longer than a stream may be has a fault: that of its first bytes, or its length.
-use Rattle.std.proofs.Common.{◌≡◌, ◌≢◌, ◌<◌, ◌≤◌, ℕ, nat_le, ◌⊎◌, inl, inr, true, false, if◌then◌else◌, List, [], length, take, Option, Some, None, Result, Ok, Err, refl, sym, ap, ◌∙◌, subst, IfSome}
+use Rattle.std.proofs.Common.{◌≡◌, ◌≢◌, ◌<◌, ◌≤◌, ℕ, nat_le, ◌⊎◌, inl, inr, true, false, if◌then◌else◌, List, [], length, take, Option, Some, None, Result, Ok}
+use Rattle.std.proofs.Common.{Err, refl, sym, ap, ◌∙◌, subst, IfSome}
 use Rattle.std.specs.Prelude.{IsErrAnd, IfOk}
 use Rattle.std.proofs.lemmas.Bool.{le-leb, lt-leb}
 use Rattle.std.proofs.lemmas.List.{take_all}
@@ -105,7 +106,8 @@ unmade limit text file spelled (StepLimit goods) r = record { file = file; spell
 unmade limit text file spelled Memory r = inr (record { file = file; spelled = spelled })
 
 module _ (limit : ℕ) (text : List ℕ) where
-  is_named : (file : PlainFile) (named : NamedFile) → NormalisesPlainAs limit file (Ok named.file) → named.dummies.items ≡ kept_dummies file → IsNamed file named
+  is_named : (file : PlainFile) (named : NamedFile) → NormalisesPlainAs limit file (Ok named.file) → named.dummies.items ≡ kept_dummies file
+      → IsNamed file named
   is_named file named n dummies = record { canonical = n.canonical; dummies = dummies }
 
   pub named_read : (file : PlainFile) → Spells text file → (r : Result NamedFile CanonFault) → NormalisesPlainAs limit file (unnamed_answer r)

@@ -9,7 +9,8 @@ use Rattle.answers.specs.declared.report.RunFault.TheVariants.{Refused}
 use Rattle.cats_calls.specs.declared.answer.Answer.{Answer}
 use Rattle.cats_calls.specs.declared.buffer.TheConstants.{TOO_SMALL}
 
--- The text is at the front of the buffer, and the rest of the buffer is as it was; if it does not fit, so is all of it, and the
+-- The text is at the front of the buffer, and the rest of the buffer is as it was; if it does not fit, so is all of it,
+-- and the
 -- status is another.
 pub record PutsInto (status : ℕ) (text old new : List ℕ) (answer : ℕ) : Type 0 where
   pub fits : length text ≤ length old → (answer ≡ status) × (new ≡ text ++ drop (length text) old)
@@ -46,9 +47,11 @@ pub record RefusesBy (Refuses : Which → CanonFault → Type 0) (status : ℕ) 
   pub is_status : status ≡ status_of_fault (Refused which fault)
   pub is_line : IsLineFor (Refused which fault) text
 
--- What a call does with its buffer. `Says` is of the status and of the text, and `Refuses` of which text is refused and of the
+-- What a call does with its buffer. `Says` is of the status and of the text, and `Refuses` of which text is refused and
+-- of the
 -- fault.
-pub record Calls (Says : ℕ → List ℕ → Type 0) (Refuses : Which → CanonFault → Type 0) (old new : List ℕ) (needed answer : ℕ)
+pub record Calls (Says : ℕ → List ℕ → Type 0) (Refuses : Which → CanonFault → Type 0) (old new : List ℕ)
+    (needed answer : ℕ)
     : Type 0 where
   pub status : ℕ
   pub text : List ℕ

@@ -12,7 +12,8 @@ use Rattle.canon.specs.declared.canon_fault.CanonFault.TheVariants.{Read, StepLi
 use Rattle.canon.specs.declared.which.Which.{Which}
 use Rattle.canon.specs.declared.which.Which.TheVariants.{Only, First, Second, Both}
 
--- the fault of a text: its first one, or, if it is longer than a stream may be, the one that its first bytes have or its length
+-- the fault of a text: its first one, or, if it is longer than a stream may be, the one that its first bytes have or
+-- its length
 abbrev pub text_fault : List ℕ → Option ReadFault
 text_fault text = if nat_le (length text) MAX_STREAM then first_fault text else fed_fault MAX_STREAM text
 

@@ -24,7 +24,8 @@ pub record DiffsTexts (limit : ℕ) (left right : List ℕ) (status : ℕ) (out 
   pub first : SpellsWithinLimit limit left
   pub second : SpellsWithinLimit limit right
   pub differences : PlainDifferences
-  pub all : AreAllDifferences (auction_from (canonical_file first.file)) (auction_from (canonical_file second.file)) differences
+  pub all : AreAllDifferences (auction_from (canonical_file first.file))
+      (auction_from (canonical_file second.file)) differences
   pub is_status : status ≡ status_of_differences differences
   pub is_text : out ≡ diff_text first.file.goods (kept_dummies first.file) (kept_dummies second.file) differences
   pub same : status ≡ 0 ↔ AreSameTexts left right

@@ -36,7 +36,8 @@ fn header_of(file: &PackedFile) -> Header
     }
 }
 
-/// `cats normalise` on a text: its canonical text. `limit` bounds the steps of each search that decides on a bundle of the OR
+/// `cats normalise` on a text: its canonical text. `limit` bounds the steps of each search that decides on a bundle of the
+/// OR
 /// bidder.
 pub fn normalise(alloc: Global, text: &[u8], limit: u64) -> Result<Answer, RunFault>
     ensures { Answers (NormalisesText limit text.now) (OfOnly (IsUnmade limit text.now)) result }

@@ -14,7 +14,8 @@ use bid_file::PackedFile;
 use canon::{CanonFault, Which, compare_files};
 use std::alloc::{AllocError, Global};
 
-/// `cats compare` on two texts: whether they are the same auction, or else their first difference. `limit` bounds the steps of
+/// `cats compare` on two texts: whether they are the same auction, or else their first difference. `limit` bounds the steps
+/// of
 /// each search that decides on a bundle of an OR bidder.
 pub fn compare(alloc: Global, left: &[u8], right: &[u8], limit: u64) -> Result<Answer, RunFault>
     ensures { Answers (ComparesTexts limit left.now right.now) (OfTwo limit left.now right.now) result }

@@ -21,7 +21,8 @@ ghost use Rattle.cats_calls.specs.declared.answer.Answer.{Answer};
 pub fn texts_checked()
     ensures sizes { ChecksText (codes "goods 2\nbids 1\ndummy 0\n0 3 0 #\n") 0 (codes "goods 2 bids 1 dummy 0\n") }
     ensures other_sizes { ChecksText (codes "goods 2\nbids 1\ndummy 0\n0 3 0 #\n") 0 (codes "goods 1 bids 1 dummy 0\n") → ⊥ }
-    ensures other_status { ChecksText (codes "goods 2\nbids 1\ndummy 0\n0 3 0 #\n") 1 (codes "goods 2 bids 1 dummy 0\n") → ⊥ }
+    ensures other_status { ChecksText (codes "goods 2\nbids 1\ndummy 0\n0 3 0 #\n") 1 (codes "goods 2 bids 1 dummy 0\n")
+        → ⊥ }
     ensures not_a_bid_file { (out : List ℕ) → ChecksText (codes "bids 0\n") 0 out → ⊥ }
 {}
 
@@ -45,7 +46,8 @@ pub fn texts_normalised()
         (codes "goods 1\nbids 1\ndummy 0\n0\t2\t0\t#\n") → ⊥ }
     ensures over_limit { (goods : Vec ℕ Global) → goods.items ≡ 0 ∷ [] → IsUnmade 0
         (codes "goods 1\nbids 1\ndummy 0\n0 3 0 #\n") (StepLimit goods) }
-    ensures within_limit { (goods : Vec ℕ Global) → IsUnmade 1 (codes "goods 1\nbids 1\ndummy 0\n0 3 0 #\n") (StepLimit goods)
+    ensures within_limit { (goods : Vec ℕ Global)
+        → IsUnmade 1 (codes "goods 1\nbids 1\ndummy 0\n0 3 0 #\n") (StepLimit goods)
         → ⊥ }
 {}
 
@@ -55,7 +57,8 @@ pub fn texts_explained()
         (codes "0\tsame\t1\n1\tkeep\t0\n") }
     ensures other_status { ExplainsText 1 (codes "goods 1\nbids 2\ndummy 0\n0 2 0 #\n1 3 0 #\n") 1
         (codes "0\tsame\t1\n1\tkeep\t0\n") → ⊥ }
-    ensures none_left_out { ExplainsText 1 (codes "goods 1\nbids 2\ndummy 0\n0 2 0 #\n1 3 0 #\n") 0 (codes "1\tkeep\t0\n") → ⊥ }
+    ensures none_left_out { ExplainsText 1 (codes "goods 1\nbids 2\ndummy 0\n0 2 0 #\n1 3 0 #\n") 0 (codes "1\tkeep\t0\n")
+        → ⊥ }
 {}
 
 /// Two texts of one auction, and texts of two.
@@ -78,7 +81,8 @@ pub fn texts_diffed()
         (codes "goods 1\nbids 1\ndummy 0\n0 3 0 #\n") 0 [] }
     ensures goods { DiffsTexts 1 (codes "goods 1\nbids 0\ndummy 0\n") (codes "goods 2\nbids 0\ndummy 0\n") 1
         (codes "goods\t1\t2\n") }
-    ensures not_same { (out : List ℕ) → DiffsTexts 1 (codes "goods 1\nbids 0\ndummy 0\n") (codes "goods 2\nbids 0\ndummy 0\n")
+    ensures not_same { (out : List ℕ) → DiffsTexts 1 (codes "goods 1\nbids 0\ndummy 0\n")
+        (codes "goods 2\nbids 0\ndummy 0\n")
         0 out → ⊥ }
     ensures not_exchanged { DiffsTexts 1 (codes "goods 1\nbids 0\ndummy 0\n") (codes "goods 2\nbids 0\ndummy 0\n") 1
         (codes "goods\t2\t1\n") → ⊥ }
@@ -103,9 +107,11 @@ pub fn texts_rounded()
     ensures no_report { RoundsText Round (codes "goods 1\nbids 1\ndummy 0\n0 0.0123456 0 #\n")
         (codes "goods 1\nbids 1\ndummy 0\n0 0.012346 0 #\n") [] → ⊥ }
     ensures too_fine { IsUnrounded Refuse (codes "goods 1\nbids 1\ndummy 0\n0 0.0123456 0 #\n") (Read (fault_at 4 TooFine)) }
-    ensures other_line { IsUnrounded Refuse (codes "goods 1\nbids 1\ndummy 0\n0 0.0123456 0 #\n") (Read (fault_at 3 TooFine)) →
+    ensures other_line { IsUnrounded Refuse (codes "goods 1\nbids 1\ndummy 0\n0 0.0123456 0 #\n")
+        (Read (fault_at 3 TooFine)) →
         ⊥ }
-    ensures too_long { IsUnrounded Refuse (codes "goods 1\nbids 1\ndummy 0\n0 0.0123456 0 #\n") (Read (fault_at 0 TooLong)) → ⊥ }
+    ensures too_long { IsUnrounded Refuse (codes "goods 1\nbids 1\ndummy 0\n0 0.0123456 0 #\n") (Read (fault_at 0 TooLong))
+        → ⊥ }
 {}
 
 /// A text in a buffer. One that does not fit leaves the buffer as it was.
@@ -124,11 +130,13 @@ pub fn texts_in_buffers()
 pub fn answers_given()
     ensures text { (answer : Answer) → answer.status ≡ 1 → answer.text.items ≡ codes "ab" → Gives (Ok answer) (codes "xyz")
         (codes "abz") 2 1 }
-    ensures other_length { (answer : Answer) → answer.text.items ≡ codes "ab" → Gives (Ok answer) (codes "xyz") (codes "abz") 3
+    ensures other_length { (answer : Answer) → answer.text.items ≡ codes "ab"
+        → Gives (Ok answer) (codes "xyz") (codes "abz") 3
         1 → ⊥ }
     ensures refused { Answers (ChecksText (codes "bids 0\n")) (OfOnly (IsUnread (codes "bids 0\n")))
         (Err (Refused Only (Read (fault_at 1 Header)))) }
-    ensures out_of_range { Answers (ChecksText (codes "bids 0\n")) (OfOnly (IsUnread (codes "bids 0\n"))) (Err (GoodRange 0)) →
+    ensures out_of_range { Answers (ChecksText (codes "bids 0\n")) (OfOnly (IsUnread (codes "bids 0\n")))
+        (Err (GoodRange 0)) →
         ⊥ }
     ensures report_of_refused { GivesReport (Err (Refused Only Memory)) (codes ".") (codes ".") 0 0 }
     ensures fault { Gives (Err (Refused First (Read (fault_at 1 Header)))) (codes "........................")
@@ -136,7 +144,8 @@ pub fn answers_given()
     ensures no_line { Gives (Err (Refused Only (Read (fault_at 1 Header)))) (codes "................")
         (codes "want of memory\n.") 15 2 }
     ensures memory { Gives (Err (Refused Only Memory)) (codes "................") (codes "want of memory\n.") 15 4 }
-    ensures memory_as_text { Gives (Err (Refused Only Memory)) (codes "................") (codes "want of memory\n.") 15 0 → ⊥ }
+    ensures memory_as_text { Gives (Err (Refused Only Memory)) (codes "................") (codes "want of memory\n.") 15 0
+        → ⊥ }
 {}
 
 /// What a whole call does.
@@ -152,13 +161,15 @@ pub fn calls_made()
         (codes "................") (codes "line 1: Header\n.") 15 2 }
     ensures fault_as_text { let text = codes "bids 0\n" in Calls (ChecksText text) (OfOnly (IsUnread text))
         (codes "................") (codes "line 1: Header\n.") 15 0 → ⊥ }
-    ensures memory { let text = codes "goods 2\nbids 1\ndummy 0\n0 3 0 #\n" in Calls (ChecksText text) (OfOnly (IsUnread text))
+    ensures memory { let text = codes "goods 2\nbids 1\ndummy 0\n0 3 0 #\n" in
+        Calls (ChecksText text) (OfOnly (IsUnread text))
         (codes "................") (codes "want of memory\n.") 15 4 }
 {}
 
 /// What rounding does with two buffers. The status is 6 if either is too small.
 pub fn roundings_called()
-    ensures both { RoundCalls Round (codes "goods 1\nbids 1\ndummy 0\n0 1e0 0 #\n") (codes ".................................")
+    ensures both { RoundCalls Round (codes "goods 1\nbids 1\ndummy 0\n0 1e0 0 #\n")
+        (codes ".................................")
         (codes "goods 1\nbids 1\ndummy 0\n0 1 0 #\n..") 31
         (codes ".") (codes ".") 0 0 }
     ensures report_too_small { RoundCalls Round (codes "goods 1\nbids 1\ndummy 0\n0 1e-7 0 #\n")
@@ -167,7 +178,8 @@ pub fn roundings_called()
     ensures refused { RoundCalls Refuse (codes "goods 1\nbids 1\ndummy 0\n0 1e-7 0 #\n") (codes "................")
         (codes "line 4: TooFine\n") 16
         (codes ".") (codes ".") 0 2 }
-    ensures statuses { whole_status 0 0 ∷ whole_status 2 0 ∷ whole_status 6 0 ∷ whole_status 0 6 ∷ whole_status 2 6 ∷ [] ≡ 0 ∷
+    ensures statuses { whole_status 0 0 ∷ whole_status 2 0 ∷ whole_status 6 0 ∷ whole_status 0 6 ∷ whole_status 2 6 ∷ []
+        ≡ 0 ∷
         2 ∷ 6 ∷ 6 ∷ 6 ∷ [] }
     ensures report { report_of Round (codes "goods 1\nbids 1\ndummy 0\n0 1e-7 0 #\n") ≡ codes "line 4: 1e-7 rounded to 0\n" }
 {}

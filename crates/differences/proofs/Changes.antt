@@ -1,5 +1,6 @@
 -- Changes that are put together one by one: those of the left bidders, and then those of the right bidders that are left.
-use Rattle.std.proofs.Common.{◌≡◌, ℕ, ◌+◌, true, false, not, cond, List, [], ◌∷◌, ◌++◌, length, append_assoc, refl, sym, ap, ap₂, ◌∙◌, subst, arith, Option, Some, None}
+use Rattle.std.proofs.Common.{◌≡◌, ℕ, ◌+◌, true, false, not, cond, List, [], ◌∷◌, ◌++◌, length, append_assoc, refl, sym, ap, ap₂, ◌∙◌, subst, arith, Option}
+use Rattle.std.proofs.Common.{Some, None}
 use Rattle.std.specs.Prelude.{All, is_some}
 use Rattle.std.specs.List.{cons_option, filter_map, range_with_len}
 use Rattle.std.specs.Option.{is_none}
@@ -12,7 +13,8 @@ use Rattle.goods_set.specs.Lemmas.Members.{IsRising-filter}
 use Rattle.goods_set.specs.Lemmas.Words.{range_rises}
 use Rattle.valuation.specs.declared.atom.Atom.{Atom}
 use Rattle.valuation.specs.Sorting.{count_of}
-use Rattle.differences.specs.BidderChanges.{PlainBidderChange, IsBidderChange, AreBidderChanges, excess_bidders, is_excess, lefts_of, rights_of, right_alone, with_left}
+use Rattle.differences.specs.BidderChanges.{PlainBidderChange, IsBidderChange, AreBidderChanges, excess_bidders, is_excess, lefts_of, rights_of, right_alone}
+use Rattle.differences.specs.BidderChanges.{with_left}
 use Rattle.differences.specs.Internal.Changes.{AreLefts, AreRest}
 use Rattle.differences.specs.Internal.Partners.{TakesPartner}
 use Rattle.differences.proofs.LawsLists.{all_pass, none_pass}
@@ -114,7 +116,8 @@ module _ (left right : List (List (Atom (List ℕ)))) where
         ∙ append-nil (lefts_of some) ∙ h.named ∙ e;
     rights = λ i.
         let a = ap (λ (xs : List PlainBidderChange). count_of nat_cmp i (rights_of xs)) k.behind in
-        let b = ap (count_of nat_cmp i) (rights-append some k.added ∙ ap (λ (xs : List ℕ). rights_of some ++ xs) k.rights) ∙ count-append i (rights_of some) rest in
+        let b = ap (count_of nat_cmp i) (rights-append some k.added ∙ ap (λ (xs : List ℕ). rights_of some ++ xs) k.rights)
+        ∙ count-append i (rights_of some) rest in
         let c = ap (count_of nat_cmp i) g in
         let d = ap (count_of nat_cmp i) f in
         let all = h.taken i in

@@ -24,7 +24,8 @@ price_here a rest bundle e =
     (λ (h : (a.bundle ≡ bundle → ⊥) × (is_eq (bundle_cmp a.bundle bundle) ≡ false)). absurd (h.0 e))
     (same_cases a.bundle bundle)
 
-pub price_behind : (a : Atom (List ℕ)) (rest : List (Atom (List ℕ))) (bundle : List ℕ) → (a.bundle ≡ bundle → ⊥) → price_on (a ∷ rest) bundle ≡ price_on rest bundle
+pub price_behind : (a : Atom (List ℕ)) (rest : List (Atom (List ℕ))) (bundle : List ℕ) → (a.bundle ≡ bundle → ⊥)
+    → price_on (a ∷ rest) bundle ≡ price_on rest bundle
 price_behind a rest bundle n =
     ⊎_elim (λ (h : (a.bundle ≡ bundle) × (is_eq (bundle_cmp a.bundle bundle) ≡ true)). absurd (n h.0))
     (λ (h : (a.bundle ≡ bundle → ⊥) × (is_eq (bundle_cmp a.bundle bundle) ≡ false)).

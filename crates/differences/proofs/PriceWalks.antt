@@ -1,6 +1,7 @@
 -- The walk of two lists of atoms in order: which bundle comes first in the rests, and what is left of the rests behind it.
 use mir.Val.{bool_byte}
-use Rattle.std.proofs.Common.{◌≡◌, ℕ, zero, suc, Bool, true, false, not, eqb, cond, ◌||◌, ⊎_elim, List, [], ◌∷◌, ◌++◌, drop, refl, sym, ap, ap₂, ◌∙◌, subst, Option, Some, None, is_some, Ordering, Less, Equal, Greater, append_assoc}
+use Rattle.std.proofs.Common.{◌≡◌, ℕ, zero, suc, Bool, true, false, not, eqb, cond, ◌||◌, ⊎_elim, List, [], ◌∷◌, ◌++◌, drop, refl, sym, ap, ap₂, ◌∙◌, subst}
+use Rattle.std.proofs.Common.{Option, Some, None, is_some, Ordering, Less, Equal, Greater, append_assoc}
 use Rattle.std.specs.Prelude.{◌≢◌, All}
 use Rattle.std.specs.Ordering.{is_eq, ordering_reverse}
 use Rattle.std.specs.List.{drop-map}
@@ -40,7 +41,8 @@ comes_later xs ys n d = at (bundle_cmp ys xs) refl
     at Equal e = absurd (d (bundle_cmp_equal ys xs e))
     at Greater e = bundle_cmp_total.antisymm xs ys ∙ ap ordering_reverse e
 
-all_later : (bundle : List ℕ) (a : Atom (List ℕ)) (rest : List (Atom (List ℕ))) → IsInOrder (a ∷ rest) → bundle_cmp bundle a.bundle ≡ Less → AreLater bundle (a ∷ rest)
+all_later : (bundle : List ℕ) (a : Atom (List ℕ)) (rest : List (Atom (List ℕ))) → IsInOrder (a ∷ rest) → bundle_cmp bundle a.bundle ≡ Less
+    → AreLater bundle (a ∷ rest)
 all_later bundle a rest s l =
     All-cons (λ (b : Atom (List ℕ)). bundle_cmp bundle b.bundle ≡ Less) a rest l
     (All-weaker (IsBefore a) (λ (b : Atom (List ℕ)). bundle_cmp bundle b.bundle ≡ Less)

@@ -111,7 +111,8 @@ module _ (left right : List (List (Atom (List ℕ)))) where
     lefts_of_first =
         map_of_some (λ c. c.left) (with_left changes) (filter_passes (λ c. is_some c.left) changes)
         ∙ ap (map (λ i. Some i)) (sym (ap lefts_of are.alone_last ∙ lefts-append (with_left changes) (right_alone changes)
-        ∙ ap (λ (is : List ℕ). lefts_of (with_left changes) ++ is) (no_lefts_alone (right_alone changes) none_left) ∙ append-nil (lefts_of (with_left changes))))
+        ∙ ap (λ (is : List ℕ). lefts_of (with_left changes) ++ is) (no_lefts_alone (right_alone changes) none_left)
+        ∙ append-nil (lefts_of (with_left changes))))
 
     rights_of_last : map (λ c. c.right) (right_alone changes) ≡ map (λ i. Some i) (rights_of (right_alone changes))
     rights_of_last =

@@ -1,5 +1,6 @@
 -- The bidders that wait for a partner: each is there or is taken, and what is taken is the only one that is gone.
-use Rattle.std.proofs.Common.{◌≡◌, ℕ, zero, suc, ◌+◌, ◌<◌, ◌≤◌, cond, List, [], ◌∷◌, ◌++◌, length, map, get_or, set, refl, sym, ap, subst, arith, Option, Some, None}
+use Rattle.std.proofs.Common.{◌≡◌, ℕ, zero, suc, ◌+◌, ◌<◌, ◌≤◌, cond, List, [], ◌∷◌, ◌++◌, length, map, get_or, set, refl, sym, ap, subst, arith, Option, Some}
+use Rattle.std.proofs.Common.{None}
 use Rattle.std.specs.Prelude.{All, Contains, IfSome}
 use Rattle.std.specs.FinMap.{nat_cmp-IsAntisymmetric}
 use Rattle.std.specs.List.{filter_map}
@@ -82,7 +83,8 @@ All-counted P xs ys less h =
 -- those that still wait, and the one that is taken
 pub still_wait : (P : ℕ → Type 0) (before after : List ℕ) (taken : Option ℕ) → TakesPartner before after taken → All P before → All P after
 still_wait P before after None h all = subst (All P) (sym h) all
-still_wait P before after (Some index) h all = All-counted P before after (λ i. let a = taken_counted before after index h i in let b = count-cons i index after in omega arith) all
+still_wait P before after (Some index) h all = All-counted P before after (λ i. let a = taken_counted before after index h i in
+    let b = count-cons i index after in omega arith) all
 
 pub taken_has : (P : ℕ → Type 0) (before after : List ℕ) (taken : Option ℕ) → TakesPartner before after taken → All P before → IfSome taken P
 taken_has P before after None h all = tt

@@ -1,6 +1,7 @@
 -- XOR bidders that two files do not have equally often. A bidder is named by its index among the bidders of its
 -- file, which are in order, equal ones beside one another.
-use Rattle.std.specs.Prelude.{◌≡◌, ℕ, Bool, true, nat_lt, Option, Some, None, is_some, ◌||◌, List, [], ◌++◌, length, drop, slice_index_or, All}
+use Rattle.std.specs.Prelude.{◌≡◌, ℕ, Bool, true, nat_lt, Option, Some, None, is_some, ◌||◌, List, [], ◌++◌, length}
+use Rattle.std.specs.Prelude.{drop, slice_index_or, All}
 use Rattle.std.specs.List.{filter, filter_map, range_with_len}
 use Rattle.std.specs.Option.{is_none}
 use Rattle.std.specs.Ordering.{nat_cmp}
@@ -57,11 +58,14 @@ pub record IsBidderChange (left right : List (List (Atom (List ℕ)))) (c : Plai
   pub some : is_some c.left || is_some c.right ≡ true
   pub bids : ArePriceChanges (bids_at left c.left) (bids_at right c.right) c.bids
 
--- Each bidder in excess is in one of the changes, and no other bidder is. Those of the left file come first, in order, and then
--- those of the right file that are alone, in order. Which bidder of the right file is beside one of the left file is left open.
+-- Each bidder in excess is in one of the changes, and no other bidder is. Those of the left file come first, in order,
+-- and then
+-- those of the right file that are alone, in order. Which bidder of the right file is beside one of the left file is
+-- left open.
 pub record AreBidderChanges (left right : List (List (Atom (List ℕ)))) (changes : List PlainBidderChange) : Type 0 where
   pub each : All (IsBidderChange left right) changes
   pub lefts : lefts_of changes ≡ excess_bidders left right
-  pub rights : (index : ℕ) → count_of nat_cmp index (rights_of changes) ≡ count_of nat_cmp index (excess_bidders right left)
+  pub rights : (index : ℕ) → count_of nat_cmp index (rights_of changes) ≡ count_of nat_cmp index
+      (excess_bidders right left)
   pub alone_last : changes ≡ with_left changes ++ right_alone changes
   pub alone_in_order : IsRising (rights_of (right_alone changes))

@@ -24,7 +24,8 @@ pub record DifferInGoods (a b : PlainAuction) (left right : ℕ) : Type 0 where
   pub differ : a.goods ≢ b.goods
 
 -- the numbers of goods are equal, and these are the differences of the bidders
-pub record DifferInBids (a b : PlainAuction) (or_changes : List PlainChange) (xor_changes : List PlainBidderChange) : Type 0 where
+pub record DifferInBids (a b : PlainAuction) (or_changes : List PlainChange)
+    (xor_changes : List PlainBidderChange) : Type 0 where
   pub goods : a.goods ≡ b.goods
   pub bundles : ArePriceChanges a.or_atoms b.or_atoms or_changes
   pub bidders : AreBidderChanges a.xor_bidders b.xor_bidders xor_changes

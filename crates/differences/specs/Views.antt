@@ -16,4 +16,5 @@ plain_bidder_change c = record { left = c.left; right = c.right; bids = map plai
 
 abbrev pub plain_differences : Differences → PlainDifferences
 plain_differences (Goods left right) = InGoods left right
-plain_differences (Bids bundles bidders) = InBids (map plain_change bundles.items) (map plain_bidder_change bidders.items)
+plain_differences (Bids bundles bidders) =
+    InBids (map plain_change bundles.items) (map plain_bidder_change bidders.items)

@@ -10,8 +10,10 @@ ghost use Rattle.canon.specs.Canonical.{IsCanonical};
 ghost use Rattle.canon.specs.Difference.{first_difference};
 ghost use Rattle.canon.specs.Sameness.{IsSameAuction};
 ghost use Rattle.differences.specs.PriceChanges.{PlainChange};
-ghost use Rattle.differences.specs.BidderChanges.{PlainBidderChange, AreBidderChanges, bidder_at, lefts_of, rights_of, with_left};
-ghost use Rattle.differences.specs.Differences.{AreAllDifferences, BeginsWith, InBids, PlainDifferences, exchanged_change, is_none_at_all};
+ghost use Rattle.differences.specs.BidderChanges.{PlainBidderChange, AreBidderChanges, bidder_at, lefts_of, rights_of};
+ghost use Rattle.differences.specs.BidderChanges.{with_left};
+ghost use Rattle.differences.specs.Differences.{AreAllDifferences, BeginsWith, InBids, PlainDifferences, exchanged_change};
+ghost use Rattle.differences.specs.Differences.{is_none_at_all};
 
 /// There are no differences exactly if the auctions are the same, and the first of them is that which `compare` names.
 pub fn first_difference_is_the_first()

@@ -116,7 +116,8 @@ impl<'a> Partners<'a> {
 
 /// The index at the place, which is left empty.
 fn take_index(waiting: &mut Vec<Option<u32>>, place: usize) -> Option<u32>
-    ensures { TakesPartner (filter_map (λ index. index) waiting.old.items) (filter_map (λ index. index) waiting.new.items) result }
+    ensures { TakesPartner (filter_map (λ index. index) waiting.old.items)
+        (filter_map (λ index. index) waiting.new.items) result }
 {
     if place >= waiting.len() {
         return None;

@@ -1,7 +1,9 @@
 //! Which of the waiting right bidders shares most bids with a left bidder.
 //!
-//! The bids of the right bidders are in one list, in order, so that those equal to a bid are found by bisection. Most bids are
-//! rare: their bidders are counted one by one. A common bid has a set of its bidders, and the sets are counted 64 bidders at a
+//! The bids of the right bidders are in one list, in order, so that those equal to a bid are found by bisection. Most bids
+//! are
+//! rare: their bidders are counted one by one. A common bid has a set of its bidders, and the sets are counted 64 bidders at
+//! a
 //! time. So a bid of a left bidder takes as many steps as a set has words, at most.
 
 ghost use Rattle.std.specs.Prelude.{◌<◌, ◌≤◌, length};
@@ -253,7 +255,8 @@ impl<'a> SharedBids<'a> {
         Ok(())
     }
 
-    /// The waiting bidder that has most of the common bids that were found, and of those the first. As soon as one has all of them
+    /// The waiting bidder that has most of the common bids that were found, and of those the first. As soon as one has all
+    /// of them
     /// the search ends.
     fn most_common(&mut self) -> Result<Candidate, AllocError> {
         let mut most = Candidate { place: 0, count: 0 };
@@ -276,7 +279,8 @@ impl<'a> SharedBids<'a> {
         Ok(most)
     }
 
-    /// The best of this candidate and of the bidders that share a rare bid. They are looked at in order, so that the common bids
+    /// The best of this candidate and of the bidders that share a rare bid. They are looked at in order, so that the common
+    /// bids
     /// of each word are counted once.
     fn most(&mut self, common: Candidate) -> Result<Candidate, AllocError> {
         self.rare.counted.sort_unstable();

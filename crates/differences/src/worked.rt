@@ -66,7 +66,8 @@ pub fn all_differences_worked()
     ensures goods { AreAllDifferences (auction 1 [] []) (auction 2 [] []) (InGoods 1 2) }
     ensures bids { AreAllDifferences (auction 1 (atom (0 ∷ []) 3 ∷ []) []) (auction 1 (atom (0 ∷ []) 4 ∷ []) [])
         (InBids (change (0 ∷ []) (Some 3) (Some 4) ∷ []) []) }
-    ensures same { AreAllDifferences (auction 1 (atom (0 ∷ []) 3 ∷ []) []) (auction 1 (atom (0 ∷ []) 3 ∷ []) []) (InBids [] []) }
+    ensures same { AreAllDifferences (auction 1 (atom (0 ∷ []) 3 ∷ []) []) (auction 1 (atom (0 ∷ []) 3 ∷ []) [])
+        (InBids [] []) }
     ensures missing { ¬ AreAllDifferences (auction 1 (atom (0 ∷ []) 3 ∷ []) []) (auction 1 [] []) (InBids [] []) }
     ensures goods_missing { ¬ AreAllDifferences (auction 1 [] []) (auction 2 [] []) (InBids [] []) }
 {}
@@ -75,11 +76,13 @@ pub fn all_differences_worked()
 pub fn first_changes()
     ensures none { BeginsWith NoDifference (InBids [] []) }
     ensures some { ¬ BeginsWith NoDifference (InBids (change (0 ∷ []) (Some 3) None ∷ []) []) }
-    ensures bundle { BeginsWith (InOr (0 ∷ []) (Exactly 3) (Exactly 4)) (InBids (change (0 ∷ []) (Some 3) (Some 4) ∷ []) []) }
+    ensures bundle { BeginsWith (InOr (0 ∷ []) (Exactly 3) (Exactly 4))
+        (InBids (change (0 ∷ []) (Some 3) (Some 4) ∷ []) []) }
     ensures another_bundle { ¬ BeginsWith (InOr (1 ∷ []) (Exactly 3) (Exactly 4))
         (InBids (change (0 ∷ []) (Some 3) (Some 4) ∷ []) []) }
     ensures bidder { BeginsWith (InXor (atom (0 ∷ []) 3 ∷ []) 1 0)
         (InBids [] (bidder_change (Some 0) None (change (0 ∷ []) (Some 3) None ∷ []) ∷ [])) }
     ensures bundle_first { ¬ BeginsWith (InXor (atom (0 ∷ []) 3 ∷ []) 1 0)
-        (InBids (change (0 ∷ []) (Some 3) None ∷ []) (bidder_change (Some 0) None (change (0 ∷ []) (Some 3) None ∷ []) ∷ [])) }
+        (InBids (change (0 ∷ []) (Some 3) None ∷ [])
+        (bidder_change (Some 0) None (change (0 ∷ []) (Some 3) None ∷ []) ∷ [])) }
 {}

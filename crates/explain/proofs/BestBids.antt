@@ -1,6 +1,7 @@
 -- In a list of all bids in order, the first bid that does not come before a bidder and a bundle is the best of that bidder's bids
 -- on that bundle, if there are any: each of them is there or after it.
-use Rattle.std.proofs.Common.{◌≡◌, ℕ, zero, suc, ◌+◌, ◌<◌, ◌≤◌, true, false, ◌&&◌, ltb, eqb, ⊎_elim, List, [], ◌∷◌, length, get_or, refl, sym, ap, ap₂, ◌∙◌, subst, arith}
+use Rattle.std.proofs.Common.{◌≡◌, ℕ, zero, suc, ◌+◌, ◌<◌, ◌≤◌, true, false, ◌&&◌, ltb, eqb, ⊎_elim, List, [], ◌∷◌, length, get_or, refl, sym, ap, ap₂, ◌∙◌}
+use Rattle.std.proofs.Common.{subst, arith}
 use Rattle.std.proofs.Common.{Ordering, Less, Equal, Greater, is_lt, nat_cmp}
 use Rattle.std.specs.Prelude.{Contains}
 use Rattle.std.specs.Cmp.{IsTotalOrder}
@@ -35,7 +36,8 @@ key_cmp_total = then_total (on_total (λ (b : PlainBid). bidder_of b.dummy) nat_
 
 pub numbered_cmp_total : IsTotalOrder numbered_cmp
 numbered_cmp_total =
-    then_total (then_total (on_total (λ (n : NumberedBid). seen_bid n.bid) key_cmp_total) (back_total (on_total (λ (n : NumberedBid). n.bid.price) nat_cmp_total)))
+    then_total (then_total (on_total (λ (n : NumberedBid). seen_bid n.bid) key_cmp_total)
+    (back_total (on_total (λ (n : NumberedBid). n.bid.price) nat_cmp_total)))
     (on_total (λ (n : NumberedBid). n.number) nat_cmp_total)
 
 key_first : (o p q : Ordering) → is_lt (ordering_then (ordering_then o p) q) ≡ false → is_lt o ≡ false
@@ -111,7 +113,8 @@ from_equal a b e = record {
 module _ (f : PlainFile) (bids : List NumberedBid) (order : AreInOrder f bids) (target : PlainBid) where
   by_key : IsSortedBy (λ (a b : NumberedBid). is_lt (key_cmp (seen_bid a.bid) (seen_bid b.bid))) bids
   by_key k d l m = key_first (key_cmp (seen_bid (get_or bids (k + 1) d).bid) (seen_bid (get_or bids k d).bid))
-      (nat_cmp (get_or bids k d).bid.price (get_or bids (k + 1) d).bid.price) (nat_cmp (get_or bids (k + 1) d).number (get_or bids k d).number) (order.sorted k d l m)
+      (nat_cmp (get_or bids k d).bid.price (get_or bids (k + 1) d).bid.price) (nat_cmp (get_or bids (k + 1) d).number (get_or bids k d).number)
+      (order.sorted k d l m)
 
   pub partitioned : IsPartitionedBy (λ (n : NumberedBid). is_lt (key_cmp (seen_bid n.bid) target)) bids
   partitioned i j d l m h =

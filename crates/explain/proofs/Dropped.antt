@@ -1,7 +1,8 @@
 -- Why a best bid is dropped that is none of the canonical file: the points of its bidder reach its price. Those that are inside its
 -- goods, or share no good and are inside them, are kept bids of its bidder; and the search for them takes no more steps than the one
 -- that dropped it.
-use Rattle.std.proofs.Common.{◌≡◌, ℕ, ◌+◌, ◌<◌, ◌≤◌, Bool, true, false, not, ⊎_elim, List, [], ◌∷◌, length, get_or, Option, Some, None, is_none, refl, sym, ap, ◌∙◌, subst, arith, nat_cmp, le_trans}
+use Rattle.std.proofs.Common.{◌≡◌, ℕ, ◌+◌, ◌<◌, ◌≤◌, Bool, true, false, not, ⊎_elim, List, [], ◌∷◌, length, get_or, Option, Some, None, is_none, refl, sym, ap}
+use Rattle.std.proofs.Common.{◌∙◌, subst, arith, nat_cmp, le_trans}
 use Rattle.std.specs.Prelude.{Contains, IsPermutation, is_some}
 use Rattle.std.specs.List.{slice_get, AllByRecursion}
 use Rattle.std.proofs.lemmas.List.Elements.{All-from_recursion}
@@ -22,7 +23,8 @@ use Rattle.prune.specs.Lemmas.Lists.{Contains-head, Contains-tail}
 use Rattle.prune.specs.Lemmas.Values.{xor_value-member}
 use Rattle.prune.specs.Lemmas.Reached.{search-within}
 use Rattle.prune.specs.Points.{or_points}
-use Rattle.prune.specs.Reached.{HaveGoods, IsPointFor, IsPackingFor}
+use Rattle.valuation.specs.Packings.{IsPackingFor}
+use Rattle.prune.specs.Reached.{HaveGoods, IsPointFor}
 use Rattle.prune.specs.SearchSteps.{atoms_inside, cut_steps, greatest_price}
 use Rattle.canon.specs.Canonical.{bid_from}
 use Rattle.canon.specs.Renaming.{kept_bids, points_of_dummy}
@@ -39,7 +41,8 @@ use Rattle.explain.proofs.Keeping.{bid_of}
 use Rattle.explain.proofs.Packings.{of_packing}
 use Rattle.explain.proofs.PointLists.{or_listed, have_goods}
 
-xor_value-more : (xs ys : List (Atom (List ℕ))) → ((a : Atom (List ℕ)) → Contains xs a → Contains ys a) → (bundle : List ℕ) → xor_value xs bundle ≤ xor_value ys bundle
+xor_value-more : (xs ys : List (Atom (List ℕ))) → ((a : Atom (List ℕ)) → Contains xs a → Contains ys a) → (bundle : List ℕ)
+    → xor_value xs bundle ≤ xor_value ys bundle
 xor_value-more [] ys h bundle = omega (arith, xor_value-nil bundle)
 xor_value-more (a ∷ xs) ys h bundle =
     xor_value-least a xs bundle (xor_value ys bundle) (xor_value-more xs ys (λ b c. h b (Contains-tail a xs b c)) bundle)
@@ -62,7 +65,8 @@ some_is None e = absurd (cc)
 some_is (Some d) e = refl
 
 module _ {S : Type 0} (goods : S → List ℕ) (known : Known S) (is : IsKnown goods known) (i : ℕ) (within : i < length known.file.now.bids)
-    (drop : IsToDrop known.file.now i) (all : List (Atom (List ℕ))) (ours : all ≡ atoms_of goods (points_at known.points (bid_at known.file.now i).dummy).atoms.items)
+    (drop : IsToDrop known.file.now i) (all : List (Atom (List ℕ)))
+    (ours : all ≡ atoms_of goods (points_at known.points (bid_at known.file.now i).dummy).atoms.items)
     (atom : Atom S) (offers : plain_atom goods atom ≡ atom_of (bid_at known.file.now i)) where
   abbrev f : PlainFile
   f = known.file.now
@@ -109,10 +113,12 @@ module _ {S : Type 0} (goods : S → List ℕ) (known : Known S) (is : IsKnown g
       let greatest : greatest_price bids own.goods ≡ own.price = greatest-is-best f i within drop.bid.best none in
       let positive = drop.bid.positive in
       let auction = IsAuction-auction_from f.goods f is.plain (omega arith) in
-      let steps = search-within f.goods known.limit bids own.goods auction.or_atoms (bundle_here f is.plain i within) is.within (omega arith) (no_point_there none) in
+      let steps = search-within f.goods known.limit bids own.goods auction.or_atoms (bundle_here f is.plain i within) is.within (omega arith)
+      (no_point_there none) in
       subst (λ (p : ℕ). 1 + cut_steps (atoms_inside all (goods atom.bundle)) (goods atom.bundle) p ≤ known.limit) (greatest ∙ sym price_is)
       (subst (λ (xs : List ℕ). 1 + cut_steps (atoms_inside all xs) xs (greatest_price bids own.goods) ≤ known.limit) (sym bundle_is)
-      (subst (λ (ys : List (Atom (List ℕ))). 1 + cut_steps (atoms_inside ys own.goods) own.goods (greatest_price bids own.goods) ≤ known.limit) (sym (or_all none)) steps))
+      (subst (λ (ys : List (Atom (List ℕ))). 1 + cut_steps (atoms_inside ys own.goods) own.goods (greatest_price bids own.goods) ≤ known.limit)
+      (sym (or_all none)) steps))
 
   point_of : (p : ℕ) → p < length all → IsPointOf f own.dummy (atom_at all p) (get_or (points_at known.points own.dummy).numbers.items p 0)
   point_of p l =
@@ -123,7 +129,8 @@ module _ {S : Type 0} (goods : S → List ℕ) (known : Known S) (is : IsKnown g
 
   some_good : (p : ℕ) → p < length all → 0 < length (atom_at all p).bundle
   some_good p l =
-      subst (λ (ys : List (Atom (List ℕ))). HaveGoods ys) (sym ours) (have_goods goods f (length (kept_bids f)) own.dummy (points_at known.points own.dummy) is.plain points)
+      subst (λ (ys : List (Atom (List ℕ))). HaveGoods ys) (sym ours)
+      (have_goods goods f (length (kept_bids f)) own.dummy (points_at known.points own.dummy) is.plain points)
       p (record { bundle = []; price = 0 }) l
 
   pub has_packing : own.dummy ≡ None → (numbers places js : List ℕ) → numbers ≡ (points_at known.points own.dummy).numbers.items

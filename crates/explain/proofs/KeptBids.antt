@@ -90,7 +90,8 @@ pub xor-points-are-kept : (f : PlainFile) → (d : ℕ) → Contains (kept_dummi
 xor-points-are-kept f d e a c =
     subst (λ (bs : List PlainBid). (k : ℕ) × (slice_get bs k ≡ Some (bid_from (Some d) a))) (sym (kept_bids_are f))
     (listed _ (bid_from (Some d) a) (Contains-append_right (map (bid_from None) (or_points_of f)) (flat_map (bids_of_dummy f) (kept_dummies f))
-    (bid_from (Some d) a) (in_flat_map (bids_of_dummy f) (kept_dummies f) d (bid_from (Some d) a) e (Contains-map (bid_from (Some d)) (points_of_dummy f d) a c))))
+    (bid_from (Some d) a) (in_flat_map (bids_of_dummy f) (kept_dummies f) d (bid_from (Some d) a) e
+    (Contains-map (bid_from (Some d)) (points_of_dummy f d) a c))))
 
 -- ---- no two are equal
 
@@ -105,7 +106,8 @@ bids-different f =
     different_append (map (bid_from None) (or_points_of f)) (flat_map (bids_of_dummy f) (kept_dummies f))
     (same_bundles None (or_points_of f) (points_where-in_order (is_or_point f.goods (or_atoms_of f.bids)) (or_value (or_atoms_of f.bids)) f.goods))
     (different_flat_map (bids_of_dummy f) (λ (b : PlainBid). unwrap_or b.dummy 0) (kept_dummies f) (kept_dummies-differ f)
-    (λ d c. same_bundles (Some d) (points_of_dummy f d) (points_where-in_order (is_xor_point (xor_atoms_of f.bids d)) (xor_value (xor_atoms_of f.bids d)) f.goods))
+    (λ d c. same_bundles (Some d) (points_of_dummy f d) (points_where-in_order (is_xor_point (xor_atoms_of f.bids d))
+    (xor_value (xor_atoms_of f.bids d)) f.goods))
     (λ d b c. let r = Contains-unmap (bid_from (Some d)) (points_of_dummy f d) b c in ap (λ (z : PlainBid). unwrap_or z.dummy 0) r.2))
     (λ b c e.
     let r = Contains-unmap (bid_from None) (or_points_of f) b c in
@@ -136,7 +138,8 @@ or_on f is = on_bundles f.goods (or_atoms_of f.bids) (auction f is).or_atoms
 
 xor_on : (f : PlainFile) → IsPlainFile f → (d : ℕ) → d < f.dummy → All (IsOnBundle f.goods) (xor_atoms_of f.bids d)
 xor_on f is d l =
-    on_bundles f.goods (xor_atoms_of f.bids d) (All-contains (All (IsAtom f.goods)) (map (xor_atoms_of f.bids) (range_with_len 0 f.dummy)) (xor_atoms_of f.bids d)
+    on_bundles f.goods (xor_atoms_of f.bids d) (All-contains (All (IsAtom f.goods)) (map (xor_atoms_of f.bids) (range_with_len 0 f.dummy))
+    (xor_atoms_of f.bids d)
     (auction f is).xor_atoms (Contains-map (xor_atoms_of f.bids) (range_with_len 0 f.dummy) d (in_numbers f.dummy d l)))
 
 bid_of_atom : (dummy : Option ℕ) (a : Atom (List ℕ)) (b : PlainBid) → b.dummy ≡ dummy → a ≡ atom_of b → b ≡ bid_from dummy a
@@ -179,7 +182,8 @@ xor_greatest f is d m a c =
         is = bid_of_atom (Some d) a (bid_at f r.0) (some_is d (bid_at f r.0).dummy r.1.passes) r.1.is;
         greatest = λ i l h.
             let some : (bid_at f i).dummy ≡ Some d = same_bidder (bid_at f i).dummy (Some d) h.bidder in
-            let low = xor_value-member atoms (atom_of (bid_at f i)) (atom_there (λ b. is_dummy d b.dummy) f i l (is_dummy-same d (bid_at f i).dummy some)) a.bundle
+            let low = xor_value-member atoms (atom_of (bid_at f i))
+            (atom_there (λ b. is_dummy d b.dummy) f i l (is_dummy-same d (bid_at f i).dummy some)) a.bundle
             (subst (λ (xs : List ℕ). IsInside (bid_at f i).goods xs) h.goods (inside_refl (bid_at f i).goods)) in
             omega arith;
       },

@@ -4,7 +4,8 @@ use Rattle.std.proofs.Common.{◌≡◌, ℕ, ◌<◌, ◌≤◌, Bool, true, fa
 use Rattle.std.proofs.Common.{Option, Some, None, is_none, refl, sym, ap, ◌∙◌, subst, arith, le_antisymm}
 use Rattle.std.specs.Prelude.{Contains}
 use Rattle.std.specs.List.{filter}
-use Rattle.std.proofs.lemmas.Bool.{and_parts, and_from, or_left, or_right, or_cases, cases_lt, both_ways, eqb-true, eq-eqb, ltb-true, lt-ltb, not_from_false, not-true, false_from_ne_true}
+use Rattle.std.proofs.lemmas.Bool.{and_parts, and_from, or_left, or_right, or_cases, cases_lt, both_ways, eqb-true, eq-eqb, ltb-true, lt-ltb, not_from_false}
+use Rattle.std.proofs.lemmas.Bool.{not-true, false_from_ne_true}
 use Rattle.std.proofs.lemmas.List.{get_or_default}
 use Rattle.std.proofs.lemmas.List.Elements.{Contains-get_or}
 use Rattle.std.proofs.lemmas.List.Folds.{list_any_none}
@@ -56,7 +57,8 @@ module _ (f : PlainFile) (i j : ℕ) (best : is_best f i ≡ true) (l : j < leng
   pub best_is_first : (bid_at f j).price ≡ (bid_at f i).price → i ≤ j
   best_is_first e =
       ⊎_elim
-      (λ (m : j < i). absurd (better (or_right (ltb (bid_at f i).price (bid_at f j).price) _ (and_from (eqb (bid_at f j).price (bid_at f i).price) (ltb j i) (eq-eqb _ _ e) (lt-ltb j i m)))))
+      (λ (m : j < i). absurd (better (or_right (ltb (bid_at f i).price (bid_at f j).price) _
+      (and_from (eqb (bid_at f j).price (bid_at f i).price) (ltb j i) (eq-eqb _ _ e) (lt-ltb j i m)))))
       (λ (m : i ≤ j). m) (cases_lt j i)
 
 -- of the bids of a bidder on a bundle one is the best
@@ -152,6 +154,10 @@ greatest-is-best f i l best or =
     let r = atom_from (λ b. is_none b.dummy) f a c in
     let price : a.price ≡ (bid_at f r.0).price = ap (λ (z : Atom (List ℕ)). z.price) r.1.is in
     let goods : a.bundle ≡ (bid_at f r.0).goods = ap (λ (z : Atom (List ℕ)). z.bundle) r.1.is in
-    let low = best_is_greatest f i r.0 best r.1.within (record { bidder = ap bidder_of (none_is (bid_at f r.0).dummy r.1.passes ∙ sym or); goods = sym goods ∙ e }) in
+    let low = best_is_greatest f i r.0 best r.1.within (record {
+      bidder = ap bidder_of (none_is (bid_at f r.0).dummy r.1.passes ∙ sym or);
+      goods = sym goods
+          ∙ e;
+    }) in
     omega arith)))
     (greatest_price-member (or_atoms_of f.bids) (atom_of (bid_at f i)) (atom_there (λ b. is_none b.dummy) f i l (ap is_none or)))

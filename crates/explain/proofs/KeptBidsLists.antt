@@ -101,7 +101,8 @@ different_places {X} (x ∷ xs) h k l m n e =
     ⊎_elim (λ (o : k < l). absurd (h k l x o n one))
     (λ (o : l ≤ k). ⊎_elim (λ (q : l < k). absurd (h l k x q m (sym one))) (λ (q : k ≤ l). omega arith) (cases_lt l k)) (cases_lt k l)
 
-pub different_append : {X : Type 0} (xs ys : List X) → AreDifferent xs → AreDifferent ys → ((x : X) → Contains xs x → Contains ys x → ⊥) → AreDifferent (xs ++ ys)
+pub different_append : {X : Type 0} (xs ys : List X) → AreDifferent xs → AreDifferent ys → ((x : X) → Contains xs x → Contains ys x → ⊥)
+    → AreDifferent (xs ++ ys)
 different_append {X} xs ys h k n =
     AllPairs-append (λ x y. x ≡ y → ⊥) xs ys h k (All-from_Contains (λ x. All (λ y. x ≡ y → ⊥) ys) xs
     (λ x c. All-from_Contains (λ y. x ≡ y → ⊥) ys (λ y d e. n x c (subst (λ (z : X). Contains ys z) (sym e) d))))

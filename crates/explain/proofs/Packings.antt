@@ -20,7 +20,7 @@ use Rattle.bid_file.specs.Files.{PlainBid, PlainFile}
 use Rattle.valuation.specs.declared.atom.Atom.{Atom}
 use Rattle.valuation.specs.Conflicts.{atom_at}
 use Rattle.valuation.specs.Lemmas.Lists.{AllPairs-head, AllPairs-tail, AllPairs-map}
-use Rattle.prune.specs.Reached.{IsPackingFor}
+use Rattle.valuation.specs.Packings.{IsPackingFor}
 use Rattle.explain.specs.Bids.{bid_at}
 use Rattle.explain.specs.Reasons.{all_apart, goods_at}
 use Rattle.explain.specs.Internal.BidderPoints.{IsPointOf}
@@ -133,7 +133,8 @@ module _ (f : PlainFile) (goods : List ℕ) (price : ℕ) (atoms : List (Atom (L
 
   increasing : AllPairs (λ i j. i < j) js
   increasing =
-      let distinct = IsDistinct-IsPermutation eqb eqb_flips (values_at numbers places) js same (IsDistinct-from_AllPairs Decides-eqb (values_at numbers places) different) in
+      let distinct = IsDistinct-IsPermutation eqb eqb_flips (values_at numbers places) js same
+      (IsDistinct-from_AllPairs Decides-eqb (values_at numbers places) different) in
       AllPairs-from_increasing js (IsStrictlyIncreasing-from_distinct js (IsNonDecreasingBy-from_sort (λ n. n) js sorted) distinct)
 
   back : (j : ℕ) → Contains js j → Contains (values_at numbers places) j
@@ -161,7 +162,8 @@ module _ (f : PlainFile) (goods : List ℕ) (price : ℕ) (atoms : List (Atom (L
   sums : (ps : List ℕ) → All (λ p. p < length atoms) ps → sum_by (λ a. a.price) (map (atom_at atoms) ps) ≡ sum_by (λ j. (bid_at f j).price) (map number ps)
   sums [] h = refl
   sums (p ∷ ps) h =
-      let here : (bid_at f (number p)).price ≡ (atom_at atoms p).price = ap (λ (b : PlainBid). b.price) (point p (All-head (λ q. q < length atoms) p ps h)).is in
+      let here : (bid_at f (number p)).price ≡ (atom_at atoms p).price =
+      ap (λ (b : PlainBid). b.price) (point p (All-head (λ q. q < length atoms) p ps h)).is in
       let rest = sums ps (All-tail (λ q. q < length atoms) p ps h) in
       let one = sum_by-cons (λ (a : Atom (List ℕ)). a.price) (atom_at atoms p) (map (atom_at atoms) ps) in
       let other = sum_by-cons (λ j. (bid_at f j).price) (number p) (map number ps) in

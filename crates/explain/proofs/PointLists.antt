@@ -1,5 +1,6 @@
 -- The points of a file's bidders, one bid of the canonical file after another: each is put after the others of its bidder.
-use Rattle.std.proofs.Common.{◌≡◌, ◌≢◌, ℕ, ◌+◌, ◌<◌, ◌≤◌, ◌⊎◌, inl, inr, ⊎_elim, List, [], ◌∷◌, ◌++◌, length, get_or, take, Option, Some, None, refl, sym, ap, ap₂, ◌∙◌, subst, subst₂, arith}
+use Rattle.std.proofs.Common.{◌≡◌, ◌≢◌, ℕ, ◌+◌, ◌<◌, ◌≤◌, ◌⊎◌, inl, inr, ⊎_elim, List, [], ◌∷◌, ◌++◌, length, get_or, take, Option, Some, None, refl, sym, ap}
+use Rattle.std.proofs.Common.{ap₂, ◌∙◌, subst, subst₂, arith}
 use Rattle.std.specs.Prelude.{All, Contains}
 use Rattle.std.specs.List.{slice_get}
 use Rattle.std.proofs.lemmas.Bool.{cases_lt, cases_eq}
@@ -47,7 +48,8 @@ module _ {S : Type 0} (goods : S → List ℕ) (f : PlainFile) (k : ℕ) where
       let after : atoms_of goods new.atoms.items ≡ before ++ last ∷ [] = ap (atoms_of goods) more.atoms ∙ map_push (plain_atom goods) old.atoms.items atom in
       let mapped = length-map old.atoms.items (plain_atom goods) in
       let atoms_long : length new.atoms.items ≡ length old.atoms.items + 1 = ap (length {A = Atom S}) more.atoms ∙ length-append old.atoms.items (atom ∷ []) in
-      let numbers_long : length new.numbers.items ≡ length old.numbers.items + 1 = ap (length {A = ℕ}) more.numbers ∙ length-append old.numbers.items (number ∷ []) in
+      let numbers_long : length new.numbers.items ≡ length old.numbers.items + 1 = ap (length {A = ℕ}) more.numbers
+      ∙ length-append old.numbers.items (number ∷ []) in
       let long = h.long in
       record {
         long = omega arith;
@@ -108,7 +110,8 @@ no_points {S} goods f points long none = record {
 
 module _ {S : Type 0} (goods : S → List ℕ) (f : PlainFile) (k : ℕ) (b : PlainBid) (dummy : Option ℕ) (atom : Atom S) (number : ℕ) (old new : FilePoints S)
     (h : AreFilePoints goods f k old) (here : slice_get (canonical_file f).bids k ≡ Some b) (offers : plain_atom goods atom ≡ atom_of b)
-    (names : dummy ≡ named_dummy (kept_dummies f) b.dummy) (there : slice_get (kept_bids f) k ≡ Some (named_bid (kept_dummies f) b)) (kept : IsKeptAs f number k)
+    (names : dummy ≡ named_dummy (kept_dummies f) b.dummy) (there : slice_get (kept_bids f) k ≡ Some (named_bid (kept_dummies f) b))
+    (kept : IsKeptAs f number k)
     (bidders : length new.xor.items ≡ length old.xor.items) (own : HasMore (points_at old dummy) atom number (points_at new dummy))
     (others : (other : Option ℕ) → IsDummyBelow (length old.xor.items) other → other ≢ dummy → points_at new other ≡ points_at old other) where
   offered : named_bid (kept_dummies f) b ≡ bid_from dummy (plain_atom goods atom)
@@ -165,7 +168,8 @@ or_listed goods f points h =
     h.or ∙ ap or_atoms_of (take_all (length (kept_bids f)) (canonical_file f).bids (omega arith))
     ∙ ap (λ (a : PlainAuction). a.or_atoms) (auction_from-file_from (canonical_auction (auction_from f)))
 
-pub have_goods : {S : Type 0} (goods : S → List ℕ) (f : PlainFile) (n : ℕ) (dummy : Option ℕ) (points : BidderPoints S) → IsPlainFile f → ArePoints goods f n dummy points
+pub have_goods : {S : Type 0} (goods : S → List ℕ) (f : PlainFile) (n : ℕ) (dummy : Option ℕ) (points : BidderPoints S) → IsPlainFile f
+    → ArePoints goods f n dummy points
     → HaveGoods (atoms_of goods points.atoms.items)
 have_goods goods f n dummy points is h p d l =
     let atoms : List (Atom (List ℕ)) = atoms_of goods points.atoms.items in

@@ -59,5 +59,6 @@ numbered_at f bids listed order same q d l =
     let r = numbered f listed (subst (AreInOrder f) (sym same) order) (bid_at f 0) (get_or listed q d) (Contains-get_or listed q d l) in
     record { within = r.0; is = r.1 }
 
-pub same_there : (bids listed : List NumberedBid) → listed ≡ bids → (q : ℕ) (d : NumberedBid) → q < length listed → get_or bids q (get_or listed q d) ≡ get_or listed q d
+pub same_there : (bids listed : List NumberedBid) → listed ≡ bids → (q : ℕ) (d : NumberedBid) → q < length listed
+    → get_or bids q (get_or listed q d) ≡ get_or listed q d
 same_there bids listed same q d l = ap (λ (xs : List NumberedBid). get_or xs q (get_or listed q d)) (sym same) ∙ get_or_default listed q (get_or listed q d) d l

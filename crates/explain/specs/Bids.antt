@@ -1,6 +1,7 @@
 -- Bids by number, and a bidder's best bid on a bundle. The best one has the highest price, and it is
 -- of those the one of the smallest number.
-use Rattle.std.specs.Prelude.{◌≡◌, ℕ, ◌+◌, ◌<◌, Bool, true, ◌&&◌, ◌||◌, not, ◌==◌, nat_lt, List, [], length, slice_index_or, Option, Some, None}
+use Rattle.std.specs.Prelude.{◌≡◌, ℕ, ◌+◌, ◌<◌, Bool, true, ◌&&◌, ◌||◌, not, ◌==◌, nat_lt, List, [], length}
+use Rattle.std.specs.Prelude.{slice_index_or, Option, Some, None}
 use Rattle.std.specs.List.{list_any, range_with_len}
 use Rattle.std.specs.Ordering.{is_eq}
 use Rattle.goods_set.specs.Orders.{bundle_cmp}
@@ -23,7 +24,7 @@ bidder_of (Some d) = d + 1
 abbrev pub are_alike : PlainBid → PlainBid → Bool
 are_alike a b = (bidder_of a.dummy == bidder_of b.dummy) && is_eq (bundle_cmp a.goods b.goods)
 
--- bid i is of the same bidder as bid j, on the same goods, and has a higher price, or the same price and a smaller number
+-- bid i is of the same bidder as bid j, on the same goods, and has a higher price, or an equal one and a smaller number
 abbrev pub is_better : PlainFile → ℕ → ℕ → Bool
 is_better f i j = are_alike (bid_at f i) (bid_at f j)
     && (nat_lt (bid_at f j).price (bid_at f i).price || ((bid_at f i).price == (bid_at f j).price && nat_lt i j))

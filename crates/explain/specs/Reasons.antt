@@ -1,5 +1,6 @@
 -- Why each bid of a file is kept or dropped.
-use Rattle.std.specs.Prelude.{◌≡◌, ℕ, ◌<◌, ◌≤◌, ◌==◌, Bool, true, false, ◌&&◌, List, [], ◌∷◌, length, slice_get, slice_index_or, Some, None}
+use Rattle.std.specs.Prelude.{◌≡◌, ℕ, ◌<◌, ◌≤◌, ◌==◌, Bool, true, false, ◌&&◌, List, [], ◌∷◌, length, slice_get}
+use Rattle.std.specs.Prelude.{slice_index_or, Some, None}
 use Rattle.std.specs.Prelude.{is_some, sum_by, count_by}
 use Rattle.std.specs.List.{AllByRecursion, list_all, range_with_len}
 use Rattle.goods_set.specs.Bundles.{IsInside, IsRising, are_apart}

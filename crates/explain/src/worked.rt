@@ -75,7 +75,8 @@ pub fn xor_bids()
 /// What is no reason.
 #[tactic(auto, unfolding(prune::specs::Points::points_where, prune::specs::Points::is_xor_point, prune::specs::Points::is_or_point, valuation::specs::Values::xor_value, valuation::specs::Values::or_value))]
 pub fn wrong_reasons()
-    ensures lower_named_as_best { HasSame (file 1 0 (or_bid (0 ∷ []) 3 ∷ or_bid (0 ∷ []) 4 ∷ or_bid (0 ∷ []) 2 ∷ [])) 2 0 → ⊥ }
+    ensures lower_named_as_best { HasSame (file 1 0 (or_bid (0 ∷ []) 3 ∷ or_bid (0 ∷ []) 4 ∷ or_bid (0 ∷ []) 2 ∷ [])) 2 0
+        → ⊥ }
     ensures named_as_its_own_best { HasSame (file 1 0 (or_bid (0 ∷ []) 3 ∷ [])) 0 0 → ⊥ }
     ensures dropped_reported_as_kept { IsKeptAs (file 2 0 (or_bid (0 ∷ 1 ∷ []) 7 ∷ or_bid (1 ∷ []) 7 ∷ [])) 0 0 → ⊥ }
     ensures short { HasPacking (file 2 0 (or_bid (0 ∷ 1 ∷ []) 8 ∷ or_bid (1 ∷ []) 4 ∷ or_bid (0 ∷ []) 3 ∷ []))

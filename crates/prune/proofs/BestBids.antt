@@ -175,7 +175,8 @@ best_from_sorted bids sorted p up =
       among = All-from_Contains (Contains bids) (dedup is_same_bundle sorted) (λ b c. (back b c).0);
       positive = All-from_Contains (λ b. 0 < b.price) (dedup is_same_bundle sorted) (λ b c. ltb-true 0 b.price (back b c).1);
       dominates = All-from_Contains (λ a. 0 < a.price → Dominated (dedup is_same_bundle sorted) a) bids
-          (λ a c l. dominated sorted pairs a (Contains-permutation (filter has_price bids) sorted a p (Contains-filter has_price bids a c (lt-ltb 0 a.price l))));
+          (λ a c l. dominated sorted pairs a (Contains-permutation (filter has_price bids) sorted a p
+          (Contains-filter has_price bids a c (lt-ltb 0 a.price l))));
     }
 
 -- ---- bids of the code, seen by the goods of their sets

@@ -4,10 +4,9 @@ pub mod BestBids
 pub mod ListedAtoms
 pub mod WrittenPostings
 pub mod Results
+pub mod Refusals
 pub mod Prefixes
 pub mod PruningLoop
-pub mod ReachingLevels
-pub mod PathPackings
 pub mod PointPlaces
-pub mod ReachingPath
 pub mod WorkedPostings
+pub mod SearchedPlaces

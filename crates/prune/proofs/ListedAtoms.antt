@@ -1,7 +1,8 @@
 -- Atoms are found through the goods of a bundle: each atom inside it is listed at one of its goods, which is a good of the bundle.
 -- The places found, sorted, are those of the atoms inside the bundle, since no place is listed twice.
 use Rattle.std.proofs.Common.{◌≡◌, ◌≢◌, ℕ, zero, suc, ◌+◌, ◌<◌, ◌≤◌, Bool, true, false, cond, leb, take, append_assoc}
-use Rattle.std.proofs.Common.{Bor, eqb, ◌⊎◌, inl, inr, ⊎_elim, List, [], ◌∷◌, ◌++◌, length, map, get_or, refl, sym, ap, ◌∙◌, subst, subst₂, arith, Some, None, nat_cmp, Less, Greater}
+use Rattle.std.proofs.Common.{Bor, eqb, ◌⊎◌, inl, inr, ⊎_elim, List, [], ◌∷◌, ◌++◌, length, map, get_or, refl, sym, ap, ◌∙◌, subst, subst₂, arith, Some, None}
+use Rattle.std.proofs.Common.{nat_cmp, Less, Greater}
 use Rattle.std.specs.Prelude.{All, AllPairs, Contains, IsPermutation}
 use Rattle.std.specs.List.{filter, list_any, range_with_len, slice_get}
 use Rattle.std.specs.List.Sorted.{IsSorted}
@@ -47,11 +48,13 @@ abbrev pub place_of : Posting → ℕ
 place_of posting = posting.index
 
 -- what is listed at the place is right
-pub posting_at : (lists : List (List Posting)) (listed : ℕ) (atoms : List (Atom (List ℕ))) (good place : ℕ) → AreListed lists listed atoms → Contains (places_at lists good) place
+pub posting_at : (lists : List (List Posting)) (listed : ℕ) (atoms : List (Atom (List ℕ))) (good place : ℕ) → AreListed lists listed atoms
+    → Contains (places_at lists good) place
     → (posting : Posting) × IsPosting atoms posting × (place ≡ posting.index)
 posting_at lists listed atoms good place a c = let r = Contains-unmap place_of (listed_at lists good) place c in (r.0, a.right good r.0 r.1, r.2)
 
-pub place_within : (lists : List (List Posting)) (listed : ℕ) (atoms : List (Atom (List ℕ))) (good place : ℕ) → AreListed lists listed atoms → Contains (places_at lists good) place
+pub place_within : (lists : List (List Posting)) (listed : ℕ) (atoms : List (Atom (List ℕ))) (good place : ℕ) → AreListed lists listed atoms
+    → Contains (places_at lists good) place
     → place < length atoms
 place_within lists listed atoms good place a c = let r = posting_at lists listed atoms good place a c in let l = r.1.within in omega (arith, r.2)
 
@@ -87,7 +90,8 @@ pub record IsFinding (lists : List (List Posting)) (atoms : List (Atom (List ℕ
   pub once : AllPairs (λ one other. one ≢ other) found
 
 pub IsFinding-more : (lists : List (List Posting)) (listed : ℕ) (atoms : List (Atom (List ℕ))) (bundle : List ℕ) (from good : ℕ) (found more : List ℕ)
-    → AreListed lists listed atoms → IsRising bundle → good_from bundle from ≡ Some good → more ≡ found ++ filter (is_inside_at atoms bundle) (places_at lists good)
+    → AreListed lists listed atoms → IsRising bundle → good_from bundle from ≡ Some good
+    → more ≡ found ++ filter (is_inside_at atoms bundle) (places_at lists good)
     → IsFinding lists atoms bundle from found → IsFinding lists atoms bundle (good + 1) more
 IsFinding-more lists listed atoms bundle from good found more a r next e f =
     let p = is_inside_at atoms bundle in
@@ -188,7 +192,8 @@ eqb_flips : (x y : ℕ) → eqb x y ≡ eqb y x
 eqb_flips x y = same_test (eqb x y) (eqb y x) (λ t. eq-eqb y x (sym (eqb-true x y t))) (λ t. eq-eqb x y (sym (eqb-true y x t)))
 
 -- all goods are done: the places found are those of the atoms inside the bundle
-pub IsFinding-all : (lists : List (List Posting)) (listed : ℕ) (atoms : List (Atom (List ℕ))) (bundle : List ℕ) (from : ℕ) (found sorted : List ℕ) → AreListed lists listed atoms
+pub IsFinding-all : (lists : List (List Posting)) (listed : ℕ) (atoms : List (Atom (List ℕ))) (bundle : List ℕ) (from : ℕ) (found sorted : List ℕ)
+    → AreListed lists listed atoms
     → NoneInsideFrom listed atoms bundle → good_from bundle from ≡ None → IsFinding lists atoms bundle from found
     → IsPermutation found sorted → IsSorted nat_cmp sorted → sorted ≡ filter (is_inside_at atoms bundle) (range_with_len 0 (length atoms))
 IsFinding-all lists listed atoms bundle from found sorted a unlisted none f p up =
@@ -218,7 +223,8 @@ NoneDominates lists atoms bundle price from = (good place : ℕ) → has_good bu
     → dominates_at atoms bundle price place ≡ false
 
 pub NoneDominates-more : (lists : List (List Posting)) (atoms : List (Atom (List ℕ))) (bundle : List ℕ) (price from good : ℕ) → IsRising bundle
-    → good_from bundle from ≡ Some good → list_any (dominates_at atoms bundle price) (places_at lists good) ≡ false → NoneDominates lists atoms bundle price from
+    → good_from bundle from ≡ Some good → list_any (dominates_at atoms bundle price) (places_at lists good) ≡ false
+    → NoneDominates lists atoms bundle price from
     → NoneDominates lists atoms bundle price (good + 1)
 NoneDominates-more lists atoms bundle price from good r next e h g place has l c =
     let n : IsNextGood bundle from good = good_from-Some bundle from good r next in
@@ -229,12 +235,15 @@ NoneDominates-more lists atoms bundle price from good r next e h g place has l c
     (cases_eq g good)
 
 -- all goods are done: none is there
-pub NoneDominates-all : (lists : List (List Posting)) (listed : ℕ) (atoms : List (Atom (List ℕ))) (bundle : List ℕ) (price from : ℕ) → AreListed lists listed atoms
-    → NoneInsideFrom listed atoms bundle → good_from bundle from ≡ None → NoneDominates lists atoms bundle price from → list_any (dominates bundle price) atoms ≡ false
+pub NoneDominates-all : (lists : List (List Posting)) (listed : ℕ) (atoms : List (Atom (List ℕ))) (bundle : List ℕ) (price from : ℕ)
+    → AreListed lists listed atoms
+    → NoneInsideFrom listed atoms bundle → good_from bundle from ≡ None → NoneDominates lists atoms bundle price from
+    → list_any (dominates bundle price) atoms ≡ false
 NoneDominates-all lists listed atoms bundle price from a unlisted none h =
     list_any_none (dominates bundle price) atoms (λ place d l.
     false_from_ne_true (dominates bundle price (get_or atoms place d)) (λ t.
-    let here : dominates_at atoms bundle price place ≡ true = ap (dominates bundle price) (get_or_default atoms place (record { bundle = []; price = 0 }) d l) ∙ t in
+    let here : dominates_at atoms bundle price place ≡ true = ap (dominates bundle price) (get_or_default atoms place (record { bundle = []; price = 0 }) d l)
+    ∙ t in
     let inside = (and_parts (leb price (atom_at atoms place).price) (is_inside_at atoms bundle place) here).1 in
     let at = listed_before lists listed atoms bundle from place a none (is_listed listed atoms bundle unlisted place l inside) inside in
     both_ways (dominates_at atoms bundle price place) (h at.0 place at.1 at.2 at.3) here))

@@ -54,6 +54,9 @@ module _ {X : Type 0} (first now : List X) (place : ℕ) (x : X) (h : IsLeft fir
     pub next_parts : first ≡ take place first ++ x ∷ drop (place + 1) first
     next_parts = sym (take-append-drop place first) ∙ ap (λ zs. take place first ++ zs) (next_rest ∙ ap (λ zs. x ∷ zs) next_there.1)
 
+    pub next_drop : drop place first ≡ x ∷ drop (place + 1) first
+    next_drop = next_rest ∙ ap (λ zs. x ∷ zs) next_there.1
+
     -- what is behind the element stays
     pub next_left : (after : List X) → length after ≡ length now → drop (place + 1) after ≡ drop (place + 1) now → IsLeft first after (place + 1)
     next_left after long rest = record { long = long ∙ h.long; rest = rest ∙ next_there.1 }

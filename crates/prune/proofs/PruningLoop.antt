@@ -5,10 +5,11 @@ use Rattle.std.proofs.Common.{sym, ap, ap₂, ◌∙◌, subst, arith, Bor, ltb,
 use Rattle.std.specs.Prelude.{All, Contains}
 use Rattle.std.specs.List.{filter, list_any}
 use Rattle.std.proofs.lemmas.Bool.{cases_lt, le-leb, lt-leb, and_parts, ltb-true}
-use Rattle.std.proofs.lemmas.List.{map-append, map_push, drop_more, take_all, take_more, take-append-drop, take-map}
+use Rattle.std.proofs.lemmas.List.{map-append, map_push, drop_more, drop_all, take_all, take_more, take-append-drop, take-map}
 use Rattle.std.proofs.lemmas.List.Elements.{All-nil, All-cons, All-head, All-tail, All-contains, All-filter, All-weaker, Contains-append_left, filter_passes}
 use Rattle.goods_set.specs.Bundles.{IsRising, is_inside, IsInside}
 use Rattle.valuation.specs.declared.atom.Atom.{Atom}
+use Rattle.valuation.specs.declared.search_kind.SearchKind.TheVariants.{Plain}
 use Rattle.valuation.specs.Lemmas.Atoms.{get_or-atoms_of}
 use Rattle.valuation.specs.Auctions.{IsAtom}
 use Rattle.valuation.specs.Values.{atoms_of, xor_value, plain_atom}
@@ -22,9 +23,9 @@ use Rattle.prune.specs.Internal.Listings.{dominates, atom_at, AreUndominated}
 use Rattle.prune.specs.Lemmas.OnBundles.{IsOnBundle}
 use Rattle.prune.specs.Internal.BestBids.{AreBestBids}
 use Rattle.prune.proofs.Pruning.{HasRisingBundle, IsKept-none}
-use Rattle.prune.proofs.Results.{IsTurn, IsXorKept, IsOrKept, AreXorPoints, AreOrPoints, turn_among, turn_positive, xor_done, xor_missed, xor_more, xor_fewer, or_done}
-use Rattle.prune.proofs.Results.{Within, none_heavy}
-use Rattle.prune.proofs.Prefixes.{IsLeft, next_parts, next_taken}
+use Rattle.prune.proofs.Results.{IsTurn, IsXorKept, IsOrKept, AreXorPoints, AreOrPoints, turn_among, turn_positive, xor_done, xor_missed, xor_more, xor_fewer}
+use Rattle.prune.proofs.Results.{or_done}
+use Rattle.prune.proofs.Prefixes.{IsLeft, next_parts, next_taken, next_drop}
 
 -- ---- atoms of the code
 
@@ -166,7 +167,8 @@ pub one_more_undominated : {S : Type 0} (goods : S → List ℕ) (atoms before :
     → i < length atoms → bid ≡ get_or atoms i bid → before ≡ take i atoms → list_any (dominates (goods bid.bundle) bid.price) (atoms_of goods before) ≡ false
     → ((k : ℕ) → k < i → list_any (dominates (atom_at (atoms_of goods atoms) k).bundle (atom_at (atoms_of goods atoms) k).price) (take k (atoms_of goods atoms))
     ≡ false)
-    → (k : ℕ) → k < i + 1 → list_any (dominates (atom_at (atoms_of goods atoms) k).bundle (atom_at (atoms_of goods atoms) k).price) (take k (atoms_of goods atoms))
+    → (k : ℕ) → k < i + 1 → list_any (dominates (atom_at (atoms_of goods atoms) k).bundle (atom_at (atoms_of goods atoms) k).price)
+    (take k (atoms_of goods atoms))
     ≡ false
 one_more_undominated {S} goods atoms before i bid l is prefix free h k within =
     let seen = atoms_of goods atoms in
@@ -175,7 +177,8 @@ one_more_undominated {S} goods atoms before i bid l is prefix free h k within =
     let here : list_any (dominates (atom_at seen i).bundle (atom_at seen i).price) (take i seen) ≡ false =
     ap₂ (λ (x : Atom (List ℕ)) (zs : List (Atom (List ℕ))). list_any (dominates x.bundle x.price) zs) at those ∙ free in
     ⊎_elim (λ (lt : k < i). h k lt)
-    (λ (le : i ≤ k). let e : i ≡ k = omega arith in subst (λ n. list_any (dominates (atom_at seen n).bundle (atom_at seen n).price) (take n seen) ≡ false) e here)
+    (λ (le : i ≤ k). let e : i ≡ k = omega arith in subst
+    (λ n. list_any (dominates (atom_at seen n).bundle (atom_at seen n).price) (take n seen) ≡ false) e here)
     (cases_lt k i)
 
 pub xor_undominated : {S : Type 0} (goods : S → List ℕ) (rising : (s : S) → IsRising (goods s)) (bids : List (Atom (List ℕ))) (atoms : List (Atom S))
@@ -185,22 +188,14 @@ xor_undominated goods rising bids atoms b free =
     let whole : take (length best) best ≡ best = take_all (length best) best (omega arith) in
     xor_done bids best best b (rw whole at (first_undominated bids best b (all_rising goods rising atoms) free (length best) (omega arith)))
 
--- nothing is heavy, and the first heavy bundle
-pub none_heavy_end : {S : Type 0} (goods : S → List ℕ) (n limit : ℕ) (bids : List (Atom (List ℕ))) (best kept : List (Atom S)) (place : ℕ)
-    → All (IsOnBundle n) bids → AreBestBids bids (atoms_of goods best) → IsOrKept (atoms_of goods (take place best)) (atoms_of goods kept)
-    → Within limit (atoms_of goods kept) (atoms_of goods (take place best)) → length best ≤ place → first_heavy n limit bids ≡ None
-none_heavy_end {S} goods n limit bids best kept place on b k w l =
-    let all = take_all place best l in
-    none_heavy n limit bids (atoms_of goods best) (atoms_of goods kept) on b
-    (subst (λ (zs : List (Atom S)). IsOrKept (atoms_of goods zs) (atoms_of goods kept)) all k)
-    (subst (λ (zs : List (Atom S)). Within limit (atoms_of goods kept) (atoms_of goods zs)) all w)
+-- ---- the bids that are left
 
--- a heavy bundle has more packings by all bids than the limit
-pub heavy_load : (n limit : ℕ) (bids : List (Atom (List ℕ))) (bundle : List ℕ) → All (IsOnBundle n) bids → is_heavy n limit bids bundle ≡ true
-    → limit < steps_at_most bids bundle
-unfolding is_heavy
-heavy_load n limit bids bundle on h =
-    let parts = and_parts (ltb 0 (greatest_price bids bundle)) (ltb limit (search_steps n bids bundle)) h in
-    let more : limit < search_steps n bids bundle = ltb-true _ _ parts.1 in
-    let bound = search_within_bound n bids on bundle in
-    omega arith
+-- the next one is the first of them
+pub one_left : {S : Type 0} (goods : S → List ℕ) (best now : List (Atom S)) (place : ℕ) (bid : Atom S) → IsLeft best now place → place < length now
+    → bid ≡ get_or now place bid
+    → atoms_of goods (drop place best) ≡ plain_atom goods bid ∷ atoms_of goods (drop (place + 1) best)
+one_left {S} goods best now place bid h l is = ap (atoms_of goods) (next_drop best now place bid h l is)
+
+-- behind the last one there is none
+pub none_left : {S : Type 0} (goods : S → List ℕ) (best : List (Atom S)) (place : ℕ) → length best ≤ place → atoms_of goods (drop place best) ≡ []
+none_left goods best place l = ap (atoms_of goods) (drop_all place best l)

@@ -17,7 +17,7 @@ use Rattle.valuation.specs.Lemmas.Lists.{Contains-cons_cases}
 use Rattle.valuation.specs.Lemmas.OrValues.{or_value-nil, or_value-rest, or_value-least, or_value-taken, or_value-price, or_value-filter_le}
 use Rattle.prune.specs.Points.{xor_points, or_points}
 use Rattle.prune.specs.Lemmas.OnBundles.{IsOnBundle}
-use Rattle.prune.specs.SearchSteps.{is_below, atoms_below, greatest_price, cut_steps, search_steps, is_heavy, first_heavy}
+use Rattle.prune.specs.SearchSteps.{is_below, atoms_below, greatest_price, cut_steps, search_steps_by, is_heavy, first_heavy}
 use Rattle.prune.specs.Lemmas.Lists.{zero_or_more, Contains-head, Contains-tail, Contains-filter_parts, All-from_Contains, find_first, find_none}
 use Rattle.prune.specs.Internal.Listings.{IsBehind}
 use Rattle.prune.specs.InOrder.{IsBefore, IsInOrder}
@@ -82,7 +82,7 @@ turn_positive bids done x rest t =
     All-contains (λ b. 0 < b.price) (done ++ x ∷ rest) x t.best.positive (Contains-append_right done (x ∷ rest) x (Contains-head x rest))
 
 -- the kept atoms inside the bundle are those below it
-turn_below : (bids done : List (Atom (List ℕ))) (x : Atom (List ℕ)) (rest kept : List (Atom (List ℕ))) → IsTurn bids done x rest → All (Contains done) kept
+pub turn_below : (bids done : List (Atom (List ℕ))) (x : Atom (List ℕ)) (rest kept : List (Atom (List ℕ))) → IsTurn bids done x rest → All (Contains done) kept
     → filter (λ a. is_inside a.bundle x.bundle) kept ≡ atoms_below kept x.bundle
 turn_below bids done x rest kept t among =
     let first = rising_prefix done (x ∷ rest) t.rising in
@@ -185,33 +185,8 @@ or_done bids best kept some b k =
 
 -- ---- heavy bundles
 
--- each search that was made was within the limit
-abbrev pub Within : ℕ → List (Atom (List ℕ)) → List (Atom (List ℕ)) → Type 0
-Within limit kept done = All (λ a. 1 + cut_steps (atoms_below kept a.bundle) a.bundle a.price ≤ limit) done
-
-pub within_reached : (limit : ℕ) (bids done : List (Atom (List ℕ))) (x : Atom (List ℕ)) (rest kept : List (Atom (List ℕ))) → IsTurn bids done x rest
-    → IsOrKept done kept → Within limit kept done → 1 + cut_steps (filter (λ a. is_inside a.bundle x.bundle) kept) x.bundle x.price ≤ limit
-    → Within limit kept (done ++ x ∷ [])
-within_reached limit bids done x rest kept t k w l =
-    All-push (λ a. 1 + cut_steps (atoms_below kept a.bundle) a.bundle a.price ≤ limit) done x w
-    (subst (λ (zs : List (Atom (List ℕ))). 1 + cut_steps zs x.bundle x.price ≤ limit) (turn_below bids done x rest kept t k.among) l)
-
-pub within_missed : (limit : ℕ) (bids done : List (Atom (List ℕ))) (x : Atom (List ℕ)) (rest kept : List (Atom (List ℕ))) → IsTurn bids done x rest
-    → IsOrKept done kept → Within limit kept done → 1 + cut_steps (filter (λ a. is_inside a.bundle x.bundle) kept) x.bundle x.price ≤ limit
-    → Within limit (kept ++ x ∷ []) (done ++ x ∷ [])
-within_missed limit bids done x rest kept t k w l =
-    let first = rising_prefix done (x ∷ rest) t.rising in
-    All-push (λ a. 1 + cut_steps (atoms_below (kept ++ x ∷ []) a.bundle) a.bundle a.price ≤ limit) done x
-    (All-from_Contains (λ a. 1 + cut_steps (atoms_below (kept ++ x ∷ []) a.bundle) a.bundle a.price ≤ limit) done (λ a c.
-    let same = below_push kept x a.bundle (later_not_below a x (All-contains HasRisingBundle done a first c) (turn_rising bids done x rest t)
-    (All-contains (λ a. IsBefore a x) done a (turn_before bids done x rest t) c)) in
-    subst (λ (zs : List (Atom (List ℕ))). 1 + cut_steps zs a.bundle a.price ≤ limit) (sym same)
-    (All-contains (λ a. 1 + cut_steps (atoms_below kept a.bundle) a.bundle a.price ≤ limit) done a w c)))
-    (subst (λ (zs : List (Atom (List ℕ))). 1 + cut_steps zs x.bundle x.price ≤ limit) (sym (below_push kept x x.bundle (not_below_itself x.bundle)))
-    (subst (λ (zs : List (Atom (List ℕ))). 1 + cut_steps zs x.bundle x.price ≤ limit) (turn_below bids done x rest kept t k.among) l))
-
 -- on a bundle with a price above 0 is the best bid, of the greatest price
-best_on : (bids best : List (Atom (List ℕ))) → AreBestBids bids best → (bundle : List ℕ) → 0 < greatest_price bids bundle → (b : Atom (List ℕ))
+pub best_on : (bids best : List (Atom (List ℕ))) → AreBestBids bids best → (bundle : List ℕ) → 0 < greatest_price bids bundle → (b : Atom (List ℕ))
     × Contains best b × (b.bundle ≡ bundle) × (b.price ≡ greatest_price bids bundle)
 best_on bids best b bundle l =
     let r = greatest_price-reached bids bundle l in
@@ -224,97 +199,10 @@ best_on bids best b bundle l =
     subst (λ (xs : List ℕ). c.0.price ≤ greatest_price bids xs) e (greatest_price-member bids c.0 (All-contains (Contains bids) best c.0 b.among c.1)) in
     (c.0, c.1, e, omega arith)
 
-best_price : (bids best : List (Atom (List ℕ))) → AreBestBids bids best → (b : Atom (List ℕ)) → Contains best b → greatest_price bids b.bundle ≡ b.price
+pub best_price : (bids best : List (Atom (List ℕ))) → AreBestBids bids best → (b : Atom (List ℕ)) → Contains best b → greatest_price bids b.bundle ≡ b.price
 best_price bids best m b c =
     let low : b.price ≤ greatest_price bids b.bundle = greatest_price-member bids b (All-contains (Contains bids) best b m.among c) in
     let positive : 0 < b.price = All-contains (λ b. 0 < b.price) best b m.positive c in
     let r = best_on bids best m b.bundle (omega arith) in
     let e : r.0 ≡ b = same_bundle_same_atom best m.in_order r.0 b r.1 c r.2 in
     sym r.3 ∙ ap (λ (z : Atom (List ℕ)). z.price) e
-
--- whether a bundle is heavy, by the points and the greatest price
-heavy_is : (goods limit : ℕ) (bids points : List (Atom (List ℕ))) (bundle : List ℕ) (price : ℕ) → points ≡ or_points goods bids
-    → greatest_price bids bundle ≡ price
-    → is_heavy goods limit bids bundle ≡ (ltb 0 price && ltb limit (1 + cut_steps (atoms_below points bundle) bundle price))
-unfolding is_heavy search_steps
-heavy_is goods limit bids points bundle price e f =
-    ap (λ n. ltb 0 n && ltb limit (1 + cut_steps (atoms_below (or_points goods bids) bundle) bundle n)) f
-    ∙ ap (λ (zs : List (Atom (List ℕ))). ltb 0 price && ltb limit (1 + cut_steps (atoms_below zs bundle) bundle price)) (sym e)
-
-not_heavy : (goods limit : ℕ) (bids points : List (Atom (List ℕ))) (bundle : List ℕ) (price : ℕ) → points ≡ or_points goods bids
-    → greatest_price bids bundle ≡ price → (0 < price → 1 + cut_steps (atoms_below points bundle) bundle price ≤ limit)
-    → is_heavy goods limit bids bundle ≡ false
-not_heavy goods limit bids points bundle price e f h =
-    heavy_is goods limit bids points bundle price e f
-    ∙ ⊎_elim (λ (z : price ≡ 0). and_left (ltb 0 price) (ltb limit (1 + cut_steps (atoms_below points bundle) bundle price)) (le-ltb 0 price (omega arith)))
-    (λ (l : 0 < price). and_right (ltb 0 price) (ltb limit (1 + cut_steps (atoms_below points bundle) bundle price)) (le-ltb limit _ (h l)))
-    (zero_or_more price)
-
-pub none_heavy : (goods limit : ℕ) (bids best kept : List (Atom (List ℕ))) → All (IsOnBundle goods) bids → AreBestBids bids best → IsOrKept best kept
-    → Within limit kept best → first_heavy goods limit bids ≡ None
-unfolding first_heavy
-none_heavy goods limit bids best kept on b k w =
-    let done = or_done bids best kept (all_nonempty goods bids on) b k in
-    find_none (is_heavy goods limit bids) (all_bundles goods) (λ bundle c.
-    not_heavy goods limit bids kept bundle (greatest_price bids bundle) (done.points goods on) refl (λ l.
-    let r = best_on bids best b bundle l in
-    subst (λ (xs : List ℕ). 1 + cut_steps (atoms_below kept xs) xs (greatest_price bids bundle) ≤ limit) r.2
-    (subst (λ n. 1 + cut_steps (atoms_below kept r.0.bundle) r.0.bundle n ≤ limit) r.3
-    (All-contains (λ a. 1 + cut_steps (atoms_below kept a.bundle) a.bundle a.price ≤ limit) best r.0 w r.1))))
-
-pub heavy_found : (goods limit : ℕ) (bids done : List (Atom (List ℕ))) (x : Atom (List ℕ)) (rest kept : List (Atom (List ℕ))) → All (IsOnBundle goods) bids
-    → IsTurn bids done x rest → IsOrKept done kept → Within limit kept done
-    → limit < 1 + cut_steps (filter (λ a. is_inside a.bundle x.bundle) kept) x.bundle x.price
-    → (first_heavy goods limit bids ≡ Some x.bundle) × (is_heavy goods limit bids x.bundle ≡ true)
-unfolding first_heavy
-heavy_found goods limit bids done x rest kept on t k w l =
-    let best = done ++ x ∷ rest in
-    let f = completion or_value or_value-price or_more or_value-filter_le (x ∷ rest) done kept t.best.in_order t.rising k in
-    let points : f.0 ≡ or_points goods bids = (or_done bids best f.0 (all_nonempty goods bids on) t.best f.1.kept).points goods on in
-    let here : Contains best x = Contains-append_right done (x ∷ rest) x (Contains-head x rest) in
-    let price : greatest_price bids x.bundle ≡ x.price = best_price bids best t.best x here in
-    let later : All (IsBefore x) rest = behind_next done x rest t.best.in_order in
-    let rising : (a : Atom (List ℕ)) → Contains best a → HasRisingBundle a = λ a c. All-contains HasRisingBundle best a t.rising c in
-    let below : atoms_below f.0 x.bundle ≡ filter (λ a. is_inside a.bundle x.bundle) kept =
-    f.1.below x.bundle (All-from_Contains (λ a. is_below a.bundle x.bundle ≡ false) (x ∷ rest) (λ a c. ⊎_elim
-    (λ (e : x ≡ a). subst (λ (z : Atom (List ℕ)). is_below z.bundle x.bundle ≡ false) e (not_below_itself x.bundle))
-    (λ (d : Contains rest a). later_not_below x a (rising x here) (rising a (Contains-append_right done (x ∷ rest) a (Contains-tail x rest a d)))
-    (All-contains (IsBefore x) rest a later d))
-    (Contains-cons_cases x rest a c)))
-    ∙ sym (turn_below bids done x rest kept t k.among) in
-    let heavy : is_heavy goods limit bids x.bundle ≡ true =
-    heavy_is goods limit bids f.0 x.bundle x.price points price
-    ∙ and_from (ltb 0 x.price) (ltb limit (1 + cut_steps (atoms_below f.0 x.bundle) x.bundle x.price)) (lt-ltb 0 x.price (turn_positive bids done x rest t))
-    (lt-ltb limit _ (subst (λ (zs : List (Atom (List ℕ))). limit < 1 + cut_steps zs x.bundle x.price) (sym below) l)) in (
-      find_first (λ xs ys. bundle_cmp xs ys ≡ Less) (is_heavy goods limit bids) (all_bundles goods) (all_bundles_rise goods) x.bundle
-          (all_bundles_has goods x.bundle (All-contains (IsOnBundle goods) bids x on (turn_among bids done x rest t)).bundle) heavy
-          (λ bundle before. not_heavy goods limit bids f.0 bundle (greatest_price bids bundle) points refl (λ m. let r = best_on bids best t.best bundle m in
-          earlier f.0 f.1 bundle (greatest_price bids bundle) r.0 r.1 r.2 r.3 before later)),
-      heavy,
-    )
-  where
-    earlier : (final : List (Atom (List ℕ))) → IsCompleted or_value or_value-price or_more or_value-filter_le done (x ∷ rest) kept final
-        → (bundle : List ℕ) (price : ℕ) (b : Atom (List ℕ)) → Contains (done ++ x ∷ rest) b → b.bundle ≡ bundle → b.price ≡ price
-        → bundle_cmp bundle x.bundle ≡ Less → All (IsBefore x) rest → 1 + cut_steps (atoms_below final bundle) bundle price ≤ limit
-    earlier final f bundle price b c e p before later =
-        ⊎_elim
-        (λ (d : Contains done b).
-        let b_first : IsBefore b x = All-contains (λ a. IsBefore a x) done b (turn_before bids done x rest t) d in
-        let same : atoms_below final b.bundle ≡ atoms_below kept b.bundle =
-        f.below b.bundle (All-from_Contains (λ a. is_below a.bundle b.bundle ≡ false) (x ∷ rest) (λ a g.
-        later_not_below b a (All-contains HasRisingBundle (done ++ x ∷ rest) b t.rising c)
-        (All-contains HasRisingBundle (done ++ x ∷ rest) a t.rising (Contains-append_right done (x ∷ rest) a g))
-        (⊎_elim (λ (q : x ≡ a). subst (λ (z : Atom (List ℕ)). IsBefore b z) q b_first)
-        (λ (q : Contains rest a). bundle_cmp_total.trans b.bundle x.bundle a.bundle b_first (All-contains (IsBefore x) rest a later q))
-        (Contains-cons_cases x rest a g)))) in
-        subst (λ (xs : List ℕ). 1 + cut_steps (atoms_below final xs) xs price ≤ limit) e
-        (subst (λ n. 1 + cut_steps (atoms_below final b.bundle) b.bundle n ≤ limit) p
-        (subst (λ (zs : List (Atom (List ℕ))). 1 + cut_steps zs b.bundle b.price ≤ limit) (sym same)
-        (All-contains (λ a. 1 + cut_steps (atoms_below kept a.bundle) a.bundle a.price ≤ limit) done b w d))))
-        (λ (d : Contains (x ∷ rest) b). absurd (⊎_elim
-        (λ (q : x ≡ b). before_itself x.bundle (subst (λ (xs : List ℕ). bundle_cmp xs x.bundle ≡ Less) (sym e ∙ ap (λ (z : Atom (List ℕ)). z.bundle) (sym q))
-        before))
-        (λ (q : Contains rest b). before_both b.bundle x.bundle (subst (λ (xs : List ℕ). bundle_cmp xs x.bundle ≡ Less) (sym e) before)
-        (All-contains (IsBefore x) rest b later q))
-        (Contains-cons_cases x rest b d)))
-        (Contains-append_cases done (x ∷ rest) b c)

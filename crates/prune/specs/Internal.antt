@@ -3,5 +3,4 @@
 pub mod BestBids
 pub mod Listings
 pub mod PointIndexes
-pub mod PricesLeft
 pub mod Reaching

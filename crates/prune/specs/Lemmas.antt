@@ -5,6 +5,7 @@ pub mod Lists
 pub mod OnBundles
 pub mod Points
 pub mod Reached
+pub mod Refusals
 pub mod SearchSteps
 pub mod Tables
 pub mod Values

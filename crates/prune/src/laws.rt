@@ -1,13 +1,25 @@
 //! Laws of the definitions, which the check proves.
-ghost use Rattle.std.specs.Prelude.{◌≡◌, ℕ, ◌≤◌, ◌↔◌, true, false, None, List, [], All, Contains};
+ghost use Rattle.std.specs.Prelude.{◌≡◌, ℕ, ◌<◌, ◌≤◌, ◌↔◌, true, false, Some, None, List, [], All, Contains, sum_by};
 ghost use Rattle.goods_set.specs.Bundles.{IsBundle};
 ghost use Rattle.valuation.specs.Auctions.{IsAtom};
 ghost use Rattle.valuation.specs.declared.atom.Atom.{Atom};
+ghost use Rattle.valuation.specs.declared.search_kind.SearchKind.{SearchKind};
+ghost use Rattle.valuation.specs.declared.search_options.SearchOptions.{SearchOptions};
+ghost use Rattle.valuation.specs.SearchLimits.{plain_options};
 ghost use Rattle.valuation.specs.Packings.{count_packings};
 ghost use Rattle.valuation.specs.Tables.{xor_table, or_table, is_nonzero};
 ghost use Rattle.valuation.specs.Values.{xor_value, or_value};
 ghost use Rattle.prune.specs.Points.{IsXorPoint, IsOrPoint, xor_points, or_points};
-ghost use Rattle.prune.specs.SearchSteps.{atoms_below, steps_at_most, search_steps, is_heavy, first_heavy};
+ghost use Rattle.prune.specs.SearchSteps.{
+  atoms_below,
+  greatest_price,
+  steps_at_most,
+  search_steps_by,
+  is_heavy,
+  first_heavy,
+  searched_bundles,
+  first_refused,
+};
 
 /// Which atoms are points. An XOR point is on a bundle of a value above 0, which each good less makes smaller; an OR
 /// point on one of a value above 0, which each split into two nonempty parts makes smaller. Either has the value for
@@ -55,18 +67,22 @@ pub fn points_of_points()
         → or_points goods (or_points goods atoms) ≡ or_points goods atoms }
 {}
 
-/// A search takes no more steps than the bundle has packings by the points below it, nor than it has by all bids below
-/// it.
+/// A search of either kind takes no more steps than the bundle has packings by the points below it, nor than it has by
+/// all bids below it.
 pub fn steps_are_bounded()
-    ensures cut { (goods : ℕ) (atoms : List (Atom (List ℕ))) (bundle : List ℕ) → search_steps goods atoms bundle
-        ≤ count_packings (atoms_below (or_points goods atoms) bundle) bundle }
-    ensures load { (goods : ℕ) (atoms : List (Atom (List ℕ))) → All (IsAtom goods) atoms → (bundle : List ℕ)
-        → search_steps goods atoms bundle ≤ steps_at_most atoms bundle }
+    ensures cut { (kind : SearchKind) (goods : ℕ) (atoms : List (Atom (List ℕ))) (bundle : List ℕ)
+        → search_steps_by kind goods atoms bundle ≤ count_packings (atoms_below (or_points goods atoms) bundle) bundle }
+    ensures load { (kind : SearchKind) (goods : ℕ) (atoms : List (Atom (List ℕ))) → All (IsAtom goods) atoms
+        → (bundle : List ℕ) → search_steps_by kind goods atoms bundle ≤ steps_at_most atoms bundle }
 {}
 
-/// A bundle that is heavy for the points is heavy for all bids.
+/// A bundle that is heavy for the points is heavy for all bids: where a point is, the search of either kind takes the
+/// same steps.
 pub fn no_new_heavy_bundle()
-    ensures { (goods limit : ℕ) (atoms : List (Atom (List ℕ))) → All (IsAtom goods) atoms → (bundle : List ℕ)
+    ensures steps { (kind : SearchKind) (goods : ℕ) (atoms : List (Atom (List ℕ))) → All (IsAtom goods) atoms
+        → (bundle : List ℕ) → 0 < greatest_price (or_points goods atoms) bundle
+        → search_steps_by kind goods (or_points goods atoms) bundle ≡ search_steps_by kind goods atoms bundle }
+    ensures heavy { (goods limit : ℕ) (atoms : List (Atom (List ℕ))) → All (IsAtom goods) atoms → (bundle : List ℕ)
         → is_heavy goods limit (or_points goods atoms) bundle ≡ true → is_heavy goods limit atoms bundle ≡ true }
 {}
 
@@ -86,13 +102,31 @@ pub fn same_tables_same_points()
         → (or_table one goods ≡ or_table other goods ↔ or_points goods one ≡ or_points goods other) }
 {}
 
-/// If no bundle is heavy for the bids, none is heavy for their points.
+/// If no bundle is heavy for the bids, or none is refused, that holds for their points.
 pub fn none_heavy_for_points()
-    ensures { (goods limit : ℕ) (atoms : List (Atom (List ℕ))) → All (IsAtom goods) atoms
+    ensures heavy { (goods limit : ℕ) (atoms : List (Atom (List ℕ))) → All (IsAtom goods) atoms
         → first_heavy goods limit atoms ≡ None → first_heavy goods limit (or_points goods atoms) ≡ None }
+    ensures refused { (options : SearchOptions) (goods : ℕ) (atoms : List (Atom (List ℕ))) → All (IsAtom goods) atoms
+        → first_refused options goods atoms ≡ None → first_refused options goods (or_points goods atoms) ≡ None }
 {}
 
-/// The points, and the first heavy bundle, are the same for each number of goods that all bids are within.
+/// No bundle is refused exactly if the search of each bundle takes no more steps than one may, and all together no more
+/// than all may, if that has a limit.
+pub fn refusals_are()
+    ensures { (options : SearchOptions) (goods : ℕ) (atoms : List (Atom (List ℕ)))
+        → let steps = search_steps_by options.kind goods atoms in let searched = searched_bundles goods atoms in
+        (first_refused options goods atoms ≡ None ↔ (All (λ bundle. steps bundle ≤ options.each) searched
+        × ((most : ℕ) → options.total ≡ Some most → sum_by steps searched ≤ most))) }
+{}
+
+/// For plain searches with no limit on all together, the first refused bundle is the first heavy one.
+pub fn refused_is_heavy()
+    ensures { (limit goods : ℕ) (atoms : List (Atom (List ℕ)))
+        → first_refused (plain_options limit) goods atoms ≡ first_heavy goods limit atoms }
+{}
+
+/// The points, and the first bundle that is heavy or refused, are the same for each number of goods that all bids are
+/// within.
 pub fn goods_without_bids()
     ensures xor { (fewer more : ℕ) (atoms : List (Atom (List ℕ))) → All (IsAtom fewer) atoms → All (IsAtom more) atoms
         → xor_points fewer atoms ≡ xor_points more atoms }
@@ -100,4 +134,7 @@ pub fn goods_without_bids()
         → or_points fewer atoms ≡ or_points more atoms }
     ensures heavy { (fewer more limit : ℕ) (atoms : List (Atom (List ℕ))) → All (IsAtom fewer) atoms
         → All (IsAtom more) atoms → first_heavy fewer limit atoms ≡ first_heavy more limit atoms }
+    ensures refused { (options : SearchOptions) (fewer more : ℕ) (atoms : List (Atom (List ℕ)))
+        → All (IsAtom fewer) atoms → All (IsAtom more) atoms
+        → first_refused options fewer atoms ≡ first_refused options more atoms }
 {}

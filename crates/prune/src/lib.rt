@@ -6,7 +6,6 @@ mod commonness;
 mod laws;
 mod or;
 mod packing_finder;
-mod packing_search;
 mod point_index;
 mod posting;
 mod prefix;
@@ -21,7 +20,7 @@ pub use laws::{
     points_are, points_are_bids, points_keep_values, points_of_points, same_tables_same_points,
     same_values_same_points, steps_are_bounded,
 };
-pub use or::prune_or;
+pub use or::{prune_or, prune_or_by};
 pub use point_index::PointIndex;
 pub use prune_fault::PruneFault;
 pub use worked::{or_points_worked, steps_worked, xor_points_worked};

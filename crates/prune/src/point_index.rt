@@ -1,8 +1,9 @@
 //! `PointIndex`: the kept points, found by their goods. It answers which of them reach the price of a dropped bid.
 ghost use Rattle.std.specs.Prelude.{◌≡◌, ◌+◌, ◌<◌, ◌≤◌, None, IfOk, IfSome, IsErrOf};
 ghost use Rattle.valuation.specs.Values.{atoms_of, or_value, xor_value};
-ghost use Rattle.prune.specs.Internal.PointIndexes.{IsPointIndex, MayFind};
-ghost use Rattle.prune.specs.Reached.{HaveGoods, IsPackingFor, IsPointFor};
+ghost use Rattle.prune.specs.Internal.PointIndexes.{IsPlainFinder, MayFind};
+ghost use Rattle.valuation.specs.Packings.{IsPackingFor};
+ghost use Rattle.prune.specs.Reached.{HaveGoods, IsPointFor};
 ghost use Rattle.prune.specs.SearchSteps.{atoms_inside, cut_steps};
 
 use crate::packing_finder::PackingFinder;
@@ -11,7 +12,7 @@ use crate::xor::{PAIRWISE, first_dominating};
 use goods_set::{GoodsSet, rising_goods};
 use std::alloc::{AllocError, Global};
 use std::marker::Model;
-use valuation::{Atom, ValueFault};
+use valuation::{Atom, Budget, SearchKind, ValueFault};
 
 /// A bidder's points, found by their goods. Contracts see it as the list of these.
 #[derive(Drop)]
@@ -44,14 +45,15 @@ fn finder_of<S: GoodsSet>(
     made: Option<PackingFinder>,
 ) -> Result<PackingFinder, AllocError>
     requires { MayFind (atoms_of S.goods points.now) made }
-    ensures { IfOk result (λ finder. IsPointIndex (atoms_of S.goods points.now) finder.index) }
+    ensures { IfOk result (λ finder. IsPlainFinder (atoms_of S.goods points.now) finder) }
 {
     if let Some(finder) = made {
         return Ok(finder);
     }
     let mut index = SubsetIndex::of(alloc, points)?;
     index.list_all(points)?;
-    PackingFinder::of(alloc, index)
+    let finder = PackingFinder::of(alloc, index, SearchKind::Plain)?;
+    Ok(finder)
 }
 
 impl<'a, S: GoodsSet> PointIndex<'a, S> {
@@ -108,7 +110,7 @@ impl<'a, S: GoodsSet> PointIndex<'a, S> {
         let points = self.points;
         let mut finder = finder_of(self.alloc, points, self.finder.take())?;
         let goods = rising_goods(&bid.bundle, &mut self.buffer)?;
-        let found = finder.find(points, bid, goods, limit)?;
+        let found = finder.find(points, bid, goods, &mut Budget::new(limit))?;
         self.finder = Some(finder);
         Ok(found)
     }

@@ -1,5 +1,6 @@
 //! `SubsetIndex`: the kept atoms. Those inside a bundle are found by its goods.
-ghost use Rattle.std.specs.Prelude.{◌≡◌, ℕ, List, ◌+◌, ◌<◌, ◌≤◌, false, map, length, All, IfOk, IfSome, OnOk, is_some, [], ◌∷◌, ◌++◌};
+ghost use Rattle.std.specs.Prelude.{◌≡◌, ℕ, List, ◌+◌, ◌<◌, ◌≤◌, false, map, length, All, IfOk, IfSome, OnOk, is_some, []};
+ghost use Rattle.std.specs.Prelude.{◌∷◌, ◌++◌};
 ghost use Rattle.std.specs.Bool.{OnTrue};
 ghost use Rattle.std.specs.List.{filter, list_any, range_with_len};
 ghost use Rattle.goods_set.specs.Fingerprints.{AreMarks};
@@ -29,7 +30,8 @@ use goods_set::{GoodsSet, fingerprint, may_be_subset, rising_goods};
 use std::alloc::{AllocError, Global};
 use valuation::Atom;
 
-/// Lists atoms, each at one of its goods, so that those inside a bundle are found through the bundle's goods. The atoms themselves are given with each call: those kept so far, in order, and so the smaller bundles first.
+/// Lists atoms, each at one of its goods, so that those inside a bundle are found through the bundle's goods. The atoms
+/// themselves are given with each call: those kept so far, in order, and so the smaller bundles first.
 /// For speed alone an atom is listed at its rarest good, only once a larger bundle comes (none of its own size is inside
 /// another), and fingerprints are compared before bundles.
 #[derive(Drop)]
@@ -150,7 +152,8 @@ impl SubsetIndex {
         Ok(())
     }
 
-    /// Lists the first kept atom that is not listed. An index past the numbers of 4 bytes is refused as memory is; a file has far
+    /// Lists the first kept atom that is not listed. An index past the numbers of 4 bytes is refused as memory is; a file
+    /// has far
     /// fewer bids.
     fn list_next<S: GoodsSet>(&mut self, kept: &[Atom<S>]) -> Result<(), AllocError>
         requires next { count_listed self.old < length kept.now }
@@ -235,7 +238,7 @@ impl SubsetIndex {
     }
 
     /// Replaces the places by those of the kept atoms inside the bundle, which has these goods, rising.
-    fn find_inside<S: GoodsSet>(
+    pub fn find_inside<S: GoodsSet>(
         &self,
         kept: &[Atom<S>],
         bundle: &S,
@@ -256,32 +259,6 @@ impl SubsetIndex {
         }
         places.sort_unstable();
         Ok(())
-    }
-
-    /// The kept atoms inside the bundle, which has these goods, in the order in which they came. Replaces the
-    /// places by theirs.
-    pub fn inside<'a, S: GoodsSet>(
-        &self,
-        kept: &'a [Atom<S>],
-        bundle: &S,
-        goods: &[u16],
-        places: &mut Vec<usize>,
-    ) -> Result<Vec<&'a Atom<S>>, AllocError>
-        requires goods { goods.now ≡ S.goods bundle.now }
-        requires index { IsIndexOf (atoms_of S.goods kept.now) self.now }
-        requires ready { IsReadyFor (S.goods bundle.now) (atoms_of S.goods kept.now) self.now }
-        ensures inside { IfOk result (λ inside. atoms_of S.goods (map (λ a. a.now) inside.items)
-            ≡ atoms_inside (atoms_of S.goods kept.now) (S.goods bundle.now)) }
-        ensures places { let inside = is_inside_at (atoms_of S.goods kept.now) (S.goods bundle.now) in
-            let all = range_with_len 0 (length kept.now) in
-            OnOk result (places.new.items ≡ filter inside all) }
-    {
-        self.find_inside(kept, bundle, goods, places)?;
-        let mut inside = Vec::with_capacity(self.alloc, places.len())?;
-        for place in places.iter() {
-            inside.push(&kept[*place])?;
-        }
-        Ok(inside)
     }
 
     /// The place of a kept atom inside the bundle, which has these goods, with at least the price.

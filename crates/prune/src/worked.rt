@@ -1,20 +1,24 @@
 //! Worked examples of the definitions, which the check computes.
-ghost use Rattle.std.specs.Prelude.{◌≡◌, ◌+◌, ◌^◌, [], ◌∷◌, true, false, Some, None, Ok};
+ghost use Rattle.std.specs.Prelude.{◌≡◌, ◌+◌, ◌^◌, [], ◌∷◌, length, true, false, Some, None, Ok};
+ghost use Rattle.valuation.specs.declared.search_kind.SearchKind.TheVariants.{Plain, Bounded};
 ghost use Rattle.valuation.specs.Examples.{atom};
+ghost use Rattle.valuation.specs.SearchLimits.{plain_options};
 ghost use Rattle.prune.specs.declared.posting.Posting.{Posting};
 ghost use Rattle.prune.specs.Internal.Listings.{IsListed, IsPosting, AreListed, NoneInsideFrom};
-ghost use Rattle.prune.specs.Internal.PricesLeft.{ArePricesLeft};
-ghost use Rattle.prune.specs.Reached.{IsPackingFor};
-ghost use Rattle.prune.specs.Internal.Reaching.{IsSearched};
 ghost use Rattle.prune.specs.Points.{xor_points, or_points};
 ghost use Rattle.prune.specs.SearchSteps.{
   atoms_below,
   greatest_price,
   cut_steps,
+  in_search_order,
   steps_at_most,
+  search_steps_by,
   search_steps,
   is_heavy,
   first_heavy,
+  searched_bundles,
+  first_over,
+  first_refused,
 };
 
 /// The XOR points: a bid is kept if no bid inside its bundle has its price.
@@ -52,7 +56,7 @@ pub fn or_points_worked()
 {}
 
 /// The steps of the searches, and the heavy bundles.
-#[tactic(auto, unfolding(crate::specs::Points::points_where, crate::specs::Points::is_or_point, crate::specs::SearchSteps::cut_steps, crate::specs::SearchSteps::steps_at_most, crate::specs::SearchSteps::search_steps, crate::specs::SearchSteps::is_heavy, crate::specs::SearchSteps::first_heavy, valuation::specs::Values::or_value, valuation::specs::Packings::count_packings))]
+#[tactic(auto, unfolding(crate::specs::Points::points_where, crate::specs::Points::is_or_point, crate::specs::SearchSteps::search_steps_by, crate::specs::SearchSteps::steps_at_most, crate::specs::SearchSteps::is_heavy, crate::specs::SearchSteps::first_heavy, valuation::specs::SearchSteps::cut_steps, valuation::specs::Values::or_value, valuation::specs::Packings::count_packings))]
 pub fn steps_worked()
     ensures below { atoms_below (atom (0 ∷ []) 3 ∷ atom (0 ∷ 1 ∷ []) 7 ∷ atom (2 ∷ []) 1 ∷ []) (0 ∷ 1 ∷ [])
         ≡ atom (0 ∷ []) 3 ∷ [] }
@@ -74,6 +78,50 @@ pub fn steps_worked()
     ensures worthless { first_heavy 1 0 (atom (0 ∷ []) 0 ∷ []) ≡ None }
     ensures limit_one { is_heavy 3 1 (atom (0 ∷ []) 1 ∷ atom (1 ∷ []) 1 ∷ atom (2 ∷ []) 1
         ∷ atom (0 ∷ 1 ∷ 2 ∷ []) 4 ∷ []) (0 ∷ 1 ∷ 2 ∷ []) ≡ false }
+{}
+
+/// The steps of the searches of each kind.
+#[tactic(auto, unfolding(crate::specs::Points::points_where, crate::specs::Points::is_or_point, crate::specs::SearchSteps::search_steps_by, valuation::specs::SearchSteps::cut_steps, valuation::specs::Values::or_value, valuation::specs::Bounds::greatest_rate, valuation::specs::Bounds::rate_bound))]
+pub fn kinds_worked()
+    ensures plain_order { let a = atom (0 ∷ []) 3 ∷ atom (1 ∷ []) 4 ∷ [] in in_search_order Plain a ≡ a }
+    ensures bounded_order { in_search_order Bounded (atom (0 ∷ []) 3 ∷ atom (1 ∷ []) 4 ∷ [])
+        ≡ atom (1 ∷ []) 4 ∷ atom (0 ∷ []) 3 ∷ [] }
+    ensures rates_reach { search_steps_by Bounded 3 (atom (0 ∷ 1 ∷ []) 4 ∷ atom (0 ∷ 2 ∷ []) 4 ∷ atom (1 ∷ 2 ∷ []) 4
+        ∷ atom (0 ∷ 1 ∷ 2 ∷ []) 6 ∷ []) (0 ∷ 1 ∷ 2 ∷ []) ≡ 3 }
+    ensures rates_too_low { search_steps_by Bounded 3 (atom (0 ∷ 1 ∷ []) 4 ∷ atom (0 ∷ 2 ∷ []) 4 ∷ atom (1 ∷ 2 ∷ []) 4
+        ∷ atom (0 ∷ 1 ∷ 2 ∷ []) 7 ∷ []) (0 ∷ 1 ∷ 2 ∷ []) ≡ 1 }
+    ensures prices_reach { search_steps_by Plain 3 (atom (0 ∷ 1 ∷ []) 4 ∷ atom (0 ∷ 2 ∷ []) 4 ∷ atom (1 ∷ 2 ∷ []) 4
+        ∷ atom (0 ∷ 1 ∷ 2 ∷ []) 7 ∷ []) (0 ∷ 1 ∷ 2 ∷ []) ≡ 3 }
+    ensures rate_rounded_up { search_steps_by Bounded 3 (atom (0 ∷ 1 ∷ []) 1 ∷ atom (2 ∷ []) 1
+        ∷ atom (0 ∷ 1 ∷ 2 ∷ []) 3 ∷ []) (0 ∷ 1 ∷ 2 ∷ []) ≡ 2 }
+    ensures prices_too_low { search_steps_by Plain 3 (atom (0 ∷ 1 ∷ []) 1 ∷ atom (2 ∷ []) 1
+        ∷ atom (0 ∷ 1 ∷ 2 ∷ []) 3 ∷ []) (0 ∷ 1 ∷ 2 ∷ []) ≡ 1 }
+{}
+
+/// The bundles that a pruning searches, and the first that it refuses.
+#[tactic(auto, unfolding(crate::specs::Points::points_where, crate::specs::Points::is_or_point, crate::specs::SearchSteps::search_steps_by, crate::specs::SearchSteps::first_over, crate::specs::SearchSteps::first_refused, valuation::specs::SearchSteps::cut_steps, valuation::specs::Values::or_value, valuation::specs::Bounds::greatest_rate, valuation::specs::Bounds::rate_bound))]
+pub fn refused_worked()
+    ensures searched { searched_bundles 2 (atom (1 ∷ []) 4 ∷ atom (0 ∷ []) 0 ∷ atom (0 ∷ 1 ∷ []) 7 ∷ [])
+        ≡ (1 ∷ []) ∷ (0 ∷ 1 ∷ []) ∷ [] }
+    ensures third { first_over length (record { kind = Plain; each = 2; total = Some 3 }) ((0 ∷ []) ∷ (0 ∷ 1 ∷ [])
+        ∷ (1 ∷ []) ∷ []) ≡ Some (1 ∷ []) }
+    ensures each_too_low { first_refused (plain_options 2) 2 (atom (0 ∷ []) 3 ∷ atom (1 ∷ []) 4 ∷ atom (0 ∷ 1 ∷ []) 7 ∷ [])
+        ≡ Some (0 ∷ 1 ∷ []) }
+    ensures each_enough { first_refused (plain_options 3) 2 (atom (0 ∷ []) 3 ∷ atom (1 ∷ []) 4 ∷ atom (0 ∷ 1 ∷ []) 7 ∷ [])
+        ≡ None }
+    ensures total_too_low { first_refused (record { kind = Plain; each = 3; total = Some 4 }) 2 (atom (0 ∷ []) 3
+        ∷ atom (1 ∷ []) 4 ∷ atom (0 ∷ 1 ∷ []) 7 ∷ []) ≡ Some (0 ∷ 1 ∷ []) }
+    ensures total_enough { first_refused (record { kind = Plain; each = 3; total = Some 5 }) 2 (atom (0 ∷ []) 3
+        ∷ atom (1 ∷ []) 4 ∷ atom (0 ∷ 1 ∷ []) 7 ∷ []) ≡ None }
+    ensures nothing_left { first_refused (record { kind = Plain; each = 3; total = Some 1 }) 2 (atom (0 ∷ []) 3
+        ∷ atom (1 ∷ []) 4 ∷ atom (0 ∷ 1 ∷ []) 7 ∷ []) ≡ Some (1 ∷ []) }
+    ensures bounded_enough { first_refused (record { kind = Bounded; each = 1; total = Some 4 }) 3 (atom (0 ∷ 1 ∷ []) 4
+        ∷ atom (0 ∷ 2 ∷ []) 4 ∷ atom (1 ∷ 2 ∷ []) 4 ∷ atom (0 ∷ 1 ∷ 2 ∷ []) 7 ∷ []) ≡ None }
+    ensures bounded_too_low { first_refused (record { kind = Bounded; each = 1; total = Some 3 }) 3 (atom (0 ∷ 1 ∷ []) 4
+        ∷ atom (0 ∷ 2 ∷ []) 4 ∷ atom (1 ∷ 2 ∷ []) 4 ∷ atom (0 ∷ 1 ∷ 2 ∷ []) 7 ∷ []) ≡ Some (0 ∷ 1 ∷ 2 ∷ []) }
+    ensures rounded_up { first_refused (record { kind = Bounded; each = 1; total = None }) 3 (atom (0 ∷ 1 ∷ []) 1
+        ∷ atom (2 ∷ []) 1 ∷ atom (0 ∷ 1 ∷ 2 ∷ []) 3 ∷ []) ≡ Some (0 ∷ 1 ∷ 2 ∷ []) }
+    ensures worthless { first_refused (plain_options 0) 1 (atom (0 ∷ []) 0 ∷ []) ≡ None }
 {}
 
 /// A place is listed at a good of the bundle.
@@ -108,28 +156,4 @@ fn none_inside_from_worked()
     ensures no_atoms { NoneInsideFrom 0 [] (0 ∷ []) }
     ensures behind_it { NoneInsideFrom 1 (atom (0 ∷ []) 3 ∷ atom (1 ∷ []) 4 ∷ []) (0 ∷ []) }
     ensures from_it { ¬ NoneInsideFrom 0 (atom (0 ∷ []) 3 ∷ atom (1 ∷ []) 4 ∷ []) (0 ∷ []) }
-{}
-
-/// At each place is what the prices from there on add up to.
-fn prices_left_worked()
-    ensures none { ArePricesLeft [] [] }
-    ensures two { ArePricesLeft (atom (0 ∷ []) 3 ∷ atom (1 ∷ []) 4 ∷ []) (7 ∷ 4 ∷ []) }
-    ensures prices { ¬ ArePricesLeft (atom (0 ∷ []) 3 ∷ atom (1 ∷ []) 4 ∷ []) (3 ∷ 4 ∷ []) }
-    ensures too_few { ¬ ArePricesLeft (atom (0 ∷ []) 3 ∷ atom (1 ∷ []) 4 ∷ []) (7 ∷ []) }
-{}
-
-/// A packing that reaches a price, of bids that are given by their indices.
-fn reaching_worked()
-    ensures none { IsPackingFor [] [] 0 [] }
-    ensures two { IsPackingFor (atom (0 ∷ []) 3 ∷ atom (1 ∷ []) 4 ∷ []) (0 ∷ 1 ∷ []) 7 (0 ∷ 1 ∷ []) }
-    ensures price { ¬ IsPackingFor (atom (0 ∷ []) 3 ∷ atom (1 ∷ []) 4 ∷ []) (0 ∷ 1 ∷ []) 8 (0 ∷ 1 ∷ []) }
-    ensures shared_good { ¬ IsPackingFor (atom (0 ∷ []) 3 ∷ atom (0 ∷ []) 4 ∷ []) (0 ∷ []) 7 (0 ∷ 1 ∷ []) }
-{}
-
-/// What a search for a price answers, by the steps that are left before and after it.
-#[tactic(auto, unfolding(crate::specs::SearchSteps::cut_steps, valuation::specs::Values::or_value))]
-fn searched_worked()
-    ensures reached { IsSearched (atom (0 ∷ []) 3 ∷ []) (0 ∷ []) 3 5 3 (Ok true) }
-    ensures answer { ¬ IsSearched (atom (0 ∷ []) 3 ∷ []) (0 ∷ []) 3 5 3 (Ok false) }
-    ensures fewer_steps { ¬ IsSearched (atom (0 ∷ []) 3 ∷ []) (0 ∷ []) 4 5 3 (Ok false) }
 {}

@@ -75,7 +75,8 @@ fn are_few_and_undominated<S: GoodsSet>(bids: &[Atom<S>]) -> bool
     true
 }
 
-/// Whether a kept atom inside the bid's bundle has at least its price. If none has, the bid is added to the index. Few atoms need no index. `buffer` is for goods.
+/// Whether a kept atom inside the bid's bundle has at least its price. If none has, the bid is added to the index. Few atoms
+/// need no index. `buffer` is for goods.
 fn is_dominated<S: GoodsSet>(
     index: &mut SubsetIndex,
     kept: &[Atom<S>],

@@ -4,5 +4,12 @@ pub mod FirstBestAtoms
 pub mod Placing
 pub mod BestPackingLevels
 pub mod Paths
+pub mod Rates
 pub mod BestPath
 pub mod FewerAtoms
+pub mod PathPackings
+pub mod ReachingLevels
+pub mod ReachingPath
+pub mod PricesLeft
+pub mod RatesSoFar
+pub mod Listed

@@ -1,3 +1,4 @@
 -- What the contracts of private functions cite, and the facts that private types keep. No public contract rests on
 -- them.
 pub mod Inside
+pub mod Reaching

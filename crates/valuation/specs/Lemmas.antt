@@ -1,6 +1,7 @@
 -- Lemmas on the definitions beside this folder, for proofs here and in the crates above. No contract cites them.
 pub mod Atoms
 pub mod AuctionsOfFiles
+pub mod Bounds
 pub mod Limits
 pub mod Lists
 pub mod OrValues
@@ -8,6 +9,7 @@ pub mod Orders
 pub mod PackingCounts
 pub mod Packings
 pub mod Permutations
+pub mod SearchSteps
 pub mod Searches
 pub mod Sorting
 pub mod XorValues

@@ -1,6 +1,9 @@
 -- What the contracts of this crate cite.
 pub mod Values
 pub mod Packings
+pub mod Bounds
+pub mod SearchSteps
+pub mod SearchLimits
 pub mod Tables
 pub mod Orders
 pub mod Auctions
@@ -8,6 +11,7 @@ pub mod Bidders
 pub mod Conflicts
 pub mod Paths
 pub mod Searches
+pub mod Listed
 pub mod Views
 pub mod Examples
 pub mod Sorting

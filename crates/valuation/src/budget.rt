@@ -26,6 +26,13 @@ impl Budget {
         Budget { left: limit }
     }
 
+    /// How many steps are left.
+    pub fn left(&self) -> u64
+        ensures { result ≡ self.now }
+    {
+        self.left
+    }
+
     /// Uses a step and answers true, if one is left.
     pub fn spend(&mut self) -> bool
         ensures left { self.old ≡ (if result then self.new + 1 else self.new) }

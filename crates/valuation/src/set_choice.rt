@@ -41,8 +41,10 @@ impl BidSizes {
         }
     }
 
-    /// Whether the bids have so few of this many goods that lists of them take less memory than words with a bit for each good,
-    /// and large bundles are a few. If most bids are the OR bidder's, whose searches use sets the most and words answer faster,
+    /// Whether the bids have so few of this many goods that lists of them take less memory than words with a bit for each
+    /// good,
+    /// and large bundles are a few. If most bids are the OR bidder's, whose searches use sets the most and words answer
+    /// faster,
     /// the goods have to be fewer still.
     fn suit_lists(&self, goods: u16) -> bool {
         let words = usize::from(goods / 64);

@@ -1,9 +1,14 @@
 //! Worked examples of the definitions, which the check computes.
-ghost use Rattle.std.specs.Prelude.{◌≡◌, [], ◌∷◌, true, false};
+ghost use Rattle.std.specs.Prelude.{◌≡◌, [], ◌∷◌, true, false, Ok, Some};
 ghost use Rattle.std.specs.declared.cmp.Ordering.TheVariants.{Less, Equal, Greater};
+ghost use Rattle.valuation.specs.declared.search_kind.SearchKind.TheVariants.{Bounded};
 ghost use Rattle.valuation.specs.Examples.{atom};
 ghost use Rattle.valuation.specs.Values.{xor_value, or_value, chosen_places};
-ghost use Rattle.valuation.specs.Packings.{count_packings};
+ghost use Rattle.valuation.specs.Internal.Reaching.{ArePricesLeft, IsReachedBy};
+ghost use Rattle.valuation.specs.Packings.{count_packings, IsPackingFor};
+ghost use Rattle.valuation.specs.Bounds.{price_bound, rate, greatest_rate, rate_bound};
+ghost use Rattle.valuation.specs.SearchSteps.{cut_steps, found_indices};
+ghost use Rattle.valuation.specs.SearchLimits.{plain_options, next_steps, options_after};
 ghost use Rattle.valuation.specs.Tables.{or_table, xor_table, is_nonzero};
 ghost use Rattle.valuation.specs.Orders.{atom_cmp, bidder_cmp};
 ghost use Rattle.valuation.specs.Sorting.{sort_by};
@@ -48,6 +53,62 @@ pub fn packings_worked()
         count_packings a (0 ∷ 1 ∷ []) ≡ 6 }
 {}
 
+/// What bids can add up to by their prices, and by their rates.
+#[tactic(auto, unfolding(crate::specs::Bounds::greatest_rate, crate::specs::Bounds::rate_bound))]
+pub fn bounds_worked()
+    ensures rate_of_one { rate (atom (0 ∷ []) 5) ≡ 5 }
+    ensures rate_of_two { rate (atom (0 ∷ 1 ∷ []) 4) ≡ 2 }
+    ensures rounded_up { rate (atom (0 ∷ 1 ∷ []) 3) ≡ 2 }
+    ensures worthless { rate (atom (0 ∷ 1 ∷ []) 0) ≡ 0 }
+    ensures greatest { let a = atom (0 ∷ 1 ∷ []) 4 ∷ atom (1 ∷ 2 ∷ []) 6 ∷ atom (0 ∷ []) 1 ∷ [] in
+        greatest_rate a (0 ∷ 1 ∷ 2 ∷ []) 1 ≡ 3 }
+    ensures first { let a = atom (0 ∷ 1 ∷ []) 4 ∷ atom (1 ∷ 2 ∷ []) 6 ∷ atom (0 ∷ []) 1 ∷ [] in
+        greatest_rate a (0 ∷ 1 ∷ 2 ∷ []) 0 ≡ 2 }
+    ensures not_inside { let a = atom (0 ∷ 1 ∷ []) 4 ∷ atom (1 ∷ 2 ∷ []) 6 ∷ [] in greatest_rate a (0 ∷ 1 ∷ []) 1 ≡ 2 }
+    ensures no_bid { let a = atom (0 ∷ 1 ∷ []) 4 ∷ atom (1 ∷ 2 ∷ []) 6 ∷ [] in greatest_rate a (0 ∷ 1 ∷ []) 2 ≡ 0 }
+    ensures rates { let a = atom (0 ∷ 1 ∷ []) 4 ∷ atom (0 ∷ 2 ∷ []) 4 ∷ atom (1 ∷ 2 ∷ []) 4 ∷ [] in
+        rate_bound a (0 ∷ 1 ∷ 2 ∷ []) ≡ 6 }
+    ensures prices { let a = atom (0 ∷ 1 ∷ []) 4 ∷ atom (0 ∷ 2 ∷ []) 4 ∷ atom (1 ∷ 2 ∷ []) 4 ∷ [] in
+        price_bound a (0 ∷ 1 ∷ 2 ∷ []) ≡ 12 }
+    ensures rounded_rates { rate_bound (atom (0 ∷ 1 ∷ []) 3 ∷ []) (0 ∷ 1 ∷ []) ≡ 4 }
+    ensures rates_inside { let a = atom (0 ∷ 1 ∷ []) 4 ∷ atom (1 ∷ 2 ∷ []) 6 ∷ [] in rate_bound a (0 ∷ 1 ∷ []) ≡ 4 }
+    ensures all_prices { let a = atom (0 ∷ 1 ∷ []) 4 ∷ atom (1 ∷ 2 ∷ []) 6 ∷ [] in price_bound a (0 ∷ 1 ∷ []) ≡ 10 }
+{}
+
+/// How many families a search enters, without the empty one, and what it finds.
+#[tactic(auto, unfolding(crate::specs::SearchSteps::cut_steps, crate::specs::SearchSteps::found_indices, crate::specs::Bounds::greatest_rate, crate::specs::Bounds::rate_bound, crate::specs::Values::or_value))]
+pub fn searches_worked()
+    ensures no_atoms { cut_steps price_bound [] (0 ∷ []) 1 ≡ 0 }
+    ensures no_price { cut_steps price_bound (atom (0 ∷ []) 3 ∷ []) (0 ∷ []) 0 ≡ 0 }
+    ensures two { cut_steps price_bound (atom (0 ∷ []) 3 ∷ atom (1 ∷ []) 4 ∷ []) (0 ∷ 1 ∷ []) 7 ≡ 2 }
+    ensures first_is_enough { cut_steps price_bound (atom (0 ∷ []) 3 ∷ atom (1 ∷ []) 4 ∷ []) (0 ∷ 1 ∷ []) 3 ≡ 1 }
+    ensures too_low { cut_steps price_bound (atom (0 ∷ []) 3 ∷ atom (1 ∷ []) 4 ∷ []) (0 ∷ 1 ∷ []) 8 ≡ 0 }
+    ensures by_prices { let a = atom (0 ∷ 1 ∷ []) 4 ∷ atom (0 ∷ 2 ∷ []) 4 ∷ atom (1 ∷ 2 ∷ []) 4 ∷ [] in
+        cut_steps price_bound a (0 ∷ 1 ∷ 2 ∷ []) 7 ≡ 2 }
+    ensures by_rates { let a = atom (0 ∷ 1 ∷ []) 4 ∷ atom (0 ∷ 2 ∷ []) 4 ∷ atom (1 ∷ 2 ∷ []) 4 ∷ [] in
+        cut_steps rate_bound a (0 ∷ 1 ∷ 2 ∷ []) 7 ≡ 0 }
+    ensures equal_rates { let a = atom (0 ∷ 1 ∷ []) 4 ∷ atom (0 ∷ 2 ∷ []) 4 ∷ atom (1 ∷ 2 ∷ []) 4 ∷ [] in
+        cut_steps rate_bound a (0 ∷ 1 ∷ 2 ∷ []) 6 ≡ 2 }
+    ensures found_both { let a = atom (0 ∷ []) 3 ∷ atom (1 ∷ []) 4 ∷ atom (0 ∷ 1 ∷ []) 7 ∷ [] in
+        found_indices a (0 ∷ 1 ∷ []) 7 ≡ 0 ∷ 1 ∷ [] }
+    ensures found_first { let a = atom (0 ∷ []) 3 ∷ atom (1 ∷ []) 4 ∷ atom (0 ∷ 1 ∷ []) 7 ∷ [] in
+        found_indices a (0 ∷ 1 ∷ []) 3 ≡ 0 ∷ [] }
+    ensures larger_left { let a = atom (0 ∷ 1 ∷ []) 3 ∷ atom (0 ∷ []) 3 ∷ atom (1 ∷ []) 4 ∷ [] in
+        found_indices a (0 ∷ 1 ∷ []) 7 ≡ 1 ∷ 2 ∷ [] }
+    ensures outside_left { let a = atom (2 ∷ []) 9 ∷ atom (0 ∷ []) 3 ∷ [] in found_indices a (0 ∷ 1 ∷ []) 3 ≡ 1 ∷ [] }
+    ensures found_none { found_indices (atom (0 ∷ []) 3 ∷ []) (0 ∷ []) 0 ≡ [] }
+{}
+
+/// The limits of searches: each may take so many steps, and all together so many, if that has a limit.
+pub fn limits_worked()
+    ensures no_total { next_steps (plain_options 5) ≡ 5 }
+    ensures each { next_steps (record { kind = Bounded; each = 5; total = Some 7 }) ≡ 5 }
+    ensures less_left { next_steps (record { kind = Bounded; each = 5; total = Some 3 }) ≡ 3 }
+    ensures after { options_after (record { kind = Bounded; each = 5; total = Some 7 }) 4
+        ≡ record { kind = Bounded; each = 5; total = Some 3 } }
+    ensures plain_after { options_after (plain_options 5) 4 ≡ plain_options 5 }
+{}
+
 /// A table has the values on all bundles, in order.
 #[tactic(auto, unfolding(crate::specs::Values::xor_value, crate::specs::Values::or_value))]
 pub fn tables_worked()
@@ -73,4 +134,28 @@ pub fn sorting_worked()
     ensures all { let one = atom (0 ∷ []) 9 ∷ [] in let two = atom (1 ∷ []) 8 ∷ [] in
         let both = atom (0 ∷ []) 9 ∷ atom (1 ∷ []) 8 ∷ [] in
         sort_by bidder_cmp (two ∷ both ∷ one ∷ two ∷ []) ≡ one ∷ both ∷ two ∷ two ∷ [] }
+{}
+
+/// At each place is what the prices from there on add up to.
+fn prices_left_worked()
+    ensures none { ArePricesLeft [] [] }
+    ensures two { ArePricesLeft (atom (0 ∷ []) 3 ∷ atom (1 ∷ []) 4 ∷ []) (7 ∷ 4 ∷ []) }
+    ensures prices { ¬ ArePricesLeft (atom (0 ∷ []) 3 ∷ atom (1 ∷ []) 4 ∷ []) (3 ∷ 4 ∷ []) }
+    ensures too_few { ¬ ArePricesLeft (atom (0 ∷ []) 3 ∷ atom (1 ∷ []) 4 ∷ []) (7 ∷ []) }
+{}
+
+/// A packing that reaches a price, of bids that are given by their indices.
+fn reaching_worked()
+    ensures none { IsPackingFor [] [] 0 [] }
+    ensures two { IsPackingFor (atom (0 ∷ []) 3 ∷ atom (1 ∷ []) 4 ∷ []) (0 ∷ 1 ∷ []) 7 (0 ∷ 1 ∷ []) }
+    ensures price { ¬ IsPackingFor (atom (0 ∷ []) 3 ∷ atom (1 ∷ []) 4 ∷ []) (0 ∷ 1 ∷ []) 8 (0 ∷ 1 ∷ []) }
+    ensures shared_good { ¬ IsPackingFor (atom (0 ∷ []) 3 ∷ atom (0 ∷ []) 4 ∷ []) (0 ∷ []) 7 (0 ∷ 1 ∷ []) }
+{}
+
+/// What a search for a price answers, by the steps that are left before and after it.
+#[tactic(auto, unfolding(crate::specs::SearchSteps::cut_steps, crate::specs::Values::or_value))]
+fn searched_worked()
+    ensures reached { IsReachedBy price_bound (atom (0 ∷ []) 3 ∷ []) (0 ∷ []) 3 5 3 (Ok true) }
+    ensures answer { ¬ IsReachedBy price_bound (atom (0 ∷ []) 3 ∷ []) (0 ∷ []) 3 5 3 (Ok false) }
+    ensures fewer_steps { ¬ IsReachedBy price_bound (atom (0 ∷ []) 3 ∷ []) (0 ∷ []) 4 5 3 (Ok false) }
 {}

@@ -13,11 +13,12 @@ use Rattle.valuation.specs.Auctions.{PlainAuction, IsAuction, or_atoms_of, aucti
 use Rattle.valuation.specs.Lemmas.AuctionsOfFiles.{IsAuction-auction_from}
 use Rattle.prune.specs.Points.{or_points}
 use Rattle.prune.specs.SearchSteps.{first_heavy}
-use Rattle.prune.specs.Lemmas.SearchSteps.{no_heavy_point}
+use Rattle.prune.specs.Lemmas.Refusals.{no_heavy_point}
 use Rattle.prune.specs.Lemmas.KeptBids.{on_bundles}
 use Rattle.canon.specs.Sameness.{IsSameAuction, AreSameFiles, AreSameTexts}
 use Rattle.canon.specs.Canonical.{canonical_auction, file_from, canonical_file, canonical_text}
-use Rattle.canon.specs.Normalising.{Normalised, IsNoFile, ExceedsSteps, IsText, HasOutcome, IsNormalised, Normalises, SpellsCanonicalFile, unless_heavy, normalised_file}
+use Rattle.canon.specs.Normalising.{Normalised, IsNoFile, ExceedsSteps, IsText, HasOutcome, IsNormalised, Normalises, SpellsCanonicalFile, unless_heavy}
+use Rattle.canon.specs.Normalising.{normalised_file}
 use Rattle.canon.proofs.CanonicalAuctions.Atoms.{HasAtoms}
 use Rattle.canon.proofs.CanonicalAuctions.Sames.{HasAtoms-auction, canonical_is_same, same_canonical, same_from_canonical, canonical_is_fixed}
 use Rattle.canon.proofs.CanonicalFiles.Files.{auction_from-file_from, IsPlainFile-file_from}
@@ -102,7 +103,8 @@ has_outcome limit text = by (first_fault text) refl
     of_file f s (Some goods) e = record { outcome = ExceedsSteps goods; normalises = record { file = f; spelled = s; is = ap (unless_heavy f) e } }
 
     by : (o : Option ReadFault) → first_fault text ≡ o → IsNormalised limit text
-    by None e = of_file (spelled_file text) (spells_from_no_fault text e) (first_heavy (spelled_file text).goods limit (or_atoms_of (spelled_file text).bids)) refl
+    by None e = of_file (spelled_file text) (spells_from_no_fault text e)
+        (first_heavy (spelled_file text).goods limit (or_atoms_of (spelled_file text).bids)) refl
     by (Some fault) e = record { outcome = IsNoFile fault; normalises = e }
 
 module _ (limit : ℕ) (text : List ℕ) where
@@ -134,7 +136,8 @@ normalised_again limit text out n =
     record {
       file = canonical_file f;
       spelled = subst (λ (t : List ℕ). Spells t (canonical_file f)) (sym n.is) (laid_out.layout_spells (canonical_file f) (IsPlainFile-canonical f facts));
-      within_limit = ap (first_heavy f.goods limit) ors ∙ no_heavy_point f.goods limit (or_atoms_of f.bids) (on_bundles f.goods (or_atoms_of f.bids) atoms.or_atoms)
+      within_limit = ap (first_heavy f.goods limit) ors ∙ no_heavy_point f.goods limit (or_atoms_of f.bids)
+          (on_bundles f.goods (or_atoms_of f.bids) atoms.or_atoms)
           n.within_limit;
       is = n.is ∙ ap layout (sym (canonical_file_is_fixed f facts));
     }

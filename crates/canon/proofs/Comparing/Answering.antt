@@ -90,7 +90,8 @@ module _ (limit : ℕ) (f h : PlainFile) (facts : IsPlainFile f) (n : IsNormalFi
   least_of_normal = subst (λ (x : PlainFile). IsLeastFor f x) (sym n.canonical) (canonical_is_least f facts)
 
 -- its text is the canonical text
-pub text_of_normal : (limit : ℕ) (f h : PlainFile) → IsNormalFile limit (auction_from f) h → (out : List ℕ) → out ≡ layout h → normalised_file limit f ≡ IsText out
+pub text_of_normal : (limit : ℕ) (f h : PlainFile) → IsNormalFile limit (auction_from f) h → (out : List ℕ) → out ≡ layout h
+    → normalised_file limit f ≡ IsText out
 text_of_normal limit f h n out is = ap (unless_heavy f) n.within_limit ∙ ap IsText (sym (is ∙ ap layout n.canonical))
 
 -- ---- the file of a canonical auction

@@ -216,7 +216,8 @@ module _ (a b : PlainAuction) (e : a.goods ≡ b.goods) where
   pub or_found : (found : Option Verdict) (v : Verdict) → found ≡ Some v
       → MatchOption found (first_unequal_bundle a b ≡ None) (λ verdict. plain_verdict verdict ≡ or_difference a b (first_unequal_bundle a b))
       → plain_verdict v ≡ first_difference a b
-  or_found found v is h = MatchOption-at_some (first_unequal_bundle a b ≡ None) (λ verdict. plain_verdict verdict ≡ or_difference a b (first_unequal_bundle a b))
+  or_found found v is h = MatchOption-at_some (first_unequal_bundle a b ≡ None)
+      (λ verdict. plain_verdict verdict ≡ or_difference a b (first_unequal_bundle a b))
       v is h ∙ sym (at_same_goods a b e)
 
   pub xor_found : {E : Type 0} (found : Option Verdict) → found ≡ None

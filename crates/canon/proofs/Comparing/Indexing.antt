@@ -1,6 +1,7 @@
 -- One more file in an index. Files have one text exactly where they are the same auction, so the first file with a text, which is the
 -- one that the map has for it, is the first of its auction.
-use Rattle.std.proofs.Common.{◌≡◌, ◌⊎◌, ℕ, zero, suc, ◌+◌, ◌<◌, Bool, true, false, cond, unwrap_or, bytes_eq, List, [], ◌∷◌, ◌++◌, length, get_or, map, All, Option}
+use Rattle.std.proofs.Common.{◌≡◌, ◌⊎◌, ℕ, zero, suc, ◌+◌, ◌<◌, Bool, true, false, cond, unwrap_or, bytes_eq, List, [], ◌∷◌, ◌++◌, length, get_or, map, All}
+use Rattle.std.proofs.Common.{Option}
 use Rattle.std.proofs.Common.{Some, None, slice_get, refl, sym, ap, ◌∙◌, subst, inl, inr, ⊎_elim, arith, length-append, Global}
 use Rattle.std.specs.Prelude.{Vec, Result, Ok, Err, IfOk, IfErr, OnOk, OnErr, IsErrAnd}
 use Rattle.std.specs.Io.KnownBytes.{Consumes}
@@ -19,7 +20,8 @@ use Rattle.cats_text.specs.Streams.{inner_of, ReadsFile, ReadsAs}
 use Rattle.cats_text.specs.declared.stream.Watched.{Watched}
 use Rattle.canon.specs.Answers.{RefusesAs}
 use Rattle.canon.specs.Canonical.{canonical_text}
-use Rattle.canon.specs.FirstPlaces.{AddsStream, AddsText, IsEmptyIndex, IsFirstPlace, IsFirstText, IsIndexOf, LacksText, PlacesText, TextIndex, first_place, text_place}
+use Rattle.canon.specs.FirstPlaces.{AddsStream, AddsText, IsEmptyIndex, IsFirstPlace, IsFirstText, IsIndexOf, LacksText, PlacesText, TextIndex, first_place}
+use Rattle.canon.specs.FirstPlaces.{text_place}
 use Rattle.canon.specs.Normalising.{IsText, normalised_file}
 use Rattle.canon.specs.declared.canon_fault.CanonFault.{CanonFault}
 use Rattle.canon.specs.Internal.TextPlaces.{place_of}
@@ -132,7 +134,8 @@ module _ (old new : TextIndex) (place : ℕ) (files : List PlainFile) (f : Plain
 
   kept : (text : List ℕ) → bytes_eq (canonical_text f) text ≡ false → PlacesText (files ++ f ∷ []) text (text_place new text)
   kept text apart =
-      let at : text_place new text ≡ text_place old text = added.places text ∙ cond-false (bytes_eq (canonical_text f) text) (Some place) (text_place old text) apart in
+      let at : text_place new text ≡ text_place old text = added.places text
+      ∙ cond-false (bytes_eq (canonical_text f) text) (Some place) (text_place old text) apart in
       subst (λ (o : Option ℕ). PlacesText (files ++ f ∷ []) text o) (sym at) (stays_placed files f text apart (text_place old text) (h.texts text))
 
   -- one more file

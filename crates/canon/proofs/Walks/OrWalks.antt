@@ -197,7 +197,8 @@ IsNamed left right bundle one other =
     (a b : PlainAuction) → HasOrBids a left → HasOrBids b right → a.goods ≡ b.goods
     → or_difference a b (first_unequal_bundle a b) ≡ InOr bundle one other
 
-named_alike : (left right : List PlainBid) (bundle named : List ℕ) (one other named_one named_other : Side) → named ≡ bundle → named_one ≡ one → named_other ≡ other
+named_alike : (left right : List PlainBid) (bundle named : List ℕ) (one other named_one named_other : Side) → named ≡ bundle → named_one ≡ one
+    → named_other ≡ other
     → IsNamed left right bundle one other → IsNamed left right named named_one named_other
 named_alike left right bundle named one other named_one named_other e f g t = λ a b h k same. let u = t a b h k same in cc
 
@@ -219,7 +220,8 @@ module _ (left right : List PlainBid) (i : ℕ) (shared : take i (offers left) �
           let short = length-offers right in
           named_alike left right x.goods named (Exactly x.price) (Below x.price) one other e f g
           (named_of_auctions left right x.goods (Exactly x.price) (Below x.price)
-          (λ goods p q. parted_before goods (offers left) (offers right) p q i shared (atom_of x) (omega (arith, slice_get_within left i x is)) (offer_at left i x is)
+          (λ goods p q. parted_before goods (offers left) (offers right) p q i shared (atom_of x) (omega (arith, slice_get_within left i x is))
+          (offer_at left i x is)
           (atom_of y) (omega (arith, slice_get_within right i y so)) (offer_at right i y so) less))
 
       pub right_first : bundle_cmp x.goods y.goods ≡ Greater → named ≡ y.goods → one ≡ Below y.price → other ≡ Exactly y.price
@@ -230,7 +232,8 @@ module _ (left right : List PlainBid) (i : ℕ) (shared : take i (offers left) �
           let less : bundle_cmp y.goods x.goods ≡ Less = bundle_cmp_total.antisymm y.goods x.goods ∙ ap ordering_reverse greater in
           named_alike left right y.goods named (Below y.price) (Exactly y.price) one other e f g
           (named_of_auctions left right y.goods (Below y.price) (Exactly y.price)
-          (λ goods p q. parted_after goods (offers left) (offers right) p q i shared (atom_of y) (omega (arith, slice_get_within right i y so)) (offer_at right i y so)
+          (λ goods p q. parted_after goods (offers left) (offers right) p q i shared (atom_of y) (omega (arith, slice_get_within right i y so))
+          (offer_at right i y so)
           (atom_of x) (omega (arith, slice_get_within left i x is)) (offer_at left i x is) less))
 
       pub both_differ : bundle_cmp x.goods y.goods ≡ Equal → (x.price ≡ y.price → ⊥) → named ≡ x.goods → one ≡ Exactly x.price
@@ -240,7 +243,8 @@ module _ (left right : List PlainBid) (i : ℕ) (shared : take i (offers left) �
           let short = length-offers right in
           named_alike left right x.goods named (Exactly x.price) (Exactly y.price) one other e f g
           (named_of_auctions left right x.goods (Exactly x.price) (Exactly y.price)
-          (λ goods p q. parted_by_price goods (offers left) (offers right) p q i shared (atom_of x) (omega (arith, slice_get_within left i x is)) (offer_at left i x is)
+          (λ goods p q. parted_by_price goods (offers left) (offers right) p q i shared (atom_of x) (omega (arith, slice_get_within left i x is))
+          (offer_at left i x is)
           (atom_of y) (omega (arith, slice_get_within right i y so)) (offer_at right i y so) (bundle_cmp_equal x.goods y.goods equal) differ))
 
   module _ (y : PlainBid) (so : slice_get right i ≡ Some y) where
@@ -254,7 +258,8 @@ module _ (left right : List PlainBid) (i : ℕ) (shared : take i (offers left) �
         (offer_at right i y so) (omega arith)))
 
 -- one more place that is the same
-pub shared_more : (left right : List PlainBid) (i : ℕ) → take i (offers left) ≡ take i (offers right) → (x y : PlainBid) → slice_get left i ≡ Some x → slice_get right i ≡ Some y
+pub shared_more : (left right : List PlainBid) (i : ℕ) → take i (offers left) ≡ take i (offers right) → (x y : PlainBid) → slice_get left i ≡ Some x
+    → slice_get right i ≡ Some y
     → bundle_cmp x.goods y.goods ≡ Equal → x.price ≡ y.price → take (i + 1) (offers left) ≡ take (i + 1) (offers right)
 shared_more left right i shared x y is so equal price =
     let long = length-offers left in

@@ -220,7 +220,8 @@ module _ (goods : ℕ) where
           false_from_ne_true (is_or_point goods (prefix ++ ys) x.bundle) (λ t.
           let p : Atom (List ℕ) = record { bundle = x.bundle; price = or_value (prefix ++ ys) x.bundle } in
           let c = point_of (prefix ++ ys) right x.bundle (point_there (prefix ++ (x ∷ xs)) left x x_there).0 t in
-          ⊎_elim (λ (d : Contains prefix p). before_itself x.bundle (prefix_before prefix (x ∷ xs) (in_order (prefix ++ (x ∷ xs)) left) p x d (Contains-head x xs)))
+          ⊎_elim (λ (d : Contains prefix p). before_itself x.bundle
+          (prefix_before prefix (x ∷ xs) (in_order (prefix ++ (x ∷ xs)) left) p x d (Contains-head x xs)))
           (λ (d : Contains ys p). before_itself x.bundle (later p d))
           (Contains-append_cases prefix ys p c))
 

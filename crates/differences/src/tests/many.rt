@@ -145,7 +145,8 @@ fn text_of_one(alloc: Global) -> Result<String, AllocError> {
     Ok(text)
 }
 
-/// All right bidders share one common bid with each left one: the first that waits is its partner, also behind 64 that do not.
+/// All right bidders share one common bid with each left one: the first that waits is its partner, also behind 64 that do
+/// not.
 #[test]
 fn first_of_many_partners(rt: HostRuntime) -> Result<(), Fail> {
     let alloc = rt.alloc();

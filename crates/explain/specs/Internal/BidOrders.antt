@@ -16,12 +16,14 @@ key_cmp a b = ordering_then (nat_cmp (bidder_of a.dummy) (bidder_of b.dummy)) (b
 -- by bidder and goods, the higher price first, and of equal ones by number
 abbrev pub numbered_cmp : NumberedBid → NumberedBid → Ordering
 numbered_cmp a b =
-    ordering_then (ordering_then (key_cmp (seen_bid a.bid) (seen_bid b.bid)) (nat_cmp b.bid.price a.bid.price)) (nat_cmp a.number b.number)
+    ordering_then (ordering_then (key_cmp (seen_bid a.bid) (seen_bid b.bid)) (nat_cmp b.bid.price a.bid.price))
+    (nat_cmp a.number b.number)
 
 -- the bids of the file by number
 pub record AreNumbered (f : PlainFile) (bids : List NumberedBid) : Type 0 where
   pub long : length bids ≡ length f.bids
-  pub each : (k : ℕ) (d : NumberedBid) → k < length bids → ((slice_index_or bids k d).number ≡ k) × (seen_bid (slice_index_or bids k d).bid ≡ bid_at f k)
+  pub each : (k : ℕ) (d : NumberedBid) → k < length bids
+      → ((slice_index_or bids k d).number ≡ k) × (seen_bid (slice_index_or bids k d).bid ≡ bid_at f k)
 
 -- the same bids in order
 pub record AreInOrder (f : PlainFile) (bids : List NumberedBid) : Type 0 where

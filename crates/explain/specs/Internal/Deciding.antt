@@ -7,14 +7,15 @@ use Rattle.bid_file.specs.Files.{PlainFile}
 use Rattle.prune.specs.SearchSteps.{is_below}
 use Rattle.canon.specs.Renaming.{kept_bids}
 use Rattle.explain.specs.Bids.{bid_at}
-use Rattle.explain.specs.Reasons.{PlainReason, Keep, Zero, Same, Inside, Packing, IsBestBid, IsKeptAs, HasSame, all_apart, goods_at}
+use Rattle.explain.specs.Reasons.{PlainReason, Keep, Zero, Same, Inside, Packing, IsBestBid, IsKeptAs, HasSame}
+use Rattle.explain.specs.Reasons.{all_apart, goods_at}
 
 -- the bid is one of the canonical file
 pub record IsPointBid (f : PlainFile) (j : ℕ) : Type 0 where
   pub k : ℕ
   pub is : IsKeptAs f j k
 
--- the bid is none of the canonical file
+-- the bid is not in the canonical file
 abbrev pub IsNoPoint : PlainFile → ℕ → Type 0
 IsNoPoint f i = (k : ℕ) → slice_get (kept_bids f) k ≡ Some (bid_at f i) → ⊥
 

@@ -33,7 +33,7 @@ pub record IsNumberedBid (f : PlainFile) (bid : NumberedBid) : Type 0 where
   pub within : bid.number < length f.bids
   pub is : seen_bid bid.bid ≡ bid_at f bid.number
 
--- the bid is the best of its bidder's on its goods, and is none of the canonical file
+-- the bid is the best of its bidder's on its goods, and is not in the canonical file
 pub record IsToDrop (f : PlainFile) (i : ℕ) : Type 0 where
   pub bid : IsBestBid f i
   pub no_point : IsNoPoint f i

@@ -1,5 +1,6 @@
 -- Atoms listed by their goods. Those inside a bundle are found through the goods of the bundle.
-use Rattle.std.specs.Prelude.{◌≡◌, ◌≢◌, ℕ, ◌<◌, ◌≤◌, Bool, ◌&&◌, true, false, nat_le, map, slice_index_or, List, [], length}
+use Rattle.std.specs.Prelude.{◌≡◌, ◌≢◌, ℕ, ◌<◌, ◌≤◌, Bool, ◌&&◌, true, false, nat_le, map, slice_index_or, List, []}
+use Rattle.std.specs.Prelude.{length}
 use Rattle.std.specs.Prelude.{take, All, AllPairs, Contains}
 use Rattle.std.proofs.Common.{Less}
 use Rattle.std.specs.Global.{Vec}
@@ -59,7 +60,8 @@ pub record IsPosting (atoms : List (Atom (List ℕ))) (posting : Posting) : Type
   pub within : posting.index < length atoms
   pub marks : AreMarks (atom_at atoms posting.index).bundle posting.fingerprint
 
--- each of so many atoms, from the first on, is listed at one of its goods, once and at no other good, and nothing else is listed
+-- each of so many atoms, from the first on, is listed at one of its goods, once and at no other good, and nothing else
+-- is listed
 pub record AreListed (lists : List (List Posting)) (listed : ℕ) (atoms : List (Atom (List ℕ))) : Type 0 where
   pub most : listed ≤ length atoms
   pub each : (place : ℕ) → place < listed → IsListed lists (atom_at atoms place).bundle place
@@ -72,7 +74,8 @@ pub record AreListed (lists : List (List Posting)) (listed : ℕ) (atoms : List 
 -- of each atom a good of its bundle
 pub record AreGoodsOf (goods : List ℕ) (atoms : List (Atom (List ℕ))) : Type 0 where
   pub long : length goods ≡ length atoms
-  pub each : (place : ℕ) → place < length atoms → has_good (atom_at atoms place).bundle (slice_index_or goods place 0) ≡ true
+  pub each : (place : ℕ) → place < length atoms
+      → has_good (atom_at atoms place).bundle (slice_index_or goods place 0) ≡ true
 
 -- what an index lists at a good
 abbrev pub postings_of : SubsetIndex → ℕ → List Posting
@@ -98,7 +101,8 @@ IsBehind bundle atoms = All (λ a. bundle_cmp a.bundle bundle ≡ Less) atoms
 
 -- none of the atoms from a place on is inside the bundle
 abbrev pub NoneInsideFrom : ℕ → List (Atom (List ℕ)) → List ℕ → Type 0
-NoneInsideFrom from atoms bundle = (place : ℕ) → from ≤ place → place < length atoms → is_inside_at atoms bundle place ≡ false
+NoneInsideFrom from atoms bundle = (place : ℕ) → from ≤ place → place < length atoms
+    → is_inside_at atoms bundle place ≡ false
 
 -- none of the atoms that the index does not list is inside the bundle
 abbrev pub IsReadyFor : List ℕ → List (Atom (List ℕ)) → SubsetIndex → Type 0

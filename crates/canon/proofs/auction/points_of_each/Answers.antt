@@ -75,6 +75,10 @@ loop-dummy-preserved-in-Continue-branch-3 g c =
           keyed_bidder n atoms c.loop-dummy.points.items
           c.in_ok-own.own
           (c.in_ok-own.ensures.points n) (h.points n atoms) c.push.new.self.items c.new.result c.in-Some.dummy c.in_ok-push.ensures.items number
-          (ap₂ (λ (d : ℕ) (v : Vec (Atom _) Global). record { number = d; atoms = atoms_of g.S.GoodsSet.goods v.items }) c.new.ensures.dummy c.new.ensures.atoms)
+          (ap₂ (λ (d : ℕ) (v : Vec (Atom _) Global). record {
+            number = d;
+            atoms =
+                atoms_of g.S.GoodsSet.goods v.items;
+          }) c.new.ensures.dummy c.new.ensures.atoms)
           (positive (length c.in_ok-own.own.items) (λ e. some (omega (arith, e, c.in_ok-own.own.ok.0))));
     }

@@ -13,7 +13,8 @@ use Rattle.canon.proofs.file.packed_file_of.Goals as goal
 pub loop-dummy-init : goal.loop-dummy-init
 loop-dummy-init g c =
     ap₂ (λ (x : List PlainBid) (y : List (List (Atom (List _)))). x ++ dummy_bids 0 y)
-    (c.in_ok-push_bids.ensures ∙ ap (λ (zs : List PlainBid). zs ++ map (bid_from None) (atoms_of g.S.GoodsSet.goods c.or_atoms.result.now)) (c.reserve.ensures ∙ c.new-bids.ensures)
+    (c.in_ok-push_bids.ensures ∙ ap (λ (zs : List PlainBid). zs ++ map (bid_from None) (atoms_of g.S.GoodsSet.goods c.or_atoms.result.now)) (c.reserve.ensures
+    ∙ c.new-bids.ensures)
     ∙ ap (map (bid_from None)) c.or_atoms.ensures)
     c.xor_bidders-bidders.ensures
 

@@ -1,4 +1,5 @@
-use Rattle.prune.specs.Lemmas.SearchSteps.{no_new_heavy, no_heavy_point}
+use Rattle.prune.specs.Lemmas.SearchSteps.{no_new_heavy}
+use Rattle.prune.specs.Lemmas.Refusals.{no_heavy_point}
 use Rattle.prune.specs.Lemmas.KeptBids.{on_bundles}
 use Rattle.canon.proofs.laws.no_new_heavy_bundle.Goals as goal
 

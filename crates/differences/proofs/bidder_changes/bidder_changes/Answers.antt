@@ -15,7 +15,8 @@ left_changes-requires-clause-lefts g c =
 
 pub left_changes-requires-clause-partners : goal.left_changes-requires-clause-partners
 left_changes-requires-clause-partners g c =
-    excess_within c.args.right.now (map offers c.args.left.now) c.in_ok-partners.partners (c.in_ok-partners.ensures ∙ c.deref.ensures.value ∙ c.in_ok-rights.ensures)
+    excess_within c.args.right.now (map offers c.args.left.now) c.in_ok-partners.partners (c.in_ok-partners.ensures ∙ c.deref.ensures.value
+    ∙ c.in_ok-rights.ensures)
 
 pub push_rest-requires-clause-rest : goal.push_rest-requires-clause-rest
 push_rest-requires-clause-rest g c =

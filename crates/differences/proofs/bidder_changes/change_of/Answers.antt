@@ -3,7 +3,8 @@ use Rattle.std.proofs.Common.{map, length, ap}
 use Rattle.differences.specs.Views.{plain_change}
 use Rattle.differences.proofs.BidsOfBidders.{within, bids_in_order, bids_at_are, none_at, changes_at, none_of_both}
 use Rattle.differences.proofs.bidder_changes.change_of.Goals as goal
-use Rattle.differences.proofs.bidder_changes.change_of.Goals.{in-Some-Some+in_ok-bids-in-Some-Some, in-Some-None+in_ok-bids-in-Some-None, in-None-Some+in_ok-bids-in-None-Some, in-None-None}
+use Rattle.differences.proofs.bidder_changes.change_of.Goals.{in-Some-Some+in_ok-bids-in-Some-Some, in-Some-None+in_ok-bids-in-Some-None}
+use Rattle.differences.proofs.bidder_changes.change_of.Goals.{in-None-Some+in_ok-bids-in-None-Some, in-None-None}
 
 pub price_changes-requires-clause-left_in_order : goal.price_changes-requires-clause-left_in_order
 price_changes-requires-clause-left_in_order g c =
@@ -37,7 +38,8 @@ returns-clause-change g c =
         | in-Some-Some+in_ok-bids-in-Some-Some w ↦
             let at = w.in-Some-Some in
             changes_at _ _ _ _ _ _
-            (bids_at_are left at.own w.index-left-own.result (within (length left) c.args.own at.own at.is-0 c.requires.own) w.index-left-own.is c.args.own at.is-0)
+            (bids_at_are left at.own w.index-left-own.result
+            (within (length left) c.args.own at.own at.is-0 c.requires.own) w.index-left-own.is c.args.own at.is-0)
             (bids_at_are right at.other w.index-right-other.result (within (length right) c.args.other at.other at.is-1 c.requires.other)
             w.index-right-other.is c.args.other at.is-1)
             (ap (λ bids. map plain_change bids.items) w.bids-is) w.in_ok-bids-in-Some-Some.ensures

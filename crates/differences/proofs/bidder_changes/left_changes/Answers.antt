@@ -28,7 +28,8 @@ loop-index-preserved g c =
     let changes = c.loop-index.changes.items in
     let change = c.in_ok-change_of.field-0 in
     rw (take_more lefts k 0 c.loop-index-test.true, c.in_ok-push.ensures.items, map_push plain_bidder_change changes change) (record {
-      so_far = one_more_left (map offers c.args.left.now) (map offers c.args.right.now) (take k lefts) (get_or lefts k 0) partner c.args.partners.now before after
+      so_far = one_more_left (map offers c.args.left.now) (map offers c.args.right.now) (take k lefts)
+          (get_or lefts k 0) partner c.args.partners.now before after
           (map plain_bidder_change changes) (plain_bidder_change change) c.loop-index.invariant.so_far c.in_ok-partner.ensures
           c.in_ok-change_of.ensures.change c.in_ok-change_of.ensures.left c.in_ok-change_of.ensures.right;
       waiting = still_wait (λ index. index < length c.args.right.now) before after partner c.in_ok-partner.ensures c.loop-index.invariant.waiting;

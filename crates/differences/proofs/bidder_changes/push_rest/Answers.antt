@@ -11,7 +11,11 @@ loop-index-preserved g c =
     let k = c.loop-index.index-index in
     let rest = c.args.rest.now in
     let change = plain_bidder_change c.in_ok-change_of.field-0 in
-    rw (take_more rest k 0 c.loop-index-test.true, c.in_ok-push.ensures.items, map_push plain_bidder_change c.loop-index.changes.items c.in_ok-change_of.field-0)
+    rw (
+      take_more rest k 0 c.loop-index-test.true,
+      c.in_ok-push.ensures.items,
+      map_push plain_bidder_change c.loop-index.changes.items c.in_ok-change_of.field-0,
+    )
     (one_more_alone (map offers c.args.left.now) (map offers c.args.right.now) (take k rest) (get_or rest k 0)
     (map plain_bidder_change c.args.changes.now.items) (map plain_bidder_change c.loop-index.changes.items) change c.loop-index.invariant
     c.in_ok-change_of.ensures.change c.in_ok-change_of.ensures.left c.in_ok-change_of.ensures.right)

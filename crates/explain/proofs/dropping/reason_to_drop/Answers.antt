@@ -5,7 +5,7 @@ use Rattle.goods_set.specs.Lemmas.Members.{AreBelow-higher}
 use Rattle.bid_file.specs.Files.{PlainBid}
 use Rattle.valuation.specs.Auctions.{atom_of}
 use Rattle.valuation.specs.Values.{atoms_of}
-use Rattle.prune.specs.Reached.{IsPackingFor}
+use Rattle.valuation.specs.Packings.{IsPackingFor}
 use Rattle.explain.specs.Bids.{bid_at}
 use Rattle.explain.specs.Internal.BidderPoints.{points_at}
 use Rattle.explain.specs.declared.points.BidderPoints.{BidderPoints}
@@ -25,7 +25,8 @@ atom_of-requires-clause-below g c =
     let known = c.args.known.now in
     let i : ℕ = c.args.bid.now.number in
     AreBelow-higher _ _ c.args.bid.now.bid.goods.now c.requires.fits
-    (subst (λ (b : PlainBid). AreBelow known.file.now.goods b.goods) (sym c.requires.bid.is) (bundle_here known.file.now c.requires.known.plain i c.requires.bid.within).1)
+    (subst (λ (b : PlainBid). AreBelow known.file.now.goods b.goods) (sym c.requires.bid.is)
+    (bundle_here known.file.now c.requires.known.plain i c.requires.bid.within).1)
 
 pub found_packing-requires-clause-reached : goal.found_packing-requires-clause-reached
 found_packing-requires-clause-reached g c =
@@ -33,7 +34,8 @@ found_packing-requires-clause-reached g c =
     let i : ℕ = c.args.bid.now.number in
     let dummy : c.args.bid.now.bid.dummy ≡ (bid_at known.file.now i).dummy = ap (λ (b : PlainBid). b.dummy) c.requires.bid.is in
     or_reached g.S.GoodsSet.goods known c.requires.known i c.requires.bid.within c.requires.drop c.turn_to.new.self.index
-    (c.turn_to.ensures.current.index ∙ ap (λ (o : Option ℕ). atoms_of g.S.GoodsSet.goods (points_at known.points o).atoms.items) (c.turn_to.ensures.dummy ∙ dummy))
+    (c.turn_to.ensures.current.index ∙ ap (λ (o : Option ℕ). atoms_of g.S.GoodsSet.goods (points_at known.points o).atoms.items) (c.turn_to.ensures.dummy
+    ∙ dummy))
     c.in_ok-atom.atom (c.in_ok-atom.ensures ∙ ap atom_of c.requires.bid.is)
     (sym dummy ∙ none_is c.args.bid.now.bid.dummy (none_answered c.args.bid.now.bid.dummy c.is_none.result true c.is_none.ensures c.if-is_none.true))
 
@@ -43,7 +45,8 @@ found_packing-requires-clause-within g c =
     let i : ℕ = c.args.bid.now.number in
     let dummy : c.args.bid.now.bid.dummy ≡ (bid_at known.file.now i).dummy = ap (λ (b : PlainBid). b.dummy) c.requires.bid.is in
     or_within g.S.GoodsSet.goods known c.requires.known i c.requires.bid.within c.requires.drop c.turn_to.new.self.index
-    (c.turn_to.ensures.current.index ∙ ap (λ (o : Option ℕ). atoms_of g.S.GoodsSet.goods (points_at known.points o).atoms.items) (c.turn_to.ensures.dummy ∙ dummy))
+    (c.turn_to.ensures.current.index ∙ ap (λ (o : Option ℕ). atoms_of g.S.GoodsSet.goods (points_at known.points o).atoms.items) (c.turn_to.ensures.dummy
+    ∙ dummy))
     c.in_ok-atom.atom (c.in_ok-atom.ensures ∙ ap atom_of c.requires.bid.is)
     (sym dummy ∙ none_is c.args.bid.now.bid.dummy (none_answered c.args.bid.now.bid.dummy c.is_none.result true c.is_none.ensures c.if-is_none.true))
 
@@ -71,7 +74,8 @@ found_point-requires-clause-reached g c =
     let i : ℕ = c.args.bid.now.number in
     let dummy : c.args.bid.now.bid.dummy ≡ (bid_at known.file.now i).dummy = ap (λ (b : PlainBid). b.dummy) c.requires.bid.is in
     xor_reached g.S.GoodsSet.goods known c.requires.known i c.requires.bid.within c.requires.drop c.turn_to.new.self.index
-    (c.turn_to.ensures.current.index ∙ ap (λ (o : Option ℕ). atoms_of g.S.GoodsSet.goods (points_at known.points o).atoms.items) (c.turn_to.ensures.dummy ∙ dummy))
+    (c.turn_to.ensures.current.index ∙ ap (λ (o : Option ℕ). atoms_of g.S.GoodsSet.goods (points_at known.points o).atoms.items) (c.turn_to.ensures.dummy
+    ∙ dummy))
     c.in_ok-atom.atom (c.in_ok-atom.ensures ∙ ap atom_of c.requires.bid.is)
     (ap is_none (sym dummy) ∙ none_answered c.args.bid.now.bid.dummy c.is_none.result false c.is_none.ensures c.if-is_none.false)
 
@@ -84,7 +88,8 @@ returns-clause-reason g c =
     let place : ℕ = c.in_ok-place.place in
     let number : ℕ = c.index.result.now in
     has_inside g.S.GoodsSet.goods known c.requires.known i c.requires.bid.within c.requires.drop c.turn_to.new.self.index
-    (c.turn_to.ensures.current.index ∙ ap (λ (o : Option ℕ). atoms_of g.S.GoodsSet.goods (points_at known.points o).atoms.items) (c.turn_to.ensures.dummy ∙ dummy))
+    (c.turn_to.ensures.current.index ∙ ap (λ (o : Option ℕ). atoms_of g.S.GoodsSet.goods (points_at known.points o).atoms.items) (c.turn_to.ensures.dummy
+    ∙ dummy))
     c.in_ok-atom.atom (c.in_ok-atom.ensures ∙ ap atom_of c.requires.bid.is)
     (ap is_none (sym dummy) ∙ none_answered c.args.bid.now.bid.dummy c.is_none.result false c.is_none.ensures c.if-is_none.false) place number
     (c.index.ensures ∙ ap (λ (p : BidderPoints g.row.S.Denot). get_or p.numbers.items place number) of) c.in_ok-place.ensures.point

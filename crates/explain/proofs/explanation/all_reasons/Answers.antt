@@ -19,7 +19,8 @@ reason_of-requires-clause-bid g c =
 pub index_mut-requires : goal.index_mut-requires
 index_mut-requires g c =
     let known = c.args.known.now in
-    let bid = numbered_at known.file.now known.bids.items c.deref-bid-items.result.now c.requires.known.order c.deref-bid-items.ensures.value c.loop-bid.bid-index blank
+    let bid = numbered_at known.file.now known.bids.items c.deref-bid-items.result.now c.requires.known.order c.deref-bid-items.ensures.value
+    c.loop-bid.bid-index blank
     (omega (arith, c.loop-bid-test.true)) in
     let within = bid.within in
     omega (arith, c.loop-bid.invariant.long, c.loop-bid.reasons.ok.0)

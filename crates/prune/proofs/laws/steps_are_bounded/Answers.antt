@@ -3,4 +3,4 @@ use Rattle.prune.specs.Lemmas.SearchSteps.{search_within_packings, search_within
 use Rattle.prune.proofs.laws.steps_are_bounded.Goals as goal
 
 pub returns : goal.returns
-returns c = record { cut = search_within_packings; load = λ goods atoms are. search_within_bound goods atoms (on_bundles goods atoms are) }
+returns c = record { cut = search_within_packings; load = λ kind goods atoms are. search_within_bound kind goods atoms (on_bundles goods atoms are) }

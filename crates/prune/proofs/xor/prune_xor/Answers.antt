@@ -113,7 +113,8 @@ returns-clause-points g c =
     let bids = atoms_of goods c.args.atoms.items in
     let best = c.keep_best_bids.new.bids in
     let all : length best.items ≤ c.loop-place.place = omega (arith, c.loop-place-test.false, c.len-place-end.ensures, best.ok.0) in
-    let done = xor_end goods bids best.items _ _ c.loop-place.place c.in_ok-keep_best_bids.ensures.best c.loop-place.invariant.kept all c.truncate.ensures.items in
+    let done = xor_end goods bids best.items _ _ c.loop-place.place c.in_ok-keep_best_bids.ensures.best c.loop-place.invariant.kept all c.truncate.ensures.items
+    in
     λ n are. done.points n (just_bundles n bids (on_bundles n bids are))
 
 pub returns-clause-values : goal.returns-clause-values
@@ -122,7 +123,8 @@ returns-clause-values g c =
     let bids = atoms_of goods c.args.atoms.items in
     let best = c.keep_best_bids.new.bids in
     let all : length best.items ≤ c.loop-place.place = omega (arith, c.loop-place-test.false, c.len-place-end.ensures, best.ok.0) in
-    let done = xor_end goods bids best.items _ _ c.loop-place.place c.in_ok-keep_best_bids.ensures.best c.loop-place.invariant.kept all c.truncate.ensures.items in
+    let done = xor_end goods bids best.items _ _ c.loop-place.place c.in_ok-keep_best_bids.ensures.best c.loop-place.invariant.kept all c.truncate.ensures.items
+    in
     done.values
 
 pub returns-clause-bids : goal.returns-clause-bids
@@ -131,7 +133,8 @@ returns-clause-bids g c =
     let bids = atoms_of goods c.args.atoms.items in
     let best = c.keep_best_bids.new.bids in
     let all : length best.items ≤ c.loop-place.place = omega (arith, c.loop-place-test.false, c.len-place-end.ensures, best.ok.0) in
-    let done = xor_end goods bids best.items _ _ c.loop-place.place c.in_ok-keep_best_bids.ensures.best c.loop-place.invariant.kept all c.truncate.ensures.items in
+    let done = xor_end goods bids best.items _ _ c.loop-place.place c.in_ok-keep_best_bids.ensures.best c.loop-place.invariant.kept all c.truncate.ensures.items
+    in
     done.among
 
 pub returns-clause-in_order : goal.returns-clause-in_order
@@ -140,5 +143,6 @@ returns-clause-in_order g c =
     let bids = atoms_of goods c.args.atoms.items in
     let best = c.keep_best_bids.new.bids in
     let all : length best.items ≤ c.loop-place.place = omega (arith, c.loop-place-test.false, c.len-place-end.ensures, best.ok.0) in
-    let done = xor_end goods bids best.items _ _ c.loop-place.place c.in_ok-keep_best_bids.ensures.best c.loop-place.invariant.kept all c.truncate.ensures.items in
+    let done = xor_end goods bids best.items _ _ c.loop-place.place c.in_ok-keep_best_bids.ensures.best c.loop-place.invariant.kept all c.truncate.ensures.items
+    in
     done.in_order

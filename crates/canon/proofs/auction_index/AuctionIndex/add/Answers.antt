@@ -15,5 +15,6 @@ returns-clause-added c =
     (λ (old : TextIndex). AddsText old (record { texts = seen_texts c.place_text.new.places.entries; count = c.in-Some.count }) (canonical_text c.args.file)
     c.in_ok-place.place)
     c.self.view_is
-    (added_text c.self.inside.places.entries c.place_text.new.places.entries c.self.inside.count c.in-Some.count c.in_ok-text.text.items _ c.in_ok-place.place is
+    (added_text c.self.inside.places.entries c.place_text.new.places.entries c.self.inside.count c.in-Some.count c.in_ok-text.text.items _ c.in_ok-place.place
+    is
     c.in_ok-place.ensures.answer c.in_ok-place.ensures.placed counted)

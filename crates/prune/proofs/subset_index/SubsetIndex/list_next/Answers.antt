@@ -50,7 +50,8 @@ returns-clause-index g c =
           (AreListed-more (lists_of old.lists.items) _ old.listed (atoms_of goods kept) good posting c.requires.index.listed
           (λ k n. listed-set_other vectors good c.push-2.new.self k n ∙ c.loop-self.invariant.lists k) there refl
           (plain_atom goods atom) (sym at) (omega (arith, next, long)) has
-          (subst (λ (zs : List ℕ). AreMarks zs c.fingerprint-marks.result) (c.in_ok-rising_goods.ensures ∙ bundle_there goods kept old.listed atom c.index-kept-self.is)
+          (subst (λ (zs : List ℕ). AreMarks zs c.fingerprint-marks.result) (c.in_ok-rising_goods.ensures
+          ∙ bundle_there goods kept old.listed atom c.index-kept-self.is)
           c.fingerprint-marks.ensures));
       noted = subst (λ (v : Vec ℕ). AreGoodsOf v.items (atoms_of goods kept)) (sym c.loop-self.invariant.goods) c.requires.index.noted;
     }

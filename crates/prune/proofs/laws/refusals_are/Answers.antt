@@ -1,0 +1,5 @@
+use Rattle.prune.specs.Lemmas.Refusals.{none_refused, none_refused-from}
+use Rattle.prune.proofs.laws.refusals_are.Goals as goal
+
+pub returns : goal.returns
+returns c = λ options goods atoms. (none_refused options goods atoms, none_refused-from options goods atoms)

@@ -1,0 +1,5 @@
+use Rattle.prune.specs.Lemmas.Refusals.{first_refused-plain}
+use Rattle.prune.proofs.laws.refused_is_heavy.Goals as goal
+
+pub returns : goal.returns
+returns c = first_refused-plain

@@ -1,0 +1,26 @@
+-- From the place on the best bids are as they were; what is kept of those before it, the prefix, is as it should be;
+-- and what is left of the limits decides on those from it on.
+use Rattle.std.proofs.Common.{◌≡◌, ◌≤◌, drop, take}
+use Rattle.valuation.specs.Listed.{AreListsOf}
+use Rattle.valuation.specs.Values.{atoms_of}
+use Rattle.prune.specs.Internal.Listings.{IsIndexOf}
+use Rattle.prune.proofs.Prefixes.{IsLeft}
+use Rattle.prune.proofs.Refusals.{IsWithin}
+use Rattle.prune.proofs.Results.{IsOrKept}
+use Rattle.prune.proofs.or.prune_or_by.Given as goal
+
+abbrev pub invariant-loop-place : goal.invariant-loop-place
+invariant-loop-place g l =
+    let goods = g.S.GoodsSet.goods in
+    let done = atoms_of goods (take l.place l.initial.atoms.items) in
+    let rest = atoms_of goods (drop l.place l.initial.atoms.items) in
+    let prefix = atoms_of goods (take l.kept l.atoms.items) in
+    record {
+      left : IsLeft l.initial.atoms.items l.atoms.items l.place;
+      index : IsIndexOf prefix l.finder.index;
+      kind : l.finder.search.kind ≡ l.options.kind;
+      lists : AreListsOf prefix l.finder.lists;
+      kept : IsOrKept done prefix;
+      within : IsWithin l.fn.options l.options (atoms_of goods l.fn.atoms.items) rest;
+      fewer : l.kept ≤ l.place;
+    }

@@ -1,0 +1,5 @@
+use Rattle.valuation.specs.Lemmas.Bounds.{or_value-all_prices, or_value-rates}
+use Rattle.valuation.proofs.laws.bound_laws.Goals as goal
+
+pub returns : goal.returns
+returns c = record { prices = or_value-all_prices; rates = or_value-rates }

@@ -1,0 +1,5 @@
+use Rattle.valuation.specs.Lemmas.SearchSteps.{cut_within_packings, found_indices-packing}
+use Rattle.valuation.proofs.laws.search_laws.Goals as goal
+
+pub returns : goal.returns
+returns c = record { found = found_indices-packing; steps = cut_within_packings }

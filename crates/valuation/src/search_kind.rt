@@ -1,0 +1,10 @@
+//! How a search goes.
+
+/// How a search for a packing that reaches a price goes through the bids of a list, and when it leaves a branch.
+#[derive(Clone, Copy, PartialEq, Eq, Debug, Drop)]
+pub enum SearchKind {
+    /// From the first bid to the last, by the bound by prices.
+    Plain,
+    /// From the last bid to the first, by the bound by rates.
+    Bounded,
+}
