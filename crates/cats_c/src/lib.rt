@@ -63,7 +63,8 @@ pub extern "C" fn cats_compare(
     out: &mut [u8],
     needed: &mut usize,
 ) -> u8
-    ensures { Calls (ComparesTexts steps left.now right.now) (OfTwo steps left.now right.now) out.old out.new needed.new result }
+    ensures { Calls (ComparesTexts steps left.now right.now)
+        (OfTwo steps left.now right.now) out.old out.new needed.new result }
 {
     give(alloc, &compare(alloc, left, right, steps), out, needed)
 }
@@ -78,12 +79,14 @@ pub extern "C" fn cats_diff(
     out: &mut [u8],
     needed: &mut usize,
 ) -> u8
-    ensures { Calls (DiffsTexts steps left.now right.now) (OfTwo steps left.now right.now) out.old out.new needed.new result }
+    ensures { Calls (DiffsTexts steps left.now right.now)
+        (OfTwo steps left.now right.now) out.old out.new needed.new result }
 {
     give(alloc, &diff(alloc, left, right, steps), out, needed)
 }
 
-/// `cats round`: the text with every price made valid, and a line for each price whose value changed. A price that is finer than
+/// `cats round`: the text with every price made valid, and a line for each price whose value changed. A price that is finer
+/// than
 /// a millionth is refused if `exact` is set.
 #[unsafe(no_mangle)]
 pub extern "C" fn cats_round(

@@ -2,7 +2,7 @@
 -- `round`, `duplicates` and `sizes` report before they end.
 use Rattle.std.proofs.Common.{◌≡◌, ◌≢◌, ℕ, List, Option, None, Some, Result, Ok, Err, Bool, true, false, cond, sym, ap, ◌∙◌, subst, arith, ◌≤◌, [], ◌∷◌}
 use Rattle.std.proofs.Common.{refl, ⊎_elim}
-use Rattle.std.specs.Prelude.{◌||◌, nat_lt, IsErrAnd, bytes_eq, codes}
+use Rattle.std.specs.Prelude.{nat_lt, IsErrAnd}
 use Rattle.std.proofs.lemmas.Result.{err_from_is_err_and}
 use Rattle.bid_file.specs.Files.{PlainFile}
 use Rattle.cats_text.specs.declared.read_fault.Kind.{Kind}
@@ -27,21 +27,21 @@ use Rattle.rounding.specs.declared.replacement.FinePrices.{FinePrices}
 use Rattle.cats_cmd.specs.Runs.{RunsOnFile}
 use Rattle.answers.specs.Statuses.{status_of_canon_fault, status_of_differences, status_of_read_fault}
 use Rattle.cats_cmd.specs.Rounding.{Rounds}
-use Rattle.cats_cmd.specs.RequestErrors.{Reports, is_for_many_files, is_reporting, line_of_request_error, names_many_files, names_reporting, status_of_request_error}
+use Rattle.cats_cmd.specs.RequestErrors.{Reports, is_for_many_files, is_reporting, line_of_request_error, names_many_files, names_reporting}
+use Rattle.cats_cmd.specs.RequestErrors.{status_of_request_error}
 use Rattle.cats_cmd.specs.ValueTexts.{bundle_from, value_text}
 use Rattle.cats_cmd.specs.declared.program.RequestError.{RequestError}
 use Rattle.cats_cmd.specs.declared.program.RequestError.TheVariants.{CannotOpen, NotOpened, Run}
 use Rattle.answers.specs.declared.report.RunFault.{RunFault}
 use Rattle.answers.specs.declared.report.RunFault.TheVariants.{Refused, GoodRange, Sent}
-use Rattle.command_line.specs.Requests.{IsNamedIn}
-use Rattle.command_line.specs.declared.request.Request.{Request}
-use Rattle.command_line.specs.declared.request.Request.TheVariants.{Check, Show, Value, Normalise, Explain, Round, Compare, Diff, Duplicates, Sizes}
-use Rattle.std.specs.Borrow.{Bor}
+use Rattle.command_line.specs.PlainRequests.{PlainRequest, Check, Show, Value, Normalise, Explain, Round, Compare, Diff, Duplicates, Sizes}
+use Rattle.command_line.specs.Requests.{request_of}
 use Rattle.cats_cmd.specs.declared.source.Unopened.{Unopened}
 
 -- ---- the outcomes that have a text
 
-within_prints : (exceeds : Bool) (bundle reported : List ℕ) (status : ℕ) (text : List ℕ) → cond exceeds (ExceedsSteps bundle) (Prints 0 reported) ≡ Prints status text
+within_prints : (exceeds : Bool) (bundle reported : List ℕ) (status : ℕ) (text : List ℕ)
+    → cond exceeds (ExceedsSteps bundle) (Prints 0 reported) ≡ Prints status text
     → status ≡ 0
 within_prints true bundle reported status text is = cc
 within_prints false bundle reported status text is = cc
@@ -58,7 +58,8 @@ normal_prints (Some goods) file status text is = cc
 pub normalise_prints : (limit : ℕ) (file : PlainFile) (status : ℕ) (text : List ℕ) → normalise_outcome limit file ≡ Prints status text → status ≡ 0
 normalise_prints limit file status text is = normal_prints (first_heavy file.goods limit (or_atoms_of file.bids)) file status text is
 
-pub value_prints : (goods : List ℕ) (limit : ℕ) (file : PlainFile) (status : ℕ) (text : List ℕ) → value_outcome goods limit file ≡ Prints status text → status ≡ 0
+pub value_prints : (goods : List ℕ) (limit : ℕ) (file : PlainFile) (status : ℕ) (text : List ℕ) → value_outcome goods limit file ≡ Prints status text
+    → status ≡ 0
 value_prints goods limit file status text is =
     unless_prints (missing_good file.goods goods) (values_within limit (bundle_from goods) file) status text
     (λ e. within_prints (nat_lt limit (count_packings (or_atoms_of file.bids) (bundle_from goods))) (bundle_from goods) (value_text file (bundle_from goods))
@@ -72,33 +73,14 @@ differs_or_same (InGoods left right) status text is = let same : 1 ≡ status = 
 differs_or_same (InOr bundle left right) status text is = let same : 1 ≡ status = cc in omega arith
 differs_or_same (InXor bidder left right) status text is = let same : 1 ≡ status = cc in omega arith
 
--- only `duplicates` and `sizes` name a request for many files
-pub few_files : (words : List (Bor (List ℕ))) (request : Request) → IsNamedIn words request → names_many_files words ≡ false → is_for_many_files request ≡ false
-few_files (program ∷ (word ∷ words)) (Duplicates files) named few =
-    subst (λ (name : List ℕ). (bytes_eq name (codes "duplicates") || bytes_eq name (codes "sizes")) ≡ false) named few
-few_files (program ∷ []) (Duplicates files) named few = absurd (named)
-few_files [] (Duplicates files) named few = absurd (named)
-few_files (program ∷ (word ∷ words)) (Sizes files) named few =
-    subst (λ (name : List ℕ). (bytes_eq name (codes "duplicates") || bytes_eq name (codes "sizes")) ≡ false) named few
-few_files (program ∷ []) (Sizes files) named few = absurd (named)
-few_files [] (Sizes files) named few = absurd (named)
-few_files words request named few = refl
+-- what is known of a line's request is known of the request
+pub few_files : (words : List (List ℕ)) (request : PlainRequest) → request_of words ≡ Some request → names_many_files words ≡ false
+    → is_for_many_files request ≡ false
+few_files words request asked few = rw asked at few
 
--- only `round`, `duplicates` and `sizes` name a request that reports before it ends
-pub quiet_request : (words : List (Bor (List ℕ))) (request : Request) → IsNamedIn words request → names_reporting words ≡ false → is_reporting request ≡ false
-quiet_request (program ∷ (word ∷ words)) (Duplicates files) named quiet =
-    subst (λ (name : List ℕ). (bytes_eq name (codes "round") || (bytes_eq name (codes "duplicates") || bytes_eq name (codes "sizes"))) ≡ false) named quiet
-quiet_request (program ∷ []) (Duplicates files) named quiet = absurd (named)
-quiet_request [] (Duplicates files) named quiet = absurd (named)
-quiet_request (program ∷ (word ∷ words)) (Sizes files) named quiet =
-    subst (λ (name : List ℕ). (bytes_eq name (codes "round") || (bytes_eq name (codes "duplicates") || bytes_eq name (codes "sizes"))) ≡ false) named quiet
-quiet_request (program ∷ []) (Sizes files) named quiet = absurd (named)
-quiet_request [] (Sizes files) named quiet = absurd (named)
-quiet_request (program ∷ (word ∷ words)) (Round file exact) named quiet =
-    subst (λ (name : List ℕ). (bytes_eq name (codes "round") || (bytes_eq name (codes "duplicates") || bytes_eq name (codes "sizes"))) ≡ false) named quiet
-quiet_request (program ∷ []) (Round file exact) named quiet = absurd (named)
-quiet_request [] (Round file exact) named quiet = absurd (named)
-quiet_request words request named quiet = refl
+pub quiet_request : (words : List (List ℕ)) (request : PlainRequest) → request_of words ≡ Some request → names_reporting words ≡ false
+    → is_reporting request ≡ false
+quiet_request words request asked quiet = rw asked at quiet
 
 -- ---- runs
 
@@ -206,7 +188,7 @@ silent_unless_failed (Run (Sent fault)) old new silent failed = absurd (failed r
 module _ {F W E : Type 0} (may_open : List ℕ → F → Type 0) (may_refuse : List ℕ → Unopened → Type 0) (remaining : F → Option (List ℕ))
     (contents : W → Option (List ℕ)) (messages : E → Option (List ℕ)) (terminal : Bool) (out out_after : Watched W) (err : Watched E) where
   -- a request for one or two files that answered has the status 0 or 1
-  answered : (request : Request) (err_after : Watched E) (status : ℕ)
+  answered : (request : PlainRequest) (err_after : Watched E) (status : ℕ)
       → RunsFor may_open may_refuse remaining contents messages terminal request out out_after err err_after (Ok status) → is_for_many_files request ≡ false
       → status ≤ 1
   answered (Check file) err_after status ran few =
@@ -214,21 +196,21 @@ module _ {F W E : Type 0} (may_open : List ℕ → F → Type 0) (may_refuse : L
   answered (Show file) err_after status ran few =
       printed_status remaining contents show_outcome ran.0.before ran.0.after out out_after (λ file s text is. cc) status ran.0.runs
   answered (Value file goods limit) err_after status ran few =
-      printed_status remaining contents (value_outcome goods.items limit) ran.0.before ran.0.after out out_after (value_prints goods.items limit) status ran.0.runs
+      printed_status remaining contents (value_outcome goods limit) ran.0.before ran.0.after out out_after (value_prints goods limit) status ran.0.runs
   answered (Normalise file limit) err_after status ran few =
       printed_status remaining contents (normalise_outcome limit) ran.0.before ran.0.after out out_after (normalise_prints limit) status ran.0.runs
   answered (Explain file limit) err_after status ran few =
       printed_explanation remaining contents limit ran.0.before ran.0.after out out_after status ran.0.runs
   answered (Round file exact) err_after status ran few = let made = ran.runs.made in let none : 0 ≡ status = cc in omega (arith, none)
-  answered (Compare files) err_after status ran few =
-      printed_comparison remaining remaining contents files.limit ran.0.left ran.0.left_after ran.0.right ran.0.right_after out out_after status ran.0.runs
-  answered (Diff files) err_after status ran few =
-      printed_differences remaining remaining contents files.limit ran.0.left ran.0.left_after ran.0.right ran.0.right_after out out_after status ran.0.runs
+  answered (Compare left right limit) err_after status ran few =
+      printed_comparison remaining remaining contents limit ran.0.left ran.0.left_after ran.0.right ran.0.right_after out out_after status ran.0.runs
+  answered (Diff left right limit) err_after status ran few =
+      printed_differences remaining remaining contents limit ran.0.left ran.0.left_after ran.0.right ran.0.right_after out out_after status ran.0.runs
   answered (Duplicates files) err_after status ran few = absurd (cc)
   answered (Sizes files) err_after status ran few = absurd (cc)
 
   -- a request that answered has reported nothing, unless it is one that reports
-  quiet : (request : Request) (err_after : Watched E) (answer : Result ℕ RunFault)
+  quiet : (request : PlainRequest) (err_after : Watched E) (answer : Result ℕ RunFault)
       → RunsFor may_open may_refuse remaining contents messages terminal request out out_after err err_after answer → is_reporting request ≡ false
       → err_after ≡ err
   quiet (Check file) err_after answer ran silent = ran.1
@@ -237,13 +219,13 @@ module _ {F W E : Type 0} (may_open : List ℕ → F → Type 0) (may_refuse : L
   quiet (Normalise file limit) err_after answer ran silent = ran.1
   quiet (Explain file limit) err_after answer ran silent = ran.1
   quiet (Round file exact) err_after answer ran silent = absurd (cc)
-  quiet (Compare files) err_after answer ran silent = ran.1
-  quiet (Diff files) err_after answer ran silent = ran.1
+  quiet (Compare left right limit) err_after answer ran silent = ran.1
+  quiet (Diff left right limit) err_after answer ran silent = ran.1
   quiet (Duplicates files) err_after answer ran silent = absurd (cc)
   quiet (Sizes files) err_after answer ran silent = absurd (cc)
 
   -- a request that failed has written nothing, unless its output failed
-  silent_fault : (request : Request) (err_after : Watched E) (fault : RunFault)
+  silent_fault : (request : PlainRequest) (err_after : Watched E) (fault : RunFault)
       → RunsFor may_open may_refuse remaining contents messages terminal request out out_after err err_after (Err fault) → is_for_many_files request ≡ false
       → IsSilent (Run fault) out out_after
   silent_fault (Check file) err_after fault ran few =
@@ -251,24 +233,24 @@ module _ {F W E : Type 0} (may_open : List ℕ → F → Type 0) (may_refuse : L
   silent_fault (Show file) err_after fault ran few =
       silent_run remaining contents show_outcome ran.0.before ran.0.after out out_after fault ran.0.runs
   silent_fault (Value file goods limit) err_after fault ran few =
-      silent_run remaining contents (value_outcome goods.items limit) ran.0.before ran.0.after out out_after fault ran.0.runs
+      silent_run remaining contents (value_outcome goods limit) ran.0.before ran.0.after out out_after fault ran.0.runs
   silent_fault (Normalise file limit) err_after fault ran few =
       silent_run remaining contents (normalise_outcome limit) ran.0.before ran.0.after out out_after fault ran.0.runs
   silent_fault (Explain file limit) err_after fault ran few =
       silent_explanation remaining contents limit ran.0.before ran.0.after out out_after fault ran.0.runs
   silent_fault (Round file exact) err_after fault ran few =
       silent_rounding remaining contents messages (fine_of exact) ran.before ran.after out out_after err err_after fault ran.runs
-  silent_fault (Compare files) err_after fault ran few =
-      silent_of_both remaining remaining contents files.limit ran.0.left ran.0.left_after ran.0.right ran.0.right_after out out_after
-      (ReadsBoth remaining remaining contents files.limit ran.0.left ran.0.left_after ran.0.right ran.0.right_after)
+  silent_fault (Compare left right limit) err_after fault ran few =
+      silent_of_both remaining remaining contents limit ran.0.left ran.0.left_after ran.0.right ran.0.right_after out out_after
+      (ReadsBoth remaining remaining contents limit ran.0.left ran.0.left_after ran.0.right ran.0.right_after)
       (λ (both : PlainFile × PlainFile). compare_outcome both.0 both.1) fault ran.0.runs
-  silent_fault (Diff files) err_after fault ran few =
-      silent_of_both remaining remaining contents files.limit ran.0.left ran.0.left_after ran.0.right ran.0.right_after out out_after
-      (ReadsDifferences remaining remaining contents files.limit ran.0.left ran.0.left_after ran.0.right ran.0.right_after) diff_outcome fault ran.0.runs
+  silent_fault (Diff left right limit) err_after fault ran few =
+      silent_of_both remaining remaining contents limit ran.0.left ran.0.left_after ran.0.right ran.0.right_after out out_after
+      (ReadsDifferences remaining remaining contents limit ran.0.left ran.0.left_after ran.0.right ran.0.right_after) diff_outcome fault ran.0.runs
   silent_fault (Duplicates files) err_after fault ran few = absurd (cc)
   silent_fault (Sizes files) err_after fault ran few = absurd (cc)
 
-  silent_request : (request : Request) (err_after : Watched E) (error : RequestError)
+  silent_request : (request : PlainRequest) (err_after : Watched E) (error : RequestError)
       → CarriesOut may_open may_refuse remaining contents messages terminal request out out_after err err_after (Err error) → is_for_many_files request ≡ false
       → IsSilent error out out_after
   silent_request request err_after (CannotOpen which) ran few = ran.1
@@ -276,7 +258,7 @@ module _ {F W E : Type 0} (may_open : List ℕ → F → Type 0) (may_refuse : L
   silent_request request err_after (Run fault) ran few = silent_fault request err_after fault ran few
 
   -- a status but 0, 1 and 5 says that nothing was written
-  pub silent_answer : (request : Request) (err_after : Watched E) (status : ℕ)
+  pub silent_answer : (request : PlainRequest) (err_after : Watched E) (status : ℕ)
       → AnswersRequest may_open may_refuse remaining contents messages terminal request out out_after err err_after status → is_for_many_files request ≡ false
       → status ≢ 0 → status ≢ 1 → status ≢ 5 → out_after ≡ out
   silent_answer request err_after status answers few a b c =
@@ -288,7 +270,7 @@ module _ {F W E : Type 0} (may_open : List ℕ → F → Type 0) (may_refuse : L
       answers
 
   -- the statuses 0 and 1 say that nothing was reported
-  pub done_answer : (request : Request) (err_after : Watched E) (status : ℕ)
+  pub done_answer : (request : PlainRequest) (err_after : Watched E) (status : ℕ)
       → AnswersRequest may_open may_refuse remaining contents messages terminal request out out_after err err_after status → is_reporting request ≡ false
       → status ≤ 1 → err_after ≡ err
   done_answer request err_after status answers few most =
@@ -299,7 +281,7 @@ module _ {F W E : Type 0} (may_open : List ℕ → F → Type 0) (may_refuse : L
       let least = error_status_above s.error in let is = s.is_status in absurd (omega (arith, least, is, most)))
       answers
 
-  pub failed_request : (request : Request) (error : RequestError) (between err_after : Watched E) (status : ℕ)
+  pub failed_request : (request : PlainRequest) (error : RequestError) (between err_after : Watched E) (status : ℕ)
       → CarriesOut may_open may_refuse remaining contents messages terminal request out out_after err between (Err error)
       → Reports messages (line_of_request_error error) between err_after → status ≡ status_of_request_error error
       → FailsRequest may_open may_refuse remaining contents messages terminal request out out_after err err_after status
@@ -307,14 +289,15 @@ module _ {F W E : Type 0} (may_open : List ℕ → F → Type 0) (may_refuse : L
       record { error = error; between = between; carries = carries; reports = reports; is_status = is }
 
   -- the fault of a run is that of its request
-  pub failed_run : (request : Request) (err_after : Watched E) (fault : RunFault) (answer : Result ℕ RequestError)
+  pub failed_run : (request : PlainRequest) (err_after : Watched E) (fault : RunFault) (answer : Result ℕ RequestError)
       → IsErrAnd answer (λ error. error ≡ Run fault)
       → RunsFor may_open may_refuse remaining contents messages terminal request out out_after err err_after (Err fault)
       → CarriesOut may_open may_refuse remaining contents messages terminal request out out_after err err_after answer
   failed_run request err_after fault answer is ran =
       let reported = err_from_is_err_and answer is in
       let only : answer ≡ Err (Run fault) = reported.1 ∙ ap (λ (error : RequestError). Err error) reported.2 in
-      subst (λ (r : Result ℕ RequestError). CarriesOut may_open may_refuse remaining contents messages terminal request out out_after err err_after r) (sym only) ran
+      subst (λ (r : Result ℕ RequestError). CarriesOut may_open may_refuse remaining contents messages terminal request out out_after err err_after r)
+      (sym only) ran
 
 -- ---- the streams of a run are those that were opened
 

@@ -24,7 +24,8 @@ use Rattle.cats_cmd.proofs.RunsOfOneFile.{refused_in_making, refused_in_reading,
 module _ {R W : Type 0} (remaining : R → Option (List ℕ)) (contents : W → Option (List ℕ)) (limit : ℕ) (old new : Watched R) where
   -- nothing was written, and this fault of the file is answered
   unexplained : (out : Watched W) (fault : CanonFault) → IsRefusedFile remaining (normalise_outcome limit) old new fault
-      → (answer : Result ℕ RunFault) → IsErrAnd answer (λ reported. reported ≡ Refused Only fault) → ExplainsFile remaining contents limit old new out out answer
+      → (answer : Result ℕ RunFault) → IsErrAnd answer (λ reported. reported ≡ Refused Only fault)
+      → ExplainsFile remaining contents limit old new out out answer
   unexplained out fault refused answer is =
       let reported = err_from_is_err_and answer is in
       let only : answer ≡ Err (Refused Only fault) = reported.1 ∙ ap (λ (f : RunFault). Err f) reported.2 in
@@ -33,14 +34,16 @@ module _ {R W : Type 0} (remaining : R → Option (List ℕ)) (contents : W → 
 
   -- the file was refused in reading
   pub unexplained_unread : (out : Watched W) (fault : CanonFault) → ReadsInput remaining old new (Err fault)
-      → (answer : Result ℕ RunFault) → IsErrAnd answer (λ reported. reported ≡ Refused Only fault) → ExplainsFile remaining contents limit old new out out answer
+      → (answer : Result ℕ RunFault) → IsErrAnd answer (λ reported. reported ≡ Refused Only fault)
+      → ExplainsFile remaining contents limit old new out out answer
   unexplained_unread out fault reads answer is =
       unexplained out fault (refused_in_reading remaining (normalise_outcome limit) old new fault reads) answer is
 
   module _ (file : PlainFile) (reads : ReadsInput remaining old new (Ok file)) where
     -- its reasons were refused
     pub unexplained_auction : (out : Watched W) (fault : CanonFault) → RefusesAuction limit (auction_from file) fault
-        → (answer : Result ℕ RunFault) → IsErrAnd answer (λ reported. reported ≡ Refused Only fault) → ExplainsFile remaining contents limit old new out out answer
+        → (answer : Result ℕ RunFault) → IsErrAnd answer (λ reported. reported ≡ Refused Only fault)
+        → ExplainsFile remaining contents limit old new out out answer
     unexplained_auction out fault refused answer is =
         unexplained out fault (refused_in_making remaining (normalise_outcome limit) old new file reads fault (refused_by_normalising limit file fault refused))
         answer is

@@ -120,14 +120,16 @@ module _ (ending : Ending) where
   printed_next printed paths groups h others =
       ⊎_elim
       (λ (e : is_repeated paths ≡ true).
-      ap (λ (text : List ℕ). fold (with_group ending) text groups) (cond-true (is_repeated paths) (behind ending (groups_text ending printed) (lines_of ending paths)) (groups_text ending printed) e
+      ap (λ (text : List ℕ). fold (with_group ending) text groups)
+      (cond-true (is_repeated paths) (behind ending (groups_text ending printed) (lines_of ending paths)) (groups_text ending printed) e
       ∙ behind_groups printed paths h)
       ∙ others (printed ++ paths ∷ []) (repeated_push printed paths h e)
       ∙ ap (groups_text ending) (append_assoc printed (paths ∷ []) (filter is_repeated groups)
       ∙ ap (λ (gs : List (List (List ℕ))). printed ++ gs)
       (sym (cond-true (is_repeated paths) (paths ∷ filter is_repeated groups) (filter is_repeated groups) e))))
       (λ (e : is_repeated paths ≡ false).
-      ap (λ (text : List ℕ). fold (with_group ending) text groups) (cond-false (is_repeated paths) (behind ending (groups_text ending printed) (lines_of ending paths)) (groups_text ending printed) e)
+      ap (λ (text : List ℕ). fold (with_group ending) text groups)
+      (cond-false (is_repeated paths) (behind ending (groups_text ending printed) (lines_of ending paths)) (groups_text ending printed) e)
       ∙ others printed h
       ∙ ap (λ (gs : List (List (List ℕ))). groups_text ending (printed ++ gs))
       (sym (cond-false (is_repeated paths) (paths ∷ filter is_repeated groups) (filter is_repeated groups) e)))
@@ -147,12 +149,14 @@ module _ (ending : Ending) where
       → after ≡ fold (with_group ending) [] (plain_groups (take (i + 1) groups))
   group_printed groups i group before after l e b a =
       a ∙ ap (λ (text : List ℕ). with_group ending text (plain_group group)) b
-      ∙ sym (ap (λ (gs : List Group). fold (with_group ending) [] (plain_groups gs)) (take_more groups i group l ∙ ap (λ (g : Group). take i groups ++ g ∷ []) (sym e))
+      ∙ sym (ap (λ (gs : List Group). fold (with_group ending) [] (plain_groups gs)) (take_more groups i group l
+      ∙ ap (λ (g : Group). take i groups ++ g ∷ []) (sym e))
       ∙ ap (fold (with_group ending) []) (map-append plain_group (take i groups) (group ∷ []))
       ∙ fold_push (with_group ending) [] (plain_groups (take i groups)) (plain_group group))
 
   -- all groups
-  pub all_groups_printed : (items groups : List Group) (i : ℕ) (text : List ℕ) (found : List Found) → text ≡ fold (with_group ending) [] (plain_groups (take i items))
+  pub all_groups_printed : (items groups : List Group) (i : ℕ) (text : List ℕ) (found : List Found)
+      → text ≡ fold (with_group ending) [] (plain_groups (take i items))
       → length items ≤ i → items ≡ groups → plain_groups groups ≡ groups_of found
       → text ≡ duplicates_text ending found
   all_groups_printed items groups i text found printed l same of =

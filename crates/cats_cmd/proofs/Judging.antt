@@ -138,7 +138,8 @@ module _ {R : Type 0} (remaining : R → Option (List ℕ)) (limit : ℕ) (old n
           reads = record { bytes = added.bytes; consumes = added.consumes; reads = a.reads };
           within = text_within_limit a.file (first_heavy a.file.goods limit (or_atoms_of a.file.bids)) (canonical_text a.file) a.within_limit;
         };
-        adds = λ js h. has_after (js ++ (path.now, IsJudged a.file) ∷ []) (groups_more index more found longer path a.file place a.reads.spelled.facts a.added put js (has js h));
+        adds = λ js h. has_after (js ++ (path.now, IsJudged a.file) ∷ [])
+            (groups_more index more found longer path a.file place a.reads.spelled.facts a.added put js (has js h));
         is_error = refl;
       }
 

@@ -128,7 +128,8 @@ module _ {C F E : Type 0} (Has : C → List (List ℕ × Judgement) → Type 0) 
       (sym (length-map paths (λ (p : Bor (List ℕ)). p.now))) j
 
   -- all paths were judged
-  pub all_judged : length paths ≤ i → JudgesAllAs Has may_open may_refuse remaining limit messages (map (λ p. p.now) paths) progress kept err before (Ok greatest)
+  pub all_judged : length paths ≤ i → JudgesAllAs Has may_open may_refuse remaining limit messages (map (λ p. p.now) paths) progress kept err before
+      (Ok greatest)
   all_judged l = record {
     judgements = h.judgements;
     judges = counted (map (λ p. p.now) paths) h.judgements

@@ -10,6 +10,9 @@ mod Comparing
 mod Diffing
 mod Explaining
 mod ReadingBack
+mod PrintableTexts
+mod ShownTexts
+mod AnswersShown
 mod Grouping
 mod Rounding
 mod Judging

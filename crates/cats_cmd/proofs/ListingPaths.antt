@@ -57,7 +57,8 @@ rest_kept all paths rest text split last some =
 pub some_part : (end : ℕ) (text : List ℕ) → 0 < length (slice_split (λ b. b == end) text)
 some_part end text = let count = length-slice_split (λ b. b == end) text in omega (arith, count)
 
-pub no_rest : (all paths : List (Bor (List ℕ))) (text : List ℕ) → plain all ≡ slice_split (λ b. b == 0) text → (0 < length all → ⊥) → plain paths ≡ paths_in text
+pub no_rest : (all paths : List (Bor (List ℕ))) (text : List ℕ) → plain all ≡ slice_split (λ b. b == 0) text → (0 < length all → ⊥)
+    → plain paths ≡ paths_in text
 no_rest all paths text split none =
     absurd (none (subst (λ (n : ℕ). 0 < n) (sym (ap length split) ∙ length-map all (λ (path : Bor (List ℕ)). path.now)) (some_part 0 text)))
 
@@ -76,7 +77,8 @@ parts_back end [] plain = refl
 parts_back end (part ∷ parts) plain =
     let cut : slice_split (λ b. b == end) (ended end (part ∷ parts)) ≡ part ∷ slice_split (λ b. b == end) (ended end parts) =
     ap (slice_split (λ b. b == end)) (append_assoc part (end ∷ []) (ended end parts))
-    ∙ slice_split_at (λ b. b == end) part end (ended end parts) (All-head (λ part. All (λ b. (b == end) ≡ false) part) part parts plain) (eq-eqb end end refl) in
+    ∙ slice_split_at (λ b. b == end) part end (ended end parts) (All-head (λ part. All (λ b. (b == end) ≡ false) part) part parts plain)
+    (eq-eqb end end refl) in
     ap without_empty_end cut ∙ first_of_more part (slice_split (λ b. b == end) (ended end parts)) (some_part end (ended end parts))
     ∙ ap (λ (rest : List (List ℕ)). part ∷ rest) (parts_back end parts (All-tail (λ part. All (λ b. (b == end) ≡ false) part) part parts plain))
 

@@ -1,25 +1,27 @@
 -- The paths are read back from the whole output. A text is its lines with a byte behind each, which no line has: a printed path has no
 -- control byte, or, with NUL at its end, no NUL. The lines of groups are cut at the empty ones, and those of a table behind eight tabs.
-use Rattle.std.proofs.Common.{◌≡◌, ℕ, suc, ◌+◌, ◌%◌, ◌/◌, ◌<◌, ◌==◌, true, false, List, [], ◌∷◌, ◌++◌, length, map, refl, sym, ap, ap₂, ◌∙◌, subst}
-use Rattle.std.proofs.Common.{⊎_elim, arith, append-nil, zero}
+use Rattle.std.proofs.Common.{◌≡◌, ℕ, suc, ◌+◌, ◌<◌, ◌==◌, true, false, List, [], ◌∷◌, ◌++◌, length, map, refl, sym, ap, ap₂, ◌∙◌, subst}
+use Rattle.std.proofs.Common.{arith, append-nil, zero}
 use Rattle.std.specs.Prelude.{codes, decimal, filter, drop}
-use Rattle.std.specs.List.{All, AllByRecursion, flat_map, range_with_len, slice_split}
-use Rattle.std.specs.Fmt.{digit_glyph, digits, digits_onto}
-use Rattle.std.proofs.lemmas.Bool.{cases_Bool, ltb-true, lt-ltb, ne_eqb}
+use Rattle.std.specs.List.{All, flat_map, list_any, range_with_len, slice_split}
+use Rattle.std.proofs.lemmas.Bool.{ltb-true, lt-ltb, ne_eqb, or_parts}
 use Rattle.std.proofs.lemmas.Grind.{flat_map-append}
 use Rattle.std.proofs.lemmas.List.{append_assoc, length-map, map-append}
-use Rattle.std.proofs.lemmas.List.Elements.{All-append, All-cons, All-filter, All-from_recursion, All-head, All-map, All-nil, All-tail, All-weaker, filter_passes}
+use Rattle.std.proofs.lemmas.List.Elements.{All-append, All-cons, All-filter, All-from_recursion, All-head, All-map, All-nil, All-tail, All-weaker}
+use Rattle.std.proofs.lemmas.List.Elements.{filter_passes}
 use Rattle.std.proofs.lemmas.List.Splits.{slice_split_at, slice_split_none}
 use Rattle.canon.specs.Canonical.{canonical_file}
 use Rattle.cats_cmd.specs.DuplicateTexts.{after_empty_lines, duplicates_text, groups_of, groups_text, is_repeated, lines_of, paths_at}
-use Rattle.cats_cmd.specs.Escaping.{end_of, escaped, is_control, path_text}
+use Rattle.cats_cmd.specs.Escaping.{end_of, escaped, is_control_byte, path_text}
 use Rattle.cats_cmd.specs.OutputPaths.{IsPath, behind_tabs, end_byte, groups_in, has_lines, is_empty, paths_if_read, paths_in_table, read_path, read_paths}
 use Rattle.cats_cmd.specs.PathLists.{ended, parts_in}
 use Rattle.cats_cmd.specs.Paths.{Judgement, IsHeavy, IsJudged, IsUnjudged}
-use Rattle.cats_cmd.specs.SizesTables.{MakesTable, counts_of, line_if_read, lines_of_table, sizes_header, sizes_of, with_tabs}
+use Rattle.cats_cmd.specs.SizesTables.{MakesTable, canonical_columns, cells, columns, counts_of, line_if_read, lines_of_table, sizes_header}
+use Rattle.cats_cmd.specs.SizesTables.{sizes_of, unknown_counts, with_tabs}
 use Rattle.cats_cmd.specs.declared.paths.Ending.{Ending}
 use Rattle.cats_cmd.specs.declared.paths.Ending.TheVariants.{Line, Null}
 use Rattle.cats_cmd.proofs.ListingPaths.{parts_back}
+use Rattle.cats_cmd.proofs.PrintableTexts.{decimal_all}
 use Rattle.cats_cmd.proofs.ReadingBack.{harmless, read_back}
 
 -- ---- a printed path
@@ -44,11 +46,11 @@ printed_back : (ending : Ending) (path : List ℕ) → read_path ending (printed
 printed_back Line path = read_back path
 printed_back Null path = refl
 
-no_line_feed : (b : ℕ) → is_control b ≡ false → (b == 10) ≡ false
-no_line_feed b e = ne_eqb b 10 (λ is. let ten : is_control 10 ≡ false = subst (λ (c : ℕ). is_control c ≡ false) is e in absurd (cc))
+no_line_feed : (b : ℕ) → is_control_byte b ≡ false → (b == 10) ≡ false
+no_line_feed b e = ne_eqb b 10 (λ is. let ten : is_control_byte 10 ≡ false = subst (λ (c : ℕ). is_control_byte c ≡ false) is e in absurd (cc))
 
 printed_lacks : (ending : Ending) (path : List ℕ) → Lacks 0 path → Lacks (end_byte ending) (printed ending path)
-printed_lacks Line path plain = All-weaker (λ b. is_control b ≡ false) (λ b. (b == 10) ≡ false) no_line_feed (escaped path) (harmless path)
+printed_lacks Line path plain = All-weaker (λ b. is_control_byte b ≡ false) (λ b. (b == 10) ≡ false) no_line_feed (escaped path) (harmless path)
 printed_lacks Null path plain = plain
 
 printed_some : (ending : Ending) (text path : List ℕ) → read_path ending text ≡ path → 0 < length path → is_empty text ≡ false
@@ -57,6 +59,14 @@ printed_some Line [] path back some = let none = ap (length {A = ℕ}) back in a
 printed_some Null [] path back some = let none = ap (length {A = ℕ}) back in absurd (omega (arith, none, some))
 
 -- ---- groups
+
+-- what holds of each path holds of the paths of each auction
+pub paths_all : (P : List ℕ → Type 0) (found : List (List ℕ × ℕ)) → All (λ f. P f.0) found → (places : List ℕ) → All (All P) (map (paths_at found) places)
+paths_all P found are [] = All-nil (All P)
+paths_all P found are (place ∷ places) =
+    All-cons (All P) (paths_at found place) (map (paths_at found) places)
+    (All-map P (λ (f : List ℕ × ℕ). f.0) (filter (λ f. f.1 == place) found) (All-filter (λ (f : List ℕ × ℕ). f.1 == place) (λ f. P f.0) found are))
+    (paths_all P found are places)
 
 module _ (ending : Ending) where
   abbrev line : List ℕ → List ℕ
@@ -99,7 +109,8 @@ module _ (ending : Ending) where
   after_lacks [] are = All-nil (Lacks (end_byte ending))
   after_lacks (paths ∷ groups) are =
       All-append (Lacks (end_byte ending)) ([] ∷ map line paths) (lines_after groups)
-      (All-cons (Lacks (end_byte ending)) [] (map line paths) (All-nil (λ b. (b == end_byte ending) ≡ false)) (group_lacks paths (All-head IsGroup paths groups are)))
+      (All-cons (Lacks (end_byte ending)) [] (map line paths) (All-nil (λ b. (b == end_byte ending) ≡ false))
+      (group_lacks paths (All-head IsGroup paths groups are)))
       (after_lacks groups (All-tail IsGroup paths groups are))
 
   groups_lack : (groups : List (List (List ℕ))) → All IsGroup groups → All (Lacks (end_byte ending)) (lines_of_groups groups)
@@ -147,44 +158,28 @@ module _ (ending : Ending) where
       (lines_cut paths groups (All-head IsGroup paths groups are) (All-tail IsGroup paths groups are))
       ∙ groups_back (paths ∷ groups) repeated
 
-  places_are : (found : List (List ℕ × ℕ)) → All (λ f. IsPath f.0) found → (places : List ℕ) → All IsGroup (map (paths_at found) places)
-  places_are found are [] = All-nil IsGroup
-  places_are found are (place ∷ places) =
-      All-cons IsGroup (paths_at found place) (map (paths_at found) places)
-      (All-map IsPath (λ (f : List ℕ × ℕ). f.0) (filter (λ f. f.1 == place) found) (All-filter (λ (f : List ℕ × ℕ). f.1 == place) (λ f. IsPath f.0) found are))
-      (places_are found are places)
-
   pub duplicates_back : (found : List (List ℕ × ℕ)) → All (λ f. IsPath f.0) found
       → groups_in ending (duplicates_text ending found) ≡ filter is_repeated (groups_of found)
   duplicates_back found are =
       all_back (filter is_repeated (groups_of found))
-      (All-filter is_repeated IsGroup (groups_of found) (places_are found are (range_with_len 0 (length found))))
+      (All-filter is_repeated IsGroup (groups_of found) (paths_all IsPath found are (range_with_len 0 (length found))))
       (filter_passes is_repeated (groups_of found))
 
 -- ---- the numbers of a line
 
-glyph_high : (d : ℕ) → d < 10 → 47 < digit_glyph false d
-glyph_high d l = rw (lt-ltb d 10 l) (omega arith)
-
-onto_high : (k n : ℕ) (acc : List ℕ) → AllByRecursion (λ b. 47 < b) acc → AllByRecursion (λ b. 47 < b) (digits_onto k 10 false n acc)
-onto_high zero n acc h = h
-onto_high (suc k) n acc h =
-    let more : AllByRecursion (λ b. 47 < b) (digit_glyph false (n % 10) ∷ acc) = (glyph_high (n % 10) (omega arith), h) in
-    ⊎_elim (λ (e : (n / 10 == 0) ≡ true). rw e more) (λ (e : (n / 10 == 0) ≡ false). rw e (onto_high k (n / 10) (digit_glyph false (n % 10) ∷ acc) more))
-    (cases_Bool (n / 10 == 0))
-
 decimal_high : (n : ℕ) → All (λ b. 47 < b) (decimal n)
-unfolding digits
-decimal_high n = All-from_recursion (λ b. 47 < b) (digits 10 false n) (onto_high 64 n [] tt)
+decimal_high n = All-from_recursion (λ b. 47 < b) (decimal n) (decimal_all (λ b. 47 < b) (λ d l. omega arith) n)
 
 decimal_lacks : (end : ℕ) → end < 48 → (n : ℕ) → Lacks end (decimal n)
-decimal_lacks end low n = All-weaker (λ b. 47 < b) (λ b. (b == end) ≡ false) (λ b high. ne_eqb b end (λ is. absurd (omega (arith, high, is, low)))) (decimal n) (decimal_high n)
+decimal_lacks end low n = All-weaker (λ b. 47 < b) (λ b. (b == end) ≡ false) (λ b high. ne_eqb b end (λ is. absurd (omega (arith, high, is, low)))) (decimal n)
+    (decimal_high n)
 
 numbers_lack : (ending : Ending) (numbers : List ℕ) → Lacks (end_byte ending) (with_tabs numbers)
 numbers_lack ending [] = All-nil (λ b. (b == end_byte ending) ≡ false)
 numbers_lack Line (n ∷ numbers) =
     All-append (λ b. (b == 10) ≡ false) (decimal n ++ 9 ∷ []) (with_tabs numbers)
-    (All-append (λ b. (b == 10) ≡ false) (decimal n) (9 ∷ []) (decimal_lacks 10 (omega arith) n) (All-from_recursion (λ b. (b == 10) ≡ false) (9 ∷ []) (refl, tt)))
+    (All-append (λ b. (b == 10) ≡ false) (decimal n) (9 ∷ []) (decimal_lacks 10 (omega arith) n)
+    (All-from_recursion (λ b. (b == 10) ≡ false) (9 ∷ []) (refl, tt)))
     (numbers_lack Line numbers)
 numbers_lack Null (n ∷ numbers) =
     All-append (λ b. (b == 0) ≡ false) (decimal n ++ 9 ∷ []) (with_tabs numbers)
@@ -209,14 +204,11 @@ behind_numbers (n ∷ numbers) rest count (suc total) is =
 
 -- ---- a table
 
-abbrev unknown : List ℕ
-unknown = codes "-\t-\t-\t"
-
 module _ (ending : Ending) where
   -- the line of a file, without its end
   abbrev lines_if_read : List ℕ → Judgement → List (List ℕ)
   lines_if_read path (IsJudged file) = ((with_tabs (sizes_of file) ++ with_tabs (counts_of (canonical_file file))) ++ printed ending path) ∷ []
-  lines_if_read path (IsHeavy file goods) = ((with_tabs (sizes_of file) ++ unknown) ++ printed ending path) ∷ []
+  lines_if_read path (IsHeavy file goods) = ((with_tabs (sizes_of file) ++ unknown_counts) ++ printed ending path) ∷ []
   lines_if_read path (IsUnjudged error) = []
 
   abbrev table_lines : List (List ℕ × Judgement) → List (List ℕ)
@@ -230,7 +222,7 @@ module _ (ending : Ending) where
 
   line_ended : (path : List ℕ) (j : Judgement) → line_if_read ending path j ≡ ended (end_byte ending) (lines_if_read path j)
   line_ended path (IsJudged file) = one_ended (with_tabs (sizes_of file) ++ with_tabs (counts_of (canonical_file file))) path
-  line_ended path (IsHeavy file goods) = one_ended (with_tabs (sizes_of file) ++ unknown) path
+  line_ended path (IsHeavy file goods) = one_ended (with_tabs (sizes_of file) ++ unknown_counts) path
   line_ended path (IsUnjudged error) = refl
 
   table_ended : (js : List (List ℕ × Judgement)) → lines_of_table ending js ≡ ended (end_byte ending) (table_lines js)
@@ -249,15 +241,16 @@ module _ (ending : Ending) where
       (All-append P (first ++ then) (printed ending path) (All-append P first then one two) (printed_lacks ending path plain))
       (All-nil (Lacks (end_byte ending)))
 
-  line_lacks : Lacks (end_byte ending) unknown → (path : List ℕ) (j : Judgement) → Lacks 0 path → All (Lacks (end_byte ending)) (lines_if_read path j)
+  line_lacks : Lacks (end_byte ending) unknown_counts → (path : List ℕ) (j : Judgement) → Lacks 0 path → All (Lacks (end_byte ending)) (lines_if_read path j)
   line_lacks dashes path (IsJudged file) plain =
       one_lacks (with_tabs (sizes_of file)) (with_tabs (counts_of (canonical_file file))) path (numbers_lack ending (sizes_of file))
       (numbers_lack ending (counts_of (canonical_file file))) plain
   line_lacks dashes path (IsHeavy file goods) plain =
-      one_lacks (with_tabs (sizes_of file)) unknown path (numbers_lack ending (sizes_of file)) dashes plain
+      one_lacks (with_tabs (sizes_of file)) unknown_counts path (numbers_lack ending (sizes_of file)) dashes plain
   line_lacks dashes path (IsUnjudged error) plain = All-nil (Lacks (end_byte ending))
 
-  table_lacks : Lacks (end_byte ending) unknown → (js : List (List ℕ × Judgement)) → All (λ j. Lacks 0 j.0) js → All (Lacks (end_byte ending)) (table_lines js)
+  table_lacks : Lacks (end_byte ending) unknown_counts → (js : List (List ℕ × Judgement)) → All (λ j. Lacks 0 j.0) js
+      → All (Lacks (end_byte ending)) (table_lines js)
   table_lacks dashes [] plain = All-nil (Lacks (end_byte ending))
   table_lacks dashes (j ∷ js) plain =
       All-append (Lacks (end_byte ending)) (lines_if_read j.0 j.1) (table_lines js)
@@ -265,22 +258,22 @@ module _ (ending : Ending) where
       (table_lacks dashes js (All-tail (λ (i : List ℕ × Judgement). Lacks 0 i.0) j js plain))
 
   abbrev path_of : List ℕ → List ℕ
-  path_of line = read_path ending (behind_tabs line 8)
+  path_of line = read_path ending (behind_tabs line (length columns))
 
-  -- the path is behind five numbers and three words
+  -- the path is behind the numbers of the columns
   line_back : (path : List ℕ) (j : Judgement) → map path_of (lines_if_read path j) ≡ paths_if_read path j
   line_back path (IsJudged file) =
       let first = with_tabs (sizes_of file) in
       let then = with_tabs (counts_of (canonical_file file)) in
       ap (λ (text : List ℕ). read_path ending text ∷ [])
-      (ap (λ (text : List ℕ). behind_tabs text 8) (append_assoc first then (printed ending path))
-      ∙ behind_numbers (sizes_of file) (then ++ printed ending path) 3 8 refl
-      ∙ behind_numbers (counts_of (canonical_file file)) (printed ending path) 0 3 refl)
+      (ap (λ (text : List ℕ). behind_tabs text (length columns)) (append_assoc first then (printed ending path))
+      ∙ behind_numbers (sizes_of file) (then ++ printed ending path) (length canonical_columns) (length columns) refl
+      ∙ behind_numbers (counts_of (canonical_file file)) (printed ending path) 0 (length canonical_columns) refl)
       ∙ ap (λ (text : List ℕ). text ∷ []) (printed_back ending path)
   line_back path (IsHeavy file goods) =
       ap (λ (text : List ℕ). read_path ending text ∷ [])
-      (ap (λ (text : List ℕ). behind_tabs text 8) (append_assoc (with_tabs (sizes_of file)) unknown (printed ending path))
-      ∙ behind_numbers (sizes_of file) (unknown ++ printed ending path) 3 8 refl)
+      (ap (λ (text : List ℕ). behind_tabs text (length columns)) (append_assoc (with_tabs (sizes_of file)) unknown_counts (printed ending path))
+      ∙ behind_numbers (sizes_of file) (unknown_counts ++ printed ending path) (length canonical_columns) (length columns) refl)
       ∙ ap (λ (text : List ℕ). text ∷ []) (printed_back ending path)
   line_back path (IsUnjudged error) = refl
 
@@ -292,11 +285,17 @@ module _ (ending : Ending) where
 
 -- the header of a table, without its end
 abbrev titles : List ℕ
-titles = codes "goods\tbids\tor\txor\tdummy\tkept\tkept_or\tkept_xor\tfile"
+titles = cells (map (λ c. c.0) columns) ++ codes "file"
 
-codes_lack : (ending : Ending) → Lacks (end_byte ending) titles × Lacks (end_byte ending) unknown
-codes_lack Line = (All-from_recursion (λ b. (b == 10) ≡ false) titles (refl, (refl, (refl, (refl, (refl, (refl, (refl, (refl, (refl, (refl, (refl, (refl, (refl, (refl, (refl, (refl, (refl, (refl, (refl, (refl, (refl, (refl, (refl, (refl, (refl, (refl, (refl, (refl, (refl, (refl, (refl, (refl, (refl, (refl, (refl, (refl, (refl, (refl, (refl, (refl, (refl, (refl, (refl, (refl, (refl, (refl, (refl, (refl, (refl, (refl, tt)))))))))))))))))))))))))))))))))))))))))))))))))), All-from_recursion (λ b. (b == 10) ≡ false) unknown (refl, (refl, (refl, (refl, (refl, (refl, tt)))))))
-codes_lack Null = (All-from_recursion (λ b. (b == 0) ≡ false) titles (refl, (refl, (refl, (refl, (refl, (refl, (refl, (refl, (refl, (refl, (refl, (refl, (refl, (refl, (refl, (refl, (refl, (refl, (refl, (refl, (refl, (refl, (refl, (refl, (refl, (refl, (refl, (refl, (refl, (refl, (refl, (refl, (refl, (refl, (refl, (refl, (refl, (refl, (refl, (refl, (refl, (refl, (refl, (refl, (refl, (refl, (refl, (refl, (refl, (refl, tt)))))))))))))))))))))))))))))))))))))))))))))))))), All-from_recursion (λ b. (b == 0) ≡ false) unknown (refl, (refl, (refl, (refl, (refl, (refl, tt)))))))
+tested_lacks : (end : ℕ) (text : List ℕ) → list_any (λ b. b == end) text ≡ false → Lacks end text
+tested_lacks end [] e = All-nil (λ b. (b == end) ≡ false)
+tested_lacks end (b ∷ text) e =
+    let parts = or_parts (b == end) (list_any (λ c. c == end) text) e in
+    All-cons (λ c. (c == end) ≡ false) b text parts.0 (tested_lacks end text parts.1)
+
+codes_lack : (ending : Ending) → Lacks (end_byte ending) titles × Lacks (end_byte ending) unknown_counts
+codes_lack Line = (tested_lacks 10 titles refl, tested_lacks 10 unknown_counts refl)
+codes_lack Null = (tested_lacks 0 titles refl, tested_lacks 0 unknown_counts refl)
 
 header_ended : (ending : Ending) → sizes_header ending ≡ titles ++ end_byte ending ∷ []
 header_ended Line = refl

@@ -36,7 +36,8 @@ module _ {R : Type 0} (remaining : R → Option (List ℕ)) (outcome : PlainFile
 module _ {R W : Type 0} (remaining : R → Option (List ℕ)) (contents : W → Option (List ℕ)) (outcome : PlainFile → Outcome) where
   -- nothing was written, and this fault of the file is answered
   run_refused : (old new : Watched R) (out : Watched W) (fault : CanonFault) → IsRefusedFile remaining outcome old new fault
-      → (answer : Result ℕ RunFault) → IsErrAnd answer (λ reported. reported ≡ Refused Only fault) → RunsOnFile remaining contents outcome old new out out answer
+      → (answer : Result ℕ RunFault) → IsErrAnd answer (λ reported. reported ≡ Refused Only fault)
+      → RunsOnFile remaining contents outcome old new out out answer
   run_refused old new out fault refused answer is =
       let reported = err_from_is_err_and answer is in
       let only : answer ≡ Err (Refused Only fault) = reported.1 ∙ ap (λ (f : RunFault). Err f) reported.2 in
@@ -45,13 +46,15 @@ module _ {R W : Type 0} (remaining : R → Option (List ℕ)) (contents : W → 
 
   -- a run whose file was refused in reading
   pub run_unread : (old new : Watched R) (out : Watched W) (fault : CanonFault) → ReadsInput remaining old new (Err fault)
-      → (answer : Result ℕ RunFault) → IsErrAnd answer (λ reported. reported ≡ Refused Only fault) → RunsOnFile remaining contents outcome old new out out answer
+      → (answer : Result ℕ RunFault) → IsErrAnd answer (λ reported. reported ≡ Refused Only fault)
+      → RunsOnFile remaining contents outcome old new out out answer
   run_unread old new out fault reads answer is = run_refused old new out fault (refused_in_reading remaining outcome old new fault reads) answer is
 
   -- a run whose text was refused
   pub run_unmade : (old new : Watched R) (out : Watched W) (file : PlainFile) → ReadsInput remaining old new (Ok file) → (fault : CanonFault)
       → MakesAs (outcome file) (Err fault)
-      → (answer : Result ℕ RunFault) → IsErrAnd answer (λ reported. reported ≡ Refused Only fault) → RunsOnFile remaining contents outcome old new out out answer
+      → (answer : Result ℕ RunFault) → IsErrAnd answer (λ reported. reported ≡ Refused Only fault)
+      → RunsOnFile remaining contents outcome old new out out answer
   run_unmade old new out file reads fault made answer is =
       run_refused old new out fault (refused_in_making remaining outcome old new file reads fault made) answer is
 
@@ -78,4 +81,5 @@ module _ {R W : Type 0} (remaining : R → Option (List ℕ)) (contents : W → 
     silent = sends.2;
   }
   run_sent old new out out_after file reads text made (Err (GoodRange good)) sends = absurd sends
-  run_sent old new out out_after file reads text made (Err (Sent fault)) sends = run_printed old new out out_after file reads 0 text made (Err (Sent fault)) sends
+  run_sent old new out out_after file reads text made (Err (Sent fault)) sends =
+      run_printed old new out out_after file reads 0 text made (Err (Sent fault)) sends

@@ -32,7 +32,8 @@ use Rattle.answers.specs.declared.report.RunFault.TheVariants.{Refused}
 
 -- ---- lines
 
-pub table_more : (ending : Ending) (lines more : List ℕ) (path : List ℕ) (j : Judgement) → more ≡ lines ++ line_if_read ending path j → (js : List (List ℕ × Judgement))
+pub table_more : (ending : Ending) (lines more : List ℕ) (path : List ℕ) (j : Judgement) → more ≡ lines ++ line_if_read ending path j
+    → (js : List (List ℕ × Judgement))
     → lines ≡ lines_of_table ending js → more ≡ lines_of_table ending (js ++ (path, j) ∷ [])
 table_more ending lines more path j put js h = put ∙ ap (λ (ls : List ℕ). ls ++ line_if_read ending path j) h ∙ sym (line_more ending js path j)
 

@@ -59,7 +59,8 @@ module _ {R S W : Type 0} (remaining_first : R → Option (List ℕ)) (remaining
     pub memory : fault ≡ Memory
     pub silent : out_after ≡ out
 
--- The contract of a run of two files, from its inputs and its output before to those after it, where `Reads` says what was
+-- The contract of a run of two files, from its inputs and its output before to those after it, where `Reads` says what
+-- was
 -- read and `outcome` what is made of it. No fault belongs to an only file.
 module _ {A R S W : Type 0} (remaining_first : R → Option (List ℕ)) (remaining_second : S → Option (List ℕ))
     (contents : W → Option (List ℕ)) (limit : ℕ) (Reads : A → Type 0) (outcome : A → Outcome) where

@@ -1,4 +1,5 @@
--- What a run of `cats diff` does. More than one list of differences may be true of two files, since it is left open which bidders
+-- What a run of `cats diff` does. More than one list of differences may be true of two files, since it is left open
+-- which bidders
 -- are shown beside each other, so its text is that of one of them.
 use Rattle.std.specs.Prelude.{ℕ, List, Option, Result}
 use Rattle.bid_file.specs.Files.{PlainFile}
@@ -32,5 +33,6 @@ module _ {R S W : Type 0} (remaining_first : R → Option (List ℕ)) (remaining
   abbrev pub DiffsFiles : Watched R → Watched R → Watched S → Watched S → Watched W → Watched W → Result ℕ RunFault
       → Type 0
   DiffsFiles first first_after second second_after out out_after answer =
-      RunsOnBoth remaining_first remaining_second contents limit (ReadsDifferences first first_after second second_after)
+      RunsOnBoth remaining_first remaining_second contents limit
+      (ReadsDifferences first first_after second second_after)
       diff_outcome first first_after second second_after out out_after answer

@@ -1,26 +1,80 @@
--- How a path is printed. On a line, no byte of it can end the line or control a terminal; else it is raw. And how it
--- is read back from a line.
-use Rattle.std.specs.Prelude.{ℕ, ◌+◌, ◌*◌, ◌/◌, ◌%◌, ◌==◌, ◌||◌, nat_lt, if◌then◌else◌, Bool, List, [], ◌∷◌, ◌++◌, fold}
-use Rattle.std.specs.Char.{digit_char, digit_value}
-use Rattle.std.specs.List.{flat_map}
+-- How a path is printed. On a line, a printable character of it is as it is, and each other byte is escaped: the path
+-- stays on its line, and controls no terminal. And how it is read back from a line.
+use Rattle.std.specs.Prelude.{◌≡◌, ℕ, ◌+◌, ◌-◌, ◌*◌, ◌/◌, ◌%◌, ◌<◌, ◌==◌, ◌&&◌, ◌||◌, not, nat_lt, eqb, if◌then◌else◌}
+use Rattle.std.specs.Prelude.{Bool, true, List, [], ◌∷◌, ◌++◌, fold, length, get_or, encode_utf8_all}
+use Rattle.std.specs.Char.{digit_char, digit_value, encode_utf8, is_control}
+use Rattle.std.specs.Int.{is_in_range}
+use Rattle.std.specs.List.{All, starts_with}
+use Rattle.std.specs.Str.{all_scalars}
 use Rattle.cats_cmd.specs.declared.paths.Ending.{Ending}
 use Rattle.cats_cmd.specs.declared.paths.Ending.TheVariants.{Line, Null}
 
-abbrev pub is_control : ℕ → Bool
-is_control b = nat_lt b 32 || (b == 127)
+-- ---- characters
+
+-- neither a control character, nor a separator of lines, nor a control of the direction of writing
+abbrev pub is_printable : ℕ → Bool
+is_printable c = not (is_control c || is_in_range 0x2028 0x202E c || is_in_range 0x2066 0x2069 c)
+
+-- what the program prints beside bid files: printable characters, and tabs and line feeds between them
+abbrev pub is_shown : ℕ → Bool
+is_shown c = is_printable c || (c == 9) || (c == 10)
+
+-- the text is the UTF-8 of characters that are all of a kind
+pub record IsTextOf (is_of_kind : ℕ → Bool) (text : List ℕ) : Type 0 where
+  pub characters : List ℕ
+  pub scalars : all_scalars characters ≡ true
+  pub kind : All (λ c. is_of_kind c ≡ true) characters
+  pub spelt : encode_utf8_all characters ≡ text
+
+abbrev pub AreBytes : List ℕ → Type 0
+AreBytes text = All (λ b. b < 256) text
+
+-- the six low bits of one of the bytes behind the first
+abbrev pub low_bits : List ℕ → ℕ → ℕ
+low_bits bytes i = get_or bytes i 0 % 64
+
+-- the number of the character with which the bytes begin, if they begin with one; by its first byte it has one byte to
+-- four
+abbrev pub code_at : List ℕ → ℕ
+code_at bytes = let first = get_or bytes 0 0 in
+    if nat_lt first 128 then first else
+    if nat_lt first 224 then first % 32 * 64 + low_bits bytes 1 else
+    if nat_lt first 240 then first % 16 * 4096 + low_bits bytes 1 * 64 + low_bits bytes 2 else
+    first % 8 * 262144 + low_bits bytes 1 * 4096 + low_bits bytes 2 * 64 + low_bits bytes 3
+
+-- a character that is not escaped
+abbrev pub is_plain : ℕ → Bool
+is_plain c = all_scalars (c ∷ []) && (is_printable c && not (c == 92))
+
+-- how many bytes the character has that is at the start, if it is not escaped, and else 0
+abbrev pub plain_length : List ℕ → ℕ
+plain_length bytes = let c = code_at bytes in
+    if is_plain c && starts_with eqb bytes (encode_utf8 c) then length (encode_utf8 c) else 0
+
+-- ---- a path as it is printed
+
+-- a byte that is a control character
+abbrev pub is_control_byte : ℕ → Bool
+is_control_byte b = nat_lt b 32 || (b == 127)
 
 -- `\x` and two hexadecimal digits
 abbrev pub hex_escape : ℕ → List ℕ
 hex_escape b = 92 ∷ 120 ∷ digit_char (b / 16) ∷ digit_char (b % 16) ∷ []
 
--- a backslash is `\\`, LF is `\n`, and a tab is `\t`
+-- a backslash is `\\`, LF is `\n`, and a tab is `\t` (a number that is no byte stays)
 abbrev pub escaped_byte : ℕ → List ℕ
 escaped_byte b =
     if b == 92 then 92 ∷ 92 ∷ [] else if b == 10 then 92 ∷ 110 ∷ [] else if b == 9 then 92 ∷ 116 ∷ [] else
-    if is_control b then hex_escape b else b ∷ []
+    if nat_lt b 256 then hex_escape b else b ∷ []
+
+-- the bytes, the first `left` of which are of a character that is not escaped
+abbrev pub escaped_behind : ℕ → List ℕ → List ℕ
+escaped_behind left [] = []
+escaped_behind left (b ∷ bs) = let now = if left == 0 then plain_length (b ∷ bs) else left in
+    if now == 0 then escaped_byte b ++ escaped_behind 0 bs else b ∷ escaped_behind (now - 1) bs
 
 abbrev pub escaped : List ℕ → List ℕ
-escaped path = flat_map escaped_byte path
+escaped path = escaped_behind 0 path
 
 -- ---- a path as it is read back
 

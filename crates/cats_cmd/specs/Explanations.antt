@@ -1,4 +1,5 @@
--- What a run of `cats explain` does. More than one list of reasons may be true of a file, so its text is that of one of them.
+-- What a run of `cats explain` does. More than one list of reasons may be true of a file, so its text is that of one of
+-- them.
 use Rattle.std.specs.Prelude.{ℕ, List, Option, Result, Ok, Err}
 use Rattle.bid_file.specs.Files.{PlainFile}
 use Rattle.cats_text.specs.declared.stream.Watched.{Watched}
@@ -21,7 +22,8 @@ pub record ReadsExplained {R : Type 0} (remaining : R → Option (List ℕ)) (li
   pub explains : Explains explained.0 explained.1
 
 module _ {R W : Type 0} (remaining : R → Option (List ℕ)) (contents : W → Option (List ℕ)) (limit : ℕ) where
-  -- the contract of such a run, from its input and its output before to those after it. It refuses what `cats normalise`
+  -- the contract of such a run, from its input and its output before to those after it. It refuses what `cats
+  -- normalise`
   -- refuses
   abbrev pub ExplainsFile : Watched R → Watched R → Watched W → Watched W → Result ℕ RunFault → Type 0
   ExplainsFile before after old new (Ok status) =

@@ -1,11 +1,10 @@
 -- Runs on many files. Their paths are words of the command line, or are in a list of paths.
-use Rattle.std.specs.Prelude.{◌≡◌, ◌⊎◌, ℕ, List, map, Option, Result, Ok, Err}
+use Rattle.std.specs.Prelude.{◌≡◌, ◌⊎◌, ℕ, List, Option, Result, Ok, Err}
 use Rattle.cats_text.specs.declared.read_fault.ReadFault.{ReadFault}
 use Rattle.cats_text.specs.declared.stream.Watched.{Watched}
 use Rattle.canon.specs.declared.canon_fault.CanonFault.TheVariants.{Read, StepLimit, Memory}
 use Rattle.canon.specs.declared.which.Which.TheVariants.{Only}
-use Rattle.command_line.specs.declared.request.FilePaths.{FilePaths}
-use Rattle.command_line.specs.declared.request.FilePaths.TheVariants.{Given, ListedIn}
+use Rattle.command_line.specs.PlainRequests.{PlainPaths, Given, ListedIn}
 use Rattle.cats_cmd.specs.Inputs.{IsOpened, ReadsAll, StopsReading}
 use Rattle.cats_cmd.specs.PathLists.{paths_in}
 use Rattle.cats_cmd.specs.Paths.{refusal_line}
@@ -68,8 +67,6 @@ module _ {F W E : Type 0} (may_open : List ℕ → F → Type 0) (may_refuse : L
   RunsOnList list out out_after err err_after (Err fault) = RunsOnListed list out out_after err err_after (Err fault)
 
   -- the run on the paths that are given, or that are listed
-  abbrev pub RunsOnFiles : FilePaths → Watched W → Watched W → Watched E → Watched E → Result ℕ RunFault → Type 0
-  RunsOnFiles (Given paths) out out_after err err_after answer =
-      Runs (map (λ path. path.now) paths.items) out out_after err err_after answer
-  RunsOnFiles (ListedIn list) out out_after err err_after answer =
-      RunsOnList list.now out out_after err err_after answer
+  abbrev pub RunsOnFiles : PlainPaths → Watched W → Watched W → Watched E → Watched E → Result ℕ RunFault → Type 0
+  RunsOnFiles (Given paths) out out_after err err_after answer = Runs paths out out_after err err_after answer
+  RunsOnFiles (ListedIn list) out out_after err err_after answer = RunsOnList list out out_after err err_after answer

@@ -127,7 +127,8 @@ module _ {F : Type 0} (remaining : F → Option (List ℕ)) (limit : ℕ) where
   JudgesStream before after (IsUnjudged (Run (GoodRange good))) = ⊥
   JudgesStream before after (IsUnjudged (Run (Sent fault))) = ⊥
 
-module _ {F : Type 0} (may_open : List ℕ → F → Type 0) (may_refuse : List ℕ → Unopened → Type 0) (remaining : F → Option (List ℕ))
+module _ {F : Type 0} (may_open : List ℕ → F → Type 0) (may_refuse : List ℕ → Unopened → Type 0) (remaining : F
+    → Option (List ℕ))
     (limit : ℕ) where
   -- this became of a stream that was opened at the path
   pub record JudgesOpened (path : List ℕ) (judgement : Judgement) : Type 0 where

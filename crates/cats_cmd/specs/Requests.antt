@@ -1,7 +1,7 @@
 -- The contract of the program. It is the run of the request, on the files at its paths, what is sent where, and
 -- with which status.
-use Rattle.std.specs.Prelude.{◌≡◌, ◌⊎◌, ℕ, Bool, true, false, List, [], ◌∷◌, Option, Result, Ok, Err, IfOk, codes, string_bytes}
-use Rattle.std.specs.Borrow.{Bor}
+use Rattle.std.specs.Prelude.{◌≡◌, ◌⊎◌, ℕ, Bool, true, false, List, [], ◌∷◌, Option, Some, Result, Ok, Err, codes}
+use Rattle.std.specs.Prelude.{string_bytes}
 use Rattle.bid_file.specs.Files.{PlainFile}
 use Rattle.cats_text.specs.Streams.{SendsWhole, SendsPart}
 use Rattle.cats_text.specs.declared.stream.Watched.{Watched}
@@ -21,13 +21,11 @@ use Rattle.cats_cmd.specs.SizesTables.{MakesTable}
 use Rattle.rounding.specs.declared.replacement.FinePrices.{FinePrices}
 use Rattle.rounding.specs.declared.replacement.FinePrices.TheVariants.{Round as RoundFine, Refuse}
 use Rattle.cats_cmd.specs.RequestErrors.{Reports, SendsText, line_of_request_error, status_of_request_error}
-use Rattle.command_line.specs.Requests.{IsNamedIn}
+use Rattle.command_line.specs.PlainRequests.{PlainRequest, Check, Show, Value, Normalise, Explain, Round, Compare, Diff}
+use Rattle.command_line.specs.PlainRequests.{Duplicates, Sizes}
+use Rattle.command_line.specs.Requests.{IsNoRequestOf, request_of}
 use Rattle.command_line.specs.declared.request.NoRequest.{NoRequest}
-use Rattle.command_line.specs.declared.request.NoRequest.TheVariants.{Help, WrongUsage, NoMemory}
-use Rattle.command_line.specs.declared.request.PairRequest.{PairRequest}
-use Rattle.command_line.specs.declared.request.Request.{Request}
-use Rattle.command_line.specs.declared.request.Request.TheVariants.{Check, Show, Value, Normalise, Explain, Round, Compare}
-use Rattle.command_line.specs.declared.request.Request.TheVariants.{Diff, Duplicates, Sizes}
+use Rattle.command_line.specs.declared.request.NoRequest.TheVariants.{Help, WrongUsage, WrongFiles, NoMemory}
 use Rattle.cats_cmd.specs.declared.paths.Ending.{Ending}
 use Rattle.cats_cmd.specs.declared.paths.Ending.TheVariants.{Line, Null}
 use Rattle.cats_cmd.specs.declared.paths.Progress.{Progress}
@@ -38,6 +36,10 @@ use Rattle.answers.specs.declared.report.RunFault.{RunFault}
 use Rattle.cats_cmd.specs.declared.source.Unopened.{Unopened}
 
 -- ---- a command line without a request
+
+-- a line of `duplicates` or `sizes` with both a list and paths, or neither
+abbrev pub wrong_files_text : List ℕ
+wrong_files_text = codes "error: give paths, or '--files0-from <LIST>', and not both\n\nFor more information, try '--help'.\n"
 
 -- a text that says that memory was refused, or another if memory for it was refused too
 abbrev pub memory_text : List ℕ → List ℕ
@@ -56,6 +58,8 @@ module _ {W E : Type 0} (contents : W → Option (List ℕ)) (messages : E → O
       SendsHelp (string_bytes text) out out_after status × (err_after ≡ err)
   AnswersNoRequest (WrongUsage text) out out_after err err_after status =
       (status ≡ 64) × (out_after ≡ out) × SendsText messages (string_bytes text) err err_after
+  AnswersNoRequest WrongFiles out out_after err err_after status =
+      (status ≡ 64) × (out_after ≡ out) × SendsText messages wrong_files_text err err_after
   AnswersNoRequest (NoMemory text) out out_after err err_after status =
       (status ≡ 4) × (out_after ≡ out) × SendsText messages (memory_text (string_bytes text)) err err_after
 
@@ -66,7 +70,8 @@ abbrev pub ending_of : Bool → Ending
 ending_of true = Null
 ending_of false = Line
 
--- how it is reported how many files were read, with `--progress` and without, if standard error is a terminal and if not
+-- how it is reported how many files were read, with `--progress` and without, if standard error is a terminal and if
+-- not
 abbrev pub progress_of : Bool → Bool → Progress
 progress_of terminal false = Silent
 progress_of true true = OnTerminal
@@ -132,54 +137,56 @@ module _ {F W E : Type 0} (may_open : List ℕ → F → Type 0) (may_refuse : L
     (remaining : F → Option (List ℕ)) (contents : W → Option (List ℕ)) (messages : E → Option (List ℕ))
     (terminal : Bool) where
   -- the run of each request, on its files and goods and under its limit
-  abbrev pub RunsFor : Request → Watched W → Watched W → Watched E → Watched E → Result ℕ RunFault → Type 0
+  abbrev pub RunsFor : PlainRequest → Watched W → Watched W → Watched E → Watched E → Result ℕ RunFault → Type 0
   RunsFor (Check file) out out_after err err_after answer =
-      RunsAt may_open remaining contents file.now check_outcome out out_after answer × (err_after ≡ err)
+      RunsAt may_open remaining contents file check_outcome out out_after answer × (err_after ≡ err)
   RunsFor (Show file) out out_after err err_after answer =
-      RunsAt may_open remaining contents file.now show_outcome out out_after answer × (err_after ≡ err)
+      RunsAt may_open remaining contents file show_outcome out out_after answer × (err_after ≡ err)
   RunsFor (Value file goods limit) out out_after err err_after answer =
-      RunsAt may_open remaining contents file.now (value_outcome goods.items limit) out out_after answer × (err_after ≡ err)
+      RunsAt may_open remaining contents file (value_outcome goods limit) out out_after answer × (err_after ≡ err)
   RunsFor (Normalise file limit) out out_after err err_after answer =
-      RunsAt may_open remaining contents file.now (normalise_outcome limit) out out_after answer × (err_after ≡ err)
+      RunsAt may_open remaining contents file (normalise_outcome limit) out out_after answer × (err_after ≡ err)
   RunsFor (Explain file limit) out out_after err err_after answer =
-      ExplainsAt may_open remaining contents file.now limit out out_after answer × (err_after ≡ err)
+      ExplainsAt may_open remaining contents file limit out out_after answer × (err_after ≡ err)
   RunsFor (Round file exact) out out_after err err_after answer =
-      RoundsAt may_open may_refuse remaining contents messages file.now (fine_of exact) out out_after err err_after answer
-  RunsFor (Compare files) out out_after err err_after answer =
-      ComparesAt may_open remaining contents files.first.now files.second.now files.limit out out_after answer
+      RoundsAt may_open may_refuse remaining contents messages file (fine_of exact) out out_after err err_after answer
+  RunsFor (Compare first second limit) out out_after err err_after answer =
+      ComparesAt may_open remaining contents first second limit out out_after answer
       × (err_after ≡ err)
-  RunsFor (Diff files) out out_after err err_after answer =
-      DiffsAt may_open remaining contents files.first.now files.second.now files.limit out out_after answer
+  RunsFor (Diff first second limit) out out_after err err_after answer =
+      DiffsAt may_open remaining contents first second limit out out_after answer
       × (err_after ≡ err)
   RunsFor (Duplicates files) out out_after err err_after answer =
       RunsOnFiles may_open may_refuse remaining messages
-      (λ paths. RunsOnPaths may_open may_refuse remaining contents messages files.limit (MakesGroups (ending_of files.null)) paths
+      (λ paths. RunsOnPaths may_open may_refuse remaining contents messages files.limit
+      (MakesGroups (ending_of files.null)) paths
       (progress_of terminal files.progress)) files.paths out out_after err err_after answer
   RunsFor (Sizes files) out out_after err err_after answer =
       RunsOnFiles may_open may_refuse remaining messages
-      (λ paths. RunsOnPaths may_open may_refuse remaining contents messages files.limit (MakesTable (ending_of files.null)) paths
+      (λ paths. RunsOnPaths may_open may_refuse remaining contents messages files.limit
+      (MakesTable (ending_of files.null)) paths
       (progress_of terminal files.progress)) files.paths out out_after err err_after answer
 
   -- the one of two files that cannot be opened
-  abbrev pub CannotOpenPair : PairRequest → Which → Type 0
-  CannotOpenPair files which =
-      ((which ≡ First) × MayRefuse may_refuse files.first.now) ⊎ ((which ≡ Second) × MayRefuse may_refuse files.second.now)
+  abbrev pub CannotOpenPair : List ℕ → List ℕ → Which → Type 0
+  CannotOpenPair first second which =
+      ((which ≡ First) × MayRefuse may_refuse first) ⊎ ((which ≡ Second) × MayRefuse may_refuse second)
 
   -- the file of a request that cannot be opened. Each file of `duplicates` and `sizes` is reported by itself
-  abbrev pub CannotOpenOf : Request → Which → Type 0
-  CannotOpenOf (Check file) which = (which ≡ Only) × MayRefuse may_refuse file.now
-  CannotOpenOf (Show file) which = (which ≡ Only) × MayRefuse may_refuse file.now
-  CannotOpenOf (Value file goods limit) which = (which ≡ Only) × MayRefuse may_refuse file.now
-  CannotOpenOf (Normalise file limit) which = (which ≡ Only) × MayRefuse may_refuse file.now
-  CannotOpenOf (Explain file limit) which = (which ≡ Only) × MayRefuse may_refuse file.now
-  CannotOpenOf (Round file exact) which = (which ≡ Only) × MayRefuse may_refuse file.now
-  CannotOpenOf (Compare files) which = CannotOpenPair files which
-  CannotOpenOf (Diff files) which = CannotOpenPair files which
+  abbrev pub CannotOpenOf : PlainRequest → Which → Type 0
+  CannotOpenOf (Check file) which = (which ≡ Only) × MayRefuse may_refuse file
+  CannotOpenOf (Show file) which = (which ≡ Only) × MayRefuse may_refuse file
+  CannotOpenOf (Value file goods limit) which = (which ≡ Only) × MayRefuse may_refuse file
+  CannotOpenOf (Normalise file limit) which = (which ≡ Only) × MayRefuse may_refuse file
+  CannotOpenOf (Explain file limit) which = (which ≡ Only) × MayRefuse may_refuse file
+  CannotOpenOf (Round file exact) which = (which ≡ Only) × MayRefuse may_refuse file
+  CannotOpenOf (Compare first second limit) which = CannotOpenPair first second which
+  CannotOpenOf (Diff first second limit) which = CannotOpenPair first second which
   CannotOpenOf (Duplicates files) which = ⊥
   CannotOpenOf (Sizes files) which = ⊥
 
   -- the request's run answers, or a file of it cannot be opened, and then nothing was read, written or reported
-  abbrev pub CarriesOut : Request → Watched W → Watched W → Watched E → Watched E → Result ℕ RequestError → Type 0
+  abbrev pub CarriesOut : PlainRequest → Watched W → Watched W → Watched E → Watched E → Result ℕ RequestError → Type 0
   CarriesOut request out out_after err err_after (Ok status) = RunsFor request out out_after err err_after (Ok status)
   CarriesOut request out out_after err err_after (Err (Run fault)) =
       RunsFor request out out_after err err_after (Err fault)
@@ -188,7 +195,7 @@ module _ {F W E : Type 0} (may_open : List ℕ → F → Type 0) (may_refuse : L
   CarriesOut request out out_after err err_after (Err (NotOpened why)) = ⊥
 
   -- the request failed; its line was reported after what its run reported, and the status is its own
-  pub record FailsRequest (request : Request) (out out_after : Watched W) (err err_after : Watched E) (status : ℕ)
+  pub record FailsRequest (request : PlainRequest) (out out_after : Watched W) (err err_after : Watched E) (status : ℕ)
       : Type 0 where
     pub error : RequestError
     pub between : Watched E
@@ -196,22 +203,28 @@ module _ {F W E : Type 0} (may_open : List ℕ → F → Type 0) (may_refuse : L
     pub reports : Reports messages (line_of_request_error error) between err_after
     pub is_status : status ≡ status_of_request_error error
 
-  abbrev pub AnswersRequest : Request → Watched W → Watched W → Watched E → Watched E → ℕ → Type 0
+  abbrev pub AnswersRequest : PlainRequest → Watched W → Watched W → Watched E → Watched E → ℕ → Type 0
   AnswersRequest request out out_after err err_after status =
       CarriesOut request out out_after err err_after (Ok status)
       ⊎ FailsRequest request out out_after err err_after status
 
   -- ---- any command line
 
-  abbrev pub AnswersParsed : Result Request NoRequest → Watched W → Watched W → Watched E → Watched E → ℕ → Type 0
-  AnswersParsed (Ok request) out out_after err err_after status =
-      AnswersRequest request out out_after err err_after status
-  AnswersParsed (Err no_request) out out_after err err_after status =
-      AnswersNoRequest contents messages no_request out out_after err err_after status
+  -- the line has this request, which is answered
+  pub record AnswersAsked (words : List (List ℕ)) (out out_after : Watched W) (err err_after : Watched E) (status : ℕ)
+      : Type 0 where
+    pub request : PlainRequest
+    pub asked : request_of words ≡ Some request
+    pub answers : AnswersRequest request out out_after err err_after status
 
-  -- the contract of the program: the line is a request of the subcommand that it names, or none, and is answered so
-  pub record AnswersLine (words : List (Bor (List ℕ))) (out out_after : Watched W) (err err_after : Watched E)
-      (status : ℕ) : Type 0 where
-    pub parsed : Result Request NoRequest
-    pub named : IfOk parsed (IsNamedIn words)
-    pub answers : AnswersParsed parsed out out_after err err_after status
+  -- the line is no request, or memory was refused, which is answered
+  pub record AnswersUnasked (words : List (List ℕ)) (out out_after : Watched W) (err err_after : Watched E) (status : ℕ)
+      : Type 0 where
+    pub no_request : NoRequest
+    pub unasked : IsNoRequestOf words no_request
+    pub answers : AnswersNoRequest contents messages no_request out out_after err err_after status
+
+  -- the contract of the program
+  abbrev pub AnswersLine : List (List ℕ) → Watched W → Watched W → Watched E → Watched E → ℕ → Type 0
+  AnswersLine words out out_after err err_after status =
+      AnswersAsked words out out_after err err_after status ⊎ AnswersUnasked words out out_after err err_after status

@@ -44,7 +44,8 @@ module _ {R W E : Type 0} (remaining : R → Option (List ℕ)) (contents : W �
     pub all : ReadsAll remaining old new bytes
     pub first : first_fault (rounded_text fine bytes) ≡ Some fault
 
-  -- Why the file was refused: the stream failed or was too long, or the rounded text has a fault, or memory was refused.
+  -- Why the file was refused: the stream failed or was too long, or the rounded text has a fault, or memory was
+  -- refused.
   abbrev pub IsUnrounded : Watched R → Watched R → CanonFault → Type 0
   IsUnrounded old new (Read fault) = StopsReading remaining old new fault.line fault.kind ⊎ HasFault old new fault
   IsUnrounded old new (StepLimit goods) = ⊥

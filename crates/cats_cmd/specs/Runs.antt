@@ -78,7 +78,8 @@ module _ {R W : Type 0} (remaining : R → Option (List ℕ)) (contents : W → 
 
   -- the contract of such a run, from its input and its output before to those after it
   abbrev pub RunsOnFile : Watched R → Watched R → Watched W → Watched W → Result ℕ RunFault → Type 0
-  RunsOnFile before after old new (Ok status) = WritesText contents (ReadsFrom remaining before after) outcome old new status
+  RunsOnFile before after old new (Ok status) =
+      WritesText contents (ReadsFrom remaining before after) outcome old new status
   RunsOnFile before after old new (Err (Refused which fault)) = RefusesFile before after old new which fault
   RunsOnFile before after old new (Err (GoodRange good)) =
       MissesGood contents (ReadsFrom remaining before after) outcome old new good

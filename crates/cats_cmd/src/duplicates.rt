@@ -77,7 +77,8 @@ pub fn run_duplicates<S: Source + AllocGlobal, W: Write, E: Write>(
     err: &mut Watched<E>,
 ) -> Result<u8, RunFault>
     requires { has_failed out.old ≡ false }
-    ensures { RunsOnPaths (S.may_open source.now) (S.may_refuse source.now) S.Stream.remaining W.contents E.contents many.limit
+    ensures { RunsOnPaths (S.may_open source.now)
+        (S.may_refuse source.now) S.Stream.remaining W.contents E.contents many.limit
         (MakesGroups many.ending) (map (λ path. path.now) paths.now) many.progress out.old out.new err.old err.new result }
 {
     run_on_paths::<Groups<'_>, S, W, E>(source, paths, many, out, err)

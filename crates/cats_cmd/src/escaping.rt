@@ -1,8 +1,9 @@
-//! Paths as they are printed. On a line, control bytes and backslashes are escaped.
+//! Paths as they are printed. On a line, all that is not a printable character is escaped, and backslashes.
 
-ghost use Rattle.std.specs.Prelude.{◌≡◌, ◌<◌, ◌++◌, OnOk};
+ghost use Rattle.std.specs.Prelude.{◌≡◌, ◌<◌, ◌++◌, IfOk, OnOk, drop, get_or, length};
 ghost use Rattle.std.specs.Char.{digit_char};
-ghost use Rattle.cats_cmd.specs.Escaping.{end_of, escaped, escaped_byte, hex_escape, path_text};
+ghost use Rattle.cats_cmd.specs.Escaping.{code_at, end_of, escaped, escaped_behind, escaped_byte, hex_escape, is_printable};
+ghost use Rattle.cats_cmd.specs.Escaping.{low_bits, path_text, plain_length};
 
 use crate::paths::Ending;
 use std::alloc::AllocError;
@@ -39,25 +40,102 @@ pub(crate) fn push_end(text: &mut Vec<u8>, ending: Ending) -> Result<(), AllocEr
 pub(crate) fn escape_into(path: &[u8], text: &mut Vec<u8>) -> Result<(), AllocError>
     ensures { OnOk result (text.new.items ≡ text.old.items ++ escaped path.now) }
 {
-    for byte in path {
-        escape_byte(*byte, text)?;
+    let mut left = 0;
+    let mut rest = path;
+    while let [_, behind @ ..] = rest {
+        left = escape_next(rest, left, text)?;
+        rest = behind;
     }
     Ok(())
+}
+
+/// Puts the first of these bytes behind the text, of which `left` are of a character that is not escaped. Answers how
+/// many of the others are.
+fn escape_next(bytes: &[u8], left: usize, text: &mut Vec<u8>) -> Result<usize, AllocError>
+    requires { 0 < length bytes.now }
+    ensures { IfOk result (λ next. text.new.items ++ escaped_behind next (drop 1 bytes.now)
+        ≡ text.old.items ++ escaped_behind left bytes.now) }
+{
+    let now = if left == 0 { plain_length(bytes) } else { left };
+    if now == 0 {
+        escape_byte(bytes[0], text)?;
+        Ok(0)
+    } else {
+        text.push(bytes[0])?;
+        Ok(now - 1)
+    }
+}
+
+/// How many bytes the character has that is at the start, if it is not escaped, and else 0.
+fn plain_length(bytes: &[u8]) -> usize
+    ensures { result ≡ plain_length bytes.now }
+{
+    let Some(character) = char::from_u32(code_at(bytes)) else {
+        return 0;
+    };
+    let mut buffer = [0; 4];
+    let encoded = character.encode_utf8(&mut buffer).as_bytes();
+    if is_printable(character) && character != '\\' && bytes.starts_with(encoded) {
+        encoded.len()
+    } else {
+        0
+    }
+}
+
+/// The number of the character with which the bytes begin, if they begin with one.
+fn code_at(bytes: &[u8]) -> u32
+    ensures { result ≡ code_at bytes.now }
+{
+    let first = byte_at(bytes, 0);
+    if first < 128 {
+        first
+    } else if first < 224 {
+        first % 32 * 64 + low_bits(bytes, 1)
+    } else if first < 240 {
+        first % 16 * 4096 + low_bits(bytes, 1) * 64 + low_bits(bytes, 2)
+    } else {
+        first % 8 * 262_144
+            + low_bits(bytes, 1) * 4096
+            + low_bits(bytes, 2) * 64
+            + low_bits(bytes, 3)
+    }
+}
+
+/// The six low bits of one of the bytes behind the first.
+fn low_bits(bytes: &[u8], index: usize) -> u32
+    ensures value { result ≡ low_bits bytes.now index }
+    ensures few { result < 64 }
+{
+    byte_at(bytes, index) % 64
+}
+
+/// The byte at an index, or 0 if there is none.
+fn byte_at(bytes: &[u8], index: usize) -> u32
+    ensures value { result ≡ get_or bytes.now index 0 }
+    ensures byte { result < 256 }
+{
+    match bytes.get(index) {
+        Some(byte) => u32::from(*byte),
+        None => 0,
+    }
+}
+
+/// Whether it is neither a control character, nor a separator of lines, nor a control of the direction of writing.
+fn is_printable(character: char) -> bool
+    ensures { result ≡ is_printable character }
+{
+    !(character.is_control()
+        || matches!(character, '\u{2028}'..='\u{202E}' | '\u{2066}'..='\u{2069}'))
 }
 
 fn escape_byte(byte: u8, text: &mut Vec<u8>) -> Result<(), AllocError>
     ensures { OnOk result (text.new.items ≡ text.old.items ++ escaped_byte byte) }
 {
-    if byte == b'\\' {
-        text.extend_from_slice(b"\\\\")?;
-    } else if byte == b'\n' {
-        text.extend_from_slice(b"\\n")?;
-    } else if byte == b'\t' {
-        text.extend_from_slice(b"\\t")?;
-    } else if byte < 32 || byte == 127 {
-        push_hex(byte, text)?;
-    } else {
-        text.push(byte)?;
+    match byte {
+        b'\\' => text.extend_from_slice(b"\\\\")?,
+        b'\n' => text.extend_from_slice(b"\\n")?,
+        b'\t' => text.extend_from_slice(b"\\t")?,
+        _ => push_hex(byte, text)?,
     }
     Ok(())
 }

@@ -2,13 +2,25 @@
 
 ghost use Rattle.std.specs.List.{All};
 ghost use Rattle.std.specs.Prelude.{◌≡◌, ◌==◌, ℕ, List, filter, false};
-ghost use Rattle.cats_cmd.specs.Escaping.{escaped, is_control, unescaped};
+ghost use Rattle.answers.specs.DiffTexts.{diff_text};
+ghost use Rattle.answers.specs.DifferenceTexts.{difference_text};
+ghost use Rattle.answers.specs.ExplanationTexts.{explanation_text};
+ghost use Rattle.answers.specs.Outputs.{check_text};
+ghost use Rattle.bid_file.specs.Files.{PlainFile};
+ghost use Rattle.canon.specs.Difference.{Difference};
+ghost use Rattle.differences.specs.Differences.{PlainDifferences};
+ghost use Rattle.explain.specs.Reasons.{PlainReason};
+ghost use Rattle.cats_cmd.specs.ValueTexts.{value_text};
+ghost use Rattle.cats_cmd.specs.Escaping.{AreBytes, IsTextOf, escaped, is_control_byte, is_printable, is_shown, unescaped};
 ghost use Rattle.cats_cmd.specs.DuplicateTexts.{duplicates_text, groups_of, is_repeated};
 ghost use Rattle.cats_cmd.specs.OutputPaths.{IsPath, groups_in, paths_in_table, read_paths};
 ghost use Rattle.cats_cmd.specs.PathLists.{listed, paths_in};
-ghost use Rattle.cats_cmd.specs.Paths.{Judgement};
+ghost use Rattle.cats_cmd.specs.Paths.{Judgement, progress_line, refusal_line};
+ghost use Rattle.cats_cmd.specs.RequestErrors.{line_of_request_error};
 ghost use Rattle.cats_cmd.specs.SizesTables.{MakesTable};
 ghost use Rattle.cats_cmd.specs.declared.paths.Ending.{Ending};
+ghost use Rattle.cats_cmd.specs.declared.paths.Ending.TheVariants.{Line};
+ghost use Rattle.cats_cmd.specs.declared.program.RequestError.{RequestError};
 
 /// The paths in a text that lists some paths are these: any paths without NUL can be listed.
 pub fn listed_paths_are_read_back()
@@ -16,10 +28,36 @@ pub fn listed_paths_are_read_back()
         → paths_in (listed paths) ≡ paths }
 {}
 
-/// A path can be read back from its escaped form, which has no control byte: no LF, no tab, no NUL, no escape.
+/// A path can be read back from its escaped form. This has printable characters alone, and so no control byte: no LF, no
+/// tab, no NUL, no escape.
 pub fn escaped_path_is_read_back()
     ensures back { (path : List ℕ) → unescaped (escaped path) ≡ path }
-    ensures harmless { (path : List ℕ) → All (λ b. is_control b ≡ false) (escaped path) }
+    ensures harmless { (path : List ℕ) → All (λ b. is_control_byte b ≡ false) (escaped path) }
+    ensures printable { (path : List ℕ) → AreBytes path → IsTextOf is_printable (escaped path) }
+{}
+
+/// Beside bid files, what the program prints of faults and paths is characters that are printable, tabs and line feeds:
+/// the lines of faults, those that name a path, the groups of `cats duplicates`, and the table of `cats sizes`.
+pub fn printed_lines_are_shown()
+    ensures faults { (error : RequestError) → IsTextOf is_shown (line_of_request_error error) }
+    ensures refusals { (path : List ℕ) (error : RequestError) → AreBytes path → IsTextOf is_shown (refusal_line path error) }
+    ensures progress { (number count : ℕ) (path : List ℕ) → AreBytes path
+        → IsTextOf is_shown (progress_line number count path) }
+    ensures groups { (found : List (List ℕ × ℕ)) → All (λ f. AreBytes f.0) found
+        → IsTextOf is_shown (duplicates_text Line found) }
+    ensures tables { (judgements : List (List ℕ × Judgement)) (text : List ℕ) → All (λ j. AreBytes j.0) judgements
+        → MakesTable Line judgements text → IsTextOf is_shown text }
+{}
+
+/// So is what the commands on one or two files print, but for `cats show`, `cats normalise` and `cats round`, which
+/// print a bid file.
+pub fn printed_answers_are_shown()
+    ensures check { (file : PlainFile) → IsTextOf is_shown (check_text file) }
+    ensures value { (file : PlainFile) (goods : List ℕ) → IsTextOf is_shown (value_text file goods) }
+    ensures compare { (difference : Difference) → IsTextOf is_shown (difference_text difference) }
+    ensures explain { (reasons : List PlainReason) → IsTextOf is_shown (explanation_text reasons) }
+    ensures diff { (goods : ℕ) (left right : List ℕ) (differences : PlainDifferences)
+        → IsTextOf is_shown (diff_text goods left right differences) }
 {}
 
 /// The text of `cats duplicates` has the paths of each group: its lines between each two that are empty, with NUL at the
@@ -29,7 +67,7 @@ pub fn groups_are_read_back()
         → groups_in ending (duplicates_text ending found) ≡ filter is_repeated (groups_of found) }
 {}
 
-/// The table of `cats sizes` has the paths of the files that were read: what is behind the eight numbers of each line
+/// The table of `cats sizes` has the paths of the files that were read: what is behind the numbers of each line
 /// below the header.
 pub fn table_paths_are_read_back()
     ensures { (ending : Ending) (judgements : List (List ℕ × Judgement)) (text : List ℕ)

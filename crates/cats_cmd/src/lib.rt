@@ -19,6 +19,7 @@ mod run;
 mod show;
 mod sizes;
 mod source;
+mod usage;
 mod value;
 pub mod worked;
 

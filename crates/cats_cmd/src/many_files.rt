@@ -2,6 +2,7 @@
 
 ghost use Rattle.std.specs.Prelude.{◌≡◌, IfErr, IfOk, false};
 ghost use Rattle.cats_text.specs.Streams.{has_failed};
+ghost use Rattle.command_line.specs.PlainRequests.{plain_paths};
 ghost use Rattle.cats_cmd.specs.Duplicates.{MakesGroups};
 ghost use Rattle.cats_cmd.specs.FileLists.{IsUnread, ReadsList, RunsOnFiles};
 ghost use Rattle.cats_cmd.specs.Paths.{RunsOnPaths, refusal_line};
@@ -32,7 +33,8 @@ pub(crate) fn run_duplicates_of<S: Source + AllocGlobal, W: Write, E: Write>(
     requires { has_failed out.old ≡ false }
     ensures { RunsOnFiles (S.may_open source.now) (S.may_refuse source.now) S.Stream.remaining E.contents
         (λ paths. RunsOnPaths (S.may_open source.now) (S.may_refuse source.now) S.Stream.remaining W.contents E.contents
-        many.limit (MakesGroups many.ending) paths many.progress) files.now out.old out.new err.old err.new result }
+        many.limit (MakesGroups many.ending) paths many.progress) (plain_paths files.now) out.old out.new err.old err.new
+        result }
 {
     let list = match files {
         FilePaths::Given(paths) => {
@@ -60,7 +62,8 @@ pub(crate) fn run_sizes_of<S: Source + AllocGlobal, W: Write, E: Write>(
     requires { has_failed out.old ≡ false }
     ensures { RunsOnFiles (S.may_open source.now) (S.may_refuse source.now) S.Stream.remaining E.contents
         (λ paths. RunsOnPaths (S.may_open source.now) (S.may_refuse source.now) S.Stream.remaining W.contents E.contents
-        many.limit (MakesTable many.ending) paths many.progress) files.now out.old out.new err.old err.new result }
+        many.limit (MakesTable many.ending) paths many.progress) (plain_paths files.now) out.old out.new err.old err.new
+        result }
 {
     let list = match files {
         FilePaths::Given(paths) => {

@@ -3,7 +3,8 @@
 ghost use Rattle.std.specs.Prelude.{◌≡◌, ◌++◌, ℕ, List, [], ◌∷◌, map, IfErr, IfOk, false, true};
 ghost use Rattle.cats_text.specs.Streams.{has_ended, has_failed};
 ghost use Rattle.cats_cmd.specs.Inputs.{IsOpened};
-ghost use Rattle.cats_cmd.specs.Paths.{Judgement, IsUnjudged, IsUnopened, RunsOnPaths, count_line, lines_on, progress_line, progress_lines, refusal_line, refusal_lines, removal_lines, status_if};
+ghost use Rattle.cats_cmd.specs.Paths.{Judgement, IsUnjudged, IsUnopened, RunsOnPaths, count_line, lines_on, progress_line};
+ghost use Rattle.cats_cmd.specs.Paths.{progress_lines, refusal_line, refusal_lines, removal_lines, status_if};
 ghost use Rattle.cats_cmd.specs.RequestErrors.{ReportsAll};
 ghost use Rattle.cats_cmd.specs.Internal.Judging.{AddsFile, AddsPathAs, AddsOpened, HasSome, JudgesAllAs};
 ghost use Rattle.cats_cmd.specs.declared.paths.Ending.{Ending};
@@ -79,7 +80,8 @@ pub(crate) trait Collection<'a>: Sized + Drop {
     ) -> Result<Option<RequestError>, AllocError>
         requires works { has_failed input.old ≡ false }
         requires fresh { has_ended input.old ≡ false }
-        ensures { IfOk result (λ error. AddsOpened (has many.ending) R.remaining many.limit path.now self.old self.new input.old input.new
+        ensures { IfOk result (λ error. AddsOpened
+            (has many.ending) R.remaining many.limit path.now self.old self.new input.old input.new
             error) };
 
     /// The text of all.
@@ -97,7 +99,8 @@ pub(crate) trait Collection<'a>: Sized + Drop {
 /// Judges the files at these paths, one after the other, and sends the text that is made of them.
 ///
 /// A file that cannot be judged is reported on `err` at once, and the others go on; with `progress`, it is
-/// reported there after each hundredth file, and after the last, how many were read. The status is 0 if every file was judged, and else the greatest of the statuses of
+/// reported there after each hundredth file, and after the last, how many were read. The status is 0 if every file was
+/// judged, and else the greatest of the statuses of
 /// those that were not.
 pub(crate) fn run_on_paths<'a, C: Collection<'a>, S: Source + AllocGlobal, W: Write, E: Write>(
     source: &S,
@@ -107,7 +110,8 @@ pub(crate) fn run_on_paths<'a, C: Collection<'a>, S: Source + AllocGlobal, W: Wr
     err: &mut Watched<E>,
 ) -> Result<u8, RunFault>
     requires { has_failed out.old ≡ false }
-    ensures { RunsOnPaths (S.may_open source.now) (S.may_refuse source.now) S.Stream.remaining W.contents E.contents many.limit
+    ensures { RunsOnPaths (S.may_open source.now)
+        (S.may_refuse source.now) S.Stream.remaining W.contents E.contents many.limit
         (C.Makes many.ending) (map (λ path. path.now) paths.now) many.progress out.old out.new err.old err.new result }
 {
     let mut collection = C::none(source.alloc());
@@ -125,7 +129,8 @@ fn judge_all<'a, C: Collection<'a>, S: Source + AllocGlobal, E: Write>(
     err: &mut Watched<E>,
 ) -> Result<u8, AllocError>
     requires { C.has many.ending collection.old [] }
-    ensures { JudgesAllAs (C.has many.ending) (S.may_open source.now) (S.may_refuse source.now) S.Stream.remaining many.limit E.contents
+    ensures { JudgesAllAs (C.has many.ending) (S.may_open source.now)
+        (S.may_refuse source.now) S.Stream.remaining many.limit E.contents
         (map (λ path. path.now) paths.now) many.progress collection.new err.old err.new result }
 {
     let mut greatest = DONE;
@@ -151,7 +156,8 @@ fn judge_path<'a, C: Collection<'a>, S: Source + AllocGlobal, E: Write>(
     many: ManyFiles,
     err: &mut Watched<E>,
 ) -> Result<u8, AllocError>
-    ensures { AddsPathAs (C.has many.ending) (S.may_open source.now) (S.may_refuse source.now) S.Stream.remaining many.limit E.contents
+    ensures { AddsPathAs (C.has many.ending) (S.may_open source.now)
+        (S.may_refuse source.now) S.Stream.remaining many.limit E.contents
         many.progress turn.now.count turn.now.number turn.now.path.now collection.old collection.new err.old err.new result }
 {
     let error = judge(source, collection, turn.path, many)?;
@@ -176,7 +182,8 @@ fn judge<'a, C: Collection<'a>, S: Source + AllocGlobal>(
     path: &'a [u8],
     many: ManyFiles,
 ) -> Result<Option<RequestError>, AllocError>
-    ensures { IfOk result (AddsFile (C.has many.ending) (S.may_open source.now) (S.may_refuse source.now) S.Stream.remaining many.limit
+    ensures { IfOk result (AddsFile (C.has many.ending) (S.may_open source.now)
+        (S.may_refuse source.now) S.Stream.remaining many.limit
         path.now collection.old collection.new) }
 {
     match open_path(source, path) {
@@ -188,14 +195,17 @@ fn judge<'a, C: Collection<'a>, S: Source + AllocGlobal>(
     }
 }
 
-/// Opens the file at a path. There is none at a path that is not UTF-8, as the library opens no such path.
+/// Opens the regular file at a path. There is none at a path that is not UTF-8, as the library opens no such path.
 fn open_path<S: Source>(source: &S, path: &[u8]) -> Result<Watched<S::Stream>, Unopened>
     ensures opened { IfOk result (IsOpened (S.may_open source.now) path.now) }
     ensures refused { IfErr result (IsUnopened (S.may_refuse source.now) path.now) }
 {
-    match str::from_utf8(path) {
-        Ok(path) => open_file(source, path),
-        Err(_) => Err(Unopened::Other),
+    let Ok(path) = str::from_utf8(path) else {
+        return Err(Unopened::Other);
+    };
+    match source.open_regular(path) {
+        Ok(stream) => Ok(Watched::new(stream)),
+        Err(why) => Err(why),
     }
 }
 
@@ -233,7 +243,8 @@ fn report_path<E: Write>(
     error: &Option<RequestError>,
     err: &mut Watched<E>,
 )
-    ensures { ReportsAll E.contents (lines_on progress turn.now.count turn.now.number turn.now.path.now error.now) err.old err.new }
+    ensures { ReportsAll E.contents
+        (lines_on progress turn.now.count turn.now.number turn.now.path.now error.now) err.old err.new }
 {
     remove_progress(progress, turn.number, err);
     report_refusal(alloc, turn.path, error, err);
@@ -272,7 +283,8 @@ fn report_progress<E: Write>(
     turn: &Turn<'_>,
     err: &mut Watched<E>,
 )
-    ensures { ReportsAll E.contents (progress_lines progress turn.now.number turn.now.count turn.now.path.now) err.old err.new }
+    ensures { ReportsAll E.contents
+        (progress_lines progress turn.now.number turn.now.count turn.now.path.now) err.old err.new }
 {
     match progress {
         Progress::Silent => {}

@@ -4,8 +4,12 @@ ghost use Rattle.std.specs.Prelude.{◌≡◌, ◌≢◌, ◌≤◌, ℕ, List, 
 ghost use Rattle.canon.specs.declared.which.Which.TheVariants.{Only};
 ghost use Rattle.cats_text.specs.Streams.{has_failed};
 ghost use Rattle.cats_cmd.specs.Inputs.{IsOpened, MayRefuse};
-ghost use Rattle.cats_cmd.specs.Requests.{AnswersLine, AnswersNoRequest, AnswersRequest, CarriesOut, ending_of, fine_of, memory_text, progress_of};
-ghost use Rattle.cats_cmd.specs.RequestErrors.{Reports, is_for_many_files, is_reporting, line_of_request_error, names_many_files, names_reporting, status_of_request_error};
+ghost use Rattle.cats_cmd.specs.Requests.{AnswersLine, AnswersNoRequest, AnswersRequest, CarriesOut, ending_of, fine_of};
+ghost use Rattle.cats_cmd.specs.Requests.{memory_text, progress_of, wrong_files_text};
+ghost use Rattle.command_line.specs.PlainRequests.{plain_request};
+ghost use Rattle.command_line.specs.Requests.{texts_of};
+ghost use Rattle.cats_cmd.specs.RequestErrors.{Reports, is_for_many_files, is_reporting, line_of_request_error};
+ghost use Rattle.cats_cmd.specs.RequestErrors.{names_many_files, names_reporting, status_of_request_error};
 
 use crate::check::run_check;
 use crate::compare::run_compare;
@@ -17,6 +21,7 @@ use crate::paths::{Ending, ManyFiles, Progress};
 use crate::round::run_round;
 use crate::show::run_show;
 use crate::source::{Source, SystemFiles, Unopened};
+use crate::usage::with_escaped_words;
 use crate::value::run_value;
 use answers::{DEVICE_FAILED, DONE, NO_MEMORY, RunFault, WRONG_USAGE, fault_line, status};
 use canon::Which;
@@ -71,9 +76,10 @@ pub fn run_cats<F: Files + AllocGlobal, W: Write, E: Write>(
     requires out_works { has_failed out.old ≡ false }
     requires err_works { has_failed err.old ≡ false }
     ensures answers { AnswersLine (λ path stream. Unit {0}) (λ path why. Unit {0}) F.File.remaining W.contents E.contents
-        false words.now out.old out.new err.old err.new result }
-    ensures silent { names_many_files words.now ≡ false → result ≢ 0 → result ≢ 1 → result ≢ 5 → out.new ≡ out.old }
-    ensures done { names_reporting words.now ≡ false → result ≤ 1 → err.new ≡ err.old }
+        false (texts_of words.now) out.old out.new err.old err.new result }
+    ensures silent { names_many_files (texts_of words.now) ≡ false → result ≢ 0 → result ≢ 1 → result ≢ 5
+        → out.new ≡ out.old }
+    ensures done { names_reporting (texts_of words.now) ≡ false → result ≤ 1 → err.new ≡ err.old }
 {
     let process = Process {
         version: VERSION,
@@ -98,13 +104,17 @@ pub fn run_program<S: Source + AllocGlobal, W: Write, E: Write>(
     requires out_works { has_failed out.old ≡ false }
     requires err_works { has_failed err.old ≡ false }
     ensures answers { AnswersLine (S.may_open source.now) (S.may_refuse source.now) S.Stream.remaining W.contents
-        E.contents process.now.terminal words.now out.old out.new err.old err.new result }
-    ensures silent { names_many_files words.now ≡ false → result ≢ 0 → result ≢ 1 → result ≢ 5 → out.new ≡ out.old }
-    ensures done { names_reporting words.now ≡ false → result ≤ 1 → err.new ≡ err.old }
+        E.contents process.now.terminal (texts_of words.now) out.old out.new err.old err.new result }
+    ensures silent { names_many_files (texts_of words.now) ≡ false → result ≢ 0 → result ≢ 1 → result ≢ 5
+        → out.new ≡ out.old }
+    ensures done { names_reporting (texts_of words.now) ≡ false → result ≤ 1 → err.new ≡ err.old }
 {
     match parse(source.alloc(), process.version, words) {
         Ok(request) => answer_request(source, &request, out, err, process.terminal),
-        Err(no_request) => answer_no_request(&no_request, out, err),
+        Err(no_request) => {
+            let no_request = with_escaped_words(source.alloc(), process.version, words, no_request);
+            answer_no_request(&no_request, out, err)
+        }
     }
 }
 
@@ -117,9 +127,10 @@ fn answer_request<S: Source + AllocGlobal, W: Write, E: Write>(
 ) -> u8
     requires out_works { has_failed out.old ≡ false }
     ensures answers { AnswersRequest (S.may_open source.now) (S.may_refuse source.now) S.Stream.remaining W.contents
-        E.contents terminal request.now out.old out.new err.old err.new result }
-    ensures silent { is_for_many_files request.now ≡ false → result ≢ 0 → result ≢ 1 → result ≢ 5 → out.new ≡ out.old }
-    ensures done { is_reporting request.now ≡ false → result ≤ 1 → err.new ≡ err.old }
+        E.contents terminal (plain_request request.now) out.old out.new err.old err.new result }
+    ensures silent { is_for_many_files (plain_request request.now) ≡ false → result ≢ 0 → result ≢ 1 → result ≢ 5
+        → out.new ≡ out.old }
+    ensures done { is_reporting (plain_request request.now) ≡ false → result ≤ 1 → err.new ≡ err.old }
 {
     match carry_out(source, request, out, err, terminal) {
         Ok(status) => status,
@@ -137,7 +148,7 @@ fn carry_out<S: Source + AllocGlobal, W: Write, E: Write>(
 ) -> Result<u8, RequestError>
     requires { has_failed out.old ≡ false }
     ensures { CarriesOut (S.may_open source.now) (S.may_refuse source.now) S.Stream.remaining W.contents E.contents terminal
-        request.now out.old out.new err.old err.new result }
+        (plain_request request.now) out.old out.new err.old err.new result }
 {
     let alloc = source.alloc();
     match request {
@@ -216,14 +227,16 @@ fn fine_prices(exact: bool) -> FinePrices
 /// Opens the one file of a request.
 fn open_only<S: Source>(source: &S, path: &str) -> Result<Watched<S::Stream>, RequestError>
     ensures opened { IfOk result (IsOpened (S.may_open source.now) path.now) }
-    ensures refused { IfErr result (λ error. (error ≡ RequestError.CannotOpen Only) × MayRefuse (S.may_refuse source.now) path.now) }
+    ensures refused { IfErr result (λ error. (error ≡ RequestError.CannotOpen Only)
+        × MayRefuse (S.may_refuse source.now) path.now) }
 {
     open(source, path, Which::Only)
 }
 
 fn open<S: Source>(source: &S, path: &str, which: Which) -> Result<Watched<S::Stream>, RequestError>
     ensures opened { IfOk result (IsOpened (S.may_open source.now) path.now) }
-    ensures refused { IfErr result (λ error. (error ≡ RequestError.CannotOpen which) × MayRefuse (S.may_refuse source.now) path.now) }
+    ensures refused { IfErr result (λ error. (error ≡ RequestError.CannotOpen which)
+        × MayRefuse (S.may_refuse source.now) path.now) }
 {
     match source.open(path) {
         Ok(stream) => Ok(Watched::new(stream)),
@@ -250,11 +263,22 @@ fn answer_no_request<W: Write, E: Write>(
             let _ = send(err, text.as_bytes());
             WRONG_USAGE
         }
+        NoRequest::WrongFiles => {
+            let _ = send(err, wrong_files_text().as_bytes());
+            WRONG_USAGE
+        }
         NoRequest::NoMemory(text) => {
             let _ = send(err, memory_text(text.as_str()).as_bytes());
             NO_MEMORY
         }
     }
+}
+
+/// What is wrong with a line of `duplicates` or `sizes` that has both a list of paths and paths, or neither.
+fn wrong_files_text() -> &'static str
+    ensures { result.now ≡ wrong_files_text }
+{
+    "error: give paths, or '--files0-from <LIST>', and not both\n\nFor more information, try '--help'.\n"
 }
 
 /// The text that says that memory was refused, or another if memory for it was refused too.
@@ -340,6 +364,7 @@ fn not_opened(why: Unopened) -> &'static str
         Unopened::NoSuchFile => "cannot open: no such file\n",
         Unopened::PermissionDenied => "cannot open: permission denied\n",
         Unopened::IsFolder => "cannot open: is a folder\n",
+        Unopened::NotAFile => "cannot open: not a file\n",
         Unopened::Other => "cannot open\n",
     }
 }

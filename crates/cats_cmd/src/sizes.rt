@@ -23,7 +23,7 @@ use std::io::{Read, Write};
 /// The line above the others.
 const HEADER: &str = "goods\tbids\tor\txor\tdummy\tkept\tkept_or\tkept_xor\tfile";
 
-/// What is in the place of the numbers of a canonical file that is not known.
+/// What a table has instead of the numbers of a canonical file that is not known.
 const UNKNOWN: &str = "-\t-\t-\t";
 
 /// The lines of the files that were read.
@@ -114,7 +114,8 @@ pub fn run_sizes<S: Source + AllocGlobal, W: Write, E: Write>(
     err: &mut Watched<E>,
 ) -> Result<u8, RunFault>
     requires { has_failed out.old ≡ false }
-    ensures { RunsOnPaths (S.may_open source.now) (S.may_refuse source.now) S.Stream.remaining W.contents E.contents many.limit
+    ensures { RunsOnPaths (S.may_open source.now)
+        (S.may_refuse source.now) S.Stream.remaining W.contents E.contents many.limit
         (MakesTable many.ending) (map (λ path. path.now) paths.now) many.progress out.old out.new err.old err.new result }
 {
     run_on_paths::<Table, S, W, E>(source, paths, many, out, err)

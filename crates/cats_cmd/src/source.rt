@@ -30,6 +30,12 @@ pub trait Source {
     fn open_file(&self, path: &str) -> Result<Self::Stream, Unopened>
         ensures opened { IfOk result (Self.may_open self.now path.now) }
         ensures refused { IfErr result (Self.may_refuse self.now path.now) };
+
+    /// Opens the regular file at a path. A folder, a device and a FIFO are refused, and not opened: to open a FIFO may
+    /// take for ever.
+    fn open_regular(&self, path: &str) -> Result<Self::Stream, Unopened>
+        ensures opened { IfOk result (Self.may_open self.now path.now) }
+        ensures refused { IfErr result (Self.may_refuse self.now path.now) };
 }
 
 /// Why a file could not be opened.
@@ -38,6 +44,8 @@ pub enum Unopened {
     NoSuchFile,
     PermissionDenied,
     IsFolder,
+    /// It is neither a regular file nor a folder.
+    NotAFile,
     /// For a reason that has no name here.
     Other,
 }
@@ -73,6 +81,15 @@ impl<F: Files> Source for SystemFiles<'_, F> {
         match file.metadata() {
             Ok(metadata) if metadata.is_dir() => Err(Unopened::IsFolder),
             _ => Ok(file),
+        }
+    }
+
+    fn open_regular(&self, path: &str) -> Result<F::File, Unopened> {
+        match fs::metadata(self.files, path) {
+            Ok(metadata) if metadata.is_file() => self.open(path),
+            Ok(metadata) if metadata.is_dir() => Err(Unopened::IsFolder),
+            Ok(_) => Err(Unopened::NotAFile),
+            Err(error) => Err(reason(error.kind())),
         }
     }
 }

@@ -25,6 +25,7 @@ ghost use Rattle.cats_cmd.specs.ValueTexts.{bundle_from};
 ghost use Rattle.answers.specs.FaultLines.{line_of_fault};
 ghost use Rattle.cats_text.specs.Examples.{known, watched};
 ghost use Rattle.cats_cmd.specs.DuplicateTexts.{duplicates_text};
+ghost use Rattle.cats_cmd.specs.Escaping.{escaped};
 ghost use Rattle.cats_cmd.specs.Duplicates.{judged_paths};
 ghost use Rattle.cats_cmd.specs.PathLists.{paths_in};
 ghost use Rattle.cats_cmd.specs.declared.paths.Ending.TheVariants.{Line, Null};
@@ -37,7 +38,8 @@ ghost use Rattle.rounding.specs.declared.replacement.FinePrices.TheVariants.{Rou
 ghost use Rattle.cats_cmd.specs.Runs.{SendsMadeAs};
 ghost use Rattle.cats_cmd.specs.RequestErrors.{Reports, line_of_request_error};
 ghost use Rattle.cats_cmd.specs.declared.program.RequestError.TheVariants.{CannotOpen, NotOpened};
-ghost use Rattle.cats_cmd.specs.declared.source.Unopened.TheVariants.{NoSuchFile, PermissionDenied, IsFolder, Other};
+ghost use Rattle.cats_cmd.specs.declared.source.Unopened.TheVariants.{NoSuchFile, PermissionDenied, IsFolder, NotAFile};
+ghost use Rattle.cats_cmd.specs.declared.source.Unopened.TheVariants.{Other};
 ghost use Rattle.answers.specs.Statuses.{status_of_difference, status_of_differences, status_of_fault};
 ghost use Rattle.canon.specs.declared.which.Which.TheVariants.{Only, First, Second, Both};
 ghost use Rattle.canon.specs.declared.canon_fault.CanonFault.TheVariants.{Read, StepLimit, Memory};
@@ -64,25 +66,32 @@ pub fn values()
 
 /// The line of a file that cannot be opened: of the only one, of the first of two, and of one of many.
 pub fn unopened_lines()
-    ensures { map line_of_request_error (CannotOpen Only ∷ CannotOpen First ∷ NotOpened NoSuchFile ∷ NotOpened PermissionDenied
-        ∷ NotOpened IsFolder ∷ NotOpened Other ∷ []) ≡
+    ensures { map line_of_request_error
+        (CannotOpen Only ∷ CannotOpen First ∷ NotOpened NoSuchFile ∷ NotOpened PermissionDenied
+        ∷ NotOpened IsFolder ∷ NotOpened NotAFile ∷ NotOpened Other ∷ []) ≡
         codes "cannot open\n" ∷ codes "first: cannot open\n" ∷ codes "cannot open: no such file\n"
-        ∷ codes "cannot open: permission denied\n" ∷ codes "cannot open: is a folder\n" ∷ codes "cannot open\n" ∷ [] }
+        ∷ codes "cannot open: permission denied\n" ∷ codes "cannot open: is a folder\n"
+        ∷ codes "cannot open: not a file\n" ∷ codes "cannot open\n" ∷ [] }
 {}
 
 /// What `cats duplicates` reports of two paths: the reason for the one that was not judged, and, with progress, how many
-/// were read. On a terminal the line of progress is taken away before anything else is printed. Of 250 files that is reported after the hundredth, the two hundredth and the last.
+/// were read. On a terminal the line of progress is taken away before anything else is printed. Of 250 files that is
+/// reported after the hundredth, the two hundredth and the last.
 pub fn paths_reported()
-    ensures reason { report_lines Silent 2 ((codes "a", IsUnjudged (NotOpened NoSuchFile)) ∷ (codes "b", IsJudged larger_bid) ∷ [])
+    ensures reason { report_lines Silent 2 ((codes "a", IsUnjudged (NotOpened NoSuchFile)) ∷
+        (codes "b", IsJudged larger_bid) ∷ [])
         ≡ codes "a: cannot open: no such file\n" ∷ [] }
-    ensures progress { report_lines Lines 2 ((codes "a", IsUnjudged (NotOpened NoSuchFile)) ∷ (codes "b", IsJudged larger_bid) ∷ [])
+    ensures progress { report_lines Lines 2 ((codes "a", IsUnjudged (NotOpened NoSuchFile)) ∷
+        (codes "b", IsJudged larger_bid) ∷ [])
         ≡ codes "a: cannot open: no such file\n" ∷ codes "2 of 2 b\n" ∷ [] }
     ensures counted { map (λ number. progress_lines Lines number 250 (codes "a")) (1 ∷ 99 ∷ 100 ∷ 200 ∷ 249 ∷ 250 ∷ [])
         ≡ [] ∷ [] ∷ (codes "100 of 250 a\n" ∷ []) ∷ (codes "200 of 250 a\n" ∷ []) ∷ []
         ∷ (codes "250 of 250 a\n" ∷ []) ∷ [] }
-    ensures terminal { report_lines Terminal 2 ((codes "a", IsJudged larger_bid) ∷ (codes "b", IsUnjudged (NotOpened NoSuchFile)) ∷ [])
+    ensures terminal { report_lines Terminal 2
+        ((codes "a", IsJudged larger_bid) ∷ (codes "b", IsUnjudged (NotOpened NoSuchFile)) ∷ [])
         ≡ codes "1 of 2\n" ∷ (27 ∷ 91 ∷ 65 ∷ 27 ∷ 91 ∷ 75 ∷ []) ∷ codes "b: cannot open: no such file\n" ∷ codes "2 of 2\n" ∷ [] }
-    ensures status { greatest_status ((codes "a", IsUnjudged (NotOpened NoSuchFile)) ∷ (codes "b", IsJudged larger_bid) ∷ []) ≡ 5 }
+    ensures status { greatest_status ((codes "a", IsUnjudged (NotOpened NoSuchFile)) ∷ (codes "b", IsJudged larger_bid) ∷ [])
+        ≡ 5 }
     ensures judged { judged_paths ((codes "a", IsUnjudged (NotOpened NoSuchFile)) ∷ (codes "b", IsJudged larger_bid) ∷ [])
         ≡ codes "b" ∷ [] }
 {}
@@ -90,10 +99,33 @@ pub fn paths_reported()
 /// The text of `cats duplicates` of two auctions with two files each and one with one, with LF at the end of each line
 /// and with NUL. A backslash is escaped on a line.
 pub fn groups_printed()
-    ensures lines { duplicates_text Line ((codes "a", 0) ∷ (codes "b", 1) ∷ (codes "\\c", 0) ∷ (codes "d", 3) ∷ (codes "e", 1) ∷ [])
+    ensures lines { duplicates_text Line ((codes "a", 0) ∷ (codes "b", 1) ∷ (codes "\\c", 0) ∷ (codes "d", 3) ∷
+        (codes "e", 1) ∷ [])
         ≡ codes "a\n\\\\c\n\nb\ne\n" }
-    ensures nulls { duplicates_text Null ((codes "a", 0) ∷ (codes "b", 1) ∷ (codes "\\c", 0) ∷ (codes "d", 3) ∷ (codes "e", 1) ∷ [])
+    ensures nulls { duplicates_text Null ((codes "a", 0) ∷ (codes "b", 1) ∷ (codes "\\c", 0) ∷ (codes "d", 3) ∷
+        (codes "e", 1) ∷ [])
         ≡ 97 ∷ 0 ∷ 92 ∷ 99 ∷ 0 ∷ 0 ∷ 98 ∷ 0 ∷ 101 ∷ 0 ∷ [] }
+{}
+
+/// Paths as they are printed on a line. Printable characters stay: U+E9, U+20AC, U+1F642, U+2027 and U+10FFFF.
+pub fn paths_escaped()
+    ensures printable { map escaped ((195 ∷ 169 ∷ []) ∷ (226 ∷ 130 ∷ 172 ∷ []) ∷ (240 ∷ 159 ∷ 153 ∷ 130 ∷ [])
+        ∷ (226 ∷ 128 ∷ 167 ∷ []) ∷ (244 ∷ 143 ∷ 191 ∷ 191 ∷ []) ∷ codes "a b" ∷ [])
+        ≡ (195 ∷ 169 ∷ []) ∷ (226 ∷ 130 ∷ 172 ∷ []) ∷ (240 ∷ 159 ∷ 153 ∷ 130 ∷ [])
+        ∷ (226 ∷ 128 ∷ 167 ∷ []) ∷ (244 ∷ 143 ∷ 191 ∷ 191 ∷ []) ∷ codes "a b" ∷ [] }
+    // LF, tab, escape, delete, a backslash, U+9B
+    ensures controls { map escaped ((10 ∷ []) ∷ (9 ∷ []) ∷ (27 ∷ []) ∷ (127 ∷ []) ∷ (92 ∷ []) ∷ (194 ∷ 155 ∷ []) ∷ [])
+        ≡ codes "\\n" ∷ codes "\\t" ∷ codes "\\x1b" ∷ codes "\\x7f" ∷ codes "\\\\" ∷ codes "\\xc2\\x9b" ∷ [] }
+    // U+2028, U+202E, U+2066, U+2069
+    ensures directions { map escaped ((226 ∷ 128 ∷ 168 ∷ []) ∷ (226 ∷ 128 ∷ 174 ∷ []) ∷ (226 ∷ 129 ∷ 166 ∷ []) ∷
+        (226 ∷ 129 ∷ 169 ∷ []) ∷ [])
+        ≡ codes "\\xe2\\x80\\xa8" ∷ codes "\\xe2\\x80\\xae" ∷ codes "\\xe2\\x81\\xa6" ∷ codes "\\xe2\\x81\\xa9" ∷ [] }
+    // no UTF-8: a byte alone, a character that is cut, two that are too long, a surrogate, a number above U+10FFFF
+    ensures broken { map escaped ((255 ∷ []) ∷ (195 ∷ 40 ∷ []) ∷ (192 ∷ 128 ∷ []) ∷ (224 ∷ 130 ∷ 172 ∷ []) ∷
+        (237 ∷ 160 ∷ 128 ∷ [])
+        ∷ (244 ∷ 144 ∷ 128 ∷ 128 ∷ []) ∷ [])
+        ≡ codes "\\xff" ∷ codes "\\xc3(" ∷ codes "\\xc0\\x80" ∷ codes "\\xe0\\x82\\xac" ∷ codes "\\xed\\xa0\\x80"
+        ∷ codes "\\xf4\\x90\\x80\\x80" ∷ [] }
 {}
 
 /// The numbers of a file, and the lines of `cats sizes`: of no files, of a file with a heavy bundle, and of one that was
@@ -124,7 +156,8 @@ pub fn lines_reported()
 /// What becomes of a file's text: all of it went out, or so many of its first bytes, or, where memory for a page was
 /// refused, nothing was written.
 pub fn files_sent()
-    ensures whole { SendsMadeAs known Only 0 (codes "ab") (watched [] false false) (watched (codes "ab") false false) (Ok 0) }
+    ensures whole { SendsMadeAs known Only 0 (codes "ab") (watched [] false false) (watched (codes "ab") false false)
+        (Ok 0) }
     ensures part { SendsMadeAs known Only 0 (codes "ab") (watched [] false false) (watched (codes "a") true false)
         (Err (Sent (record { written = 1 }))) }
     ensures no_memory { SendsMadeAs known Only 0 (codes "ab") (watched [] false false) (watched [] false false)

@@ -1,2 +1,5 @@
 -- What the contracts of this crate cite.
+pub mod PlainRequests
 pub mod Requests
+pub mod Subcommands
+pub mod Internal

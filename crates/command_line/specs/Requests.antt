@@ -1,33 +1,57 @@
--- Requests, as contracts see them. Each has a subcommand with its place in the command line; other answers have a kind.
-use Rattle.std.specs.Prelude.{◌≡◌, ℕ, Bool, true, false, List, ◌∷◌, codes}
+-- What a command line requests, and what it is if it requests nothing.
+use Rattle.std.specs.Prelude.{◌≡◌, ◌==◌, ℕ, Bool, true, false, not, List, [], ◌∷◌, map, find, Option, None}
+use Rattle.std.specs.Prelude.{option_and_then}
 use Rattle.std.specs.Borrow.{Bor}
+use Rattle.std.specs.List.{list_any}
+use Rattle.std.specs.Str.{bytes_eq}
+use Rattle.clap.specs.Faults.{fault_of}
+use Rattle.clap.specs.Kinds.{Kinds}
+use Rattle.clap.specs.Simple.{subcommand_of}
+use Rattle.clap.specs.Walk.{Row}
+use Rattle.clap.specs.declared.error.kind.ErrorKind.{ErrorKind}
+use Rattle.clap.specs.declared.error.kind.ErrorKind.TheVariants.{DisplayHelp, DisplayVersion}
+use Rattle.command_line.specs.PlainRequests.{PlainRequest}
+use Rattle.command_line.specs.Subcommands.{cats, subcommands}
 use Rattle.command_line.specs.declared.request.NoRequest.{NoRequest}
-use Rattle.command_line.specs.declared.request.NoRequest.TheVariants.{WrongUsage, NoMemory}
-use Rattle.command_line.specs.declared.request.Request.{Request}
-use Rattle.command_line.specs.declared.request.Request.TheVariants.{Check, Show, Value, Normalise, Explain, Round, Compare, Diff, Duplicates, Sizes}
+use Rattle.command_line.specs.declared.request.NoRequest.TheVariants.{Help, WrongUsage, WrongFiles, NoMemory}
 
--- the word that names a request
-abbrev pub name_of : Request → List ℕ
-name_of (Check file) = codes "check"
-name_of (Show file) = codes "show"
-name_of (Value file goods limit) = codes "value"
-name_of (Normalise file limit) = codes "normalise"
-name_of (Explain file limit) = codes "explain"
-name_of (Round file exact) = codes "round"
-name_of (Compare files) = codes "compare"
-name_of (Diff files) = codes "diff"
-name_of (Duplicates files) = codes "duplicates"
-name_of (Sizes files) = codes "sizes"
+-- what the subcommand of this name requests
+abbrev pub request_from : List ℕ → List Row → Option PlainRequest
+request_from name rows = option_and_then (λ s. s.request rows) (find (λ s. bytes_eq s.name name) subcommands)
 
--- the word after the program's name is the request's
-abbrev pub IsNamedIn : List (Bor (List ℕ)) → Request → Type 0
-IsNamedIn (program ∷ (word ∷ words)) request = word.now ≡ name_of request
-IsNamedIn words request = ⊥
+-- a line without a fault requests this, and another nothing
+abbrev pub if_taken : Kinds → Option PlainRequest → Option PlainRequest
+if_taken [] found = found
+if_taken (kind ∷ kinds) found = None
 
-abbrev pub is_wrong_usage : NoRequest → Bool
-is_wrong_usage (WrongUsage text) = true
-is_wrong_usage no_request = false
+-- What a command line requests, if it is one that `clap` takes. Its first word is the program's name.
+abbrev pub request_of : List (List ℕ) → Option PlainRequest
+request_of words = if_taken (fault_of cats words)
+    (option_and_then (λ p. request_from p.0 p.1) (subcommand_of cats words))
+
+-- the texts of the words
+abbrev pub texts_of : List (Bor (List ℕ)) → List (List ℕ)
+texts_of = map (λ word. word.now)
+
+-- an answer that is no fault: help, or the version
+abbrev pub is_shown : ErrorKind → Bool
+is_shown DisplayHelp = true
+is_shown DisplayVersion = true
+is_shown kind = false
+
+-- Why a line is no request: it names help or the version; `clap` refuses it; it names both a list and files, or
+-- neither; or memory was refused, as it may be to any line.
+abbrev pub IsNoRequestOf : List (List ℕ) → NoRequest → Type 0
+IsNoRequestOf words (Help text) = list_any is_shown (fault_of cats words) ≡ true
+IsNoRequestOf words (WrongUsage text) = list_any (λ kind. not (is_shown kind)) (fault_of cats words) ≡ true
+IsNoRequestOf words WrongFiles = (fault_of cats words ≡ []) × (request_of words ≡ None)
+IsNoRequestOf words (NoMemory text) = Unit {0}
+
+-- the word may be an option
+abbrev pub begins_with_hyphen : List ℕ → Bool
+begins_with_hyphen [] = false
+begins_with_hyphen (b ∷ rest) = b == 45
 
 abbrev pub is_no_memory : NoRequest → Bool
 is_no_memory (NoMemory text) = true
-is_no_memory no_request = false
+is_no_memory answer = false

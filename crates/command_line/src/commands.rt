@@ -1,5 +1,10 @@
 //! The commands as `clap` takes them. They have arguments, options and help. The subcommands are a table.
 
+ghost use Rattle.std.specs.Prelude.{◌≡◌, IfOk, codes, false, fold};
+ghost use Rattle.clap.specs.Words.{app_of, rule_of};
+ghost use Rattle.command_line.specs.Internal.Commands.{has_globals, rule_for, shape_for, with_row};
+ghost use Rattle.command_line.specs.Subcommands.{cats, file, files, flag, goods, list, null, steps};
+
 use crate::help;
 use clap::{Arg, ArgAction, Command, value_parser};
 use std::alloc::{AllocError, Global};
@@ -149,57 +154,78 @@ static SUBCOMMANDS: [Subcommand; 10] = [
 ];
 
 /// The command of the program. `--version` prints this version after the program's name.
-pub(crate) fn cats_command<'a>(alloc: Global, version: &'a str) -> Result<Command<'a>, AllocError> {
-    let mut cats = Command::new(alloc, "cats")
+pub(crate) fn cats_command<'a>(alloc: Global, version: &'a str) -> Result<Command<'a>, AllocError>
+    ensures { IfOk result (λ command. app_of command ≡ cats) }
+{
+    let cats = Command::new(alloc, "cats")
         .about("Reads auction bid files in the format of CATS 2.0")
         .version(version)
         .after_help(help::CATS)
         .subcommand_required(true);
-    for subcommand in &SUBCOMMANDS {
-        cats = cats.subcommand(subcommand.command(alloc)?)?;
+    with_subcommands(alloc, cats, &SUBCOMMANDS)
+}
+
+fn with_subcommands<'a>(
+    alloc: Global,
+    mut command: Command<'a>,
+    subcommands: &[Subcommand],
+) -> Result<Command<'a>, AllocError>
+    ensures { IfOk result (λ whole. app_of whole ≡ fold with_row (app_of command.entry) subcommands.now) }
+{
+    for subcommand in subcommands {
+        command = command.subcommand(subcommand.command(alloc)?)?;
     }
-    Ok(cats)
+    Ok(command)
 }
 
 impl Subcommand {
-    fn command<'a>(&self, alloc: Global) -> Result<Command<'a>, AllocError> {
+    fn command<'a>(&self, alloc: Global) -> Result<Command<'a>, AllocError>
+        ensures shape { IfOk result (λ command. (app_of command).top ≡ shape_for self.now) }
+        ensures local { IfOk result (λ command. has_globals command ≡ false) }
+    {
         let mut command = Command::new(alloc, self.name)
             .about(self.about)
             .after_help(self.help);
         for argument in self.arguments {
-            command = command.arg(argument.arg(alloc)?)?;
+            command = command.arg(argument.arg(alloc))?;
         }
         Ok(command)
     }
 }
 
 impl Argument {
-    fn arg<'a>(&self, alloc: Global) -> Result<Arg<'a>, AllocError> {
+    fn arg<'a>(&self, alloc: Global) -> Arg<'a>
+        ensures rule { rule_of result ≡ rule_for self.now }
+        ensures local { result.global ≡ false }
+    {
         match self {
-            Argument::File => Ok(file_argument(alloc, FILE).required(true)),
-            Argument::SecondFile => {
-                let second = file_argument(alloc, SECOND_FILE).value_name(FILE);
-                Ok(second.required(true))
-            }
+            Argument::File => file_argument(alloc, FILE),
+            Argument::SecondFile => file_argument(alloc, SECOND_FILE).value_name(FILE),
             Argument::Files => files_argument(alloc),
             Argument::List => list_option(alloc),
-            Argument::Goods => Ok(goods_argument(alloc)),
-            Argument::Steps(help) => Ok(steps_option(alloc, help)),
-            Argument::Progress => Ok(progress_flag(alloc)),
-            Argument::Null => Ok(null_flag(alloc)),
-            Argument::Exact => Ok(exact_flag(alloc)),
+            Argument::Goods => goods_argument(alloc),
+            Argument::Steps(help) => steps_option(alloc, help),
+            Argument::Progress => progress_flag(alloc),
+            Argument::Null => null_flag(alloc),
+            Argument::Exact => exact_flag(alloc),
         }
     }
 }
 
-fn progress_flag<'a>(alloc: Global) -> Arg<'a> {
+fn progress_flag<'a>(alloc: Global) -> Arg<'a>
+    ensures rule { rule_of result ≡ flag (codes "progress") }
+    ensures local { result.global ≡ false }
+{
     Arg::new(alloc, PROGRESS)
         .long(PROGRESS)
         .action(ArgAction::SetTrue)
         .help("Reports on standard error how many files were read")
 }
 
-fn null_flag<'a>(alloc: Global) -> Arg<'a> {
+fn null_flag<'a>(alloc: Global) -> Arg<'a>
+    ensures rule { rule_of result ≡ null }
+    ensures local { result.global ≡ false }
+{
     Arg::new(alloc, NULL)
         .short('0')
         .long(NULL)
@@ -208,22 +234,30 @@ fn null_flag<'a>(alloc: Global) -> Arg<'a> {
 }
 
 /// A list takes the place of the paths on the command line.
-fn list_option<'a>(alloc: Global) -> Result<Arg<'a>, AllocError> {
+fn list_option<'a>(alloc: Global) -> Arg<'a>
+    ensures rule { rule_of result ≡ list }
+    ensures local { result.global ≡ false }
+{
     Arg::new(alloc, FILES0_FROM)
         .long(FILES0_FROM)
         .value_name("LIST")
         .help("The paths are in this file, each with NUL after it")
-        .conflicts_with(FILE)
 }
 
-fn exact_flag<'a>(alloc: Global) -> Arg<'a> {
+fn exact_flag<'a>(alloc: Global) -> Arg<'a>
+    ensures rule { rule_of result ≡ flag (codes "exact") }
+    ensures local { result.global ≡ false }
+{
     Arg::new(alloc, EXACT)
         .long(EXACT)
         .action(ArgAction::SetTrue)
         .help("Refuses a price that would be rounded")
 }
 
-fn steps_option<'a>(alloc: Global, help: &'a str) -> Arg<'a> {
+fn steps_option<'a>(alloc: Global, help: &'a str) -> Arg<'a>
+    ensures rule { rule_of result ≡ steps }
+    ensures local { result.global ≡ false }
+{
     Arg::new(alloc, STEPS)
         .long(STEPS)
         .value_name("N")
@@ -232,18 +266,28 @@ fn steps_option<'a>(alloc: Global, help: &'a str) -> Arg<'a> {
         .help(help)
 }
 
-fn file_argument<'a>(alloc: Global, id: &'a str) -> Arg<'a> {
-    Arg::new(alloc, id).help("The path of a bid file")
+fn file_argument<'a>(alloc: Global, id: &'a str) -> Arg<'a>
+    ensures rule { rule_of result ≡ record file { id = id.entry.now } }
+    ensures local { result.global ≡ false }
+{
+    Arg::new(alloc, id)
+        .required(true)
+        .help("The path of a bid file")
 }
 
-fn files_argument<'a>(alloc: Global) -> Result<Arg<'a>, AllocError> {
+fn files_argument<'a>(alloc: Global) -> Arg<'a>
+    ensures rule { rule_of result ≡ files }
+    ensures local { result.global ≡ false }
+{
     Arg::new(alloc, FILE)
         .num_args(1..)
         .help("The paths of bid files")
-        .required_unless_present(FILES0_FROM)
 }
 
-fn goods_argument<'a>(alloc: Global) -> Arg<'a> {
+fn goods_argument<'a>(alloc: Global) -> Arg<'a>
+    ensures rule { rule_of result ≡ goods }
+    ensures local { result.global ≡ false }
+{
     Arg::new(alloc, GOOD)
         .num_args(0..)
         .value_parser(value_parser!(u16))

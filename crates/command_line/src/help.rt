@@ -155,10 +155,10 @@ an empty line between two auctions. For example:
   examples/ladder_rewritten.cats
 
 All files below a folder, however many there are:
-  $ find folder -name '*.cats' -print0 | cats duplicates --files0-from /dev/stdin
+  $ find folder -type f -name '*.cats' -print0 | cats duplicates --files0-from /dev/stdin
 
-A control byte in a path is printed as \\n, \\t or \\x1b, with its two hexadecimal digits, and a backslash as \\\\. With -0 each
-path of the output is printed as it is, and each line ends with NUL.
+A control byte in a path is printed as \\n, \\t or \\x1b, with its two hexadecimal digits, and a backslash as \\\\.
+With -0 each path of the output is printed as it is, and each line ends with NUL.
 
 A file that is refused is reported at once, with its path before the fault, and the others go on. So is a list that
 cannot be read, and then no file is. With --progress a line says how many files were read, after each hundred and at the
@@ -185,7 +185,7 @@ file. A step is that of 'cats normalise'. 'cats help duplicates' says how paths 
 reports.
 
 All files below a folder, however many there are:
-  $ find folder -name '*.cats' -print0 | cats sizes --files0-from /dev/stdin
+  $ find folder -type f -name '*.cats' -print0 | cats sizes --files0-from /dev/stdin
 
 Statuses: 0 if every file was judged; else the greatest status of those that were not: 2 for a file that is not a bid
 file, 3 for the step limit, 4, 5 and 64 as 'cats --help' lists them";

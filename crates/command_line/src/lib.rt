@@ -3,8 +3,10 @@
 
 mod commands;
 mod help;
+pub mod laws;
 mod parser;
 mod request;
+pub mod worked;
 
 pub use help::VERSION;
 pub use parser::parse;

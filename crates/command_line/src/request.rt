@@ -60,13 +60,15 @@ pub enum FilePaths<'a> {
     ListedIn(&'a str),
 }
 
-/// Why a command line is not a request. Each has its text, which is empty if memory for it was refused.
+/// Why a command line is not a request. A text is empty if memory for it was refused.
 #[derive(Debug, Drop)]
 pub enum NoRequest {
     /// It names help or the version: this text, for standard output.
     Help(String),
     /// It is wrong: this says why, for standard error.
     WrongUsage(String),
+    /// It has both a list of paths and paths, or neither.
+    WrongFiles,
     /// Memory was refused: this says so, for standard error.
     NoMemory(String),
 }

@@ -126,7 +126,7 @@ fn help_and_version(rt: HostRuntime) {
 }
 
 /// Command lines that are no request.
-static WRONG_LINES: [&[&str]; 17] = [
+static WRONG_LINES: [&[&str]; 13] = [
     &[],
     &["cats"],
     &["cats", "check"],
@@ -135,11 +135,7 @@ static WRONG_LINES: [&[&str]; 17] = [
     &["cats", "value", "a", "65536"],
     &["cats", "diff", "a"],
     &["cats", "diff", "a", "b", "c"],
-    &["cats", "duplicates"],
-    &["cats", "sizes"],
-    // a path after a list, before it, two lists, a list without its path, and `-0` twice
-    &["cats", "sizes", "--files0-from", "a", "b"],
-    &["cats", "duplicates", "b", "--files0-from", "a"],
+    // two lists, a list without its path, and `-0` twice
     &["cats", "duplicates", "--files0-from=a", "--files0-from=b"],
     &["cats", "sizes", "--files0-from"],
     &["cats", "sizes", "-0", "--null", "a"],
@@ -153,5 +149,24 @@ fn wrong_usage(rt: HostRuntime) {
         let answer = parse(rt.alloc(), VERSION, words);
         let is_wrong = matches!(&answer, Err(NoRequest::WrongUsage(text)) if !text.is_empty());
         assert!(rt; is_wrong, "of {words:?}: {answer:?}");
+    }
+}
+
+/// Command lines with both a list and paths, or neither.
+static WRONG_FILES: [&[&str]; 4] = [
+    &["cats", "duplicates"],
+    &["cats", "sizes"],
+    &["cats", "sizes", "--files0-from", "a", "b"],
+    &["cats", "duplicates", "b", "--files0-from", "a"],
+];
+
+#[test]
+fn wrong_files(rt: HostRuntime) {
+    for words in &WRONG_FILES {
+        let answer = parse(rt.alloc(), VERSION, words);
+        assert!(rt;
+            matches!(&answer, Err(NoRequest::WrongFiles)),
+            "of {words:?}: {answer:?}"
+        );
     }
 }

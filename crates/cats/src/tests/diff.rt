@@ -62,7 +62,7 @@ fn no_differences(rt: HostRuntime) -> Result<(), Fail> {
         &[
             (NOTHING, NOTHING, "", ""),
             (LARGER_BID, SINGLES, "", ""),
-            // a bid that another of its bidder outbids
+            // a dominated bid
             (
                 EQUAL_BIDDERS,
                 "goods 2\nbids 4\ndummy 2\n0\t1\t0\t2\t#\n1\t2\t0\t1\t2\t#\n2\t1\t0\t3\t#\n3\t2\t0\t1\t3\t#\n",
@@ -177,7 +177,7 @@ fn single_bidders(rt: HostRuntime) -> Result<(), Fail> {
                 "or\t0\t4\t-\nxor\t-\t1\nbid\t0\t-\t4\n",
                 "or\t0\t-\t4\nxor\t1\t-\nbid\t0\t4\t-\n",
             ),
-            // two copies and one; a bid that another of its bidder outbids is not printed
+            // two copies and one; a dominated bid is not printed
             (
                 EQUAL_BIDDERS,
                 "goods 2\nbids 2\ndummy 1\n0\t1\t0\t2\t#\n1\t2\t0\t1\t2\t#\n",

@@ -56,7 +56,7 @@ const CAPACITY: usize = 65_536;
 /// lines.
 type Row = (&'static str, usize, usize, u8, &'static str, &'static str);
 
-static ROWS: [Row; 19] = [
+static ROWS: [Row; 20] = [
     ("cats duplicates @a @b", CAPACITY, CAPACITY, 0, "", ""),
     (
         "cats duplicates @a @a2",
@@ -116,7 +116,15 @@ static ROWS: [Row; 19] = [
         "@a2\n@a2\n",
         "@a: step limit at 0,1\n@bad: line 2: Missing\n",
     ),
-    // a folder among files, and one file alone
+    // a device without an end and a folder among files, and one file alone
+    (
+        "cats duplicates @a /dev/zero @a2",
+        CAPACITY,
+        CAPACITY,
+        5,
+        "@a\n@a2\n",
+        "/dev/zero: cannot open: not a file\n",
+    ),
     (
         "cats duplicates @a /tmp @a2",
         CAPACITY,

@@ -28,8 +28,10 @@ static ROUNDED: [Row<'static>; 4] = [
         "",
     ),
     (
-        b"goods 1\nbids 7\ndummy 0\n0 1e6 0 #\n1 1.02345e+06 0 #\n2 1E-3 0 #\n3 .5 0 #\n4 5. 0 #\n5 0e999999999 0 #\n6 1e12 0 #",
-        "goods 1\nbids 7\ndummy 0\n0 1000000 0 #\n1 1023450 0 #\n2 0.001 0 #\n3 0.5 0 #\n4 5 0 #\n5 0 0 #\n6 1000000000000 0 #",
+        b"goods 1\nbids 7\ndummy 0\n0 1e6 0 #\n1 1.02345e+06 0 #\n2 1E-3 0 #\n\
+        3 .5 0 #\n4 5. 0 #\n5 0e999999999 0 #\n6 1e12 0 #",
+        "goods 1\nbids 7\ndummy 0\n0 1000000 0 #\n1 1023450 0 #\n2 0.001 0 #\n\
+        3 0.5 0 #\n4 5 0 #\n5 0 0 #\n6 1000000000000 0 #",
         "",
     ),
     (
@@ -40,7 +42,8 @@ static ROUNDED: [Row<'static>; 4] = [
     (
         b"goods 1\nbids 3\ndummy 0\n0 0.0000005 0 #\n1 1e-7 0 #\n2 1000000000000.0000001 0 #\n",
         "goods 1\nbids 3\ndummy 0\n0 0 0 #\n1 0 0 #\n2 1000000000000 0 #\n",
-        "line 4: 0.0000005 rounded to 0\nline 5: 1e-7 rounded to 0\nline 6: 1000000000000.0000001 rounded to 1000000000000\n",
+        "line 4: 0.0000005 rounded to 0\nline 5: 1e-7 rounded to 0\n\
+        line 6: 1000000000000.0000001 rounded to 1000000000000\n",
     ),
 ];
 

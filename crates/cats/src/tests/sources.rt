@@ -24,9 +24,14 @@ impl<'a> Source for FilesInMemory<'a> {
 
     ghost may_open = { λ source path stream. Any (λ f. (f.0.now ≡ path) × (f.1.now ≡ stream.now)) source.files.now };
 
-    ghost may_refuse = { λ source path why. Any (λ r. (r.0.now ≡ path) × (r.1 ≡ why)) source.refused.now ⊎ (why ≡ NoSuchFile) };
+    ghost may_refuse = { λ source path why. Any (λ r. (r.0.now ≡ path) × (r.1 ≡ why)) source.refused.now
+        ⊎ (why ≡ NoSuchFile) };
 
     fn open(&self, path: &str) -> Result<&'a [u8], Unopened> {
+        self.open_file(path)
+    }
+
+    fn open_regular(&self, path: &str) -> Result<&'a [u8], Unopened> {
         self.open_file(path)
     }
 
@@ -53,7 +58,7 @@ impl Alloc for FilesInMemory<'_> {
     }
 }
 
-static FILES: [(&str, &[u8]); 20] = [
+static FILES: [(&str, &[u8]); 22] = [
     ("one", b"goods 1\nbids 1\ndummy 0\n0 3 0 #\n"),
     ("same", b"goods 1\nbids 2\ndummy 0\n0 3 0 #\n1 2 0 #\n"),
     ("other", b"goods 1\nbids 1\ndummy 0\n0 4 0 #\n"),
@@ -74,21 +79,24 @@ static FILES: [(&str, &[u8]); 20] = [
     ("list with a path twice", b"same\0other\0same\0"),
     ("list with an empty path", b"one\0\0same\0"),
     ("list with LF", b"one\nother\nsame\n"),
-    // names with LF, tab, escape, backslash, delete and a byte above 127
+    // names with LF, tab, escape, backslash, delete, U+E9, U+9B and U+202E, and in a list a byte that is no UTF-8
     ("a\nb", b"goods 1\nbids 1\ndummy 0\n0 3 0 #\n"),
     ("a\tb", b"goods 1\nbids 1\ndummy 0\n0 3 0 #\n"),
     ("\x1b[2J", b"goods 1\nbids 1\ndummy 0\n0 3 0 #\n"),
     ("a\\nb", b"goods 1\nbids 1\ndummy 0\n0 3 0 #\n"),
     ("\x7f", b"goods 1\nbids 1\ndummy 0\n0 3 0 #\n"),
     ("\u{e9}", b"goods 1\nbids 1\ndummy 0\n0 3 0 #\n"),
+    ("\u{9b}2J", b"goods 1\nbids 1\ndummy 0\n0 3 0 #\n"),
+    ("\u{202e}b", b"goods 1\nbids 1\ndummy 0\n0 3 0 #\n"),
     (
         "list of such names",
-        b"a\nb\0a\tb\0\x1b[2J\0a\\nb\0\x7f\0\xc3\xa9\0\x1bnone\0",
+        b"a\nb\0a\tb\0\x1b[2J\0a\\nb\0\x7f\0\xc3\xa9\0\xc2\x9b2J\0\xe2\x80\xaeb\0\x1bnone\0\xff\0",
     ),
 ];
 
-static REFUSED: [(&str, Unopened); 3] = [
+static REFUSED: [(&str, Unopened); 4] = [
     ("folder", Unopened::IsFolder),
+    ("fifo", Unopened::NotAFile),
     ("secret", Unopened::PermissionDenied),
     ("broken", Unopened::Other),
 ];
@@ -203,6 +211,7 @@ static ROWS: [Row<'static>; 36] = [
             "duplicates",
             "one",
             "folder",
+            "fifo",
             "secret",
             "none",
             "broken",
@@ -210,7 +219,8 @@ static ROWS: [Row<'static>; 36] = [
         ],
         5,
         "one\none\n",
-        "folder: cannot open: is a folder\nsecret: cannot open: permission denied\n\
+        "folder: cannot open: is a folder\nfifo: cannot open: not a file\n\
+secret: cannot open: permission denied\n\
 none: cannot open: no such file\nbroken: cannot open\n",
     ),
     (
@@ -230,8 +240,8 @@ none: cannot open: no such file\nbroken: cannot open\n",
     (
         &["cats", "duplicates", "--files0-from", "list of such names"],
         5,
-        "a\\nb\na\\tb\n\\x1b[2J\na\\\\nb\n\\x7f\n\u{e9}\n",
-        "\\x1bnone: cannot open: no such file\n",
+        "a\\nb\na\\tb\n\\x1b[2J\na\\\\nb\n\\x7f\n\u{e9}\n\\xc2\\x9b2J\n\\xe2\\x80\\xaeb\n",
+        "\\x1bnone: cannot open: no such file\n\\xff: cannot open\n",
     ),
     (
         &[
@@ -242,8 +252,8 @@ none: cannot open: no such file\nbroken: cannot open\n",
             "list of such names",
         ],
         5,
-        "a\nb\0a\tb\0\x1b[2J\0a\\nb\0\x7f\0\u{e9}\0",
-        "\\x1bnone: cannot open: no such file\n",
+        "a\nb\0a\tb\0\x1b[2J\0a\\nb\0\x7f\0\u{e9}\0\u{9b}2J\0\u{202e}b\0",
+        "\\x1bnone: cannot open: no such file\n\\xff: cannot open\n",
     ),
     (
         &["cats", "duplicates", "--files0-from", "list"],
@@ -301,8 +311,7 @@ none: cannot open: no such file\nbroken: cannot open\n",
         &["cats", "duplicates", "--files0-from", "list", "one"],
         64,
         "",
-        "error: the argument '--files0-from <LIST>' cannot be used with '[FILE]...'\n\n\
-Usage: cats duplicates --files0-from <LIST> [FILE]...\n\nFor more information, try '--help'.\n",
+        "error: give paths, or '--files0-from <LIST>', and not both\n\nFor more information, try '--help'.\n",
     ),
     (
         &["cats", "round", "fine"],

@@ -5,5 +5,6 @@ use Rattle.cats_c.proofs.cats_round.Goals as goal
 
 pub returns : goal.returns
 returns c =
-    given_rounding (if c.args.exact then Refuse else Round) c.args.text.now c.round_as-rounded.result c.round_as-rounded.ensures _ _ _ _ c.give_rounded-given.ensures
+    given_rounding (if c.args.exact then Refuse
+    else Round) c.args.text.now c.round_as-rounded.result c.round_as-rounded.ensures _ _ _ _ c.give_rounded-given.ensures
     _ _ _ _ c.give_report-reported.ensures _ c.whole_status.ensures

@@ -4,7 +4,8 @@ use Rattle.std.specs.declared.alloc.AllocError.{AllocError}
 use Rattle.cats_text.specs.declared.stream.Watched.{Watched}
 use Rattle.canon.specs.FirstPlaces.{IsIndexOf, TextIndex}
 use Rattle.cats_cmd.specs.Duplicates.{FindsPlaces, judged_files}
-use Rattle.cats_cmd.specs.Paths.{BeginsPaths, Judgement, Judges, JudgesPaths, JudgesStream, greatest_status, lines_of_path}
+use Rattle.cats_cmd.specs.Paths.{BeginsPaths, Judgement, Judges, JudgesPaths, JudgesStream, greatest_status}
+use Rattle.cats_cmd.specs.Paths.{lines_of_path}
 use Rattle.cats_cmd.specs.Paths.{status_of_judgement, request_error_of}
 use Rattle.cats_cmd.specs.RequestErrors.{ReportsAll}
 use Rattle.cats_cmd.specs.declared.paths.Progress.{Progress}

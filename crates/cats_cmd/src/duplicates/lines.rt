@@ -15,7 +15,8 @@ use crate::paths::Ending;
 use std::alloc::{AllocError, Global};
 
 /// For each auction that two or more of the files are, their paths, each on a line, and an empty line between two
-/// auctions. If each path ends with NUL, one more NUL is in the place of the empty line. With each path is given the place of the first file of its auction.
+/// auctions. If each path ends with NUL, one more NUL is in the place of the empty line. With each path is given the place
+/// of the first file of its auction.
 pub(super) fn duplicates_text(
     alloc: Global,
     found: &[(&[u8], usize)],

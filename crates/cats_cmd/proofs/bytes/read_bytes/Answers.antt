@@ -19,7 +19,8 @@ returns-in-Ok-eq0 g c =
 pub returns-then-count-len : goal.returns-then-count-len
 returns-then-count-len g c =
     rw c.whole_fault.ensures
-    (too_many g.R.Read.remaining c.args.input.now c.loop-text.input c.read.new.self c.loop-text.text.items _ c.in-Ok.count c.loop-text.invariant.came c.in-Ok.ensures.bytes.0 c.in-Ok.ensures.bound.1
+    (too_many g.R.Read.remaining c.args.input.now c.loop-text.input c.read.new.self c.loop-text.text.items _ c.in-Ok.count c.loop-text.invariant.came
+    c.in-Ok.ensures.bytes.0 c.in-Ok.ensures.bound.1
     (omega (arith, c.if-count-len.true, c.len.ensures, c.loop-text.invariant.within)))
 
 pub returns-in-Err : goal.returns-in-Err

@@ -1,7 +1,10 @@
-use Rattle.std.proofs.Common.{◌≡◌, ◌++◌, take}
-use Rattle.cats_cmd.specs.Escaping.{escaped}
+-- what is there and what is still to come are the whole
+use Rattle.std.proofs.Common.{◌≡◌, ◌++◌, length}
+use Rattle.cats_cmd.specs.Escaping.{escaped, escaped_behind}
 use Rattle.cats_cmd.proofs.escaping.escape_into.Given as goal
 
--- the bytes so far are there
-abbrev pub invariant-loop-byte : goal.invariant-loop-byte
-invariant-loop-byte l = l.text.items ≡ l.initial.text.items ++ escaped (take l.byte-index l.path)
+abbrev pub invariant-loop-rest : goal.invariant-loop-rest
+invariant-loop-rest l = l.text.items ++ escaped_behind l.left l.rest ≡ l.fn.text.items ++ escaped l.path
+
+abbrev pub decreases-loop-rest : goal.decreases-loop-rest
+decreases-loop-rest l = length l.rest

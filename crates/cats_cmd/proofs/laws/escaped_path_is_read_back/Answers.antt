@@ -1,3 +1,4 @@
+use Rattle.cats_cmd.proofs.PrintableTexts.{printable}
 use Rattle.cats_cmd.proofs.ReadingBack.{harmless, read_back}
 use Rattle.cats_cmd.proofs.laws.escaped_path_is_read_back.Goals as goal
 
@@ -6,3 +7,6 @@ returns-clause-back c = read_back
 
 pub returns-clause-harmless : goal.returns-clause-harmless
 returns-clause-harmless c = harmless
+
+pub returns-clause-printable : goal.returns-clause-printable
+returns-clause-printable c = printable

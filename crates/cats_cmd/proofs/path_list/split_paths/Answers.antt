@@ -10,6 +10,8 @@ returns c =
       | in-Some+then-not-is_empty+in_ok-push w ↦
           let all : c.match-pop.paths.items ≡ c.in_ok-paths.paths.items = rw w.paths-is (w.in_ok-push.ensures.items ∙ sym w.in-Some.ensures.items) in
           rw all (rest_kept _ c.pop.new.self.items w.in-Some.rest c.args.text.now split w.in-Some.ensures.items (search (rules, tests)))
-      | in-Some+else-not-is_empty w ↦ rw w.paths-is (rest_dropped c.in_ok-paths.paths.items _ w.in-Some.rest c.args.text.now split w.in-Some.ensures.items (search (rules, tests)))
-      | in_default w ↦ rw w.paths-is (no_rest c.in_ok-paths.paths.items _ c.args.text.now split (λ some. let none = w.in_default.ensures.cases.0 in omega (arith, none, some)))
+      | in-Some+else-not-is_empty w ↦
+          rw w.paths-is (rest_dropped c.in_ok-paths.paths.items _ w.in-Some.rest c.args.text.now split w.in-Some.ensures.items (search (rules, tests)))
+      | in_default w ↦ rw w.paths-is (no_rest c.in_ok-paths.paths.items _ c.args.text.now split (λ some. let none = w.in_default.ensures.cases.0 in
+          omega (arith, none, some)))
     ]

@@ -1,15 +1,20 @@
 use Rattle.std.proofs.Common.{refl}
+use Rattle.std.specs.Char.{encode_utf8}
 use Rattle.std.specs.Fmt.{digits}
 use Rattle.cats_cmd.proofs.worked.paths_reported.Goals as goal
 
+pub returns-clause-reason : goal.returns-clause-reason
+unfolding encode_utf8
+returns-clause-reason c = refl
+
 pub returns-clause-progress : goal.returns-clause-progress
-unfolding digits
+unfolding digits encode_utf8
 returns-clause-progress c = refl
 
 pub returns-clause-counted : goal.returns-clause-counted
-unfolding digits
+unfolding digits encode_utf8
 returns-clause-counted c = refl
 
 pub returns-clause-terminal : goal.returns-clause-terminal
-unfolding digits
+unfolding digits encode_utf8
 returns-clause-terminal c = refl

@@ -11,6 +11,7 @@ loop-group-preserved c =
 
 pub returns : goal.returns
 returns c =
-    all_groups_printed c.args.ending c.deref-group-items.result.now c.in_ok-groups.groups.items c.loop-group.group-index c.loop-group.text.items (found_paths c.args.found.now)
+    all_groups_printed c.args.ending c.deref-group-items.result.now c.in_ok-groups.groups.items c.loop-group.group-index c.loop-group.text.items
+    (found_paths c.args.found.now)
     c.loop-group.invariant c.loop-group-test.false
     c.deref-group-items.ensures.value c.in_ok-groups.ensures

@@ -1,0 +1,138 @@
+-- What the commands on one or two files print beside bid files: numbers, prices, and words of ours.
+use Rattle.std.proofs.Common.{◌≡◌, ℕ, ◌+◌, ◌/◌, ◌%◌, ◌<◌, ◌==◌, true, List, [], ◌∷◌, length, refl, arith}
+use Rattle.std.specs.Prelude.{codes, decimal, slice_index, Option, Some, None}
+use Rattle.std.specs.List.{AllByRecursion, flat_map, range_with_len}
+use Rattle.std.proofs.lemmas.Bool.{cond_both}
+use Rattle.answers.specs.DiffTexts.{bidder_lines, bidder_word, change_line, diff_text, price_word}
+use Rattle.answers.specs.DifferenceTexts.{atom_text, bidder_text, difference_lines, difference_text, side_text}
+use Rattle.answers.specs.ExplanationTexts.{explanation_line, explanation_text, reason_text}
+use Rattle.answers.specs.Outputs.{check_text}
+use Rattle.bid_file.specs.Files.{PlainFile}
+use Rattle.canon.specs.Difference.{Difference, NoDifference, InGoods, InOr, InXor}
+use Rattle.canon.specs.declared.verdict.Side.{Side}
+use Rattle.canon.specs.declared.verdict.Side.TheVariants.{Exactly, Below}
+use Rattle.cats_text.specs.Layout.{behind_point, digit_at, places_text, price_text, six_digits, tabbed, with_place, without_zeros}
+use Rattle.differences.specs.BidderChanges.{PlainBidderChange}
+use Rattle.differences.specs.Differences.{PlainDifferences, InGoods as InGoodNumbers, InBids}
+use Rattle.differences.specs.PriceChanges.{PlainChange}
+use Rattle.explain.specs.Reasons.{PlainReason, Keep, Zero, Same, Inside, Packing, reason_at}
+use Rattle.valuation.specs.declared.atom.Atom.{Atom}
+use Rattle.cats_cmd.specs.Escaping.{is_shown}
+use Rattle.cats_cmd.specs.ValueTexts.{numbers_text, value_text}
+use Rattle.cats_cmd.proofs.PrintableTexts.{ascii_text, no_text}
+use Rattle.cats_cmd.proofs.ShownTexts.{Shown, bundle, number, ours, then}
+
+-- what is shown of each is shown of all
+flat : {X : Type 0} (f : X → List ℕ) → ((x : X) → Shown (f x)) → (xs : List X) → Shown (flat_map f xs)
+flat f each [] = no_text is_shown
+flat f each (x ∷ xs) = then (each x) (flat f each xs)
+
+-- ---- prices
+
+abbrev IsOurs : ℕ → Type 0
+IsOurs b = (b < 128) × (is_shown b ≡ true)
+
+digit : (d : ℕ) → d < 10 → IsOurs (48 + d)
+digit d l = (omega arith, grind (arith, l))
+
+without : (ds : List ℕ) → AllByRecursion IsOurs ds → AllByRecursion IsOurs (without_zeros ds)
+without [] are = tt
+without (b ∷ bs) are = placed (without_zeros bs) (without bs are.1)
+  where
+    placed : (cs : List ℕ) → AllByRecursion IsOurs cs → AllByRecursion IsOurs (with_place b cs)
+    placed [] h = cond_both (b == 48) [] (b ∷ []) (AllByRecursion IsOurs) (λ e. tt) (λ e. (are.0, tt))
+    placed (c ∷ cs) h = (are.0, h)
+
+pointed : (ds : List ℕ) → AllByRecursion IsOurs ds → AllByRecursion IsOurs (behind_point ds)
+pointed [] are = tt
+pointed (b ∷ bs) are = ((omega arith, refl), are)
+
+places : (n : ℕ) → Shown (places_text n)
+places n =
+    let at : (place : ℕ) → IsOurs (digit_at n place) = λ place. digit (n / place % 10) (omega arith) in
+    let six : AllByRecursion IsOurs (six_digits n) = (at 100000, (at 10000, (at 1000, (at 100, (at 10, (at 1, tt)))))) in
+    ascii_text is_shown (places_text n) (pointed (without_zeros (six_digits n)) (without (six_digits n) six))
+
+price : (n : ℕ) → Shown (price_text n)
+price n = then (number (n / 1000000)) (places (n % 1000000))
+
+-- ---- `cats check` and `cats value`
+
+pub check_shown : (file : PlainFile) → Shown (check_text file)
+check_shown file =
+    then (then (then (then (then (then (ours (codes "goods ") refl) (number file.goods)) (ours (codes " bids ") refl)) (number (length file.bids)))
+    (ours (codes " dummy ") refl)) (number file.dummy)) (ours (codes "\n") refl)
+
+chosen : (numbers ps : List ℕ) → Shown (numbers_text numbers ps)
+chosen numbers ps = flat (λ p. 32 ∷ decimal (slice_index numbers p)) (λ p. then (ours (codes " ") refl) (number (slice_index numbers p))) ps
+
+pub value_shown : (file : PlainFile) (goods : List ℕ) → Shown (value_text file goods)
+value_shown file goods =
+    then (then (then (then (ours (codes "or ") refl) (price _)) (chosen _ _)) (ours (codes "\n") refl))
+    (flat _ (λ d. then (then (then (then (then (ours (codes "xor ") refl) (number _)) (ours (codes " ") refl)) (price _)) (chosen _ _))
+    (ours (codes "\n") refl)) (range_with_len 0 file.dummy))
+
+-- ---- `cats compare`
+
+side : (s : Side) → Shown (side_text s)
+side (Exactly p) = price p
+side (Below p) = then (ours (codes "below ") refl) (price p)
+
+bidder : (atoms : List (Atom (List ℕ))) → Shown (bidder_text atoms)
+bidder atoms = flat (λ a. 32 ∷ atom_text a) (λ a. then (ours (codes " ") refl) (then (then (bundle a.bundle) (ours (codes ":") refl)) (price a.price))) atoms
+
+differing : {place left right : List ℕ} → Shown place → Shown left → Shown right → Shown (difference_lines place left right)
+differing place left right =
+    then (then (then (then (then (then (ours (codes "different\n") refl) place) (ours (codes "\nleft ") refl)) left) (ours (codes "\nright ") refl)) right)
+    (ours (codes "\n") refl)
+
+pub difference_shown : (d : Difference) → Shown (difference_text d)
+difference_shown NoDifference = ours (codes "same\n") refl
+difference_shown (InGoods left right) = differing (ours (codes "goods") refl) (number left) (number right)
+difference_shown (InOr b left right) = differing (then (ours (codes "or ") refl) (bundle b)) (side left) (side right)
+difference_shown (InXor atoms left right) = differing (then (ours (codes "xor") refl) (bidder atoms)) (number left) (number right)
+
+-- ---- `cats explain`
+
+tabs : (ns : List ℕ) → Shown (tabbed ns)
+tabs [] = no_text is_shown
+tabs (n ∷ ns) = then (then (ours (codes "\t") refl) (number n)) (tabs ns)
+
+reason : (r : PlainReason) → Shown (reason_text r)
+reason (Keep k) = then (ours (codes "keep") refl) (tabs (k ∷ []))
+reason Zero = ours (codes "zero") refl
+reason (Same j) = then (ours (codes "same") refl) (tabs (j ∷ []))
+reason (Inside j) = then (ours (codes "inside") refl) (tabs (j ∷ []))
+reason (Packing js) = then (ours (codes "packing") refl) (tabs js)
+
+pub explanation_shown : (reasons : List PlainReason) → Shown (explanation_text reasons)
+explanation_shown reasons =
+    flat (λ i. explanation_line i (reason_at reasons i))
+    (λ i. then (then (then (number i) (ours (codes "\t") refl)) (reason (reason_at reasons i))) (ours (codes "\n") refl)) (range_with_len 0 (length reasons))
+
+-- ---- `cats diff`
+
+price_or_none : (p : Option ℕ) → Shown (price_word p)
+price_or_none None = ours (codes "-") refl
+price_or_none (Some p) = price p
+
+change : {keyword : List ℕ} → Shown keyword → (c : PlainChange) → Shown (change_line keyword c)
+change keyword c =
+    then (then (then (then (then (then (then keyword (ours (codes "\t") refl)) (bundle c.bundle)) (ours (codes "\t") refl)) (price_or_none c.left))
+    (ours (codes "\t") refl))
+    (price_or_none c.right)) (ours (codes "\n") refl)
+
+bidder_number : (goods : ℕ) (dummies : List ℕ) (index : Option ℕ) → Shown (bidder_word goods dummies index)
+bidder_number goods dummies None = ours (codes "-") refl
+bidder_number goods dummies (Some index) = number _
+
+bidders : (goods : ℕ) (left right : List ℕ) (c : PlainBidderChange) → Shown (bidder_lines goods left right c)
+bidders goods left right c =
+    then (then (then (then (then (ours (codes "xor\t") refl) (bidder_number goods left c.left)) (ours (codes "\t") refl)) (bidder_number goods right c.right))
+    (ours (codes "\n") refl)) (flat (change_line (codes "bid")) (change (ours (codes "bid") refl)) c.bids)
+
+pub diff_shown : (goods : ℕ) (left right : List ℕ) (ds : PlainDifferences) → Shown (diff_text goods left right ds)
+diff_shown goods left right (InGoodNumbers m n) =
+    then (then (then (then (ours (codes "goods\t") refl) (number m)) (ours (codes "\t") refl)) (number n)) (ours (codes "\n") refl)
+diff_shown goods left right (InBids bundles changed) =
+    then (flat (change_line (codes "or")) (change (ours (codes "or") refl)) bundles) (flat (bidder_lines goods left right) (bidders goods left right) changed)

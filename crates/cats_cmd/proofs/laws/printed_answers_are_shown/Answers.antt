@@ -1,0 +1,17 @@
+use Rattle.cats_cmd.proofs.AnswersShown.{check_shown, diff_shown, difference_shown, explanation_shown, value_shown}
+use Rattle.cats_cmd.proofs.laws.printed_answers_are_shown.Goals as goal
+
+pub returns-clause-check : goal.returns-clause-check
+returns-clause-check c = check_shown
+
+pub returns-clause-value : goal.returns-clause-value
+returns-clause-value c = value_shown
+
+pub returns-clause-compare : goal.returns-clause-compare
+returns-clause-compare c = difference_shown
+
+pub returns-clause-explain : goal.returns-clause-explain
+returns-clause-explain c = explanation_shown
+
+pub returns-clause-diff : goal.returns-clause-diff
+returns-clause-diff c = diff_shown

@@ -1,0 +1,47 @@
+//! What is printed of a wrong command line. `clap` makes the text of the line's words, which may be names that a
+//! stranger gave to files.
+
+ghost use Rattle.command_line.specs.Requests.{IsNoRequestOf, texts_of};
+
+use crate::escaping::escape_into;
+use command_line::{NoRequest, parse};
+use std::alloc::{AllocError, Global};
+
+/// What is answered in place of this answer to words that are no request: the same, but what `clap` prints of them is
+/// that of the words as they are escaped in paths.
+pub(crate) fn with_escaped_words(
+    alloc: Global,
+    version: &str,
+    words: &[&str],
+    no_request: NoRequest,
+) -> NoRequest
+    ensures { IsNoRequestOf (texts_of words.now) no_request → IsNoRequestOf (texts_of words.now) result }
+{
+    match no_request {
+        NoRequest::WrongUsage(_) => match escaped_usage(alloc, version, words) {
+            Ok(text) => NoRequest::WrongUsage(text),
+            Err(AllocError) => NoRequest::WrongUsage(String::new(alloc)),
+        },
+        other => other,
+    }
+}
+
+/// What `clap` prints of these words if each is escaped as a path.
+fn escaped_usage(alloc: Global, version: &str, words: &[&str]) -> Result<String, AllocError> {
+    let mut escaped = Vec::new(alloc);
+    for word in words {
+        escaped.push(escaped_word(alloc, word)?)?;
+    }
+    let words: Vec<&str> = escaped.iter().map(|word| word.as_str()).collect(alloc)?;
+    match parse(alloc, version, words.as_slice()) {
+        Err(NoRequest::WrongUsage(text)) => Ok(text),
+        // `clap` accepts no more words when they are escaped
+        _ => Ok(String::new(alloc)),
+    }
+}
+
+fn escaped_word(alloc: Global, word: &str) -> Result<String, AllocError> {
+    let mut bytes = Vec::new(alloc);
+    escape_into(word.as_bytes(), &mut bytes)?;
+    String::from_utf8_lossy(alloc, bytes.as_slice())
+}

@@ -1,0 +1,5 @@
+-- Proofs that several functions of this crate cite.
+pub mod Answering
+pub mod Lines
+pub mod Reading
+pub mod Tables

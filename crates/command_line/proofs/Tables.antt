@@ -1,0 +1,56 @@
+-- What a command has once one more row of the table was added to it, and that the table has all names.
+use Rattle.std.proofs.Common.{◌≡◌, ◌≢◌, ◌∙◌, ◌<◌, ◌+◌, ◌++◌, ℕ, Bool, true, false, List, [], ◌∷◌, None, ap, ap₂, sym, refl, arith, map, take, length, get_or}
+use Rattle.std.proofs.Common.{codes}
+use Rattle.std.specs.Prelude.{fold}
+use Rattle.std.specs.Str.{bytes_eq}
+use Rattle.std.proofs.lemmas.Slice.Eq.{bytes_eq-Decides}
+use Rattle.std.proofs.lemmas.List.{map-append, take_more}
+use Rattle.std.proofs.lemmas.List.Sums.{fold-append}
+use Rattle.clap.specs.Simple.{App, Shape, with_rule, with_subcommand}
+use Rattle.clap.specs.Walk.{Row, Rule}
+use Rattle.command_line.specs.Internal.Commands.{rule_for, shape_for, with_row}
+use Rattle.command_line.specs.Requests.{request_from}
+use Rattle.command_line.specs.declared.commands.Argument.{Argument}
+use Rattle.command_line.specs.declared.commands.Subcommand.{Subcommand}
+
+pub rule_added : (s : Shape) (arguments : List Argument) (i : ℕ) (d : Argument) → i < length arguments → (rule : Rule) → rule ≡ rule_for (get_or arguments i d)
+    → with_rule (record { top = record s { rules = map rule_for (take i arguments) }; subs = [] }) rule
+    ≡ record { top = record s { rules = map rule_for (take (i + 1) arguments) }; subs = [] }
+rule_added s arguments i d lt rule is =
+    ap (λ (rules : List Rule). record { top = record s { rules = rules }; subs = [] })
+    (ap (λ r. map rule_for (take i arguments) ++ r ∷ []) is
+    ∙ sym (ap (map rule_for) (take_more arguments i d lt) ∙ map-append rule_for (take i arguments) (get_or arguments i d ∷ [])))
+
+pub row_added : (start : App) (rows : List Subcommand) (i : ℕ) → i < length rows → (old new : App) (shape : Shape) → new ≡ with_subcommand old shape
+    → old ≡ fold with_row start (take i rows) → ((d : Subcommand) → shape ≡ shape_for (get_or rows i d)) → new ≡ fold with_row start (take (i + 1) rows)
+row_added start [] i lt old new shape added before is = absurd (omega (arith, lt))
+row_added start (row ∷ rows) i lt old new shape added before is =
+    added ∙ ap₂ with_subcommand before (is row)
+    ∙ sym (ap (fold with_row start) (take_more (row ∷ rows) i row lt) ∙ fold-append with_row start (take i (row ∷ rows)) (get_or (row ∷ rows) i row ∷ []))
+
+-- ---- names
+
+differs : (a b : List ℕ) → b ≢ a → bytes_eq a b ≡ false
+differs a b ne = go (bytes_eq a b) refl
+  where
+    go : (t : Bool) → bytes_eq a b ≡ t → bytes_eq a b ≡ false
+    go true is = absurd (ne (sym ((bytes_eq-Decides a b).0 is)))
+    go false is = is
+
+-- a name of no subcommand requests nothing
+pub no_subcommand : (name : List ℕ) (rows : List Row) → name ≢ codes "check" → name ≢ codes "show" → name ≢ codes "value" → name ≢ codes "normalise"
+    → name ≢ codes "explain" → name ≢ codes "round" → name ≢ codes "compare" → name ≢ codes "diff" → name ≢ codes "duplicates" → name ≢ codes "sizes"
+    → request_from name rows ≡ None
+no_subcommand name rows check show value normalise explain round compare diff duplicates sizes =
+    rw (
+      differs _ _ check,
+      differs _ _ show,
+      differs _ _ value,
+      differs _ _ normalise,
+      differs _ _ explain,
+      differs _ _ round,
+      differs _ _ compare,
+      differs _ _ diff,
+      differs _ _ duplicates,
+      differs _ _ sizes,
+    ) refl

@@ -1,0 +1,23 @@
+use Rattle.command_line.proofs.Lines.{check_path, show_path, normalise_path, explain_path, value_path, round_path, exact_path}
+use Rattle.command_line.proofs.laws.one_path.Goals as goal
+
+pub returns-clause-check : goal.returns-clause-check
+returns-clause-check c = check_path
+
+pub returns-clause-show : goal.returns-clause-show
+returns-clause-show c = show_path
+
+pub returns-clause-normalise : goal.returns-clause-normalise
+returns-clause-normalise c = normalise_path
+
+pub returns-clause-explain : goal.returns-clause-explain
+returns-clause-explain c = explain_path
+
+pub returns-clause-value : goal.returns-clause-value
+returns-clause-value c = value_path
+
+pub returns-clause-round : goal.returns-clause-round
+returns-clause-round c = round_path
+
+pub returns-clause-exact : goal.returns-clause-exact
+returns-clause-exact c = exact_path

@@ -1,0 +1,10 @@
+use Rattle.std.proofs.Common.{sym}
+use Rattle.command_line.specs.Internal.Matches.{rows_in}
+use Rattle.command_line.proofs.Tables.{no_subcommand}
+use Rattle.command_line.proofs.parser.find_named_request.Goals as goal
+
+pub returns-in_default : goal.returns-in_default
+returns-in_default c =
+    let no = c.in_default in
+    sym (no_subcommand c.args.name.now (rows_in c.args.given.now) no.not-check no.not-show no.not-value no.not-normalise no.not-explain no.not-round
+    no.not-compare no.not-diff no.not-duplicates no.not-sizes)

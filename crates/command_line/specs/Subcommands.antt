@@ -1,0 +1,151 @@
+-- The command line: its subcommands, each with its options and files, and what it requests. An option more is a row
+-- more.
+use Rattle.std.specs.Prelude.{ℕ, Bool, true, false, List, [], ◌∷◌, map, pos, Option, Some, None, codes, if◌then◌else◌}
+use Rattle.std.specs.Prelude.{option_map, option_and_then}
+use Rattle.std.specs.Option.{option_map_or}
+use Rattle.std.specs.Str.{bytes_eq}
+use Rattle.std.specs.Str.Parse.{digits_value, without_leading_plus}
+use Rattle.clap.specs.Lexer.{usize_max}
+use Rattle.clap.specs.Simple.{App, Shape, new_rule, new_shape}
+use Rattle.clap.specs.ValueTests.{is_unsigned_in}
+use Rattle.clap.specs.Walk.{Row, Rule, all_of, first_of, many_of, one_of}
+use Rattle.clap.specs.declared.builder.action.ArgAction.TheVariants.{SetTrue}
+use Rattle.clap.specs.declared.builder.value_parser.ValueParser.TheVariants.{Signed, Unsigned}
+use Rattle.command_line.specs.PlainRequests.{PlainPaths, PlainFiles, PlainRequest, Given, ListedIn, Check, Show, Value}
+use Rattle.command_line.specs.PlainRequests.{Normalise, Explain, Round}
+use Rattle.command_line.specs.PlainRequests.{Compare, Diff, Duplicates, Sizes}
+
+-- ---- files and goods
+
+abbrev pub file : Rule
+file = record (new_rule (codes "FILE")) { required = true }
+
+abbrev pub second_file : Rule
+second_file = record (new_rule (codes "SECOND_FILE")) { required = true; value_names = 1 }
+
+abbrev pub files : Rule
+files = record (new_rule (codes "FILE")) { range = Some (record { start_inclusive = 1; end_inclusive = usize_max }) }
+
+-- goods have numbers of 16 bits
+abbrev pub goods : Rule
+goods = record (new_rule (codes "GOOD")) {
+  range = Some (record { start_inclusive = 0; end_inclusive = usize_max });
+  parser = Some (Signed (pos 0) (pos 65535));
+}
+
+-- ---- options and flags
+
+-- an option with one value
+abbrev pub option : List ℕ → Rule
+option name = record (new_rule name) { long = Some name; value_names = 1 }
+
+-- the limit of a search is from 1 to 1,000,000,000, and is 1,000,000 if it is not given
+abbrev pub steps : Rule
+steps = record (option (codes "steps")) { defaults = codes "1000000" ∷ []; parser = Some (Unsigned 1 1000000000) }
+
+abbrev pub list : Rule
+list = option (codes "files0-from")
+
+abbrev pub flag : List ℕ → Rule
+flag name = record (new_rule name) { long = Some name; action = Some SetTrue }
+
+-- `-0` or `--null`
+abbrev pub null : Rule
+null = record (flag (codes "null")) { short = Some 48 }
+
+abbrev pub many : List Rule
+many = steps ∷ flag (codes "progress") ∷ null ∷ list ∷ files ∷ []
+
+-- ---- what was given, by the rows of the arguments
+
+-- the decimal number of a text, which may begin with '+', if it is at most this
+abbrev pub number_up_to : ℕ → List ℕ → Option ℕ
+number_up_to most text = if is_unsigned_in 0 most text then Some (digits_value 10 (without_leading_plus text)) else None
+
+abbrev pub numbers_up_to : ℕ → List (List ℕ) → Option (List ℕ)
+numbers_up_to most [] = Some []
+numbers_up_to most (text ∷ texts) =
+    option_and_then (λ n. option_map (λ ns. n ∷ ns) (numbers_up_to most texts)) (number_up_to most text)
+
+abbrev pub file_in : List Row → Option (List ℕ)
+file_in = first_of (codes "FILE")
+
+abbrev pub second_in : List Row → Option (List ℕ)
+second_in = first_of (codes "SECOND_FILE")
+
+abbrev pub goods_in : List Row → Option (List ℕ)
+goods_in rows = option_map_or (numbers_up_to 65535) (many_of (codes "GOOD") rows) (Some [])
+
+abbrev pub limit_in : List Row → Option ℕ
+limit_in rows = option_and_then (number_up_to 18446744073709551615) (one_of (codes "steps") rows)
+
+abbrev pub is_set : List ℕ → List Row → Bool
+is_set name rows = option_map_or (λ text. bytes_eq text (codes "true")) (first_of name rows) false
+
+-- a list or paths, and not both
+abbrev pub paths_from : Option (List ℕ) → Option (List (List ℕ)) → Option PlainPaths
+paths_from (Some list) None = Some (ListedIn list)
+paths_from None (Some paths) = Some (Given paths)
+paths_from _ _ = None
+
+abbrev pub paths_in : List Row → Option PlainPaths
+paths_in rows = paths_from (first_of (codes "files0-from") rows) (all_of (codes "FILE") rows)
+
+abbrev pub files_in : List Row → Option PlainFiles
+files_in rows = option_and_then (λ limit. option_map (λ paths. record {
+  paths = paths;
+  limit = limit;
+  progress = is_set (codes "progress") rows;
+  null = is_set (codes "null") rows;
+}) (paths_in rows)) (limit_in rows)
+
+-- ---- the subcommands
+
+pub record Subcommand : Type 0 where
+  pub name : List ℕ
+  pub rules : List Rule
+  -- what is requested, by the rows of its arguments
+  pub request : List Row → Option PlainRequest
+
+-- a request for one file under a limit, and for two
+abbrev pub limited : (List ℕ → ℕ → PlainRequest) → List Row → Option PlainRequest
+limited make rows = option_and_then (λ path. option_map (make path) (limit_in rows)) (file_in rows)
+
+abbrev pub paired : (List ℕ → List ℕ → ℕ → PlainRequest) → List Row → Option PlainRequest
+paired make rows =
+    option_and_then (λ first. option_and_then (λ second. option_map (make first second) (limit_in rows))
+    (second_in rows)) (file_in rows)
+
+abbrev pub valued : List Row → Option PlainRequest
+valued rows =
+    option_and_then (λ path. option_and_then (λ limit. option_map (λ given. Value path given limit) (goods_in rows))
+    (limit_in rows))
+    (file_in rows)
+
+abbrev pub subcommands : List Subcommand
+subcommands =
+    record { name = codes "check"; rules = file ∷ []; request = λ rows. option_map Check (file_in rows) }
+    ∷ record { name = codes "show"; rules = file ∷ []; request = λ rows. option_map Show (file_in rows) }
+    ∷ record { name = codes "value"; rules = steps ∷ file ∷ goods ∷ []; request = valued }
+    ∷ record { name = codes "normalise"; rules = steps ∷ file ∷ []; request = limited Normalise }
+    ∷ record { name = codes "explain"; rules = steps ∷ file ∷ []; request = limited Explain }
+    ∷ record {
+      name = codes "round";
+      rules = flag (codes "exact") ∷ file ∷ [];
+      request = λ rows. option_map (λ path. Round path (is_set (codes "exact") rows)) (file_in rows);
+    }
+    ∷ record { name = codes "compare"; rules = steps ∷ file ∷ second_file ∷ []; request = paired Compare }
+    ∷ record { name = codes "diff"; rules = steps ∷ file ∷ second_file ∷ []; request = paired Diff }
+    ∷ record { name = codes "duplicates"; rules = many; request = λ rows. option_map Duplicates (files_in rows) }
+    ∷ record { name = codes "sizes"; rules = many; request = λ rows. option_map Sizes (files_in rows) }
+    ∷ []
+
+abbrev pub shape_of_subcommand : Subcommand → Shape
+shape_of_subcommand s = record (new_shape s.name) { rules = s.rules }
+
+-- the program has a version, and needs a subcommand
+abbrev pub cats : App
+cats = record {
+  top = record (new_shape (codes "cats")) { is_leaf = false; has_version = true; subcommand_required = true };
+  subs = map shape_of_subcommand subcommands;
+}
