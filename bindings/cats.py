@@ -1,9 +1,9 @@
 """Bid files of combinatorial auctions, by the proved library libcats.
 
-Each function takes the text of a file, as bytes or as a str, which is encoded as UTF-8. It does what the subcommand of its name does, and
+Each function takes the text of a file, as bytes. It does what the subcommand of its name does (`round_prices` what `cats round` does), and
 raises a CatsError for what that refuses. Any number of threads may call at once, and Python's lock is released during a call.
 
->>> check("goods 3\\nbids 2\\ndummy 1\\n0 20 0 2 3 #\\n1 7 1 #\\n")
+>>> check(b"goods 3\\nbids 2\\ndummy 1\\n0 20 0 2 3 #\\n1 7 1 #\\n")
 Sizes(goods=3, bids=2, dummies=1)
 
 The library libcats.so is looked for beside this file, and then where the system looks for libraries.
@@ -15,7 +15,7 @@ from ctypes import POINTER, byref, c_bool, c_char_p, c_size_t, c_uint8, c_uint64
 from typing import NamedTuple, Optional
 
 __all__ = [
-    "STEPS", "check", "normalise", "explain", "round", "compare", "diff",
+    "STEPS", "check", "normalise", "explain", "round_prices", "compare", "diff",
     "Sizes", "Reason", "Rounded", "Change", "Verdict", "Difference",
     "CatsError", "RefusedText", "StepLimit", "WantOfMemory",
 ]
@@ -87,7 +87,11 @@ class CatsError(Exception):
 
     def __init__(self, message, which=None):
         super().__init__(f"{which}: {message}" if which else message)
-        self.which = which
+        self.which, self._words = which, (message, which)
+
+    def __reduce__(self):
+        """For `pickle`, `copy` and pools of processes: it is made again of the words that it was made of."""
+        return type(self), self._words, self.__dict__
 
 
 class RefusedText(CatsError):
@@ -95,7 +99,7 @@ class RefusedText(CatsError):
 
     def __init__(self, kind, line=None, which=None):
         super().__init__(f"line {line}: {kind}" if line is not None else kind, which)
-        self.kind, self.line = kind, line
+        self.kind, self.line, self._words = kind, line, (kind, line, which)
 
 
 class StepLimit(CatsError):
@@ -103,7 +107,7 @@ class StepLimit(CatsError):
 
     def __init__(self, bundle, which=None):
         super().__init__("step limit at " + ",".join(map(str, bundle)), which)
-        self.bundle = bundle
+        self.bundle, self._words = bundle, (bundle, which)
 
 
 class WantOfMemory(CatsError, MemoryError):
@@ -181,7 +185,9 @@ def bytes_of(text):
     """The bytes of a text. Those that another thread may change are copied."""
     if isinstance(text, bytes):
         return text
-    return text.encode() if isinstance(text, str) else bytes(memoryview(text))
+    if isinstance(text, (str, os.PathLike)):
+        raise TypeError(f"a text is bytes, and not a {type(text).__name__}: pathlib.Path(path).read_bytes() is that of a file, text.encode() that of a str")
+    return bytes(memoryview(text))
 
 
 def limit_of(steps):
@@ -274,19 +280,23 @@ def explain(text, steps=STEPS):
     return [Reason(kind, tuple(map(int, bids))) for _, kind, *bids in words]
 
 
-def round(text, exact=False):
+def round_prices(text, exact=False):
     """The text with each price rounded to the nearest millionth, ties to even, and the prices whose values changed. If `exact`, a text with
     such a price is refused.
 
-    >>> rounded = round(b"goods 1\\nbids 2\\ndummy 0\\n0 1e3 0 #\\n1 0.0123456 0 #\\n")
+    >>> rounded = round_prices(b"goods 1\\nbids 2\\ndummy 0\\n0 1e3 0 #\\n1 0.0123456 0 #\\n")
     >>> rounded.text
     b'goods 1\\nbids 2\\ndummy 0\\n0 1000 0 #\\n1 0.012346 0 #\\n'
     >>> rounded.changes
     (Change(line=5, word='0.0123456', price='0.012346'),)
     """
     text = bytes_of(text)
-    out, report = answer("cats_round", [text, len(text), bool(exact)], 2 * len(text) + LINE, 5 * len(text) + LINE)
+    out, report = answer("cats_round", [text, len(text), bool(exact)], len(text) + LINE, LINE)
     return Rounded(out, tuple(map(change_of, report.decode("ascii").splitlines())))
+
+
+# The name that this call had before. It is not in `__all__`, as it is that of a function of Python.
+round = round_prices
 
 
 def change_of(line):

@@ -6,17 +6,22 @@ LIBRARY is the shared library, with cats.py beside it. REFUSING is the same libr
 are bid files, which are tried beside 500 that are made here, of which half are broken; they are random, and the same each time. Prints
 what is wrong and 'N calls, M wrong'; the status is 0 if M is 0, and else 1.
 """
+import builtins
+import copy
 import ctypes
 import doctest
 import mmap
+import multiprocessing
 import os
 import pathlib
+import pickle
 import random
 import subprocess
 import sys
 import tempfile
 import threading
-from concurrent.futures import ThreadPoolExecutor
+import tracemalloc
+from concurrent.futures import ProcessPoolExecutor, ThreadPoolExecutor
 from itertools import count
 from typing import NamedTuple
 
@@ -259,7 +264,7 @@ def check_answers(cases):
 
 def module_answer(call, texts):
     """What the module answers, or the exception that it raises, as the answer of the library: only its status, and the words of a line."""
-    function = getattr(cats, call.name())
+    function = getattr(cats, "round_prices" if call.name() == "round" else call.name())
     try:
         found = function(*texts, *call.argument)
     except cats.CatsError as error:
@@ -295,6 +300,47 @@ def check_module(cases):
         TALLY.judge(answer == one.own, f"cats.{one}", f"{answer} and not {one.own}, of {one.texts}")
     failed, tried = doctest.testmod(cats)
     TALLY.judge(tried and not failed, f"{failed} of {tried} examples of cats.py are wrong")
+
+
+def check_copies():
+    """An exception stays the same in `pickle` and `copy`, and comes so from another process."""
+    fields = ("which", "kind", "line", "bundle", "args", "extra")
+    errors = [cats.CatsError("no"), cats.RefusedText("TooLong"), cats.RefusedText("Header", 1, "second"), cats.WantOfMemory("want of memory", "first")]
+    errors += [cats.StepLimit((0, 12)), cats.StepLimit((), "first")]
+    for error in errors:
+        error.extra = "of the caller"
+        for made in (pickle.loads(pickle.dumps(error)), copy.copy(error), copy.deepcopy(error)):
+            same = [getattr(made, it, None) == getattr(error, it, None) for it in fields]
+            TALLY.judge(type(made) is type(error) and str(made) == str(error) and all(same), f"a copy of {error!r}", (made, vars(made)))
+    with ProcessPoolExecutor(1, multiprocessing.get_context("spawn")) as pool:
+        found = pool.submit(cats.normalise, BIDS, 0).exception()
+    TALLY.judge(isinstance(found, cats.StepLimit) and str(found) == "step limit at 0" and found.bundle == (0,), "a process pool", repr(found))
+
+
+def check_room():
+    """`round_prices` takes room for what it prints, and not for what it might."""
+    text = BIDS + b"%" * 1_000_000
+    tracemalloc.start()
+    rounded = cats.round_prices(text)
+    _, most = tracemalloc.get_traced_memory()
+    tracemalloc.stop()
+    TALLY.judge(rounded == (text, ()) and most < 2.5 * len(text), "the room of round_prices", most)
+    many = b"goods 1\nbids 99\ndummy 0\n" + b"".join(b"%d 1.00000049 0 #\n" % at for at in range(99))
+    TALLY.judge(len(cats.round_prices(many).changes) == 99, "the changes of a text", cats.round_prices(many))
+
+
+def check_names():
+    """A text that is a str or a path is refused with both ways to mend that, and no name hides one of Python."""
+    for text in ("examples/ladder.cats", BIDS.decode(), pathlib.Path("examples/ladder.cats")):
+        for function in (cats.check, cats.normalise, cats.explain, cats.round_prices, lambda it: cats.compare(BIDS, it), lambda it: cats.diff(it, BIDS)):
+            try:
+                TALLY.judge(False, f"{text!r} is taken for a text", function(text))
+            except TypeError as error:
+                TALLY.judge("read_bytes()" in str(error) and "encode()" in str(error), f"{text!r} is refused without a way", error)
+    TALLY.judge(all(cats.check(it(BIDS)) == (2, 2, 0) for it in (bytearray, memoryview)), "other bytes")
+    hidden = [it for it in cats.__all__ if hasattr(builtins, it)]
+    missing = [it for it in cats.__all__ if not hasattr(cats, it)]
+    TALLY.judge(not hidden and not missing and cats.round is cats.round_prices, "cats.__all__", hidden + missing)
 
 
 def is_right_with(one, sizes):
@@ -391,8 +437,9 @@ def main():
     for check, on in ((check_answers, cases), (check_module, cases), (check_threads, cases), (check_sizes, few), (check_refusals, few)):
         print(check.__doc__.split("\n")[0], flush=True)
         check(on)
-    print(check_long_texts.__doc__, flush=True)
-    check_long_texts()
+    for check in (check_copies, check_room, check_names, check_long_texts):
+        print(check.__doc__, flush=True)
+        check()
     print(f"{TALLY.calls} calls, {TALLY.wrong} wrong")
     return 1 if TALLY.wrong else 0
 

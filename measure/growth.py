@@ -15,6 +15,7 @@ from itertools import combinations, islice
 from multiprocessing import Process, set_start_method
 from typing import Callable, NamedTuple
 
+import distributions
 from process import MEBIBYTE, measure
 
 PROGRAM = sys.argv[1]
@@ -149,6 +150,37 @@ def like_bidders(count):
         yield bid(number, 1 + number % SIDE, [number % SIDE, SIDE + number // SIDE])
 
 
+def of_sizes(goods, least, most, count):
+    """Random bundles of so many of the goods."""
+    chosen = random.Random(3)
+    return ((1 + chosen.randrange(1000 * GOODS), sorted(chosen.sample(range(goods), chosen.randint(least, most)))) for _ in range(count))
+
+
+def subsets(count):
+    """The subsets of 16 goods, smaller ones first, each dearer than the one before."""
+    every = (bundle for size in range(1, 17) for bundle in combinations(range(16), size))
+    return enumerate(islice(every, count), 1)
+
+
+BLOCK = 256
+
+
+def in_blocks(count):
+    """Bids on 200 to 255 goods of a block each: one of each block together are a packing."""
+    chosen = random.Random(6)
+    for number in range(count):
+        first = BLOCK * (number % (GOODS // BLOCK))
+        yield chosen.randint(1, 1000), sorted(chosen.sample(range(first, first + BLOCK), chosen.randint(200, 255)))
+
+
+def one_of_each_block(count):
+    """Bids on one good of each of 41 blocks of 64 goods or more."""
+    chosen = random.Random(5)
+    for _ in range(count):
+        blocks = sorted(chosen.sample(range(64), chosen.randrange(41, 65)))
+        yield chosen.randrange(1, 1_000_000), [64 * block + chosen.randrange(64) for block in blocks]
+
+
 def bomb(count):
     """Bids on single goods, one on all but the last good that they just do not reach, and one on all goods: the searches on the two
     enter nearly every family of the single bids."""
@@ -158,11 +190,12 @@ def bomb(count):
 
 
 CHECK, SHOW, NORMALISE, VALUE = ("check", FILE), ("show", FILE), ("normalise", FILE), ("value", FILE)
-EXPLAIN, COMPARE = ("explain", FILE), ("compare", FILE, FILE)
+EXPLAIN, ROUND, COMPARE, DIFF = ("explain", FILE), ("round", FILE), ("compare", FILE, FILE), ("diff", FILE, FILE)
 MOST_STEPS = ("--steps", "1000000000")
 BOMB = 60
 BOMB_GOODS = tuple(map(str, range(BOMB)))
 BOMBS = (NORMALISE, EXPLAIN, ("normalise", *MOST_STEPS, FILE), (*VALUE, *BOMB_GOODS), ("value", *MOST_STEPS, FILE, *BOMB_GOODS))
+ALL_GOODS = tuple(map(str, range(GOODS)))
 READING = (CHECK, SHOW)
 ALL = (CHECK, SHOW, NORMALISE, EXPLAIN)
 BY_BIDS = (BIDS // 4, BIDS // 2, BIDS)
@@ -176,6 +209,8 @@ FAMILIES = {
     "pairwise apart": (apart, BY_BIDS),
     "sharing one good": (sharing_a_good, BY_BIDS),
     "9 to 11 of 20 goods": (near_halves, BY_BIDS),
+    "200 to 300 of 512 goods": (partial(of_sizes, 512, 200, 300), BY_BIDS),
+    **{f"{size} goods": (partial(of_sizes, GOODS, size, size), BY_BIDS) for size in (3, 40, 300)},
 }
 
 INPUTS = [
@@ -198,9 +233,16 @@ INPUTS = [
     ),
     Input("bidders of one bid", single_bidders, BY_BIDS, ALL),
     Input("like bidders of 256 bids", like_bidders, (SIDE // 4, SIDE // 2, SIDE), ALL),
+    Input("XOR bids subsets of 16 goods", partial(one_bidder, subsets, True), (2**13, 2**16 - 1), (CHECK, NORMALISE, EXPLAIN)),
+    Input("OR bids of one good a block", partial(one_bidder, one_of_each_block, False), (BIDS // 4, BIDS), (CHECK, NORMALISE)),
+    Input("OR bids in blocks", partial(one_bidder, in_blocks, False), (4096, BIDS), (CHECK, (*VALUE, *ALL_GOODS))),
     Input("packing bomb", bomb, (BOMB,), BOMBS),
-    Input("bids on all goods", partial(whole_bids, False), BY_BIDS, (*ALL, COMPARE)),
-    Input("bidders for all goods", partial(whole_bids, True), BY_BIDS, (*ALL, COMPARE)),
+    *(
+        Input(f"{kind} on {goods} goods", partial(distributions.lines, kind, goods, seed=4), (count,), (NORMALISE,))
+        for kind, goods, count in (("l2", 20, 1000), ("l2", 64, 2000), ("l6", 64, 2000), ("regions", 256, 2000))
+    ),
+    Input("bids on all goods", partial(whole_bids, False), BY_BIDS, (*ALL, ROUND, COMPARE, DIFF)),
+    Input("bidders for all goods", partial(whole_bids, True), BY_BIDS, (*ALL, ROUND, COMPARE, DIFF)),
 ]
 
 
@@ -222,7 +264,7 @@ def row(name, size, command, path, before):
     now = (os.path.getsize(path), took.seconds)
     words = " ".join(command[: command.index(FILE)])
     figures = f"{now[0]:14,} {took.seconds:9.3f} s {growth(before, now)} {took.held / MEBIBYTE:6.0f} MiB"
-    print(f"{name:30} {words:28} {size:6} {figures}  {took.printed}", flush=True)
+    print(f"{name:33} {words:28} {size:6} {figures}  {took.printed}", flush=True)
     return now
 
 
@@ -240,7 +282,7 @@ def rows(given, folder):
 
 def main():
     set_start_method("fork")
-    print(f"{'input':30} {'command':28} {'size':>6} {'bytes':>14} {'time':>11} {'grew':>5} {'held':>10}  printed")
+    print(f"{'input':33} {'command':28} {'size':>6} {'bytes':>14} {'time':>11} {'grew':>5} {'held':>10}  printed")
     with tempfile.TemporaryDirectory() as folder:
         for given in INPUTS:
             if WORD in given.name:

@@ -92,7 +92,7 @@ def other_inputs(one):
     """A folder, a device that gives nothing and a path where nothing is are among the files."""
     for path, status, line in (
         ("/", DEVICE_FAILED, b"cannot open: is a folder\n"),
-        ("/dev/null", FILE_REFUSED, b"line 1: Missing\n"),
+        ("/dev/null", DEVICE_FAILED, b"cannot open: not a file\n"),
         ("/nothing", DEVICE_FAILED, b"cannot open: no such file\n"),
     ):
         for at in range(len(one.files) + 1):
@@ -127,7 +127,7 @@ def lists(folder):
         (one + b"\0\0" + one, DEVICE_FAILED, pair, [b": cannot open: no such file\n"]),
         (b"\0", DEVICE_FAILED, b"", [b": cannot open: no such file\n"]),
         (one + b"\0" + names + b"/none\0" + one, DEVICE_FAILED, pair, [names + b"/none: cannot open: no such file\n"]),
-        (one + b"\0" + names + b"/b\xff\0" + one, DEVICE_FAILED, pair, [names + b"/b\xff: cannot open\n"]),
+        (one + b"\0" + names + b"/b\xff\0" + one, DEVICE_FAILED, pair, [names + rb"/b\xff" + b": cannot open\n"]),
         (one + b"\0" + folder_of_files + b"\0" + one, DEVICE_FAILED, pair, [folder_of_files + b": cannot open: is a folder\n"]),
     ]
     path = os.path.join(os.fsencode(folder), b"list")
@@ -166,7 +166,8 @@ NAMES = {
     b"\x1b[2J": rb"\x1b[2J",
     b"a\\nb": rb"a\\nb",
     b"\x7f\x01": rb"\x7f\x01",
-    b"\xc3\xa9\xc2\x9b": b"\xc3\xa9\xc2\x9b",
+    b"\xc3\xa9\xc2\x9b": b"\xc3\xa9" + rb"\xc2\x9b",
+    b"\xe2\x80\xaeb": rb"\xe2\x80\xaeb",
     b"-0": b"-0",
 }
 
@@ -199,7 +200,7 @@ def names(folder):
     absent = [path + b"/" + name for name in NAMES]
     lines = [path + b"/" + line + b": cannot open\n" for line in NAMES.values()]
     answer = run(["duplicates", "-0", "--progress", *absent])
-    TALLY.judge(is_told(answer, DEVICE_FAILED, b"", [*lines, b"7 of 7 " + lines[-1][: -len(b": cannot open\n")]]), "names that are not there", answer)
+    TALLY.judge(is_told(answer, DEVICE_FAILED, b"", [*lines, b"8 of 8 " + lines[-1][: -len(b": cannot open\n")]]), "names that are not there", answer)
     answer = run(["duplicates", paths[0]])
     TALLY.judge(is_told(answer, 0, b"", []), "one file", answer)
 
