@@ -13,3 +13,5 @@ pub mod ReachingPath
 pub mod PricesLeft
 pub mod RatesSoFar
 pub mod Listed
+pub mod Candidates
+pub mod Choosing

@@ -2,3 +2,4 @@
 -- them.
 pub mod Inside
 pub mod Reaching
+pub mod BestSearch

@@ -3,6 +3,7 @@
 
 mod atom;
 mod auction;
+mod best_search;
 mod bound;
 mod budget;
 mod conflicts;
@@ -22,6 +23,7 @@ mod xor;
 
 pub use atom::Atom;
 pub use auction::Auction;
+pub use best_search::or_value_by;
 pub use budget::Budget;
 pub use conflicts::Offer;
 pub use from_file::auction_of;

@@ -1,6 +1,6 @@
 //! How the searches of a file go, and how many steps they may take.
 ghost use Rattle.std.specs.Prelude.{◌≡◌, ◌-◌, ◌≤◌};
-ghost use Rattle.valuation.specs.SearchLimits.{next_steps, options_after, plain_options};
+ghost use Rattle.valuation.specs.SearchLimits.{bounded_options, next_steps, options_after, plain_options};
 
 use crate::budget::Budget;
 use crate::search_kind::SearchKind;
@@ -25,6 +25,17 @@ impl SearchOptions {
             kind: SearchKind::Plain,
             each: limit,
             total: None,
+        }
+    }
+
+    /// Bounded searches, each of so many steps, and all together of so many, if that has a limit.
+    pub fn bounded(each: u64, total: Option<u64>) -> SearchOptions
+        ensures { result ≡ bounded_options each total }
+    {
+        SearchOptions {
+            kind: SearchKind::Bounded,
+            each,
+            total,
         }
     }
 

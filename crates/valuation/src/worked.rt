@@ -4,11 +4,12 @@ ghost use Rattle.std.specs.declared.cmp.Ordering.TheVariants.{Less, Equal, Great
 ghost use Rattle.valuation.specs.declared.search_kind.SearchKind.TheVariants.{Bounded};
 ghost use Rattle.valuation.specs.Examples.{atom};
 ghost use Rattle.valuation.specs.Values.{xor_value, or_value, chosen_places};
+ghost use Rattle.valuation.specs.Internal.BestSearch.{is_candidate, numbers_at, steps_among};
 ghost use Rattle.valuation.specs.Internal.Reaching.{ArePricesLeft, IsReachedBy};
 ghost use Rattle.valuation.specs.Packings.{count_packings, IsPackingFor};
 ghost use Rattle.valuation.specs.Bounds.{price_bound, rate, greatest_rate, rate_bound};
 ghost use Rattle.valuation.specs.SearchSteps.{cut_steps, found_indices};
-ghost use Rattle.valuation.specs.SearchLimits.{plain_options, next_steps, options_after};
+ghost use Rattle.valuation.specs.SearchLimits.{plain_options, bounded_options, next_steps, options_after};
 ghost use Rattle.valuation.specs.Tables.{or_table, xor_table, is_nonzero};
 ghost use Rattle.valuation.specs.Orders.{atom_cmp, bidder_cmp};
 ghost use Rattle.valuation.specs.Sorting.{sort_by};
@@ -102,11 +103,21 @@ pub fn searches_worked()
 /// The limits of searches: each may take so many steps, and all together so many, if that has a limit.
 pub fn limits_worked()
     ensures no_total { next_steps (plain_options 5) ≡ 5 }
-    ensures each { next_steps (record { kind = Bounded; each = 5; total = Some 7 }) ≡ 5 }
-    ensures less_left { next_steps (record { kind = Bounded; each = 5; total = Some 3 }) ≡ 3 }
-    ensures after { options_after (record { kind = Bounded; each = 5; total = Some 7 }) 4
-        ≡ record { kind = Bounded; each = 5; total = Some 3 } }
+    ensures each { next_steps (bounded_options 5 (Some 7)) ≡ 5 }
+    ensures less_left { next_steps (bounded_options 5 (Some 3)) ≡ 3 }
+    ensures bounded { bounded_options 5 (Some 7) ≡ record { kind = Bounded; each = 5; total = Some 7 } }
+    ensures after { options_after (bounded_options 5 (Some 7)) 4 ≡ bounded_options 5 (Some 3) }
     ensures plain_after { options_after (plain_options 5) 4 ≡ plain_options 5 }
+{}
+
+/// The bids that the search for a best packing goes through, and the limits that are left.
+#[tactic(auto, unfolding(crate::specs::SearchSteps::cut_steps, crate::specs::Bounds::greatest_rate, crate::specs::Bounds::rate_bound, crate::specs::Values::or_value))]
+fn candidates_worked()
+    ensures there { is_candidate (atom (0 ∷ []) 3 ∷ atom (1 ∷ []) 4 ∷ []) (1 ∷ []) 1 1 ≡ true }
+    ensures outside { is_candidate (atom (0 ∷ []) 3 ∷ atom (1 ∷ []) 4 ∷ []) (1 ∷ []) 0 0 ≡ false }
+    ensures before { is_candidate (atom (0 ∷ []) 3 ∷ atom (1 ∷ []) 4 ∷ []) (0 ∷ 1 ∷ []) 1 0 ≡ false }
+    ensures numbers { numbers_at (7 ∷ 5 ∷ []) (1 ∷ 0 ∷ []) ≡ 5 ∷ 7 ∷ [] }
+    ensures steps { steps_among Bounded (atom (0 ∷ []) 3 ∷ []) (0 ∷ []) 3 ≡ 2 }
 {}
 
 /// A table has the values on all bundles, in order.

@@ -11,7 +11,7 @@ use goods_set::{GoodsSet, ListSet, WordSet};
 use std::alloc::{AllocError, Global};
 use std::process::Abort;
 use std::test::Fail;
-use valuation::{Packing, ValueFault, or_value, xor_value};
+use valuation::{Packing, SearchOptions, ValueFault, or_value, or_value_by, xor_value};
 
 // Bids and a bundle, and what is found: the value, and the place of the atom that bids it.
 type XorRow = (&'static [PricedGoods], &'static [u16], (u64, Option<usize>));
@@ -79,9 +79,28 @@ fn or_row<S: GoodsSet>(rt: &impl Abort, alloc: Global, row: &OrRow) -> Result<()
     Ok(())
 }
 
+// Bounded searches find the same, by no more steps each than there are packings.
+fn bounded_row<S: GoodsSet>(rt: &impl Abort, alloc: Global, row: &OrRow) -> Result<(), Fail> {
+    let (bids, goods, limit, found) = *row;
+    let atoms = row_on::<S>(rt, alloc, bids)?;
+    let bundle = bundle_of::<S>(rt, alloc, goods)?;
+    let options = SearchOptions::bounded(limit, None);
+    match or_value_by(alloc, &atoms, &bundle, options) {
+        Ok(packing) => {
+            let members = packing.members.as_slice();
+            assert!(rt; found.is_none() || found == Some((packing.value, members)));
+        }
+        Err(fault) => {
+            assert!(rt; fault == ValueFault::StepLimit && found.is_none());
+        }
+    }
+    Ok(())
+}
+
 fn or_values<S: GoodsSet>(rt: &impl Abort, alloc: Global) -> Result<(), Fail> {
     for row in &OR_ROWS {
         or_row::<S>(rt, alloc, row)?;
+        bounded_row::<S>(rt, alloc, row)?;
     }
     Ok(())
 }

@@ -1,10 +1,10 @@
 -- Lemmas on the atoms of a list, seen as their lists of goods and their prices.
-use Rattle.std.proofs.Common.{◌≡◌, ℕ, ◌+◌, ◌<◌, List, [], ◌∷◌, ◌++◌, length, map, drop, get_or, sym, ap, ◌∙◌, subst, arith, Bor}
+use Rattle.std.proofs.Common.{◌≡◌, ℕ, ◌+◌, ◌<◌, List, [], ◌∷◌, ◌++◌, length, map, drop, get_or, sym, ap, ◌∙◌}
 use Rattle.std.specs.Prelude.{All}
 use Rattle.std.proofs.lemmas.List.{drop-map, drop_more, length-map, get_or-map, map_push}
 use Rattle.std.proofs.lemmas.List.Elements.{All-push}
 use Rattle.valuation.specs.declared.atom.Atom.{Atom}
-use Rattle.valuation.specs.Values.{atoms_of, plain_atom}
+use Rattle.valuation.specs.Values.{atoms_of}
 
 pub length-atoms_of : {S : Type 0} (goods : S → List ℕ) (atoms : List (Atom S)) → length (atoms_of goods atoms) ≡ length atoms
 length-atoms_of {S} goods atoms = length-map atoms (λ (b : Atom S). record { bundle = goods b.bundle; price = b.price })
@@ -24,14 +24,6 @@ drop-atoms_of {S} goods atoms i a l e =
     drop-map seen i atoms ∙ ap (map seen) (drop_more atoms i a l ∙ ap (λ (b : Atom S). b ∷ drop (i + 1) atoms) (sym e))
     ∙ ap (λ (bs : List (Atom (List ℕ))). seen a ∷ bs) (sym (drop-map seen (i + 1) atoms))
 
--- what holds of each atom of the list holds of it
-pub atom-atoms_of : {S : Type 0} (goods : S → List ℕ) (P : Atom (List ℕ) → Type 0) (atoms : List (Atom S)) (i : ℕ) (a : Atom S) → i < length atoms
-    → a ≡ get_or atoms i a → All P (atoms_of goods atoms) → P (record { bundle = goods a.bundle; price = a.price })
-atom-atoms_of {S} goods P atoms i a l e h =
-    let d : Atom (List ℕ) = record { bundle = goods a.bundle; price = a.price } in
-    let long = length-atoms_of goods atoms in
-    subst P (get_or-atoms_of goods atoms i a d l e) (h i d (omega arith))
-
 -- one more atom of which it holds
 pub All-atoms_of-push : {S : Type 0} (goods : S → List ℕ) (P : Atom (List ℕ) → Type 0) (atoms more : List (Atom S)) (a : Atom S) → more ≡ atoms ++ a ∷ []
     → All P (atoms_of goods atoms) → P (record { bundle = goods a.bundle; price = a.price }) → All P (atoms_of goods more)
@@ -39,31 +31,3 @@ All-atoms_of-push {S} goods P atoms more a e h p =
     let seen : Atom S → Atom (List ℕ) = λ b. record { bundle = goods b.bundle; price = b.price } in
     let pushed : atoms_of goods more ≡ atoms_of goods atoms ++ seen a ∷ [] = ap (atoms_of goods) e ∙ map_push seen atoms a in
     rw pushed (All-push P (atoms_of goods atoms) (seen a) h p)
-
--- ---- atoms behind references
-
-abbrev pub pointed : {X : Type 0} → List (Bor X) → List X
-pointed xs = map (λ a. a.now) xs
-
-pub length-pointed : {X : Type 0} (xs : List (Bor X)) → length (pointed xs) ≡ length xs
-length-pointed {X} xs = length-map xs (λ (a : Bor X). a.now)
-
-pub length-seen : {S : Type 0} (goods : S → List ℕ) (atoms : List (Bor (Atom S))) → length (atoms_of goods (pointed atoms)) ≡ length atoms
-length-seen {S} goods atoms = length-atoms_of goods (pointed atoms) ∙ length-pointed atoms
-
--- the atom behind a reference, which a read of that place gave
-pub get_or-seen : {S : Type 0} (goods : S → List ℕ) (atoms : List (Bor (Atom S))) (i : ℕ) (a : Bor (Atom S)) (d : Atom (List ℕ)) → i < length atoms
-    → a ≡ get_or atoms i a → get_or (atoms_of goods (pointed atoms)) i d ≡ plain_atom goods a.now
-get_or-seen {S} goods atoms i a d l e =
-    let long = length-pointed atoms in
-    let there : a.now ≡ get_or (pointed atoms) i a.now =
-    sym (get_or-map (λ (b : Bor (Atom S)). b.now) atoms i a a.now l ∙ ap (λ (b : Bor (Atom S)). b.now) (sym e)) in
-    get_or-atoms_of goods (pointed atoms) i a.now d (omega (arith, l, long)) there
-
--- what holds of each atom of the list holds of it
-pub atom-seen : {S : Type 0} (goods : S → List ℕ) (P : Atom (List ℕ) → Type 0) (atoms : List (Bor (Atom S))) (i : ℕ) (a : Bor (Atom S)) → i < length atoms
-    → a ≡ get_or atoms i a → All P (atoms_of goods (pointed atoms)) → P (plain_atom goods a.now)
-atom-seen {S} goods P atoms i a l e h =
-    let d : Atom (List ℕ) = plain_atom goods a.now in
-    let long = length-seen goods atoms in
-    subst P (get_or-seen goods atoms i a d l e) (h i d (omega (arith, l, long)))
