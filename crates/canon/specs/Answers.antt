@@ -8,7 +8,8 @@ use Rattle.bid_file.specs.declared.bid.BidFile.{BidFile}
 use Rattle.cats_text.specs.Faults.{has_bid_line}
 use Rattle.cats_text.specs.Grammar.{Spells}
 use Rattle.valuation.specs.Auctions.{PlainAuction, auction_from}
-use Rattle.prune.specs.SearchSteps.{first_heavy}
+use Rattle.prune.specs.SearchSteps.{first_refused}
+use Rattle.valuation.specs.declared.search_options.SearchOptions.{SearchOptions}
 use Rattle.canon.specs.Canonical.{canonical_auction, file_from}
 use Rattle.canon.specs.Normalising.{Normalised, IsNoFile, ExceedsSteps, IsText, Normalises}
 use Rattle.canon.specs.declared.canon_fault.CanonFault.{CanonFault}
@@ -29,42 +30,42 @@ pub record SpellsFile (text : List ℕ) : Type 0 where
 
 -- Why a text has no canonical text. Memory is refused only where a bid line has begun, as in reading it, or where the
 -- text spells a file, of which the canonical text is made.
-abbrev pub RefusesText : ℕ → List ℕ → CanonFault → Type 0
-RefusesText limit text (Read fault) = Normalises limit text (IsNoFile fault)
-RefusesText limit text (StepLimit goods) = Normalises limit text (ExceedsSteps goods.items)
-RefusesText limit text Memory = (has_bid_line text ≡ true) ⊎ SpellsFile text
+abbrev pub RefusesText : SearchOptions → List ℕ → CanonFault → Type 0
+RefusesText options text (Read fault) = Normalises options text (IsNoFile fault)
+RefusesText options text (StepLimit goods) = Normalises options text (ExceedsSteps goods.items)
+RefusesText options text Memory = (has_bid_line text ≡ true) ⊎ SpellsFile text
 
-abbrev pub NormalisesTextAs : ℕ → List ℕ → Result (Vec ℕ Global) CanonFault → Type 0
-NormalisesTextAs limit text (Ok out) = Normalises limit text (IsText out.items)
-NormalisesTextAs limit text (Err fault) = RefusesText limit text fault
+abbrev pub NormalisesTextAs : SearchOptions → List ℕ → Result (Vec ℕ Global) CanonFault → Type 0
+NormalisesTextAs options text (Ok out) = Normalises options text (IsText out.items)
+NormalisesTextAs options text (Err fault) = RefusesText options text fault
 
 -- ---- a file
 
--- the file of the canonical auction where no bundle is heavy, and else the first heavy bundle
-pub record IsNormalFile (limit : ℕ) (a : PlainAuction) (h : PlainFile) : Type 0 where
+-- the file of the canonical auction if no bundle is refused, and else the first refused bundle
+pub record IsNormalFile (options : SearchOptions) (a : PlainAuction) (h : PlainFile) : Type 0 where
   pub canonical : h ≡ file_from (canonical_auction a)
-  pub within_limit : first_heavy a.goods limit a.or_atoms ≡ None
+  pub within_limit : first_refused options a.goods a.or_atoms ≡ None
 
-abbrev pub RefusesAuction : ℕ → PlainAuction → CanonFault → Type 0
-RefusesAuction limit a (Read fault) = ⊥
-RefusesAuction limit a (StepLimit goods) = first_heavy a.goods limit a.or_atoms ≡ Some goods.items
-RefusesAuction limit a Memory = Unit {0}
+abbrev pub RefusesAuction : SearchOptions → PlainAuction → CanonFault → Type 0
+RefusesAuction options a (Read fault) = ⊥
+RefusesAuction options a (StepLimit goods) = first_refused options a.goods a.or_atoms ≡ Some goods.items
+RefusesAuction options a Memory = Unit {0}
 
-abbrev pub NormalisesAuctionAs : ℕ → PlainAuction → Result PlainFile CanonFault → Type 0
-NormalisesAuctionAs limit a (Ok h) = IsNormalFile limit a h
-NormalisesAuctionAs limit a (Err fault) = RefusesAuction limit a fault
+abbrev pub NormalisesAuctionAs : SearchOptions → PlainAuction → Result PlainFile CanonFault → Type 0
+NormalisesAuctionAs options a (Ok h) = IsNormalFile options a h
+NormalisesAuctionAs options a (Err fault) = RefusesAuction options a fault
 
 -- the same of a file
-abbrev pub NormalisesPlainAs : ℕ → PlainFile → Result PlainFile CanonFault → Type 0
-NormalisesPlainAs limit f r = NormalisesAuctionAs limit (auction_from f) r
+abbrev pub NormalisesPlainAs : SearchOptions → PlainFile → Result PlainFile CanonFault → Type 0
+NormalisesPlainAs options f r = NormalisesAuctionAs options (auction_from f) r
 
 -- an answer, as a caller sees its file
 abbrev pub plain_answer : Result BidFile CanonFault → Result PlainFile CanonFault
 plain_answer (Ok h) = Ok (plain_file h)
 plain_answer (Err fault) = Err fault
 
-abbrev pub NormalisesFileAs : ℕ → PlainFile → Result BidFile CanonFault → Type 0
-NormalisesFileAs limit f r = NormalisesPlainAs limit f (plain_answer r)
+abbrev pub NormalisesFileAs : SearchOptions → PlainFile → Result BidFile CanonFault → Type 0
+NormalisesFileAs options f r = NormalisesPlainAs options f (plain_answer r)
 
 -- an answer, without the dummy goods that it names
 abbrev pub unnamed_answer : Result NamedFile CanonFault → Result PlainFile CanonFault

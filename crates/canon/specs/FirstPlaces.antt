@@ -14,6 +14,7 @@ use Rattle.canon.specs.Normalising.{IsText, normalised_file}
 use Rattle.canon.specs.Refusals.{refusal_of}
 use Rattle.canon.specs.Sameness.{AreSameFiles}
 use Rattle.canon.specs.declared.canon_fault.CanonFault.{CanonFault}
+use Rattle.valuation.specs.declared.search_options.SearchOptions.{SearchOptions}
 
 -- the place, counted from 0, of the first of the files that is the same auction as the given one
 pub record IsFirstPlace (files : List PlainFile) (given : PlainFile) (place : ℕ) : Type 0 where
@@ -73,12 +74,12 @@ pub record IsIndexOf (index : TextIndex) (files : List PlainFile) : Type 0 where
 
 module _ {R : Type 0} (remaining : R → Option (List ℕ)) where
   -- the bytes spell a file, which is added with its canonical text, and this is its place
-  pub record AddsFile (limit : ℕ) (old new : TextIndex) (bytes : List ℕ) (input : Watched R) (place : ℕ) : Type 0
-    where
-      pub file : PlainFile
-      pub reads : ReadsFile remaining bytes input file
-      pub within_limit : normalised_file limit file ≡ IsText (canonical_text file)
-      pub added : AddsText old new (canonical_text file) place
+  pub record AddsFile (options : SearchOptions) (old new : TextIndex) (bytes : List ℕ) (input : Watched R)
+      (place : ℕ) : Type 0 where
+    pub file : PlainFile
+    pub reads : ReadsFile remaining bytes input file
+    pub within_limit : normalised_file options file ≡ IsText (canonical_text file)
+    pub added : AddsText old new (canonical_text file) place
 
   -- the bytes spell no file, or no more came
   pub record IsUnread (bytes : List ℕ) (input : Watched R) (fault : CanonFault) : Type 0 where
@@ -87,19 +88,19 @@ module _ {R : Type 0} (remaining : R → Option (List ℕ)) where
     pub is : fault ≡ refusal_of why
 
   -- the bytes spell a file, which has no canonical text, or memory was refused
-  pub record IsUnmade (limit : ℕ) (bytes : List ℕ) (input : Watched R) (fault : CanonFault) : Type 0 where
+  pub record IsUnmade (options : SearchOptions) (bytes : List ℕ) (input : Watched R) (fault : CanonFault) : Type 0 where
     pub file : PlainFile
     pub reads : ReadsFile remaining bytes input file
-    pub refused : RefusesAs (normalised_file limit file) fault
+    pub refused : RefusesAs (normalised_file options file) fault
 
-  abbrev pub AddsOrRefuses : ℕ → TextIndex → TextIndex → List ℕ → Watched R → Result ℕ CanonFault → Type 0
-  AddsOrRefuses limit old new bytes input (Ok place) = AddsFile limit old new bytes input place
-  AddsOrRefuses limit old new bytes input (Err fault) =
-      (new ≡ old) × (IsUnread bytes input fault ⊎ IsUnmade limit bytes input fault)
+  abbrev pub AddsOrRefuses : SearchOptions → TextIndex → TextIndex → List ℕ → Watched R → Result ℕ CanonFault → Type 0
+  AddsOrRefuses options old new bytes input (Ok place) = AddsFile options old new bytes input place
+  AddsOrRefuses options old new bytes input (Err fault) =
+      (new ≡ old) × (IsUnread bytes input fault ⊎ IsUnmade options bytes input fault)
 
   -- reading a file and adding it
-  pub record AddsStream (limit : ℕ) (old new : TextIndex) (before after : Watched R)
+  pub record AddsStream (options : SearchOptions) (old new : TextIndex) (before after : Watched R)
       (answer : Result ℕ CanonFault) : Type 0 where
     pub bytes : List ℕ
     pub consumes : Consumes (remaining (inner_of before)) (remaining (inner_of after)) bytes
-    pub adds : AddsOrRefuses limit old new bytes after answer
+    pub adds : AddsOrRefuses options old new bytes after answer

@@ -7,16 +7,16 @@ ghost use Rattle.valuation.specs.Bidders.{bidders_of};
 ghost use Rattle.valuation.specs.Sorting.{sort_by};
 ghost use Rattle.valuation.specs.Views.{plain_auction};
 ghost use Rattle.prune.specs.Faults.{IfStepLimit};
-ghost use Rattle.prune.specs.SearchSteps.{first_heavy};
+ghost use Rattle.prune.specs.SearchSteps.{first_heavy, first_refused};
 ghost use Rattle.canon.specs.Canonical.{IsCanonical, canonical_auction};
 ghost use Rattle.canon.specs.Sameness.{IsSameAuction};
 ghost use Rattle.canon.specs.Internal.KeyedBidders.{kept_numbers, keyed_bidders, numbered_cmp, numbered_points};
 
 use crate::keyed_bidder::KeyedBidder;
 use goods_set::GoodsSet;
-use prune::{PruneFault, prune_or, prune_xor};
+use prune::{PruneFault, prune_or_by, prune_xor};
 use std::alloc::{AllocError, Global};
-use valuation::{Atom, Auction};
+use valuation::{Atom, Auction, SearchOptions};
 
 /// A canonical auction, and which bidder is which.
 #[derive(Drop)]
@@ -43,26 +43,26 @@ pub fn canonical<S: GoodsSet>(
         IfErr result (λ fault. IfStepLimit fault (λ bundle. first_heavy a.goods limit a.or_atoms
         ≡ Some (S.goods bundle))) }
 {
-    Ok(named_canonical(alloc, auction, limit)?.auction)
+    Ok(named_canonical(alloc, auction, SearchOptions::plain(limit))?.auction)
 }
 
-/// The canonical auction of an auction, as `canonical`, and which bidder is which.
+/// The canonical auction of an auction, as `canonical`, by searches of any kind, and which bidder is which.
 pub(crate) fn named_canonical<S: GoodsSet>(
     alloc: Global,
     auction: Auction<S>,
-    limit: u64,
+    options: SearchOptions,
 ) -> Result<NamedAuction<S>, PruneFault<S>>
     ensures canonical { IfOk result (λ c. plain_auction c.auction ≡ canonical_auction (plain_auction auction)) }
     ensures fixed { IfOk result (λ c. IsCanonical (plain_auction c.auction)) }
     ensures dummies { IfOk result (λ c. c.dummies.items ≡ kept_numbers (plain_auction auction)) }
-    ensures none_heavy { let a = plain_auction auction in
-        OnOk result (first_heavy a.goods limit a.or_atoms ≡ None) }
-    ensures step_limit { let a = plain_auction auction in
-        IfErr result (λ fault. IfStepLimit fault (λ bundle. first_heavy a.goods limit a.or_atoms
+    ensures none_refused { let a = plain_auction auction in
+        OnOk result (first_refused options a.goods a.or_atoms ≡ None) }
+    ensures refused { let a = plain_auction auction in
+        IfErr result (λ fault. IfStepLimit fault (λ bundle. first_refused options a.goods a.or_atoms
         ≡ Some (S.goods bundle))) }
 {
     let (goods, or_atoms, xor_bidders) = auction.into_parts();
-    let or_points = prune_or(alloc, or_atoms, limit)?;
+    let or_points = prune_or_by(alloc, or_atoms, options)?;
     let mut bidders = points_of_each(alloc, xor_bidders)?;
     sort_bidders(&mut bidders);
     let dummies = dummies_of(alloc, &bidders)?;

@@ -16,6 +16,7 @@ use std::alloc::{AllocError, Global};
 use std::collections::BTreeMap;
 use std::io::Read;
 use std::marker::Model;
+use valuation::SearchOptions;
 
 /// The auctions of the files that were added. It keeps one canonical text for each auction, in order,
 /// so no texts can be made that take long to find. The files themselves are given up.
@@ -48,19 +49,24 @@ impl AuctionIndex {
     }
 
     /// Adds a packed file, and answers the place, counted from 0, of the first file added that is the same auction;
-    /// that is its own place where there is none. `limit` bounds each search that decides on a bundle of the OR bidder.
+    /// that is its own place where there is none.
     ///
     /// An index to which `usize::MAX` files were added takes no more, and reports want of memory.
-    pub fn add(&mut self, alloc: Global, file: PackedFile, limit: u64) -> Result<usize, CanonFault>
+    pub fn add(
+        &mut self,
+        alloc: Global,
+        file: PackedFile,
+        options: SearchOptions,
+    ) -> Result<usize, CanonFault>
         ensures added { IfOk result (AddsText self.old self.new (canonical_text file)) }
-        ensures within_limit { OnOk result (normalised_file limit file ≡ IsText (canonical_text file)) }
-        ensures refused { IfErr result (RefusesAs (normalised_file limit file)) }
+        ensures within_limits { OnOk result (normalised_file options file ≡ IsText (canonical_text file)) }
+        ensures refused { IfErr result (RefusesAs (normalised_file options file)) }
         ensures unchanged { OnErr result (self.new ≡ self.old) }
     {
         let Some(count) = self.count.checked_add(1) else {
             return Err(CanonFault::Memory);
         };
-        let normal = normal_packed_file(alloc, file, limit)?;
+        let normal = normal_packed_file(alloc, file, options)?;
         let text = write(alloc, &normal)?;
         let place = place_text(&mut self.places, text, self.count)?;
         self.count = count;
@@ -72,14 +78,14 @@ impl AuctionIndex {
         &mut self,
         alloc: Global,
         input: &mut Watched<R>,
-        limit: u64,
+        options: SearchOptions,
     ) -> Result<usize, CanonFault>
         requires works { has_failed input.old ≡ false }
         requires fresh { has_ended input.old ≡ false }
-        ensures { AddsStream R.remaining limit self.old self.new input.old input.new result }
+        ensures { AddsStream R.remaining options self.old self.new input.old input.new result }
     {
         let file = read_packed_from(alloc, input)?;
-        self.add(alloc, file, limit)
+        self.add(alloc, file, options)
     }
 }
 

@@ -4,6 +4,7 @@ ghost use Rattle.std.specs.Prelude.{◌≡◌, ◌↔◌, ◌≤◌, length, IfO
 ghost use Rattle.bid_file.specs.Files.{IsPlainFile};
 ghost use Rattle.bid_file.specs.declared.limits.TheConstants.{MAX_BIDS};
 ghost use Rattle.valuation.specs.Auctions.{auction_from};
+ghost use Rattle.valuation.specs.SearchLimits.{plain_options};
 ghost use Rattle.canon.specs.Canonical.{IsCanonicalFile};
 ghost use Rattle.canon.specs.Comparing.{ComparesAs, ReadsNormalAs, ReadsOneAs};
 ghost use Rattle.canon.specs.Difference.{first_difference};
@@ -25,20 +26,22 @@ use crate::xor_bidders::bidder_verdict;
 use bid_file::{Bids, PackedFile};
 use cats_text::read_packed;
 use std::alloc::{AllocError, Global};
+use valuation::SearchOptions;
 
 /// The first difference of the auctions of two texts' files. The first text is read and made canonical before the second
-/// is read; `limit` bounds each search that decides on a bundle of an OR bidder.
+/// is read; `limit` bounds each plain search that decides on a bundle of an OR bidder.
 pub fn compare(
     alloc: Global,
     left: &[u8],
     right: &[u8],
     limit: u64,
 ) -> Result<Verdict, (Which, CanonFault)>
-    ensures answer { ComparesAs limit left.now right.now result }
+    ensures answer { ComparesAs (plain_options limit) left.now right.now result }
     ensures same { IfOk result (λ verdict. verdict ≡ Same ↔ AreSameTexts left.now right.now) }
 {
-    let first = read_first(alloc, left, limit)?;
-    let second = read_second(alloc, right, limit)?;
+    let options = SearchOptions::plain(limit);
+    let first = read_first(alloc, left, options)?;
+    let second = read_second(alloc, right, options)?;
     compare_read(alloc, &first, &second)
 }
 
@@ -100,29 +103,37 @@ fn compare_read(
 }
 
 /// The canonical file of the first text's file. A refusal is one of the first.
-fn read_first(alloc: Global, text: &[u8], limit: u64) -> Result<PackedFile, (Which, CanonFault)>
-    ensures { ReadsOneAs First limit text.now result }
+fn read_first(
+    alloc: Global,
+    text: &[u8],
+    options: SearchOptions,
+) -> Result<PackedFile, (Which, CanonFault)>
+    ensures { ReadsOneAs First options text.now result }
 {
-    match read_normal(alloc, text, limit) {
+    match read_normal(alloc, text, options) {
         Ok(file) => Ok(file),
         Err(fault) => Err((Which::First, fault)),
     }
 }
 
 /// The canonical file of the second text's file. A refusal is one of the second.
-fn read_second(alloc: Global, text: &[u8], limit: u64) -> Result<PackedFile, (Which, CanonFault)>
-    ensures { ReadsOneAs Second limit text.now result }
+fn read_second(
+    alloc: Global,
+    text: &[u8],
+    options: SearchOptions,
+) -> Result<PackedFile, (Which, CanonFault)>
+    ensures { ReadsOneAs Second options text.now result }
 {
-    match read_normal(alloc, text, limit) {
+    match read_normal(alloc, text, options) {
         Ok(file) => Ok(file),
         Err(fault) => Err((Which::Second, fault)),
     }
 }
 
 /// The canonical file of the file that a text spells.
-fn read_normal(alloc: Global, text: &[u8], limit: u64) -> Result<PackedFile, CanonFault>
-    ensures { ReadsNormalAs limit text.now result }
+fn read_normal(alloc: Global, text: &[u8], options: SearchOptions) -> Result<PackedFile, CanonFault>
+    ensures { ReadsNormalAs options text.now result }
 {
     let file = read_packed(alloc, text)?;
-    normal_packed_file(alloc, file, limit)
+    normal_packed_file(alloc, file, options)
 }

@@ -3,7 +3,9 @@
 ghost use Rattle.std.specs.Prelude.{◌≡◌, ◌↔◌, ℕ, List, [], ◌∷◌, ◌++◌, None, true, ◌<◌, Some, All};
 ghost use Rattle.bid_file.specs.Files.{PlainFile, IsPlainFile};
 ghost use Rattle.valuation.specs.Auctions.{PlainAuction, IsAuction, auction_from};
-ghost use Rattle.prune.specs.SearchSteps.{first_heavy, is_heavy};
+ghost use Rattle.prune.specs.SearchSteps.{first_heavy, first_refused, greatest_price, is_heavy, search_steps_by};
+ghost use Rattle.valuation.specs.declared.search_kind.SearchKind.{SearchKind};
+ghost use Rattle.valuation.specs.declared.search_options.SearchOptions.{SearchOptions};
 ghost use Rattle.canon.specs.Canonical.{IsCanonical, IsCanonicalFile, canonical_auction, canonical_text, file_from};
 ghost use Rattle.canon.specs.FirstPlaces.{AddsText, IsEmptyIndex, IsFirstPlace, IsIndexOf, TextIndex, first_place};
 ghost use Rattle.canon.specs.Normalising.{IsNormalised, IsText, Normalised, Normalises, SpellsCanonicalFile};
@@ -19,23 +21,27 @@ ghost use Rattle.prune.specs.Points.{is_or_point};
 ghost use Rattle.canon.specs.Difference.{first_difference, first_unequal_bundle, least_unequal_bidder, copies_of, exchanged};
 ghost use Rattle.canon.specs.Difference.{NoDifference};
 
-/// The headline. Where neither of two texts is refused, each under a limit of its own, their canonical texts are equal
-/// exactly if their files have the same number of goods, the same OR value on every bundle and the same multiset of
-/// nonzero XOR valuations. The canonical text spells the canonical file of the file that the text spells, which is the
-/// same auction; and normalising it under the same limit gives it back.
+/// The headline. If neither of two texts is refused, each by searches of a kind of its own and under limits of its own,
+/// their canonical texts are equal exactly if their files have the same number of goods, the same OR value on every
+/// bundle and the same multiset of nonzero XOR valuations. So one text has one canonical text, whatever the searches and
+/// the limits. The canonical text spells the canonical file of the file that the text spells, which is the same auction;
+/// and normalising it by the same searches under the same limits gives it back.
 pub fn equal_text_exactly_for_the_same_auction()
-    ensures equal { (m n : ℕ) (one other s t : List ℕ) → Normalises m one (IsText s) → Normalises n other (IsText t)
-        → (s ≡ t ↔ AreSameTexts one other) }
-    ensures spelled { (limit : ℕ) (text out : List ℕ) → Normalises limit text (IsText out) → SpellsCanonicalFile text out }
-    ensures again { (limit : ℕ) (text out : List ℕ) → Normalises limit text (IsText out)
-        → Normalises limit out (IsText out) }
+    ensures equal { (m n : SearchOptions) (one other s t : List ℕ) → Normalises m one (IsText s)
+        → Normalises n other (IsText t) → (s ≡ t ↔ AreSameTexts one other) }
+    ensures one_text { (m n : SearchOptions) (text s t : List ℕ) → Normalises m text (IsText s)
+        → Normalises n text (IsText t) → s ≡ t }
+    ensures spelled { (options : SearchOptions) (text out : List ℕ) → Normalises options text (IsText out)
+        → SpellsCanonicalFile text out }
+    ensures again { (options : SearchOptions) (text out : List ℕ) → Normalises options text (IsText out)
+        → Normalises options out (IsText out) }
 {}
 
-/// What normalising a text gives is there for each text and each limit, and is one.
+/// What normalising a text gives is there for each text, each kind of search and all limits, and is one.
 pub fn each_text_has_one_outcome()
-    ensures some { (limit : ℕ) (text : List ℕ) → IsNormalised limit text }
-    ensures one { (limit : ℕ) (text : List ℕ) (one other : Normalised) → Normalises limit text one
-        → Normalises limit text other → one ≡ other }
+    ensures some { (options : SearchOptions) (text : List ℕ) → IsNormalised options text }
+    ensures one { (options : SearchOptions) (text : List ℕ) (one other : Normalised) → Normalises options text one
+        → Normalises options text other → one ≡ other }
 {}
 
 /// Files of the same auction have one canonical text, and no others have it.
@@ -70,14 +76,22 @@ pub fn sameness_is_an_equivalence()
     ensures transitive { (a b c : PlainAuction) → IsSameAuction a b → IsSameAuction b c → IsSameAuction a c }
 {}
 
-/// A bundle that is heavy in the canonical auction is heavy in the auction, and where none is heavy there, none is
-/// here.
+/// On a bundle that the canonical auction has a price for, the search of either kind takes the steps that it takes in the
+/// auction. So a bundle that is over the limit in the canonical auction is over it in the auction, and if none is refused
+/// there, none is here.
 pub fn no_new_heavy_bundle()
     ensures heavy { (cap limit : ℕ) (a : PlainAuction) → IsAuction cap a → (bundle : List ℕ)
         → is_heavy a.goods limit (canonical_auction a).or_atoms bundle ≡ true → is_heavy a.goods limit a.or_atoms bundle
         ≡ true }
     ensures none { (cap limit : ℕ) (a : PlainAuction) → IsAuction cap a → first_heavy a.goods limit a.or_atoms ≡ None
         → first_heavy a.goods limit (canonical_auction a).or_atoms ≡ None }
+    ensures steps { (kind : SearchKind) (cap : ℕ) (a : PlainAuction) → IsAuction cap a → (bundle : List ℕ)
+        → 0 < greatest_price (canonical_auction a).or_atoms bundle
+        → search_steps_by kind a.goods (canonical_auction a).or_atoms bundle
+        ≡ search_steps_by kind a.goods a.or_atoms bundle }
+    ensures none_refused { (options : SearchOptions) (cap : ℕ) (a : PlainAuction) → IsAuction cap a
+        → first_refused options a.goods a.or_atoms ≡ None
+        → first_refused options a.goods (canonical_auction a).or_atoms ≡ None }
 {}
 
 /// An index that files are added to one by one is the index of these files, and the place that is answered is that of

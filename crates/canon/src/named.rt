@@ -9,7 +9,7 @@ use crate::normal::normal_auction_file;
 use bid_file::{MAX_GOODS, PackedFile};
 use goods_set::GoodsSet;
 use std::alloc::Global;
-use valuation::{Auction, auction_of, on_set_for};
+use valuation::{Auction, SearchOptions, auction_of, on_set_for};
 
 /// The canonical file of a file, with the dummy goods that its bidders have there.
 #[derive(Drop)]
@@ -25,25 +25,25 @@ pub struct NamedFile {
 pub fn named_normal_file(
     alloc: Global,
     file: &PackedFile,
-    limit: u64,
+    options: SearchOptions,
 ) -> Result<NamedFile, CanonFault>
-    ensures answer { NormalisesPlainAs limit file.now (unnamed_answer result) }
+    ensures answer { NormalisesPlainAs options file.now (unnamed_answer result) }
     ensures dummies { IfOk result (λ named. named.dummies.items ≡ kept_dummies file.now) }
 {
     prove!(file.goods() <= MAX_GOODS);
-    on_set_for!(file, named_file_on(alloc, file, limit))
+    on_set_for!(file, named_file_on(alloc, file, options))
 }
 
 /// The canonical file of a packed file, and which bidder is which, by sets of one kind.
 fn named_file_on<S: GoodsSet>(
     alloc: Global,
     file: &PackedFile,
-    limit: u64,
+    options: SearchOptions,
 ) -> Result<NamedFile, CanonFault>
     requires { file.now.goods ≤ S.CAP }
-    ensures answer { NormalisesPlainAs limit file.now (unnamed_answer result) }
+    ensures answer { NormalisesPlainAs options file.now (unnamed_answer result) }
     ensures dummies { IfOk result (λ named. named.dummies.items ≡ kept_dummies file.now) }
 {
     let auction: Auction<S> = auction_of(alloc, file)?;
-    normal_auction_file(alloc, auction, limit)
+    normal_auction_file(alloc, auction, options)
 }

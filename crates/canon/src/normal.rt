@@ -2,8 +2,9 @@
 
 ghost use Rattle.std.specs.Prelude.{◌≡◌, ◌≤◌, None, IfOk, IfErr, OnOk};
 ghost use Rattle.bid_file.specs.Views.{plain_file};
+ghost use Rattle.valuation.specs.SearchLimits.{plain_options};
 ghost use Rattle.valuation.specs.Views.{plain_auction};
-ghost use Rattle.prune.specs.SearchSteps.{first_heavy};
+ghost use Rattle.prune.specs.SearchSteps.{first_refused};
 ghost use Rattle.canon.specs.Answers.{NormalisesAuctionAs, NormalisesFileAs, NormalisesPlainAs, RefusesAuction};
 ghost use Rattle.canon.specs.Answers.{unnamed_answer};
 ghost use Rattle.canon.specs.Canonical.{IsCanonical, IsCanonicalFile, canonical_auction};
@@ -20,77 +21,78 @@ use goods_set::{GoodsSet, goods_of};
 use prune::PruneFault;
 use std::alloc::Global;
 use std::mem;
-use valuation::{Auction, auction_of, on_set_for};
+use valuation::{Auction, SearchOptions, auction_of, on_set_for};
 
-/// The canonical file of a file: the file of its canonical auction. `limit` bounds each search that decides on a bundle
-/// of the OR bidder.
+/// The canonical file of a file: the file of its canonical auction. `limit` bounds each plain search that decides on a
+/// bundle of the OR bidder.
 pub fn normal_file(alloc: Global, file: &BidFile, limit: u64) -> Result<BidFile, CanonFault>
-    ensures answer { NormalisesFileAs limit (plain_file file.now) result }
+    ensures answer { NormalisesFileAs (plain_options limit) (plain_file file.now) result }
     ensures same { IfOk result (λ h. AreSameFiles (plain_file file.now) (plain_file h)) }
     ensures canonical { IfOk result (λ h. IsCanonicalFile (plain_file h)) }
     ensures least { IfOk result (λ h. IsLeastFor (plain_file file.now) (plain_file h)) }
 {
     let packed = pack(alloc, file)?;
-    let normal = normal_packed_file(alloc, packed, limit)?;
+    let normal = normal_packed_file(alloc, packed, SearchOptions::plain(limit))?;
     Ok(normal.to_file(alloc)?)
 }
 
-/// The canonical file of a packed file, as `normal_file`. The file is given up before its auction is made canonical.
+/// The canonical file of a packed file, as `normal_file`, by searches of any kind: all kinds give the same file. The
+/// file is given up before its auction is made canonical.
 pub fn normal_packed_file(
     alloc: Global,
     file: PackedFile,
-    limit: u64,
+    options: SearchOptions,
 ) -> Result<PackedFile, CanonFault>
-    ensures answer { NormalisesPlainAs limit file result }
+    ensures answer { NormalisesPlainAs options file result }
     ensures canonical { IfOk result (λ h. IsCanonicalFile h) }
 {
-    on_set_for!(&file, normal_file_on(alloc, file, limit))
+    on_set_for!(&file, normal_file_on(alloc, file, options))
 }
 
 /// The canonical file of a packed file, by sets of one kind.
 fn normal_file_on<S: GoodsSet>(
     alloc: Global,
     file: PackedFile,
-    limit: u64,
+    options: SearchOptions,
 ) -> Result<PackedFile, CanonFault>
     requires { file.goods ≤ S.CAP }
-    ensures answer { NormalisesPlainAs limit file result }
+    ensures answer { NormalisesPlainAs options file result }
     ensures canonical { IfOk result (λ h. IsCanonicalFile h) }
 {
     let auction: Auction<S> = auction_of(alloc, &file)?;
     mem::drop(file);
-    Ok(normal_auction_file(alloc, auction, limit)?.file)
+    Ok(normal_auction_file(alloc, auction, options)?.file)
 }
 
 /// The canonical file of an auction, and which bidder is which.
 pub(crate) fn normal_auction_file<S: GoodsSet>(
     alloc: Global,
     auction: Auction<S>,
-    limit: u64,
+    options: SearchOptions,
 ) -> Result<NamedFile, CanonFault>
-    ensures answer { NormalisesAuctionAs limit (plain_auction auction) (unnamed_answer result) }
+    ensures answer { NormalisesAuctionAs options (plain_auction auction) (unnamed_answer result) }
     ensures dummies { IfOk result (λ named. named.dummies.items ≡ kept_numbers (plain_auction auction)) }
     ensures canonical { IfOk result (λ named. IsCanonicalFile named.file) }
 {
-    let NamedAuction { auction, dummies } = canonical_within_limit(alloc, auction, limit)?;
+    let NamedAuction { auction, dummies } = canonical_within_limits(alloc, auction, options)?;
     let file = packed_file_of(alloc, &auction)?;
     Ok(NamedFile { file, dummies })
 }
 
-/// The canonical auction, if no bundle is heavy.
-fn canonical_within_limit<S: GoodsSet>(
+/// The canonical auction, if no bundle is refused.
+fn canonical_within_limits<S: GoodsSet>(
     alloc: Global,
     auction: Auction<S>,
-    limit: u64,
+    options: SearchOptions,
 ) -> Result<NamedAuction<S>, CanonFault>
     ensures canonical { IfOk result (λ c. plain_auction c.auction ≡ canonical_auction (plain_auction auction)) }
     ensures fixed { IfOk result (λ c. IsCanonical (plain_auction c.auction)) }
     ensures dummies { IfOk result (λ c. c.dummies.items ≡ kept_numbers (plain_auction auction)) }
-    ensures within_limit { let a = plain_auction auction in
-        OnOk result (first_heavy a.goods limit a.or_atoms ≡ None) }
-    ensures refused { IfErr result (λ fault. RefusesAuction limit (plain_auction auction) fault) }
+    ensures within_limits { let a = plain_auction auction in
+        OnOk result (first_refused options a.goods a.or_atoms ≡ None) }
+    ensures refused { IfErr result (λ fault. RefusesAuction options (plain_auction auction) fault) }
 {
-    match named_canonical(alloc, auction, limit) {
+    match named_canonical(alloc, auction, options) {
         Ok(canonical) => Ok(canonical),
         Err(PruneFault::StepLimit { bundle }) => Err(CanonFault::StepLimit {
             goods: goods_of(alloc, &bundle)?,

@@ -3,6 +3,7 @@
 ghost use Rattle.std.specs.Prelude.{◌≡◌, ◌↔◌, IfOk};
 ghost use Rattle.bid_file.specs.Files.{PlainFile, IsPlainFile};
 ghost use Rattle.cats_text.specs.Grammar.{Spells};
+ghost use Rattle.valuation.specs.SearchLimits.{plain_options};
 ghost use Rattle.canon.specs.Answers.{NormalisesTextAs};
 ghost use Rattle.canon.specs.Canonical.{canonical_text};
 ghost use Rattle.canon.specs.Normalising.{IsText, Normalises};
@@ -12,17 +13,18 @@ use crate::canon_fault::CanonFault;
 use crate::normal::normal_packed_file;
 use cats_text::{read_packed, write};
 use std::alloc::Global;
+use valuation::SearchOptions;
 
 /// The canonical text of the file that a text spells: the one text of its auction. Memory is refused only if a bid line
 /// has begun, or if the text spells a file.
 pub fn normalise(alloc: Global, text: &[u8], limit: u64) -> Result<Vec<u8>, CanonFault>
-    ensures answer { NormalisesTextAs limit text.now result }
+    ensures answer { NormalisesTextAs (plain_options limit) text.now result }
     // Equal texts come of files of the same auction, and of these alone.
     ensures same { IfOk result (λ out. (f g : PlainFile) → Spells text.now f → IsPlainFile g
         → (out.items ≡ canonical_text g ↔ AreSameFiles f g)) }
-    ensures again { IfOk result (λ out. Normalises limit out.items (IsText out.items)) }
+    ensures again { IfOk result (λ out. Normalises (plain_options limit) out.items (IsText out.items)) }
 {
     let file = read_packed(alloc, text)?;
-    let normal = normal_packed_file(alloc, file, limit)?;
+    let normal = normal_packed_file(alloc, file, SearchOptions::plain(limit))?;
     Ok(write(alloc, &normal)?)
 }

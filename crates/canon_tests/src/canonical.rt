@@ -11,7 +11,7 @@ use goods_set::{GoodsSet, ListSet, WordSet};
 use std::alloc::Global;
 use std::process::Abort;
 use std::test::Fail;
-use valuation::{Auction, auction_of};
+use valuation::{Auction, SearchOptions, auction_of};
 
 const EQUAL_BIDDERS: &str =
     "goods 2\nbids 5\ndummy 2\n0\t1\t0\t2\t#\n1\t2\t0\t1\t2\t#\n2\t1\t0\t3\t#\n3\t1\t0\t1\t3\t#\n4\t2\t0\t1\t3\t#\n";
@@ -181,7 +181,7 @@ fn canonical_packed_files(rt: HostRuntime) -> Result<(), Fail> {
         (EQUAL_SORT_KEYS, 1, EQUAL_SORT_KEYS_TEXT),
     ] {
         let file = read_packed(rt.alloc(), text.as_bytes())?;
-        let answer = normal_packed_file(rt.alloc(), file, *limit);
+        let answer = normal_packed_file(rt.alloc(), file, SearchOptions::plain(*limit));
         expect_line(&rt, &printed_packed_file(rt.alloc(), answer)?, expected);
     }
     Ok(())
@@ -209,7 +209,7 @@ fn named_files(rt: HostRuntime) -> Result<(), Fail> {
         (LARGER_BID, 2, "steps [0, 1]"),
     ] {
         let file = read_packed(rt.alloc(), text.as_bytes())?;
-        let answer = named_normal_file(rt.alloc(), &file, *limit);
+        let answer = named_normal_file(rt.alloc(), &file, SearchOptions::plain(*limit));
         expect_line(&rt, &printed_named_file(rt.alloc(), answer)?, expected);
     }
     Ok(())

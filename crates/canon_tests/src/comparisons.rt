@@ -15,7 +15,7 @@ use cats_text::{read, read_packed};
 use goods_set::ListSet;
 use std::alloc::{AllocError, Global};
 use std::test::Fail;
-use valuation::{Auction, auction_of};
+use valuation::{Auction, SearchOptions, auction_of};
 
 const TWICE: &str =
     "goods 2\nbids 4\ndummy 2\n0\t1\t0\t2\t#\n1\t2\t0\t1\t2\t#\n2\t1\t0\t3\t#\n3\t2\t0\t1\t3\t#\n";
@@ -172,9 +172,9 @@ fn files_of_canonical_auctions_differ(rt: HostRuntime) -> Result<(), Fail> {
 /// The first difference of the canonical packed files of two texts.
 fn packed_difference(alloc: Global, left: &str, right: &str) -> Result<Verdict, Fail> {
     let one = read_packed(alloc, left.as_bytes())?;
-    let one = normal_packed_file(alloc, one, 100)?;
+    let one = normal_packed_file(alloc, one, SearchOptions::plain(100))?;
     let other = read_packed(alloc, right.as_bytes())?;
-    let other = normal_packed_file(alloc, other, 100)?;
+    let other = normal_packed_file(alloc, other, SearchOptions::plain(100))?;
     let verdict = compare_files(alloc, &one, &other)?;
     Ok(verdict)
 }

@@ -6,6 +6,7 @@ use cats_text::{Watched, read_packed};
 use std::alloc::{AllocError, Global};
 use std::process::Abort;
 use std::test::Fail;
+use valuation::SearchOptions;
 
 /// Texts that are added in this order, the steps that a search may take, and what is printed: a place, or why there is
 /// none.
@@ -83,7 +84,7 @@ fn places_of_files(rt: HostRuntime) -> Result<(), Fail> {
     let mut index = AuctionIndex::new(rt.alloc());
     for (text, limit, expected) in &ROWS {
         let answer = match read_packed(rt.alloc(), text.as_bytes()) {
-            Ok(file) => index.add(rt.alloc(), file, *limit),
+            Ok(file) => index.add(rt.alloc(), file, SearchOptions::plain(*limit)),
             Err(fault) => Err(CanonFault::from(fault)),
         };
         expect_place(&rt, &printed(rt.alloc(), answer)?, expected, text);
@@ -96,7 +97,7 @@ fn places_of_streams(rt: HostRuntime) -> Result<(), Fail> {
     let mut index = AuctionIndex::new(rt.alloc());
     for (text, limit, expected) in &ROWS {
         let mut input = Watched::new(text.as_bytes());
-        let answer = index.add_from(rt.alloc(), &mut input, *limit);
+        let answer = index.add_from(rt.alloc(), &mut input, SearchOptions::plain(*limit));
         expect_place(&rt, &printed(rt.alloc(), answer)?, expected, text);
     }
     Ok(())

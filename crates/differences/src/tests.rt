@@ -15,6 +15,7 @@ use cats_text::read_packed;
 use std::alloc::{AllocError, Global};
 use std::process::Abort;
 use std::test::Fail;
+use valuation::SearchOptions;
 
 /// A step limit that no search of these files reaches.
 const AMPLE: u64 = 1_000_000;
@@ -39,7 +40,7 @@ fn canonical_file(alloc: Global, text: &str) -> Result<PackedFile, Fail>
     ensures { IfOk result (λ file. IsCanonicalFile file) }
 {
     let file = read_packed(alloc, text.as_bytes())?;
-    Ok(normal_packed_file(alloc, file, AMPLE)?)
+    Ok(normal_packed_file(alloc, file, SearchOptions::plain(AMPLE))?)
 }
 
 fn push_changes(

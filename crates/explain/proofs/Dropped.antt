@@ -1,7 +1,7 @@
 -- Why a best bid is dropped that is none of the canonical file: the points of its bidder reach its price. Those that are inside its
 -- goods, or share no good and are inside them, are kept bids of its bidder; and the search for them takes no more steps than the one
 -- that dropped it.
-use Rattle.std.proofs.Common.{◌≡◌, ℕ, ◌+◌, ◌<◌, ◌≤◌, Bool, true, false, not, ⊎_elim, List, [], ◌∷◌, length, get_or, Option, Some, None, is_none, refl, sym, ap}
+use Rattle.std.proofs.Common.{◌≡◌, ℕ, ◌<◌, ◌≤◌, Bool, true, false, not, ⊎_elim, List, [], ◌∷◌, length, get_or, Option, Some, None, is_none, refl, sym, ap}
 use Rattle.std.proofs.Common.{◌∙◌, subst, arith, nat_cmp, le_trans}
 use Rattle.std.specs.Prelude.{Contains, IsPermutation, is_some}
 use Rattle.std.specs.List.{slice_get, AllByRecursion}
@@ -17,7 +17,6 @@ use Rattle.valuation.specs.declared.atom.Atom.{Atom}
 use Rattle.valuation.specs.Auctions.{atom_of, or_atoms_of}
 use Rattle.valuation.specs.Conflicts.{atom_at}
 use Rattle.valuation.specs.Values.{atoms_of, plain_atom, or_value, xor_value}
-use Rattle.valuation.specs.Lemmas.AuctionsOfFiles.{IsAuction-auction_from}
 use Rattle.valuation.specs.Lemmas.XorValues.{xor_value-nil, xor_value-least}
 use Rattle.prune.specs.Lemmas.Lists.{Contains-head, Contains-tail}
 use Rattle.prune.specs.Lemmas.Values.{xor_value-member}
@@ -25,7 +24,9 @@ use Rattle.prune.specs.Lemmas.Reached.{search-within}
 use Rattle.prune.specs.Points.{or_points}
 use Rattle.valuation.specs.Packings.{IsPackingFor}
 use Rattle.prune.specs.Reached.{HaveGoods, IsPointFor}
-use Rattle.prune.specs.SearchSteps.{atoms_inside, cut_steps, greatest_price}
+use Rattle.prune.specs.SearchSteps.{greatest_price, steps_for}
+use Rattle.valuation.specs.declared.search_kind.SearchKind.{SearchKind}
+use Rattle.valuation.specs.declared.search_kind.SearchKind.TheVariants.{Bounded}
 use Rattle.canon.specs.Canonical.{bid_from}
 use Rattle.canon.specs.Renaming.{kept_bids, points_of_dummy}
 use Rattle.explain.specs.Bids.{bid_at, bidder_of}
@@ -107,18 +108,16 @@ module _ {S : Type 0} (goods : S → List ℕ) (known : Known S) (is : IsKnown g
       (alike_from (bid_at f b.0) own (record { bidder = same_bidder; goods = same_goods })) in
       drop.no_point r.0 (b.1.kept.is ∙ ap (λ (n : ℕ). Some (bid_at f n)) one)
 
-  pub or_within : own.dummy ≡ None → 1 + cut_steps (atoms_inside all (goods atom.bundle)) (goods atom.bundle) atom.price ≤ known.limit
+  pub or_within : own.dummy ≡ None → steps_for Bounded all (goods atom.bundle) atom.price ≤ known.options.each
   or_within none =
       let bids = or_atoms_of f.bids in
       let greatest : greatest_price bids own.goods ≡ own.price = greatest-is-best f i within drop.bid.best none in
       let positive = drop.bid.positive in
-      let auction = IsAuction-auction_from f.goods f is.plain (omega arith) in
-      let steps = search-within f.goods known.limit bids own.goods auction.or_atoms (bundle_here f is.plain i within) is.within (omega arith)
-      (no_point_there none) in
-      subst (λ (p : ℕ). 1 + cut_steps (atoms_inside all (goods atom.bundle)) (goods atom.bundle) p ≤ known.limit) (greatest ∙ sym price_is)
-      (subst (λ (xs : List ℕ). 1 + cut_steps (atoms_inside all xs) xs (greatest_price bids own.goods) ≤ known.limit) (sym bundle_is)
-      (subst (λ (ys : List (Atom (List ℕ))). 1 + cut_steps (atoms_inside ys own.goods) own.goods (greatest_price bids own.goods) ≤ known.limit)
-      (sym (or_all none)) steps))
+      let steps = subst (λ (k : SearchKind). steps_for k (or_points f.goods bids) own.goods (greatest_price bids own.goods) ≤ known.options.each) is.bounded
+      (search-within known.options f.goods bids own.goods (bundle_here f is.plain i within) is.within (omega arith) (no_point_there none)) in
+      subst (λ (p : ℕ). steps_for Bounded all (goods atom.bundle) p ≤ known.options.each) (greatest ∙ sym price_is)
+      (subst (λ (xs : List ℕ). steps_for Bounded all xs (greatest_price bids own.goods) ≤ known.options.each) (sym bundle_is)
+      (subst (λ (ys : List (Atom (List ℕ))). steps_for Bounded ys own.goods (greatest_price bids own.goods) ≤ known.options.each) (sym (or_all none)) steps))
 
   point_of : (p : ℕ) → p < length all → IsPointOf f own.dummy (atom_at all p) (get_or (points_at known.points own.dummy).numbers.items p 0)
   point_of p l =

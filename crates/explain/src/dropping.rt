@@ -1,13 +1,14 @@
 //! The reason of one bid.
 
-ghost use Rattle.std.specs.Prelude.{◌≡◌, ◌+◌, ◌≤◌, ◌<◌, All, IfOk, IsPermutation, OnOk, length};
+ghost use Rattle.std.specs.Prelude.{◌≡◌, ◌≤◌, ◌<◌, All, IfOk, IsPermutation, OnOk, length};
 ghost use Rattle.std.specs.List.Sorted.{IsSorted};
 ghost use Rattle.std.specs.Ordering.{nat_cmp};
 ghost use Rattle.bid_file.specs.Files.{IsDummyBelow};
 ghost use Rattle.valuation.specs.Values.{atoms_of, or_value, xor_value};
 ghost use Rattle.valuation.specs.Packings.{IsPackingFor};
 ghost use Rattle.prune.specs.Reached.{IsPointFor};
-ghost use Rattle.prune.specs.SearchSteps.{atoms_inside, cut_steps};
+ghost use Rattle.prune.specs.SearchSteps.{steps_for};
+ghost use Rattle.valuation.specs.declared.search_kind.SearchKind.TheVariants.{Bounded};
 ghost use Rattle.explain.specs.Reasons.{plain_reason};
 ghost use Rattle.explain.specs.Internal.Deciding.{IsDecided};
 ghost use Rattle.explain.specs.Internal.Known.{IsCurrent, IsKnown, IsNumberedBid, IsToDrop, values_at};
@@ -20,7 +21,7 @@ use bid_file::PackedFile;
 use goods_set::GoodsSet;
 use prune::PointIndex;
 use std::alloc::{AllocError, Global};
-use valuation::{Atom, ValueFault};
+use valuation::{Atom, SearchOptions, ValueFault};
 
 /// What is known of a file's bids.
 #[derive(Drop)]
@@ -30,8 +31,8 @@ pub(crate) struct Known<'a, S> {
     pub(crate) bids: Vec<NumberedBid<'a>>,
     pub(crate) kept: KeptBids,
     pub(crate) points: FilePoints<S>,
-    /// Of the steps of a search.
-    pub(crate) limit: u64,
+    /// How the searches of the pruning went, within which limits.
+    pub(crate) options: SearchOptions,
 }
 
 /// The index of one bidder's points.
@@ -117,7 +118,7 @@ fn reason_to_drop<'a, S: GoodsSet>(
     current.turn_to(alloc, known, dummy);
     let atom = atom_of::<S>(alloc, &bid.bid)?;
     if dummy.is_none() {
-        let places = found_packing(&mut current.index, &atom, known.limit)?;
+        let places = found_packing(&mut current.index, &atom, known.options.each)?;
         Ok(Reason::Packing(numbers_at(alloc, &points.numbers, &places)?))
     } else {
         let place = found_point(&mut current.index, &atom)?;
@@ -149,8 +150,7 @@ fn found_packing<S: GoodsSet>(
     limit: u64,
 ) -> Result<Vec<usize>, AllocError>
     requires reached { bid.now.price ≤ or_value index.old (S.goods bid.now.bundle) }
-    requires within { let bundle = S.goods bid.now.bundle in
-        1 + cut_steps (atoms_inside index.old bundle) bundle bid.now.price ≤ limit }
+    requires within { steps_for Bounded index.old (S.goods bid.now.bundle) bid.now.price ≤ limit }
     ensures same { index.new ≡ index.old }
     ensures packing { IfOk result (λ places.
         IsPackingFor index.old (S.goods bid.now.bundle) bid.now.price places.items) }

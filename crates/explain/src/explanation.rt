@@ -3,7 +3,8 @@
 ghost use Rattle.std.specs.Prelude.{◌≡◌, ◌≤◌, IfErr, IfOk, None, OnOk, length, map};
 ghost use Rattle.bid_file.specs.Files.{IsPlainFile};
 ghost use Rattle.valuation.specs.Auctions.{auction_from, or_atoms_of};
-ghost use Rattle.prune.specs.SearchSteps.{first_heavy};
+ghost use Rattle.prune.specs.SearchSteps.{first_refused};
+ghost use Rattle.valuation.specs.SearchLimits.{bounded_options};
 ghost use Rattle.canon.specs.Answers.{RefusesAuction};
 ghost use Rattle.explain.specs.Reasons.{Explains, plain_reason};
 ghost use Rattle.explain.specs.Internal.Known.{AreDecided, IsKnown};
@@ -17,17 +18,24 @@ use bid_file::{Bids, PackedFile};
 use canon::{CanonFault, named_normal_file};
 use goods_set::GoodsSet;
 use std::alloc::{AllocError, Global};
-use valuation::on_set_for;
+use valuation::{SearchOptions, on_set_for};
 
-/// For each bid of a file, in the order of numbers, why it is in the canonical file or is not. `limit` bounds each
-/// search that decides on a bundle of the OR bidder, as in `normal_packed_file`, and the same files are refused.
-pub fn explain(alloc: Global, file: &PackedFile, limit: u64) -> Result<Vec<Reason>, CanonFault>
+/// For each bid of a file, in the order of numbers, why it is in the canonical file or is not, by bounded searches.
+/// `limit` bounds the steps of each search that decides on a bundle of the OR bidder, and `total` those of all together,
+/// as in `normal_packed_file`; the same files are refused. The searches that give packings are not counted again.
+pub fn explain(
+    alloc: Global,
+    file: &PackedFile,
+    limit: u64,
+    total: Option<u64>,
+) -> Result<Vec<Reason>, CanonFault>
     requires { IsPlainFile file.now }
     ensures reasons { IfOk result (λ reasons. Explains file.now (map plain_reason reasons.items)) }
-    ensures within { let f = file.now in OnOk result (first_heavy f.goods limit (or_atoms_of f.bids) ≡ None) }
-    ensures refused { IfErr result (λ fault. RefusesAuction limit (auction_from file.now) fault) }
+    ensures within { let f = file.now in
+        OnOk result (first_refused (bounded_options limit total) f.goods (or_atoms_of f.bids) ≡ None) }
+    ensures refused { IfErr result (λ fault. RefusesAuction (bounded_options limit total) (auction_from file.now) fault) }
 {
-    on_set_for!(file, explain_on(alloc, file, limit))
+    on_set_for!(file, explain_on(alloc, file, limit, total))
 }
 
 /// The reasons, by sets of one kind.
@@ -35,14 +43,17 @@ fn explain_on<S: GoodsSet>(
     alloc: Global,
     file: &PackedFile,
     limit: u64,
+    total: Option<u64>,
 ) -> Result<Vec<Reason>, CanonFault>
     requires plain { IsPlainFile file.now }
     requires fits { file.now.goods ≤ S.CAP }
     ensures reasons { IfOk result (λ reasons. Explains file.now (map plain_reason reasons.items)) }
-    ensures within { let f = file.now in OnOk result (first_heavy f.goods limit (or_atoms_of f.bids) ≡ None) }
-    ensures refused { IfErr result (λ fault. RefusesAuction limit (auction_from file.now) fault) }
+    ensures within { let f = file.now in
+        OnOk result (first_refused (bounded_options limit total) f.goods (or_atoms_of f.bids) ≡ None) }
+    ensures refused { IfErr result (λ fault. RefusesAuction (bounded_options limit total) (auction_from file.now) fault) }
 {
-    let named = named_normal_file(alloc, file, limit)?;
+    let options = SearchOptions::bounded(limit, total);
+    let named = named_normal_file(alloc, file, options)?;
     let bids = bids_in_order(alloc, file)?;
     let kept = find_kept(alloc, file, &bids, &named)?;
     let points = points_of::<S>(alloc, file, &named, &kept)?;
@@ -51,7 +62,7 @@ fn explain_on<S: GoodsSet>(
         bids,
         kept,
         points,
-        limit,
+        options,
     };
     Ok(all_reasons(alloc, &known)?)
 }

@@ -8,6 +8,7 @@ use cats_text::read_packed;
 use std::alloc::Global;
 use std::process::Abort;
 use std::test::Fail;
+use valuation::SearchOptions;
 
 /// Steps enough for these files.
 const LIMIT: u64 = 1_000;
@@ -37,7 +38,7 @@ fn check(rt: &impl Abort, alloc: Global, text: &str, expected: &[Expected]) -> R
     let file = read_packed(alloc, text.as_bytes())?;
     let goods = file.goods();
     assert!(rt; goods < 100);
-    let reasons = explain(alloc, &file, LIMIT)?;
+    let reasons = explain(alloc, &file, LIMIT, None)?;
     assert_eq!(rt; reasons.len(), expected.len());
     for (number, wanted) in expected.iter().enumerate() {
         let is_right = match reasons.get(number) {
@@ -155,9 +156,9 @@ fn step_limit(rt: HostRuntime) -> Result<(), Fail> {
     let file = read_packed(rt.alloc(), text.as_bytes())?;
     let goods = file.goods();
     assert_eq!(&rt; goods, 2);
-    let refused = explain(rt.alloc(), &file, 1);
+    let refused = explain(rt.alloc(), &file, 1, None);
     assert!(&rt; refused_goods(refused.err()) == Some(2));
-    let normal = normal_packed_file(rt.alloc(), file, 1);
+    let normal = normal_packed_file(rt.alloc(), file, SearchOptions::bounded(1, None));
     assert!(&rt; refused_goods(normal.err()) == Some(2));
     Ok(())
 }

@@ -1,10 +1,11 @@
 //! `PointIndex`: the kept points, found by their goods. It answers which of them reach the price of a dropped bid.
-ghost use Rattle.std.specs.Prelude.{◌≡◌, ◌+◌, ◌<◌, ◌≤◌, None, IfOk, IfSome, IsErrOf};
+ghost use Rattle.std.specs.Prelude.{◌≡◌, ◌<◌, ◌≤◌, None, IfOk, IfSome, IsErrOf};
 ghost use Rattle.valuation.specs.Values.{atoms_of, or_value, xor_value};
-ghost use Rattle.prune.specs.Internal.PointIndexes.{IsPlainFinder, MayFind};
+ghost use Rattle.prune.specs.Internal.PointIndexes.{IsBoundedFinder, MayFind};
 ghost use Rattle.valuation.specs.Packings.{IsPackingFor};
 ghost use Rattle.prune.specs.Reached.{HaveGoods, IsPointFor};
-ghost use Rattle.prune.specs.SearchSteps.{atoms_inside, cut_steps};
+ghost use Rattle.prune.specs.SearchSteps.{steps_for};
+ghost use Rattle.valuation.specs.declared.search_kind.SearchKind.TheVariants.{Bounded};
 
 use crate::packing_finder::PackingFinder;
 use crate::subset_index::SubsetIndex;
@@ -45,14 +46,14 @@ fn finder_of<S: GoodsSet>(
     made: Option<PackingFinder>,
 ) -> Result<PackingFinder, AllocError>
     requires { MayFind (atoms_of S.goods points.now) made }
-    ensures { IfOk result (λ finder. IsPlainFinder (atoms_of S.goods points.now) finder) }
+    ensures { IfOk result (λ finder. IsBoundedFinder (atoms_of S.goods points.now) finder) }
 {
     if let Some(finder) = made {
         return Ok(finder);
     }
     let mut index = SubsetIndex::of(alloc, points)?;
     index.list_all(points)?;
-    let finder = PackingFinder::of(alloc, index, SearchKind::Plain)?;
+    let finder = PackingFinder::of(alloc, index, SearchKind::Bounded)?;
     Ok(finder)
 }
 
@@ -91,8 +92,8 @@ impl<'a, S: GoodsSet> PointIndex<'a, S> {
         Ok(found)
     }
 
-    /// The places of points that share no good, are inside the bid's bundle and reach its price together, rising. The
-    /// search is the one that decided on the bid, if no point is on its bundle.
+    /// The places of points that share no good, are inside the bid's bundle and reach its price together, rising, by a
+    /// bounded search. It is the one that decided on the bid, if the pruning was bounded and no point is on the bundle.
     pub fn packing_for(
         &mut self,
         bid: &Atom<S>,
@@ -103,9 +104,8 @@ impl<'a, S: GoodsSet> PointIndex<'a, S> {
             IsPackingFor self.old (S.goods bid.now.bundle) bid.now.price places.items)) }
         ensures none { IfOk result (λ found. found ≡ None
             → or_value self.old (S.goods bid.now.bundle) < bid.now.price) }
-        ensures step_limit { let bundle = S.goods bid.now.bundle in
-            IsErrOf result ValueFault.StepLimit
-            → limit < 1 + cut_steps (atoms_inside self.old bundle) bundle bid.now.price }
+        ensures step_limit { IsErrOf result ValueFault.StepLimit
+            → limit < steps_for Bounded self.old (S.goods bid.now.bundle) bid.now.price }
     {
         let points = self.points;
         let mut finder = finder_of(self.alloc, points, self.finder.take())?;

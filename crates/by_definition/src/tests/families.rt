@@ -12,6 +12,7 @@ use cats_text::{read, read_packed};
 use std::alloc::{AllocError, Global};
 use std::process::Abort;
 use std::test::Fail;
+use valuation::SearchOptions;
 
 /// How large the auctions of a family are.
 #[derive(Clone, Copy)]
@@ -223,7 +224,7 @@ fn expect_place(
 ) -> Result<(), Fail> {
     let expected = first_same(alloc, members, member)?;
     let file = read_packed(alloc, member.text.as_bytes())?;
-    let place = index.add(alloc, file, AMPLE)?;
+    let place = index.add(alloc, file, SearchOptions::plain(AMPLE))?;
     assert_eq!(rt; place, expected);
     Ok(())
 }

@@ -14,7 +14,7 @@ const POINTS: &[PricedGoods] = &[(&[0], 3), (&[1], 4), (&[2], 5), (&[0, 1], 8)];
 
 // Bids, and the places of the packing that reaches the price, or none.
 static PACKINGS: [(PricedGoods, &[usize]); 4] = [
-    ((&[0, 1, 2], 12), &[0, 1, 2]),
+    ((&[0, 1, 2], 12), &[2, 3]),
     ((&[0, 1, 2], 13), &[2, 3]),
     ((&[1, 2], 9), &[1, 2]),
     ((&[0, 1, 2], 14), &[]),
@@ -57,14 +57,14 @@ fn packings<S: GoodsSet>(rt: &impl Abort, alloc: Global) -> Result<(), Fail> {
     Ok(())
 }
 
-// The search for the first packing above enters 4 packings, the empty one too.
+// The search for the first packing above enters 3 packings: none, the point on two goods, and the same with the third good.
 fn steps_of_packing<S: GoodsSet>(rt: &impl Abort, alloc: Global) -> Result<(), Fail> {
     let points = row_on::<S>(rt, alloc, POINTS)?;
     let mut index = PointIndex::of(alloc, &points);
     let bid = bid_of(rt, alloc, &PACKINGS[0].0)?;
-    assert!(rt; matches!(&index.packing_for(&bid, 4), Ok(Some(_))));
+    assert!(rt; matches!(&index.packing_for(&bid, 3), Ok(Some(_))));
     let mut index = PointIndex::of(alloc, &points);
-    assert!(rt; matches!(&index.packing_for(&bid, 3), Err(ValueFault::StepLimit)));
+    assert!(rt; matches!(&index.packing_for(&bid, 2), Err(ValueFault::StepLimit)));
     Ok(())
 }
 

@@ -11,6 +11,7 @@ use Rattle.std.proofs.lemmas.List.Sorted.{IsPermutation-map}
 use Rattle.bid_file.specs.declared.limits.TheConstants.{MAX_GOODS, MAX_DUMMY}
 use Rattle.goods_set.specs.Lemmas.Members.{AreBelow-higher}
 use Rattle.valuation.specs.declared.atom.Atom.{Atom}
+use Rattle.valuation.specs.declared.search_options.SearchOptions.{SearchOptions}
 use Rattle.valuation.specs.Auctions.{PlainAuction, IsAtom, IsAuction}
 use Rattle.valuation.specs.Lemmas.Atoms.{length-atoms_of}
 use Rattle.valuation.specs.Bidders.{bidders_of}
@@ -19,7 +20,7 @@ use Rattle.valuation.specs.Lemmas.Sorting.{sorted_is_sort_by}
 use Rattle.valuation.specs.Values.{atoms_of}
 use Rattle.prune.specs.Lemmas.Lists.{Contains-head, zero_or_more}
 use Rattle.prune.specs.Points.{xor_points, or_points}
-use Rattle.prune.specs.SearchSteps.{first_heavy}
+use Rattle.prune.specs.SearchSteps.{first_refused}
 use Rattle.canon.specs.Canonical.{canonical_auction}
 use Rattle.canon.specs.Internal.KeyedBidders.{NumberedBidder, numbered_points, numbered_cmp, kept_numbers}
 use Rattle.canon.specs.Lemmas.Renaming.{map-sorted}
@@ -166,5 +167,6 @@ module _ (cap : ℕ) (a : PlainAuction) (facts : IsAuction cap a) (n : ℕ) (ors
   number_parts unsorted numbers k e =
       e ∙ ap (λ (bs : List NumberedBidder). map (λ b. b.number) (sort_by numbered_cmp bs)) (k n made.xor_atoms) ∙ ap kept_numbers (sym parts)
 
-  pub parts_within_limit : (limit : ℕ) → ((m : ℕ) → All (IsAtom m) ors → first_heavy m limit ors ≡ None) → first_heavy a.goods limit a.or_atoms ≡ None
-  parts_within_limit limit h = ap (λ (x : PlainAuction). first_heavy x.goods limit x.or_atoms) parts ∙ h n made.or_atoms
+  pub parts_within_limit : (options : SearchOptions) → ((m : ℕ) → All (IsAtom m) ors → first_refused options m ors ≡ None)
+      → first_refused options a.goods a.or_atoms ≡ None
+  parts_within_limit options h = ap (λ (x : PlainAuction). first_refused options x.goods x.or_atoms) parts ∙ h n made.or_atoms

@@ -10,14 +10,15 @@ use Rattle.cats_text.specs.declared.read_fault.ReadFault.{ReadFault}
 use Rattle.cats_text.proofs.Writing.Spells as laid_out
 use Rattle.cats_text.proofs.Spelling.Files.{spells_from_no_fault, no_fault_from_spells, spells_one}
 use Rattle.valuation.specs.Auctions.{PlainAuction, IsAuction, or_atoms_of, auction_from}
+use Rattle.valuation.specs.declared.search_options.SearchOptions.{SearchOptions}
 use Rattle.valuation.specs.Lemmas.AuctionsOfFiles.{IsAuction-auction_from}
 use Rattle.prune.specs.Points.{or_points}
-use Rattle.prune.specs.SearchSteps.{first_heavy}
-use Rattle.prune.specs.Lemmas.Refusals.{no_heavy_point}
+use Rattle.prune.specs.SearchSteps.{first_refused}
+use Rattle.prune.specs.Lemmas.Refusals.{no_refused_point}
 use Rattle.prune.specs.Lemmas.KeptBids.{on_bundles}
 use Rattle.canon.specs.Sameness.{IsSameAuction, AreSameFiles, AreSameTexts}
 use Rattle.canon.specs.Canonical.{canonical_auction, file_from, canonical_file, canonical_text}
-use Rattle.canon.specs.Normalising.{Normalised, IsNoFile, ExceedsSteps, IsText, HasOutcome, IsNormalised, Normalises, SpellsCanonicalFile, unless_heavy}
+use Rattle.canon.specs.Normalising.{Normalised, IsNoFile, ExceedsSteps, IsText, HasOutcome, IsNormalised, Normalises, SpellsCanonicalFile, unless_refused}
 use Rattle.canon.specs.Normalising.{normalised_file}
 use Rattle.canon.proofs.CanonicalAuctions.Atoms.{HasAtoms}
 use Rattle.canon.proofs.CanonicalAuctions.Sames.{HasAtoms-auction, canonical_is_same, same_canonical, same_from_canonical, canonical_is_fixed}
@@ -63,58 +64,59 @@ same_from_text f g h k e =
 
 -- ---- what normalising answers
 
--- the text spells a file without a heavy bundle, whose canonical text is this
-pub record IsNormalText (limit : ℕ) (text out : List ℕ) : Type 0 where
+-- the text spells a file of which no bundle is refused, whose canonical text is this
+pub record IsNormalText (options : SearchOptions) (text out : List ℕ) : Type 0 where
   pub file : PlainFile
   pub spelled : Spells text file
-  pub within_limit : first_heavy file.goods limit (or_atoms_of file.bids) ≡ None
+  pub within_limit : first_refused options file.goods (or_atoms_of file.bids) ≡ None
   pub is : out ≡ canonical_text file
 
-pub text_of_file : (limit : ℕ) (f : PlainFile) (out : List ℕ) → normalised_file limit f ≡ IsText out → (first_heavy f.goods limit (or_atoms_of f.bids) ≡ None)
+pub text_of_file : (options : SearchOptions) (f : PlainFile) (out : List ℕ) → normalised_file options f ≡ IsText out
+    → (first_refused options f.goods (or_atoms_of f.bids) ≡ None)
     × (out ≡ canonical_text f)
-text_of_file limit f out = by (first_heavy f.goods limit (or_atoms_of f.bids)) refl
+text_of_file options f out = by (first_refused options f.goods (or_atoms_of f.bids)) refl
   where
-    by : (o : Option (List ℕ)) → first_heavy f.goods limit (or_atoms_of f.bids) ≡ o → unless_heavy f o ≡ IsText out
-        → (first_heavy f.goods limit (or_atoms_of f.bids) ≡ None) × (out ≡ canonical_text f)
+    by : (o : Option (List ℕ)) → first_refused options f.goods (or_atoms_of f.bids) ≡ o → unless_refused f o ≡ IsText out
+        → (first_refused options f.goods (or_atoms_of f.bids) ≡ None) × (out ≡ canonical_text f)
     by None e q = (e, cc)
     by (Some goods) e q = absurd (cc)
 
-pub text_from_normalised : (limit : ℕ) (text out : List ℕ) → Normalises limit text (IsText out) → IsNormalText limit text out
-text_from_normalised limit text out n = let r = text_of_file limit n.file out n.is in record {
+pub text_from_normalised : (options : SearchOptions) (text out : List ℕ) → Normalises options text (IsText out) → IsNormalText options text out
+text_from_normalised options text out n = let r = text_of_file options n.file out n.is in record {
   file = n.file;
   spelled = n.spelled;
   within_limit = r.0;
   is = r.1;
 }
 
-pub normalised_from_text : (limit : ℕ) (text out : List ℕ) → IsNormalText limit text out → Normalises limit text (IsText out)
-normalised_from_text limit text out n = record {
+pub normalised_from_text : (options : SearchOptions) (text out : List ℕ) → IsNormalText options text out → Normalises options text (IsText out)
+normalised_from_text options text out n = record {
   file = n.file;
   spelled = n.spelled;
-  is = ap (unless_heavy n.file) n.within_limit ∙ ap IsText (sym n.is);
+  is = ap (unless_refused n.file) n.within_limit ∙ ap IsText (sym n.is);
 }
 
 -- each text has one outcome
-pub has_outcome : (limit : ℕ) (text : List ℕ) → IsNormalised limit text
-has_outcome limit text = by (first_fault text) refl
+pub has_outcome : (options : SearchOptions) (text : List ℕ) → IsNormalised options text
+has_outcome options text = by (first_fault text) refl
   where
-    of_file : (f : PlainFile) → Spells text f → (o : Option (List ℕ)) → first_heavy f.goods limit (or_atoms_of f.bids) ≡ o → IsNormalised limit text
-    of_file f s None e = record { outcome = IsText (canonical_text f); normalises = record { file = f; spelled = s; is = ap (unless_heavy f) e } }
-    of_file f s (Some goods) e = record { outcome = ExceedsSteps goods; normalises = record { file = f; spelled = s; is = ap (unless_heavy f) e } }
+    of_file : (f : PlainFile) → Spells text f → (o : Option (List ℕ)) → first_refused options f.goods (or_atoms_of f.bids) ≡ o → IsNormalised options text
+    of_file f s None e = record { outcome = IsText (canonical_text f); normalises = record { file = f; spelled = s; is = ap (unless_refused f) e } }
+    of_file f s (Some goods) e = record { outcome = ExceedsSteps goods; normalises = record { file = f; spelled = s; is = ap (unless_refused f) e } }
 
-    by : (o : Option ReadFault) → first_fault text ≡ o → IsNormalised limit text
+    by : (o : Option ReadFault) → first_fault text ≡ o → IsNormalised options text
     by None e = of_file (spelled_file text) (spells_from_no_fault text e)
-        (first_heavy (spelled_file text).goods limit (or_atoms_of (spelled_file text).bids)) refl
+        (first_refused options (spelled_file text).goods (or_atoms_of (spelled_file text).bids)) refl
     by (Some fault) e = record { outcome = IsNoFile fault; normalises = e }
 
-module _ (limit : ℕ) (text : List ℕ) where
-  no_outcome : (fault : ReadFault) (o : Normalised) → first_fault text ≡ Some fault → HasOutcome limit text o → ⊥
+module _ (options : SearchOptions) (text : List ℕ) where
+  no_outcome : (fault : ReadFault) (o : Normalised) → first_fault text ≡ Some fault → HasOutcome options text o → ⊥
   no_outcome fault o e n = let none = no_fault_from_spells text n.file n.spelled in absurd (cc)
 
-  same_outcome : (one other : Normalised) → HasOutcome limit text one → HasOutcome limit text other → one ≡ other
-  same_outcome one other p q = sym p.is ∙ ap (normalised_file limit) (spells_one text p.file q.file p.spelled q.spelled) ∙ q.is
+  same_outcome : (one other : Normalised) → HasOutcome options text one → HasOutcome options text other → one ≡ other
+  same_outcome one other p q = sym p.is ∙ ap (normalised_file options) (spells_one text p.file q.file p.spelled q.spelled) ∙ q.is
 
-  pub one_outcome : (one other : Normalised) → Normalises limit text one → Normalises limit text other → one ≡ other
+  pub one_outcome : (one other : Normalised) → Normalises options text one → Normalises options text other → one ≡ other
   one_outcome (IsNoFile a) (IsNoFile b) p q = cc
   one_outcome (IsNoFile a) (ExceedsSteps goods) p q = absurd (no_outcome a (ExceedsSteps goods) p q)
   one_outcome (IsNoFile a) (IsText out) p q = absurd (no_outcome a (IsText out) p q)
@@ -126,8 +128,8 @@ module _ (limit : ℕ) (text : List ℕ) where
   one_outcome (IsText out) (IsText other) p q = same_outcome (IsText out) (IsText other) p q
 
 -- what normalising gives, normalised again
-pub normalised_again : (limit : ℕ) (text out : List ℕ) → IsNormalText limit text out → IsNormalText limit out out
-normalised_again limit text out n =
+pub normalised_again : (options : SearchOptions) (text out : List ℕ) → IsNormalText options text out → IsNormalText options out out
+normalised_again options text out n =
     let f = n.file in
     let facts : IsPlainFile f = n.spelled.facts in
     let atoms = HasAtoms-file f facts in
@@ -136,14 +138,18 @@ normalised_again limit text out n =
     record {
       file = canonical_file f;
       spelled = subst (λ (t : List ℕ). Spells t (canonical_file f)) (sym n.is) (laid_out.layout_spells (canonical_file f) (IsPlainFile-canonical f facts));
-      within_limit = ap (first_heavy f.goods limit) ors ∙ no_heavy_point f.goods limit (or_atoms_of f.bids)
+      within_limit = ap (first_refused options f.goods) ors ∙ no_refused_point options f.goods (or_atoms_of f.bids)
           (on_bundles f.goods (or_atoms_of f.bids) atoms.or_atoms)
           n.within_limit;
       is = n.is ∙ ap layout (sym (canonical_file_is_fixed f facts));
     }
 
+-- a text has one canonical text, whatever the searches and their limits
+pub one_canonical_text : (m n : SearchOptions) (text s t : List ℕ) → IsNormalText m text s → IsNormalText n text t → s ≡ t
+one_canonical_text m n text s t p q = p.is ∙ ap canonical_text (spells_one text p.file q.file p.spelled q.spelled) ∙ sym q.is
+
 -- two outputs are equal exactly for texts of the same auction
-pub equal_texts : (m n : ℕ) (one other s t : List ℕ) → IsNormalText m one s → IsNormalText n other t → s ≡ t → AreSameTexts one other
+pub equal_texts : (m n : SearchOptions) (one other s t : List ℕ) → IsNormalText m one s → IsNormalText n other t → s ≡ t → AreSameTexts one other
 equal_texts m n one other s t p q e = record {
   first = p.file;
   second = q.file;
@@ -152,7 +158,7 @@ equal_texts m n one other s t p q e = record {
   same = same_from_text p.file q.file p.spelled.facts q.spelled.facts (sym p.is ∙ e ∙ q.is);
 }
 
-pub texts_equal : (m n : ℕ) (one other s t : List ℕ) → IsNormalText m one s → IsNormalText n other t → AreSameTexts one other → s ≡ t
+pub texts_equal : (m n : SearchOptions) (one other s t : List ℕ) → IsNormalText m one s → IsNormalText n other t → AreSameTexts one other → s ≡ t
 texts_equal m n one other s t p q same =
     let f = spells_one one same.first p.file same.first_spelled p.spelled in
     let g = spells_one other same.second q.file same.second_spelled q.spelled in
@@ -161,11 +167,11 @@ texts_equal m n one other s t p q same =
     p.is ∙ same_text p.file q.file p.spelled.facts q.spelled.facts files ∙ sym q.is
 
 -- the text that normalising gives spells the canonical file
-pub spells_canonical : (limit : ℕ) (text out : List ℕ) → IsNormalText limit text out → SpellsCanonicalFile text out
+pub spells_canonical : (options : SearchOptions) (text out : List ℕ) → IsNormalText options text out → SpellsCanonicalFile text out
 unfolding normalised_again
-spells_canonical limit text out n = record {
+spells_canonical options text out n = record {
   file = n.file;
   spelled = n.spelled;
-  canonical_spelled = (normalised_again limit text out n).spelled;
+  canonical_spelled = (normalised_again options text out n).spelled;
   same = canonical_file_is_same n.file n.spelled.facts;
 }

@@ -17,6 +17,7 @@ use Rattle.cats_text.specs.declared.read_fault.ReadFault.{ReadFault}
 use Rattle.canon.specs.Refusals.{refusal_of}
 use Rattle.cats_text.proofs.Spelling.Files.{spells_one}
 use Rattle.valuation.specs.declared.atom.Atom.{Atom}
+use Rattle.valuation.specs.declared.search_options.SearchOptions.{SearchOptions}
 use Rattle.valuation.specs.Lemmas.AuctionsOfFiles.{IsAuction-auction_from}
 use Rattle.valuation.specs.Auctions.{PlainAuction, IsAuction, auction_from}
 use Rattle.canon.specs.Answers.{NormalisesPlainAs, RefusesText}
@@ -116,18 +117,19 @@ module _ (f g : PlainFile) (h : IsPlainFile f) (k : IsPlainFile g) where
 
 -- ---- the first step: a text is read and made canonical
 
-pub normal_from_file : (limit : ℕ) (text : List ℕ) (f : PlainFile) → Spells text f → (r : Result PlainFile CanonFault) → NormalisesPlainAs limit f r
-    → ReadsNormalAs limit text r
-normal_from_file limit text f s (Ok h) n = record { file = f; spelled = s; normal = n }
-normal_from_file limit text f s (Err fault) n = refused_text limit text f s fault (refused_file limit f fault n)
+pub normal_from_file : (options : SearchOptions) (text : List ℕ) (f : PlainFile) → Spells text f → (r : Result PlainFile CanonFault)
+    → NormalisesPlainAs options f r
+    → ReadsNormalAs options text r
+normal_from_file options text f s (Ok h) n = record { file = f; spelled = s; normal = n }
+normal_from_file options text f s (Err fault) n = refused_text options text f s fault (refused_file options f fault n)
 
-pub normal_unread : (limit : ℕ) (text : List ℕ) (why : ReadFault) → (first_fault text ≡ Some why) ⊎ WantsMemory text why
-    → (r : Result PlainFile CanonFault) → IsErrAnd r (λ fault. fault ≡ refusal_of why) → ReadsNormalAs limit text r
-normal_unread limit text why h (Ok file) is = absurd is
-normal_unread limit text why h (Err fault) is = subst (RefusesText limit text) (sym is) (unread_text limit text why h)
+pub normal_unread : (options : SearchOptions) (text : List ℕ) (why : ReadFault) → (first_fault text ≡ Some why) ⊎ WantsMemory text why
+    → (r : Result PlainFile CanonFault) → IsErrAnd r (λ fault. fault ≡ refusal_of why) → ReadsNormalAs options text r
+normal_unread options text why h (Ok file) is = absurd is
+normal_unread options text why h (Err fault) is = subst (RefusesText options text) (sym is) (unread_text options text why h)
 
-module _ (limit : ℕ) (text : List ℕ) (h : PlainFile) (n : IsNormalFileOf limit text h) where
-  pub text_within_limit : SpellsWithinLimit limit text
+module _ (options : SearchOptions) (text : List ℕ) (h : PlainFile) (n : IsNormalFileOf options text h) where
+  pub text_within_limit : SpellsWithinLimit options text
   text_within_limit = record { file = n.file; spelled = n.spelled; within_limit = n.normal.within_limit }
 
   pub canonical_of_text : IsCanonicalFile h
@@ -141,26 +143,26 @@ module _ (limit : ℕ) (text : List ℕ) (h : PlainFile) (n : IsNormalFileOf lim
 
 -- ---- both texts have a canonical file
 
-module _ (limit : ℕ) (one other : List ℕ) (h k : PlainFile) (n : IsNormalFileOf limit one h) (m : IsNormalFileOf limit other k) where
+module _ (options : SearchOptions) (one other : List ℕ) (h k : PlainFile) (n : IsNormalFileOf options one h) (m : IsNormalFileOf options other k) where
   same_difference : first_difference (auction_from n.file) (auction_from m.file) ≡ first_difference (auction_from h) (auction_from k)
   same_difference =
-      difference_of_same_files n.file h m.file k n.spelled.facts (plain_of_text limit one h n) m.spelled.facts (plain_of_text limit other k m)
-      (same_of_text limit one h n) (same_of_text limit other k m)
+      difference_of_same_files n.file h m.file k n.spelled.facts (plain_of_text options one h n) m.spelled.facts (plain_of_text options other k m)
+      (same_of_text options one h n) (same_of_text options other k m)
 
-  differ_by : (difference : Difference) → difference ≡ first_difference (auction_from h) (auction_from k) → Differ limit one other difference
+  differ_by : (difference : Difference) → difference ≡ first_difference (auction_from h) (auction_from k) → Differ options one other difference
   unfolding text_within_limit
-  differ_by difference d = record { first = text_within_limit limit one h n; second = text_within_limit limit other k m; is = same_difference ∙ sym d }
+  differ_by difference d = record { first = text_within_limit options one h n; second = text_within_limit options other k m; is = same_difference ∙ sym d }
 
   both_refused : (refusal : Which × CanonFault) → (refusal.0 ≡ Both) × (refusal.1 ≡ Memory)
-      → NamesGoods (first_difference (auction_from h) (auction_from k)) → RefusesOf limit one other refusal.0 refusal.1
+      → NamesGoods (first_difference (auction_from h) (auction_from k)) → RefusesOf options one other refusal.0 refusal.1
   both_refused (which, fault) e named =
-      subst (λ (w : Which). RefusesOf limit one other w fault) (sym e.0)
+      subst (λ (w : Which). RefusesOf options one other w fault) (sym e.0)
       (record { difference = first_difference (auction_from h) (auction_from k); differ = differ_by _ refl; named = named }, e.1)
 
   pub compared_as : (r : Result Verdict (Which × CanonFault))
       → IfOk r (λ verdict. plain_verdict verdict ≡ first_difference (auction_from h) (auction_from k))
       → IfErr r (λ refusal. (refusal.0 ≡ Both) × (refusal.1 ≡ Memory))
-      → OnErr r (NamesGoods (first_difference (auction_from h) (auction_from k))) → ComparesAs limit one other r
+      → OnErr r (NamesGoods (first_difference (auction_from h) (auction_from k))) → ComparesAs options one other r
   compared_as (Ok verdict) d e named = differ_by (plain_verdict verdict) d
   compared_as (Err refusal) d e named = both_refused refusal e named
 
@@ -170,8 +172,9 @@ module _ (limit : ℕ) (one other : List ℕ) (h k : PlainFile) (n : IsNormalFil
     second = m.file;
     first_spelled = n.spelled;
     second_spelled = m.spelled;
-    same = same_trans (auction_from n.file) (auction_from h) (auction_from m.file) (same_of_text limit one h n)
-        (same_trans (auction_from h) (auction_from k) (auction_from m.file) s (same_sym (auction_from m.file) (auction_from k) (same_of_text limit other k m)));
+    same = same_trans (auction_from n.file) (auction_from h) (auction_from m.file) (same_of_text options one h n)
+        (same_trans (auction_from h) (auction_from k) (auction_from m.file) s
+        (same_sym (auction_from m.file) (auction_from k) (same_of_text options other k m)));
   }
 
   same_files : AreSameTexts one other → AreSameFiles h k
@@ -180,8 +183,8 @@ module _ (limit : ℕ) (one other : List ℕ) (h k : PlainFile) (n : IsNormalFil
       let g = spells_one other t.second m.file t.second_spelled m.spelled in
       let files : AreSameFiles n.file m.file =
       subst (λ (x : PlainFile). AreSameFiles x m.file) f (subst (λ (x : PlainFile). AreSameFiles t.first x) g t.same) in
-      same_trans (auction_from h) (auction_from n.file) (auction_from k) (same_sym (auction_from n.file) (auction_from h) (same_of_text limit one h n))
-      (same_trans (auction_from n.file) (auction_from m.file) (auction_from k) files (same_of_text limit other k m))
+      same_trans (auction_from h) (auction_from n.file) (auction_from k) (same_sym (auction_from n.file) (auction_from h) (same_of_text options one h n))
+      (same_trans (auction_from n.file) (auction_from m.file) (auction_from k) files (same_of_text options other k m))
 
   pub same_by_texts : {E : Type 0} (r : Result Verdict E) → IfOk r (λ verdict. verdict ≡ Same ↔ AreSameFiles h k)
       → IfOk r (λ verdict. verdict ≡ Same ↔ AreSameTexts one other)
@@ -190,25 +193,25 @@ module _ (limit : ℕ) (one other : List ℕ) (h k : PlainFile) (n : IsNormalFil
 
 -- ---- one text has none
 
-module _ (limit : ℕ) (one other : List ℕ) where
-  first_of : (refusal : Which × CanonFault) → (refusal.0 ≡ First) × RefusesText limit one refusal.1 → RefusesOf limit one other refusal.0 refusal.1
-  first_of (which, fault) e = subst (λ (w : Which). RefusesOf limit one other w fault) (sym e.0) e.1
+module _ (options : SearchOptions) (one other : List ℕ) where
+  first_of : (refusal : Which × CanonFault) → (refusal.0 ≡ First) × RefusesText options one refusal.1 → RefusesOf options one other refusal.0 refusal.1
+  first_of (which, fault) e = subst (λ (w : Which). RefusesOf options one other w fault) (sym e.0) e.1
 
-  second_of : SpellsWithinLimit limit one → (refusal : Which × CanonFault) → (refusal.0 ≡ Second) × RefusesText limit other refusal.1
-      → RefusesOf limit one other refusal.0 refusal.1
-  second_of within_limit (which, fault) e = subst (λ (w : Which). RefusesOf limit one other w fault) (sym e.0) (within_limit, e.1)
+  second_of : SpellsWithinLimit options one → (refusal : Which × CanonFault) → (refusal.0 ≡ Second) × RefusesText options other refusal.1
+      → RefusesOf options one other refusal.0 refusal.1
+  second_of within_limit (which, fault) e = subst (λ (w : Which). RefusesOf options one other w fault) (sym e.0) (within_limit, e.1)
 
-  pub first_refused : (refusal : Which × CanonFault) → (refusal.0 ≡ First) × RefusesText limit one refusal.1
-      → (r : Result Verdict (Which × CanonFault)) → IsErrAnd r (λ why. why ≡ refusal) → ComparesAs limit one other r
+  pub first_refused : (refusal : Which × CanonFault) → (refusal.0 ≡ First) × RefusesText options one refusal.1
+      → (r : Result Verdict (Which × CanonFault)) → IsErrAnd r (λ why. why ≡ refusal) → ComparesAs options one other r
   first_refused refusal e (Ok verdict) is = absurd is
-  first_refused refusal e (Err why) is = subst (λ (t : Which × CanonFault). RefusesOf limit one other t.0 t.1) (sym is) (first_of refusal e)
+  first_refused refusal e (Err why) is = subst (λ (t : Which × CanonFault). RefusesOf options one other t.0 t.1) (sym is) (first_of refusal e)
 
-  pub second_refused : (h : PlainFile) → IsNormalFileOf limit one h → (refusal : Which × CanonFault)
-      → (refusal.0 ≡ Second) × RefusesText limit other refusal.1
-      → (r : Result Verdict (Which × CanonFault)) → IsErrAnd r (λ why. why ≡ refusal) → ComparesAs limit one other r
+  pub second_refused : (h : PlainFile) → IsNormalFileOf options one h → (refusal : Which × CanonFault)
+      → (refusal.0 ≡ Second) × RefusesText options other refusal.1
+      → (r : Result Verdict (Which × CanonFault)) → IsErrAnd r (λ why. why ≡ refusal) → ComparesAs options one other r
   second_refused h n refusal e (Ok verdict) is = absurd is
   second_refused h n refusal e (Err why) is =
-      subst (λ (t : Which × CanonFault). RefusesOf limit one other t.0 t.1) (sym is) (second_of (text_within_limit limit one h n) refusal e)
+      subst (λ (t : Which × CanonFault). RefusesOf options one other t.0 t.1) (sym is) (second_of (text_within_limit options one h n) refusal e)
 
 -- ---- the walk over two files
 

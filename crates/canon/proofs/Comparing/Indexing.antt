@@ -17,6 +17,7 @@ use Rattle.std.proofs.lemmas.Map.Text.{is_eq-slice_cmp}
 use Rattle.std.proofs.lemmas.Option.{none-some, same_Some, slice_get_within, slice_get-get_or, get_or_from_slice_get}
 use Rattle.bid_file.specs.Files.{PlainFile, IsPlainFile}
 use Rattle.cats_text.specs.Streams.{inner_of, ReadsFile, ReadsAs}
+use Rattle.valuation.specs.declared.search_options.SearchOptions.{SearchOptions}
 use Rattle.cats_text.specs.declared.stream.Watched.{Watched}
 use Rattle.canon.specs.Answers.{RefusesAs}
 use Rattle.canon.specs.Canonical.{canonical_text}
@@ -222,29 +223,29 @@ updated old new text place h other =
 
 -- ---- a file that was read first
 
-pub stream_added : {R : Type 0} (remaining : R → Option (List ℕ)) (limit : ℕ) (old new : TextIndex) (before after : Watched R) (bytes : List ℕ)
+pub stream_added : {R : Type 0} (remaining : R → Option (List ℕ)) (options : SearchOptions) (old new : TextIndex) (before after : Watched R) (bytes : List ℕ)
     (file : PlainFile)
     → Consumes (remaining (inner_of before)) (remaining (inner_of after)) bytes → ReadsFile remaining bytes after file
     → (answer : Result ℕ CanonFault) → IfOk answer (AddsText old new (canonical_text file))
-    → OnOk answer (normalised_file limit file ≡ IsText (canonical_text file))
-    → IfErr answer (RefusesAs (normalised_file limit file)) → OnErr answer (new ≡ old) → AddsStream remaining limit old new before after answer
-stream_added remaining limit old new before after bytes file consumes reads (Ok place) added within_limit refused unchanged = record {
+    → OnOk answer (normalised_file options file ≡ IsText (canonical_text file))
+    → IfErr answer (RefusesAs (normalised_file options file)) → OnErr answer (new ≡ old) → AddsStream remaining options old new before after answer
+stream_added remaining options old new before after bytes file consumes reads (Ok place) added within_limit refused unchanged = record {
   bytes = bytes;
   consumes = consumes;
   adds = record { file = file; reads = reads; within_limit = within_limit; added = added };
 }
-stream_added remaining limit old new before after bytes file consumes reads (Err fault) added within_limit refused unchanged = record {
+stream_added remaining options old new before after bytes file consumes reads (Err fault) added within_limit refused unchanged = record {
   bytes = bytes;
   consumes = consumes;
   adds = (unchanged, inr (record { file = file; reads = reads; refused = refused }));
 }
 
 -- nothing is added of a file that was not read
-pub stream_unread : {R : Type 0} (remaining : R → Option (List ℕ)) (limit : ℕ) (index : TextIndex) (before after : Watched R) (bytes : List ℕ)
+pub stream_unread : {R : Type 0} (remaining : R → Option (List ℕ)) (options : SearchOptions) (index : TextIndex) (before after : Watched R) (bytes : List ℕ)
     (why : ReadFault) → Consumes (remaining (inner_of before)) (remaining (inner_of after)) bytes → ReadsAs remaining bytes after (Err why)
-    → (answer : Result ℕ CanonFault) → IsErrAnd answer (λ fault. fault ≡ refusal_of why) → AddsStream remaining limit index index before after answer
-stream_unread remaining limit index before after bytes why consumes reads (Ok place) is = absurd is
-stream_unread remaining limit index before after bytes why consumes reads (Err fault) is = record {
+    → (answer : Result ℕ CanonFault) → IsErrAnd answer (λ fault. fault ≡ refusal_of why) → AddsStream remaining options index index before after answer
+stream_unread remaining options index before after bytes why consumes reads (Ok place) is = absurd is
+stream_unread remaining options index before after bytes why consumes reads (Err fault) is = record {
   bytes = bytes;
   consumes = consumes;
   adds = (refl, inl (record { why = why; reads = reads; is = is }));

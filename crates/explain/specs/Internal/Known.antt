@@ -4,7 +4,8 @@ use Rattle.bid_file.specs.Files.{PlainFile, IsPlainFile, IsDummyBelow}
 use Rattle.bid_file.specs.Views.{seen_bid}
 use Rattle.valuation.specs.Auctions.{or_atoms_of}
 use Rattle.valuation.specs.Values.{atoms_of}
-use Rattle.prune.specs.SearchSteps.{first_heavy}
+use Rattle.prune.specs.SearchSteps.{first_refused}
+use Rattle.valuation.specs.declared.search_kind.SearchKind.TheVariants.{Bounded}
 use Rattle.canon.specs.Renaming.{kept_bids}
 use Rattle.explain.specs.Bids.{bid_at}
 use Rattle.explain.specs.Reasons.{PlainReason, IsBestBid, reason_at}
@@ -21,7 +22,8 @@ pub record IsKnown {S : Type 0} (goods : S → List ℕ) (known : Known S) : Typ
   pub order : AreInOrder known.file.now known.bids.items
   pub kept : AreKept known.file.now known.kept
   pub points : AreFilePoints goods known.file.now (length (kept_bids known.file.now)) known.points
-  pub within : first_heavy known.file.now.goods known.limit (or_atoms_of known.file.now.bids) ≡ None
+  pub bounded : known.options.kind ≡ Bounded
+  pub within : first_refused known.options known.file.now.goods (or_atoms_of known.file.now.bids) ≡ None
 
 -- the index is that of its bidder's points
 pub record IsCurrent {S : Type 0} (goods : S → List ℕ) (known : Known S) (current : CurrentIndex S) : Type 0 where

@@ -8,6 +8,7 @@ use cats_text::read_packed;
 use std::alloc::{AllocError, Global};
 use std::process::Abort;
 use std::test::Fail;
+use valuation::SearchOptions;
 
 const FILES: usize = 500;
 
@@ -234,8 +235,12 @@ fn check_text(rt: &impl Abort, alloc: Global, text: &str) -> Result<(), Fail> {
     let file = read_packed(alloc, text.as_bytes())?;
     let goods = file.goods();
     assert_eq!(rt; u64::from(goods), GOODS);
-    let reasons = explain(alloc, &file, AMPLE)?;
-    let normal = normal_packed_file(alloc, read_packed(alloc, text.as_bytes())?, AMPLE)?;
+    let reasons = explain(alloc, &file, AMPLE, None)?;
+    let normal = normal_packed_file(
+        alloc,
+        read_packed(alloc, text.as_bytes())?,
+        SearchOptions::plain(AMPLE),
+    )?;
     let bids = bids_of(alloc, &file)?;
     let normal_bids = bids_of(alloc, &normal)?;
     let all = Explained {

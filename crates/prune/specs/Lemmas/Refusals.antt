@@ -17,6 +17,9 @@ use Rattle.valuation.specs.declared.atom.Atom.{Atom}
 use Rattle.valuation.specs.declared.search_kind.SearchKind.TheVariants.{Plain}
 use Rattle.valuation.specs.declared.search_options.SearchOptions.{SearchOptions}
 use Rattle.valuation.specs.SearchLimits.{plain_options, least_of, next_steps, total_after, options_after}
+use Rattle.prune.specs.Faults.{IfStepLimit}
+use Rattle.prune.specs.declared.prune_fault.PruneFault.{PruneFault}
+use Rattle.prune.specs.declared.prune_fault.PruneFault.TheVariants.{StepLimit, Memory}
 use Rattle.prune.specs.Points.{or_points}
 use Rattle.prune.specs.SearchSteps.{greatest_price, search_steps_by, searched_bundles, first_over, first_refused, is_heavy, first_heavy, steps_at_most}
 use Rattle.prune.specs.Lemmas.OnBundles.{IsOnBundle}
@@ -308,3 +311,9 @@ refused_load options goods atoms bundle on e none =
     (λ (r : (most : ℕ) × (options.total ≡ Some most) × (most < sum_by (search_steps_by options.kind goods atoms) (searched_bundles goods atoms))).
     absurd (let d : None ≡ Some r.0 = sym none ∙ r.1 in cc))
     (refused_over (search_steps_by options.kind goods atoms) (searched_bundles goods atoms) options bundle e)
+
+-- ---- a fault
+
+pub step_limit_weaker : {S : Type 0} (fault : PruneFault S) (P Q : S → Type 0) → ((s : S) → P s → Q s) → IfStepLimit fault P → IfStepLimit fault Q
+step_limit_weaker (StepLimit s) P Q f h = f s h
+step_limit_weaker Memory P Q f h = tt

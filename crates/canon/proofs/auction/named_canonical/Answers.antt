@@ -16,8 +16,8 @@ use Rattle.canon.proofs.CanonicalAuctions.Smaller.{IsAuction-canonical}
 use Rattle.canon.proofs.auction.named_canonical.Given.{Over}
 use Rattle.canon.proofs.auction.named_canonical.Goals as goal
 
-pub prune_or-requires : goal.prune_or-requires
-prune_or-requires g c =
+pub prune_or_by-requires : goal.prune_or_by-requires
+prune_or_by-requires g c =
     or_part g.S.GoodsSet.CAP (plain_auction c.args.auction) c.args.auction.facts _ _ _ c.into_parts-goods.ensures
 
 pub points_of_each-requires-clause-few : goal.points_of_each-requires-clause-few
@@ -65,7 +65,7 @@ returns-clause-dummies g c =
     ∙ ap (λ (bs : List (KeyedBidder _ g.S.GoodsSet)). map (λ (b : NumberedBidder). b.number) (keyed_bidders bs)) c.deref.ensures.value
     ∙ ap (map (λ (b : NumberedBidder). b.number)) c.sort_bidders.ensures)
 
-pub returns-clause-none_heavy : goal.returns-clause-none_heavy
-returns-clause-none_heavy g c =
-    parts_within_limit g.S.GoodsSet.CAP (plain_auction c.args.auction) c.args.auction.facts _ _ _ c.into_parts-goods.ensures c.args.limit
-    c.in_ok-or_points.ensures.none_heavy
+pub returns-clause-none_refused : goal.returns-clause-none_refused
+returns-clause-none_refused g c =
+    parts_within_limit g.S.GoodsSet.CAP (plain_auction c.args.auction) c.args.auction.facts _ _ _ c.into_parts-goods.ensures c.args.options
+    c.in_ok-or_points.ensures.none_refused

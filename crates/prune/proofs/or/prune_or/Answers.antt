@@ -7,17 +7,11 @@ use Rattle.valuation.specs.Auctions.{IsAtom}
 use Rattle.valuation.specs.SearchLimits.{plain_options}
 use Rattle.valuation.specs.declared.search_options.SearchOptions.{SearchOptions}
 use Rattle.valuation.specs.Values.{atoms_of}
-use Rattle.prune.specs.declared.prune_fault.PruneFault.{PruneFault}
-use Rattle.prune.specs.declared.prune_fault.PruneFault.TheVariants.{StepLimit, Memory}
 use Rattle.prune.specs.Faults.{IfStepLimit}
 use Rattle.prune.specs.SearchSteps.{first_heavy, first_refused, steps_at_most}
-use Rattle.prune.specs.Lemmas.Refusals.{first_refused-plain, refused_load}
+use Rattle.prune.specs.Lemmas.Refusals.{first_refused-plain, refused_load, step_limit_weaker}
 use Rattle.prune.specs.Lemmas.KeptBids.{on_bundles}
 use Rattle.prune.proofs.or.prune_or.Goals as goal
-
-step_limit_weaker : {S : Type 0} (fault : PruneFault S) (P Q : S → Type 0) → ((s : S) → P s → Q s) → IfStepLimit fault P → IfStepLimit fault Q
-step_limit_weaker (StepLimit s) P Q f h = f s h
-step_limit_weaker Memory P Q f h = tt
 
 pub returns-clause-none_heavy : goal.returns-clause-none_heavy
 returns-clause-none_heavy g c =

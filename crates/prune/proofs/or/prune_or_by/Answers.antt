@@ -9,7 +9,6 @@ use Rattle.valuation.specs.declared.search_kind.SearchKind.{SearchKind}
 use Rattle.valuation.specs.declared.search_options.SearchOptions.{SearchOptions}
 use Rattle.valuation.specs.Listed.{AreListsOf}
 use Rattle.valuation.specs.SearchLimits.{next_steps}
-use Rattle.prune.specs.Internal.Reaching.{steps_for}
 use Rattle.prune.specs.Lemmas.KeptBids.{on_bundles}
 use Rattle.prune.proofs.SearchedPlaces.{lists_more}
 use Rattle.prune.proofs.Prefixes.{next_left}
@@ -19,6 +18,7 @@ use Rattle.valuation.specs.Values.{or_value}
 use Rattle.valuation.specs.Lemmas.OrValues.{or_value-price, or_value-filter_le}
 use Rattle.prune.proofs.Pruning.{IsKept-none}
 use Rattle.prune.proofs.Results.{turn_behind, or_more, or_reached, or_missed}
+use Rattle.prune.specs.SearchSteps.{steps_for}
 use Rattle.prune.proofs.or.prune_or_by.Goals as goal
 
 pub list_below-requires-clause-in_order : goal.list_below-requires-clause-in_order
