@@ -1,6 +1,7 @@
 -- What `clap` answers to the program's command line, and what the program makes of it.
 use Rattle.std.proofs.Common.{◌≡◌, ◌∙◌, ℕ, Bool, true, false, List, [], ◌∷◌, Option, Some, None, Result, Ok, Err, ap, sym, subst, refl, inl, inr}
-use Rattle.std.specs.Prelude.{◌||◌, Box, not, option_map, option_and_then}
+use Rattle.std.specs.Prelude.{◌||◌, Box, IfErr, not, option_map, option_and_then}
+use Rattle.std.specs.Option.{option_map_or}
 use Rattle.std.specs.List.{list_any}
 use Rattle.clap.specs.Faults.{fault_of, is_simple_and_free}
 use Rattle.clap.specs.Kinds.{FailsBy, HasKind, IsAmong, Kinds}
@@ -14,10 +15,13 @@ use Rattle.clap.specs.declared.parser.matches.SubCommand.{SubCommand}
 use Rattle.clap.proofs.OnLiterals.{clap_on_literals}
 use Rattle.command_line.specs.Internal.Matches.{IsAnswerTo}
 use Rattle.command_line.specs.PlainRequests.{PlainRequest}
-use Rattle.command_line.specs.Requests.{IsNoRequestOf, if_taken, is_no_memory, is_shown, request_from, request_of}
+use Rattle.command_line.specs.Requests.{IsNoRequestOf, if_taken, is_no_memory, is_shown, misuse_in, misuse_of, request_from, request_of}
 use Rattle.command_line.specs.Subcommands.{cats}
+use Rattle.command_line.specs.declared.request.Misuse.{Misuse}
+use Rattle.command_line.specs.declared.request.Misuse.TheVariants.{WrongFiles}
 use Rattle.command_line.specs.declared.request.NoRequest.{NoRequest}
-use Rattle.command_line.specs.declared.request.NoRequest.TheVariants.{Help, WrongUsage, WrongFiles, NoMemory}
+use Rattle.command_line.specs.declared.request.Request.{Request}
+use Rattle.command_line.specs.declared.request.NoRequest.TheVariants.{Help, WrongUsage, Misused, NoMemory}
 
 -- ---- the command is one of which `clap` says all
 
@@ -60,6 +64,12 @@ pub both_are : {Z : Type 0} (met : Option (Box SubCommand Z)) (name : List ℕ) 
 both_are None name rows named given = cc
 both_are (Some b) name rows named given = cc
 
+-- and why it requests nothing, by the rows of its subcommand
+pub misused : (words : List (List ℕ)) (met : Option (List ℕ × List Row)) (answer : Result Request Misuse) → met ≡ subcommand_of cats words
+    → IfErr answer (λ misuse. misuse ≡ option_map_or (λ p. misuse_in p.1) met WrongFiles) → IfErr answer (λ misuse. misuse ≡ misuse_of words)
+misused words met answer is given =
+    subst (λ (met : Option (List ℕ × List Row)). IfErr answer (λ misuse. misuse ≡ option_map_or (λ p. misuse_in p.1) met WrongFiles)) is given
+
 -- ---- why a line requests nothing
 
 among_shown : (kind : ErrorKind) (kinds : Kinds) (test : ErrorKind → Bool) → test kind ≡ true → IsAmong kind kinds → list_any test kinds ≡ true
@@ -80,7 +90,7 @@ answered words error (Help text) (inl memory) is = let no = memory_is_no_help er
 answered words error (Help text) (inr among) is = among_shown error.kind _ is_shown is among
 answered words error (WrongUsage text) (inl memory) is = absurd (is.1 memory)
 answered words error (WrongUsage text) (inr among) is = among_shown error.kind _ (λ kind. not (is_shown kind)) (ap not is.0) among
-answered words error WrongFiles kind is = absurd is
+answered words error (Misused misuse) kind is = absurd is
 answered words error (NoMemory text) kind is = tt
 
 -- ---- a line with a request
@@ -98,8 +108,8 @@ module _ (words : List (List ℕ)) (request : PlainRequest) (asked : request_of 
   pub only_memory : (answer : NoRequest) → IsNoRequestOf words answer → is_no_memory answer ≡ true
   only_memory (Help text) is = absurd (no_kind is_shown is)
   only_memory (WrongUsage text) is = absurd (no_kind (λ kind. not (is_shown kind)) is)
-  only_memory WrongFiles is = none_found (sym is.1 ∙ asked)
+  only_memory (Misused misuse) is = none_found (sym is.1 ∙ asked)
     where
-      none_found : None ≡ Some request → is_no_memory WrongFiles ≡ true
+      none_found : None ≡ Some request → is_no_memory (Misused misuse) ≡ true
       none_found none = cc
   only_memory (NoMemory text) is = refl

@@ -1,5 +1,6 @@
 -- Proofs that several functions of this crate cite.
 pub mod Answering
 pub mod Lines
+pub mod PlainWords
 pub mod Reading
 pub mod Tables

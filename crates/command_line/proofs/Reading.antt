@@ -1,6 +1,8 @@
 -- What the getters of `clap` read is what the rows say: numbers are read exactly if they are decimal numbers in range.
 use Rattle.std.proofs.Common.{◌++◌, ◌≡◌, ◌<◌, ◌≤◌, ℕ, Bool, true, false, List, [], ◌∷◌, Option, Some, None, Result, Ok, Err, sym, ap, refl, arith, ◌^◌}
-use Rattle.std.specs.Prelude.{option_and_then, option_map}
+use Rattle.std.specs.Borrow.{Bor}
+use Rattle.std.specs.List.{list_any}
+use Rattle.std.specs.Prelude.{◌||◌, option_and_then, option_map}
 use Rattle.std.specs.Option.{option_map_or}
 use Rattle.std.specs.Result.{result_ok}
 use Rattle.std.specs.Str.Parse.{IsNumeral, ParsesUnsigned, digits_value, without_leading_plus}
@@ -8,6 +10,7 @@ use Rattle.clap.specs.Matches.{ReadsOne, StepsValues}
 use Rattle.clap.specs.ValueTests.{is_unsigned_in}
 use Rattle.clap.specs.declared.builder.value_parser.ValueParser.TheVariants.{Unsigned}
 use Rattle.clap.proofs.ValueTestLemmas.{accepts-Accepts, Accepts-accepts}
+use Rattle.command_line.specs.Requests.{texts_of}
 use Rattle.command_line.specs.Subcommands.{number_up_to, numbers_up_to}
 use Rattle.std.proofs.lemmas.List.{append-nil, append_assoc}
 
@@ -41,6 +44,12 @@ pub limit_read : (E : Type 0) (G : List ℕ → Result ℕ E → Type 0) → ((t
 limit_read E G only None answer none value = none refl
 limit_read E G only (Some text) answer none value =
     first_read 64 18446744073709551615 (λ n lt. (lt, omega (arith, lt))) (λ n le. omega (arith, le)) E G only text answer (value text refl)
+
+-- ---- signs
+
+pub any_of_texts : (test : List ℕ → Bool) (words : List (Bor (List ℕ))) → list_any test (texts_of words) ≡ list_any (λ word. test word.now) words
+any_of_texts test [] = refl
+any_of_texts test (word ∷ words) = ap (λ b. test word.now || b) (any_of_texts test words)
 
 -- ---- goods
 

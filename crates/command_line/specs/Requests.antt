@@ -1,6 +1,7 @@
 -- What a command line requests, and what it is if it requests nothing.
 use Rattle.std.specs.Prelude.{◌≡◌, ◌==◌, ℕ, Bool, true, false, not, List, [], ◌∷◌, map, find, Option, None}
-use Rattle.std.specs.Prelude.{option_and_then}
+use Rattle.std.specs.Prelude.{option_and_then, if◌then◌else◌}
+use Rattle.std.specs.Option.{option_map_or}
 use Rattle.std.specs.Borrow.{Bor}
 use Rattle.std.specs.List.{list_any}
 use Rattle.std.specs.Str.{bytes_eq}
@@ -11,13 +12,16 @@ use Rattle.clap.specs.Walk.{Row}
 use Rattle.clap.specs.declared.error.kind.ErrorKind.{ErrorKind}
 use Rattle.clap.specs.declared.error.kind.ErrorKind.TheVariants.{DisplayHelp, DisplayVersion}
 use Rattle.command_line.specs.PlainRequests.{PlainRequest}
-use Rattle.command_line.specs.Subcommands.{cats, subcommands}
+use Rattle.command_line.specs.Subcommands.{cats, has_signed_number, has_unbounded_total, subcommands}
+use Rattle.command_line.specs.declared.request.Misuse.{Misuse}
+use Rattle.command_line.specs.declared.request.Misuse.TheVariants.{SignedNumber, UnboundedTotal, WrongFiles}
 use Rattle.command_line.specs.declared.request.NoRequest.{NoRequest}
-use Rattle.command_line.specs.declared.request.NoRequest.TheVariants.{Help, WrongUsage, WrongFiles, NoMemory}
+use Rattle.command_line.specs.declared.request.NoRequest.TheVariants.{Help, WrongUsage, Misused, NoMemory}
 
--- what the subcommand of this name requests
+-- what the subcommand of this name requests; nothing if a number has a sign
 abbrev pub request_from : List ℕ → List Row → Option PlainRequest
-request_from name rows = option_and_then (λ s. s.request rows) (find (λ s. bytes_eq s.name name) subcommands)
+request_from name rows = if has_signed_number rows then None
+    else option_and_then (λ s. s.request rows) (find (λ s. bytes_eq s.name name) subcommands)
 
 -- a line without a fault requests this, and another nothing
 abbrev pub if_taken : Kinds → Option PlainRequest → Option PlainRequest
@@ -29,6 +33,14 @@ abbrev pub request_of : List (List ℕ) → Option PlainRequest
 request_of words = if_taken (fault_of cats words)
     (option_and_then (λ p. request_from p.0 p.1) (subcommand_of cats words))
 
+-- why a line requests nothing although `clap` takes it
+abbrev pub misuse_in : List Row → Misuse
+misuse_in rows = if has_signed_number rows then SignedNumber
+    else (if has_unbounded_total rows then UnboundedTotal else WrongFiles)
+
+abbrev pub misuse_of : List (List ℕ) → Misuse
+misuse_of words = option_map_or (λ p. misuse_in p.1) (subcommand_of cats words) WrongFiles
+
 -- the texts of the words
 abbrev pub texts_of : List (Bor (List ℕ)) → List (List ℕ)
 texts_of = map (λ word. word.now)
@@ -39,12 +51,13 @@ is_shown DisplayHelp = true
 is_shown DisplayVersion = true
 is_shown kind = false
 
--- Why a line is no request: it names help or the version; `clap` refuses it; it names both a list and files, or
--- neither; or memory was refused, as it may be to any line.
+-- Why a line is no request: it names help or the version; `clap` refuses it; `clap` takes it and it is wrong still; or
+-- memory was refused, as it may be to any line.
 abbrev pub IsNoRequestOf : List (List ℕ) → NoRequest → Type 0
 IsNoRequestOf words (Help text) = list_any is_shown (fault_of cats words) ≡ true
 IsNoRequestOf words (WrongUsage text) = list_any (λ kind. not (is_shown kind)) (fault_of cats words) ≡ true
-IsNoRequestOf words WrongFiles = (fault_of cats words ≡ []) × (request_of words ≡ None)
+IsNoRequestOf words (Misused misuse) =
+    (fault_of cats words ≡ []) × (request_of words ≡ None) × (misuse ≡ misuse_of words)
 IsNoRequestOf words (NoMemory text) = Unit {0}
 
 -- the word may be an option

@@ -1,7 +1,8 @@
 -- The command line: its subcommands, each with its options and files, and what it requests. An option more is a row
 -- more.
-use Rattle.std.specs.Prelude.{ℕ, Bool, true, false, List, [], ◌∷◌, map, pos, Option, Some, None, codes, if◌then◌else◌}
-use Rattle.std.specs.Prelude.{option_map, option_and_then}
+use Rattle.std.specs.Prelude.{◌==◌, ◌&&◌, ◌||◌, ℕ, Bool, true, false, not, List, [], ◌∷◌, map, pos, Option, Some, None}
+use Rattle.std.specs.Prelude.{codes, if◌then◌else◌, is_some, option_map, option_and_then}
+use Rattle.std.specs.List.{list_any}
 use Rattle.std.specs.Option.{option_map_or}
 use Rattle.std.specs.Str.{bytes_eq}
 use Rattle.std.specs.Str.Parse.{digits_value, without_leading_plus}
@@ -11,6 +12,7 @@ use Rattle.clap.specs.ValueTests.{is_unsigned_in}
 use Rattle.clap.specs.Walk.{Row, Rule, all_of, first_of, many_of, one_of}
 use Rattle.clap.specs.declared.builder.action.ArgAction.TheVariants.{SetTrue}
 use Rattle.clap.specs.declared.builder.value_parser.ValueParser.TheVariants.{Signed, Unsigned}
+use Rattle.command_line.specs.declared.request.Limits.{Limits}
 use Rattle.command_line.specs.PlainRequests.{PlainPaths, PlainFiles, PlainRequest, Given, ListedIn, Check, Show, Value}
 use Rattle.command_line.specs.PlainRequests.{Normalise, Explain, Round}
 use Rattle.command_line.specs.PlainRequests.{Compare, Diff, Duplicates, Sizes}
@@ -39,9 +41,13 @@ goods = record (new_rule (codes "GOOD")) {
 abbrev pub option : List ℕ → Rule
 option name = record (new_rule name) { long = Some name; value_names = 1 }
 
--- the limit of a search is from 1 to 1,000,000,000, and is 1,000,000 if it is not given
+-- the limit of one search is from 1 to 1,000,000,000, and is 1,000,000 if it is not given
 abbrev pub steps : Rule
 steps = record (option (codes "steps")) { defaults = codes "1000000" ∷ []; parser = Some (Unsigned 1 1000000000) }
+
+-- the limit of all searches together is from 1 to 1,000,000,000,000; there is none if it is not given
+abbrev pub total_steps : Rule
+total_steps = record (option (codes "total-steps")) { parser = Some (Unsigned 1 1000000000000) }
 
 abbrev pub list : Rule
 list = option (codes "files0-from")
@@ -53,8 +59,12 @@ flag name = record (new_rule name) { long = Some name; action = Some SetTrue }
 abbrev pub null : Rule
 null = record (flag (codes "null")) { short = Some 48 }
 
+-- the flag that chooses the bounded search
+abbrev pub bound : Rule
+bound = flag (codes "bound")
+
 abbrev pub many : List Rule
-many = steps ∷ flag (codes "progress") ∷ null ∷ list ∷ files ∷ []
+many = steps ∷ total_steps ∷ flag (codes "progress") ∷ null ∷ list ∷ files ∷ []
 
 -- ---- what was given, by the rows of the arguments
 
@@ -76,11 +86,35 @@ second_in = first_of (codes "SECOND_FILE")
 abbrev pub goods_in : List Row → Option (List ℕ)
 goods_in rows = option_map_or (numbers_up_to 65535) (many_of (codes "GOOD") rows) (Some [])
 
-abbrev pub limit_in : List Row → Option ℕ
-limit_in rows = option_and_then (number_up_to 18446744073709551615) (one_of (codes "steps") rows)
+-- the number that an option has
+abbrev pub number_in : List ℕ → List Row → Option ℕ
+number_in name rows = option_and_then (number_up_to 18446744073709551615) (one_of name rows)
+
+abbrev pub is_true : List ℕ → Bool
+is_true text = bytes_eq text (codes "true")
 
 abbrev pub is_set : List ℕ → List Row → Bool
-is_set name rows = option_map_or (λ text. bytes_eq text (codes "true")) (first_of name rows) false
+is_set name rows = option_map_or is_true (first_of name rows) false
+
+-- The search is the bounded one if `--bound` is given. A subcommand that has no such flag always uses it.
+abbrev pub is_bounded : List Row → Bool
+is_bounded rows = option_map_or is_true (first_of (codes "bound") rows) true
+
+-- a limit of all searches together, which only the bounded search has
+abbrev pub has_unbounded_total : List Row → Bool
+has_unbounded_total rows = is_some (first_of (codes "total-steps") rows) && not (is_bounded rows)
+
+abbrev pub limits_in : List Row → Option Limits
+limits_in rows = if has_unbounded_total rows then None
+    else option_map (λ steps. record {
+      bound = is_bounded rows;
+      steps = steps;
+      total = number_in (codes "total-steps") rows;
+    }) (number_in (codes "steps") rows)
+
+-- the limits of a line that names none
+abbrev pub usual_limits : Bool → Limits
+usual_limits bounded = record { bound = bounded; steps = 1000000; total = None }
 
 -- a list or paths, and not both
 abbrev pub paths_from : Option (List ℕ) → Option (List (List ℕ)) → Option PlainPaths
@@ -92,12 +126,26 @@ abbrev pub paths_in : List Row → Option PlainPaths
 paths_in rows = paths_from (first_of (codes "files0-from") rows) (all_of (codes "FILE") rows)
 
 abbrev pub files_in : List Row → Option PlainFiles
-files_in rows = option_and_then (λ limit. option_map (λ paths. record {
+files_in rows = option_and_then (λ limits. option_map (λ paths. record {
   paths = paths;
-  limit = limit;
+  limits = limits;
   progress = is_set (codes "progress") rows;
   null = is_set (codes "null") rows;
-}) (paths_in rows)) (limit_in rows)
+}) (paths_in rows)) (limits_in rows)
+
+-- ---- numbers have no sign
+
+-- the first byte is '+' or '-'
+abbrev pub begins_with_sign : List ℕ → Bool
+begins_with_sign [] = false
+begins_with_sign (b ∷ rest) = b == 43 || b == 45
+
+abbrev pub is_signed : List ℕ → List Row → Bool
+is_signed name rows = option_map_or (list_any begins_with_sign) (all_of name rows) false
+
+abbrev pub has_signed_number : List Row → Bool
+has_signed_number rows =
+    is_signed (codes "steps") rows || (is_signed (codes "total-steps") rows || is_signed (codes "GOOD") rows)
 
 -- ---- the subcommands
 
@@ -107,35 +155,39 @@ pub record Subcommand : Type 0 where
   -- what is requested, by the rows of its arguments
   pub request : List Row → Option PlainRequest
 
--- a request for one file under a limit, and for two
-abbrev pub limited : (List ℕ → ℕ → PlainRequest) → List Row → Option PlainRequest
-limited make rows = option_and_then (λ path. option_map (make path) (limit_in rows)) (file_in rows)
+-- a request for one file under limits, and for two
+abbrev pub limited : (List ℕ → Limits → PlainRequest) → List Row → Option PlainRequest
+limited make rows = option_and_then (λ path. option_map (make path) (limits_in rows)) (file_in rows)
 
-abbrev pub paired : (List ℕ → List ℕ → ℕ → PlainRequest) → List Row → Option PlainRequest
+abbrev pub paired : (List ℕ → List ℕ → Limits → PlainRequest) → List Row → Option PlainRequest
 paired make rows =
-    option_and_then (λ first. option_and_then (λ second. option_map (make first second) (limit_in rows))
+    option_and_then (λ first. option_and_then (λ second. option_map (make first second) (limits_in rows))
     (second_in rows)) (file_in rows)
 
 abbrev pub valued : List Row → Option PlainRequest
 valued rows =
-    option_and_then (λ path. option_and_then (λ limit. option_map (λ given. Value path given limit) (goods_in rows))
-    (limit_in rows))
+    option_and_then (λ path. option_and_then (λ limits. option_map (λ given. Value path given limits) (goods_in rows))
+    (limits_in rows))
     (file_in rows)
 
 abbrev pub subcommands : List Subcommand
 subcommands =
     record { name = codes "check"; rules = file ∷ []; request = λ rows. option_map Check (file_in rows) }
     ∷ record { name = codes "show"; rules = file ∷ []; request = λ rows. option_map Show (file_in rows) }
-    ∷ record { name = codes "value"; rules = steps ∷ file ∷ goods ∷ []; request = valued }
-    ∷ record { name = codes "normalise"; rules = steps ∷ file ∷ []; request = limited Normalise }
-    ∷ record { name = codes "explain"; rules = steps ∷ file ∷ []; request = limited Explain }
+    ∷ record { name = codes "value"; rules = bound ∷ steps ∷ total_steps ∷ file ∷ goods ∷ []; request = valued }
+    ∷ record { name = codes "normalise"; rules = bound ∷ steps ∷ total_steps ∷ file ∷ []; request = limited Normalise }
+    ∷ record { name = codes "explain"; rules = steps ∷ total_steps ∷ file ∷ []; request = limited Explain }
     ∷ record {
       name = codes "round";
       rules = flag (codes "exact") ∷ file ∷ [];
       request = λ rows. option_map (λ path. Round path (is_set (codes "exact") rows)) (file_in rows);
     }
-    ∷ record { name = codes "compare"; rules = steps ∷ file ∷ second_file ∷ []; request = paired Compare }
-    ∷ record { name = codes "diff"; rules = steps ∷ file ∷ second_file ∷ []; request = paired Diff }
+    ∷ record {
+      name = codes "compare";
+      rules = bound ∷ steps ∷ total_steps ∷ file ∷ second_file ∷ [];
+      request = paired Compare;
+    }
+    ∷ record { name = codes "diff"; rules = steps ∷ total_steps ∷ file ∷ second_file ∷ []; request = paired Diff }
     ∷ record { name = codes "duplicates"; rules = many; request = λ rows. option_map Duplicates (files_in rows) }
     ∷ record { name = codes "sizes"; rules = many; request = λ rows. option_map Sizes (files_in rows) }
     ∷ []

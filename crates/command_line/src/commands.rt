@@ -3,7 +3,8 @@
 ghost use Rattle.std.specs.Prelude.{◌≡◌, IfOk, codes, false, fold};
 ghost use Rattle.clap.specs.Words.{app_of, rule_of};
 ghost use Rattle.command_line.specs.Internal.Commands.{has_globals, rule_for, shape_for, with_row};
-ghost use Rattle.command_line.specs.Subcommands.{cats, file, files, flag, goods, list, null, steps};
+ghost use Rattle.command_line.specs.Subcommands.{bound, cats, file, files, flag, goods, list, null, steps};
+ghost use Rattle.command_line.specs.Subcommands.{total_steps};
 
 use crate::help;
 use clap::{Arg, ArgAction, Command, value_parser};
@@ -18,6 +19,12 @@ pub(crate) const GOOD: &str = "GOOD";
 
 pub(crate) const STEPS: &str = "steps";
 
+/// The option for a limit of all searches together.
+pub(crate) const TOTAL_STEPS: &str = "total-steps";
+
+/// The flag for the bounded search.
+pub(crate) const BOUND: &str = "bound";
+
 pub(crate) const PROGRESS: &str = "progress";
 
 /// The flag for NUL after each path of the output.
@@ -30,6 +37,9 @@ pub(crate) const EXACT: &str = "exact";
 
 /// The most steps that a command line may allow a search.
 const MAX_STEPS: i64 = 1_000_000_000;
+
+/// The most steps that a command line may allow all searches together.
+const MAX_TOTAL_STEPS: i64 = 1_000_000_000_000;
 
 /// The steps that a search may make if the command line names no limit.
 const DEFAULT_STEPS: &str = "1000000";
@@ -45,6 +55,9 @@ enum Argument {
     Goods,
     /// The option for a limit, with what its help says.
     Steps(&'static str),
+    /// The option for a limit of all searches together, with what its help says.
+    TotalSteps(&'static str),
+    Bound,
     Progress,
     Null,
     Exact,
@@ -63,7 +76,14 @@ struct Subcommand {
 
 /// What the limit counts of a subcommand that normalises files.
 const STEPS_OF_BUNDLE: &str =
-    "The most steps that the search on a bundle may take, from 1 to 1,000,000,000";
+    "The most steps that the search on a bundle may take, from 1 to 1000000000";
+
+const TOTAL_STEPS_OF_SEARCHES: &str =
+    "The most steps that all searches together may take, from 1 to 1000000000000 [no limit by default]";
+
+/// What the option says of a subcommand that uses the bounded search only if `--bound` is given.
+const TOTAL_STEPS_BESIDE_BOUND: &str = "\
+The most steps that all searches together may take, from 1 to 1000000000000, only beside --bound [no limit by default]";
 
 /// The subcommands, as the help lists them.
 static SUBCOMMANDS: [Subcommand; 10] = [
@@ -84,7 +104,9 @@ static SUBCOMMANDS: [Subcommand; 10] = [
         about: "Prints what the bidders of a bid file offer for a bundle of goods",
         help: help::VALUE,
         arguments: &[
-            Argument::Steps("The most packings that a search may enter, from 1 to 1,000,000,000"),
+            Argument::Bound,
+            Argument::Steps("The most packings that a search may enter, from 1 to 1000000000"),
+            Argument::TotalSteps(TOTAL_STEPS_BESIDE_BOUND),
             Argument::File,
             Argument::Goods,
         ],
@@ -93,13 +115,22 @@ static SUBCOMMANDS: [Subcommand; 10] = [
         name: "normalise",
         about: "Prints the one canonical text of a bid file's auction",
         help: help::NORMALISE,
-        arguments: &[Argument::Steps(STEPS_OF_BUNDLE), Argument::File],
+        arguments: &[
+            Argument::Bound,
+            Argument::Steps(STEPS_OF_BUNDLE),
+            Argument::TotalSteps(TOTAL_STEPS_BESIDE_BOUND),
+            Argument::File,
+        ],
     },
     Subcommand {
         name: "explain",
         about: "Prints why each bid of a bid file is in the canonical text, or is dropped",
         help: help::EXPLAIN,
-        arguments: &[Argument::Steps(STEPS_OF_BUNDLE), Argument::File],
+        arguments: &[
+            Argument::Steps(STEPS_OF_BUNDLE),
+            Argument::TotalSteps(TOTAL_STEPS_OF_SEARCHES),
+            Argument::File,
+        ],
     },
     Subcommand {
         name: "round",
@@ -112,7 +143,9 @@ static SUBCOMMANDS: [Subcommand; 10] = [
         about: "Prints whether two bid files are the same auction, or where they first differ",
         help: help::COMPARE,
         arguments: &[
+            Argument::Bound,
             Argument::Steps(STEPS_OF_BUNDLE),
+            Argument::TotalSteps(TOTAL_STEPS_BESIDE_BOUND),
             Argument::File,
             Argument::SecondFile,
         ],
@@ -123,6 +156,7 @@ static SUBCOMMANDS: [Subcommand; 10] = [
         help: help::DIFF,
         arguments: &[
             Argument::Steps(STEPS_OF_BUNDLE),
+            Argument::TotalSteps(TOTAL_STEPS_OF_SEARCHES),
             Argument::File,
             Argument::SecondFile,
         ],
@@ -133,6 +167,7 @@ static SUBCOMMANDS: [Subcommand; 10] = [
         help: help::DUPLICATES,
         arguments: &[
             Argument::Steps(STEPS_OF_BUNDLE),
+            Argument::TotalSteps(TOTAL_STEPS_OF_SEARCHES),
             Argument::Progress,
             Argument::Null,
             Argument::List,
@@ -145,6 +180,7 @@ static SUBCOMMANDS: [Subcommand; 10] = [
         help: help::SIZES,
         arguments: &[
             Argument::Steps(STEPS_OF_BUNDLE),
+            Argument::TotalSteps(TOTAL_STEPS_OF_SEARCHES),
             Argument::Progress,
             Argument::Null,
             Argument::List,
@@ -205,6 +241,8 @@ impl Argument {
             Argument::List => list_option(alloc),
             Argument::Goods => goods_argument(alloc),
             Argument::Steps(help) => steps_option(alloc, help),
+            Argument::TotalSteps(help) => total_steps_option(alloc, help),
+            Argument::Bound => bound_flag(alloc),
             Argument::Progress => progress_flag(alloc),
             Argument::Null => null_flag(alloc),
             Argument::Exact => exact_flag(alloc),
@@ -264,6 +302,29 @@ fn steps_option<'a>(alloc: Global, help: &'a str) -> Arg<'a>
         .default_value(DEFAULT_STEPS)
         .value_parser(value_parser!(u64).range(1..=MAX_STEPS))
         .help(help)
+}
+
+fn total_steps_option<'a>(alloc: Global, help: &'a str) -> Arg<'a>
+    ensures rule { rule_of result ≡ total_steps }
+    ensures local { result.global ≡ false }
+{
+    Arg::new(alloc, TOTAL_STEPS)
+        .long(TOTAL_STEPS)
+        .value_name("N")
+        .value_parser(value_parser!(u64).range(1..=MAX_TOTAL_STEPS))
+        .help(help)
+}
+
+fn bound_flag<'a>(alloc: Global) -> Arg<'a>
+    ensures rule { rule_of result ≡ bound }
+    ensures local { result.global ≡ false }
+{
+    Arg::new(alloc, BOUND)
+        .long(BOUND)
+        .action(ArgAction::SetTrue)
+        .help(
+            "Uses the bounded search: it decides many files that the plain search refuses. The answer is the same",
+        )
 }
 
 fn file_argument<'a>(alloc: Global, id: &'a str) -> Arg<'a>

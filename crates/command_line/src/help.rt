@@ -9,7 +9,7 @@ A fault is one line on standard error. Statuses:
    0  done; of compare and diff: the same auction
    1  of compare and diff: different auctions
    2  a file is not a bid file, or longer than is read
-   3  a search takes more steps than its limit
+   3  a search takes more steps than its limit: use --bound, and then a greater --steps
    4  memory was refused
    5  a file cannot be opened, a read failed, or the output failed
   64  the command line is wrong, or names a good that the file does not have
@@ -55,11 +55,13 @@ bundle, and the number of the first that has it. For example, for all goods of a
 
 A step is one packing: one family of the bids without a dummy good that lie in the bundle and share no good. A step
 takes 5 to 20 nanoseconds with up to 128 such bids, and some 30 nanoseconds more for each 1,000. If there are more than
-N packings, the program prints 'step limit at GOODS', with status 3, and a greater N lets the search go on:
-  $ cats value --steps 1000000000 auction.txt $(seq 0 39)
+N packings, the program prints 'step limit at GOODS', with status 3. The bounded search decides many files that the
+plain search refuses, and its answer is the same. If it takes more steps too, a greater N lets the search go on:
+  $ cats value --bound auction.txt $(seq 0 39)
+  $ cats value --bound --steps 1000000000 auction.txt $(seq 0 39)
 
-Statuses: 0; 2 if the file is not a bid file; 3 for the step limit; 64 for a good that the file does not have; 4 and 5
-as 'cats --help' lists them";
+Statuses: 0; 2 if the file is not a bid file; 3 for the step limit: use --bound, and then a greater --steps; 64 for a
+good that the file does not have; 4 and 5 as 'cats --help' lists them";
 
 pub(crate) const NORMALISE: &str = "\
 Prints the header and the bids that remain: those that the bidders' values need, in one order. Two files give the
@@ -67,9 +69,13 @@ same text exactly if they are the same auction. For example:
   $ cats normalise examples/ladder.cats
 
 A step is one family of bids below a bundle that the search on this bundle enters; each bundle has N of them. If one
-takes more, 'step limit at GOODS' is reported, with status 3, and a greater N lets the search go on.
+takes more, 'step limit at GOODS' is reported, with status 3. The bounded search decides many files that the plain
+search refuses, and its answer is the same. If it takes more steps too, a greater N lets the search go on:
+  $ cats normalise --bound auction.txt
+  $ cats normalise --bound --steps 1000000000 auction.txt
 
-Statuses: 0; 2 if the file is not a bid file; 3 for the step limit; 4, 5 and 64 as 'cats --help' lists them";
+Statuses: 0; 2 if the file is not a bid file; 3 for the step limit: use --bound, and then a greater --steps; 4, 5 and 64
+as 'cats --help' lists them";
 
 pub(crate) const EXPLAIN: &str = "\
 Prints a line for each bid, in order of number, with tabs between the words: the bid's number, and why the text that
@@ -91,9 +97,11 @@ Prints a line for each bid, in order of number, with tabs between the words: the
 All numbers but K are those of the file. How many bids there are for each reason:
   $ cats explain auction.txt | cut -f 2 | sort | uniq -c
 
-A step is that of 'cats normalise', and the same files are refused. After a refusal nothing is printed.
+This command always uses the bounded search. A step is that of 'cats normalise --bound', and the same files are
+refused. After a refusal nothing is printed.
 
-Statuses: 0; 2 if the file is not a bid file; 3 for the step limit; 4, 5 and 64 as 'cats --help' lists them";
+Statuses: 0; 2 if the file is not a bid file; 3 for the step limit: use a greater --steps; 4, 5 and 64 as 'cats --help'
+lists them";
 
 pub(crate) const ROUND: &str = "\
 Prints the text of a bid file in which each price that is a decimal, such as 1.02345e+06, .5 or 0.0123456, is written so
@@ -119,11 +127,11 @@ often they have an XOR bidder. For example:
   $ cats compare examples/ladder.cats examples/ladder_rewritten.cats
   same
 
-A step is that of 'cats normalise': each file is normalised first. A fault's line begins with 'first: ' or 'second: '.
-'cats diff' prints all differences.
+A step is that of 'cats normalise': each file is normalised first, and --bound does what it does there. A fault's line
+begins with 'first: ' or 'second: '. 'cats diff' prints all differences.
 
-Statuses: 0 for the same auction, 1 for different ones; 2 if a file is not a bid file; 3 for the step limit; 4, 5 and 64
-as 'cats --help' lists them";
+Statuses: 0 for the same auction, 1 for different ones; 2 if a file is not a bid file; 3 for the step limit: use
+--bound, and then a greater --steps; 4, 5 and 64 as 'cats --help' lists them";
 
 pub(crate) const DIFF: &str = "\
 Prints a line for each difference, with tabs between the words, the first file before the second, and nothing if both
@@ -142,10 +150,11 @@ A bidder that one file has N times more often than the other is printed N times.
 printed beside the bidder of the second file that has most bids in common with it, if there is one. If several bidders
 of a file have the same bids, the smallest number that is not printed yet is used.
 
-A step is that of 'cats normalise': each file is normalised first. A fault's line begins with 'first: ' or 'second: '.
+This command always uses the bounded search. A step is that of 'cats normalise --bound': each file is normalised first.
+A fault's line begins with 'first: ' or 'second: '.
 
-Statuses: 0 for the same auction, 1 for different ones; 2 if a file is not a bid file; 3 for the step limit; 4, 5 and 64
-as 'cats --help' lists them";
+Statuses: 0 for the same auction, 1 for different ones; 2 if a file is not a bid file; 3 for the step limit: use a
+greater --steps; 4, 5 and 64 as 'cats --help' lists them";
 
 pub(crate) const DUPLICATES: &str = "\
 Prints the paths of the files that are one auction, each on a line, for each auction that two or more of them are, with
@@ -162,10 +171,12 @@ With -0 each path of the output is printed as it is, and each line ends with NUL
 
 A file that is refused is reported at once, with its path before the fault, and the others go on. So is a list that
 cannot be read, and then no file is. With --progress a line says how many files were read, after each hundred and at the
-end; on a terminal it is one line, which is replaced after each file. A step is that of 'cats normalise'.
+end; on a terminal it is one line, which is replaced after each file. This command always uses the bounded search. A
+step is that of 'cats normalise --bound'.
 
 Statuses: 0 if every file was judged, whether or not some are one auction; else the greatest status of those that
-were not: 2 for a file that is not a bid file, 3 for the step limit, 4, 5 and 64 as 'cats --help' lists them";
+were not: 2 for a file that is not a bid file, 3 for the step limit (use a greater --steps), 4, 5 and 64 as
+'cats --help' lists them";
 
 pub(crate) const SIZES: &str = "\
 Prints a header and a line for each file, in the order given, with tabs between the words. For example:
@@ -181,11 +192,11 @@ Prints a header and a line for each file, in the order given, with tabs between 
 
 The table is printed once all files were read. A file that is refused is reported at once, with its path before the
 fault, and the others go on. If only the step limit stops a file, its line has '-' for the numbers of its canonical
-file. A step is that of 'cats normalise'. 'cats help duplicates' says how paths are printed, and what --progress
-reports.
+file. This command always uses the bounded search. A step is that of 'cats normalise --bound'. 'cats help duplicates'
+says how paths are printed, and what --progress reports.
 
 All files below a folder, however many there are:
   $ find folder -type f -name '*.cats' -print0 | cats sizes --files0-from /dev/stdin
 
 Statuses: 0 if every file was judged; else the greatest status of those that were not: 2 for a file that is not a bid
-file, 3 for the step limit, 4, 5 and 64 as 'cats --help' lists them";
+file, 3 for the step limit (use a greater --steps), 4, 5 and 64 as 'cats --help' lists them";

@@ -1,11 +1,12 @@
 //! Laws of the definitions: what the forms of each subcommand request. A path here does not begin with a hyphen; after
 //! `--` any path may.
 
-ghost use Rattle.std.specs.Prelude.{◌≡◌, ◌++◌, ℕ, List, [], ◌∷◌, Some, codes, false, option_map, true};
+ghost use Rattle.std.specs.Prelude.{◌≡◌, ◌++◌, ℕ, List, [], ◌∷◌, None, Some, codes, false, if◌then◌else◌, option_map};
+ghost use Rattle.std.specs.Prelude.{true};
 ghost use Rattle.command_line.specs.PlainRequests.{Check, Compare, Diff, Explain, Normalise, PlainRequest, Round, Show};
 ghost use Rattle.command_line.specs.PlainRequests.{Value};
 ghost use Rattle.clap.specs.ValueTests.{is_unsigned_in};
-ghost use Rattle.command_line.specs.Subcommands.{number_up_to};
+ghost use Rattle.command_line.specs.Subcommands.{begins_with_sign, number_up_to, usual_limits};
 ghost use Rattle.command_line.specs.Requests.{IsNoRequestOf, begins_with_hyphen, is_no_memory, request_of};
 ghost use Rattle.command_line.specs.declared.request.NoRequest.{NoRequest};
 
@@ -16,11 +17,11 @@ pub fn one_path()
     ensures show { (program path : List ℕ) → begins_with_hyphen path ≡ false
         → request_of (program ∷ codes "show" ∷ path ∷ []) ≡ Some (Show path) }
     ensures normalise { (program path : List ℕ) → begins_with_hyphen path ≡ false
-        → request_of (program ∷ codes "normalise" ∷ path ∷ []) ≡ Some (Normalise path 1000000) }
+        → request_of (program ∷ codes "normalise" ∷ path ∷ []) ≡ Some (Normalise path (usual_limits false)) }
     ensures explain { (program path : List ℕ) → begins_with_hyphen path ≡ false
-        → request_of (program ∷ codes "explain" ∷ path ∷ []) ≡ Some (Explain path 1000000) }
+        → request_of (program ∷ codes "explain" ∷ path ∷ []) ≡ Some (Explain path (usual_limits true)) }
     ensures value { (program path : List ℕ) → begins_with_hyphen path ≡ false
-        → request_of (program ∷ codes "value" ∷ path ∷ []) ≡ Some (Value path [] 1000000) }
+        → request_of (program ∷ codes "value" ∷ path ∷ []) ≡ Some (Value path [] (usual_limits false)) }
     ensures round { (program path : List ℕ) → begins_with_hyphen path ≡ false
         → request_of (program ∷ codes "round" ∷ path ∷ []) ≡ Some (Round path false) }
     ensures exact { (program path : List ℕ) → begins_with_hyphen path ≡ false
@@ -35,16 +36,54 @@ pub fn path_after_hyphens()
 /// A subcommand with two paths, in their order.
 pub fn two_paths()
     ensures compare { (program first second : List ℕ) → begins_with_hyphen first ≡ false → begins_with_hyphen second ≡ false
-        → request_of (program ∷ codes "compare" ∷ first ∷ second ∷ []) ≡ Some (Compare first second 1000000) }
+        → request_of (program ∷ codes "compare" ∷ first ∷ second ∷ []) ≡ Some (Compare first second (usual_limits false)) }
     ensures diff { (program first second : List ℕ) → begins_with_hyphen first ≡ false → begins_with_hyphen second ≡ false
-        → request_of (program ∷ codes "diff" ∷ first ∷ second ∷ []) ≡ Some (Diff first second 1000000) }
+        → request_of (program ∷ codes "diff" ∷ first ∷ second ∷ []) ≡ Some (Diff first second (usual_limits true)) }
 {}
 
-/// The limit of the searches. A value may follow `=`, or be the next word (`worked::lines`).
+/// `--bound` chooses the bounded search.
+pub fn bounded()
+    ensures normalise { (program path : List ℕ) → begins_with_hyphen path ≡ false
+        → request_of (program ∷ codes "normalise" ∷ codes "--bound" ∷ path ∷ [])
+        ≡ Some (Normalise path (usual_limits true)) }
+    ensures value { (program path : List ℕ) → begins_with_hyphen path ≡ false
+        → request_of (program ∷ codes "value" ∷ codes "--bound" ∷ path ∷ []) ≡ Some (Value path [] (usual_limits true)) }
+    ensures compare { (program first second : List ℕ) → begins_with_hyphen first ≡ false → begins_with_hyphen second ≡ false
+        → request_of (program ∷ codes "compare" ∷ codes "--bound" ∷ first ∷ second ∷ [])
+        ≡ Some (Compare first second (usual_limits true)) }
+{}
+
+/// The limit of each search. A value may follow `=`, or be the next word (`worked::lines`).
 pub fn limit()
     ensures { (program text path : List ℕ) → is_unsigned_in 1 1000000000 text ≡ true → begins_with_hyphen path ≡ false
         → request_of (program ∷ codes "normalise" ∷ (codes "--steps=" ++ text) ∷ path ∷ [])
-        ≡ option_map (Normalise path) (number_up_to 18446744073709551615 text) }
+        ≡ (if begins_with_sign text then None else option_map (Normalise path) (option_map (λ steps. record {
+          bound = false;
+          steps = steps;
+          total = None;
+        }) (number_up_to 18446744073709551615 text))) }
+{}
+
+/// The limit of all searches together.
+pub fn total_limit()
+    ensures { (program text path : List ℕ) → is_unsigned_in 1 1000000000000 text ≡ true → begins_with_hyphen path ≡ false
+        → request_of (program ∷ codes "explain" ∷ (codes "--total-steps=" ++ text) ∷ path ∷ [])
+        ≡ (if begins_with_sign text then None else Some (Explain path (record {
+          bound = true;
+          steps = 1000000;
+          total = number_up_to 18446744073709551615 text;
+        }))) }
+{}
+
+/// The plain search has no limit of all searches together.
+pub fn unbounded_total()
+    ensures normalise { (program text path : List ℕ) → begins_with_hyphen path ≡ false
+        → request_of (program ∷ codes "normalise" ∷ (codes "--total-steps=" ++ text) ∷ path ∷ []) ≡ None }
+    ensures value { (program text path : List ℕ) → begins_with_hyphen path ≡ false
+        → request_of (program ∷ codes "value" ∷ (codes "--total-steps=" ++ text) ∷ path ∷ []) ≡ None }
+    ensures compare { (program text first second : List ℕ) → begins_with_hyphen first ≡ false
+        → begins_with_hyphen second ≡ false
+        → request_of (program ∷ codes "compare" ∷ (codes "--total-steps=" ++ text) ∷ first ∷ second ∷ []) ≡ None }
 {}
 
 /// Only want of memory may come in the place of a request.

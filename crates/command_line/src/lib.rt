@@ -10,4 +10,4 @@ pub mod worked;
 
 pub use help::VERSION;
 pub use parser::parse;
-pub use request::{FilePaths, FilesRequest, NoRequest, PairRequest, Request};
+pub use request::{FilePaths, FilesRequest, Limits, Misuse, NoRequest, PairRequest, Request};

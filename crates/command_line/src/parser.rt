@@ -1,19 +1,24 @@
 //! From the words of a command line to a request.
 
 ghost use Rattle.std.specs.Prelude.{◌≡◌, ℕ, List, [], IfErr, IfOk, Some, codes, map, option_map};
+ghost use Rattle.std.specs.List.{list_any};
+ghost use Rattle.std.specs.Result.{result_ok};
 ghost use Rattle.clap.specs.Faults.{fault_of};
 ghost use Rattle.clap.specs.Words.{HasKind, all_of, first_of, kind_of};
 ghost use Rattle.command_line.specs.Internal.Matches.{IsAnswerTo, rows_in};
 ghost use Rattle.command_line.specs.PlainRequests.{Check, Explain, Normalise, PlainRequest, Round, Show, plain_files};
 ghost use Rattle.command_line.specs.PlainRequests.{plain_paths, plain_request};
-ghost use Rattle.command_line.specs.Requests.{IsNoRequestOf, request_from, request_of, texts_of};
-ghost use Rattle.command_line.specs.Subcommands.{cats, file_in, files_in, goods_in, is_set, limit_in, limited, paired};
-ghost use Rattle.command_line.specs.Subcommands.{paths_in, valued};
+ghost use Rattle.command_line.specs.Requests.{IsNoRequestOf, misuse_in, misuse_of, request_from, request_of, texts_of};
+ghost use Rattle.command_line.specs.Subcommands.{begins_with_sign, cats, file_in, files_in, goods_in, has_signed_number};
+ghost use Rattle.command_line.specs.Subcommands.{has_unbounded_total, is_bounded, is_set, is_signed, limited, limits_in};
+ghost use Rattle.command_line.specs.Subcommands.{number_in, paired, paths_in, valued};
+ghost use Rattle.command_line.specs.declared.request.Limits.{Limits};
 
 use crate::commands::{
-    EXACT, FILE, FILES0_FROM, GOOD, NULL, PROGRESS, SECOND_FILE, STEPS, cats_command,
+    BOUND, EXACT, FILE, FILES0_FROM, GOOD, NULL, PROGRESS, SECOND_FILE, STEPS, TOTAL_STEPS,
+    cats_command,
 };
-use crate::request::{FilePaths, FilesRequest, NoRequest, PairRequest, Request};
+use crate::request::{FilePaths, FilesRequest, Limits, Misuse, NoRequest, PairRequest, Request};
 use clap::error::ErrorKind;
 use clap::{ArgMatches, Error};
 use std::alloc::{AllocError, Global};
@@ -28,8 +33,8 @@ pub fn parse<'a>(
     ensures no_request { IfErr result (IsNoRequestOf (texts_of words.now)) }
 {
     match find_request(alloc, version, words) {
-        Ok(Some(request)) => Ok(request),
-        Ok(None) => Err(NoRequest::WrongFiles),
+        Ok(Ok(request)) => Ok(request),
+        Ok(Err(misuse)) => Err(NoRequest::Misused(misuse)),
         Err(error) => Err(no_request(alloc, &error)),
     }
 }
@@ -53,20 +58,50 @@ fn no_request(alloc: Global, error: &Error) -> NoRequest
     }
 }
 
-/// `None` is for a line that `clap` accepts and that has both a list of paths and paths, or neither.
+/// What a line requests that `clap` takes, or why it is wrong still.
 fn find_request<'a>(
     alloc: Global,
     version: &'a str,
     words: &'a [&'a str],
-) -> Result<Option<Request<'a>>, Error>
+) -> Result<Result<Request<'a>, Misuse>, Error>
     ensures taken { IfOk result (λ found. fault_of cats (texts_of words.now) ≡ List.[]) }
-    ensures found { IfOk result (λ found. option_map plain_request found ≡ request_of (texts_of words.now)) }
+    ensures found { IfOk result (λ found. option_map plain_request (result_ok found) ≡ request_of (texts_of words.now)) }
+    ensures misused { IfOk result (λ found. IfErr found (λ misuse. misuse ≡ misuse_of (texts_of words.now))) }
     ensures refused { IfErr result (HasKind (fault_of cats (texts_of words.now))) }
 {
     let matches = cats_command(alloc, version)?.try_get_matches_from(words)?;
     match matches.subcommand() {
-        Some((name, given)) => Ok(find_named_request(alloc, name, given)?),
-        None => Ok(None),
+        Some((name, given)) => Ok(judge_subcommand(alloc, name, given)?),
+        None => Ok(Err(Misuse::WrongFiles)),
+    }
+}
+
+/// What a subcommand with these matches requests, or why it is wrong.
+fn judge_subcommand<'a>(
+    alloc: Global,
+    name: &str,
+    given: &ArgMatches<'a>,
+) -> Result<Result<Request<'a>, Misuse>, AllocError>
+    ensures found { IfOk result (λ found. option_map plain_request (result_ok found)
+        ≡ request_from name.now (rows_in given.now)) }
+    ensures misused { IfOk result (λ found. IfErr found (λ misuse. misuse ≡ misuse_in (rows_in given.now))) }
+{
+    match find_named_request(alloc, name, given)? {
+        Some(request) => Ok(Ok(request)),
+        None => Ok(Err(misuse(given))),
+    }
+}
+
+/// Why a line without a request is wrong, by the matches of its subcommand.
+fn misuse(given: &ArgMatches<'_>) -> Misuse
+    ensures { result ≡ misuse_in (rows_in given.now) }
+{
+    if has_signed_number(given) {
+        Misuse::SignedNumber
+    } else if has_unbounded_total(given) {
+        Misuse::UnboundedTotal
+    } else {
+        Misuse::WrongFiles
     }
 }
 
@@ -78,6 +113,9 @@ fn find_named_request<'a>(
 ) -> Result<Option<Request<'a>>, AllocError>
     ensures { IfOk result (λ found. option_map plain_request found ≡ request_from name.now (rows_in given.now)) }
 {
+    if has_signed_number(given) {
+        return Ok(None);
+    }
     match name {
         "check" => Ok(find_check_request(given)),
         "show" => Ok(find_show_request(given)),
@@ -113,13 +151,17 @@ fn find_value_request<'a>(
 ) -> Result<Option<Request<'a>>, AllocError>
     ensures { IfOk result (λ found. option_map plain_request found ≡ valued (rows_in given.now)) }
 {
-    let (Some(file), Some(limit)) = (find_text(given, FILE), find_limit(given)) else {
+    let (Some(file), Some(limits)) = (find_text(given, FILE), find_limits(given)) else {
         return Ok(None);
     };
     let Some(goods) = find_goods(alloc, given)? else {
         return Ok(None);
     };
-    Ok(Some(Request::Value { file, goods, limit }))
+    Ok(Some(Request::Value {
+        file,
+        goods,
+        limits,
+    }))
 }
 
 fn find_goods(alloc: Global, given: &ArgMatches<'_>) -> Result<Option<Vec<u16>>, AllocError>
@@ -140,16 +182,16 @@ fn find_normalise_request<'a>(given: &ArgMatches<'a>) -> Option<Request<'a>>
     ensures { option_map plain_request result ≡ limited Normalise (rows_in given.now) }
 {
     let file = find_text(given, FILE)?;
-    let limit = find_limit(given)?;
-    Some(Request::Normalise { file, limit })
+    let limits = find_limits(given)?;
+    Some(Request::Normalise { file, limits })
 }
 
 fn find_explain_request<'a>(given: &ArgMatches<'a>) -> Option<Request<'a>>
     ensures { option_map plain_request result ≡ limited Explain (rows_in given.now) }
 {
     let file = find_text(given, FILE)?;
-    let limit = find_limit(given)?;
-    Some(Request::Explain { file, limit })
+    let limits = find_limits(given)?;
+    Some(Request::Explain { file, limits })
 }
 
 fn find_round_request<'a>(given: &ArgMatches<'a>) -> Option<Request<'a>>
@@ -162,16 +204,16 @@ fn find_round_request<'a>(given: &ArgMatches<'a>) -> Option<Request<'a>>
 }
 
 fn find_pair_request<'a>(given: &ArgMatches<'a>) -> Option<PairRequest<'a>>
-    ensures { (make : List ℕ → List ℕ → ℕ → PlainRequest)
-        → option_map (λ pair. make pair.first.now pair.second.now pair.limit) result ≡ paired make (rows_in given.now) }
+    ensures { (make : List ℕ → List ℕ → Limits → PlainRequest)
+        → option_map (λ pair. make pair.first.now pair.second.now pair.limits) result ≡ paired make (rows_in given.now) }
 {
     let first = find_text(given, FILE)?;
     let second = find_text(given, SECOND_FILE)?;
-    let limit = find_limit(given)?;
+    let limits = find_limits(given)?;
     Some(PairRequest {
         first,
         second,
-        limit,
+        limits,
     })
 }
 
@@ -181,12 +223,12 @@ fn find_files_request<'a>(
 ) -> Result<Option<FilesRequest<'a>>, AllocError>
     ensures { IfOk result (λ found. option_map plain_files found ≡ files_in (rows_in given.now)) }
 {
-    let (Some(limit), Some(paths)) = (find_limit(given), find_paths(alloc, given)?) else {
+    let (Some(limits), Some(paths)) = (find_limits(given), find_paths(alloc, given)?) else {
         return Ok(None);
     };
     Ok(Some(FilesRequest {
         paths,
-        limit,
+        limits,
         progress: is_set(given, PROGRESS),
         null: is_set(given, NULL),
     }))
@@ -234,10 +276,70 @@ fn find_text<'a>(given: &ArgMatches<'a>, id: &str) -> Option<&'a str>
     given.get_str(id)
 }
 
-fn find_limit(given: &ArgMatches<'_>) -> Option<u64>
-    ensures { result ≡ limit_in (rows_in given.now) }
+fn find_limits(given: &ArgMatches<'_>) -> Option<Limits>
+    ensures { result ≡ limits_in (rows_in given.now) }
 {
-    given.get_one::<u64>(STEPS)
+    if has_unbounded_total(given) {
+        return None;
+    }
+    let steps = find_number(given, STEPS)?;
+    Some(Limits {
+        bound: is_bounded(given),
+        steps,
+        total: find_number(given, TOTAL_STEPS),
+    })
+}
+
+/// Whether there is a limit of all searches together, but not for the bounded search, which alone has one.
+fn has_unbounded_total(given: &ArgMatches<'_>) -> bool
+    ensures { result ≡ has_unbounded_total (rows_in given.now) }
+{
+    find_text(given, TOTAL_STEPS).is_some() && !is_bounded(given)
+}
+
+/// Whether the search is the bounded one, as it is where there is no flag for it.
+fn is_bounded(given: &ArgMatches<'_>) -> bool
+    ensures { result ≡ is_bounded (rows_in given.now) }
+{
+    match find_text(given, BOUND) {
+        Some(text) => text == "true",
+        None => true,
+    }
+}
+
+/// The number of an option.
+fn find_number(given: &ArgMatches<'_>, id: &str) -> Option<u64>
+    ensures { result ≡ number_in id.now (rows_in given.now) }
+{
+    given.get_one::<u64>(id)
+}
+
+/// Whether a number of the line begins with a sign. `clap` takes `+5`, and `-0`.
+fn has_signed_number(given: &ArgMatches<'_>) -> bool
+    ensures { result ≡ has_signed_number (rows_in given.now) }
+{
+    is_signed(given, STEPS) || is_signed(given, TOTAL_STEPS) || is_signed(given, GOOD)
+}
+
+fn is_signed(given: &ArgMatches<'_>, id: &str) -> bool
+    ensures { result ≡ is_signed id.now (rows_in given.now) }
+{
+    match find_texts(given, id) {
+        Some(numbers) => is_any_signed(numbers),
+        None => false,
+    }
+}
+
+fn is_any_signed(numbers: &[&str]) -> bool
+    ensures { result ≡ list_any (λ number. begins_with_sign number.now) numbers.now }
+{
+    numbers.iter().any(|number| begins_with_sign(number))
+}
+
+fn begins_with_sign(text: &str) -> bool
+    ensures { result ≡ begins_with_sign text.now }
+{
+    matches!(text.as_bytes().first(), Some(b'+' | b'-'))
 }
 
 /// Whether a flag was given.

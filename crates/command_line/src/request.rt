@@ -12,15 +12,15 @@ pub enum Request<'a> {
     Value {
         file: &'a str,
         goods: Vec<u16>,
-        limit: u64,
+        limits: Limits,
     },
     Normalise {
         file: &'a str,
-        limit: u64,
+        limits: Limits,
     },
     Explain {
         file: &'a str,
-        limit: u64,
+        limits: Limits,
     },
     Round {
         file: &'a str,
@@ -32,19 +32,30 @@ pub enum Request<'a> {
     Sizes(FilesRequest<'a>),
 }
 
-/// The two files of a request, and the limit of its searches.
+/// How a request searches, and how long.
+#[derive(Clone, Copy, PartialEq, Eq, Debug)]
+pub struct Limits {
+    /// Whether the search is the bounded one.
+    pub bound: bool,
+    /// The most steps of one search.
+    pub steps: u64,
+    /// The most steps of all searches of a request together, if they have such a limit.
+    pub total: Option<u64>,
+}
+
+/// The two files of a request, and the limits of its searches.
 #[derive(Debug, Drop)]
 pub struct PairRequest<'a> {
     pub first: &'a str,
     pub second: &'a str,
-    pub limit: u64,
+    pub limits: Limits,
 }
 
 /// What is to be done with many files.
 #[derive(Debug, Drop)]
 pub struct FilesRequest<'a> {
     pub paths: FilePaths<'a>,
-    pub limit: u64,
+    pub limits: Limits,
     /// Whether it is reported how many files were read.
     pub progress: bool,
     /// Whether each path of the output ends with NUL.
@@ -67,8 +78,19 @@ pub enum NoRequest {
     Help(String),
     /// It is wrong: this says why, for standard error.
     WrongUsage(String),
-    /// It has both a list of paths and paths, or neither.
-    WrongFiles,
+    /// Each word of it is one that its subcommand takes, but it is wrong.
+    Misused(Misuse),
     /// Memory was refused: this says so, for standard error.
     NoMemory(String),
+}
+
+/// Why a command line is wrong whose words are such as its subcommand takes.
+#[derive(Clone, Copy, PartialEq, Eq, Debug)]
+pub enum Misuse {
+    /// A number begins with a sign.
+    SignedNumber,
+    /// It has a limit of all searches together, and not the bounded search, which alone has such a limit.
+    UnboundedTotal,
+    /// It has both a list of paths and paths, or neither.
+    WrongFiles,
 }

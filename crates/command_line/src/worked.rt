@@ -1,26 +1,81 @@
 //! Worked rows of the definitions, computed by the prover: what command lines request.
 
 ghost use Rattle.std.specs.Prelude.{◌≡◌, List, [], ◌∷◌, None, Some, codes, false, map, true};
-ghost use Rattle.command_line.specs.PlainRequests.{Compare, Duplicates, Given, ListedIn, Sizes, Value};
-ghost use Rattle.command_line.specs.Requests.{request_of};
+ghost use Rattle.clap.specs.Faults.{fault_of};
+ghost use Rattle.command_line.specs.PlainRequests.{Compare, Duplicates, Explain, Given, ListedIn, Normalise, Sizes, Value};
+ghost use Rattle.command_line.specs.Requests.{misuse_of, request_of};
+ghost use Rattle.command_line.specs.Subcommands.{cats};
+ghost use Rattle.command_line.specs.declared.request.Misuse.TheVariants.{SignedNumber, UnboundedTotal, WrongFiles};
 
 /// Options may come between files, and goods after them.
 pub fn lines()
     ensures value { request_of (codes "cats" ∷ codes "value" ∷ codes "a" ∷ codes "--steps" ∷ codes "7" ∷ codes "0" ∷ codes
         "2" ∷ [])
-        ≡ Some (Value (codes "a") (0 ∷ 2 ∷ []) 7) }
+        ≡ Some (Value (codes "a") (0 ∷ 2 ∷ []) (record { bound = false; steps = 7; total = None })) }
     ensures compare { request_of (codes "cats" ∷ codes "compare" ∷ codes "a" ∷ codes "--steps=9" ∷ codes "b" ∷ [])
-        ≡ Some (Compare (codes "a") (codes "b") 9) }
+        ≡ Some (Compare (codes "a") (codes "b") (record { bound = false; steps = 9; total = None })) }
     ensures duplicates { request_of (codes "cats" ∷ codes "duplicates" ∷ codes "-0" ∷ codes "a" ∷ codes "b" ∷ [])
         ≡ Some (Duplicates (record {
           paths = Given (codes "a" ∷ codes "b" ∷ []);
-          limit = 1000000;
+          limits = record { bound = true; steps = 1000000; total = None };
           progress = false;
-          null =
-              true;
+          null = true;
         })) }
     ensures sizes { request_of (codes "cats" ∷ codes "sizes" ∷ codes "--progress" ∷ codes "--files0-from=l" ∷ [])
-        ≡ Some (Sizes (record { paths = ListedIn (codes "l"); limit = 1000000; progress = true; null = false })) }
+        ≡ Some (Sizes (record {
+          paths = ListedIn (codes "l");
+          limits = record { bound = true; steps = 1000000; total = None };
+          progress = true;
+          null = false;
+        })) }
+{}
+
+/// The flag and the limits, in any order.
+pub fn limits()
+    ensures before { request_of (codes "cats" ∷ codes "normalise" ∷ codes "--bound" ∷ codes "--total-steps=5" ∷ codes "a"
+        ∷ [])
+        ≡ Some (Normalise (codes "a") (record { bound = true; steps = 1000000; total = Some 5 })) }
+    ensures after { request_of (codes "cats" ∷ codes "normalise" ∷ codes "a" ∷ codes "--total-steps" ∷ codes "5"
+        ∷ codes "--bound" ∷ [])
+        ≡ Some (Normalise (codes "a") (record { bound = true; steps = 1000000; total = Some 5 })) }
+    ensures compare { request_of (codes "cats" ∷ codes "compare" ∷ codes "--total-steps=5" ∷ codes "a" ∷ codes "--bound"
+        ∷ codes "b" ∷ codes "--steps=9" ∷ [])
+        ≡ Some (Compare (codes "a") (codes "b") (record { bound = true; steps = 9; total = Some 5 })) }
+    ensures value { request_of (codes "cats" ∷ codes "value" ∷ codes "a" ∷ codes "--bound" ∷ codes "3" ∷ [])
+        ≡ Some (Value (codes "a") (3 ∷ []) (record { bound = true; steps = 1000000; total = None })) }
+    ensures explain { request_of (codes "cats" ∷ codes "explain" ∷ codes "--total-steps=1000000000000" ∷ codes "a" ∷ [])
+        ≡ Some (Explain (codes "a") (record { bound = true; steps = 1000000; total = Some 1000000000000 })) }
+    ensures sizes { request_of (codes "cats" ∷ codes "sizes" ∷ codes "a" ∷ codes "--total-steps=5" ∷ codes "--steps=7" ∷ [])
+        ≡ Some (Sizes (record {
+          paths = Given (codes "a" ∷ []);
+          limits = record { bound = true; steps = 7; total = Some 5 };
+          progress = false;
+          null = false;
+        })) }
+{}
+
+/// Lines that `clap` takes and that request nothing: why.
+pub fn misused_lines()
+    ensures requests { map request_of ((codes "cats" ∷ codes "normalise" ∷ codes "--total-steps=5" ∷ codes "a" ∷ [])
+        ∷ (codes "cats" ∷ codes "value" ∷ codes "a" ∷ codes "0" ∷ codes "--total-steps" ∷ codes "5" ∷ [])
+        ∷ (codes "cats" ∷ codes "normalise" ∷ codes "--steps=+5" ∷ codes "a" ∷ [])
+        ∷ (codes "cats" ∷ codes "diff" ∷ codes "--total-steps=+5" ∷ codes "a" ∷ codes "b" ∷ [])
+        ∷ (codes "cats" ∷ codes "value" ∷ codes "a" ∷ codes "0" ∷ codes "+1" ∷ [])
+        ∷ (codes "cats" ∷ codes "value" ∷ codes "a" ∷ codes "--" ∷ codes "-0" ∷ [])
+        ∷ (codes "cats" ∷ codes "sizes" ∷ codes "--total-steps=5" ∷ []) ∷ [])
+        ≡ None ∷ None ∷ None ∷ None ∷ None ∷ None ∷ None ∷ [] }
+    ensures reasons { map misuse_of ((codes "cats" ∷ codes "normalise" ∷ codes "--total-steps=5" ∷ codes "a" ∷ [])
+        ∷ (codes "cats" ∷ codes "value" ∷ codes "a" ∷ codes "0" ∷ codes "--total-steps" ∷ codes "5" ∷ [])
+        ∷ (codes "cats" ∷ codes "normalise" ∷ codes "--steps=+5" ∷ codes "a" ∷ [])
+        ∷ (codes "cats" ∷ codes "diff" ∷ codes "--total-steps=+5" ∷ codes "a" ∷ codes "b" ∷ [])
+        ∷ (codes "cats" ∷ codes "value" ∷ codes "a" ∷ codes "0" ∷ codes "+1" ∷ [])
+        ∷ (codes "cats" ∷ codes "value" ∷ codes "a" ∷ codes "--" ∷ codes "-0" ∷ [])
+        ∷ (codes "cats" ∷ codes "sizes" ∷ codes "--total-steps=5" ∷ []) ∷ [])
+        ≡ UnboundedTotal ∷ UnboundedTotal ∷ SignedNumber ∷ SignedNumber ∷ SignedNumber ∷ SignedNumber ∷ WrongFiles ∷ [] }
+    ensures no_faults { map (fault_of cats) ((codes "cats" ∷ codes "normalise" ∷ codes "--total-steps=5" ∷ codes "a" ∷ [])
+        ∷ (codes "cats" ∷ codes "value" ∷ codes "a" ∷ codes "0" ∷ codes "+1" ∷ [])
+        ∷ (codes "cats" ∷ codes "sizes" ∷ codes "--total-steps=5" ∷ []) ∷ [])
+        ≡ [] ∷ [] ∷ [] ∷ [] }
 {}
 
 /// Lines that request nothing.
@@ -32,6 +87,8 @@ pub fn wrong_lines()
         ∷ (codes "cats" ∷ codes "diff" ∷ codes "a" ∷ codes "b" ∷ codes "c" ∷ [])
         ∷ (codes "cats" ∷ codes "sizes" ∷ codes "-0" ∷ codes "--null" ∷ codes "a" ∷ [])
         ∷ (codes "cats" ∷ codes "sizes" ∷ codes "--files0-from" ∷ codes "a" ∷ codes "b" ∷ [])
+        ∷ (codes "cats" ∷ codes "explain" ∷ codes "--bound" ∷ codes "a" ∷ [])
+        ∷ (codes "cats" ∷ codes "explain" ∷ codes "--total-steps=0" ∷ codes "a" ∷ [])
         ∷ (codes "cats" ∷ codes "sizes" ∷ []) ∷ [])
-        ≡ None ∷ None ∷ None ∷ None ∷ None ∷ None ∷ None ∷ None ∷ None ∷ None ∷ [] }
+        ≡ None ∷ None ∷ None ∷ None ∷ None ∷ None ∷ None ∷ None ∷ None ∷ None ∷ None ∷ None ∷ [] }
 {}

@@ -4,10 +4,11 @@ use Rattle.clap.specs.Simple.{App, Shape, new_shape, with_subcommand}
 use Rattle.clap.specs.Walk.{Rule}
 use Rattle.clap.specs.declared.builder.command.Command.{Command}
 use Rattle.clap.specs.declared.builder.command.Command.TheViews.{out-Command}
-use Rattle.command_line.specs.Subcommands.{file, second_file, files, goods, steps, list, flag, null}
+use Rattle.command_line.specs.Subcommands.{file, second_file, files, goods, bound, steps, total_steps}
+use Rattle.command_line.specs.Subcommands.{list, flag, null}
 use Rattle.command_line.specs.declared.commands.Argument.{Argument}
 use Rattle.command_line.specs.declared.commands.Argument.TheVariants.{File, SecondFile, Files, List, Goods, Steps}
-use Rattle.command_line.specs.declared.commands.Argument.TheVariants.{Progress, Null, Exact}
+use Rattle.command_line.specs.declared.commands.Argument.TheVariants.{TotalSteps, Bound, Progress, Null, Exact}
 use Rattle.command_line.specs.declared.commands.Subcommand.{Subcommand}
 
 -- some argument is one of the subcommands too
@@ -21,6 +22,8 @@ rule_for Files = files
 rule_for List = list
 rule_for Goods = goods
 rule_for (Steps help) = steps
+rule_for (TotalSteps help) = total_steps
+rule_for Bound = bound
 rule_for Progress = flag (codes "progress")
 rule_for Null = null
 rule_for Exact = flag (codes "exact")

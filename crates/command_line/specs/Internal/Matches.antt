@@ -7,7 +7,7 @@ use Rattle.clap.specs.declared.error.kind.ErrorKind.TheVariants.{OutOfMemory}
 use Rattle.clap.specs.declared.parser.matches.ArgMatches.{ArgMatches}
 use Rattle.command_line.specs.Requests.{is_shown}
 use Rattle.command_line.specs.declared.request.NoRequest.{NoRequest}
-use Rattle.command_line.specs.declared.request.NoRequest.TheVariants.{Help, WrongUsage, WrongFiles, NoMemory}
+use Rattle.command_line.specs.declared.request.NoRequest.TheVariants.{Help, WrongUsage, Misused, NoMemory}
 
 abbrev pub rows_in : ArgMatches → List Row
 rows_in m = rows_of (found_of m)
@@ -16,5 +16,5 @@ rows_in m = rows_of (found_of m)
 abbrev pub IsAnswerTo : ErrorKind → NoRequest → Type 0
 IsAnswerTo kind (Help text) = is_shown kind ≡ true
 IsAnswerTo kind (WrongUsage text) = (is_shown kind ≡ false) × (kind ≡ OutOfMemory → ⊥)
-IsAnswerTo kind WrongFiles = ⊥
+IsAnswerTo kind (Misused misuse) = ⊥
 IsAnswerTo kind (NoMemory text) = (kind ≡ OutOfMemory) ⊎ (is_shown kind ≡ true)

@@ -1,6 +1,7 @@
 use Rattle.std.proofs.Common.{◌∙◌, sym, rules}
+use Rattle.command_line.specs.Internal.Matches.{rows_in}
 use Rattle.command_line.specs.Requests.{texts_of}
-use Rattle.command_line.proofs.Answering.{refused, taken, entered, requested, both_are}
+use Rattle.command_line.proofs.Answering.{refused, taken, entered, requested, both_are, misused}
 use Rattle.command_line.proofs.parser.find_request.Goals as goal
 
 pub returns-in_err-matches-clause-refused : goal.returns-in_err-matches-clause-refused
@@ -18,5 +19,11 @@ returns-in-Some-clause-found c =
     let none = taken _ c.in_ok-cats_command.ensures
     (texts_of c.args.words.now) _ c.in_ok-matches.matches c.try_get_matches_from.ensures.kinds c.in_ok-matches.was in
     let met = entered _ c.in_ok-cats_command.ensures (texts_of c.args.words.now) c.in_ok-matches.matches c.in_ok-matches.ensures.matches in
-    c.in_ok-find_named_request-in-Some.ensures ∙ requested (texts_of c.args.words.now) _ none
-    (sym (both_are _ c.in-Some.name.now _ (search rules) (search rules)) ∙ met)
+    c.in_ok-judge_subcommand-in-Some.ensures.found ∙ requested (texts_of c.args.words.now) _ none
+    (sym (both_are _ c.in-Some.name.now (rows_in c.in-Some.given.now) (search rules) (search rules)) ∙ met)
+
+pub returns-in-Some-clause-misused : goal.returns-in-Some-clause-misused
+returns-in-Some-clause-misused c =
+    let met = entered _ c.in_ok-cats_command.ensures (texts_of c.args.words.now) c.in_ok-matches.matches c.in_ok-matches.ensures.matches in
+    misused (texts_of c.args.words.now) _ _ (sym (both_are _ c.in-Some.name.now (rows_in c.in-Some.given.now) (search rules) (search rules)) ∙ met)
+    c.in_ok-judge_subcommand-in-Some.ensures.misused
