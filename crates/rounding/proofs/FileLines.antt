@@ -1,12 +1,14 @@
 -- The words of lines, and a bid file that is rounded.
 use Rattle.std.specs.Prelude.{if◌then◌else◌}
 use Rattle.std.proofs.Common.{◌≡◌, ℕ, zero, suc, ◌-◌, ◌<◌, ◌≤◌, true, false, ◌&&◌, eqb, leb, List, [], ◌∷◌, ◌++◌, map, filter, drop, refl, sym, ap, ◌∙◌, arith}
-use Rattle.std.proofs.Common.{⊎_elim, Some, None, append_assoc, subst, slice_get, codes}
-use Rattle.std.proofs.lemmas.Bool.{cases_Bool, both_ways, and_parts, eqb-true, cases_lt, lt-leb}
+use Rattle.std.proofs.Common.{◌+◌, ltb, length}
+use Rattle.std.proofs.Common.{◌⊎◌, inl, inr, Bool, ⊎_elim, Some, None, append_assoc, subst, slice_get, codes}
+use Rattle.std.proofs.lemmas.Bool.{cases_Bool, both_ways, and_parts, eqb-true, cases_lt, lt-leb, ltb-false, lt-ltb}
+use Rattle.std.proofs.lemmas.List.{drop_all, length-drop, length-map}
 use Rattle.std.specs.List.{AllByRecursion}
 use Rattle.cats_text.specs.Lines.{Word, RawLine, Line, is_blank, line_byte, line_ends, blank_returns, raw_lines, lines_with, with_byte, line_words, words_with}
-use Rattle.cats_text.specs.Lines.{with_letter, is_significant, numbered}
-use Rattle.cats_text.specs.Faults.{price_word}
+use Rattle.cats_text.specs.Lines.{with_letter, is_significant, numbered, significant_lines}
+use Rattle.cats_text.specs.Faults.{price_word, has_bid_line}
 use Rattle.cats_text.specs.Grammar.{Spells, SpellsPrice, SpellsBid, significant_words}
 use Rattle.cats_text.specs.Numbers.{number_of, is_price, price_of, is_too_large, is_too_fine}
 use Rattle.cats_text.specs.Layout.{price_text}
@@ -19,6 +21,8 @@ use Rattle.rounding.specs.Texts.{behind_blanks, leading_word, behind_word, from_
 use Rattle.rounding.specs.Texts.{is_significant_line, is_bid_line, before_next}
 use Rattle.rounding.specs.Texts.{rounded_line, rounded_lines, lines_text, line_changes, lines_changes, rounded_text, rounded_prices, change_by, PlainChange}
 use Rattle.rounding.specs.declared.replacement.FinePrices.{FinePrices}
+use Rattle.rounding.specs.Internal.RawTexts.{behind_line}
+use Rattle.rounding.proofs.TextLines.{first_of_lines, first_raw}
 use Rattle.rounding.proofs.Words.{byte_stays, word_both, second_both}
 
 -- ---- the words of a line
@@ -306,6 +310,59 @@ file_stays fine text f s = ap lines_text (lines_stay fine 0 (raw_lines text) (va
 
 pub file_unchanged : (fine : FinePrices) (text : List ℕ) (f : PlainFile) → Spells text f → rounded_prices fine text ≡ []
 file_unchanged fine text f s = lines_unchanged fine 1 0 (raw_lines text) (valid_file text f s)
+
+-- ---- a text in which no bid line has begun
+
+-- how many significant lines a text has
+count_words : (text : List ℕ) → length (words_from (raw_lines text)) ≡ length (significant_lines text)
+count_words text =
+    ap (λ (ws : List (List Word)). length ws) (sym (significant_from text)) ∙ length-map (significant_lines text) (λ (l : Line). l.words)
+
+header_valid : (text : List ℕ) → has_bid_line text ≡ false → Valid 0 (raw_lines text)
+header_valid text none =
+    let few : length (significant_lines text) ≤ 3 = ltb-false 3 (length (significant_lines text)) none in
+    let no_more : drop 3 (words_from (raw_lines text)) ≡ [] = drop_all 3 (words_from (raw_lines text)) (omega (arith, count_words text, few)) in
+    valid_from 0 (raw_lines text) (subst (λ (ws : List (List Word)). AllByRecursion HasPrice ws) (sym no_more) tt)
+
+pub header_stays : (fine : FinePrices) (text : List ℕ) → has_bid_line text ≡ false → rounded_text fine text ≡ text
+header_stays fine text none = ap lines_text (lines_stay fine 0 (raw_lines text) (header_valid text none)) ∙ text_of_lines text
+
+pub header_unchanged : (fine : FinePrices) (text : List ℕ) → has_bid_line text ≡ false → rounded_prices fine text ≡ []
+header_unchanged fine text none = lines_unchanged fine 1 0 (raw_lines text) (header_valid text none)
+
+-- so many of a text's significant lines are before a place
+abbrev pub IsCounted : List ℕ → ℕ → ℕ → Type 0
+IsCounted text start count = count + length (words_from (raw_lines (drop start text))) ≡ length (significant_lines text)
+
+count_first : (l : RawLine) (ls : List RawLine) (significant : Bool) (more : ℕ) → significant ≡ is_significant_line l
+    → more ≡ (if significant then 1 else 0) → length (words_from (l ∷ ls)) ≡ more + length (words_from ls)
+count_first l ls true more es em = ap (λ (ws : List (List Word)). length ws) (words_more l ls (sym es)) ∙ omega (arith, em)
+count_first l ls false more es em = ap (λ (ws : List (List Word)). length ws) (words_same l ls (sym es)) ∙ omega (arith, em)
+
+pub none_counted : (text : List ℕ) → IsCounted text 0 0
+none_counted text = omega (arith, count_words text)
+
+pub line_counted : (text : List ℕ) (start next count more : ℕ) (significant : Bool) → start < length text
+    → drop next text ≡ behind_line (drop start text) → significant ≡ is_significant_line (first_raw (drop start text))
+    → more ≡ (if significant then 1 else 0) → IsCounted text start count → IsCounted text next (count + more)
+line_counted text start next count more significant l en es em before =
+    let some : 0 < length (drop start text) = omega (arith, length-drop start text) in
+    let first : length (words_from (raw_lines (drop start text))) ≡ more + length (words_from (raw_lines (behind_line (drop start text)))) =
+    ap (λ (ls : List RawLine). length (words_from ls)) (first_of_lines (drop start text) some)
+    ∙ count_first (first_raw (drop start text)) (raw_lines (behind_line (drop start text))) significant more es em in
+    let behind : length (words_from (raw_lines (drop next text))) ≡ length (words_from (raw_lines (behind_line (drop start text)))) =
+    ap (λ (t : List ℕ). length (words_from (raw_lines t))) en in
+    omega (arith, first, behind, before)
+
+-- all lines were counted, or more than three
+pub counted_all : (text : List ℕ) (start count : ℕ) → IsCounted text start count → (length text ≤ start) ⊎ (3 < count)
+    → ltb 3 count ≡ has_bid_line text
+counted_all text start count counted (inl end) =
+    let none : length (words_from (raw_lines (drop start text))) ≡ 0 =
+    ap (λ (t : List ℕ). length (words_from (raw_lines t))) (drop_all start text end) in
+    ap (λ n. ltb 3 n) (omega (arith, counted, none))
+counted_all text start count counted (inr many) =
+    lt-ltb 3 count many ∙ sym (lt-ltb 3 (length (significant_lines text)) (omega (arith, counted, many)))
 
 -- ---- prices that are written
 

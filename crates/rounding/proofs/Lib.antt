@@ -6,3 +6,4 @@ pub mod Deciding
 pub mod TextLines
 pub mod Exactness
 pub mod FileLines
+pub mod Headers

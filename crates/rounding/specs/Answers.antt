@@ -1,6 +1,6 @@
 -- What rounding a text answers.
-use Rattle.std.specs.Prelude.{◌≡◌, ◌⊎◌, ℕ, List, Some, Result, Ok, Err}
-use Rattle.cats_text.specs.Faults.{first_fault, fault_at}
+use Rattle.std.specs.Prelude.{◌≡◌, ◌⊎◌, ℕ, true, List, Some, Result, Ok, Err}
+use Rattle.cats_text.specs.Faults.{first_fault, fault_at, has_bid_line}
 use Rattle.cats_text.specs.Grammar.{Spells}
 use Rattle.bid_file.specs.Files.{PlainFile}
 use Rattle.cats_text.specs.declared.read_fault.ReadFault.{ReadFault}
@@ -17,7 +17,17 @@ pub record IsRounded (fine : FinePrices) (text : List ℕ) (r : RoundedText) : T
   pub file : PlainFile
   pub spells : Spells r.text.items file
 
+-- the rounded text spells some file
+pub record SpellsRounded (fine : FinePrices) (text : List ℕ) : Type 0 where
+  pub file : PlainFile
+  pub spells : Spells (rounded_text fine text) file
+
+-- memory is refused only if a bid line has begun, as in reading the text, or if the rounded text spells a file
+abbrev pub WantsMemoryToRound : FinePrices → List ℕ → Type 0
+WantsMemoryToRound fine text = (has_bid_line text ≡ true) ⊎ SpellsRounded fine text
+
 -- the rounded text and its rounded prices; or the first fault of the rounded text; or that memory was refused
 abbrev pub RoundAnswer : FinePrices → List ℕ → Result RoundedText ReadFault → Type 0
 RoundAnswer fine text (Ok r) = IsRounded fine text r
-RoundAnswer fine text (Err e) = (first_fault (rounded_text fine text) ≡ Some e) ⊎ (e ≡ fault_at 0 NoMemory)
+RoundAnswer fine text (Err e) = (first_fault (rounded_text fine text) ≡ Some e)
+    ⊎ ((e ≡ fault_at 0 NoMemory) × WantsMemoryToRound fine text)

@@ -12,7 +12,9 @@ ghost use Rattle.std.specs.Prelude.{
   IfOk,
   OnOk,
   length,
+  false,
 };
+ghost use Rattle.cats_text.specs.Faults.{has_bid_line, fault_at};
 ghost use Rattle.rounding.specs.Answers.{RoundAnswer};
 ghost use Rattle.rounding.specs.Texts.{with_rounded, second_word, rounded_text, rounded_prices, change_by};
 ghost use Rattle.rounding.specs.Replacements.{replacement, replacement_text};
@@ -170,15 +172,54 @@ fn round_text(alloc: Global, text: &[u8], fine: FinePrices) -> Result<RoundedTex
     Ok(rounded)
 }
 
-/// Rounds the prices of a text, and reads what it gives as a bid file.
+/// Whether a bid line has begun in a text: a fourth significant line.
+fn has_bid_line(text: &[u8]) -> bool
+    ensures { result ≡ has_bid_line text.now }
+{
+    let mut start = 0;
+    let mut count = 0;
+    while start < text.len() && count <= HEADER_LINES {
+        let end = start + line_length(&text[start..]);
+        count += usize::from(is_significant(&text[start..end]));
+        start = text.len().min(end + 1);
+    }
+    count > HEADER_LINES
+}
+
+fn no_memory() -> ReadFault
+    ensures { result ≡ fault_at 0 Kind.Memory }
+{
+    ReadFault {
+        line: 0,
+        kind: Kind::Memory,
+    }
+}
+
+/// Reads a text in which no bid line has begun. No byte of it changes, so its fault needs no memory.
+fn round_header(alloc: Global, text: &[u8], fine: FinePrices) -> Result<RoundedText, ReadFault>
+    requires { has_bid_line text.now ≡ false }
+    ensures { RoundAnswer fine text.now result }
+{
+    read_packed(alloc, text)?;
+    match Vec::from_slice(alloc, text) {
+        Ok(text) => Ok(RoundedText {
+            text,
+            prices: Vec::new(alloc),
+        }),
+        Err(AllocError) => Err(no_memory()),
+    }
+}
+
+/// Rounds the prices of a text, and reads what it gives as a bid file. Memory is refused only if a bid line has begun, or
+/// if the rounded text is a bid file.
 pub fn round(alloc: Global, text: &[u8], fine: FinePrices) -> Result<RoundedText, ReadFault>
     ensures { RoundAnswer fine text.now result }
 {
+    if !has_bid_line(text) {
+        return round_header(alloc, text, fine);
+    }
     let Ok(rounded) = round_text(alloc, text, fine) else {
-        return Err(ReadFault {
-            line: 0,
-            kind: Kind::Memory,
-        });
+        return Err(no_memory());
     };
     read_packed(alloc, &rounded.text)?;
     Ok(rounded)
