@@ -5,12 +5,13 @@ use Rattle.std.proofs.Common.{refl, ⊎_elim}
 use Rattle.std.specs.Prelude.{nat_lt, IsErrAnd}
 use Rattle.std.proofs.lemmas.Result.{err_from_is_err_and}
 use Rattle.bid_file.specs.Files.{PlainFile}
+use Rattle.valuation.specs.declared.search_options.SearchOptions.{SearchOptions}
 use Rattle.cats_text.specs.declared.read_fault.Kind.{Kind}
 use Rattle.cats_text.specs.declared.read_fault.Kind.TheVariants.{Device, Memory as NoMemory}
 use Rattle.cats_text.specs.declared.stream.Watched.{Watched}
 use Rattle.valuation.specs.Auctions.{or_atoms_of, auction_from}
 use Rattle.valuation.specs.Packings.{count_packings}
-use Rattle.prune.specs.SearchSteps.{first_heavy}
+use Rattle.prune.specs.SearchSteps.{first_refused}
 use Rattle.canon.specs.Difference.{Difference, NoDifference, InGoods, InOr, InXor, first_difference}
 use Rattle.canon.specs.declared.canon_fault.CanonFault.{CanonFault}
 use Rattle.canon.specs.declared.canon_fault.CanonFault.TheVariants.{Read, StepLimit, Memory}
@@ -18,17 +19,20 @@ use Rattle.canon.specs.declared.which.Which.TheVariants.{Only, First, Second, Bo
 use Rattle.cats_cmd.specs.Comparisons.{Compares, ReadsBoth, RunsOnBoth}
 use Rattle.cats_cmd.specs.Diffs.{DiffsFiles, ReadsDifferences, diff_outcome}
 use Rattle.differences.specs.Differences.{is_none_at_all}
-use Rattle.cats_cmd.specs.Outcomes.{Outcome, Prints, ExceedsSteps, check_outcome, show_outcome, normalise_outcome, value_outcome, values_within, missing_good}
-use Rattle.cats_cmd.specs.Outcomes.{compare_outcome, outcome_unless, text_unless_heavy, outcome_of_difference}
+use Rattle.cats_cmd.specs.Outcomes.{Outcome, Prints, ExceedsSteps, check_outcome, show_outcome, normalise_outcome, value_outcome_if, values_unless}
+use Rattle.cats_cmd.specs.Outcomes.{missing_good}
+use Rattle.cats_cmd.specs.Outcomes.{compare_outcome, outcome_unless, text_unless_refused, outcome_of_difference}
 use Rattle.cats_cmd.specs.Inputs.{IsOpened}
 use Rattle.cats_cmd.specs.Explanations.{ExplainsFile}
-use Rattle.cats_cmd.specs.Requests.{AnswersRequest, CarriesOut, ComparesAt, DiffsAt, ExplainsAt, RoundsAt, RunsAt, RunsFor, FailsRequest, fine_of}
+use Rattle.cats_cmd.specs.Requests.{AnswersRequest, CarriesOut, ComparesAt, DiffsAt, ExplainsAt, RoundsAt, RunsAt, RunsFor, ValuesAt, FailsRequest, bounded_by}
+use Rattle.cats_cmd.specs.Requests.{fine_of, options_of}
 use Rattle.rounding.specs.declared.replacement.FinePrices.{FinePrices}
 use Rattle.cats_cmd.specs.Runs.{RunsOnFile}
 use Rattle.answers.specs.Statuses.{status_of_canon_fault, status_of_differences, status_of_read_fault}
 use Rattle.cats_cmd.specs.Rounding.{Rounds}
-use Rattle.cats_cmd.specs.RequestErrors.{Reports, is_for_many_files, is_reporting, line_of_request_error, names_many_files, names_reporting}
+use Rattle.cats_cmd.specs.RequestErrors.{ReportsError, is_for_many_files, is_reporting, names_many_files, names_reporting}
 use Rattle.cats_cmd.specs.RequestErrors.{status_of_request_error}
+use Rattle.cats_cmd.specs.Values.{RunsValue}
 use Rattle.cats_cmd.specs.ValueTexts.{bundle_from, value_text}
 use Rattle.cats_cmd.specs.declared.program.RequestError.{RequestError}
 use Rattle.cats_cmd.specs.declared.program.RequestError.TheVariants.{CannotOpen, NotOpened, Run}
@@ -51,19 +55,19 @@ unless_prints : (missing : Option ℕ) (outcome : Outcome) (status : ℕ) (text 
 unless_prints None outcome status text only is = only is
 unless_prints (Some good) outcome status text only is = cc
 
-normal_prints : (heavy : Option (List ℕ)) (file : PlainFile) (status : ℕ) (text : List ℕ) → text_unless_heavy file heavy ≡ Prints status text → status ≡ 0
+normal_prints : (heavy : Option (List ℕ)) (file : PlainFile) (status : ℕ) (text : List ℕ) → text_unless_refused file heavy ≡ Prints status text → status ≡ 0
 normal_prints None file status text is = cc
 normal_prints (Some goods) file status text is = cc
 
-pub normalise_prints : (limit : ℕ) (file : PlainFile) (status : ℕ) (text : List ℕ) → normalise_outcome limit file ≡ Prints status text → status ≡ 0
-normalise_prints limit file status text is = normal_prints (first_heavy file.goods limit (or_atoms_of file.bids)) file status text is
-
-pub value_prints : (goods : List ℕ) (limit : ℕ) (file : PlainFile) (status : ℕ) (text : List ℕ) → value_outcome goods limit file ≡ Prints status text
+pub normalise_prints : (options : SearchOptions) (file : PlainFile) (status : ℕ) (text : List ℕ) → normalise_outcome options file ≡ Prints status text
     → status ≡ 0
-value_prints goods limit file status text is =
-    unless_prints (missing_good file.goods goods) (values_within limit (bundle_from goods) file) status text
-    (λ e. within_prints (nat_lt limit (count_packings (or_atoms_of file.bids) (bundle_from goods))) (bundle_from goods) (value_text file (bundle_from goods))
-    status text e) is
+normalise_prints options file status text is = normal_prints (first_refused options file.goods (or_atoms_of file.bids)) file status text is
+
+pub value_prints : (goods : List ℕ) (refuses : PlainFile → Bool) (file : PlainFile) (status : ℕ) (text : List ℕ)
+    → value_outcome_if refuses goods file ≡ Prints status text → status ≡ 0
+value_prints goods refuses file status text is =
+    unless_prints (missing_good file.goods goods) (values_unless (refuses file) (bundle_from goods) file) status text
+    (λ e. within_prints (refuses file) (bundle_from goods) (value_text file (bundle_from goods)) status text e) is
 
 -- ---- a comparison
 
@@ -105,28 +109,29 @@ module _ {R W : Type 0} (remaining : R → Option (List ℕ)) (contents : W → 
   silent_run (GoodRange good) ran = ran.silent
   silent_run (Sent fault) ran = tt
 
-module _ {R W : Type 0} (remaining : R → Option (List ℕ)) (contents : W → Option (List ℕ)) (limit : ℕ) (before after : Watched R)
+module _ {R W : Type 0} (remaining : R → Option (List ℕ)) (contents : W → Option (List ℕ)) (options : SearchOptions) (before after : Watched R)
     (old new : Watched W) where
   -- an explanation that answered has the status 0
-  printed_explanation : (status : ℕ) → ExplainsFile remaining contents limit before after old new (Ok status) → status ≤ 1
+  printed_explanation : (status : ℕ) → ExplainsFile remaining contents options before after old new (Ok status) → status ≤ 1
   printed_explanation status ran = let made = ran.made in let none : 0 ≡ status = cc in omega (arith, none)
 
   -- an explanation that failed has written nothing, unless its output failed
-  silent_explanation : (fault : RunFault) → ExplainsFile remaining contents limit before after old new (Err fault) → IsSilent (Run fault) old new
+  silent_explanation : (fault : RunFault) → ExplainsFile remaining contents options before after old new (Err fault) → IsSilent (Run fault) old new
   silent_explanation (Refused which fault) ran = ran.silent
   silent_explanation (GoodRange good) ran = absurd ran
   silent_explanation (Sent fault) ran = tt
 
-module _ {R S W : Type 0} (remaining_first : R → Option (List ℕ)) (remaining_second : S → Option (List ℕ)) (contents : W → Option (List ℕ)) (limit : ℕ)
+module _ {R S W : Type 0} (remaining_first : R → Option (List ℕ)) (remaining_second : S → Option (List ℕ)) (contents : W → Option (List ℕ))
+    (options : SearchOptions)
     (first first_after : Watched R) (second second_after : Watched S) (old new : Watched W) where
   -- a comparison that answered has the status 0 or 1
-  printed_comparison : (status : ℕ) → Compares remaining_first remaining_second contents limit first first_after second second_after old new (Ok status)
+  printed_comparison : (status : ℕ) → Compares remaining_first remaining_second contents options first first_after second second_after old new (Ok status)
       → status ≤ 1
   printed_comparison status ran =
       differs_or_same (first_difference (auction_from ran.given.0) (auction_from ran.given.1)) status ran.text ran.made
 
   -- and so has a run that printed all differences
-  printed_differences : (status : ℕ) → DiffsFiles remaining_first remaining_second contents limit first first_after second second_after old new (Ok status)
+  printed_differences : (status : ℕ) → DiffsFiles remaining_first remaining_second contents options first first_after second second_after old new (Ok status)
       → status ≤ 1
   printed_differences status ran =
       let made = ran.made in
@@ -139,7 +144,7 @@ module _ {R S W : Type 0} (remaining_first : R → Option (List ℕ)) (remaining
 
   -- a run of two files that failed has written nothing, unless its output failed
   silent_of_both : {A : Type 0} (Reads : A → Type 0) (outcome : A → Outcome) (fault : RunFault)
-      → RunsOnBoth remaining_first remaining_second contents limit Reads outcome first first_after second second_after old new (Err fault)
+      → RunsOnBoth remaining_first remaining_second contents options Reads outcome first first_after second second_after old new (Err fault)
       → IsSilent (Run fault) old new
   silent_of_both Reads outcome (Refused First fault) ran = ran.silent
   silent_of_both Reads outcome (Refused Second fault) ran = ran.silent
@@ -195,17 +200,21 @@ module _ {F W E : Type 0} (may_open : List ℕ → F → Type 0) (may_refuse : L
       printed_status remaining contents check_outcome ran.0.before ran.0.after out out_after (λ file s text is. cc) status ran.0.runs
   answered (Show file) err_after status ran few =
       printed_status remaining contents show_outcome ran.0.before ran.0.after out out_after (λ file s text is. cc) status ran.0.runs
-  answered (Value file goods limit) err_after status ran few =
-      printed_status remaining contents (value_outcome goods limit) ran.0.before ran.0.after out out_after (value_prints goods limit) status ran.0.runs
-  answered (Normalise file limit) err_after status ran few =
-      printed_status remaining contents (normalise_outcome limit) ran.0.before ran.0.after out out_after (normalise_prints limit) status ran.0.runs
-  answered (Explain file limit) err_after status ran few =
-      printed_explanation remaining contents limit ran.0.before ran.0.after out out_after status ran.0.runs
+  answered (Value file goods limits) err_after status ran few =
+      printed_status remaining contents (value_outcome_if ran.0.runs.refuses goods) ran.0.before ran.0.after out out_after
+      (value_prints goods ran.0.runs.refuses) status ran.0.runs.runs
+  answered (Normalise file limits) err_after status ran few =
+      printed_status remaining contents (normalise_outcome (options_of limits)) ran.0.before ran.0.after out out_after (normalise_prints (options_of limits))
+      status ran.0.runs
+  answered (Explain file limits) err_after status ran few =
+      printed_explanation remaining contents (bounded_by limits) ran.0.before ran.0.after out out_after status ran.0.runs
   answered (Round file exact) err_after status ran few = let made = ran.runs.made in let none : 0 ≡ status = cc in omega (arith, none)
-  answered (Compare left right limit) err_after status ran few =
-      printed_comparison remaining remaining contents limit ran.0.left ran.0.left_after ran.0.right ran.0.right_after out out_after status ran.0.runs
-  answered (Diff left right limit) err_after status ran few =
-      printed_differences remaining remaining contents limit ran.0.left ran.0.left_after ran.0.right ran.0.right_after out out_after status ran.0.runs
+  answered (Compare left right limits) err_after status ran few =
+      printed_comparison remaining remaining contents (options_of limits) ran.0.left ran.0.left_after ran.0.right ran.0.right_after out out_after status
+      ran.0.runs
+  answered (Diff left right limits) err_after status ran few =
+      printed_differences remaining remaining contents (bounded_by limits) ran.0.left ran.0.left_after ran.0.right ran.0.right_after out out_after status
+      ran.0.runs
   answered (Duplicates files) err_after status ran few = absurd (cc)
   answered (Sizes files) err_after status ran few = absurd (cc)
 
@@ -215,12 +224,12 @@ module _ {F W E : Type 0} (may_open : List ℕ → F → Type 0) (may_refuse : L
       → err_after ≡ err
   quiet (Check file) err_after answer ran silent = ran.1
   quiet (Show file) err_after answer ran silent = ran.1
-  quiet (Value file goods limit) err_after answer ran silent = ran.1
-  quiet (Normalise file limit) err_after answer ran silent = ran.1
-  quiet (Explain file limit) err_after answer ran silent = ran.1
+  quiet (Value file goods limits) err_after answer ran silent = ran.1
+  quiet (Normalise file limits) err_after answer ran silent = ran.1
+  quiet (Explain file limits) err_after answer ran silent = ran.1
   quiet (Round file exact) err_after answer ran silent = absurd (cc)
-  quiet (Compare left right limit) err_after answer ran silent = ran.1
-  quiet (Diff left right limit) err_after answer ran silent = ran.1
+  quiet (Compare left right limits) err_after answer ran silent = ran.1
+  quiet (Diff left right limits) err_after answer ran silent = ran.1
   quiet (Duplicates files) err_after answer ran silent = absurd (cc)
   quiet (Sizes files) err_after answer ran silent = absurd (cc)
 
@@ -232,21 +241,22 @@ module _ {F W E : Type 0} (may_open : List ℕ → F → Type 0) (may_refuse : L
       silent_run remaining contents check_outcome ran.0.before ran.0.after out out_after fault ran.0.runs
   silent_fault (Show file) err_after fault ran few =
       silent_run remaining contents show_outcome ran.0.before ran.0.after out out_after fault ran.0.runs
-  silent_fault (Value file goods limit) err_after fault ran few =
-      silent_run remaining contents (value_outcome goods limit) ran.0.before ran.0.after out out_after fault ran.0.runs
-  silent_fault (Normalise file limit) err_after fault ran few =
-      silent_run remaining contents (normalise_outcome limit) ran.0.before ran.0.after out out_after fault ran.0.runs
-  silent_fault (Explain file limit) err_after fault ran few =
-      silent_explanation remaining contents limit ran.0.before ran.0.after out out_after fault ran.0.runs
+  silent_fault (Value file goods limits) err_after fault ran few =
+      silent_run remaining contents (value_outcome_if ran.0.runs.refuses goods) ran.0.before ran.0.after out out_after fault ran.0.runs.runs
+  silent_fault (Normalise file limits) err_after fault ran few =
+      silent_run remaining contents (normalise_outcome (options_of limits)) ran.0.before ran.0.after out out_after fault ran.0.runs
+  silent_fault (Explain file limits) err_after fault ran few =
+      silent_explanation remaining contents (bounded_by limits) ran.0.before ran.0.after out out_after fault ran.0.runs
   silent_fault (Round file exact) err_after fault ran few =
       silent_rounding remaining contents messages (fine_of exact) ran.before ran.after out out_after err err_after fault ran.runs
-  silent_fault (Compare left right limit) err_after fault ran few =
-      silent_of_both remaining remaining contents limit ran.0.left ran.0.left_after ran.0.right ran.0.right_after out out_after
-      (ReadsBoth remaining remaining contents limit ran.0.left ran.0.left_after ran.0.right ran.0.right_after)
+  silent_fault (Compare left right limits) err_after fault ran few =
+      silent_of_both remaining remaining contents (options_of limits) ran.0.left ran.0.left_after ran.0.right ran.0.right_after out out_after
+      (ReadsBoth remaining remaining contents (options_of limits) ran.0.left ran.0.left_after ran.0.right ran.0.right_after)
       (λ (both : PlainFile × PlainFile). compare_outcome both.0 both.1) fault ran.0.runs
-  silent_fault (Diff left right limit) err_after fault ran few =
-      silent_of_both remaining remaining contents limit ran.0.left ran.0.left_after ran.0.right ran.0.right_after out out_after
-      (ReadsDifferences remaining remaining contents limit ran.0.left ran.0.left_after ran.0.right ran.0.right_after) diff_outcome fault ran.0.runs
+  silent_fault (Diff left right limits) err_after fault ran few =
+      silent_of_both remaining remaining contents (bounded_by limits) ran.0.left ran.0.left_after ran.0.right ran.0.right_after out out_after
+      (ReadsDifferences remaining remaining contents (bounded_by limits) ran.0.left ran.0.left_after ran.0.right ran.0.right_after) diff_outcome fault
+      ran.0.runs
   silent_fault (Duplicates files) err_after fault ran few = absurd (cc)
   silent_fault (Sizes files) err_after fault ran few = absurd (cc)
 
@@ -283,7 +293,7 @@ module _ {F W E : Type 0} (may_open : List ℕ → F → Type 0) (may_refuse : L
 
   pub failed_request : (request : PlainRequest) (error : RequestError) (between err_after : Watched E) (status : ℕ)
       → CarriesOut may_open may_refuse remaining contents messages terminal request out out_after err between (Err error)
-      → Reports messages (line_of_request_error error) between err_after → status ≡ status_of_request_error error
+      → ReportsError messages error between err_after → status ≡ status_of_request_error error
       → FailsRequest may_open may_refuse remaining contents messages terminal request out out_after err err_after status
   failed_request request error between err_after status carries reports is =
       record { error = error; between = between; carries = carries; reports = reports; is_status = is }
@@ -316,45 +326,56 @@ module _ {F W : Type 0} (may_open : List ℕ → F → Type 0) (remaining : F �
       → RunsAt may_open remaining contents path outcome out out_after answer
   ran_at path outcome before after out out_after answer opened runs = record { before = before; after = after; opened = opened; runs = runs }
 
-  pub valued_at : (path goods given : List ℕ) (limit : ℕ) → given ≡ goods → (before after : Watched F) (out out_after : Watched W)
-      (answer : Result ℕ RunFault) → IsOpened may_open path before
-      → RunsOnFile remaining contents (value_outcome given limit) before after out out_after answer
-      → RunsAt may_open remaining contents path (value_outcome goods limit) out out_after answer
-  valued_at path goods given limit same before after out out_after answer opened runs =
-      subst (λ (gs : List ℕ). RunsAt may_open remaining contents path (value_outcome gs limit) out out_after answer) same
-      (ran_at path (value_outcome given limit) before after out out_after answer opened runs)
+  -- the run is by the searches that the request chooses
+  pub ran_by : (path : List ℕ) (outcome : SearchOptions → PlainFile → Outcome) (used options : SearchOptions) → used ≡ options
+      → (before after : Watched F) (out out_after : Watched W) (answer : Result ℕ RunFault) → IsOpened may_open path before
+      → RunsOnFile remaining contents (outcome used) before after out out_after answer
+      → RunsAt may_open remaining contents path (outcome options) out out_after answer
+  ran_by path outcome used options is before after out out_after answer opened runs =
+      subst (λ (o : SearchOptions). RunsAt may_open remaining contents path (outcome o) out out_after answer) is
+      (ran_at path (outcome used) before after out out_after answer opened runs)
 
-  pub explained_at : (path : List ℕ) (limit : ℕ) (before after : Watched F) (out out_after : Watched W) (answer : Result ℕ RunFault)
-      → IsOpened may_open path before → ExplainsFile remaining contents limit before after out out_after answer
-      → ExplainsAt may_open remaining contents path limit out out_after answer
-  explained_at path limit before after out out_after answer opened runs = record { before = before; after = after; opened = opened; runs = runs }
+  pub valued_at : (path goods given : List ℕ) (used options : SearchOptions) → used ≡ options → given ≡ goods → (before after : Watched F)
+      (out out_after : Watched W) (answer : Result ℕ RunFault) → IsOpened may_open path before
+      → RunsValue remaining contents given used before after out out_after answer → ValuesAt may_open remaining contents path goods options out out_after answer
+  valued_at path goods given used options is same before after out out_after answer opened runs =
+      subst (λ (o : SearchOptions). ValuesAt may_open remaining contents path goods o out out_after answer) is
+      (subst (λ (gs : List ℕ). ValuesAt may_open remaining contents path gs used out out_after answer) same
+      (record { before = before; after = after; opened = opened; runs = runs }))
 
-  pub compared_at : (first second : List ℕ) (limit : ℕ) (left left_after right right_after : Watched F) (out out_after : Watched W)
+  pub explained_at : (path : List ℕ) (options : SearchOptions) (before after : Watched F) (out out_after : Watched W) (answer : Result ℕ RunFault)
+      → IsOpened may_open path before → ExplainsFile remaining contents options before after out out_after answer
+      → ExplainsAt may_open remaining contents path options out out_after answer
+  explained_at path options before after out out_after answer opened runs = record { before = before; after = after; opened = opened; runs = runs }
+
+  pub compared_at : (first second : List ℕ) (used options : SearchOptions) → used ≡ options
+      → (left left_after right right_after : Watched F) (out out_after : Watched W)
       (answer : Result ℕ RunFault)
       → IsOpened may_open first left → IsOpened may_open second right
-      → Compares remaining remaining contents limit left left_after right right_after out out_after answer
-      → ComparesAt may_open remaining contents first second limit out out_after answer
-  compared_at first second limit left left_after right right_after out out_after answer one other runs = record {
+      → Compares remaining remaining contents used left left_after right right_after out out_after answer
+      → ComparesAt may_open remaining contents first second options out out_after answer
+  compared_at first second used options is left left_after right right_after out out_after answer one other runs = record {
     left = left;
     left_after = left_after;
     right = right;
     right_after = right_after;
     left_opened = one;
     right_opened = other;
-    runs = runs;
+    runs = subst (λ (o : SearchOptions). Compares remaining remaining contents o left left_after right right_after out out_after answer) is runs;
   }
 
-  pub differed_at : (first second : List ℕ) (limit : ℕ) (left left_after right right_after : Watched F) (out out_after : Watched W)
+  pub differed_at : (first second : List ℕ) (used options : SearchOptions) → used ≡ options
+      → (left left_after right right_after : Watched F) (out out_after : Watched W)
       (answer : Result ℕ RunFault)
       → IsOpened may_open first left → IsOpened may_open second right
-      → DiffsFiles remaining remaining contents limit left left_after right right_after out out_after answer
-      → DiffsAt may_open remaining contents first second limit out out_after answer
-  differed_at first second limit left left_after right right_after out out_after answer one other runs = record {
+      → DiffsFiles remaining remaining contents used left left_after right right_after out out_after answer
+      → DiffsAt may_open remaining contents first second options out out_after answer
+  differed_at first second used options is left left_after right right_after out out_after answer one other runs = record {
     left = left;
     left_after = left_after;
     right = right;
     right_after = right_after;
     left_opened = one;
     right_opened = other;
-    runs = runs;
+    runs = subst (λ (o : SearchOptions). DiffsFiles remaining remaining contents o left left_after right right_after out out_after answer) is runs;
   }

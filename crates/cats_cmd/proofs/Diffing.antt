@@ -3,6 +3,7 @@ use Rattle.std.proofs.Common.{◌≡◌, ℕ, List, Option, Result, Ok, Err, sym
 use Rattle.std.specs.Prelude.{IsErrAnd, IfOk}
 use Rattle.std.proofs.lemmas.Result.{err_from_is_err_and}
 use Rattle.bid_file.specs.Files.{PlainFile}
+use Rattle.valuation.specs.declared.search_options.SearchOptions.{SearchOptions}
 use Rattle.cats_text.specs.declared.stream.Watched.{Watched}
 use Rattle.valuation.specs.Auctions.{auction_from}
 use Rattle.canon.specs.Answers.{NormalisesPlainAs, unnamed_answer}
@@ -24,36 +25,37 @@ use Rattle.cats_cmd.proofs.Comparing.{both_refused, printed_of_both}
 use Rattle.cats_cmd.proofs.Normalised.{refused_by_normalising}
 use Rattle.cats_cmd.proofs.RunsOfOneFile.{refused_in_reading, refused_in_making}
 
-module _ {R : Type 0} (remaining : R → Option (List ℕ)) (limit : ℕ) (old new : Watched R) where
+module _ {R : Type 0} (remaining : R → Option (List ℕ)) (options : SearchOptions) (old new : Watched R) where
   pub named_unread : (fault : CanonFault) → ReadsInput remaining old new (Err fault)
-      → (answer : Result NamedFile CanonFault) → IsErrAnd answer (λ reported. reported ≡ fault) → ReadsNamed remaining limit old new answer
+      → (answer : Result NamedFile CanonFault) → IsErrAnd answer (λ reported. reported ≡ fault) → ReadsNamed remaining options old new answer
   named_unread fault reads answer is =
       let reported = err_from_is_err_and answer is in
       let only : answer ≡ Err fault = reported.1 ∙ ap (λ (f : CanonFault). Err f) reported.2 in
-      subst (λ (r : Result NamedFile CanonFault). ReadsNamed remaining limit old new r) (sym only)
-      (refused_in_reading remaining (normalise_outcome limit) old new fault reads)
+      subst (λ (r : Result NamedFile CanonFault). ReadsNamed remaining options old new r) (sym only)
+      (refused_in_reading remaining (normalise_outcome options) old new fault reads)
 
   pub named_read : (file : PlainFile) → ReadsInput remaining old new (Ok file)
-      → (answer : Result NamedFile CanonFault) → NormalisesPlainAs limit file (unnamed_answer answer)
-      → IfOk answer (λ named. named.dummies.items ≡ kept_dummies file) → ReadsNamed remaining limit old new answer
+      → (answer : Result NamedFile CanonFault) → NormalisesPlainAs options file (unnamed_answer answer)
+      → IfOk answer (λ named. named.dummies.items ≡ kept_dummies file) → ReadsNamed remaining options old new answer
   named_read file reads (Ok named) n dummies =
       record { file = file; given = record { reads = reads; within = n.within_limit }; is = record { canonical = n.canonical; dummies = dummies } }
   named_read file reads (Err fault) n dummies =
-      refused_in_making remaining (normalise_outcome limit) old new file reads fault (refused_by_normalising limit file fault n)
+      refused_in_making remaining (normalise_outcome options) old new file reads fault (refused_by_normalising options file fault n)
 
-  pub named_canonical : (answer : Result NamedFile CanonFault) → ReadsNamed remaining limit old new answer → IfOk answer IsNamedFile
+  pub named_canonical : (answer : Result NamedFile CanonFault) → ReadsNamed remaining options old new answer → IfOk answer IsNamedFile
   named_canonical (Ok named) read = named_file read.file read.given.reads.reads.spelled.facts named read.is
   named_canonical (Err fault) read = tt
 
 -- ---- both files
 
-module _ {R S W : Type 0} (remaining_first : R → Option (List ℕ)) (remaining_second : S → Option (List ℕ)) (contents : W → Option (List ℕ)) (limit : ℕ)
+module _ {R S W : Type 0} (remaining_first : R → Option (List ℕ)) (remaining_second : S → Option (List ℕ)) (contents : W → Option (List ℕ))
+    (options : SearchOptions)
     (first first_after : Watched R) (second second_after : Watched S) (out out_after : Watched W) where
   -- the differences of the canonical files are those of the files
-  differences_of : (left right : NamedFile) → (one : ReadsNamedFile remaining_first limit first first_after left)
-      → (other : ReadsNamedFile remaining_second limit second second_after right)
+  differences_of : (left right : NamedFile) → (one : ReadsNamedFile remaining_first options first first_after left)
+      → (other : ReadsNamedFile remaining_second options second second_after right)
       → (status : ℕ) (text : List ℕ) → (printed : PrintsDifferences left right status text)
-      → ReadsDifferences remaining_first remaining_second contents limit first first_after second second_after (one.file, other.file, printed.differences)
+      → ReadsDifferences remaining_first remaining_second contents options first first_after second second_after (one.file, other.file, printed.differences)
       × (diff_outcome (one.file, other.file, printed.differences) ≡ Prints status text)
   differences_of left right one other status text printed =
       let d = printed.differences in
@@ -68,24 +70,24 @@ module _ {R S W : Type 0} (remaining_first : R → Option (List ℕ)) (remaining
         ap₂ (λ (s : ℕ) (xs : List ℕ). Prints s xs) (sym printed.is_status) (sym (printed.is_text ∙ names)),
       )
 
-  sent_text : (left right : NamedFile) → ReadsNamedFile remaining_first limit first first_after left
-      → ReadsNamedFile remaining_second limit second second_after right
+  sent_text : (left right : NamedFile) → ReadsNamedFile remaining_first options first first_after left
+      → ReadsNamedFile remaining_second options second second_after right
       → (answer : Result ℕ RunFault) → SendsAllDifferences contents left right out out_after answer
-      → DiffsFiles remaining_first remaining_second contents limit first first_after second second_after out out_after answer
+      → DiffsFiles remaining_first remaining_second contents options first first_after second second_after out out_after answer
   sent_text left right one other answer s =
       let d = differences_of left right one other s.status s.text s.printed in
-      printed_of_both remaining_first remaining_second contents limit first first_after second second_after out out_after
-      (ReadsDifferences remaining_first remaining_second contents limit first first_after second second_after) diff_outcome
+      printed_of_both remaining_first remaining_second contents options first first_after second second_after out out_after
+      (ReadsDifferences remaining_first remaining_second contents options first first_after second second_after) diff_outcome
       (one.file, other.file, s.printed.differences) d.0 s.status s.text d.1 answer s.sends
 
   -- a run that sent the differences of the canonical files
-  pub run_differed : (left right : NamedFile) → ReadsNamedFile remaining_first limit first first_after left
-      → ReadsNamedFile remaining_second limit second second_after right
+  pub run_differed : (left right : NamedFile) → ReadsNamedFile remaining_first options first first_after left
+      → ReadsNamedFile remaining_second options second second_after right
       → (answer : Result ℕ RunFault) → SendsDifferences contents left right out out_after answer
-      → DiffsFiles remaining_first remaining_second contents limit first first_after second second_after out out_after answer
+      → DiffsFiles remaining_first remaining_second contents options first first_after second second_after out out_after answer
   run_differed left right one other (Err (Refused which fault)) sends =
-      both_refused remaining_first remaining_second contents limit first first_after second second_after out out_after
-      (ReadsDifferences remaining_first remaining_second contents limit first first_after second second_after) diff_outcome
+      both_refused remaining_first remaining_second contents options first first_after second second_after out out_after
+      (ReadsDifferences remaining_first remaining_second contents options first first_after second second_after) diff_outcome
       (one.file, other.file) (one.given, other.given) which fault sends
   run_differed left right one other (Ok status) sends = sent_text left right one other (Ok status) sends
   run_differed left right one other (Err (GoodRange good)) sends = sent_text left right one other (Err (GoodRange good)) sends

@@ -3,9 +3,10 @@ use Rattle.std.proofs.Common.{◌≡◌, ℕ, List, Option, None, Result, Ok, Er
 use Rattle.std.specs.Prelude.{IsErrAnd}
 use Rattle.std.proofs.lemmas.Result.{err_from_is_err_and}
 use Rattle.bid_file.specs.Files.{PlainFile}
+use Rattle.valuation.specs.declared.search_options.SearchOptions.{SearchOptions}
 use Rattle.cats_text.specs.declared.stream.Watched.{Watched}
 use Rattle.valuation.specs.Auctions.{auction_from, or_atoms_of}
-use Rattle.prune.specs.SearchSteps.{first_heavy}
+use Rattle.prune.specs.SearchSteps.{first_refused}
 use Rattle.canon.specs.Answers.{RefusesAuction}
 use Rattle.canon.specs.declared.canon_fault.CanonFault.{CanonFault}
 use Rattle.canon.specs.declared.canon_fault.CanonFault.TheVariants.{Memory}
@@ -21,44 +22,45 @@ use Rattle.answers.specs.declared.report.RunFault.TheVariants.{Refused, GoodRang
 use Rattle.cats_cmd.proofs.Normalised.{refused_by_normalising}
 use Rattle.cats_cmd.proofs.RunsOfOneFile.{refused_in_making, refused_in_reading, wrote}
 
-module _ {R W : Type 0} (remaining : R → Option (List ℕ)) (contents : W → Option (List ℕ)) (limit : ℕ) (old new : Watched R) where
+module _ {R W : Type 0} (remaining : R → Option (List ℕ)) (contents : W → Option (List ℕ)) (options : SearchOptions) (old new : Watched R) where
   -- nothing was written, and this fault of the file is answered
-  unexplained : (out : Watched W) (fault : CanonFault) → IsRefusedFile remaining (normalise_outcome limit) old new fault
+  unexplained : (out : Watched W) (fault : CanonFault) → IsRefusedFile remaining (normalise_outcome options) old new fault
       → (answer : Result ℕ RunFault) → IsErrAnd answer (λ reported. reported ≡ Refused Only fault)
-      → ExplainsFile remaining contents limit old new out out answer
+      → ExplainsFile remaining contents options old new out out answer
   unexplained out fault refused answer is =
       let reported = err_from_is_err_and answer is in
       let only : answer ≡ Err (Refused Only fault) = reported.1 ∙ ap (λ (f : RunFault). Err f) reported.2 in
-      subst (λ (r : Result ℕ RunFault). ExplainsFile remaining contents limit old new out out r) (sym only)
+      subst (λ (r : Result ℕ RunFault). ExplainsFile remaining contents options old new out out r) (sym only)
       (record { only = refl; refused = refused; silent = refl })
 
   -- the file was refused in reading
   pub unexplained_unread : (out : Watched W) (fault : CanonFault) → ReadsInput remaining old new (Err fault)
       → (answer : Result ℕ RunFault) → IsErrAnd answer (λ reported. reported ≡ Refused Only fault)
-      → ExplainsFile remaining contents limit old new out out answer
+      → ExplainsFile remaining contents options old new out out answer
   unexplained_unread out fault reads answer is =
-      unexplained out fault (refused_in_reading remaining (normalise_outcome limit) old new fault reads) answer is
+      unexplained out fault (refused_in_reading remaining (normalise_outcome options) old new fault reads) answer is
 
   module _ (file : PlainFile) (reads : ReadsInput remaining old new (Ok file)) where
     -- its reasons were refused
-    pub unexplained_auction : (out : Watched W) (fault : CanonFault) → RefusesAuction limit (auction_from file) fault
+    pub unexplained_auction : (out : Watched W) (fault : CanonFault) → RefusesAuction options (auction_from file) fault
         → (answer : Result ℕ RunFault) → IsErrAnd answer (λ reported. reported ≡ Refused Only fault)
-        → ExplainsFile remaining contents limit old new out out answer
+        → ExplainsFile remaining contents options old new out out answer
     unexplained_auction out fault refused answer is =
-        unexplained out fault (refused_in_making remaining (normalise_outcome limit) old new file reads fault (refused_by_normalising limit file fault refused))
+        unexplained out fault
+        (refused_in_making remaining (normalise_outcome options) old new file reads fault (refused_by_normalising options file fault refused))
         answer is
 
     -- memory for the text was refused
     pub unexplained_memory : (out : Watched W) (answer : Result ℕ RunFault) → IsErrAnd answer (λ reported. reported ≡ Refused Only Memory)
-        → ExplainsFile remaining contents limit old new out out answer
+        → ExplainsFile remaining contents options old new out out answer
     unexplained_memory out answer is = unexplained out Memory (inr (record { file = file; reads = reads })) answer is
 
     -- the lines of the reasons were sent
-    pub explained : (out out_after : Watched W) → first_heavy file.goods limit (or_atoms_of file.bids) ≡ None
+    pub explained : (out out_after : Watched W) → first_refused options file.goods (or_atoms_of file.bids) ≡ None
         → (reasons : List PlainReason) → Explains file reasons → (text : List ℕ) → text ≡ explanation_text reasons
-        → (answer : Result ℕ RunFault) → SendsAs contents 0 text out out_after answer → ExplainsFile remaining contents limit old new out out_after answer
+        → (answer : Result ℕ RunFault) → SendsAs contents 0 text out out_after answer → ExplainsFile remaining contents options old new out out_after answer
     explained out out_after within reasons explains text is (Ok reported) sends =
-        wrote contents (ReadsExplained remaining limit old new) explain_outcome out out_after (file, reasons)
+        wrote contents (ReadsExplained remaining options old new) explain_outcome out out_after (file, reasons)
         (record { reads = record { reads = reads; within = within }; explains = explains }) 0 text (ap (λ (xs : List ℕ). Prints 0 xs) (sym is)) reported sends
     explained out out_after within reasons explains text is (Err (Refused which fault)) sends = absurd sends
     explained out out_after within reasons explains text is (Err (GoodRange good)) sends = absurd sends

@@ -5,17 +5,18 @@ use Rattle.std.specs.Borrow.{Bor}
 use Rattle.std.specs.declared.alloc.AllocError.{AllocError}
 use Rattle.std.specs.Io.KnownBytes.{Consumes}
 use Rattle.bid_file.specs.Files.{PlainFile}
+use Rattle.valuation.specs.declared.search_options.SearchOptions.{SearchOptions}
 use Rattle.cats_text.specs.Streams.{inner_of, FaultsAt}
 use Rattle.cats_text.specs.declared.read_fault.Kind.{Kind}
 use Rattle.cats_text.specs.declared.read_fault.Kind.TheVariants.{Memory as NoMemory}
 use Rattle.cats_text.specs.declared.read_fault.ReadFault.{ReadFault}
 use Rattle.cats_text.specs.declared.stream.Watched.{Watched}
 use Rattle.valuation.specs.Auctions.{or_atoms_of}
-use Rattle.prune.specs.SearchSteps.{first_heavy}
+use Rattle.prune.specs.SearchSteps.{first_refused}
 use Rattle.canon.specs.Answers.{RefusesAs}
 use Rattle.canon.specs.Canonical.{canonical_text}
 use Rattle.canon.specs.FirstPlaces.{AddsStream, IsUnread, IsUnmade, TextIndex}
-use Rattle.canon.specs.Normalising.{IsText, ExceedsSteps as Exceeds, IsNoFile, normalised_file, unless_heavy}
+use Rattle.canon.specs.Normalising.{IsText, ExceedsSteps as Exceeds, IsNoFile, normalised_file, unless_refused}
 use Rattle.canon.specs.Refusals.{refusal_by_kind, refusal_of}
 use Rattle.canon.specs.declared.canon_fault.CanonFault.{CanonFault}
 use Rattle.canon.specs.declared.canon_fault.CanonFault.TheVariants.{Read, StepLimit, Memory}
@@ -25,7 +26,7 @@ use Rattle.cats_cmd.specs.Inputs.{IsOpened, IsRefusedByReading, IsRefusedFile}
 use Rattle.cats_cmd.specs.Internal.Judging.{AddsFile, AddsOpened, AddsPath, KeepsGroups}
 use Rattle.cats_cmd.specs.Paths.{IsUnopened, Judgement, IsHeavy, IsJudged, IsUnjudged, Judges, JudgesStream, lines_on, status_if, request_error_of}
 use Rattle.cats_cmd.proofs.Skipping.{nothing_more}
-use Rattle.cats_cmd.specs.Outcomes.{ExceedsSteps, normalise_outcome, text_unless_heavy}
+use Rattle.cats_cmd.specs.Outcomes.{ExceedsSteps, normalise_outcome, text_unless_refused}
 use Rattle.cats_cmd.specs.Runs.{MakesAs}
 use Rattle.cats_cmd.specs.RequestErrors.{ReportsAll}
 use Rattle.cats_cmd.specs.declared.paths.Progress.{Progress}
@@ -36,30 +37,30 @@ use Rattle.cats_cmd.proofs.FindingPlaces.{groups_more}
 use Rattle.cats_cmd.proofs.RunsOfOneFile.{refused_in_reading, refused_in_making}
 use Rattle.cats_cmd.specs.declared.source.Unopened.{Unopened}
 
--- ---- heavy bundles
+-- ---- refused bundles
 
-text_within_limit : (file : PlainFile) (heavy : Option (List ℕ)) (text : List ℕ) → unless_heavy file heavy ≡ IsText text → heavy ≡ None
+text_within_limit : (file : PlainFile) (heavy : Option (List ℕ)) (text : List ℕ) → unless_refused file heavy ≡ IsText text → heavy ≡ None
 text_within_limit file None text is = refl
 text_within_limit file (Some goods) text is = cc
 
-no_fault_made : (file : PlainFile) (heavy : Option (List ℕ)) (why : ReadFault) → unless_heavy file heavy ≡ IsNoFile why → ⊥
+no_fault_made : (file : PlainFile) (heavy : Option (List ℕ)) (why : ReadFault) → unless_refused file heavy ≡ IsNoFile why → ⊥
 no_fault_made file None why is = cc
 no_fault_made file (Some goods) why is = cc
 
-same_excess : (file : PlainFile) (heavy : Option (List ℕ)) (goods : List ℕ) → unless_heavy file heavy ≡ Exceeds goods
-    → text_unless_heavy file heavy ≡ ExceedsSteps goods
+same_excess : (file : PlainFile) (heavy : Option (List ℕ)) (goods : List ℕ) → unless_refused file heavy ≡ Exceeds goods
+    → text_unless_refused file heavy ≡ ExceedsSteps goods
 same_excess file None goods is = cc
 same_excess file (Some heavy) goods is = cc
 
-heavy_bundle : (file : PlainFile) (heavy : Option (List ℕ)) (goods : List ℕ) → text_unless_heavy file heavy ≡ ExceedsSteps goods → heavy ≡ Some goods
-heavy_bundle file None goods is = cc
-heavy_bundle file (Some heavy) goods is = cc
+refused_bundle : (file : PlainFile) (heavy : Option (List ℕ)) (goods : List ℕ) → text_unless_refused file heavy ≡ ExceedsSteps goods → heavy ≡ Some goods
+refused_bundle file None goods is = cc
+refused_bundle file (Some heavy) goods is = cc
 
-made_by_normalising : (limit : ℕ) (file : PlainFile) (fault : CanonFault) → RefusesAs (normalised_file limit file) fault
-    → MakesAs (normalise_outcome limit file) (Err fault)
-made_by_normalising limit file (Read why) refused = absurd (no_fault_made file (first_heavy file.goods limit (or_atoms_of file.bids)) why refused)
-made_by_normalising limit file (StepLimit goods) refused = same_excess file (first_heavy file.goods limit (or_atoms_of file.bids)) goods.items refused
-made_by_normalising limit file Memory refused = tt
+made_by_normalising : (options : SearchOptions) (file : PlainFile) (fault : CanonFault) → RefusesAs (normalised_file options file) fault
+    → MakesAs (normalise_outcome options file) (Err fault)
+made_by_normalising options file (Read why) refused = absurd (no_fault_made file (first_refused options file.goods (or_atoms_of file.bids)) why refused)
+made_by_normalising options file (StepLimit goods) refused = same_excess file (first_refused options file.goods (or_atoms_of file.bids)) goods.items refused
+made_by_normalising options file Memory refused = tt
 
 -- ---- one stream
 
@@ -70,53 +71,53 @@ module _ {R : Type 0} (remaining : R → Option (List ℕ)) where
   refused_by_kind bytes input why kind is faults =
       ((λ memory. cc), subst (λ (k : Kind). FaultsAt remaining bytes input why.line k) (sym is) faults)
 
-  unread : (limit : ℕ) (old new : Watched R) (bytes : List ℕ) → Consumes (remaining (inner_of old)) (remaining (inner_of new)) bytes
-      → (fault : CanonFault) → IsUnread remaining bytes new fault → IsRefusedFile remaining (normalise_outcome limit) old new fault
-  unread limit old new bytes consumes fault u =
-      subst (λ (f : CanonFault). IsRefusedFile remaining (normalise_outcome limit) old new f) (sym u.is)
-      (refused_in_reading remaining (normalise_outcome limit) old new (refusal_of u.why)
+  unread : (options : SearchOptions) (old new : Watched R) (bytes : List ℕ) → Consumes (remaining (inner_of old)) (remaining (inner_of new)) bytes
+      → (fault : CanonFault) → IsUnread remaining bytes new fault → IsRefusedFile remaining (normalise_outcome options) old new fault
+  unread options old new bytes consumes fault u =
+      subst (λ (f : CanonFault). IsRefusedFile remaining (normalise_outcome options) old new f) (sym u.is)
+      (refused_in_reading remaining (normalise_outcome options) old new (refusal_of u.why)
       (record { bytes = bytes; consumes = consumes; reads = refused_by_kind bytes new u.why u.why.kind refl u.reads }))
 
-  unmade : (limit : ℕ) (old new : Watched R) (bytes : List ℕ) → Consumes (remaining (inner_of old)) (remaining (inner_of new)) bytes
-      → (fault : CanonFault) → IsUnmade remaining limit bytes new fault → IsRefusedFile remaining (normalise_outcome limit) old new fault
-  unmade limit old new bytes consumes fault u =
-      refused_in_making remaining (normalise_outcome limit) old new u.file (record { bytes = bytes; consumes = consumes; reads = u.reads }) fault
-      (made_by_normalising limit u.file fault u.refused)
+  unmade : (options : SearchOptions) (old new : Watched R) (bytes : List ℕ) → Consumes (remaining (inner_of old)) (remaining (inner_of new)) bytes
+      → (fault : CanonFault) → IsUnmade remaining options bytes new fault → IsRefusedFile remaining (normalise_outcome options) old new fault
+  unmade options old new bytes consumes fault u =
+      refused_in_making remaining (normalise_outcome options) old new u.file (record { bytes = bytes; consumes = consumes; reads = u.reads }) fault
+      (made_by_normalising options u.file fault u.refused)
 
-  pub stream_refused : (limit : ℕ) (index more : TextIndex) (old new : Watched R) (fault : CanonFault)
-      → AddsStream remaining limit index more old new (Err fault) → IsRefusedFile remaining (normalise_outcome limit) old new fault
-  stream_refused limit index more old new fault added =
+  pub stream_refused : (options : SearchOptions) (index more : TextIndex) (old new : Watched R) (fault : CanonFault)
+      → AddsStream remaining options index more old new (Err fault) → IsRefusedFile remaining (normalise_outcome options) old new fault
+  stream_refused options index more old new fault added =
       ⊎_elim
-      (λ (u : IsUnread remaining added.bytes new fault). unread limit old new added.bytes added.consumes fault u)
-      (λ (u : IsUnmade remaining limit added.bytes new fault). unmade limit old new added.bytes added.consumes fault u)
+      (λ (u : IsUnread remaining added.bytes new fault). unread options old new added.bytes added.consumes fault u)
+      (λ (u : IsUnmade remaining options added.bytes new fault). unmade options old new added.bytes added.consumes fault u)
       added.adds.1
 
 -- ---- a stream
 
 -- what became of a file that was refused so
-module _ {R : Type 0} (remaining : R → Option (List ℕ)) (limit : ℕ) (old new : Watched R) where
-  abbrev refused_judgement : (fault : CanonFault) → IsRefusedFile remaining (normalise_outcome limit) old new fault → Judgement
+module _ {R : Type 0} (remaining : R → Option (List ℕ)) (options : SearchOptions) (old new : Watched R) where
+  abbrev refused_judgement : (fault : CanonFault) → IsRefusedFile remaining (normalise_outcome options) old new fault → Judgement
   refused_judgement (Read why) refused = IsUnjudged (Run (Refused Only (Read why)))
   refused_judgement (StepLimit goods) refused = IsHeavy refused.file goods
   refused_judgement Memory refused = IsUnjudged (Run (Refused Only Memory))
 
-  refused_judges : (fault : CanonFault) (refused : IsRefusedFile remaining (normalise_outcome limit) old new fault)
-      → JudgesStream remaining limit old new (refused_judgement fault refused)
+  refused_judges : (fault : CanonFault) (refused : IsRefusedFile remaining (normalise_outcome options) old new fault)
+      → JudgesStream remaining options old new (refused_judgement fault refused)
   refused_judges (Read why) refused = (refl, refused)
   refused_judges (StepLimit goods) refused = record {
     reads = refused.reads;
-    heavy = heavy_bundle refused.file (first_heavy refused.file.goods limit (or_atoms_of refused.file.bids)) goods.items refused.made;
+    refused = refused_bundle refused.file (first_refused options refused.file.goods (or_atoms_of refused.file.bids)) goods.items refused.made;
   }
   refused_judges Memory refused = (refl, refused)
 
-  refused_error : (fault : CanonFault) (refused : IsRefusedFile remaining (normalise_outcome limit) old new fault)
+  refused_error : (fault : CanonFault) (refused : IsRefusedFile remaining (normalise_outcome options) old new fault)
       → Some (Run (Refused Only fault)) ≡ request_error_of (refused_judgement fault refused)
   refused_error (Read why) refused = refl
   refused_error (StepLimit goods) refused = refl
   refused_error Memory refused = refl
 
   -- no group has the file
-  refused_groups : (fault : CanonFault) (refused : IsRefusedFile remaining (normalise_outcome limit) old new fault) (index : TextIndex)
+  refused_groups : (fault : CanonFault) (refused : IsRefusedFile remaining (normalise_outcome options) old new fault) (index : TextIndex)
       (found : List (List ℕ × ℕ)) (path : List ℕ) (js : List (List ℕ × Judgement)) → KeepsGroups index found js
       → KeepsGroups index found (js ++ (path, refused_judgement fault refused) ∷ [])
   refused_groups (Read why) refused index found path js h = nothing_more index found js path (IsUnjudged (Run (Refused Only (Read why)))) refl refl h
@@ -128,15 +129,15 @@ module _ {R : Type 0} (remaining : R → Option (List ℕ)) (limit : ℕ) (old n
       (found longer : List (Bor (List ℕ) × ℕ)) (path : Bor (List ℕ)) (place : ℕ)
       → ((js : List (List ℕ × Judgement)) → Has before js → KeepsGroups index (found_paths found) js)
       → ((js : List (List ℕ × Judgement)) → KeepsGroups more (found_paths longer) js → Has after js)
-      → AddsStream remaining limit index more old new (Ok place) → longer ≡ found ++ (path, place) ∷ []
-      → AddsOpened Has remaining limit path.now before after old new None
+      → AddsStream remaining options index more old new (Ok place) → longer ≡ found ++ (path, place) ∷ []
+      → AddsOpened Has remaining options path.now before after old new None
   groups_judged Has before after index more found longer path place has has_after added put =
       let a = added.adds in
       record {
         judgement = IsJudged a.file;
         judges = record {
           reads = record { bytes = added.bytes; consumes = added.consumes; reads = a.reads };
-          within = text_within_limit a.file (first_heavy a.file.goods limit (or_atoms_of a.file.bids)) (canonical_text a.file) a.within_limit;
+          within = text_within_limit a.file (first_refused options a.file.goods (or_atoms_of a.file.bids)) (canonical_text a.file) a.within_limit;
         };
         adds = λ js h. has_after (js ++ (path.now, IsJudged a.file) ∷ [])
             (groups_more index more found longer path a.file place a.reads.spelled.facts a.added put js (has js h));
@@ -147,10 +148,10 @@ module _ {R : Type 0} (remaining : R → Option (List ℕ)) (limit : ℕ) (old n
       (found : List (List ℕ × ℕ)) (path : List ℕ) (fault : CanonFault)
       → ((js : List (List ℕ × Judgement)) → Has before js → KeepsGroups index found js)
       → ((js : List (List ℕ × Judgement)) → KeepsGroups more found js → Has after js)
-      → AddsStream remaining limit index more old new (Err fault)
-      → AddsOpened Has remaining limit path before after old new (Some (Run (Refused Only fault)))
+      → AddsStream remaining options index more old new (Err fault)
+      → AddsOpened Has remaining options path before after old new (Some (Run (Refused Only fault)))
   groups_refused Has before after index more found path fault has has_after added =
-      let refused = stream_refused remaining limit index more old new fault added in
+      let refused = stream_refused remaining options index more old new fault added in
       record {
         judgement = refused_judgement fault refused;
         judges = refused_judges fault refused;
@@ -163,9 +164,9 @@ module _ {R : Type 0} (remaining : R → Option (List ℕ)) (limit : ℕ) (old n
 -- ---- the file at a path
 
 module _ {C F : Type 0} (Has : C → List (List ℕ × Judgement) → Type 0) (may_open : List ℕ → F → Type 0) (may_refuse : List ℕ → Unopened → Type 0)
-    (remaining : F → Option (List ℕ)) (limit : ℕ) (path : List ℕ) (kept more : C) where
-  opened_judges : (before after : Watched F) → IsOpened may_open path before → (j : Judgement) → JudgesStream remaining limit before after j
-      → Judges may_open may_refuse remaining limit (path, j)
+    (remaining : F → Option (List ℕ)) (options : SearchOptions) (path : List ℕ) (kept more : C) where
+  opened_judges : (before after : Watched F) → IsOpened may_open path before → (j : Judgement) → JudgesStream remaining options before after j
+      → Judges may_open may_refuse remaining options (path, j)
   opened_judges before after opened (IsJudged file) judges = record { before = before; after = after; opened = opened; judges = judges }
   opened_judges before after opened (IsHeavy file goods) judges = record { before = before; after = after; opened = opened; judges = judges }
   opened_judges before after opened (IsUnjudged (CannotOpen which)) judges = absurd judges
@@ -173,7 +174,7 @@ module _ {C F : Type 0} (Has : C → List (List ℕ × Judgement) → Type 0) (m
   opened_judges before after opened (IsUnjudged (Run fault)) judges = record { before = before; after = after; opened = opened; judges = judges }
 
   pub file_added : (before after : Watched F) → IsOpened may_open path before → (error : Option RequestError)
-      → AddsOpened Has remaining limit path kept more before after error → AddsFile Has may_open may_refuse remaining limit path kept more error
+      → AddsOpened Has remaining options path kept more before after error → AddsFile Has may_open may_refuse remaining options path kept more error
   file_added before after opened error a = record {
     judgement = a.judgement;
     judges = opened_judges before after opened a.judgement a.judges;
@@ -182,17 +183,17 @@ module _ {C F : Type 0} (Has : C → List (List ℕ × Judgement) → Type 0) (m
   }
 
   pub file_if_added : (before after : Watched F) → IsOpened may_open path before → (answer : Result (Option RequestError) AllocError)
-      → IfOk answer (λ error. AddsOpened Has remaining limit path kept more before after error)
-      → IfOk answer (AddsFile Has may_open may_refuse remaining limit path kept more)
+      → IfOk answer (λ error. AddsOpened Has remaining options path kept more before after error)
+      → IfOk answer (AddsFile Has may_open may_refuse remaining options path kept more)
   file_if_added before after opened (Ok error) a = file_added before after opened error a
   file_if_added before after opened (Err e) a = tt
 
 -- no stream was opened at the path
 pub file_unopened : {C F : Type 0} (Has : C → List (List ℕ × Judgement) → Type 0) (may_open : List ℕ → F → Type 0) (may_refuse : List ℕ → Unopened → Type 0)
-    (remaining : F → Option (List ℕ)) (limit : ℕ) (path : List ℕ) (kept : C)
+    (remaining : F → Option (List ℕ)) (options : SearchOptions) (path : List ℕ) (kept : C)
     → ((js : List (List ℕ × Judgement)) (p : List ℕ) (error : RequestError) → Has kept js → Has kept (js ++ (p, IsUnjudged error) ∷ []))
-    → (why : Unopened) → IsUnopened may_refuse path why → AddsFile Has may_open may_refuse remaining limit path kept kept (Some (NotOpened why))
-file_unopened Has may_open may_refuse remaining limit path kept skips why refuses = record {
+    → (why : Unopened) → IsUnopened may_refuse path why → AddsFile Has may_open may_refuse remaining options path kept kept (Some (NotOpened why))
+file_unopened Has may_open may_refuse remaining options path kept skips why refuses = record {
   judgement = IsUnjudged (NotOpened why);
   judges = refuses;
   adds = λ js h. skips js path (NotOpened why) h;
@@ -201,11 +202,11 @@ file_unopened Has may_open may_refuse remaining limit path kept skips why refuse
 
 -- the file was judged, and reported
 pub path_judged : {C F E : Type 0} (Has : C → List (List ℕ × Judgement) → Type 0) (may_open : List ℕ → F → Type 0)
-    (may_refuse : List ℕ → Unopened → Type 0) (remaining : F → Option (List ℕ)) (limit : ℕ) (messages : E → Option (List ℕ)) (progress : Progress)
+    (may_refuse : List ℕ → Unopened → Type 0) (remaining : F → Option (List ℕ)) (options : SearchOptions) (messages : E → Option (List ℕ)) (progress : Progress)
     (count number : ℕ) (path : List ℕ) (kept more : C) (err err_after : Watched E) (error : Option RequestError) (status : ℕ)
-    → AddsFile Has may_open may_refuse remaining limit path kept more error → ReportsAll messages (lines_on progress count number path error) err err_after
-    → status ≡ status_if error → AddsPath Has may_open may_refuse remaining limit messages progress count number path kept more err err_after status
-path_judged Has may_open may_refuse remaining limit messages progress count number path kept more err err_after error status a reports is = record {
+    → AddsFile Has may_open may_refuse remaining options path kept more error → ReportsAll messages (lines_on progress count number path error) err err_after
+    → status ≡ status_if error → AddsPath Has may_open may_refuse remaining options messages progress count number path kept more err err_after status
+path_judged Has may_open may_refuse remaining options messages progress count number path kept more err err_after error status a reports is = record {
   judgement = a.judgement;
   judges = a.judges;
   adds = a.adds;

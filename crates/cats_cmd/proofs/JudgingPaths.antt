@@ -1,7 +1,7 @@
 -- One more path, whose file was judged: what became of the files before it stays, and the path adds its judgement, a status that may be
 -- the greatest, and its lines.
 use Rattle.std.proofs.Common.{◌≡◌, ℕ, suc, ◌+◌, ◌<◌, max, true, List, [], ◌∷◌, ◌++◌, length, map, get_or, take, refl, sym}
-use Rattle.std.proofs.Common.{ap, ◌∙◌, subst, arith, append-nil, ◌≤◌, Option, Result, Ok, Err}
+use Rattle.std.proofs.Common.{ap, ◌∙◌, inl, inr, subst, arith, append-nil, ◌≤◌, Option, Result, Ok, Err}
 use Rattle.std.specs.Prelude.{IsErr}
 use Rattle.std.specs.Borrow.{Bor}
 use Rattle.std.specs.List.{AllByRecursion}
@@ -10,12 +10,13 @@ use Rattle.std.proofs.lemmas.Bool.{lt-ltb}
 use Rattle.std.proofs.lemmas.List.{map-append, take_more, take_all, append_assoc, length-map, length-take-le, take-map}
 use Rattle.std.proofs.lemmas.List.Sums.{fold_push}
 use Rattle.cats_text.specs.declared.stream.Watched.{Watched}
+use Rattle.valuation.specs.declared.search_options.SearchOptions.{SearchOptions}
 use Rattle.cats_cmd.specs.Internal.Judging.{AddsPath, HasJudged, JudgesAllAs}
 use Rattle.cats_cmd.specs.Paths.{is_counted, Judgement, Judges, JudgesPaths, greatest_status, lines_from, lines_of_path}
 use Rattle.cats_cmd.specs.Paths.{line_removal, progress_line, progress_lines, removal_lines, report_lines, status_of_judgement}
 use Rattle.cats_cmd.specs.declared.paths.Progress.{Progress}
 use Rattle.cats_cmd.specs.declared.paths.Progress.TheVariants.{Lines, Terminal}
-use Rattle.cats_cmd.specs.RequestErrors.{Reports, ReportsAll}
+use Rattle.cats_cmd.specs.RequestErrors.{Reports, ReportsAll, ReportsText}
 use Rattle.cats_cmd.specs.declared.source.Unopened.{Unopened}
 
 pub all_push : {X : Type 0} (P : X → Type 0) (xs : List X) (x : X) → AllByRecursion P xs → P x → AllByRecursion P (xs ++ x ∷ [])
@@ -42,6 +43,12 @@ lines_push progress count number (i ∷ js) j =
     ∙ sym (append_assoc (lines_of_path progress count number i) (lines_from progress count (suc number) js)
     (lines_of_path progress count (number + suc (length js)) j))
 
+-- a text that was sent is a line for which no memory was refused
+pub any_report : {E : Type 0} (messages : E → Option (List ℕ)) (text : List ℕ) (old new : Watched E) → ReportsText messages text old new
+    → Reports messages text old new
+any_report messages text old new (inl failed) = inl failed
+any_report messages text old new (inr sent) = inr (inl sent)
+
 -- what is reported of one path
 pub path_reported : {E : Type 0} (messages : E → Option (List ℕ)) (first then last : List (List ℕ)) (a b c d : Watched E) → ReportsAll messages first a b
     → ReportsAll messages then b c → ReportsAll messages last c d → ReportsAll messages (first ++ then ++ last) a d
@@ -53,16 +60,16 @@ module _ {E : Type 0} (messages : E → Option (List ℕ)) (number : ℕ) (old n
       → ReportsAll messages (progress_lines Lines number count path) old new
   hundreds_reported count path is reports = rw is (new, reports, refl)
 
-  pub removal_reported : (progress : Progress) (text : List ℕ) → progress ≡ Terminal → 1 < number → text ≡ line_removal → Reports messages text old new
+  pub removal_reported : (progress : Progress) (text : List ℕ) → progress ≡ Terminal → 1 < number → text ≡ line_removal → ReportsText messages text old new
       → ReportsAll messages (removal_lines progress number) old new
   removal_reported progress text is more same reports =
-      rw is (rw (lt-ltb 1 number more) (new, subst (λ (line : List ℕ). Reports messages line old new) same reports, refl))
+      rw is (rw (lt-ltb 1 number more) (new, subst (λ (line : List ℕ). Reports messages line old new) same (any_report messages text old new reports), refl))
 
 -- ---- the paths so far
 
 module _ {C F E : Type 0} (Has : C → List (List ℕ × Judgement) → Type 0) (may_open : List ℕ → F → Type 0) (may_refuse : List ℕ → Unopened → Type 0)
-    (remaining : F → Option (List ℕ)) (limit : ℕ) (messages : E → Option (List ℕ)) (progress : Progress) (count : ℕ) (err : Watched E) where
-  pub none_judged : (kept : C) → Has kept [] → HasJudged Has may_open may_refuse remaining limit messages progress count [] kept err err 0
+    (remaining : F → Option (List ℕ)) (options : SearchOptions) (messages : E → Option (List ℕ)) (progress : Progress) (count : ℕ) (err : Watched E) where
+  pub none_judged : (kept : C) → Has kept [] → HasJudged Has may_open may_refuse remaining options messages progress count [] kept err err 0
   none_judged kept has = record {
     judgements = [];
     judges = record { of_paths = refl; each = tt; reports = refl };
@@ -71,9 +78,9 @@ module _ {C F E : Type 0} (Has : C → List (List ℕ × Judgement) → Type 0) 
   }
 
   pub judged_more : (paths : List (List ℕ)) (kept more : C) (greatest status : ℕ) (before after : Watched E) (path : List ℕ)
-      → HasJudged Has may_open may_refuse remaining limit messages progress count paths kept err before greatest
-      → AddsPath Has may_open may_refuse remaining limit messages progress count (length paths + 1) path kept more before after status
-      → HasJudged Has may_open may_refuse remaining limit messages progress count (paths ++ path ∷ []) more err after (max greatest status)
+      → HasJudged Has may_open may_refuse remaining options messages progress count paths kept err before greatest
+      → AddsPath Has may_open may_refuse remaining options messages progress count (length paths + 1) path kept more before after status
+      → HasJudged Has may_open may_refuse remaining options messages progress count (paths ++ path ∷ []) more err after (max greatest status)
   judged_more paths kept more greatest status before after path h a =
       let js = h.judgements in
       let j = a.judgement in
@@ -86,7 +93,7 @@ module _ {C F E : Type 0} (Has : C → List (List ℕ × Judgement) → Type 0) 
         judgements = js ++ (path, j) ∷ [];
         judges = record {
           of_paths = map-append (λ (x : List ℕ × Judgement). x.0) js ((path, j) ∷ []) ∙ ap (λ (ps : List (List ℕ)). ps ++ path ∷ []) h.judges.of_paths;
-          each = all_push (Judges may_open may_refuse remaining limit) js (path, j) h.judges.each a.judges;
+          each = all_push (Judges may_open may_refuse remaining options) js (path, j) h.judges.each a.judges;
           reports = subst (λ (lines : List (List ℕ)). ReportsAll messages lines err after) (sym (lines_push progress count 1 js (path, j))) all;
         };
         has = a.adds js h.has;
@@ -94,10 +101,21 @@ module _ {C F E : Type 0} (Has : C → List (List ℕ × Judgement) → Type 0) 
             ∙ sym (fold_push (λ (g : ℕ) (x : List ℕ × Judgement). max g (status_of_judgement x.1)) 0 js (path, j));
       }
 
+-- a file that was judged later is judged by what the source held at first
+pub path_in : {C F E H : Type 0} (Has : C → List (List ℕ × Judgement) → Type 0) (may_open : H → List ℕ → F → Type 0)
+    (may_refuse : H → List ℕ → Unopened → Type 0) (remaining : F → Option (List ℕ)) (options : SearchOptions) (messages : E → Option (List ℕ))
+    (progress : Progress)
+    (count number : ℕ) (path : List ℕ) (old new : C) (err err_after : Watched E) (status : ℕ) (later first : H) → later ≡ first
+    → AddsPath Has (may_open later) (may_refuse later) remaining options messages progress count number path old new err err_after status
+    → AddsPath Has (may_open first) (may_refuse first) remaining options messages progress count number path old new err err_after status
+path_in {H = H} Has may_open may_refuse remaining options messages progress count number path old new err err_after status later first stays adds =
+    subst
+    (λ (h : H). AddsPath Has (may_open h) (may_refuse h) remaining options messages progress count number path old new err err_after status) stays adds
+
 -- ---- as the code has them
 
 -- the paths up to the next one
-one_more_path : (paths : List (Bor (List ℕ))) (i : ℕ) (d : Bor (List ℕ)) → i < length paths
+pub one_more_path : (paths : List (Bor (List ℕ))) (i : ℕ) (d : Bor (List ℕ)) → i < length paths
     → map (λ p. p.now) (take (i + 1) paths) ≡ map (λ p. p.now) (take i paths) ++ (get_or paths i d).now ∷ []
 one_more_path paths i d l = ap (map (λ (p : Bor (List ℕ)). p.now)) (take_more paths i d l)
     ∙ map-append (λ (p : Bor (List ℕ)). p.now) (take i paths) (get_or paths i d ∷ [])
@@ -106,36 +124,37 @@ so_many : (paths : List (Bor (List ℕ))) (i : ℕ) → i < length paths → len
 so_many paths i l = length-map (take i paths) (λ (p : Bor (List ℕ)). p.now) ∙ length-take-le i paths (omega (arith, l))
 
 module _ {C F E : Type 0} (Has : C → List (List ℕ × Judgement) → Type 0) (may_open : List ℕ → F → Type 0) (may_refuse : List ℕ → Unopened → Type 0)
-    (remaining : F → Option (List ℕ)) (limit : ℕ) (messages : E → Option (List ℕ)) (progress : Progress) (paths : List (Bor (List ℕ))) (err : Watched E)
+    (remaining : F → Option (List ℕ)) (options : SearchOptions) (messages : E → Option (List ℕ)) (progress : Progress) (paths : List (Bor (List ℕ)))
+    (err : Watched E)
     (i : ℕ) (kept : C) (greatest : ℕ) (before : Watched E)
-    (h : HasJudged Has may_open may_refuse remaining limit messages progress (length paths) (map (λ p. p.now) (take i paths)) kept err before greatest) where
+    (h : HasJudged Has may_open may_refuse remaining options messages progress (length paths) (map (λ p. p.now) (take i paths)) kept err before greatest) where
   pub path_more : (d : Bor (List ℕ)) → i < length paths → (more : C) (status last : ℕ) (after : Watched E)
-      → AddsPath Has may_open may_refuse remaining limit messages progress (length paths) (i + 1) (get_or paths i d).now kept more before after status
+      → AddsPath Has may_open may_refuse remaining options messages progress (length paths) (i + 1) (get_or paths i d).now kept more before after status
       → last ≡ max greatest status
-      → HasJudged Has may_open may_refuse remaining limit messages progress (length paths) (map (λ p. p.now) (take (i + 1) paths)) more err after last
+      → HasJudged Has may_open may_refuse remaining options messages progress (length paths) (map (λ p. p.now) (take (i + 1) paths)) more err after last
   path_more d l more status last after a is =
-      rw is (rw (one_more_path paths i d l) (judged_more Has may_open may_refuse remaining limit messages progress (length paths) err
+      rw is (rw (one_more_path paths i d l) (judged_more Has may_open may_refuse remaining options messages progress (length paths) err
       (map (λ (p : Bor (List ℕ)). p.now) (take i paths)) kept more greatest status before after (get_or paths i d).now h
       (subst
       (λ (n : ℕ).
-      AddsPath Has may_open may_refuse remaining limit messages progress (length paths) (n + 1) (get_or paths i d).now kept more before after status)
+      AddsPath Has may_open may_refuse remaining options messages progress (length paths) (n + 1) (get_or paths i d).now kept more before after status)
       (sym (so_many paths i l)) a)))
 
   counted : (ps : List (List ℕ)) (js : List (List ℕ × Judgement))
-      → JudgesPaths may_open may_refuse remaining messages limit progress (length paths) ps err before js
-      → JudgesPaths may_open may_refuse remaining messages limit progress (length (map (λ (p : Bor (List ℕ)). p.now) paths)) ps err before js
-  counted ps js j = subst (λ (n : ℕ). JudgesPaths may_open may_refuse remaining messages limit progress n ps err before js)
+      → JudgesPaths may_open may_refuse remaining messages options progress (length paths) ps err before js
+      → JudgesPaths may_open may_refuse remaining messages options progress (length (map (λ (p : Bor (List ℕ)). p.now) paths)) ps err before js
+  counted ps js j = subst (λ (n : ℕ). JudgesPaths may_open may_refuse remaining messages options progress n ps err before js)
       (sym (length-map paths (λ (p : Bor (List ℕ)). p.now))) j
 
   -- all paths were judged
-  pub all_judged : length paths ≤ i → JudgesAllAs Has may_open may_refuse remaining limit messages (map (λ p. p.now) paths) progress kept err before
+  pub all_judged : length paths ≤ i → JudgesAllAs Has may_open may_refuse remaining options messages (map (λ p. p.now) paths) progress kept err before
       (Ok greatest)
   all_judged l = record {
     judgements = h.judgements;
     judges = counted (map (λ p. p.now) paths) h.judgements
         (subst
         (λ (ps : List (Bor (List ℕ))).
-        JudgesPaths may_open may_refuse remaining messages limit progress (length paths) (map (λ p. p.now) ps) err before h.judgements)
+        JudgesPaths may_open may_refuse remaining messages options progress (length paths) (map (λ p. p.now) ps) err before h.judgements)
         (take_all i paths l) h.judges);
     has = h.has;
     is_greatest = h.is_greatest;
@@ -143,7 +162,7 @@ module _ {C F E : Type 0} (Has : C → List (List ℕ × Judgement) → Type 0) 
 
   -- the others were not opened
   pub first_judged : (other : C) (after : Watched E) → after ≡ before → (answer : Result ℕ AllocError) → IsErr answer
-      → JudgesAllAs Has may_open may_refuse remaining limit messages (map (λ p. p.now) paths) progress other err after answer
+      → JudgesAllAs Has may_open may_refuse remaining options messages (map (λ p. p.now) paths) progress other err after answer
   first_judged other after same (Ok status) is = cc
   first_judged other after same (Err e) is = rw same (record {
     count = i;
@@ -151,6 +170,6 @@ module _ {C F E : Type 0} (Has : C → List (List ℕ × Judgement) → Type 0) 
     judges = counted (take i (map (λ p. p.now) paths)) h.judgements
         (subst
         (λ (ps : List (List ℕ)).
-        JudgesPaths may_open may_refuse remaining messages limit progress (length paths) ps err before h.judgements)
+        JudgesPaths may_open may_refuse remaining messages options progress (length paths) ps err before h.judgements)
         (sym (take-map (λ (p : Bor (List ℕ)). p.now) i paths)) h.judges);
   })

@@ -17,11 +17,13 @@ mod Grouping
 mod Rounding
 mod Judging
 mod JudgingPaths
+mod Opening
 mod ListingPaths
 mod OutputPaths
 mod Skipping
 mod FindingPlaces
 mod Tabling
+mod Valuing
 mod RunsOfLists
 mod RunsOfPaths
 pub mod RunsOfOneFile

@@ -91,4 +91,5 @@ pub list_unread : {F : Type 0} (may_open : List ℕ → F → Type 0) (may_refus
 list_unread may_open may_refuse remaining list (Read fault) before after opened stops =
     (refl, record { before = before; after = after; opened = opened; stops = stops })
 list_unread may_open may_refuse remaining list (StepLimit goods) before after opened stops = absurd stops
-list_unread may_open may_refuse remaining list Memory before after opened stops = refl
+list_unread may_open may_refuse remaining list Memory before after opened stops =
+    (refl, record { before = before; after = after; opened = opened; wants = stops })

@@ -1,13 +1,16 @@
 -- `cats round`: the bytes that came so far, the prices that were reported so far, and the ways in which the run ends.
-use Rattle.std.proofs.Common.{◌≡◌, ◌<◌, ◌≤◌, ◌+◌, ℕ, Bool, true, ◌||◌, List, [], ◌∷◌, ◌++◌, length, take, map, get_or, refl, sym, ap, ◌∙◌, subst, arith}
+use Rattle.std.proofs.Common.{◌≡◌, ◌<◌, ◌≤◌, ◌+◌, ℕ, Bool, true, false, ◌||◌, List, [], ◌∷◌, ◌++◌, length, take, map, get_or, refl, sym, ap, ◌∙◌, subst, arith}
 use Rattle.std.proofs.Common.{append-nil, length-append, Option, Some, Result, Ok, Err, inl, inr, ⊎_elim}
-use Rattle.std.specs.Prelude.{IsErrAnd}
+use Rattle.std.specs.Prelude.{IfSome, IsErrAnd, Vec}
+use Rattle.std.specs.Global.{Global}
 use Rattle.std.specs.Io.KnownBytes.{Consumes}
 use Rattle.std.proofs.KnownBytes.{Consumes-trans}
 use Rattle.std.proofs.lemmas.List.{map-append, take_more, take_all}
+use Rattle.std.proofs.lemmas.Bool.{cases_lt, ne_eqb}
 use Rattle.std.proofs.lemmas.Result.{err_from_is_err_and}
+use Rattle.cats_text.proofs.Texts.FaultKinds.{IsFaultOfBytes, first_fault-of_bytes}
 use Rattle.cats_text.specs.Faults.{first_fault, fault_at}
-use Rattle.cats_text.specs.Streams.{inner_of, moved_nothing}
+use Rattle.cats_text.specs.Streams.{inner_of, has_ended, has_failed, moved_nothing}
 use Rattle.cats_text.specs.declared.read_fault.Kind.{Kind}
 use Rattle.cats_text.specs.declared.read_fault.Kind.TheVariants.{Memory as NoMemory, TooLong}
 use Rattle.cats_text.specs.declared.read_fault.ReadFault.{ReadFault}
@@ -17,7 +20,7 @@ use Rattle.canon.specs.Refusals.{refusal_by_kind, refusal_of}
 use Rattle.canon.specs.declared.canon_fault.CanonFault.{CanonFault}
 use Rattle.canon.specs.declared.canon_fault.CanonFault.TheVariants.{Read, StepLimit, Memory}
 use Rattle.canon.specs.declared.which.Which.TheVariants.{Only}
-use Rattle.rounding.specs.Answers.{IsRounded, RoundAnswer}
+use Rattle.rounding.specs.Answers.{IsRounded, RoundAnswer, WantsMemoryToRound}
 use Rattle.rounding.specs.Texts.{rounded_text}
 use Rattle.rounding.specs.Views.{plain_change, plain_changes}
 use Rattle.rounding.specs.declared.replacement.FinePrices.{FinePrices}
@@ -40,6 +43,11 @@ use Rattle.cats_cmd.proofs.RunsOfOneFile.{wrote}
 pub no_more : (a b c : Option (List ℕ)) (bytes piece : List ℕ) (n : ℕ) → n ≡ 0 → Consumes a b bytes → Consumes b c (take n piece) → Consumes a c bytes
 no_more a b c bytes piece n none came gave =
     let joined = Consumes-trans a b c bytes [] came (rw none at gave) in rw append-nil at joined
+
+-- a read that gave something
+pub not_at_the_end : (before : Bool) (n : ℕ) (piece : List ℕ) → before ≡ false → (n ≡ 0 → ⊥) → (before || moved_nothing (Ok n) piece) ≡ false
+not_at_the_end before n [] fresh some = rw fresh refl
+not_at_the_end before n (byte ∷ piece) fresh some = rw fresh (ne_eqb n 0 some)
 
 pub at_the_end : (before : Bool) (n : ℕ) (piece : List ℕ) → n ≡ 0 → 0 < length piece → (before || moved_nothing (Ok n) piece) ≡ true
 at_the_end before n [] none not_empty = absurd (omega arith)
@@ -66,6 +74,29 @@ module _ {R : Type 0} (remaining : R → Option (List ℕ)) where
     },
   )
 
+  -- memory was refused for a piece that came
+  pub bytes_wanted : (old between new : Watched R) (bytes piece : List ℕ) (n : ℕ) → Consumes (remaining (inner_of old)) (remaining (inner_of between)) bytes
+      → Consumes (remaining (inner_of between)) (remaining (inner_of new)) piece → n ≡ length piece → (n ≡ 0 → ⊥) → length bytes + n ≤ MAX_STREAM
+      → has_failed new ≡ false → has_ended new ≡ false → (answer : Result (Vec ℕ Global) CanonFault) → IsErrAnd answer (λ fault. fault ≡ Memory)
+      → ReadsBytes remaining old new answer
+  bytes_wanted old between new bytes piece n came gave count some within works unended (Ok text) is = absurd is
+  bytes_wanted old between new bytes piece n came gave count some within works unended (Err fault) is =
+      let all : length (bytes ++ piece) ≡ length bytes + n = so_many_bytes bytes piece n count in
+      subst (λ (f : CanonFault). ReadsBytes remaining old new (Err f)) (sym is) (record {
+        bytes = bytes ++ piece;
+        consumes = Consumes-trans (remaining (inner_of old)) (remaining (inner_of between)) (remaining (inner_of new)) bytes piece came gave;
+        some = positive;
+        within = omega (arith, all, within);
+        works = works;
+        unended = unended;
+      })
+    where
+      positive : 0 < length (bytes ++ piece)
+      positive = ⊎_elim
+          (λ (p : 0 < n). omega (arith, so_many_bytes bytes piece n count, p))
+          (λ (q : n ≤ 0). absurd (some (omega (arith, q))))
+          (cases_lt 0 n)
+
 -- ---- reports
 
 pub reported_more : {E : Type 0} (messages : E → Option (List ℕ)) (prices : List RoundedPrice) (i : ℕ) (d : RoundedPrice) → i < length prices
@@ -89,10 +120,11 @@ reported_all messages prices i l a b reports =
 
 -- ---- rounding
 
-refused_by_kind : (fine : FinePrices) (text : List ℕ) (why : ReadFault) (kind : Kind) → first_fault (rounded_text fine text) ≡ Some why
+refused_by_kind : (fine : FinePrices) (text : List ℕ) (why : ReadFault) (kind : Kind) → why.kind ≡ kind → first_fault (rounded_text fine text) ≡ Some why
     → RoundsText fine text (Err (refusal_by_kind why kind))
-refused_by_kind fine text why NoMemory first = tt
-refused_by_kind fine text why kind first = first
+refused_by_kind fine text why NoMemory is first =
+    absurd ((subst (λ (fault : Option ReadFault). IfSome fault IsFaultOfBytes) first (first_fault-of_bytes (rounded_text fine text))).1 is)
+refused_by_kind fine text why kind is first = first
 
 -- a fault of rounding, as the run has it
 pub rounding_refused : (fine : FinePrices) (text : List ℕ) (why : ReadFault) → RoundAnswer fine text (Err why)
@@ -100,8 +132,9 @@ pub rounding_refused : (fine : FinePrices) (text : List ℕ) (why : ReadFault) �
 rounding_refused fine text why answer fault is =
     subst (λ (f : CanonFault). RoundsText fine text (Err f)) (sym is)
     (⊎_elim
-    (λ (first : first_fault (rounded_text fine text) ≡ Some why). refused_by_kind fine text why why.kind first)
-    (λ (memory : why ≡ fault_at 0 NoMemory). subst (λ (w : ReadFault). RoundsText fine text (Err (refusal_of w))) (sym memory) tt)
+    (λ (first : first_fault (rounded_text fine text) ≡ Some why). refused_by_kind fine text why why.kind refl first)
+    (λ (memory : (why ≡ fault_at 0 NoMemory) × WantsMemoryToRound fine text).
+    subst (λ (w : ReadFault). RoundsText fine text (Err (refusal_of w))) (sym memory.0) memory.1)
     answer)
 
 -- ---- the run
@@ -120,13 +153,13 @@ module _ {R W E : Type 0} (remaining : R → Option (List ℕ)) (contents : W �
   unread : (fault : CanonFault) → ReadsBytes remaining old new (Err fault) → IsUnrounded remaining contents messages fine old new fault
   unread (Read fault) stops = inl stops
   unread (StepLimit goods) stops = absurd stops
-  unread Memory stops = tt
+  unread Memory stops = inl stops
 
   unmade : (bytes : List ℕ) → ReadsAll remaining old new bytes → (fault : CanonFault) → RoundsText fine bytes (Err fault)
       → IsUnrounded remaining contents messages fine old new fault
   unmade bytes all (Read fault) first = inr (record { bytes = bytes; all = all; first = first })
   unmade bytes all (StepLimit goods) first = absurd first
-  unmade bytes all Memory first = tt
+  unmade bytes all Memory first = inr (record { bytes = bytes; all = all; wants = first })
 
   pub round_unread : (out : Watched W) (err : Watched E) (fault : CanonFault) → ReadsBytes remaining old new (Err fault)
       → (answer : Result ℕ RunFault) → IsErrAnd answer (λ reported. reported ≡ Refused Only fault)

@@ -12,9 +12,10 @@ use Rattle.std.proofs.lemmas.List.Folds.{list_any-append}
 use Rattle.std.proofs.lemmas.List.FromFn.{fill_by_all, length-map-range_with_len, get_or-map-range_with_len}
 use Rattle.std.proofs.lemmas.Option.{get_or_from_slice_get, slice_get_within}
 use Rattle.bid_file.specs.Files.{PlainBid, PlainFile}
+use Rattle.valuation.specs.declared.search_options.SearchOptions.{SearchOptions}
 use Rattle.cats_text.specs.declared.stream.Watched.{Watched}
 use Rattle.valuation.specs.Auctions.{is_dummy, or_atoms_of}
-use Rattle.prune.specs.SearchSteps.{first_heavy}
+use Rattle.prune.specs.SearchSteps.{first_refused}
 use Rattle.canon.specs.declared.canon_fault.CanonFault.{CanonFault}
 use Rattle.canon.specs.declared.canon_fault.CanonFault.TheVariants.{Read, StepLimit, Memory}
 use Rattle.canon.specs.declared.which.Which.TheVariants.{Only}
@@ -49,12 +50,12 @@ line_made ending lines longer path given numbers is put = put ∙ ap (λ (ns : L
 
 -- ---- the file at a path
 
-module _ {R : Type 0} (ending : Ending) (remaining : R → Option (List ℕ)) (limit : ℕ) (old new : Watched R) {C : Type 0}
+module _ {R : Type 0} (ending : Ending) (remaining : R → Option (List ℕ)) (options : SearchOptions) (old new : Watched R) {C : Type 0}
     (Has : C → List (List ℕ × Judgement) → Type 0) (kept more : C) (lines longer path : List ℕ)
     (has : (js : List (List ℕ × Judgement)) → Has kept js → lines ≡ lines_of_table ending js)
     (has_more : (js : List (List ℕ × Judgement)) → longer ≡ lines_of_table ending js → Has more js) where
-  unjudged : longer ≡ lines → (error : RequestError) → JudgesStream remaining limit old new (IsUnjudged error)
-      → AddsOpened Has remaining limit path kept more old new (Some error)
+  unjudged : longer ≡ lines → (error : RequestError) → JudgesStream remaining options old new (IsUnjudged error)
+      → AddsOpened Has remaining options path kept more old new (Some error)
   unjudged same error judges = record {
     judgement = IsUnjudged error;
     judges = judges;
@@ -63,14 +64,14 @@ module _ {R : Type 0} (ending : Ending) (remaining : R → Option (List ℕ)) (l
   }
 
   pub table_unread : longer ≡ lines → (fault : CanonFault) → ReadsInput remaining old new (Err fault)
-      → AddsOpened Has remaining limit path kept more old new (Some (Run (Refused Only fault)))
+      → AddsOpened Has remaining options path kept more old new (Some (Run (Refused Only fault)))
   table_unread same (Read why) reads = unjudged same (Run (Refused Only (Read why))) (refl, reads)
   table_unread same (StepLimit goods) reads = absurd reads.reads
   table_unread same Memory reads = unjudged same (Run (Refused Only Memory)) (refl, inl reads)
 
   module _ (file : PlainFile) (reads : ReadsInput remaining old new (Ok file)) where
-    pub table_judged : first_heavy file.goods limit (or_atoms_of file.bids) ≡ None → longer ≡ lines ++ line_if_read ending path (IsJudged file)
-        → AddsOpened Has remaining limit path kept more old new None
+    pub table_judged : first_refused options file.goods (or_atoms_of file.bids) ≡ None → longer ≡ lines ++ line_if_read ending path (IsJudged file)
+        → AddsOpened Has remaining options path kept more old new None
     table_judged within put = record {
       judgement = IsJudged file;
       judges = record { reads = reads; within = within };
@@ -78,17 +79,17 @@ module _ {R : Type 0} (ending : Ending) (remaining : R → Option (List ℕ)) (l
       is_error = refl;
     }
 
-    pub table_heavy : (goods : Vec ℕ Global) → first_heavy file.goods limit (or_atoms_of file.bids) ≡ Some goods.items
+    pub table_heavy : (goods : Vec ℕ Global) → first_refused options file.goods (or_atoms_of file.bids) ≡ Some goods.items
         → longer ≡ lines ++ line_if_read ending path (IsHeavy file goods) → (why : RunFault) → why ≡ Refused Only (StepLimit goods)
-        → AddsOpened Has remaining limit path kept more old new (Some (Run why))
+        → AddsOpened Has remaining options path kept more old new (Some (Run why))
     table_heavy goods heavy put why is = record {
       judgement = IsHeavy file goods;
-      judges = record { reads = reads; heavy = heavy };
+      judges = record { reads = reads; refused = heavy };
       adds = λ js h. has_more (js ++ (path, IsHeavy file goods) ∷ []) (table_more ending lines longer path (IsHeavy file goods) put js (has js h));
       is_error = ap (λ (f : RunFault). Some (Run f)) is;
     }
 
-    pub table_unmade : longer ≡ lines → AddsOpened Has remaining limit path kept more old new (Some (Run (Refused Only Memory)))
+    pub table_unmade : longer ≡ lines → AddsOpened Has remaining options path kept more old new (Some (Run (Refused Only Memory)))
     table_unmade same = unjudged same (Run (Refused Only Memory)) (refl, inr (record { file = file; reads = reads }))
 
 -- ---- marks

@@ -2,6 +2,7 @@
 -- them.
 use Rattle.std.specs.Prelude.{ℕ, List, Option, Result, Ok, Err}
 use Rattle.bid_file.specs.Files.{PlainFile}
+use Rattle.valuation.specs.declared.search_options.SearchOptions.{SearchOptions}
 use Rattle.cats_text.specs.declared.stream.Watched.{Watched}
 use Rattle.explain.specs.Reasons.{Explains, PlainReason}
 use Rattle.answers.specs.ExplanationTexts.{explanation_text}
@@ -15,21 +16,22 @@ use Rattle.answers.specs.declared.report.RunFault.TheVariants.{Refused, GoodRang
 abbrev pub explain_outcome : PlainFile × List PlainReason → Outcome
 explain_outcome explained = Prints 0 (explanation_text explained.1)
 
--- a file without a heavy bundle was read, and these are reasons of its bids
-pub record ReadsExplained {R : Type 0} (remaining : R → Option (List ℕ)) (limit : ℕ) (before after : Watched R)
+-- a file was read of which no bundle is refused, and these are reasons of its bids
+pub record ReadsExplained {R : Type 0} (remaining : R → Option (List ℕ)) (options : SearchOptions)
+    (before after : Watched R)
     (explained : PlainFile × List PlainReason) : Type 0 where
-  pub reads : ReadsWithinLimit remaining limit before after explained.0
+  pub reads : ReadsWithinLimit remaining options before after explained.0
   pub explains : Explains explained.0 explained.1
 
-module _ {R W : Type 0} (remaining : R → Option (List ℕ)) (contents : W → Option (List ℕ)) (limit : ℕ) where
-  -- the contract of such a run, from its input and its output before to those after it. It refuses what `cats
-  -- normalise`
-  -- refuses
+module _ {R W : Type 0} (remaining : R → Option (List ℕ)) (contents : W → Option (List ℕ))
+    (options : SearchOptions) where
+  -- the contract of such a run, from its input and its output before to those after it. It refuses what
+  -- `cats normalise` refuses
   abbrev pub ExplainsFile : Watched R → Watched R → Watched W → Watched W → Result ℕ RunFault → Type 0
   ExplainsFile before after old new (Ok status) =
-      WritesText contents (ReadsExplained remaining limit before after) explain_outcome old new status
+      WritesText contents (ReadsExplained remaining options before after) explain_outcome old new status
   ExplainsFile before after old new (Err (Refused which fault)) =
-      RefusesFile remaining contents (normalise_outcome limit) before after old new which fault
+      RefusesFile remaining contents (normalise_outcome options) before after old new which fault
   ExplainsFile before after old new (Err (GoodRange good)) = ⊥
   ExplainsFile before after old new (Err (Sent fault)) =
-      FailsInText contents (ReadsExplained remaining limit before after) explain_outcome old new fault.written
+      FailsInText contents (ReadsExplained remaining options before after) explain_outcome old new fault.written

@@ -5,7 +5,7 @@ use Rattle.cats_text.specs.declared.stream.Watched.{Watched}
 use Rattle.canon.specs.declared.canon_fault.CanonFault.TheVariants.{Read, StepLimit, Memory}
 use Rattle.canon.specs.declared.which.Which.TheVariants.{Only}
 use Rattle.command_line.specs.PlainRequests.{PlainPaths, Given, ListedIn}
-use Rattle.cats_cmd.specs.Inputs.{IsOpened, ReadsAll, StopsReading}
+use Rattle.cats_cmd.specs.Inputs.{IsOpened, ReadsAll, StopsReading, WantsMemoryForBytes}
 use Rattle.cats_cmd.specs.PathLists.{paths_in}
 use Rattle.cats_cmd.specs.Paths.{refusal_line}
 use Rattle.cats_cmd.specs.RequestErrors.{Reports, status_of_request_error}
@@ -31,13 +31,20 @@ module _ {F : Type 0} (may_open : List ℕ → F → Type 0) (may_refuse : List 
     pub opened : IsOpened may_open list before
     pub stops : StopsReading remaining before after fault.line fault.kind
 
-  -- why the list was not read; memory may be refused
+  -- memory was refused for the bytes of the stream that was opened at the path of the list
+  pub record WantsMemoryForList : Type 0 where
+    pub before : Watched F
+    pub after : Watched F
+    pub opened : IsOpened may_open list before
+    pub wants : WantsMemoryForBytes remaining before after
+
+  -- why the list was not read
   abbrev pub IsUnread : RequestError → Type 0
   IsUnread (CannotOpen which) = ⊥
   IsUnread (NotOpened why) = may_refuse list why
   IsUnread (Run (Refused which (Read fault))) = (which ≡ Only) × StopsList fault
   IsUnread (Run (Refused which (StepLimit goods))) = ⊥
-  IsUnread (Run (Refused which Memory)) = which ≡ Only
+  IsUnread (Run (Refused which Memory)) = (which ≡ Only) × WantsMemoryForList
   IsUnread (Run (GoodRange good)) = ⊥
   IsUnread (Run (Sent fault)) = ⊥
 

@@ -5,13 +5,14 @@ use Rattle.std.specs.Prelude.{Vec}
 use Rattle.std.specs.Global.{Global}
 use Rattle.std.specs.Io.KnownBytes.{Consumes, IsAtEnd}
 use Rattle.bid_file.specs.Files.{PlainFile}
+use Rattle.valuation.specs.declared.search_options.SearchOptions.{SearchOptions}
 use Rattle.cats_text.specs.Streams.{inner_of, has_failed, has_ended, ReadsFile, FaultsAt}
 use Rattle.cats_text.specs.declared.read_fault.Kind.{Kind}
 use Rattle.cats_text.specs.declared.read_fault.Kind.TheVariants.{Device, TooLong, Memory as NoMemory}
 use Rattle.cats_text.specs.declared.limits.TheConstants.{MAX_STREAM}
 use Rattle.cats_text.specs.declared.stream.Watched.{Watched}
 use Rattle.valuation.specs.Auctions.{or_atoms_of}
-use Rattle.prune.specs.SearchSteps.{first_heavy}
+use Rattle.prune.specs.SearchSteps.{first_refused}
 use Rattle.canon.specs.declared.canon_fault.CanonFault.{CanonFault}
 use Rattle.canon.specs.declared.canon_fault.CanonFault.TheVariants.{Read, StepLimit, Memory}
 use Rattle.cats_cmd.specs.Outcomes.{Outcome, ExceedsSteps}
@@ -54,15 +55,16 @@ module _ {R : Type 0} (remaining : R → Option (List ℕ)) where
     pub file : PlainFile
     pub reads : ReadsInput old new (Ok file)
 
-  -- the bytes that were read spell a file without a heavy bundle
-  pub record ReadsWithinLimit (limit : ℕ) (old new : Watched R) (file : PlainFile) : Type 0 where
+  -- the bytes that were read spell a file of which no bundle is refused
+  pub record ReadsWithinLimit (options : SearchOptions) (old new : Watched R) (file : PlainFile) : Type 0 where
     pub reads : ReadsInput old new (Ok file)
-    pub within : first_heavy file.goods limit (or_atoms_of file.bids) ≡ None
+    pub within : first_refused options file.goods (or_atoms_of file.bids) ≡ None
 
-  -- the bytes that were read spell a file, of which the bundle of these goods is the first heavy one
-  pub record ReadsOverLimit (limit : ℕ) (old new : Watched R) (file : PlainFile) (goods : List ℕ) : Type 0 where
+  -- the bytes that were read spell a file, of which the bundle of these goods is the first that is refused
+  pub record ReadsOverLimit (options : SearchOptions) (old new : Watched R) (file : PlainFile) (goods : List ℕ)
+      : Type 0 where
     pub reads : ReadsInput old new (Ok file)
-    pub heavy : first_heavy file.goods limit (or_atoms_of file.bids) ≡ Some goods
+    pub refused : first_refused options file.goods (or_atoms_of file.bids) ≡ Some goods
 
 -- A file that is read, where `outcome` says what is made of it.
 module _ {R : Type 0} (remaining : R → Option (List ℕ)) (outcome : PlainFile → Outcome) where
@@ -102,9 +104,18 @@ module _ {R : Type 0} (remaining : R → Option (List ℕ)) where
   StopsReading old new line TooLong = (line ≡ 0) × ReadsTooMany old new
   StopsReading old new line kind = ⊥
 
-  -- the contract of reading the bytes of a stream; memory may be refused
+  -- memory is refused for bytes that came, and the stream has neither failed nor ended
+  pub record WantsMemoryForBytes (old new : Watched R) : Type 0 where
+    pub bytes : List ℕ
+    pub consumes : Consumes (remaining (inner_of old)) (remaining (inner_of new)) bytes
+    pub some : 0 < length bytes
+    pub within : length bytes ≤ MAX_STREAM
+    pub works : has_failed new ≡ false
+    pub unended : has_ended new ≡ false
+
+  -- the contract of reading the bytes of a stream
   abbrev pub ReadsBytes : Watched R → Watched R → Result (Vec ℕ Global) CanonFault → Type 0
   ReadsBytes old new (Ok text) = ReadsAll old new text.items
   ReadsBytes old new (Err (Read fault)) = StopsReading old new fault.line fault.kind
   ReadsBytes old new (Err (StepLimit goods)) = ⊥
-  ReadsBytes old new (Err Memory) = Unit {0}
+  ReadsBytes old new (Err Memory) = WantsMemoryForBytes old new

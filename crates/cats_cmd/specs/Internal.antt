@@ -5,4 +5,3 @@ pub mod Differences
 pub mod Diffs
 pub mod Judging
 pub mod Roundings
-pub mod Searches

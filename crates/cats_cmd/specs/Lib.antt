@@ -5,6 +5,7 @@ pub mod Examples
 pub mod Inputs
 pub mod RequestErrors
 pub mod Runs
+pub mod Values
 pub mod Comparisons
 pub mod Diffs
 pub mod Explanations
@@ -17,5 +18,7 @@ pub mod Duplicates
 pub mod SizesTables
 pub mod Rounding
 pub mod FileLists
+pub mod Opening
+pub mod Openings
 pub mod Requests
 pub mod Internal

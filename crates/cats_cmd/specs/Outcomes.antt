@@ -1,10 +1,11 @@
 -- What a run makes of its files. It is a text with a status, or why there is none.
-use Rattle.std.specs.Prelude.{ℕ, List, Option, Some, None, find, nat_le, nat_lt, if◌then◌else◌}
+use Rattle.std.specs.Prelude.{ℕ, Bool, List, Option, Some, None, find, nat_le, nat_lt, if◌then◌else◌}
 use Rattle.bid_file.specs.Files.{PlainFile}
 use Rattle.cats_text.specs.Layout.{layout}
 use Rattle.valuation.specs.Auctions.{or_atoms_of, auction_from}
 use Rattle.valuation.specs.Packings.{count_packings}
-use Rattle.prune.specs.SearchSteps.{first_heavy}
+use Rattle.valuation.specs.declared.search_options.SearchOptions.{SearchOptions}
+use Rattle.prune.specs.SearchSteps.{first_refused}
 use Rattle.canon.specs.Canonical.{canonical_text}
 use Rattle.canon.specs.Difference.{Difference, first_difference}
 use Rattle.answers.specs.DifferenceTexts.{difference_text}
@@ -17,7 +18,7 @@ pub data Outcome : Type 0 where
   Prints : ℕ → List ℕ → Outcome
   -- the file does not have this good
   LacksGood : ℕ → Outcome
-  -- a search on the bundle of these goods takes more steps than the limit
+  -- a search on the bundle of these goods takes more steps than its limits leave
   ExceedsSteps : List ℕ → Outcome
 
 -- of `cats check`
@@ -36,24 +37,30 @@ abbrev pub outcome_unless : Option ℕ → Outcome → Outcome
 outcome_unless None outcome = outcome
 outcome_unless (Some good) outcome = LacksGood good
 
--- the values of the bundle, unless it has more packings than the limit
-abbrev pub values_within : ℕ → List ℕ → PlainFile → Outcome
-values_within limit bundle file =
-    if nat_lt limit (count_packings (or_atoms_of file.bids) bundle) then ExceedsSteps bundle
-    else Prints 0 (value_text file bundle)
+-- the values of the bundle, unless it is refused
+abbrev pub values_unless : Bool → List ℕ → PlainFile → Outcome
+values_unless refused bundle file = if refused then ExceedsSteps bundle else Prints 0 (value_text file bundle)
 
--- of `cats value` on these goods
+-- of `cats value` on these goods, if these are the files that are refused
+abbrev pub value_outcome_if : (PlainFile → Bool) → List ℕ → PlainFile → Outcome
+value_outcome_if refuses goods file =
+    outcome_unless (missing_good file.goods goods) (values_unless (refuses file) (bundle_from goods) file)
+
+-- the bundle has more packings than the limit
+abbrev pub exceeds_packings : List ℕ → ℕ → PlainFile → Bool
+exceeds_packings bundle limit file = nat_lt limit (count_packings (or_atoms_of file.bids) bundle)
+
+-- by the plain search
 abbrev pub value_outcome : List ℕ → ℕ → PlainFile → Outcome
-value_outcome goods limit file =
-    outcome_unless (missing_good file.goods goods) (values_within limit (bundle_from goods) file)
+value_outcome goods limit = value_outcome_if (exceeds_packings (bundle_from goods) limit) goods
 
-abbrev pub text_unless_heavy : PlainFile → Option (List ℕ) → Outcome
-text_unless_heavy file None = Prints 0 (canonical_text file)
-text_unless_heavy file (Some goods) = ExceedsSteps goods
+abbrev pub text_unless_refused : PlainFile → Option (List ℕ) → Outcome
+text_unless_refused file None = Prints 0 (canonical_text file)
+text_unless_refused file (Some goods) = ExceedsSteps goods
 
--- of `cats normalise`: the canonical text, unless a bundle of the OR bidder is heavy
-abbrev pub normalise_outcome : ℕ → PlainFile → Outcome
-normalise_outcome limit file = text_unless_heavy file (first_heavy file.goods limit (or_atoms_of file.bids))
+-- of `cats normalise`: the canonical text, unless a bundle of the OR bidder is refused
+abbrev pub normalise_outcome : SearchOptions → PlainFile → Outcome
+normalise_outcome options file = text_unless_refused file (first_refused options file.goods (or_atoms_of file.bids))
 
 abbrev pub outcome_of_difference : Difference → Outcome
 outcome_of_difference difference = Prints (status_of_difference difference) (difference_text difference)

@@ -6,6 +6,7 @@ use Rattle.std.specs.Global.{Global}
 use Rattle.std.specs.List.{AllByRecursion}
 use Rattle.std.specs.Str.{IsUtf8}
 use Rattle.bid_file.specs.Files.{PlainFile}
+use Rattle.valuation.specs.declared.search_options.SearchOptions.{SearchOptions}
 use Rattle.cats_text.specs.declared.stream.Watched.{Watched}
 use Rattle.canon.specs.declared.canon_fault.CanonFault.{CanonFault}
 use Rattle.canon.specs.declared.canon_fault.CanonFault.TheVariants.{Read, StepLimit, Memory}
@@ -27,9 +28,9 @@ use Rattle.answers.specs.declared.report.RunFault.TheVariants.{Refused, GoodRang
 
 -- what became of the file at a path
 pub data Judgement : Type 0 where
-  -- it was judged: it spells this file, which has no heavy bundle
+  -- it was judged: it spells this file, of which no bundle is refused
   IsJudged : PlainFile → Judgement
-  -- it spells this file, of which the bundle of these goods is the first heavy one
+  -- it spells this file, of which the bundle of these goods is the first that is refused
   IsHeavy : PlainFile → Vec ℕ Global → Judgement
   -- it was not judged, for this reason
   IsUnjudged : RequestError → Judgement
@@ -112,30 +113,30 @@ report_lines progress count judgements = lines_from progress count 1 judgements
 abbrev pub IsUnopened : (List ℕ → Unopened → Type 0) → List ℕ → Unopened → Type 0
 IsUnopened may_refuse path why = may_refuse path why ⊎ ((why ≡ Other) × (IsUtf8 path → ⊥))
 
-module _ {F : Type 0} (remaining : F → Option (List ℕ)) (limit : ℕ) where
-  -- Reading the stream gives this. Of no stream but one that spells a file is a bundle heavy.
+module _ {F : Type 0} (remaining : F → Option (List ℕ)) (options : SearchOptions) where
+  -- Reading the stream gives this. Of no stream but one that spells a file is a bundle refused.
   abbrev pub JudgesStream : Watched F → Watched F → Judgement → Type 0
-  JudgesStream before after (IsJudged file) = ReadsWithinLimit remaining limit before after file
-  JudgesStream before after (IsHeavy file goods) = ReadsOverLimit remaining limit before after file goods.items
+  JudgesStream before after (IsJudged file) = ReadsWithinLimit remaining options before after file
+  JudgesStream before after (IsHeavy file goods) = ReadsOverLimit remaining options before after file goods.items
   JudgesStream before after (IsUnjudged (CannotOpen which)) = ⊥
   JudgesStream before after (IsUnjudged (NotOpened why)) = ⊥
   JudgesStream before after (IsUnjudged (Run (Refused which (Read fault)))) =
-      (which ≡ Only) × IsRefusedFile remaining (normalise_outcome limit) before after (Read fault)
+      (which ≡ Only) × IsRefusedFile remaining (normalise_outcome options) before after (Read fault)
   JudgesStream before after (IsUnjudged (Run (Refused which (StepLimit goods)))) = ⊥
   JudgesStream before after (IsUnjudged (Run (Refused which Memory))) =
-      (which ≡ Only) × IsRefusedFile remaining (normalise_outcome limit) before after Memory
+      (which ≡ Only) × IsRefusedFile remaining (normalise_outcome options) before after Memory
   JudgesStream before after (IsUnjudged (Run (GoodRange good))) = ⊥
   JudgesStream before after (IsUnjudged (Run (Sent fault))) = ⊥
 
 module _ {F : Type 0} (may_open : List ℕ → F → Type 0) (may_refuse : List ℕ → Unopened → Type 0) (remaining : F
     → Option (List ℕ))
-    (limit : ℕ) where
+    (options : SearchOptions) where
   -- this became of a stream that was opened at the path
   pub record JudgesOpened (path : List ℕ) (judgement : Judgement) : Type 0 where
     pub before : Watched F
     pub after : Watched F
     pub opened : IsOpened may_open path before
-    pub judges : JudgesStream remaining limit before after judgement
+    pub judges : JudgesStream remaining options before after judgement
 
   abbrev pub Judges : List ℕ × Judgement → Type 0
   Judges (path, IsJudged file) = JudgesOpened path (IsJudged file)
@@ -152,12 +153,13 @@ pub record Made : Type 0 where
   pub text : List ℕ
 
 module _ {F E : Type 0} (may_open : List ℕ → F → Type 0) (may_refuse : List ℕ → Unopened → Type 0)
-    (remaining : F → Option (List ℕ)) (messages : E → Option (List ℕ)) (limit : ℕ) (progress : Progress) where
+    (remaining : F → Option (List ℕ)) (messages : E → Option (List ℕ)) (options : SearchOptions)
+    (progress : Progress) where
   -- this became of the files at these paths, which are the first of so many, and it was reported
   pub record JudgesPaths (count : ℕ) (paths : List (List ℕ)) (err err_after : Watched E)
       (judgements : List (List ℕ × Judgement)) : Type 0 where
     pub of_paths : map (λ j. j.0) judgements ≡ paths
-    pub each : AllByRecursion (Judges may_open may_refuse remaining limit) judgements
+    pub each : AllByRecursion (Judges may_open may_refuse remaining options) judgements
     pub reports : ReportsAll messages (report_lines progress count judgements) err err_after
 
   -- this became of the files at the first so many of the paths
@@ -173,10 +175,11 @@ outcome_of_paths made = Prints (greatest_status made.judgements) made.text
 
 -- `Makes` says which text is made of what became of the files
 module _ {F W E : Type 0} (may_open : List ℕ → F → Type 0) (may_refuse : List ℕ → Unopened → Type 0)
-    (remaining : F → Option (List ℕ)) (contents : W → Option (List ℕ)) (messages : E → Option (List ℕ)) (limit : ℕ)
+    (remaining : F → Option (List ℕ)) (contents : W → Option (List ℕ)) (messages : E → Option (List ℕ))
+    (options : SearchOptions)
     (Makes : List (List ℕ × Judgement) → List ℕ → Type 0) (paths : List (List ℕ)) (progress : Progress) where
   pub record MakesOfPaths (err err_after : Watched E) (made : Made) : Type 0 where
-    pub judges : JudgesPaths may_open may_refuse remaining messages limit progress (length paths) paths err err_after
+    pub judges : JudgesPaths may_open may_refuse remaining messages options progress (length paths) paths err err_after
         made.judgements
     pub makes : Makes made.judgements made.text
 
@@ -186,7 +189,7 @@ module _ {F W E : Type 0} (may_open : List ℕ → F → Type 0) (may_refuse : L
     pub only : which ≡ Only
     pub memory : fault ≡ Memory
     pub silent : out_after ≡ out
-    pub begins : BeginsPaths may_open may_refuse remaining messages limit progress paths err err_after
+    pub begins : BeginsPaths may_open may_refuse remaining messages options progress paths err err_after
 
   -- the contract of the run, from its output and standard error before to those after it
   abbrev pub RunsOnPaths : Watched W → Watched W → Watched E → Watched E → Result ℕ RunFault → Type 0

@@ -1,8 +1,10 @@
 -- The contract of the program. It is the run of the request, on the files at its paths, what is sent where, and
 -- with which status.
 use Rattle.std.specs.Prelude.{◌≡◌, ◌⊎◌, ℕ, Bool, true, false, List, [], ◌∷◌, Option, Some, Result, Ok, Err, codes}
+use Rattle.std.specs.Prelude.{if◌then◌else◌}
 use Rattle.std.specs.Prelude.{string_bytes}
 use Rattle.bid_file.specs.Files.{PlainFile}
+use Rattle.valuation.specs.declared.search_options.SearchOptions.{SearchOptions}
 use Rattle.cats_text.specs.Streams.{SendsWhole, SendsPart}
 use Rattle.cats_text.specs.declared.stream.Watched.{Watched}
 use Rattle.canon.specs.declared.which.Which.{Which}
@@ -13,19 +15,24 @@ use Rattle.cats_cmd.specs.Duplicates.{MakesGroups}
 use Rattle.cats_cmd.specs.Explanations.{ExplainsFile}
 use Rattle.cats_cmd.specs.FileLists.{RunsOnFiles}
 use Rattle.cats_cmd.specs.Inputs.{IsOpened, MayRefuse}
-use Rattle.cats_cmd.specs.Outcomes.{Outcome, check_outcome, show_outcome, value_outcome, normalise_outcome}
+use Rattle.cats_cmd.specs.Outcomes.{Outcome, check_outcome, show_outcome, normalise_outcome}
 use Rattle.cats_cmd.specs.Paths.{RunsOnPaths}
 use Rattle.cats_cmd.specs.Rounding.{Rounds}
 use Rattle.cats_cmd.specs.Runs.{RunsOnFile}
 use Rattle.cats_cmd.specs.SizesTables.{MakesTable}
+use Rattle.cats_cmd.specs.Values.{RunsValue}
 use Rattle.rounding.specs.declared.replacement.FinePrices.{FinePrices}
 use Rattle.rounding.specs.declared.replacement.FinePrices.TheVariants.{Round as RoundFine, Refuse}
-use Rattle.cats_cmd.specs.RequestErrors.{Reports, SendsText, line_of_request_error, status_of_request_error}
+use Rattle.cats_cmd.specs.RequestErrors.{ReportsError, SendsText, status_of_request_error}
 use Rattle.command_line.specs.PlainRequests.{PlainRequest, Check, Show, Value, Normalise, Explain, Round, Compare, Diff}
 use Rattle.command_line.specs.PlainRequests.{Duplicates, Sizes}
 use Rattle.command_line.specs.Requests.{IsNoRequestOf, request_of}
 use Rattle.command_line.specs.declared.request.NoRequest.{NoRequest}
-use Rattle.command_line.specs.declared.request.NoRequest.TheVariants.{Help, WrongUsage, WrongFiles, NoMemory}
+use Rattle.command_line.specs.declared.request.NoRequest.TheVariants.{Help, WrongUsage, Misused, NoMemory}
+use Rattle.command_line.specs.declared.request.Misuse.{Misuse}
+use Rattle.command_line.specs.declared.request.Misuse.TheVariants.{SignedNumber, UnboundedTotal, WrongFiles}
+use Rattle.command_line.specs.declared.request.Limits.{Limits}
+use Rattle.valuation.specs.SearchLimits.{bounded_options, plain_options}
 use Rattle.cats_cmd.specs.declared.paths.Ending.{Ending}
 use Rattle.cats_cmd.specs.declared.paths.Ending.TheVariants.{Line, Null}
 use Rattle.cats_cmd.specs.declared.paths.Progress.{Progress}
@@ -37,9 +44,12 @@ use Rattle.cats_cmd.specs.declared.source.Unopened.{Unopened}
 
 -- ---- a command line without a request
 
--- a line of `duplicates` or `sizes` with both a list and paths, or neither
-abbrev pub wrong_files_text : List ℕ
-wrong_files_text = codes "error: give paths, or '--files0-from <LIST>', and not both\n\nFor more information, try '--help'.\n"
+-- why a line is wrong whose words its subcommand takes
+abbrev pub misuse_text : Misuse → List ℕ
+misuse_text SignedNumber = codes "error: a number has digits alone, and no sign\n\nFor more information, try '--help'.\n"
+misuse_text UnboundedTotal = codes "error: '--total-steps <N>' needs '--bound'\n\nFor more information, try '--help'.\n"
+misuse_text WrongFiles =
+    codes "error: give paths, or '--files0-from <LIST>', and not both\n\nFor more information, try '--help'.\n"
 
 -- a text that says that memory was refused, or another if memory for it was refused too
 abbrev pub memory_text : List ℕ → List ℕ
@@ -58,8 +68,8 @@ module _ {W E : Type 0} (contents : W → Option (List ℕ)) (messages : E → O
       SendsHelp (string_bytes text) out out_after status × (err_after ≡ err)
   AnswersNoRequest (WrongUsage text) out out_after err err_after status =
       (status ≡ 64) × (out_after ≡ out) × SendsText messages (string_bytes text) err err_after
-  AnswersNoRequest WrongFiles out out_after err err_after status =
-      (status ≡ 64) × (out_after ≡ out) × SendsText messages wrong_files_text err err_after
+  AnswersNoRequest (Misused misuse) out out_after err err_after status =
+      (status ≡ 64) × (out_after ≡ out) × SendsText messages (misuse_text misuse) err err_after
   AnswersNoRequest (NoMemory text) out out_after err err_after status =
       (status ≡ 4) × (out_after ≡ out) × SendsText messages (memory_text (string_bytes text)) err err_after
 
@@ -92,16 +102,25 @@ module _ {F W : Type 0} (may_open : List ℕ → F → Type 0) (remaining : F �
     pub opened : IsOpened may_open path before
     pub runs : RunsOnFile remaining contents outcome before after out out_after answer
 
+  -- the values of the stream that was opened at the path
+  pub record ValuesAt (path goods : List ℕ) (options : SearchOptions) (out out_after : Watched W)
+      (answer : Result ℕ RunFault) : Type 0 where
+    pub before : Watched F
+    pub after : Watched F
+    pub opened : IsOpened may_open path before
+    pub runs : RunsValue remaining contents goods options before after out out_after answer
+
   -- an explanation of the stream that was opened at the path
-  pub record ExplainsAt (path : List ℕ) (limit : ℕ) (out out_after : Watched W) (answer : Result ℕ RunFault)
+  pub record ExplainsAt (path : List ℕ) (options : SearchOptions) (out out_after : Watched W)
+      (answer : Result ℕ RunFault)
       : Type 0 where
     pub before : Watched F
     pub after : Watched F
     pub opened : IsOpened may_open path before
-    pub runs : ExplainsFile remaining contents limit before after out out_after answer
+    pub runs : ExplainsFile remaining contents options before after out out_after answer
 
   -- a comparison of the streams that were opened at the two paths
-  pub record ComparesAt (first second : List ℕ) (limit : ℕ) (out out_after : Watched W)
+  pub record ComparesAt (first second : List ℕ) (options : SearchOptions) (out out_after : Watched W)
       (answer : Result ℕ RunFault) : Type 0 where
     pub left : Watched F
     pub left_after : Watched F
@@ -109,10 +128,11 @@ module _ {F W : Type 0} (may_open : List ℕ → F → Type 0) (remaining : F �
     pub right_after : Watched F
     pub left_opened : IsOpened may_open first left
     pub right_opened : IsOpened may_open second right
-    pub runs : Compares remaining remaining contents limit left left_after right right_after out out_after answer
+    pub runs : Compares remaining remaining contents options left left_after right right_after out out_after answer
 
   -- all differences of the streams that were opened at the two paths
-  pub record DiffsAt (first second : List ℕ) (limit : ℕ) (out out_after : Watched W) (answer : Result ℕ RunFault)
+  pub record DiffsAt (first second : List ℕ) (options : SearchOptions) (out out_after : Watched W)
+      (answer : Result ℕ RunFault)
       : Type 0 where
     pub left : Watched F
     pub left_after : Watched F
@@ -120,7 +140,7 @@ module _ {F W : Type 0} (may_open : List ℕ → F → Type 0) (remaining : F �
     pub right_after : Watched F
     pub left_opened : IsOpened may_open first left
     pub right_opened : IsOpened may_open second right
-    pub runs : DiffsFiles remaining remaining contents limit left left_after right right_after out out_after answer
+    pub runs : DiffsFiles remaining remaining contents options left left_after right right_after out out_after answer
 
 module _ {F W E : Type 0} (may_open : List ℕ → F → Type 0) (may_refuse : List ℕ → Unopened → Type 0)
     (remaining : F → Option (List ℕ)) (contents : W → Option (List ℕ)) (messages : E → Option (List ℕ)) where
@@ -132,38 +152,47 @@ module _ {F W E : Type 0} (may_open : List ℕ → F → Type 0) (may_refuse : L
     pub opened : IsOpened may_open path before
     pub runs : Rounds remaining contents messages fine before after out out_after err err_after answer
 
+-- bounded searches, within the limits of a request
+abbrev pub bounded_by : Limits → SearchOptions
+bounded_by limits = bounded_options limits.steps limits.total
+
+-- the searches that a request chooses
+abbrev pub options_of : Limits → SearchOptions
+options_of limits = if limits.bound then bounded_by limits else plain_options limits.steps
+
 -- `terminal` says whether standard error is a terminal.
 module _ {F W E : Type 0} (may_open : List ℕ → F → Type 0) (may_refuse : List ℕ → Unopened → Type 0)
     (remaining : F → Option (List ℕ)) (contents : W → Option (List ℕ)) (messages : E → Option (List ℕ))
     (terminal : Bool) where
-  -- the run of each request, on its files and goods and under its limit
+  -- the run of each request, on its files and goods, by its searches and within its limits
   abbrev pub RunsFor : PlainRequest → Watched W → Watched W → Watched E → Watched E → Result ℕ RunFault → Type 0
   RunsFor (Check file) out out_after err err_after answer =
       RunsAt may_open remaining contents file check_outcome out out_after answer × (err_after ≡ err)
   RunsFor (Show file) out out_after err err_after answer =
       RunsAt may_open remaining contents file show_outcome out out_after answer × (err_after ≡ err)
-  RunsFor (Value file goods limit) out out_after err err_after answer =
-      RunsAt may_open remaining contents file (value_outcome goods limit) out out_after answer × (err_after ≡ err)
-  RunsFor (Normalise file limit) out out_after err err_after answer =
-      RunsAt may_open remaining contents file (normalise_outcome limit) out out_after answer × (err_after ≡ err)
-  RunsFor (Explain file limit) out out_after err err_after answer =
-      ExplainsAt may_open remaining contents file limit out out_after answer × (err_after ≡ err)
+  RunsFor (Value file goods limits) out out_after err err_after answer =
+      ValuesAt may_open remaining contents file goods (options_of limits) out out_after answer × (err_after ≡ err)
+  RunsFor (Normalise file limits) out out_after err err_after answer =
+      RunsAt may_open remaining contents file (normalise_outcome (options_of limits)) out out_after answer ×
+      (err_after ≡ err)
+  RunsFor (Explain file limits) out out_after err err_after answer =
+      ExplainsAt may_open remaining contents file (bounded_by limits) out out_after answer × (err_after ≡ err)
   RunsFor (Round file exact) out out_after err err_after answer =
       RoundsAt may_open may_refuse remaining contents messages file (fine_of exact) out out_after err err_after answer
-  RunsFor (Compare first second limit) out out_after err err_after answer =
-      ComparesAt may_open remaining contents first second limit out out_after answer
+  RunsFor (Compare first second limits) out out_after err err_after answer =
+      ComparesAt may_open remaining contents first second (options_of limits) out out_after answer
       × (err_after ≡ err)
-  RunsFor (Diff first second limit) out out_after err err_after answer =
-      DiffsAt may_open remaining contents first second limit out out_after answer
+  RunsFor (Diff first second limits) out out_after err err_after answer =
+      DiffsAt may_open remaining contents first second (bounded_by limits) out out_after answer
       × (err_after ≡ err)
   RunsFor (Duplicates files) out out_after err err_after answer =
       RunsOnFiles may_open may_refuse remaining messages
-      (λ paths. RunsOnPaths may_open may_refuse remaining contents messages files.limit
+      (λ paths. RunsOnPaths may_open may_refuse remaining contents messages (bounded_by files.limits)
       (MakesGroups (ending_of files.null)) paths
       (progress_of terminal files.progress)) files.paths out out_after err err_after answer
   RunsFor (Sizes files) out out_after err err_after answer =
       RunsOnFiles may_open may_refuse remaining messages
-      (λ paths. RunsOnPaths may_open may_refuse remaining contents messages files.limit
+      (λ paths. RunsOnPaths may_open may_refuse remaining contents messages (bounded_by files.limits)
       (MakesTable (ending_of files.null)) paths
       (progress_of terminal files.progress)) files.paths out out_after err err_after answer
 
@@ -176,12 +205,12 @@ module _ {F W E : Type 0} (may_open : List ℕ → F → Type 0) (may_refuse : L
   abbrev pub CannotOpenOf : PlainRequest → Which → Type 0
   CannotOpenOf (Check file) which = (which ≡ Only) × MayRefuse may_refuse file
   CannotOpenOf (Show file) which = (which ≡ Only) × MayRefuse may_refuse file
-  CannotOpenOf (Value file goods limit) which = (which ≡ Only) × MayRefuse may_refuse file
-  CannotOpenOf (Normalise file limit) which = (which ≡ Only) × MayRefuse may_refuse file
-  CannotOpenOf (Explain file limit) which = (which ≡ Only) × MayRefuse may_refuse file
+  CannotOpenOf (Value file goods limits) which = (which ≡ Only) × MayRefuse may_refuse file
+  CannotOpenOf (Normalise file limits) which = (which ≡ Only) × MayRefuse may_refuse file
+  CannotOpenOf (Explain file limits) which = (which ≡ Only) × MayRefuse may_refuse file
   CannotOpenOf (Round file exact) which = (which ≡ Only) × MayRefuse may_refuse file
-  CannotOpenOf (Compare first second limit) which = CannotOpenPair first second which
-  CannotOpenOf (Diff first second limit) which = CannotOpenPair first second which
+  CannotOpenOf (Compare first second limits) which = CannotOpenPair first second which
+  CannotOpenOf (Diff first second limits) which = CannotOpenPair first second which
   CannotOpenOf (Duplicates files) which = ⊥
   CannotOpenOf (Sizes files) which = ⊥
 
@@ -200,7 +229,7 @@ module _ {F W E : Type 0} (may_open : List ℕ → F → Type 0) (may_refuse : L
     pub error : RequestError
     pub between : Watched E
     pub carries : CarriesOut request out out_after err between (Err error)
-    pub reports : Reports messages (line_of_request_error error) between err_after
+    pub reports : ReportsError messages error between err_after
     pub is_status : status ≡ status_of_request_error error
 
   abbrev pub AnswersRequest : PlainRequest → Watched W → Watched W → Watched E → Watched E → ℕ → Type 0

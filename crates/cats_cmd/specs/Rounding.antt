@@ -9,10 +9,11 @@ use Rattle.canon.specs.declared.canon_fault.CanonFault.{CanonFault}
 use Rattle.canon.specs.declared.canon_fault.CanonFault.TheVariants.{Read, StepLimit, Memory}
 use Rattle.canon.specs.declared.which.Which.{Which}
 use Rattle.canon.specs.declared.which.Which.TheVariants.{Only}
+use Rattle.rounding.specs.Answers.{WantsMemoryToRound}
 use Rattle.rounding.specs.Texts.{rounded_prices, rounded_text}
 use Rattle.rounding.specs.declared.replacement.FinePrices.{FinePrices}
 use Rattle.answers.specs.RoundedLines.{rounded_line}
-use Rattle.cats_cmd.specs.Inputs.{ReadsAll, StopsReading}
+use Rattle.cats_cmd.specs.Inputs.{ReadsAll, StopsReading, WantsMemoryForBytes}
 use Rattle.cats_cmd.specs.Outcomes.{Outcome, Prints}
 use Rattle.cats_cmd.specs.Runs.{FailsInText, WritesText}
 use Rattle.cats_cmd.specs.RequestErrors.{ReportsAll}
@@ -44,12 +45,18 @@ module _ {R W E : Type 0} (remaining : R → Option (List ℕ)) (contents : W �
     pub all : ReadsAll remaining old new bytes
     pub first : first_fault (rounded_text fine bytes) ≡ Some fault
 
+  -- memory is refused to round the bytes that were read: a bid line has begun, or the rounded text spells a file
+  pub record WantsMemoryForRounding (old new : Watched R) : Type 0 where
+    pub bytes : List ℕ
+    pub all : ReadsAll remaining old new bytes
+    pub wants : WantsMemoryToRound fine bytes
+
   -- Why the file was refused: the stream failed or was too long, or the rounded text has a fault, or memory was
-  -- refused.
+  -- refused, to the bytes as they came or to their rounding.
   abbrev pub IsUnrounded : Watched R → Watched R → CanonFault → Type 0
   IsUnrounded old new (Read fault) = StopsReading remaining old new fault.line fault.kind ⊎ HasFault old new fault
   IsUnrounded old new (StepLimit goods) = ⊥
-  IsUnrounded old new Memory = Unit {0}
+  IsUnrounded old new Memory = WantsMemoryForBytes remaining old new ⊎ WantsMemoryForRounding old new
 
   -- the file was refused, and nothing was written or reported
   pub record RefusesRounding (old new : Watched R) (out out_after : Watched W) (err err_after : Watched E)

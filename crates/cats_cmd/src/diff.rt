@@ -12,6 +12,7 @@ use canon::{CanonFault, NamedFile, Which, named_normal_file};
 use cats_text::Watched;
 use std::alloc::{AllocError, Global};
 use std::io::{Read, Write};
+use valuation::SearchOptions;
 
 /// Reads and normalises the first file, and then the second, and sends a line for each difference. `limit` bounds the steps
 /// of each search that decides on a bundle of an OR bidder.
@@ -22,7 +23,7 @@ pub fn run_diff<R: Read, S: Read, W: Write>(
     alloc: Global,
     first: &mut Watched<R>,
     second: &mut Watched<S>,
-    limit: u64,
+    options: SearchOptions,
     out: &mut Watched<W>,
 ) -> Result<u8, RunFault>
     requires first_works { has_failed first.old ≡ false }
@@ -30,14 +31,14 @@ pub fn run_diff<R: Read, S: Read, W: Write>(
     requires second_works { has_failed second.old ≡ false }
     requires second_fresh { has_ended second.old ≡ false }
     requires out_works { has_failed out.old ≡ false }
-    ensures { DiffsFiles R.remaining S.remaining W.contents limit first.old first.new second.old second.new out.old
+    ensures { DiffsFiles R.remaining S.remaining W.contents options first.old first.new second.old second.new out.old
         out.new result }
 {
-    let left = match read_named(alloc, first, limit) {
+    let left = match read_named(alloc, first, options) {
         Ok(named) => named,
         Err(fault) => return Err(RunFault::Refused(Which::First, fault)),
     };
-    let right = match read_named(alloc, second, limit) {
+    let right = match read_named(alloc, second, options) {
         Ok(named) => named,
         Err(fault) => return Err(RunFault::Refused(Which::Second, fault)),
     };
@@ -48,15 +49,15 @@ pub fn run_diff<R: Read, S: Read, W: Write>(
 fn read_named<R: Read>(
     alloc: Global,
     input: &mut Watched<R>,
-    limit: u64,
+    options: SearchOptions,
 ) -> Result<NamedFile, CanonFault>
     requires works { has_failed input.old ≡ false }
     requires fresh { has_ended input.old ≡ false }
-    ensures answer { ReadsNamed R.remaining limit input.old input.new result }
+    ensures answer { ReadsNamed R.remaining options input.old input.new result }
     ensures named { IfOk result IsNamedFile }
 {
     let file = read_packed_file(alloc, input)?;
-    named_normal_file(alloc, &file, limit)
+    named_normal_file(alloc, &file, options)
 }
 
 /// Sends all differences of two canonical files. Memory that is refused here belongs to both files.

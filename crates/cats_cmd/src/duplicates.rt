@@ -5,6 +5,8 @@ mod lines;
 ghost use Rattle.std.specs.Prelude.{◌≡◌, map, false};
 ghost use Rattle.cats_text.specs.Streams.{has_failed};
 ghost use Rattle.cats_cmd.specs.Duplicates.{MakesGroups};
+ghost use Rattle.cats_cmd.specs.Opening.{OpensEach};
+ghost use Rattle.cats_cmd.specs.Openings.{status_of_run};
 ghost use Rattle.cats_cmd.specs.Paths.{RunsOnPaths};
 
 use crate::paths::{Collection, Ending, ManyFiles, run_on_paths};
@@ -48,7 +50,7 @@ impl<'a> Collection<'a> for Groups<'a> {
         input: &mut Watched<R>,
         many: ManyFiles,
     ) -> Result<Option<RequestError>, AllocError> {
-        match self.index.add_from(alloc, input, many.limit) {
+        match self.index.add_from(alloc, input, many.options) {
             Ok(place) => {
                 self.found.push((path, place))?;
                 Ok(None)
@@ -70,16 +72,18 @@ impl<'a> Collection<'a> for Groups<'a> {
 /// reported there after each hundredth file, and after the last, how many were read. The status is 0 if every file was
 /// judged, and else the greatest of the statuses of those that were not.
 pub fn run_duplicates<S: Source + AllocGlobal, W: Write, E: Write>(
-    source: &S,
+    source: &mut S,
     paths: &[&[u8]],
     many: ManyFiles,
     out: &mut Watched<W>,
     err: &mut Watched<E>,
 ) -> Result<u8, RunFault>
     requires { has_failed out.old ≡ false }
-    ensures { RunsOnPaths (S.may_open source.now)
-        (S.may_refuse source.now) S.Stream.remaining W.contents E.contents many.limit
+    ensures runs { RunsOnPaths (S.may_open (S.content_of source.old))
+        (S.may_refuse (S.content_of source.old)) S.Stream.remaining W.contents E.contents many.options
         (MakesGroups many.ending) (map (λ path. path.now) paths.now) many.progress out.old out.new err.old err.new result }
+    ensures opens { OpensEach S.content_of S.opened (map (λ path. path.now) paths.now) source.old source.new
+        (status_of_run result) }
 {
     run_on_paths::<Groups<'_>, S, W, E>(source, paths, many, out, err)
 }

@@ -1,10 +1,12 @@
 //! Runs on many files. Their paths are words of the command line, or are in a list of paths.
 
-ghost use Rattle.std.specs.Prelude.{◌≡◌, IfErr, IfOk, false};
+ghost use Rattle.std.specs.Prelude.{◌≡◌, ◌∷◌, [], IfErr, IfOk, false};
 ghost use Rattle.cats_text.specs.Streams.{has_failed};
 ghost use Rattle.command_line.specs.PlainRequests.{plain_paths};
 ghost use Rattle.cats_cmd.specs.Duplicates.{MakesGroups};
 ghost use Rattle.cats_cmd.specs.FileLists.{IsUnread, ReadsList, RunsOnFiles};
+ghost use Rattle.cats_cmd.specs.Opening.{Opens};
+ghost use Rattle.cats_cmd.specs.Openings.{OpensFiles, status_of_run};
 ghost use Rattle.cats_cmd.specs.Paths.{RunsOnPaths, refusal_line};
 ghost use Rattle.cats_cmd.specs.SizesTables.{MakesTable};
 ghost use Rattle.cats_cmd.specs.RequestErrors.{Reports, status_of_request_error};
@@ -24,17 +26,20 @@ use std::io::Write;
 
 /// `run_duplicates` on the files of a request. A list that is not read is reported as a file that is not judged.
 pub(crate) fn run_duplicates_of<S: Source + AllocGlobal, W: Write, E: Write>(
-    source: &S,
+    source: &mut S,
     files: &FilePaths<'_>,
     many: ManyFiles,
     out: &mut Watched<W>,
     err: &mut Watched<E>,
 ) -> Result<u8, RunFault>
     requires { has_failed out.old ≡ false }
-    ensures { RunsOnFiles (S.may_open source.now) (S.may_refuse source.now) S.Stream.remaining E.contents
-        (λ paths. RunsOnPaths (S.may_open source.now) (S.may_refuse source.now) S.Stream.remaining W.contents E.contents
-        many.limit (MakesGroups many.ending) paths many.progress) (plain_paths files.now) out.old out.new err.old err.new
-        result }
+    ensures runs { RunsOnFiles (S.may_open (S.content_of source.old)) (S.may_refuse (S.content_of source.old))
+        S.Stream.remaining E.contents
+        (λ paths. RunsOnPaths (S.may_open (S.content_of source.old)) (S.may_refuse (S.content_of source.old))
+        S.Stream.remaining W.contents E.contents many.options (MakesGroups many.ending) paths many.progress)
+        (plain_paths files.now) out.old out.new err.old err.new result }
+    ensures opens { OpensFiles S.content_of S.opened S.may_open S.may_refuse S.Stream.remaining (plain_paths files.now)
+        source.old source.new (status_of_run result) }
 {
     let list = match files {
         FilePaths::Given(paths) => {
@@ -53,17 +58,20 @@ pub(crate) fn run_duplicates_of<S: Source + AllocGlobal, W: Write, E: Write>(
 
 /// `run_sizes` on the files of a request. A list that is not read is reported as a file that is not judged.
 pub(crate) fn run_sizes_of<S: Source + AllocGlobal, W: Write, E: Write>(
-    source: &S,
+    source: &mut S,
     files: &FilePaths<'_>,
     many: ManyFiles,
     out: &mut Watched<W>,
     err: &mut Watched<E>,
 ) -> Result<u8, RunFault>
     requires { has_failed out.old ≡ false }
-    ensures { RunsOnFiles (S.may_open source.now) (S.may_refuse source.now) S.Stream.remaining E.contents
-        (λ paths. RunsOnPaths (S.may_open source.now) (S.may_refuse source.now) S.Stream.remaining W.contents E.contents
-        many.limit (MakesTable many.ending) paths many.progress) (plain_paths files.now) out.old out.new err.old err.new
-        result }
+    ensures runs { RunsOnFiles (S.may_open (S.content_of source.old)) (S.may_refuse (S.content_of source.old))
+        S.Stream.remaining E.contents
+        (λ paths. RunsOnPaths (S.may_open (S.content_of source.old)) (S.may_refuse (S.content_of source.old))
+        S.Stream.remaining W.contents E.contents many.options (MakesTable many.ending) paths many.progress)
+        (plain_paths files.now) out.old out.new err.old err.new result }
+    ensures opens { OpensFiles S.content_of S.opened S.may_open S.may_refuse S.Stream.remaining (plain_paths files.now)
+        source.old source.new (status_of_run result) }
 {
     let list = match files {
         FilePaths::Given(paths) => {
@@ -81,11 +89,12 @@ pub(crate) fn run_sizes_of<S: Source + AllocGlobal, W: Write, E: Write>(
 }
 
 /// Reads the list of paths in the file at this path.
-fn read_list<S: Source + AllocGlobal>(source: &S, list: &str) -> Result<Vec<u8>, RequestError>
-    ensures read { IfOk result (λ text. ReadsList (S.may_open source.now) (S.may_refuse source.now) S.Stream.remaining
-        list.now text.items) }
-    ensures unread { IfErr result (IsUnread (S.may_open source.now) (S.may_refuse source.now) S.Stream.remaining
-        list.now) }
+fn read_list<S: Source + AllocGlobal>(source: &mut S, list: &str) -> Result<Vec<u8>, RequestError>
+    ensures read { IfOk result (λ text. ReadsList (S.may_open (S.content_of source.old))
+        (S.may_refuse (S.content_of source.old)) S.Stream.remaining list.now text.items) }
+    ensures unread { IfErr result (IsUnread (S.may_open (S.content_of source.old)) (S.may_refuse (S.content_of source.old))
+        S.Stream.remaining list.now) }
+    ensures opens { Opens S.content_of S.opened source.old source.new (list.now ∷ []) }
 {
     let mut input = match open_file(source, list) {
         Ok(input) => input,

@@ -3,6 +3,9 @@
 ghost use Rattle.std.specs.Prelude.{◌≡◌, ◌++◌, ℕ, List, [], ◌∷◌, map, IfErr, IfOk, false, true};
 ghost use Rattle.cats_text.specs.Streams.{has_ended, has_failed};
 ghost use Rattle.cats_cmd.specs.Inputs.{IsOpened};
+ghost use Rattle.cats_cmd.specs.Opening.{Opens, OpensEach, openable};
+ghost use Rattle.cats_cmd.specs.Openings.{status_of_run};
+ghost use Rattle.cats_cmd.specs.Internal.Judging.{OpensAllAs};
 ghost use Rattle.cats_cmd.specs.Paths.{Judgement, IsUnjudged, IsUnopened, RunsOnPaths, count_line, lines_on, progress_line};
 ghost use Rattle.cats_cmd.specs.Paths.{progress_lines, refusal_line, refusal_lines, removal_lines, status_if};
 ghost use Rattle.cats_cmd.specs.RequestErrors.{ReportsAll};
@@ -19,12 +22,13 @@ use answers::{DONE, RunFault};
 use cats_text::Watched;
 use std::alloc::{AllocError, AllocGlobal, Global};
 use std::io::{Read, Write};
+use valuation::SearchOptions;
 
 /// How a run on many files reads them, reports and prints.
 #[derive(Clone, Copy)]
 pub struct ManyFiles {
-    /// Bounds the steps of each search that decides on a bundle of an OR bidder.
-    pub limit: u64,
+    /// How each file is searched, and how many steps its searches may take.
+    pub options: SearchOptions,
     pub progress: Progress,
     pub ending: Ending,
 }
@@ -81,7 +85,7 @@ pub(crate) trait Collection<'a>: Sized + Drop {
         requires works { has_failed input.old ≡ false }
         requires fresh { has_ended input.old ≡ false }
         ensures { IfOk result (λ error. AddsOpened
-            (has many.ending) R.remaining many.limit path.now self.old self.new input.old input.new
+            (has many.ending) R.remaining many.options path.now self.old self.new input.old input.new
             error) };
 
     /// The text of all.
@@ -103,16 +107,18 @@ pub(crate) trait Collection<'a>: Sized + Drop {
 /// judged, and else the greatest of the statuses of
 /// those that were not.
 pub(crate) fn run_on_paths<'a, C: Collection<'a>, S: Source + AllocGlobal, W: Write, E: Write>(
-    source: &S,
+    source: &mut S,
     paths: &[&'a [u8]],
     many: ManyFiles,
     out: &mut Watched<W>,
     err: &mut Watched<E>,
 ) -> Result<u8, RunFault>
     requires { has_failed out.old ≡ false }
-    ensures { RunsOnPaths (S.may_open source.now)
-        (S.may_refuse source.now) S.Stream.remaining W.contents E.contents many.limit
+    ensures runs { RunsOnPaths (S.may_open (S.content_of source.old))
+        (S.may_refuse (S.content_of source.old)) S.Stream.remaining W.contents E.contents many.options
         (C.Makes many.ending) (map (λ path. path.now) paths.now) many.progress out.old out.new err.old err.new result }
+    ensures opens { OpensEach S.content_of S.opened (map (λ path. path.now) paths.now) source.old source.new
+        (status_of_run result) }
 {
     let mut collection = C::none(source.alloc());
     let greatest = judge_all(source, &mut collection, paths, many, err)?;
@@ -122,16 +128,17 @@ pub(crate) fn run_on_paths<'a, C: Collection<'a>, S: Source + AllocGlobal, W: Wr
 
 /// Judges the files at these paths, and answers the greatest status.
 fn judge_all<'a, C: Collection<'a>, S: Source + AllocGlobal, E: Write>(
-    source: &S,
+    source: &mut S,
     collection: &mut C,
     paths: &[&'a [u8]],
     many: ManyFiles,
     err: &mut Watched<E>,
 ) -> Result<u8, AllocError>
     requires { C.has many.ending collection.old [] }
-    ensures { JudgesAllAs (C.has many.ending) (S.may_open source.now)
-        (S.may_refuse source.now) S.Stream.remaining many.limit E.contents
+    ensures judges { JudgesAllAs (C.has many.ending) (S.may_open (S.content_of source.old))
+        (S.may_refuse (S.content_of source.old)) S.Stream.remaining many.options E.contents
         (map (λ path. path.now) paths.now) many.progress collection.new err.old err.new result }
+    ensures opens { OpensAllAs S.content_of S.opened (map (λ path. path.now) paths.now) source.old source.new result }
 {
     let mut greatest = DONE;
     let count = paths.len();
@@ -150,15 +157,16 @@ fn judge_all<'a, C: Collection<'a>, S: Source + AllocGlobal, E: Write>(
 
 /// Judges the file at a path, reports it, and answers its status.
 fn judge_path<'a, C: Collection<'a>, S: Source + AllocGlobal, E: Write>(
-    source: &S,
+    source: &mut S,
     collection: &mut C,
     turn: &Turn<'a>,
     many: ManyFiles,
     err: &mut Watched<E>,
 ) -> Result<u8, AllocError>
-    ensures { AddsPathAs (C.has many.ending) (S.may_open source.now)
-        (S.may_refuse source.now) S.Stream.remaining many.limit E.contents
+    ensures adds { AddsPathAs (C.has many.ending) (S.may_open (S.content_of source.old))
+        (S.may_refuse (S.content_of source.old)) S.Stream.remaining many.options E.contents
         many.progress turn.now.count turn.now.number turn.now.path.now collection.old collection.new err.old err.new result }
+    ensures opens { Opens S.content_of S.opened source.old source.new (openable (turn.now.path.now ∷ [])) }
 {
     let error = judge(source, collection, turn.path, many)?;
     report_path(source.alloc(), many.progress, turn, &error, err);
@@ -177,14 +185,15 @@ fn status_if(error: &Option<RequestError>) -> u8
 
 /// Judges the file at a path, and answers why it is not judged.
 fn judge<'a, C: Collection<'a>, S: Source + AllocGlobal>(
-    source: &S,
+    source: &mut S,
     collection: &mut C,
     path: &'a [u8],
     many: ManyFiles,
 ) -> Result<Option<RequestError>, AllocError>
-    ensures { IfOk result (AddsFile (C.has many.ending) (S.may_open source.now)
-        (S.may_refuse source.now) S.Stream.remaining many.limit
+    ensures adds { IfOk result (AddsFile (C.has many.ending) (S.may_open (S.content_of source.old))
+        (S.may_refuse (S.content_of source.old)) S.Stream.remaining many.options
         path.now collection.old collection.new) }
+    ensures opens { Opens S.content_of S.opened source.old source.new (openable (path.now ∷ [])) }
 {
     match open_path(source, path) {
         Ok(mut input) => collection.add(source.alloc(), path, &mut input, many),
@@ -196,9 +205,10 @@ fn judge<'a, C: Collection<'a>, S: Source + AllocGlobal>(
 }
 
 /// Opens the regular file at a path. There is none at a path that is not UTF-8, as the library opens no such path.
-fn open_path<S: Source>(source: &S, path: &[u8]) -> Result<Watched<S::Stream>, Unopened>
-    ensures opened { IfOk result (IsOpened (S.may_open source.now) path.now) }
-    ensures refused { IfErr result (IsUnopened (S.may_refuse source.now) path.now) }
+fn open_path<S: Source>(source: &mut S, path: &[u8]) -> Result<Watched<S::Stream>, Unopened>
+    ensures opened { IfOk result (IsOpened (S.may_open (S.content_of source.old)) path.now) }
+    ensures refused { IfErr result (IsUnopened (S.may_refuse (S.content_of source.old)) path.now) }
+    ensures opens { Opens S.content_of S.opened source.old source.new (openable (path.now ∷ [])) }
 {
     let Ok(path) = str::from_utf8(path) else {
         return Err(Unopened::Other);
@@ -210,9 +220,13 @@ fn open_path<S: Source>(source: &S, path: &[u8]) -> Result<Watched<S::Stream>, U
 }
 
 /// Opens a file, and refuses a folder.
-pub(crate) fn open_file<S: Source>(source: &S, path: &str) -> Result<Watched<S::Stream>, Unopened>
-    ensures opened { IfOk result (IsOpened (S.may_open source.now) path.now) }
-    ensures refused { IfErr result (S.may_refuse source.now path.now) }
+pub(crate) fn open_file<S: Source>(
+    source: &mut S,
+    path: &str,
+) -> Result<Watched<S::Stream>, Unopened>
+    ensures opened { IfOk result (IsOpened (S.may_open (S.content_of source.old)) path.now) }
+    ensures refused { IfErr result (S.may_refuse (S.content_of source.old) path.now) }
+    ensures opens { Opens S.content_of S.opened source.old source.new (path.now ∷ []) }
 {
     match source.open_file(path) {
         Ok(stream) => Ok(Watched::new(stream)),

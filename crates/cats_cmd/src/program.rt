@@ -1,31 +1,39 @@
 //! The program `cats`, but for its process. It has a command line, two output streams and an exit status.
 
-ghost use Rattle.std.specs.Prelude.{◌≡◌, ◌≢◌, ◌≤◌, ℕ, List, IfErr, IfOk, false};
+ghost use Rattle.std.specs.Prelude.{◌≡◌, ◌≢◌, ◌≤◌, ◌∷◌, ℕ, List, [], IfErr, IfOk, MatchOption, true, false};
 ghost use Rattle.canon.specs.declared.which.Which.TheVariants.{Only};
 ghost use Rattle.cats_text.specs.Streams.{has_failed};
 ghost use Rattle.cats_cmd.specs.Inputs.{IsOpened, MayRefuse};
 ghost use Rattle.cats_cmd.specs.Requests.{AnswersLine, AnswersNoRequest, AnswersRequest, CarriesOut, ending_of, fine_of};
-ghost use Rattle.cats_cmd.specs.Requests.{memory_text, progress_of, wrong_files_text};
+ghost use Rattle.cats_cmd.specs.Requests.{bounded_by, memory_text, progress_of};
+ghost use Rattle.cats_cmd.specs.Opening.{Opens};
+ghost use Rattle.cats_cmd.specs.Openings.{OpensFor, OpensLine, status_of_answer};
 ghost use Rattle.command_line.specs.PlainRequests.{plain_request};
 ghost use Rattle.command_line.specs.Requests.{texts_of};
-ghost use Rattle.cats_cmd.specs.RequestErrors.{Reports, is_for_many_files, is_reporting, line_of_request_error};
+ghost use Rattle.answers.specs.FaultLines.{line_of_fault};
+ghost use Rattle.answers.specs.declared.report.RunFault.TheVariants.{Refused};
+ghost use Rattle.canon.specs.declared.canon_fault.CanonFault.TheVariants.{Memory, Read};
+ghost use Rattle.cats_text.specs.Faults.{fault_at};
+ghost use Rattle.cats_cmd.specs.RequestErrors.{Reports, ReportsError, ReportsText, is_for_many_files, is_reporting};
+ghost use Rattle.cats_cmd.specs.RequestErrors.{line_of_request_error, needs_memory};
 ghost use Rattle.cats_cmd.specs.RequestErrors.{names_many_files, names_reporting, status_of_request_error};
 
 use crate::check::run_check;
-use crate::compare::run_compare;
+use crate::compare::run_compare_by;
 use crate::diff::run_diff;
 use crate::explanation::run_explain;
 use crate::many_files::{run_duplicates_of, run_sizes_of};
-use crate::normalise::run_normalise;
+use crate::normalise::run_normalise_by;
 use crate::paths::{Ending, ManyFiles, Progress};
 use crate::round::run_round;
+use crate::searches::{bounded_search, search_options};
 use crate::show::run_show;
 use crate::source::{Source, SystemFiles, Unopened};
-use crate::usage::with_escaped_words;
-use crate::value::run_value;
+use crate::usage::{misuse_text, with_escaped_words};
+use crate::value::run_value_by;
 use answers::{DEVICE_FAILED, DONE, NO_MEMORY, RunFault, WRONG_USAGE, fault_line, status};
-use canon::Which;
-use cats_text::{Watched, send};
+use canon::{CanonFault, Which};
+use cats_text::{Kind, Watched, send};
 use command_line::{FilesRequest, NoRequest, Request, VERSION, parse};
 use rounding::FinePrices;
 use std::alloc::{AllocError, AllocGlobal, Global};
@@ -85,7 +93,7 @@ pub fn run_cats<F: Files + AllocGlobal, W: Write, E: Write>(
         version: VERSION,
         terminal: false,
     };
-    run_program(&SystemFiles::new(rt), words, out, err, &process)
+    run_program(&mut SystemFiles::new(rt), words, out, err, &process)
 }
 
 /// Does what a command line says, on the files of a source, and answers the exit status. The line's first word is the
@@ -95,7 +103,7 @@ pub fn run_cats<F: Files + AllocGlobal, W: Write, E: Write>(
 /// that of the fault in any case.
 #[tactic(auto, using(crate::proofs::AnswersOfRequests::few_files, crate::proofs::AnswersOfRequests::quiet_request))]
 pub fn run_program<S: Source + AllocGlobal, W: Write, E: Write>(
-    source: &S,
+    source: &mut S,
     words: &[&str],
     out: &mut Watched<W>,
     err: &mut Watched<E>,
@@ -103,8 +111,11 @@ pub fn run_program<S: Source + AllocGlobal, W: Write, E: Write>(
 ) -> u8
     requires out_works { has_failed out.old ≡ false }
     requires err_works { has_failed err.old ≡ false }
-    ensures answers { AnswersLine (S.may_open source.now) (S.may_refuse source.now) S.Stream.remaining W.contents
-        E.contents process.now.terminal (texts_of words.now) out.old out.new err.old err.new result }
+    ensures answers { AnswersLine (S.may_open (S.content_of source.old)) (S.may_refuse (S.content_of source.old))
+        S.Stream.remaining W.contents E.contents process.now.terminal (texts_of words.now) out.old out.new err.old err.new
+        result }
+    ensures opens { OpensLine S.content_of S.opened S.may_open S.may_refuse S.Stream.remaining (texts_of words.now)
+        source.old source.new result }
     ensures silent { names_many_files (texts_of words.now) ≡ false → result ≢ 0 → result ≢ 1 → result ≢ 5
         → out.new ≡ out.old }
     ensures done { names_reporting (texts_of words.now) ≡ false → result ≤ 1 → err.new ≡ err.old }
@@ -119,15 +130,18 @@ pub fn run_program<S: Source + AllocGlobal, W: Write, E: Write>(
 }
 
 fn answer_request<S: Source + AllocGlobal, W: Write, E: Write>(
-    source: &S,
+    source: &mut S,
     request: &Request<'_>,
     out: &mut Watched<W>,
     err: &mut Watched<E>,
     terminal: bool,
 ) -> u8
     requires out_works { has_failed out.old ≡ false }
-    ensures answers { AnswersRequest (S.may_open source.now) (S.may_refuse source.now) S.Stream.remaining W.contents
-        E.contents terminal (plain_request request.now) out.old out.new err.old err.new result }
+    ensures answers { AnswersRequest (S.may_open (S.content_of source.old)) (S.may_refuse (S.content_of source.old))
+        S.Stream.remaining W.contents E.contents terminal (plain_request request.now) out.old out.new err.old err.new
+        result }
+    ensures opens { OpensFor S.content_of S.opened S.may_open S.may_refuse S.Stream.remaining (plain_request request.now)
+        source.old source.new result }
     ensures silent { is_for_many_files (plain_request request.now) ≡ false → result ≢ 0 → result ≢ 1 → result ≢ 5
         → out.new ≡ out.old }
     ensures done { is_reporting (plain_request request.now) ≡ false → result ≤ 1 → err.new ≡ err.old }
@@ -140,31 +154,39 @@ fn answer_request<S: Source + AllocGlobal, W: Write, E: Write>(
 
 /// `err` is for requests that report faults and go on.
 fn carry_out<S: Source + AllocGlobal, W: Write, E: Write>(
-    source: &S,
+    source: &mut S,
     request: &Request<'_>,
     out: &mut Watched<W>,
     err: &mut Watched<E>,
     terminal: bool,
 ) -> Result<u8, RequestError>
     requires { has_failed out.old ≡ false }
-    ensures { CarriesOut (S.may_open source.now) (S.may_refuse source.now) S.Stream.remaining W.contents E.contents terminal
-        (plain_request request.now) out.old out.new err.old err.new result }
+    ensures carries { CarriesOut (S.may_open (S.content_of source.old)) (S.may_refuse (S.content_of source.old))
+        S.Stream.remaining W.contents E.contents terminal (plain_request request.now) out.old out.new err.old err.new
+        result }
+    ensures opens { OpensFor S.content_of S.opened S.may_open S.may_refuse S.Stream.remaining (plain_request request.now)
+        source.old source.new (status_of_answer result) }
 {
     let alloc = source.alloc();
     match request {
         Request::Check { file } => Ok(run_check(alloc, &mut open_only(source, file)?, out)?),
         Request::Show { file } => Ok(run_show(alloc, &mut open_only(source, file)?, out)?),
-        Request::Value { file, goods, limit } => {
+        Request::Value {
+            file,
+            goods,
+            limits,
+        } => {
             let mut input = open_only(source, file)?;
-            Ok(run_value(alloc, &mut input, goods.as_slice(), *limit, out)?)
+            let options = search_options(limits);
+            Ok(run_value_by(alloc, &mut input, goods.as_slice(), options, out)?)
         }
-        Request::Normalise { file, limit } => {
+        Request::Normalise { file, limits } => {
             let mut input = open_only(source, file)?;
-            Ok(run_normalise(alloc, &mut input, *limit, out)?)
+            Ok(run_normalise_by(alloc, &mut input, search_options(limits), out)?)
         }
-        Request::Explain { file, limit } => {
+        Request::Explain { file, limits } => {
             let mut input = open_only(source, file)?;
-            Ok(run_explain(alloc, &mut input, *limit, out)?)
+            Ok(run_explain(alloc, &mut input, limits.steps, limits.total, out)?)
         }
         Request::Round { file, exact } => {
             let mut input = open_only(source, file)?;
@@ -173,12 +195,14 @@ fn carry_out<S: Source + AllocGlobal, W: Write, E: Write>(
         Request::Compare(files) => {
             let mut left = open(source, files.first, Which::First)?;
             let mut right = open(source, files.second, Which::Second)?;
-            Ok(run_compare(alloc, &mut left, &mut right, files.limit, out)?)
+            let options = search_options(&files.limits);
+            Ok(run_compare_by(alloc, &mut left, &mut right, options, out)?)
         }
         Request::Diff(files) => {
             let mut left = open(source, files.first, Which::First)?;
             let mut right = open(source, files.second, Which::Second)?;
-            Ok(run_diff(alloc, &mut left, &mut right, files.limit, out)?)
+            let options = bounded_search(&files.limits);
+            Ok(run_diff(alloc, &mut left, &mut right, options, out)?)
         }
         Request::Duplicates(files) => {
             let many = many_files(files, terminal);
@@ -193,7 +217,7 @@ fn carry_out<S: Source + AllocGlobal, W: Write, E: Write>(
 
 /// How a run on many files reads them and reports.
 fn many_files(files: &FilesRequest<'_>, terminal: bool) -> ManyFiles
-    ensures { (result.limit ≡ files.now.limit) × (result.progress ≡ progress_of terminal files.now.progress)
+    ensures { (result.options ≡ bounded_by files.now.limits) × (result.progress ≡ progress_of terminal files.now.progress)
         × (result.ending ≡ ending_of files.now.null) }
 {
     let ending = if files.null {
@@ -207,7 +231,7 @@ fn many_files(files: &FilesRequest<'_>, terminal: bool) -> ManyFiles
         (false, true) => Progress::Lines,
     };
     ManyFiles {
-        limit: files.limit,
+        options: bounded_search(&files.limits),
         progress,
         ending,
     }
@@ -225,18 +249,24 @@ fn fine_prices(exact: bool) -> FinePrices
 }
 
 /// Opens the one file of a request.
-fn open_only<S: Source>(source: &S, path: &str) -> Result<Watched<S::Stream>, RequestError>
-    ensures opened { IfOk result (IsOpened (S.may_open source.now) path.now) }
+fn open_only<S: Source>(source: &mut S, path: &str) -> Result<Watched<S::Stream>, RequestError>
+    ensures opened { IfOk result (IsOpened (S.may_open (S.content_of source.old)) path.now) }
     ensures refused { IfErr result (λ error. (error ≡ RequestError.CannotOpen Only)
-        × MayRefuse (S.may_refuse source.now) path.now) }
+        × MayRefuse (S.may_refuse (S.content_of source.old)) path.now) }
+    ensures opens { Opens S.content_of S.opened source.old source.new (path.now ∷ []) }
 {
     open(source, path, Which::Only)
 }
 
-fn open<S: Source>(source: &S, path: &str, which: Which) -> Result<Watched<S::Stream>, RequestError>
-    ensures opened { IfOk result (IsOpened (S.may_open source.now) path.now) }
+fn open<S: Source>(
+    source: &mut S,
+    path: &str,
+    which: Which,
+) -> Result<Watched<S::Stream>, RequestError>
+    ensures opened { IfOk result (IsOpened (S.may_open (S.content_of source.old)) path.now) }
     ensures refused { IfErr result (λ error. (error ≡ RequestError.CannotOpen which)
-        × MayRefuse (S.may_refuse source.now) path.now) }
+        × MayRefuse (S.may_refuse (S.content_of source.old)) path.now) }
+    ensures opens { Opens S.content_of S.opened source.old source.new (path.now ∷ []) }
 {
     match source.open(path) {
         Ok(stream) => Ok(Watched::new(stream)),
@@ -263,8 +293,8 @@ fn answer_no_request<W: Write, E: Write>(
             let _ = send(err, text.as_bytes());
             WRONG_USAGE
         }
-        NoRequest::WrongFiles => {
-            let _ = send(err, wrong_files_text().as_bytes());
+        NoRequest::Misused(misuse) => {
+            let _ = send(err, misuse_text(*misuse).as_bytes());
             WRONG_USAGE
         }
         NoRequest::NoMemory(text) => {
@@ -272,13 +302,6 @@ fn answer_no_request<W: Write, E: Write>(
             NO_MEMORY
         }
     }
-}
-
-/// What is wrong with a line of `duplicates` or `sizes` that has both a list of paths and paths, or neither.
-fn wrong_files_text() -> &'static str
-    ensures { result.now ≡ wrong_files_text }
-{
-    "error: give paths, or '--files0-from <LIST>', and not both\n\nFor more information, try '--help'.\n"
 }
 
 /// The text that says that memory was refused, or another if memory for it was refused too.
@@ -295,12 +318,11 @@ fn memory_text(text: &str) -> &str
 /// Reports why a request has no answer, and answers the exit status for it.
 fn report_request_error<E: Write>(alloc: Global, error: &RequestError, err: &mut Watched<E>) -> u8
     ensures status { result ≡ status_of_request_error error.now }
-    ensures line { Reports E.contents (line_of_request_error error.now) err.old err.new }
+    ensures line { ReportsError E.contents error.now err.old err.new }
 {
-    match error {
-        RequestError::CannotOpen(which) => report_text(err, unopened(*which).as_bytes()),
-        RequestError::NotOpened(why) => report_text(err, not_opened(*why).as_bytes()),
-        RequestError::Run(why) => report(err, &fault_line(alloc, why)),
+    match fixed_line(error) {
+        Some(line) => report_text(err, line.as_bytes()),
+        None => report(err, &request_error_line(alloc, error)),
     }
     status_of(error)
 }
@@ -317,7 +339,7 @@ pub(crate) fn report<E: Write>(err: &mut Watched<E>, line: &Result<Vec<u8>, Allo
 
 /// Sends a text, unless the stream has failed.
 pub(crate) fn report_text<E: Write>(err: &mut Watched<E>, text: &[u8])
-    ensures { Reports E.contents text.now err.old err.new }
+    ensures { ReportsText E.contents text.now err.old err.new }
 {
     if !err.failed() {
         let _ = send(err, text);
@@ -342,6 +364,70 @@ pub(crate) fn request_error_line(alloc: Global, error: &RequestError) -> Result<
         RequestError::CannotOpen(which) => Vec::from_slice(alloc, unopened(*which).as_bytes()),
         RequestError::NotOpened(why) => Vec::from_slice(alloc, not_opened(*why).as_bytes()),
         RequestError::Run(why) => fault_line(alloc, why),
+    }
+}
+
+/// The line that says it, if that is a fixed text.
+fn fixed_line(error: &RequestError) -> Option<&'static str>
+    ensures { MatchOption result (needs_memory error.now ≡ true)
+        (λ line. (needs_memory error.now ≡ false) × (line.now ≡ line_of_request_error error.now)) }
+{
+    match error {
+        RequestError::CannotOpen(which) => Some(unopened(*which)),
+        RequestError::NotOpened(why) => Some(not_opened(*why)),
+        RequestError::Run(RunFault::Refused(which, fault)) => fixed_refusal(*which, fault),
+        RequestError::Run(RunFault::GoodRange(_) | RunFault::Sent(_)) => None,
+    }
+}
+
+/// The line of a file that was refused, if that is a fixed text.
+fn fixed_refusal(which: Which, fault: &CanonFault) -> Option<&'static str>
+    ensures { MatchOption result (needs_memory (RequestError.Run (Refused which fault.now)) ≡ true)
+        (λ line. (needs_memory (RequestError.Run (Refused which fault.now)) ≡ false)
+        × (line.now ≡ line_of_fault (Refused which fault.now))) }
+{
+    match fault {
+        CanonFault::Read(fault) => match fault.kind {
+            Kind::Device => Some(device_line(which)),
+            Kind::TooLong => Some(length_line(which)),
+            Kind::Memory => Some(memory_line(which)),
+            _ => None,
+        },
+        CanonFault::StepLimit { goods: _ } => None,
+        CanonFault::Memory => Some(memory_line(which)),
+    }
+}
+
+/// The line of a file that cannot be read.
+fn device_line(which: Which) -> &'static str
+    ensures { result.now ≡ line_of_fault (Refused which (Read (fault_at 0 Kind.Device))) }
+{
+    match which {
+        Which::First => "first: Device\n",
+        Which::Second => "second: Device\n",
+        Which::Only | Which::Both => "Device\n",
+    }
+}
+
+/// The line of a file that is too long.
+fn length_line(which: Which) -> &'static str
+    ensures { result.now ≡ line_of_fault (Refused which (Read (fault_at 0 Kind.TooLong))) }
+{
+    match which {
+        Which::First => "first: TooLong\n",
+        Which::Second => "second: TooLong\n",
+        Which::Only | Which::Both => "TooLong\n",
+    }
+}
+
+/// The line of a file for which memory was refused.
+fn memory_line(which: Which) -> &'static str
+    ensures { result.now ≡ line_of_fault (Refused which Memory) }
+{
+    match which {
+        Which::First => "first: want of memory\n",
+        Which::Second => "second: want of memory\n",
+        Which::Only | Which::Both => NO_MEMORY_LINE,
     }
 }
 

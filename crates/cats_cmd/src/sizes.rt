@@ -5,6 +5,8 @@ mod count;
 ghost use Rattle.std.specs.Prelude.{◌≡◌, ◌++◌, List, ℕ, map, OnOk, false};
 ghost use Rattle.cats_text.specs.Streams.{has_failed};
 ghost use Rattle.cats_cmd.specs.Escaping.{path_text};
+ghost use Rattle.cats_cmd.specs.Opening.{OpensEach};
+ghost use Rattle.cats_cmd.specs.Openings.{status_of_run};
 ghost use Rattle.cats_cmd.specs.Paths.{RunsOnPaths};
 ghost use Rattle.cats_cmd.specs.SizesTables.{MakesTable};
 
@@ -59,7 +61,7 @@ impl<'a> Collection<'a> for Table {
         };
         let mut line = Vec::new(alloc);
         push_sizes(alloc, &mut line, &file)?;
-        match normal_packed_file(alloc, file, many.limit) {
+        match normal_packed_file(alloc, file, many.options) {
             Ok(normal) => {
                 push_counts(alloc, &mut line, &normal)?;
                 push_line(&mut self.lines, line.as_slice(), path, many.ending)?;
@@ -107,16 +109,18 @@ fn push_line(
 /// and after the last, how many were read. The status is 0 if every file was judged, and else the greatest of the
 /// statuses of those that were not.
 pub fn run_sizes<S: Source + AllocGlobal, W: Write, E: Write>(
-    source: &S,
+    source: &mut S,
     paths: &[&[u8]],
     many: ManyFiles,
     out: &mut Watched<W>,
     err: &mut Watched<E>,
 ) -> Result<u8, RunFault>
     requires { has_failed out.old ≡ false }
-    ensures { RunsOnPaths (S.may_open source.now)
-        (S.may_refuse source.now) S.Stream.remaining W.contents E.contents many.limit
+    ensures runs { RunsOnPaths (S.may_open (S.content_of source.old))
+        (S.may_refuse (S.content_of source.old)) S.Stream.remaining W.contents E.contents many.options
         (MakesTable many.ending) (map (λ path. path.now) paths.now) many.progress out.old out.new err.old err.new result }
+    ensures opens { OpensEach S.content_of S.opened (map (λ path. path.now) paths.now) source.old source.new
+        (status_of_run result) }
 {
     run_on_paths::<Table, S, W, E>(source, paths, many, out, err)
 }

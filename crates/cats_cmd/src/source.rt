@@ -1,6 +1,7 @@
 //! Where the program opens its files.
 
-ghost use Rattle.std.specs.Prelude.{ℕ, List, IfErr, IfOk};
+ghost use Rattle.std.specs.Prelude.{ℕ, List, [], ◌∷◌, Option, None, IfErr, IfOk};
+ghost use Rattle.cats_cmd.specs.Opening.{Opens};
 
 use std::alloc::{Alloc, Global};
 use std::fs;
@@ -10,32 +11,42 @@ use std::rt::Files;
 
 /// A place in which files are opened: that of the system, or one that a test makes up.
 ///
-/// It says which streams it may open at a path, and for which reason it may refuse one. So a contract can speak of the
-/// file at a path of the command line.
+/// It says which streams it may open at a path, and for which reason it may refuse one, by what it holds, which no
+/// opening changes. So a contract can speak of the file at a path of the command line. It may also know which paths were
+/// opened so far, in order, with those that it refused.
 pub trait Source {
     ghost use Rattle.cats_cmd.specs.declared.source.Unopened.{Unopened};
 
     type Stream: Read + Drop;
 
-    ghost may_open: { Self → List ℕ → Self.Stream → Type 0 };
+    ghost Content: { Type 0 };
 
-    ghost may_refuse: { Self → List ℕ → Unopened → Type 0 };
+    ghost content_of: { Self → Content };
+
+    ghost may_open: { Content → List ℕ → Self.Stream → Type 0 };
+
+    ghost may_refuse: { Content → List ℕ → Unopened → Type 0 };
+
+    ghost opened: { Self → Option (List (List ℕ)) };
 
     /// Opens what is at a path. A folder may be opened too; then reading it fails.
-    fn open(&self, path: &str) -> Result<Self::Stream, Unopened>
-        ensures opened { IfOk result (Self.may_open self.now path.now) }
-        ensures refused { IfErr result (Self.may_refuse self.now path.now) };
+    fn open(&mut self, path: &str) -> Result<Self::Stream, Unopened>
+        ensures opened { IfOk result (Self.may_open (Self.content_of self.old) path.now) }
+        ensures refused { IfErr result (Self.may_refuse (Self.content_of self.old) path.now) }
+        ensures opens { Opens Self.content_of Self.opened self.old self.new (path.now ∷ []) };
 
     /// Opens the file at a path, and refuses a folder.
-    fn open_file(&self, path: &str) -> Result<Self::Stream, Unopened>
-        ensures opened { IfOk result (Self.may_open self.now path.now) }
-        ensures refused { IfErr result (Self.may_refuse self.now path.now) };
+    fn open_file(&mut self, path: &str) -> Result<Self::Stream, Unopened>
+        ensures opened { IfOk result (Self.may_open (Self.content_of self.old) path.now) }
+        ensures refused { IfErr result (Self.may_refuse (Self.content_of self.old) path.now) }
+        ensures opens { Opens Self.content_of Self.opened self.old self.new (path.now ∷ []) };
 
     /// Opens the regular file at a path. A folder, a device and a FIFO are refused, and not opened: to open a FIFO may
     /// take for ever.
-    fn open_regular(&self, path: &str) -> Result<Self::Stream, Unopened>
-        ensures opened { IfOk result (Self.may_open self.now path.now) }
-        ensures refused { IfErr result (Self.may_refuse self.now path.now) };
+    fn open_regular(&mut self, path: &str) -> Result<Self::Stream, Unopened>
+        ensures opened { IfOk result (Self.may_open (Self.content_of self.old) path.now) }
+        ensures refused { IfErr result (Self.may_refuse (Self.content_of self.old) path.now) }
+        ensures opens { Opens Self.content_of Self.opened self.old self.new (path.now ∷ []) };
 }
 
 /// Why a file could not be opened.
@@ -50,7 +61,8 @@ pub enum Unopened {
     Other,
 }
 
-/// The files of the system. No contract can say what they hold, so any stream may be opened at any path.
+/// The files of the system. No contract can say what they hold, so any stream may be opened at any path; and nothing is
+/// kept of the paths that were opened.
 #[derive(Clone, Copy)]
 pub struct SystemFiles<'a, F> {
     files: &'a F,
@@ -65,18 +77,24 @@ impl<'a, F> SystemFiles<'a, F> {
 impl<F: Files> Source for SystemFiles<'_, F> {
     type Stream = F::File;
 
+    ghost Content = { Unit {0} };
+
+    ghost content_of = { λ _. tt };
+
     ghost may_open = { λ _ _ _. Unit {0} };
 
     ghost may_refuse = { λ _ _ _. Unit {0} };
 
-    fn open(&self, path: &str) -> Result<F::File, Unopened> {
+    ghost opened = { λ _. None };
+
+    fn open(&mut self, path: &str) -> Result<F::File, Unopened> {
         match fs::open(self.files, path) {
             Ok(file) => Ok(file),
             Err(error) => Err(reason(error.kind())),
         }
     }
 
-    fn open_file(&self, path: &str) -> Result<F::File, Unopened> {
+    fn open_file(&mut self, path: &str) -> Result<F::File, Unopened> {
         let file = self.open(path)?;
         match file.metadata() {
             Ok(metadata) if metadata.is_dir() => Err(Unopened::IsFolder),
@@ -84,7 +102,7 @@ impl<F: Files> Source for SystemFiles<'_, F> {
         }
     }
 
-    fn open_regular(&self, path: &str) -> Result<F::File, Unopened> {
+    fn open_regular(&mut self, path: &str) -> Result<F::File, Unopened> {
         match fs::metadata(self.files, path) {
             Ok(metadata) if metadata.is_file() => self.open(path),
             Ok(metadata) if metadata.is_dir() => Err(Unopened::IsFolder),

@@ -1,10 +1,12 @@
 //! What is printed of a wrong command line. `clap` makes the text of the line's words, which may be names that a
 //! stranger gave to files.
 
+ghost use Rattle.std.specs.Prelude.{◌≡◌};
 ghost use Rattle.command_line.specs.Requests.{IsNoRequestOf, texts_of};
+ghost use Rattle.cats_cmd.specs.Requests.{misuse_text};
 
 use crate::escaping::escape_into;
-use command_line::{NoRequest, parse};
+use command_line::{Misuse, NoRequest, parse};
 use std::alloc::{AllocError, Global};
 
 /// What is answered in place of this answer to words that are no request: the same, but what `clap` prints of them is
@@ -44,4 +46,21 @@ fn escaped_word(alloc: Global, word: &str) -> Result<String, AllocError> {
     let mut bytes = Vec::new(alloc);
     escape_into(word.as_bytes(), &mut bytes)?;
     String::from_utf8_lossy(alloc, bytes.as_slice())
+}
+
+/// Why a line is wrong whose words its subcommand takes.
+pub(crate) fn misuse_text(misuse: Misuse) -> &'static str
+    ensures { result.now ≡ misuse_text misuse }
+{
+    match misuse {
+        Misuse::SignedNumber => {
+            "error: a number has digits alone, and no sign\n\nFor more information, try '--help'.\n"
+        }
+        Misuse::UnboundedTotal => {
+            "error: '--total-steps <N>' needs '--bound'\n\nFor more information, try '--help'.\n"
+        }
+        Misuse::WrongFiles => {
+            "error: give paths, or '--files0-from <LIST>', and not both\n\nFor more information, try '--help'.\n"
+        }
+    }
 }

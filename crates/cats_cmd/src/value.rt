@@ -1,17 +1,19 @@
-//! `cats value`: what a file's bidders offer for a bundle.
+//! `cats value`: what a file's bidders offer for a bundle of goods.
 
 mod bundles;
 mod lines;
 mod numbers;
 
-ghost use Rattle.std.specs.Prelude.{◌≡◌, ◌≤◌, None, false};
+ghost use Rattle.std.specs.Prelude.{◌≡◌, ◌≤◌, None, IfErr, IfOk, OnOk, false};
 ghost use Rattle.cats_text.specs.Streams.{has_ended, has_failed};
 ghost use Rattle.bid_file.specs.Files.{IsPlainFile};
+ghost use Rattle.valuation.specs.Auctions.{or_atoms_of};
+ghost use Rattle.valuation.specs.Values.{chosen_places, or_value};
 ghost use Rattle.valuation.specs.Views.{plain_auction};
-ghost use Rattle.cats_cmd.specs.Outcomes.{missing_good, value_outcome, values_within};
-ghost use Rattle.cats_cmd.specs.Runs.{MakesAs, RunsOnFile};
-ghost use Rattle.cats_cmd.specs.Internal.Searches.{SearchesAs};
-ghost use Rattle.cats_cmd.specs.ValueTexts.{bundle_from};
+ghost use Rattle.cats_cmd.specs.Outcomes.{missing_good, value_outcome};
+ghost use Rattle.cats_cmd.specs.Runs.{RunsOnFile};
+ghost use Rattle.cats_cmd.specs.Values.{IsWithin, RefusesValue, RunsValue};
+ghost use Rattle.cats_cmd.specs.ValueTexts.{bundle_from, value_text};
 
 use crate::run::{read_packed_file, send_text};
 use answers::{DONE, RunFault};
@@ -24,11 +26,11 @@ use lines::{push_or_line, push_xor_lines};
 use numbers::bid_numbers;
 use std::alloc::Global;
 use std::io::{Read, Write};
-use valuation::{Auction, Packing, ValueFault, auction_of, on_set_for, or_value};
+use valuation::{Auction, Packing, SearchOptions, ValueFault, auction_of, on_set_for, or_value_by};
 
 /// Reads a bid file, and sends what its bidders offer for the bundle of these goods: the OR value with the bids of one
-/// best packing, and each XOR bidder's value with the bid that gives it. `limit` bounds the packings that the search
-/// may enter.
+/// best packing, and each XOR bidder's value with the bid that gives it. `limit` bounds the packings that the plain
+/// search may enter.
 ///
 /// The first of the goods that the file does not have is refused once the file was read.
 pub fn run_value<R: Read, W: Write>(
@@ -44,11 +46,27 @@ pub fn run_value<R: Read, W: Write>(
     ensures { RunsOnFile R.remaining W.contents (value_outcome goods.now limit) input.old input.new out.old out.new
         result }
 {
+    run_value_by(alloc, input, goods, SearchOptions::plain(limit), out)
+}
+
+/// The same by searches of any kind, within the limits of their steps.
+pub fn run_value_by<R: Read, W: Write>(
+    alloc: Global,
+    input: &mut Watched<R>,
+    goods: &[u16],
+    options: SearchOptions,
+    out: &mut Watched<W>,
+) -> Result<u8, RunFault>
+    requires input_works { has_failed input.old ≡ false }
+    requires input_fresh { has_ended input.old ≡ false }
+    requires out_works { has_failed out.old ≡ false }
+    ensures { RunsValue R.remaining W.contents goods.now options input.old input.new out.old out.new result }
+{
     let file = read_packed_file(alloc, input)?;
     if let Some(good) = first_missing(goods, file.goods()) {
         return Err(RunFault::GoodRange(good));
     }
-    let text = text_on_sets(alloc, &file, goods, limit)?;
+    let text = text_on_sets(alloc, &file, goods, options)?;
     send_text(out, DONE, text.as_slice())
 }
 
@@ -64,13 +82,15 @@ fn text_on_sets(
     alloc: Global,
     file: &PackedFile,
     goods: &[u16],
-    limit: u64,
+    options: SearchOptions,
 ) -> Result<Vec<u8>, CanonFault>
     requires facts { IsPlainFile file.now }
     requires there { missing_good file.now.goods goods.now ≡ None }
-    ensures { MakesAs (values_within limit (bundle_from goods.now) file.now) result }
+    ensures text { IfOk result (λ text. text.items ≡ value_text file.now (bundle_from goods.now)) }
+    ensures within { OnOk result (IsWithin options (or_atoms_of file.now.bids) (bundle_from goods.now)) }
+    ensures refused { IfErr result (RefusesValue options (or_atoms_of file.now.bids) (bundle_from goods.now)) }
 {
-    on_set_for!(file, text_of_values(alloc, file, goods, limit))
+    on_set_for!(file, text_of_values(alloc, file, goods, options))
 }
 
 /// The values of the bundle of these goods, as they are printed.
@@ -78,16 +98,18 @@ fn text_of_values<S: GoodsSet>(
     alloc: Global,
     file: &PackedFile,
     goods: &[u16],
-    limit: u64,
+    options: SearchOptions,
 ) -> Result<Vec<u8>, CanonFault>
     requires facts { IsPlainFile file.now }
     requires cap { file.now.goods ≤ S.CAP }
     requires there { missing_good file.now.goods goods.now ≡ None }
-    ensures { MakesAs (values_within limit (bundle_from goods.now) file.now) result }
+    ensures text { IfOk result (λ text. text.items ≡ value_text file.now (bundle_from goods.now)) }
+    ensures within { OnOk result (IsWithin options (or_atoms_of file.now.bids) (bundle_from goods.now)) }
+    ensures refused { IfErr result (RefusesValue options (or_atoms_of file.now.bids) (bundle_from goods.now)) }
 {
     let bundle: S = bundle_of(alloc, goods)?;
     let auction = auction_of(alloc, file)?;
-    let packing = best_packing(alloc, &auction, &bundle, limit)?;
+    let packing = best_packing(alloc, &auction, &bundle, options)?;
     let numbers = bid_numbers(alloc, file)?;
     let mut text = Vec::new(alloc);
     push_or_line(&mut text, &packing, numbers.or_bids.as_slice())?;
@@ -106,11 +128,16 @@ fn best_packing<S: GoodsSet>(
     alloc: Global,
     auction: &Auction<S>,
     bundle: &S,
-    limit: u64,
+    options: SearchOptions,
 ) -> Result<Packing, CanonFault>
-    ensures { SearchesAs (plain_auction auction.now).or_atoms (S.goods bundle.now) limit result }
+    ensures value { let atoms = (plain_auction auction.now).or_atoms in
+        IfOk result (λ packing. packing.value ≡ or_value atoms (S.goods bundle.now)) }
+    ensures members { let atoms = (plain_auction auction.now).or_atoms in
+        IfOk result (λ packing. packing.members.items ≡ chosen_places atoms (S.goods bundle.now)) }
+    ensures within { OnOk result (IsWithin options (plain_auction auction.now).or_atoms (S.goods bundle.now)) }
+    ensures refused { IfErr result (RefusesValue options (plain_auction auction.now).or_atoms (S.goods bundle.now)) }
 {
-    match or_value(alloc, auction.or_atoms(), bundle, limit) {
+    match or_value_by(alloc, auction.or_atoms(), bundle, options) {
         Ok(packing) => Ok(packing),
         Err(ValueFault::StepLimit) => {
             let goods = goods_of(alloc, bundle)?;

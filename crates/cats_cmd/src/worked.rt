@@ -9,6 +9,7 @@ ghost use Rattle.cats_text.specs.declared.read_fault.Kind.TheVariants.{
   Device,
   Memory as NoMemory,
 };
+ghost use Rattle.cats_text.specs.Faults.{fault_at};
 ghost use Rattle.canon.specs.Difference.{NoDifference, InGoods, InOr, InXor};
 ghost use Rattle.canon.specs.declared.verdict.Side.TheVariants.{Exactly, Below};
 ghost use Rattle.valuation.specs.Examples.{atom};
@@ -27,6 +28,7 @@ ghost use Rattle.cats_text.specs.Examples.{known, watched};
 ghost use Rattle.cats_cmd.specs.DuplicateTexts.{duplicates_text};
 ghost use Rattle.cats_cmd.specs.Escaping.{escaped};
 ghost use Rattle.cats_cmd.specs.Duplicates.{judged_paths};
+ghost use Rattle.cats_cmd.specs.Opening.{with_paths};
 ghost use Rattle.cats_cmd.specs.PathLists.{paths_in};
 ghost use Rattle.cats_cmd.specs.declared.paths.Ending.TheVariants.{Line, Null};
 ghost use Rattle.cats_cmd.specs.declared.paths.Progress.TheVariants.{Silent, Lines, Terminal};
@@ -36,8 +38,8 @@ ghost use Rattle.answers.specs.RoundedLines.{rounded_line};
 ghost use Rattle.cats_cmd.specs.Rounding.{round_outcome};
 ghost use Rattle.rounding.specs.declared.replacement.FinePrices.TheVariants.{Round};
 ghost use Rattle.cats_cmd.specs.Runs.{SendsMadeAs};
-ghost use Rattle.cats_cmd.specs.RequestErrors.{Reports, line_of_request_error};
-ghost use Rattle.cats_cmd.specs.declared.program.RequestError.TheVariants.{CannotOpen, NotOpened};
+ghost use Rattle.cats_cmd.specs.RequestErrors.{Reports, line_of_request_error, needs_memory};
+ghost use Rattle.cats_cmd.specs.declared.program.RequestError.TheVariants.{CannotOpen, NotOpened, Run};
 ghost use Rattle.cats_cmd.specs.declared.source.Unopened.TheVariants.{NoSuchFile, PermissionDenied, IsFolder, NotAFile};
 ghost use Rattle.cats_cmd.specs.declared.source.Unopened.TheVariants.{Other};
 ghost use Rattle.answers.specs.Statuses.{status_of_difference, status_of_differences, status_of_fault};
@@ -174,4 +176,20 @@ pub fn paths_listed()
         ∷ (97 ∷ 0 ∷ 97 ∷ 0 ∷ []) ∷ (97 ∷ 10 ∷ 98 ∷ []) ∷ [] ∷ []) ≡
         (codes "a" ∷ codes "b" ∷ []) ∷ (codes "a" ∷ codes "b" ∷ []) ∷ (codes "a" ∷ [] ∷ codes "b" ∷ [])
         ∷ ([] ∷ []) ∷ (codes "a" ∷ codes "a" ∷ []) ∷ (codes "a\nb" ∷ []) ∷ [] ∷ [] }
+{}
+
+/// What a source has opened: known paths and more of them, or unknown ones.
+pub fn paths_opened()
+    ensures known { with_paths (Some (codes "a" ∷ [])) (codes "b" ∷ codes "a" ∷ [])
+        ≡ Some (codes "a" ∷ codes "b" ∷ codes "a" ∷ []) }
+    ensures unknown { with_paths None (codes "b" ∷ []) ≡ None }
+{}
+
+/// Errors whose lines are fixed texts, and two whose lines are not.
+pub fn fixed_lines()
+    ensures fixed { map needs_memory (CannotOpen First ∷ NotOpened Other ∷ Run (Refused Only (Read (fault_at 0 Device)))
+        ∷ Run (Refused Second (Read (fault_at 0 TooLong))) ∷ Run (Refused Both Memory) ∷ [])
+        ≡ false ∷ false ∷ false ∷ false ∷ false ∷ [] }
+    ensures others { map needs_memory (Run (Refused Only (Read (fault_at 4 NoEnd))) ∷ Run (GoodRange 3) ∷ [])
+        ≡ true ∷ true ∷ [] }
 {}

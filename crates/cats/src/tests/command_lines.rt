@@ -1,84 +1,84 @@
 //! What no clause says of command lines. It is the files, goods and limits that they name, and what `clap` prints.
 
-use command_line::{NoRequest, Request, VERSION, parse};
+use command_line::{Misuse, NoRequest, Request, VERSION, parse};
 use std::process::Abort;
 use std::test::Fail;
 
 /// Command lines, and their requests.
-static REQUESTS: [(&[&str], &str); 21] = [
+static REQUESTS: [(&[&str], &str); 25] = [
     (&["cats", "check", "a"], "Check { file: \"a\" }"),
     (&["cats", "show", "a"], "Show { file: \"a\" }"),
     (
         &["cats", "value", "a"],
-        "Value { file: \"a\", goods: [], limit: 1000000 }",
+        "Value { file: \"a\", goods: [], limits: Limits { bound: false, steps: 1000000, total: None } }",
     ),
     (
-        &["cats", "value", "a", "3", "+4", "--steps", "7"],
-        "Value { file: \"a\", goods: [3, 4], limit: 7 }",
+        &["cats", "value", "a", "3", "4", "--steps", "7"],
+        "Value { file: \"a\", goods: [3, 4], limits: Limits { bound: false, steps: 7, total: None } }",
     ),
     (
         &["cats", "normalise", "a"],
-        "Normalise { file: \"a\", limit: 1000000 }",
+        "Normalise { file: \"a\", limits: Limits { bound: false, steps: 1000000, total: None } }",
     ),
     (
         &["cats", "normalise", "--steps=1000000000", "a"],
-        "Normalise { file: \"a\", limit: 1000000000 }",
+        "Normalise { file: \"a\", limits: Limits { bound: false, steps: 1000000000, total: None } }",
     ),
     (
         &["cats", "explain", "a"],
-        "Explain { file: \"a\", limit: 1000000 }",
+        "Explain { file: \"a\", limits: Limits { bound: true, steps: 1000000, total: None } }",
     ),
     (
         &["cats", "explain", "a", "--steps", "8"],
-        "Explain { file: \"a\", limit: 8 }",
+        "Explain { file: \"a\", limits: Limits { bound: true, steps: 8, total: None } }",
     ),
     (
         &["cats", "compare", "a", "b"],
-        "Compare(PairRequest { first: \"a\", second: \"b\", limit: 1000000 })",
+        "Compare(PairRequest { first: \"a\", second: \"b\", limits: Limits { bound: false, steps: 1000000, total: None } })",
     ),
     (
         &["cats", "compare", "--steps", "1", "a", "b"],
-        "Compare(PairRequest { first: \"a\", second: \"b\", limit: 1 })",
+        "Compare(PairRequest { first: \"a\", second: \"b\", limits: Limits { bound: false, steps: 1, total: None } })",
     ),
     (
         &["cats", "diff", "a", "b"],
-        "Diff(PairRequest { first: \"a\", second: \"b\", limit: 1000000 })",
+        "Diff(PairRequest { first: \"a\", second: \"b\", limits: Limits { bound: true, steps: 1000000, total: None } })",
     ),
     (
         &["cats", "diff", "b", "--steps=7", "a"],
-        "Diff(PairRequest { first: \"b\", second: \"a\", limit: 7 })",
+        "Diff(PairRequest { first: \"b\", second: \"a\", limits: Limits { bound: true, steps: 7, total: None } })",
     ),
     (
         &["cats", "duplicates", "a", "b", "a"],
-        "Duplicates(FilesRequest { paths: Given([[97], [98], [97]]), limit: 1000000, progress: false, null: false })",
+        "Duplicates(FilesRequest { paths: Given([[97], [98], [97]]), limits: Limits { bound: true, steps: 1000000, total: None }, progress: false, null: false })",
     ),
     (
         &["cats", "duplicates", "--progress", "a", "b", "--steps=9"],
-        "Duplicates(FilesRequest { paths: Given([[97], [98]]), limit: 9, progress: true, null: false })",
+        "Duplicates(FilesRequest { paths: Given([[97], [98]]), limits: Limits { bound: true, steps: 9, total: None }, progress: true, null: false })",
     ),
     (
         &["cats", "duplicates", "-0", "a"],
-        "Duplicates(FilesRequest { paths: Given([[97]]), limit: 1000000, progress: false, null: true })",
+        "Duplicates(FilesRequest { paths: Given([[97]]), limits: Limits { bound: true, steps: 1000000, total: None }, progress: false, null: true })",
     ),
     (
         &["cats", "duplicates", "a", "--", "-0"],
-        "Duplicates(FilesRequest { paths: Given([[97], [45, 48]]), limit: 1000000, progress: false, null: false })",
+        "Duplicates(FilesRequest { paths: Given([[97], [45, 48]]), limits: Limits { bound: true, steps: 1000000, total: None }, progress: false, null: false })",
     ),
     (
         &["cats", "duplicates", "--files0-from", "a"],
-        "Duplicates(FilesRequest { paths: ListedIn(\"a\"), limit: 1000000, progress: false, null: false })",
+        "Duplicates(FilesRequest { paths: ListedIn(\"a\"), limits: Limits { bound: true, steps: 1000000, total: None }, progress: false, null: false })",
     ),
     (
         &["cats", "sizes", "a"],
-        "Sizes(FilesRequest { paths: Given([[97]]), limit: 1000000, progress: false, null: false })",
+        "Sizes(FilesRequest { paths: Given([[97]]), limits: Limits { bound: true, steps: 1000000, total: None }, progress: false, null: false })",
     ),
     (
         &["cats", "sizes", "--steps=9", "a", "--progress", "b"],
-        "Sizes(FilesRequest { paths: Given([[97], [98]]), limit: 9, progress: true, null: false })",
+        "Sizes(FilesRequest { paths: Given([[97], [98]]), limits: Limits { bound: true, steps: 9, total: None }, progress: true, null: false })",
     ),
     (
         &["cats", "sizes", "a", "--null", "é"],
-        "Sizes(FilesRequest { paths: Given([[97], [195, 169]]), limit: 1000000, progress: false, null: true })",
+        "Sizes(FilesRequest { paths: Given([[97], [195, 169]]), limits: Limits { bound: true, steps: 1000000, total: None }, progress: false, null: true })",
     ),
     (
         &[
@@ -88,7 +88,23 @@ static REQUESTS: [(&[&str], &str); 21] = [
             "-0",
             "--progress",
         ],
-        "Sizes(FilesRequest { paths: ListedIn(\"/dev/stdin\"), limit: 1000000, progress: true, null: true })",
+        "Sizes(FilesRequest { paths: ListedIn(\"/dev/stdin\"), limits: Limits { bound: true, steps: 1000000, total: None }, progress: true, null: true })",
+    ),
+    (
+        &["cats", "normalise", "--bound", "--total-steps=5", "a"],
+        "Normalise { file: \"a\", limits: Limits { bound: true, steps: 1000000, total: Some(5) } }",
+    ),
+    (
+        &["cats", "compare", "a", "--total-steps", "5", "b", "--bound"],
+        "Compare(PairRequest { first: \"a\", second: \"b\", limits: Limits { bound: true, steps: 1000000, total: Some(5) } })",
+    ),
+    (
+        &["cats", "value", "--bound", "a", "0"],
+        "Value { file: \"a\", goods: [0], limits: Limits { bound: true, steps: 1000000, total: None } }",
+    ),
+    (
+        &["cats", "explain", "--total-steps=1000000000000", "a"],
+        "Explain { file: \"a\", limits: Limits { bound: true, steps: 1000000, total: Some(1000000000000) } }",
     ),
 ];
 
@@ -126,7 +142,7 @@ fn help_and_version(rt: HostRuntime) {
 }
 
 /// Command lines that are no request.
-static WRONG_LINES: [&[&str]; 13] = [
+static WRONG_LINES: [&[&str]; 18] = [
     &[],
     &["cats"],
     &["cats", "check"],
@@ -141,6 +157,11 @@ static WRONG_LINES: [&[&str]; 13] = [
     &["cats", "sizes", "-0", "--null", "a"],
     &["cats", "normalise", "-0", "a"],
     &["cats", "check", "--files0-from", "a"],
+    &["cats", "explain", "--bound", "a"],
+    &["cats", "check", "--total-steps=5", "a"],
+    &["cats", "explain", "--total-steps=0", "a"],
+    &["cats", "normalise", "--bound", "--bound", "a"],
+    &["cats", "normalise", "--steps", "1,000,000", "a"],
 ];
 
 #[test]
@@ -152,20 +173,49 @@ fn wrong_usage(rt: HostRuntime) {
     }
 }
 
-/// Command lines with both a list and paths, or neither.
-static WRONG_FILES: [&[&str]; 4] = [
-    &["cats", "duplicates"],
-    &["cats", "sizes"],
-    &["cats", "sizes", "--files0-from", "a", "b"],
-    &["cats", "duplicates", "b", "--files0-from", "a"],
+/// Command lines that `clap` takes and that are wrong, and why.
+static MISUSES: [(&[&str], Misuse); 12] = [
+    (&["cats", "duplicates"], Misuse::WrongFiles),
+    (&["cats", "sizes", "--total-steps=5"], Misuse::WrongFiles),
+    (
+        &["cats", "sizes", "--files0-from", "a", "b"],
+        Misuse::WrongFiles,
+    ),
+    (
+        &["cats", "duplicates", "b", "--files0-from", "a"],
+        Misuse::WrongFiles,
+    ),
+    (
+        &["cats", "normalise", "--total-steps=5", "a"],
+        Misuse::UnboundedTotal,
+    ),
+    (
+        &["cats", "value", "a", "--total-steps", "5"],
+        Misuse::UnboundedTotal,
+    ),
+    (
+        &["cats", "compare", "a", "b", "--total-steps=5"],
+        Misuse::UnboundedTotal,
+    ),
+    (
+        &["cats", "normalise", "--steps=+5", "a"],
+        Misuse::SignedNumber,
+    ),
+    (
+        &["cats", "explain", "--total-steps", "+5", "a"],
+        Misuse::SignedNumber,
+    ),
+    (&["cats", "sizes", "--steps=+5"], Misuse::SignedNumber),
+    (&["cats", "value", "a", "0", "+1"], Misuse::SignedNumber),
+    (&["cats", "value", "a", "--", "-0"], Misuse::SignedNumber),
 ];
 
 #[test]
-fn wrong_files(rt: HostRuntime) {
-    for words in &WRONG_FILES {
+fn misuses(rt: HostRuntime) {
+    for (words, misuse) in &MISUSES {
         let answer = parse(rt.alloc(), VERSION, words);
         assert!(rt;
-            matches!(&answer, Err(NoRequest::WrongFiles)),
+            matches!(&answer, Err(NoRequest::Misused(why)) if why == misuse),
             "of {words:?}: {answer:?}"
         );
     }

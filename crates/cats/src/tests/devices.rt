@@ -7,7 +7,10 @@ use super::streams::{
     RunAnswer, StepReader, StepWriter, answer_of, byte_reader, expect, expect_cut_off, reader,
     stalling_writer, writer,
 };
-use cats_cmd::{run_check, run_compare, run_diff, run_explain, run_normalise, run_show, run_value};
+use cats_cmd::{
+    SearchOptions, run_check, run_compare, run_diff, run_explain, run_normalise, run_show,
+    run_value,
+};
 use cats_text::Watched;
 use std::alloc::Global;
 use std::io::ErrorKind;
@@ -40,16 +43,17 @@ fn answer(
     requires out_works { has_failed out ≡ false }
 {
     let mut other = reader(CANONICAL.as_bytes(), false);
+    let bounded = SearchOptions::bounded(STEPS, None);
     let answer = match run {
         Run::Check => run_check(alloc, input, &mut out),
         Run::Show => run_show(alloc, input, &mut out),
         Run::Value => run_value(alloc, input, &[0, 1], STEPS, &mut out),
         Run::Normalise => run_normalise(alloc, input, STEPS, &mut out),
-        Run::Explain => run_explain(alloc, input, STEPS, &mut out),
+        Run::Explain => run_explain(alloc, input, STEPS, None, &mut out),
         Run::CompareFirst => run_compare(alloc, input, &mut other, STEPS, &mut out),
         Run::CompareSecond => run_compare(alloc, &mut other, input, STEPS, &mut out),
-        Run::DiffFirst => run_diff(alloc, input, &mut other, STEPS, &mut out),
-        Run::DiffSecond => run_diff(alloc, &mut other, input, STEPS, &mut out),
+        Run::DiffFirst => run_diff(alloc, input, &mut other, bounded, &mut out),
+        Run::DiffSecond => run_diff(alloc, &mut other, input, bounded, &mut out),
     };
     answer_of(alloc, answer, out)
 }

@@ -4,7 +4,7 @@ use super::compare::{
     APART, EQUAL_BIDDERS, FIVE, FOUR, LARGER_BID, NOTHING, REFUSALS, SINGLES, TOGETHER,
 };
 use super::streams::{RunAnswer, answer_of, expect, expect_cut_off, reader, writer};
-use cats_cmd::run_diff;
+use cats_cmd::{SearchOptions, run_diff};
 use std::alloc::Global;
 use std::process::Abort;
 use std::test::Fail;
@@ -24,7 +24,8 @@ fn differed(
     let mut left = reader(first.as_bytes(), false);
     let mut right = reader(second.as_bytes(), false);
     let mut out = writer(alloc, 4096, capacity);
-    let answer = run_diff(alloc, &mut left, &mut right, limit, &mut out);
+    let options = SearchOptions::bounded(limit, None);
+    let answer = run_diff(alloc, &mut left, &mut right, options, &mut out);
     answer_of(alloc, answer, out)
 }
 

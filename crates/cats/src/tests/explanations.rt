@@ -15,7 +15,7 @@ const CAPACITY: usize = 8_388_608;
 fn explained(alloc: Global, text: &[u8], fails: bool, limit: u64) -> Result<RunAnswer, Fail> {
     let mut input = reader(text, fails);
     let mut out = writer(alloc, 4096, CAPACITY);
-    let answer = run_explain(alloc, &mut input, limit, &mut out);
+    let answer = run_explain(alloc, &mut input, limit, None, &mut out);
     answer_of(alloc, answer, out)
 }
 

@@ -174,9 +174,41 @@ static MISSING_ROWS: [Row<'static>; 14] = [
 
 const VALUED: &str = "goods 2\nbids 3\ndummy 1\n0 3 0 #\n1 4.5 1 #\n2 7 0 1 2 #\n";
 
-static VALUED_ROWS: [Row<'static>; 8] = [
+static VALUED_ROWS: [Row<'static>; 12] = [
     (
-        "cats value FILE 1 0 +1 01",
+        "cats value --bound --steps 3 FILE 0 1",
+        CAPACITY,
+        CAPACITY,
+        0,
+        "or 7.5 0 1\nxor 2 7 2\n",
+        "",
+    ),
+    (
+        "cats value --bound --steps 2 FILE 0 1",
+        CAPACITY,
+        CAPACITY,
+        3,
+        "",
+        "step limit at 0,1\n",
+    ),
+    (
+        "cats value FILE +1",
+        CAPACITY,
+        CAPACITY,
+        64,
+        "",
+        "error: a number has digits alone, and no sign\n\nFor more information, try '--help'.\n",
+    ),
+    (
+        "cats normalise FILE --total-steps=3",
+        CAPACITY,
+        CAPACITY,
+        64,
+        "",
+        "error: '--total-steps <N>' needs '--bound'\n\nFor more information, try '--help'.\n",
+    ),
+    (
+        "cats value FILE 1 0 1 01",
         CAPACITY,
         CAPACITY,
         0,

@@ -1,7 +1,9 @@
 //! The program on files in memory. Its contract says what it does there for a command line.
 
+ghost use Rattle.std.specs.Borrow.{Bor};
 ghost use Rattle.std.specs.List.{Any};
-ghost use Rattle.std.specs.Prelude.{◌≡◌, ◌⊎◌};
+ghost use Rattle.std.specs.Prelude.{◌≡◌, ◌⊎◌, ℕ, List, None};
+ghost use Rattle.cats_cmd.specs.declared.source.Unopened.{Unopened};
 ghost use Rattle.cats_cmd.specs.declared.source.Unopened.TheVariants.{NoSuchFile};
 
 use super::streams::{RunAnswer, expect, text_taken, writer};
@@ -11,31 +13,38 @@ use std::alloc::{Alloc, AllocGlobal, Global};
 use std::process::Abort;
 use std::test::Fail;
 
-/// Files with their paths, and paths that are refused.
+/// Files with their paths, paths that are refused, and how many openings there were.
 #[derive(Drop)]
 struct FilesInMemory<'a> {
     files: &'a [(&'a str, &'a [u8])],
     refused: &'a [(&'a str, Unopened)],
+    openings: usize,
     alloc: Global,
 }
 
 impl<'a> Source for FilesInMemory<'a> {
     type Stream = &'a [u8];
 
-    ghost may_open = { λ source path stream. Any (λ f. (f.0.now ≡ path) × (f.1.now ≡ stream.now)) source.files.now };
+    ghost Content = { List (Bor (List ℕ) × Bor (List ℕ)) × List (Bor (List ℕ) × Unopened) };
 
-    ghost may_refuse = { λ source path why. Any (λ r. (r.0.now ≡ path) × (r.1 ≡ why)) source.refused.now
-        ⊎ (why ≡ NoSuchFile) };
+    ghost content_of = { λ source. (source.files.now, source.refused.now) };
 
-    fn open(&self, path: &str) -> Result<&'a [u8], Unopened> {
+    ghost may_open = { λ content path stream. Any (λ f. (f.0.now ≡ path) × (f.1.now ≡ stream.now)) content.0 };
+
+    ghost may_refuse = { λ content path why. Any (λ r. (r.0.now ≡ path) × (r.1 ≡ why)) content.1 ⊎ (why ≡ NoSuchFile) };
+
+    ghost opened = { λ _. None };
+
+    fn open(&mut self, path: &str) -> Result<&'a [u8], Unopened> {
         self.open_file(path)
     }
 
-    fn open_regular(&self, path: &str) -> Result<&'a [u8], Unopened> {
+    fn open_regular(&mut self, path: &str) -> Result<&'a [u8], Unopened> {
         self.open_file(path)
     }
 
-    fn open_file(&self, path: &str) -> Result<&'a [u8], Unopened> {
+    fn open_file(&mut self, path: &str) -> Result<&'a [u8], Unopened> {
+        self.openings = self.openings.saturating_add(1);
         for (name, why) in self.refused {
             if *name == path {
                 return Err(*why);
@@ -376,9 +385,10 @@ fn judge_rows(
 ) -> Result<(), Fail> {
     let alloc = rt.alloc();
     let version = version_text(alloc)?;
-    let source = FilesInMemory {
+    let mut source = FilesInMemory {
         files: &FILES,
         refused: &REFUSED,
+        openings: 0,
         alloc,
     };
     for (words, status, sent, reported) in rows {
@@ -388,13 +398,47 @@ fn judge_rows(
             version: version.as_str(),
             terminal,
         };
-        let status_answered = run_program(&source, words, &mut out, &mut err, &process);
+        let status_answered = run_program(&mut source, words, &mut out, &mut err, &process);
         let answer = RunAnswer {
             status: status_answered,
             sent: text_taken(out)?,
             line: text_taken(err)?,
         };
         expect(rt, &answer, *status, sent, reported);
+    }
+    Ok(())
+}
+
+/// Command lines, and how many openings each makes.
+static OPENINGS: [(&[&str], usize); 7] = [
+    (&["cats", "--version"], 0),
+    (&["cats", "check", "same"], 1),
+    (&["cats", "compare", "one", "other"], 2),
+    (&["cats", "compare", "none", "one"], 1),
+    (&["cats", "diff", "bad", "one"], 2),
+    (&["cats", "sizes", "same", "none", "same"], 3),
+    (&["cats", "duplicates", "--files0-from", "list"], 4),
+];
+
+#[test]
+fn each_path_is_opened_once(rt: HostRuntime) -> Result<(), Fail> {
+    let alloc = rt.alloc();
+    let process = Process {
+        version: "",
+        terminal: false,
+    };
+    for (words, openings) in &OPENINGS {
+        let mut source = FilesInMemory {
+            files: &FILES,
+            refused: &REFUSED,
+            openings: 0,
+            alloc,
+        };
+        let mut out = writer(alloc, 4096, 4096);
+        let mut err = writer(alloc, 4096, 4096);
+        let _ = run_program(&mut source, words, &mut out, &mut err, &process);
+        let made = source.openings;
+        assert!(rt; made == *openings, "of {words:?}: {made}");
     }
     Ok(())
 }

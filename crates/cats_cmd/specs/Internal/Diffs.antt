@@ -1,6 +1,7 @@
 -- The parts of `cats diff`. One reads a file with its names, and one sends all differences of two.
 use Rattle.std.specs.Prelude.{◌≡◌, ℕ, List, Option, Result, Ok, Err}
 use Rattle.bid_file.specs.Files.{PlainFile}
+use Rattle.valuation.specs.declared.search_options.SearchOptions.{SearchOptions}
 use Rattle.cats_text.specs.declared.stream.Watched.{Watched}
 use Rattle.canon.specs.declared.canon_fault.CanonFault.{CanonFault}
 use Rattle.canon.specs.declared.canon_fault.CanonFault.TheVariants.{Memory}
@@ -15,17 +16,17 @@ use Rattle.answers.specs.declared.report.RunFault.TheVariants.{Refused}
 
 -- ---- one of the files
 
-module _ {R : Type 0} (remaining : R → Option (List ℕ)) (limit : ℕ) where
+module _ {R : Type 0} (remaining : R → Option (List ℕ)) (options : SearchOptions) where
   -- a file that was read, with its canonical file
   pub record ReadsNamedFile (old new : Watched R) (named : NamedFile) : Type 0 where
     pub file : PlainFile
-    pub given : ReadsWithinLimit remaining limit old new file
+    pub given : ReadsWithinLimit remaining options old new file
     pub is : IsNamed file named
 
   -- reading a file and normalising it
   abbrev pub ReadsNamed : Watched R → Watched R → Result NamedFile CanonFault → Type 0
   ReadsNamed old new (Ok named) = ReadsNamedFile old new named
-  ReadsNamed old new (Err fault) = IsRefusedFile remaining (normalise_outcome limit) old new fault
+  ReadsNamed old new (Err fault) = IsRefusedFile remaining (normalise_outcome options) old new fault
 
 -- ---- both files
 

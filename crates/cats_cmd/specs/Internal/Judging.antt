@@ -2,8 +2,10 @@
 use Rattle.std.specs.Prelude.{◌≡◌, ℕ, List, [], ◌∷◌, ◌++◌, length, Option, Result, Ok, Err}
 use Rattle.std.specs.declared.alloc.AllocError.{AllocError}
 use Rattle.cats_text.specs.declared.stream.Watched.{Watched}
+use Rattle.valuation.specs.declared.search_options.SearchOptions.{SearchOptions}
 use Rattle.canon.specs.FirstPlaces.{IsIndexOf, TextIndex}
 use Rattle.cats_cmd.specs.Duplicates.{FindsPlaces, judged_files}
+use Rattle.cats_cmd.specs.Opening.{Opens, OpensFirst, openable}
 use Rattle.cats_cmd.specs.Paths.{BeginsPaths, Judgement, Judges, JudgesPaths, JudgesStream, greatest_status}
 use Rattle.cats_cmd.specs.Paths.{lines_of_path}
 use Rattle.cats_cmd.specs.Paths.{status_of_judgement, request_error_of}
@@ -29,19 +31,20 @@ module _ {C : Type 0} (Has : C → List (List ℕ × Judgement) → Type 0) wher
       → Has new (judgements ++ (path, judgement) ∷ [])
 
   -- the stream was judged, and this is why it was not
-  pub record AddsOpened {F : Type 0} (remaining : F → Option (List ℕ)) (limit : ℕ) (path : List ℕ) (old new : C)
+  pub record AddsOpened {F : Type 0} (remaining : F → Option (List ℕ)) (options : SearchOptions) (path : List ℕ)
+      (old new : C)
       (before after : Watched F) (error : Option RequestError) : Type 0 where
     pub judgement : Judgement
-    pub judges : JudgesStream remaining limit before after judgement
+    pub judges : JudgesStream remaining options before after judgement
     pub adds : AddsJudgement path judgement old new
     pub is_error : error ≡ request_error_of judgement
 
   module _ {F : Type 0} (may_open : List ℕ → F → Type 0) (may_refuse : List ℕ → Unopened → Type 0)
-      (remaining : F → Option (List ℕ)) (limit : ℕ) where
+      (remaining : F → Option (List ℕ)) (options : SearchOptions) where
     -- the file at the path was judged
     pub record AddsFile (path : List ℕ) (old new : C) (error : Option RequestError) : Type 0 where
       pub judgement : Judgement
-      pub judges : Judges may_open may_refuse remaining limit (path, judgement)
+      pub judges : Judges may_open may_refuse remaining options (path, judgement)
       pub adds : AddsJudgement path judgement old new
       pub is_error : error ≡ request_error_of judgement
 
@@ -49,7 +52,7 @@ module _ {C : Type 0} (Has : C → List (List ℕ × Judgement) → Type 0) wher
     pub record AddsPath {E : Type 0} (messages : E → Option (List ℕ)) (progress : Progress) (count number : ℕ)
         (path : List ℕ) (old new : C) (err err_after : Watched E) (status : ℕ) : Type 0 where
       pub judgement : Judgement
-      pub judges : Judges may_open may_refuse remaining limit (path, judgement)
+      pub judges : Judges may_open may_refuse remaining options (path, judgement)
       pub adds : AddsJudgement path judgement old new
       pub reports : ReportsAll messages (lines_of_path progress count number (path, judgement)) err err_after
       pub is_status : status ≡ status_of_judgement judgement
@@ -64,7 +67,7 @@ module _ {C : Type 0} (Has : C → List (List ℕ × Judgement) → Type 0) wher
     pub record HasJudged {E : Type 0} (messages : E → Option (List ℕ)) (progress : Progress) (count : ℕ)
         (paths : List (List ℕ)) (kept : C) (err err_after : Watched E) (greatest : ℕ) : Type 0 where
       pub judgements : List (List ℕ × Judgement)
-      pub judges : JudgesPaths may_open may_refuse remaining messages limit progress count paths err err_after
+      pub judges : JudgesPaths may_open may_refuse remaining messages options progress count paths err err_after
           judgements
       pub has : Has kept judgements
       pub is_greatest : greatest ≡ greatest_status judgements
@@ -75,4 +78,10 @@ module _ {C : Type 0} (Has : C → List (List ℕ × Judgement) → Type 0) wher
     JudgesAllAs messages paths progress kept err err_after (Ok greatest) =
         HasJudged messages progress (length paths) paths kept err err_after greatest
     JudgesAllAs messages paths progress kept err err_after (Err e) =
-        BeginsPaths may_open may_refuse remaining messages limit progress paths err err_after
+        BeginsPaths may_open may_refuse remaining messages options progress paths err err_after
+
+-- all paths were opened, or, when memory is refused, the first of them
+abbrev pub OpensAllAs : {S H : Type 0} → (S → H) → (S → Option (List (List ℕ))) → List (List ℕ) → S → S
+    → Result ℕ AllocError → Type 0
+OpensAllAs content_of opened paths old new (Ok greatest) = Opens content_of opened old new (openable paths)
+OpensAllAs content_of opened paths old new (Err e) = OpensFirst content_of opened old new paths

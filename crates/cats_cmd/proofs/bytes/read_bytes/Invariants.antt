@@ -1,7 +1,7 @@
 use Rattle.std.proofs.Common.{◌≡◌, ◌<◌, ◌≤◌, ◌+◌, ◌-◌, length, false}
 use Rattle.std.specs.Io.KnownBytes.{Consumes}
 use Rattle.cats_text.specs.declared.limits.TheConstants.{MAX_STREAM}
-use Rattle.cats_text.specs.Streams.{inner_of, has_failed}
+use Rattle.cats_text.specs.Streams.{inner_of, has_ended, has_failed}
 use Rattle.cats_cmd.proofs.bytes.read_bytes.Given as goal
 
 -- the bytes that came so far are kept
@@ -10,6 +10,7 @@ invariant-loop-text g l = record {
   came : Consumes (g.R.Read.remaining (inner_of l.fn.input)) (g.R.Read.remaining (inner_of l.input)) l.text.items;
   within : length l.text.items ≤ MAX_STREAM;
   device : has_failed l.input ≡ false;
+  fresh : has_ended l.input ≡ false;
   not_empty : 0 < length l.piece;
 }
 

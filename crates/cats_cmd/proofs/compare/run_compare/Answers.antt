@@ -1,12 +1,9 @@
-use Rattle.std.proofs.Common.{refl}
-use Rattle.cats_cmd.proofs.Comparing.{run_compared, run_second_refused}
+use Rattle.std.proofs.Common.{subst}
+use Rattle.valuation.specs.declared.search_options.SearchOptions.{SearchOptions}
+use Rattle.cats_cmd.specs.Comparisons.{Compares}
 use Rattle.cats_cmd.proofs.compare.run_compare.Goals as goal
-
-pub returns-in-Err-read_canonical : goal.returns-in-Err-read_canonical
-returns-in-Err-read_canonical g c =
-    run_second_refused _ _ _ _ _ _ _ _ _ _ c.in-Ok.ensures.answer.file c.in-Ok.ensures.answer.given _ c.in-Err-read_canonical.ensures.answer refl
 
 pub returns : goal.returns
 returns g c =
-    run_compared _ _ _ _ _ _ _ _ _ _ c.in-Ok.file c.in-Ok-read_canonical.file c.in-Ok.ensures.answer
-    c.in-Ok-read_canonical.ensures.answer _ c.send_difference.ensures
+    subst (λ (o : SearchOptions). Compares g.R.Read.remaining g.S.Read.remaining g.W.Write.contents o c.args.first.now c.run_compare_by.new.first
+    c.args.second.now c.run_compare_by.new.second c.args.out.now c.run_compare_by.new.out c.run_compare_by.result) c.plain.ensures c.run_compare_by.ensures

@@ -10,5 +10,5 @@ returns-clause-answer g c =
 
 pub returns-clause-named : goal.returns-clause-named
 returns-clause-named g c =
-    named_canonical g.R.Read.remaining c.args.limit c.args.input.now c.read_packed_file.new.input c.named_normal_file.result
+    named_canonical g.R.Read.remaining c.args.options c.args.input.now c.read_packed_file.new.input c.named_normal_file.result
     (named_read _ _ _ _ c.in_ok-file.file c.in_ok-file.ensures _ c.named_normal_file.ensures.answer c.named_normal_file.ensures.dummies)

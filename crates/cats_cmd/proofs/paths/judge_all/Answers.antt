@@ -1,20 +1,38 @@
 use Rattle.std.proofs.Common.{ℕ, List, [], arith}
 use Rattle.std.specs.Borrow.{Bor}
-use Rattle.cats_cmd.proofs.JudgingPaths.{all_judged, first_judged, path_more}
+use Rattle.cats_cmd.proofs.JudgingPaths.{all_judged, first_judged, none_judged, path_in, path_more}
+use Rattle.cats_cmd.proofs.Opening.{opens_all, opens_next, opens_none, opens_some}
 use Rattle.cats_cmd.proofs.paths.judge_all.Goals as goal
 
 abbrev nowhere : Bor (List ℕ)
 nowhere = record { ref_ptr = (0, 0); now = [] }
 
+pub loop-number-init : goal.loop-number-init
+loop-number-init g c = record { judged = none_judged _ _ _ _ _ _ _ _ _ _ c.requires; opens = opens_none _ _ _ }
+
 pub loop-number-preserved : goal.loop-number-preserved
-loop-number-preserved g c =
-    path_more _ _ _ _ _ _ _ c.args.paths.now _ c.loop-number.number _ _ _ c.loop-number.invariant nowhere c.loop-number-test.true _
-    c.in_ok-status.status _ _ c.in_ok-status.ensures c.max-greatest.ensures
+loop-number-preserved g c = record {
+  judged = path_more _ _ _ _ _ _ _ c.args.paths.now _ c.loop-number.number _ _ _ c.loop-number.invariant.judged nowhere c.loop-number-test.true _
+      c.in_ok-status.status _ _
+      (path_in _ g.S.Source.may_open g.S.Source.may_refuse _ _ _ _ _ _ _ _ _ _ _ _ _ _ c.loop-number.invariant.opens.stays
+      c.in_ok-status.ensures.adds) c.max-greatest.ensures;
+  opens = opens_next _ _ _ _ _ c.args.paths.now c.loop-number.number nowhere c.loop-number-test.true c.loop-number.invariant.opens c.judge_path.ensures.opens;
+}
 
-pub returns-in_err-status : goal.returns-in_err-status
-returns-in_err-status g c =
-    first_judged _ _ _ _ _ _ _ c.args.paths.now _ c.loop-number.number _ _ _ c.loop-number.invariant _ _ c.in_err-status.ensures _ c.from_residual.ensures.0
+pub returns-in_err-status-clause-judges : goal.returns-in_err-status-clause-judges
+returns-in_err-status-clause-judges g c =
+    first_judged _ _ _ _ _ _ _ c.args.paths.now _ c.loop-number.number _ _ _ c.loop-number.invariant.judged _ _ c.in_err-status.ensures.adds _
+    c.from_residual.ensures.0
 
-pub returns : goal.returns
-returns g c =
-    all_judged _ _ _ _ _ _ _ c.args.paths.now _ c.loop-number.number _ _ _ c.loop-number.invariant (omega (arith, c.loop-number-test.false))
+pub returns-in_err-status-clause-opens : goal.returns-in_err-status-clause-opens
+returns-in_err-status-clause-opens g c =
+    opens_some _ _ _ _ _ c.args.paths.now c.loop-number.number nowhere c.loop-number-test.true c.loop-number.invariant.opens c.judge_path.ensures.opens _
+    c.from_residual.ensures.0
+
+pub returns-clause-judges : goal.returns-clause-judges
+returns-clause-judges g c =
+    all_judged _ _ _ _ _ _ _ c.args.paths.now _ c.loop-number.number _ _ _ c.loop-number.invariant.judged (omega (arith, c.loop-number-test.false))
+
+pub returns-clause-opens : goal.returns-clause-opens
+returns-clause-opens g c =
+    opens_all _ _ _ _ c.args.paths.now c.loop-number.number (omega (arith, c.loop-number-test.false)) c.loop-number.invariant.opens

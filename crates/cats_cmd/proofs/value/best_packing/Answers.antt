@@ -5,8 +5,8 @@ use Rattle.goods_set.specs.Lemmas.Members.{AreBelow-higher}
 use Rattle.valuation.specs.Auctions.{IsAtom}
 use Rattle.cats_cmd.proofs.value.best_packing.Goals as goal
 
-pub or_value-requires : goal.or_value-requires
-or_value-requires g c =
+pub or_value_by-requires : goal.or_value_by-requires
+or_value_by-requires g c =
     let facts = c.args.auction.now.facts in
     rw c.or_atoms.ensures (All-weaker (IsAtom c.args.auction.now.goods) (IsAtom MAX_GOODS)
     (λ a h. record {

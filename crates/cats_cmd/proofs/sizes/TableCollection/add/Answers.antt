@@ -7,7 +7,7 @@ use Rattle.cats_cmd.proofs.sizes.TableCollection.add.Goals as goal
 pub returns-in-Err : goal.returns-in-Err
 returns-in-Err g c =
     rw c.from.ensures
-    (table_unread c.args.many.ending g.R.Read.remaining c.args.many.limit _ _ _ c.args.self.now c.args.self.now c.args.self.now.lines.items
+    (table_unread c.args.many.ending g.R.Read.remaining c.args.many.options _ _ _ c.args.self.now c.args.self.now c.args.self.now.lines.items
     c.args.self.now.lines.items
     c.args.path.now (λ js h. h) (λ js h. h) refl c.in-Err.fault c.in-Err.ensures)
 
@@ -15,7 +15,7 @@ pub returns-in-Ok-normal_packed_file : goal.returns-in-Ok-normal_packed_file
 returns-in-Ok-normal_packed_file g c =
     let file = c.in-Ok.file in
     let normal = c.in-Ok-normal_packed_file.ensures.answer in
-    table_judged c.args.many.ending g.R.Read.remaining c.args.many.limit _ _ _ c.args.self.now _ c.args.self.now.lines.items c.push_line.new.lines.items
+    table_judged c.args.many.ending g.R.Read.remaining c.args.many.options _ _ _ c.args.self.now _ c.args.self.now.lines.items c.push_line.new.lines.items
     c.args.path.now (λ js h. h)
     (λ js h. h) file c.in-Ok.ensures normal.within_limit
     (line_made c.args.many.ending c.args.self.now.lines.items c.push_line.new.lines.items c.args.path.now c.as_slice.result.now _
@@ -28,7 +28,7 @@ returns-in-Ok-normal_packed_file g c =
 pub returns-in-Err-StepLimit : goal.returns-in-Err-StepLimit
 returns-in-Err-StepLimit g c =
     let file = c.in-Ok.file in
-    table_heavy c.args.many.ending g.R.Read.remaining c.args.many.limit _ _ _ c.args.self.now _ c.args.self.now.lines.items
+    table_heavy c.args.many.ending g.R.Read.remaining c.args.many.options _ _ _ c.args.self.now _ c.args.self.now.lines.items
     c.push_line-in-Err-StepLimit.new.lines.items
     c.args.path.now (λ js h. h) (λ js h. h) file c.in-Ok.ensures c.in-Err-StepLimit.goods
     (rw c.in-Err-StepLimit.field-0-is at c.in-Err-StepLimit.ensures.answer)
@@ -44,6 +44,6 @@ returns-in-Err-StepLimit g c =
 pub returns : goal.returns
 returns g c =
     rw c.from-in-Err-normal_packed_file.ensures
-    (table_unmade c.args.many.ending g.R.Read.remaining c.args.many.limit _ _ _ c.args.self.now c.args.self.now c.args.self.now.lines.items
+    (table_unmade c.args.many.ending g.R.Read.remaining c.args.many.options _ _ _ c.args.self.now c.args.self.now c.args.self.now.lines.items
     c.args.self.now.lines.items
     c.args.path.now (λ js h. h) (λ js h. h) c.in-Ok.file c.in-Ok.ensures refl)

@@ -1,0 +1,28 @@
+-- Which paths a source has opened: each once, in the order of the request.
+use Rattle.std.specs.Prelude.{◌≡◌, ◌⊎◌, ◌++◌, ℕ, List, [], ◌∷◌, filter, map, take, Option, option_map, Result, Ok, Err}
+use Rattle.std.specs.Str.{is_utf8}
+
+-- known paths, and then these
+abbrev pub with_paths : Option (List (List ℕ)) → List (List ℕ) → Option (List (List ℕ))
+with_paths known paths = option_map (λ before. before ++ paths) known
+
+-- A path that is not UTF-8 is not opened.
+abbrev pub openable : List (List ℕ) → List (List ℕ)
+openable paths = filter is_utf8 paths
+
+-- `content_of` says what a source holds, and `opened` which paths it has opened, if that is known.
+module _ {S H : Type 0} (content_of : S → H) (opened : S → Option (List (List ℕ))) where
+  -- the source has opened these paths more, in order, with those that it refused, and holds what it held
+  pub record Opens (old new : S) (paths : List (List ℕ)) : Type 0 where
+    pub stays : content_of new ≡ content_of old
+    pub more : opened new ≡ with_paths (opened old) paths
+
+  -- it has opened the first of these paths
+  pub record OpensFirst (old new : S) (paths : List (List ℕ)) : Type 0 where
+    pub count : ℕ
+    pub opens : Opens old new (openable (take count paths))
+
+  -- it has opened all of these paths, or the first of them, as memory was refused to all files together
+  abbrev pub OpensEach : List (List ℕ) → S → S → ℕ → Type 0
+  OpensEach paths old new status =
+      Opens old new (openable paths) ⊎ ((status ≡ 4) × OpensFirst old new paths)
