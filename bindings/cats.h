@@ -32,14 +32,18 @@ enum cats_status {
     CATS_DONE = 0,            // done; of cats_compare and cats_diff: the same auction
     CATS_DIFFERENT = 1,       // of cats_compare and cats_diff: different auctions
     CATS_REFUSED = 2,         // a text is not a bid file, or is longer than is read
-    CATS_STEP_LIMIT = 3,      // a search takes more steps than its limit
+    CATS_STEP_LIMIT = 3,      // a search takes more steps than its limits leave
     CATS_WANT_OF_MEMORY = 4,  // memory was refused
     CATS_BUFFER_TOO_SMALL = 6 // an output needs a larger buffer
 };
 
-// The limit on steps that the program has without `--steps`. A call takes any limit. It is one for each search, of which a file may need as
-// many as it has bids.
+// The two limits of a call that searches. All its searches are bounded, as those of the program with `--bound`.
+//
+// - `steps`: the most steps of one search, of which a file may need as many as it has bids. Any number is a limit; CATS_STEPS is what the
+//   program has without `--steps`.
+// - `total`: the most steps of all searches of one text together, or CATS_NO_TOTAL. Each of two texts has a total of its own.
 #define CATS_STEPS 1000000
+#define CATS_NO_TOTAL 0
 
 // Reads a text of `length` bytes and writes how many goods, bids and dummy goods it has, as `goods G bids B dummy D` and LF.
 // Returns CATS_DONE, CATS_REFUSED, CATS_WANT_OF_MEMORY or CATS_BUFFER_TOO_SMALL.
@@ -48,26 +52,26 @@ uint8_t cats_check(const uint8_t *text, size_t length, uint8_t *out, size_t size
 
 // Reads a text and writes the canonical text of its auction, which is the same for two texts exactly if they are the same auction.
 // Returns CATS_DONE, CATS_REFUSED, CATS_STEP_LIMIT, CATS_WANT_OF_MEMORY or CATS_BUFFER_TOO_SMALL.
-uint8_t cats_normalise(const uint8_t *text, size_t length, uint64_t steps, uint8_t *out, size_t size, size_t *needed);
+uint8_t cats_normalise(const uint8_t *text, size_t length, uint64_t steps, uint64_t total, uint8_t *out, size_t size, size_t *needed);
 #define CATS_NORMALISE_SIZE(length) ((size_t)(length) + (size_t)(length) / 2 + 64)
 
 // Reads a text and writes a line for each of its bids: its number, and why the canonical text has it or not.
 // Returns CATS_DONE, CATS_REFUSED, CATS_STEP_LIMIT, CATS_WANT_OF_MEMORY or CATS_BUFFER_TOO_SMALL.
-uint8_t cats_explain(const uint8_t *text, size_t length, uint64_t steps, uint8_t *out, size_t size, size_t *needed);
+uint8_t cats_explain(const uint8_t *text, size_t length, uint64_t steps, uint64_t total, uint8_t *out, size_t size, size_t *needed);
 #define CATS_EXPLAIN_SIZE(length) (3 * (size_t)(length) + 64)
 
 // Reads two texts and writes `same` and LF, or four lines: `different`, and where the two auctions first differ.
 // The line of a refused text begins with `first: ` or `second: `.
 // Returns CATS_DONE, CATS_DIFFERENT, CATS_REFUSED, CATS_STEP_LIMIT, CATS_WANT_OF_MEMORY or CATS_BUFFER_TOO_SMALL.
-uint8_t cats_compare(const uint8_t *left, size_t left_length, const uint8_t *right, size_t right_length, uint64_t steps, uint8_t *out,
-                     size_t size, size_t *needed);
+uint8_t cats_compare(const uint8_t *left, size_t left_length, const uint8_t *right, size_t right_length, uint64_t steps, uint64_t total,
+                     uint8_t *out, size_t size, size_t *needed);
 #define CATS_COMPARE_SIZE(left_length, right_length) ((size_t)(left_length) + (size_t)(right_length) + 128)
 
 // Reads two texts and writes a line for each difference of the two auctions, and nothing if they are the same.
 // The line of a refused text begins with `first: ` or `second: `.
 // Returns CATS_DONE, CATS_DIFFERENT, CATS_REFUSED, CATS_STEP_LIMIT, CATS_WANT_OF_MEMORY or CATS_BUFFER_TOO_SMALL.
-uint8_t cats_diff(const uint8_t *left, size_t left_length, const uint8_t *right, size_t right_length, uint64_t steps, uint8_t *out,
-                  size_t size, size_t *needed);
+uint8_t cats_diff(const uint8_t *left, size_t left_length, const uint8_t *right, size_t right_length, uint64_t steps, uint64_t total,
+                  uint8_t *out, size_t size, size_t *needed);
 #define CATS_DIFF_SIZE(left_length, right_length) (2 * ((size_t)(left_length) + (size_t)(right_length)) + 128)
 
 // Reads a text, and writes it with each price that is a decimal rounded to the nearest millionth. A second buffer gets a line for each price

@@ -6,6 +6,9 @@ raises a CatsError for what that refuses. Any number of threads may call at once
 >>> check(b"goods 3\\nbids 2\\ndummy 1\\n0 20 0 2 3 #\\n1 7 1 #\\n")
 Sizes(goods=3, bids=2, dummies=1)
 
+All searches are bounded, as those of the program with `--bound`. `steps` is the most steps of one search, and `total` those of all searches
+of one text together, if it is not None.
+
 The library libcats.so is looked for beside this file, and then where the system looks for libraries.
 """
 import ctypes
@@ -22,6 +25,9 @@ __all__ = [
 
 # The limit on the steps of each search, if none is given.
 STEPS = 1_000_000
+
+# What the library takes for no limit on the steps of all searches of a text: CATS_NO_TOTAL of cats.h.
+NO_TOTAL = 0
 
 # Room for any line on a fault, beside what an output takes for each byte of a text.
 LINE = 128
@@ -103,7 +109,7 @@ class RefusedText(CatsError):
 
 
 class StepLimit(CatsError):
-    """The search on a bundle takes more steps than its limit. `bundle` has the goods, rising."""
+    """The search on a bundle takes more steps than `steps`, or than are left of `total`. `bundle` has the goods, rising."""
 
     def __init__(self, bundle, which=None):
         super().__init__("step limit at " + ",".join(map(str, bundle)), which)
@@ -116,14 +122,14 @@ class WantOfMemory(CatsError, MemoryError):
 
 # ---- the library
 
-TEXT, OUT = [c_char_p, c_size_t], [c_void_p, c_size_t, POINTER(c_size_t)]
+TEXT, LIMITS, OUT = [c_char_p, c_size_t], [c_uint64, c_uint64], [c_void_p, c_size_t, POINTER(c_size_t)]
 
 ARGUMENTS = {
     "cats_check": [*TEXT, *OUT],
-    "cats_normalise": [*TEXT, c_uint64, *OUT],
-    "cats_explain": [*TEXT, c_uint64, *OUT],
-    "cats_compare": [*TEXT, *TEXT, c_uint64, *OUT],
-    "cats_diff": [*TEXT, *TEXT, c_uint64, *OUT],
+    "cats_normalise": [*TEXT, *LIMITS, *OUT],
+    "cats_explain": [*TEXT, *LIMITS, *OUT],
+    "cats_compare": [*TEXT, *TEXT, *LIMITS, *OUT],
+    "cats_diff": [*TEXT, *TEXT, *LIMITS, *OUT],
     "cats_round": [*TEXT, c_bool, *OUT, *OUT],
 }
 
@@ -190,10 +196,15 @@ def bytes_of(text):
     return bytes(memoryview(text))
 
 
-def limit_of(steps):
+def limits_of(steps, total):
+    """The limits as the library takes them."""
     if not 0 <= steps < 2**64:
         raise ValueError(f"steps is a number from 0 to 2**64 - 1, and not {steps}")
-    return steps
+    if total is None:
+        return [steps, NO_TOTAL]
+    if not 1 <= total < 2**64:
+        raise ValueError(f"total is None or a number from 1 to 2**64 - 1, and not {total}")
+    return [steps, total]
 
 
 def error_of(status, out):
@@ -217,17 +228,17 @@ def answer(name, arguments, *sizes):
     return outputs
 
 
-def answer_on_one(name, text, steps, times):
+def answer_on_one(name, text, limits, times):
     """The output of a call on a text, which takes at most so many times its length, and a line."""
     text = bytes_of(text)
-    (out,) = answer(name, [text, len(text), limit_of(steps)], times * len(text) + LINE)
+    (out,) = answer(name, [text, len(text), *limits], times * len(text) + LINE)
     return out
 
 
-def answer_on_two(name, left, right, steps, times):
+def answer_on_two(name, left, right, limits, times):
     """The lines of a call on two texts, which take at most so many times their length, and a line."""
     left, right = bytes_of(left), bytes_of(right)
-    arguments = [left, len(left), right, len(right), limit_of(steps)]
+    arguments = [left, len(left), right, len(right), *limits]
     (out,) = answer(name, arguments, times * (len(left) + len(right)) + LINE)
     return out.decode("ascii").splitlines()
 
@@ -257,16 +268,24 @@ def check(text):
     return Sizes(*map(int, out.split()[1::2]))
 
 
-def normalise(text, steps=STEPS):
+def normalise(text, steps=STEPS, *, total=None):
     """The canonical text of an auction: two texts have the same exactly if they are the same auction.
 
     >>> normalise(b"goods 1\\nbids 2\\ndummy 0\\n0 3 0 #\\n1 4.50 0 #\\n")
     b'goods 1\\nbids 1\\ndummy 0\\n0\\t4.5\\t0\\t#\\n'
+
+    A search for each of these bundles takes one step:
+
+    >>> try:
+    ...     normalise(b"goods 2\\nbids 2\\ndummy 0\\n0 3 0 #\\n1 4 1 #\\n", total=1)
+    ... except StepLimit as limit:
+    ...     print(limit.bundle)
+    (1,)
     """
-    return answer_on_one("cats_normalise", text, steps, 2)
+    return answer_on_one("cats_normalise", text, limits_of(steps, total), 2)
 
 
-def explain(text, steps=STEPS):
+def explain(text, steps=STEPS, *, total=None):
     """For each bid, in order of number, why the canonical text has it or not.
 
     >>> for number, reason in enumerate(explain(b"goods 2\\nbids 3\\ndummy 0\\n0 3 0 #\\n1 4 1 #\\n2 7 0 1 #\\n")):
@@ -275,7 +294,7 @@ def explain(text, steps=STEPS):
     1 keep (1,)
     2 packing (0, 1)
     """
-    lines = answer_on_one("cats_explain", text, steps, 3).decode("ascii").splitlines()
+    lines = answer_on_one("cats_explain", text, limits_of(steps, total), 3).decode("ascii").splitlines()
     words = (line.split("\t") for line in lines)
     return [Reason(kind, tuple(map(int, bids))) for _, kind, *bids in words]
 
@@ -306,7 +325,7 @@ def change_of(line):
     return Change(int(found[1]), found[2], found[3])
 
 
-def compare(left, right, steps=STEPS):
+def compare(left, right, steps=STEPS, *, total=None):
     """Whether two texts are the same auction, and else where they first differ.
 
     >>> one = b"goods 2\\nbids 2\\ndummy 0\\n0 3 0 #\\n1 4 1 #\\n"
@@ -315,21 +334,21 @@ def compare(left, right, steps=STEPS):
     >>> compare(one, b"goods 2\\nbids 3\\ndummy 0\\n0 3 0 #\\n1 4 1 #\\n2 7.5 0 1 #\\n")
     Verdict(same=False, kind='or', where='0,1', left='below 7.5', right='7.5')
     """
-    verdict, *lines = answer_on_two("cats_compare", left, right, steps, 1)
+    verdict, *lines = answer_on_two("cats_compare", left, right, limits_of(steps, total), 1)
     if verdict == "same":
         return Verdict(True)
     difference, left_side, right_side = (line.partition(" ") for line in lines)
     return Verdict(False, difference[0], difference[2] or None, left_side[2], right_side[2])
 
 
-def diff(left, right, steps=STEPS):
+def diff(left, right, steps=STEPS, *, total=None):
     """All differences of two auctions, a list that is empty exactly if they are the same.
 
     >>> one = b"goods 2\\nbids 2\\ndummy 0\\n0 3 0 #\\n1 4 1 #\\n"
     >>> diff(one, b"goods 2\\nbids 3\\ndummy 0\\n0 3 0 #\\n1 5 1 #\\n2 8.5 0 1 #\\n")
     [Difference(kind='or', where='1', left='4', right='5'), Difference(kind='or', where='0,1', left=None, right='8.5')]
     """
-    lines = answer_on_two("cats_diff", left, right, steps, 2)
+    lines = answer_on_two("cats_diff", left, right, limits_of(steps, total), 2)
     return [difference_of(*line.split("\t")) for line in lines]
 
 

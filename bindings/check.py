@@ -58,7 +58,7 @@ class Call(NamedTuple):
 
     function: str
     words: tuple = ()
-    argument: tuple = (cats.STEPS,)
+    arguments: tuple = (cats.STEPS, cats.NO_TOTAL)
     texts: int = 1
 
     def __str__(self):
@@ -67,24 +67,30 @@ class Call(NamedTuple):
     def name(self):
         return self.function.removeprefix("cats_")
 
+    def words_of_program(self):
+        """The subcommand and its options. The library always uses the bounded search, which two subcommands have an option for."""
+        return [self.name(), *(["--bound"] if self.name() in ("normalise", "compare") else []), *self.words]
+
+    def words_of_module(self):
+        """The arguments behind the texts, by the names that the module has for them. What is no limit is left out."""
+        names = ("exact",) if self.name() == "round" else ("steps", "total")
+        return {name: value for name, value in zip(names, self.arguments) if (name, value) != ("total", cats.NO_TOTAL)}
+
     def outputs(self):
         """How many buffers it writes to."""
         return 2 if self.name() == "round" else 1
 
 
-FEW_STEPS = ("--steps", "3")
+FEW_STEPS, FEW_IN_ALL = ("--steps", "3"), ("--total-steps", "3")
+LIMITS = {(): (cats.STEPS, cats.NO_TOTAL), FEW_STEPS: (3, cats.NO_TOTAL), FEW_IN_ALL: (cats.STEPS, 3)}
 CALLS = [
-    Call("cats_check", argument=()),
-    Call("cats_normalise"),
-    Call("cats_normalise", FEW_STEPS, (3,)),
-    Call("cats_explain"),
-    Call("cats_explain", FEW_STEPS, (3,)),
-    Call("cats_round", argument=(False,)),
+    Call("cats_check", arguments=()),
+    *(Call("cats_normalise", *limits) for limits in LIMITS.items()),
+    *(Call("cats_explain", *limits) for limits in LIMITS.items()),
+    Call("cats_round", arguments=(False,)),
     Call("cats_round", ("--exact",), (True,)),
-    Call("cats_compare", texts=2),
-    Call("cats_compare", FEW_STEPS, (3,), texts=2),
-    Call("cats_diff", texts=2),
-    Call("cats_diff", FEW_STEPS, (3,), texts=2),
+    *(Call("cats_compare", *limits, texts=2) for limits in LIMITS.items()),
+    *(Call("cats_diff", *limits, texts=2) for limits in LIMITS.items()),
 ]
 
 
@@ -184,7 +190,7 @@ def made_texts():
 # ---- the program and the library
 
 def answer_of_program(call, paths):
-    ran = subprocess.run([PROGRAM, call.name(), *call.words, *paths], stdin=subprocess.DEVNULL, capture_output=True, timeout=SECONDS)
+    ran = subprocess.run([PROGRAM, *call.words_of_program(), *paths], stdin=subprocess.DEVNULL, capture_output=True, timeout=SECONDS)
     if ran.returncode <= cats.DIFFERENT:
         return Answer(ran.returncode, ran.stdout, ran.stderr)
     return Answer(ran.returncode, ran.stderr)
@@ -213,7 +219,7 @@ def call_library(library, call, texts, sizes):
     buffers = [buffer_of(size) for size in sizes]
     words = [word for text in texts for word in (text if isinstance(text, tuple) else (text, len(text)))]
     arguments = [word for buffer in buffers for word in (buffer.bytes, buffer.size, ctypes.byref(buffer.needed))]
-    return getattr(library, call.function)(*words, *call.argument, *arguments), buffers
+    return getattr(library, call.function)(*words, *call.arguments, *arguments), buffers
 
 
 def ample_sizes(call, texts):
@@ -257,7 +263,7 @@ def check_answers(cases):
         TALLY.judge(answer == one.own, one, f"{answer} and not {one.own}, of {one.texts}")
     seen = {(str(one.call), one.own.status) for one in cases}
     for call in CALLS:
-        wanted = {0, 2} | ({1} if call.texts == 2 else set()) | ({3} if call.words == FEW_STEPS else set())
+        wanted = {0, 2} | ({1} if call.texts == 2 else set()) | ({3} if call.words in (FEW_STEPS, FEW_IN_ALL) else set())
         lacking = [status for status in wanted if (str(call), status) not in seen]
         TALLY.judge(not lacking, f"{call}: no file was answered by the statuses {lacking}")
 
@@ -266,7 +272,7 @@ def module_answer(call, texts):
     """What the module answers, or the exception that it raises, as the answer of the library: only its status, and the words of a line."""
     function = getattr(cats, "round_prices" if call.name() == "round" else call.name())
     try:
-        found = function(*texts, *call.argument)
+        found = function(*texts, **call.words_of_module())
     except cats.CatsError as error:
         status = {cats.RefusedText: cats.REFUSED, cats.StepLimit: cats.STEP_LIMIT, cats.WantOfMemory: cats.WANT_OF_MEMORY}[type(error)]
         return Answer(status, f"{error}\n".encode())

@@ -48,20 +48,21 @@ static uint8_t check(struct edge *it) {
 }
 
 static uint8_t normalise(struct edge *it) {
-    return cats_normalise(it->left.bytes, it->left.size, CATS_STEPS, it->out.bytes, it->out.size, &it->needed);
+    return cats_normalise(it->left.bytes, it->left.size, CATS_STEPS, CATS_NO_TOTAL, it->out.bytes, it->out.size, &it->needed);
 }
 
 static uint8_t explain(struct edge *it) {
-    return cats_explain(it->left.bytes, it->left.size, FEW_STEPS, it->out.bytes, it->out.size, &it->needed);
+    return cats_explain(it->left.bytes, it->left.size, FEW_STEPS, CATS_NO_TOTAL, it->out.bytes, it->out.size, &it->needed);
 }
 
 static uint8_t compare(struct edge *it) {
-    return cats_compare(it->left.bytes, it->left.size, it->right.bytes, it->right.size, CATS_STEPS, it->out.bytes, it->out.size,
-                        &it->needed);
+    return cats_compare(it->left.bytes, it->left.size, it->right.bytes, it->right.size, CATS_STEPS, CATS_NO_TOTAL, it->out.bytes,
+                        it->out.size, &it->needed);
 }
 
 static uint8_t diff(struct edge *it) {
-    return cats_diff(it->left.bytes, it->left.size, it->right.bytes, it->right.size, CATS_STEPS, it->out.bytes, it->out.size, &it->needed);
+    return cats_diff(it->left.bytes, it->left.size, it->right.bytes, it->right.size, CATS_STEPS, FEW_STEPS, it->out.bytes, it->out.size,
+                     &it->needed);
 }
 
 static uint8_t round_prices(struct edge *it) {

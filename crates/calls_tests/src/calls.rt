@@ -25,6 +25,11 @@ static BEYOND: &[u8] = b"goods 2\nbids 1\ndummy 0\n0\t3\t2\t#\n";
 /// A price that is finer than a millionth.
 static FINE: &[u8] = b"goods 1\nbids 1\ndummy 0\n0 0.0123456 0 #\n";
 
+/// Bids of 4 for the goods 0 and 1, and for 1 and 2, and one of 7 for all. The plain search for these takes two steps, and
+/// the bounded one takes one.
+static CROSSING: &[u8] =
+    b"goods 3\nbids 3\ndummy 0\n0\t4\t0\t1\t#\n1\t4\t1\t2\t#\n2\t7\t0\t1\t2\t#\n";
+
 /// Steps enough for these texts.
 const STEPS: u64 = 1_000;
 
@@ -57,14 +62,98 @@ fn one_text(rt: HostRuntime) -> Result<(), Fail> {
         b"goods 2 bids 2 dummy 0\n",
     );
     expect(&rt, alloc, &check(alloc, BEYOND), 2, refused);
-    expect(&rt, alloc, &normalise(alloc, PAIR_AT_7, STEPS), 0, SINGLES);
-    expect(&rt, alloc, &normalise(alloc, BEYOND, STEPS), 2, refused);
     expect(
         &rt,
         alloc,
-        &explain_text(alloc, PAIR_AT_7, STEPS),
+        &normalise(alloc, PAIR_AT_7, STEPS, None),
+        0,
+        SINGLES,
+    );
+    expect(
+        &rt,
+        alloc,
+        &normalise(alloc, BEYOND, STEPS, None),
+        2,
+        refused,
+    );
+    expect(
+        &rt,
+        alloc,
+        &explain_text(alloc, PAIR_AT_7, STEPS, None),
         0,
         reasons,
+    );
+    Ok(())
+}
+
+#[test]
+fn limits_of_steps(rt: HostRuntime) -> Result<(), Fail> {
+    let alloc = rt.alloc();
+    let over = b"step limit at 0,1,2\n";
+    let reasons = b"0\tkeep\t0\n1\tkeep\t1\n2\tkeep\t2\n";
+    expect(
+        &rt,
+        alloc,
+        &normalise(alloc, CROSSING, 1, None),
+        0,
+        CROSSING,
+    );
+    expect(
+        &rt,
+        alloc,
+        &normalise(alloc, CROSSING, 1, Some(3)),
+        0,
+        CROSSING,
+    );
+    expect(&rt, alloc, &normalise(alloc, CROSSING, 1, Some(2)), 3, over);
+    expect(
+        &rt,
+        alloc,
+        &explain_text(alloc, CROSSING, 1, Some(3)),
+        0,
+        reasons,
+    );
+    expect(
+        &rt,
+        alloc,
+        &explain_text(alloc, CROSSING, 1, Some(2)),
+        3,
+        over,
+    );
+    Ok(())
+}
+
+#[test]
+fn limits_of_two(rt: HostRuntime) -> Result<(), Fail> {
+    let alloc = rt.alloc();
+    let over = b"second: step limit at 0,1,2\n";
+    expect(
+        &rt,
+        alloc,
+        &compare(alloc, CROSSING, CROSSING, 1, Some(3)),
+        0,
+        b"same\n",
+    );
+    expect(
+        &rt,
+        alloc,
+        &compare(alloc, SINGLES, CROSSING, 1, Some(2)),
+        3,
+        over,
+    );
+    expect(
+        &rt,
+        alloc,
+        &diff(alloc, CROSSING, CROSSING, 1, Some(3)),
+        0,
+        b"",
+    );
+    expect(
+        &rt,
+        alloc,
+        &diff(alloc, SINGLES, CROSSING, 1, Some(2)),
+        3,
+        over,
     );
     Ok(())
 }
@@ -77,21 +166,21 @@ fn first_differences(rt: HostRuntime) -> Result<(), Fail> {
     expect(
         &rt,
         alloc,
-        &compare(alloc, SINGLES, PAIR_AT_7, STEPS),
+        &compare(alloc, SINGLES, PAIR_AT_7, STEPS, None),
         0,
         b"same\n",
     );
     expect(
         &rt,
         alloc,
-        &compare(alloc, SINGLES, PAIR_AT_8, STEPS),
+        &compare(alloc, SINGLES, PAIR_AT_8, STEPS, None),
         1,
         different,
     );
     expect(
         &rt,
         alloc,
-        &compare(alloc, SINGLES, BEYOND, STEPS),
+        &compare(alloc, SINGLES, BEYOND, STEPS, None),
         2,
         refused,
     );
@@ -102,15 +191,27 @@ fn first_differences(rt: HostRuntime) -> Result<(), Fail> {
 fn all_differences(rt: HostRuntime) -> Result<(), Fail> {
     let alloc = rt.alloc();
     let refused = b"first: line 4: GoodRange\n";
-    expect(&rt, alloc, &diff(alloc, SINGLES, PAIR_AT_7, STEPS), 0, b"");
     expect(
         &rt,
         alloc,
-        &diff(alloc, SINGLES, PAIR_AT_8, STEPS),
+        &diff(alloc, SINGLES, PAIR_AT_7, STEPS, None),
+        0,
+        b"",
+    );
+    expect(
+        &rt,
+        alloc,
+        &diff(alloc, SINGLES, PAIR_AT_8, STEPS, None),
         1,
         b"or\t0,1\t-\t8\n",
     );
-    expect(&rt, alloc, &diff(alloc, BEYOND, BEYOND, STEPS), 2, refused);
+    expect(
+        &rt,
+        alloc,
+        &diff(alloc, BEYOND, BEYOND, STEPS, None),
+        2,
+        refused,
+    );
     Ok(())
 }
 
@@ -135,7 +236,7 @@ fn rounded_text(rt: HostRuntime) -> Result<(), Fail> {
 
 #[test]
 fn buffers(rt: HostRuntime) -> Result<(), Fail> {
-    let answer = compare(rt.alloc(), SINGLES, SINGLES, STEPS);
+    let answer = compare(rt.alloc(), SINGLES, SINGLES, STEPS, None);
     let mut needed = 0;
     let mut short = *b"....";
     assert_eq!(rt;

@@ -1,4 +1,5 @@
-//! The exports of the C library. Each call puts what it answers into its caller's buffer, and nothing is kept.
+//! The exports of the C library. Each call puts what it answers into its caller's buffer, and nothing is kept. All searches
+//! are bounded: `steps` is the most steps of one search, and `total` those of all searches of one text together.
 #![tactic(auto)]
 
 ghost use Rattle.rounding.specs.declared.replacement.FinePrices.TheVariants.{Refuse, Round};
@@ -8,6 +9,10 @@ ghost use Rattle.cats_calls.specs.OneText.{ChecksText, ExplainsText, NormalisesT
 ghost use Rattle.cats_calls.specs.Refusals.{IsUnmade, IsUnread, OfOnly, OfTwo};
 ghost use Rattle.cats_calls.specs.Roundings.{AnswersRounding, RoundCalls, whole_status};
 ghost use Rattle.cats_calls.specs.TwoTexts.{ComparesTexts, DiffsTexts};
+ghost use Rattle.valuation.specs.SearchLimits.{bounded_options};
+ghost use Rattle.cats_c.specs.Totals.{total_of};
+
+pub mod worked;
 
 use answers::RunFault;
 use cats_calls::{
@@ -16,6 +21,9 @@ use cats_calls::{
 };
 use rounding::FinePrices;
 use std::alloc::Global;
+
+/// The value of `total` that is no limit: `CATS_NO_TOTAL` of cats.h.
+const NO_TOTAL: u64 = 0;
 
 /// `cats check`: the sizes of the file.
 #[unsafe(no_mangle)]
@@ -31,12 +39,15 @@ pub extern "C" fn cats_normalise(
     alloc: Global,
     text: &[u8],
     steps: u64,
+    total: u64,
     out: &mut [u8],
     needed: &mut usize,
 ) -> u8
-    ensures { Calls (NormalisesText steps text.now) (OfOnly (IsUnmade steps text.now)) out.old out.new needed.new result }
+    ensures { let options = bounded_options steps (total_of total) in
+        Calls (NormalisesText options text.now) (OfOnly (IsUnmade options text.now)) out.old out.new needed.new result }
 {
-    give(alloc, &normalise(alloc, text, steps), out, needed)
+    let answer = normalise(alloc, text, steps, total_of(total));
+    give(alloc, &answer, out, needed)
 }
 
 /// `cats explain`: why each bid of the file is in its canonical file, or is not.
@@ -45,12 +56,15 @@ pub extern "C" fn cats_explain(
     alloc: Global,
     text: &[u8],
     steps: u64,
+    total: u64,
     out: &mut [u8],
     needed: &mut usize,
 ) -> u8
-    ensures { Calls (ExplainsText steps text.now) (OfOnly (IsUnmade steps text.now)) out.old out.new needed.new result }
+    ensures { let options = bounded_options steps (total_of total) in
+        Calls (ExplainsText options text.now) (OfOnly (IsUnmade options text.now)) out.old out.new needed.new result }
 {
-    give(alloc, &explain_text(alloc, text, steps), out, needed)
+    let answer = explain_text(alloc, text, steps, total_of(total));
+    give(alloc, &answer, out, needed)
 }
 
 /// `cats compare`: whether two files are the same auction, or else their first difference. C fixes the parameters.
@@ -60,13 +74,16 @@ pub extern "C" fn cats_compare(
     left: &[u8],
     right: &[u8],
     steps: u64,
+    total: u64,
     out: &mut [u8],
     needed: &mut usize,
 ) -> u8
-    ensures { Calls (ComparesTexts steps left.now right.now)
-        (OfTwo steps left.now right.now) out.old out.new needed.new result }
+    ensures { let options = bounded_options steps (total_of total) in
+        Calls (ComparesTexts options left.now right.now) (OfTwo options left.now right.now)
+        out.old out.new needed.new result }
 {
-    give(alloc, &compare(alloc, left, right, steps), out, needed)
+    let answer = compare(alloc, left, right, steps, total_of(total));
+    give(alloc, &answer, out, needed)
 }
 
 /// `cats diff`: all differences of two files.
@@ -76,13 +93,15 @@ pub extern "C" fn cats_diff(
     left: &[u8],
     right: &[u8],
     steps: u64,
+    total: u64,
     out: &mut [u8],
     needed: &mut usize,
 ) -> u8
-    ensures { Calls (DiffsTexts steps left.now right.now)
-        (OfTwo steps left.now right.now) out.old out.new needed.new result }
+    ensures { let options = bounded_options steps (total_of total) in
+        Calls (DiffsTexts options left.now right.now) (OfTwo options left.now right.now) out.old out.new needed.new result }
 {
-    give(alloc, &diff(alloc, left, right, steps), out, needed)
+    let answer = diff(alloc, left, right, steps, total_of(total));
+    give(alloc, &answer, out, needed)
 }
 
 /// `cats round`: the text with every price made valid, and a line for each price whose value changed. A price that is finer
@@ -105,6 +124,13 @@ pub extern "C" fn cats_round(
     let reported = give_report(&rounded, report, report_needed);
     let given = give_rounded(alloc, &rounded, out, needed);
     whole_status(given, reported)
+}
+
+/// The limit on all searches of a text together, if there is one.
+fn total_of(total: u64) -> Option<u64>
+    ensures { result ≡ total_of total }
+{
+    if total == NO_TOTAL { None } else { Some(total) }
 }
 
 /// The status of a call with two buffers.

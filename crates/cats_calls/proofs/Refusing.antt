@@ -15,8 +15,9 @@ use Rattle.cats_text.specs.declared.read_fault.ReadFault.{ReadFault}
 use Rattle.cats_text.specs.declared.limits.TheConstants.{MAX_STREAM}
 use Rattle.cats_text.proofs.Texts.FaultKinds.{IsFaultOfBytes, fed_fault-of_bytes, first_fault-of_bytes}
 use Rattle.valuation.specs.Auctions.{auction_from}
+use Rattle.valuation.specs.declared.search_options.SearchOptions.{SearchOptions}
 use Rattle.canon.specs.Answers.{NormalisesPlainAs, RefusesAuction, unnamed_answer}
-use Rattle.canon.specs.Normalising.{unless_heavy}
+use Rattle.canon.specs.Normalising.{unless_refused}
 use Rattle.canon.specs.Refusals.{refusal_by_kind, refusal_of}
 use Rattle.canon.specs.Renaming.{kept_dummies}
 use Rattle.canon.specs.declared.canon_fault.CanonFault.{CanonFault}
@@ -99,24 +100,24 @@ module _ (text : List ℕ) (long : MAX_STREAM < length text) where
 
 -- ---- a text that was read
 
-unmade : (limit : ℕ) (text : List ℕ) (file : PlainFile) → Spells text file → (fault : CanonFault) → RefusesAuction limit (auction_from file) fault
-    → IsUnmade limit text fault
-unmade limit text file spelled (Read why) r = absurd r
-unmade limit text file spelled (StepLimit goods) r = record { file = file; spelled = spelled; is = ap (unless_heavy file) r }
-unmade limit text file spelled Memory r = inr (record { file = file; spelled = spelled })
+unmade : (options : SearchOptions) (text : List ℕ) (file : PlainFile) → Spells text file → (fault : CanonFault)
+    → RefusesAuction options (auction_from file) fault → IsUnmade options text fault
+unmade options text file spelled (Read why) r = absurd r
+unmade options text file spelled (StepLimit goods) r = record { file = file; spelled = spelled; is = ap (unless_refused file) r }
+unmade options text file spelled Memory r = inr (record { file = file; spelled = spelled })
 
-module _ (limit : ℕ) (text : List ℕ) where
-  is_named : (file : PlainFile) (named : NamedFile) → NormalisesPlainAs limit file (Ok named.file) → named.dummies.items ≡ kept_dummies file
+module _ (options : SearchOptions) (text : List ℕ) where
+  is_named : (file : PlainFile) (named : NamedFile) → NormalisesPlainAs options file (Ok named.file) → named.dummies.items ≡ kept_dummies file
       → IsNamed file named
   is_named file named n dummies = record { canonical = n.canonical; dummies = dummies }
 
-  pub named_read : (file : PlainFile) → Spells text file → (r : Result NamedFile CanonFault) → NormalisesPlainAs limit file (unnamed_answer r)
-      → IfOk r (λ named. named.dummies.items ≡ kept_dummies file) → NamesAs limit text r
+  pub named_read : (file : PlainFile) → Spells text file → (r : Result NamedFile CanonFault) → NormalisesPlainAs options file (unnamed_answer r)
+      → IfOk r (λ named. named.dummies.items ≡ kept_dummies file) → NamesAs options text r
   named_read file spelled (Ok named) n dummies =
       record { given = record { file = file; spelled = spelled; within_limit = n.within_limit }; is = is_named file named n dummies }
-  named_read file spelled (Err fault) n dummies = unmade limit text file spelled fault n
+  named_read file spelled (Err fault) n dummies = unmade options text file spelled fault n
 
-  pub named_facts : (file : PlainFile) → Spells text file → (r : Result NamedFile CanonFault) → NormalisesPlainAs limit file (unnamed_answer r)
+  pub named_facts : (file : PlainFile) → Spells text file → (r : Result NamedFile CanonFault) → NormalisesPlainAs options file (unnamed_answer r)
       → IfOk r (λ named. named.dummies.items ≡ kept_dummies file) → IfOk r IsNamedFile
   named_facts file spelled (Ok named) n dummies = named_file file spelled.facts named (is_named file named n dummies)
   named_facts file spelled (Err fault) n dummies = tt

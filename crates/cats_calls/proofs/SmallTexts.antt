@@ -1,13 +1,14 @@
 -- What calls answer of a small text, by the file that its lines say.
-use Rattle.std.proofs.Common.{◌≡◌, ◌≢◌, ℕ, nat_le, nat_lt, true, false, eqb, List, [], ◌∷◌, ◌++◌, length, drop, None, slice_index_or, refl, sym, ap, ap₂, ◌∙◌}
-use Rattle.std.proofs.Common.{subst, arith}
+use Rattle.std.proofs.Common.{◌≡◌, ◌≢◌, ℕ, nat_le, nat_lt, Bool, true, false, eqb, List, [], ◌∷◌, ◌++◌, length, drop, None, slice_index_or}
+use Rattle.std.proofs.Common.{refl, sym, ap, ap₂, ◌∙◌, subst, arith}
 use Rattle.std.proofs.lemmas.Bool.{eqb-false, leb-true, ltb-true}
 use Rattle.bid_file.specs.Files.{PlainFile}
 use Rattle.cats_text.specs.Faults.{first_fault}
 use Rattle.cats_text.specs.FileLines.{spelled_file}
 use Rattle.cats_text.proofs.Spelling.Files.{spells_from_no_fault, says_spelled, spells_one}
 use Rattle.valuation.specs.Auctions.{auction_from, or_atoms_of}
-use Rattle.prune.specs.SearchSteps.{first_heavy}
+use Rattle.valuation.specs.declared.search_options.SearchOptions.{SearchOptions}
+use Rattle.prune.specs.SearchSteps.{first_refused}
 use Rattle.canon.specs.Canonical.{canonical_file}
 use Rattle.canon.specs.Comparing.{SpellsWithinLimit}
 use Rattle.canon.specs.Difference.{Difference, NoDifference, InGoods, InOr, InXor, first_difference}
@@ -35,9 +36,9 @@ other_byte i a b other e = eqb-false (slice_index_or a i 0) (slice_index_or b i 
 
 -- ---- one text
 
-abbrev pub within : (limit : ℕ) (text : List ℕ) → first_fault text ≡ None
-    → first_heavy (spelled_file text).goods limit (or_atoms_of (spelled_file text).bids) ≡ None → SpellsWithinLimit limit text
-within limit text none light = record { file = spelled_file text; spelled = spells_from_no_fault text none; within_limit = light }
+abbrev pub within : (options : SearchOptions) (text : List ℕ) → first_fault text ≡ None
+    → first_refused options (spelled_file text).goods (or_atoms_of (spelled_file text).bids) ≡ None → SpellsWithinLimit options text
+within options text none light = record { file = spelled_file text; spelled = spells_from_no_fault text none; within_limit = light }
 
 pub checks : (text out : List ℕ) → first_fault text ≡ None → out ≡ check_text (spelled_file text) → ChecksText text 0 out
 checks text out none is = record { file = spelled_file text; spelled = spells_from_no_fault text none; is_status = refl; is_text = is }
@@ -45,11 +46,12 @@ checks text out none is = record { file = spelled_file text; spelled = spells_fr
 pub checks_only : (text : List ℕ) (status : ℕ) (out : List ℕ) → ChecksText text status out → out ≡ check_text (spelled_file text)
 checks_only text status out c = c.is_text ∙ ap check_text (says_spelled text c.file c.spelled)
 
-pub outcome : (limit : ℕ) (text : List ℕ) (o : Normalised) → first_fault text ≡ None → normalised_file limit (spelled_file text) ≡ o → HasOutcome limit text o
-outcome limit text o none is = record { file = spelled_file text; spelled = spells_from_no_fault text none; is = is }
+pub outcome : (options : SearchOptions) (text : List ℕ) (o : Normalised) → first_fault text ≡ None
+    → normalised_file options (spelled_file text) ≡ o → HasOutcome options text o
+outcome options text o none is = record { file = spelled_file text; spelled = spells_from_no_fault text none; is = is }
 
-pub outcome_only : (limit : ℕ) (text : List ℕ) (o : Normalised) → HasOutcome limit text o → normalised_file limit (spelled_file text) ≡ o
-outcome_only limit text o h = ap (normalised_file limit) (sym (says_spelled text h.file h.spelled)) ∙ h.is
+pub outcome_only : (options : SearchOptions) (text : List ℕ) (o : Normalised) → HasOutcome options text o → normalised_file options (spelled_file text) ≡ o
+outcome_only options text o h = ap (normalised_file options) (sym (says_spelled text h.file h.spelled)) ∙ h.is
 
 -- the text of an outcome that has one
 abbrev pub text_in : Normalised → List ℕ
@@ -57,15 +59,19 @@ text_in (IsNoFile fault) = []
 text_in (ExceedsSteps goods) = []
 text_in (IsText out) = out
 
+abbrev pub has_text : Normalised → Bool
+has_text (IsText out) = true
+has_text outcome = false
+
 first_line : (reasons : List PlainReason) → eqb (length reasons) 0 ≡ false → slice_index_or (explanation_text reasons) 0 0 ≡ 48
 unfolding digits
 first_line [] some = absurd (cc)
 first_line (reason ∷ reasons) some = refl
 
 -- the first line is that of bid 0
-pub explained_first : (limit : ℕ) (text : List ℕ) (status : ℕ) (out : List ℕ) → eqb (length (spelled_file text).bids) 0 ≡ false
-    → ExplainsText limit text status out → slice_index_or out 0 0 ≡ 48
-explained_first limit text status out some c =
+pub explained_first : (options : SearchOptions) (text : List ℕ) (status : ℕ) (out : List ℕ) → eqb (length (spelled_file text).bids) 0 ≡ false
+    → ExplainsText options text status out → slice_index_or out 0 0 ≡ 48
+explained_first options text status out some c =
     let long : length c.reasons ≡ length (spelled_file text).bids =
     c.explains.long ∙ ap (λ (f : PlainFile). length f.bids) (says_spelled text c.given.file c.given.spelled) in
     ap (λ (x : List ℕ). slice_index_or x 0 0) c.is_text
@@ -79,7 +85,7 @@ none_from_zero (InGoods left right) e = absurd (cc)
 none_from_zero (InOr bundle left right) e = absurd (cc)
 none_from_zero (InXor bidder left right) e = absurd (cc)
 
-module _ (limit : ℕ) (left right : List ℕ) (l : SpellsWithinLimit limit left) (r : SpellsWithinLimit limit right) where
+module _ (options : SearchOptions) (left right : List ℕ) (l : SpellsWithinLimit options left) (r : SpellsWithinLimit options right) where
   same_of : first_difference (auction_from l.file) (auction_from r.file) ≡ NoDifference → AreSameTexts left right
   same_of e = record {
     first = l.file;
@@ -97,7 +103,7 @@ module _ (limit : ℕ) (left right : List ℕ) (l : SpellsWithinLimit limit left
       (subst (λ (x : PlainFile). AreSameFiles x r.file) f (subst (λ (x : PlainFile). AreSameFiles t.first x) g t.same))
 
   pub compares : (d : Difference) → first_difference (auction_from l.file) (auction_from r.file) ≡ d
-      → ComparesTexts limit left right (status_of_difference d) (difference_text d)
+      → ComparesTexts options left right (status_of_difference d) (difference_text d)
   compares d e = record {
     difference = d;
     differ = record { first = l; second = r; is = e };
@@ -107,7 +113,7 @@ module _ (limit : ℕ) (left right : List ℕ) (l : SpellsWithinLimit limit left
   }
 
   pub diffs : (d : PlainDifferences) → AreAllDifferences (auction_from (canonical_file l.file)) (auction_from (canonical_file r.file)) d
-      → DiffsTexts limit left right (status_of_differences d) (diff_text l.file.goods (kept_dummies l.file) (kept_dummies r.file) d)
+      → DiffsTexts options left right (status_of_differences d) (diff_text l.file.goods (kept_dummies l.file) (kept_dummies r.file) d)
   diffs d all = record {
     first = l;
     second = r;
@@ -122,7 +128,7 @@ module _ (limit : ℕ) (left right : List ℕ) (l : SpellsWithinLimit limit left
 abbrev pub spelled_difference : List ℕ → List ℕ → Difference
 spelled_difference left right = first_difference (auction_from (spelled_file left)) (auction_from (spelled_file right))
 
-module _ (limit : ℕ) (left right : List ℕ) (status : ℕ) (out : List ℕ) (c : ComparesTexts limit left right status out) where
+module _ (options : SearchOptions) (left right : List ℕ) (status : ℕ) (out : List ℕ) (c : ComparesTexts options left right status out) where
   first_is : c.difference ≡ spelled_difference left right
   first_is = sym c.differ.is
       ∙ ap₂ (λ (f g : PlainFile). first_difference (auction_from f) (auction_from g)) (says_spelled left c.differ.first.file c.differ.first.spelled)
@@ -139,7 +145,7 @@ goods_text : (f g : PlainFile) (d : PlainDifferences) → AreAllDifferences (auc
 goods_text f g (InGoodNumbers m n) all other = ap₂ goods_line (sym all.on_left) (sym all.on_right)
 goods_text f g (InBids bundles bidders) all other = absurd (other all.goods)
 
-module _ (limit : ℕ) (left right : List ℕ) (status : ℕ) (out : List ℕ) (c : DiffsTexts limit left right status out) where
+module _ (options : SearchOptions) (left right : List ℕ) (status : ℕ) (out : List ℕ) (c : DiffsTexts options left right status out) where
   -- numbers of goods that differ are printed
   pub diffed_goods : eqb (spelled_file left).goods (spelled_file right).goods ≡ false → out ≡ goods_line (spelled_file left).goods (spelled_file right).goods
   diffed_goods other =

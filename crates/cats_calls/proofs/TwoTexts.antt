@@ -6,6 +6,7 @@ use Rattle.bid_file.specs.Files.{PlainFile, IsPlainFile}
 use Rattle.cats_text.specs.Grammar.{Spells}
 use Rattle.cats_text.proofs.Spelling.Files.{spells_one}
 use Rattle.valuation.specs.Auctions.{auction_from}
+use Rattle.valuation.specs.declared.search_options.SearchOptions.{SearchOptions}
 use Rattle.canon.specs.Canonical.{IsCanonical, canonical_auction, canonical_file}
 use Rattle.canon.specs.Comparing.{Differ, IsNormalFileOf}
 use Rattle.canon.specs.Renaming.{kept_dummies}
@@ -37,11 +38,11 @@ same_from_status (Goods left right) e = absurd (cc)
 same_from_status (Or bundle left right) e = absurd (cc)
 same_from_status (Xor bidder left right) e = absurd (cc)
 
-module _ (limit : ℕ) (left right : List ℕ) (h k : PlainFile) (n : IsNormalFileOf limit left h) (m : IsNormalFileOf limit right k) where
-  pub compared : (answer : Answer) → ComparesFiles h k answer → ComparesTexts limit left right answer.status answer.text.items
+module _ (options : SearchOptions) (left right : List ℕ) (h k : PlainFile) (n : IsNormalFileOf options left h) (m : IsNormalFileOf options right k) where
+  pub compared : (answer : Answer) → ComparesFiles h k answer → ComparesTexts options left right answer.status answer.text.items
   compared answer c =
-      let differ : Differ limit left right (plain_verdict c.verdict) = compared_as limit left right h k n m (Ok c.verdict) c.is tt tt in
-      let same : (c.verdict ≡ Same ↔ AreSameTexts left right) = same_by_texts limit left right h k n m {E = CanonFault} (Ok c.verdict) c.same in
+      let differ : Differ options left right (plain_verdict c.verdict) = compared_as options left right h k n m (Ok c.verdict) c.is tt tt in
+      let same : (c.verdict ≡ Same ↔ AreSameTexts left right) = same_by_texts options left right h k n m {E = CanonFault} (Ok c.verdict) c.same in
       record {
         difference = plain_verdict c.verdict;
         differ = differ;
@@ -105,8 +106,8 @@ module _ (left right : List ℕ) (f g : PlainFile) (s : Spells left f) (t : Spel
         λ texts. is ∙ ap (λ (b : Bool). cond {A = ℕ} b 0 1) (none.1 (same_files texts)),
       )
 
-module _ (limit : ℕ) (left right : List ℕ) (one other : NamedFile) (n : IsNamedOf limit left one) (m : IsNamedOf limit right other) where
-  pub diffed : (status : ℕ) (text : List ℕ) → PrintsDifferences one other status text → DiffsTexts limit left right status text
+module _ (options : SearchOptions) (left right : List ℕ) (one other : NamedFile) (n : IsNamedOf options left one) (m : IsNamedOf options right other) where
+  pub diffed : (status : ℕ) (text : List ℕ) → PrintsDifferences one other status text → DiffsTexts options left right status text
   diffed status text printed =
       let f = n.given.file in
       let g = m.given.file in

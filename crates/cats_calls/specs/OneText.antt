@@ -1,7 +1,8 @@
--- What the calls on one text print, with their status.
+-- What the calls on one text print, with their status. `options` says how its searches go, and their limits.
 use Rattle.std.specs.Prelude.{◌≡◌, ℕ, List}
 use Rattle.bid_file.specs.Files.{PlainFile}
 use Rattle.cats_text.specs.Grammar.{Spells}
+use Rattle.valuation.specs.declared.search_options.SearchOptions.{SearchOptions}
 use Rattle.canon.specs.Comparing.{SpellsWithinLimit}
 use Rattle.canon.specs.Normalising.{IsText, Normalises}
 use Rattle.explain.specs.Reasons.{Explains, PlainReason}
@@ -16,13 +17,13 @@ pub record ChecksText (text : List ℕ) (status : ℕ) (out : List ℕ) : Type 0
   pub is_text : out ≡ check_text file
 
 -- its canonical text
-pub record NormalisesText (limit : ℕ) (text : List ℕ) (status : ℕ) (out : List ℕ) : Type 0 where
+pub record NormalisesText (options : SearchOptions) (text : List ℕ) (status : ℕ) (out : List ℕ) : Type 0 where
   pub is_status : status ≡ 0
-  pub is_text : Normalises limit text (IsText out)
+  pub is_text : Normalises options text (IsText out)
 
 -- the line of each bid of the file, for reasons that are true
-pub record ExplainsText (limit : ℕ) (text : List ℕ) (status : ℕ) (out : List ℕ) : Type 0 where
-  pub given : SpellsWithinLimit limit text
+pub record ExplainsText (options : SearchOptions) (text : List ℕ) (status : ℕ) (out : List ℕ) : Type 0 where
+  pub given : SpellsWithinLimit options text
   pub reasons : List PlainReason
   pub explains : Explains given.file reasons
   pub is_status : status ≡ 0

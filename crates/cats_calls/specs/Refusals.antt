@@ -4,6 +4,7 @@ use Rattle.cats_text.specs.Faults.{first_fault, has_bid_line}
 use Rattle.cats_text.specs.Fed.{fed_fault}
 use Rattle.cats_text.specs.declared.read_fault.ReadFault.{ReadFault}
 use Rattle.cats_text.specs.declared.limits.TheConstants.{MAX_STREAM}
+use Rattle.valuation.specs.declared.search_options.SearchOptions.{SearchOptions}
 use Rattle.canon.specs.Answers.{SpellsFile}
 use Rattle.canon.specs.Comparing.{SpellsWithinLimit}
 use Rattle.canon.specs.Normalising.{ExceedsSteps, Normalises}
@@ -27,11 +28,11 @@ IsUnread text (Read fault) = text_fault text ≡ Some fault
 IsUnread text (StepLimit goods) = ⊥
 IsUnread text Memory = WantsMemoryFor text
 
--- why a text has no canonical text
-abbrev pub IsUnmade : ℕ → List ℕ → CanonFault → Type 0
-IsUnmade limit text (Read fault) = text_fault text ≡ Some fault
-IsUnmade limit text (StepLimit goods) = Normalises limit text (ExceedsSteps goods.items)
-IsUnmade limit text Memory = WantsMemoryFor text
+-- why a text has no canonical text: it is no bid file, or a search takes more steps than its limits leave
+abbrev pub IsUnmade : SearchOptions → List ℕ → CanonFault → Type 0
+IsUnmade options text (Read fault) = text_fault text ≡ Some fault
+IsUnmade options text (StepLimit goods) = Normalises options text (ExceedsSteps goods.items)
+IsUnmade options text Memory = WantsMemoryFor text
 
 -- ---- which text is refused
 
@@ -41,8 +42,9 @@ OfOnly Refuses Only fault = Refuses fault
 OfOnly Refuses which fault = ⊥
 
 -- One of two, or both: the second is refused only if the first is not, and both only by want of memory if neither is.
-abbrev pub OfTwo : ℕ → List ℕ → List ℕ → Which → CanonFault → Type 0
-OfTwo limit left right Only fault = ⊥
-OfTwo limit left right First fault = IsUnmade limit left fault
-OfTwo limit left right Second fault = SpellsWithinLimit limit left × IsUnmade limit right fault
-OfTwo limit left right Both fault = SpellsWithinLimit limit left × SpellsWithinLimit limit right × (fault ≡ Memory)
+abbrev pub OfTwo : SearchOptions → List ℕ → List ℕ → Which → CanonFault → Type 0
+OfTwo options left right Only fault = ⊥
+OfTwo options left right First fault = IsUnmade options left fault
+OfTwo options left right Second fault = SpellsWithinLimit options left × IsUnmade options right fault
+OfTwo options left right Both fault =
+    SpellsWithinLimit options left × SpellsWithinLimit options right × (fault ≡ Memory)

@@ -1,6 +1,7 @@
-//! The calls on one text.
+//! The calls on one text. All searches are bounded.
 
 ghost use Rattle.cats_text.specs.Views.{HasSizes};
+ghost use Rattle.valuation.specs.SearchLimits.{bounded_options};
 ghost use Rattle.cats_calls.specs.Answers.{Answers};
 ghost use Rattle.cats_calls.specs.OneText.{ChecksText, ExplainsText, NormalisesText};
 ghost use Rattle.cats_calls.specs.Refusals.{IsUnmade, IsUnread, OfOnly};
@@ -12,6 +13,7 @@ use bid_file::{Bids, PackedFile};
 use cats_text::{Header, write};
 use explain::explain;
 use std::alloc::Global;
+use valuation::SearchOptions;
 
 /// `cats check` on a text: how many goods, bids and dummy goods its file has.
 pub fn check(alloc: Global, text: &[u8]) -> Result<Answer, RunFault>
@@ -36,25 +38,36 @@ fn header_of(file: &PackedFile) -> Header
     }
 }
 
-/// `cats normalise` on a text: its canonical text. `limit` bounds the steps of each search that decides on a bundle of the
-/// OR
-/// bidder.
-pub fn normalise(alloc: Global, text: &[u8], limit: u64) -> Result<Answer, RunFault>
-    ensures { Answers (NormalisesText limit text.now) (OfOnly (IsUnmade limit text.now)) result }
+/// `cats normalise` on a text: its canonical text. `steps` bounds each search that decides on a bundle of the OR bidder, and
+/// `total` all searches together.
+pub fn normalise(
+    alloc: Global,
+    text: &[u8],
+    steps: u64,
+    total: Option<u64>,
+) -> Result<Answer, RunFault>
+    ensures { let options = bounded_options steps total in
+        Answers (NormalisesText options text.now) (OfOnly (IsUnmade options text.now)) result }
 {
-    let file = read_normal(alloc, text, limit)?;
+    let file = read_normal(alloc, text, SearchOptions::bounded(steps, total))?;
     Ok(Answer {
         status: DONE,
         text: write(alloc, &file)?,
     })
 }
 
-/// `cats explain` on a text: why each bid of its file is in the canonical file or is not, under the same limit.
-pub fn explain_text(alloc: Global, text: &[u8], limit: u64) -> Result<Answer, RunFault>
-    ensures { Answers (ExplainsText limit text.now) (OfOnly (IsUnmade limit text.now)) result }
+/// `cats explain` on a text: why each bid of its file is in the canonical file or is not, under the same limits.
+pub fn explain_text(
+    alloc: Global,
+    text: &[u8],
+    steps: u64,
+    total: Option<u64>,
+) -> Result<Answer, RunFault>
+    ensures { let options = bounded_options steps total in
+        Answers (ExplainsText options text.now) (OfOnly (IsUnmade options text.now)) result }
 {
     let file = read_text(alloc, text)?;
-    let reasons = explain(alloc, &file, limit)?;
+    let reasons = explain(alloc, &file, steps, total)?;
     Ok(Answer {
         status: DONE,
         text: explanation_text(alloc, reasons.as_slice())?,

@@ -11,6 +11,7 @@ use bid_file::PackedFile;
 use canon::{CanonFault, NamedFile, named_normal_file, normal_packed_file};
 use cats_text::{Kind, MAX_STREAM, ReadFault, Reader, read_packed};
 use std::alloc::Global;
+use valuation::SearchOptions;
 
 /// Reads a text as a bid file.
 pub(crate) fn read_text(alloc: Global, text: &[u8]) -> Result<PackedFile, CanonFault>
@@ -23,21 +24,29 @@ pub(crate) fn read_text(alloc: Global, text: &[u8]) -> Result<PackedFile, CanonF
 }
 
 /// The canonical file of the file that a text spells.
-pub(crate) fn read_normal(alloc: Global, text: &[u8], limit: u64) -> Result<PackedFile, CanonFault>
-    ensures answer { NormalisesAs limit text.now result }
+pub(crate) fn read_normal(
+    alloc: Global,
+    text: &[u8],
+    options: SearchOptions,
+) -> Result<PackedFile, CanonFault>
+    ensures answer { NormalisesAs options text.now result }
     ensures canonical { IfOk result (λ file. IsCanonicalFile file) }
 {
     let file = read_text(alloc, text)?;
-    normal_packed_file(alloc, file, limit)
+    normal_packed_file(alloc, file, options)
 }
 
 /// The same, with the dummy goods that its bidders have in the file.
-pub(crate) fn read_named(alloc: Global, text: &[u8], limit: u64) -> Result<NamedFile, CanonFault>
-    ensures answer { NamesAs limit text.now result }
+pub(crate) fn read_named(
+    alloc: Global,
+    text: &[u8],
+    options: SearchOptions,
+) -> Result<NamedFile, CanonFault>
+    ensures answer { NamesAs options text.now result }
     ensures named { IfOk result IsNamedFile }
 {
     let file = read_text(alloc, text)?;
-    named_normal_file(alloc, &file, limit)
+    named_normal_file(alloc, &file, options)
 }
 
 /// The fault of a text that is too long: a fault of the bytes that are read, or else the length.

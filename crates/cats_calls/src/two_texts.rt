@@ -1,6 +1,7 @@
-//! The calls on two texts. The first is read and made canonical before the second is read.
+//! The calls on two texts. The first is read and made canonical before the second is read. All searches are bounded.
 
 ghost use Rattle.std.specs.Prelude.{IfOk};
+ghost use Rattle.valuation.specs.SearchLimits.{bounded_options};
 ghost use Rattle.cats_calls.specs.Internal.Comparing.{ComparesFiles};
 ghost use Rattle.canon.specs.Canonical.{IsCanonicalFile};
 ghost use Rattle.cats_calls.specs.Answers.{Answers};
@@ -13,18 +14,26 @@ use answers::{RunFault, differences_text, verdict_status, verdict_text};
 use bid_file::PackedFile;
 use canon::{CanonFault, Which, compare_files};
 use std::alloc::{AllocError, Global};
+use valuation::SearchOptions;
 
-/// `cats compare` on two texts: whether they are the same auction, or else their first difference. `limit` bounds the steps
-/// of
-/// each search that decides on a bundle of an OR bidder.
-pub fn compare(alloc: Global, left: &[u8], right: &[u8], limit: u64) -> Result<Answer, RunFault>
-    ensures { Answers (ComparesTexts limit left.now right.now) (OfTwo limit left.now right.now) result }
+/// `cats compare` on two texts: whether they are the same auction, or else their first difference. `steps` bounds
+/// each search that decides on a bundle of an OR bidder, and `total` all searches of one text together.
+pub fn compare(
+    alloc: Global,
+    left: &[u8],
+    right: &[u8],
+    steps: u64,
+    total: Option<u64>,
+) -> Result<Answer, RunFault>
+    ensures { let options = bounded_options steps total in
+        Answers (ComparesTexts options left.now right.now) (OfTwo options left.now right.now) result }
 {
-    let first = match read_normal(alloc, left, limit) {
+    let options = SearchOptions::bounded(steps, total);
+    let first = match read_normal(alloc, left, options) {
         Ok(file) => file,
         Err(fault) => return Err(RunFault::Refused(Which::First, fault)),
     };
-    let second = match read_normal(alloc, right, limit) {
+    let second = match read_normal(alloc, right, options) {
         Ok(file) => file,
         Err(fault) => return Err(RunFault::Refused(Which::Second, fault)),
     };
@@ -51,15 +60,23 @@ fn compare_canonical(
     })
 }
 
-/// `cats diff` on two texts: all differences, under the same limit.
-pub fn diff(alloc: Global, left: &[u8], right: &[u8], limit: u64) -> Result<Answer, RunFault>
-    ensures { Answers (DiffsTexts limit left.now right.now) (OfTwo limit left.now right.now) result }
+/// `cats diff` on two texts: all differences, under the same limits.
+pub fn diff(
+    alloc: Global,
+    left: &[u8],
+    right: &[u8],
+    steps: u64,
+    total: Option<u64>,
+) -> Result<Answer, RunFault>
+    ensures { let options = bounded_options steps total in
+        Answers (DiffsTexts options left.now right.now) (OfTwo options left.now right.now) result }
 {
-    let first = match read_named(alloc, left, limit) {
+    let options = SearchOptions::bounded(steps, total);
+    let first = match read_named(alloc, left, options) {
         Ok(named) => named,
         Err(fault) => return Err(RunFault::Refused(Which::First, fault)),
     };
-    let second = match read_named(alloc, right, limit) {
+    let second = match read_named(alloc, right, options) {
         Ok(named) => named,
         Err(fault) => return Err(RunFault::Refused(Which::Second, fault)),
     };

@@ -1,10 +1,11 @@
 //! Worked rows of what the calls answer, on small texts. The prover computes them.
 
-ghost use Rattle.std.specs.Prelude.{◌≡◌, ℕ, [], ◌∷◌, codes, Ok, Err, Vec, List};
+ghost use Rattle.std.specs.Prelude.{◌≡◌, ℕ, [], ◌∷◌, codes, Ok, Err, Some, None, Vec, List};
 ghost use Rattle.std.specs.Global.{Global};
 ghost use Rattle.cats_text.specs.Faults.{fault_at};
 ghost use Rattle.cats_text.specs.declared.read_fault.Kind.TheVariants.{Header, Missing, TooFine, TooLong};
 ghost use Rattle.cats_text.specs.declared.read_fault.ReadFault.{ReadFault};
+ghost use Rattle.valuation.specs.SearchLimits.{bounded_options, plain_options};
 ghost use Rattle.canon.specs.declared.canon_fault.CanonFault.TheVariants.{Read, StepLimit, Memory};
 ghost use Rattle.canon.specs.declared.which.Which.TheVariants.{Only, First, Second, Both};
 ghost use Rattle.rounding.specs.declared.replacement.FinePrices.TheVariants.{Round, Refuse};
@@ -40,62 +41,77 @@ pub fn texts_unread()
 
 /// The canonical text, and the bundle over a limit.
 pub fn texts_normalised()
-    ensures text { NormalisesText 1 (codes "goods 1\nbids 2\ndummy 0\n0 2 0 #\n1 3 0 #\n") 0
+    ensures text { NormalisesText (bounded_options 1 None) (codes "goods 1\nbids 2\ndummy 0\n0 2 0 #\n1 3 0 #\n") 0
         (codes "goods 1\nbids 1\ndummy 0\n0\t3\t0\t#\n") }
-    ensures other_text { NormalisesText 1 (codes "goods 1\nbids 2\ndummy 0\n0 2 0 #\n1 3 0 #\n") 0
+    ensures other_text { NormalisesText (bounded_options 1 None) (codes "goods 1\nbids 2\ndummy 0\n0 2 0 #\n1 3 0 #\n") 0
         (codes "goods 1\nbids 1\ndummy 0\n0\t2\t0\t#\n") → ⊥ }
-    ensures over_limit { (goods : Vec ℕ Global) → goods.items ≡ 0 ∷ [] → IsUnmade 0
+    ensures over_limit { (goods : Vec ℕ Global) → goods.items ≡ 0 ∷ [] → IsUnmade (bounded_options 0 None)
         (codes "goods 1\nbids 1\ndummy 0\n0 3 0 #\n") (StepLimit goods) }
     ensures within_limit { (goods : Vec ℕ Global)
-        → IsUnmade 1 (codes "goods 1\nbids 1\ndummy 0\n0 3 0 #\n") (StepLimit goods)
+        → IsUnmade (bounded_options 1 None) (codes "goods 1\nbids 1\ndummy 0\n0 3 0 #\n") (StepLimit goods)
         → ⊥ }
+{}
+
+/// The limits on steps. For the goods 0, 1 and 2 the plain search enters the bid of 4 for 0 and 1; the bounded one enters no
+/// bid, since the rates add up to 6. So each bundle with a bid takes one step. Each of two texts has a total of its own.
+pub fn texts_within_limits()
+    ensures bounded { (goods : Vec ℕ Global) → IsUnmade (bounded_options 1 None)
+        (codes "goods 3\nbids 3\ndummy 0\n0 4 0 1 #\n1 4 1 2 #\n2 7 0 1 2 #\n") (StepLimit goods) → ⊥ }
+    ensures plain { (goods : Vec ℕ Global) → goods.items ≡ 0 ∷ 1 ∷ 2 ∷ [] → IsUnmade (plain_options 1)
+        (codes "goods 3\nbids 3\ndummy 0\n0 4 0 1 #\n1 4 1 2 #\n2 7 0 1 2 #\n") (StepLimit goods) }
+    ensures over_total { (goods : Vec ℕ Global) → goods.items ≡ 0 ∷ 1 ∷ 2 ∷ [] → IsUnmade (bounded_options 1 (Some 2))
+        (codes "goods 3\nbids 3\ndummy 0\n0 4 0 1 #\n1 4 1 2 #\n2 7 0 1 2 #\n") (StepLimit goods) }
+    ensures within_total { (goods : Vec ℕ Global) → IsUnmade (bounded_options 1 (Some 3))
+        (codes "goods 3\nbids 3\ndummy 0\n0 4 0 1 #\n1 4 1 2 #\n2 7 0 1 2 #\n") (StepLimit goods) → ⊥ }
+    ensures one_total_each { ComparesTexts (bounded_options 1 (Some 1)) (codes "goods 1\nbids 1\ndummy 0\n0 3 0 #\n")
+        (codes "goods 1\nbids 1\ndummy 0\n0 3 0 #\n") 0 (codes "same\n") }
 {}
 
 /// The reason of each bid.
 pub fn texts_explained()
-    ensures reasons { ExplainsText 1 (codes "goods 1\nbids 2\ndummy 0\n0 2 0 #\n1 3 0 #\n") 0
+    ensures reasons { ExplainsText (bounded_options 1 None) (codes "goods 1\nbids 2\ndummy 0\n0 2 0 #\n1 3 0 #\n") 0
         (codes "0\tsame\t1\n1\tkeep\t0\n") }
-    ensures other_status { ExplainsText 1 (codes "goods 1\nbids 2\ndummy 0\n0 2 0 #\n1 3 0 #\n") 1
+    ensures other_status { ExplainsText (bounded_options 1 None) (codes "goods 1\nbids 2\ndummy 0\n0 2 0 #\n1 3 0 #\n") 1
         (codes "0\tsame\t1\n1\tkeep\t0\n") → ⊥ }
-    ensures none_left_out { ExplainsText 1 (codes "goods 1\nbids 2\ndummy 0\n0 2 0 #\n1 3 0 #\n") 0 (codes "1\tkeep\t0\n")
+    ensures none_left_out { ExplainsText (bounded_options 1 None) (codes "goods 1\nbids 2\ndummy 0\n0 2 0 #\n1 3 0 #\n") 0 (codes "1\tkeep\t0\n")
         → ⊥ }
 {}
 
 /// Two texts of one auction, and texts of two.
 pub fn texts_compared()
-    ensures same { ComparesTexts 1 (codes "goods 1\nbids 2\ndummy 0\n0 2 0 #\n1 3 0 #\n")
+    ensures same { ComparesTexts (bounded_options 1 None) (codes "goods 1\nbids 2\ndummy 0\n0 2 0 #\n1 3 0 #\n")
         (codes "goods 1\nbids 1\ndummy 0\n0 3 0 #\n") 0 (codes "same\n") }
-    ensures different { ComparesTexts 1 (codes "goods 1\nbids 1\ndummy 0\n0 2 0 #\n")
+    ensures different { ComparesTexts (bounded_options 1 None) (codes "goods 1\nbids 1\ndummy 0\n0 2 0 #\n")
         (codes "goods 1\nbids 1\ndummy 0\n0 3 0 #\n") 1
         (codes "different\nor 0\nleft 2\nright 3\n") }
-    ensures not_same { (out : List ℕ) → ComparesTexts 1 (codes "goods 1\nbids 1\ndummy 0\n0 2 0 #\n")
+    ensures not_same { (out : List ℕ) → ComparesTexts (bounded_options 1 None) (codes "goods 1\nbids 1\ndummy 0\n0 2 0 #\n")
         (codes "goods 1\nbids 1\ndummy 0\n0 3 0 #\n") 0 out → ⊥ }
-    ensures not_exchanged { ComparesTexts 1 (codes "goods 1\nbids 1\ndummy 0\n0 2 0 #\n")
+    ensures not_exchanged { ComparesTexts (bounded_options 1 None) (codes "goods 1\nbids 1\ndummy 0\n0 2 0 #\n")
         (codes "goods 1\nbids 1\ndummy 0\n0 3 0 #\n") 1
         (codes "different\nor 0\nleft 3\nright 2\n") → ⊥ }
 {}
 
 /// All differences of two texts.
 pub fn texts_diffed()
-    ensures same { DiffsTexts 1 (codes "goods 1\nbids 2\ndummy 0\n0 2 0 #\n1 3 0 #\n")
+    ensures same { DiffsTexts (bounded_options 1 None) (codes "goods 1\nbids 2\ndummy 0\n0 2 0 #\n1 3 0 #\n")
         (codes "goods 1\nbids 1\ndummy 0\n0 3 0 #\n") 0 [] }
-    ensures goods { DiffsTexts 1 (codes "goods 1\nbids 0\ndummy 0\n") (codes "goods 2\nbids 0\ndummy 0\n") 1
+    ensures goods { DiffsTexts (bounded_options 1 None) (codes "goods 1\nbids 0\ndummy 0\n") (codes "goods 2\nbids 0\ndummy 0\n") 1
         (codes "goods\t1\t2\n") }
-    ensures not_same { (out : List ℕ) → DiffsTexts 1 (codes "goods 1\nbids 0\ndummy 0\n")
+    ensures not_same { (out : List ℕ) → DiffsTexts (bounded_options 1 None) (codes "goods 1\nbids 0\ndummy 0\n")
         (codes "goods 2\nbids 0\ndummy 0\n")
         0 out → ⊥ }
-    ensures not_exchanged { DiffsTexts 1 (codes "goods 1\nbids 0\ndummy 0\n") (codes "goods 2\nbids 0\ndummy 0\n") 1
+    ensures not_exchanged { DiffsTexts (bounded_options 1 None) (codes "goods 1\nbids 0\ndummy 0\n") (codes "goods 2\nbids 0\ndummy 0\n") 1
         (codes "goods\t2\t1\n") → ⊥ }
 {}
 
 /// Which of two texts is refused: the second only if the first is not.
 pub fn one_of_two_refused()
-    ensures first { OfTwo 1 (codes "bids 0\n") (codes "goods 1\n") First (Read (fault_at 1 Header)) }
-    ensures second { OfTwo 1 (codes "goods 0\nbids 0\ndummy 0\n") (codes "bids 0\n") Second (Read (fault_at 1 Header)) }
-    ensures first_is_refused { OfTwo 1 (codes "bids 0\n") (codes "goods 1\n") Second (Read (fault_at 2 Missing)) → ⊥ }
-    ensures fault_of_the_second { OfTwo 1 (codes "bids 0\n") (codes "goods 1\n") First (Read (fault_at 2 Missing)) → ⊥ }
-    ensures both { OfTwo 1 (codes "goods 0\nbids 0\ndummy 0\n") (codes "goods 0\nbids 0\ndummy 0\n") Both Memory }
-    ensures both_by_fault { OfTwo 1 (codes "goods 0\nbids 0\ndummy 0\n") (codes "goods 0\nbids 0\ndummy 0\n") Both
+    ensures first { OfTwo (bounded_options 1 None) (codes "bids 0\n") (codes "goods 1\n") First (Read (fault_at 1 Header)) }
+    ensures second { OfTwo (bounded_options 1 None) (codes "goods 0\nbids 0\ndummy 0\n") (codes "bids 0\n") Second (Read (fault_at 1 Header)) }
+    ensures first_is_refused { OfTwo (bounded_options 1 None) (codes "bids 0\n") (codes "goods 1\n") Second (Read (fault_at 2 Missing)) → ⊥ }
+    ensures fault_of_the_second { OfTwo (bounded_options 1 None) (codes "bids 0\n") (codes "goods 1\n") First (Read (fault_at 2 Missing)) → ⊥ }
+    ensures both { OfTwo (bounded_options 1 None) (codes "goods 0\nbids 0\ndummy 0\n") (codes "goods 0\nbids 0\ndummy 0\n") Both Memory }
+    ensures both_by_fault { OfTwo (bounded_options 1 None) (codes "goods 0\nbids 0\ndummy 0\n") (codes "goods 0\nbids 0\ndummy 0\n") Both
         (Read (fault_at 1 Header)) → ⊥ }
 {}
 

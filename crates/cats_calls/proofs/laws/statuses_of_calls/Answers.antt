@@ -6,6 +6,7 @@ use Rattle.cats_text.specs.declared.read_fault.Kind.TheVariants.{Device, Memory 
 use Rattle.cats_text.specs.declared.read_fault.ReadFault.{ReadFault}
 use Rattle.cats_text.proofs.Texts.FaultKinds.{IsFaultOfBytes, first_fault-of_bytes}
 use Rattle.valuation.specs.Lemmas.Lists.{le_or_lt}
+use Rattle.valuation.specs.declared.search_options.SearchOptions.{SearchOptions}
 use Rattle.canon.specs.Difference.{Difference, NoDifference}
 use Rattle.canon.specs.declared.canon_fault.CanonFault.{CanonFault}
 use Rattle.canon.specs.declared.canon_fault.CanonFault.TheVariants.{Read, StepLimit, Memory}
@@ -77,18 +78,18 @@ module _ (P : ℕ → Type 0) (zero : P 0) (two : P 2) (four : P 4) (six : P 6) 
 
   -- ---- a text is made canonical
 
-  module _ (three : P 3) (limit : ℕ) where
-    unmade : (text : List ℕ) (fault : CanonFault) → IsUnmade limit text fault → P (status_of_canon_fault fault)
+  module _ (three : P 3) (options : SearchOptions) where
+    unmade : (text : List ℕ) (fault : CanonFault) → IsUnmade options text fault → P (status_of_canon_fault fault)
     unmade text (Read why) h = unread text (Read why) h
     unmade text (StepLimit goods) h = three
     unmade text Memory h = four
 
     made : (text : List ℕ) (Says : ℕ → List ℕ → Type 0) → ((status : ℕ) (out : List ℕ) → Says status out → status ≡ 0)
-        → (old new : List ℕ) (needed status : ℕ) → Calls Says (OfOnly (IsUnmade limit text)) old new needed status → P status
+        → (old new : List ℕ) (needed status : ℕ) → Calls Says (OfOnly (IsUnmade options text)) old new needed status → P status
     made text Says said =
-        called Says (OfOnly (IsUnmade limit text)) (λ status out says. of_zero status (said status out says)) (of_only (IsUnmade limit text) (unmade text))
+        called Says (OfOnly (IsUnmade options text)) (λ status out says. of_zero status (said status out says)) (of_only (IsUnmade options text) (unmade text))
 
-    of_two : (left right : List ℕ) (which : Which) (fault : CanonFault) → OfTwo limit left right which fault → P (status_of_canon_fault fault)
+    of_two : (left right : List ℕ) (which : Which) (fault : CanonFault) → OfTwo options left right which fault → P (status_of_canon_fault fault)
     of_two left right Only fault r = absurd r
     of_two left right First fault r = unmade left fault r
     of_two left right Second fault r = unmade right fault r.1
@@ -99,12 +100,12 @@ module _ (P : ℕ → Type 0) (zero : P 0) (two : P 2) (four : P 4) (six : P 6) 
       of_difference NoDifference = zero
       of_difference d = one
 
-      compared : (old new : List ℕ) (needed status : ℕ) → Calls (ComparesTexts limit left right) (OfTwo limit left right) old new needed status → P status
-      compared = called (ComparesTexts limit left right) (OfTwo limit left right)
+      compared : (old new : List ℕ) (needed status : ℕ) → Calls (ComparesTexts options left right) (OfTwo options left right) old new needed status → P status
+      compared = called (ComparesTexts options left right) (OfTwo options left right)
           (λ status out says. subst P (sym says.is_status) (of_difference says.difference)) (of_two left right)
 
-      diffed : (old new : List ℕ) (needed status : ℕ) → Calls (DiffsTexts limit left right) (OfTwo limit left right) old new needed status → P status
-      diffed = called (DiffsTexts limit left right) (OfTwo limit left right)
+      diffed : (old new : List ℕ) (needed status : ℕ) → Calls (DiffsTexts options left right) (OfTwo options left right) old new needed status → P status
+      diffed = called (DiffsTexts options left right) (OfTwo options left right)
           (λ status out says. subst P (sym says.is_status) (by_test (is_none_at_all says.differences) 0 1 zero one)) (of_two left right)
 
   -- ---- a text is rounded
@@ -134,24 +135,24 @@ returns-clause-check c =
     checked (Contains (0 ∷ 2 ∷ 4 ∷ 6 ∷ [])) (0, omega arith, refl) (1, omega arith, refl) (2, omega arith, refl) (3, omega arith, refl)
 
 pub returns-clause-normalise : goal.returns-clause-normalise
-returns-clause-normalise c limit text =
+returns-clause-normalise c options text =
     made (Contains (0 ∷ 2 ∷ 3 ∷ 4 ∷ 6 ∷ [])) (0, omega arith, refl) (1, omega arith, refl) (3, omega arith, refl) (4, omega arith, refl)
-    (2, omega arith, refl) limit text (NormalisesText limit text) (λ status out says. says.is_status)
+    (2, omega arith, refl) options text (NormalisesText options text) (λ status out says. says.is_status)
 
 pub returns-clause-explain : goal.returns-clause-explain
-returns-clause-explain c limit text =
+returns-clause-explain c options text =
     made (Contains (0 ∷ 2 ∷ 3 ∷ 4 ∷ 6 ∷ [])) (0, omega arith, refl) (1, omega arith, refl) (3, omega arith, refl) (4, omega arith, refl)
-    (2, omega arith, refl) limit text (ExplainsText limit text) (λ status out says. says.is_status)
+    (2, omega arith, refl) options text (ExplainsText options text) (λ status out says. says.is_status)
 
 pub returns-clause-compare : goal.returns-clause-compare
-returns-clause-compare c limit =
+returns-clause-compare c options =
     compared (Contains (0 ∷ 1 ∷ 2 ∷ 3 ∷ 4 ∷ 6 ∷ [])) (0, omega arith, refl) (2, omega arith, refl) (4, omega arith, refl) (5, omega arith, refl)
-    (3, omega arith, refl) limit (1, omega arith, refl)
+    (3, omega arith, refl) options (1, omega arith, refl)
 
 pub returns-clause-diff : goal.returns-clause-diff
-returns-clause-diff c limit =
+returns-clause-diff c options =
     diffed (Contains (0 ∷ 1 ∷ 2 ∷ 3 ∷ 4 ∷ 6 ∷ [])) (0, omega arith, refl) (2, omega arith, refl) (4, omega arith, refl) (5, omega arith, refl)
-    (3, omega arith, refl) limit (1, omega arith, refl)
+    (3, omega arith, refl) options (1, omega arith, refl)
 
 pub returns-clause-round : goal.returns-clause-round
 returns-clause-round c =
