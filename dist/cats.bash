@@ -8,10 +8,12 @@ _cats() {
         '') _cats_words "check show value normalise explain round compare diff duplicates sizes help -h --help -V --version" ;;
         help) if ((COMP_CWORD == 2)); then _cats_words "check show value normalise explain round compare diff duplicates sizes help"; fi ;;
         check | show) _cats_operands 1 "-h --help" ;;
-        value | normalise | explain) _cats_operands 1 "--steps -h --help" ;;
+        value | normalise) _cats_operands 1 "--bound --steps --total-steps -h --help" ;;
+        explain) _cats_operands 1 "--steps --total-steps -h --help" ;;
         round) _cats_operands 1 "--exact -h --help" ;;
-        compare | diff) _cats_operands 2 "--steps -h --help" ;;
-        duplicates | sizes) _cats_operands COMP_CWORD "--steps --progress -0 --null --files0-from -h --help" ;;
+        compare) _cats_operands 2 "--bound --steps --total-steps -h --help" ;;
+        diff) _cats_operands 2 "--steps --total-steps -h --help" ;;
+        duplicates | sizes) _cats_operands COMP_CWORD "--steps --total-steps --progress -0 --null --files0-from -h --help" ;;
     esac
 }
 
@@ -21,12 +23,12 @@ _cats_words() {
 }
 
 # FILES OPTIONS: offers options to a word with a hyphen, and paths if fewer than FILES operands come before the cursor. What follows
-# `--steps` is a number, and so is a good, and neither is offered. What follows `--files0-from` is a path, and then no other path is.
+# `--steps` or `--total-steps` is a number, and so is a good, and none is offered. What follows `--files0-from` is a path, and then no other path is.
 _cats_operands() {
     local at operands=0 value= is_listed=
     for ((at = 2; at < COMP_CWORD; at++)); do
         case ${COMP_WORDS[at]} in
-            --steps) value=number ;;
+            --steps | --total-steps) value=number ;;
             --files0-from) value=path is_listed=1 ;;
             =) ;;
             -*) value= ;;

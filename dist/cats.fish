@@ -4,8 +4,8 @@
 function __cats_takes_path
     set -l words (commandline -opc)
     set -l operands (string match -v -- '-*' $words[3..-1])
-    # The word after --steps is its number.
-    set -l numbers (string match -- --steps $words)
+    # The word after --steps or --total-steps is its number.
+    set -l numbers (string match -r -- '^--(?:total-)?steps$' $words)
     set -l many (math (count $operands) - (count $numbers))
     switch "$words[2]"
         case check show value normalise explain round
@@ -36,6 +36,8 @@ complete -c cats -n __fish_use_subcommand -a help -d 'Print help'
 complete -c cats -n '__fish_seen_subcommand_from help' -a 'check show value normalise explain round compare diff duplicates sizes'
 complete -c cats -n __cats_takes_path -F
 complete -c cats -n '__fish_seen_subcommand_from value normalise explain compare diff duplicates sizes' -x -l steps -d 'The most steps of a search'
+complete -c cats -n '__fish_seen_subcommand_from value normalise explain compare diff duplicates sizes' -x -l total-steps -d 'The most steps of all searches of a file'
+complete -c cats -n '__fish_seen_subcommand_from value normalise compare' -l bound -d 'Search by the bounded search'
 complete -c cats -n '__fish_seen_subcommand_from round' -l exact -d 'Refuse a price that would be rounded'
 complete -c cats -n '__fish_seen_subcommand_from duplicates sizes' -l progress -d 'Print how many files were read'
 complete -c cats -n '__fish_seen_subcommand_from duplicates sizes' -s 0 -l null -d 'End each path of the output with NUL'

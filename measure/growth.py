@@ -189,6 +189,7 @@ def bomb(count):
     return [header(count, count + 2, 0), *singles, *both]
 
 
+BOUNDED = ("normalise", "--bound", FILE)
 CHECK, SHOW, NORMALISE, VALUE = ("check", FILE), ("show", FILE), ("normalise", FILE), ("value", FILE)
 EXPLAIN, ROUND, COMPARE, DIFF = ("explain", FILE), ("round", FILE), ("compare", FILE, FILE), ("diff", FILE, FILE)
 MOST_STEPS = ("--steps", "1000000000")
@@ -235,10 +236,10 @@ INPUTS = [
     Input("like bidders of 256 bids", like_bidders, (SIDE // 4, SIDE // 2, SIDE), ALL),
     Input("XOR bids subsets of 16 goods", partial(one_bidder, subsets, True), (2**13, 2**16 - 1), (CHECK, NORMALISE, EXPLAIN)),
     Input("OR bids of one good a block", partial(one_bidder, one_of_each_block, False), (BIDS // 4, BIDS), (CHECK, NORMALISE)),
-    Input("OR bids in blocks", partial(one_bidder, in_blocks, False), (4096, BIDS), (CHECK, (*VALUE, *ALL_GOODS))),
+    Input("OR bids in blocks", partial(one_bidder, in_blocks, False), (4096, BIDS), (CHECK, (*VALUE, *ALL_GOODS), ("value", "--bound", FILE, *ALL_GOODS))),
     Input("packing bomb", bomb, (BOMB,), BOMBS),
     *(
-        Input(f"{kind} on {goods} goods", partial(distributions.lines, kind, goods, seed=4), (count,), (NORMALISE,))
+        Input(f"{kind} on {goods} goods", partial(distributions.lines, kind, goods, seed=4), (count,), (NORMALISE, BOUNDED))
         for kind, goods, count in (("l2", 20, 1000), ("l2", 64, 2000), ("l6", 64, 2000), ("regions", 256, 2000))
     ),
     Input("bids on all goods", partial(whole_bids, False), BY_BIDS, (*ALL, ROUND, COMPARE, DIFF)),

@@ -1,0 +1,230 @@
+"""Compares the bounded search with the plain one, and its steps with those that Python counts, on files of tools/generate --kind.
+
+    bounded.py PROGRAM GENERATE
+
+On 30 files of up to 2,000 bids the bounded search is to answer, the same as the plain one if that answers, and in as many steps as
+bounded_quickly of steps.py counts. On small files each limit is tried, beside the definitions of steps.py. Prints what is wrong, how many
+files the plain search answers, and 'N runs, M wrong'; the status is 0 if M is 0, and else 1.
+"""
+import os
+import random
+import subprocess
+import sys
+import tempfile
+from collections import Counter
+from concurrent.futures import ThreadPoolExecutor
+from threading import Lock
+from typing import NamedTuple
+
+from steps import Bid, bounded, bounded_quickly, first_refused, or_value, plain, searches
+
+PROGRAM, GENERATE = sys.argv[1:]
+SECONDS = 120
+
+STEPS, STEP_LIMIT, WRONG_USAGE = 1_000_000, 3, 64
+MILLION = 1_000_000
+
+KINDS = ("l1", "l2", "l3", "l4", "l5", "l6", "l7", "arbitrary", "regions", "paths", "matching", "scheduling")
+
+# kind, goods, bids, and more words
+FILES = (
+    *((kind, 64, 1000) for kind in KINDS),
+    *((kind, 20, 1000) for kind in ("l1", "l2", "l4", "l6", "l7", "scheduling")),
+    *((kind, 64, 1000, "--dummies") for kind in ("arbitrary", "regions", "paths", "matching", "scheduling")),
+    ("l2", 40, 2000),
+    ("l2", 100, 1000),
+    ("l6", 64, 2000),
+    ("l7", 30, 1000),
+    ("regions", 256, 2000),
+    ("arbitrary", 100, 1000),
+    ("paths", 256, 2000),
+)
+SMALL_GOODS, SMALL_BIDS = 6, 14
+SMALL_FILES = tuple((kind, SMALL_GOODS, SMALL_BIDS, "--seed", seed) for kind in KINDS for seed in (1, 2))
+FINE_FILES = 24
+
+# How many runs there were, how many were wrong, and how many files the plain search answers.
+tally = Counter()
+lock = Lock()
+
+
+class Answer(NamedTuple):
+    status: int
+    out: str
+    err: str
+
+
+def count(what):
+    with lock:
+        tally[what] += 1
+
+
+def run(*words):
+    count("runs")
+    ran = subprocess.run([PROGRAM, *map(str, words)], stdin=subprocess.DEVNULL, capture_output=True, text=True, timeout=SECONDS)
+    return Answer(ran.returncode, ran.stdout, ran.stderr)
+
+
+def judge(is_right, what, answer):
+    if not is_right:
+        count("wrong")
+        shown = [text[:200] for text in answer[1:]]
+        print(f"wrong: {what}: status {answer[0]}, {shown}", flush=True)
+
+
+def judge_run(wanted, *words):
+    answer = run(*words)
+    judge(answer == wanted, " ".join(map(str, words[:6])), answer)
+
+
+def refused(goods, before=""):
+    """What is answered of a search that the limit stops."""
+    return Answer(STEP_LIMIT, "", f"{before}step limit at {','.join(map(str, goods))}\n")
+
+
+def generated(folder, kind, goods, bids, *more):
+    """Writes a file, and answers its path."""
+    path = os.path.join(folder, "-".join([kind, *map(str, (goods, bids, *more))]))
+    with open(path, "w", encoding="ascii") as file:
+        subprocess.run([GENERATE, "--kind", kind, "--goods", str(goods), "--bids", str(bids), *map(str, more)], stdout=file, check=True)
+    return path
+
+
+def decimal(price):
+    """A number of millionths as `cats` prints it."""
+    whole, part = divmod(price, MILLION)
+    return f"{whole}.{part:06}".rstrip("0").rstrip(".")
+
+
+def fine(folder, seed):
+    """Writes a small file whose prices are one to three millionths for a good: packings often reach a price exactly, and rates are rounded
+    by much."""
+    chosen = random.Random(seed)
+    path = os.path.join(folder, f"fine-{seed}")
+    with open(path, "w", encoding="ascii") as file:
+        file.write(f"goods {SMALL_GOODS}\nbids {SMALL_BIDS}\ndummy 0\n")
+        for number in range(SMALL_BIDS):
+            goods = chosen.sample(range(SMALL_GOODS), chosen.randint(1, SMALL_GOODS))
+            price = decimal(chosen.randint(len(goods), 3 * len(goods)))
+            file.write("\t".join(map(str, (number, price, *goods, "#"))) + "\n")
+    return path
+
+
+def or_bids(path, goods):
+    """The bids of a file that have no dummy good."""
+    with open(path, encoding="ascii") as file:
+        lines = [line.split() for line in file if line[0].isdigit()]
+    bids = [Bid(round(MILLION * float(words[1])), frozenset(map(int, words[2:-1]))) for words in lines]
+    return [bid for bid in bids if max(bid.goods) < goods]
+
+
+def judge_total(path, made, text):
+    """The sum of the steps is the least number of steps in all that is enough, but no fewer than 1 can be allowed."""
+    total = max(1, sum(search.steps for search in made))
+    bound = ("normalise", "--bound", "--total-steps")
+    judge_run(Answer(0, text, ""), *bound, total, path)
+    if total > 1:
+        judge_run(refused(first_refused(made, STEPS, total - 1)), *bound, total - 1, path)
+
+
+def judge_file(folder, given):
+    path, goods = generated(folder, *given), given[1]
+    found = run("normalise", "--bound", path)
+    judge(found[::2] == (0, ""), f"{path} by --bound", found)
+    plainly = run("normalise", path)
+    if plainly.status == 0:
+        count("plain")
+        judge(found == plainly, f"{path} by --bound differs", found)
+    else:
+        judge(plainly[:2] == (STEP_LIMIT, "") and plainly.err.startswith("step limit at "), path, plainly)
+    canonical = path + "-canonical"
+    with open(canonical, "w", encoding="ascii") as file:
+        file.write(found.out)
+    judge_run(Answer(0, "same\n", ""), "compare", "--bound", path, canonical)
+    value = run("value", path, *range(goods))
+    if value.status == 0:
+        judge_run(value, "value", "--bound", path, *range(goods))
+    judge_total(path, searches(bounded_quickly, or_bids(path, goods)), found.out)
+
+
+# Small files: what is wanted comes of the definitions.
+
+
+def canonical_text(goods, made):
+    kept = [search for search in made if not search.is_reached]
+    lines = ["\t".join(map(str, (number, decimal(bid.price), *bid.goods, "#"))) + "\n" for number, bid in enumerate(kept)]
+    return "".join([f"goods {goods}\nbids {len(kept)}\ndummy 0\n", *lines])
+
+
+def value_line(bids, goods):
+    """The greatest value, and the bids of a packing that has it: one is left out if the later ones still reach what is needed."""
+    value = needed = or_value(bids, goods)
+    members = []
+    for number, bid in enumerate(bids):
+        if or_value(bids[number + 1 :], goods) < needed:
+            members.append(number)
+            goods, needed = goods - bid.goods, needed - bid.price
+    return " ".join(["or", decimal(value), *map(str, members)]) + "\n"
+
+
+def judge_limits(path, made, text, words, option, most):
+    """Each limit up to one more than is needed."""
+    for limit in range(1, most + 2):
+        goods = first_refused(made, limit, limit if option == "--total-steps" else sum(search.steps for search in made))
+        judge_run(refused(goods) if goods else Answer(0, text, ""), *words, option, limit, path)
+
+
+def judge_small_file(path):
+    goods = SMALL_GOODS
+    bids = or_bids(path, goods)
+    by_prices, by_rates = searches(plain, bids), searches(bounded, bids)
+    quickly = searches(bounded_quickly, bids)
+    judge(by_rates == quickly, f"{path} in Python", (None, str(by_rates), str(quickly)))
+    text = canonical_text(goods, by_rates)
+    judge_limits(path, by_prices, text, ("normalise",), "--steps", max(search.steps for search in by_prices))
+    most, total = max(search.steps for search in by_rates), sum(search.steps for search in by_rates)
+    judge_limits(path, by_rates, text, ("normalise", "--bound", "--total-steps", total), "--steps", most)
+    judge_limits(path, by_rates, text, ("normalise", "--bound"), "--total-steps", total)
+    judge_run(Answer(0, value_line(bids, frozenset(range(goods))), ""), "value", "--bound", path, *range(goods))
+    judge_commands(path, by_rates, total, most)
+
+
+def judge_commands(path, made, total, most):
+    """The other commands that search: with enough steps they answer as ever, and else the limit stops them."""
+    for option, enough in (("--total-steps", total), ("--steps", most)):
+        bundle = first_refused(made, STEPS, enough - 1) if option == "--total-steps" else first_refused(made, enough - 1, total)
+        judge_run(Answer(0, "same\n", ""), "compare", "--bound", option, enough, path, path)
+        judge_run(Answer(0, "", ""), "diff", option, enough, path, path)
+        judge_run(run("explain", path), "explain", option, enough, path)
+        judge_run(run("sizes", path), "sizes", option, enough, path)
+        judge_run(Answer(0, f"{path}\n{path}\n", ""), "duplicates", option, enough, path, path)
+        if enough > 1:
+            judge_run(refused(bundle, "first: "), "compare", "--bound", option, enough - 1, path, path)
+            judge_run(refused(bundle, "first: "), "diff", option, enough - 1, path, path)
+            judge_run(refused(bundle), "explain", option, enough - 1, path)
+            judge_run(refused(bundle, f"{path}: "), "duplicates", option, enough - 1, path)
+
+
+def judge_lines(folder):
+    """A limit of all steps is for the bounded search alone."""
+    path = generated(folder, "l3", 4, 4)
+    for words in (("normalise", path), ("compare", path, path), ("value", path, 0)):
+        answer = run(words[0], "--total-steps", 100, *words[1:])
+        judge(answer[:2] == (WRONG_USAGE, ""), f"{words} with --total-steps and without --bound", answer)
+
+
+def main():
+    with tempfile.TemporaryDirectory() as folder, ThreadPoolExecutor(os.cpu_count()) as pool:
+        work = [pool.submit(judge_file, folder, given) for given in FILES]
+        small = [*(generated(folder, *given) for given in SMALL_FILES), *(fine(folder, seed) for seed in range(FINE_FILES))]
+        work += [pool.submit(judge_small_file, path) for path in small]
+        for one in work:
+            one.result()
+        judge_lines(folder)
+    print(f"{len(FILES)} files, of which the plain search answers {tally['plain']}")
+    print(f"{tally['runs']} runs, {tally['wrong']} wrong")
+    return 1 if tally["wrong"] else 0
+
+
+if __name__ == "__main__":
+    sys.exit(main())
