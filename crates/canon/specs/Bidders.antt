@@ -1,4 +1,4 @@
--- The bidders of a canonical file. They are as their bids lie in it.
+-- The bidders of a canonical file, in the order of their bids.
 use Rattle.std.specs.Prelude.{◌≡◌, ℕ, List, map}
 use Rattle.bid_file.specs.Files.{PlainBid}
 use Rattle.valuation.specs.declared.atom.Atom.{Atom}

@@ -28,7 +28,7 @@ IsUnread text (Read fault) = text_fault text ≡ Some fault
 IsUnread text (StepLimit goods) = ⊥
 IsUnread text Memory = WantsMemoryFor text
 
--- why a text has no canonical text: it is no bid file, or a search takes more steps than its limits leave
+-- why a text has no canonical text: it is not a bid file, or a search takes more steps than its limits leave
 abbrev pub IsUnmade : SearchOptions → List ℕ → CanonFault → Type 0
 IsUnmade options text (Read fault) = text_fault text ≡ Some fault
 IsUnmade options text (StepLimit goods) = Normalises options text (ExceedsSteps goods.items)

@@ -1,6 +1,6 @@
-//! Bids put in order, mostly by sort keys. These are numbers: the bids' indices are sorted by these,
-//! sets are compared only if keys are equal, and a bid is moved once or twice. It is only for speed: no clause says that
-//! the bids are in order, and who needs that sorts them, which then takes no more than to find them in order.
+//! Bids in order, sorted by sort keys. A key is a number: the bids' indices are sorted by their keys, sets are compared
+//! only where keys are equal, and a bid is moved once or twice. This is for speed alone: no clause says that the bids
+//! are in order, and a caller that needs the order sorts them, which is fast on a list that is in order.
 ghost use Rattle.std.specs.Prelude.{◌≡◌, vec_len, IsPermutation};
 ghost use Rattle.prune.specs.Internal.BestBids.{bid_cmp};
 ghost use Rattle.valuation.specs.Values.{plain_atom};

@@ -38,8 +38,8 @@ pub fn xor_value_laws()
 {}
 
 /// The OR value grows with the bundle, and does not depend on the order of the atoms. Where each atom is on some
-/// good, the values of two parts of a bundle together are at most its own, and an atom that the others outbid on its
-/// own bundle changes no value.
+/// good, the values of two parts of a bundle together are at most its own, and an atom that the others dominate changes
+/// no value: theirs on its bundle is at least its price.
 pub fn or_value_laws()
     ensures grows { (atoms : List (Atom (List ℕ))) (small large : List ℕ) → IsInside small large
         → or_value atoms small ≤ or_value atoms large }
@@ -48,7 +48,7 @@ pub fn or_value_laws()
     ensures parts { (atoms : List (Atom (List ℕ))) → All (λ a. 0 < length a.bundle) atoms → (one other whole : List ℕ)
         → IsInside one whole → IsInside other whole → AreApart one other → or_value atoms one + or_value atoms other
         ≤ or_value atoms whole }
-    ensures outbid { (a : Atom (List ℕ)) (rest : List (Atom (List ℕ))) → All (λ a. 0 < length a.bundle) rest
+    ensures dominated { (a : Atom (List ℕ)) (rest : List (Atom (List ℕ))) → All (λ a. 0 < length a.bundle) rest
         → a.price ≤ or_value rest a.bundle → (bundle : List ℕ) → or_value (a ∷ rest) bundle ≡ or_value rest bundle }
 {}
 

@@ -1,6 +1,6 @@
 //! How a search goes.
 
-/// How a search for a packing that reaches a price goes through the bids of a list, and when it leaves a branch.
+/// In which order a search for a packing that reaches a price visits the bids of a list, and when it leaves a branch.
 #[derive(Clone, Copy, PartialEq, Eq, Debug, Drop)]
 pub enum SearchKind {
     /// From the first bid to the last, by the bound by prices.

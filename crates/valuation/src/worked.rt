@@ -110,7 +110,7 @@ pub fn limits_worked()
     ensures plain_after { options_after (plain_options 5) 4 ≡ plain_options 5 }
 {}
 
-/// The bids that the search for a best packing goes through, and the limits that are left.
+/// The bids that the search for a best packing visits, and the limits that are left.
 #[tactic(auto, unfolding(crate::specs::SearchSteps::cut_steps, crate::specs::Bounds::greatest_rate, crate::specs::Bounds::rate_bound, crate::specs::Values::or_value))]
 fn candidates_worked()
     ensures there { is_candidate (atom (0 ∷ []) 3 ∷ atom (1 ∷ []) 4 ∷ []) (1 ∷ []) 1 1 ≡ true }

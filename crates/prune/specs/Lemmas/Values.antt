@@ -1,4 +1,4 @@
--- Lemmas on values: of lists of which one dominateds the other, and of the atoms of a list that matter for a bundle.
+-- Lemmas on values: of lists of which one dominates the other, and of the atoms of a list that matter for a bundle.
 use Rattle.std.proofs.Common.{◌≡◌, ℕ, ◌<◌, ◌≤◌, max, Bool, true, false, cond, ◌⊎◌, inl, inr, ⊎_elim, List, [], ◌∷◌, length, sym, ◌∙◌, subst, arith, le_trans}
 use Rattle.std.proofs.Common.{le_refl, le_antisymm}
 use Rattle.std.specs.Prelude.{All, Contains}

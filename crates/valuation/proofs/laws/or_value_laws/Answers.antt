@@ -6,5 +6,5 @@ returns c = record {
   grows = or_value-grows;
   any_order = or_value-permutation;
   parts = or_value-parts;
-  outbid = or_value-dominated;
+  dominated = or_value-dominated;
 }
