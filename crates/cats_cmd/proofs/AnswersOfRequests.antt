@@ -19,12 +19,13 @@ use Rattle.canon.specs.declared.which.Which.TheVariants.{Only, First, Second, Bo
 use Rattle.cats_cmd.specs.Comparisons.{Compares, ReadsBoth, RunsOnBoth}
 use Rattle.cats_cmd.specs.Diffs.{DiffsFiles, ReadsDifferences, diff_outcome}
 use Rattle.differences.specs.Differences.{is_none_at_all}
-use Rattle.cats_cmd.specs.Outcomes.{Outcome, Prints, ExceedsSteps, check_outcome, show_outcome, normalise_outcome, value_outcome_if, values_unless}
+use Rattle.cats_cmd.specs.Outcomes.{Outcome, Prints, ExceedsSteps, check_outcome, show_outcome, normalise_outcome, exceeds_limits, value_outcome_by}
+use Rattle.cats_cmd.specs.Outcomes.{value_outcome_if, values_unless}
 use Rattle.cats_cmd.specs.Outcomes.{missing_good}
 use Rattle.cats_cmd.specs.Outcomes.{compare_outcome, outcome_unless, text_unless_refused, outcome_of_difference}
 use Rattle.cats_cmd.specs.Inputs.{IsOpened}
 use Rattle.cats_cmd.specs.Explanations.{ExplainsFile}
-use Rattle.cats_cmd.specs.Requests.{AnswersRequest, CarriesOut, ComparesAt, DiffsAt, ExplainsAt, RoundsAt, RunsAt, RunsFor, ValuesAt, FailsRequest, bounded_by}
+use Rattle.cats_cmd.specs.Requests.{AnswersRequest, CarriesOut, ComparesAt, DiffsAt, ExplainsAt, RoundsAt, RunsAt, RunsFor, FailsRequest, bounded_by}
 use Rattle.cats_cmd.specs.Requests.{fine_of, options_of}
 use Rattle.rounding.specs.declared.replacement.FinePrices.{FinePrices}
 use Rattle.cats_cmd.specs.Runs.{RunsOnFile}
@@ -32,7 +33,6 @@ use Rattle.answers.specs.Statuses.{status_of_canon_fault, status_of_differences,
 use Rattle.cats_cmd.specs.Rounding.{Rounds}
 use Rattle.cats_cmd.specs.RequestErrors.{ReportsError, is_for_many_files, is_reporting, names_many_files, names_reporting}
 use Rattle.cats_cmd.specs.RequestErrors.{status_of_request_error}
-use Rattle.cats_cmd.specs.Values.{RunsValue}
 use Rattle.cats_cmd.specs.ValueTexts.{bundle_from, value_text}
 use Rattle.cats_cmd.specs.declared.program.RequestError.{RequestError}
 use Rattle.cats_cmd.specs.declared.program.RequestError.TheVariants.{CannotOpen, NotOpened, Run}
@@ -201,8 +201,8 @@ module _ {F W E : Type 0} (may_open : List ℕ → F → Type 0) (may_refuse : L
   answered (Show file) err_after status ran few =
       printed_status remaining contents show_outcome ran.0.before ran.0.after out out_after (λ file s text is. cc) status ran.0.runs
   answered (Value file goods limits) err_after status ran few =
-      printed_status remaining contents (value_outcome_if ran.0.runs.refuses goods) ran.0.before ran.0.after out out_after
-      (value_prints goods ran.0.runs.refuses) status ran.0.runs.runs
+      printed_status remaining contents (value_outcome_by goods (options_of limits)) ran.0.before ran.0.after out out_after
+      (value_prints goods (exceeds_limits (bundle_from goods) (options_of limits))) status ran.0.runs
   answered (Normalise file limits) err_after status ran few =
       printed_status remaining contents (normalise_outcome (options_of limits)) ran.0.before ran.0.after out out_after (normalise_prints (options_of limits))
       status ran.0.runs
@@ -242,7 +242,7 @@ module _ {F W E : Type 0} (may_open : List ℕ → F → Type 0) (may_refuse : L
   silent_fault (Show file) err_after fault ran few =
       silent_run remaining contents show_outcome ran.0.before ran.0.after out out_after fault ran.0.runs
   silent_fault (Value file goods limits) err_after fault ran few =
-      silent_run remaining contents (value_outcome_if ran.0.runs.refuses goods) ran.0.before ran.0.after out out_after fault ran.0.runs.runs
+      silent_run remaining contents (value_outcome_by goods (options_of limits)) ran.0.before ran.0.after out out_after fault ran.0.runs
   silent_fault (Normalise file limits) err_after fault ran few =
       silent_run remaining contents (normalise_outcome (options_of limits)) ran.0.before ran.0.after out out_after fault ran.0.runs
   silent_fault (Explain file limits) err_after fault ran few =
@@ -337,11 +337,11 @@ module _ {F W : Type 0} (may_open : List ℕ → F → Type 0) (remaining : F �
 
   pub valued_at : (path goods given : List ℕ) (used options : SearchOptions) → used ≡ options → given ≡ goods → (before after : Watched F)
       (out out_after : Watched W) (answer : Result ℕ RunFault) → IsOpened may_open path before
-      → RunsValue remaining contents given used before after out out_after answer → ValuesAt may_open remaining contents path goods options out out_after answer
+      → RunsOnFile remaining contents (value_outcome_by given used) before after out out_after answer
+      → RunsAt may_open remaining contents path (value_outcome_by goods options) out out_after answer
   valued_at path goods given used options is same before after out out_after answer opened runs =
-      subst (λ (o : SearchOptions). ValuesAt may_open remaining contents path goods o out out_after answer) is
-      (subst (λ (gs : List ℕ). ValuesAt may_open remaining contents path gs used out out_after answer) same
-      (record { before = before; after = after; opened = opened; runs = runs }))
+      subst (λ (gs : List ℕ). RunsAt may_open remaining contents path (value_outcome_by gs options) out out_after answer) same
+      (ran_by path (value_outcome_by given) used options is before after out out_after answer opened runs)
 
   pub explained_at : (path : List ℕ) (options : SearchOptions) (before after : Watched F) (out out_after : Watched W) (answer : Result ℕ RunFault)
       → IsOpened may_open path before → ExplainsFile remaining contents options before after out out_after answer

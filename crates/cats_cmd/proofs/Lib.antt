@@ -23,7 +23,6 @@ mod OutputPaths
 mod Skipping
 mod FindingPlaces
 mod Tabling
-mod Valuing
 mod RunsOfLists
 mod RunsOfPaths
 pub mod RunsOfOneFile

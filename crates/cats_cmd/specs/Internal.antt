@@ -5,3 +5,4 @@ pub mod Differences
 pub mod Diffs
 pub mod Judging
 pub mod Roundings
+pub mod Searches

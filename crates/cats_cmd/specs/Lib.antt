@@ -5,7 +5,6 @@ pub mod Examples
 pub mod Inputs
 pub mod RequestErrors
 pub mod Runs
-pub mod Values
 pub mod Comparisons
 pub mod Diffs
 pub mod Explanations

@@ -4,6 +4,8 @@ use Rattle.bid_file.specs.Files.{PlainFile}
 use Rattle.cats_text.specs.Layout.{layout}
 use Rattle.valuation.specs.Auctions.{or_atoms_of, auction_from}
 use Rattle.valuation.specs.Packings.{count_packings}
+use Rattle.valuation.specs.SearchLimits.{is_one_over}
+use Rattle.valuation.specs.ValueSearches.{value_steps}
 use Rattle.valuation.specs.declared.search_options.SearchOptions.{SearchOptions}
 use Rattle.prune.specs.SearchSteps.{first_refused}
 use Rattle.canon.specs.Canonical.{canonical_text}
@@ -46,11 +48,19 @@ abbrev pub value_outcome_if : (PlainFile → Bool) → List ℕ → PlainFile �
 value_outcome_if refuses goods file =
     outcome_unless (missing_good file.goods goods) (values_unless (refuses file) (bundle_from goods) file)
 
+-- a search for the value of the bundle takes more steps than the limits leave for it
+abbrev pub exceeds_limits : List ℕ → SearchOptions → PlainFile → Bool
+exceeds_limits bundle options file = is_one_over options (value_steps options.kind (or_atoms_of file.bids) bundle)
+
+-- of `cats value`, by searches of any kind
+abbrev pub value_outcome_by : List ℕ → SearchOptions → PlainFile → Outcome
+value_outcome_by goods options = value_outcome_if (exceeds_limits (bundle_from goods) options) goods
+
 -- the bundle has more packings than the limit
 abbrev pub exceeds_packings : List ℕ → ℕ → PlainFile → Bool
 exceeds_packings bundle limit file = nat_lt limit (count_packings (or_atoms_of file.bids) bundle)
 
--- by the plain search
+-- by the plain search, which takes a step for each packing
 abbrev pub value_outcome : List ℕ → ℕ → PlainFile → Outcome
 value_outcome goods limit = value_outcome_if (exceeds_packings (bundle_from goods) limit) goods
 

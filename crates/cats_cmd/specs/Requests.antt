@@ -15,12 +15,11 @@ use Rattle.cats_cmd.specs.Duplicates.{MakesGroups}
 use Rattle.cats_cmd.specs.Explanations.{ExplainsFile}
 use Rattle.cats_cmd.specs.FileLists.{RunsOnFiles}
 use Rattle.cats_cmd.specs.Inputs.{IsOpened, MayRefuse}
-use Rattle.cats_cmd.specs.Outcomes.{Outcome, check_outcome, show_outcome, normalise_outcome}
+use Rattle.cats_cmd.specs.Outcomes.{Outcome, check_outcome, show_outcome, normalise_outcome, value_outcome_by}
 use Rattle.cats_cmd.specs.Paths.{RunsOnPaths}
 use Rattle.cats_cmd.specs.Rounding.{Rounds}
 use Rattle.cats_cmd.specs.Runs.{RunsOnFile}
 use Rattle.cats_cmd.specs.SizesTables.{MakesTable}
-use Rattle.cats_cmd.specs.Values.{RunsValue}
 use Rattle.rounding.specs.declared.replacement.FinePrices.{FinePrices}
 use Rattle.rounding.specs.declared.replacement.FinePrices.TheVariants.{Round as RoundFine, Refuse}
 use Rattle.cats_cmd.specs.RequestErrors.{ReportsError, SendsText, status_of_request_error}
@@ -102,14 +101,6 @@ module _ {F W : Type 0} (may_open : List ℕ → F → Type 0) (remaining : F �
     pub opened : IsOpened may_open path before
     pub runs : RunsOnFile remaining contents outcome before after out out_after answer
 
-  -- the values of the stream that was opened at the path
-  pub record ValuesAt (path goods : List ℕ) (options : SearchOptions) (out out_after : Watched W)
-      (answer : Result ℕ RunFault) : Type 0 where
-    pub before : Watched F
-    pub after : Watched F
-    pub opened : IsOpened may_open path before
-    pub runs : RunsValue remaining contents goods options before after out out_after answer
-
   -- an explanation of the stream that was opened at the path
   pub record ExplainsAt (path : List ℕ) (options : SearchOptions) (out out_after : Watched W)
       (answer : Result ℕ RunFault)
@@ -171,7 +162,8 @@ module _ {F W E : Type 0} (may_open : List ℕ → F → Type 0) (may_refuse : L
   RunsFor (Show file) out out_after err err_after answer =
       RunsAt may_open remaining contents file show_outcome out out_after answer × (err_after ≡ err)
   RunsFor (Value file goods limits) out out_after err err_after answer =
-      ValuesAt may_open remaining contents file goods (options_of limits) out out_after answer × (err_after ≡ err)
+      RunsAt may_open remaining contents file (value_outcome_by goods (options_of limits)) out out_after answer
+      × (err_after ≡ err)
   RunsFor (Normalise file limits) out out_after err err_after answer =
       RunsAt may_open remaining contents file (normalise_outcome (options_of limits)) out out_after answer ×
       (err_after ≡ err)

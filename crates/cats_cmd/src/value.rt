@@ -4,16 +4,14 @@ mod bundles;
 mod lines;
 mod numbers;
 
-ghost use Rattle.std.specs.Prelude.{◌≡◌, ◌≤◌, None, IfErr, IfOk, OnOk, false};
+ghost use Rattle.std.specs.Prelude.{◌≡◌, ◌≤◌, None, false};
 ghost use Rattle.cats_text.specs.Streams.{has_ended, has_failed};
 ghost use Rattle.bid_file.specs.Files.{IsPlainFile};
-ghost use Rattle.valuation.specs.Auctions.{or_atoms_of};
-ghost use Rattle.valuation.specs.Values.{chosen_places, or_value};
 ghost use Rattle.valuation.specs.Views.{plain_auction};
-ghost use Rattle.cats_cmd.specs.Outcomes.{missing_good, value_outcome};
-ghost use Rattle.cats_cmd.specs.Runs.{RunsOnFile};
-ghost use Rattle.cats_cmd.specs.Values.{IsWithin, RefusesValue, RunsValue};
-ghost use Rattle.cats_cmd.specs.ValueTexts.{bundle_from, value_text};
+ghost use Rattle.cats_cmd.specs.Internal.Searches.{SearchesAs};
+ghost use Rattle.cats_cmd.specs.Outcomes.{exceeds_limits, missing_good, value_outcome, value_outcome_by, values_unless};
+ghost use Rattle.cats_cmd.specs.Runs.{MakesAs, RunsOnFile};
+ghost use Rattle.cats_cmd.specs.ValueTexts.{bundle_from};
 
 use crate::run::{read_packed_file, send_text};
 use answers::{DONE, RunFault};
@@ -60,7 +58,8 @@ pub fn run_value_by<R: Read, W: Write>(
     requires input_works { has_failed input.old ≡ false }
     requires input_fresh { has_ended input.old ≡ false }
     requires out_works { has_failed out.old ≡ false }
-    ensures { RunsValue R.remaining W.contents goods.now options input.old input.new out.old out.new result }
+    ensures { RunsOnFile R.remaining W.contents (value_outcome_by goods.now options) input.old input.new out.old out.new
+        result }
 {
     let file = read_packed_file(alloc, input)?;
     if let Some(good) = first_missing(goods, file.goods()) {
@@ -86,9 +85,8 @@ fn text_on_sets(
 ) -> Result<Vec<u8>, CanonFault>
     requires facts { IsPlainFile file.now }
     requires there { missing_good file.now.goods goods.now ≡ None }
-    ensures text { IfOk result (λ text. text.items ≡ value_text file.now (bundle_from goods.now)) }
-    ensures within { OnOk result (IsWithin options (or_atoms_of file.now.bids) (bundle_from goods.now)) }
-    ensures refused { IfErr result (RefusesValue options (or_atoms_of file.now.bids) (bundle_from goods.now)) }
+    ensures { MakesAs (values_unless (exceeds_limits (bundle_from goods.now) options file.now)
+        (bundle_from goods.now) file.now) result }
 {
     on_set_for!(file, text_of_values(alloc, file, goods, options))
 }
@@ -103,9 +101,8 @@ fn text_of_values<S: GoodsSet>(
     requires facts { IsPlainFile file.now }
     requires cap { file.now.goods ≤ S.CAP }
     requires there { missing_good file.now.goods goods.now ≡ None }
-    ensures text { IfOk result (λ text. text.items ≡ value_text file.now (bundle_from goods.now)) }
-    ensures within { OnOk result (IsWithin options (or_atoms_of file.now.bids) (bundle_from goods.now)) }
-    ensures refused { IfErr result (RefusesValue options (or_atoms_of file.now.bids) (bundle_from goods.now)) }
+    ensures { MakesAs (values_unless (exceeds_limits (bundle_from goods.now) options file.now)
+        (bundle_from goods.now) file.now) result }
 {
     let bundle: S = bundle_of(alloc, goods)?;
     let auction = auction_of(alloc, file)?;
@@ -130,12 +127,7 @@ fn best_packing<S: GoodsSet>(
     bundle: &S,
     options: SearchOptions,
 ) -> Result<Packing, CanonFault>
-    ensures value { let atoms = (plain_auction auction.now).or_atoms in
-        IfOk result (λ packing. packing.value ≡ or_value atoms (S.goods bundle.now)) }
-    ensures members { let atoms = (plain_auction auction.now).or_atoms in
-        IfOk result (λ packing. packing.members.items ≡ chosen_places atoms (S.goods bundle.now)) }
-    ensures within { OnOk result (IsWithin options (plain_auction auction.now).or_atoms (S.goods bundle.now)) }
-    ensures refused { IfErr result (RefusesValue options (plain_auction auction.now).or_atoms (S.goods bundle.now)) }
+    ensures { SearchesAs (plain_auction auction.now).or_atoms (S.goods bundle.now) options result }
 {
     match or_value_by(alloc, auction.or_atoms(), bundle, options) {
         Ok(packing) => Ok(packing),

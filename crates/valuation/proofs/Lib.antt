@@ -15,3 +15,7 @@ pub mod RatesSoFar
 pub mod Listed
 pub mod Candidates
 pub mod Choosing
+pub mod LargestFirst
+pub mod SearchesInTurn
+pub mod SearchesForValue
+pub mod ValueStepsCounted

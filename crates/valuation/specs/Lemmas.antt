@@ -9,6 +9,7 @@ pub mod Orders
 pub mod PackingCounts
 pub mod Packings
 pub mod Permutations
+pub mod SearchLimits
 pub mod SearchSteps
 pub mod Searches
 pub mod Sorting

@@ -11,6 +11,7 @@ pub mod Bidders
 pub mod Conflicts
 pub mod Paths
 pub mod Searches
+pub mod ValueSearches
 pub mod Listed
 pub mod Views
 pub mod Examples

@@ -1,15 +1,17 @@
 //! Worked examples of the definitions, which the check computes.
 ghost use Rattle.std.specs.Prelude.{◌≡◌, [], ◌∷◌, true, false, Ok, Some};
 ghost use Rattle.std.specs.declared.cmp.Ordering.TheVariants.{Less, Equal, Greater};
-ghost use Rattle.valuation.specs.declared.search_kind.SearchKind.TheVariants.{Bounded};
+ghost use Rattle.valuation.specs.declared.search_kind.SearchKind.TheVariants.{Plain, Bounded};
 ghost use Rattle.valuation.specs.Examples.{atom};
 ghost use Rattle.valuation.specs.Values.{xor_value, or_value, chosen_places};
-ghost use Rattle.valuation.specs.Internal.BestSearch.{is_candidate, numbers_at, steps_among};
+ghost use Rattle.valuation.specs.Internal.BestSearch.{numbers_at};
 ghost use Rattle.valuation.specs.Internal.Reaching.{ArePricesLeft, IsReachedBy};
 ghost use Rattle.valuation.specs.Packings.{count_packings, IsPackingFor};
 ghost use Rattle.valuation.specs.Bounds.{price_bound, rate, greatest_rate, rate_bound};
 ghost use Rattle.valuation.specs.SearchSteps.{cut_steps, found_indices};
-ghost use Rattle.valuation.specs.SearchLimits.{plain_options, bounded_options, next_steps, options_after};
+ghost use Rattle.valuation.specs.SearchLimits.{plain_options, bounded_options, next_steps, options_after, is_one_over};
+ghost use Rattle.valuation.specs.SearchLimits.{options_after_all};
+ghost use Rattle.valuation.specs.ValueSearches.{best_from, found_from, is_candidate, largest_first, steps_from, value_steps};
 ghost use Rattle.valuation.specs.Tables.{or_table, xor_table, is_nonzero};
 ghost use Rattle.valuation.specs.Orders.{atom_cmp, bidder_cmp};
 ghost use Rattle.valuation.specs.Sorting.{sort_by};
@@ -101,6 +103,7 @@ pub fn searches_worked()
 {}
 
 /// The limits of searches: each may take so many steps, and all together so many, if that has a limit.
+#[tactic(auto, unfolding(crate::specs::SearchLimits::options_after_all, crate::specs::SearchLimits::is_one_over))]
 pub fn limits_worked()
     ensures no_total { next_steps (plain_options 5) ≡ 5 }
     ensures each { next_steps (bounded_options 5 (Some 7)) ≡ 5 }
@@ -108,16 +111,43 @@ pub fn limits_worked()
     ensures bounded { bounded_options 5 (Some 7) ≡ record { kind = Bounded; each = 5; total = Some 7 } }
     ensures after { options_after (bounded_options 5 (Some 7)) 4 ≡ bounded_options 5 (Some 3) }
     ensures plain_after { options_after (plain_options 5) 4 ≡ plain_options 5 }
+    ensures after_all { options_after_all (bounded_options 5 (Some 7)) (4 ∷ 2 ∷ []) ≡ bounded_options 5 (Some 1) }
+    ensures all_within { is_one_over (bounded_options 5 (Some 7)) (5 ∷ 2 ∷ []) ≡ false }
+    ensures second_over { is_one_over (bounded_options 5 (Some 7)) (5 ∷ 3 ∷ []) ≡ true }
+    ensures first_over { is_one_over (bounded_options 5 None) (6 ∷ []) ≡ true }
+    ensures each_within { is_one_over (bounded_options 5 None) (5 ∷ 5 ∷ 5 ∷ []) ≡ false }
+    ensures no_search { is_one_over (bounded_options 0 None) [] ≡ false }
 {}
 
-/// The bids that the search for a best packing visits, and the limits that are left.
-#[tactic(auto, unfolding(crate::specs::SearchSteps::cut_steps, crate::specs::Bounds::greatest_rate, crate::specs::Bounds::rate_bound, crate::specs::Values::or_value))]
+/// The searches for a value: on most goods first, each for more than the best packing so far, and then one on each bid
+/// of the best packing.
+#[tactic(auto, unfolding(crate::specs::SearchSteps::cut_steps, crate::specs::SearchSteps::found_indices, crate::specs::Bounds::greatest_rate, crate::specs::Bounds::rate_bound, crate::specs::Values::or_value, crate::specs::Packings::count_packings, crate::specs::ValueSearches::steps_from, crate::specs::ValueSearches::found_from, crate::specs::ValueSearches::best_from, crate::specs::ValueSearches::steps_to_best, crate::specs::ValueSearches::steps_to_choose, crate::specs::ValueSearches::value_steps))]
+pub fn value_searches_worked()
+    ensures order { let a = atom (0 ∷ []) 3 ∷ atom (0 ∷ 1 ∷ []) 6 ∷ atom (1 ∷ []) 4 ∷ [] in
+        largest_first a ≡ 1 ∷ 0 ∷ 2 ∷ [] }
+    ensures found { let a = atom (0 ∷ []) 3 ∷ atom (1 ∷ []) 4 ∷ atom (0 ∷ 1 ∷ []) 6 ∷ [] in
+        found_from a (0 ∷ 1 ∷ []) 0 1 ≡ 2 ∷ [] }
+    ensures found_later { let a = atom (0 ∷ []) 3 ∷ atom (1 ∷ []) 4 ∷ atom (0 ∷ 1 ∷ []) 6 ∷ [] in
+        found_from a (0 ∷ 1 ∷ []) 1 4 ≡ 2 ∷ [] }
+    ensures steps { let a = atom (0 ∷ []) 3 ∷ atom (1 ∷ []) 4 ∷ atom (0 ∷ 1 ∷ []) 6 ∷ [] in
+        steps_from a (0 ∷ 1 ∷ []) 0 7 ≡ 4 }
+    ensures best { let a = atom (0 ∷ []) 3 ∷ atom (1 ∷ []) 4 ∷ atom (0 ∷ 1 ∷ []) 6 ∷ [] in
+        best_from 7 a (0 ∷ 1 ∷ []) [] ≡ 0 ∷ 1 ∷ [] }
+    ensures bounded { let a = atom (0 ∷ []) 3 ∷ atom (1 ∷ []) 4 ∷ atom (0 ∷ 1 ∷ []) 6 ∷ [] in
+        value_steps Bounded a (0 ∷ 1 ∷ []) ≡ 2 ∷ 4 ∷ 1 ∷ 2 ∷ 1 ∷ [] }
+    ensures plain { let a = atom (0 ∷ []) 3 ∷ atom (1 ∷ []) 4 ∷ atom (0 ∷ 1 ∷ []) 6 ∷ [] in
+        value_steps Plain a (0 ∷ 1 ∷ []) ≡ 5 ∷ [] }
+    ensures later_reaches { let a = atom (0 ∷ []) 5 ∷ atom (0 ∷ []) 5 ∷ [] in
+        value_steps Bounded a (0 ∷ []) ≡ 2 ∷ 1 ∷ 2 ∷ 1 ∷ [] }
+    ensures no_bid { value_steps Bounded [] (0 ∷ []) ≡ 1 ∷ [] }
+{}
+
+/// The bids that the search for a best packing visits.
 fn candidates_worked()
     ensures there { is_candidate (atom (0 ∷ []) 3 ∷ atom (1 ∷ []) 4 ∷ []) (1 ∷ []) 1 1 ≡ true }
     ensures outside { is_candidate (atom (0 ∷ []) 3 ∷ atom (1 ∷ []) 4 ∷ []) (1 ∷ []) 0 0 ≡ false }
     ensures before { is_candidate (atom (0 ∷ []) 3 ∷ atom (1 ∷ []) 4 ∷ []) (0 ∷ 1 ∷ []) 1 0 ≡ false }
     ensures numbers { numbers_at (7 ∷ 5 ∷ []) (1 ∷ 0 ∷ []) ≡ 5 ∷ 7 ∷ [] }
-    ensures steps { steps_among Bounded (atom (0 ∷ []) 3 ∷ []) (0 ∷ []) 3 ≡ 2 }
 {}
 
 /// A table has the values on all bundles, in order.

@@ -16,7 +16,7 @@ pub atom_cmp_total : IsTotalOrder atom_cmp
 atom_cmp_total =
     then_total (on_total (λ (a : Atom (List ℕ)). a.bundle) bundle_cmp_total) (on_total (λ (a : Atom (List ℕ)). a.price) nat_cmp_total)
 
-then_parts : (a b : Ordering) → ordering_then a b ≡ Equal → (a ≡ Equal) × (b ≡ Equal)
+pub then_parts : (a b : Ordering) → ordering_then a b ≡ Equal → (a ≡ Equal) × (b ≡ Equal)
 then_parts Less b e = absurd (cc)
 then_parts Equal b e = (refl, e)
 then_parts Greater b e = absurd (cc)
