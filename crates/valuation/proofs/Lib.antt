@@ -1,5 +1,6 @@
 -- Proofs that several functions of this crate cite.
 pub mod ConflictMasks
+pub mod AllHolders
 pub mod FirstBestAtoms
 pub mod Placing
 pub mod BestPackingLevels
