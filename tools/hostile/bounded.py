@@ -16,7 +16,7 @@ from concurrent.futures import ThreadPoolExecutor
 from threading import Lock
 from typing import NamedTuple
 
-from steps import Bid, bounded, bounded_quickly, first_refused, or_value, plain, searches
+from steps import Bid, bounded, bounded_quickly, first_refused, or_value, plain, searches, value_searches
 
 PROGRAM, GENERATE = sys.argv[1:]
 SECONDS = 120
@@ -167,11 +167,11 @@ def value_line(bids, goods):
     return " ".join(["or", decimal(value), *map(str, members)]) + "\n"
 
 
-def judge_limits(path, made, text, words, option, most):
+def judge_limits(made, text, words, option, most):
     """Each limit up to one more than is needed."""
     for limit in range(1, most + 2):
         goods = first_refused(made, limit, limit if option == "--total-steps" else sum(search.steps for search in made))
-        judge_run(refused(goods) if goods else Answer(0, text, ""), *words, option, limit, path)
+        judge_run(refused(goods) if goods else Answer(0, text, ""), *words, option, limit)
 
 
 def judge_small_file(path):
@@ -181,12 +181,20 @@ def judge_small_file(path):
     quickly = searches(bounded_quickly, bids)
     judge(by_rates == quickly, f"{path} in Python", (None, str(by_rates), str(quickly)))
     text = canonical_text(goods, by_rates)
-    judge_limits(path, by_prices, text, ("normalise",), "--steps", max(search.steps for search in by_prices))
+    judge_limits(by_prices, text, ("normalise", path), "--steps", max(search.steps for search in by_prices))
     most, total = max(search.steps for search in by_rates), sum(search.steps for search in by_rates)
-    judge_limits(path, by_rates, text, ("normalise", "--bound", "--total-steps", total), "--steps", most)
-    judge_limits(path, by_rates, text, ("normalise", "--bound"), "--total-steps", total)
-    judge_run(Answer(0, value_line(bids, frozenset(range(goods))), ""), "value", "--bound", path, *range(goods))
+    judge_limits(by_rates, text, ("normalise", "--bound", "--total-steps", total, path), "--steps", most)
+    judge_limits(by_rates, text, ("normalise", "--bound", path), "--total-steps", total)
+    judge_value(path, bids, frozenset(range(goods)))
     judge_commands(path, by_rates, total, most)
+
+
+def judge_value(path, bids, goods):
+    made, line = value_searches(bids, goods), value_line(bids, goods)
+    words = ("value", "--bound", path, *goods)
+    judge_run(Answer(0, line, ""), *words)
+    judge_limits(made, line, words, "--steps", max(search.steps for search in made))
+    judge_limits(made, line, words, "--total-steps", sum(search.steps for search in made))
 
 
 def judge_commands(path, made, total, most):
