@@ -29,7 +29,8 @@ use Rattle.command_line.specs.Requests.{IsNoRequestOf, request_of}
 use Rattle.command_line.specs.declared.request.NoRequest.{NoRequest}
 use Rattle.command_line.specs.declared.request.NoRequest.TheVariants.{Help, WrongUsage, Misused, NoMemory}
 use Rattle.command_line.specs.declared.request.Misuse.{Misuse}
-use Rattle.command_line.specs.declared.request.Misuse.TheVariants.{SignedNumber, UnboundedTotal, WrongFiles}
+use Rattle.command_line.specs.declared.request.Misuse.TheVariants.{SignedNumber, MoreThanOneFile, MoreThanTwoFiles}
+use Rattle.command_line.specs.declared.request.Misuse.TheVariants.{UnboundedTotal, WrongFiles}
 use Rattle.command_line.specs.declared.request.Limits.{Limits}
 use Rattle.valuation.specs.SearchLimits.{bounded_options, plain_options}
 use Rattle.cats_cmd.specs.declared.paths.Ending.{Ending}
@@ -46,6 +47,8 @@ use Rattle.cats_cmd.specs.declared.source.Unopened.{Unopened}
 -- why a line is wrong whose words its subcommand takes
 abbrev pub misuse_text : Misuse → List ℕ
 misuse_text SignedNumber = codes "error: a number has digits alone, and no sign\n\nFor more information, try '--help'.\n"
+misuse_text MoreThanOneFile = codes "error: this command takes one file\n\nFor more information, try '--help'.\n"
+misuse_text MoreThanTwoFiles = codes "error: this command takes two files\n\nFor more information, try '--help'.\n"
 misuse_text UnboundedTotal = codes "error: '--total-steps <N>' needs '--bound'\n\nFor more information, try '--help'.\n"
 misuse_text WrongFiles =
     codes "error: give paths, or '--files0-from <LIST>', and not both\n\nFor more information, try '--help'.\n"

@@ -56,6 +56,12 @@ pub(crate) fn misuse_text(misuse: Misuse) -> &'static str
         Misuse::SignedNumber => {
             "error: a number has digits alone, and no sign\n\nFor more information, try '--help'.\n"
         }
+        Misuse::MoreThanOneFile => {
+            "error: this command takes one file\n\nFor more information, try '--help'.\n"
+        }
+        Misuse::MoreThanTwoFiles => {
+            "error: this command takes two files\n\nFor more information, try '--help'.\n"
+        }
         Misuse::UnboundedTotal => {
             "error: '--total-steps <N>' needs '--bound'\n\nFor more information, try '--help'.\n"
         }

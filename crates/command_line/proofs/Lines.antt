@@ -122,11 +122,11 @@ abbrev pub value_fault : Bool → Kinds
 value_fault taken = or_else (or_else (or_else (or_else (or_else (if taken then [] else ValueValidation ∷ []) []) []) []) []) []
 
 -- a number with a sign requests nothing
-if_signed : (signed : Bool) (found : Option PlainRequest) → (if ((signed || false) || false) then None else found) ≡ (if signed then None else found)
+if_signed : (signed : Bool) (found : Option PlainRequest) → (if (((signed || false) || false) || false) then None else found) ≡ (if signed then None else found)
 if_signed true found = refl
 if_signed false found = refl
 
-if_none : (signed : Bool) (found : Option PlainRequest) → found ≡ None → (if ((signed || false) || false) then None else found) ≡ None
+if_none : (signed : Bool) (found : Option PlainRequest) → found ≡ None → (if (((signed || false) || false) || false) then None else found) ≡ None
 if_none true found none = refl
 if_none false found none = none
 
@@ -145,7 +145,7 @@ unfolding clap_on_literals
 limit_attached program text path limit plain =
     option_line (codes "normalise") (codes "--steps=" ++ text) refl refl (path ∷ []) (plain, tt)
     ∙ ap (λ (taken : Bool). if_taken (value_fault taken)
-    (if ((begins_with_sign text || false) || false) then None else limited_request text path)) limit
+    (if (((begins_with_sign text || false) || false) || false) then None else limited_request text path)) limit
     ∙ if_signed (begins_with_sign text) (limited_request text path)
 
 abbrev pub total_request : List ℕ → List ℕ → Option PlainRequest
@@ -157,11 +157,11 @@ unfolding clap_on_literals
 total_attached program text path limit plain =
     option_line (codes "explain") (codes "--total-steps=" ++ text) refl refl (path ∷ []) (plain, tt)
     ∙ ap (λ (taken : Bool). if_taken (value_fault taken)
-    (if ((begins_with_sign text || false) || false) then None else total_request text path)) limit
+    (if (((begins_with_sign text || false) || false) || false) then None else total_request text path)) limit
     ∙ if_signed (begins_with_sign text) (total_request text path)
 
 -- whatever the text is, nothing is requested
-none_requested : (text : List ℕ) (kinds : Kinds) → if_taken kinds (if ((begins_with_sign text || false) || false) then None else None) ≡ None
+none_requested : (text : List ℕ) (kinds : Kinds) → if_taken kinds (if (((begins_with_sign text || false) || false) || false) then None else None) ≡ None
 none_requested text kinds = ap (if_taken kinds) (if_none (begins_with_sign text) None refl) ∙ nothing kinds
 
 pub unbounded_normalise : (program text path : List ℕ) → begins_with_hyphen path ≡ false

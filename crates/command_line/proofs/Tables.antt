@@ -1,7 +1,7 @@
 -- What a command has once one more row of the table was added to it, and that the table has all names.
 use Rattle.std.proofs.Common.{◌≡◌, ◌≢◌, ◌∙◌, ◌<◌, ◌+◌, ◌++◌, ℕ, Bool, true, false, List, [], ◌∷◌, Option, None, ap, ap₂, sym, refl, arith}
 use Rattle.std.proofs.Common.{codes, map, take, length, get_or}
-use Rattle.std.specs.Prelude.{fold, if◌then◌else◌}
+use Rattle.std.specs.Prelude.{◌||◌, fold, if◌then◌else◌}
 use Rattle.std.specs.Str.{bytes_eq}
 use Rattle.std.proofs.lemmas.Slice.Eq.{bytes_eq-Decides}
 use Rattle.std.proofs.lemmas.List.{map-append, take_more}
@@ -11,7 +11,7 @@ use Rattle.clap.specs.Walk.{Row, Rule}
 use Rattle.command_line.specs.Internal.Commands.{rule_for, shape_for, with_row}
 use Rattle.command_line.specs.PlainRequests.{PlainRequest}
 use Rattle.command_line.specs.Requests.{request_from}
-use Rattle.command_line.specs.Subcommands.{has_signed_number}
+use Rattle.command_line.specs.Subcommands.{has_more_files, has_signed_number}
 use Rattle.command_line.specs.declared.commands.Argument.{Argument}
 use Rattle.command_line.specs.declared.commands.Subcommand.{Subcommand}
 
@@ -55,8 +55,8 @@ no_subcommand name rows check show value normalise explain round compare diff du
       differs _ _ diff,
       differs _ _ duplicates,
       differs _ _ sizes,
-    ) (either (has_signed_number rows) None refl)
+    ) (either (has_signed_number rows || has_more_files rows) None refl)
   where
-    either : (signed : Bool) (found : Option PlainRequest) → found ≡ None → (if signed then None else found) ≡ None
+    either : (wrong : Bool) (found : Option PlainRequest) → found ≡ None → (if wrong then None else found) ≡ None
     either true found none = refl
     either false found none = none

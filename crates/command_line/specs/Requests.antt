@@ -1,6 +1,6 @@
 -- What a command line requests, and what it is if it requests nothing.
-use Rattle.std.specs.Prelude.{◌≡◌, ◌==◌, ℕ, Bool, true, false, not, List, [], ◌∷◌, map, find, Option, None}
-use Rattle.std.specs.Prelude.{option_and_then, if◌then◌else◌}
+use Rattle.std.specs.Prelude.{◌≡◌, ◌==◌, ◌||◌, ℕ, Bool, true, false, not, List, [], ◌∷◌, map, find, Option, None}
+use Rattle.std.specs.Prelude.{option_and_then, if◌then◌else◌, is_some}
 use Rattle.std.specs.Option.{option_map_or}
 use Rattle.std.specs.Borrow.{Bor}
 use Rattle.std.specs.List.{list_any}
@@ -12,15 +12,17 @@ use Rattle.clap.specs.Walk.{Row}
 use Rattle.clap.specs.declared.error.kind.ErrorKind.{ErrorKind}
 use Rattle.clap.specs.declared.error.kind.ErrorKind.TheVariants.{DisplayHelp, DisplayVersion}
 use Rattle.command_line.specs.PlainRequests.{PlainRequest}
-use Rattle.command_line.specs.Subcommands.{cats, has_signed_number, has_unbounded_total, subcommands}
+use Rattle.command_line.specs.Subcommands.{cats, has_more_files, has_signed_number, has_unbounded_total, second_in}
+use Rattle.command_line.specs.Subcommands.{subcommands}
 use Rattle.command_line.specs.declared.request.Misuse.{Misuse}
-use Rattle.command_line.specs.declared.request.Misuse.TheVariants.{SignedNumber, UnboundedTotal, WrongFiles}
+use Rattle.command_line.specs.declared.request.Misuse.TheVariants.{SignedNumber, MoreThanOneFile, MoreThanTwoFiles}
+use Rattle.command_line.specs.declared.request.Misuse.TheVariants.{UnboundedTotal, WrongFiles}
 use Rattle.command_line.specs.declared.request.NoRequest.{NoRequest}
 use Rattle.command_line.specs.declared.request.NoRequest.TheVariants.{Help, WrongUsage, Misused, NoMemory}
 
--- what the subcommand of this name requests; nothing if a number has a sign
+-- what the subcommand of this name requests; nothing if a number has a sign, or if there are too many files
 abbrev pub request_from : List ℕ → List Row → Option PlainRequest
-request_from name rows = if has_signed_number rows then None
+request_from name rows = if has_signed_number rows || has_more_files rows then None
     else option_and_then (λ s. s.request rows) (find (λ s. bytes_eq s.name name) subcommands)
 
 -- a line without a fault requests this, and another nothing
@@ -33,10 +35,15 @@ abbrev pub request_of : List (List ℕ) → Option PlainRequest
 request_of words = if_taken (fault_of cats words)
     (option_and_then (λ p. request_from p.0 p.1) (subcommand_of cats words))
 
+-- of a line with too many files: those that its subcommand takes are one, or two
+abbrev pub file_misuse_in : List Row → Misuse
+file_misuse_in rows = if is_some (second_in rows) then MoreThanTwoFiles else MoreThanOneFile
+
 -- why a line requests nothing although `clap` takes it
 abbrev pub misuse_in : List Row → Misuse
 misuse_in rows = if has_signed_number rows then SignedNumber
-    else (if has_unbounded_total rows then UnboundedTotal else WrongFiles)
+    else (if has_more_files rows then file_misuse_in rows
+    else (if has_unbounded_total rows then UnboundedTotal else WrongFiles))
 
 abbrev pub misuse_of : List (List ℕ) → Misuse
 misuse_of words = option_map_or (λ p. misuse_in p.1) (subcommand_of cats words) WrongFiles

@@ -25,6 +25,12 @@ file = record (new_rule (codes "FILE")) { required = true }
 abbrev pub second_file : Rule
 second_file = record (new_rule (codes "SECOND_FILE")) { required = true; value_names = 1 }
 
+-- more files than a subcommand takes: a line that has one requests nothing
+abbrev pub more_files : Rule
+more_files = record (new_rule (codes "MORE_FILES")) {
+  range = Some (record { start_inclusive = 0; end_inclusive = usize_max });
+}
+
 abbrev pub files : Rule
 files = record (new_rule (codes "FILE")) { range = Some (record { start_inclusive = 1; end_inclusive = usize_max }) }
 
@@ -133,6 +139,9 @@ files_in rows = option_and_then (λ limits. option_map (λ paths. record {
   null = is_set (codes "null") rows;
 }) (paths_in rows)) (limits_in rows)
 
+abbrev pub has_more_files : List Row → Bool
+has_more_files rows = is_some (first_of (codes "MORE_FILES") rows)
+
 -- ---- numbers have no sign
 
 -- the first byte is '+' or '-'
@@ -172,22 +181,30 @@ valued rows =
 
 abbrev pub subcommands : List Subcommand
 subcommands =
-    record { name = codes "check"; rules = file ∷ []; request = λ rows. option_map Check (file_in rows) }
-    ∷ record { name = codes "show"; rules = file ∷ []; request = λ rows. option_map Show (file_in rows) }
+    record { name = codes "check"; rules = file ∷ more_files ∷ []; request = λ rows. option_map Check (file_in rows) }
+    ∷ record { name = codes "show"; rules = file ∷ more_files ∷ []; request = λ rows. option_map Show (file_in rows) }
     ∷ record { name = codes "value"; rules = bound ∷ steps ∷ total_steps ∷ file ∷ goods ∷ []; request = valued }
-    ∷ record { name = codes "normalise"; rules = bound ∷ steps ∷ total_steps ∷ file ∷ []; request = limited Normalise }
-    ∷ record { name = codes "explain"; rules = steps ∷ total_steps ∷ file ∷ []; request = limited Explain }
+    ∷ record {
+      name = codes "normalise";
+      rules = bound ∷ steps ∷ total_steps ∷ file ∷ more_files ∷ [];
+      request = limited Normalise;
+    }
+    ∷ record { name = codes "explain"; rules = steps ∷ total_steps ∷ file ∷ more_files ∷ []; request = limited Explain }
     ∷ record {
       name = codes "round";
-      rules = flag (codes "exact") ∷ file ∷ [];
+      rules = flag (codes "exact") ∷ file ∷ more_files ∷ [];
       request = λ rows. option_map (λ path. Round path (is_set (codes "exact") rows)) (file_in rows);
     }
     ∷ record {
       name = codes "compare";
-      rules = bound ∷ steps ∷ total_steps ∷ file ∷ second_file ∷ [];
+      rules = bound ∷ steps ∷ total_steps ∷ file ∷ second_file ∷ more_files ∷ [];
       request = paired Compare;
     }
-    ∷ record { name = codes "diff"; rules = steps ∷ total_steps ∷ file ∷ second_file ∷ []; request = paired Diff }
+    ∷ record {
+      name = codes "diff";
+      rules = steps ∷ total_steps ∷ file ∷ second_file ∷ more_files ∷ [];
+      request = paired Diff;
+    }
     ∷ record { name = codes "duplicates"; rules = many; request = λ rows. option_map Duplicates (files_in rows) }
     ∷ record { name = codes "sizes"; rules = many; request = λ rows. option_map Sizes (files_in rows) }
     ∷ []

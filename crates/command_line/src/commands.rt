@@ -3,7 +3,7 @@
 ghost use Rattle.std.specs.Prelude.{◌≡◌, IfOk, codes, false, fold};
 ghost use Rattle.clap.specs.Words.{app_of, rule_of};
 ghost use Rattle.command_line.specs.Internal.Commands.{has_globals, rule_for, shape_for, with_row};
-ghost use Rattle.command_line.specs.Subcommands.{bound, cats, file, files, flag, goods, list, null, steps};
+ghost use Rattle.command_line.specs.Subcommands.{bound, cats, file, files, flag, goods, list, more_files, null, steps};
 ghost use Rattle.command_line.specs.Subcommands.{total_steps};
 
 use crate::help;
@@ -14,6 +14,9 @@ pub(crate) const FILE: &str = "FILE";
 
 /// The second of two files, whose first is `FILE`.
 pub(crate) const SECOND_FILE: &str = "SECOND_FILE";
+
+/// More files than a subcommand takes.
+pub(crate) const MORE_FILES: &str = "MORE_FILES";
 
 pub(crate) const GOOD: &str = "GOOD";
 
@@ -49,6 +52,8 @@ const DEFAULT_STEPS: &str = "1000000";
 enum Argument {
     File,
     SecondFile,
+    /// The paths of more files, which are refused. No help names it.
+    MoreFiles,
     /// The paths of many files, and the option for a list of them.
     Files,
     List,
@@ -91,13 +96,13 @@ static SUBCOMMANDS: [Subcommand; 10] = [
         name: "check",
         about: "Reads a bid file and prints how many goods, bids and dummy goods it has",
         help: help::CHECK,
-        arguments: &[Argument::File],
+        arguments: &[Argument::File, Argument::MoreFiles],
     },
     Subcommand {
         name: "show",
         about: "Prints a bid file in its one layout, with its bids in order of number",
         help: help::SHOW,
-        arguments: &[Argument::File],
+        arguments: &[Argument::File, Argument::MoreFiles],
     },
     Subcommand {
         name: "value",
@@ -120,6 +125,7 @@ static SUBCOMMANDS: [Subcommand; 10] = [
             Argument::Steps(STEPS_OF_BUNDLE),
             Argument::TotalSteps(TOTAL_STEPS_BESIDE_BOUND),
             Argument::File,
+            Argument::MoreFiles,
         ],
     },
     Subcommand {
@@ -130,13 +136,14 @@ static SUBCOMMANDS: [Subcommand; 10] = [
             Argument::Steps(STEPS_OF_BUNDLE),
             Argument::TotalSteps(TOTAL_STEPS_OF_SEARCHES),
             Argument::File,
+            Argument::MoreFiles,
         ],
     },
     Subcommand {
         name: "round",
         about: "Prints a bid file with its prices rounded to millionths, and reports which changed",
         help: help::ROUND,
-        arguments: &[Argument::Exact, Argument::File],
+        arguments: &[Argument::Exact, Argument::File, Argument::MoreFiles],
     },
     Subcommand {
         name: "compare",
@@ -148,6 +155,7 @@ static SUBCOMMANDS: [Subcommand; 10] = [
             Argument::TotalSteps(TOTAL_STEPS_BESIDE_BOUND),
             Argument::File,
             Argument::SecondFile,
+            Argument::MoreFiles,
         ],
     },
     Subcommand {
@@ -159,6 +167,7 @@ static SUBCOMMANDS: [Subcommand; 10] = [
             Argument::TotalSteps(TOTAL_STEPS_OF_SEARCHES),
             Argument::File,
             Argument::SecondFile,
+            Argument::MoreFiles,
         ],
     },
     Subcommand {
@@ -237,6 +246,7 @@ impl Argument {
         match self {
             Argument::File => file_argument(alloc, FILE),
             Argument::SecondFile => file_argument(alloc, SECOND_FILE).value_name(FILE),
+            Argument::MoreFiles => more_files_argument(alloc),
             Argument::Files => files_argument(alloc),
             Argument::List => list_option(alloc),
             Argument::Goods => goods_argument(alloc),
@@ -334,6 +344,14 @@ fn file_argument<'a>(alloc: Global, id: &'a str) -> Arg<'a>
     Arg::new(alloc, id)
         .required(true)
         .help("The path of a bid file")
+}
+
+/// `clap` takes more files, so that it is the parser which says how many files there may be.
+fn more_files_argument<'a>(alloc: Global) -> Arg<'a>
+    ensures rule { rule_of result ≡ more_files }
+    ensures local { result.global ≡ false }
+{
+    Arg::new(alloc, MORE_FILES).num_args(0..).hide(true)
 }
 
 fn files_argument<'a>(alloc: Global) -> Arg<'a>

@@ -8,15 +8,17 @@ ghost use Rattle.clap.specs.Words.{HasKind, all_of, first_of, kind_of};
 ghost use Rattle.command_line.specs.Internal.Matches.{IsAnswerTo, rows_in};
 ghost use Rattle.command_line.specs.PlainRequests.{Check, Explain, Normalise, PlainRequest, Round, Show, plain_files};
 ghost use Rattle.command_line.specs.PlainRequests.{plain_paths, plain_request};
-ghost use Rattle.command_line.specs.Requests.{IsNoRequestOf, misuse_in, misuse_of, request_from, request_of, texts_of};
-ghost use Rattle.command_line.specs.Subcommands.{begins_with_sign, cats, file_in, files_in, goods_in, has_signed_number};
+ghost use Rattle.command_line.specs.Requests.{IsNoRequestOf, file_misuse_in, misuse_in, misuse_of, request_from};
+ghost use Rattle.command_line.specs.Requests.{request_of, texts_of};
+ghost use Rattle.command_line.specs.Subcommands.{begins_with_sign, cats, file_in, files_in, goods_in, has_more_files};
+ghost use Rattle.command_line.specs.Subcommands.{has_signed_number};
 ghost use Rattle.command_line.specs.Subcommands.{has_unbounded_total, is_bounded, is_set, is_signed, limited, limits_in};
 ghost use Rattle.command_line.specs.Subcommands.{number_in, paired, paths_in, valued};
 ghost use Rattle.command_line.specs.declared.request.Limits.{Limits};
 
 use crate::commands::{
-    BOUND, EXACT, FILE, FILES0_FROM, GOOD, NULL, PROGRESS, SECOND_FILE, STEPS, TOTAL_STEPS,
-    cats_command,
+    BOUND, EXACT, FILE, FILES0_FROM, GOOD, MORE_FILES, NULL, PROGRESS, SECOND_FILE, STEPS,
+    TOTAL_STEPS, cats_command,
 };
 use crate::request::{FilePaths, FilesRequest, Limits, Misuse, NoRequest, PairRequest, Request};
 use clap::error::ErrorKind;
@@ -98,10 +100,22 @@ fn misuse(given: &ArgMatches<'_>) -> Misuse
 {
     if has_signed_number(given) {
         Misuse::SignedNumber
+    } else if has_more_files(given) {
+        file_misuse(given)
     } else if has_unbounded_total(given) {
         Misuse::UnboundedTotal
     } else {
         Misuse::WrongFiles
+    }
+}
+
+/// Of a line that has more files than its subcommand takes.
+fn file_misuse(given: &ArgMatches<'_>) -> Misuse
+    ensures { result ≡ file_misuse_in (rows_in given.now) }
+{
+    match find_text(given, SECOND_FILE) {
+        Some(_) => Misuse::MoreThanTwoFiles,
+        None => Misuse::MoreThanOneFile,
     }
 }
 
@@ -113,7 +127,7 @@ fn find_named_request<'a>(
 ) -> Result<Option<Request<'a>>, AllocError>
     ensures { IfOk result (λ found. option_map plain_request found ≡ request_from name.now (rows_in given.now)) }
 {
-    if has_signed_number(given) {
+    if has_signed_number(given) || has_more_files(given) {
         return Ok(None);
     }
     match name {
@@ -312,6 +326,13 @@ fn find_number(given: &ArgMatches<'_>, id: &str) -> Option<u64>
     ensures { result ≡ number_in id.now (rows_in given.now) }
 {
     given.get_one::<u64>(id)
+}
+
+/// Whether the line has more files than its subcommand takes.
+fn has_more_files(given: &ArgMatches<'_>) -> bool
+    ensures { result ≡ has_more_files (rows_in given.now) }
+{
+    find_text(given, MORE_FILES).is_some()
 }
 
 /// Whether a number of the line begins with a sign. `clap` takes `+5`, and `-0`.

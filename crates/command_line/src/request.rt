@@ -89,6 +89,10 @@ pub enum NoRequest {
 pub enum Misuse {
     /// A number begins with a sign.
     SignedNumber,
+    /// It has a second file, and its subcommand takes one.
+    MoreThanOneFile,
+    /// It has a third file, and its subcommand takes two.
+    MoreThanTwoFiles,
     /// It has a limit of all searches together, and not the bounded search, which alone has such a limit.
     UnboundedTotal,
     /// It has both a list of paths and paths, or neither.

@@ -5,6 +5,7 @@ ghost use Rattle.clap.specs.Faults.{fault_of};
 ghost use Rattle.command_line.specs.PlainRequests.{Compare, Duplicates, Explain, Given, ListedIn, Normalise, Sizes, Value};
 ghost use Rattle.command_line.specs.Requests.{misuse_of, request_of};
 ghost use Rattle.command_line.specs.Subcommands.{cats};
+ghost use Rattle.command_line.specs.declared.request.Misuse.TheVariants.{MoreThanOneFile, MoreThanTwoFiles};
 ghost use Rattle.command_line.specs.declared.request.Misuse.TheVariants.{SignedNumber, UnboundedTotal, WrongFiles};
 
 /// Options may come between files, and goods after them.
@@ -62,20 +63,28 @@ pub fn misused_lines()
         ∷ (codes "cats" ∷ codes "diff" ∷ codes "--total-steps=+5" ∷ codes "a" ∷ codes "b" ∷ [])
         ∷ (codes "cats" ∷ codes "value" ∷ codes "a" ∷ codes "0" ∷ codes "+1" ∷ [])
         ∷ (codes "cats" ∷ codes "value" ∷ codes "a" ∷ codes "--" ∷ codes "-0" ∷ [])
-        ∷ (codes "cats" ∷ codes "sizes" ∷ codes "--total-steps=5" ∷ []) ∷ [])
-        ≡ None ∷ None ∷ None ∷ None ∷ None ∷ None ∷ None ∷ [] }
+        ∷ (codes "cats" ∷ codes "sizes" ∷ codes "--total-steps=5" ∷ [])
+        ∷ (codes "cats" ∷ codes "check" ∷ codes "a" ∷ codes "b" ∷ [])
+        ∷ (codes "cats" ∷ codes "normalise" ∷ codes "a" ∷ codes "--bound" ∷ codes "b" ∷ codes "c" ∷ [])
+        ∷ (codes "cats" ∷ codes "diff" ∷ codes "a" ∷ codes "b" ∷ codes "c" ∷ []) ∷ [])
+        ≡ None ∷ None ∷ None ∷ None ∷ None ∷ None ∷ None ∷ None ∷ None ∷ None ∷ [] }
     ensures reasons { map misuse_of ((codes "cats" ∷ codes "normalise" ∷ codes "--total-steps=5" ∷ codes "a" ∷ [])
         ∷ (codes "cats" ∷ codes "value" ∷ codes "a" ∷ codes "0" ∷ codes "--total-steps" ∷ codes "5" ∷ [])
         ∷ (codes "cats" ∷ codes "normalise" ∷ codes "--steps=+5" ∷ codes "a" ∷ [])
         ∷ (codes "cats" ∷ codes "diff" ∷ codes "--total-steps=+5" ∷ codes "a" ∷ codes "b" ∷ [])
         ∷ (codes "cats" ∷ codes "value" ∷ codes "a" ∷ codes "0" ∷ codes "+1" ∷ [])
         ∷ (codes "cats" ∷ codes "value" ∷ codes "a" ∷ codes "--" ∷ codes "-0" ∷ [])
-        ∷ (codes "cats" ∷ codes "sizes" ∷ codes "--total-steps=5" ∷ []) ∷ [])
-        ≡ UnboundedTotal ∷ UnboundedTotal ∷ SignedNumber ∷ SignedNumber ∷ SignedNumber ∷ SignedNumber ∷ WrongFiles ∷ [] }
+        ∷ (codes "cats" ∷ codes "sizes" ∷ codes "--total-steps=5" ∷ [])
+        ∷ (codes "cats" ∷ codes "check" ∷ codes "a" ∷ codes "b" ∷ [])
+        ∷ (codes "cats" ∷ codes "normalise" ∷ codes "a" ∷ codes "--bound" ∷ codes "b" ∷ codes "c" ∷ [])
+        ∷ (codes "cats" ∷ codes "diff" ∷ codes "a" ∷ codes "b" ∷ codes "c" ∷ []) ∷ [])
+        ≡ UnboundedTotal ∷ UnboundedTotal ∷ SignedNumber ∷ SignedNumber ∷ SignedNumber ∷ SignedNumber ∷ WrongFiles
+        ∷ MoreThanOneFile ∷ MoreThanOneFile ∷ MoreThanTwoFiles ∷ [] }
     ensures no_faults { map (fault_of cats) ((codes "cats" ∷ codes "normalise" ∷ codes "--total-steps=5" ∷ codes "a" ∷ [])
         ∷ (codes "cats" ∷ codes "value" ∷ codes "a" ∷ codes "0" ∷ codes "+1" ∷ [])
-        ∷ (codes "cats" ∷ codes "sizes" ∷ codes "--total-steps=5" ∷ []) ∷ [])
-        ≡ [] ∷ [] ∷ [] ∷ [] }
+        ∷ (codes "cats" ∷ codes "sizes" ∷ codes "--total-steps=5" ∷ [])
+        ∷ (codes "cats" ∷ codes "compare" ∷ codes "a" ∷ codes "b" ∷ codes "c" ∷ codes "d" ∷ []) ∷ [])
+        ≡ [] ∷ [] ∷ [] ∷ [] ∷ [] }
 {}
 
 /// Lines that request nothing.

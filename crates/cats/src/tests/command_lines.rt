@@ -150,7 +150,7 @@ static WRONG_LINES: [&[&str]; 18] = [
     &["cats", "value", "--steps", "0", "a"],
     &["cats", "value", "a", "65536"],
     &["cats", "diff", "a"],
-    &["cats", "diff", "a", "b", "c"],
+    &["cats", "value", "a", "b"],
     // two lists, a list without its path, and `-0` twice
     &["cats", "duplicates", "--files0-from=a", "--files0-from=b"],
     &["cats", "sizes", "--files0-from"],
@@ -174,7 +174,7 @@ fn wrong_usage(rt: HostRuntime) {
 }
 
 /// Command lines that `clap` takes and that are wrong, and why.
-static MISUSES: [(&[&str], Misuse); 12] = [
+static MISUSES: [(&[&str], Misuse); 20] = [
     (&["cats", "duplicates"], Misuse::WrongFiles),
     (&["cats", "sizes", "--total-steps=5"], Misuse::WrongFiles),
     (
@@ -208,6 +208,26 @@ static MISUSES: [(&[&str], Misuse); 12] = [
     (&["cats", "sizes", "--steps=+5"], Misuse::SignedNumber),
     (&["cats", "value", "a", "0", "+1"], Misuse::SignedNumber),
     (&["cats", "value", "a", "--", "-0"], Misuse::SignedNumber),
+    (&["cats", "check", "a", "b"], Misuse::MoreThanOneFile),
+    (&["cats", "show", "a", "b", "c"], Misuse::MoreThanOneFile),
+    (
+        &["cats", "normalise", "a", "--bound", "--", "-b"],
+        Misuse::MoreThanOneFile,
+    ),
+    (&["cats", "explain", "a", "b"], Misuse::MoreThanOneFile),
+    (
+        &["cats", "round", "a", "b", "--exact"],
+        Misuse::MoreThanOneFile,
+    ),
+    (
+        &["cats", "compare", "a", "b", "c"],
+        Misuse::MoreThanTwoFiles,
+    ),
+    (&["cats", "diff", "a", "b", "c"], Misuse::MoreThanTwoFiles),
+    (
+        &["cats", "diff", "--steps=+5", "a", "b", "c"],
+        Misuse::SignedNumber,
+    ),
 ];
 
 #[test]

@@ -174,7 +174,7 @@ static MISSING_ROWS: [Row<'static>; 14] = [
 
 const VALUED: &str = "goods 2\nbids 3\ndummy 1\n0 3 0 #\n1 4.5 1 #\n2 7 0 1 2 #\n";
 
-static VALUED_ROWS: [Row<'static>; 12] = [
+static VALUED_ROWS: [Row<'static>; 14] = [
     (
         "cats value --bound --steps 3 FILE 0 1",
         CAPACITY,
@@ -198,6 +198,22 @@ static VALUED_ROWS: [Row<'static>; 12] = [
         64,
         "",
         "error: a number has digits alone, and no sign\n\nFor more information, try '--help'.\n",
+    ),
+    (
+        "cats check FILE FILE",
+        CAPACITY,
+        CAPACITY,
+        64,
+        "",
+        "error: this command takes one file\n\nFor more information, try '--help'.\n",
+    ),
+    (
+        "cats compare FILE FILE --bound FILE",
+        CAPACITY,
+        CAPACITY,
+        64,
+        "",
+        "error: this command takes two files\n\nFor more information, try '--help'.\n",
     ),
     (
         "cats normalise FILE --total-steps=3",

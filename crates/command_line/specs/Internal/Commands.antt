@@ -4,11 +4,11 @@ use Rattle.clap.specs.Simple.{App, Shape, new_shape, with_subcommand}
 use Rattle.clap.specs.Walk.{Rule}
 use Rattle.clap.specs.declared.builder.command.Command.{Command}
 use Rattle.clap.specs.declared.builder.command.Command.TheViews.{out-Command}
-use Rattle.command_line.specs.Subcommands.{file, second_file, files, goods, bound, steps, total_steps}
-use Rattle.command_line.specs.Subcommands.{list, flag, null}
+use Rattle.command_line.specs.Subcommands.{file, second_file, more_files, files, goods, bound, steps}
+use Rattle.command_line.specs.Subcommands.{total_steps, list, flag, null}
 use Rattle.command_line.specs.declared.commands.Argument.{Argument}
-use Rattle.command_line.specs.declared.commands.Argument.TheVariants.{File, SecondFile, Files, List, Goods, Steps}
-use Rattle.command_line.specs.declared.commands.Argument.TheVariants.{TotalSteps, Bound, Progress, Null, Exact}
+use Rattle.command_line.specs.declared.commands.Argument.TheVariants.{File, SecondFile, MoreFiles, Files, List, Goods}
+use Rattle.command_line.specs.declared.commands.Argument.TheVariants.{Steps, TotalSteps, Bound, Progress, Null, Exact}
 use Rattle.command_line.specs.declared.commands.Subcommand.{Subcommand}
 
 -- some argument is one of the subcommands too
@@ -18,6 +18,7 @@ has_globals c = (out-Command c).has_globals
 abbrev pub rule_for : Argument → Rule
 rule_for File = file
 rule_for SecondFile = second_file
+rule_for MoreFiles = more_files
 rule_for Files = files
 rule_for List = list
 rule_for Goods = goods
