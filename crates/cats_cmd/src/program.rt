@@ -34,7 +34,7 @@ use crate::value::run_value_by;
 use answers::{DEVICE_FAILED, DONE, NO_MEMORY, RunFault, WRONG_USAGE, fault_line, status};
 use canon::{CanonFault, Which};
 use cats_text::{Kind, Watched, send};
-use command_line::{FilesRequest, NoRequest, Request, VERSION, parse};
+use command_line::{CommandHelp, FilesRequest, NoRequest, Request, VERSION, parse};
 use rounding::FinePrices;
 use std::alloc::{AllocError, AllocGlobal, Global};
 use std::io::Write;
@@ -48,6 +48,8 @@ const NO_MEMORY_LINE: &str = "want of memory\n";
 pub struct Process<'a> {
     /// What `--version` prints after the program's name.
     pub version: &'a str,
+    /// What `--help` prints beside what `clap` makes of the arguments.
+    pub help: &'a [CommandHelp<'a>],
     /// Whether standard error is a terminal.
     pub terminal: bool,
 }
@@ -74,7 +76,7 @@ impl From<RunFault> for RequestError {
 }
 
 /// Does what a command line says, on the files of the system, and answers the exit status. It is `run_program` on
-/// them, if standard error is not a terminal.
+/// them, if standard error is not a terminal. Help is what `clap` makes of the arguments: the program has the other texts.
 pub fn run_cats<F: Files + AllocGlobal, W: Write, E: Write>(
     rt: &F,
     words: &[&str],
@@ -91,6 +93,7 @@ pub fn run_cats<F: Files + AllocGlobal, W: Write, E: Write>(
 {
     let process = Process {
         version: VERSION,
+        help: &[],
         terminal: false,
     };
     run_program(&mut SystemFiles::new(rt), words, out, err, &process)
@@ -120,7 +123,7 @@ pub fn run_program<S: Source + AllocGlobal, W: Write, E: Write>(
         → out.new ≡ out.old }
     ensures done { names_reporting (texts_of words.now) ≡ false → result ≤ 1 → err.new ≡ err.old }
 {
-    match parse(source.alloc(), process.version, words) {
+    match parse(source.alloc(), process.version, process.help, words) {
         Ok(request) => answer_request(source, &request, out, err, process.terminal),
         Err(no_request) => {
             let no_request = with_escaped_words(source.alloc(), process.version, words, no_request);

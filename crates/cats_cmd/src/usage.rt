@@ -35,7 +35,8 @@ fn escaped_usage(alloc: Global, version: &str, words: &[&str]) -> Result<String,
         escaped.push(escaped_word(alloc, word)?)?;
     }
     let words: Vec<&str> = escaped.iter().map(|word| word.as_str()).collect(alloc)?;
-    match parse(alloc, version, words.as_slice()) {
+    // no text of the help is in what `clap` prints of a wrong line
+    match parse(alloc, version, &[], words.as_slice()) {
         Err(NoRequest::WrongUsage(text)) => Ok(text),
         // `clap` accepts no more words when they are escaped
         _ => Ok(String::new(alloc)),

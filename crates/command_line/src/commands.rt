@@ -1,4 +1,4 @@
-//! The commands as `clap` takes them. They have arguments, options and help. The subcommands are a table.
+//! The commands as `clap` takes them. They have arguments and options. The subcommands are a table.
 
 ghost use Rattle.std.specs.Prelude.{◌≡◌, IfOk, codes, false, fold};
 ghost use Rattle.clap.specs.Words.{app_of, rule_of};
@@ -6,7 +6,7 @@ ghost use Rattle.command_line.specs.Internal.Commands.{has_globals, rule_for, sh
 ghost use Rattle.command_line.specs.Subcommands.{bound, cats, file, files, flag, goods, list, more_files, null, steps};
 ghost use Rattle.command_line.specs.Subcommands.{total_steps};
 
-use crate::help;
+use crate::help::{CommandHelp, about_text, argument_text, find_help, text_after};
 use clap::{Arg, ArgAction, Command, value_parser};
 use std::alloc::{AllocError, Global};
 
@@ -58,10 +58,10 @@ enum Argument {
     Files,
     List,
     Goods,
-    /// The option for a limit, with what its help says.
-    Steps(&'static str),
-    /// The option for a limit of all searches together, with what its help says.
-    TotalSteps(&'static str),
+    /// The option for a limit.
+    Steps,
+    /// The option for a limit of all searches together.
+    TotalSteps,
     Bound,
     Progress,
     Null,
@@ -72,87 +72,58 @@ enum Argument {
 #[derive(Clone, Copy)]
 struct Subcommand {
     name: &'static str,
-    /// What it is for, in a line.
-    about: &'static str,
-    /// What its help says after its arguments.
-    help: &'static str,
     arguments: &'static [Argument],
 }
-
-/// What the limit counts of a subcommand that normalises files.
-const STEPS_OF_BUNDLE: &str =
-    "The most steps that the search on a bundle may take, from 1 to 1000000000";
-
-const TOTAL_STEPS_OF_SEARCHES: &str =
-    "The most steps that all searches together may take, from 1 to 1000000000000 [no limit by default]";
-
-/// What the option says of a subcommand that uses the bounded search only if `--bound` is given.
-const TOTAL_STEPS_BESIDE_BOUND: &str = "\
-The most steps that all searches together may take, from 1 to 1000000000000, only beside --bound [no limit by default]";
 
 /// The subcommands, as the help lists them.
 static SUBCOMMANDS: [Subcommand; 10] = [
     Subcommand {
         name: "check",
-        about: "Reads a bid file and prints how many goods, bids and dummy goods it has",
-        help: help::CHECK,
         arguments: &[Argument::File, Argument::MoreFiles],
     },
     Subcommand {
         name: "show",
-        about: "Prints a bid file in its one layout, with its bids in order of number",
-        help: help::SHOW,
         arguments: &[Argument::File, Argument::MoreFiles],
     },
     Subcommand {
         name: "value",
-        about: "Prints what the bidders of a bid file offer for a bundle of goods",
-        help: help::VALUE,
         arguments: &[
             Argument::Bound,
-            Argument::Steps("The most packings that a search may enter, from 1 to 1000000000"),
-            Argument::TotalSteps(TOTAL_STEPS_BESIDE_BOUND),
+            Argument::Steps,
+            Argument::TotalSteps,
             Argument::File,
             Argument::Goods,
         ],
     },
     Subcommand {
         name: "normalise",
-        about: "Prints the one canonical text of a bid file's auction",
-        help: help::NORMALISE,
         arguments: &[
             Argument::Bound,
-            Argument::Steps(STEPS_OF_BUNDLE),
-            Argument::TotalSteps(TOTAL_STEPS_BESIDE_BOUND),
+            Argument::Steps,
+            Argument::TotalSteps,
             Argument::File,
             Argument::MoreFiles,
         ],
     },
     Subcommand {
         name: "explain",
-        about: "Prints why each bid of a bid file is in the canonical text, or is dropped",
-        help: help::EXPLAIN,
         arguments: &[
-            Argument::Steps(STEPS_OF_BUNDLE),
-            Argument::TotalSteps(TOTAL_STEPS_OF_SEARCHES),
+            Argument::Steps,
+            Argument::TotalSteps,
             Argument::File,
             Argument::MoreFiles,
         ],
     },
     Subcommand {
         name: "round",
-        about: "Prints a bid file with its prices rounded to millionths, and reports which changed",
-        help: help::ROUND,
         arguments: &[Argument::Exact, Argument::File, Argument::MoreFiles],
     },
     Subcommand {
         name: "compare",
-        about: "Prints whether two bid files are the same auction, or where they first differ",
-        help: help::COMPARE,
         arguments: &[
             Argument::Bound,
-            Argument::Steps(STEPS_OF_BUNDLE),
-            Argument::TotalSteps(TOTAL_STEPS_BESIDE_BOUND),
+            Argument::Steps,
+            Argument::TotalSteps,
             Argument::File,
             Argument::SecondFile,
             Argument::MoreFiles,
@@ -160,11 +131,9 @@ static SUBCOMMANDS: [Subcommand; 10] = [
     },
     Subcommand {
         name: "diff",
-        about: "Prints all differences of two bid files' auctions",
-        help: help::DIFF,
         arguments: &[
-            Argument::Steps(STEPS_OF_BUNDLE),
-            Argument::TotalSteps(TOTAL_STEPS_OF_SEARCHES),
+            Argument::Steps,
+            Argument::TotalSteps,
             Argument::File,
             Argument::SecondFile,
             Argument::MoreFiles,
@@ -172,11 +141,9 @@ static SUBCOMMANDS: [Subcommand; 10] = [
     },
     Subcommand {
         name: "duplicates",
-        about: "Prints which of many bid files are the same auction",
-        help: help::DUPLICATES,
         arguments: &[
-            Argument::Steps(STEPS_OF_BUNDLE),
-            Argument::TotalSteps(TOTAL_STEPS_OF_SEARCHES),
+            Argument::Steps,
+            Argument::TotalSteps,
             Argument::Progress,
             Argument::Null,
             Argument::List,
@@ -185,11 +152,9 @@ static SUBCOMMANDS: [Subcommand; 10] = [
     },
     Subcommand {
         name: "sizes",
-        about: "Prints a table of the numbers of bid files and of their canonical files",
-        help: help::SIZES,
         arguments: &[
-            Argument::Steps(STEPS_OF_BUNDLE),
-            Argument::TotalSteps(TOTAL_STEPS_OF_SEARCHES),
+            Argument::Steps,
+            Argument::TotalSteps,
             Argument::Progress,
             Argument::Null,
             Argument::List,
@@ -198,48 +163,84 @@ static SUBCOMMANDS: [Subcommand; 10] = [
     },
 ];
 
-/// The command of the program. `--version` prints this version after the program's name.
-pub(crate) fn cats_command<'a>(alloc: Global, version: &'a str) -> Result<Command<'a>, AllocError>
+/// The command of the program. `--version` prints this version after the program's name, and `--help` these texts.
+pub(crate) fn cats_command<'a>(
+    alloc: Global,
+    version: &'a str,
+    help: &[CommandHelp<'a>],
+) -> Result<Command<'a>, AllocError>
     ensures { IfOk result (λ command. app_of command ≡ cats) }
 {
+    let texts = find_help(help, "cats");
     let cats = Command::new(alloc, "cats")
-        .about("Reads auction bid files in the format of CATS 2.0")
+        .about(about_text(texts))
         .version(version)
-        .after_help(help::CATS)
+        .after_help(text_after(texts))
         .subcommand_required(true);
-    with_subcommands(alloc, cats, &SUBCOMMANDS)
+    with_subcommands(alloc, cats, &SUBCOMMANDS, help)
 }
 
 fn with_subcommands<'a>(
     alloc: Global,
     mut command: Command<'a>,
     subcommands: &[Subcommand],
+    help: &[CommandHelp<'a>],
 ) -> Result<Command<'a>, AllocError>
     ensures { IfOk result (λ whole. app_of whole ≡ fold with_row (app_of command.entry) subcommands.now) }
 {
     for subcommand in subcommands {
-        command = command.subcommand(subcommand.command(alloc)?)?;
+        command = command.subcommand(subcommand.command(alloc, help)?)?;
     }
     Ok(command)
 }
 
 impl Subcommand {
-    fn command<'a>(&self, alloc: Global) -> Result<Command<'a>, AllocError>
+    fn command<'a>(
+        &self,
+        alloc: Global,
+        help: &[CommandHelp<'a>],
+    ) -> Result<Command<'a>, AllocError>
         ensures shape { IfOk result (λ command. (app_of command).top ≡ shape_for self.now) }
         ensures local { IfOk result (λ command. has_globals command ≡ false) }
     {
+        let texts = find_help(help, self.name);
         let mut command = Command::new(alloc, self.name)
-            .about(self.about)
-            .after_help(self.help);
+            .about(about_text(texts))
+            .after_help(text_after(texts));
         for argument in self.arguments {
-            command = command.arg(argument.arg(alloc))?;
+            command = command.arg(argument.arg(alloc, texts))?;
         }
         Ok(command)
     }
 }
 
 impl Argument {
-    fn arg<'a>(&self, alloc: Global) -> Arg<'a>
+    fn arg<'a>(&self, alloc: Global, texts: Option<CommandHelp<'a>>) -> Arg<'a>
+        ensures rule { rule_of result ≡ rule_for self.now }
+        ensures local { result.global ≡ false }
+    {
+        self.without_help(alloc)
+            .help(argument_text(texts, self.name()))
+    }
+
+    /// The name by which the texts have it.
+    fn name(&self) -> &'static str {
+        match self {
+            Argument::File | Argument::Files => FILE,
+            Argument::SecondFile => SECOND_FILE,
+            Argument::MoreFiles => MORE_FILES,
+            Argument::List => FILES0_FROM,
+            Argument::Goods => GOOD,
+            Argument::Steps => STEPS,
+            Argument::TotalSteps => TOTAL_STEPS,
+            Argument::Bound => BOUND,
+            Argument::Progress => PROGRESS,
+            Argument::Null => NULL,
+            Argument::Exact => EXACT,
+        }
+    }
+
+    fn without_help<'a>(&self, alloc: Global) -> Arg<'a>
         ensures rule { rule_of result ≡ rule_for self.now }
         ensures local { result.global ≡ false }
     {
@@ -250,8 +251,8 @@ impl Argument {
             Argument::Files => files_argument(alloc),
             Argument::List => list_option(alloc),
             Argument::Goods => goods_argument(alloc),
-            Argument::Steps(help) => steps_option(alloc, help),
-            Argument::TotalSteps(help) => total_steps_option(alloc, help),
+            Argument::Steps => steps_option(alloc),
+            Argument::TotalSteps => total_steps_option(alloc),
             Argument::Bound => bound_flag(alloc),
             Argument::Progress => progress_flag(alloc),
             Argument::Null => null_flag(alloc),
@@ -267,7 +268,6 @@ fn progress_flag<'a>(alloc: Global) -> Arg<'a>
     Arg::new(alloc, PROGRESS)
         .long(PROGRESS)
         .action(ArgAction::SetTrue)
-        .help("Reports on standard error how many files were read")
 }
 
 fn null_flag<'a>(alloc: Global) -> Arg<'a>
@@ -278,7 +278,6 @@ fn null_flag<'a>(alloc: Global) -> Arg<'a>
         .short('0')
         .long(NULL)
         .action(ArgAction::SetTrue)
-        .help("Prints each path as it is, and ends each line with NUL")
 }
 
 /// A list takes the place of the paths on the command line.
@@ -289,7 +288,6 @@ fn list_option<'a>(alloc: Global) -> Arg<'a>
     Arg::new(alloc, FILES0_FROM)
         .long(FILES0_FROM)
         .value_name("LIST")
-        .help("The paths are in this file, each with NUL after it")
 }
 
 fn exact_flag<'a>(alloc: Global) -> Arg<'a>
@@ -299,10 +297,9 @@ fn exact_flag<'a>(alloc: Global) -> Arg<'a>
     Arg::new(alloc, EXACT)
         .long(EXACT)
         .action(ArgAction::SetTrue)
-        .help("Refuses a price that would be rounded")
 }
 
-fn steps_option<'a>(alloc: Global, help: &'a str) -> Arg<'a>
+fn steps_option<'a>(alloc: Global) -> Arg<'a>
     ensures rule { rule_of result ≡ steps }
     ensures local { result.global ≡ false }
 {
@@ -311,10 +308,9 @@ fn steps_option<'a>(alloc: Global, help: &'a str) -> Arg<'a>
         .value_name("N")
         .default_value(DEFAULT_STEPS)
         .value_parser(value_parser!(u64).range(1..=MAX_STEPS))
-        .help(help)
 }
 
-fn total_steps_option<'a>(alloc: Global, help: &'a str) -> Arg<'a>
+fn total_steps_option<'a>(alloc: Global) -> Arg<'a>
     ensures rule { rule_of result ≡ total_steps }
     ensures local { result.global ≡ false }
 {
@@ -322,7 +318,6 @@ fn total_steps_option<'a>(alloc: Global, help: &'a str) -> Arg<'a>
         .long(TOTAL_STEPS)
         .value_name("N")
         .value_parser(value_parser!(u64).range(1..=MAX_TOTAL_STEPS))
-        .help(help)
 }
 
 fn bound_flag<'a>(alloc: Global) -> Arg<'a>
@@ -332,18 +327,13 @@ fn bound_flag<'a>(alloc: Global) -> Arg<'a>
     Arg::new(alloc, BOUND)
         .long(BOUND)
         .action(ArgAction::SetTrue)
-        .help(
-            "Uses the bounded search: it decides many files that the plain search refuses. The answer is the same",
-        )
 }
 
 fn file_argument<'a>(alloc: Global, id: &'a str) -> Arg<'a>
     ensures rule { rule_of result ≡ record file { id = id.entry.now } }
     ensures local { result.global ≡ false }
 {
-    Arg::new(alloc, id)
-        .required(true)
-        .help("The path of a bid file")
+    Arg::new(alloc, id).required(true)
 }
 
 /// `clap` takes more files, so that it is the parser which says how many files there may be.
@@ -358,9 +348,7 @@ fn files_argument<'a>(alloc: Global) -> Arg<'a>
     ensures rule { rule_of result ≡ files }
     ensures local { result.global ≡ false }
 {
-    Arg::new(alloc, FILE)
-        .num_args(1..)
-        .help("The paths of bid files")
+    Arg::new(alloc, FILE).num_args(1..)
 }
 
 fn goods_argument<'a>(alloc: Global) -> Arg<'a>
@@ -370,5 +358,4 @@ fn goods_argument<'a>(alloc: Global) -> Arg<'a>
     Arg::new(alloc, GOOD)
         .num_args(0..)
         .value_parser(value_parser!(u16))
-        .help("The goods of the bundle")
 }

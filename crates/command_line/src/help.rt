@@ -1,202 +1,42 @@
-//! The version, and the help below each subcommand's options. It says what is printed, and has an example and the
-//! statuses.
+//! What `--help` prints of a command beside what `clap` makes of its arguments. The texts themselves come from the caller.
 
-/// The version of the program.
-pub const VERSION: &str = "0.1.0";
+/// The help of the program, or of a subcommand.
+#[derive(Clone, Copy)]
+pub struct CommandHelp<'a> {
+    /// The program's name, or the subcommand's.
+    pub name: &'a str,
+    /// What it is for, in a line.
+    pub about: &'a str,
+    /// The texts of its arguments, each behind the argument's name.
+    pub arguments: &'a [(&'a str, &'a str)],
+    /// What comes after its arguments.
+    pub after: &'a str,
+}
 
-pub(crate) const CATS: &str = "\
-A fault is one line on standard error. Statuses:
-   0  done; of compare and diff: the same auction
-   1  of compare and diff: different auctions
-   2  a file is not a bid file, or longer than is read
-   3  a search takes more steps than its limit: use --bound, and then a greater --steps
-   4  memory was refused
-   5  a file cannot be opened, a read failed, or the output failed
-  64  the command line is wrong, or names a good that the file does not have
+/// The help of a command among these, if it is there. Else its texts are empty.
+pub(crate) fn find_help<'a>(help: &[CommandHelp<'a>], name: &str) -> Option<CommandHelp<'a>> {
+    help.iter().find(|command| command.name == name).copied()
+}
 
-The first fault of a file is reported as 'line L: KIND':
-  Header          not the line that is due: 'goods N', 'bids N' and 'dummy N', in this order
-  NotANumber      a word that is not a number; a price has digits and at most one point, and no exponent
-  TooLarge        a number above its limit
-  ExtraBid        more bids than the header says
-  BidNumber       a bid's number is not below the number of bids; they count from 0
-  RepeatedNumber  two bids have one number
-  TooFine         a price has more than six places after the point
-  GoodRange       a good is not below goods + dummy; they count from 0
-  RepeatedGood    a bid has a good twice
-  TwoDummies      a bid has two dummy goods
-  EmptyBundle     a bid has no good that is not a dummy good
-  NoEnd           a bid's line does not end with '#'
-  AfterEnd        there is something after '#'
-  Missing         the file ends before its header and all of its bids have come
-Reported without a line: TooLong, the file is longer than is read; Device, a read failed, as of a folder.";
+pub(crate) fn about_text<'a>(help: Option<CommandHelp<'a>>) -> &'a str {
+    match help {
+        Some(help) => help.about,
+        None => "",
+    }
+}
 
-pub(crate) const CHECK: &str = "\
-Prints one line. For example:
-  $ cats check examples/two_bids.cats
-  goods 3 bids 2 dummy 1
+pub(crate) fn text_after<'a>(help: Option<CommandHelp<'a>>) -> &'a str {
+    match help {
+        Some(help) => help.after,
+        None => "",
+    }
+}
 
-The path /dev/stdin is standard input:
-  $ zcat auction.txt.gz | cats check /dev/stdin
-
-Statuses: 0; 2 if the file is not a bid file, 4, 5 and 64 as 'cats --help' lists them";
-
-pub(crate) const SHOW: &str = "\
-Prints the three lines of the header and a line for each bid, without comments. For example:
-  $ cats show examples/two_bids.cats
-
-Statuses: 0; 2 if the file is not a bid file, 4, 5 and 64 as 'cats --help' lists them";
-
-pub(crate) const VALUE: &str = "\
-Prints 'or', the greatest sum of prices of bids without a dummy good that lie in the bundle and share no good, and the
-numbers of these bids; then for each dummy good 'xor', the dummy good, the greatest price of its bids that lie in the
-bundle, and the number of the first that has it. For example, for all goods of a file with 40:
-  $ cats value auction.txt $(seq 0 39)
-
-A step is one packing: one family of the bids without a dummy good that lie in the bundle and share no good. A step
-takes 5 to 20 nanoseconds with up to 128 such bids, and some 30 nanoseconds more for each 1,000. If there are more than
-N packings, the program prints 'step limit at GOODS', with status 3. The bounded search decides many files that the
-plain search refuses, and its answer is the same. If it takes more steps too, a greater N lets the search go on:
-  $ cats value --bound auction.txt $(seq 0 39)
-  $ cats value --bound --steps 1000000000 auction.txt $(seq 0 39)
-
-Statuses: 0; 2 if the file is not a bid file; 3 for the step limit: use --bound, and then a greater --steps; 64 for a
-good that the file does not have; 4 and 5 as 'cats --help' lists them";
-
-pub(crate) const NORMALISE: &str = "\
-Prints the header and the bids that remain: those that the bidders' values need, in one order. Two files give the
-same text exactly if they are the same auction. For example:
-  $ cats normalise examples/ladder.cats
-
-A step is one family of bids below a bundle that the search on this bundle enters; each bundle has N of them. If one
-takes more, 'step limit at GOODS' is reported, with status 3. The bounded search decides many files that the plain
-search refuses, and its answer is the same. If it takes more steps too, a greater N lets the search go on:
-  $ cats normalise --bound auction.txt
-  $ cats normalise --bound --steps 1000000000 auction.txt
-
-Statuses: 0; 2 if the file is not a bid file; 3 for the step limit: use --bound, and then a greater --steps; 4, 5 and 64
-as 'cats --help' lists them";
-
-pub(crate) const EXPLAIN: &str = "\
-Prints a line for each bid, in order of number, with tabs between the words: the bid's number, and why the text that
-'cats normalise' prints has the bid or not. For example:
-  $ cats explain examples/ladder.cats
-  0\tkeep\t0
-  1\tkeep\t1
-  2\tpacking\t0\t1
-  3\tkeep\t2
-  4\tsame\t3
-
-  keep K        it is bid K of the text that 'cats normalise' prints
-  zero          its price is 0
-  same J        bid J is the best of its bidder on its goods: it has the highest price, and of those the smallest number
-  inside J      bid J of its XOR bidder is kept, is on fewer of its goods, and its price is at least as high
-  packing J ..  these bids of the OR bidder are kept, are on some of its goods and share none, and their prices add up
-                to at least its price
-
-All numbers but K are those of the file. How many bids there are for each reason:
-  $ cats explain auction.txt | cut -f 2 | sort | uniq -c
-
-This command always uses the bounded search. A step is that of 'cats normalise --bound', and the same files are
-refused. After a refusal nothing is printed.
-
-Statuses: 0; 2 if the file is not a bid file; 3 for the step limit: use a greater --steps; 4, 5 and 64 as 'cats --help'
-lists them";
-
-pub(crate) const ROUND: &str = "\
-Prints the text of a bid file in which each price that is a decimal, such as 1.02345e+06, .5 or 0.0123456, is written so
-that it is read: rounded to the nearest millionth, and halfway between two to the even one. A valid price and every
-other byte stay as they are. For example:
-  $ cats round examples/six_digits.cats
-
-Each price whose value changed is one line on standard error:
-  line 8: 0.0123456 rounded to 0.012346
-If there is no such line, each price has the value that it had. With --exact, a price that would be rounded is refused
-as TooFine, and nothing is printed.
-
-The output is always a bid file. If the text with its prices rounded is not one, its first fault is reported as
-by 'cats check', and nothing is printed. Another command takes the output from standard input:
-  $ cats round auction.txt | cats normalise /dev/stdin
-
-Statuses: 0, whether or not a price was rounded; 2 if the text with its prices rounded is not a bid file; 4, 5 and
-64 as 'cats --help' lists them";
-
-pub(crate) const COMPARE: &str = "\
-Prints 'same', or 'different' and where the two first differ: in their goods, in the OR value of a bundle, or in how
-often they have an XOR bidder. For example:
-  $ cats compare examples/ladder.cats examples/ladder_rewritten.cats
-  same
-
-A step is that of 'cats normalise': each file is normalised first, and --bound does what it does there. A fault's line
-begins with 'first: ' or 'second: '. 'cats diff' prints all differences.
-
-Statuses: 0 for the same auction, 1 for different ones; 2 if a file is not a bid file; 3 for the step limit: use
---bound, and then a greater --steps; 4, 5 and 64 as 'cats --help' lists them";
-
-pub(crate) const DIFF: &str = "\
-Prints a line for each difference, with tabs between the words, the first file before the second, and nothing if both
-files are the same auction. For example:
-  $ cats diff examples/ladder.cats examples/ladder_with_synergy.cats
-  or\t0,1\t-\t7.5
-
-  goods M N      the numbers of goods differ; nothing else is compared
-  or BUNDLE P Q  the prices of the OR bidders' bids on a bundle in the canonical files; '-' if there is no bid, although
-                 other bids may reach the same value together
-  xor D E        two XOR bidders that differ, one of each file, by their dummy goods in the files; '-' if no bidder of that
-                 file is beside the other one
-  bid BUNDLE P Q the prices of these two bidders on a bundle; '-' if the bidder has no bid on it
-
-A bidder that one file has N times more often than the other is printed N times. Each such bidder of the first file is
-printed beside the bidder of the second file that has most bids in common with it, if there is one. If several bidders
-of a file have the same bids, the smallest number that is not printed yet is used.
-
-This command always uses the bounded search. A step is that of 'cats normalise --bound': each file is normalised first.
-A fault's line begins with 'first: ' or 'second: '.
-
-Statuses: 0 for the same auction, 1 for different ones; 2 if a file is not a bid file; 3 for the step limit: use a
-greater --steps; 4, 5 and 64 as 'cats --help' lists them";
-
-pub(crate) const DUPLICATES: &str = "\
-Prints the paths of the files that are one auction, each on a line, for each auction that two or more of them are, with
-an empty line between two auctions. For example:
-  $ cats duplicates examples/ladder.cats examples/packing.cats examples/ladder_rewritten.cats
-  examples/ladder.cats
-  examples/ladder_rewritten.cats
-
-All files below a folder, however many there are:
-  $ find folder -type f -name '*.cats' -print0 | cats duplicates --files0-from /dev/stdin
-
-A control byte in a path is printed as \\n, \\t or \\x1b, with its two hexadecimal digits, and a backslash as \\\\.
-With -0 each path of the output is printed as it is, and each line ends with NUL.
-
-A file that is refused is reported at once, with its path before the fault, and the others go on. So is a list that
-cannot be read, and then no file is. With --progress a line says how many files were read, after each hundred and at the
-end; on a terminal it is one line, which is replaced after each file. This command always uses the bounded search. A
-step is that of 'cats normalise --bound'.
-
-Statuses: 0 if every file was judged, whether or not some are one auction; else the greatest status of those that
-were not: 2 for a file that is not a bid file, 3 for the step limit (use a greater --steps), 4, 5 and 64 as
-'cats --help' lists them";
-
-pub(crate) const SIZES: &str = "\
-Prints a header and a line for each file, in the order given, with tabs between the words. For example:
-  $ cats sizes examples/ladder.cats examples/two_bids.cats
-  goods\tbids\tor\txor\tdummy\tkept\tkept_or\tkept_xor\tfile
-  2\t5\t3\t1\t1\t3\t2\t1\texamples/ladder.cats
-  3\t2\t1\t1\t1\t2\t1\t1\texamples/two_bids.cats
-
-  goods, bids, dummy       as in the file
-  or                       bids without a dummy good
-  xor                      dummy goods that some bid has
-  kept, kept_or, kept_xor  bids, OR bids and XOR bidders of the canonical file
-
-The table is printed once all files were read. A file that is refused is reported at once, with its path before the
-fault, and the others go on. If only the step limit stops a file, its line has '-' for the numbers of its canonical
-file. This command always uses the bounded search. A step is that of 'cats normalise --bound'. 'cats help duplicates'
-says how paths are printed, and what --progress reports.
-
-All files below a folder, however many there are:
-  $ find folder -type f -name '*.cats' -print0 | cats sizes --files0-from /dev/stdin
-
-Statuses: 0 if every file was judged; else the greatest status of those that were not: 2 for a file that is not a bid
-file, 3 for the step limit (use a greater --steps), 4, 5 and 64 as 'cats --help' lists them";
+/// The text of an argument, which is empty if it is not there.
+pub(crate) fn argument_text<'a>(help: Option<CommandHelp<'a>>, name: &str) -> &'a str {
+    let Some(help) = help else { return "" };
+    match help.arguments.iter().find(|argument| argument.0 == name) {
+        Some(argument) => argument.1,
+        None => "",
+    }
+}

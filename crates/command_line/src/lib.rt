@@ -6,8 +6,10 @@ mod help;
 pub mod laws;
 mod parser;
 mod request;
+mod version;
 pub mod worked;
 
-pub use help::VERSION;
+pub use help::CommandHelp;
 pub use parser::parse;
 pub use request::{FilePaths, FilesRequest, Limits, Misuse, NoRequest, PairRequest, Request};
+pub use version::VERSION;

@@ -20,21 +20,24 @@ use crate::commands::{
     BOUND, EXACT, FILE, FILES0_FROM, GOOD, MORE_FILES, NULL, PROGRESS, SECOND_FILE, STEPS,
     TOTAL_STEPS, cats_command,
 };
+use crate::help::CommandHelp;
 use crate::request::{FilePaths, FilesRequest, Limits, Misuse, NoRequest, PairRequest, Request};
 use clap::error::ErrorKind;
 use clap::{ArgMatches, Error};
 use std::alloc::{AllocError, Global};
 
-/// Reads a command line, whose first word is the program's name. `--version` prints `version` after that name.
+/// Reads a command line, whose first word is the program's name. `--version` prints `version` after that name, and
+/// `--help` the texts of `help`.
 pub fn parse<'a>(
     alloc: Global,
     version: &'a str,
+    help: &[CommandHelp<'a>],
     words: &'a [&'a str],
 ) -> Result<Request<'a>, NoRequest>
     ensures request { IfOk result (λ request. request_of (texts_of words.now) ≡ Some (plain_request request)) }
     ensures no_request { IfErr result (IsNoRequestOf (texts_of words.now)) }
 {
-    match find_request(alloc, version, words) {
+    match find_request(alloc, version, help, words) {
         Ok(Ok(request)) => Ok(request),
         Ok(Err(misuse)) => Err(NoRequest::Misused(misuse)),
         Err(error) => Err(no_request(alloc, &error)),
@@ -64,6 +67,7 @@ fn no_request(alloc: Global, error: &Error) -> NoRequest
 fn find_request<'a>(
     alloc: Global,
     version: &'a str,
+    help: &[CommandHelp<'a>],
     words: &'a [&'a str],
 ) -> Result<Result<Request<'a>, Misuse>, Error>
     ensures taken { IfOk result (λ found. fault_of cats (texts_of words.now) ≡ List.[]) }
@@ -71,7 +75,7 @@ fn find_request<'a>(
     ensures misused { IfOk result (λ found. IfErr found (λ misuse. misuse ≡ misuse_of (texts_of words.now))) }
     ensures refused { IfErr result (HasKind (fault_of cats (texts_of words.now))) }
 {
-    let matches = cats_command(alloc, version)?.try_get_matches_from(words)?;
+    let matches = cats_command(alloc, version, help)?.try_get_matches_from(words)?;
     match matches.subcommand() {
         Some((name, given)) => Ok(judge_subcommand(alloc, name, given)?),
         None => Ok(Err(Misuse::WrongFiles)),

@@ -1,6 +1,7 @@
 //! What no clause says of command lines. It is the files, goods and limits that they name, and what `clap` prints.
 
-use command_line::{Misuse, NoRequest, Request, VERSION, parse};
+use crate::help::HELP;
+use command_line::{CommandHelp, Misuse, NoRequest, Request, VERSION, parse};
 use std::process::Abort;
 use std::test::Fail;
 
@@ -123,7 +124,7 @@ fn expect_request(
 #[test]
 fn requests(rt: HostRuntime) -> Result<(), Fail> {
     for (words, asked) in &REQUESTS {
-        let request = parse(rt.alloc(), VERSION, words)?;
+        let request = parse(rt.alloc(), VERSION, &[], words)?;
         expect_request(&rt, words, &request, asked)?;
     }
     Ok(())
@@ -132,13 +133,39 @@ fn requests(rt: HostRuntime) -> Result<(), Fail> {
 #[test]
 fn help_and_version(rt: HostRuntime) {
     let alloc = rt.alloc();
-    let help = parse(alloc, VERSION, &["cats", "help", "check"]);
+    let help = parse(alloc, VERSION, &[], &["cats", "help", "check"]);
     let is_help = matches!(&help, Err(NoRequest::Help(text)) if text.contains("Usage: cats check"));
     assert!(rt; is_help, "{help:?}");
-    let version = parse(alloc, "1.2 (test)", &["cats", "--version"]);
+    let version = parse(alloc, "1.2 (test)", &[], &["cats", "--version"]);
     let is_version =
         matches!(&version, Err(NoRequest::Help(text)) if text.as_str() == "cats 1.2 (test)\n");
     assert!(rt; is_version, "{version:?}");
+}
+
+/// Whether a help has all texts of a command.
+fn has_texts(help: &str, command: &CommandHelp<'_>) -> bool {
+    for argument in command.arguments {
+        if !help.contains(argument.1) {
+            return false;
+        }
+    }
+    help.contains(command.about) && help.contains(command.after)
+}
+
+#[test]
+fn help_texts(rt: HostRuntime) {
+    for command in &HELP {
+        let of_program = ["cats", "--help"];
+        let of_subcommand = ["cats", command.name, "--help"];
+        let words = if command.name == "cats" {
+            of_program.as_slice()
+        } else {
+            of_subcommand.as_slice()
+        };
+        let help = parse(rt.alloc(), VERSION, &HELP, words);
+        let has_all = matches!(&help, Err(NoRequest::Help(text)) if has_texts(text, command));
+        assert!(rt; has_all, "{help:?}");
+    }
 }
 
 /// Command lines that are no request.
@@ -167,7 +194,7 @@ static WRONG_LINES: [&[&str]; 18] = [
 #[test]
 fn wrong_usage(rt: HostRuntime) {
     for words in &WRONG_LINES {
-        let answer = parse(rt.alloc(), VERSION, words);
+        let answer = parse(rt.alloc(), VERSION, &[], words);
         let is_wrong = matches!(&answer, Err(NoRequest::WrongUsage(text)) if !text.is_empty());
         assert!(rt; is_wrong, "of {words:?}: {answer:?}");
     }
@@ -233,7 +260,7 @@ static MISUSES: [(&[&str], Misuse); 20] = [
 #[test]
 fn misuses(rt: HostRuntime) {
     for (words, misuse) in &MISUSES {
-        let answer = parse(rt.alloc(), VERSION, words);
+        let answer = parse(rt.alloc(), VERSION, &[], words);
         assert!(rt;
             matches!(&answer, Err(NoRequest::Misused(why)) if why == misuse),
             "of {words:?}: {answer:?}"

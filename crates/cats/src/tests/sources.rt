@@ -7,6 +7,7 @@ ghost use Rattle.cats_cmd.specs.declared.source.Unopened.{Unopened};
 ghost use Rattle.cats_cmd.specs.declared.source.Unopened.TheVariants.{NoSuchFile};
 
 use super::streams::{RunAnswer, expect, text_taken, writer};
+use crate::help::HELP;
 use crate::version::version_text;
 use cats_cmd::{Process, Source, Unopened, run_program};
 use std::alloc::{Alloc, AllocGlobal, Global};
@@ -396,6 +397,7 @@ fn judge_rows(
         let mut err = writer(alloc, 4096, 4096);
         let process = Process {
             version: version.as_str(),
+            help: &HELP,
             terminal,
         };
         let status_answered = run_program(&mut source, words, &mut out, &mut err, &process);
@@ -425,6 +427,7 @@ fn each_path_is_opened_once(rt: HostRuntime) -> Result<(), Fail> {
     let alloc = rt.alloc();
     let process = Process {
         version: "",
+        help: &[],
         terminal: false,
     };
     for (words, openings) in &OPENINGS {
