@@ -20,9 +20,15 @@ pub(crate) fn split_paths(alloc: Global, text: &[u8]) -> Result<Vec<&[u8]>, Allo
     Ok(paths)
 }
 
-/// The parts of a text between each two NUL.
+/// The parts of a text between each two NUL. Memory for so many is reserved first, as a vector that grows takes up to
+/// three times as much.
 fn split_at_nul(alloc: Global, text: &[u8]) -> Result<Vec<&[u8]>, AllocError>
     ensures { IfOk result (λ parts. map (λ part. part.now) parts.items ≡ slice_split (λ b. b == 0) text.now) }
 {
-    text.split(|byte| *byte == 0).collect(alloc)
+    let ends = text.iter().filter(|byte| **byte == 0).count();
+    let mut parts = Vec::with_capacity(alloc, ends.saturating_add(1))?;
+    for part in text.split(|byte| *byte == 0) {
+        parts.push(part)?;
+    }
+    Ok(parts)
 }
