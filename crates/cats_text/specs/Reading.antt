@@ -2,10 +2,12 @@
 use Rattle.std.specs.Prelude.{◌≡◌, ◌⊎◌, ℕ, List, ◌++◌, take, true, Some, None, Result, Ok, Err, MatchOption}
 use Rattle.cats_text.specs.Faults.{first_fault, has_bid_line, fault_at}
 use Rattle.cats_text.specs.Grammar.{Spells}
+use Rattle.cats_text.specs.Views.{HasSizes}
 use Rattle.bid_file.specs.Files.{PlainFile}
 use Rattle.bid_file.specs.Views.{plain_file}
 use Rattle.cats_text.specs.Fed.{fed_fault, Fed}
 use Rattle.bid_file.specs.declared.bid.BidFile.{BidFile}
+use Rattle.cats_text.specs.declared.parser.Header.{Header}
 use Rattle.cats_text.specs.declared.read_fault.ReadFault.{ReadFault}
 use Rattle.cats_text.specs.declared.read_fault.Kind.TheVariants.{Memory as NoMemory}
 
@@ -36,3 +38,13 @@ FinishesAs fed r = MatchOption fed.failed (FinishAnswer fed.bytes r) (λ e. r �
 abbrev pub PackedAnswer : List ℕ → Result PlainFile ReadFault → Type 0
 PackedAnswer bytes (Ok file) = Spells bytes file
 PackedAnswer bytes (Err e) = (first_fault bytes ≡ Some e) ⊎ WantsMemory bytes e
+
+-- the text spells a file whose header lines say this
+pub record SpellsSizes (bytes : List ℕ) (header : Header) : Type 0 where
+  pub file : PlainFile
+  pub spells : Spells bytes file
+  pub sizes : HasSizes header file
+
+abbrev pub CheckAnswer : List ℕ → Result Header ReadFault → Type 0
+CheckAnswer bytes (Ok header) = SpellsSizes bytes header
+CheckAnswer bytes (Err e) = (first_fault bytes ≡ Some e) ⊎ WantsMemory bytes e

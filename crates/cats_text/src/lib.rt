@@ -30,6 +30,6 @@ pub use limits::MAX_STREAM;
 pub use parser::Header;
 pub use price::push_price;
 pub use read_fault::{Kind, ReadFault, SendFault};
-pub use reader::{Reader, read, read_packed};
+pub use reader::{Reader, check, read, read_packed};
 pub use sending::{send, send_file};
 pub use stream::{Watched, check_from, read_from, read_packed_from};

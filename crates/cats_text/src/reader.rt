@@ -1,8 +1,10 @@
-//! `read`, and `Reader`, which reads in pieces.
+//! `read` and `check`, and `Reader`, which reads in pieces.
 
 ghost use Rattle.std.specs.Prelude.{◌≡◌, ◌^◌, ◌<◌, [], None};
-ghost use Rattle.cats_text.specs.Reading.{FinishAnswer, PackedAnswer};
+ghost use Rattle.cats_text.specs.Reading.{CheckAnswer, FinishAnswer, PackedAnswer};
 
+use crate::keep::BidCount;
+use crate::parser::Header;
 use crate::push_reader::{PushReader, finish_packed, unpacked};
 use crate::read_fault::ReadFault;
 use bid_file::{BidFile, PackedBids, PackedFile};
@@ -70,4 +72,15 @@ pub fn read_packed(alloc: Global, text: &[u8]) -> Result<PackedFile, ReadFault>
     let mut push_reader = PushReader::new(alloc, text.len() as u64);
     push_reader.feed(text)?;
     finish_packed(push_reader)
+}
+
+/// Judges a whole text as `read` does, and answers what the header lines of its file say: how many goods, bids and dummy
+/// goods there are. No bid's goods are kept.
+pub fn check(alloc: Global, text: &[u8]) -> Result<Header, ReadFault>
+    ensures { CheckAnswer text.now result }
+{
+    let mut counter: PushReader<BidCount> = PushReader::new(alloc, text.len() as u64);
+    counter.feed(text)?;
+    let (header, _count) = counter.finish()?;
+    Ok(header)
 }
