@@ -23,7 +23,7 @@ ghost use Rattle.rounding.specs.Internal.RawTexts.{first_line};
 
 use crate::line::{is_significant, second_start, split_word};
 use crate::replacement::{FinePrices, Replacement, replacement_of};
-use cats_text::{Kind, ReadFault, push_price, read_packed};
+use cats_text::{Kind, ReadFault, check, push_price};
 use std::alloc::{AllocError, Global};
 
 /// A price that was rounded: its line, counted from 1, the word, and the new price in millionths.
@@ -195,12 +195,12 @@ fn no_memory() -> ReadFault
     }
 }
 
-/// Reads a text in which no bid line has begun. No byte of it changes, so its fault needs no memory.
+/// Judges a text in which no bid line has begun. No byte of it changes, so its fault needs no memory.
 fn round_header(alloc: Global, text: &[u8], fine: FinePrices) -> Result<RoundedText, ReadFault>
     requires { has_bid_line text.now ≡ false }
     ensures { RoundAnswer fine text.now result }
 {
-    read_packed(alloc, text)?;
+    check(alloc, text)?;
     match Vec::from_slice(alloc, text) {
         Ok(text) => Ok(RoundedText {
             text,
@@ -210,8 +210,8 @@ fn round_header(alloc: Global, text: &[u8], fine: FinePrices) -> Result<RoundedT
     }
 }
 
-/// Rounds the prices of a text, and reads what it gives as a bid file. Memory is refused only if a bid line has begun, or
-/// if the rounded text is a bid file.
+/// Rounds the prices of a text, and judges whether what it gives is a bid file. No bid of it is kept. Memory is refused
+/// only if a bid line has begun, or if the rounded text is a bid file.
 pub fn round(alloc: Global, text: &[u8], fine: FinePrices) -> Result<RoundedText, ReadFault>
     ensures { RoundAnswer fine text.now result }
 {
@@ -221,6 +221,6 @@ pub fn round(alloc: Global, text: &[u8], fine: FinePrices) -> Result<RoundedText
     let Ok(rounded) = round_text(alloc, text, fine) else {
         return Err(no_memory());
     };
-    read_packed(alloc, &rounded.text)?;
+    check(alloc, &rounded.text)?;
     Ok(rounded)
 }
