@@ -2,3 +2,4 @@
 pub mod Lines
 pub mod Explanations
 pub mod NamedFiles
+pub mod Unrounded

@@ -7,5 +7,6 @@ pub mod DifferenceTexts
 pub mod DiffTexts
 pub mod ExplanationTexts
 pub mod RoundedLines
+pub mod Pieces
 pub mod NamedFiles
 pub mod Internal

@@ -169,7 +169,7 @@ fn push_change(
 }
 
 /// Appends the goods of a bundle, with a comma between each two.
-fn push_bundle(text: &mut Vec<u8>, goods: &[u16]) -> Result<(), AllocError>
+pub(crate) fn push_bundle(text: &mut Vec<u8>, goods: &[u16]) -> Result<(), AllocError>
     ensures { OnOk result (text.new.items ≡ text.old.items ++ bundle_text goods.now) }
 {
     let Some((first, rest)) = goods.split_first() else {
@@ -193,7 +193,7 @@ fn push_price_word(text: &mut Vec<u8>, price: Option<u64>) -> Result<(), AllocEr
     }
 }
 
-fn push_number<I: Integer>(text: &mut Vec<u8>, number: I) -> Result<(), AllocError>
+pub(crate) fn push_number<I: Integer>(text: &mut Vec<u8>, number: I) -> Result<(), AllocError>
     ensures { OnOk result (text.new.items ≡ text.old.items ++ I.text number) }
 {
     text.extend_from_slice(Buffer::new().format(number).as_bytes())

@@ -4,6 +4,7 @@
 mod comparison;
 mod diff;
 mod explanation;
+mod pieces;
 mod report;
 mod rounded;
 mod sizes;
@@ -12,9 +13,10 @@ pub mod worked;
 pub use comparison::{verdict_status, verdict_text};
 pub use diff::differences_text;
 pub use explanation::explanation_text;
+pub use pieces::Piece;
 pub use report::{
     DEVICE_FAILED, DIFFERENT, DONE, FILE_REFUSED, NO_MEMORY, RunFault, STEPS_EXCEEDED, WRONG_USAGE,
-    fault_line, joined_goods, status,
+    fault_line, fault_pieces, joined_goods, status,
 };
-pub use rounded::price_line;
+pub use rounded::{price_line, price_pieces};
 pub use sizes::sizes_line;

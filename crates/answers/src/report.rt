@@ -1,11 +1,13 @@
 //! How a fault is reported: its line and its status.
 
-ghost use Rattle.std.specs.Prelude.{◌≡◌, ◌++◌, IfOk, codes, decimal, string_bytes};
+ghost use Rattle.std.specs.Prelude.{◌≡◌, ◌++◌, IfOk, codes, string_bytes};
 ghost use Rattle.answers.specs.Outputs.{bundle_text};
 ghost use Rattle.answers.specs.KindNames.{name_of_kind};
+ghost use Rattle.answers.specs.Pieces.{text_of_pieces};
 ghost use Rattle.answers.specs.FaultLines.{line_of_fault, prefix_of, text_of_canon_fault, text_of_read_fault};
 ghost use Rattle.answers.specs.Statuses.{status_of_fault, status_of_canon_fault, status_of_read_fault};
 
+use crate::pieces::{Piece, line_pieces, text_of};
 use canon::{CanonFault, Which};
 use cats_text::{Kind, ReadFault, SendFault};
 use std::alloc::{AllocError, Global};
@@ -104,19 +106,24 @@ fn read_status(kind: Kind) -> u8
 pub fn fault_line(alloc: Global, fault: &RunFault) -> Result<Vec<u8>, AllocError>
     ensures { IfOk result (λ line. line.items ≡ line_of_fault fault.now) }
 {
-    let line = match fault {
-        RunFault::Refused(which, fault) => {
-            let prefix = prefix(*which);
-            let text = canon_text(alloc, fault)?;
-            format!(in alloc; "{prefix}{text}\n")?
+    text_of(alloc, &fault_pieces(fault))
+}
+
+/// The line that reports the fault, in pieces.
+pub fn fault_pieces(fault: &RunFault) -> [Piece<'_>; 6]
+    ensures { text_of_pieces result ≡ line_of_fault fault.now }
+{
+    match fault {
+        RunFault::Refused(which, fault) => canon_pieces(prefix(*which), fault),
+        RunFault::GoodRange(good) => {
+            let good = Piece::Number(u64::from(*good));
+            line_pieces("", "good ", good, " out of range", "")
         }
-        RunFault::GoodRange(good) => format!(in alloc; "good {good} out of range\n")?,
         RunFault::Sent(fault) => {
-            let written = fault.written;
-            format!(in alloc; "output failed after {written} bytes\n")?
+            let written = Piece::Number(fault.written);
+            line_pieces("", "output failed after ", written, " bytes", "")
         }
-    };
-    Ok(line.into_bytes())
+    }
 }
 
 fn prefix(which: Which) -> &'static str
@@ -129,33 +136,35 @@ fn prefix(which: Which) -> &'static str
     }
 }
 
-fn canon_text(alloc: Global, fault: &CanonFault) -> Result<String, AllocError>
-    ensures { IfOk result (λ text. string_bytes text ≡ text_of_canon_fault fault.now) }
+fn canon_pieces<'a>(prefix: &'static str, fault: &'a CanonFault) -> [Piece<'a>; 6]
+    ensures { text_of_pieces result ≡ prefix.now ++ text_of_canon_fault fault.now ++ codes "\n" }
 {
     match fault {
-        CanonFault::Read(fault) => read_text(alloc, fault),
+        CanonFault::Read(fault) => read_pieces(prefix, fault),
         CanonFault::StepLimit { goods } => {
-            let bundle = joined_goods(alloc, goods.as_slice())?;
-            format!(in alloc; "step limit at {bundle}")
+            let bundle = Piece::Goods(goods.as_slice());
+            line_pieces(prefix, "step limit at ", bundle, "", "")
         }
-        CanonFault::Memory => String::from_str(alloc, "want of memory"),
+        CanonFault::Memory => text_pieces(prefix, "want of memory"),
     }
 }
 
-fn read_text(alloc: Global, fault: &ReadFault) -> Result<String, AllocError>
-    ensures { IfOk result (λ text. string_bytes text ≡ text_of_read_fault fault.now) }
+fn read_pieces<'a>(prefix: &'static str, fault: &ReadFault) -> [Piece<'a>; 6]
+    ensures { text_of_pieces result ≡ prefix.now ++ text_of_read_fault fault.now ++ codes "\n" }
 {
+    let name = kind_name(fault.kind);
+    let line = Piece::Number(fault.line);
     match fault.kind {
-        Kind::Memory => String::from_str(alloc, "want of memory"),
-        Kind::TooLong | Kind::Device => String::from_str(alloc, kind_name(fault.kind)),
-        kind => at_line(alloc, fault.line, kind_name(kind)),
+        Kind::Memory => text_pieces(prefix, "want of memory"),
+        Kind::TooLong | Kind::Device => text_pieces(prefix, name),
+        _ => line_pieces(prefix, "line ", line, ": ", name),
     }
 }
 
-fn at_line(alloc: Global, line: u64, name: &str) -> Result<String, AllocError>
-    ensures { IfOk result (λ text. string_bytes text ≡ codes "line " ++ decimal line ++ codes ": " ++ name.now) }
+fn text_pieces<'a>(prefix: &'static str, text: &'static str) -> [Piece<'a>; 6]
+    ensures { text_of_pieces result ≡ prefix.now ++ text.now ++ codes "\n" }
 {
-    format!(in alloc; "line {line}: {name}")
+    line_pieces(prefix, text, Piece::Text(b""), "", "")
 }
 
 fn kind_name(kind: Kind) -> &'static str

@@ -2,9 +2,10 @@
 
 ghost use Rattle.std.specs.Prelude.{◌≡◌, IfOk};
 ghost use Rattle.rounding.specs.Views.{plain_change};
+ghost use Rattle.answers.specs.Pieces.{text_of_pieces};
 ghost use Rattle.answers.specs.RoundedLines.{rounded_line};
 
-use cats_text::push_price;
+use crate::pieces::{Piece, text_of};
 use rounding::RoundedPrice;
 use std::alloc::{AllocError, Global};
 
@@ -12,12 +13,20 @@ use std::alloc::{AllocError, Global};
 pub fn price_line(alloc: Global, price: &RoundedPrice) -> Result<Vec<u8>, AllocError>
     ensures { IfOk result (λ line. line.items ≡ rounded_line (plain_change price.now)) }
 {
-    let number = price.line;
-    let start = format!(in alloc; "line {number}: ")?;
-    let mut line = start.into_bytes();
-    line.extend_from_slice(price.word.as_slice())?;
-    line.extend_from_slice(b" rounded to ")?;
-    push_price(&mut line, u128::from(price.price))?;
-    line.push(b'\n')?;
-    Ok(line)
+    text_of(alloc, &price_pieces(price))
+}
+
+/// That line, in pieces.
+pub fn price_pieces(price: &RoundedPrice) -> [Piece<'_>; 7]
+    ensures { text_of_pieces result ≡ rounded_line (plain_change price.now) }
+{
+    [
+        Piece::Text(b"line "),
+        Piece::Number(price.line),
+        Piece::Text(b": "),
+        Piece::Text(price.word.as_slice()),
+        Piece::Text(b" rounded to "),
+        Piece::Price(price.price),
+        Piece::Text(b"\n"),
+    ]
 }

@@ -1,0 +1,11 @@
+use Rattle.std.proofs.Common.{◌≡◌, ◌++◌, ℕ, List, [], append_assoc, refl, ap, ◌∙◌, codes, decimal}
+use Rattle.answers.proofs.report.fault_pieces.Goals as goal
+
+joined : (good : List ℕ) → codes "good " ++ good ++ codes " out of range" ++ [] ++ codes "\n" ≡ codes "good " ++ good ++ codes " out of range\n"
+joined good = simp append_assoc refl
+
+pub returns-in-GoodRange : goal.returns-in-GoodRange
+returns-in-GoodRange c =
+    rw c.in-GoodRange.is
+    (c.line_pieces.ensures ∙ ap (λ (n : ℕ). codes "good " ++ decimal n ++ codes " out of range" ++ [] ++ codes "\n") c.from.ensures
+    ∙ joined (decimal c.in-GoodRange.good))
