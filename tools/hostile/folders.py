@@ -63,15 +63,13 @@ def is_whole_run_refused(answer):
 def memory(one, rest):
     """Each allocation is refused, alone or with all that come after it: a file is reported and the others are judged, or the run ends."""
     refused = {reported(one, path, NO_MEMORY, WANT) for path in one.files}
-    # where memory for the line on a file is refused, want of memory is printed in its place
-    lacking = {(own.status, own.out, WANT) for own in (beside(one, path) for path in one.files) if not own.err}
     whats, what = set(), f"{one}: allocation{' and all later' if rest else ''}"
     for number in count(1):
         answer = run(one.words(), call="allocation", number=number, rest=rest)
         if not answer.failures:
             break
         printed = answer.printed()
-        is_right = is_whole_run_refused(answer) or printed == one.own.printed() or (not rest and (printed in refused or printed in lacking))
+        is_right = is_whole_run_refused(answer) or printed == one.own.printed() or (not rest and printed in refused)
         TALLY.judge(is_right, f"{what} {number}", answer)
         whats.add(printed)
     TALLY.judge(answer.printed() == one.own.printed(), f"{what}: none", answer)

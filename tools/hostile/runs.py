@@ -195,13 +195,6 @@ def is_want_of_memory(one, answer):
     return answer.status == NO_MEMORY and answer.out == b"" and answer.err in lines
 
 
-def lacks_line(one, answer):
-    """Whether a run found the fault of its file or printed its text, and had no memory for a line on the fault or on a rounded price."""
-    lines, own = answer.err.splitlines(True), one.own.err.splitlines(True)
-    is_lacking = len(lines) == len(own) and all(line in (b"want of memory\n", its) for line, its in zip(lines, own))
-    return is_lacking and lines != own and answer.printed()[:2] == one.own.printed()[:2]
-
-
 def places(answers):
     """For each want of memory in a run on two files 1 for the first file, 2 for the second and 3 for neither; those of the command line,
     before it, are left out."""
@@ -212,20 +205,17 @@ def places(answers):
 
 def memory(one, rest):
     """Each allocation is refused, alone or with all that come after it. Answers the want of memory that was printed."""
-    wants, lacking, what = [], 0, f"{one}: allocation{' and all later' if rest else ''}"
+    wants, what = [], f"{one}: allocation{' and all later' if rest else ''}"
     for number in count(1):
         answer = run(one.words(), call="allocation", number=number, rest=rest)
         if not answer.failures:
             break
-        is_want, lacks = is_want_of_memory(one, answer), lacks_line(one, answer)
-        TALLY.judge(is_want or lacks or answer.printed() == one.own.printed(), f"{what} {number}", answer)
+        is_want = is_want_of_memory(one, answer)
+        TALLY.judge(is_want or answer.printed() == one.own.printed(), f"{what} {number}", answer)
         wants += [answer] * is_want
-        lacking += lacks
     TALLY.judge(answer.printed() == one.own.printed(), f"{what}: none", answer)
     TALLY.judge(wants, f"{what}: no want of memory was printed", None)
-    if one.own.err:
-        TALLY.judge(lacking, f"{what}: no line on standard error ever lacked memory", None)
-    elif len(one.files) == 2 and not rest:
+    if not one.own.err and len(one.files) == 2 and not rest:
         found = places(wants)
         TALLY.judge(found == sorted(found), f"{what}: the files are reported out of order", found)
         # the text is made once both files are canonical, so memory that is refused for it is reported of neither; `diff` of two files
@@ -268,23 +258,23 @@ def cut_off(one, is_output, at, rest):
     return (one.own.status, one.own.out, one.own.err[:at])
 
 
-def writes_of(one, piece):
-    """Where each write begins, of so many bytes: in the output and then, line by line, in standard error."""
-    found, begin = [(True, at) for at in range(0, len(one.own.out), piece)], 0
-    for line in one.own.err.splitlines(True):
-        found += [(False, at) for at in range(begin, begin + len(line), piece)]
-        begin += len(line)
-    return found
-
-
 def writes(one, piece, rest):
-    """Each write fails, of so many bytes each, alone or with all that come after it."""
-    begun = writes_of(one, piece)
-    for number, (is_output, at) in enumerate(begun, 1):
+    """Each write fails, alone or with all that come after it. The output is written by so many bytes. A line on standard error is written in
+    parts of no known length, and each failure cuts it off behind the one before."""
+    output, last = range(0, len(one.own.out), piece), -1
+    for number in count(1):
         answer = run(one.words(), call="write", number=number, piece=piece, rest=rest)
-        TALLY.judge(answer.printed() == cut_off(one, is_output, at, rest), f"{one}: write {number} of {piece} bytes", answer)
-    answer = run(one.words(), call="write", number=len(begun) + 1, piece=piece, rest=rest)
-    TALLY.judge(answer == one.own, f"{one}: no write of {piece} bytes", answer)
+        if not answer.failures:
+            break
+        if number <= len(output):
+            is_right = answer.printed() == cut_off(one, True, output[number - 1], rest)
+        else:
+            at = len(answer.err)
+            is_right = answer.printed() == cut_off(one, False, at, rest) and last < at < len(one.own.err)
+            last = at
+        TALLY.judge(is_right, f"{one}: write {number} of {piece} bytes", answer)
+    TALLY.judge(answer == one.own and number > len(output), f"{one}: no write of {piece} bytes", answer)
+    TALLY.judge(not one.own.err or 0 <= len(one.own.err) - last <= piece, f"{one}: a write of standard error never failed", last)
 
 
 def opens(one):

@@ -31,7 +31,7 @@ use Rattle.rounding.specs.declared.replacement.FinePrices.{FinePrices}
 use Rattle.cats_cmd.specs.Runs.{RunsOnFile}
 use Rattle.answers.specs.Statuses.{status_of_canon_fault, status_of_differences, status_of_read_fault}
 use Rattle.cats_cmd.specs.Rounding.{Rounds}
-use Rattle.cats_cmd.specs.RequestErrors.{ReportsError, is_for_many_files, is_reporting, names_many_files, names_reporting}
+use Rattle.cats_cmd.specs.RequestErrors.{Reports, line_of_request_error, is_for_many_files, is_reporting, names_many_files, names_reporting}
 use Rattle.cats_cmd.specs.RequestErrors.{status_of_request_error}
 use Rattle.cats_cmd.specs.ValueTexts.{bundle_from, value_text}
 use Rattle.cats_cmd.specs.declared.program.RequestError.{RequestError}
@@ -293,7 +293,7 @@ module _ {F W E : Type 0} (may_open : List ℕ → F → Type 0) (may_refuse : L
 
   pub failed_request : (request : PlainRequest) (error : RequestError) (between err_after : Watched E) (status : ℕ)
       → CarriesOut may_open may_refuse remaining contents messages terminal request out out_after err between (Err error)
-      → ReportsError messages error between err_after → status ≡ status_of_request_error error
+      → Reports messages (line_of_request_error error) between err_after → status ≡ status_of_request_error error
       → FailsRequest may_open may_refuse remaining contents messages terminal request out out_after err err_after status
   failed_request request error between err_after status carries reports is =
       record { error = error; between = between; carries = carries; reports = reports; is_status = is }

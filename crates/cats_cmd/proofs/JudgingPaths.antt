@@ -16,7 +16,7 @@ use Rattle.cats_cmd.specs.Paths.{is_counted, Judgement, Judges, JudgesPaths, gre
 use Rattle.cats_cmd.specs.Paths.{line_removal, progress_line, progress_lines, removal_lines, report_lines, status_of_judgement}
 use Rattle.cats_cmd.specs.declared.paths.Progress.{Progress}
 use Rattle.cats_cmd.specs.declared.paths.Progress.TheVariants.{Lines, Terminal}
-use Rattle.cats_cmd.specs.RequestErrors.{Reports, ReportsAll, ReportsText}
+use Rattle.cats_cmd.specs.RequestErrors.{Reports, ReportsAll}
 use Rattle.cats_cmd.specs.declared.source.Unopened.{Unopened}
 
 pub all_push : {X : Type 0} (P : X → Type 0) (xs : List X) (x : X) → AllByRecursion P xs → P x → AllByRecursion P (xs ++ x ∷ [])
@@ -43,12 +43,6 @@ lines_push progress count number (i ∷ js) j =
     ∙ sym (append_assoc (lines_of_path progress count number i) (lines_from progress count (suc number) js)
     (lines_of_path progress count (number + suc (length js)) j))
 
--- a text that was sent is a line for which no memory was refused
-pub any_report : {E : Type 0} (messages : E → Option (List ℕ)) (text : List ℕ) (old new : Watched E) → ReportsText messages text old new
-    → Reports messages text old new
-any_report messages text old new (inl failed) = inl failed
-any_report messages text old new (inr sent) = inr (inl sent)
-
 -- what is reported of one path
 pub path_reported : {E : Type 0} (messages : E → Option (List ℕ)) (first then last : List (List ℕ)) (a b c d : Watched E) → ReportsAll messages first a b
     → ReportsAll messages then b c → ReportsAll messages last c d → ReportsAll messages (first ++ then ++ last) a d
@@ -60,10 +54,10 @@ module _ {E : Type 0} (messages : E → Option (List ℕ)) (number : ℕ) (old n
       → ReportsAll messages (progress_lines Lines number count path) old new
   hundreds_reported count path is reports = rw is (new, reports, refl)
 
-  pub removal_reported : (progress : Progress) (text : List ℕ) → progress ≡ Terminal → 1 < number → text ≡ line_removal → ReportsText messages text old new
+  pub removal_reported : (progress : Progress) (text : List ℕ) → progress ≡ Terminal → 1 < number → text ≡ line_removal → Reports messages text old new
       → ReportsAll messages (removal_lines progress number) old new
   removal_reported progress text is more same reports =
-      rw is (rw (lt-ltb 1 number more) (new, subst (λ (line : List ℕ). Reports messages line old new) same (any_report messages text old new reports), refl))
+      rw is (rw (lt-ltb 1 number more) (new, subst (λ (line : List ℕ). Reports messages line old new) same reports, refl))
 
 -- ---- the paths so far
 

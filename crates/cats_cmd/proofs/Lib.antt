@@ -15,6 +15,9 @@ mod ShownTexts
 mod AnswersShown
 mod Grouping
 mod Rounding
+mod Reporting
+mod Escaped
+mod Zeros
 mod Judging
 mod JudgingPaths
 mod Opening

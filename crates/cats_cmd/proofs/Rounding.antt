@@ -8,19 +8,16 @@ use Rattle.std.proofs.KnownBytes.{Consumes-trans}
 use Rattle.std.proofs.lemmas.List.{map-append, take_more, take_all}
 use Rattle.std.proofs.lemmas.Bool.{cases_lt, ne_eqb}
 use Rattle.std.proofs.lemmas.Result.{err_from_is_err_and}
-use Rattle.cats_text.proofs.Texts.FaultKinds.{IsFaultOfBytes, first_fault-of_bytes}
 use Rattle.cats_text.specs.Faults.{first_fault, fault_at}
 use Rattle.cats_text.specs.Streams.{inner_of, has_ended, has_failed, moved_nothing}
-use Rattle.cats_text.specs.declared.read_fault.Kind.{Kind}
 use Rattle.cats_text.specs.declared.read_fault.Kind.TheVariants.{Memory as NoMemory, TooLong}
 use Rattle.cats_text.specs.declared.read_fault.ReadFault.{ReadFault}
 use Rattle.cats_text.specs.declared.limits.TheConstants.{MAX_STREAM}
 use Rattle.cats_text.specs.declared.stream.Watched.{Watched}
-use Rattle.canon.specs.Refusals.{refusal_by_kind, refusal_of}
 use Rattle.canon.specs.declared.canon_fault.CanonFault.{CanonFault}
 use Rattle.canon.specs.declared.canon_fault.CanonFault.TheVariants.{Read, StepLimit, Memory}
 use Rattle.canon.specs.declared.which.Which.TheVariants.{Only}
-use Rattle.rounding.specs.Answers.{IsRounded, RoundAnswer, WantsMemoryToRound}
+use Rattle.rounding.specs.Answers.{IsRounded}
 use Rattle.rounding.specs.Texts.{rounded_text}
 use Rattle.rounding.specs.Views.{plain_change, plain_changes}
 use Rattle.rounding.specs.declared.replacement.FinePrices.{FinePrices}
@@ -117,25 +114,6 @@ pub reported_all : {E : Type 0} (messages : E → Option (List ℕ)) (prices : L
     → ReportsAll messages (map rounded_line (plain_changes prices)) a b
 reported_all messages prices i l a b reports =
     subst (λ (ps : List RoundedPrice). ReportsAll messages (map rounded_line (plain_changes ps)) a b) (take_all i prices l) reports
-
--- ---- rounding
-
-refused_by_kind : (fine : FinePrices) (text : List ℕ) (why : ReadFault) (kind : Kind) → why.kind ≡ kind → first_fault (rounded_text fine text) ≡ Some why
-    → RoundsText fine text (Err (refusal_by_kind why kind))
-refused_by_kind fine text why NoMemory is first =
-    absurd ((subst (λ (fault : Option ReadFault). IfSome fault IsFaultOfBytes) first (first_fault-of_bytes (rounded_text fine text))).1 is)
-refused_by_kind fine text why kind is first = first
-
--- a fault of rounding, as the run has it
-pub rounding_refused : (fine : FinePrices) (text : List ℕ) (why : ReadFault) → RoundAnswer fine text (Err why)
-    → (fault : CanonFault) → fault ≡ refusal_of why → RoundsText fine text (Err fault)
-rounding_refused fine text why answer fault is =
-    subst (λ (f : CanonFault). RoundsText fine text (Err f)) (sym is)
-    (⊎_elim
-    (λ (first : first_fault (rounded_text fine text) ≡ Some why). refused_by_kind fine text why why.kind refl first)
-    (λ (memory : (why ≡ fault_at 0 NoMemory) × WantsMemoryToRound fine text).
-    subst (λ (w : ReadFault). RoundsText fine text (Err (refusal_of w))) (sym memory.0) memory.1)
-    answer)
 
 -- ---- the run
 

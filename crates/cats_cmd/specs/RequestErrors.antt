@@ -6,9 +6,6 @@ use Rattle.cats_text.specs.declared.read_fault.SendFault.{SendFault}
 use Rattle.cats_text.specs.declared.stream.Watched.{Watched}
 use Rattle.answers.specs.FaultLines.{line_of_fault, prefix_of}
 use Rattle.answers.specs.Statuses.{status_of_fault}
-use Rattle.answers.specs.declared.report.RunFault.TheVariants.{Refused, GoodRange, Sent}
-use Rattle.canon.specs.declared.canon_fault.CanonFault.TheVariants.{Read, StepLimit, Memory}
-use Rattle.cats_text.specs.Faults.{is_text_kind}
 use Rattle.command_line.specs.PlainRequests.{PlainRequest, Round, Duplicates, Sizes}
 use Rattle.command_line.specs.Requests.{request_of}
 use Rattle.cats_cmd.specs.declared.program.RequestError.{RequestError}
@@ -54,16 +51,6 @@ line_of_request_error (CannotOpen which) = prefix_of which ++ codes "cannot open
 line_of_request_error (NotOpened why) = line_of_unopened why
 line_of_request_error (Run fault) = line_of_fault fault
 
--- whether the line of an error is more than a fixed text, so that memory may be refused for it
-abbrev pub needs_memory : RequestError → Bool
-needs_memory (CannotOpen which) = false
-needs_memory (NotOpened why) = false
-needs_memory (Run (Refused which (Read fault))) = is_text_kind fault.kind
-needs_memory (Run (Refused which (StepLimit goods))) = true
-needs_memory (Run (Refused which Memory)) = false
-needs_memory (Run (GoodRange good)) = true
-needs_memory (Run (Sent fault)) = true
-
 -- ---- what is sent to a stream for messages
 
 module _ {E : Type 0} (contents : E → Option (List ℕ)) where
@@ -72,23 +59,9 @@ module _ {E : Type 0} (contents : E → Option (List ℕ)) where
     pub answer : Result (Unit {0}) SendFault
     pub sends : Sends contents old new text answer
 
-  -- a text was sent. Nothing is sent to a stream that has failed
-  abbrev pub ReportsText : List ℕ → Watched E → Watched E → Type 0
-  ReportsText text old new = ((has_failed old ≡ true) × (new ≡ old)) ⊎ SendsText text old new
-
-  -- A line was sent, or, when memory for it was refused, a line that says so. Nothing is sent to a stream that has
-  -- failed.
+  -- the text was sent, or nothing, as the stream had failed before
   abbrev pub Reports : List ℕ → Watched E → Watched E → Type 0
-  Reports line old new = ((has_failed old ≡ true) × (new ≡ old))
-      ⊎ (SendsText line old new ⊎ SendsText (codes "want of memory\n") old new)
-
-  -- the line of an error was reported; of a line of fixed text no memory is refused
-  abbrev pub ReportsLineOf : Bool → List ℕ → Watched E → Watched E → Type 0
-  ReportsLineOf true line old new = Reports line old new
-  ReportsLineOf false line old new = ReportsText line old new
-
-  abbrev pub ReportsError : RequestError → Watched E → Watched E → Type 0
-  ReportsError error old new = ReportsLineOf (needs_memory error) (line_of_request_error error) old new
+  Reports text old new = ((has_failed old ≡ true) × (new ≡ old)) ⊎ ((has_failed old ≡ false) × SendsText text old new)
 
   -- lines were reported, one after the other
   abbrev pub ReportsAll : List (List ℕ) → Watched E → Watched E → Type 0

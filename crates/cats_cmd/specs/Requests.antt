@@ -22,7 +22,7 @@ use Rattle.cats_cmd.specs.Runs.{RunsOnFile}
 use Rattle.cats_cmd.specs.SizesTables.{MakesTable}
 use Rattle.rounding.specs.declared.replacement.FinePrices.{FinePrices}
 use Rattle.rounding.specs.declared.replacement.FinePrices.TheVariants.{Round as RoundFine, Refuse}
-use Rattle.cats_cmd.specs.RequestErrors.{ReportsError, SendsText, status_of_request_error}
+use Rattle.cats_cmd.specs.RequestErrors.{Reports, SendsText, line_of_request_error, status_of_request_error}
 use Rattle.command_line.specs.PlainRequests.{PlainRequest, Check, Show, Value, Normalise, Explain, Round, Compare, Diff}
 use Rattle.command_line.specs.PlainRequests.{Duplicates, Sizes}
 use Rattle.command_line.specs.Requests.{IsNoRequestOf, request_of}
@@ -224,7 +224,7 @@ module _ {F W E : Type 0} (may_open : List ℕ → F → Type 0) (may_refuse : L
     pub error : RequestError
     pub between : Watched E
     pub carries : CarriesOut request out out_after err between (Err error)
-    pub reports : ReportsError messages error between err_after
+    pub reports : Reports messages (line_of_request_error error) between err_after
     pub is_status : status ≡ status_of_request_error error
 
   abbrev pub AnswersRequest : PlainRequest → Watched W → Watched W → Watched E → Watched E → ℕ → Type 0

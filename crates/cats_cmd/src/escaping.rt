@@ -1,6 +1,6 @@
 //! Paths as they are printed. On a line, all that is not a printable character is escaped, and backslashes.
 
-ghost use Rattle.std.specs.Prelude.{◌≡◌, ◌<◌, ◌++◌, IfOk, OnOk, drop, get_or, length};
+ghost use Rattle.std.specs.Prelude.{◌≡◌, ◌<◌, ◌≤◌, ◌++◌, IfOk, OnOk, drop, get_or, length, take};
 ghost use Rattle.std.specs.Char.{digit_char};
 ghost use Rattle.cats_cmd.specs.Escaping.{code_at, end_of, escaped, escaped_behind, escaped_byte, hex_escape, is_printable};
 ghost use Rattle.cats_cmd.specs.Escaping.{low_bits, path_text, plain_length};
@@ -64,6 +64,24 @@ fn escape_next(bytes: &[u8], left: usize, text: &mut Vec<u8>) -> Result<usize, A
         text.push(bytes[0])?;
         Ok(now - 1)
     }
+}
+
+/// How many bytes at the start are of characters that are not escaped.
+pub(crate) fn plain_run(bytes: &[u8]) -> usize
+    requires { 0 < length bytes.now }
+    ensures within { result ≤ length bytes.now }
+    ensures plain { escaped bytes.now ≡ take result bytes.now ++ escaped (drop result bytes.now) }
+    ensures stops { result ≡ 0 → plain_length bytes.now ≡ 0 }
+{
+    let mut run = 0;
+    while run < bytes.len() {
+        let plain = plain_length(&bytes[run..]);
+        if plain == 0 {
+            return run;
+        }
+        run += plain;
+    }
+    run
 }
 
 /// How many bytes the character has that is at the start, if it is not escaped, and else 0.
@@ -143,11 +161,14 @@ fn escape_byte(byte: u8, text: &mut Vec<u8>) -> Result<(), AllocError>
 fn push_hex(byte: u8, text: &mut Vec<u8>) -> Result<(), AllocError>
     ensures { OnOk result (text.new.items ≡ text.old.items ++ hex_escape byte) }
 {
-    text.push(b'\\')?;
-    text.push(b'x')?;
-    text.push(hex_digit(byte / 16))?;
-    text.push(hex_digit(byte % 16))?;
-    Ok(())
+    text.extend_from_slice(&hex_escape(byte))
+}
+
+/// The byte as `\x` and two hexadecimal digits.
+pub(crate) fn hex_escape(byte: u8) -> [u8; 4]
+    ensures { result ≡ hex_escape byte }
+{
+    [b'\\', b'x', hex_digit(byte / 16), hex_digit(byte % 16)]
 }
 
 fn hex_digit(digit: u8) -> u8

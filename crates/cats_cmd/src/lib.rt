@@ -9,6 +9,7 @@ mod duplicates;
 mod escaping;
 mod explanation;
 pub mod laws;
+mod lines;
 mod many_files;
 mod normalise;
 mod path_list;

@@ -14,14 +14,14 @@ ghost use Rattle.cats_cmd.specs.RequestErrors.{Reports, status_of_request_error}
 use crate::bytes::read_bytes;
 use crate::duplicates::run_duplicates;
 use crate::path_list::split_paths;
-use crate::paths::{ManyFiles, open_file, path_refusal};
-use crate::program::{RequestError, report, status_of};
+use crate::paths::{ManyFiles, open_file, report_refusal};
+use crate::program::{RequestError, status_of};
 use crate::sizes::run_sizes;
 use crate::source::Source;
 use answers::RunFault;
 use cats_text::Watched;
 use command_line::FilePaths;
-use std::alloc::{AllocGlobal, Global};
+use std::alloc::AllocGlobal;
 use std::io::Write;
 
 /// `run_duplicates` on the files of a request. A list that is not read is reported as a file that is not judged.
@@ -52,7 +52,7 @@ pub(crate) fn run_duplicates_of<S: Source + AllocGlobal, W: Write, E: Write>(
             let paths = split_paths(source.alloc(), text.as_slice())?;
             run_duplicates(source, paths.as_slice(), many, out, err)
         }
-        Err(error) => Ok(refuse_list(source.alloc(), list, &error, err)),
+        Err(error) => Ok(refuse_list(list, &error, err)),
     }
 }
 
@@ -84,7 +84,7 @@ pub(crate) fn run_sizes_of<S: Source + AllocGlobal, W: Write, E: Write>(
             let paths = split_paths(source.alloc(), text.as_slice())?;
             run_sizes(source, paths.as_slice(), many, out, err)
         }
-        Err(error) => Ok(refuse_list(source.alloc(), list, &error, err)),
+        Err(error) => Ok(refuse_list(list, &error, err)),
     }
 }
 
@@ -107,15 +107,10 @@ fn read_list<S: Source + AllocGlobal>(source: &mut S, list: &str) -> Result<Vec<
 }
 
 /// Reports why the list at this path was not read, and answers the status.
-fn refuse_list<E: Write>(
-    alloc: Global,
-    list: &str,
-    error: &RequestError,
-    err: &mut Watched<E>,
-) -> u8
+fn refuse_list<E: Write>(list: &str, error: &RequestError, err: &mut Watched<E>) -> u8
     ensures reports { Reports E.contents (refusal_line list.now error.now) err.old err.new }
     ensures status { result ≡ status_of_request_error error.now }
 {
-    report(err, &path_refusal(alloc, list.as_bytes(), error));
+    report_refusal(err, list.as_bytes(), error);
     status_of(error)
 }

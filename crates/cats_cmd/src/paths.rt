@@ -1,6 +1,6 @@
 //! The loop over many files. They are judged one after the other, and a text is made of all.
 
-ghost use Rattle.std.specs.Prelude.{◌≡◌, ◌++◌, ℕ, List, [], ◌∷◌, map, IfErr, IfOk, false, true};
+ghost use Rattle.std.specs.Prelude.{◌≡◌, ◌++◌, ℕ, List, [], ◌∷◌, map, IfErr, IfOk, codes, decimal, false, true};
 ghost use Rattle.cats_text.specs.Streams.{has_ended, has_failed};
 ghost use Rattle.cats_cmd.specs.Inputs.{IsOpened};
 ghost use Rattle.cats_cmd.specs.Opening.{Opens, OpensEach, openable};
@@ -8,14 +8,14 @@ ghost use Rattle.cats_cmd.specs.Openings.{status_of_run};
 ghost use Rattle.cats_cmd.specs.Internal.Judging.{OpensAllAs};
 ghost use Rattle.cats_cmd.specs.Paths.{Judgement, IsUnjudged, IsUnopened, RunsOnPaths, count_line, lines_on, progress_line};
 ghost use Rattle.cats_cmd.specs.Paths.{progress_lines, refusal_line, refusal_lines, removal_lines, status_if};
-ghost use Rattle.cats_cmd.specs.RequestErrors.{ReportsAll};
+ghost use Rattle.cats_cmd.specs.RequestErrors.{Reports, ReportsAll};
 ghost use Rattle.cats_cmd.specs.Internal.Judging.{AddsFile, AddsPathAs, AddsOpened, HasSome, JudgesAllAs};
 ghost use Rattle.cats_cmd.specs.declared.paths.Ending.{Ending};
 ghost use Rattle.cats_cmd.specs.declared.paths.Progress.TheVariants.{Lines};
 ghost use Rattle.cats_cmd.specs.declared.program.RequestError.{RequestError};
 
-use crate::escaping::escape_into;
-use crate::program::{RequestError, report, report_text, request_error_line, status_of};
+use crate::lines::{report, report_escaped, report_number};
+use crate::program::{RequestError, report_error, status_of};
 use crate::run::send_text;
 use crate::source::{Source, Unopened};
 use answers::{DONE, RunFault};
@@ -169,7 +169,7 @@ fn judge_path<'a, C: Collection<'a>, S: Source + AllocGlobal, E: Write>(
     ensures opens { Opens S.content_of S.opened source.old source.new (openable (turn.now.path.now ∷ [])) }
 {
     let error = judge(source, collection, turn.path, many)?;
-    report_path(source.alloc(), many.progress, turn, &error, err);
+    report_path(many.progress, turn, &error, err);
     Ok(status_if(&error))
 }
 
@@ -234,24 +234,17 @@ pub(crate) fn open_file<S: Source>(
     }
 }
 
-/// The line that says why the file at a path was not judged.
-pub(crate) fn path_refusal(
-    alloc: Global,
-    path: &[u8],
-    error: &RequestError,
-) -> Result<Vec<u8>, AllocError>
-    ensures { IfOk result (λ line. line.items ≡ refusal_line path.now error.now) }
+/// Reports why the file at a path was not judged.
+pub(crate) fn report_refusal<E: Write>(err: &mut Watched<E>, path: &[u8], error: &RequestError)
+    ensures { Reports E.contents (refusal_line path.now error.now) err.old err.new }
 {
-    let mut line = Vec::new(alloc);
-    escape_into(path, &mut line)?;
-    line.extend_from_slice(b": ")?;
-    line.extend_from_slice(request_error_line(alloc, error)?.as_slice())?;
-    Ok(line)
+    report_escaped(err, path);
+    report(err, b": ");
+    report_error(err, error);
 }
 
 /// Reports why the file at a path was not judged, and how many files were read.
 fn report_path<E: Write>(
-    alloc: Global,
     progress: Progress,
     turn: &Turn<'_>,
     error: &Option<RequestError>,
@@ -261,8 +254,8 @@ fn report_path<E: Write>(
         (lines_on progress turn.now.count turn.now.number turn.now.path.now error.now) err.old err.new }
 {
     remove_progress(progress, turn.number, err);
-    report_refusal(alloc, turn.path, error, err);
-    report_progress(alloc, progress, turn, err);
+    report_if_refused(turn.path, error, err);
+    report_progress(progress, turn, err);
 }
 
 /// Removes the line of progress of a terminal, which is there after the first file.
@@ -271,69 +264,63 @@ fn remove_progress<E: Write>(progress: Progress, number: usize, err: &mut Watche
 {
     if let Progress::Terminal = progress {
         if number > 1 {
-            report_text(err, REMOVAL.as_bytes());
+            report(err, REMOVAL.as_bytes());
         }
     }
 }
 
 /// Reports why the file at a path was not judged, if it was not.
-fn report_refusal<E: Write>(
-    alloc: Global,
-    path: &[u8],
-    error: &Option<RequestError>,
-    err: &mut Watched<E>,
-)
+fn report_if_refused<E: Write>(path: &[u8], error: &Option<RequestError>, err: &mut Watched<E>)
     ensures { ReportsAll E.contents (refusal_lines path.now error.now) err.old err.new }
 {
     if let Some(error) = error {
-        report(err, &path_refusal(alloc, path, error));
+        report_refusal(err, path, error);
     }
 }
 
 /// Reports how many files were read: on a terminal after each, and else after each hundredth and the last.
-fn report_progress<E: Write>(
-    alloc: Global,
-    progress: Progress,
-    turn: &Turn<'_>,
-    err: &mut Watched<E>,
-)
+fn report_progress<E: Write>(progress: Progress, turn: &Turn<'_>, err: &mut Watched<E>)
     ensures { ReportsAll E.contents
         (progress_lines progress turn.now.number turn.now.count turn.now.path.now) err.old err.new }
 {
     match progress {
         Progress::Silent => {}
-        Progress::Lines => report_hundreds(alloc, turn, err),
-        Progress::Terminal => report(err, &count_progress(alloc, turn)),
+        Progress::Lines => report_hundreds(turn, err),
+        Progress::Terminal => report_count(turn, err),
     }
 }
 
 /// Reports how many files were read, if the last of them is a hundredth one or the last of all.
-fn report_hundreds<E: Write>(alloc: Global, turn: &Turn<'_>, err: &mut Watched<E>)
+fn report_hundreds<E: Write>(turn: &Turn<'_>, err: &mut Watched<E>)
     ensures { ReportsAll E.contents (progress_lines Lines turn.now.number turn.now.count turn.now.path.now) err.old err.new }
 {
     if turn.number % 100 == 0 || turn.number == turn.count {
-        report(err, &path_progress(alloc, turn));
+        report_last(turn, err);
     }
 }
 
-/// The line that says how many files were read, and the path of the last of them.
-fn path_progress(alloc: Global, turn: &Turn<'_>) -> Result<Vec<u8>, AllocError>
-    ensures { IfOk result (λ line. line.items ≡ progress_line turn.now.number turn.now.count turn.now.path.now) }
+/// Reports how many files were read, and the path of the last of them.
+fn report_last<E: Write>(turn: &Turn<'_>, err: &mut Watched<E>)
+    ensures { Reports E.contents (progress_line turn.now.number turn.now.count turn.now.path.now) err.old err.new }
 {
-    let number = turn.number;
-    let count = turn.count;
-    let mut line = format!(in alloc; "{number} of {count} ")?.into_bytes();
-    escape_into(turn.path, &mut line)?;
-    line.push(b'\n')?;
-    Ok(line)
+    report_numbers(turn, err);
+    report(err, b" ");
+    report_escaped(err, turn.path);
+    report(err, b"\n");
 }
 
-/// The line that says so on a terminal: short, so that it is one line there.
-fn count_progress(alloc: Global, turn: &Turn<'_>) -> Result<Vec<u8>, AllocError>
-    ensures { IfOk result (λ line. line.items ≡ count_line turn.now.number turn.now.count) }
+/// Reports so on a terminal: without the path, so that it is one line there.
+fn report_count<E: Write>(turn: &Turn<'_>, err: &mut Watched<E>)
+    ensures { Reports E.contents (count_line turn.now.number turn.now.count) err.old err.new }
 {
-    let number = turn.number;
-    let count = turn.count;
-    let line = format!(in alloc; "{number} of {count}\n")?;
-    Ok(line.into_bytes())
+    report_numbers(turn, err);
+    report(err, b"\n");
+}
+
+fn report_numbers<E: Write>(turn: &Turn<'_>, err: &mut Watched<E>)
+    ensures { Reports E.contents (decimal turn.now.number ++ codes " of " ++ decimal turn.now.count) err.old err.new }
+{
+    report_number(err, turn.number as u64);
+    report(err, b" of ");
+    report_number(err, turn.count as u64);
 }

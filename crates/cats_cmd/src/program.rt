@@ -1,6 +1,6 @@
 //! The program `cats`, but for its process. It has a command line, two output streams and an exit status.
 
-ghost use Rattle.std.specs.Prelude.{◌≡◌, ◌≢◌, ◌≤◌, ◌∷◌, ℕ, List, [], IfErr, IfOk, MatchOption, true, false};
+ghost use Rattle.std.specs.Prelude.{◌≡◌, ◌≢◌, ◌≤◌, ◌∷◌, [], IfErr, IfOk, false};
 ghost use Rattle.canon.specs.declared.which.Which.TheVariants.{Only};
 ghost use Rattle.cats_text.specs.Streams.{has_failed};
 ghost use Rattle.cats_cmd.specs.Inputs.{IsOpened, MayRefuse};
@@ -10,18 +10,15 @@ ghost use Rattle.cats_cmd.specs.Opening.{Opens};
 ghost use Rattle.cats_cmd.specs.Openings.{OpensFor, OpensLine, status_of_answer};
 ghost use Rattle.command_line.specs.PlainRequests.{plain_request};
 ghost use Rattle.command_line.specs.Requests.{texts_of};
-ghost use Rattle.answers.specs.FaultLines.{line_of_fault};
-ghost use Rattle.answers.specs.declared.report.RunFault.TheVariants.{Refused};
-ghost use Rattle.canon.specs.declared.canon_fault.CanonFault.TheVariants.{Memory, Read};
-ghost use Rattle.cats_text.specs.Faults.{fault_at};
-ghost use Rattle.cats_cmd.specs.RequestErrors.{Reports, ReportsError, ReportsText, is_for_many_files, is_reporting};
-ghost use Rattle.cats_cmd.specs.RequestErrors.{line_of_request_error, needs_memory};
-ghost use Rattle.cats_cmd.specs.RequestErrors.{names_many_files, names_reporting, status_of_request_error};
+ghost use Rattle.cats_cmd.specs.RequestErrors.{Reports, is_for_many_files, is_reporting};
+ghost use Rattle.cats_cmd.specs.RequestErrors.{line_of_request_error, names_many_files, names_reporting};
+ghost use Rattle.cats_cmd.specs.RequestErrors.{status_of_request_error};
 
 use crate::check::run_check;
 use crate::compare::run_compare_by;
 use crate::diff::run_diff;
 use crate::explanation::run_explain;
+use crate::lines::{report, report_pieces};
 use crate::many_files::{run_duplicates_of, run_sizes_of};
 use crate::normalise::run_normalise_by;
 use crate::paths::{Ending, ManyFiles, Progress};
@@ -31,16 +28,16 @@ use crate::show::run_show;
 use crate::source::{Source, SystemFiles, Unopened};
 use crate::usage::{misuse_text, with_escaped_words};
 use crate::value::run_value_by;
-use answers::{DEVICE_FAILED, DONE, NO_MEMORY, RunFault, WRONG_USAGE, fault_line, status};
-use canon::{CanonFault, Which};
-use cats_text::{Kind, Watched, send};
+use answers::{DEVICE_FAILED, DONE, NO_MEMORY, RunFault, WRONG_USAGE, fault_pieces, status};
+use canon::Which;
+use cats_text::{Watched, send};
 use command_line::{CommandHelp, FilesRequest, NoRequest, Request, VERSION, parse};
 use rounding::FinePrices;
-use std::alloc::{AllocError, AllocGlobal, Global};
+use std::alloc::AllocGlobal;
 use std::io::Write;
 use std::rt::Files;
 
-/// What is sent instead of a line for which memory is refused.
+/// What is sent if memory was refused to the text that says so.
 const NO_MEMORY_LINE: &str = "want of memory\n";
 
 /// What the program has from its process and from its build.
@@ -102,8 +99,7 @@ pub fn run_cats<F: Files + AllocGlobal, W: Write, E: Write>(
 /// Does what a command line says, on the files of a source, and answers the exit status. The line's first word is the
 /// program's name, and `out` and `err` are the standard streams.
 ///
-/// A fault's line is sent to `err`. If memory for it is refused, `want of memory` is sent instead; the status is
-/// that of the fault in any case.
+/// A fault's line is sent to `err`. It needs no memory.
 #[tactic(auto, using(crate::proofs::AnswersOfRequests::few_files, crate::proofs::AnswersOfRequests::quiet_request))]
 pub fn run_program<S: Source + AllocGlobal, W: Write, E: Write>(
     source: &mut S,
@@ -151,7 +147,7 @@ fn answer_request<S: Source + AllocGlobal, W: Write, E: Write>(
 {
     match carry_out(source, request, out, err, terminal) {
         Ok(status) => status,
-        Err(error) => report_request_error(source.alloc(), &error, err),
+        Err(error) => report_request_error(&error, err),
     }
 }
 
@@ -319,34 +315,12 @@ fn memory_text(text: &str) -> &str
 }
 
 /// Reports why a request has no answer, and answers the exit status for it.
-fn report_request_error<E: Write>(alloc: Global, error: &RequestError, err: &mut Watched<E>) -> u8
+fn report_request_error<E: Write>(error: &RequestError, err: &mut Watched<E>) -> u8
     ensures status { result ≡ status_of_request_error error.now }
-    ensures line { ReportsError E.contents error.now err.old err.new }
+    ensures line { Reports E.contents (line_of_request_error error.now) err.old err.new }
 {
-    match fixed_line(error) {
-        Some(line) => report_text(err, line.as_bytes()),
-        None => report(err, &request_error_line(alloc, error)),
-    }
+    report_error(err, error);
     status_of(error)
-}
-
-/// Sends a line, unless the stream has failed. If memory for the line was refused, that is sent instead.
-pub(crate) fn report<E: Write>(err: &mut Watched<E>, line: &Result<Vec<u8>, AllocError>)
-    ensures { (text : List ℕ) → IfOk line.now (λ made. made.items ≡ text) → Reports E.contents text err.old err.new }
-{
-    match line {
-        Ok(line) => report_text(err, line.as_slice()),
-        Err(AllocError) => report_text(err, NO_MEMORY_LINE.as_bytes()),
-    }
-}
-
-/// Sends a text, unless the stream has failed.
-pub(crate) fn report_text<E: Write>(err: &mut Watched<E>, text: &[u8])
-    ensures { ReportsText E.contents text.now err.old err.new }
-{
-    if !err.failed() {
-        let _ = send(err, text);
-    }
 }
 
 /// The exit status that says why a request has no answer.
@@ -359,78 +333,14 @@ pub(crate) fn status_of(error: &RequestError) -> u8
     }
 }
 
-/// The line that says it, with its LF.
-pub(crate) fn request_error_line(alloc: Global, error: &RequestError) -> Result<Vec<u8>, AllocError>
-    ensures { IfOk result (λ line. line.items ≡ line_of_request_error error.now) }
+/// Reports why a request has no answer.
+pub(crate) fn report_error<E: Write>(err: &mut Watched<E>, error: &RequestError)
+    ensures { Reports E.contents (line_of_request_error error.now) err.old err.new }
 {
     match error {
-        RequestError::CannotOpen(which) => Vec::from_slice(alloc, unopened(*which).as_bytes()),
-        RequestError::NotOpened(why) => Vec::from_slice(alloc, not_opened(*why).as_bytes()),
-        RequestError::Run(why) => fault_line(alloc, why),
-    }
-}
-
-/// The line that says it, if that is a fixed text.
-fn fixed_line(error: &RequestError) -> Option<&'static str>
-    ensures { MatchOption result (needs_memory error.now ≡ true)
-        (λ line. (needs_memory error.now ≡ false) × (line.now ≡ line_of_request_error error.now)) }
-{
-    match error {
-        RequestError::CannotOpen(which) => Some(unopened(*which)),
-        RequestError::NotOpened(why) => Some(not_opened(*why)),
-        RequestError::Run(RunFault::Refused(which, fault)) => fixed_refusal(*which, fault),
-        RequestError::Run(RunFault::GoodRange(_) | RunFault::Sent(_)) => None,
-    }
-}
-
-/// The line of a file that was refused, if that is a fixed text.
-fn fixed_refusal(which: Which, fault: &CanonFault) -> Option<&'static str>
-    ensures { MatchOption result (needs_memory (RequestError.Run (Refused which fault.now)) ≡ true)
-        (λ line. (needs_memory (RequestError.Run (Refused which fault.now)) ≡ false)
-        × (line.now ≡ line_of_fault (Refused which fault.now))) }
-{
-    match fault {
-        CanonFault::Read(fault) => match fault.kind {
-            Kind::Device => Some(device_line(which)),
-            Kind::TooLong => Some(length_line(which)),
-            Kind::Memory => Some(memory_line(which)),
-            _ => None,
-        },
-        CanonFault::StepLimit { goods: _ } => None,
-        CanonFault::Memory => Some(memory_line(which)),
-    }
-}
-
-/// The line of a file that cannot be read.
-fn device_line(which: Which) -> &'static str
-    ensures { result.now ≡ line_of_fault (Refused which (Read (fault_at 0 Kind.Device))) }
-{
-    match which {
-        Which::First => "first: Device\n",
-        Which::Second => "second: Device\n",
-        Which::Only | Which::Both => "Device\n",
-    }
-}
-
-/// The line of a file that is too long.
-fn length_line(which: Which) -> &'static str
-    ensures { result.now ≡ line_of_fault (Refused which (Read (fault_at 0 Kind.TooLong))) }
-{
-    match which {
-        Which::First => "first: TooLong\n",
-        Which::Second => "second: TooLong\n",
-        Which::Only | Which::Both => "TooLong\n",
-    }
-}
-
-/// The line of a file for which memory was refused.
-fn memory_line(which: Which) -> &'static str
-    ensures { result.now ≡ line_of_fault (Refused which Memory) }
-{
-    match which {
-        Which::First => "first: want of memory\n",
-        Which::Second => "second: want of memory\n",
-        Which::Only | Which::Both => NO_MEMORY_LINE,
+        RequestError::CannotOpen(which) => report(err, unopened(*which).as_bytes()),
+        RequestError::NotOpened(why) => report(err, not_opened(*why).as_bytes()),
+        RequestError::Run(fault) => report_pieces(err, &fault_pieces(fault)),
     }
 }
 

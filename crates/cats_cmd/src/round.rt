@@ -2,16 +2,16 @@
 
 ghost use Rattle.std.specs.Prelude.{◌≡◌, map, false};
 ghost use Rattle.cats_text.specs.Streams.{has_ended, has_failed};
-ghost use Rattle.rounding.specs.Views.{plain_changes};
+ghost use Rattle.rounding.specs.Views.{plain_change, plain_changes};
 ghost use Rattle.answers.specs.RoundedLines.{rounded_line};
 ghost use Rattle.cats_cmd.specs.Rounding.{Rounds};
 ghost use Rattle.cats_cmd.specs.Internal.Roundings.{RoundsText};
-ghost use Rattle.cats_cmd.specs.RequestErrors.{ReportsAll};
+ghost use Rattle.cats_cmd.specs.RequestErrors.{Reports, ReportsAll};
 
 use crate::bytes::read_bytes;
-use crate::program::report;
+use crate::lines::report_pieces;
 use crate::run::send_text;
-use answers::{DONE, RunFault, price_line};
+use answers::{DONE, RunFault, price_pieces};
 use canon::CanonFault;
 use cats_text::Watched;
 use rounding::{FinePrices, RoundedPrice, RoundedText, round};
@@ -37,7 +37,7 @@ pub fn run_round<R: Read, W: Write, E: Write>(
     let text = read_bytes(alloc, input)?;
     let rounded = round_bytes(alloc, text.as_slice(), fine)?;
     let status = send_text(out, DONE, rounded.text.as_slice())?;
-    report_prices(alloc, rounded.prices.as_slice(), err);
+    report_prices(rounded.prices.as_slice(), err);
     Ok(status)
 }
 
@@ -52,10 +52,16 @@ fn round_bytes(alloc: Global, text: &[u8], fine: FinePrices) -> Result<RoundedTe
 }
 
 /// Reports prices whose values changed, each on a line.
-fn report_prices<E: Write>(alloc: Global, prices: &[RoundedPrice], err: &mut Watched<E>)
+fn report_prices<E: Write>(prices: &[RoundedPrice], err: &mut Watched<E>)
     ensures { ReportsAll E.contents (map rounded_line (plain_changes prices.now)) err.old err.new }
 {
     for price in prices {
-        report(err, &price_line(alloc, price));
+        report_price(price, err);
     }
+}
+
+fn report_price<E: Write>(price: &RoundedPrice, err: &mut Watched<E>)
+    ensures { Reports E.contents (rounded_line (plain_change price.now)) err.old err.new }
+{
+    report_pieces(err, &price_pieces(price));
 }

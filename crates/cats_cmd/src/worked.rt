@@ -9,7 +9,6 @@ ghost use Rattle.cats_text.specs.declared.read_fault.Kind.TheVariants.{
   Device,
   Memory as NoMemory,
 };
-ghost use Rattle.cats_text.specs.Faults.{fault_at};
 ghost use Rattle.canon.specs.Difference.{NoDifference, InGoods, InOr, InXor};
 ghost use Rattle.canon.specs.declared.verdict.Side.TheVariants.{Exactly, Below};
 ghost use Rattle.valuation.specs.Examples.{atom};
@@ -38,7 +37,7 @@ ghost use Rattle.answers.specs.RoundedLines.{rounded_line};
 ghost use Rattle.cats_cmd.specs.Rounding.{round_outcome};
 ghost use Rattle.rounding.specs.declared.replacement.FinePrices.TheVariants.{Round};
 ghost use Rattle.cats_cmd.specs.Runs.{SendsMadeAs};
-ghost use Rattle.cats_cmd.specs.RequestErrors.{Reports, line_of_request_error, needs_memory};
+ghost use Rattle.cats_cmd.specs.RequestErrors.{Reports, line_of_request_error};
 ghost use Rattle.cats_cmd.specs.declared.program.RequestError.TheVariants.{CannotOpen, NotOpened, Run};
 ghost use Rattle.cats_cmd.specs.declared.source.Unopened.TheVariants.{NoSuchFile, PermissionDenied, IsFolder, NotAFile};
 ghost use Rattle.cats_cmd.specs.declared.source.Unopened.TheVariants.{Other};
@@ -147,12 +146,16 @@ pub fn rounded_texts()
         ≡ Prints 0 (codes "goods 1\nbids 1\ndummy 0\n0 0.012346 0 #\n") }
 {}
 
-/// What becomes of a line for standard error: it is sent, or `want of memory` is; after a failure nothing is.
+/// What becomes of a line for standard error: it is sent, and nothing else is; after a failure nothing is.
 pub fn lines_reported()
     ensures sent { Reports known (codes "x\n") (watched [] false false) (watched (codes "x\n") false false) }
-    ensures memory { Reports known (codes "x\n") (watched [] false false) (watched (codes "want of memory\n") false false) }
+    ensures part { Reports known (codes "x\n") (watched [] false false) (watched (codes "x") true false) }
     ensures failed_before { Reports known (codes "x\n") (watched [] true false) (watched [] true false) }
     ensures nothing_sent { Reports known (codes "x\n") (watched [] false false) (watched [] false false) → ⊥ }
+    ensures want_of_memory { Reports known (codes "x\n") (watched [] false false)
+        (watched (codes "want of memory\n") false false) → ⊥ }
+    ensures sent_after_failure { Reports known (codes "x\n") (watched [] true false) (watched (codes "x\n") false false)
+        → ⊥ }
 {}
 
 /// What becomes of a file's text: all of it went out, or so many of its first bytes, or, where memory for a page was
@@ -183,13 +186,4 @@ pub fn paths_opened()
     ensures known { with_paths (Some (codes "a" ∷ [])) (codes "b" ∷ codes "a" ∷ [])
         ≡ Some (codes "a" ∷ codes "b" ∷ codes "a" ∷ []) }
     ensures unknown { with_paths None (codes "b" ∷ []) ≡ None }
-{}
-
-/// Errors whose lines are fixed texts, and two whose lines are not.
-pub fn fixed_lines()
-    ensures fixed { map needs_memory (CannotOpen First ∷ NotOpened Other ∷ Run (Refused Only (Read (fault_at 0 Device)))
-        ∷ Run (Refused Second (Read (fault_at 0 TooLong))) ∷ Run (Refused Both Memory) ∷ [])
-        ≡ false ∷ false ∷ false ∷ false ∷ false ∷ [] }
-    ensures others { map needs_memory (Run (Refused Only (Read (fault_at 4 NoEnd))) ∷ Run (GoodRange 3) ∷ [])
-        ≡ true ∷ true ∷ [] }
 {}

@@ -1,7 +1,10 @@
-use Rattle.std.proofs.Common.{refl}
-use Rattle.cats_cmd.specs.Paths.{refusal_line}
+use Rattle.std.proofs.Common.{codes}
+use Rattle.cats_cmd.specs.Escaping.{escaped}
+use Rattle.cats_cmd.specs.RequestErrors.{line_of_request_error}
+use Rattle.cats_cmd.proofs.Reporting.{reports_three}
 use Rattle.cats_cmd.proofs.paths.report_refusal.Goals as goal
 
-pub returns-in-Some : goal.returns-in-Some
-returns-in-Some g c =
-    rw c.in-Some.is (c.report.new.err, c.report.ensures (refusal_line c.args.path.now c.in-Some.error) c.path_refusal.ensures, refl)
+pub returns : goal.returns
+returns g c =
+    reports_three g.E.Write.contents (escaped c.args.path.now) (codes ": ") (line_of_request_error c.args.error.now) _ _ _ _ c.report_escaped.ensures
+    c.report.ensures c.report_error.ensures

@@ -1,8 +1,9 @@
-use Rattle.std.proofs.Common.{Ok, refl, inl, inr}
+use Rattle.std.proofs.Common.{Err, Ok, refl, inr, arith}
 use Rattle.cats_cmd.proofs.worked.lines_reported.Goals as goal
 
 pub returns-clause-sent : goal.returns-clause-sent
-returns-clause-sent c = inr (inl (record { answer = Ok tt; sends = record { appended = refl; works = refl } }))
+returns-clause-sent c = inr (refl, record { answer = Ok tt; sends = record { appended = refl; works = refl } })
 
-pub returns-clause-memory : goal.returns-clause-memory
-returns-clause-memory c = inr (inr (record { answer = Ok tt; sends = record { appended = refl; works = refl } }))
+pub returns-clause-part : goal.returns-clause-part
+returns-clause-part c =
+    inr (refl, record { answer = Err (record { written = 1 }); sends = record { within = omega arith; appended = refl; failed = refl } })

@@ -1,0 +1,11 @@
+use Rattle.std.proofs.Common.{◌∷◌, decimal}
+use Rattle.cats_cmd.proofs.Reporting.{reports_nothing, reports_next}
+use Rattle.cats_cmd.proofs.lines.report_after_commas.Goals as goal
+
+pub loop-good-init : goal.loop-good-init
+loop-good-init g c = reports_nothing g.E.Write.contents c.args.err.now
+
+pub loop-good-preserved : goal.loop-good-preserved
+loop-good-preserved g c =
+    reports_next g.E.Write.contents (λ g. 44 ∷ decimal g) c.args.goods.now c.loop-good.good-index 0 c.loop-good-test.true _ _ _ c.loop-good.invariant
+    c.report_after_comma.ensures

@@ -1,0 +1,8 @@
+-- the goods so far were reported
+use Rattle.std.proofs.Common.{take}
+use Rattle.answers.specs.Outputs.{after_commas}
+use Rattle.cats_cmd.specs.RequestErrors.{Reports}
+use Rattle.cats_cmd.proofs.lines.report_after_commas.Given as goal
+
+abbrev pub invariant-loop-good : goal.invariant-loop-good
+invariant-loop-good g l = Reports g.E.Write.contents (after_commas (take l.good-index l.goods)) l.initial.err l.err

@@ -1,0 +1,8 @@
+-- the pieces so far were reported
+use Rattle.std.proofs.Common.{take}
+use Rattle.answers.specs.Pieces.{text_of_pieces}
+use Rattle.cats_cmd.specs.RequestErrors.{Reports}
+use Rattle.cats_cmd.proofs.lines.report_pieces.Given as goal
+
+abbrev pub invariant-loop-piece : goal.invariant-loop-piece
+invariant-loop-piece g l = Reports g.E.Write.contents (text_of_pieces (take l.piece-index l.pieces)) l.initial.err l.err

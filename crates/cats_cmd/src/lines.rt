@@ -1,0 +1,176 @@
+//! What is reported on standard error. A line is sent in pieces, so that it needs no memory. Nothing is sent to a stream
+//! that has failed.
+
+ghost use Rattle.std.specs.Prelude.{◌≡◌, ◌∷◌, ◌++◌, ◌<◌, ℕ, List, decimal, length};
+ghost use Rattle.answers.specs.Outputs.{after_commas, bundle_text};
+ghost use Rattle.answers.specs.Pieces.{text_of_piece, text_of_pieces};
+ghost use Rattle.cats_text.specs.Layout.{behind_point, digit_at, price_text, six_digits, without_zeros};
+ghost use Rattle.cats_cmd.specs.Escaping.{escaped, escaped_byte};
+ghost use Rattle.cats_cmd.specs.RequestErrors.{Reports};
+
+use crate::escaping::{hex_escape, plain_run};
+use answers::Piece;
+use cats_text::{Watched, send};
+use itoa::Buffer;
+use std::io::Write;
+
+/// Millionths in a whole unit.
+const MILLION: u64 = 1_000_000;
+
+/// Sends a text, unless the stream has failed.
+pub(crate) fn report<E: Write>(err: &mut Watched<E>, text: &[u8])
+    ensures { Reports E.contents text.now err.old err.new }
+{
+    if !err.failed() {
+        let _ = send(err, text);
+    }
+}
+
+/// Reports these pieces.
+pub(crate) fn report_pieces<E: Write>(err: &mut Watched<E>, pieces: &[Piece<'_>])
+    ensures { Reports E.contents (text_of_pieces pieces.now) err.old err.new }
+{
+    for piece in pieces {
+        report_piece(err, piece);
+    }
+}
+
+fn report_piece<E: Write>(err: &mut Watched<E>, piece: &Piece<'_>)
+    ensures { Reports E.contents (text_of_piece piece.now) err.old err.new }
+{
+    match piece {
+        Piece::Text(text) => report(err, text),
+        Piece::Number(number) => report_number(err, *number),
+        Piece::Goods(goods) => report_goods(err, goods),
+        Piece::Price(price) => report_price(err, *price),
+    }
+}
+
+/// Reports a number.
+pub(crate) fn report_number<E: Write>(err: &mut Watched<E>, number: u64)
+    ensures { Reports E.contents (decimal number) err.old err.new }
+{
+    report(err, Buffer::new().format(number).as_bytes());
+}
+
+/// Reports goods, with a comma between each two.
+fn report_goods<E: Write>(err: &mut Watched<E>, goods: &[u16])
+    ensures { Reports E.contents (bundle_text goods.now) err.old err.new }
+{
+    let Some((first, rest)) = goods.split_first() else {
+        return report(err, b"");
+    };
+    report_number(err, u64::from(*first));
+    report_after_commas(err, rest);
+}
+
+fn report_after_commas<E: Write>(err: &mut Watched<E>, goods: &[u16])
+    ensures { Reports E.contents (after_commas goods.now) err.old err.new }
+{
+    for good in goods {
+        report_after_comma(err, *good);
+    }
+}
+
+fn report_after_comma<E: Write>(err: &mut Watched<E>, good: u16)
+    ensures { Reports E.contents (44 ∷ decimal good) err.old err.new }
+{
+    report(err, b",");
+    report_number(err, u64::from(good));
+}
+
+/// Reports a price, given in millionths.
+fn report_price<E: Write>(err: &mut Watched<E>, millionths: u64)
+    ensures { Reports E.contents (price_text millionths) err.old err.new }
+{
+    report_number(err, millionths / MILLION);
+    report_behind_point(err, without_zeros(&six_digits(millionths % MILLION)));
+}
+
+/// Reports a point and the digits behind it, if there are any.
+fn report_behind_point<E: Write>(err: &mut Watched<E>, digits: &[u8])
+    ensures { Reports E.contents (behind_point digits.now) err.old err.new }
+{
+    if let [_, ..] = digits {
+        report(err, b".");
+        report(err, digits);
+    } else {
+        report(err, b"");
+    }
+}
+
+/// The last six digits of a number, with zeros before them if it has fewer.
+fn six_digits(number: u64) -> [u8; 6]
+    ensures { result ≡ six_digits number }
+{
+    [
+        digit_at(number, 100_000),
+        digit_at(number, 10_000),
+        digit_at(number, 1_000),
+        digit_at(number, 100),
+        digit_at(number, 10),
+        digit_at(number, 1),
+    ]
+}
+
+/// The digit of a number at the place that counts so much.
+fn digit_at(number: u64, place: u64) -> u8
+    requires { 0 < place }
+    ensures { result ≡ digit_at number place }
+{
+    48 + (number / place % 10) as u8
+}
+
+/// The digits without the zeros at their end.
+fn without_zeros(digits: &[u8]) -> &[u8]
+    ensures { result.now ≡ without_zeros digits.now }
+{
+    let mut kept = digits;
+    while let [before @ .., last] = kept {
+        if *last != b'0' {
+            return kept;
+        }
+        kept = before;
+    }
+    kept
+}
+
+/// Reports a path as it is printed on a line.
+pub(crate) fn report_escaped<E: Write>(err: &mut Watched<E>, path: &[u8])
+    ensures { Reports E.contents (escaped path.now) err.old err.new }
+{
+    report(err, b"");
+    let mut rest = path;
+    while !rest.is_empty() {
+        rest = report_next(err, rest);
+    }
+}
+
+/// Reports the bytes at the start that are not escaped, or one that is, and answers those behind.
+fn report_next<'a, E: Write>(err: &mut Watched<E>, rest: &'a [u8]) -> &'a [u8]
+    requires { 0 < length rest.now }
+    ensures reports { (text : List ℕ) × Reports E.contents text err.old err.new
+        × (text ++ escaped result.now ≡ escaped rest.now) }
+    ensures fewer { length result.now < length rest.now }
+{
+    let plain = plain_run(rest);
+    if plain == 0 {
+        report_escape(err, rest[0]);
+        &rest[1..]
+    } else {
+        report(err, &rest[..plain]);
+        &rest[plain..]
+    }
+}
+
+/// Reports an escaped byte.
+fn report_escape<E: Write>(err: &mut Watched<E>, byte: u8)
+    ensures { Reports E.contents (escaped_byte byte) err.old err.new }
+{
+    match byte {
+        b'\\' => report(err, b"\\\\"),
+        b'\n' => report(err, b"\\n"),
+        b'\t' => report(err, b"\\t"),
+        _ => report(err, &hex_escape(byte)),
+    }
+}
