@@ -8,6 +8,7 @@ use Rattle.cats_text.specs.declared.read_fault.Kind.TheVariants.{TooLong}
 use Rattle.cats_text.specs.declared.limits.TheConstants.{MAX_STREAM}
 use Rattle.canon.specs.declared.canon_fault.CanonFault.{CanonFault}
 use Rattle.canon.specs.declared.canon_fault.CanonFault.TheVariants.{Read, StepLimit, Memory}
+use Rattle.rounding.specs.Answers.{WantsMemoryToRound}
 use Rattle.rounding.specs.Texts.{PlainChange, rounded_prices, rounded_text}
 use Rattle.rounding.specs.declared.replacement.FinePrices.{FinePrices}
 use Rattle.answers.specs.RoundedLines.{rounded_line}
@@ -33,12 +34,13 @@ pub record RoundsText (fine : FinePrices) (text out report : List ℕ) : Type 0 
   pub is_text : out ≡ rounded_text fine text
   pub is_report : report ≡ report_of fine text
 
--- why there is none: the text is longer than a stream may be, or the rounded text has a fault, or memory was refused
+-- Why there is none: the text is longer than a stream may be, or the rounded text has a fault, or memory was refused,
+-- once a bid line has begun or if the rounded text spells a file.
 abbrev pub IsUnrounded : FinePrices → List ℕ → CanonFault → Type 0
 IsUnrounded fine text (Read fault) = ((MAX_STREAM < length text) × (fault ≡ fault_at 0 TooLong))
     ⊎ (first_fault (rounded_text fine text) ≡ Some fault)
 IsUnrounded fine text (StepLimit goods) = ⊥
-IsUnrounded fine text Memory = Unit {0}
+IsUnrounded fine text Memory = WantsMemoryToRound fine text
 
 -- what the call answers
 abbrev pub AnswersRounding : FinePrices → List ℕ → Result RoundAnswer RunFault → Type 0

@@ -1,14 +1,15 @@
 //! The call that rounds the prices of a text. It has two texts: the rounded text, and the report of the prices that changed.
 
-ghost use Rattle.std.specs.Prelude.{◌≡◌, ◌++◌, IfOk, OnOk};
+ghost use Rattle.std.specs.Prelude.{◌≡◌, ◌++◌, IfErr, IfOk, OnOk};
+ghost use Rattle.rounding.specs.Answers.{IsRounded};
 ghost use Rattle.rounding.specs.Views.{plain_changes};
-ghost use Rattle.cats_calls.specs.Roundings.{AnswersRounding, GivesReport, GivesRounded, lines_of};
+ghost use Rattle.cats_calls.specs.Roundings.{AnswersRounding, GivesReport, GivesRounded, IsUnrounded, lines_of};
 
 use crate::buffer::{give_fault, put};
 use answers::{DONE, RunFault, price_line};
 use canon::CanonFault;
 use cats_text::{Kind, MAX_STREAM, ReadFault};
-use rounding::{FinePrices, RoundedPrice, round};
+use rounding::{FinePrices, RoundedPrice, RoundedText, round};
 use std::alloc::{AllocError, Global};
 
 /// A text with its prices rounded, and a line for each price whose value changed.
@@ -28,15 +29,23 @@ pub fn round_text(alloc: Global, text: &[u8], fine: FinePrices) -> Result<RoundA
             kind: Kind::TooLong,
         })));
     }
-    let rounded = match round(alloc, text, fine) {
-        Ok(rounded) => rounded,
-        Err(fault) => return Err(RunFault::from(CanonFault::from(fault))),
-    };
+    let rounded = round_bytes(alloc, text, fine)?;
     let report = report_text(alloc, rounded.prices.as_slice())?;
     Ok(RoundAnswer {
         text: rounded.text,
         report,
     })
+}
+
+/// The text with its prices rounded.
+fn round_bytes(alloc: Global, text: &[u8], fine: FinePrices) -> Result<RoundedText, CanonFault>
+    ensures rounded { IfOk result (IsRounded fine text.now) }
+    ensures refused { IfErr result (IsUnrounded fine text.now) }
+{
+    match round(alloc, text, fine) {
+        Ok(rounded) => Ok(rounded),
+        Err(fault) => Err(CanonFault::from(fault)),
+    }
 }
 
 /// Puts a rounded text into a buffer, or the line of the fault, and answers the status, as `give` does.

@@ -128,6 +128,8 @@ pub fn texts_rounded()
         ⊥ }
     ensures too_long { IsUnrounded Refuse (codes "goods 1\nbids 1\ndummy 0\n0 0.0123456 0 #\n") (Read (fault_at 0 TooLong))
         → ⊥ }
+    ensures memory { IsUnrounded Round (codes "goods 1\nbids 1\ndummy 0\n0") Memory }
+    ensures no_memory { IsUnrounded Round (codes "bids 0\n") Memory → ⊥ }
 {}
 
 /// A text in a buffer. One that does not fit leaves the buffer as it was.
