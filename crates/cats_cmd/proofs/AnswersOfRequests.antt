@@ -1,8 +1,8 @@
 -- What holds of each answer to a request: the statuses of a run that answered, what a request that failed has written, and that only
 -- `round`, `duplicates` and `sizes` report before they end.
-use Rattle.std.proofs.Common.{◌≡◌, ◌≢◌, ℕ, List, Option, None, Some, Result, Ok, Err, Bool, true, false, cond, sym, ap, ◌∙◌, subst, arith, ◌≤◌, [], ◌∷◌}
+use Rattle.std.proofs.Common.{◌≡◌, ◌≢◌, ℕ, List, Option, None, Some, Result, Ok, Err, Bool, true, false, cond, sym, ap, ◌∙◌, subst, arith, ◌≤◌}
 use Rattle.std.proofs.Common.{refl, ⊎_elim}
-use Rattle.std.specs.Prelude.{nat_lt, IsErrAnd}
+use Rattle.std.specs.Prelude.{IsErrAnd}
 use Rattle.std.proofs.lemmas.Result.{err_from_is_err_and}
 use Rattle.bid_file.specs.Files.{PlainFile}
 use Rattle.valuation.specs.declared.search_options.SearchOptions.{SearchOptions}
@@ -10,7 +10,6 @@ use Rattle.cats_text.specs.declared.read_fault.Kind.{Kind}
 use Rattle.cats_text.specs.declared.read_fault.Kind.TheVariants.{Device, Memory as NoMemory}
 use Rattle.cats_text.specs.declared.stream.Watched.{Watched}
 use Rattle.valuation.specs.Auctions.{or_atoms_of, auction_from}
-use Rattle.valuation.specs.Packings.{count_packings}
 use Rattle.prune.specs.SearchSteps.{first_refused}
 use Rattle.canon.specs.Difference.{Difference, NoDifference, InGoods, InOr, InXor, first_difference}
 use Rattle.canon.specs.declared.canon_fault.CanonFault.{CanonFault}

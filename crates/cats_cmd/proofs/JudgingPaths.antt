@@ -1,7 +1,7 @@
 -- One more path, whose file was judged: what became of the files before it stays, and the path adds its judgement, a status that may be
 -- the greatest, and its lines.
 use Rattle.std.proofs.Common.{◌≡◌, ℕ, suc, ◌+◌, ◌<◌, max, true, List, [], ◌∷◌, ◌++◌, length, map, get_or, take, refl, sym}
-use Rattle.std.proofs.Common.{ap, ◌∙◌, inl, inr, subst, arith, append-nil, ◌≤◌, Option, Result, Ok, Err}
+use Rattle.std.proofs.Common.{ap, ◌∙◌, subst, arith, append-nil, ◌≤◌, Option, Result, Ok, Err}
 use Rattle.std.specs.Prelude.{IsErr}
 use Rattle.std.specs.Borrow.{Bor}
 use Rattle.std.specs.List.{AllByRecursion}

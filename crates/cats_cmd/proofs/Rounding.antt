@@ -1,17 +1,15 @@
 -- `cats round`: the bytes that came so far, the prices that were reported so far, and the ways in which the run ends.
 use Rattle.std.proofs.Common.{◌≡◌, ◌<◌, ◌≤◌, ◌+◌, ℕ, Bool, true, false, ◌||◌, List, [], ◌∷◌, ◌++◌, length, take, map, get_or, refl, sym, ap, ◌∙◌, subst, arith}
-use Rattle.std.proofs.Common.{append-nil, length-append, Option, Some, Result, Ok, Err, inl, inr, ⊎_elim}
-use Rattle.std.specs.Prelude.{IfSome, IsErrAnd, Vec}
+use Rattle.std.proofs.Common.{append-nil, length-append, Option, Result, Ok, Err, inl, inr, ⊎_elim}
+use Rattle.std.specs.Prelude.{IsErrAnd, Vec}
 use Rattle.std.specs.Global.{Global}
 use Rattle.std.specs.Io.KnownBytes.{Consumes}
 use Rattle.std.proofs.KnownBytes.{Consumes-trans}
 use Rattle.std.proofs.lemmas.List.{map-append, take_more, take_all}
 use Rattle.std.proofs.lemmas.Bool.{cases_lt, ne_eqb}
 use Rattle.std.proofs.lemmas.Result.{err_from_is_err_and}
-use Rattle.cats_text.specs.Faults.{first_fault, fault_at}
 use Rattle.cats_text.specs.Streams.{inner_of, has_ended, has_failed, moved_nothing}
-use Rattle.cats_text.specs.declared.read_fault.Kind.TheVariants.{Memory as NoMemory, TooLong}
-use Rattle.cats_text.specs.declared.read_fault.ReadFault.{ReadFault}
+use Rattle.cats_text.specs.declared.read_fault.Kind.TheVariants.{TooLong}
 use Rattle.cats_text.specs.declared.limits.TheConstants.{MAX_STREAM}
 use Rattle.cats_text.specs.declared.stream.Watched.{Watched}
 use Rattle.canon.specs.declared.canon_fault.CanonFault.{CanonFault}

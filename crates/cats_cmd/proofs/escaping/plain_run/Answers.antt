@@ -1,4 +1,4 @@
-use Rattle.std.proofs.Common.{rules, ◌≡◌, ◌==◌, ◌<◌, ◌≤◌, ◌+◌, ℕ, List, false, length, drop, arith, sym, ap, ◌∙◌, length-drop}
+use Rattle.std.proofs.Common.{rules, ◌≡◌, ◌==◌, ◌≤◌, ◌+◌, ℕ, false, length, drop, arith, sym, ap, ◌∙◌, length-drop}
 use Rattle.std.proofs.lemmas.Bool.{ne_eqb}
 use Rattle.cats_cmd.specs.Escaping.{plain_length}
 use Rattle.cats_cmd.proofs.Escaped.{behind_run, run_more, run_within}
