@@ -39,25 +39,50 @@ const MANY: &[(&str, &str)] = &[
 ];
 
 /// The help of the program and of each subcommand.
-pub static HELP: [CommandHelp<'static>; 11] = [
+pub fn all_help<'a>() -> [CommandHelp<'a>; 11] {
+    [
+        program_help(),
+        check_help(),
+        show_help(),
+        value_help(),
+        normalise_help(),
+        explain_help(),
+        round_help(),
+        compare_help(),
+        diff_help(),
+        duplicates_help(),
+        sizes_help(),
+    ]
+}
+
+fn program_help<'a>() -> CommandHelp<'a> {
     CommandHelp {
         name: "cats",
         about: "Reads auction bid files in the format of CATS 2.0",
         arguments: &[],
         after: CATS,
-    },
+    }
+}
+
+fn check_help<'a>() -> CommandHelp<'a> {
     CommandHelp {
         name: "check",
         about: "Reads a bid file and prints how many goods, bids and dummy goods it has",
         arguments: &[("FILE", FILE)],
         after: CHECK,
-    },
+    }
+}
+
+fn show_help<'a>() -> CommandHelp<'a> {
     CommandHelp {
         name: "show",
         about: "Prints a bid file in its one layout, with its bids in order of number",
         arguments: &[("FILE", FILE)],
         after: SHOW,
-    },
+    }
+}
+
+fn value_help<'a>() -> CommandHelp<'a> {
     CommandHelp {
         name: "value",
         about: "Prints what the bidders of a bid file offer for a bundle of goods",
@@ -72,7 +97,10 @@ pub static HELP: [CommandHelp<'static>; 11] = [
             ("GOOD", "The goods of the bundle"),
         ],
         after: VALUE,
-    },
+    }
+}
+
+fn normalise_help<'a>() -> CommandHelp<'a> {
     CommandHelp {
         name: "normalise",
         about: "Prints the one canonical text of a bid file's auction",
@@ -83,7 +111,10 @@ pub static HELP: [CommandHelp<'static>; 11] = [
             ("FILE", FILE),
         ],
         after: NORMALISE,
-    },
+    }
+}
+
+fn explain_help<'a>() -> CommandHelp<'a> {
     CommandHelp {
         name: "explain",
         about: "Prints why each bid of a bid file is in the canonical text, or is dropped",
@@ -93,7 +124,10 @@ pub static HELP: [CommandHelp<'static>; 11] = [
             ("FILE", FILE),
         ],
         after: EXPLAIN,
-    },
+    }
+}
+
+fn round_help<'a>() -> CommandHelp<'a> {
     CommandHelp {
         name: "round",
         about: "Prints a bid file with its prices rounded to millionths, and reports which changed",
@@ -102,7 +136,10 @@ pub static HELP: [CommandHelp<'static>; 11] = [
             ("FILE", FILE),
         ],
         after: ROUND,
-    },
+    }
+}
+
+fn compare_help<'a>() -> CommandHelp<'a> {
     CommandHelp {
         name: "compare",
         about: "Prints whether two bid files are the same auction, or where they first differ",
@@ -114,7 +151,10 @@ pub static HELP: [CommandHelp<'static>; 11] = [
             ("SECOND_FILE", FILE),
         ],
         after: COMPARE,
-    },
+    }
+}
+
+fn diff_help<'a>() -> CommandHelp<'a> {
     CommandHelp {
         name: "diff",
         about: "Prints all differences of two bid files' auctions",
@@ -125,20 +165,26 @@ pub static HELP: [CommandHelp<'static>; 11] = [
             ("SECOND_FILE", FILE),
         ],
         after: DIFF,
-    },
+    }
+}
+
+fn duplicates_help<'a>() -> CommandHelp<'a> {
     CommandHelp {
         name: "duplicates",
         about: "Prints which of many bid files are the same auction",
         arguments: MANY,
         after: DUPLICATES,
-    },
+    }
+}
+
+fn sizes_help<'a>() -> CommandHelp<'a> {
     CommandHelp {
         name: "sizes",
         about: "Prints a table of the numbers of bid files and of their canonical files",
         arguments: MANY,
         after: SIZES,
-    },
-];
+    }
+}
 
 const CATS: &str = "\
 A fault is one line on standard error. Statuses:

@@ -1,7 +1,8 @@
 //! What no clause says of command lines. It is the files, goods and limits that they name, and what `clap` prints.
 
-use crate::help::HELP;
+use crate::help::all_help;
 use command_line::{CommandHelp, Misuse, NoRequest, Request, VERSION, parse};
+use std::alloc::Global;
 use std::process::Abort;
 use std::test::Fail;
 
@@ -152,20 +153,31 @@ fn has_texts(help: &str, command: &CommandHelp<'_>) -> bool {
     help.contains(command.about) && help.contains(command.after)
 }
 
+/// Whether a line prints help with all texts of a command.
+fn prints_texts(
+    alloc: Global,
+    help: &[CommandHelp<'_>],
+    command: &CommandHelp<'_>,
+    words: &[&str],
+) -> bool {
+    let text = parse(alloc, VERSION, help, words);
+    matches!(&text, Err(NoRequest::Help(text)) if has_texts(text, command))
+}
+
+/// Whether the help of each of these commands has all of its texts.
+fn all_print_texts(alloc: Global, help: &[CommandHelp<'_>]) -> bool {
+    help.iter().all(|command| {
+        if command.name == "cats" {
+            prints_texts(alloc, help, command, &["cats", "--help"])
+        } else {
+            prints_texts(alloc, help, command, &["cats", command.name, "--help"])
+        }
+    })
+}
+
 #[test]
 fn help_texts(rt: HostRuntime) {
-    for command in &HELP {
-        let of_program = ["cats", "--help"];
-        let of_subcommand = ["cats", command.name, "--help"];
-        let words = if command.name == "cats" {
-            of_program.as_slice()
-        } else {
-            of_subcommand.as_slice()
-        };
-        let help = parse(rt.alloc(), VERSION, &HELP, words);
-        let has_all = matches!(&help, Err(NoRequest::Help(text)) if has_texts(text, command));
-        assert!(rt; has_all, "{help:?}");
-    }
+    assert!(rt; all_print_texts(rt.alloc(), &all_help()));
 }
 
 /// Command lines that are no request.

@@ -7,7 +7,7 @@ ghost use Rattle.cats_cmd.specs.declared.source.Unopened.{Unopened};
 ghost use Rattle.cats_cmd.specs.declared.source.Unopened.TheVariants.{NoSuchFile};
 
 use super::streams::{RunAnswer, expect, text_taken, writer};
-use crate::help::HELP;
+use crate::help::all_help;
 use crate::version::version_text;
 use cats_cmd::{Process, Source, Unopened, run_program};
 use std::alloc::{Alloc, AllocGlobal, Global};
@@ -386,6 +386,7 @@ fn judge_rows(
 ) -> Result<(), Fail> {
     let alloc = rt.alloc();
     let version = version_text(alloc)?;
+    let help = all_help();
     let mut source = FilesInMemory {
         files: &FILES,
         refused: &REFUSED,
@@ -397,7 +398,7 @@ fn judge_rows(
         let mut err = writer(alloc, 4096, 4096);
         let process = Process {
             version: version.as_str(),
-            help: &HELP,
+            help: &help,
             terminal,
         };
         let status_answered = run_program(&mut source, words, &mut out, &mut err, &process);
