@@ -1,0 +1,4 @@
+goods 1
+bids 1
+dummy 0
+0	0.000001	0	#

@@ -1,0 +1,3 @@
+goods 3
+bids 0
+dummy 0

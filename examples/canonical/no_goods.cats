@@ -1,0 +1,3 @@
+goods 0
+bids 0
+dummy 2
