@@ -6,7 +6,6 @@ use cats_calls::{
     normalise, round_text,
 };
 use rounding::FinePrices;
-use std::alloc::Global;
 use std::process::Abort;
 use std::test::Fail;
 
@@ -34,16 +33,10 @@ static CROSSING: &[u8] =
 const STEPS: u64 = 1_000;
 
 /// What a call gives.
-fn expect(
-    rt: &impl Abort,
-    alloc: Global,
-    answer: &Result<Answer, RunFault>,
-    status: u8,
-    text: &[u8],
-) {
+fn expect(rt: &impl Abort, answer: &Result<Answer, RunFault>, status: u8, text: &[u8]) {
     let mut buffer = [0; 64];
     let mut needed = 0;
-    let given = give(alloc, answer, &mut buffer, &mut needed);
+    let given = give(answer, &mut buffer, &mut needed);
     assert_eq!(rt; given, status);
     assert_eq!(rt; needed, text.len());
     assert!(rt; buffer.starts_with(text));
@@ -54,31 +47,12 @@ fn one_text(rt: HostRuntime) -> Result<(), Fail> {
     let alloc = rt.alloc();
     let refused = b"line 4: GoodRange\n";
     let reasons = b"0\tkeep\t0\n1\tkeep\t1\n2\tpacking\t0\t1\n";
+    expect(&rt, &check(alloc, SINGLES), 0, b"goods 2 bids 2 dummy 0\n");
+    expect(&rt, &check(alloc, BEYOND), 2, refused);
+    expect(&rt, &normalise(alloc, PAIR_AT_7, STEPS, None), 0, SINGLES);
+    expect(&rt, &normalise(alloc, BEYOND, STEPS, None), 2, refused);
     expect(
         &rt,
-        alloc,
-        &check(alloc, SINGLES),
-        0,
-        b"goods 2 bids 2 dummy 0\n",
-    );
-    expect(&rt, alloc, &check(alloc, BEYOND), 2, refused);
-    expect(
-        &rt,
-        alloc,
-        &normalise(alloc, PAIR_AT_7, STEPS, None),
-        0,
-        SINGLES,
-    );
-    expect(
-        &rt,
-        alloc,
-        &normalise(alloc, BEYOND, STEPS, None),
-        2,
-        refused,
-    );
-    expect(
-        &rt,
-        alloc,
         &explain_text(alloc, PAIR_AT_7, STEPS, None),
         0,
         reasons,
@@ -91,35 +65,11 @@ fn limits_of_steps(rt: HostRuntime) -> Result<(), Fail> {
     let alloc = rt.alloc();
     let over = b"step limit at 0,1,2\n";
     let reasons = b"0\tkeep\t0\n1\tkeep\t1\n2\tkeep\t2\n";
-    expect(
-        &rt,
-        alloc,
-        &normalise(alloc, CROSSING, 1, None),
-        0,
-        CROSSING,
-    );
-    expect(
-        &rt,
-        alloc,
-        &normalise(alloc, CROSSING, 1, Some(3)),
-        0,
-        CROSSING,
-    );
-    expect(&rt, alloc, &normalise(alloc, CROSSING, 1, Some(2)), 3, over);
-    expect(
-        &rt,
-        alloc,
-        &explain_text(alloc, CROSSING, 1, Some(3)),
-        0,
-        reasons,
-    );
-    expect(
-        &rt,
-        alloc,
-        &explain_text(alloc, CROSSING, 1, Some(2)),
-        3,
-        over,
-    );
+    expect(&rt, &normalise(alloc, CROSSING, 1, None), 0, CROSSING);
+    expect(&rt, &normalise(alloc, CROSSING, 1, Some(3)), 0, CROSSING);
+    expect(&rt, &normalise(alloc, CROSSING, 1, Some(2)), 3, over);
+    expect(&rt, &explain_text(alloc, CROSSING, 1, Some(3)), 0, reasons);
+    expect(&rt, &explain_text(alloc, CROSSING, 1, Some(2)), 3, over);
     Ok(())
 }
 
@@ -129,32 +79,13 @@ fn limits_of_two(rt: HostRuntime) -> Result<(), Fail> {
     let over = b"second: step limit at 0,1,2\n";
     expect(
         &rt,
-        alloc,
         &compare(alloc, CROSSING, CROSSING, 1, Some(3)),
         0,
         b"same\n",
     );
-    expect(
-        &rt,
-        alloc,
-        &compare(alloc, SINGLES, CROSSING, 1, Some(2)),
-        3,
-        over,
-    );
-    expect(
-        &rt,
-        alloc,
-        &diff(alloc, CROSSING, CROSSING, 1, Some(3)),
-        0,
-        b"",
-    );
-    expect(
-        &rt,
-        alloc,
-        &diff(alloc, SINGLES, CROSSING, 1, Some(2)),
-        3,
-        over,
-    );
+    expect(&rt, &compare(alloc, SINGLES, CROSSING, 1, Some(2)), 3, over);
+    expect(&rt, &diff(alloc, CROSSING, CROSSING, 1, Some(3)), 0, b"");
+    expect(&rt, &diff(alloc, SINGLES, CROSSING, 1, Some(2)), 3, over);
     Ok(())
 }
 
@@ -165,21 +96,18 @@ fn first_differences(rt: HostRuntime) -> Result<(), Fail> {
     let refused = b"second: line 4: GoodRange\n";
     expect(
         &rt,
-        alloc,
         &compare(alloc, SINGLES, PAIR_AT_7, STEPS, None),
         0,
         b"same\n",
     );
     expect(
         &rt,
-        alloc,
         &compare(alloc, SINGLES, PAIR_AT_8, STEPS, None),
         1,
         different,
     );
     expect(
         &rt,
-        alloc,
         &compare(alloc, SINGLES, BEYOND, STEPS, None),
         2,
         refused,
@@ -191,27 +119,14 @@ fn first_differences(rt: HostRuntime) -> Result<(), Fail> {
 fn all_differences(rt: HostRuntime) -> Result<(), Fail> {
     let alloc = rt.alloc();
     let refused = b"first: line 4: GoodRange\n";
+    expect(&rt, &diff(alloc, SINGLES, PAIR_AT_7, STEPS, None), 0, b"");
     expect(
         &rt,
-        alloc,
-        &diff(alloc, SINGLES, PAIR_AT_7, STEPS, None),
-        0,
-        b"",
-    );
-    expect(
-        &rt,
-        alloc,
         &diff(alloc, SINGLES, PAIR_AT_8, STEPS, None),
         1,
         b"or\t0,1\t-\t8\n",
     );
-    expect(
-        &rt,
-        alloc,
-        &diff(alloc, BEYOND, BEYOND, STEPS, None),
-        2,
-        refused,
-    );
+    expect(&rt, &diff(alloc, BEYOND, BEYOND, STEPS, None), 2, refused);
     Ok(())
 }
 
@@ -222,10 +137,7 @@ fn rounded_text(rt: HostRuntime) -> Result<(), Fail> {
     let mut report = [0; 64];
     let mut needed = 0;
     let mut report_needed = 0;
-    assert_eq!(rt;
-        give_rounded(rt.alloc(), &rounded, &mut out, &mut needed),
-        0
-    );
+    assert_eq!(rt; give_rounded(&rounded, &mut out, &mut needed), 0);
     assert_eq!(rt; give_report(&rounded, &mut report, &mut report_needed), 0);
     assert!(rt; out.starts_with(b"goods 1\nbids 1\ndummy 0\n0 0.012346 0 #\n"));
     assert_eq!(rt; needed, 38);
@@ -239,15 +151,16 @@ fn buffers(rt: HostRuntime) -> Result<(), Fail> {
     let answer = compare(rt.alloc(), SINGLES, SINGLES, STEPS, None);
     let mut needed = 0;
     let mut short = *b"....";
-    assert_eq!(rt;
-        give(rt.alloc(), &answer, &mut short, &mut needed),
-        TOO_SMALL
-    );
+    assert_eq!(rt; give(&answer, &mut short, &mut needed), TOO_SMALL);
     assert_eq!(rt; needed, 5);
     assert!(rt; short == *b"....");
     let mut enough = *b".....";
-    assert_eq!(rt; give(rt.alloc(), &answer, &mut enough, &mut needed), 0);
+    assert_eq!(rt; give(&answer, &mut enough, &mut needed), 0);
     assert_eq!(rt; needed, 5);
     assert!(rt; enough == *b"same\n");
+    let refused = check(rt.alloc(), BEYOND);
+    assert_eq!(rt; give(&refused, &mut short, &mut needed), TOO_SMALL);
+    assert_eq!(rt; needed, 18);
+    assert!(rt; short == *b"....");
     Ok(())
 }

@@ -30,7 +30,7 @@ const NO_TOTAL: u64 = 0;
 pub extern "C" fn cats_check(alloc: Global, text: &[u8], out: &mut [u8], needed: &mut usize) -> u8
     ensures { Calls (ChecksText text.now) (OfOnly (IsUnread text.now)) out.old out.new needed.new result }
 {
-    give(alloc, &check(alloc, text), out, needed)
+    give(&check(alloc, text), out, needed)
 }
 
 /// `cats normalise`: the canonical text of the file's auction.
@@ -47,7 +47,7 @@ pub extern "C" fn cats_normalise(
         Calls (NormalisesText options text.now) (OfOnly (IsUnmade options text.now)) out.old out.new needed.new result }
 {
     let answer = normalise(alloc, text, steps, total_of(total));
-    give(alloc, &answer, out, needed)
+    give(&answer, out, needed)
 }
 
 /// `cats explain`: why each bid of the file is in its canonical file, or is not.
@@ -64,7 +64,7 @@ pub extern "C" fn cats_explain(
         Calls (ExplainsText options text.now) (OfOnly (IsUnmade options text.now)) out.old out.new needed.new result }
 {
     let answer = explain_text(alloc, text, steps, total_of(total));
-    give(alloc, &answer, out, needed)
+    give(&answer, out, needed)
 }
 
 /// `cats compare`: whether two files are the same auction, or else their first difference. C fixes the parameters.
@@ -83,7 +83,7 @@ pub extern "C" fn cats_compare(
         out.old out.new needed.new result }
 {
     let answer = compare(alloc, left, right, steps, total_of(total));
-    give(alloc, &answer, out, needed)
+    give(&answer, out, needed)
 }
 
 /// `cats diff`: all differences of two files.
@@ -101,7 +101,7 @@ pub extern "C" fn cats_diff(
         Calls (DiffsTexts options left.now right.now) (OfTwo options left.now right.now) out.old out.new needed.new result }
 {
     let answer = diff(alloc, left, right, steps, total_of(total));
-    give(alloc, &answer, out, needed)
+    give(&answer, out, needed)
 }
 
 /// `cats round`: the text with every price made valid, and a line for each price whose value changed. A price that is finer
@@ -122,7 +122,7 @@ pub extern "C" fn cats_round(
 {
     let rounded = round_as(alloc, text, exact);
     let reported = give_report(&rounded, report, report_needed);
-    let given = give_rounded(alloc, &rounded, out, needed);
+    let given = give_rounded(&rounded, out, needed);
     whole_status(given, reported)
 }
 

@@ -2,6 +2,7 @@
 use Rattle.std.proofs.Common.{◌≡◌, ℕ, inl, inr, List, [], Result, Ok, Err, refl}
 use Rattle.canon.specs.declared.canon_fault.CanonFault.{CanonFault}
 use Rattle.canon.specs.declared.which.Which.{Which}
+use Rattle.answers.specs.FaultLines.{line_of_fault}
 use Rattle.answers.specs.Statuses.{status_of_fault}
 use Rattle.answers.specs.declared.report.RunFault.{RunFault}
 use Rattle.answers.specs.declared.report.RunFault.TheVariants.{Refused, GoodRange, Sent}
@@ -16,12 +17,11 @@ module _ (Says : ℕ → List ℕ → Type 0) (Refuses : Which → CanonFault �
   pub given_call : (r : Result Answer RunFault) → Answers Says Refuses r → (old new : List ℕ) (needed answer : ℕ) → Gives r old new needed answer
       → Calls Says Refuses old new needed answer
   given_call (Ok a) is old new needed answer g =
-      record { status = a.status; text = a.text.items; is = inl is; is_needed = g.is_needed; puts = g.puts }
+      record { status = a.status; text = a.text.items; is = inl (is, g.is_needed); puts = g.puts }
   given_call (Err (Refused which fault)) is old new needed answer g = record {
     status = status_of_fault (Refused which fault);
-    text = g.text;
-    is = inr (record { which = which; fault = fault; refused = is; is_status = refl; is_line = g.is });
-    is_needed = g.is_needed;
+    text = line_of_fault (Refused which fault);
+    is = inr (record { which = which; fault = fault; refused = is; is_status = refl; is_line = refl; is_needed = g.is_needed });
     puts = g.puts;
   }
   given_call (Err (GoodRange good)) is old new needed answer g = absurd is
@@ -37,8 +37,7 @@ module _ (fine : FinePrices) (bytes : List ℕ) where
     status = 0;
     text = a.text.items;
     report = a.report.items;
-    is = inl (refl, is);
-    is_needed = g.is_needed;
+    is = inl (refl, is, g.is_needed);
     is_report_needed = r.is_needed;
     given = given;
     puts = g.puts;
@@ -48,10 +47,9 @@ module _ (fine : FinePrices) (bytes : List ℕ) where
   }
   given_rounding (Err (Refused which fault)) is old new needed given g report_old report_new report_needed reported r answer whole = record {
     status = status_of_fault (Refused which fault);
-    text = g.text;
+    text = line_of_fault (Refused which fault);
     report = [];
-    is = inr (record { which = which; fault = fault; refused = is; is_status = refl; is_line = g.is }, refl);
-    is_needed = g.is_needed;
+    is = inr (record { which = which; fault = fault; refused = is; is_status = refl; is_line = refl; is_needed = g.is_needed }, refl);
     is_report_needed = r.is_needed;
     given = given;
     puts = g.puts;

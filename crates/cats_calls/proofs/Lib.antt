@@ -3,3 +3,4 @@ pub mod Refusing
 pub mod TwoTexts
 pub mod Given
 pub mod SmallTexts
+pub mod Putting

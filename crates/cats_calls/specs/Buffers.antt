@@ -1,5 +1,5 @@
 -- What a call puts into its caller's buffer.
-use Rattle.std.specs.Prelude.{◌≡◌, ◌⊎◌, ◌≤◌, ◌<◌, ℕ, List, ◌++◌, length, drop, Result, Ok, Err, codes}
+use Rattle.std.specs.Prelude.{◌≡◌, ◌⊎◌, ◌≤◌, ◌<◌, ℕ, min, List, ◌++◌, length, drop, Result, Ok, Err}
 use Rattle.canon.specs.declared.canon_fault.CanonFault.{CanonFault}
 use Rattle.canon.specs.declared.which.Which.{Which}
 use Rattle.answers.specs.FaultLines.{line_of_fault}
@@ -16,16 +16,14 @@ pub record PutsInto (status : ℕ) (text old new : List ℕ) (answer : ℕ) : Ty
   pub fits : length text ≤ length old → (answer ≡ status) × (new ≡ text ++ drop (length text) old)
   pub small : length old < length text → (answer ≡ TOO_SMALL) × (new ≡ old)
 
--- what is given of a fault: its line, or `want of memory` instead of that line
-abbrev pub IsLineFor : RunFault → List ℕ → Type 0
-IsLineFor fault text = (text ≡ line_of_fault fault) ⊎ (text ≡ codes "want of memory\n")
+-- the length of a line as `needed` has it: 2 ^ 64 - 1 if the line is longer
+abbrev pub counted : List ℕ → ℕ
+counted line = min (length line) 18446744073709551615
 
--- a fault is given with its status
+-- the line of a fault is given with its status
 pub record GivesFault (fault : RunFault) (old new : List ℕ) (needed answer : ℕ) : Type 0 where
-  pub text : List ℕ
-  pub is : IsLineFor fault text
-  pub is_needed : needed ≡ length text
-  pub puts : PutsInto (status_of_fault fault) text old new answer
+  pub is_needed : needed ≡ counted (line_of_fault fault)
+  pub puts : PutsInto (status_of_fault fault) (line_of_fault fault) old new answer
 
 -- a text is given with its status
 pub record GivesText (status : ℕ) (text old new : List ℕ) (needed answer : ℕ) : Type 0 where
@@ -39,22 +37,21 @@ Gives (Err fault) old new needed answer = GivesFault fault old new needed answer
 
 -- ---- a call
 
--- a text is refused, and the fault is given with its status
-pub record RefusesBy (Refuses : Which → CanonFault → Type 0) (status : ℕ) (text : List ℕ) : Type 0 where
+-- a text is refused, and the line of the fault is given with its status
+pub record RefusesBy (Refuses : Which → CanonFault → Type 0) (status : ℕ) (text : List ℕ) (needed : ℕ) : Type 0 where
   pub which : Which
   pub fault : CanonFault
   pub refused : Refuses which fault
   pub is_status : status ≡ status_of_fault (Refused which fault)
-  pub is_line : IsLineFor (Refused which fault) text
+  pub is_line : text ≡ line_of_fault (Refused which fault)
+  pub is_needed : needed ≡ counted text
 
 -- What a call does with its buffer. `Says` is of the status and of the text, and `Refuses` of which text is refused and
--- of the
--- fault.
+-- of the fault.
 pub record Calls (Says : ℕ → List ℕ → Type 0) (Refuses : Which → CanonFault → Type 0) (old new : List ℕ)
     (needed answer : ℕ)
     : Type 0 where
   pub status : ℕ
   pub text : List ℕ
-  pub is : Says status text ⊎ RefusesBy Refuses status text
-  pub is_needed : needed ≡ length text
+  pub is : (Says status text × (needed ≡ length text)) ⊎ RefusesBy Refuses status text needed
   pub puts : PutsInto status text old new answer

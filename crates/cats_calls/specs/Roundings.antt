@@ -71,9 +71,8 @@ pub record RoundCalls (fine : FinePrices) (bytes old new : List ℕ) (needed : �
   pub status : ℕ
   pub text : List ℕ
   pub report : List ℕ
-  pub is : ((status ≡ 0) × RoundsText fine bytes text report)
-      ⊎ (RefusesBy (OfOnly (IsUnrounded fine bytes)) status text × (report ≡ []))
-  pub is_needed : needed ≡ length text
+  pub is : ((status ≡ 0) × RoundsText fine bytes text report × (needed ≡ length text))
+      ⊎ (RefusesBy (OfOnly (IsUnrounded fine bytes)) status text needed × (report ≡ []))
   pub is_report_needed : report_needed ≡ length report
   pub given : ℕ
   pub puts : PutsInto status text old new given

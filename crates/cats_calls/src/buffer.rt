@@ -4,39 +4,35 @@ ghost use Rattle.std.specs.Prelude.{◌≡◌, length};
 ghost use Rattle.cats_calls.specs.Buffers.{Gives, GivesFault, PutsInto};
 
 use crate::answer::Answer;
-use answers::{RunFault, fault_line, status};
-use std::alloc::{AllocError, Global};
+use crate::pieces::put_pieces;
+use answers::{RunFault, fault_pieces, status};
 
 /// The buffer is too small.
 pub const TOO_SMALL: u8 = 6;
 
-/// What is given in the place of a line for which memory is refused.
-const WANT_OF_MEMORY: &[u8] = b"want of memory\n";
-
 /// Puts what a call answers into a buffer, or the line of its fault, and answers the status. `needed` becomes the length of
 /// that text, whether it fits or not.
-pub fn give(
-    alloc: Global,
-    answer: &Result<Answer, RunFault>,
-    out: &mut [u8],
-    needed: &mut usize,
-) -> u8
+pub fn give(answer: &Result<Answer, RunFault>, out: &mut [u8], needed: &mut usize) -> u8
     ensures { Gives answer.now out.old out.new needed.new result }
 {
     match answer {
         Ok(answer) => put(answer.status, answer.text.as_slice(), out, needed),
-        Err(fault) => give_fault(alloc, fault, out, needed),
+        Err(fault) => give_fault(fault, out, needed),
     }
 }
 
-/// Puts the line of a fault into a buffer, and answers its status.
-pub(crate) fn give_fault(alloc: Global, fault: &RunFault, out: &mut [u8], needed: &mut usize) -> u8
+/// Puts the line of a fault into a buffer, and answers its status. Into a buffer of no bytes the line is only counted.
+pub(crate) fn give_fault(fault: &RunFault, out: &mut [u8], needed: &mut usize) -> u8
     ensures { GivesFault fault.now out.old out.new needed.new result }
 {
-    match fault_line(alloc, fault) {
-        Ok(line) => put(status(fault), line.as_slice(), out, needed),
-        Err(AllocError) => put(status(fault), WANT_OF_MEMORY, out, needed),
+    let pieces = fault_pieces(fault);
+    let length = put_pieces(&pieces, &mut [], 0);
+    *needed = length;
+    if length > out.len() {
+        return TOO_SMALL;
     }
+    put_pieces(&pieces, out, 0);
+    status(fault)
 }
 
 /// Puts a text into a buffer, and answers the status; or `TOO_SMALL` if the text does not fit.

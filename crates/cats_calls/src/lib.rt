@@ -5,6 +5,7 @@ mod answer;
 mod buffer;
 pub mod laws;
 mod one_text;
+mod pieces;
 mod reading;
 mod rounded_text;
 mod two_texts;

@@ -50,7 +50,6 @@ fn round_bytes(alloc: Global, text: &[u8], fine: FinePrices) -> Result<RoundedTe
 
 /// Puts a rounded text into a buffer, or the line of the fault, and answers the status, as `give` does.
 pub fn give_rounded(
-    alloc: Global,
     answer: &Result<RoundAnswer, RunFault>,
     out: &mut [u8],
     needed: &mut usize,
@@ -59,7 +58,7 @@ pub fn give_rounded(
 {
     match answer {
         Ok(answer) => put(DONE, answer.text.as_slice(), out, needed),
-        Err(fault) => give_fault(alloc, fault, out, needed),
+        Err(fault) => give_fault(fault, out, needed),
     }
 }
 

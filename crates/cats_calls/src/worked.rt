@@ -159,8 +159,9 @@ pub fn answers_given()
     ensures report_of_refused { GivesReport (Err (Refused Only Memory)) (codes ".") (codes ".") 0 0 }
     ensures fault { Gives (Err (Refused First (Read (fault_at 1 Header)))) (codes "........................")
         (codes "first: line 1: Header\n..") 22 2 }
-    ensures no_line { Gives (Err (Refused Only (Read (fault_at 1 Header)))) (codes "................")
-        (codes "want of memory\n.") 15 2 }
+    ensures fault_too_small { Gives (Err (Refused First (Read (fault_at 1 Header)))) (codes "....") (codes "....") 22 6 }
+    ensures memory_as_fault { Gives (Err (Refused Only (Read (fault_at 1 Header)))) (codes "................")
+        (codes "want of memory\n.") 15 2 → ⊥ }
     ensures memory { Gives (Err (Refused Only Memory)) (codes "................") (codes "want of memory\n.") 15 4 }
     ensures memory_as_text { Gives (Err (Refused Only Memory)) (codes "................") (codes "want of memory\n.") 15 0
         → ⊥ }

@@ -49,17 +49,17 @@ module _ (P : ℕ → Type 0) (zero : P 0) (two : P 2) (four : P 4) (six : P 6) 
       (le_or_lt (length text) (length old))
 
   refused_by : (Refuses : Which → CanonFault → Type 0) → ((which : Which) (fault : CanonFault) → Refuses which fault → P (status_of_canon_fault fault))
-      → (status : ℕ) (text : List ℕ) → RefusesBy Refuses status text → P status
-  refused_by Refuses refused status text r = subst P (sym r.is_status) (refused r.which r.fault r.refused)
+      → (status : ℕ) (text : List ℕ) (needed : ℕ) → RefusesBy Refuses status text needed → P status
+  refused_by Refuses refused status text needed r = subst P (sym r.is_status) (refused r.which r.fault r.refused)
 
   called : (Says : ℕ → List ℕ → Type 0) (Refuses : Which → CanonFault → Type 0) → ((status : ℕ) (text : List ℕ) → Says status text → P status)
       → ((which : Which) (fault : CanonFault) → Refuses which fault → P (status_of_canon_fault fault))
       → (old new : List ℕ) (needed status : ℕ) → Calls Says Refuses old new needed status → P status
   called Says Refuses said refused old new needed status c = put c.status c.text old new status (by c.is) c.puts
     where
-      by : Says c.status c.text ⊎ RefusesBy Refuses c.status c.text → P c.status
-      by (inl says) = said c.status c.text says
-      by (inr r) = refused_by Refuses refused c.status c.text r
+      by : (Says c.status c.text × (needed ≡ length c.text)) ⊎ RefusesBy Refuses c.status c.text needed → P c.status
+      by (inl says) = said c.status c.text says.0
+      by (inr r) = refused_by Refuses refused c.status c.text needed r
 
   of_only : (Refuses : CanonFault → Type 0) → ((fault : CanonFault) → Refuses fault → P (status_of_canon_fault fault))
       → (which : Which) (fault : CanonFault) → OfOnly Refuses which fault → P (status_of_canon_fault fault)
@@ -123,10 +123,10 @@ module _ (P : ℕ → Type 0) (zero : P 0) (two : P 2) (four : P 4) (six : P 6) 
     rounded old new report_old report_new needed report_needed status c =
         subst P (sym c.is_answer) (by_test (c.reported == TOO_SMALL) TOO_SMALL c.given six (put c.status c.text old new c.given (by c.is) c.puts))
       where
-        by : ((c.status ≡ 0) × RoundsText fine text c.text c.report) ⊎ (RefusesBy (OfOnly (IsUnrounded fine text)) c.status c.text × (c.report ≡ []))
-            → P c.status
+        by : ((c.status ≡ 0) × RoundsText fine text c.text c.report × (needed ≡ length c.text))
+            ⊎ (RefusesBy (OfOnly (IsUnrounded fine text)) c.status c.text needed × (c.report ≡ [])) → P c.status
         by (inl rounds) = of_zero c.status rounds.0
-        by (inr r) = refused_by (OfOnly (IsUnrounded fine text)) (of_only (IsUnrounded fine text) unrounded) c.status c.text r.0
+        by (inr r) = refused_by (OfOnly (IsUnrounded fine text)) (of_only (IsUnrounded fine text) unrounded) c.status c.text needed r.0
 
 -- ---- the clauses
 

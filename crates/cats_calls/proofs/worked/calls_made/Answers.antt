@@ -13,9 +13,11 @@ returns-clause-text c =
     record {
       status = 0;
       text = codes "goods 2 bids 1 dummy 0\n";
-      is = inl (checks (codes "goods 2\nbids 1\ndummy 0\n0 3 0 #\n")
-          (codes "goods 2 bids 1 dummy 0\n") refl refl);
-      is_needed = refl;
+      is = inl (
+        checks (codes "goods 2\nbids 1\ndummy 0\n0 3 0 #\n")
+            (codes "goods 2 bids 1 dummy 0\n") refl refl,
+        refl,
+      );
       puts = puts_whole 0 (codes "goods 2 bids 1 dummy 0\n")
           (codes "........................") refl;
     }
@@ -26,9 +28,11 @@ returns-clause-too_small c =
     record {
       status = 0;
       text = codes "goods 2 bids 1 dummy 0\n";
-      is = inl (checks (codes "goods 2\nbids 1\ndummy 0\n0 3 0 #\n")
-          (codes "goods 2 bids 1 dummy 0\n") refl refl);
-      is_needed = refl;
+      is = inl (
+        checks (codes "goods 2\nbids 1\ndummy 0\n0 3 0 #\n")
+            (codes "goods 2 bids 1 dummy 0\n") refl refl,
+        refl,
+      );
       puts = puts_none 0 (codes "goods 2 bids 1 dummy 0\n") (codes "....") refl;
     }
 
@@ -44,9 +48,9 @@ returns-clause-fault c =
         refused = refl;
         is_status =
             refl;
-        is_line = inl refl;
+        is_line = refl;
+        is_needed = refl;
       });
-      is_needed = refl;
       puts = puts_whole 2 (codes "line 1: Header\n") (codes "................") refl;
     }
 
@@ -62,8 +66,8 @@ returns-clause-memory c =
         refused = inl refl;
         is_status = refl;
         is_line =
-            inr refl;
+            refl;
+        is_needed = refl;
       });
-      is_needed = refl;
       puts = puts_whole 4 (codes "want of memory\n") (codes "................") refl;
     }

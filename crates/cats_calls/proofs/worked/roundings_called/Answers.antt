@@ -25,8 +25,8 @@ returns-clause-both c =
           is_text = refl;
           is_report = refl;
         },
+        refl,
       );
-      is_needed = refl;
       is_report_needed = refl;
       given = 0;
       puts = puts_whole 0 (codes "goods 1\nbids 1\ndummy 0\n0 1 0 #\n") (codes ".................................") refl;
@@ -51,8 +51,8 @@ returns-clause-report_too_small c =
           is_text = refl;
           is_report = refl;
         },
+        refl,
       );
-      is_needed = refl;
       is_report_needed = refl;
       given = 0;
       puts = puts_whole 0 (codes "goods 1\nbids 1\ndummy 0\n0 0 0 #\n") (codes ".................................") refl;
@@ -68,8 +68,7 @@ returns-clause-refused c =
       status = 2;
       text = codes "line 4: TooFine\n";
       report = [];
-      is = inr (record { which = Only; fault = Read (fault_at 4 TooFine); refused = inr refl; is_status = refl; is_line = inl refl }, refl);
-      is_needed = refl;
+      is = inr (record { which = Only; fault = Read (fault_at 4 TooFine); refused = inr refl; is_status = refl; is_line = refl; is_needed = refl }, refl);
       is_report_needed = refl;
       given = 2;
       puts = puts_whole 2 (codes "line 4: TooFine\n") (codes "................") refl;

@@ -1,0 +1,18 @@
+use Rattle.std.proofs.Common.{◌≡◌, ◌+◌, length, min, subst, arith}
+use Rattle.answers.specs.FaultLines.{line_of_fault}
+use Rattle.cats_calls.specs.Buffers.{PutsInto}
+use Rattle.cats_calls.specs.Internal.Putting.{PutsFrom}
+use Rattle.cats_calls.proofs.Putting.{puts_into}
+use Rattle.cats_calls.proofs.buffer.give_fault.Goals as goal
+
+pub returns : goal.returns
+returns c =
+    let line = line_of_fault c.args.fault.now in
+    let is = c.fault_pieces-pieces.ensures in
+    let counted = subst (λ t. c.put_pieces-length.result ≡ min (0 + length t) 18446744073709551615) is c.put_pieces-length.ensures.is_end in
+    let put = subst (λ t. PutsFrom 0 t c.args.out.now c.put_pieces.new.out c.put_pieces.result) is c.put_pieces.ensures in
+    record {
+      is_needed = omega (arith, counted);
+      puts = subst (λ status. PutsInto status line c.args.out.now c.put_pieces.new.out c.status.result) c.status.ensures
+          (puts_into c.status.result line c.args.out.now c.put_pieces.new.out c.put_pieces.result (omega (arith, counted, c.if-length-out.false)) put);
+    }
