@@ -375,14 +375,10 @@ def check_sizes(cases):
 
 
 def lacks_memory(one, answer):
-    """Whether a call answers that memory was refused: as the whole call, or for the line of a fault or on a changed price."""
-    want = b"want of memory\n"
+    """Whether a call answers that memory was refused. No line of a fault or of a changed price is replaced."""
     prefixes = (b"", b"first: ", b"second: ") if one.call.texts == 2 else (b"",)
-    if answer.status == cats.WANT_OF_MEMORY or (answer.status == one.own.status and answer.status > cats.DIFFERENT):
-        return answer.out in [prefix + want for prefix in prefixes] and answer.report == b""
-    lines, own = answer.report.splitlines(True), one.own.report.splitlines(True)
-    are_lines = len(lines) == len(own) and all(line in (want, its) for line, its in zip(lines, own))
-    return are_lines and want in lines and answer[:2] == one.own[:2]
+    lines = [prefix + b"want of memory\n" for prefix in prefixes]
+    return answer.status == cats.WANT_OF_MEMORY and answer.out in lines and answer.report == b""
 
 
 def check_refusals(cases):
