@@ -61,15 +61,18 @@ def is_whole_run_refused(answer):
 
 
 def memory(one, rest):
-    """Each allocation is refused, alone or with all that come after it: a file is reported and the others are judged, or the run ends."""
+    """Each allocation is refused, alone or with all that come after it: a file is reported and the others are judged, or the run ends. No line
+    needs memory: if all is refused, each file is reported."""
     refused = {reported(one, path, NO_MEMORY, WANT) for path in one.files}
+    if rest:
+        refused = {(NO_MEMORY, b"", b"".join(os.fsencode(path) + b": " + WANT for path in one.files))}
     whats, what = set(), f"{one}: allocation{' and all later' if rest else ''}"
     for number in count(1):
         answer = run(one.words(), call="allocation", number=number, rest=rest)
         if not answer.failures:
             break
         printed = answer.printed()
-        is_right = is_whole_run_refused(answer) or printed == one.own.printed() or (not rest and printed in refused)
+        is_right = is_whole_run_refused(answer) or printed == one.own.printed() or printed in refused
         TALLY.judge(is_right, f"{what} {number}", answer)
         whats.add(printed)
     TALLY.judge(answer.printed() == one.own.printed(), f"{what}: none", answer)
