@@ -1,4 +1,0 @@
-goods 1
-bids 1
-dummy 0
-0 5 0 #

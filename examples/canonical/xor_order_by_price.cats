@@ -1,5 +1,0 @@
-goods 1
-bids 2
-dummy 2
-0	4	0	1	#
-1	3	0	2	#
