@@ -4,7 +4,7 @@ use Rattle.std.proofs.lemmas.List.{take_all, take_more}
 use Rattle.std.proofs.lemmas.Bool.{cond-false, ne_eqb}
 use Rattle.cats_text.specs.Layout.{with_place, without_zeros}
 
--- one at the end goes
+-- one at the end is left out
 zero_last : (xs : List ℕ) → without_zeros (xs ++ 48 ∷ []) ≡ without_zeros xs
 zero_last [] = refl
 zero_last (x ∷ xs) = ap (with_place x) (zero_last xs)
