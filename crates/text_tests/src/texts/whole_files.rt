@@ -2,7 +2,9 @@
 
 use super::{assert_bytes, assert_written, sizes};
 use bid_file::{Bid, PackedBids, PackedFile};
-use cats_text::{MAX_STREAM, Reader, Watched, read, read_from, send, write};
+use cats_text::{
+    Kind, MAX_STREAM, ReadFault, Reader, Watched, check, read, read_from, send, write,
+};
 use std::alloc::Global;
 use std::process::Abort;
 use std::test::Fail;
@@ -104,6 +106,25 @@ fn sizes_of_accepted_texts(rt: HostRuntime) -> Result<(), Fail> {
         assert_eq!(rt; sizes(rt.alloc(), text), Ok(*want));
     }
     Ok(())
+}
+
+/// The numbers that the header lines of a text say, if all of it is a bid file.
+fn checked(alloc: Global, text: &[u8]) -> Result<(u16, usize, u32), ReadFault> {
+    let header = check(alloc, text)?;
+    Ok((header.goods, header.bids as usize, header.dummy))
+}
+
+#[test]
+fn whole_texts_are_checked(rt: HostRuntime) {
+    for (text, want) in &SIZES {
+        assert_eq!(rt; checked(rt.alloc(), text), Ok(*want));
+    }
+    let fault = ReadFault {
+        line: 4,
+        kind: Kind::GoodRange,
+    };
+    let text = b"goods 1\nbids 1\ndummy 0\n0 5 1 #\n";
+    assert_eq!(rt; checked(rt.alloc(), text), Err(fault));
 }
 
 /// The price, the goods and the dummy good of a bid.
