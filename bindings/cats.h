@@ -23,6 +23,12 @@
 #include <stddef.h>
 #include <stdint.h>
 
+// The version of this header.
+#define CATS_VERSION_MAJOR 0
+#define CATS_VERSION_MINOR 1
+#define CATS_VERSION_PATCH 0
+#define CATS_VERSION "0.1.0"
+
 #ifdef __cplusplus
 extern "C" {
 #endif
@@ -55,10 +61,10 @@ uint8_t cats_check(const uint8_t *text, size_t length, uint8_t *out, size_t size
 uint8_t cats_normalise(const uint8_t *text, size_t length, uint64_t steps, uint64_t total, uint8_t *out, size_t size, size_t *needed);
 #define CATS_NORMALISE_SIZE(length) ((size_t)(length) + (size_t)(length) / 2 + 64)
 
-// Reads a text and writes a line for each of its bids: its number, and why the canonical text has it or not.
+// Reads a text and writes a table, a header and a line for each of its bids: the bid, and why the canonical text has it or not.
 // Returns CATS_DONE, CATS_REFUSED, CATS_STEP_LIMIT, CATS_WANT_OF_MEMORY or CATS_BUFFER_TOO_SMALL.
 uint8_t cats_explain(const uint8_t *text, size_t length, uint64_t steps, uint64_t total, uint8_t *out, size_t size, size_t *needed);
-#define CATS_EXPLAIN_SIZE(length) (3 * (size_t)(length) + 64)
+#define CATS_EXPLAIN_SIZE(length) (4 * (size_t)(length) + 64)
 
 // Reads two texts and writes `same` and LF, or four lines: `different`, and where the two auctions first differ.
 // The line of a refused text begins with `first: ` or `second: `.

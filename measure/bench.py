@@ -290,8 +290,7 @@ def measure_library(folder, size, bids, goods, most):
     for name, call, process in (line.split() for line in printed.splitlines()):
         calls, processes = 1 / float(call), 1 / float(process)
         print(f"{f'library, {size}: {name}':50} {calls:8.0f} calls/s {processes:8.0f} processes/s", flush=True)
-        # `explain` also makes a tuple for each bid.
-        bound(f"library, {size}: {name}, a call, times a process", processes / calls, most * (4 if name == "explain" else 1))
+        bound(f"library, {size}: {name}, a call, times a process", processes / calls, most)
 
 
 def one_bidder(many):

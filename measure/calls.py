@@ -2,7 +2,7 @@
 
     calls.py PROGRAM LIBRARY FILE
 
-LIBRARY is the folder with cats.py and libcats.so. Prints a line for each call: its name, its seconds, and those of a process. Each is the
+LIBRARY is the folder with the package cats and libcats.so. Prints a line for each call: its name, its seconds, and those of a process. Each is the
 least of some runs by the clock, of one call and of one process that does the same after another.
 """
 import pathlib
@@ -41,7 +41,7 @@ def main():
         "check": lambda: cats.check(text),
         "normalise": lambda: cats.normalise(text),
         "explain": lambda: cats.explain(text),
-        "round": lambda: cats.round(text),
+        "round": lambda: cats.round_prices(text),
         "compare": lambda: cats.compare(text, text),
         "diff": lambda: cats.diff(text, text),
     }

@@ -63,9 +63,9 @@ class Tree:
         return [*words, "--antt-project", f"{kit}/rattle/logic/antt-project.json", "--logic-built", f"{kit}/logic_built", "--links", f"{crate}="]
 
 
-def pack(folder, name, kept):
+def pack(kept, folder, names):
     kept.parent.mkdir(parents=True, exist_ok=True)
-    subprocess.run(["tar", "-cf", f"{kept}.new", "-C", folder, name], check=True)
+    subprocess.run(["tar", "-cf", f"{kept}.new", "-C", folder, *names], check=True)
     os.replace(f"{kept}.new", kept)
 
 

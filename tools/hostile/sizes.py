@@ -20,6 +20,7 @@ SECONDS = 120
 # The limits of the format: docs/FORMAT.md. Prices are whole here.
 GOODS, BIDS, GREATEST_PRICE = 4096, 65_536, 1_000_000_000_000
 
+EXPLANATION_HEADER = "bid\tdummy\tprice\tgoods\treason\tkept\tby\n"
 SIZES_HEADER = "goods\tbids\tor\txor\tdummy\tkept\tkept_or\tkept_xor\tfile\n"
 
 # Whose the bids of a file are: the OR bidder's, one XOR bidder's, or each an XOR bidder's of its own.
@@ -61,11 +62,15 @@ def named(bid):
     return bundle, f"{bundle}:{bid.price}"
 
 
-def explanation(bids):
+def explanation(bids, whose):
     """What `cats explain` prints of bids that are all points: of equal bidders the first comes first in the canonical text."""
     in_order = sorted(range(len(bids)), key=lambda number: (bids[number].goods, bids[number].price))
     kept = {number: place for place, number in enumerate(in_order)}
-    return "".join(f"{number}\tkeep\t{kept[number]}\n" for number in range(len(bids)))
+    rows = [EXPLANATION_HEADER]
+    for number, bid in enumerate(bids):
+        dummy = {OR: "", ONE_XOR: 0, MANY_XOR: number}[whose]
+        rows.append(f"{number}\t{dummy}\t{bid.price}\t{','.join(map(str, bid.goods))}\tkeep\t{kept[number]}\t\n")
+    return "".join(rows)
 
 
 def difference(bids, whose):
@@ -134,7 +139,7 @@ def judge_file(folder, bids, whose):
     run(["value", "one", *asked], (0, value(GOODS, bids, whose), ""), folder)
     run(["normalise", "one"], (0, text_of(GOODS, in_order, whose), ""), folder)
     run(["normalise", "other"], (0, text_of(GOODS, in_order, whose), ""), folder)
-    run(["explain", "one"], (0, explanation(bids), ""), folder)
+    run(["explain", "one"], (0, explanation(bids, whose), ""), folder)
     run(["compare", "one", "other"], (0, "same\n", ""), folder)
     run(["compare", "one", "lacking"], (1, difference(in_order, whose), ""), folder)
     run(["diff", "one", "other"], (0, "", ""), folder)

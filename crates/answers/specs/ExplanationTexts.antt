@@ -1,21 +1,40 @@
--- What `cats explain` prints. It is a line for each bid, with its number and its reason.
-use Rattle.std.specs.Prelude.{ℕ, List, [], ◌∷◌, ◌++◌, length, codes, decimal}
-use Rattle.std.specs.List.{flat_map, range_with_len}
-use Rattle.cats_text.specs.Layout.{tabbed}
+-- What `cats explain` prints. It is a table with a row for each bid: the bid, why it is kept or dropped, its number in
+-- the canonical file, and the bids that make it superfluous. A cell is empty if there is nothing.
+use Rattle.std.specs.Prelude.{ℕ, List, [], ◌∷◌, ◌++◌, Option, Some, None, codes, decimal}
+use Rattle.std.specs.List.{flat_map}
+use Rattle.bid_file.specs.Files.{PlainBid, PlainFile}
+use Rattle.cats_text.specs.Layout.{price_text}
+use Rattle.explain.specs.Bids.{bid_at, numbers_of}
 use Rattle.explain.specs.Reasons.{PlainReason, Keep, Zero, Same, Inside, Packing, reason_at}
+use Rattle.answers.specs.Outputs.{bundle_text}
 
--- the word of the reason, and the numbers that it names, each after a tab
-abbrev pub reason_text : PlainReason → List ℕ
-reason_text (Keep k) = codes "keep" ++ tabbed (k ∷ [])
-reason_text Zero = codes "zero"
-reason_text (Same j) = codes "same" ++ tabbed (j ∷ [])
-reason_text (Inside j) = codes "inside" ++ tabbed (j ∷ [])
-reason_text (Packing js) = codes "packing" ++ tabbed js
+-- the names of the columns
+abbrev pub explanation_header : List ℕ
+explanation_header = codes "bid\tdummy\tprice\tgoods\treason\tkept\tby\n"
 
--- the line of the bid with this number
-abbrev pub explanation_line : ℕ → PlainReason → List ℕ
-explanation_line number reason = decimal number ++ codes "\t" ++ reason_text reason ++ codes "\n"
+-- the number of a bid's dummy good among the dummy goods
+abbrev pub dummy_cell : Option ℕ → List ℕ
+dummy_cell None = []
+dummy_cell (Some d) = decimal d
 
--- the lines of the bids, in order of number
-abbrev pub explanation_text : List PlainReason → List ℕ
-explanation_text reasons = flat_map (λ i. explanation_line i (reason_at reasons i)) (range_with_len 0 (length reasons))
+-- the dummy good, the price and the goods of a bid
+abbrev pub bid_cells : PlainBid → List ℕ
+bid_cells bid = dummy_cell bid.dummy ++ codes "\t" ++ price_text bid.price ++ codes "\t" ++ bundle_text bid.goods
+
+-- the word of the reason, the number in the canonical file, and the bids that make this one superfluous
+abbrev pub reason_cells : PlainReason → List ℕ
+reason_cells (Keep k) = codes "keep\t" ++ decimal k ++ codes "\t"
+reason_cells Zero = codes "zero\t\t"
+reason_cells (Same j) = codes "same\t\t" ++ bundle_text (j ∷ [])
+reason_cells (Inside j) = codes "inside\t\t" ++ bundle_text (j ∷ [])
+reason_cells (Packing js) = codes "packing\t\t" ++ bundle_text js
+
+-- the row of the bid with this number
+abbrev pub explanation_row : ℕ → PlainBid → PlainReason → List ℕ
+explanation_row number bid reason = decimal number ++ codes "\t" ++ bid_cells bid ++ codes "\t" ++ reason_cells reason
+    ++ codes "\n"
+
+-- the header, and the rows of the bids in order of number
+abbrev pub explanation_text : PlainFile → List PlainReason → List ℕ
+explanation_text file reasons = explanation_header
+    ++ flat_map (λ i. explanation_row i (bid_at file i) (reason_at reasons i)) (numbers_of file)

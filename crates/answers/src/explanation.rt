@@ -1,56 +1,105 @@
-//! The lines that `cats explain` prints.
+//! The table that `cats explain` prints.
 
-ghost use Rattle.std.specs.Prelude.{◌≡◌, ◌++◌, IfOk, OnOk, map};
-ghost use Rattle.cats_text.specs.Layout.{tabbed};
+ghost use Rattle.std.specs.Prelude.{◌≡◌, ◌++◌, IfOk, OnOk, length, map};
+ghost use Rattle.bid_file.specs.Views.{seen_bid};
 ghost use Rattle.explain.specs.Reasons.{plain_reason};
-ghost use Rattle.answers.specs.ExplanationTexts.{explanation_line, explanation_text, reason_text};
+ghost use Rattle.answers.specs.ExplanationTexts.{bid_cells, dummy_cell, explanation_row, explanation_text};
+ghost use Rattle.answers.specs.ExplanationTexts.{reason_cells};
+ghost use Rattle.answers.specs.Outputs.{bundle_text};
 
+use crate::diff::{push_bundle, push_number};
+use bid_file::{BidRef, Bids, PackedFile};
+use cats_text::push_price;
 use explain::Reason;
-use itoa::Buffer;
 use std::alloc::{AllocError, Global};
 
-/// The lines of a file's bids, in order of number.
-pub fn explanation_text(alloc: Global, reasons: &[Reason]) -> Result<Vec<u8>, AllocError>
-    ensures { IfOk result (λ text. text.items ≡ explanation_text (map plain_reason reasons.now)) }
+/// The names of the columns.
+const HEADER: &[u8] = b"bid\tdummy\tprice\tgoods\treason\tkept\tby\n";
+
+/// The table of a file's bids, in order of number, with their reasons.
+pub fn explanation_text(
+    alloc: Global,
+    file: &PackedFile,
+    reasons: &[Reason],
+) -> Result<Vec<u8>, AllocError>
+    requires { length reasons.now ≡ length file.now.bids }
+    ensures { IfOk result (λ text. text.items ≡ explanation_text file.now (map plain_reason reasons.now)) }
 {
-    let mut text = Vec::new(alloc);
+    let mut text = Vec::from_slice(alloc, HEADER)?;
     for (number, reason) in reasons.iter().enumerate() {
-        push_line(&mut text, number, reason)?;
+        push_row(&mut text, number, &file.at(number), reason)?;
     }
     Ok(text)
 }
 
-/// Appends the line of the bid with this number.
-fn push_line(text: &mut Vec<u8>, number: usize, reason: &Reason) -> Result<(), AllocError>
-    ensures { OnOk result (text.new.items ≡ text.old.items ++ explanation_line number (plain_reason reason.now)) }
+/// Appends the row of the bid with this number.
+fn push_row(
+    text: &mut Vec<u8>,
+    number: usize,
+    bid: &BidRef<'_>,
+    reason: &Reason,
+) -> Result<(), AllocError>
+    ensures { OnOk result (text.new.items
+        ≡ text.old.items ++ explanation_row number (seen_bid bid.now) (plain_reason reason.now)) }
 {
-    text.extend_from_slice(Buffer::new().format(number).as_bytes())?;
+    push_number(text, number)?;
+    text.extend_from_slice(b"\t")?;
+    push_bid(text, bid)?;
     text.extend_from_slice(b"\t")?;
     push_reason(text, reason)?;
     text.extend_from_slice(b"\n")
 }
 
-/// Appends the word of a reason, and the numbers that it names.
-fn push_reason(text: &mut Vec<u8>, reason: &Reason) -> Result<(), AllocError>
-    ensures { OnOk result (text.new.items ≡ text.old.items ++ reason_text (plain_reason reason.now)) }
+/// Appends the cells of a bid: its dummy good, price and goods.
+fn push_bid(text: &mut Vec<u8>, bid: &BidRef<'_>) -> Result<(), AllocError>
+    ensures { OnOk result (text.new.items ≡ text.old.items ++ bid_cells (seen_bid bid.now)) }
 {
-    match reason {
-        Reason::Keep(kept) => push_words(text, b"keep", &[*kept]),
-        Reason::Zero => text.extend_from_slice(b"zero"),
-        Reason::Same(best) => push_words(text, b"same", &[*best]),
-        Reason::Inside(smaller) => push_words(text, b"inside", &[*smaller]),
-        Reason::Packing(members) => push_words(text, b"packing", members.as_slice()),
+    push_dummy(text, bid.dummy)?;
+    text.extend_from_slice(b"\t")?;
+    push_price(text, u128::from(bid.price))?;
+    text.extend_from_slice(b"\t")?;
+    push_bundle(text, bid.goods)
+}
+
+/// Appends the number of a bid's dummy good among the dummy goods, if it has one.
+fn push_dummy(text: &mut Vec<u8>, dummy: Option<u32>) -> Result<(), AllocError>
+    ensures { OnOk result (text.new.items ≡ text.old.items ++ dummy_cell dummy) }
+{
+    match dummy {
+        Some(dummy) => push_number(text, dummy),
+        None => Ok(()),
     }
 }
 
-/// Appends a word, and numbers with a tab before each.
-fn push_words(text: &mut Vec<u8>, word: &[u8], numbers: &[u32]) -> Result<(), AllocError>
-    ensures { OnOk result (text.new.items ≡ text.old.items ++ (word.now ++ tabbed numbers.now)) }
+/// Appends the cells of a reason: its word, the number of a kept bid in the canonical file, and the bids that it names.
+fn push_reason(text: &mut Vec<u8>, reason: &Reason) -> Result<(), AllocError>
+    ensures { OnOk result (text.new.items ≡ text.old.items ++ reason_cells (plain_reason reason.now)) }
 {
-    text.extend_from_slice(word)?;
-    for number in numbers {
-        text.extend_from_slice(b"\t")?;
-        text.extend_from_slice(Buffer::new().format(*number).as_bytes())?;
+    match reason {
+        Reason::Keep(kept) => {
+            text.extend_from_slice(b"keep\t")?;
+            push_number(text, *kept)?;
+            text.extend_from_slice(b"\t")
+        }
+        Reason::Zero => text.extend_from_slice(b"zero\t\t"),
+        Reason::Same(best) => push_named(text, b"same\t\t", &[*best]),
+        Reason::Inside(smaller) => push_named(text, b"inside\t\t", &[*smaller]),
+        Reason::Packing(members) => push_named(text, b"packing\t\t", members.as_slice()),
+    }
+}
+
+/// Appends a text, and the numbers of bids with a comma between each two.
+fn push_named(text: &mut Vec<u8>, before: &[u8], bids: &[u32]) -> Result<(), AllocError>
+    ensures { OnOk result (text.new.items ≡ text.old.items ++ (before.now ++ bundle_text bids.now)) }
+{
+    text.extend_from_slice(before)?;
+    let Some((first, rest)) = bids.split_first() else {
+        return Ok(());
+    };
+    push_number(text, *first)?;
+    for bid in rest {
+        text.extend_from_slice(b",")?;
+        push_number(text, *bid)?;
     }
     Ok(())
 }

@@ -14,12 +14,13 @@ ghost use Rattle.canon.specs.Difference.{NoDifference, InGoods, InOr, InXor};
 ghost use Rattle.canon.specs.declared.canon_fault.CanonFault.TheVariants.{Read, StepLimit, Memory};
 ghost use Rattle.canon.specs.declared.verdict.Side.TheVariants.{Exactly, Below};
 ghost use Rattle.canon.specs.declared.which.Which.TheVariants.{Only, First, Second, Both};
+ghost use Rattle.explain.specs.Examples.{file, or_bid, xor_bid};
 ghost use Rattle.explain.specs.Reasons.{Keep, Zero, Same, Inside, Packing};
 ghost use Rattle.differences.specs.Differences.{InBids, InGoods as InGoodNumbers};
 ghost use Rattle.differences.specs.Examples.{bidder_change, change};
 ghost use Rattle.answers.specs.DiffTexts.{diff_text};
 ghost use Rattle.answers.specs.DifferenceTexts.{difference_text};
-ghost use Rattle.answers.specs.ExplanationTexts.{explanation_line, explanation_text};
+ghost use Rattle.answers.specs.ExplanationTexts.{explanation_row, explanation_text};
 ghost use Rattle.answers.specs.FaultLines.{line_of_fault};
 ghost use Rattle.answers.specs.Outputs.{bundle_text, sizes_text};
 ghost use Rattle.answers.specs.RoundedLines.{rounded_line};
@@ -75,14 +76,19 @@ pub fn lines_of_sizes()
     ensures { sizes_text 3 2 1 ≡ codes "goods 3 bids 2 dummy 1\n" }
 {}
 
-/// What `cats explain` prints of a bid of each reason, of no bids, of a packing of one bid, and of the bid with the greatest
-/// number.
+/// What `cats explain` prints of no bids, of a bid of each reason, and of two bids.
 pub fn explanations()
-    ensures each_reason { explanation_text (Keep 3 ∷ Zero ∷ Same 7 ∷ Inside 5 ∷ Packing (0 ∷ 1 ∷ 9 ∷ []) ∷ [])
-        ≡ codes "0\tkeep\t3\n1\tzero\n2\tsame\t7\n3\tinside\t5\n4\tpacking\t0\t1\t9\n" }
-    ensures no_bids { explanation_text [] ≡ [] }
-    ensures packing_of_one { explanation_line 10 (Packing (12 ∷ [])) ≡ codes "10\tpacking\t12\n" }
-    ensures last_bid { explanation_line 65535 (Keep 65534) ≡ codes "65535\tkeep\t65534\n" }
+    ensures no_bids { explanation_text (file 0 0 []) [] ≡ codes "bid\tdummy\tprice\tgoods\treason\tkept\tby\n" }
+    ensures kept { explanation_row 0 (or_bid (0 ∷ []) 3000000) (Keep 12) ≡ codes "0\t\t3\t0\tkeep\t12\t\n" }
+    ensures packing { explanation_row 2 (or_bid (0 ∷ 1 ∷ []) 6000000) (Packing (0 ∷ 1 ∷ []))
+        ≡ codes "2\t\t6\t0,1\tpacking\t\t0,1\n" }
+    ensures inside { explanation_row 5 (xor_bid 2 (1 ∷ []) 4000000) (Inside 3) ≡ codes "5\t2\t4\t1\tinside\t\t3\n" }
+    ensures zero { explanation_row 12 (xor_bid 10 (7 ∷ []) 0) Zero ≡ codes "12\t10\t0\t7\tzero\t\t\n" }
+    ensures same { explanation_row 65535 (or_bid (4095 ∷ []) 4500000) (Same 65534)
+        ≡ codes "65535\t\t4.5\t4095\tsame\t\t65534\n" }
+    ensures two_bids { explanation_text (file 2 1 (or_bid (0 ∷ []) 0 ∷ xor_bid 0 (0 ∷ 1 ∷ []) 7250000 ∷ []))
+        (Zero ∷ Keep 0 ∷ [])
+        ≡ codes "bid\tdummy\tprice\tgoods\treason\tkept\tby\n0\t\t0\t0\tzero\t\t\n1\t0\t7.25\t0,1\tkeep\t0\t\n" }
 {}
 
 /// How differences are printed, and the statuses of comparisons.

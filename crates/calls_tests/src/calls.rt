@@ -34,7 +34,7 @@ const STEPS: u64 = 1_000;
 
 /// What a call gives.
 fn expect(rt: &impl Abort, answer: &Result<Answer, RunFault>, status: u8, text: &[u8]) {
-    let mut buffer = [0; 64];
+    let mut buffer = [0; 128];
     let mut needed = 0;
     let given = give(answer, &mut buffer, &mut needed);
     assert_eq!(rt; given, status);
@@ -46,7 +46,9 @@ fn expect(rt: &impl Abort, answer: &Result<Answer, RunFault>, status: u8, text: 
 fn one_text(rt: HostRuntime) -> Result<(), Fail> {
     let alloc = rt.alloc();
     let refused = b"line 4: GoodRange\n";
-    let reasons = b"0\tkeep\t0\n1\tkeep\t1\n2\tpacking\t0\t1\n";
+    let reasons =
+        b"bid\tdummy\tprice\tgoods\treason\tkept\tby\n0\t\t3\t0\tkeep\t0\t\n1\t\t4\t1\tkeep\t1\t\n\
+        2\t\t7\t0,1\tpacking\t\t0,1\n";
     expect(&rt, &check(alloc, SINGLES), 0, b"goods 2 bids 2 dummy 0\n");
     expect(&rt, &check(alloc, BEYOND), 2, refused);
     expect(&rt, &normalise(alloc, PAIR_AT_7, STEPS, None), 0, SINGLES);
@@ -64,7 +66,9 @@ fn one_text(rt: HostRuntime) -> Result<(), Fail> {
 fn limits_of_steps(rt: HostRuntime) -> Result<(), Fail> {
     let alloc = rt.alloc();
     let over = b"step limit at 0,1,2\n";
-    let reasons = b"0\tkeep\t0\n1\tkeep\t1\n2\tkeep\t2\n";
+    let reasons =
+        b"bid\tdummy\tprice\tgoods\treason\tkept\tby\n0\t\t4\t0,1\tkeep\t0\t\n1\t\t4\t1,2\tkeep\t1\t\n\
+        2\t\t7\t0,1,2\tkeep\t2\t\n";
     expect(&rt, &normalise(alloc, CROSSING, 1, None), 0, CROSSING);
     expect(&rt, &normalise(alloc, CROSSING, 1, Some(3)), 0, CROSSING);
     expect(&rt, &normalise(alloc, CROSSING, 1, Some(2)), 3, over);

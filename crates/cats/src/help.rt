@@ -260,24 +260,26 @@ Statuses: 0; 2 if the file is not a bid file; 3 for the step limit: use --bound,
 as 'cats --help' lists them";
 
 const EXPLAIN: &str = "\
-Prints a line for each bid, in order of number, with tabs between the words: the bid's number, and why the text that
+Prints a table with a header and a row for each bid, in order of number, with tabs between the cells: why the text that
 'cats normalise' prints has the bid or not. For example:
   $ cats explain examples/ladder.cats
-  0\tkeep\t0
-  1\tkeep\t1
-  2\tpacking\t0\t1
-  3\tkeep\t2
-  4\tsame\t3
+  bid\tdummy\tprice\tgoods\treason\tkept\tby
+  0\t\t3\t0\tkeep\t0\t
+  1\t\t4\t1\tkeep\t1\t
+  2\t\t7\t0,1\tpacking\t\t0,1
+  3\t0\t6\t0,1\tkeep\t2\t
+  4\t0\t2\t0,1\tsame\t\t3
 
-  keep K        it is bid K of the text that 'cats normalise' prints
-  zero          its price is 0
-  same J        bid J is the best of its bidder on its goods: it has the highest price, and of those the smallest number
-  inside J      bid J of its XOR bidder is kept, is on fewer of its goods, and its price is at least as high
-  packing J ..  these bids of the OR bidder are kept, are on some of its goods and share none, and their prices add up
-                to at least its price
+'dummy' is the bid's dummy good as its number among dummy goods, from 0. The reasons:
+  keep     it is the bid 'kept' of the text that 'cats normalise' prints
+  zero     its price is 0
+  same     bid 'by' is the best of its bidder on its goods: it has the highest price, and of those the smallest number
+  inside   bid 'by' of its XOR bidder is kept, is on fewer of its goods, and its price is at least as high
+  packing  the bids 'by' of the OR bidder are kept, are on some of its goods and share none, and their prices add up to
+           at least its price
 
-All numbers but K are those of the file. How many bids there are for each reason:
-  $ cats explain auction.txt | cut -f 2 | sort | uniq -c
+How many bids there are for each reason:
+  $ cats explain auction.txt | cut -f 5 | sort | uniq -c
 
 This command always uses the bounded search. A step is that of 'cats normalise --bound', and the same files are
 refused. After a refusal nothing is printed.
@@ -329,8 +331,9 @@ files are the same auction. For example:
   bid BUNDLE P Q the prices of these two bidders on a bundle; '-' if the bidder has no bid on it
 
 A bidder that one file has N times more often than the other is printed N times. Each such bidder of the first file is
-printed beside the bidder of the second file that has most bids in common with it, if there is one. If several bidders
-of a file have the same bids, the smallest number that is not printed yet is used.
+printed beside the first one of the second file that has a bid on its rarest bundle and is not printed yet, else on the
+next rarest, and so on. If several bidders of a file have the same bids, the smallest number that is not printed yet is
+used.
 
 This command always uses the bounded search. A step is that of 'cats normalise --bound': each file is normalised first.
 A fault's line begins with 'first: ' or 'second: '.

@@ -1,6 +1,7 @@
 -- What calls answer of a small text, by the file that its lines say.
-use Rattle.std.proofs.Common.{◌≡◌, ◌≢◌, ℕ, nat_le, nat_lt, Bool, true, false, eqb, List, [], ◌∷◌, ◌++◌, length, drop, None, slice_index_or}
+use Rattle.std.proofs.Common.{◌≡◌, ◌≢◌, ℕ, zero, suc, nat_le, nat_lt, Bool, true, false, eqb, List, [], ◌++◌, length, drop, None, slice_index_or}
 use Rattle.std.proofs.Common.{refl, sym, ap, ap₂, ◌∙◌, subst, arith}
+use Rattle.std.specs.List.{flat_map, range_with_len}
 use Rattle.std.proofs.lemmas.Bool.{eqb-false, leb-true, ltb-true}
 use Rattle.bid_file.specs.Files.{PlainFile}
 use Rattle.cats_text.specs.Faults.{first_fault}
@@ -18,10 +19,11 @@ use Rattle.canon.specs.Sameness.{AreSameFiles, AreSameTexts}
 use Rattle.canon.proofs.CanonicalFiles.Texts.{HasAtoms-file}
 use Rattle.canon.proofs.Comparing.Differences.{same_from_no_difference, no_difference_from_same}
 use Rattle.differences.specs.Differences.{AreAllDifferences, PlainDifferences, InBids, InGoods as InGoodNumbers}
-use Rattle.explain.specs.Reasons.{PlainReason}
+use Rattle.explain.specs.Bids.{bid_at}
+use Rattle.explain.specs.Reasons.{PlainReason, reason_at}
 use Rattle.answers.specs.DiffTexts.{diff_text, goods_line}
 use Rattle.answers.specs.DifferenceTexts.{difference_text}
-use Rattle.answers.specs.ExplanationTexts.{explanation_text}
+use Rattle.answers.specs.ExplanationTexts.{explanation_header, explanation_row}
 use Rattle.answers.specs.Outputs.{check_text}
 use Rattle.answers.specs.Statuses.{status_of_difference, status_of_differences}
 use Rattle.std.specs.Fmt.{digits}
@@ -63,19 +65,23 @@ abbrev pub has_text : Normalised → Bool
 has_text (IsText out) = true
 has_text outcome = false
 
-first_line : (reasons : List PlainReason) → eqb (length reasons) 0 ≡ false → slice_index_or (explanation_text reasons) 0 0 ≡ 48
-unfolding digits
-first_line [] some = absurd (cc)
-first_line (reason ∷ reasons) some = refl
+-- as many bytes are the header
+abbrev pub HEADER_BYTES : ℕ
+HEADER_BYTES = 37
 
--- the first line is that of bid 0
+first_row : (file : PlainFile) (reasons : List PlainReason) (n : ℕ) → eqb n 0 ≡ false
+    → slice_index_or (explanation_header ++ flat_map (λ i. explanation_row i (bid_at file i) (reason_at reasons i)) (range_with_len 0 n)) HEADER_BYTES 0 ≡ 48
+unfolding digits
+first_row file reasons zero some = absurd (cc)
+first_row file reasons (suc n) some = refl
+
+-- the first row is that of bid 0
 pub explained_first : (options : SearchOptions) (text : List ℕ) (status : ℕ) (out : List ℕ) → eqb (length (spelled_file text).bids) 0 ≡ false
-    → ExplainsText options text status out → slice_index_or out 0 0 ≡ 48
+    → ExplainsText options text status out → slice_index_or out HEADER_BYTES 0 ≡ 48
 explained_first options text status out some c =
-    let long : length c.reasons ≡ length (spelled_file text).bids =
-    c.explains.long ∙ ap (λ (f : PlainFile). length f.bids) (says_spelled text c.given.file c.given.spelled) in
-    ap (λ (x : List ℕ). slice_index_or x 0 0) c.is_text
-    ∙ first_line c.reasons (ap (λ (n : ℕ). eqb n 0) long ∙ some)
+    ap (λ (x : List ℕ). slice_index_or x HEADER_BYTES 0) c.is_text
+    ∙ first_row c.given.file c.reasons (length c.given.file.bids)
+    (ap (λ (f : PlainFile). eqb (length f.bids) 0) (says_spelled text c.given.file c.given.spelled) ∙ some)
 
 -- ---- two texts
 

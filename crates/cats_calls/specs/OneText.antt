@@ -21,10 +21,10 @@ pub record NormalisesText (options : SearchOptions) (text : List ℕ) (status : 
   pub is_status : status ≡ 0
   pub is_text : Normalises options text (IsText out)
 
--- the line of each bid of the file, for reasons that are true
+-- the table of the bids of the file, for reasons that are true
 pub record ExplainsText (options : SearchOptions) (text : List ℕ) (status : ℕ) (out : List ℕ) : Type 0 where
   pub given : SpellsWithinLimit options text
   pub reasons : List PlainReason
   pub explains : Explains given.file reasons
   pub is_status : status ≡ 0
-  pub is_text : out ≡ explanation_text reasons
+  pub is_text : out ≡ explanation_text given.file reasons

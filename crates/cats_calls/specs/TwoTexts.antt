@@ -21,7 +21,7 @@ pub record ComparesTexts (options : SearchOptions) (left right : List ℕ) (stat
   pub is_text : out ≡ difference_text difference
   pub same : status ≡ 0 ↔ AreSameTexts left right
 
--- all differences, of which more than one list may be true
+-- all differences
 pub record DiffsTexts (options : SearchOptions) (left right : List ℕ) (status : ℕ) (out : List ℕ) : Type 0 where
   pub first : SpellsWithinLimit options left
   pub second : SpellsWithinLimit options right

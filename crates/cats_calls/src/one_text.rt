@@ -70,6 +70,6 @@ pub fn explain_text(
     let reasons = explain(alloc, &file, steps, total)?;
     Ok(Answer {
         status: DONE,
-        text: explanation_text(alloc, reasons.as_slice())?,
+        text: explanation_text(alloc, &file, reasons.as_slice())?,
     })
 }

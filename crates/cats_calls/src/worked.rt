@@ -70,11 +70,11 @@ pub fn texts_within_limits()
 /// The reason of each bid.
 pub fn texts_explained()
     ensures reasons { ExplainsText (bounded_options 1 None) (codes "goods 1\nbids 2\ndummy 0\n0 2 0 #\n1 3 0 #\n") 0
-        (codes "0\tsame\t1\n1\tkeep\t0\n") }
+        (codes "bid\tdummy\tprice\tgoods\treason\tkept\tby\n0\t\t2\t0\tsame\t\t1\n1\t\t3\t0\tkeep\t0\t\n") }
     ensures other_status { ExplainsText (bounded_options 1 None) (codes "goods 1\nbids 2\ndummy 0\n0 2 0 #\n1 3 0 #\n") 1
-        (codes "0\tsame\t1\n1\tkeep\t0\n") → ⊥ }
-    ensures none_left_out { ExplainsText (bounded_options 1 None) (codes "goods 1\nbids 2\ndummy 0\n0 2 0 #\n1 3 0 #\n") 0 (codes "1\tkeep\t0\n")
-        → ⊥ }
+        (codes "bid\tdummy\tprice\tgoods\treason\tkept\tby\n0\t\t2\t0\tsame\t\t1\n1\t\t3\t0\tkeep\t0\t\n") → ⊥ }
+    ensures none_left_out { ExplainsText (bounded_options 1 None) (codes "goods 1\nbids 2\ndummy 0\n0 2 0 #\n1 3 0 #\n") 0
+        (codes "bid\tdummy\tprice\tgoods\treason\tkept\tby\n1\t\t3\t0\tkeep\t0\t\n") → ⊥ }
 {}
 
 /// Two texts of one auction, and texts of two.

@@ -5,16 +5,17 @@ use Rattle.std.specs.List.{AllByRecursion, flat_map, range_with_len}
 use Rattle.std.proofs.lemmas.Bool.{cond_both}
 use Rattle.answers.specs.DiffTexts.{bidder_lines, bidder_word, change_line, diff_text, price_word}
 use Rattle.answers.specs.DifferenceTexts.{atom_text, bidder_text, difference_lines, difference_text, side_text}
-use Rattle.answers.specs.ExplanationTexts.{explanation_line, explanation_text, reason_text}
+use Rattle.answers.specs.ExplanationTexts.{bid_cells, dummy_cell, explanation_header, explanation_row, explanation_text, reason_cells}
 use Rattle.answers.specs.Outputs.{check_text}
-use Rattle.bid_file.specs.Files.{PlainFile}
+use Rattle.bid_file.specs.Files.{PlainBid, PlainFile}
 use Rattle.canon.specs.Difference.{Difference, NoDifference, InGoods, InOr, InXor}
 use Rattle.canon.specs.declared.verdict.Side.{Side}
 use Rattle.canon.specs.declared.verdict.Side.TheVariants.{Exactly, Below}
-use Rattle.cats_text.specs.Layout.{behind_point, digit_at, places_text, price_text, six_digits, tabbed, with_place, without_zeros}
+use Rattle.cats_text.specs.Layout.{behind_point, digit_at, places_text, price_text, six_digits, with_place, without_zeros}
 use Rattle.differences.specs.BidderChanges.{PlainBidderChange}
 use Rattle.differences.specs.Differences.{PlainDifferences, InGoods as InGoodNumbers, InBids}
 use Rattle.differences.specs.PriceChanges.{PlainChange}
+use Rattle.explain.specs.Bids.{bid_at, numbers_of}
 use Rattle.explain.specs.Reasons.{PlainReason, Keep, Zero, Same, Inside, Packing, reason_at}
 use Rattle.valuation.specs.declared.atom.Atom.{Atom}
 use Rattle.cats_cmd.specs.Escaping.{is_shown}
@@ -94,21 +95,30 @@ difference_shown (InXor atoms left right) = differing (then (ours (codes "xor") 
 
 -- ---- `cats explain`
 
-tabs : (ns : List ℕ) → Shown (tabbed ns)
-tabs [] = no_text is_shown
-tabs (n ∷ ns) = then (then (ours (codes "\t") refl) (number n)) (tabs ns)
+dummy : (d : Option ℕ) → Shown (dummy_cell d)
+dummy None = no_text is_shown
+dummy (Some d) = number d
 
-reason : (r : PlainReason) → Shown (reason_text r)
-reason (Keep k) = then (ours (codes "keep") refl) (tabs (k ∷ []))
-reason Zero = ours (codes "zero") refl
-reason (Same j) = then (ours (codes "same") refl) (tabs (j ∷ []))
-reason (Inside j) = then (ours (codes "inside") refl) (tabs (j ∷ []))
-reason (Packing js) = then (ours (codes "packing") refl) (tabs js)
+reason : (r : PlainReason) → Shown (reason_cells r)
+reason (Keep k) = then (then (ours (codes "keep\t") refl) (number k)) (ours (codes "\t") refl)
+reason Zero = ours (codes "zero\t\t") refl
+reason (Same j) = then (ours (codes "same\t\t") refl) (bundle (j ∷ []))
+reason (Inside j) = then (ours (codes "inside\t\t") refl) (bundle (j ∷ []))
+reason (Packing js) = then (ours (codes "packing\t\t") refl) (bundle js)
 
-pub explanation_shown : (reasons : List PlainReason) → Shown (explanation_text reasons)
-explanation_shown reasons =
-    flat (λ i. explanation_line i (reason_at reasons i))
-    (λ i. then (then (then (number i) (ours (codes "\t") refl)) (reason (reason_at reasons i))) (ours (codes "\n") refl)) (range_with_len 0 (length reasons))
+tab : Shown (codes "\t")
+tab = ours (codes "\t") refl
+
+offer : (bid : PlainBid) → Shown (bid_cells bid)
+offer bid = then (then (then (then (dummy bid.dummy) tab) (price bid.price)) tab) (bundle bid.goods)
+
+row : (i : ℕ) (bid : PlainBid) (r : PlainReason) → Shown (explanation_row i bid r)
+row i bid r = then (then (then (then (then (number i) tab) (offer bid)) tab) (reason r)) (ours (codes "\n") refl)
+
+pub explanation_shown : (file : PlainFile) (reasons : List PlainReason) → Shown (explanation_text file reasons)
+explanation_shown file reasons =
+    then (ours explanation_header refl)
+    (flat (λ i. explanation_row i (bid_at file i) (reason_at reasons i)) (λ i. row i (bid_at file i) (reason_at reasons i)) (numbers_of file))
 
 -- ---- `cats diff`
 

@@ -57,7 +57,7 @@ module _ {R W : Type 0} (remaining : R → Option (List ℕ)) (contents : W → 
 
     -- the lines of the reasons were sent
     pub explained : (out out_after : Watched W) → first_refused options file.goods (or_atoms_of file.bids) ≡ None
-        → (reasons : List PlainReason) → Explains file reasons → (text : List ℕ) → text ≡ explanation_text reasons
+        → (reasons : List PlainReason) → Explains file reasons → (text : List ℕ) → text ≡ explanation_text file reasons
         → (answer : Result ℕ RunFault) → SendsAs contents 0 text out out_after answer → ExplainsFile remaining contents options old new out out_after answer
     explained out out_after within reasons explains text is (Ok reported) sends =
         wrote contents (ReadsExplained remaining options old new) explain_outcome out out_after (file, reasons)

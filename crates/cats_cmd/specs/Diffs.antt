@@ -1,6 +1,4 @@
--- What a run of `cats diff` does. More than one list of differences may be true of two files, since it is left open
--- which bidders
--- are shown beside each other, so its text is that of one of them.
+-- What a run of `cats diff` does: it prints the one list of all differences of two files.
 use Rattle.std.specs.Prelude.{ℕ, List, Option, Result}
 use Rattle.bid_file.specs.Files.{PlainFile}
 use Rattle.valuation.specs.declared.search_options.SearchOptions.{SearchOptions}

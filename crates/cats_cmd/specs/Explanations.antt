@@ -14,7 +14,7 @@ use Rattle.answers.specs.declared.report.RunFault.TheVariants.{Refused, GoodRang
 
 -- of reasons for the bids of a file
 abbrev pub explain_outcome : PlainFile × List PlainReason → Outcome
-explain_outcome explained = Prints 0 (explanation_text explained.1)
+explain_outcome explained = Prints 0 (explanation_text explained.0 explained.1)
 
 -- a file was read of which no bundle is refused, and these are reasons of its bids
 pub record ReadsExplained {R : Type 0} (remaining : R → Option (List ℕ)) (options : SearchOptions)

@@ -12,7 +12,7 @@ use explain::explain;
 use std::alloc::Global;
 use std::io::{Read, Write};
 
-/// Reads a bid file, and sends a line for each of its bids: its number, and why it is in the canonical file or is not.
+/// Reads a bid file, and sends a table with a row for each of its bids: why it is in the canonical file or is not.
 /// `limit` bounds the steps of each bounded search that decides on a bundle of the OR bidder, and `total` those of all
 /// together.
 pub fn run_explain<R: Read, W: Write>(
@@ -30,6 +30,6 @@ pub fn run_explain<R: Read, W: Write>(
 {
     let file = read_packed_file(alloc, input)?;
     let reasons = explain(alloc, &file, limit, total)?;
-    let text = explanation_text(alloc, reasons.as_slice())?;
+    let text = explanation_text(alloc, &file, reasons.as_slice())?;
     send_text(out, DONE, text.as_slice())
 }

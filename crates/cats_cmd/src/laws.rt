@@ -55,7 +55,7 @@ pub fn printed_answers_are_shown()
     ensures check { (file : PlainFile) → IsTextOf is_shown (check_text file) }
     ensures value { (file : PlainFile) (goods : List ℕ) → IsTextOf is_shown (value_text file goods) }
     ensures compare { (difference : Difference) → IsTextOf is_shown (difference_text difference) }
-    ensures explain { (reasons : List PlainReason) → IsTextOf is_shown (explanation_text reasons) }
+    ensures explain { (file : PlainFile) (reasons : List PlainReason) → IsTextOf is_shown (explanation_text file reasons) }
     ensures diff { (goods : ℕ) (left right : List ℕ) (differences : PlainDifferences)
         → IsTextOf is_shown (diff_text goods left right differences) }
 {}

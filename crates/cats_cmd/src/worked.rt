@@ -18,7 +18,6 @@ ghost use Rattle.differences.specs.Examples.{bidder_change, change};
 ghost use Rattle.answers.specs.DiffTexts.{diff_text};
 ghost use Rattle.answers.specs.DifferenceTexts.{difference_text};
 ghost use Rattle.cats_cmd.specs.Examples.{larger_bid, xor_ladder};
-ghost use Rattle.answers.specs.ExplanationTexts.{explanation_line, explanation_text};
 ghost use Rattle.cats_cmd.specs.Outcomes.{LacksGood, ExceedsSteps, Prints, check_outcome, show_outcome, value_outcome};
 ghost use Rattle.answers.specs.Outputs.{bundle_text, sizes_text};
 ghost use Rattle.cats_cmd.specs.ValueTexts.{bundle_from};

@@ -1,5 +1,6 @@
 -- Changes that are put together one by one: those of the left bidders, and then those of the right bidders that are left.
-use Rattle.std.proofs.Common.{◌≡◌, ℕ, ◌+◌, true, false, not, cond, List, [], ◌∷◌, ◌++◌, length, append_assoc, refl, sym, ap, ap₂, ◌∙◌, subst, arith, Option}
+use Rattle.std.proofs.Common.{◌≡◌, ℕ, ◌+◌, true, false, not, cond, List, [], ◌∷◌, ◌++◌, length, map, append_assoc, refl, sym, ap, ap₂, ◌∙◌, subst, arith}
+use Rattle.std.proofs.Common.{Option}
 use Rattle.std.proofs.Common.{Some, None}
 use Rattle.std.specs.Prelude.{All, is_some}
 use Rattle.std.specs.List.{cons_option, filter_map, range_with_len}
@@ -7,18 +8,19 @@ use Rattle.std.specs.Option.{is_none}
 use Rattle.std.specs.Ordering.{nat_cmp, is_eq}
 use Rattle.std.proofs.lemmas.List.Elements.{filter-append, filter_map-append, All-append, All-head, All-nil, All-push, All-tail, All-weaker}
 use Rattle.std.proofs.lemmas.List.Sums.{sum_by-append, sum_by-cons}
-use Rattle.std.proofs.lemmas.List.{append-nil}
+use Rattle.std.proofs.lemmas.List.{append-nil, map_push}
 use Rattle.goods_set.specs.Bundles.{IsRising}
 use Rattle.goods_set.specs.Lemmas.Members.{IsRising-filter}
 use Rattle.goods_set.specs.Lemmas.Words.{range_rises}
 use Rattle.valuation.specs.declared.atom.Atom.{Atom}
 use Rattle.valuation.specs.Sorting.{count_of}
-use Rattle.differences.specs.BidderChanges.{PlainBidderChange, IsBidderChange, AreBidderChanges, excess_bidders, is_excess, lefts_of, rights_of, right_alone}
+use Rattle.differences.specs.BidderChanges.{PlainBidderChange, IsBidderChange, AreBidderChanges, bidder_at, excess_bidders, is_excess, lefts_of, partner_of}
+use Rattle.differences.specs.BidderChanges.{partners_of, rights_of, right_alone, waiting_after, without_partner}
 use Rattle.differences.specs.BidderChanges.{with_left}
 use Rattle.differences.specs.Internal.Changes.{AreLefts, AreRest}
 use Rattle.differences.specs.Internal.Partners.{TakesPartner}
 use Rattle.differences.proofs.LawsLists.{all_pass, none_pass}
-use Rattle.differences.proofs.Waiting.{All-counted, still_rise, taken_counted}
+use Rattle.differences.proofs.Waiting.{All-counted, partners_more, still_rise, taken, taken_counted, waiting_more}
 
 pub lefts-append : (xs ys : List PlainBidderChange) → lefts_of (xs ++ ys) ≡ lefts_of xs ++ lefts_of ys
 lefts-append xs ys = filter_map-append (λ c. c.left) xs ys
@@ -35,17 +37,18 @@ no_lefts_alone (c ∷ changes) h =
     ap (λ (o : Option ℕ). cons_option o (lefts_of changes)) (All-head (λ (d : PlainBidderChange). d.left ≡ None) c changes h)
     ∙ no_lefts_alone changes (All-tail (λ (d : PlainBidderChange). d.left ≡ None) c changes h)
 
-excess_rises : (bidders others : List (List (Atom (List ℕ)))) → IsRising (excess_bidders bidders others)
+pub excess_rises : (bidders others : List (List (Atom (List ℕ)))) → IsRising (excess_bidders bidders others)
 excess_rises bidders others = IsRising-filter (is_excess bidders others) (range_with_len 0 (length bidders)) (range_rises 0 (length bidders))
 
 module _ (left right : List (List (Atom (List ℕ)))) where
-  pub no_lefts : (before : List ℕ) → AreLefts left right [] before before []
-  no_lefts before = record {
+  pub no_lefts : (excess : List ℕ) → IsRising excess → AreLefts left right [] excess []
+  no_lefts excess rising = record {
     each = All-nil (IsBidderChange left right);
     named = refl;
     each_left = All-nil (λ (c : PlainBidderChange). is_some c.left ≡ true);
+    partners = refl;
     taken = λ i. let none : count_of nat_cmp i [] ≡ 0 = refl in omega arith;
-    in_order = λ rising. rising;
+    in_order = rising;
   }
 
   right_taken : (c : PlainBidderChange) (partner : Option ℕ) → c.right ≡ partner → (before after : List ℕ) → TakesPartner before after partner → (i : ℕ)
@@ -64,23 +67,38 @@ module _ (left right : List (List (Atom (List ℕ)))) where
       omega arith
 
   -- one more left bidder, with its partner
-  pub one_more_left : (lefts : List ℕ) (index : ℕ) (partner : Option ℕ) (before now after : List ℕ) (changes : List PlainBidderChange) (c : PlainBidderChange)
-      → AreLefts left right lefts before now changes → TakesPartner now after partner → IsBidderChange left right c → c.left ≡ Some index → c.right ≡ partner
-      → AreLefts left right (lefts ++ index ∷ []) before after (changes ++ c ∷ [])
-  one_more_left lefts index partner before now after changes c h t k e f = record {
-    each = All-push (IsBidderChange left right) changes c h.each k;
-    named = lefts-append changes (c ∷ [])
-        ∙ ap (λ (o : Option ℕ). lefts_of changes ++ filter_map (λ (p : Option ℕ). p) (o ∷ [])) e
-        ∙ ap (λ (xs : List ℕ). xs ++ index ∷ []) h.named;
-    each_left = All-push (λ (d : PlainBidderChange). is_some d.left ≡ true) changes c h.each_left (ap is_some e);
-    taken = λ i.
-        let a = ap (count_of nat_cmp i) (rights-append changes (c ∷ [])) in
-        let b = count-append i (rights_of changes) (rights_of (c ∷ [])) in
-        let d = right_taken c partner f now after t i in
-        let all = h.taken i in
-        omega arith;
-    in_order = λ rising. still_rise now after partner t (h.in_order rising);
-  }
+  pub one_more_left : (lefts : List ℕ) (index : ℕ) (partner : Option ℕ) (excess : List ℕ) (changes : List PlainBidderChange) (c : PlainBidderChange)
+      → AreLefts left right lefts excess changes
+      → partner ≡ partner_of right excess (waiting_after right excess excess (map (bidder_at left) lefts)) (bidder_at left index)
+      → IsBidderChange left right c → c.left ≡ Some index → c.right ≡ partner → AreLefts left right (lefts ++ index ∷ []) excess (changes ++ c ∷ [])
+  one_more_left lefts index partner excess changes c h is k e f =
+      let bidders = map (bidder_at left) lefts in
+      let now = waiting_after right excess excess bidders in
+      let after = without_partner partner now in
+      let more : map (bidder_at left) (lefts ++ index ∷ []) ≡ bidders ++ bidder_at left index ∷ [] = map_push (bidder_at left) lefts index in
+      let waiting : waiting_after right excess excess (map (bidder_at left) (lefts ++ index ∷ [])) ≡ after =
+      ap (waiting_after right excess excess) more ∙ waiting_more right excess excess bidders (bidder_at left index)
+      ∙ ap (λ (p : Option ℕ). without_partner p now) (sym is) in
+      let gone : TakesPartner now after partner =
+      subst (λ (p : Option ℕ). TakesPartner now (without_partner p now) p) (sym is) (taken right excess now (bidder_at left index) h.in_order) in
+      record {
+        each = All-push (IsBidderChange left right) changes c h.each k;
+        named = lefts-append changes (c ∷ [])
+            ∙ ap (λ (o : Option ℕ). lefts_of changes ++ filter_map (λ (p : Option ℕ). p) (o ∷ [])) e
+            ∙ ap (λ (xs : List ℕ). xs ++ index ∷ []) h.named;
+        each_left = All-push (λ (d : PlainBidderChange). is_some d.left ≡ true) changes c h.each_left (ap is_some e);
+        partners = map_push (λ (d : PlainBidderChange). d.right) changes c
+            ∙ ap₂ (λ (ps : List (Option ℕ)) (p : Option ℕ). ps ++ p ∷ []) h.partners (f ∙ is)
+            ∙ sym (ap (partners_of right excess excess) more ∙ partners_more right excess excess bidders (bidder_at left index));
+        taken = λ i.
+            let a = ap (count_of nat_cmp i) (rights-append changes (c ∷ [])) in
+            let b = count-append i (rights_of changes) (rights_of (c ∷ [])) in
+            let d = right_taken c partner f now after gone i in
+            let w = ap (count_of nat_cmp i) waiting in
+            let all = h.taken i in
+            omega arith;
+        in_order = subst IsRising (sym waiting) (still_rise now after partner gone h.in_order);
+      }
 
   pub no_rest : (before : List PlainBidderChange) → AreRest left right [] before before
   no_rest before = record {
@@ -105,10 +123,10 @@ module _ (left right : List (List (Atom (List ℕ)))) where
   }
 
   -- all of them
-  pub all_changes : (lefts before after rest : List ℕ) (some changes : List PlainBidderChange) → lefts ≡ excess_bidders left right
-      → before ≡ excess_bidders right left → rest ≡ after → AreLefts left right lefts before after some → AreRest left right rest some changes
-      → AreBidderChanges left right changes
-  all_changes lefts before after rest some changes e f g h k = record {
+  pub all_changes : (lefts excess rest : List ℕ) (some changes : List PlainBidderChange) → lefts ≡ excess_bidders left right
+      → excess ≡ excess_bidders right left → rest ≡ waiting_after right excess excess (map (bidder_at left) lefts) → AreLefts left right lefts excess some
+      → AreRest left right rest some changes → AreBidderChanges left right changes
+  all_changes lefts excess rest some changes e f g h k = record {
     each = subst (All (IsBidderChange left right)) (sym k.behind) (All-append (IsBidderChange left right) some k.added h.each k.each);
     lefts = ap lefts_of k.behind
         ∙ lefts-append some k.added
@@ -122,9 +140,11 @@ module _ (left right : List (List (Atom (List ℕ)))) where
         let d = ap (count_of nat_cmp i) f in
         let all = h.taken i in
         omega arith;
+    partners = ap (map (λ (c : PlainBidderChange). c.right)) firsts ∙ h.partners
+        ∙ ap₂ (λ (xs ys : List ℕ). partners_of right xs xs (map (bidder_at left) ys)) f e;
     alone_last = k.behind ∙ ap₂ (λ (xs ys : List PlainBidderChange). xs ++ ys) (sym firsts) (sym lasts);
     alone_in_order = subst (λ (xs : List PlainBidderChange). IsRising (rights_of xs)) (sym lasts)
-        (subst IsRising (sym (k.rights ∙ g)) (h.in_order (subst IsRising (sym f) (excess_rises right left))));
+        (subst IsRising (sym (k.rights ∙ g)) h.in_order);
   }
     where
       firsts : with_left changes ≡ some
@@ -142,7 +162,7 @@ module _ (left right : List (List (Atom (List ℕ)))) where
           (all_pass (λ c. is_none c.left) k.added (All-weaker (λ c. c.left ≡ None) (λ c. is_none c.left ≡ true) (λ c e. ap is_none e) k.added k.alone))
 
 -- those that still wait are of those that waited
-pub rest_within : (P : ℕ → Type 0) (left right : List (List (Atom (List ℕ)))) (lefts before after rest : List ℕ) (changes : List PlainBidderChange)
-    → AreLefts left right lefts before after changes → rest ≡ after → All P before → All P rest
-rest_within P left right lefts before after rest changes h e all =
-    subst (All P) (sym e) (All-counted P before after (λ i. let taken = h.taken i in omega arith) all)
+pub rest_within : (P : ℕ → Type 0) (left right : List (List (Atom (List ℕ)))) (lefts excess rest : List ℕ) (changes : List PlainBidderChange)
+    → AreLefts left right lefts excess changes → rest ≡ waiting_after right excess excess (map (bidder_at left) lefts) → All P excess → All P rest
+rest_within P left right lefts excess rest changes h e all =
+    subst (All P) (sym e) (All-counted P excess _ (λ i. let taken = h.taken i in omega arith) all)

@@ -1,5 +1,6 @@
 -- Lists: what is there behind a partial map or a test, how often, and that a list in a strict order is what it contains.
-use Rattle.std.proofs.Common.{◌≡◌, ℕ, ◌<◌, Bool, true, false, cond, ◌⊎◌, inl, inr, ⊎_elim, List, [], ◌∷◌, map, refl, sym, ap, ap₂, ◌∙◌, subst, arith, Option}
+use Rattle.std.proofs.Common.{◌≡◌, ℕ, zero, suc, ◌<◌, Bool, true, false, cond, ◌⊎◌, inl, inr, ⊎_elim, List, [], ◌∷◌, map, refl, sym, ap, ap₂, ◌∙◌, subst, arith}
+use Rattle.std.proofs.Common.{Option}
 use Rattle.std.proofs.Common.{Some, None, Ordering}
 use Rattle.std.proofs.Common.{nat_cmp}
 use Rattle.std.specs.Prelude.{All, AllPairs, Contains}
@@ -10,6 +11,7 @@ use Rattle.std.specs.Ordering.{is_eq}
 use Rattle.std.proofs.lemmas.Cmp.{tied_itself, nat_cmp_total}
 use Rattle.std.proofs.lemmas.List.Elements.{All-contains, All-head, All-tail}
 use Rattle.std.proofs.lemmas.List.Sums.{sum_by-cons}
+use Rattle.goods_set.specs.Bundles.{AreAbove}
 use Rattle.valuation.specs.Sorting.{count_of}
 use Rattle.valuation.specs.Lemmas.Lists.{Contains-cons_cases, AllPairs-head, AllPairs-tail}
 use Rattle.valuation.specs.Lemmas.Sorting.{sum_by-sort_by, sort_by-same}
@@ -44,6 +46,13 @@ none_pass p [] h = refl
 none_pass {X} p (x ∷ xs) h =
     ap (λ b. cond {A = List X} b (x ∷ filter p xs) (filter p xs)) (All-head (λ y. p y ≡ false) x xs h)
     ∙ none_pass p xs (All-tail (λ y. p y ≡ false) x xs h)
+
+-- ---- numbers that rise
+
+pub above_all : (x : ℕ) (xs : List ℕ) → AreAbove x xs → All (λ y. x < y) xs
+above_all x [] a k d l = absurd (omega arith)
+above_all x (y ∷ ys) a zero d l = a.0
+above_all x (y ∷ ys) a (suc k) d l = above_all x ys a.1 k d (omega arith)
 
 -- ---- how often
 

@@ -1,5 +1,9 @@
 -- Proofs that several functions of this crate cite.
 pub mod Waiting
+pub mod HoldersFound
+pub mod Partnering
+pub mod RarestBundle
+pub mod BidsOnBundles
 pub mod Changes
 pub mod BidsOfBidders
 pub mod LawsLists

@@ -1,5 +1,5 @@
 -- Two canonical files of the same auction are equal, and equal auctions have no differences.
-use Rattle.std.proofs.Common.{◌≡◌, ℕ, List, [], get_or, length, drop, refl, sym, ap, ◌∙◌, subst, Less}
+use Rattle.std.proofs.Common.{◌≡◌, ℕ, List, [], get_or, length, drop, refl, sym, ap, ◌∙◌, subst, Less, map}
 use Rattle.std.specs.List.{range_with_len}
 use Rattle.std.specs.Ordering.{nat_cmp}
 use Rattle.std.proofs.lemmas.Bool.{le-ltb}
@@ -17,7 +17,7 @@ use Rattle.canon.specs.Canonical.{IsCanonicalFile}
 use Rattle.canon.specs.Sameness.{AreSameFiles}
 use Rattle.canon.proofs.CanonicalAuctions.Atoms.{HasAtoms}
 use Rattle.canon.proofs.CanonicalAuctions.Sames.{HasAtoms-auction, same_canonical}
-use Rattle.differences.specs.BidderChanges.{AreBidderChanges, IsBidderChange, bidder_at, excess_bidders, is_excess}
+use Rattle.differences.specs.BidderChanges.{AreBidderChanges, IsBidderChange, bidder_at, excess_bidders, is_excess, partners_of}
 use Rattle.differences.specs.Differences.{AreAllDifferences, InBids}
 use Rattle.differences.specs.PriceChanges.{PlainChange, IsPriceChange, ArePriceChanges}
 use Rattle.differences.proofs.ExcessWalks.{count_from-le}
@@ -44,6 +44,8 @@ no_bidder_changes bidders = record {
   each = All-nil (IsBidderChange bidders bidders);
   lefts = sym (none_in_excess bidders);
   rights = λ index. ap (λ (xs : List ℕ). count_of nat_cmp index xs) (sym (none_in_excess bidders));
+  partners = sym (ap (λ (xs : List ℕ). partners_of bidders (excess_bidders bidders bidders) (excess_bidders bidders bidders) (map (bidder_at bidders) xs))
+      (none_in_excess bidders));
   alone_last = refl;
   alone_in_order = tt;
 }

@@ -1,7 +1,7 @@
 -- With the same partners there is one list of changes. The idea: the left bidders and their partners are given, and so is which
 -- right bidders are alone, in which order; and a change is determined by its bidders.
-use Rattle.std.proofs.Common.{◌≡◌, ℕ, zero, suc, ◌+◌, ◌<◌, true, List, [], ◌∷◌, ◌++◌, map, get_or, refl, sym, ap, ap₂, ◌∙◌, subst, arith, Option, Some, None}
-use Rattle.std.specs.Prelude.{All, AllPairs, Contains, is_some, ◌||◌}
+use Rattle.std.proofs.Common.{◌≡◌, ℕ, ◌+◌, ◌<◌, true, List, [], ◌∷◌, ◌++◌, map, get_or, refl, sym, ap, ap₂, ◌∙◌, subst, arith, Option, Some, None}
+use Rattle.std.specs.Prelude.{All, AllPairs, is_some, ◌||◌}
 use Rattle.std.specs.FinMap.{nat_cmp-IsAntisymmetric}
 use Rattle.std.specs.List.{cons_option, filter_map}
 use Rattle.std.specs.Option.{is_none}
@@ -9,7 +9,7 @@ use Rattle.std.specs.Ordering.{nat_cmp}
 use Rattle.std.proofs.lemmas.Cmp.{nat_cmp_total}
 use Rattle.std.proofs.lemmas.List.{append-nil}
 use Rattle.std.proofs.lemmas.List.Elements.{All-filter, All-head, All-tail, filter_passes}
-use Rattle.goods_set.specs.Bundles.{AreAbove, IsRising}
+use Rattle.goods_set.specs.Bundles.{IsRising}
 use Rattle.valuation.specs.declared.atom.Atom.{Atom}
 use Rattle.valuation.specs.Lemmas.Lists.{AllPairs-cons, AllPairs-nil}
 use Rattle.valuation.specs.Sorting.{count_of}
@@ -18,7 +18,7 @@ use Rattle.differences.specs.BidderChanges.{PlainBidderChange, IsBidderChange, A
 use Rattle.differences.specs.PriceChanges.{PlainChange, ArePriceChanges}
 use Rattle.differences.proofs.Changes.{count-append, lefts-append, no_lefts_alone, rights-append}
 use Rattle.differences.proofs.ExchangedChanges.{one_list_of_changes}
-use Rattle.differences.proofs.LawsLists.{same_in_strict_order, there_is_counted}
+use Rattle.differences.proofs.LawsLists.{above_all, same_in_strict_order, there_is_counted}
 
 -- ---- lists
 
@@ -45,14 +45,9 @@ map_of_none (c ∷ xs) all =
     ap₂ (λ (o : Option ℕ) (os : List (Option ℕ)). o ∷ os) (All-head (λ (d : PlainBidderChange). d.left ≡ None) c xs all)
     (map_of_none xs (All-tail (λ (d : PlainBidderChange). d.left ≡ None) c xs all))
 
-all_above : (x : ℕ) (xs : List ℕ) → AreAbove x xs → All (λ y. x < y) xs
-all_above x [] a k d l = absurd (omega arith)
-all_above x (y ∷ ys) a zero d l = a.0
-all_above x (y ∷ ys) a (suc k) d l = all_above x ys a.1 k d (omega arith)
-
 pairs_rise : (xs : List ℕ) → IsRising xs → AllPairs (λ x y. x < y) xs
 pairs_rise [] r = AllPairs-nil (λ x y. x < y)
-pairs_rise (x ∷ xs) r = AllPairs-cons (λ x y. x < y) x xs (all_above x xs r.0) (pairs_rise xs r.1)
+pairs_rise (x ∷ xs) r = AllPairs-cons (λ x y. x < y) x xs (above_all x xs r.0) (pairs_rise xs r.1)
 
 same_rising : (xs ys : List ℕ) → IsRising xs → IsRising ys → ((i : ℕ) → count_of nat_cmp i xs ≡ count_of nat_cmp i ys) → xs ≡ ys
 same_rising xs ys r s same =

@@ -1,27 +1,25 @@
 -- The bidders that wait for a partner: each is there or is taken, and what is taken is the only one that is gone.
-use Rattle.std.proofs.Common.{◌≡◌, ℕ, zero, suc, ◌+◌, ◌<◌, ◌≤◌, cond, List, [], ◌∷◌, ◌++◌, length, map, get_or, set, refl, sym, ap, subst, arith, Option, Some}
+use Rattle.std.proofs.Common.{◌≡◌, ◌==◌, ℕ, ◌+◌, ◌<◌, ◌≤◌, Bool, true, not, cond, ⊎_elim, List, [], ◌∷◌, ◌++◌, map, slice_get, refl, sym, ap, ◌∙◌, subst, arith}
+use Rattle.std.proofs.Common.{Option, Some}
 use Rattle.std.proofs.Common.{None}
-use Rattle.std.specs.Prelude.{All, Contains, IfSome}
+use Rattle.std.specs.Prelude.{All, Contains, IfSome, is_some}
 use Rattle.std.specs.FinMap.{nat_cmp-IsAntisymmetric}
-use Rattle.std.specs.List.{filter_map}
+use Rattle.std.specs.List.{filter, flat_map}
 use Rattle.std.specs.Ordering.{nat_cmp, is_eq}
 use Rattle.std.proofs.lemmas.Cmp.{nat_cmp_total}
-use Rattle.std.proofs.lemmas.List.Elements.{All-contains}
+use Rattle.std.proofs.lemmas.Bool.{eq-eqb, ne_eqb}
+use Rattle.std.proofs.lemmas.List.Elements.{All-cons, All-contains, All-nil}
 use Rattle.std.proofs.lemmas.List.Sums.{sum_by-append, sum_by-cons}
 use Rattle.goods_set.specs.Bundles.{AreAbove, IsRising}
-use Rattle.valuation.specs.Sorting.{count_of}
-use Rattle.prune.specs.Lemmas.Lists.{All-from_Contains, Contains-head}
+use Rattle.valuation.specs.declared.atom.Atom.{Atom}
+use Rattle.valuation.specs.Lemmas.Lists.{Contains-cons_cases}
+use Rattle.valuation.specs.Sorting.{count_of, sort_by}
+use Rattle.prune.specs.Lemmas.Lists.{All-from_Contains, Contains-filter_parts, Contains-head, Contains-nil}
 use Rattle.canon.specs.Lemmas.Finding.{counted_is_there}
+use Rattle.differences.specs.BidderChanges.{bidder_at, partner_of, partners_of, rarer, waiting_after, without_partner}
+use Rattle.differences.specs.PriceChanges.{price_on}
 use Rattle.differences.specs.Internal.Partners.{TakesPartner}
-use Rattle.differences.proofs.LawsLists.{there_is_counted}
-
--- the indices that are there
-abbrev pub there : List (Option ℕ) → List ℕ
-there indices = filter_map (λ index. index) indices
-
-pub there-map_Some : (xs : List ℕ) → there (map (λ x. Some x) xs) ≡ xs
-there-map_Some [] = refl
-there-map_Some (x ∷ xs) = ap (λ (zs : List ℕ). x ∷ zs) (there-map_Some xs)
+use Rattle.differences.proofs.LawsLists.{above_all, all_pass, there_is_counted}
 
 -- whether the index is this one
 abbrev one_if : ℕ → ℕ → ℕ
@@ -42,19 +40,76 @@ taken_counted before after index h i =
     let f = count-cons i index after in
     omega arith
 
--- behind one that stays
-taken_behind : (index : ℕ) (before after : List ℕ) (taken : Option ℕ) → TakesPartner before after taken → TakesPartner (index ∷ before) (index ∷ after) taken
-taken_behind index before after None h = ap (λ (zs : List ℕ). index ∷ zs) h
-taken_behind index before after (Some other) h = (index ∷ h.0, h.1, ap (λ (zs : List ℕ). index ∷ zs) h.2, ap (λ (zs : List ℕ). index ∷ zs) h.3)
+-- ---- the partner is one that waits
 
-pub taken_at : (indices : List (Option ℕ)) (k : ℕ) (d : Option ℕ) → k < length indices
-    → TakesPartner (there indices) (there (set indices k None)) (get_or indices k d)
-taken_at [] k d l = absurd (omega arith)
-taken_at (None ∷ rest) zero d l = refl
-taken_at (Some index ∷ rest) zero d l = ([], there rest, refl, refl)
-taken_at (None ∷ rest) (suc k) d l = taken_at rest k d (omega arith)
-taken_at (Some index ∷ rest) (suc k) d l =
-    taken_behind index (there rest) (there (set rest k None)) (get_or rest k d) (taken_at rest k d (omega arith))
+apart_above : (x : ℕ) (xs : List ℕ) → AreAbove x xs → All (λ y. not (y == x) ≡ true) xs
+apart_above x [] a = All-nil (λ y. not (y == x) ≡ true)
+apart_above x (y ∷ ys) a = All-cons (λ y. not (y == x) ≡ true) y ys (ap not (ne_eqb y x (λ e. let up = a.0 in absurd (omega arith)))) (apart_above x ys a.1)
+
+takes_one : (i : ℕ) (xs : List ℕ) → IsRising xs → Contains xs i → TakesPartner xs (filter (λ j. not (j == i)) xs) (Some i)
+takes_one i [] r c = absurd (Contains-nil i c)
+takes_one i (x ∷ xs) r c =
+    ⊎_elim
+    (λ (e : x ≡ i). (
+      [],
+      xs,
+      ap (λ (n : ℕ). n ∷ xs) e,
+      ap (λ b. cond {A = List ℕ} (not b) (x ∷ filter (λ j. not (j == i)) xs) (filter (λ j. not (j == i)) xs)) (eq-eqb x i e)
+          ∙ all_pass (λ j. not (j == i)) xs (subst (λ (n : ℕ). All (λ y. not (y == n) ≡ true) xs) e (apart_above x xs r.0)),
+    ))
+    (λ (d : Contains xs i).
+    let up : x < i = All-contains (λ y. x < y) xs i (above_all x xs r.0) d in
+    let rest = takes_one i xs r.1 d in (
+      x ∷ rest.0,
+      rest.1,
+      ap (λ (zs : List ℕ). x ∷ zs) rest.2,
+      ap (λ b. cond {A = List ℕ} (not b) (x ∷ filter (λ j. not (j == i)) xs) (filter (λ j. not (j == i)) xs)) (ne_eqb x i (λ e. absurd (omega arith)))
+          ∙ ap (λ (zs : List ℕ). x ∷ zs) rest.3,
+    ))
+    (Contains-cons_cases x xs i c)
+
+one_of_some : (has : List ℕ → ℕ → Bool) (waiting : List ℕ) (bundles : List (List ℕ)) (i : ℕ)
+    → slice_get (flat_map (λ b. filter (has b) waiting) bundles) 0 ≡ Some i → Contains waiting i
+one_of_some has waiting [] i e = absurd (cc)
+one_of_some has waiting (b ∷ bundles) i e = at (filter (has b) waiting) refl (one_of_some has waiting bundles i)
+  where
+    at : (xs : List ℕ) → filter (has b) waiting ≡ xs → (slice_get (flat_map (λ b. filter (has b) waiting) bundles) 0 ≡ Some i → Contains waiting i)
+        → Contains waiting i
+    at [] none later = later (sym (ap (λ (xs : List ℕ). slice_get (xs ++ flat_map (λ b. filter (has b) waiting) bundles) 0) none) ∙ e)
+    at (x ∷ xs) some later =
+        let is : x ≡ i = first x i (sym (ap (λ (ys : List ℕ). slice_get (ys ++ flat_map (λ b. filter (has b) waiting) bundles) 0) some) ∙ e) in
+        subst (Contains waiting) is
+        (Contains-filter_parts (has b) waiting x (subst (λ (ys : List ℕ). Contains ys x) (sym some) (Contains-head x xs))).0
+      where
+        first : (m n : ℕ) → Some m ≡ Some n → m ≡ n
+        first m n f = cc
+
+-- it is the only one that is gone
+pub taken : (right : List (List (Atom (List ℕ)))) (excess waiting : List ℕ) (bidder : List (Atom (List ℕ))) → IsRising waiting
+    → TakesPartner waiting (without_partner (partner_of right excess waiting bidder) waiting) (partner_of right excess waiting bidder)
+taken right excess waiting bidder r = at (partner_of right excess waiting bidder) refl
+  where
+    at : (p : Option ℕ) → partner_of right excess waiting bidder ≡ p → TakesPartner waiting (without_partner p waiting) p
+    at None e = refl
+    at (Some i) e =
+        takes_one i waiting r
+        (one_of_some (λ b j. is_some (price_on (bidder_at right j) b)) waiting (sort_by (rarer right excess) (map (λ a. a.bundle) bidder)) i e)
+
+-- one more left bidder
+pub waiting_more : (right : List (List (Atom (List ℕ)))) (excess waiting : List ℕ) (bidders : List (List (Atom (List ℕ)))) (bidder : List (Atom (List ℕ)))
+    → waiting_after right excess waiting (bidders ++ bidder ∷ [])
+    ≡ without_partner (partner_of right excess (waiting_after right excess waiting bidders) bidder) (waiting_after right excess waiting bidders)
+waiting_more right excess waiting [] bidder = refl
+waiting_more right excess waiting (b ∷ bidders) bidder =
+    waiting_more right excess (without_partner (partner_of right excess waiting b) waiting) bidders bidder
+
+pub partners_more : (right : List (List (Atom (List ℕ)))) (excess waiting : List ℕ) (bidders : List (List (Atom (List ℕ)))) (bidder : List (Atom (List ℕ)))
+    → partners_of right excess waiting (bidders ++ bidder ∷ [])
+    ≡ partners_of right excess waiting bidders ++ partner_of right excess (waiting_after right excess waiting bidders) bidder ∷ []
+partners_more right excess waiting [] bidder = refl
+partners_more right excess waiting (b ∷ bidders) bidder =
+    ap (λ (ps : List (Option ℕ)). partner_of right excess waiting b ∷ ps)
+    (partners_more right excess (without_partner (partner_of right excess waiting b) waiting) bidders bidder)
 
 -- ---- those that wait are in order
 

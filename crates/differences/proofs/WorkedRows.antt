@@ -28,6 +28,11 @@ right_alone price =
     past_change (0 ∷ []) [] [] (atom (0 ∷ []) price ∷ []) [] (behind_none (0 ∷ [])) (behind_one (0 ∷ []) price) [] (no_price_changes [])
     (change (0 ∷ []) None (Some price)) refl (record { on_left = refl; on_right = refl; differ = λ e. none-some price e })
 
+pub right_alone_behind : ArePriceChanges [] (atom (1 ∷ []) 4 ∷ []) (change (1 ∷ []) None (Some 4) ∷ [])
+right_alone_behind =
+    past_change (1 ∷ []) [] [] (atom (1 ∷ []) 4 ∷ []) [] (behind_none (1 ∷ [])) (behind_one (1 ∷ []) 4) [] (no_price_changes [])
+    (change (1 ∷ []) None (Some 4)) refl (record { on_left = refl; on_right = refl; differ = λ e. none-some 4 e })
+
 pub two_prices : ArePriceChanges (atom (0 ∷ []) 3 ∷ []) (atom (0 ∷ []) 4 ∷ []) (change (0 ∷ []) (Some 3) (Some 4) ∷ [])
 two_prices =
     past_change (0 ∷ []) (atom (0 ∷ []) 3 ∷ []) [] (atom (0 ∷ []) 4 ∷ []) [] (behind_one (0 ∷ []) 3) (behind_one (0 ∷ []) 4) [] (no_price_changes [])

@@ -1,13 +1,13 @@
 //! The XOR bidders that differ. They are those that the two files do not have equally often, each beside its partner.
 
-ghost use Rattle.std.specs.Prelude.{◌≡◌, ◌<◌, ◌≤◌, ◌||◌, ◌++◌, All, IfOk, IfSome, OnOk, is_some, length, map, true};
-ghost use Rattle.std.specs.List.{filter_map};
+ghost use Rattle.std.specs.Prelude.{◌≡◌, ◌<◌, ◌≤◌, ◌||◌, All, IfOk, IfSome, OnOk, is_some, length, map, true};
 ghost use Rattle.bid_file.specs.declared.limits.TheConstants.{MAX_DUMMY};
 ghost use Rattle.prune.specs.InOrder.{IsInOrder};
 ghost use Rattle.canon.specs.Bidders.{offers};
-ghost use Rattle.differences.specs.BidderChanges.{AreBidderChanges, IsBidderChange};
+ghost use Rattle.differences.specs.BidderChanges.{AreBidderChanges, IsBidderChange, bidder_at, waiting_after};
 ghost use Rattle.differences.specs.Internal.Changes.{AreLefts, AreRest};
 ghost use Rattle.differences.specs.Internal.Orders.{NeverFall};
+ghost use Rattle.differences.specs.Internal.Partners.{ArePartners};
 ghost use Rattle.differences.specs.Views.{plain_bidder_change};
 
 use crate::change::BidderChange;
@@ -35,7 +35,7 @@ pub(crate) fn bidder_changes<'a, B: Bids>(
 {
     let lefts = excess_bidders(alloc, left, right)?;
     let rights = excess_bidders(alloc, right, left)?;
-    let mut partners = Partners::of(alloc, right, &rights)?;
+    let mut partners = Partners::of(alloc, right, rights)?;
     let mut changes = left_changes(alloc, left, right, &lefts, &mut partners)?;
     let rest = partners.rest(alloc)?;
     push_rest(alloc, left, right, &rest, &mut changes)?;
@@ -48,18 +48,22 @@ fn left_changes<'a, B: Bids>(
     left: &[BidRun<'a, B>],
     right: &[BidRun<'a, B>],
     lefts: &[u32],
-    partners: &mut Partners<'_>,
+    partners: &mut Partners<'a>,
 ) -> Result<Vec<BidderChange<'a>>, AllocError>
     requires left_in_order { All IsInOrder (map offers left.now) }
     requires right_in_order { All IsInOrder (map offers right.now) }
     requires lefts { All (λ index. index < length left.now) lefts.now }
-    requires partners { All (λ index. index < length right.now) partners.old }
-    ensures { IfOk result (λ changes. AreLefts (map offers left.now) (map offers right.now) lefts.now partners.old
-        partners.new (map plain_bidder_change changes.items)) }
+    requires partners { ArePartners (map offers right.now) partners.old.excess.items partners.old }
+    ensures excess { OnOk result (partners.new.excess ≡ partners.old.excess) }
+    ensures partners { let excess = partners.old.excess.items in
+        OnOk result (ArePartners (map offers right.now) (waiting_after (map offers right.now) excess excess
+        (map (bidder_at (map offers left.now)) lefts.now)) partners.new) }
+    ensures lefts { IfOk result (λ changes. AreLefts (map offers left.now) (map offers right.now) lefts.now
+        partners.old.excess.items (map plain_bidder_change changes.items)) }
 {
     let mut changes = Vec::new(alloc);
     for index in lefts {
-        let partner = partners.take_for(&left[*index as usize])?;
+        let partner = partners.take_for(&left[*index as usize]);
         changes.push(change_of(alloc, left, right, Some(*index), partner)?)?;
     }
     Ok(changes)

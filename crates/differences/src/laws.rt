@@ -11,7 +11,6 @@ ghost use Rattle.canon.specs.Difference.{first_difference};
 ghost use Rattle.canon.specs.Sameness.{IsSameAuction};
 ghost use Rattle.differences.specs.PriceChanges.{PlainChange};
 ghost use Rattle.differences.specs.BidderChanges.{PlainBidderChange, AreBidderChanges, bidder_at, lefts_of, rights_of};
-ghost use Rattle.differences.specs.BidderChanges.{with_left};
 ghost use Rattle.differences.specs.Differences.{AreAllDifferences, BeginsWith, InBids, PlainDifferences, exchanged_change};
 ghost use Rattle.differences.specs.Differences.{is_none_at_all};
 
@@ -40,11 +39,10 @@ pub fn no_equal_bidders()
         → bidder_at left i ≢ bidder_at right j) changes }
 {}
 
-/// The partners of the left bidders are all that is left open: with the same ones, all changes are the same.
-pub fn partners_are_left_open()
+/// There is one list of changes.
+pub fn changes_are_determined()
     ensures { (left right : List (List (Atom (List ℕ)))) (one other : List PlainBidderChange)
-        → AreBidderChanges left right one → AreBidderChanges left right other
-        → map (λ c. c.right) (with_left one) ≡ map (λ c. c.right) (with_left other) → one ≡ other }
+        → AreBidderChanges left right one → AreBidderChanges left right other → one ≡ other }
 {}
 
 /// Exchanging the auctions exchanges left and right of each bundle, and the bidders that are named.

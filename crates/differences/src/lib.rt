@@ -3,13 +3,12 @@
 
 mod auctions;
 mod bidder_changes;
-mod bidder_set;
 mod change;
 mod excess;
+mod holders;
 pub mod laws;
 mod partners;
 mod price_changes;
-mod shared_bids;
 #[cfg(test)]
 mod tests;
 pub mod worked;

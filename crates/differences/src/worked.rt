@@ -4,7 +4,7 @@ ghost use Rattle.std.specs.Prelude.{◌≡◌, [], ◌∷◌, Some, None};
 ghost use Rattle.canon.specs.Difference.{InOr, InXor, NoDifference};
 ghost use Rattle.canon.specs.Examples.{auction};
 ghost use Rattle.canon.specs.declared.verdict.Side.TheVariants.{Exactly};
-ghost use Rattle.differences.specs.BidderChanges.{AreBidderChanges, excess_bidders};
+ghost use Rattle.differences.specs.BidderChanges.{AreBidderChanges, all_partners, excess_bidders};
 ghost use Rattle.differences.specs.Differences.{AreAllDifferences, BeginsWith, InBids, InGoods};
 ghost use Rattle.differences.specs.Examples.{atom, bidder_change, change};
 ghost use Rattle.differences.specs.PriceChanges.{ArePriceChanges, price_on};
@@ -37,6 +37,21 @@ pub fn price_changes_worked()
     ensures wrong_price { ¬ ArePriceChanges (atom (0 ∷ []) 3 ∷ []) [] (change (0 ∷ []) (Some 4) None ∷ []) }
 {}
 
+/// The partners of left bidders, by their bundles: one at another price; none on the bundle; the one on the bundle that
+/// fewer right ones have; each once; none that waits; and one on the next rarest bundle, since none waits on the rarest.
+pub fn partners()
+    ensures another_price { all_partners ((atom (0 ∷ []) 3 ∷ []) ∷ []) ((atom (0 ∷ []) 4 ∷ []) ∷ []) ≡ Some 0 ∷ [] }
+    ensures another_bundle { all_partners ((atom (0 ∷ []) 3 ∷ []) ∷ []) ((atom (1 ∷ []) 3 ∷ []) ∷ []) ≡ None ∷ [] }
+    ensures rarest { all_partners ((atom (0 ∷ []) 5 ∷ atom (1 ∷ []) 5 ∷ []) ∷ [])
+        ((atom (0 ∷ []) 1 ∷ []) ∷ (atom (0 ∷ []) 2 ∷ atom (1 ∷ []) 7 ∷ []) ∷ []) ≡ Some 1 ∷ [] }
+    ensures each_once { all_partners ((atom (0 ∷ []) 5 ∷ []) ∷ (atom (0 ∷ []) 6 ∷ []) ∷ [])
+        ((atom (0 ∷ []) 1 ∷ []) ∷ (atom (0 ∷ []) 2 ∷ []) ∷ []) ≡ Some 0 ∷ Some 1 ∷ [] }
+    ensures none_waits { all_partners ((atom (0 ∷ []) 5 ∷ []) ∷ (atom (0 ∷ []) 6 ∷ []) ∷ []) ((atom (0 ∷ []) 1 ∷ []) ∷ [])
+        ≡ Some 0 ∷ None ∷ [] }
+    ensures next_rarest { all_partners ((atom (1 ∷ []) 5 ∷ []) ∷ (atom (1 ∷ []) 6 ∷ atom (2 ∷ []) 6 ∷ []) ∷ [])
+        ((atom (1 ∷ []) 7 ∷ []) ∷ (atom (2 ∷ []) 1 ∷ []) ∷ (atom (2 ∷ []) 2 ∷ []) ∷ []) ≡ Some 0 ∷ Some 1 ∷ [] }
+{}
+
 /// A bidder of one file alone is a change; two bidders beside each other are one change; equal bidders are none. Bidders of
 /// the right file that are alone come last, in order.
 pub fn bidder_changes_worked()
@@ -47,7 +62,10 @@ pub fn bidder_changes_worked()
         (bidder_change (Some 0) (Some 0) (change (0 ∷ []) (Some 3) (Some 4) ∷ []) ∷ []) }
     ensures missing { ¬ AreBidderChanges ((atom (0 ∷ []) 3 ∷ []) ∷ []) [] [] }
     ensures right_missing { ¬ AreBidderChanges [] ((atom (0 ∷ []) 3 ∷ []) ∷ []) [] }
-    ensures left_first { AreBidderChanges ((atom (0 ∷ []) 3 ∷ []) ∷ []) ((atom (0 ∷ []) 4 ∷ []) ∷ [])
+    ensures left_first { AreBidderChanges ((atom (0 ∷ []) 3 ∷ []) ∷ []) ((atom (1 ∷ []) 4 ∷ []) ∷ [])
+        (bidder_change (Some 0) None (change (0 ∷ []) (Some 3) None ∷ [])
+        ∷ bidder_change None (Some 0) (change (1 ∷ []) None (Some 4) ∷ []) ∷ []) }
+    ensures apart { ¬ AreBidderChanges ((atom (0 ∷ []) 3 ∷ []) ∷ []) ((atom (0 ∷ []) 4 ∷ []) ∷ [])
         (bidder_change (Some 0) None (change (0 ∷ []) (Some 3) None ∷ [])
         ∷ bidder_change None (Some 0) (change (0 ∷ []) None (Some 4) ∷ []) ∷ []) }
     ensures right_first { ¬ AreBidderChanges ((atom (0 ∷ []) 3 ∷ []) ∷ []) ((atom (0 ∷ []) 4 ∷ []) ∷ [])

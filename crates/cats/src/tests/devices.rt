@@ -78,7 +78,8 @@ static RUNS: [(Run, &str, &str); 9] = [
     (Run::Normalise, CANONICAL, ""),
     (
         Run::Explain,
-        "0\tkeep\t0\n1\tkeep\t1\n2\tpacking\t0\t1\n",
+        "bid\tdummy\tprice\tgoods\treason\tkept\tby\n\
+        0\t\t3\t0\tkeep\t0\t\n1\t\t4\t1\tkeep\t1\t\n2\t\t7\t0,1\tpacking\t\t0,1\n",
         "",
     ),
     (Run::CompareFirst, "same\n", "first: "),

@@ -162,7 +162,7 @@ const TWO_COPIES: &str = "goods 1\nbids 2\ndummy 2\n0\t3\t0\t1\t#\n1\t3\t0\t2\t#
 /// A bidder of three bids.
 const THREE_BIDS: &str = "goods 3\nbids 3\ndummy 1\n0\t1\t0\t3\t#\n1\t2\t1\t3\t#\n2\t3\t2\t3\t#\n";
 
-/// Two bidders on the same goods, of which the first has one bid in common with that bidder and the second two.
+/// Two bidders on the same goods. The second is the first of the canonical file.
 const SHARE_ONE_AND_TWO: &str =
     "goods 3\nbids 6\ndummy 2\n0\t1\t0\t3\t#\n1\t9\t1\t3\t#\n2\t9\t2\t3\t#\n3\t1\t0\t4\t#\n4\t2\t1\t4\t#\n5\t4\t2\t4\t#\n";
 
@@ -205,12 +205,12 @@ fn single_bidders(rt: HostRuntime) -> Result<(), Fail> {
                 "xor\t3\t-\nbid\t0\t1\t-\n",
                 "xor\t-\t3\nbid\t0\t-\t1\n",
             ),
-            // no bid in common
+            // no bundle in common
             (
-                "goods 1\nbids 1\ndummy 1\n0\t1\t0\t1\t#\n",
-                "goods 1\nbids 1\ndummy 1\n0\t2\t0\t1\t#\n",
-                "xor\t1\t-\nbid\t0\t1\t-\nxor\t-\t1\nbid\t0\t-\t2\n",
-                "xor\t1\t-\nbid\t0\t2\t-\nxor\t-\t1\nbid\t0\t-\t1\n",
+                "goods 2\nbids 1\ndummy 1\n0\t1\t0\t2\t#\n",
+                "goods 2\nbids 1\ndummy 1\n0\t2\t1\t2\t#\n",
+                "xor\t2\t-\nbid\t0\t1\t-\nxor\t-\t2\nbid\t1\t-\t2\n",
+                "xor\t2\t-\nbid\t1\t2\t-\nxor\t-\t2\nbid\t0\t-\t1\n",
             ),
         ],
     )
@@ -221,6 +221,13 @@ fn bidders_beside_each_other(rt: HostRuntime) -> Result<(), Fail> {
     differ_both_ways(
         &rt,
         &[
+            // another price of the only bid
+            (
+                "goods 1\nbids 1\ndummy 1\n0\t1\t0\t1\t#\n",
+                "goods 1\nbids 1\ndummy 1\n0\t2\t0\t1\t#\n",
+                "xor\t1\t1\nbid\t0\t1\t2\n",
+                "xor\t1\t1\nbid\t0\t2\t1\n",
+            ),
             // another price of one bid, and the dummy goods of the two files
             (
                 "goods 2\nbids 2\ndummy 1\n0\t5\t0\t2\t#\n1\t8\t0\t1\t2\t#\n",
@@ -235,14 +242,21 @@ fn bidders_beside_each_other(rt: HostRuntime) -> Result<(), Fail> {
                 "xor\t3\t3\nbid\t1\t7\t6\nbid\t1,2\t-\t7\n",
                 "xor\t3\t3\nbid\t1\t6\t7\nbid\t1,2\t7\t-\n",
             ),
-            // two bidders of each file, one bid in common with either
+            // two bidders of each file, bundles in common with either
             (
                 APART,
                 TOGETHER,
                 "xor\t2\t2\nbid\t1\t2\t1\nbid\t0,1\t-\t2\nxor\t3\t3\nbid\t1\t1\t2\n",
                 "xor\t2\t2\nbid\t1\t1\t2\nbid\t0,1\t2\t-\nxor\t3\t3\nbid\t1\t2\t1\n",
             ),
-            // the one that has more bids in common
+            // the one on the rarest bundle, and the first on that
+            (
+                "goods 2\nbids 2\ndummy 1\n0\t5\t0\t2\t#\n1\t5\t1\t2\t#\n",
+                "goods 2\nbids 3\ndummy 2\n0\t1\t0\t2\t#\n1\t2\t0\t3\t#\n2\t7\t1\t3\t#\n",
+                "xor\t2\t3\nbid\t0\t5\t2\nbid\t1\t5\t7\nxor\t-\t2\nbid\t0\t-\t1\n",
+                "xor\t2\t2\nbid\t0\t1\t5\nbid\t1\t-\t5\nxor\t3\t-\nbid\t0\t2\t-\nbid\t1\t7\t-\n",
+            ),
+            // bundles that are as rare: the first bidder
             (
                 THREE_BIDS,
                 SHARE_ONE_AND_TWO,

@@ -19,11 +19,12 @@ fn explained(alloc: Global, text: &[u8], fails: bool, limit: u64) -> Result<RunA
     answer_of(alloc, answer, out)
 }
 
-/// Each text under its limit, and the lines of its bids.
-fn gives(rt: &(impl Abort + AllocGlobal), rows: &[(&str, u64, &str)]) -> Result<(), Fail> {
-    for (text, limit, lines) in rows {
+/// Each text under its limit, and the rows of its bids.
+fn gives(rt: &(impl Abort + AllocGlobal), cases: &[(&str, u64, &str)]) -> Result<(), Fail> {
+    for (text, limit, rows) in cases {
+        let table = format!(in rt.alloc(); "bid\tdummy\tprice\tgoods\treason\tkept\tby\n{rows}")?;
         let answer = explained(rt.alloc(), text.as_bytes(), false, *limit)?;
-        expect(rt, &answer, 0, lines, "");
+        expect(rt, &answer, 0, table.as_str(), "");
     }
     Ok(())
 }
@@ -45,47 +46,47 @@ fn or_bids(rt: HostRuntime) -> Result<(), Fail> {
             (
                 LARGER_BID,
                 STEPS,
-                "0\tkeep\t0\n1\tkeep\t1\n2\tpacking\t0\t1\n",
+                "0\t\t3\t0\tkeep\t0\t\n1\t\t4\t1\tkeep\t1\t\n2\t\t7\t0,1\tpacking\t\t0,1\n",
             ),
             (
                 "goods 2\nbids 4\ndummy 0\n0\t8\t0\t1\t#\n1\t3\t0\t#\n2\t4\t1\t#\n3\t8\t0\t1\t#\n",
                 STEPS,
-                "0\tkeep\t2\n1\tkeep\t0\n2\tkeep\t1\n3\tsame\t0\n",
+                "0\t\t8\t0,1\tkeep\t2\t\n1\t\t3\t0\tkeep\t0\t\n2\t\t4\t1\tkeep\t1\t\n3\t\t8\t0,1\tsame\t\t0\n",
             ),
             (
                 SINGLES_BELOW_TRIPLE,
                 1,
-                "0\tkeep\t0\n1\tkeep\t1\n2\tkeep\t2\n3\tkeep\t3\n",
+                "0\t\t1\t0\tkeep\t0\t\n1\t\t1\t1\tkeep\t1\t\n2\t\t1\t2\tkeep\t2\t\n3\t\t4\t0,1,2\tkeep\t3\t\n",
             ),
             (
                 TRIPLE_REACHED,
                 4,
-                "0\tkeep\t0\n1\tkeep\t1\n2\tkeep\t2\n3\tpacking\t0\t1\t2\n",
+                "0\t\t2\t0\tkeep\t0\t\n1\t\t2\t1\tkeep\t1\t\n2\t\t2\t2\tkeep\t2\t\n3\t\t5\t0,1,2\tpacking\t\t0,1,2\n",
             ),
             (
                 "goods 2\nbids 4\ndummy 0\n0\t1\t0\t#\n1\t1\t0\t#\n2\t1\t1\t#\n3\t3\t0\t1\t#\n",
                 4,
-                "0\tkeep\t0\n1\tsame\t0\n2\tkeep\t1\n3\tkeep\t2\n",
+                "0\t\t1\t0\tkeep\t0\t\n1\t\t1\t0\tsame\t\t0\n2\t\t1\t1\tkeep\t1\t\n3\t\t3\t0,1\tkeep\t2\t\n",
             ),
             (
                 "goods 1\nbids 3\ndummy 0\n2\t1\t0\t#\n0\t3\t0\t#\n1\t2\t0\t#\n",
                 STEPS,
-                "0\tkeep\t0\n1\tsame\t0\n2\tsame\t0\n",
+                "0\t\t3\t0\tkeep\t0\t\n1\t\t2\t0\tsame\t\t0\n2\t\t1\t0\tsame\t\t0\n",
             ),
             (
                 "goods 1\nbids 3\ndummy 0\n0\t3\t0\t#\n1\t3\t0\t#\n2\t3\t0\t#\n",
                 STEPS,
-                "0\tkeep\t0\n1\tsame\t0\n2\tsame\t0\n",
+                "0\t\t3\t0\tkeep\t0\t\n1\t\t3\t0\tsame\t\t0\n2\t\t3\t0\tsame\t\t0\n",
             ),
             (
                 "goods 2\nbids 3\ndummy 0\n0 1.50 0 #\n1 02.25 1 #\n2 3.75 0 1 #\n",
                 STEPS,
-                "0\tkeep\t0\n1\tkeep\t1\n2\tpacking\t0\t1\n",
+                "0\t\t1.5\t0\tkeep\t0\t\n1\t\t2.25\t1\tkeep\t1\t\n2\t\t3.75\t0,1\tpacking\t\t0,1\n",
             ),
             (
                 "goods 2\nbids 3\ndummy 0\n0 1.50 0 #\n1 02.25 1 #\n2 3.750001 0 1 #\n",
                 STEPS,
-                "0\tkeep\t0\n1\tkeep\t1\n2\tkeep\t2\n",
+                "0\t\t1.5\t0\tkeep\t0\t\n1\t\t2.25\t1\tkeep\t1\t\n2\t\t3.750001\t0,1\tkeep\t2\t\n",
             ),
         ],
     )
@@ -99,34 +100,35 @@ fn xor_bidders(rt: HostRuntime) -> Result<(), Fail> {
             (
                 "goods 2\nbids 3\ndummy 1\n0\t5\t0\t2\t#\n1\t5\t0\t1\t2\t#\n2\t6\t0\t1\t2\t#\n",
                 STEPS,
-                "0\tkeep\t0\n1\tsame\t2\n2\tkeep\t1\n",
+                "0\t0\t5\t0\tkeep\t0\t\n1\t0\t5\t0,1\tsame\t\t2\n2\t0\t6\t0,1\tkeep\t1\t\n",
             ),
             (
                 "goods 2\nbids 3\ndummy 1\n0\t3\t0\t1\t2\t#\n1\t3\t1\t2\t#\n2\t2\t0\t2\t#\n",
                 STEPS,
-                "0\tinside\t1\n1\tkeep\t1\n2\tkeep\t0\n",
+                "0\t0\t3\t0,1\tinside\t\t1\n1\t0\t3\t1\tkeep\t1\t\n2\t0\t2\t0\tkeep\t0\t\n",
             ),
             (
                 "goods 2\nbids 2\ndummy 2\n0\t0\t0\t2\t#\n1\t2\t1\t3\t#\n",
                 STEPS,
-                "0\tzero\n1\tkeep\t0\n",
+                "0\t0\t0\t0\tzero\t\t\n1\t1\t2\t1\tkeep\t0\t\n",
             ),
             ("goods 2\nbids 0\ndummy 3\n", STEPS, ""),
             (
                 "goods 2\nbids 5\ndummy 2\n0\t1\t0\t2\t#\n1\t2\t0\t1\t2\t#\n2\t1\t0\t3\t#\n3\t1\t0\t1\t3\t#\n\
                 4\t2\t0\t1\t3\t#\n",
                 STEPS,
-                "0\tkeep\t0\n1\tkeep\t1\n2\tkeep\t2\n3\tsame\t4\n4\tkeep\t3\n",
+                "0\t0\t1\t0\tkeep\t0\t\n1\t0\t2\t0,1\tkeep\t1\t\n2\t1\t1\t0\tkeep\t2\t\n\
+                3\t1\t1\t0,1\tsame\t\t4\n4\t1\t2\t0,1\tkeep\t3\t\n",
             ),
             (
                 "goods 2\nbids 4\ndummy 2\n0\t2\t0\t2\t#\n1\t1\t1\t2\t#\n2\t1\t0\t3\t#\n3\t2\t1\t3\t#\n",
                 STEPS,
-                "0\tkeep\t2\n1\tkeep\t3\n2\tkeep\t0\n3\tkeep\t1\n",
+                "0\t0\t2\t0\tkeep\t2\t\n1\t0\t1\t1\tkeep\t3\t\n2\t1\t1\t0\tkeep\t0\t\n3\t1\t2\t1\tkeep\t1\t\n",
             ),
             (
                 "%% a comment\n\ngoods 3\nbids 2\ndummy 1\n\n0\t20\t0\t2\t3\t#\n1\t7\t1\t#\n",
                 STEPS,
-                "0\tkeep\t1\n1\tkeep\t0\n",
+                "0\t0\t20\t0,2\tkeep\t1\t\n1\t\t7\t1\tkeep\t0\t\n",
             ),
         ],
     )
@@ -156,14 +158,14 @@ fn refusals(rt: HostRuntime) -> Result<(), Fail> {
 /// The most bids on one good, each at its number: the last is kept.
 #[test]
 fn many_bids(rt: HostRuntime) -> Result<(), Fail> {
-    let mut lines = String::from_str(rt.alloc(), "0\tzero\n")?;
-    for bid in 1u32..65_535 {
-        write!(lines, "{bid}\tsame\t65535\n")?;
-    }
-    lines.push_str("65535\tkeep\t0\n")?;
-    for (dummy, end) in &[(0, "\t#"), (1, "\t1\t#")] {
+    for (dummy, end, cell) in &[(0, "\t#", ""), (1, "\t1\t#", "0")] {
         let text = bids_on_one_good(rt.alloc(), *dummy, end)?;
-        gives(&rt, &[(text.as_str(), STEPS, lines.as_str())])?;
+        let mut rows = format!(in rt.alloc(); "0\t{cell}\t0\t0\tzero\t\t\n")?;
+        for bid in 1u32..65_535 {
+            write!(rows, "{bid}\t{cell}\t{bid}\t0\tsame\t\t65535\n")?;
+        }
+        write!(rows, "65535\t{cell}\t65535\t0\tkeep\t0\t\n")?;
+        gives(&rt, &[(text.as_str(), STEPS, rows.as_str())])?;
     }
     Ok(())
 }

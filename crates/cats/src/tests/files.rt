@@ -307,7 +307,8 @@ static LARGER_BID_ROWS: [Row<'static>; 16] = [
         CAPACITY,
         CAPACITY,
         0,
-        "0\tkeep\t0\n1\tkeep\t1\n2\tpacking\t0\t1\n",
+        "bid\tdummy\tprice\tgoods\treason\tkept\tby\n\
+        0\t\t3\t0\tkeep\t0\t\n1\t\t4\t1\tkeep\t1\t\n2\t\t7\t0,1\tpacking\t\t0,1\n",
         "",
     ),
     (
@@ -323,7 +324,7 @@ static LARGER_BID_ROWS: [Row<'static>; 16] = [
         8,
         CAPACITY,
         5,
-        "0\tkeep\t0",
+        "bid\tdumm",
         "output failed after 8 bytes\n",
     ),
     (

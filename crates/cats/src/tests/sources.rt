@@ -136,7 +136,8 @@ static ROWS: [Row<'static>; 36] = [
     (
         &["cats", "explain", "bidders"],
         0,
-        "0\tkeep\t1\n1\tkeep\t2\n2\tkeep\t3\n3\tkeep\t0\n",
+        "bid\tdummy\tprice\tgoods\treason\tkept\tby\n\
+        0\t0\t1\t0\tkeep\t1\t\n1\t2\t1\t0\tkeep\t2\t\n2\t2\t2\t1\tkeep\t3\t\n3\t\t9\t1\tkeep\t0\t\n",
         "",
     ),
     (

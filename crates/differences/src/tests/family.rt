@@ -50,7 +50,7 @@ fn up_to(state: &mut u64, most: u64) -> u64 {
     (*state >> 33) % most.saturating_add(1).max(1)
 }
 
-/// The goods of a bid, mostly one, and a dummy good or, in one of ten bids, none. So many bidders have a bid in common.
+/// The goods of a bid, mostly one, and a dummy good or, in one of ten bids, none. So many bidders have a bundle in common.
 fn push_goods(
     alloc: Global,
     state: &mut u64,
@@ -164,28 +164,36 @@ fn excess_of(
     Ok(excess)
 }
 
-/// How many bids two bidders have in common.
-fn shared_bids(one: &Prices, other: &Prices) -> usize {
-    (0..BUNDLES.len())
-        .filter(|place| one[*place].is_some() && one[*place] == other[*place])
+/// How many of the bidders have a bid on the bundle.
+fn count_on(bidders: &[XorBidder], bundle: usize) -> usize {
+    bidders
+        .iter()
+        .filter(|bidder| bundle < BUNDLES.len() && bidder.prices[bundle].is_some())
         .count()
 }
 
-/// Takes the first of the waiting bidders that has most bids in common with the prices, if any has one.
-fn take_partner(prices: &Prices, waiting: &mut Vec<XorBidder>) -> Option<XorBidder> {
-    let mut partner = None;
-    let mut most = 0;
-    for (place, bidder) in waiting.iter().enumerate() {
-        let shared = shared_bids(prices, &bidder.prices);
-        if shared > most {
-            partner = Some(place);
-            most = shared;
+/// Takes the first of the waiting bidders on the rarest bundle with a price on which one waits, if there is one.
+fn take_partner(
+    prices: &Prices,
+    excess: &[XorBidder],
+    waiting: &mut Vec<XorBidder>,
+) -> Option<XorBidder> {
+    let mut rarest = None;
+    let mut fewest = usize::MAX;
+    for (bundle, price) in prices.iter().enumerate() {
+        let count = count_on(excess, bundle);
+        if price.is_some() && count_on(waiting, bundle) > 0 && count < fewest {
+            rarest = Some(bundle);
+            fewest = count;
         }
     }
-    match partner {
-        Some(place) if place < waiting.len() => Some(waiting.remove(place)),
-        _ => None,
+    let bundle = rarest?;
+    for place in 0..waiting.len() {
+        if count_on(&waiting[place..place + 1], bundle) > 0 {
+            return Some(waiting.remove(place));
+        }
     }
+    None
 }
 
 /// The prices of the bidder, and none beside no bidder.
@@ -215,10 +223,11 @@ fn bidder_changes(
 ) -> Result<Vec<BidderChange<'static>>, AllocError> {
     let bidders = xor_bidders(alloc, left)?;
     let others = xor_bidders(alloc, right)?;
-    let mut waiting = excess_of(alloc, &others, &bidders)?;
+    let excess = excess_of(alloc, &others, &bidders)?;
+    let mut waiting = excess.clone()?;
     let mut changes = Vec::new(alloc);
     for bidder in excess_of(alloc, &bidders, &others)? {
-        let partner = take_partner(&bidder.prices, &mut waiting);
+        let partner = take_partner(&bidder.prices, &excess, &mut waiting);
         changes.push(bidder_change(alloc, Some(bidder), partner)?)?;
     }
     for bidder in waiting {

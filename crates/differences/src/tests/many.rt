@@ -1,4 +1,4 @@
-//! Many bidders, so that some bids are rare among them and one is common.
+//! Many bidders, so that some bundles are rare among them and others common.
 
 ghost use Rattle.std.specs.Prelude.{◌<◌, ◌≤◌};
 
@@ -30,7 +30,7 @@ fn text_at(alloc: Global, price: u64) -> Result<String, AllocError> {
     Ok(text)
 }
 
-/// Each bidder is beside the one that has its rare bid too, and not beside the first that has the common one.
+/// Each bidder is beside the one that has its rare bundle too, and not beside the first that has the common one.
 #[test]
 fn rare_and_common_bids(rt: HostRuntime) -> Result<(), Fail> {
     let alloc = rt.alloc();
@@ -82,7 +82,7 @@ fn text_of_pairs(
     Ok(text)
 }
 
-/// Two right bidders share a rare bid with each left one: the first of them is its partner.
+/// Two right bidders have the rarest bundle of each left one: the first of them is its partner.
 #[test]
 fn first_of_two_partners(rt: HostRuntime) -> Result<(), Fail> {
     let alloc = rt.alloc();
@@ -145,22 +145,24 @@ fn text_of_one(alloc: Global) -> Result<String, AllocError> {
     Ok(text)
 }
 
-/// All right bidders share one common bid with each left one: the first that waits is its partner, also behind 64 that do
-/// not.
+/// The two common bundles are as rare: of those on the first one the first that waits is the partner, also behind many that
+/// do not.
 #[test]
 fn first_of_many_partners(rt: HostRuntime) -> Result<(), Fail> {
     let alloc = rt.alloc();
     let mut lines = String::new(alloc);
     for bidder in 0..PAIRS {
-        let missing = COMMON[(bidder + 1) % 2];
+        let partner = 2 * bidder;
+        let missing = COMMON[1];
         let own = 3 * PAIRS + bidder;
         let line = format!(in alloc;
-            "bidder Some({bidder}) Some({bidder})\n[{bidder}] None Some(1000000)\n[{missing}] Some(3000000) None\n[{own}] Some(1000000) None\n"
+            "bidder Some({bidder}) Some({partner})\n[{partner}] None Some(1000000)\n[{missing}] Some(3000000) None\n[{own}] Some(1000000) None\n"
         )?;
         lines.push_str(&line)?;
     }
-    for bidder in PAIRS..2 * PAIRS {
-        let common = COMMON[bidder % 2];
+    for number in 0..PAIRS {
+        let bidder = 2 * number + 1;
+        let common = COMMON[1];
         let line = format!(in alloc;
             "bidder None Some({bidder})\n[{bidder}] None Some(1000000)\n[{common}] None Some(3000000)\n"
         )?;

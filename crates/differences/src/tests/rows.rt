@@ -93,38 +93,45 @@ static BIDDERS: [Row; 8] = [
         right: &["4 1 3"],
         lines: "bidder Some(0) None\n[0] Some(3000000) None\nbidder Some(1) None\n[1] Some(4000000) None\n",
     },
-    // no bid in common: another good, another price
+    // another good, and another price
     Row {
         left: &["1 0 3", "2 1 4"],
         right: &["1 2 3", "3 1 4"],
-        lines: "bidder Some(0) None\n[0] Some(1000000) None\nbidder Some(1) None\n[1] Some(2000000) None\n\
-bidder None Some(0)\n[1] None Some(3000000)\nbidder None Some(1)\n[2] None Some(1000000)\n",
+        lines: "bidder Some(0) None\n[0] Some(1000000) None\nbidder Some(1) Some(0)\n[1] Some(2000000) Some(3000000)\n\
+bidder None Some(1)\n[2] None Some(1000000)\n",
     },
 ];
 
-static PARTNERS: [Row; 7] = [
-    // the second has two bids in common, the first one
+static PARTNERS: [Row; 8] = [
+    // all bundles are as rare: the first, although the second has two bids in common
     Row {
         left: &["1 0 3", "2 1 3", "3 2 3"],
         right: &["1 0 3", "1 1 3", "7 2 3", "1 0 4", "2 1 4", "4 2 4"],
-        lines: "bidder Some(0) Some(1)\n[2] Some(3000000) Some(4000000)\n\
-bidder None Some(0)\n[0] None Some(1000000)\n[1] None Some(1000000)\n[2] None Some(7000000)\n",
+        lines: "bidder Some(0) Some(0)\n[1] Some(2000000) Some(1000000)\n[2] Some(3000000) Some(7000000)\n\
+bidder None Some(1)\n[0] None Some(1000000)\n[1] None Some(2000000)\n[2] None Some(4000000)\n",
     },
-    // each has one in common: the first
+    // the one on the rarest bundle
+    Row {
+        left: &["5 0 3", "5 1 3"],
+        right: &["1 0 3", "2 0 4", "7 1 4"],
+        lines: "bidder Some(0) Some(1)\n[0] Some(5000000) Some(2000000)\n[1] Some(5000000) Some(7000000)\n\
+bidder None Some(0)\n[0] None Some(1000000)\n",
+    },
+    // the first on the first bundle
     Row {
         left: &["1 0 3", "2 1 3"],
         right: &["1 0 4", "5 1 4", "1 0 3", "4 1 3"],
         lines: "bidder Some(0) Some(0)\n[1] Some(2000000) Some(4000000)\n\
 bidder None Some(1)\n[0] None Some(1000000)\n[1] None Some(5000000)\n",
     },
-    // the first, although it has the later bid in common
+    // whatever the prices
     Row {
         left: &["2 0 3", "2 1 3"],
         right: &["1 0 3", "2 1 3", "2 0 4", "1 1 4"],
         lines: "bidder Some(0) Some(0)\n[0] Some(2000000) Some(1000000)\n\
 bidder None Some(1)\n[0] None Some(2000000)\n[1] None Some(1000000)\n",
     },
-    // one that is beside another bidder is not taken again
+    // one that is beside another bidder is not taken again: the next rarest bundle
     Row {
         left: &["1 0 3", "2 1 3", "1 0 4", "3 1 4"],
         right: &["1 0 3", "4 1 3", "1 0 4", "5 2 4"],

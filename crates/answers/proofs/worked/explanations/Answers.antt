@@ -4,4 +4,4 @@ use Rattle.answers.proofs.worked.explanations.Goals as goal
 
 pub returns : goal.returns
 unfolding digits
-returns c = record { each_reason = refl; no_bids = refl; packing_of_one = refl; last_bid = refl }
+returns c = record { no_bids = refl; kept = refl; packing = refl; inside = refl; zero = refl; same = refl; two_bids = refl }

@@ -10,5 +10,6 @@ returns c = record {
   reasons = map plain_reason c.in_ok-reasons.reasons.items;
   explains = c.in_ok-reasons.ensures.reasons;
   is_status = refl;
-  is_text = c.in_ok-explanation_text.ensures ∙ ap (λ (reasons : List Reason). explanation_text (map plain_reason reasons)) c.as_slice.ensures.value;
+  is_text = c.in_ok-explanation_text.ensures
+      ∙ ap (λ (reasons : List Reason). explanation_text c.in_ok-file.file (map plain_reason reasons)) c.as_slice.ensures.value;
 }

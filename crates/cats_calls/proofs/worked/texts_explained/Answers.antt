@@ -31,4 +31,5 @@ returns-clause-reasons c =
 pub returns-clause-none_left_out : goal.returns-clause-none_left_out
 unfolding digits first_refused first_over search_steps_by cut_steps points_where is_or_point is_xor_point or_value xor_value
 returns-clause-none_left_out c =
-    λ h. eqb-false 49 48 refl (explained_first (bounded_options 1 None) (codes "goods 1\nbids 2\ndummy 0\n0 2 0 #\n1 3 0 #\n") 0 (codes "1\tkeep\t0\n") refl h)
+    λ h. eqb-false 49 48 refl (explained_first (bounded_options 1 None) (codes "goods 1\nbids 2\ndummy 0\n0 2 0 #\n1 3 0 #\n") 0
+    (codes "bid\tdummy\tprice\tgoods\treason\tkept\tby\n1\t\t3\t0\tkeep\t0\t\n") refl h)

@@ -1,13 +1,19 @@
-use Rattle.std.proofs.Common.{◌<◌, length, map, take}
-use Rattle.std.specs.Prelude.{All}
+use Rattle.std.proofs.Common.{◌≡◌, map, take}
 use Rattle.canon.specs.Bidders.{offers}
+use Rattle.differences.specs.BidderChanges.{bidder_at, waiting_after}
 use Rattle.differences.specs.Internal.Changes.{AreLefts}
+use Rattle.differences.specs.Internal.Partners.{ArePartners}
 use Rattle.differences.specs.Views.{plain_bidder_change}
 use Rattle.differences.proofs.bidder_changes.left_changes.Given as goal
 
--- the changes of the left bidders so far; those that still wait are bidders
+-- the changes of the left bidders so far, whose partners wait no more
 abbrev pub invariant-loop-index : goal.invariant-loop-index
-invariant-loop-index g l = record {
-  so_far : AreLefts (map offers l.left) (map offers l.right) (take l.index-index l.lefts) l.fn.partners l.partners (map plain_bidder_change l.changes.items);
-  waiting : All (λ index. index < length l.right) l.partners;
-}
+invariant-loop-index g l =
+    let left = map offers l.left in
+    let right = map offers l.right in
+    let excess = l.fn.partners.excess.items in
+    record {
+      same : l.partners.excess ≡ l.fn.partners.excess;
+      waiting : ArePartners right (waiting_after right excess excess (map (bidder_at left) (take l.index-index l.lefts))) l.partners;
+      so_far : AreLefts left right (take l.index-index l.lefts) excess (map plain_bidder_change l.changes.items);
+    }

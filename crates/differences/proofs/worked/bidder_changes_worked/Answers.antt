@@ -1,4 +1,4 @@
-use Rattle.std.proofs.Common.{◌≡◌, ℕ, ◌<◌, Bool, false, List, [], ◌∷◌, refl, ap, arith, Some, None}
+use Rattle.std.proofs.Common.{◌≡◌, ℕ, ◌<◌, Bool, false, List, [], ◌∷◌, refl, ap, arith, Option, Some, None}
 use Rattle.std.specs.Prelude.{All, is_some}
 use Rattle.std.proofs.lemmas.Bool.{both_ways}
 use Rattle.std.proofs.lemmas.List.Elements.{All-nil, All-cons}
@@ -6,7 +6,7 @@ use Rattle.valuation.specs.declared.atom.Atom.{Atom}
 use Rattle.differences.specs.BidderChanges.{IsBidderChange, PlainBidderChange}
 use Rattle.differences.specs.Examples.{atom, bidder_change, change}
 use Rattle.differences.proofs.SameAuctions.{no_bidder_changes}
-use Rattle.differences.proofs.WorkedRows.{left_alone, right_alone, two_prices}
+use Rattle.differences.proofs.WorkedRows.{left_alone, right_alone, right_alone_behind, two_prices}
 use Rattle.differences.proofs.worked.bidder_changes_worked.Goals as goal
 
 one_each : (left right : List (List (Atom (List ℕ)))) (c : PlainBidderChange) → IsBidderChange left right c → All (IsBidderChange left right) (c ∷ [])
@@ -35,6 +35,7 @@ returns-clause-left_only c = record {
       (record { some = refl; bids = left_alone });
   lefts = refl;
   rights = λ index. refl;
+  partners = refl;
   alone_last = refl;
   alone_in_order = tt;
 }
@@ -45,6 +46,7 @@ returns-clause-beside c = record {
       (bidder_change (Some 0) (Some 0) (change (0 ∷ []) (Some 3) (Some 4) ∷ [])) (record { some = refl; bids = two_prices });
   lefts = refl;
   rights = λ index. refl;
+  partners = refl;
   alone_last = refl;
   alone_in_order = tt;
 }
@@ -57,14 +59,21 @@ returns-clause-right_missing c = λ h. not_zero_one 0 refl (h.rights 0)
 
 pub returns-clause-left_first : goal.returns-clause-left_first
 returns-clause-left_first c = record {
-  each = two_each ((atom (0 ∷ []) 3 ∷ []) ∷ []) ((atom (0 ∷ []) 4 ∷ []) ∷ []) (bidder_change (Some 0) None (change (0 ∷ []) (Some 3) None ∷ []))
-      (bidder_change None (Some 0) (change (0 ∷ []) None (Some 4) ∷ [])) (record { some = refl; bids = left_alone })
-      (record { some = refl; bids = right_alone 4 });
+  each = two_each ((atom (0 ∷ []) 3 ∷ []) ∷ []) ((atom (1 ∷ []) 4 ∷ []) ∷ []) (bidder_change (Some 0) None (change (0 ∷ []) (Some 3) None ∷ []))
+      (bidder_change None (Some 0) (change (1 ∷ []) None (Some 4) ∷ [])) (record { some = refl; bids = left_alone })
+      (record { some = refl; bids = right_alone_behind });
   lefts = refl;
   rights = λ index. refl;
+  partners = refl;
   alone_last = refl;
   alone_in_order = (tt, tt);
 }
+
+not_alone : (o p : Option ℕ) → o ∷ [] ≡ p ∷ [] → o ≡ None → p ≡ Some 0 → ⊥
+not_alone o p e f g = absurd (cc)
+
+pub returns-clause-apart : goal.returns-clause-apart
+returns-clause-apart c = λ h. not_alone None (Some 0) h.partners refl refl
 
 pub returns-clause-right_first : goal.returns-clause-right_first
 returns-clause-right_first c = λ h. both_ways false refl (ap has_left_first h.alone_last)
@@ -76,6 +85,7 @@ returns-clause-rights_rise c = record {
       (record { some = refl; bids = right_alone 4 });
   lefts = refl;
   rights = λ index. refl;
+  partners = refl;
   alone_last = refl;
   alone_in_order = ((omega arith, tt), (tt, tt));
 }

@@ -1,0 +1,32 @@
+"""Bid files of combinatorial auctions, by the proved library libcats.
+
+A text is the bytes of a file, or its path as an os.PathLike. Each function does what the subcommand of its name does (`round_prices` what
+`cats round` does), and raises a CatsError for what that refuses. `read` makes an Auction of a text, with its bids as Python data. Any number
+of threads may call at once, and Python's lock is released during a call.
+
+>>> check(b"goods 3\\nbids 2\\ndummy 1\\n0 20 0 2 3 #\\n1 7 1 #\\n")
+Sizes(goods=3, bids=2, dummies=1)
+
+All searches are bounded, as those of the program with `--bound`. `steps` is the most steps of one search, and `total` those of all searches
+of one text together, if it is not None.
+
+The library is looked for in the folder of this package (`libcats.so`), then in the folder that holds the package (`libcats.so`,
+`libcats.so.0`), and then where the system looks for libraries (`libcats.so.0`, `libcats.so`).
+"""
+from cats._auction import Auction, read
+from cats._bids import Bid
+from cats._calls import check, compare, diff, explain, normalise, round_prices
+from cats._library import STEPS
+from cats._tables import Change, Difference, Reason, Rounded, Rows, Sizes, Verdict
+from cats.errors import CatsError, RefusedText, StepLimit, WantOfMemory
+
+__version__ = "0.1.0"
+
+__all__ = [
+    "STEPS", "check", "normalise", "explain", "round_prices", "compare", "diff", "read",
+    "Auction", "Bid", "Sizes", "Reason", "Rounded", "Change", "Verdict", "Difference", "Rows",
+    "CatsError", "RefusedText", "StepLimit", "WantOfMemory",
+]
+
+# The name that `round_prices` had before. It is not in `__all__`, as it is that of a function of Python.
+round = round_prices

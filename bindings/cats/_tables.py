@@ -1,0 +1,169 @@
+"""What the library prints, as Python data."""
+from __future__ import annotations
+
+import re
+from decimal import Decimal
+from typing import Callable, Iterator, List, NamedTuple, Optional, Sequence, Tuple, TypeVar, Union, overload
+
+from cats._bids import price_of
+from cats.errors import WantOfMemory
+
+Row = TypeVar("Row", covariant=True)
+
+# The line of a price that was rounded.
+CHANGE = re.compile(r"line (\d+): (.*) rounded to (\S+)")
+
+
+class Sizes(NamedTuple):
+    """How many goods, bids and dummy goods a file has."""
+
+    goods: int
+    bids: int
+    dummies: int
+
+
+class Reason(NamedTuple):
+    """A bid, and why the canonical text has it or not: `keep`, `zero`, `same`, `inside` or `packing`. `dummy` is the number of its dummy good
+    among the dummy goods, from 0, or None. `kept` is a kept bid's number in the canonical text, or None. `by` are the bids that
+    make another one superfluous."""
+
+    bid: int
+    dummy: Optional[int]
+    price: Decimal
+    goods: Tuple[int, ...]
+    reason: str
+    kept: Optional[int]
+    by: Tuple[int, ...]
+
+
+class Change(NamedTuple):
+    """A price whose value was rounded: its line, the word that the file has, and the price that is written."""
+
+    line: int
+    word: str
+    price: str
+
+
+class Rounded(NamedTuple):
+    """A text with its prices rounded, and the prices whose values changed."""
+
+    text: bytes
+    changes: Tuple[Change, ...]
+
+
+class Verdict(NamedTuple):
+    """Whether two texts are the same auction. If not, `kind` is `goods`, `or` or `xor`, `where` is the bundle or the bidder of the first
+    difference (None of `goods`), and `left` and `right` are what the first and the second text have there."""
+
+    same: bool
+    kind: Optional[str] = None
+    where: Optional[str] = None
+    left: Optional[str] = None
+    right: Optional[str] = None
+
+
+class Difference(NamedTuple):
+    """A line of `cats diff`. `kind` is `goods`, `or`, `xor` or `bid`, `where` is the bundle (None of `goods` and `xor`), and `left` and `right`
+    are what the first and the second text have, or None if a text has nothing there. Differences of the kind `bid` belong to
+    the last `xor` before them."""
+
+    kind: str
+    where: Optional[str]
+    left: Optional[str]
+    right: Optional[str]
+
+
+class Rows(Sequence[Row]):
+    """The rows of a table. The lines of the table are kept, and a row is made of its line when it is read.
+
+    It is equal to the list of its rows, and `list(rows)` makes that.
+    """
+
+    def __init__(self, lines: Sequence[bytes], row_of: Callable[[bytes], Row]) -> None:
+        self._lines, self._row_of = lines, row_of
+
+    def __len__(self) -> int:
+        return len(self._lines)
+
+    def __iter__(self) -> Iterator[Row]:
+        return map(self._row_of, self._lines)
+
+    @overload
+    def __getitem__(self, at: int) -> Row: ...
+
+    @overload
+    def __getitem__(self, at: slice) -> Rows[Row]: ...
+
+    def __getitem__(self, at: Union[int, slice]) -> Union[Row, Rows[Row]]:
+        if isinstance(at, slice):
+            return Rows(self._lines[at], self._row_of)
+        return self._row_of(self._lines[at])
+
+    def __eq__(self, other: object) -> bool:
+        if isinstance(other, (Rows, list)):
+            return list(self) == list(other)
+        return NotImplemented
+
+    def __repr__(self) -> str:
+        return f"Rows({list(self)})"
+
+
+def sizes_of(printed: bytes) -> Sizes:
+    """`goods G bids B dummy D`."""
+    goods, bids, dummies = printed.split()[1::2]
+    return Sizes(int(goods), int(bids), int(dummies))
+
+
+def reasons_of(printed: bytes) -> Rows[Reason]:
+    """A header, and a line for each bid."""
+    return Rows(printed.splitlines()[1:], reason_of)
+
+
+def reason_of(line: bytes) -> Reason:
+    bid, dummy, price, goods, reason, kept, by = line.split(b"\t")
+    return Reason(int(bid), number_in(dummy), price_of(price), numbers_in(goods), reason.decode("ascii"), number_in(kept), numbers_in(by))
+
+
+def number_in(cell: bytes) -> Optional[int]:
+    return int(cell) if cell else None
+
+
+def numbers_in(cell: bytes) -> Tuple[int, ...]:
+    return tuple(map(int, cell.split(b","))) if cell else ()
+
+
+def verdict_of(printed: bytes) -> Verdict:
+    """`same`; or `different`, where, and what is there on the left and on the right, each on a line."""
+    verdict, *lines = printed.decode("ascii").splitlines()
+    if verdict == "same":
+        return Verdict(True)
+    difference, left, right = (line.partition(" ") for line in lines)
+    return Verdict(False, difference[0], difference[2] or None, left[2], right[2])
+
+
+def differences_of(printed: bytes) -> Rows[Difference]:
+    """A line for each difference: its kind, perhaps a bundle, and what is on the left and on the right."""
+    return Rows(printed.splitlines(), difference_of)
+
+
+def difference_of(line: bytes) -> Difference:
+    kind, *words = line.decode("ascii").split("\t")
+    where = words[0] if kind in ("or", "bid") else None
+    left, right = words[-2:]
+    return Difference(kind, where, unless_dash(left), unless_dash(right))
+
+
+def unless_dash(word: str) -> Optional[str]:
+    return None if word == "-" else word
+
+
+def changes_of(printed: bytes) -> Tuple[Change, ...]:
+    """A line for each price that was rounded. In their place memory may be wanted."""
+    return tuple(map(change_of, printed.decode("ascii").splitlines()))
+
+
+def change_of(line: str) -> Change:
+    found = CHANGE.fullmatch(line)
+    if not found:
+        raise WantOfMemory(line)
+    return Change(int(found[1]), found[2], found[3])

@@ -1,0 +1,165 @@
+"""An Auction has the bids that the program shows, reads no more than is used, and can be written."""
+import copy
+import pathlib
+import pickle
+import random
+from decimal import Decimal
+
+import pytest
+from beside import answer_of_program, in_parallel, write_texts
+from texts import BIDS, made_texts, spelled_texts
+
+import cats
+import cats._auction
+
+TWO = [cats.Bid(0, Decimal("7.5"), (0, 1)), cats.Bid(1, Decimal(3), (0,), 2)]
+
+
+def layout_of(auction):
+    """The layout of docs/FORMAT.md, as the program shows a file."""
+    lines = [f"goods {auction.goods}", f"bids {len(auction.bids)}", f"dummy {auction.dummies}"]
+    for bid in auction.bids:
+        dummy = [] if bid.dummy is None else [bid.dummy]
+        lines.append("\t".join(map(str, [bid.number, bid.price, *bid.goods, *dummy, "#"])))
+    return "".join(line + "\n" for line in lines).encode()
+
+
+@pytest.fixture(scope="module")
+def shown(program, root, tmp_path_factory):
+    """Texts, with what `cats show` answers."""
+    texts = [path.read_bytes() for path in sorted(root.glob("examples/**/*.[ct]*")) if path.is_file()] + made_texts() + spelled_texts()
+    paths = write_texts(tmp_path_factory.mktemp("shown"), texts)
+    return list(zip(texts, in_parallel(answer_of_program, [(program, ["show"], [path]) for path in paths])))
+
+
+def test_bids_are_those_that_the_program_shows(shown):
+    statuses = []
+    for text, own in shown:
+        statuses.append(own.status)
+        if own.status == 0:
+            auction = cats.read(text)
+            assert (layout_of(auction), auction.text) == (own.out, text)
+            assert [bid.number for bid in auction.bids] == list(range(len(auction.bids)))
+            assert all(list(bid.goods) == sorted(bid.goods) and type(bid.price) is Decimal for bid in auction.bids)
+        else:
+            with pytest.raises(cats.RefusedText) as refused:
+                cats.read(text)
+            assert f"{refused.value}\n".encode() == own.out
+    assert statuses.count(0) > 500 and statuses.count(2) > 400
+
+
+def test_bids_can_be_written(shown):
+    """An auction that is made of the bids of another has these, and mostly its layout: it has no dummy goods behind those of its bids."""
+    for text, own in shown:
+        if own.status == 0:
+            auction = cats.read(text)
+            made = cats.Auction.from_bids(auction.goods, auction.bids)
+            assert made.bids == auction.bids and made.goods == auction.goods and made.dummies <= auction.dummies
+            assert made.text == own.out or made.dummies < auction.dummies
+
+
+def test_only_what_is_used_is_read(monkeypatch):
+    read = []
+    own_lines, own_bid = cats._auction.bid_lines, cats._auction.bid_of
+    monkeypatch.setattr(cats._auction, "bid_lines", lambda text: read.append("lines") or own_lines(text))
+    monkeypatch.setattr(cats._auction, "bid_of", lambda line, goods: read.append("bid") or own_bid(line, goods))
+    auction = cats.read(BIDS)
+    assert (auction.goods, auction.dummies, auction.text, repr(auction)) == (2, 0, BIDS, "<Auction goods=2 bids=2 dummies=0>")
+    assert auction.normalise().text == cats.normalise(BIDS) and auction.same_as(BIDS) and read == []
+    assert len(auction.bids) == 2 and read == ["lines"]
+    assert auction.bids[1] == cats.Bid(1, Decimal(4), (1,)) and read == ["lines", "bid"]
+
+
+def test_methods_answer_as_the_functions(root, tmp_path):
+    paths = [root / "examples" / name for name in ("ladder.cats", "ladder_with_synergy.cats", "ladder_rewritten.cats")]
+    one, other, same = map(cats.read, paths)
+    assert one.text == paths[0].read_bytes()
+    assert one.normalise().text == cats.normalise(paths[0]) == same.normalise().text
+    assert one.explain() == cats.explain(paths[0])
+    for right in (other, other.text, paths[1]):
+        assert one.diff(right) == cats.diff(paths[0], paths[1]) and len(one.diff(right)) == 1 and not one.same_as(right)
+    for right in (same, same.text, paths[2]):
+        assert one.same_as(right) and not one.diff(right)
+    for path in (tmp_path / "one", str(tmp_path / "two")):
+        one.write(path)
+        assert cats.read(pathlib.Path(path)).text == one.text
+
+
+def test_methods_keep_the_limits(root):
+    auction = cats.read(root / "examples/three_reach.cats")
+    for limits in ({"steps": 3}, {"total": 2}):
+        for call in (auction.normalise, auction.explain, lambda **it: auction.same_as(auction, **it), lambda **it: auction.diff(auction, **it)):
+            with pytest.raises(cats.StepLimit):
+                call(**limits)
+    for other in (BIDS.decode(), "examples/ladder.cats"):
+        with pytest.raises(TypeError):
+            auction.same_as(other)
+
+
+def test_an_auction_is_its_text_in_pickle_and_copy():
+    auction = cats.read(BIDS)
+    assert len(auction.bids) == 2
+    for made in (pickle.loads(pickle.dumps(auction)), copy.copy(auction), copy.deepcopy(auction)):
+        assert type(made) is cats.Auction and made.text == BIDS and made.bids == auction.bids
+    assert pickle.loads(pickle.dumps(auction.bids)) == auction.bids
+
+
+def test_from_bids_writes_what_is_given():
+    wanted = b"goods 2\nbids 2\ndummy 1\n0\t7.5\t0\t1\t#\n1\t3\t0\t2\t#\n"
+    assert cats.Auction.from_bids(2, TWO).text == wanted
+    assert cats.Auction.from_bids(2, iter([(0, Decimal("75e-1"), {1, 0}, None), (1, 3, [0], 2)])).text == wanted
+    assert cats.Auction.from_bids(2, reversed(TWO)).bids == TWO
+    assert cats.Auction.from_bids(3, []).text == b"goods 3\nbids 0\ndummy 0\n"
+    great = [cats.Bid(0, Decimal("1e12"), (0,)), cats.Bid(1, Decimal("0.000001"), (0,)), cats.Bid(2, Decimal("1E-6"), (0,)), cats.Bid(3, Decimal("0E+3"), (0,))]
+    assert cats.Auction.from_bids(1, great).bids == great
+
+
+@pytest.mark.parametrize("bid, fault", [
+    (cats.Bid(1, Decimal(3), (0,)), "line 4: BidNumber"),
+    (cats.Bid(-1, Decimal(3), (0,)), "line 4: NotANumber"),
+    (cats.Bid(0, Decimal(-3), (0,)), "line 4: NotANumber"),
+    (cats.Bid(0, Decimal("NaN"), (0,)), "line 4: NotANumber"),
+    (cats.Bid(0, Decimal("-0"), (0,)), "line 4: NotANumber"),
+    (cats.Bid(0, Decimal("Infinity"), (0,)), "line 4: NotANumber"),
+    (cats.Bid(0, Decimal("1000000000000.000001"), (0,)), "line 4: TooLarge"),
+    (cats.Bid(0, Decimal("1e-7"), (0,)), "line 4: TooFine"),
+    (cats.Bid(0, Decimal(3), ()), "line 4: EmptyBundle"),
+    (cats.Bid(0, Decimal(3), (0, 0)), "line 4: RepeatedGood"),
+    (cats.Bid(0, Decimal(3), (-1,)), "line 4: NotANumber"),
+    (cats.Bid(0, Decimal(3), (0,), 70_000), "line 3: TooLarge"),
+])
+def test_the_library_refuses_wrong_bids(bid, fault):
+    with pytest.raises(cats.RefusedText) as refused:
+        cats.Auction.from_bids(2, [bid])
+    assert str(refused.value) == fault
+
+
+@pytest.mark.parametrize("bid, error", [
+    (cats.Bid(0, Decimal(3), (0, 2)), ValueError),
+    (cats.Bid(0, Decimal(3), (0,), 1), ValueError),
+    (cats.Bid(0, Decimal(3), (0,), -1), ValueError),
+    (cats.Bid(0, 3.5, (0,)), TypeError),
+    (cats.Bid(0, "3", (0,)), TypeError),
+    (cats.Bid("0", Decimal(3), (0,)), TypeError),
+    (cats.Bid(0, Decimal(3), ("0",)), TypeError),
+    (cats.Bid(0, Decimal(3), (0.5,)), TypeError),
+    (cats.Bid(0, Decimal(3), (0,), 2.5), TypeError),
+])
+def test_no_bid_is_written_as_another(bid, error):
+    """A good is never taken for a dummy good, and what is no number is not rounded to one."""
+    with pytest.raises(error):
+        cats.Auction.from_bids(2, [bid])
+
+
+def test_random_bids_come_back():
+    choose = random.Random(5)
+    for _ in range(200):
+        goods, many = choose.randrange(1, 9), choose.randrange(9)
+        bids = []
+        for number in choose.sample(range(many), many):
+            price = Decimal(choose.randrange(10 ** choose.randrange(1, 18))).scaleb(-choose.randrange(7)) % 10**12
+            bundle = tuple(sorted(choose.sample(range(goods), choose.randrange(1, goods + 1))))
+            bids.append(cats.Bid(number, price, bundle, choose.choice([None, goods, goods + 3])))
+        auction = cats.Auction.from_bids(goods, bids)
+        assert auction.bids == sorted(bids, key=lambda bid: bid.number)
+        assert auction.normalise().same_as(auction)

@@ -1,0 +1,177 @@
+"""The package as a whole: its names, its version, its arguments, and where it finds the library."""
+import ast
+import builtins
+import doctest
+import importlib
+import mmap
+import os
+import pkgutil
+import re
+import shutil
+import subprocess
+import sys
+import tracemalloc
+import typing
+
+import pytest
+from texts import BIDS
+
+import cats
+
+MODULES = ["cats", *(f"cats.{it.name}" for it in pkgutil.iter_modules(cats.__path__))]
+
+# Each function of a text, with that text in each place.
+CALLS = {
+    "check": cats.check,
+    "normalise": cats.normalise,
+    "explain": cats.explain,
+    "round_prices": cats.round_prices,
+    "read": lambda text: cats.read(text).text,
+    "compare, left": lambda text: cats.compare(text, BIDS),
+    "compare, right": lambda text: cats.compare(BIDS, text),
+    "diff, left": lambda text: cats.diff(text, BIDS),
+    "diff, right": lambda text: cats.diff(BIDS, text),
+}
+
+
+@pytest.mark.parametrize("name", MODULES)
+def test_examples(name):
+    found = doctest.testmod(importlib.import_module(name))
+    assert found.failed == 0
+
+
+def test_there_are_examples():
+    assert sum(doctest.testmod(importlib.import_module(name)).attempted for name in MODULES) > 15
+
+
+def test_no_name_hides_one_of_python():
+    assert [name for name in cats.__all__ if hasattr(builtins, name) or not hasattr(cats, name)] == []
+    assert len(set(cats.__all__)) == len(cats.__all__)
+    assert cats.round is cats.round_prices
+    star = {}
+    exec("from cats import *", star)
+    assert "round" not in star and star["Auction"] is cats.Auction
+
+
+def test_version(root):
+    cited = re.search(r"^version: (\S+)$", (root / "CITATION.cff").read_text(), re.M)
+    assert cats.__version__ == cited[1]
+
+
+@pytest.mark.parametrize("name", MODULES)
+def test_sources_are_of_python_3_8(name):
+    """Its syntax is, and each module is short."""
+    path = importlib.import_module(name).__file__
+    with open(path, encoding="ascii") as file:
+        text = file.read()
+    ast.parse(text, feature_version=(3, 8))
+    assert text.count("\n") < 500
+
+
+def test_types_are_there():
+    """Each public function and method has types, which can be looked up."""
+    assert os.path.exists(os.path.join(os.path.dirname(cats.__file__), "py.typed"))
+    functions = [it for it in vars(cats).values() if callable(it) and not isinstance(it, type)]
+    functions += [it for it in vars(cats.Auction).values() if callable(it)]
+    assert len(functions) > 12
+    for function in functions:
+        assert "return" in (typing.get_type_hints(function) if sys.version_info >= (3, 9) else function.__annotations__)
+
+
+@pytest.mark.parametrize("call", CALLS.values(), ids=CALLS)
+def test_texts(call, tmp_path):
+    """A text is bytes or what is like bytes, or a path."""
+    path = tmp_path / "text"
+    path.write_bytes(BIDS)
+    wanted = call(BIDS)
+
+    class PathOfBytes:
+        def __fspath__(self):
+            return os.fsencode(path)
+
+    with open(path, "rb") as file, mmap.mmap(file.fileno(), 0, access=mmap.ACCESS_READ) as pages:
+        for text in (bytearray(BIDS), memoryview(BIDS), memoryview(BIDS + b" ")[:-1], pages, path, PathOfBytes()):
+            assert call(text) == wanted
+    with pytest.raises(FileNotFoundError):
+        call(tmp_path / "none")
+    for text in (None, 3, [1, 2]):
+        with pytest.raises(TypeError):
+            call(text)
+
+
+@pytest.mark.parametrize("call", CALLS.values(), ids=CALLS)
+@pytest.mark.parametrize("text", ["examples/ladder.cats", BIDS.decode()])
+def test_a_str_is_refused(call, text):
+    """With both ways to mend that, since it may be a path or a text."""
+    with pytest.raises(TypeError) as refused:
+        call(text)
+    assert "pathlib.Path(" in str(refused.value) and ".encode()" in str(refused.value)
+
+
+def test_limits():
+    for steps in (-1, 2**64):
+        with pytest.raises(ValueError):
+            cats.normalise(BIDS, steps)
+    for total in (0, -1, 2**64):
+        with pytest.raises(ValueError):
+            cats.normalise(BIDS, total=total)
+    assert cats.normalise(BIDS, 2**64 - 1, total=2**64 - 1) == cats.normalise(BIDS)
+    for limits in ({"steps": 3.0}, {"steps": None}, {"total": 3.0}):
+        with pytest.raises(TypeError):
+            cats.normalise(BIDS, **limits)
+
+
+def test_room():
+    """`round_prices` takes room for what it prints, and not for what it might."""
+    text = BIDS + b"%" * 1_000_000
+    tracemalloc.start()
+    rounded = cats.round_prices(text)
+    _, most = tracemalloc.get_traced_memory()
+    tracemalloc.stop()
+    assert rounded == (text, ()) and most < 2.5 * len(text)
+    many = b"goods 1\nbids 99\ndummy 0\n" + b"".join(b"%d 1.00000049 0 #\n" % at for at in range(99))
+    assert len(cats.round_prices(many).changes) == 99
+
+
+# ---- where the library is looked for
+
+def run_beside(folder, **environment):
+    """The path of the library that a package in a folder takes, or the last line of what it prints."""
+    words = [sys.executable, "-B", "-c", "import cats, cats._library; print(cats.check(b'goods 1\\nbids 0\\ndummy 0\\n').goods, cats._library.LIBRARY._name)"]
+    environment = {**os.environ, "PYTHONPATH": str(folder), **environment}
+    ran = subprocess.run(words, env=environment, cwd=folder, stdout=subprocess.PIPE, stderr=subprocess.STDOUT, universal_newlines=True)
+    return ran.stdout.splitlines()[-1]
+
+
+@pytest.fixture
+def installed(library, tmp_path):
+    """A folder with the package in it, without a library."""
+    shutil.copytree(library / "cats", tmp_path / "lib/cats", ignore=shutil.ignore_patterns("*.so*", "__pycache__"))
+    return tmp_path / "lib"
+
+
+def test_the_library_is_found(installed, library, tmp_path):
+    system = tmp_path / "system"
+    system.mkdir()
+    places = [(system, "libcats.so"), (system, "libcats.so.0"), (installed, "libcats.so.0"), (installed, "libcats.so"), (installed / "cats", "libcats.so")]
+    for folder, name in places:
+        shutil.copy(library / "libcats.so", folder / name)
+        found = run_beside(installed, LD_LIBRARY_PATH=str(system))
+        assert found == f"1 {name if folder == system else folder / name}"
+
+
+def test_no_library(installed, tmp_path):
+    found = run_beside(installed, LD_LIBRARY_PATH=str(tmp_path))
+    if not found.startswith("1 "):
+        assert found.startswith("ImportError: ") and str(installed) in found
+    (installed / "libcats.so").write_text("no library")
+    assert run_beside(installed).startswith(f"ImportError: the library cannot be loaded: {installed / 'libcats.so'}: ")
+
+
+def test_another_library(installed):
+    """A library that lacks a function is one of another version."""
+    import _ctypes
+
+    shutil.copy(_ctypes.__file__, installed / "libcats.so")
+    found = run_beside(installed)
+    assert found.startswith("ImportError: ") and "cats_check" in found and "version" in found

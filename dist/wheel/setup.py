@@ -1,0 +1,31 @@
+"""What pyproject.toml cannot say of the wheel: it has compiled code for any Python 3, and its script is a program."""
+from distutils.command.build_scripts import build_scripts
+
+from setuptools import Distribution, setup
+from wheel.bdist_wheel import bdist_wheel
+
+
+class Compiled(Distribution):
+    """The library is compiled code, though setuptools compiles nothing."""
+
+    def has_ext_modules(self):
+        return True
+
+
+class Wheel(bdist_wheel):
+    """No version of Python is named, as the package loads the library by `ctypes`."""
+
+    def get_tag(self):
+        return "py3", "none", self.plat_name
+
+
+class Scripts(build_scripts):
+    """The program as it is: the command of setuptools would read it as a text."""
+
+    def run(self):
+        self.mkpath(self.build_dir)
+        for script in self.scripts:
+            self.copy_file(script, self.build_dir)
+
+
+setup(scripts=["bin/cats"], distclass=Compiled, cmdclass={"bdist_wheel": Wheel, "build_scripts": Scripts})
