@@ -2,6 +2,7 @@
 pub mod Points
 pub mod Reached
 pub mod SearchSteps
+pub mod Fates
 pub mod InOrder
 pub mod Faults
 pub mod Lemmas
