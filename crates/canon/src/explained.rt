@@ -1,0 +1,48 @@
+//! The canonical file, and what became of the bids of the file.
+
+ghost use Rattle.std.specs.Prelude.{◌≡◌, IfOk, map};
+ghost use Rattle.std.specs.List.{range_with_len};
+ghost use Rattle.valuation.specs.Auctions.{or_atoms_of, xor_atoms_of};
+ghost use Rattle.prune.specs.Fates.{or_fates, plain_fate, xor_fates};
+ghost use Rattle.canon.specs.Answers.{NormalisesPlainAs, unexplained_answer};
+ghost use Rattle.canon.specs.Renaming.{kept_dummies};
+
+use crate::canon_fault::CanonFault;
+use crate::named::NamedFile;
+use bid_file::PackedFile;
+use std::alloc::Global;
+use valuation::SearchOptions;
+
+/// What became of the best bids of each bidder of a file.
+#[derive(Drop)]
+pub struct BidderFates {
+    /// Of the OR bidder's best bids, in order: none if the bid is kept, and else the places, among the points, of the
+    /// packing that reaches its price.
+    pub or: Vec<Option<Vec<usize>>>,
+    /// Of each dummy good's bidder the same: the place of the first point inside the bundle with at least its price.
+    pub xor: Vec<Vec<Option<usize>>>,
+}
+
+/// The canonical file of a file, and what became of its bids.
+#[derive(Drop)]
+pub struct ExplainedFile {
+    pub named: NamedFile,
+    pub fates: BidderFates,
+}
+
+/// The canonical file of a packed file, as `named_normal_file`, and what became of its bids.
+pub fn explained_normal_file(
+    alloc: Global,
+    file: &PackedFile,
+    options: SearchOptions,
+) -> Result<ExplainedFile, CanonFault>
+    ensures answer { NormalisesPlainAs options file.now (unexplained_answer result) }
+    ensures dummies { IfOk result (λ e. e.named.dummies.items ≡ kept_dummies file.now) }
+    ensures or_fates { let f = file.now in
+        IfOk result (λ e. map plain_fate e.fates.or.items ≡ or_fates options.kind f.goods (or_atoms_of f.bids)) }
+    ensures xor_fates { let f = file.now in
+        IfOk result (λ e. map (λ fates. fates.items) e.fates.xor.items
+        ≡ map (λ d. xor_fates f.goods (xor_atoms_of f.bids d)) (range_with_len 0 f.dummy)) }
+{
+    Err(CanonFault::Memory)
+}
