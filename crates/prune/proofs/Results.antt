@@ -18,7 +18,7 @@ use Rattle.valuation.specs.Lemmas.OrValues.{or_value-nil, or_value-rest, or_valu
 use Rattle.prune.specs.Points.{xor_points, or_points}
 use Rattle.prune.specs.Lemmas.OnBundles.{IsOnBundle}
 use Rattle.prune.specs.SearchSteps.{is_below, atoms_below, greatest_price, cut_steps, search_steps_by, is_heavy, first_heavy}
-use Rattle.prune.specs.Lemmas.Lists.{zero_or_more, Contains-head, Contains-tail, Contains-filter_parts, All-from_Contains, find_first, find_none}
+use Rattle.prune.specs.Lemmas.Lists.{zero_or_more, Contains-head, Contains-tail, Contains-filter_parts, All-from_Contains, filter_same_on, find_first, find_none}
 use Rattle.prune.specs.Internal.Listings.{IsBehind}
 use Rattle.prune.specs.InOrder.{IsBefore, IsInOrder}
 use Rattle.prune.specs.Lemmas.InOrder.{before_both, before_itself, same_bundle_same_atom}
@@ -26,7 +26,7 @@ use Rattle.prune.specs.Lemmas.Values.{xor_value-member, xor_value-bound, xor_val
 use Rattle.prune.specs.Lemmas.KeptBids.{all_nonempty, xor_kept_are_points, xor_points_same, or_kept_are_points, or_points_same}
 use Rattle.prune.specs.Lemmas.SearchSteps.{greatest_price-member, greatest_price-reached}
 use Rattle.prune.specs.Internal.BestBids.{AreBestBids}
-use Rattle.prune.proofs.Pruning.{HasRisingBundle, IsKept, IsKept-reached, IsKept-missed, IsCompleted, completion, inside_is_below, below_push, later_not_below}
+use Rattle.prune.proofs.Pruning.{HasRisingBundle, IsKept, IsKept-reached, IsKept-missed, IsCompleted, completion, inside_below, later_not_below}
 use Rattle.prune.proofs.Pruning.{not_below_itself, before_next, behind_next, rising_prefix}
 
 -- ---- values grow with the list
@@ -62,7 +62,7 @@ pub record IsTurn (bids done : List (Atom (List ℕ))) (x : Atom (List ℕ)) (re
   pub best : AreBestBids bids (done ++ x ∷ rest)
   pub rising : All HasRisingBundle (done ++ x ∷ rest)
 
-turn_before : (bids done : List (Atom (List ℕ))) (x : Atom (List ℕ)) (rest : List (Atom (List ℕ))) → IsTurn bids done x rest → All (λ a. IsBefore a x) done
+pub turn_before : (bids done : List (Atom (List ℕ))) (x : Atom (List ℕ)) (rest : List (Atom (List ℕ))) → IsTurn bids done x rest → All (λ a. IsBefore a x) done
 turn_before bids done x rest t = before_next done x rest t.best.in_order
 
 -- the bid comes behind all kept ones
@@ -71,7 +71,7 @@ pub turn_behind : (bids done : List (Atom (List ℕ))) (x : Atom (List ℕ)) (re
 turn_behind bids done x rest kept t among =
     All-weaker (Contains done) (λ a. IsBefore a x) (λ a c. All-contains (λ a. IsBefore a x) done a (turn_before bids done x rest t) c) kept among
 
-turn_rising : (bids done : List (Atom (List ℕ))) (x : Atom (List ℕ)) (rest : List (Atom (List ℕ))) → IsTurn bids done x rest → HasRisingBundle x
+pub turn_rising : (bids done : List (Atom (List ℕ))) (x : Atom (List ℕ)) (rest : List (Atom (List ℕ))) → IsTurn bids done x rest → HasRisingBundle x
 turn_rising bids done x rest t = All-contains HasRisingBundle (done ++ x ∷ rest) x t.rising (Contains-append_right done (x ∷ rest) x (Contains-head x rest))
 
 pub turn_among : (bids done : List (Atom (List ℕ))) (x : Atom (List ℕ)) (rest : List (Atom (List ℕ))) → IsTurn bids done x rest → Contains bids x
@@ -82,14 +82,19 @@ turn_positive bids done x rest t =
     All-contains (λ b. 0 < b.price) (done ++ x ∷ rest) x t.best.positive (Contains-append_right done (x ∷ rest) x (Contains-head x rest))
 
 -- the kept atoms inside the bundle are those below it
-pub turn_below : (bids done : List (Atom (List ℕ))) (x : Atom (List ℕ)) (rest kept : List (Atom (List ℕ))) → IsTurn bids done x rest → All (Contains done) kept
-    → filter (λ a. is_inside a.bundle x.bundle) kept ≡ atoms_below kept x.bundle
-turn_below bids done x rest kept t among =
+pub turn_inside : (bids done : List (Atom (List ℕ))) (x : Atom (List ℕ)) (rest kept : List (Atom (List ℕ))) → IsTurn bids done x rest → All (Contains done) kept
+    → All (λ a. is_inside a.bundle x.bundle ≡ is_below a.bundle x.bundle) kept
+turn_inside bids done x rest kept t among =
     let first = rising_prefix done (x ∷ rest) t.rising in
-    inside_is_below kept x
+    inside_below kept x
     (All-weaker (Contains done) HasRisingBundle (λ a c. All-contains HasRisingBundle done a first c) kept among)
     (turn_rising bids done x rest t)
     (All-weaker (Contains done) (λ a. IsBefore a x) (λ a c. All-contains (λ a. IsBefore a x) done a (turn_before bids done x rest t) c) kept among)
+
+pub turn_below : (bids done : List (Atom (List ℕ))) (x : Atom (List ℕ)) (rest kept : List (Atom (List ℕ))) → IsTurn bids done x rest → All (Contains done) kept
+    → filter (λ a. is_inside a.bundle x.bundle) kept ≡ atoms_below kept x.bundle
+turn_below bids done x rest kept t among =
+    filter_same_on (λ a. is_inside a.bundle x.bundle) (λ a. is_below a.bundle x.bundle) kept (turn_inside bids done x rest kept t among)
 
 pub xor_reached : (bids done : List (Atom (List ℕ))) (x : Atom (List ℕ)) (rest kept : List (Atom (List ℕ))) → IsTurn bids done x rest → IsXorKept done kept
     → true ≡ leb x.price (xor_value (filter (λ a. is_inside a.bundle x.bundle) kept) x.bundle) → IsXorKept (done ++ x ∷ []) kept
