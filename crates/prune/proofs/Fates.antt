@@ -1,18 +1,17 @@
 -- What becomes of best bids along a pruning's loop. Later points are not below earlier bids, so what was noted by the points so far is right by all
 -- points; and what a turn finds is what becomes of its bid.
-use Rattle.std.proofs.Common.{◌≡◌, ℕ, ◌+◌, ◌<◌, Bool, true, false, leb, ⊎_elim, List, [], ◌∷◌, ◌++◌, length, map, refl, sym, ap, ◌∙◌, subst, arith, Some, None}
+use Rattle.std.proofs.Common.{◌≡◌, ℕ, true, false, leb, List, [], ◌∷◌, ◌++◌, length, map, refl, sym, ap, ◌∙◌, subst, Some, None}
 use Rattle.std.specs.Prelude.{All, Contains, Option, IfSome, is_some}
 use Rattle.std.specs.Global.{Vec}
-use Rattle.std.specs.List.{filter, find, range_with_len}
+use Rattle.std.specs.List.{find, range_with_len}
 use Rattle.std.proofs.lemmas.List.{map_push, take_all}
 use Rattle.std.proofs.lemmas.Simd.{map-map}
 use Rattle.std.proofs.Common.{◌≤◌, take}
-use Rattle.std.proofs.lemmas.List.Elements.{All-contains, All-weaker, All-push}
-use Rattle.goods_set.specs.Bundles.{is_inside}
+use Rattle.std.proofs.lemmas.List.Elements.{All-contains, All-push}
 use Rattle.valuation.specs.declared.atom.Atom.{Atom}
 use Rattle.valuation.specs.declared.search_kind.SearchKind.{SearchKind}
 use Rattle.valuation.specs.Values.{or_value, atoms_of}
-use Rattle.prune.specs.Fates.{best_bids, found_places, or_fate, or_fates, places_below, plain_fate, xor_fate, xor_fates}
+use Rattle.prune.specs.Fates.{best_bids, found_places, or_fate, places_below, plain_fate, xor_fate}
 use Rattle.prune.specs.Internal.BestBids.{AreBestBids}
 use Rattle.prune.specs.Internal.Listings.{atom_at, is_inside_at, first_dominating_place}
 use Rattle.prune.specs.Internal.Reaching.{found_inside, places_inside}
@@ -20,7 +19,7 @@ use Rattle.prune.specs.Lemmas.Fates.{or_fate-push, xor_fate-push}
 use Rattle.prune.specs.Lemmas.Lists.{All-from_Contains, filter_same_on, find_filter, map_same_on, Contains-head}
 use Rattle.prune.specs.Lemmas.OnBundles.{IsOnBundle}
 use Rattle.prune.specs.Lemmas.Ranges.{in_range}
-use Rattle.prune.specs.SearchSteps.{atoms_below, atoms_inside, greatest_price, is_below, searched_bundles}
+use Rattle.prune.specs.SearchSteps.{atoms_below, atoms_inside, greatest_price, is_below}
 use Rattle.prune.specs.InOrder.{IsBefore}
 use Rattle.prune.proofs.Pruning.{HasRisingBundle, later_not_below, not_below_itself, rising_prefix}
 use Rattle.prune.proofs.Refusals.{best_searched}
@@ -96,6 +95,16 @@ module _ (bids done : List (Atom (List ℕ))) (x : Atom (List ℕ)) (rest kept :
     dominating_is_fate =
         sym (find_filter (λ place. leb x.price (atom_at kept place).price) (is_inside_at kept x.bundle) (range_with_len 0 (length kept)))
         ∙ ap (find (λ place. leb x.price (atom_at kept place).price)) inside_places
+
+    -- what was noted of an XOR bidder
+    module _ (noted more : List (Option ℕ)) (found : Option ℕ) (one : more ≡ noted ++ found ∷ []) (answer : found ≡ first_dominating_place kept x.bundle x.price)
+        (so_far : noted ≡ map (xor_fate kept) done)
+      where
+        pub xor_noted_dropped : more ≡ map (xor_fate kept) (done ++ x ∷ [])
+        xor_noted_dropped = one ∙ noted_dropped xor_fate xor_fate-push bids done x rest kept turn noted found (answer ∙ dominating_is_fate) so_far
+
+        pub xor_noted_kept : more ≡ map (xor_fate (kept ++ x ∷ [])) (done ++ x ∷ [])
+        xor_noted_kept = one ∙ noted_kept xor_fate xor_fate-push bids done x rest kept turn noted found (answer ∙ dominating_is_fate) so_far
 
 -- ---- all bids are done
 

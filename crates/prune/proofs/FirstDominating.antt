@@ -1,5 +1,5 @@
 -- The first atom that dominates a bid: it has the least of the places that are found, in a list of atoms or at the goods of the bid's bundle.
-use Rattle.std.proofs.Common.{◌≡◌, ℕ, ◌+◌, ◌<◌, ◌≤◌, Bool, true, false, leb, ⊎_elim, List, [], ◌∷◌, length, map, get_or, take, refl, sym, ap, ◌∙◌, subst, arith}
+use Rattle.std.proofs.Common.{◌≡◌, ℕ, ◌+◌, ◌<◌, ◌≤◌, Bool, true, false, leb, ⊎_elim, List, [], length, get_or, take, refl, sym, ap, ◌∙◌, subst, arith}
 use Rattle.std.proofs.Common.{Some, None}
 use Rattle.std.specs.Prelude.{All, AllPairs, Contains, is_some}
 use Rattle.std.specs.List.{list_any, range_with_len}

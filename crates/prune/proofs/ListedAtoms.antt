@@ -4,16 +4,15 @@ use Rattle.std.proofs.Common.{◌≡◌, ◌≢◌, ℕ, zero, suc, ◌+◌, ◌
 use Rattle.std.proofs.Common.{Bor, eqb, ◌⊎◌, inl, inr, ⊎_elim, List, [], ◌∷◌, ◌++◌, length, map, get_or, refl, sym, ap, ◌∙◌, subst, subst₂, arith, Some, None}
 use Rattle.std.proofs.Common.{nat_cmp, Less, Greater}
 use Rattle.std.specs.Prelude.{All, AllPairs, Contains, IsPermutation}
-use Rattle.std.specs.List.{filter, list_any, range_with_len, slice_get}
+use Rattle.std.specs.List.{filter, range_with_len, slice_get}
 use Rattle.std.specs.List.Sorted.{IsSorted}
-use Rattle.std.proofs.lemmas.Bool.{cases_lt, cases_eq, both_ways, and_parts, and_from, and_right, or_from, false_from_ne_true}
+use Rattle.std.proofs.lemmas.Bool.{cases_lt, cases_eq, both_ways, and_parts, and_from, and_right, false_from_ne_true}
 use Rattle.std.proofs.lemmas.Bool.{eqb-true, eq-eqb, le-leb, lt-leb}
 use Rattle.std.specs.Cmp.{both_ways as same_test}
 use Rattle.std.proofs.lemmas.Bool.Decides.{Decides-eqb}
-use Rattle.std.proofs.lemmas.List.{map_push, take_more, get_or-map, get_or_append_left, get_or_push, get_or_default, length-map, length_push}
+use Rattle.std.proofs.lemmas.List.{map_push, take_more, get_or-map, get_or_append_left, get_or_push, length-map, length_push}
 use Rattle.std.proofs.lemmas.List.Elements.{filter_more, Contains-get_or, All-append, All-contains, All-filter, All-weaker, Contains-append_left}
 use Rattle.std.proofs.lemmas.List.Elements.{Contains-append_right, Contains-push_cases, Contains-push}
-use Rattle.std.proofs.lemmas.List.Folds.{list_any_none, list_any_more}
 use Rattle.std.proofs.lemmas.Option.{slice_get-get_or, slice_get_past}
 use Rattle.std.proofs.lemmas.List.FromFn.{fill_by_all}
 use Rattle.std.proofs.lemmas.List.Kept.{AllPairs-from_increasing, AllPairs-filter}
@@ -34,11 +33,10 @@ use Rattle.valuation.specs.Lemmas.Atoms.{get_or-atoms_of}
 use Rattle.valuation.specs.Lemmas.Lists.{AllPairs-head, AllPairs-tail, AllPairs-append, Contains-map, Contains-unmap}
 use Rattle.prune.specs.declared.posting.Posting.{Posting}
 use Rattle.prune.specs.InOrder.{IsInOrder}
-use Rattle.prune.specs.Internal.Listings.{listed_at, indices_of, places_at, atom_at, is_inside_at, dominates, dominates_at, IsListed, IsPosting, AreListed}
+use Rattle.prune.specs.Internal.Listings.{listed_at, places_at, atom_at, is_inside_at, dominates_at, IsListed, IsPosting, AreListed}
 use Rattle.prune.specs.Internal.Listings.{AreGoodsOf, IsBehind, NoneInsideFrom}
 use Rattle.prune.specs.Lemmas.InOrder.{before_itself}
-use Rattle.prune.specs.Lemmas.Lists.{Contains-head, Contains-tail, Contains-filter, Contains-filter_parts, All-from_Contains, list_any_found, list_any_has}
-use Rattle.prune.specs.Lemmas.Lists.{list_any_fails}
+use Rattle.prune.specs.Lemmas.Lists.{Contains-head, Contains-tail, Contains-filter, Contains-filter_parts, All-from_Contains}
 use Rattle.prune.specs.Lemmas.KeptBids.{has_from_Contains}
 use Rattle.prune.proofs.BestBids.{map-filter}
 

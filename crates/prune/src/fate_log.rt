@@ -8,7 +8,7 @@ use std::alloc::{AllocError, Global};
 pub struct FateLog<F> {
     wanted: bool,
     /// What became of the best bids so far.
-    pub fates: Vec<F>,
+    fates: Vec<F>,
 }
 
 impl<F: Drop> FateLog<F> {
@@ -28,6 +28,14 @@ impl<F: Drop> FateLog<F> {
         ensures { result ≡ self.now.wanted }
     {
         self.wanted
+    }
+
+    /// What was noted.
+    pub fn into_fates(self) -> Vec<F>
+        ensures { result ≡ self.fates }
+    {
+        let FateLog { wanted: _, fates } = self;
+        fates
     }
 
     /// Notes what became of the next best bid.

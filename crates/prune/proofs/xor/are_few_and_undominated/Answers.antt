@@ -1,5 +1,7 @@
 use Rattle.std.proofs.Common.{refl, sym, ◌∙◌, arith}
+use Rattle.std.proofs.Common.{take}
 use Rattle.valuation.specs.Lemmas.Atoms.{length-atoms_of}
+use Rattle.valuation.specs.Values.{atoms_of}
 use Rattle.std.specs.Prelude.{is_some}
 use Rattle.std.proofs.Common.{ap}
 use Rattle.prune.proofs.FirstDominating.{is_some-first_dominating}

@@ -1,5 +1,5 @@
 -- None of the atoms before dominates the bid: one that does is the first, and else there is none.
-use Rattle.std.proofs.Common.{◌≡◌, ◌<◌, ◌≤◌, ℕ, false, length, get_or, sym, ap, ◌∙◌, ⊎_elim, true, arith, Bool}
+use Rattle.std.proofs.Common.{◌≡◌, ◌<◌, ◌≤◌, false, length, sym, ap, ◌∙◌, ⊎_elim, true, arith}
 use Rattle.std.proofs.lemmas.Bool.{cases_lt}
 use Rattle.valuation.specs.Lemmas.Atoms.{get_or-atoms_of, length-atoms_of}
 use Rattle.valuation.specs.Values.{atoms_of}

@@ -1,6 +1,6 @@
 -- The first so far is that of the goods so far: see proofs/FirstDominating.
-use Rattle.std.proofs.Common.{◌≡◌, ◌<◌, ◌≤◌, ℕ, List, get_or, length, sym, ap, ◌∙◌, subst, take, arith, true}
-use Rattle.std.specs.Prelude.{All, AllPairs}
+use Rattle.std.proofs.Common.{◌≡◌, ◌<◌, ℕ, List, get_or, length, sym, subst, take, arith, true}
+use Rattle.std.specs.Prelude.{All}
 use Rattle.std.proofs.lemmas.List.{length-take-le, take-map}
 use Rattle.valuation.specs.declared.atom.Atom.{Atom}
 use Rattle.valuation.specs.Lemmas.Atoms.{length-atoms_of}
@@ -8,7 +8,7 @@ use Rattle.valuation.specs.Values.{atoms_of, plain_atom}
 use Rattle.prune.specs.declared.posting.Posting.{Posting}
 use Rattle.prune.specs.Internal.Listings.{lists_of, indices_of, places_at, dominates_at}
 use Rattle.prune.proofs.ListedAtoms.{next_there, none_there, behind_next}
-use Rattle.prune.proofs.FirstDominating.{IsFirstSoFar, IsFirstSoFar-all, IsFirstSoFar-more, IsFirstSoFar-none, IsFirstSoFar-some, postings_before}
+use Rattle.prune.proofs.FirstDominating.{IsFirstSoFar-all, IsFirstSoFar-more, IsFirstSoFar-some, postings_before}
 use Rattle.prune.proofs.subset_index.SubsetIndex.find_dominating.Goals as goal
 use Rattle.std.proofs.Common.{false}
 

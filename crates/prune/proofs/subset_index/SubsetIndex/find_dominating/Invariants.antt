@@ -1,4 +1,3 @@
-use Rattle.std.proofs.Common.{length}
 use Rattle.valuation.specs.Values.{atoms_of}
 use Rattle.prune.specs.Internal.Listings.{lists_of}
 use Rattle.prune.proofs.FirstDominating.{IsFirstSoFar}
