@@ -36,9 +36,8 @@ use Rattle.prune.specs.InOrder.{IsInOrder}
 use Rattle.prune.specs.Internal.Listings.{listed_at, places_at, atom_at, is_inside_at, dominates_at, IsListed, IsPosting, AreListed}
 use Rattle.prune.specs.Internal.Listings.{AreGoodsOf, IsBehind, NoneInsideFrom}
 use Rattle.prune.specs.Lemmas.InOrder.{before_itself}
-use Rattle.prune.specs.Lemmas.Lists.{Contains-head, Contains-tail, Contains-filter, Contains-filter_parts, All-from_Contains}
+use Rattle.prune.specs.Lemmas.Lists.{map-filter, Contains-head, Contains-tail, Contains-filter, Contains-filter_parts, All-from_Contains}
 use Rattle.prune.specs.Lemmas.KeptBids.{has_from_Contains}
-use Rattle.prune.proofs.BestBids.{map-filter}
 
 -- ---- lists of places
 

@@ -1,5 +1,5 @@
 //! What became of the best bids of a bidder, noted as it is decided.
-ghost use Rattle.std.specs.Prelude.{◌≡◌, true, [], ◌∷◌, ◌++◌, OnOk};
+ghost use Rattle.std.specs.Prelude.{◌≡◌, true, false, [], ◌∷◌, ◌++◌, OnOk};
 
 use std::alloc::{AllocError, Global};
 
@@ -41,6 +41,7 @@ impl<F: Drop> FateLog<F> {
     /// Notes what became of the next best bid.
     pub fn note(&mut self, fate: F) -> Result<(), AllocError>
         ensures wanted { self.new.wanted ≡ self.old.wanted }
+        ensures unwanted { self.old.wanted ≡ false → self.new ≡ self.old }
         ensures noted { OnOk result (self.old.wanted ≡ true → self.new.fates.items ≡ self.old.fates.items ++ fate ∷ []) }
     {
         if self.wanted {
