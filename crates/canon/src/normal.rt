@@ -63,11 +63,8 @@ fn normal_file_on<S: GoodsSet>(
 {
     let auction: Auction<S> = auction_of(alloc, &file)?;
     mem::drop(file);
-    Ok(
-        normal_auction_file(alloc, auction, options, false)?
-            .named
-            .file,
-    )
+    let explained = normal_auction_file(alloc, auction, options, false)?;
+    Ok(explained.named.file)
 }
 
 /// The canonical file of an auction, which bidder is which, and what became of the best bids, if that is wanted.
