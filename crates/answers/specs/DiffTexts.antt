@@ -28,13 +28,19 @@ abbrev pub bid_number : PlainFile → Option ℕ → List ℕ → Option ℕ →
 bid_number f dummy goods None = None
 bid_number f dummy goods (Some price) = best_number f dummy goods
 
--- a kind of bidder, a bundle, and on each side the price, the bidder's dummy good, and the number of its bid
+-- a kind of bidder, a bundle, and the price on each side
+abbrev pub price_cells : List ℕ → PlainChange → List ℕ
+price_cells kind c = kind ++ codes "\t" ++ bundle_text c.bundle ++ codes "\t" ++ price_cell c.left ++ codes "\t"
+    ++ price_cell c.right
+
+-- a number of each side
+abbrev pub number_cells : Option ℕ → Option ℕ → List ℕ
+number_cells left right = codes "\t" ++ number_cell left ++ codes "\t" ++ number_cell right
+
+-- the prices of a bundle, the dummy goods of the bidder in both files, and the numbers of its bids
 abbrev pub change_row : List ℕ → PlainFile → PlainFile → Option ℕ → Option ℕ → PlainChange → List ℕ
-change_row kind f g left right c = kind ++ codes "\t" ++ bundle_text c.bundle
-    ++ codes "\t" ++ price_cell c.left ++ codes "\t" ++ price_cell c.right
-    ++ codes "\t" ++ number_cell left ++ codes "\t" ++ number_cell right
-    ++ codes "\t" ++ number_cell (bid_number f left c.bundle c.left)
-    ++ codes "\t" ++ number_cell (bid_number g right c.bundle c.right) ++ codes "\n"
+change_row kind f g left right c = price_cells kind c ++ number_cells left right
+    ++ number_cells (bid_number f left c.bundle c.left) (bid_number g right c.bundle c.right) ++ codes "\n"
 
 -- a row for each bid in which an XOR bidder differs from that beside it, or from none
 abbrev pub bidder_rows : PlainFile → PlainFile → PlainBidderChange → List ℕ

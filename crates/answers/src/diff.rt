@@ -7,7 +7,7 @@ ghost use Rattle.canon.specs.Canonical.{canonical_file};
 ghost use Rattle.differences.specs.Differences.{AreAllDifferences};
 ghost use Rattle.differences.specs.Views.{plain_bidder_change, plain_change, plain_differences};
 ghost use Rattle.answers.specs.ComparedFiles.{IsComparedFile, PrintsDifferences};
-ghost use Rattle.answers.specs.DiffTexts.{bidder_rows, change_row, diff_text, goods_row};
+ghost use Rattle.answers.specs.DiffTexts.{bidder_rows, change_row, diff_text, goods_row, number_cells, price_cells};
 ghost use Rattle.answers.specs.Internal.Sides.{AreSides, IsOfBidders, IsOfBids, file_of};
 
 use crate::cells::{push_bundle, push_number, push_number_cell, push_price_cell};
@@ -154,20 +154,39 @@ fn push_change(
     ensures { OnOk result (text.new.items ≡ text.old.items ++ change_row bidder.now.kind.now
         (file_of sides.now.left) (file_of sides.now.right) bidder.now.left bidder.now.right (plain_change change.now)) }
 {
-    text.extend_from_slice(bidder.kind)?;
+    push_prices(text, bidder.kind, change)?;
+    push_numbers(text, bidder.left, bidder.right)?;
+    push_numbers(
+        text,
+        sides
+            .left
+            .bid_number(bidder.left, change.goods, change.left),
+        sides
+            .right
+            .bid_number(bidder.right, change.goods, change.right),
+    )?;
+    text.extend_from_slice(b"\n")
+}
+
+/// Appends a kind, a bundle, and the price on each side.
+fn push_prices(text: &mut Vec<u8>, kind: &[u8], change: &PriceChange<'_>) -> Result<(), AllocError>
+    ensures { OnOk result (text.new.items ≡ text.old.items ++ price_cells kind.now (plain_change change.now)) }
+{
+    text.extend_from_slice(kind)?;
     text.extend_from_slice(b"\t")?;
     push_bundle(text, change.goods)?;
     text.extend_from_slice(b"\t")?;
     push_price_cell(text, change.left)?;
     text.extend_from_slice(b"\t")?;
-    push_price_cell(text, change.right)?;
+    push_price_cell(text, change.right)
+}
+
+/// Appends a number of each side.
+fn push_numbers(text: &mut Vec<u8>, left: Option<u32>, right: Option<u32>) -> Result<(), AllocError>
+    ensures { OnOk result (text.new.items ≡ text.old.items ++ number_cells left right) }
+{
     text.extend_from_slice(b"\t")?;
-    push_number_cell(text, bidder.left)?;
+    push_number_cell(text, left)?;
     text.extend_from_slice(b"\t")?;
-    push_number_cell(text, bidder.right)?;
-    text.extend_from_slice(b"\t")?;
-    push_number_cell(text, sides.left.bid_number(bidder.left, change.goods, change.left))?;
-    text.extend_from_slice(b"\t")?;
-    push_number_cell(text, sides.right.bid_number(bidder.right, change.goods, change.right))?;
-    text.extend_from_slice(b"\n")
+    push_number_cell(text, right)
 }

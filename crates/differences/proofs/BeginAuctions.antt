@@ -114,7 +114,7 @@ module _ (a b : PlainAuction) (h : HasAtoms a) (k : HasAtoms b) (canonical : IsC
 
 -- ---- the same auction
 
-empty_from_test : (differences : PlainDifferences) → is_none_at_all differences ≡ true → differences ≡ no_differences
+pub empty_from_test : (differences : PlainDifferences) → is_none_at_all differences ≡ true → differences ≡ no_differences
 empty_from_test differences = by differences.goods differences.bundles differences.bidders
   where
     by : (goods : Option (ℕ × ℕ)) (bundles : List PlainChange) (bidders : List PlainBidderChange)

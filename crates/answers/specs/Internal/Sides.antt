@@ -27,9 +27,9 @@ IsBidOf f dummy goods None = Unit {0}
 IsBidOf f dummy goods (Some price) = Contains f.bids (record { price = price; goods = goods; dummy = dummy })
 
 -- both prices are those of bids of these bidders
-pub record IsOfBids (f g : PlainFile) (left right : Option ℕ) (c : PlainChange) : Type 0 where
-  pub left : IsBidOf f left c.bundle c.left
-  pub right : IsBidOf g right c.bundle c.right
+pub record IsOfBids (f g : PlainFile) (own other : Option ℕ) (c : PlainChange) : Type 0 where
+  pub left : IsBidOf f own c.bundle c.left
+  pub right : IsBidOf g other c.bundle c.right
 
 -- the bidders are among those of the canonical files, and the bids are theirs
 pub record IsOfBidders (f g : PlainFile) (c : PlainBidderChange) : Type 0 where
