@@ -156,15 +156,13 @@ fn push_change(
 {
     push_prices(text, bidder.kind, change)?;
     push_numbers(text, bidder.left, bidder.right)?;
-    push_numbers(
-        text,
-        sides
-            .left
-            .bid_number(bidder.left, change.goods, change.left),
-        sides
-            .right
-            .bid_number(bidder.right, change.goods, change.right),
-    )?;
+    let left = sides
+        .left
+        .bid_number(bidder.left, change.goods, change.left);
+    let right = sides
+        .right
+        .bid_number(bidder.right, change.goods, change.right);
+    push_numbers(text, left, right)?;
     text.extend_from_slice(b"\n")
 }
 

@@ -17,16 +17,16 @@ use Rattle.cats_text.proofs.Texts.FaultKinds.{IsFaultOfBytes, fed_fault-of_bytes
 use Rattle.valuation.specs.Auctions.{auction_from}
 use Rattle.valuation.specs.declared.search_options.SearchOptions.{SearchOptions}
 use Rattle.canon.specs.Answers.{NormalisesPlainAs, RefusesAuction, unnamed_answer}
+use Rattle.canon.specs.Comparing.{SpellsWithinLimit}
 use Rattle.canon.specs.Normalising.{unless_refused}
 use Rattle.canon.specs.Refusals.{refusal_by_kind, refusal_of}
 use Rattle.canon.specs.Renaming.{kept_dummies}
 use Rattle.canon.specs.declared.canon_fault.CanonFault.{CanonFault}
 use Rattle.canon.specs.declared.canon_fault.CanonFault.TheVariants.{Read, StepLimit, Memory}
 use Rattle.canon.specs.declared.named.NamedFile.{NamedFile}
-use Rattle.answers.specs.NamedFiles.{IsNamed, IsNamedFile}
-use Rattle.answers.proofs.NamedFiles.{named_file}
+use Rattle.answers.specs.ComparedFiles.{IsComparedFile}
 use Rattle.cats_calls.specs.Refusals.{IsUnmade, IsUnread, text_fault}
-use Rattle.cats_calls.specs.Internal.Reading.{NamesAs, ReadsAs}
+use Rattle.cats_calls.specs.Internal.Reading.{ReadsAs}
 
 -- ---- faults of the text
 
@@ -106,18 +106,15 @@ unmade options text file spelled (Read why) r = absurd r
 unmade options text file spelled (StepLimit goods) r = record { file = file; spelled = spelled; is = ap (unless_refused file) r }
 unmade options text file spelled Memory r = inr (record { file = file; spelled = spelled })
 
-module _ (options : SearchOptions) (text : List ℕ) where
-  is_named : (file : PlainFile) (named : NamedFile) → NormalisesPlainAs options file (Ok named.file) → named.dummies.items ≡ kept_dummies file
-      → IsNamed file named
-  is_named file named n dummies = record { canonical = n.canonical; dummies = dummies }
+module _ (options : SearchOptions) (text : List ℕ) (file : PlainFile) (spelled : Spells text file) where
+  -- the file, once its canonical file is made
+  pub compared_read : (named : NamedFile) → NormalisesPlainAs options file (unnamed_answer (Ok named)) → SpellsWithinLimit options text
+  compared_read named n = record { file = file; spelled = spelled; within_limit = n.within_limit }
 
-  pub named_read : (file : PlainFile) → Spells text file → (r : Result NamedFile CanonFault) → NormalisesPlainAs options file (unnamed_answer r)
-      → IfOk r (λ named. named.dummies.items ≡ kept_dummies file) → NamesAs options text r
-  named_read file spelled (Ok named) n dummies =
-      record { given = record { file = file; spelled = spelled; within_limit = n.within_limit }; is = is_named file named n dummies }
-  named_read file spelled (Err fault) n dummies = unmade options text file spelled fault n
+  pub compared_unmade : (fault : CanonFault) → NormalisesPlainAs options file (unnamed_answer (Err fault)) → IsUnmade options text fault
+  compared_unmade fault n = unmade options text file spelled fault n
 
-  pub named_facts : (file : PlainFile) → Spells text file → (r : Result NamedFile CanonFault) → NormalisesPlainAs options file (unnamed_answer r)
-      → IfOk r (λ named. named.dummies.items ≡ kept_dummies file) → IfOk r IsNamedFile
-  named_facts file spelled (Ok named) n dummies = named_file file spelled.facts named (is_named file named n dummies)
-  named_facts file spelled (Err fault) n dummies = tt
+  -- a file with its canonical file
+  pub compared_facts : (named : NamedFile) → NormalisesPlainAs options file (unnamed_answer (Ok named)) → named.dummies.items ≡ kept_dummies file
+      → IsComparedFile (record { file = file; named = named })
+  compared_facts named n dummies = record { plain = spelled.facts; named = record { canonical = n.canonical; dummies = dummies } }
