@@ -1,5 +1,5 @@
 -- The number of a bid. The best of a bidder's bids on a bundle is the only one there that is found.
-use Rattle.std.proofs.Common.{◌≡◌, ℕ, ◌<◌, Bool, true, false, ◌&&◌, cond, ⊎_elim, List, [], ◌∷◌, length, get_or, refl, sym, ap, ◌∙◌, subst, Option, Some, None}
+use Rattle.std.proofs.Common.{◌≡◌, ℕ, ◌<◌, Bool, true, false, ◌&&◌, cond, ⊎_elim, List, [], ◌∷◌, length, sym, ap, ◌∙◌, subst, Option, Some}
 use Rattle.std.specs.Prelude.{Contains}
 use Rattle.std.specs.List.{find}
 use Rattle.std.proofs.lemmas.Bool.{and_from, and_parts, both_ways, cases_Bool}
@@ -12,7 +12,7 @@ use Rattle.explain.specs.Internal.BidOrders.{AreInOrder, HasBid}
 use Rattle.explain.specs.declared.best.NumberedBid.{NumberedBid}
 use Rattle.answers.specs.DiffTexts.{bid_number}
 use Rattle.answers.specs.Internal.Sides.{IsBidOf}
-use Rattle.explain.proofs.BestBids.{HaveOneKey, alike_from, one_key}
+use Rattle.explain.proofs.BestBids.{alike_from, one_key}
 use Rattle.explain.proofs.KeptBidsBest.{best-once, one_key_sym}
 use Rattle.explain.proofs.KeptBidsLists.{below_numbers, in_numbers}
 

@@ -1,8 +1,8 @@
 -- The bids that differ are bids of the files. The idea: a bid of a canonical file is a point of its bidder, each point is one of the bidder's
 -- atoms, and so a bid of the file.
-use Rattle.std.proofs.Common.{◌≡◌, ◌<◌, ℕ, Bool, true, List, [], length, map, get_or, refl, sym, ap, ◌∙◌, subst, arith, Option, Some, None, is_none}
+use Rattle.std.proofs.Common.{◌≡◌, ◌<◌, ℕ, Bool, true, List, [], length, map, get_or, sym, ap, ◌∙◌, subst, arith, Option, Some, None, is_none}
 use Rattle.std.specs.Prelude.{All, Contains}
-use Rattle.std.specs.List.{filter, filter_map, range_with_len}
+use Rattle.std.specs.List.{filter, range_with_len}
 use Rattle.std.proofs.lemmas.List.{get_or-map, length-map}
 use Rattle.std.proofs.lemmas.List.Elements.{All-contains, All-get_or, All-weaker, Contains-get_or}
 use Rattle.std.proofs.lemmas.List.FromFn.{get_or-map-range_with_len, length-map-range_with_len}
@@ -19,7 +19,7 @@ use Rattle.canon.proofs.CanonicalFiles.Texts.{HasAtoms-file}
 use Rattle.canon.specs.Canonical.{canonical_auction, canonical_file}
 use Rattle.canon.specs.Lemmas.Renaming.{kept_dummies-below, points_of_kept_dummies}
 use Rattle.canon.specs.Renaming.{kept_dummies, named_dummy, points_of_dummy}
-use Rattle.differences.specs.BidderChanges.{PlainBidderChange, IsBidderChange, AreBidderChanges, bidder_at, bids_at}
+use Rattle.differences.specs.BidderChanges.{PlainBidderChange, AreBidderChanges, bidder_at, bids_at}
 use Rattle.differences.specs.PriceChanges.{PlainChange, IsPriceChange, ArePriceChanges, price_on}
 use Rattle.differences.proofs.BeginPrices.{bid_of_price}
 use Rattle.explain.proofs.KeptBidsBest.{none_is, some_is}

@@ -1,31 +1,21 @@
 -- A text that is read and normalised. One that is longer than a stream may be has a fault: that of its first bytes, or its length.
 use Rattle.std.proofs.Common.{◌≡◌, ◌≢◌, ◌<◌, ◌≤◌, ℕ, nat_le, ◌⊎◌, inl, inr, true, false, if◌then◌else◌, List, [], length, take, Option, Some, None, Result, Ok}
 use Rattle.std.proofs.Common.{Err, refl, sym, ap, ◌∙◌, subst, IfSome}
-use Rattle.std.specs.Prelude.{IsErrAnd, IfOk}
+use Rattle.std.specs.Prelude.{IsErrAnd}
 use Rattle.std.proofs.lemmas.Bool.{le-leb, lt-leb}
 use Rattle.std.proofs.lemmas.List.{take_all}
 use Rattle.bid_file.specs.Files.{PlainFile}
 use Rattle.cats_text.specs.Faults.{first_fault, has_bid_line}
 use Rattle.cats_text.specs.Fed.{Fed, fed_fault}
-use Rattle.cats_text.specs.Grammar.{Spells}
 use Rattle.cats_text.specs.Reading.{FeedsAs, FeedsOn, WantsMemory}
 use Rattle.cats_text.specs.declared.read_fault.Kind.{Kind}
 use Rattle.cats_text.specs.declared.read_fault.Kind.TheVariants.{Memory as NoMemory}
 use Rattle.cats_text.specs.declared.read_fault.ReadFault.{ReadFault}
 use Rattle.cats_text.specs.declared.limits.TheConstants.{MAX_STREAM}
 use Rattle.cats_text.proofs.Texts.FaultKinds.{IsFaultOfBytes, fed_fault-of_bytes, first_fault-of_bytes}
-use Rattle.valuation.specs.Auctions.{auction_from}
-use Rattle.valuation.specs.declared.search_options.SearchOptions.{SearchOptions}
-use Rattle.canon.specs.Answers.{NormalisesPlainAs, RefusesAuction, unnamed_answer}
-use Rattle.canon.specs.Comparing.{SpellsWithinLimit}
-use Rattle.canon.specs.Normalising.{unless_refused}
 use Rattle.canon.specs.Refusals.{refusal_by_kind, refusal_of}
-use Rattle.canon.specs.Renaming.{kept_dummies}
 use Rattle.canon.specs.declared.canon_fault.CanonFault.{CanonFault}
-use Rattle.canon.specs.declared.canon_fault.CanonFault.TheVariants.{Read, StepLimit, Memory}
-use Rattle.canon.specs.declared.named.NamedFile.{NamedFile}
-use Rattle.answers.specs.ComparedFiles.{IsComparedFile}
-use Rattle.cats_calls.specs.Refusals.{IsUnmade, IsUnread, text_fault}
+use Rattle.cats_calls.specs.Refusals.{IsUnread, text_fault}
 use Rattle.cats_calls.specs.Internal.Reading.{ReadsAs}
 
 -- ---- faults of the text
@@ -97,24 +87,3 @@ module _ (text : List ℕ) (long : MAX_STREAM < length text) where
   pub long_fed : (old new : Fed) → old ≡ record { limit = MAX_STREAM; bytes = []; failed = None } → (why : ReadFault) → FeedsAs old text new (Err why)
       → IsUnread text (refusal_of why)
   long_fed old new is why fed = long_unread new why (subst (λ (o : Fed). FeedsAs o text new (Err why)) is fed)
-
--- ---- a text that was read
-
-unmade : (options : SearchOptions) (text : List ℕ) (file : PlainFile) → Spells text file → (fault : CanonFault)
-    → RefusesAuction options (auction_from file) fault → IsUnmade options text fault
-unmade options text file spelled (Read why) r = absurd r
-unmade options text file spelled (StepLimit goods) r = record { file = file; spelled = spelled; is = ap (unless_refused file) r }
-unmade options text file spelled Memory r = inr (record { file = file; spelled = spelled })
-
-module _ (options : SearchOptions) (text : List ℕ) (file : PlainFile) (spelled : Spells text file) where
-  -- the file, once its canonical file is made
-  pub compared_read : (named : NamedFile) → NormalisesPlainAs options file (unnamed_answer (Ok named)) → SpellsWithinLimit options text
-  compared_read named n = record { file = file; spelled = spelled; within_limit = n.within_limit }
-
-  pub compared_unmade : (fault : CanonFault) → NormalisesPlainAs options file (unnamed_answer (Err fault)) → IsUnmade options text fault
-  compared_unmade fault n = unmade options text file spelled fault n
-
-  -- a file with its canonical file
-  pub compared_facts : (named : NamedFile) → NormalisesPlainAs options file (unnamed_answer (Ok named)) → named.dummies.items ≡ kept_dummies file
-      → IsComparedFile (record { file = file; named = named })
-  compared_facts named n dummies = record { plain = spelled.facts; named = record { canonical = n.canonical; dummies = dummies } }

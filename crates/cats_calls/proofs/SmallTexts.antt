@@ -1,6 +1,6 @@
 -- What calls answer of a small text, by the file that its lines say.
 use Rattle.std.proofs.Common.{◌≡◌, ◌≢◌, ℕ, zero, suc, nat_le, nat_lt, Bool, true, false, eqb, List, [], ◌++◌, codes, length, drop, Option, Some, None, slice_index_or}
-use Rattle.std.proofs.Common.{refl, sym, ap, ap₂, ◌∙◌, subst, arith}
+use Rattle.std.proofs.Common.{refl, sym, ap, ap₂, ◌∙◌, append_assoc, subst, arith}
 use Rattle.std.specs.List.{flat_map, range_with_len}
 use Rattle.std.proofs.lemmas.Bool.{cond-false, eqb-false, leb-true, ltb-true, ne_eqb}
 use Rattle.bid_file.specs.Files.{PlainFile}
@@ -149,10 +149,12 @@ module _ (options : SearchOptions) (left right : List ℕ) (status : ℕ) (out :
 goods_text : (f g : PlainFile) (d : PlainDifferences) → AreAllDifferences (auction_from (canonical_file f)) (auction_from (canonical_file g)) d
     → f.goods ≢ g.goods → (rest : List ℕ) × (diff_text f g d ≡ diff_header ++ goods_row f.goods g.goods ++ rest)
 goods_text f g d all other =
-    let rest = flat_map (change_row (codes "or") f g None None) d.bundles ++ flat_map (bidder_rows f g) d.bidders in (
-      rest,
-      ap (λ (numbers : Option (ℕ × ℕ)). diff_header ++ goods_rows numbers ++ rest)
-          (all.goods ∙ cond-false (eqb f.goods g.goods) None (Some (f.goods, g.goods)) (ne_eqb f.goods g.goods other)),
+    let ors = flat_map (change_row (codes "or") f g None None) d.bundles in
+    let xors = flat_map (bidder_rows f g) d.bidders in (
+      ors ++ xors,
+      ap (λ (numbers : Option (ℕ × ℕ)). diff_header ++ goods_rows numbers ++ ors ++ xors)
+          (all.goods ∙ cond-false (eqb f.goods g.goods) None (Some (f.goods, g.goods)) (ne_eqb f.goods g.goods other))
+          ∙ append_assoc (diff_header ++ goods_row f.goods g.goods) ors xors,
     )
 
 module _ (options : SearchOptions) (left right : List ℕ) (status : ℕ) (out : List ℕ) (c : DiffsTexts options left right status out) where

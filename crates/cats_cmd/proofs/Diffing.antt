@@ -1,5 +1,5 @@
 -- A run that sends all differences of two files: reading each file, and sending what differs.
-use Rattle.std.proofs.Common.{◌≡◌, ℕ, List, Option, Result, Ok, Err, refl, sym, ap, ap₂, ◌∙◌, subst}
+use Rattle.std.proofs.Common.{◌≡◌, ℕ, List, Option, Result, Ok, Err, sym, ap, ap₂, ◌∙◌, subst}
 use Rattle.std.specs.Prelude.{IsErrAnd}
 use Rattle.std.proofs.lemmas.Result.{err_from_is_err_and}
 use Rattle.bid_file.specs.Files.{PlainFile}
@@ -7,7 +7,6 @@ use Rattle.valuation.specs.declared.search_options.SearchOptions.{SearchOptions}
 use Rattle.cats_text.specs.declared.stream.Watched.{Watched}
 use Rattle.canon.specs.Answers.{NormalisesPlainAs, unnamed_answer}
 use Rattle.canon.specs.declared.canon_fault.CanonFault.{CanonFault}
-use Rattle.canon.specs.declared.named.NamedFile.{NamedFile}
 use Rattle.cats_cmd.specs.Diffs.{DiffsFiles, ReadsDifferences, diff_outcome}
 use Rattle.cats_cmd.specs.Inputs.{ReadsInput, ReadsWithinLimit}
 use Rattle.answers.specs.ComparedFiles.{PrintsDifferences}
@@ -34,15 +33,12 @@ module _ {R : Type 0} (remaining : R → Option (List ℕ)) (options : SearchOpt
   compared_unread fault reads answer is =
       answered fault (refused_in_reading remaining (normalise_outcome options) old new fault reads) answer is
 
-  module _ (file : PlainFile) (reads : ReadsInput remaining old new (Ok file)) where
-    pub compared_unmade : (fault : CanonFault) → NormalisesPlainAs options file (unnamed_answer (Err fault))
-        → (answer : Result ComparedFile CanonFault) → IsErrAnd answer (λ reported. reported ≡ fault) → ReadsCompared remaining options old new answer
-    compared_unmade fault n answer is =
-        answered fault
-        (refused_in_making remaining (normalise_outcome options) old new file reads fault (refused_by_normalising options file fault n)) answer is
-
-    pub compared_read : (named : NamedFile) → NormalisesPlainAs options file (unnamed_answer (Ok named)) → ReadsWithinLimit remaining options old new file
-    compared_read named n = record { reads = reads; within = n.within_limit }
+  pub compared_unmade : (file : PlainFile) → ReadsInput remaining old new (Ok file) → (fault : CanonFault)
+      → NormalisesPlainAs options file (unnamed_answer (Err fault)) → (answer : Result ComparedFile CanonFault)
+      → IsErrAnd answer (λ reported. reported ≡ fault) → ReadsCompared remaining options old new answer
+  compared_unmade file reads fault n answer is =
+      answered fault
+      (refused_in_making remaining (normalise_outcome options) old new file reads fault (refused_by_normalising options file fault n)) answer is
 
 -- ---- both files
 

@@ -1,5 +1,5 @@
 -- What reading a text gives, and what normalising it does.
-use Rattle.std.specs.Prelude.{ℕ, List, Result, Ok, Err}
+use Rattle.std.specs.Prelude.{◌≡◌, ℕ, List, Result, Ok, Err}
 use Rattle.bid_file.specs.Files.{PlainFile}
 use Rattle.cats_text.specs.Grammar.{Spells}
 use Rattle.valuation.specs.declared.search_options.SearchOptions.{SearchOptions}

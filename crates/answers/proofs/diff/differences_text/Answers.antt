@@ -1,4 +1,4 @@
-use Rattle.answers.proofs.ComparedFiles.{compared_canonical, compared_plain, header_alone, of_files}
+use Rattle.answers.proofs.ComparedFiles.{compared_canonical, compared_plain}
 use Rattle.answers.proofs.diff.differences_text.Goals as goal
 
 pub all_differences-requires-clause-left_facts : goal.all_differences-requires-clause-left_facts
