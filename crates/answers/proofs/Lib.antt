@@ -1,5 +1,7 @@
 -- Proofs that several functions cite, here and in the crates above.
 pub mod Lines
 pub mod Explanations
-pub mod NamedFiles
+pub mod ComparedFiles
+pub mod BidNumbers
+pub mod BidsOfFiles
 pub mod Unrounded

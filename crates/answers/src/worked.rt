@@ -1,6 +1,6 @@
 //! Worked examples of what is printed. The prover computes them.
 
-ghost use Rattle.std.specs.Prelude.{◌≡◌, ℕ, [], ◌∷◌, map, codes, Vec, Some, None};
+ghost use Rattle.std.specs.Prelude.{◌≡◌, ℕ, [], ◌∷◌, ◌++◌, map, codes, Vec, Some, None};
 ghost use Rattle.std.specs.Global.{Global};
 ghost use Rattle.cats_text.specs.declared.read_fault.Kind.TheVariants.{
   TwoDummies,
@@ -16,9 +16,8 @@ ghost use Rattle.canon.specs.declared.verdict.Side.TheVariants.{Exactly, Below};
 ghost use Rattle.canon.specs.declared.which.Which.TheVariants.{Only, First, Second, Both};
 ghost use Rattle.explain.specs.Examples.{file, or_bid, xor_bid};
 ghost use Rattle.explain.specs.Reasons.{Keep, Zero, Same, Inside, Packing};
-ghost use Rattle.differences.specs.Differences.{InBids, InGoods as InGoodNumbers};
-ghost use Rattle.differences.specs.Examples.{bidder_change, change};
-ghost use Rattle.answers.specs.DiffTexts.{diff_text};
+ghost use Rattle.differences.specs.Examples.{bidder_change, change, differences};
+ghost use Rattle.answers.specs.DiffTexts.{diff_header, diff_text};
 ghost use Rattle.answers.specs.DifferenceTexts.{difference_text};
 ghost use Rattle.answers.specs.ExplanationTexts.{explanation_row, explanation_text};
 ghost use Rattle.answers.specs.FaultLines.{line_of_fault};
@@ -105,25 +104,44 @@ pub fn differences()
         ∷ InXor [] 0 1 ∷ []) ≡ 0 ∷ 1 ∷ 1 ∷ 1 ∷ [] }
 {}
 
-/// What `cats diff` prints: numbers of goods; bundles with a price on each side, on the left, and on the right; two
-/// bidders beside each other, the second of the left file with the third of the right one, and a bidder of one file
-/// alone; and no difference.
+/// What `cats diff` prints: nothing below the header; numbers of goods; bundles with a price on each side, on the left, and on
+/// the right; the best bid of two, and the first of two equal ones; and no number of a bid that is not kept.
 pub fn all_differences()
-    ensures goods { diff_text 2 [] [] (InGoodNumbers 2 5) ≡ codes "goods\t2\t5\n" }
-    ensures bundles { diff_text 60 [] [] (InBids (change (18 ∷ []) (Some 173958000) (Some 233145000)
+    ensures none { diff_text (file 60 0 []) (file 60 0 []) (differences None [] [])
+        ≡ codes "kind\tgoods\tleft\tright\tleft_dummy\tright_dummy\tleft_bid\tright_bid\n" }
+    ensures goods { diff_text (file 2 0 []) (file 5 0 []) (differences (Some (2, 5)) [] [])
+        ≡ diff_header ++ codes "goods\t\t2\t5\t\t\t\t\n" }
+    ensures bundles { diff_text (file 60 0 (or_bid (18 ∷ []) 173958000 ∷ or_bid (18 ∷ 23 ∷ []) 203457000 ∷ []))
+        (file 60 0 (or_bid (0 ∷ 1 ∷ 59 ∷ []) 1 ∷ or_bid (18 ∷ []) 233145000 ∷ []))
+        (differences None (change (18 ∷ []) (Some 173958000) (Some 233145000)
         ∷ change (18 ∷ 23 ∷ []) (Some 203457000) None ∷ change (0 ∷ 1 ∷ 59 ∷ []) None (Some 1) ∷ []) [])
-        ≡ codes "or\t18\t173.958\t233.145\nor\t18,23\t203.457\t-\nor\t0,1,59\t-\t0.000001\n" }
-    ensures beside { diff_text 60 (10 ∷ 4 ∷ []) (7 ∷ 8 ∷ 0 ∷ []) (InBids [] (bidder_change (Some 1) (Some 2)
-        (change (17 ∷ 36 ∷ []) None (Some 413615000) ∷ change (1 ∷ []) (Some 2000000) (Some 3000000) ∷ []) ∷ []))
-        ≡ codes "xor\t64\t60\nbid\t17,36\t-\t413.615\nbid\t1\t2\t3\n" }
-    ensures alone { diff_text 60 (10 ∷ []) (7 ∷ []) (InBids [] (bidder_change (Some 0) None
-        (change (1 ∷ 2 ∷ []) (Some 5000000) None ∷ [])
-        ∷ bidder_change None (Some 0) (change (3 ∷ []) None (Some 6500000) ∷ []) ∷ []))
-        ≡ codes "xor\t70\t-\nbid\t1,2\t5\t-\nxor\t-\t67\nbid\t3\t-\t6.5\n" }
-    ensures none { diff_text 60 (10 ∷ []) (7 ∷ []) (InBids [] []) ≡ [] }
-    ensures statuses { map status_of_differences (InBids [] [] ∷ InGoodNumbers 2 5
-        ∷ InBids (change (0 ∷ []) None (Some 1) ∷ []) []
-        ∷ InBids [] (bidder_change (Some 0) None [] ∷ []) ∷ []) ≡ 0 ∷ 1 ∷ 1 ∷ 1 ∷ [] }
+        ≡ diff_header ++ codes "or\t18\t173.958\t233.145\t\t\t0\t1\nor\t18,23\t203.457\t\t\t\t1\t\n"
+        ++ codes "or\t0,1,59\t\t0.000001\t\t\t\t0\n" }
+    ensures best { diff_text (file 1 0 (or_bid (0 ∷ []) 2000000 ∷ or_bid (0 ∷ []) 3000000 ∷ []))
+        (file 1 0 (or_bid (0 ∷ []) 4000000 ∷ or_bid (0 ∷ []) 4000000 ∷ []))
+        (differences None (change (0 ∷ []) (Some 3000000) (Some 4000000) ∷ []) [])
+        ≡ diff_header ++ codes "or\t0\t3\t4\t\t\t1\t0\n" }
+    ensures not_kept { diff_text (file 2 0 (or_bid (0 ∷ 1 ∷ []) 3000000 ∷ or_bid (1 ∷ []) 3000000 ∷ []))
+        (file 2 0 (or_bid (1 ∷ []) 3000000 ∷ or_bid (0 ∷ 1 ∷ []) 4000000 ∷ []))
+        (differences None (change (0 ∷ 1 ∷ []) None (Some 4000000) ∷ []) [])
+        ≡ diff_header ++ codes "or\t0,1\t\t4\t\t\t\t1\n" }
+    ensures statuses { map status_of_differences (differences None [] [] ∷ differences (Some (2, 5)) [] []
+        ∷ differences None (change (0 ∷ []) None (Some 1) ∷ []) []
+        ∷ differences None [] (bidder_change (Some 0) None [] ∷ []) ∷ []) ≡ 0 ∷ 1 ∷ 1 ∷ 1 ∷ [] }
+{}
+
+/// The rows of XOR bidders, with their dummy goods in their files: two bidders beside each other, of the first bidder of the
+/// left canonical file and that of the right one; and each alone.
+pub fn differences_of_bidders()
+    ensures beside { diff_text (file 2 2 (xor_bid 1 (0 ∷ []) 2000000 ∷ xor_bid 0 (0 ∷ 1 ∷ []) 5000000 ∷ []))
+        (file 2 1 (or_bid (1 ∷ []) 7000000 ∷ xor_bid 0 (0 ∷ []) 3000000 ∷ []))
+        (differences None [] (bidder_change (Some 0) (Some 0) (change (0 ∷ []) (Some 2000000) (Some 3000000) ∷ []) ∷ []))
+        ≡ diff_header ++ codes "xor\t0\t2\t3\t1\t0\t0\t1\n" }
+    ensures alone { diff_text (file 2 2 (xor_bid 1 (0 ∷ []) 2000000 ∷ xor_bid 0 (0 ∷ 1 ∷ []) 5000000 ∷ []))
+        (file 2 1 (or_bid (1 ∷ []) 7000000 ∷ xor_bid 0 (0 ∷ []) 3000000 ∷ []))
+        (differences None [] (bidder_change (Some 1) None (change (0 ∷ 1 ∷ []) (Some 5000000) None ∷ [])
+        ∷ bidder_change None (Some 0) (change (0 ∷ []) None (Some 3000000) ∷ []) ∷ []))
+        ≡ diff_header ++ codes "xor\t0,1\t5\t\t0\t\t1\t\nxor\t0\t\t3\t\t0\t\t1\n" }
 {}
 
 /// The line of a price whose value changed.

@@ -1,32 +1,22 @@
 -- A text that is read and normalised. One that is longer than a stream may be has a fault: that of its first bytes, or its length.
 use Rattle.std.proofs.Common.{◌≡◌, ◌≢◌, ◌<◌, ◌≤◌, ℕ, nat_le, ◌⊎◌, inl, inr, true, false, if◌then◌else◌, List, [], length, take, Option, Some, None, Result, Ok}
 use Rattle.std.proofs.Common.{Err, refl, sym, ap, ◌∙◌, subst, IfSome}
-use Rattle.std.specs.Prelude.{IsErrAnd, IfOk}
+use Rattle.std.specs.Prelude.{IsErrAnd}
 use Rattle.std.proofs.lemmas.Bool.{le-leb, lt-leb}
 use Rattle.std.proofs.lemmas.List.{take_all}
 use Rattle.bid_file.specs.Files.{PlainFile}
 use Rattle.cats_text.specs.Faults.{first_fault, has_bid_line}
 use Rattle.cats_text.specs.Fed.{Fed, fed_fault}
-use Rattle.cats_text.specs.Grammar.{Spells}
 use Rattle.cats_text.specs.Reading.{FeedsAs, FeedsOn, WantsMemory}
 use Rattle.cats_text.specs.declared.read_fault.Kind.{Kind}
 use Rattle.cats_text.specs.declared.read_fault.Kind.TheVariants.{Memory as NoMemory}
 use Rattle.cats_text.specs.declared.read_fault.ReadFault.{ReadFault}
 use Rattle.cats_text.specs.declared.limits.TheConstants.{MAX_STREAM}
 use Rattle.cats_text.proofs.Texts.FaultKinds.{IsFaultOfBytes, fed_fault-of_bytes, first_fault-of_bytes}
-use Rattle.valuation.specs.Auctions.{auction_from}
-use Rattle.valuation.specs.declared.search_options.SearchOptions.{SearchOptions}
-use Rattle.canon.specs.Answers.{NormalisesPlainAs, RefusesAuction, unnamed_answer}
-use Rattle.canon.specs.Normalising.{unless_refused}
 use Rattle.canon.specs.Refusals.{refusal_by_kind, refusal_of}
-use Rattle.canon.specs.Renaming.{kept_dummies}
 use Rattle.canon.specs.declared.canon_fault.CanonFault.{CanonFault}
-use Rattle.canon.specs.declared.canon_fault.CanonFault.TheVariants.{Read, StepLimit, Memory}
-use Rattle.canon.specs.declared.named.NamedFile.{NamedFile}
-use Rattle.answers.specs.NamedFiles.{IsNamed, IsNamedFile}
-use Rattle.answers.proofs.NamedFiles.{named_file}
-use Rattle.cats_calls.specs.Refusals.{IsUnmade, IsUnread, text_fault}
-use Rattle.cats_calls.specs.Internal.Reading.{NamesAs, ReadsAs}
+use Rattle.cats_calls.specs.Refusals.{IsUnread, text_fault}
+use Rattle.cats_calls.specs.Internal.Reading.{ReadsAs}
 
 -- ---- faults of the text
 
@@ -97,27 +87,3 @@ module _ (text : List ℕ) (long : MAX_STREAM < length text) where
   pub long_fed : (old new : Fed) → old ≡ record { limit = MAX_STREAM; bytes = []; failed = None } → (why : ReadFault) → FeedsAs old text new (Err why)
       → IsUnread text (refusal_of why)
   long_fed old new is why fed = long_unread new why (subst (λ (o : Fed). FeedsAs o text new (Err why)) is fed)
-
--- ---- a text that was read
-
-unmade : (options : SearchOptions) (text : List ℕ) (file : PlainFile) → Spells text file → (fault : CanonFault)
-    → RefusesAuction options (auction_from file) fault → IsUnmade options text fault
-unmade options text file spelled (Read why) r = absurd r
-unmade options text file spelled (StepLimit goods) r = record { file = file; spelled = spelled; is = ap (unless_refused file) r }
-unmade options text file spelled Memory r = inr (record { file = file; spelled = spelled })
-
-module _ (options : SearchOptions) (text : List ℕ) where
-  is_named : (file : PlainFile) (named : NamedFile) → NormalisesPlainAs options file (Ok named.file) → named.dummies.items ≡ kept_dummies file
-      → IsNamed file named
-  is_named file named n dummies = record { canonical = n.canonical; dummies = dummies }
-
-  pub named_read : (file : PlainFile) → Spells text file → (r : Result NamedFile CanonFault) → NormalisesPlainAs options file (unnamed_answer r)
-      → IfOk r (λ named. named.dummies.items ≡ kept_dummies file) → NamesAs options text r
-  named_read file spelled (Ok named) n dummies =
-      record { given = record { file = file; spelled = spelled; within_limit = n.within_limit }; is = is_named file named n dummies }
-  named_read file spelled (Err fault) n dummies = unmade options text file spelled fault n
-
-  pub named_facts : (file : PlainFile) → Spells text file → (r : Result NamedFile CanonFault) → NormalisesPlainAs options file (unnamed_answer r)
-      → IfOk r (λ named. named.dummies.items ≡ kept_dummies file) → IfOk r IsNamedFile
-  named_facts file spelled (Ok named) n dummies = named_file file spelled.facts named (is_named file named n dummies)
-  named_facts file spelled (Err fault) n dummies = tt

@@ -1,8 +1,8 @@
 -- What calls answer of a small text, by the file that its lines say.
-use Rattle.std.proofs.Common.{◌≡◌, ◌≢◌, ℕ, zero, suc, nat_le, nat_lt, Bool, true, false, eqb, List, [], ◌++◌, length, drop, None, slice_index_or}
-use Rattle.std.proofs.Common.{refl, sym, ap, ap₂, ◌∙◌, subst, arith}
+use Rattle.std.proofs.Common.{◌≡◌, ◌≢◌, ℕ, zero, suc, nat_le, nat_lt, Bool, true, false, eqb, List, [], ◌++◌, codes, length, drop, Option, Some, None, slice_index_or}
+use Rattle.std.proofs.Common.{refl, sym, ap, ap₂, ◌∙◌, append_assoc, subst, arith}
 use Rattle.std.specs.List.{flat_map, range_with_len}
-use Rattle.std.proofs.lemmas.Bool.{eqb-false, leb-true, ltb-true}
+use Rattle.std.proofs.lemmas.Bool.{cond-false, eqb-false, leb-true, ltb-true, ne_eqb}
 use Rattle.bid_file.specs.Files.{PlainFile}
 use Rattle.cats_text.specs.Faults.{first_fault}
 use Rattle.cats_text.specs.FileLines.{spelled_file}
@@ -14,14 +14,13 @@ use Rattle.canon.specs.Canonical.{canonical_file}
 use Rattle.canon.specs.Comparing.{SpellsWithinLimit}
 use Rattle.canon.specs.Difference.{Difference, NoDifference, InGoods, InOr, InXor, first_difference}
 use Rattle.canon.specs.Normalising.{HasOutcome, Normalised, IsNoFile, ExceedsSteps, IsText, normalised_file}
-use Rattle.canon.specs.Renaming.{kept_dummies}
 use Rattle.canon.specs.Sameness.{AreSameFiles, AreSameTexts}
 use Rattle.canon.proofs.CanonicalFiles.Texts.{HasAtoms-file}
 use Rattle.canon.proofs.Comparing.Differences.{same_from_no_difference, no_difference_from_same}
-use Rattle.differences.specs.Differences.{AreAllDifferences, PlainDifferences, InBids, InGoods as InGoodNumbers}
+use Rattle.differences.specs.Differences.{AreAllDifferences, PlainDifferences}
 use Rattle.explain.specs.Bids.{bid_at}
 use Rattle.explain.specs.Reasons.{PlainReason, reason_at}
-use Rattle.answers.specs.DiffTexts.{diff_text, goods_line}
+use Rattle.answers.specs.DiffTexts.{bidder_rows, change_row, diff_header, diff_text, goods_row, goods_rows}
 use Rattle.answers.specs.DifferenceTexts.{difference_text}
 use Rattle.answers.specs.ExplanationTexts.{explanation_header, explanation_row}
 use Rattle.answers.specs.Outputs.{check_text}
@@ -119,7 +118,7 @@ module _ (options : SearchOptions) (left right : List ℕ) (l : SpellsWithinLimi
   }
 
   pub diffs : (d : PlainDifferences) → AreAllDifferences (auction_from (canonical_file l.file)) (auction_from (canonical_file r.file)) d
-      → DiffsTexts options left right (status_of_differences d) (diff_text l.file.goods (kept_dummies l.file) (kept_dummies r.file) d)
+      → DiffsTexts options left right (status_of_differences d) (diff_text l.file r.file d)
   diffs d all = record {
     first = l;
     second = r;
@@ -146,21 +145,27 @@ module _ (options : SearchOptions) (left right : List ℕ) (status : ℕ) (out :
   pub compared_text : out ≡ difference_text (spelled_difference left right)
   compared_text = c.is_text ∙ ap difference_text first_is
 
+-- numbers of goods that differ are printed first
 goods_text : (f g : PlainFile) (d : PlainDifferences) → AreAllDifferences (auction_from (canonical_file f)) (auction_from (canonical_file g)) d
-    → f.goods ≢ g.goods → diff_text f.goods (kept_dummies f) (kept_dummies g) d ≡ goods_line f.goods g.goods
-goods_text f g (InGoodNumbers m n) all other = ap₂ goods_line (sym all.on_left) (sym all.on_right)
-goods_text f g (InBids bundles bidders) all other = absurd (other all.goods)
+    → f.goods ≢ g.goods → (rest : List ℕ) × (diff_text f g d ≡ diff_header ++ goods_row f.goods g.goods ++ rest)
+goods_text f g d all other =
+    let ors = flat_map (change_row (codes "or") f g None None) d.bundles in
+    let xors = flat_map (bidder_rows f g) d.bidders in (
+      ors ++ xors,
+      ap (λ (numbers : Option (ℕ × ℕ)). diff_header ++ goods_rows numbers ++ ors ++ xors)
+          (all.goods ∙ cond-false (eqb f.goods g.goods) None (Some (f.goods, g.goods)) (ne_eqb f.goods g.goods other))
+          ∙ append_assoc (diff_header ++ goods_row f.goods g.goods) ors xors,
+    )
 
 module _ (options : SearchOptions) (left right : List ℕ) (status : ℕ) (out : List ℕ) (c : DiffsTexts options left right status out) where
-  -- numbers of goods that differ are printed
-  pub diffed_goods : eqb (spelled_file left).goods (spelled_file right).goods ≡ false → out ≡ goods_line (spelled_file left).goods (spelled_file right).goods
+  pub diffed_goods : eqb (spelled_file left).goods (spelled_file right).goods ≡ false
+      → (rest : List ℕ) × (out ≡ diff_header ++ goods_row (spelled_file left).goods (spelled_file right).goods ++ rest)
   diffed_goods other =
       let l : c.first.file.goods ≡ (spelled_file left).goods = ap (λ (f : PlainFile). f.goods) (says_spelled left c.first.file c.first.spelled) in
       let r : c.second.file.goods ≡ (spelled_file right).goods = ap (λ (f : PlainFile). f.goods) (says_spelled right c.second.file c.second.spelled) in
-      c.is_text
-      ∙ goods_text c.first.file c.second.file c.differences c.all
-      (λ e. eqb-false (spelled_file left).goods (spelled_file right).goods other (sym l ∙ e ∙ r))
-      ∙ ap₂ goods_line l r
+      let printed = goods_text c.first.file c.second.file c.differences c.all
+      (λ e. eqb-false (spelled_file left).goods (spelled_file right).goods other (sym l ∙ e ∙ r)) in
+      (printed.0, c.is_text ∙ printed.1 ∙ ap₂ (λ (m n : ℕ). diff_header ++ goods_row m n ++ printed.0) l r)
 
 -- ---- buffers
 

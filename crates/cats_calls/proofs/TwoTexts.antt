@@ -1,6 +1,6 @@
 -- The calls on two texts. What is said of their canonical files is said of the files that they spell, since each is the same auction as
 -- its canonical file; and the status is 0 exactly for the same auction.
-use Rattle.std.proofs.Common.{◌≡◌, ℕ, Bool, true, false, cond, List, Ok, refl, sym, ap, ap₂, ◌∙◌, subst}
+use Rattle.std.proofs.Common.{◌≡◌, ℕ, Bool, true, false, cond, List, Ok, refl, sym, ap, ◌∙◌, subst}
 use Rattle.std.specs.Prelude.{◌↔◌}
 use Rattle.bid_file.specs.Files.{PlainFile, IsPlainFile}
 use Rattle.cats_text.specs.Grammar.{Spells}
@@ -9,11 +9,9 @@ use Rattle.valuation.specs.Auctions.{auction_from}
 use Rattle.valuation.specs.declared.search_options.SearchOptions.{SearchOptions}
 use Rattle.canon.specs.Canonical.{IsCanonical, canonical_auction, canonical_file}
 use Rattle.canon.specs.Comparing.{Differ, IsNormalFileOf}
-use Rattle.canon.specs.Renaming.{kept_dummies}
 use Rattle.canon.specs.Sameness.{AreSameFiles, AreSameTexts, IsSameAuction}
 use Rattle.canon.specs.Verdicts.{plain_verdict}
 use Rattle.canon.specs.declared.canon_fault.CanonFault.{CanonFault}
-use Rattle.canon.specs.declared.named.NamedFile.{NamedFile}
 use Rattle.canon.specs.declared.verdict.Verdict.{Verdict}
 use Rattle.canon.specs.declared.verdict.Verdict.TheVariants.{Same, Goods, Or, Xor}
 use Rattle.canon.proofs.Comparing.Comparisons.{compared_as, same_by_texts}
@@ -22,11 +20,11 @@ use Rattle.canon.proofs.CanonicalAuctions.Sames.{same_sym, same_trans}
 use Rattle.canon.proofs.CanonicalFiles.Texts.{HasAtoms-file, IsPlainFile-canonical, canonical_file_is_fixed, canonical_file_is_same}
 use Rattle.differences.specs.Differences.{AreAllDifferences, PlainDifferences, is_none_at_all}
 use Rattle.differences.proofs.BeginAuctions.{begins_with_first, none_exactly_for_same}
-use Rattle.answers.specs.DiffTexts.{diff_text}
-use Rattle.answers.specs.NamedFiles.{PrintsDifferences}
+use Rattle.answers.specs.ComparedFiles.{PrintsDifferences}
+use Rattle.answers.specs.declared.sides.ComparedFile.{ComparedFile}
 use Rattle.answers.specs.Statuses.{status_of_difference, status_of_differences}
 use Rattle.cats_calls.specs.Internal.Comparing.{ComparesFiles}
-use Rattle.cats_calls.specs.Internal.Reading.{IsNamedOf}
+use Rattle.cats_calls.specs.Internal.Reading.{IsComparedOf}
 use Rattle.cats_calls.specs.TwoTexts.{ComparesTexts, DiffsTexts}
 use Rattle.cats_calls.specs.declared.answer.Answer.{Answer}
 
@@ -106,24 +104,18 @@ module _ (left right : List ℕ) (f g : PlainFile) (s : Spells left f) (t : Spel
         λ texts. is ∙ ap (λ (b : Bool). cond {A = ℕ} b 0 1) (none.1 (same_files texts)),
       )
 
-module _ (options : SearchOptions) (left right : List ℕ) (one other : NamedFile) (n : IsNamedOf options left one) (m : IsNamedOf options right other) where
-  pub diffed : (status : ℕ) (text : List ℕ) → PrintsDifferences one other status text → DiffsTexts options left right status text
-  diffed status text printed =
-      let f = n.given.file in
-      let g = m.given.file in
-      let d = printed.differences in
-      let all : AreAllDifferences (auction_from (canonical_file f)) (auction_from (canonical_file g)) d =
-      subst (λ (h : PlainFile). AreAllDifferences (auction_from (canonical_file f)) (auction_from h) d) m.is.canonical
-      (subst (λ (h : PlainFile). AreAllDifferences (auction_from h) (auction_from other.file) d) n.is.canonical printed.all) in
-      let names : diff_text one.file.goods one.dummies.items other.dummies.items d ≡ diff_text f.goods (kept_dummies f) (kept_dummies g) d =
-      ap (λ (goods : ℕ). diff_text goods one.dummies.items other.dummies.items d) (ap (λ (h : PlainFile). h.goods) n.is.canonical)
-      ∙ ap₂ (λ (xs ys : List ℕ). diff_text f.goods xs ys d) n.is.dummies m.is.dummies in
+module _ (options : SearchOptions) (left right : List ℕ) (one other : ComparedFile) (n : IsComparedOf options left one)
+    (m : IsComparedOf options right other) where
+  pub diffed : (status : ℕ) (text : List ℕ) → PrintsDifferences one.file other.file status text → DiffsTexts options left right status text
+  diffed status text prints =
+      let printed = subst (λ (g : PlainFile). PrintsDifferences n.given.file g status text) m.is
+      (subst (λ (f : PlainFile). PrintsDifferences f other.file status text) n.is prints) in
       record {
         first = n.given;
         second = m.given;
-        differences = d;
-        all = all;
+        differences = printed.differences;
+        all = printed.all;
         is_status = printed.is_status;
-        is_text = printed.is_text ∙ names;
-        same = zero_exactly left right f g n.given.spelled m.given.spelled d all status printed.is_status;
+        is_text = printed.is_text;
+        same = zero_exactly left right n.given.file m.given.file n.given.spelled m.given.spelled printed.differences printed.all status printed.is_status;
       }

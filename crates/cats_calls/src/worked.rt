@@ -1,6 +1,6 @@
 //! Worked rows of what the calls answer, on small texts. The prover computes them.
 
-ghost use Rattle.std.specs.Prelude.{◌≡◌, ℕ, [], ◌∷◌, codes, Ok, Err, Some, None, Vec, List};
+ghost use Rattle.std.specs.Prelude.{◌≡◌, ℕ, [], ◌∷◌, ◌++◌, codes, Ok, Err, Some, None, Vec, List};
 ghost use Rattle.std.specs.Global.{Global};
 ghost use Rattle.cats_text.specs.Faults.{fault_at};
 ghost use Rattle.cats_text.specs.declared.read_fault.Kind.TheVariants.{Header, Missing, TooFine, TooLong};
@@ -9,6 +9,7 @@ ghost use Rattle.valuation.specs.SearchLimits.{bounded_options, plain_options};
 ghost use Rattle.canon.specs.declared.canon_fault.CanonFault.TheVariants.{Read, StepLimit, Memory};
 ghost use Rattle.canon.specs.declared.which.Which.TheVariants.{Only, First, Second, Both};
 ghost use Rattle.rounding.specs.declared.replacement.FinePrices.TheVariants.{Round, Refuse};
+ghost use Rattle.answers.specs.DiffTexts.{diff_header};
 ghost use Rattle.answers.specs.declared.report.RunFault.TheVariants.{Refused, GoodRange};
 ghost use Rattle.cats_calls.specs.Answers.{Answers};
 ghost use Rattle.cats_calls.specs.Buffers.{Calls, Gives, PutsInto};
@@ -94,14 +95,15 @@ pub fn texts_compared()
 /// All differences of two texts.
 pub fn texts_diffed()
     ensures same { DiffsTexts (bounded_options 1 None) (codes "goods 1\nbids 2\ndummy 0\n0 2 0 #\n1 3 0 #\n")
-        (codes "goods 1\nbids 1\ndummy 0\n0 3 0 #\n") 0 [] }
+        (codes "goods 1\nbids 1\ndummy 0\n0 3 0 #\n") 0
+        (codes "kind\tgoods\tleft\tright\tleft_dummy\tright_dummy\tleft_bid\tright_bid\n") }
     ensures goods { DiffsTexts (bounded_options 1 None) (codes "goods 1\nbids 0\ndummy 0\n") (codes "goods 2\nbids 0\ndummy 0\n") 1
-        (codes "goods\t1\t2\n") }
+        (diff_header ++ codes "goods\t\t1\t2\t\t\t\t\n") }
     ensures not_same { (out : List ℕ) → DiffsTexts (bounded_options 1 None) (codes "goods 1\nbids 0\ndummy 0\n")
         (codes "goods 2\nbids 0\ndummy 0\n")
         0 out → ⊥ }
     ensures not_exchanged { DiffsTexts (bounded_options 1 None) (codes "goods 1\nbids 0\ndummy 0\n") (codes "goods 2\nbids 0\ndummy 0\n") 1
-        (codes "goods\t2\t1\n") → ⊥ }
+        (diff_header ++ codes "goods\t\t2\t1\t\t\t\t\n") → ⊥ }
 {}
 
 /// Which of two texts is refused: the second only if the first is not.

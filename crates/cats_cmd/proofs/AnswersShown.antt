@@ -3,17 +3,18 @@ use Rattle.std.proofs.Common.{◌≡◌, ℕ, ◌+◌, ◌/◌, ◌%◌, ◌<◌
 use Rattle.std.specs.Prelude.{codes, decimal, slice_index, Option, Some, None}
 use Rattle.std.specs.List.{AllByRecursion, flat_map, range_with_len}
 use Rattle.std.proofs.lemmas.Bool.{cond_both}
-use Rattle.answers.specs.DiffTexts.{bidder_lines, bidder_word, change_line, diff_text, price_word}
+use Rattle.answers.specs.DiffTexts.{bidder_rows, change_row, diff_header, diff_text, goods_rows, number_cells}
 use Rattle.answers.specs.DifferenceTexts.{atom_text, bidder_text, difference_lines, difference_text, side_text}
-use Rattle.answers.specs.ExplanationTexts.{bid_cells, dummy_cell, explanation_header, explanation_row, explanation_text, reason_cells}
-use Rattle.answers.specs.Outputs.{check_text}
+use Rattle.answers.specs.ExplanationTexts.{bid_cells, explanation_header, explanation_row, explanation_text, reason_cells}
+use Rattle.answers.specs.Outputs.{check_text, number_cell, price_cell}
 use Rattle.bid_file.specs.Files.{PlainBid, PlainFile}
 use Rattle.canon.specs.Difference.{Difference, NoDifference, InGoods, InOr, InXor}
+use Rattle.canon.specs.Renaming.{kept_dummies, named_dummy}
 use Rattle.canon.specs.declared.verdict.Side.{Side}
 use Rattle.canon.specs.declared.verdict.Side.TheVariants.{Exactly, Below}
 use Rattle.cats_text.specs.Layout.{behind_point, digit_at, places_text, price_text, six_digits, with_place, without_zeros}
 use Rattle.differences.specs.BidderChanges.{PlainBidderChange}
-use Rattle.differences.specs.Differences.{PlainDifferences, InGoods as InGoodNumbers, InBids}
+use Rattle.differences.specs.Differences.{PlainDifferences}
 use Rattle.differences.specs.PriceChanges.{PlainChange}
 use Rattle.explain.specs.Bids.{bid_at, numbers_of}
 use Rattle.explain.specs.Reasons.{PlainReason, Keep, Zero, Same, Inside, Packing, reason_at}
@@ -93,11 +94,20 @@ difference_shown (InGoods left right) = differing (ours (codes "goods") refl) (n
 difference_shown (InOr b left right) = differing (then (ours (codes "or ") refl) (bundle b)) (side left) (side right)
 difference_shown (InXor atoms left right) = differing (then (ours (codes "xor") refl) (bidder atoms)) (number left) (number right)
 
--- ---- `cats explain`
+-- ---- cells
 
-dummy : (d : Option ℕ) → Shown (dummy_cell d)
-dummy None = no_text is_shown
-dummy (Some d) = number d
+tab : Shown (codes "\t")
+tab = ours (codes "\t") refl
+
+number_if_any : (n : Option ℕ) → Shown (number_cell n)
+number_if_any None = no_text is_shown
+number_if_any (Some n) = number n
+
+price_if_any : (p : Option ℕ) → Shown (price_cell p)
+price_if_any None = no_text is_shown
+price_if_any (Some p) = price p
+
+-- ---- `cats explain`
 
 reason : (r : PlainReason) → Shown (reason_cells r)
 reason (Keep k) = then (then (ours (codes "keep\t") refl) (number k)) (ours (codes "\t") refl)
@@ -106,11 +116,8 @@ reason (Same j) = then (ours (codes "same\t\t") refl) (bundle (j ∷ []))
 reason (Inside j) = then (ours (codes "inside\t\t") refl) (bundle (j ∷ []))
 reason (Packing js) = then (ours (codes "packing\t\t") refl) (bundle js)
 
-tab : Shown (codes "\t")
-tab = ours (codes "\t") refl
-
 offer : (bid : PlainBid) → Shown (bid_cells bid)
-offer bid = then (then (then (then (dummy bid.dummy) tab) (price bid.price)) tab) (bundle bid.goods)
+offer bid = then (then (then (then (number_if_any bid.dummy) tab) (price bid.price)) tab) (bundle bid.goods)
 
 row : (i : ℕ) (bid : PlainBid) (r : PlainReason) → Shown (explanation_row i bid r)
 row i bid r = then (then (then (then (then (number i) tab) (offer bid)) tab) (reason r)) (ours (codes "\n") refl)
@@ -122,27 +129,23 @@ explanation_shown file reasons =
 
 -- ---- `cats diff`
 
-price_or_none : (p : Option ℕ) → Shown (price_word p)
-price_or_none None = ours (codes "-") refl
-price_or_none (Some p) = price p
+change : {kind : List ℕ} → Shown kind → (f g : PlainFile) (left right : Option ℕ) (c : PlainChange) → Shown (change_row kind f g left right c)
+change kind f g left right c =
+    then (then (then (then (then (then (then (then (then kind tab) (bundle c.bundle)) tab) (price_if_any c.left)) tab) (price_if_any c.right))
+    (numbers left right)) (numbers _ _)) (ours (codes "\n") refl)
+  where
+    numbers : (m n : Option ℕ) → Shown (number_cells m n)
+    numbers m n = then (then (then tab (number_if_any m)) tab) (number_if_any n)
 
-change : {keyword : List ℕ} → Shown keyword → (c : PlainChange) → Shown (change_line keyword c)
-change keyword c =
-    then (then (then (then (then (then (then keyword (ours (codes "\t") refl)) (bundle c.bundle)) (ours (codes "\t") refl)) (price_or_none c.left))
-    (ours (codes "\t") refl))
-    (price_or_none c.right)) (ours (codes "\n") refl)
+bidders : (f g : PlainFile) (c : PlainBidderChange) → Shown (bidder_rows f g c)
+bidders f g c = flat _ (change (ours (codes "xor") refl) f g (named_dummy (kept_dummies f) c.left) (named_dummy (kept_dummies g) c.right)) c.bids
 
-bidder_number : (goods : ℕ) (dummies : List ℕ) (index : Option ℕ) → Shown (bidder_word goods dummies index)
-bidder_number goods dummies None = ours (codes "-") refl
-bidder_number goods dummies (Some index) = number _
+goods : (numbers : Option (ℕ × ℕ)) → Shown (goods_rows numbers)
+goods None = no_text is_shown
+goods (Some numbers) =
+    then (then (then (then (ours (codes "goods\t\t") refl) (number numbers.0)) tab) (number numbers.1)) (ours (codes "\t\t\t\t\n") refl)
 
-bidders : (goods : ℕ) (left right : List ℕ) (c : PlainBidderChange) → Shown (bidder_lines goods left right c)
-bidders goods left right c =
-    then (then (then (then (then (ours (codes "xor\t") refl) (bidder_number goods left c.left)) (ours (codes "\t") refl)) (bidder_number goods right c.right))
-    (ours (codes "\n") refl)) (flat (change_line (codes "bid")) (change (ours (codes "bid") refl)) c.bids)
-
-pub diff_shown : (goods : ℕ) (left right : List ℕ) (ds : PlainDifferences) → Shown (diff_text goods left right ds)
-diff_shown goods left right (InGoodNumbers m n) =
-    then (then (then (then (ours (codes "goods\t") refl) (number m)) (ours (codes "\t") refl)) (number n)) (ours (codes "\n") refl)
-diff_shown goods left right (InBids bundles changed) =
-    then (flat (change_line (codes "or")) (change (ours (codes "or") refl)) bundles) (flat (bidder_lines goods left right) (bidders goods left right) changed)
+pub diff_shown : (f g : PlainFile) (d : PlainDifferences) → Shown (diff_text f g d)
+diff_shown f g d =
+    then (then (then (ours diff_header refl) (goods d.goods)) (flat _ (change (ours (codes "or") refl) f g None None) d.bundles))
+    (flat (bidder_rows f g) (bidders f g) d.bidders)

@@ -1,5 +1,5 @@
 -- What is made of a file by normalising it, in the words of the runs: a text, a refused bundle, or that memory was refused.
-use Rattle.std.proofs.Common.{◌≡◌, ℕ, Err, sym, ap, ◌∙◌}
+use Rattle.std.proofs.Common.{◌≡◌, Err, sym, ap, ◌∙◌}
 use Rattle.bid_file.specs.Files.{PlainFile}
 use Rattle.valuation.specs.declared.search_options.SearchOptions.{SearchOptions}
 use Rattle.cats_text.specs.Layout.{layout}

@@ -56,8 +56,8 @@ pub fn printed_answers_are_shown()
     ensures value { (file : PlainFile) (goods : List ℕ) → IsTextOf is_shown (value_text file goods) }
     ensures compare { (difference : Difference) → IsTextOf is_shown (difference_text difference) }
     ensures explain { (file : PlainFile) (reasons : List PlainReason) → IsTextOf is_shown (explanation_text file reasons) }
-    ensures diff { (goods : ℕ) (left right : List ℕ) (differences : PlainDifferences)
-        → IsTextOf is_shown (diff_text goods left right differences) }
+    ensures diff { (left right : PlainFile) (differences : PlainDifferences)
+        → IsTextOf is_shown (diff_text left right differences) }
 {}
 
 /// The text of `cats duplicates` has the paths of each group: its lines between each two that are empty, with NUL at the

@@ -1,5 +1,14 @@
-use Rattle.answers.proofs.NamedFiles.{named_among}
+use Rattle.answers.proofs.ComparedFiles.{compared_canonical, compared_plain}
 use Rattle.answers.proofs.diff.differences_text.Goals as goal
 
-pub diff_text-requires : goal.diff_text-requires
-diff_text-requires c = named_among c.args.left.now c.args.right.now c.requires.left c.requires.right _ c.in_ok-differences.ensures
+pub all_differences-requires-clause-left_facts : goal.all_differences-requires-clause-left_facts
+all_differences-requires-clause-left_facts c = compared_plain c.args.left.now c.requires.left
+
+pub all_differences-requires-clause-left_canonical : goal.all_differences-requires-clause-left_canonical
+all_differences-requires-clause-left_canonical c = compared_canonical c.args.left.now c.requires.left
+
+pub all_differences-requires-clause-right_facts : goal.all_differences-requires-clause-right_facts
+all_differences-requires-clause-right_facts c = compared_plain c.args.right.now c.requires.right
+
+pub all_differences-requires-clause-right_canonical : goal.all_differences-requires-clause-right_canonical
+all_differences-requires-clause-right_canonical c = compared_canonical c.args.right.now c.requires.right

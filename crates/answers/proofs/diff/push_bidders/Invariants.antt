@@ -1,10 +1,11 @@
 use Rattle.std.proofs.Common.{◌≡◌, ◌++◌, map, take}
 use Rattle.std.specs.List.{flat_map}
 use Rattle.differences.specs.Views.{plain_bidder_change}
-use Rattle.answers.specs.DiffTexts.{bidder_lines}
+use Rattle.answers.specs.DiffTexts.{bidder_rows}
+use Rattle.answers.specs.Internal.Sides.{file_of}
 use Rattle.answers.proofs.diff.push_bidders.Given as goal
 
--- the lines of the bidders so far are appended
+-- the rows of the bidders so far are appended
 abbrev pub invariant-loop-bidder : goal.invariant-loop-bidder
-invariant-loop-bidder l = l.text.items ≡ l.initial.text.items ++ flat_map (bidder_lines l.goods l.left l.right)
+invariant-loop-bidder l = l.text.items ≡ l.initial.text.items ++ flat_map (bidder_rows (file_of l.sides.left) (file_of l.sides.right))
     (map plain_bidder_change (take l.bidder-index l.bidders))

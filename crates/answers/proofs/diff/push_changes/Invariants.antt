@@ -1,9 +1,11 @@
 use Rattle.std.proofs.Common.{◌≡◌, ◌++◌, map, take}
 use Rattle.std.specs.List.{flat_map}
 use Rattle.differences.specs.Views.{plain_change}
-use Rattle.answers.specs.DiffTexts.{change_line}
+use Rattle.answers.specs.DiffTexts.{change_row}
+use Rattle.answers.specs.Internal.Sides.{file_of}
 use Rattle.answers.proofs.diff.push_changes.Given as goal
 
--- the lines of the changes so far are appended
+-- the rows of the changes so far are appended
 abbrev pub invariant-loop-change : goal.invariant-loop-change
-invariant-loop-change l = l.text.items ≡ l.initial.text.items ++ flat_map (change_line l.keyword) (map plain_change (take l.change-index l.changes))
+invariant-loop-change l = l.text.items ≡ l.initial.text.items ++ flat_map (change_row l.bidder.kind.now (file_of l.sides.left) (file_of l.sides.right)
+    l.bidder.left l.bidder.right) (map plain_change (take l.change-index l.changes))

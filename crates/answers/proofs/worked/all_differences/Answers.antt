@@ -4,4 +4,4 @@ use Rattle.answers.proofs.worked.all_differences.Goals as goal
 
 pub returns : goal.returns
 unfolding digits
-returns c = record { goods = refl; bundles = refl; beside = refl; alone = refl; none = refl; statuses = refl }
+returns c = record { none = refl; goods = refl; bundles = refl; best = refl; not_kept = refl; statuses = refl }

@@ -9,5 +9,5 @@ returns-in-Ok-differences_text c =
     let status = c.in-Ok-differences_text.status in
     let text = c.in-Ok-differences_text.text.items in
     subst (λ (o : SearchOptions). DiffsTexts o c.args.left.now c.args.right.now status text) c.bounded-options.ensures
-    (diffed c.bounded-options.result c.args.left.now c.args.right.now c.in-Ok.named c.in-Ok-read_named.named c.in-Ok.ensures.answer
-    c.in-Ok-read_named.ensures.answer status text c.in-Ok-differences_text.ensures)
+    (diffed c.bounded-options.result c.args.left.now c.args.right.now c.in-Ok.compared c.in-Ok-read_compared.compared c.in-Ok.ensures.answer
+    c.in-Ok-read_compared.ensures.answer status text c.in-Ok-differences_text.ensures)

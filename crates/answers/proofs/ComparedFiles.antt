@@ -1,13 +1,13 @@
--- A canonical file with the dummy goods of its bidders: each bidder of a change is one of its canonical file, so it has such a dummy
--- good.
-use Rattle.std.proofs.Common.{◌≡◌, ◌<◌, ℕ, suc, List, [], ◌∷◌, length, map, get_or, Option, Some, None, sym, ap, ◌∙◌, subst, arith}
+-- A file that is compared, and its canonical file with dummy goods: each bidder of a change is one of its canonical file, so it has such
+-- a dummy good.
+use Rattle.std.proofs.Common.{◌≡◌, ◌<◌, ℕ, suc, List, [], ◌∷◌, length, get_or, Option, Some, None, true, append-nil, sym, ap, ◌∙◌, subst, arith}
 use Rattle.std.specs.Prelude.{All}
 use Rattle.std.specs.List.{cons_option, filter_map, range_with_len}
 use Rattle.std.specs.Ordering.{is_eq, nat_cmp}
 use Rattle.std.specs.FinMap.{nat_cmp-IsAntisymmetric}
 use Rattle.std.proofs.Common.{cond}
 use Rattle.std.proofs.lemmas.Cmp.{nat_cmp_total, tied_itself}
-use Rattle.std.proofs.lemmas.List.{get_or-map, length-map}
+use Rattle.std.proofs.lemmas.List.{length-map}
 use Rattle.std.proofs.lemmas.List.Elements.{All-nil, All-cons, All-contains, All-filter}
 use Rattle.std.proofs.lemmas.List.FromFn.{get_or-range_with_len, length-range_with_len}
 use Rattle.std.proofs.lemmas.List.Sums.{get_or-le-sum_by}
@@ -17,17 +17,16 @@ use Rattle.valuation.specs.Auctions.{PlainAuction, auction_from}
 use Rattle.valuation.specs.Sorting.{count_of}
 use Rattle.canon.proofs.CanonicalFiles.Files.{auction_from-file_from}
 use Rattle.canon.proofs.CanonicalFiles.Texts.{canonical_file_is_fixed, IsPlainFile-canonical}
-use Rattle.canon.specs.Canonical.{canonical_auction, canonical_file}
+use Rattle.canon.specs.Canonical.{IsCanonicalFile, canonical_auction, canonical_file}
 use Rattle.canon.specs.Lemmas.Finding.{counted_is_there}
 use Rattle.canon.specs.Lemmas.Renaming.{points_of_kept_dummies}
 use Rattle.canon.specs.Renaming.{kept_dummies, points_of_dummy}
-use Rattle.canon.specs.declared.named.NamedFile.{NamedFile}
-use Rattle.differences.specs.BidderChanges.{PlainBidderChange, excess_bidders, is_excess, rights_of}
-use Rattle.differences.specs.Differences.{PlainDifferences, AreAllDifferences, InGoods, InBids}
-use Rattle.differences.specs.Views.{plain_bidder_change}
-use Rattle.differences.specs.declared.change.BidderChange.{BidderChange}
-use Rattle.answers.specs.Internal.Among.{AreAmong, IsAmong}
-use Rattle.answers.specs.NamedFiles.{IsNamed, IsNamedFile}
+use Rattle.differences.specs.BidderChanges.{PlainBidderChange, AreBidderChanges, excess_bidders, is_excess, rights_of}
+use Rattle.differences.specs.Differences.{PlainDifferences, AreAllDifferences, is_none_at_all}
+use Rattle.differences.proofs.BeginAuctions.{empty_from_test}
+use Rattle.answers.specs.ComparedFiles.{IsComparedFile}
+use Rattle.answers.specs.DiffTexts.{diff_header, diff_text}
+use Rattle.answers.specs.declared.sides.ComparedFile.{ComparedFile}
 
 -- ---- a canonical file with its names
 
@@ -38,12 +37,24 @@ kept_count f =
     ap (λ (b : PlainAuction). length b.xor_bidders) (auction_from-file_from a)
     ∙ sym (ap (length {A = List (Atom (List ℕ))}) (points_of_kept_dummies f)) ∙ length-map (kept_dummies f) (points_of_dummy f)
 
-pub named_file : (f : PlainFile) → IsPlainFile f → (named : NamedFile) → IsNamed f named → IsNamedFile named
-named_file f plain named is = record {
-  facts = subst (λ (h : PlainFile). IsPlainFile h) (sym is.canonical) (IsPlainFile-canonical f plain);
-  canonical = subst (λ (h : PlainFile). canonical_file h ≡ h) (sym is.canonical) (canonical_file_is_fixed f plain);
-  bidders = ap (λ (h : PlainFile). length (auction_from h).xor_bidders) is.canonical ∙ kept_count f ∙ ap (length {A = ℕ}) (sym is.dummies);
-}
+pub compared_plain : (c : ComparedFile) → IsComparedFile c → IsPlainFile c.named.file
+compared_plain c is = subst (λ (h : PlainFile). IsPlainFile h) (sym is.named.canonical) (IsPlainFile-canonical c.file is.plain)
+
+pub compared_canonical : (c : ComparedFile) → IsComparedFile c → IsCanonicalFile c.named.file
+compared_canonical c is = subst (λ (h : PlainFile). IsCanonicalFile h) (sym is.named.canonical) (canonical_file_is_fixed c.file is.plain)
+
+-- ---- all differences
+
+pub of_files : (left right : ComparedFile) → IsComparedFile left → IsComparedFile right → (d : PlainDifferences)
+    → AreAllDifferences (auction_from left.named.file) (auction_from right.named.file) d
+    → AreAllDifferences (auction_from (canonical_file left.file)) (auction_from (canonical_file right.file)) d
+of_files left right one other d are =
+    subst (λ (h : PlainFile). AreAllDifferences (auction_from (canonical_file left.file)) (auction_from h) d) other.named.canonical
+    (subst (λ (h : PlainFile). AreAllDifferences (auction_from h) (auction_from right.named.file) d) one.named.canonical are)
+
+-- without a difference the table is its header
+pub header_alone : (f g : PlainFile) (d : PlainDifferences) → is_none_at_all d ≡ true → diff_header ≡ diff_text f g d
+header_alone f g d none = sym (ap (diff_text f g) (empty_from_test d none) ∙ append-nil diff_header)
 
 -- ---- the bidders of the changes
 
@@ -89,33 +100,20 @@ named_below n named (c ∷ rest) all =
     behind None every = every
     behind (Some i) every = λ k d l. every (suc k) d (omega arith)
 
-both_below : (m n : ℕ) (changes : List PlainBidderChange) → All (λ c. IsDummyBelow m c.left) changes → All (λ c. IsDummyBelow n c.right) changes
-    → All (IsAmong m n) changes
-both_below m n changes lefts rights = λ k d l. record { left = lefts k d l; right = rights k d l }
+module _ (f g : PlainFile) (changes : List PlainBidderChange)
+    (are : AreBidderChanges (auction_from (canonical_file f)).xor_bidders (auction_from (canonical_file g)).xor_bidders changes) where
+  pub lefts_below : All (λ c. IsDummyBelow (length (kept_dummies f)) c.left) changes
+  lefts_below =
+      let own = (auction_from (canonical_file f)).xor_bidders in
+      let others = (auction_from (canonical_file g)).xor_bidders in
+      named_below (length (kept_dummies f)) (λ c. c.left) changes
+      (subst (λ (xs : List ℕ). All (λ i. i < length (kept_dummies f)) xs) (sym are.lefts)
+      (subst (λ (n : ℕ). All (λ i. i < n) (excess_bidders own others)) (kept_count f) (excess_below own others)))
 
--- the bidders of all differences are bidders of the auctions
-all_among : (m n : ℕ) (a b : PlainAuction) → length a.xor_bidders ≡ m → length b.xor_bidders ≡ n → (differences : PlainDifferences)
-    → AreAllDifferences a b differences → AreAmong m n differences
-all_among m n a b one other (InGoods left right) are = tt
-all_among m n a b one other (InBids bundles bidders) are =
-    both_below m n bidders
-    (named_below m (λ c. c.left) bidders
-    (subst (λ (xs : List ℕ). All (λ i. i < m) xs) (sym are.bidders.lefts)
-    (subst (λ (k : ℕ). All (λ i. i < k) (excess_bidders a.xor_bidders b.xor_bidders)) one (excess_below a.xor_bidders b.xor_bidders))))
-    (named_below n (λ c. c.right) bidders
-    (counted_below n (rights_of bidders) (excess_bidders b.xor_bidders a.xor_bidders) are.bidders.rights
-    (subst (λ (k : ℕ). All (λ i. i < k) (excess_bidders b.xor_bidders a.xor_bidders)) other (excess_below b.xor_bidders a.xor_bidders))))
-
-pub named_among : (left right : NamedFile) → IsNamedFile left → IsNamedFile right → (differences : PlainDifferences)
-    → AreAllDifferences (auction_from left.file) (auction_from right.file) differences
-    → AreAmong (length left.dummies.items) (length right.dummies.items) differences
-named_among left right one other differences are =
-    all_among (length left.dummies.items) (length right.dummies.items) (auction_from left.file)
-    (auction_from right.file) one.bidders other.bidders differences are
-
-pub among_at : (m n : ℕ) (changes : List BidderChange) (i : ℕ) (c : BidderChange) → i < length changes → c ≡ get_or changes i c
-    → All (IsAmong m n) (map plain_bidder_change changes) → IsAmong m n (plain_bidder_change c)
-among_at m n changes i c l is all =
-    let long = length-map changes plain_bidder_change in
-    subst (λ (b : PlainBidderChange). IsAmong m n b) (get_or-map plain_bidder_change changes i c (plain_bidder_change c) l ∙ ap plain_bidder_change (sym is))
-    (all i (plain_bidder_change c) (omega (arith, long)))
+  pub rights_below : All (λ c. IsDummyBelow (length (kept_dummies g)) c.right) changes
+  rights_below =
+      let own = (auction_from (canonical_file g)).xor_bidders in
+      let others = (auction_from (canonical_file f)).xor_bidders in
+      named_below (length (kept_dummies g)) (λ c. c.right) changes
+      (counted_below (length (kept_dummies g)) (rights_of changes) (excess_bidders own others) are.rights
+      (subst (λ (n : ℕ). All (λ i. i < n) (excess_bidders own others)) (kept_count g) (excess_below own others)))
