@@ -1,39 +1,48 @@
--- What `cats diff` prints. It has a line for each difference, with tabs between its words, left before
--- right.
-use Rattle.std.specs.Prelude.{ℕ, ◌+◌, List, ◌++◌, Option, Some, None, codes, decimal, slice_index_or}
+-- What `cats diff` prints. It is a table with a row for each difference: a bundle on which the bids that one bidder
+-- keeps differ, left before right. A cell is empty if there is nothing.
+use Rattle.std.specs.Prelude.{ℕ, List, [], ◌++◌, Option, Some, None, codes, decimal}
 use Rattle.std.specs.List.{flat_map}
-use Rattle.cats_text.specs.Layout.{price_text}
+use Rattle.bid_file.specs.Files.{PlainFile}
+use Rattle.canon.specs.Renaming.{kept_dummies, named_dummy}
 use Rattle.differences.specs.BidderChanges.{PlainBidderChange}
-use Rattle.differences.specs.Differences.{PlainDifferences, InGoods, InBids}
+use Rattle.differences.specs.Differences.{PlainDifferences}
 use Rattle.differences.specs.PriceChanges.{PlainChange}
-use Rattle.answers.specs.Outputs.{bundle_text}
+use Rattle.explain.specs.Bids.{best_number}
+use Rattle.answers.specs.Outputs.{bundle_text, number_cell, price_cell}
 
--- the price, or `-` if there is no bid
-abbrev pub price_word : Option ℕ → List ℕ
-price_word None = codes "-"
-price_word (Some price) = price_text price
+-- the names of the columns
+abbrev pub diff_header : List ℕ
+diff_header = codes "kind\tgoods\tleft\tright\tleft_dummy\tright_dummy\tleft_bid\tright_bid\n"
 
-abbrev pub goods_line : ℕ → ℕ → List ℕ
-goods_line left right = codes "goods\t" ++ decimal left ++ codes "\t" ++ decimal right ++ codes "\n"
+-- two numbers of goods
+abbrev pub goods_row : ℕ → ℕ → List ℕ
+goods_row left right = codes "goods\t\t" ++ decimal left ++ codes "\t" ++ decimal right ++ codes "\t\t\t\t\n"
 
--- a keyword, a bundle, and the price on it on both sides
-abbrev pub change_line : List ℕ → PlainChange → List ℕ
-change_line keyword c = keyword ++ codes "\t" ++ bundle_text c.bundle ++ codes "\t" ++ price_word c.left ++ codes "\t"
-    ++ price_word c.right ++ codes "\n"
+-- the numbers of goods, if they differ
+abbrev pub goods_rows : Option (ℕ × ℕ) → List ℕ
+goods_rows None = []
+goods_rows (Some numbers) = goods_row numbers.0 numbers.1
 
--- the number of the bidder's dummy good in its file, or `-` if there is no bidder
-abbrev pub bidder_word : ℕ → List ℕ → Option ℕ → List ℕ
-bidder_word goods dummies None = codes "-"
-bidder_word goods dummies (Some index) = decimal (goods + slice_index_or dummies index 0)
+-- the number of the bid in the file, the bidder's best on the goods, if it keeps one there
+abbrev pub bid_number : PlainFile → Option ℕ → List ℕ → Option ℕ → Option ℕ
+bid_number f dummy goods None = None
+bid_number f dummy goods (Some price) = best_number f dummy goods
 
--- the bidders of a change, and a line for each bid in which they differ
-abbrev pub bidder_lines : ℕ → List ℕ → List ℕ → PlainBidderChange → List ℕ
-bidder_lines goods left right c = codes "xor\t" ++ bidder_word goods left c.left ++ codes "\t"
-    ++ bidder_word goods right c.right ++ codes "\n" ++ flat_map (change_line (codes "bid")) c.bids
+-- a kind of bidder, a bundle, and on each side the price, the bidder's dummy good, and the number of its bid
+abbrev pub change_row : List ℕ → PlainFile → PlainFile → Option ℕ → Option ℕ → PlainChange → List ℕ
+change_row kind f g left right c = kind ++ codes "\t" ++ bundle_text c.bundle
+    ++ codes "\t" ++ price_cell c.left ++ codes "\t" ++ price_cell c.right
+    ++ codes "\t" ++ number_cell left ++ codes "\t" ++ number_cell right
+    ++ codes "\t" ++ number_cell (bid_number f left c.bundle c.left)
+    ++ codes "\t" ++ number_cell (bid_number g right c.bundle c.right) ++ codes "\n"
 
--- The differences of two files with this number of goods, if that is equal. `left` and `right` have the dummy good, in
--- its file, of each bidder of the canonical file.
-abbrev pub diff_text : ℕ → List ℕ → List ℕ → PlainDifferences → List ℕ
-diff_text goods left right (InGoods m n) = goods_line m n
-diff_text goods left right (InBids bundles bidders) = flat_map (change_line (codes "or")) bundles
-    ++ flat_map (bidder_lines goods left right) bidders
+-- a row for each bid in which an XOR bidder differs from that beside it, or from none
+abbrev pub bidder_rows : PlainFile → PlainFile → PlainBidderChange → List ℕ
+bidder_rows f g c = flat_map (change_row (codes "xor") f g (named_dummy (kept_dummies f) c.left)
+    (named_dummy (kept_dummies g) c.right)) c.bids
+
+-- The differences of the canonical files of two files: the numbers of goods, the OR bidders' bundles, and then the XOR
+-- bidders.
+abbrev pub diff_text : PlainFile → PlainFile → PlainDifferences → List ℕ
+diff_text f g d = diff_header ++ goods_rows d.goods ++ flat_map (change_row (codes "or") f g None None) d.bundles
+    ++ flat_map (bidder_rows f g) d.bidders

@@ -1,25 +1,20 @@
 -- What `cats explain` prints. It is a table with a row for each bid: the bid, why it is kept or dropped, its number in
 -- the canonical file, and the bids that make it superfluous. A cell is empty if there is nothing.
-use Rattle.std.specs.Prelude.{ℕ, List, [], ◌∷◌, ◌++◌, Option, Some, None, codes, decimal}
+use Rattle.std.specs.Prelude.{ℕ, List, [], ◌∷◌, ◌++◌, codes, decimal}
 use Rattle.std.specs.List.{flat_map}
 use Rattle.bid_file.specs.Files.{PlainBid, PlainFile}
 use Rattle.cats_text.specs.Layout.{price_text}
 use Rattle.explain.specs.Bids.{bid_at, numbers_of}
 use Rattle.explain.specs.Reasons.{PlainReason, Keep, Zero, Same, Inside, Packing, reason_at}
-use Rattle.answers.specs.Outputs.{bundle_text}
+use Rattle.answers.specs.Outputs.{bundle_text, number_cell}
 
 -- the names of the columns
 abbrev pub explanation_header : List ℕ
 explanation_header = codes "bid\tdummy\tprice\tgoods\treason\tkept\tby\n"
 
--- the number of a bid's dummy good among the dummy goods
-abbrev pub dummy_cell : Option ℕ → List ℕ
-dummy_cell None = []
-dummy_cell (Some d) = decimal d
-
--- the dummy good, the price and the goods of a bid
+-- the dummy good, as a number among the dummy goods, the price and the goods of a bid
 abbrev pub bid_cells : PlainBid → List ℕ
-bid_cells bid = dummy_cell bid.dummy ++ codes "\t" ++ price_text bid.price ++ codes "\t" ++ bundle_text bid.goods
+bid_cells bid = number_cell bid.dummy ++ codes "\t" ++ price_text bid.price ++ codes "\t" ++ bundle_text bid.goods
 
 -- the word of the reason, the number in the canonical file, and the bids that make this one superfluous
 abbrev pub reason_cells : PlainReason → List ℕ

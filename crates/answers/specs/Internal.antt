@@ -1,2 +1,2 @@
 -- What the contracts of private functions cite. No public contract rests on them.
-pub mod Among
+pub mod Sides

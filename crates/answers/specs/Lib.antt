@@ -8,5 +8,5 @@ pub mod DiffTexts
 pub mod ExplanationTexts
 pub mod RoundedLines
 pub mod Pieces
-pub mod NamedFiles
+pub mod ComparedFiles
 pub mod Internal

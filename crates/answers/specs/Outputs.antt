@@ -1,7 +1,8 @@
--- What `cats check` prints, and lists of goods.
-use Rattle.std.specs.Prelude.{ℕ, List, [], ◌∷◌, ◌++◌, length, codes, decimal}
+-- What `cats check` prints, lists of goods, and the cells of tables.
+use Rattle.std.specs.Prelude.{ℕ, List, [], ◌∷◌, ◌++◌, Option, Some, None, length, codes, decimal}
 use Rattle.std.specs.List.{flat_map}
 use Rattle.bid_file.specs.Files.{PlainFile}
+use Rattle.cats_text.specs.Layout.{price_text}
 
 -- each good after a comma
 abbrev pub after_commas : List ℕ → List ℕ
@@ -11,6 +12,16 @@ after_commas goods = flat_map (λ g. 44 ∷ decimal g) goods
 abbrev pub bundle_text : List ℕ → List ℕ
 bundle_text [] = []
 bundle_text (g ∷ goods) = decimal g ++ after_commas goods
+
+-- a number, if there is one
+abbrev pub number_cell : Option ℕ → List ℕ
+number_cell None = []
+number_cell (Some number) = decimal number
+
+-- a price, if there is one
+abbrev pub price_cell : Option ℕ → List ℕ
+price_cell None = []
+price_cell (Some price) = price_text price
 
 abbrev pub sizes_text : ℕ → ℕ → ℕ → List ℕ
 sizes_text goods bids dummy = codes "goods " ++ decimal goods ++ codes " bids " ++ decimal bids ++ codes " dummy "

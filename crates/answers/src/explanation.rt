@@ -3,11 +3,10 @@
 ghost use Rattle.std.specs.Prelude.{◌≡◌, ◌++◌, IfOk, OnOk, length, map};
 ghost use Rattle.bid_file.specs.Views.{seen_bid};
 ghost use Rattle.explain.specs.Reasons.{plain_reason};
-ghost use Rattle.answers.specs.ExplanationTexts.{bid_cells, dummy_cell, explanation_row, explanation_text};
-ghost use Rattle.answers.specs.ExplanationTexts.{reason_cells};
+ghost use Rattle.answers.specs.ExplanationTexts.{bid_cells, explanation_row, explanation_text, reason_cells};
 ghost use Rattle.answers.specs.Outputs.{bundle_text};
 
-use crate::diff::{push_bundle, push_number};
+use crate::cells::{push_bundle, push_number, push_number_cell};
 use bid_file::{BidRef, Bids, PackedFile};
 use cats_text::push_price;
 use explain::Reason;
@@ -50,25 +49,15 @@ fn push_row(
     text.extend_from_slice(b"\n")
 }
 
-/// Appends the cells of a bid: its dummy good, price and goods.
+/// Appends the cells of a bid: its dummy good among the dummy goods, if it has one, its price and its goods.
 fn push_bid(text: &mut Vec<u8>, bid: &BidRef<'_>) -> Result<(), AllocError>
     ensures { OnOk result (text.new.items ≡ text.old.items ++ bid_cells (seen_bid bid.now)) }
 {
-    push_dummy(text, bid.dummy)?;
+    push_number_cell(text, bid.dummy)?;
     text.extend_from_slice(b"\t")?;
     push_price(text, u128::from(bid.price))?;
     text.extend_from_slice(b"\t")?;
     push_bundle(text, bid.goods)
-}
-
-/// Appends the number of a bid's dummy good among the dummy goods, if it has one.
-fn push_dummy(text: &mut Vec<u8>, dummy: Option<u32>) -> Result<(), AllocError>
-    ensures { OnOk result (text.new.items ≡ text.old.items ++ dummy_cell dummy) }
-{
-    match dummy {
-        Some(dummy) => push_number(text, dummy),
-        None => Ok(()),
-    }
 }
 
 /// Appends the cells of a reason: its word, the number of a kept bid in the canonical file, and the bids that it names.

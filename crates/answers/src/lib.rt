@@ -1,12 +1,14 @@
 //! What the program and the library print, and their statuses.
 #![tactic(auto)]
 
+mod cells;
 mod comparison;
 mod diff;
 mod explanation;
 mod pieces;
 mod report;
 mod rounded;
+mod sides;
 mod sizes;
 pub mod worked;
 
@@ -19,4 +21,5 @@ pub use report::{
     fault_line, fault_pieces, joined_goods, status,
 };
 pub use rounded::{price_line, price_pieces};
+pub use sides::ComparedFile;
 pub use sizes::sizes_line;

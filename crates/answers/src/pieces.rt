@@ -3,7 +3,7 @@
 ghost use Rattle.std.specs.Prelude.{◌≡◌, ◌++◌, IfOk, OnOk, codes};
 ghost use Rattle.answers.specs.Pieces.{text_of_piece, text_of_pieces};
 
-use crate::diff::{push_bundle, push_number};
+use crate::cells::{push_bundle, push_number};
 use cats_text::push_price;
 use std::alloc::{AllocError, Global};
 

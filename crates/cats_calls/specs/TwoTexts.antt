@@ -6,7 +6,6 @@ use Rattle.valuation.specs.declared.search_options.SearchOptions.{SearchOptions}
 use Rattle.canon.specs.Canonical.{canonical_file}
 use Rattle.canon.specs.Comparing.{Differ, SpellsWithinLimit}
 use Rattle.canon.specs.Difference.{Difference}
-use Rattle.canon.specs.Renaming.{kept_dummies}
 use Rattle.canon.specs.Sameness.{AreSameTexts}
 use Rattle.differences.specs.Differences.{AreAllDifferences, PlainDifferences}
 use Rattle.answers.specs.DiffTexts.{diff_text}
@@ -29,5 +28,5 @@ pub record DiffsTexts (options : SearchOptions) (left right : List ℕ) (status 
   pub all : AreAllDifferences (auction_from (canonical_file first.file))
       (auction_from (canonical_file second.file)) differences
   pub is_status : status ≡ status_of_differences differences
-  pub is_text : out ≡ diff_text first.file.goods (kept_dummies first.file) (kept_dummies second.file) differences
+  pub is_text : out ≡ diff_text first.file second.file differences
   pub same : status ≡ 0 ↔ AreSameTexts left right

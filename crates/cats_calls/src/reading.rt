@@ -4,11 +4,12 @@ ghost use Rattle.std.specs.Prelude.{◌<◌, IfOk, length};
 ghost use Rattle.canon.specs.Canonical.{IsCanonicalFile};
 ghost use Rattle.cats_text.specs.declared.limits.TheConstants.{MAX_STREAM};
 ghost use Rattle.cats_calls.specs.Refusals.{IsUnread};
-ghost use Rattle.cats_calls.specs.Internal.Reading.{NamesAs, NormalisesAs, ReadsAs};
-ghost use Rattle.answers.specs.NamedFiles.{IsNamedFile};
+ghost use Rattle.cats_calls.specs.Internal.Reading.{ComparesAs, NormalisesAs, ReadsAs};
+ghost use Rattle.answers.specs.ComparedFiles.{IsComparedFile};
 
+use answers::ComparedFile;
 use bid_file::PackedFile;
-use canon::{CanonFault, NamedFile, named_normal_file, normal_packed_file};
+use canon::{CanonFault, named_normal_file, normal_packed_file};
 use cats_text::{Kind, MAX_STREAM, ReadFault, Reader, read_packed};
 use std::alloc::Global;
 use valuation::SearchOptions;
@@ -36,17 +37,18 @@ pub(crate) fn read_normal(
     normal_packed_file(alloc, file, options)
 }
 
-/// The same, with the dummy goods that its bidders have in the file.
-pub(crate) fn read_named(
+/// The file that a text spells, and its canonical file, with the dummy goods that its bidders have in the file.
+pub(crate) fn read_compared(
     alloc: Global,
     text: &[u8],
     options: SearchOptions,
-) -> Result<NamedFile, CanonFault>
-    ensures answer { NamesAs options text.now result }
-    ensures named { IfOk result IsNamedFile }
+) -> Result<ComparedFile, CanonFault>
+    ensures answer { ComparesAs options text.now result }
+    ensures compared { IfOk result IsComparedFile }
 {
     let file = read_text(alloc, text)?;
-    named_normal_file(alloc, &file, options)
+    let named = named_normal_file(alloc, &file, options)?;
+    Ok(ComparedFile { file, named })
 }
 
 /// The fault of a text that is too long: a fault of the bytes that are read, or else the length.

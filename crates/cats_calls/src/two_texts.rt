@@ -9,7 +9,7 @@ ghost use Rattle.cats_calls.specs.Refusals.{OfTwo};
 ghost use Rattle.cats_calls.specs.TwoTexts.{ComparesTexts, DiffsTexts};
 
 use crate::answer::Answer;
-use crate::reading::{read_named, read_normal};
+use crate::reading::{read_compared, read_normal};
 use answers::{RunFault, differences_text, verdict_status, verdict_text};
 use bid_file::PackedFile;
 use canon::{CanonFault, Which, compare_files};
@@ -60,7 +60,7 @@ fn compare_canonical(
     })
 }
 
-/// `cats diff` on two texts: all differences, under the same limits.
+/// `cats diff` on two texts: the table of all differences, under the same limits.
 pub fn diff(
     alloc: Global,
     left: &[u8],
@@ -72,12 +72,12 @@ pub fn diff(
         Answers (DiffsTexts options left.now right.now) (OfTwo options left.now right.now) result }
 {
     let options = SearchOptions::bounded(steps, total);
-    let first = match read_named(alloc, left, options) {
-        Ok(named) => named,
+    let first = match read_compared(alloc, left, options) {
+        Ok(compared) => compared,
         Err(fault) => return Err(RunFault::Refused(Which::First, fault)),
     };
-    let second = match read_named(alloc, right, options) {
-        Ok(named) => named,
+    let second = match read_compared(alloc, right, options) {
+        Ok(compared) => compared,
         Err(fault) => return Err(RunFault::Refused(Which::Second, fault)),
     };
     match differences_text(alloc, &first, &second) {

@@ -1,11 +1,10 @@
--- What a run of `cats diff` does: it prints the one list of all differences of two files.
+-- What a run of `cats diff` does: it prints the one table of all differences of two files.
 use Rattle.std.specs.Prelude.{ℕ, List, Option, Result}
 use Rattle.bid_file.specs.Files.{PlainFile}
 use Rattle.valuation.specs.declared.search_options.SearchOptions.{SearchOptions}
 use Rattle.cats_text.specs.declared.stream.Watched.{Watched}
 use Rattle.valuation.specs.Auctions.{auction_from}
 use Rattle.canon.specs.Canonical.{canonical_file}
-use Rattle.canon.specs.Renaming.{kept_dummies}
 use Rattle.differences.specs.Differences.{PlainDifferences, AreAllDifferences}
 use Rattle.cats_cmd.specs.Comparisons.{ReadsBoth, RunsOnBoth}
 use Rattle.answers.specs.DiffTexts.{diff_text}
@@ -15,8 +14,7 @@ use Rattle.answers.specs.declared.report.RunFault.{RunFault}
 
 -- of the differences of two files
 abbrev pub diff_outcome : PlainFile × PlainFile × PlainDifferences → Outcome
-diff_outcome compared = Prints (status_of_differences compared.2)
-    (diff_text compared.0.goods (kept_dummies compared.0) (kept_dummies compared.1) compared.2)
+diff_outcome compared = Prints (status_of_differences compared.2) (diff_text compared.0 compared.1 compared.2)
 
 module _ {R S W : Type 0} (remaining_first : R → Option (List ℕ)) (remaining_second : S → Option (List ℕ))
     (contents : W → Option (List ℕ)) (options : SearchOptions) where

@@ -12,6 +12,7 @@ pub mod ExchangedChanges
 pub mod SamePartners
 pub mod BeginPrices
 pub mod BeginAuctions
+pub mod ChangesWithBids
 pub mod PriceChanges
 pub mod PriceWalks
 pub mod ExcessBidders

@@ -1,8 +1,8 @@
 -- Two canonical files of the same auction are equal, and equal auctions have no differences.
-use Rattle.std.proofs.Common.{◌≡◌, ℕ, List, [], get_or, length, drop, refl, sym, ap, ◌∙◌, subst, Less, map}
+use Rattle.std.proofs.Common.{◌≡◌, ℕ, Some, None, eqb, List, [], get_or, length, drop, refl, sym, ap, ◌∙◌, subst, Less, map}
 use Rattle.std.specs.List.{range_with_len}
 use Rattle.std.specs.Ordering.{nat_cmp}
-use Rattle.std.proofs.lemmas.Bool.{le-ltb}
+use Rattle.std.proofs.lemmas.Bool.{cond-true, eq-eqb, le-ltb}
 use Rattle.std.proofs.lemmas.List.Elements.{All-nil}
 use Rattle.bid_file.specs.Files.{PlainFile, IsPlainFile}
 use Rattle.bid_file.specs.declared.limits.TheConstants.{MAX_GOODS}
@@ -18,7 +18,7 @@ use Rattle.canon.specs.Sameness.{AreSameFiles}
 use Rattle.canon.proofs.CanonicalAuctions.Atoms.{HasAtoms}
 use Rattle.canon.proofs.CanonicalAuctions.Sames.{HasAtoms-auction, same_canonical}
 use Rattle.differences.specs.BidderChanges.{AreBidderChanges, IsBidderChange, bidder_at, excess_bidders, is_excess, partners_of}
-use Rattle.differences.specs.Differences.{AreAllDifferences, InBids}
+use Rattle.differences.specs.Differences.{AreAllDifferences, no_differences}
 use Rattle.differences.specs.PriceChanges.{PlainChange, IsPriceChange, ArePriceChanges}
 use Rattle.differences.proofs.ExcessWalks.{count_from-le}
 use Rattle.differences.proofs.Indices.{canonical_from_file}
@@ -50,16 +50,20 @@ no_bidder_changes bidders = record {
   alone_in_order = tt;
 }
 
-no_differences : (a : PlainAuction) → AreAllDifferences a a (InBids [] [])
-no_differences a = record { goods = refl; bundles = no_price_changes a.or_atoms; bidders = no_bidder_changes a.xor_bidders }
+none_of_itself : (a : PlainAuction) → AreAllDifferences a a no_differences
+none_of_itself a = record {
+  goods = sym (cond-true (eqb a.goods a.goods) None (Some (a.goods, a.goods)) (eq-eqb a.goods a.goods refl));
+  bundles = no_price_changes a.or_atoms;
+  bidders = no_bidder_changes a.xor_bidders;
+}
 
 atoms_of : (f : PlainFile) → IsPlainFile f → HasAtoms (auction_from f)
 atoms_of f plain = HasAtoms-auction MAX_GOODS (auction_from f) (IsAuction-auction_from MAX_GOODS f plain plain.goods)
 
 pub no_differences_of_same : (f g : PlainFile) → IsPlainFile f → IsPlainFile g → IsCanonicalFile f → IsCanonicalFile g → AreSameFiles f g
-    → AreAllDifferences (auction_from f) (auction_from g) (InBids [] [])
+    → AreAllDifferences (auction_from f) (auction_from g) no_differences
 no_differences_of_same f g plain also_plain canonical also_canonical same =
     let equal : auction_from f ≡ auction_from g =
     sym (canonical_from_file f canonical)
     ∙ same_canonical (auction_from f) (auction_from g) (atoms_of f plain) (atoms_of g also_plain) same ∙ canonical_from_file g also_canonical in
-    subst (λ (b : PlainAuction). AreAllDifferences (auction_from f) b (InBids [] [])) equal (no_differences (auction_from f))
+    subst (λ (b : PlainAuction). AreAllDifferences (auction_from f) b no_differences) equal (none_of_itself (auction_from f))

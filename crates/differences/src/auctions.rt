@@ -4,7 +4,7 @@ ghost use Rattle.std.specs.Prelude.{◌≡◌, IfOk};
 ghost use Rattle.bid_file.specs.Files.{IsPlainFile};
 ghost use Rattle.valuation.specs.Auctions.{auction_from};
 ghost use Rattle.canon.specs.Canonical.{IsCanonicalFile};
-ghost use Rattle.differences.specs.Differences.{AreAllDifferences};
+ghost use Rattle.differences.specs.Differences.{AreAllDifferences, goods_change};
 ghost use Rattle.differences.specs.Views.{plain_differences};
 
 use crate::bidder_changes::bidder_changes;
@@ -28,19 +28,28 @@ pub fn all_differences<'a, B: Bids>(
     ensures { IfOk result (λ differences. AreAllDifferences (auction_from (B.file left.now))
         (auction_from (B.file right.now)) (plain_differences differences)) }
 {
-    if left.goods() != right.goods() {
-        return Ok(Differences::Goods(left.goods(), right.goods()));
-    }
     if let Verdict::Same = compare_files(alloc, left, right)? {
-        return Ok(Differences::Bids {
+        return Ok(Differences {
+            goods: None,
             bundles: Vec::new(alloc),
             bidders: Vec::new(alloc),
         });
     }
     let own = bidders_of(alloc, left)?;
     let others = bidders_of(alloc, right)?;
-    Ok(Differences::Bids {
+    Ok(Differences {
+        goods: goods_change(left.goods(), right.goods()),
         bundles: price_changes(alloc, &own.or_bids, &others.or_bids)?,
         bidders: bidder_changes(alloc, &own.xor_bidders, &others.xor_bidders)?,
     })
+}
+
+/// Two numbers of goods, if they differ.
+fn goods_change(left: u16, right: u16) -> Option<(u16, u16)>
+    ensures { result ≡ goods_change left right }
+{
+    if left == right {
+        return None;
+    }
+    Some((left, right))
 }

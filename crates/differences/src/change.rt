@@ -26,15 +26,25 @@ pub struct BidderChange<'a> {
 
 /// All differences of two auctions. There are none exactly if they are the same.
 #[derive(Drop)]
-pub enum Differences<'a> {
-    /// The numbers of goods of the left and of the right auction, which differ. Nothing else is compared.
-    Goods(u16, u16),
-    /// The numbers of goods are equal.
-    Bids {
-        /// The bundles on which the OR bidders' bids differ, in order.
-        bundles: Vec<PriceChange<'a>>,
-        /// The XOR bidders that differ: those of the left file in its order, each alone or beside one of the right file, and
-        /// then the others of the right file in its order.
-        bidders: Vec<BidderChange<'a>>,
-    },
+pub struct Differences<'a> {
+    /// The numbers of goods of the left and of the right auction, if they differ.
+    pub goods: Option<(u16, u16)>,
+    /// The bundles on which the OR bidders' bids differ, in order.
+    pub bundles: Vec<PriceChange<'a>>,
+    /// The XOR bidders that differ: those of the left file in its order, each alone or beside one of the right file, and
+    /// then the others of the right file in its order.
+    pub bidders: Vec<BidderChange<'a>>,
+}
+
+impl Differences<'_> {
+    ghost use Rattle.std.specs.Prelude.{◌≡◌};
+    ghost use Rattle.differences.specs.Differences.{is_none_at_all};
+    ghost use Rattle.differences.specs.Views.{plain_differences};
+
+    /// Whether there are none.
+    pub fn is_empty(&self) -> bool
+        ensures { result ≡ is_none_at_all (plain_differences self.now) }
+    {
+        self.goods.is_none() && self.bundles.is_empty() && self.bidders.is_empty()
+    }
 }

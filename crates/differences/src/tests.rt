@@ -67,21 +67,17 @@ fn push_bidder(
     push_changes(alloc, bids, lines)
 }
 
-/// The numbers of goods; or a line for each bundle of the OR bidders, and a line for each change of an XOR bidder, with
-/// those of its bids below it.
+/// A line for the numbers of goods, if they differ, a line for each bundle of the OR bidders, and a line for each change of an
+/// XOR bidder, with those of its bids below it.
 fn lines_of(alloc: Global, differences: &Differences<'_>) -> Result<String, AllocError> {
     let mut lines = String::new(alloc);
-    match differences {
-        Differences::Goods(left, right) => {
-            let line = format!(in alloc; "goods {left} {right}\n")?;
-            lines.push_str(&line)?;
-        }
-        Differences::Bids { bundles, bidders } => {
-            push_changes(alloc, bundles, &mut lines)?;
-            for change in bidders {
-                push_bidder(alloc, change, &mut lines)?;
-            }
-        }
+    if let Some((left, right)) = differences.goods {
+        let line = format!(in alloc; "goods {left} {right}\n")?;
+        lines.push_str(&line)?;
+    }
+    push_changes(alloc, &differences.bundles, &mut lines)?;
+    for change in &differences.bidders {
+        push_bidder(alloc, change, &mut lines)?;
     }
     Ok(lines)
 }

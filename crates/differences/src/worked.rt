@@ -1,12 +1,12 @@
 //! Worked examples of the definitions, computed by the prover.
 
 ghost use Rattle.std.specs.Prelude.{◌≡◌, [], ◌∷◌, Some, None};
-ghost use Rattle.canon.specs.Difference.{InOr, InXor, NoDifference};
+ghost use Rattle.canon.specs.Difference.{InGoods, InOr, InXor, NoDifference};
 ghost use Rattle.canon.specs.Examples.{auction};
 ghost use Rattle.canon.specs.declared.verdict.Side.TheVariants.{Exactly};
 ghost use Rattle.differences.specs.BidderChanges.{AreBidderChanges, all_partners, excess_bidders};
-ghost use Rattle.differences.specs.Differences.{AreAllDifferences, BeginsWith, InBids, InGoods};
-ghost use Rattle.differences.specs.Examples.{atom, bidder_change, change};
+ghost use Rattle.differences.specs.Differences.{AreAllDifferences, BeginsWith};
+ghost use Rattle.differences.specs.Examples.{atom, bidder_change, change, differences};
 ghost use Rattle.differences.specs.PriceChanges.{ArePriceChanges, price_on};
 
 /// The price on a bundle.
@@ -38,7 +38,8 @@ pub fn price_changes_worked()
 {}
 
 /// The partners of left bidders, by their bundles: one at another price; none on the bundle; the one on the bundle that
-/// fewer right ones have; each once; none that waits; and one on the next rarest bundle, since none waits on the rarest.
+/// fewer right ones have; each once; none that waits; one on the next rarest bundle, since none waits on the rarest; of two
+/// equally rare bundles the one on the first; and none, since all on the bundle are taken.
 pub fn partners()
     ensures another_price { all_partners ((atom (0 ∷ []) 3 ∷ []) ∷ []) ((atom (0 ∷ []) 4 ∷ []) ∷ []) ≡ Some 0 ∷ [] }
     ensures another_bundle { all_partners ((atom (0 ∷ []) 3 ∷ []) ∷ []) ((atom (1 ∷ []) 3 ∷ []) ∷ []) ≡ None ∷ [] }
@@ -50,6 +51,10 @@ pub fn partners()
         ≡ Some 0 ∷ None ∷ [] }
     ensures next_rarest { all_partners ((atom (1 ∷ []) 5 ∷ []) ∷ (atom (1 ∷ []) 6 ∷ atom (2 ∷ []) 6 ∷ []) ∷ [])
         ((atom (1 ∷ []) 7 ∷ []) ∷ (atom (2 ∷ []) 1 ∷ []) ∷ (atom (2 ∷ []) 2 ∷ []) ∷ []) ≡ Some 0 ∷ Some 1 ∷ [] }
+    ensures equally_rare { all_partners ((atom (0 ∷ []) 5 ∷ atom (1 ∷ []) 5 ∷ []) ∷ [])
+        ((atom (0 ∷ 1 ∷ []) 1 ∷ []) ∷ (atom (1 ∷ []) 1 ∷ []) ∷ (atom (0 ∷ []) 2 ∷ []) ∷ []) ≡ Some 2 ∷ [] }
+    ensures all_taken { all_partners ((atom (0 ∷ []) 5 ∷ []) ∷ (atom (0 ∷ []) 6 ∷ []) ∷ [])
+        ((atom (0 ∷ []) 1 ∷ []) ∷ (atom (1 ∷ []) 1 ∷ []) ∷ []) ≡ Some 0 ∷ None ∷ [] }
 {}
 
 /// A bidder of one file alone is a change; two bidders beside each other are one change; equal bidders are none. Bidders of
@@ -79,28 +84,37 @@ pub fn bidder_changes_worked()
         ∷ bidder_change None (Some 0) (change (0 ∷ []) None (Some 3) ∷ []) ∷ []) }
 {}
 
-/// The numbers of goods, if they differ, and else the bids.
+/// The numbers of goods, if they differ, and the bids.
 pub fn all_differences_worked()
-    ensures goods { AreAllDifferences (auction 1 [] []) (auction 2 [] []) (InGoods 1 2) }
+    ensures goods { AreAllDifferences (auction 1 [] []) (auction 2 [] []) (differences (Some (1, 2)) [] []) }
     ensures bids { AreAllDifferences (auction 1 (atom (0 ∷ []) 3 ∷ []) []) (auction 1 (atom (0 ∷ []) 4 ∷ []) [])
-        (InBids (change (0 ∷ []) (Some 3) (Some 4) ∷ []) []) }
+        (differences None (change (0 ∷ []) (Some 3) (Some 4) ∷ []) []) }
+    ensures both { AreAllDifferences (auction 1 (atom (0 ∷ []) 3 ∷ []) []) (auction 2 (atom (0 ∷ []) 4 ∷ []) [])
+        (differences (Some (1, 2)) (change (0 ∷ []) (Some 3) (Some 4) ∷ []) []) }
     ensures same { AreAllDifferences (auction 1 (atom (0 ∷ []) 3 ∷ []) []) (auction 1 (atom (0 ∷ []) 3 ∷ []) [])
-        (InBids [] []) }
-    ensures missing { ¬ AreAllDifferences (auction 1 (atom (0 ∷ []) 3 ∷ []) []) (auction 1 [] []) (InBids [] []) }
-    ensures goods_missing { ¬ AreAllDifferences (auction 1 [] []) (auction 2 [] []) (InBids [] []) }
+        (differences None [] []) }
+    ensures missing { ¬ AreAllDifferences (auction 1 (atom (0 ∷ []) 3 ∷ []) []) (auction 1 [] [])
+        (differences None [] []) }
+    ensures missing_beside_goods { ¬ AreAllDifferences (auction 1 (atom (0 ∷ []) 3 ∷ []) []) (auction 2 [] [])
+        (differences (Some (1, 2)) [] []) }
+    ensures goods_missing { ¬ AreAllDifferences (auction 1 [] []) (auction 2 [] []) (differences None [] []) }
+    ensures equal_goods { ¬ AreAllDifferences (auction 1 [] []) (auction 1 [] []) (differences (Some (1, 1)) [] []) }
 {}
 
 /// The first difference is of the kind of the first change, and on its bundle.
 pub fn first_changes()
-    ensures none { BeginsWith NoDifference (InBids [] []) }
-    ensures some { ¬ BeginsWith NoDifference (InBids (change (0 ∷ []) (Some 3) None ∷ []) []) }
+    ensures none { BeginsWith NoDifference (differences None [] []) }
+    ensures some { ¬ BeginsWith NoDifference (differences None (change (0 ∷ []) (Some 3) None ∷ []) []) }
+    ensures goods { BeginsWith (InGoods 1 2) (differences (Some (1, 2)) (change (0 ∷ []) (Some 3) None ∷ []) []) }
     ensures bundle { BeginsWith (InOr (0 ∷ []) (Exactly 3) (Exactly 4))
-        (InBids (change (0 ∷ []) (Some 3) (Some 4) ∷ []) []) }
+        (differences None (change (0 ∷ []) (Some 3) (Some 4) ∷ []) []) }
     ensures another_bundle { ¬ BeginsWith (InOr (1 ∷ []) (Exactly 3) (Exactly 4))
-        (InBids (change (0 ∷ []) (Some 3) (Some 4) ∷ []) []) }
+        (differences None (change (0 ∷ []) (Some 3) (Some 4) ∷ []) []) }
+    ensures goods_first { ¬ BeginsWith (InOr (0 ∷ []) (Exactly 3) (Exactly 4))
+        (differences (Some (1, 2)) (change (0 ∷ []) (Some 3) (Some 4) ∷ []) []) }
     ensures bidder { BeginsWith (InXor (atom (0 ∷ []) 3 ∷ []) 1 0)
-        (InBids [] (bidder_change (Some 0) None (change (0 ∷ []) (Some 3) None ∷ []) ∷ [])) }
+        (differences None [] (bidder_change (Some 0) None (change (0 ∷ []) (Some 3) None ∷ []) ∷ [])) }
     ensures bundle_first { ¬ BeginsWith (InXor (atom (0 ∷ []) 3 ∷ []) 1 0)
-        (InBids (change (0 ∷ []) (Some 3) None ∷ [])
+        (differences None (change (0 ∷ []) (Some 3) None ∷ [])
         (bidder_change (Some 0) None (change (0 ∷ []) (Some 3) None ∷ []) ∷ [])) }
 {}

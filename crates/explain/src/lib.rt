@@ -11,5 +11,6 @@ mod reason;
 mod tests;
 pub mod worked;
 
+pub use best::{NumberedBid, bids_in_order, number_of};
 pub use explanation::explain;
 pub use reason::Reason;

@@ -5,8 +5,7 @@ use Rattle.cats_text.specs.Grammar.{Spells}
 use Rattle.valuation.specs.declared.search_options.SearchOptions.{SearchOptions}
 use Rattle.canon.specs.Comparing.{IsNormalFileOf, SpellsWithinLimit}
 use Rattle.canon.specs.declared.canon_fault.CanonFault.{CanonFault}
-use Rattle.canon.specs.declared.named.NamedFile.{NamedFile}
-use Rattle.answers.specs.NamedFiles.{IsNamed}
+use Rattle.answers.specs.declared.sides.ComparedFile.{ComparedFile}
 use Rattle.cats_calls.specs.Refusals.{IsUnmade, IsUnread}
 
 abbrev pub ReadsAs : List ℕ → Result PlainFile CanonFault → Type 0
@@ -17,11 +16,11 @@ abbrev pub NormalisesAs : SearchOptions → List ℕ → Result PlainFile CanonF
 NormalisesAs options text (Ok h) = IsNormalFileOf options text h
 NormalisesAs options text (Err fault) = IsUnmade options text fault
 
--- the canonical file of the file that the text spells, of which no bundle is refused, with its names
-pub record IsNamedOf (options : SearchOptions) (text : List ℕ) (named : NamedFile) : Type 0 where
+-- the file that the text spells, of which no bundle is refused
+pub record IsComparedOf (options : SearchOptions) (text : List ℕ) (compared : ComparedFile) : Type 0 where
   pub given : SpellsWithinLimit options text
-  pub is : IsNamed given.file named
+  pub is : compared.file ≡ given.file
 
-abbrev pub NamesAs : SearchOptions → List ℕ → Result NamedFile CanonFault → Type 0
-NamesAs options text (Ok named) = IsNamedOf options text named
-NamesAs options text (Err fault) = IsUnmade options text fault
+abbrev pub ComparesAs : SearchOptions → List ℕ → Result ComparedFile CanonFault → Type 0
+ComparesAs options text (Ok compared) = IsComparedOf options text compared
+ComparesAs options text (Err fault) = IsUnmade options text fault

@@ -1,13 +1,13 @@
--- The parts of `cats diff`. One reads a file with its names, and one sends all differences of two.
+-- The parts of `cats diff`. One reads a file and makes its canonical file, and one sends all differences of two.
 use Rattle.std.specs.Prelude.{◌≡◌, ℕ, List, Option, Result, Ok, Err}
 use Rattle.bid_file.specs.Files.{PlainFile}
 use Rattle.valuation.specs.declared.search_options.SearchOptions.{SearchOptions}
 use Rattle.cats_text.specs.declared.stream.Watched.{Watched}
 use Rattle.canon.specs.declared.canon_fault.CanonFault.{CanonFault}
 use Rattle.canon.specs.declared.canon_fault.CanonFault.TheVariants.{Memory}
-use Rattle.canon.specs.declared.named.NamedFile.{NamedFile}
 use Rattle.canon.specs.declared.which.Which.TheVariants.{Both}
-use Rattle.answers.specs.NamedFiles.{IsNamed, PrintsDifferences}
+use Rattle.answers.specs.ComparedFiles.{PrintsDifferences}
+use Rattle.answers.specs.declared.sides.ComparedFile.{ComparedFile}
 use Rattle.cats_cmd.specs.Inputs.{IsRefusedFile, ReadsWithinLimit}
 use Rattle.cats_cmd.specs.Outcomes.{normalise_outcome}
 use Rattle.cats_cmd.specs.Runs.{SendsAs}
@@ -17,20 +17,14 @@ use Rattle.answers.specs.declared.report.RunFault.TheVariants.{Refused}
 -- ---- one of the files
 
 module _ {R : Type 0} (remaining : R → Option (List ℕ)) (options : SearchOptions) where
-  -- a file that was read, with its canonical file
-  pub record ReadsNamedFile (old new : Watched R) (named : NamedFile) : Type 0 where
-    pub file : PlainFile
-    pub given : ReadsWithinLimit remaining options old new file
-    pub is : IsNamed file named
-
   -- reading a file and normalising it
-  abbrev pub ReadsNamed : Watched R → Watched R → Result NamedFile CanonFault → Type 0
-  ReadsNamed old new (Ok named) = ReadsNamedFile old new named
-  ReadsNamed old new (Err fault) = IsRefusedFile remaining (normalise_outcome options) old new fault
+  abbrev pub ReadsCompared : Watched R → Watched R → Result ComparedFile CanonFault → Type 0
+  ReadsCompared old new (Ok compared) = ReadsWithinLimit remaining options old new compared.file
+  ReadsCompared old new (Err fault) = IsRefusedFile remaining (normalise_outcome options) old new fault
 
 -- ---- both files
 
-module _ {W : Type 0} (contents : W → Option (List ℕ)) (left right : NamedFile) where
+module _ {W : Type 0} (contents : W → Option (List ℕ)) (left right : PlainFile) where
   -- the text was made and sent
   pub record SendsAllDifferences (old new : Watched W) (answer : Result ℕ RunFault) : Type 0 where
     pub status : ℕ

@@ -242,12 +242,15 @@ fn differences_of(
     left: &PackedFile,
     right: &PackedFile,
 ) -> Result<Differences<'static>, AllocError> {
-    if left.goods() != right.goods() {
-        return Ok(Differences::Goods(left.goods(), right.goods()));
-    }
+    let goods = (left.goods(), right.goods());
     let own = prices_of(left, None);
     let others = prices_of(right, None);
-    Ok(Differences::Bids {
+    Ok(Differences {
+        goods: if goods.0 == goods.1 {
+            None
+        } else {
+            Some(goods)
+        },
         bundles: price_changes(alloc, &own, &others)?,
         bidders: bidder_changes(alloc, left, right)?,
     })

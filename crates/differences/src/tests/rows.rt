@@ -179,11 +179,29 @@ fn rows_by_hand(rt: HostRuntime) -> Result<(), Fail> {
     expect_rows(&rt, &PARTNERS)
 }
 
-/// Nothing else is compared.
+/// The bids are compared too.
 #[test]
 fn numbers_of_goods(rt: HostRuntime) -> Result<(), Fail> {
     let one = text_of(rt.alloc(), 1, 0, &["3 0"])?;
     let two = text_of(rt.alloc(), 2, 1, &["4 0", "5 1 2"])?;
-    expect(&rt, &one, &two, "goods 1 2\n")?;
-    expect(&rt, &two, &one, "goods 2 1\n")
+    expect(
+        &rt,
+        &one,
+        &two,
+        "goods 1 2\n[0] Some(3000000) Some(4000000)\nbidder None Some(0)\n[1] None Some(5000000)\n",
+    )?;
+    expect(
+        &rt,
+        &two,
+        &one,
+        "goods 2 1\n[0] Some(4000000) Some(3000000)\nbidder Some(0) None\n[1] Some(5000000) None\n",
+    )
+}
+
+/// Files without bids differ in their numbers of goods alone.
+#[test]
+fn numbers_of_goods_alone(rt: HostRuntime) -> Result<(), Fail> {
+    let one = text_of(rt.alloc(), 1, 0, &[])?;
+    let two = text_of(rt.alloc(), 2, 0, &[])?;
+    expect(&rt, &one, &two, "goods 1 2\n")
 }

@@ -1,6 +1,6 @@
 use Rattle.std.proofs.Common.{◌≡◌, ◌++◌, take}
 use Rattle.answers.specs.Outputs.{after_commas}
-use Rattle.answers.proofs.diff.push_bundle.Given as goal
+use Rattle.answers.proofs.cells.push_bundle.Given as goal
 
 -- the goods so far are appended, each after a comma
 abbrev pub invariant-loop-good : goal.invariant-loop-good
