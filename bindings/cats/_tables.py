@@ -63,10 +63,10 @@ class Verdict(NamedTuple):
 
 
 class Difference(NamedTuple):
-    """A bundle on which a bidder of one text and of the other differ. `kind` is `or` or `xor`; `left` and `right` are the prices that the first
-    and the second text have on it, and `left_bid` and `right_bid` the numbers of these bids, or None if a text has none. `left_dummy` and
-    `right_dummy` are the XOR bidder's dummy goods, as numbers among the dummy goods, from 0, or None if a text has no such bidder. If the
-    numbers of goods differ, they are `left` and `right` of the first difference, whose `kind` is `goods`."""
+    """A bundle on which a bidder's prices differ. `kind` is `or` or `xor`, the bidder's. `left` and `right` are its prices in the first and in the
+    second text, and `left_bid` and `right_bid` the numbers of these bids, or None if there is none. `left_dummy` and `right_dummy` are the XOR
+    bidder's dummy goods, as numbers among the dummy goods, from 0, or None. If the numbers of goods differ, the first row has them as `left`
+    and `right`, and its `kind` is `goods`."""
 
     kind: str
     goods: Tuple[int, ...]
