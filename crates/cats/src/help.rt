@@ -324,14 +324,14 @@ and only the header if both files are the same auction. For example:
   kind\tgoods\tleft\tright\tleft_dummy\tright_dummy\tleft_bid\tright_bid
   or\t0,1\t\t7.5\t\t\t\t2
 
-A cell is empty if there is nothing, 'left' is of the first file, and 'right' of the second:
+A cell is empty if there is nothing. The cells, with 'left' for the first file and 'right' for the second:
   kind                     'or', 'xor', or 'goods': in such a row 'left' and 'right' are the numbers of goods
   goods                    the bundle
   left, right              the price of the bidder's bid on it in the text that 'cats normalise' prints; in an 'or' row
                            with one price, other bids of the other file may reach the value together
   left_dummy, right_dummy  the XOR bidder's dummy good as its number among dummy goods, from 0; empty in all rows of the
                            bidder if no bidder of that file is beside it
-  left_bid, right_bid      the number of that bid in the file; if several are the same, the smallest
+  left_bid, right_bid      the number of that bid in the file; of several such bids the smallest
 
 An XOR bidder that one file has N times more often than the other is there N times. Each such bidder of the first file
 is beside the first one of the second file that has a bid on its rarest bundle and is not there yet, else on the next
