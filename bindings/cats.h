@@ -73,7 +73,7 @@ uint8_t cats_compare(const uint8_t *left, size_t left_length, const uint8_t *rig
                      uint8_t *out, size_t size, size_t *needed);
 #define CATS_COMPARE_SIZE(left_length, right_length) ((size_t)(left_length) + (size_t)(right_length) + 128)
 
-// Reads two texts and writes a line for each difference of the two auctions, and nothing if they are the same.
+// Reads two texts and writes a table, a header and a line for each difference of the two auctions: none if they are the same.
 // The line of a refused text begins with `first: ` or `second: `.
 // Returns CATS_DONE, CATS_DIFFERENT, CATS_REFUSED, CATS_STEP_LIMIT, CATS_WANT_OF_MEMORY or CATS_BUFFER_TOO_SMALL.
 uint8_t cats_diff(const uint8_t *left, size_t left_length, const uint8_t *right, size_t right_length, uint64_t steps, uint64_t total,

@@ -89,13 +89,13 @@ def compare(left: TextOrPath, right: TextOrPath, steps: int = STEPS, *, total: O
 
 
 def diff(left: TextOrPath, right: TextOrPath, steps: int = STEPS, *, total: Optional[int] = None) -> Rows[Difference]:
-    """All differences of two auctions. There is none exactly if they are the same.
+    """All differences of two auctions: each bundle on which a bidder's prices differ. There is none exactly if they are the same.
 
     >>> one = b"goods 2\\nbids 2\\ndummy 0\\n0 3 0 #\\n1 4 1 #\\n"
-    >>> for difference in diff(one, b"goods 2\\nbids 3\\ndummy 0\\n0 3 0 #\\n1 5 1 #\\n2 8.5 0 1 #\\n"):
-    ...     print(difference)
-    Difference(kind='or', where='1', left='4', right='5')
-    Difference(kind='or', where='0,1', left=None, right='8.5')
+    >>> for row in diff(one, b"goods 2\\nbids 3\\ndummy 0\\n0 3 0 #\\n1 5 1 #\\n2 8.5 0 1 #\\n"):
+    ...     print(row.kind, row.goods, row.left, row.right, row.left_bid, row.right_bid)
+    or (1,) 4 5 1 1
+    or (0, 1) None 8.5 None 2
     """
     return differences_of(answer_on_texts("cats_diff", [left, right], limits_of(steps, total), DIFF))
 

@@ -63,14 +63,19 @@ class Verdict(NamedTuple):
 
 
 class Difference(NamedTuple):
-    """A line of `cats diff`. `kind` is `goods`, `or`, `xor` or `bid`, `where` is the bundle (None of `goods` and `xor`), and `left` and `right`
-    are what the first and the second text have, or None if a text has nothing there. Differences of the kind `bid` belong to
-    the last `xor` before them."""
+    """A bundle on which a bidder's prices differ. `kind` is `or` or `xor`, the bidder's. `left` and `right` are its prices in the first and in the
+    second text, and `left_bid` and `right_bid` the numbers of these bids, or None if there is none. `left_dummy` and `right_dummy` are the XOR
+    bidder's dummy goods, as numbers among the dummy goods, from 0, or None. If the numbers of goods differ, the first row has them as `left`
+    and `right`, and its `kind` is `goods`."""
 
     kind: str
-    where: Optional[str]
-    left: Optional[str]
-    right: Optional[str]
+    goods: Tuple[int, ...]
+    left: Union[Decimal, int, None]
+    right: Union[Decimal, int, None]
+    left_dummy: Optional[int]
+    right_dummy: Optional[int]
+    left_bid: Optional[int]
+    right_bid: Optional[int]
 
 
 class Rows(Sequence[Row]):
@@ -128,6 +133,10 @@ def number_in(cell: bytes) -> Optional[int]:
     return int(cell) if cell else None
 
 
+def price_in(cell: bytes) -> Optional[Decimal]:
+    return price_of(cell) if cell else None
+
+
 def numbers_in(cell: bytes) -> Tuple[int, ...]:
     return tuple(map(int, cell.split(b","))) if cell else ()
 
@@ -142,19 +151,14 @@ def verdict_of(printed: bytes) -> Verdict:
 
 
 def differences_of(printed: bytes) -> Rows[Difference]:
-    """A line for each difference: its kind, perhaps a bundle, and what is on the left and on the right."""
-    return Rows(printed.splitlines(), difference_of)
+    """A header, and a line for each difference."""
+    return Rows(printed.splitlines()[1:], difference_of)
 
 
 def difference_of(line: bytes) -> Difference:
-    kind, *words = line.decode("ascii").split("\t")
-    where = words[0] if kind in ("or", "bid") else None
-    left, right = words[-2:]
-    return Difference(kind, where, unless_dash(left), unless_dash(right))
-
-
-def unless_dash(word: str) -> Optional[str]:
-    return None if word == "-" else word
+    kind, goods, left, right, *numbers = line.split(b"\t")
+    value_in: Callable[[bytes], Union[Decimal, int, None]] = number_in if kind == b"goods" else price_in
+    return Difference(kind.decode("ascii"), numbers_in(goods), value_in(left), value_in(right), *map(number_in, numbers))
 
 
 def changes_of(printed: bytes) -> Tuple[Change, ...]:

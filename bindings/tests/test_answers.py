@@ -18,9 +18,9 @@ def answer_of_package(call, texts):
     return PRINTED[call.name()](found)
 
 
-def printed_explain(reasons):
-    lines = ["\t".join(map(printed_cell, cells)) for cells in [cats.Reason._fields, *reasons]]
-    return Answer(0, "".join(line + "\n" for line in lines).encode())
+def printed_table(rows, kind):
+    """A table with a header."""
+    return "".join("\t".join(map(printed_cell, cells)) + "\n" for cells in [kind._fields, *rows]).encode()
 
 
 def printed_cell(cell):
@@ -40,18 +40,13 @@ def printed_compare(verdict):
     return Answer(1, f"different\n{first}\nleft {verdict.left}\nright {verdict.right}\n".encode())
 
 
-def printed_diff(rows):
-    words = [[it.kind, *([it.where] if it.where is not None else []), it.left or "-", it.right or "-"] for it in rows]
-    return Answer(1 if rows else 0, "".join("\t".join(line) + "\n" for line in words).encode())
-
-
 PRINTED = {
     "check": lambda sizes: Answer(0, b"goods %d bids %d dummy %d\n" % sizes),
     "normalise": lambda text: Answer(0, text),
-    "explain": printed_explain,
+    "explain": lambda rows: Answer(0, printed_table(rows, cats.Reason)),
     "round": printed_round,
     "compare": printed_compare,
-    "diff": printed_diff,
+    "diff": lambda rows: Answer(1 if rows else 0, printed_table(rows, cats.Difference)),
 }
 
 

@@ -33,6 +33,23 @@ def test_rows_are_a_sequence():
         rows[4]
 
 
+def test_rows_of_diff():
+    """Prices are exact, the numbers of goods are ints, and a cell without anything is None."""
+    one = b"goods 3\nbids 4\ndummy 2\n0 3 0 #\n1 2 0 4 #\n2 2.50 0 1 4 #\n3 2 1 3 #\n"
+    other = b"goods 12\nbids 4\ndummy 3\n0 4 10 11 #\n1 1 0 14 #\n2 3 1 0 14 #\n3 3 0 1 14 #\n"
+    rows = cats.diff(one, other)
+    assert list(rows) == [
+        ("goods", (), 3, 12, None, None, None, None),
+        ("or", (0,), Decimal(3), None, None, None, 0, None),
+        ("or", (10, 11), None, Decimal(4), None, None, None, 0),
+        ("xor", (0,), Decimal(2), Decimal(1), 1, 2, 1, 1),
+        ("xor", (0, 1), Decimal("2.5"), Decimal(3), 1, 2, 2, 2),
+        ("xor", (1,), Decimal(2), None, 0, None, 3, None),
+    ]
+    assert [type(row.right) for row in rows] == [int, type(None), Decimal, Decimal, Decimal, type(None)]
+    assert all(type(row) is cats.Difference for row in rows)
+
+
 def test_no_rows_are_false():
     assert not cats.diff(BIDS, BIDS) and cats.diff(BIDS, BIDS) == [] and cats.diff(BIDS, FOUR)
 
@@ -48,7 +65,8 @@ def test_a_row_is_made_when_it_is_read():
 def test_data_frames():
     pandas = pytest.importorskip("pandas")
     frame = pandas.DataFrame(cats.diff(BIDS, FOUR))
-    assert list(frame.columns) == ["kind", "where", "left", "right"] and frame.values.tolist() == [["or", "0,1", None, "7.5"]]
+    assert list(frame.columns) == ["kind", "goods", "left", "right", "left_dummy", "right_dummy", "left_bid", "right_bid"]
+    assert frame.values.tolist() == [["or", (0, 1), None, Decimal("7.5"), None, None, None, 3]]
     frame = pandas.DataFrame(cats.read(FOUR).bids)
     assert list(frame.columns) == ["number", "price", "goods", "dummy"] and frame.price.sum() == 21
     frame = pandas.DataFrame(cats.explain(FOUR))

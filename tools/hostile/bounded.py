@@ -24,6 +24,8 @@ SECONDS = 120
 STEPS, STEP_LIMIT, WRONG_USAGE = 1_000_000, 3, 64
 MILLION = 1_000_000
 
+DIFF_HEADER = "kind\tgoods\tleft\tright\tleft_dummy\tright_dummy\tleft_bid\tright_bid\n"
+
 KINDS = ("l1", "l2", "l3", "l4", "l5", "l6", "l7", "arbitrary", "regions", "paths", "matching", "scheduling")
 
 # kind, goods, bids, and more words
@@ -202,7 +204,7 @@ def judge_commands(path, made, total, most):
     for option, enough in (("--total-steps", total), ("--steps", most)):
         bundle = first_refused(made, STEPS, enough - 1) if option == "--total-steps" else first_refused(made, enough - 1, total)
         judge_run(Answer(0, "same\n", ""), "compare", "--bound", option, enough, path, path)
-        judge_run(Answer(0, "", ""), "diff", option, enough, path, path)
+        judge_run(Answer(0, DIFF_HEADER, ""), "diff", option, enough, path, path)
         judge_run(run("explain", path), "explain", option, enough, path)
         judge_run(run("sizes", path), "sizes", option, enough, path)
         judge_run(Answer(0, f"{path}\n{path}\n", ""), "duplicates", option, enough, path, path)

@@ -218,9 +218,8 @@ def memory(one, rest):
     if not one.own.err and len(one.files) == 2 and not rest:
         found = places(wants)
         TALLY.judge(found == sorted(found), f"{what}: the files are reported out of order", found)
-        # the text is made once both files are canonical, so memory that is refused for it is reported of neither; `diff` of two files
-        # that are the same auction may have none to make
-        TALLY.judge(found[-1:] == [3] or not one.own.out, f"{what}: the last is reported of a file", found)
+        # the text is made once both files are canonical, so memory that is refused for it is reported of neither
+        TALLY.judge(found[-1:] == [3], f"{what}: the last is reported of a file", found)
     return wants
 
 

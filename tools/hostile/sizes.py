@@ -21,6 +21,7 @@ SECONDS = 120
 GOODS, BIDS, GREATEST_PRICE = 4096, 65_536, 1_000_000_000_000
 
 EXPLANATION_HEADER = "bid\tdummy\tprice\tgoods\treason\tkept\tby\n"
+DIFF_HEADER = "kind\tgoods\tleft\tright\tleft_dummy\tright_dummy\tleft_bid\tright_bid\n"
 SIZES_HEADER = "goods\tbids\tor\txor\tdummy\tkept\tkept_or\tkept_xor\tfile\n"
 
 # Whose the bids of a file are: the OR bidder's, one XOR bidder's, or each an XOR bidder's of its own.
@@ -88,11 +89,9 @@ def difference(bids, whose):
 
 def differences(bids, last, whose):
     """What `cats diff` prints of a file with these bids and of one that lacks this bid: of equal bidders the first is printed."""
-    lacking = f"{named(last)[0]}\t{last.price}\t-\n"
-    if whose == OR:
-        return f"or\t{lacking}"
-    bidders = f"{GOODS}\t{GOODS}" if whose == ONE_XOR else f"{GOODS + bids.index(last)}\t-"
-    return f"xor\t{bidders}\nbid\t{lacking}"
+    number = bids.index(last)
+    kind, dummy, beside = {OR: ("or", "", ""), ONE_XOR: ("xor", 0, 0), MANY_XOR: ("xor", number, "")}[whose]
+    return f"{DIFF_HEADER}{kind}\t{named(last)[0]}\t{last.price}\t\t{dummy}\t{beside}\t{number}\t\n"
 
 
 def sizes(bids, whose):
@@ -142,7 +141,7 @@ def judge_file(folder, bids, whose):
     run(["explain", "one"], (0, explanation(bids, whose), ""), folder)
     run(["compare", "one", "other"], (0, "same\n", ""), folder)
     run(["compare", "one", "lacking"], (1, difference(in_order, whose), ""), folder)
-    run(["diff", "one", "other"], (0, "", ""), folder)
+    run(["diff", "one", "other"], (0, DIFF_HEADER, ""), folder)
     run(["diff", "one", "lacking"], (1, differences(bids, in_order[-1], whose), ""), folder)
     run(["sizes", "one"], (0, sizes(bids, whose), ""), folder)
     run(["round", "one"], (0, text_of(GOODS, bids, whose), ""), folder)

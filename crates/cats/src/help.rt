@@ -318,22 +318,27 @@ Statuses: 0 for the same auction, 1 for different ones; 2 if a file is not a bid
 --bound, and then a greater --steps; 4, 5 and 64 as 'cats --help' lists them";
 
 const DIFF: &str = "\
-Prints a line for each difference, with tabs between the words, the first file before the second, and nothing if both
-files are the same auction. For example:
+Prints a table with a header and a row for each bundle on which a bidder's prices differ, with tabs between the cells,
+and only the header if both files are the same auction. For example:
   $ cats diff examples/ladder.cats examples/ladder_with_synergy.cats
-  or\t0,1\t-\t7.5
+  kind\tgoods\tleft\tright\tleft_dummy\tright_dummy\tleft_bid\tright_bid
+  or\t0,1\t\t7.5\t\t\t\t2
 
-  goods M N      the numbers of goods differ; nothing else is compared
-  or BUNDLE P Q  the prices of the OR bidders' bids on a bundle in the canonical files; '-' if there is no bid, although
-                 other bids may reach the same value together
-  xor D E        two XOR bidders that differ, one of each file, by their dummy goods in the files; '-' if no bidder of that
-                 file is beside the other one
-  bid BUNDLE P Q the prices of these two bidders on a bundle; '-' if the bidder has no bid on it
+A cell is empty if there is nothing. The cells, with 'left' for the first file and 'right' for the second:
+  kind                     'or', 'xor', or 'goods': in such a row 'left' and 'right' are the numbers of goods
+  goods                    the bundle
+  left, right              the price of the bidder's bid on it in the text that 'cats normalise' prints; in an 'or' row
+                           with one price, other bids of the other file may reach the value together
+  left_dummy, right_dummy  the XOR bidder's dummy good as its number among dummy goods, from 0; empty in all rows of the
+                           bidder if no bidder of that file is beside it
+  left_bid, right_bid      the number of that bid in the file; of several such bids the smallest
 
-A bidder that one file has N times more often than the other is printed N times. Each such bidder of the first file is
-printed beside the first one of the second file that has a bid on its rarest bundle and is not printed yet, else on the
-next rarest, and so on. If several bidders of a file have the same bids, the smallest number that is not printed yet is
-used.
+An XOR bidder that one file has N times more often than the other is there N times. Each such bidder of the first file
+is beside the first one of the second file that has a bid on its rarest bundle and is not there yet, else on the next
+rarest, and so on. If several bidders of a file have the same bids, the smallest number that is not there yet is used.
+
+How many rows there are of each kind:
+  $ cats diff one.txt two.txt | cut -f 1 | sort | uniq -c
 
 This command always uses the bounded search. A step is that of 'cats normalise --bound': each file is normalised first.
 A fault's line begins with 'first: ' or 'second: '.
