@@ -2,7 +2,7 @@
 -- of those the one of the smallest number.
 use Rattle.std.specs.Prelude.{◌≡◌, ℕ, ◌+◌, ◌<◌, Bool, true, ◌&&◌, ◌||◌, not, ◌==◌, nat_lt, List, [], length}
 use Rattle.std.specs.Prelude.{slice_index_or, Option, Some, None}
-use Rattle.std.specs.List.{list_any, range_with_len}
+use Rattle.std.specs.List.{find, list_any, range_with_len}
 use Rattle.std.specs.Ordering.{is_eq}
 use Rattle.goods_set.specs.Orders.{bundle_cmp}
 use Rattle.bid_file.specs.Files.{PlainBid, PlainFile}
@@ -32,6 +32,11 @@ is_better f i j = are_alike (bid_at f i) (bid_at f j)
 -- no bid is better
 abbrev pub is_best : PlainFile → ℕ → Bool
 is_best f i = not (list_any (λ j. is_better f j i) (numbers_of f))
+
+-- the number of the best of a bidder's bids on these goods, if it has one there
+abbrev pub best_number : PlainFile → Option ℕ → List ℕ → Option ℕ
+best_number f dummy goods =
+    find (λ i. are_alike (bid_at f i) (record { price = 0; goods = goods; dummy = dummy }) && is_best f i) (numbers_of f)
 
 -- bid j is the best of the bids of bid i's bidder on its goods
 pub record IsBestFor (f : PlainFile) (i j : ℕ) : Type 0 where

@@ -13,9 +13,9 @@ use std::cmp::Ordering;
 
 /// A bid, and its number in the file.
 #[derive(Clone, Copy)]
-pub(crate) struct NumberedBid<'a> {
-    pub(crate) bid: BidRef<'a>,
-    pub(crate) number: u32,
+pub struct NumberedBid<'a> {
+    pub bid: BidRef<'a>,
+    pub number: u32,
 }
 
 /// The bidder of a bid as a number: 0 is the OR bidder, and the others come behind it in the order of their dummy goods.
@@ -36,7 +36,7 @@ fn order_of_goods(one: &[u16], other: &[u16]) -> Ordering
 }
 
 /// By bidder, and of one bidder by goods.
-fn order_of_keys(one: &BidRef<'_>, other: &BidRef<'_>) -> Ordering
+pub(crate) fn order_of_keys(one: &BidRef<'_>, other: &BidRef<'_>) -> Ordering
     ensures { result ≡ key_cmp (seen_bid one.now) (seen_bid other.now) }
 {
     bidder_of(one.dummy)
@@ -70,7 +70,7 @@ fn numbered_bids(alloc: Global, file: &PackedFile) -> Result<Vec<NumberedBid<'_>
 }
 
 /// All bids of a file in order, so that the best of a bidder's bids on a bundle is the first.
-pub(crate) fn bids_in_order(
+pub fn bids_in_order(
     alloc: Global,
     file: &PackedFile,
 ) -> Result<Vec<NumberedBid<'_>>, AllocError>
@@ -83,7 +83,7 @@ pub(crate) fn bids_in_order(
 }
 
 /// The number of the best of the bids of a bid's bidder on its goods. All bids are given, in order.
-pub(crate) fn number_of(bids: &[NumberedBid<'_>], bid: &BidRef<'_>) -> u32
+pub fn number_of(bids: &[NumberedBid<'_>], bid: &BidRef<'_>) -> u32
     requires there { HasBid bids.now (seen_bid bid.now) }
     ensures { (f : PlainFile) → AreInOrder f bids.now → (i : ℕ) → i < length f.bids
         → bid_at f i ≡ seen_bid bid.now → IsBestFor f i result }

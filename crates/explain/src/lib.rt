@@ -2,14 +2,15 @@
 #![tactic(auto)]
 
 mod best;
-mod dropping;
 mod explanation;
-mod kept;
-mod points;
+pub mod laws;
 mod reason;
+mod starts;
 #[cfg(test)]
 mod tests;
+mod walk;
 pub mod worked;
 
+pub use best::{NumberedBid, bids_in_order, number_of};
 pub use explanation::explain;
 pub use reason::Reason;

@@ -2,7 +2,8 @@
 -- A best bid is kept as a point, or the points below its bundle reach its price. Points are named by their places among
 -- the bidder's points, which are in order.
 use Rattle.std.specs.Prelude.{ℕ, nat_le, if◌then◌else◌, Option, Some, None, List, map, length, reverse, slice_index_or}
-use Rattle.std.specs.Global.{Global, Vec}
+use Rattle.std.specs.Prelude.{Vec}
+use Rattle.std.specs.Global.{Global}
 use Rattle.std.specs.List.{filter, find, range_with_len}
 use Rattle.valuation.specs.declared.atom.Atom.{Atom}
 use Rattle.valuation.specs.declared.search_kind.SearchKind.{SearchKind}
