@@ -4,3 +4,9 @@ pub mod KeptBidsLists
 pub mod KeptBidsBest
 pub mod KeptBids
 pub mod Deciding
+pub mod PointFates
+pub mod BestNumbers
+pub mod Packings
+pub mod FoundPlaces
+pub mod KeptPoints
+pub mod TrueReasons

@@ -38,16 +38,16 @@ struct Walk<'a> {
 }
 
 /// The best bid of the next bid's bidder on its goods: the last best bid, or the next one itself.
-fn best_after<'a>(best: Option<NumberedBid<'a>>, next: NumberedBid<'a>) -> NumberedBid<'a>
-    ensures { result ≡ best_after best next }
+fn best_after<'a>(best: Option<NumberedBid<'a>>, next: &NumberedBid<'a>) -> NumberedBid<'a>
+    ensures { result ≡ best_after best.entry next.now }
 {
     match best {
-        None => next,
+        None => *next,
         Some(best) => {
             if order_of_keys(&best.bid, &next.bid).is_eq() {
                 best
             } else {
-                next
+                *next
             }
         }
     }
@@ -55,7 +55,7 @@ fn best_after<'a>(best: Option<NumberedBid<'a>>, next: NumberedBid<'a>) -> Numbe
 
 /// The dummy good of its bidder.
 fn dummy_of(best: Option<NumberedBid<'_>>) -> Option<u32>
-    ensures { result ≡ dummy_of best }
+    ensures { result ≡ dummy_of best.entry }
 {
     match best {
         None => None,
@@ -65,12 +65,12 @@ fn dummy_of(best: Option<NumberedBid<'_>>) -> Option<u32>
 
 impl<'a> Walk<'a> {
     /// Takes the next bid in, and gives the best bid of its bidder on its goods.
-    fn turn_to(&mut self, next: NumberedBid<'a>) -> NumberedBid<'a>
-        ensures best { result ≡ best_after self.old.best next }
+    fn turn_to(&mut self, next: &NumberedBid<'a>) -> NumberedBid<'a>
+        ensures best { result ≡ best_after self.old.best next.now }
         ensures held { self.new.best ≡ Some result }
-        ensures same { dummy_of self.old.best ≡ next.bid.dummy
+        ensures same { dummy_of self.old.best ≡ next.now.bid.dummy
             → (self.new.passed ≡ self.old.passed) × (self.new.points.items ≡ self.old.points.items) }
-        ensures other { dummy_of self.old.best ≢ next.bid.dummy
+        ensures other { dummy_of self.old.best ≢ next.now.bid.dummy
             → (self.new.passed ≡ 0) × (self.new.points.items ≡ []) }
     {
         if dummy_of(self.best) != next.bid.dummy {
@@ -101,14 +101,14 @@ impl<'a> Walk<'a> {
         alloc: Global,
         known: &Known<'a>,
         place: usize,
-        bid: NumberedBid<'a>,
+        bid: &NumberedBid<'a>,
     ) -> Result<Reason, AllocError>
         requires known { IsKnown known.now }
-        requires best { IsNextBest known.now.file.now known.now.bids.items place bid }
-        requires passed { HasPassed known.now.file.now known.now.bids.items bid.bid.dummy place self.old }
-        ensures reason { IfOk result (λ reason. plain_reason reason ≡ reason_of known.now.file.now bid.number) }
+        requires best { IsNextBest known.now.file.now known.now.bids.items place bid.now }
+        requires passed { HasPassed known.now.file.now known.now.bids.items bid.now.bid.dummy place self.old }
+        ensures reason { IfOk result (λ reason. plain_reason reason ≡ reason_of known.now.file.now bid.now.number) }
         ensures passed { OnOk result
-            (HasPassed known.now.file.now known.now.bids.items bid.bid.dummy (place + 1) self.new) }
+            (HasPassed known.now.file.now known.now.bids.items bid.now.bid.dummy (place + 1) self.new) }
         ensures best { self.new.best ≡ self.old.best }
     {
         let passed = self.passed;
@@ -131,12 +131,12 @@ impl<'a> Walk<'a> {
         alloc: Global,
         known: &Known<'a>,
         place: usize,
-        bid: NumberedBid<'a>,
+        bid: &NumberedBid<'a>,
     ) -> Result<Reason, AllocError>
         requires known { IsKnown known.now }
-        requires there { slice_get known.now.bids.items place ≡ Some bid }
+        requires there { slice_get known.now.bids.items place ≡ Some bid.now }
         requires at { IsAt known.now.file.now known.now.bids.items place self.old }
-        ensures reason { IfOk result (λ reason. plain_reason reason ≡ reason_of known.now.file.now bid.number) }
+        ensures reason { IfOk result (λ reason. plain_reason reason ≡ reason_of known.now.file.now bid.now.number) }
         ensures at { OnOk result (IsAt known.now.file.now known.now.bids.items (place + 1) self.new) }
     {
         let best = self.turn_to(bid);
@@ -186,7 +186,7 @@ pub(crate) fn all_reasons(alloc: Global, known: &Known<'_>) -> Result<Vec<Reason
         points: Vec::new(alloc),
     };
     for place in 0..known.bids.len() {
-        let bid = known.bids[place];
+        let bid = &known.bids[place];
         let reason = walk.reason_at(alloc, known, place, bid)?;
         reasons[bid.number as usize] = reason;
     }

@@ -5,6 +5,7 @@ use Rattle.std.specs.List.{filter, range_with_len}
 use Rattle.std.specs.Ordering.{is_eq}
 use Rattle.bid_file.specs.Files.{PlainFile, IsPlainFile}
 use Rattle.bid_file.specs.Views.{seen_bid}
+use Rattle.valuation.specs.declared.atom.Atom.{Atom}
 use Rattle.valuation.specs.declared.search_kind.SearchKind.TheVariants.{Bounded}
 use Rattle.valuation.specs.Auctions.{atom_of, or_atoms_of, xor_atoms_of}
 use Rattle.prune.specs.Fates.{or_fate, or_fates, plain_fate, xor_fate, xor_fates}
@@ -44,22 +45,25 @@ is_best_of f dummy n = (bidder_of n.bid.dummy == bidder_of dummy) && (nat_lt 0 n
 abbrev pub passed_bids : PlainFile → List NumberedBid → Option ℕ → ℕ → List NumberedBid
 passed_bids f bids dummy count = filter (is_best_of f dummy) (take count bids)
 
--- whether a best bid is kept
-abbrev pub keeps : PlainFile → Option ℕ → NumberedBid → Bool
-keeps f None n = is_none (or_fate Bounded (points_of f None) (atom_of (seen_bid n.bid)))
-keeps f (Some d) n = is_none (xor_fate (points_of f (Some d)) (atom_of (seen_bid n.bid)))
+-- whether the bidder's best bid is kept
+abbrev pub is_kept_atom : PlainFile → Option ℕ → Atom (List ℕ) → Bool
+is_kept_atom f None a = is_none (or_fate Bounded (points_of f None) a)
+is_kept_atom f (Some d) a = is_none (xor_fate (points_of f (Some d)) a)
+
+abbrev pub is_kept_bid : PlainFile → Option ℕ → NumberedBid → Bool
+is_kept_bid f dummy n = is_kept_atom f dummy (atom_of (seen_bid n.bid))
 
 -- ---- the walk
 
 -- the walk has passed these first bids, the last of them of this bidder
 pub record HasPassed (f : PlainFile) (bids : List NumberedBid) (dummy : Option ℕ) (count : ℕ) (walk : Walk) : Type 0 where
   pub passed : walk.passed ≡ length (passed_bids f bids dummy count)
-  pub points : walk.points.items ≡ map (λ n. n.number) (filter (keeps f dummy) (passed_bids f bids dummy count))
+  pub points : walk.points.items ≡ map (λ n. n.number) (filter (is_kept_bid f dummy) (passed_bids f bids dummy count))
 
 -- the best bid of the bidder and on the goods of the last of the first bids
 pub record IsLastBest (f : PlainFile) (bids : List NumberedBid) (count : ℕ) (best : NumberedBid) : Type 0 where
   pub some : 0 < count
-  pub best : IsBestFor f (slice_index_or bids (count - 1) best).number best.number
+  pub number : IsBestFor f (slice_index_or bids (count - 1) best).number best.number
   pub is : seen_bid best.bid ≡ bid_at f best.number
 
 abbrev pub IsBestAt : PlainFile → List NumberedBid → ℕ → Option NumberedBid → Type 0
