@@ -10,3 +10,4 @@ pub mod Packings
 pub mod FoundPlaces
 pub mod KeptPoints
 pub mod TrueReasons
+pub mod Passed

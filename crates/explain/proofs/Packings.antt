@@ -33,7 +33,7 @@ all_unmap P g xs h k d l =
     let long = length-map xs g in
     subst P (get_or-map g xs k d (g d) l) (h k (g d) (omega arith))
 
-pairs_unmap : {X Y : Type 0} (R : Y → Y → Type 0) (g : X → Y) (xs : List X) → AllPairs R (map g xs) → AllPairs (λ x y. R (g x) (g y)) xs
+pub pairs_unmap : {X Y : Type 0} (R : Y → Y → Type 0) (g : X → Y) (xs : List X) → AllPairs R (map g xs) → AllPairs (λ x y. R (g x) (g y)) xs
 pairs_unmap R g xs h i j d m l =
     let long = length-map xs g in
     let n : i < length xs = omega arith in
@@ -61,7 +61,7 @@ rising_from_pairs : (xs : List ℕ) → AllPairs (λ x y. x < y) xs → IsRising
 rising_from_pairs [] h = tt
 rising_from_pairs (x ∷ xs) h = (above_from_all x xs (AllPairs-head (λ y z. y < z) x xs h), rising_from_pairs xs (AllPairs-tail (λ y z. y < z) x xs h))
 
-eqb_flips : (x y : ℕ) → eqb x y ≡ eqb y x
+pub eqb_flips : (x y : ℕ) → eqb x y ≡ eqb y x
 eqb_flips x y = same_test (eqb x y) (eqb y x) (λ t. eq-eqb y x (sym (eqb-true x y t))) (λ t. eq-eqb x y (sym (eqb-true y x t)))
 
 -- ---- bids that share no good

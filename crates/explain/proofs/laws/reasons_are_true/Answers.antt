@@ -1,4 +1,5 @@
 use Rattle.explain.proofs.TrueReasons.{reasons_explain}
+use Rattle.explain.proofs.Passed.{below_is_kept}
 use Rattle.explain.proofs.laws.reasons_are_true.Goals as goal
 
 pub returns : goal.returns
