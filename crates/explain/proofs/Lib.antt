@@ -11,3 +11,6 @@ pub mod FoundPlaces
 pub mod KeptPoints
 pub mod TrueReasons
 pub mod Passed
+pub mod KeptStarts
+pub mod NextBest
+pub mod Turning
