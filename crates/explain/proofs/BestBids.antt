@@ -13,7 +13,7 @@ use Rattle.std.proofs.lemmas.Cmp.{on_total, then_total, back_total, nat_cmp_tota
 use Rattle.std.proofs.lemmas.List.{get_or_default}
 use Rattle.std.proofs.lemmas.List.Folds.{list_any_none}
 use Rattle.std.proofs.lemmas.List.FromFn.{length-range_with_len, get_or-range_with_len}
-use Rattle.std.proofs.lemmas.List.Sorted.{sorted_far, ranks_by, searchable_from_sorted, Contains-permutation, IsPermutation-sym}
+use Rattle.std.proofs.lemmas.List.Sorted.{length_permutation, sorted_far, ranks_by, searchable_from_sorted, Contains-permutation, IsPermutation-sym}
 use Rattle.goods_set.specs.Orders.{bundle_cmp}
 use Rattle.goods_set.specs.Lemmas.Orders.{bundle_cmp_total, bundle_cmp_equal, bundle_cmp_refl, nat_cmp-lt, nat_cmp-refl}
 use Rattle.bid_file.specs.Files.{PlainBid, PlainFile}
@@ -246,3 +246,7 @@ module _ (f : PlainFile) (bids : List NumberedBid) (order : AreInOrder f bids) (
     first_is_best d k l at =
         let there = has_place k l at in
         is_the_best (get_or bids place d) (λ e. get_or_default bids place e d there) there k l at
+
+-- there are as many as in the file
+pub length_of : (f : PlainFile) (bids : List NumberedBid) → AreInOrder f bids → length bids ≡ length f.bids
+length_of f bids order = length_permutation order.numbered bids order.same ∙ order.are.long

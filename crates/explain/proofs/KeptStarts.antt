@@ -4,7 +4,7 @@ use Rattle.std.proofs.Common.{subst, arith}
 use Rattle.std.specs.Prelude.{All, Contains, slice_get}
 use Rattle.std.specs.List.{flat_map}
 use Rattle.std.proofs.lemmas.Bool.{cases_lt, cases_eq}
-use Rattle.std.proofs.lemmas.List.{append_assoc, get_or-append-add, get_or-map, get_or-set_other, get_or-set_same, get_or_append_left, get_or_past}
+use Rattle.std.proofs.lemmas.List.{append_assoc, get_or-append-add, get_or-map, get_or-set_other, get_or-set_same, get_or_append_left, get_or_default, get_or_past}
 use Rattle.std.proofs.lemmas.List.{length-append, length-map, length-set}
 use Rattle.std.proofs.lemmas.List.Concat.{flat_map-cons}
 use Rattle.std.proofs.lemmas.List.Elements.{All-append, All-from_recursion, All-map, All-nil, Contains-append_cases, Contains-get_or}
@@ -218,3 +218,30 @@ more_starts f k from starts c next h some below = record {
       record { behind = omega arith; least = omega arith; bidder = ap (λ (i : ℕ). (kept_bid f i).dummy) there ∙ r.bidder })
       (cases_eq d c);
 }
+
+-- ---- the bidder of the bid at a place
+
+module _ (f : PlainFile) (named : NamedFile) (is : IsNamed f named) (k : ℕ) (b : PlainBid) (there : slice_get named.file.bids k ≡ Some b) where
+  kept_is : kept_bid f k ≡ named_bid named.dummies.items b
+  kept_is = get_or_from_slice_get (kept_bids f) k (named_bid named.dummies.items b) _ (key_there f named is k b there)
+
+  pub or_bidder : b.dummy ≡ None → (kept_bid f k).dummy ≡ None
+  or_bidder e = ap (λ (c : PlainBid). c.dummy) kept_is ∙ ap (named_dummy named.dummies.items) e
+
+  pub name_there : (e : ℕ) → b.dummy ≡ Some e → e < length named.dummies.items
+  name_there e some = subst (IsDummyBelow (length named.dummies.items)) some (dummy_there f named is k b there)
+
+  module _ (e c : ℕ) (some : b.dummy ≡ Some e) (name : c ≡ get_or named.dummies.items e c) where
+    pub xor_bidder : (kept_bid f k).dummy ≡ Some c
+    xor_bidder =
+        ap (λ (z : PlainBid). z.dummy) kept_is ∙ ap (named_dummy named.dummies.items) some
+        ∙ ap Some (get_or_default named.dummies.items e 0 c (name_there e some) ∙ sym name)
+
+    pub in_file : c < f.dummy
+    in_file =
+        let own = kept_is_bid f is.plain k (named_bid named.dummies.items b) (key_there f named is k b there) in
+        subst (IsDummyBelow f.dummy) (ap (λ (z : PlainBid). z.dummy) (sym kept_is) ∙ xor_bidder) own.dummy
+
+pub named_count : (f : PlainFile) (named : NamedFile) → IsNamed f named → length named.file.bids ≡ length (kept_bids f)
+named_count f named is =
+    ap (λ (g : PlainFile). length g.bids) is.file ∙ sym (length-map (canonical_file f).bids (named_bid (kept_dummies f)))

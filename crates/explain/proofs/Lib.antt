@@ -14,3 +14,4 @@ pub mod Passed
 pub mod KeptStarts
 pub mod NextBest
 pub mod Turning
+pub mod Reasoned

@@ -10,7 +10,7 @@ use Rattle.std.proofs.lemmas.List.FromFn.{get_or-map-range_with_len, length-map-
 use Rattle.std.proofs.lemmas.List.Sorted.{All-permutation, IsPermutation-reverse}
 use Rattle.std.proofs.lemmas.List.Sums.{count_by-le-length, length-filter}
 use Rattle.std.proofs.lemmas.Option.{slice_get_within}
-use Rattle.bid_file.specs.Files.{PlainBid, PlainFile, IsPlainFile}
+use Rattle.bid_file.specs.Files.{PlainBid, PlainFile, IsDummyBelow}
 use Rattle.bid_file.specs.Views.{seen_bid}
 use Rattle.bid_file.specs.declared.limits.TheConstants.{MAX_BIDS}
 use Rattle.valuation.specs.declared.atom.Atom.{Atom}
@@ -26,10 +26,11 @@ use Rattle.explain.specs.Bids.{bid_at, is_best, IsBestFor}
 use Rattle.explain.specs.Reasons.{PlainReason, Keep, Inside, Packing, IsKeptAs, best_reason, kept_number, or_reason, point_number, points_of, reason_of, xor_reason}
 use Rattle.explain.specs.Internal.BidOrders.{AreInOrder}
 use Rattle.explain.specs.Internal.Starts.{AreStarts}
-use Rattle.explain.specs.Internal.Walks.{HasPassed, IsNextBest, is_best_of, is_kept_atom, is_kept_bid, passed_bids}
+use Rattle.explain.specs.Internal.Walks.{HasPassed, IsKnown, IsNextBest, is_best_of, is_kept_atom, is_kept_bid, passed_bids}
 use Rattle.explain.specs.declared.best.NumberedBid.{NumberedBid}
+use Rattle.explain.specs.declared.walk.Known.{Known}
 use Rattle.explain.specs.declared.walk.Walk.{Walk}
-use Rattle.explain.proofs.BestBids.{alike_from}
+use Rattle.explain.proofs.BestBids.{alike_from, length_of}
 use Rattle.explain.proofs.FoundPlaces.{dropped_from, each_below, inside_from, searched_places}
 use Rattle.explain.proofs.KeptBidsBest.{atoms_of_bidder, one_key_same}
 use Rattle.explain.proofs.KeptPoints.{bidder_is_kept, kept_number_is}
@@ -55,22 +56,31 @@ kept_reason : (f : PlainFile) (i : ℕ) (o : Option ℕ) → is_kept_atom f o (a
 kept_reason f i None t = ap (or_reason f i) (none_from (or_fate Bounded (points_of f None) (atom_of (bid_at f i))) t)
 kept_reason f i (Some d) t = ap (xor_reason f d i) (none_from (xor_fate (points_of f (Some d)) (atom_of (bid_at f i))) t)
 
-module _ (f : PlainFile) (is : IsPlainFile f) (bids : List NumberedBid) (order : AreInOrder f bids) (place : ℕ) (n : NumberedBid)
-    (next : IsNextBest f bids place n) (walk : Walk) (has : HasPassed f bids n.bid.dummy place walk) where
+module _ (known : Known) (place : ℕ) (n : NumberedBid) (walk : Walk) (is : IsKnown known) (next : IsNextBest known.file.now known.bids.items place n)
+    (has : HasPassed known.file.now known.bids.items n.bid.dummy place walk) where
+  abbrev f : PlainFile
+  f = known.file.now
+
+  abbrev bids : List NumberedBid
+  bids = known.bids.items
+
+  abbrev starts : List ℕ
+  starts = known.starts.items
+
   abbrev dummy : Option ℕ
   dummy = n.bid.dummy
 
   abbrev own_done : List NumberedBid
-  own_done = done f is bids order place n next
+  own_done = done f is.plain bids is.order place n next
 
   abbrev own_kept : List NumberedBid
-  own_kept = kept f is bids order place n next
+  own_kept = kept f is.plain bids is.order place n next
 
   within : n.number < length f.bids
-  within = next_number f is bids order place n next
+  within = next_number f is.plain bids is.order place n next
 
   seen : seen_bid n.bid ≡ bid_at f n.number
-  seen = next_is f is bids order place n next
+  seen = next_is f is.plain bids is.order place n next
 
   offered : offer n ≡ atom_of (bid_at f n.number)
   offered = ap atom_of seen
@@ -88,28 +98,30 @@ module _ (f : PlainFile) (is : IsPlainFile f) (bids : List NumberedBid) (order :
 
   best_from : (o : Option ℕ) → dummy ≡ o → (rest : List (Atom (List ℕ)))
       × (best_bids f.goods (atoms_of_bidder f o) ≡ map offer own_done ++ offer n ∷ rest)
-  best_from o e = (_, ap (λ (p : Option ℕ). best_bids f.goods (atoms_of_bidder f p)) (sym e) ∙ best_split f is bids order place n next)
+  best_from o e = (_, ap (λ (p : Option ℕ). best_bids f.goods (atoms_of_bidder f p)) (sym e) ∙ best_split f is.plain bids is.order place n next)
 
   long_done : length (map offer own_done) ≡ walk.passed
   long_done = length-map own_done offer ∙ sym has.passed
 
   pub passed_few : walk.passed ≤ length bids
   passed_few =
-      let l = next_within f is bids order place n next in
+      let l = next_within f is.plain bids is.order place n next in
       let filtered = length-filter (is_best_of f dummy) (take place bids) in
       let least = count_by-le-length (is_best_of f dummy) (take place bids) in
       let taken = length-take-le place bids (omega arith) in
       let passed = has.passed in
       omega arith
 
-  pub or_here : (fates : List (Option (Vec ℕ Global))) → dummy ≡ None
-      → map plain_fate fates ≡ or_fates Bounded f.goods (or_atoms_of f.bids)
+  abbrev fates : List (Option (Vec ℕ Global))
+  fates = known.fates.or.items
+
+  pub or_here : dummy ≡ None
       → (walk.passed < length fates) × ((d : Option (Vec ℕ Global))
       → plain_fate (get_or fates walk.passed d) ≡ or_fate Bounded (points_of f None) (offer n))
-  or_here fates e h =
+  or_here e =
       let r = best_from None e in
       let s = at_seam (map plain_fate fates) (or_fate Bounded (points_of f None)) (map offer own_done) (offer n) r.0 walk.passed
-      (h ∙ ap (map (or_fate Bounded (points_of f None))) r.1) long_done in
+      (is.or ∙ ap (map (or_fate Bounded (points_of f None))) r.1) long_done in
       let long = length-map fates plain_fate in
       let l = s.0 in
       (omega arith, λ d. sym (get_or-map plain_fate fates walk.passed d None (omega arith)) ∙ s.1 None)
@@ -121,6 +133,56 @@ module _ (f : PlainFile) (is : IsPlainFile f) (bids : List NumberedBid) (order :
       at_seam fates (xor_fate (points_of f (Some d))) (map offer own_done) (offer n) r.0 walk.passed
       (h ∙ ap (map (xor_fate (points_of f (Some d)))) r.1) long_done
 
+  fate_at : (o : Option ℕ) → dummy ≡ o → (b : Bool) → is_kept_atom f o (offer n) ≡ b → is_kept_bid f dummy n ≡ b
+  fate_at o e b t = ap (λ (p : Option ℕ). is_kept_atom f p (offer n)) e ∙ t
+
+  module _ (or : dummy ≡ None) (r : Option (Vec ℕ Global)) (there : r ≡ get_or fates walk.passed r) where
+    or_fate_is : plain_fate r ≡ or_fate Bounded (points_of f None) (offer n)
+    or_fate_is = ap plain_fate there ∙ (or_here or).1 r
+
+    pub or_kept : r ≡ None → is_kept_bid f dummy n ≡ true
+    or_kept e = fate_at None or true (ap is_none (sym or_fate_is ∙ ap plain_fate e))
+
+    pub or_dropped : (v : Vec ℕ Global) → r ≡ Some v → or_fate Bounded (points_of f None) (offer n) ≡ Some v.items
+    or_dropped v e = sym or_fate_is ∙ ap plain_fate e
+
+  pub or_not_kept : (places : List ℕ) → dummy ≡ None → or_fate Bounded (points_of f None) (offer n) ≡ Some places → is_kept_bid f dummy n ≡ false
+  or_not_kept places e t = fate_at None e false (ap is_none t)
+
+  module _ (d : ℕ) (xor : dummy ≡ Some d) where
+    abbrev lists : List (Vec (Option ℕ) Global)
+    lists = known.fates.xor.items
+
+    pub in_file : d < f.dummy
+    in_file = subst (IsDummyBelow f.dummy) xor (next_below f is.plain bids is.order place n next)
+
+    pub xor_long : d < length lists
+    xor_long =
+        let mapped = length-map lists (λ (v : Vec (Option ℕ) Global). v.items) in
+        let all = length-map-range_with_len (λ d. xor_fates f.goods (xor_atoms_of f.bids d)) 0 f.dummy in
+        let same = ap (length {A = List (Option ℕ)}) is.xor in
+        let l = in_file in
+        omega arith
+
+    module _ (r : Vec (Option ℕ) Global) (there : r ≡ get_or lists d r) where
+      pub xor_list : r.items ≡ xor_fates f.goods (xor_atoms_of f.bids d)
+      xor_list =
+          ap (λ (v : Vec (Option ℕ) Global). v.items) there ∙ sym (get_or-map (λ (v : Vec (Option ℕ) Global). v.items) lists d r [] xor_long)
+          ∙ ap (λ (xs : List (List (Option ℕ))). get_or xs d []) is.xor
+          ∙ get_or-map-range_with_len (λ d. xor_fates f.goods (xor_atoms_of f.bids d)) 0 f.dummy d d [] in_file (omega arith)
+
+      pub xor_within : walk.passed < length r.items
+      xor_within = (xor_here r.items d xor xor_list).0
+
+      pub xor_fate_is : (o : Option ℕ) → o ≡ get_or r.items walk.passed o → o ≡ xor_fate (points_of f (Some d)) (offer n)
+      xor_fate_is o e = e ∙ (xor_here r.items d xor xor_list).1 o
+
+  pub xor_kept : (d : ℕ) → dummy ≡ Some d → xor_fate (points_of f (Some d)) (offer n) ≡ None → is_kept_bid f dummy n ≡ true
+  xor_kept d e t = fate_at (Some d) e true (ap is_none t)
+
+  pub xor_not_kept : (d p : ℕ) → dummy ≡ Some d → xor_fate (points_of f (Some d)) (offer n) ≡ Some p → is_kept_bid f dummy n ≡ false
+  xor_not_kept d p e t = fate_at (Some d) e false (ap is_none t)
+
   -- ---- its reason
 
   reason : (o : Option ℕ) → dummy ≡ o → reason_of f n.number ≡ best_reason f n.number o
@@ -129,39 +191,49 @@ module _ (f : PlainFile) (is : IsPlainFile f) (bids : List NumberedBid) (order :
       (record { within = within; alike = alike_from (bid_at f n.number) (bid_at f n.number) (one_key_same _ _ refl); best = next.best })
       ∙ ap (best_reason f n.number) (bidder ∙ e)
 
-  kept_as : (starts : List ℕ) → AreStarts f 0 starts → is_kept_bid f dummy n ≡ true
+  kept_as : is_kept_bid f dummy n ≡ true
       → IsKeptAs f n.number (start_of starts dummy + length walk.points.items)
-  kept_as starts h t =
-      let point = next_point f is bids order place n next t in
-      let there = point_there f starts h dummy (bidder_is_kept f is n.number within positive dummy bidder) (length own_kept) point.0 in
+  kept_as t =
+      let point = next_point f is.plain bids is.order place n next t in
+      let there = point_there f starts is.starts dummy (bidder_is_kept f is.plain n.number within positive dummy bidder) (length own_kept) point.0 in
       record {
         bid = record { positive = positive; best = next.best };
         is = ap (λ (p : ℕ). slice_get (kept_bids f) (start_of starts dummy + p)) long_points ∙ there
             ∙ ap (λ (a : Atom (List ℕ)). Some (bid_from dummy a)) point.1 ∙ ap Some seen;
       }
 
-  pub keep_fits : (starts : List ℕ) → AreStarts f 0 starts → is_kept_bid f dummy n ≡ true → start_of starts dummy + length walk.points.items < MAX_BIDS
-  keep_fits starts h t =
-      let k = kept_as starts h t in
-      let l = slice_get_within (kept_bids f) (start_of starts dummy + length walk.points.items) (bid_at f n.number) k.is in
-      let few = kept_count f is in
+  pub passed_fits : walk.passed ≤ MAX_BIDS
+  passed_fits =
+      let few = passed_few in
+      let long = length_of f bids is.order in
+      let count = is.plain.count in
       omega arith
 
-  pub keep_reason : (starts : List ℕ) → AreStarts f 0 starts → is_kept_bid f dummy n ≡ true
+  pub start_there : (d : ℕ) → dummy ≡ Some d → d < length starts
+  start_there d e = let l = in_file d e in let long = is.starts.long in omega arith
+
+  pub keep_fits : is_kept_bid f dummy n ≡ true → start_of starts dummy + length walk.points.items < MAX_BIDS
+  keep_fits t =
+      let k = kept_as t in
+      let l = slice_get_within (kept_bids f) (start_of starts dummy + length walk.points.items) (bid_at f n.number) k.is in
+      let few = kept_count f is.plain in
+      omega arith
+
+  pub keep_reason : is_kept_bid f dummy n ≡ true
       → Keep (start_of starts dummy + length walk.points.items) ≡ reason_of f n.number
-  keep_reason starts h t =
+  keep_reason t =
       sym (reason dummy refl ∙ kept_reason f n.number dummy (ap (is_kept_atom f dummy) (sym offered) ∙ t)
-      ∙ ap Keep (kept_number_is f is n.number (start_of starts dummy + length walk.points.items) (kept_as starts h t)))
+      ∙ ap Keep (kept_number_is f is.plain n.number (start_of starts dummy + length walk.points.items) (kept_as t)))
 
   -- the number of a point below its goods
   point_before : (o : Option ℕ) → dummy ≡ o → (p : ℕ) → Contains (places_below (points_of f o) (offer n).bundle) p
       → (p < length walk.points.items) × (get_or walk.points.items p 0 ≡ point_number f o p)
   point_before o e p c =
-      let l = below_is_kept f is bids order place n next p
+      let l = below_is_kept f is.plain bids is.order place n next p
       (subst (λ (q : Option ℕ). Contains (places_below (points_of f q) (offer n).bundle) p) (sym e) c) in
       let long = long_points in (
         omega arith,
-        ap (λ (xs : List ℕ). get_or xs p 0) has.points ∙ number_of_point f is bids order place n next p l ∙ ap (λ (q : Option ℕ). point_number f q p) e,
+        ap (λ (xs : List ℕ). get_or xs p 0) has.points ∙ number_of_point f is.plain bids is.order place n next p l ∙ ap (λ (q : Option ℕ). point_number f q p) e,
       )
 
   places_before : (places : List ℕ) → dummy ≡ None → or_fate Bounded (points_of f None) (offer n) ≡ Some places
@@ -200,14 +272,14 @@ module _ (f : PlainFile) (is : IsPlainFile f) (bids : List NumberedBid) (order :
 
   one_passed : (after : Walk) → after.passed ≡ walk.passed + 1 → after.passed ≡ length (passed_bids f bids dummy (place + 1))
   one_passed after e =
-      let more = ap (length {A = NumberedBid}) (passed_more f is bids order place n next) in
+      let more = ap (length {A = NumberedBid}) (passed_more f is.plain bids is.order place n next) in
       let both = length-append own_done (n ∷ []) in
       let passed = has.passed in
       omega arith
 
   filtered : filter (is_kept_bid f dummy) (passed_bids f bids dummy (place + 1)) ≡ own_kept ++ filter (is_kept_bid f dummy) (n ∷ [])
   filtered =
-      ap (filter (is_kept_bid f dummy)) (passed_more f is bids order place n next) ∙ filter-append (is_kept_bid f dummy) own_done (n ∷ [])
+      ap (filter (is_kept_bid f dummy)) (passed_more f is.plain bids is.order place n next) ∙ filter-append (is_kept_bid f dummy) own_done (n ∷ [])
 
   pub passed_kept : (after : Walk) → is_kept_bid f dummy n ≡ true → after.passed ≡ walk.passed + 1 → after.points.items ≡ walk.points.items ++ n.number ∷ []
       → HasPassed f bids dummy (place + 1) after

@@ -1,13 +1,13 @@
 -- The walk takes the next bid in. It is the best of its bidder's on its goods if the bid before it is not on the same goods of that bidder;
 -- and at the first bid of a bidder the walk has passed none of it.
-use Rattle.std.proofs.Common.{◌≡◌, ◌≢◌, ℕ, ◌+◌, ◌-◌, ◌<◌, ◌≤◌, Bool, true, false, ◌&&◌, ◌⊎◌, inl, inr, eqb, ltb, cond, ⊎_elim, List, [], length, map, get_or, take}
+use Rattle.std.proofs.Common.{◌≡◌, ◌≢◌, ℕ, ◌+◌, ◌-◌, ◌<◌, ◌≤◌, Bool, true, false, ◌&&◌, ◌⊎◌, inl, inr, eqb, ltb, cond, ⊎_elim, List, [], ◌∷◌, ◌++◌, length, map, get_or, take}
 use Rattle.std.proofs.Common.{Option, Some, None, refl, sym, ap, ap₂, ◌∙◌, subst, arith, Ordering, Less, Equal, Greater, is_lt, nat_cmp}
 use Rattle.std.specs.Prelude.{Contains, slice_get}
 use Rattle.std.specs.List.{filter}
 use Rattle.std.specs.Ordering.{is_eq, ordering_reverse, ordering_then}
-use Rattle.std.proofs.lemmas.Bool.{and_parts, both_ways, cases_Bool, cases_eq, cases_lt, eqb-true, false_from_ne_true}
-use Rattle.std.proofs.lemmas.List.{get_or-take, get_or_default, length-take-le}
-use Rattle.std.proofs.lemmas.List.Elements.{Contains-get_or}
+use Rattle.std.proofs.lemmas.Bool.{and_parts, both_ways, cases_Bool, cases_eq, cases_lt, eqb-true, false_from_ne_true, ltb-true}
+use Rattle.std.proofs.lemmas.List.{append-nil, get_or-take, get_or_default, length-take-le}
+use Rattle.std.proofs.lemmas.List.Elements.{Contains-get_or, filter_more}
 use Rattle.std.proofs.lemmas.List.Sorted.{ranks_by, sorted_far}
 use Rattle.std.proofs.lemmas.Option.{get_or_from_slice_get, slice_get_within}
 use Rattle.goods_set.specs.Orders.{bundle_cmp}
@@ -21,7 +21,7 @@ use Rattle.explain.specs.Internal.BidOrders.{AreInOrder, key_cmp, numbered_cmp}
 use Rattle.explain.specs.Internal.Walks.{HasPassed, IsAt, IsBestAt, IsLastBest, best_after, dummy_of, is_best_of, is_kept_bid, passed_bids}
 use Rattle.explain.proofs.BestBids.{HaveOneKey, alike_from, first_is_best, from_equal, key_cmp_total, key_equal, key_first, key_same, numbered, numbered_cmp_total, one_key}
 use Rattle.explain.proofs.BestBids.{equal_from, partitioned}
-use Rattle.explain.proofs.KeptBidsBest.{one_key_sym, same_bidder}
+use Rattle.explain.proofs.KeptBidsBest.{best-once, same_bidder}
 use Rattle.explain.proofs.KeptBidsLists.{filter_none}
 
 same_or_other : (o p : Option ℕ) → (o ≡ p) ⊎ (o ≡ p → ⊥)
@@ -182,3 +182,44 @@ module _ (f : PlainFile) (bids : List NumberedBid) (order : AreInOrder f bids) (
         points = new.1 ∙ sym (ap (λ (xs : List NumberedBid). map (λ (m : NumberedBid). m.number) (filter (is_kept_bid f n.bid.dummy) xs)) none);
       })
       (same_or_other (dummy_of walk.best) n.bid.dummy)
+
+  -- ---- a bid that is not a best bid with a price above 0
+
+  skipped : (walk : Walk) → is_best_of f n.bid.dummy n ≡ false → HasPassed f bids n.bid.dummy place walk → HasPassed f bids n.bid.dummy (place + 1) walk
+  skipped walk t h =
+      let same : passed_bids f bids n.bid.dummy (place + 1) ≡ passed_bids f bids n.bid.dummy place =
+      filter_more (is_best_of f n.bid.dummy) bids place n within
+      ∙ ap (λ (m : NumberedBid). passed_bids f bids n.bid.dummy place ++ cond (is_best_of f n.bid.dummy m) (m ∷ []) []) (at n)
+      ∙ ap (λ (b : Bool). passed_bids f bids n.bid.dummy place ++ cond b (n ∷ []) []) t ∙ append-nil (passed_bids f bids n.bid.dummy place) in
+      record {
+        passed = h.passed ∙ sym (ap (length {A = NumberedBid}) same);
+        points = h.points ∙ sym (ap (λ (xs : List NumberedBid). map (λ (m : NumberedBid). m.number) (filter (is_kept_bid f n.bid.dummy) xs)) same);
+      }
+
+  pub passed_zero : (walk : Walk) → n.bid.price ≡ 0 → HasPassed f bids n.bid.dummy place walk → HasPassed f bids n.bid.dummy (place + 1) walk
+  passed_zero walk none h = skipped walk (false_from_ne_true (is_best_of f n.bid.dummy n) (λ t.
+      let parts = and_parts (eqb (bidder_of n.bid.dummy) (bidder_of n.bid.dummy)) (ltb 0 n.bid.price && is_best f n.number) t in
+      let some = ltb-true 0 n.bid.price (and_parts (ltb 0 n.bid.price) (is_best f n.number) parts.1).0 in
+      omega arith)) h
+
+  pub passed_same : (walk : Walk) (b : NumberedBid) → best_then b → (b.number ≡ n.number → ⊥) → HasPassed f bids n.bid.dummy place walk
+      → HasPassed f bids n.bid.dummy (place + 1) walk
+  passed_same walk b best differ h = skipped walk (false_from_ne_true (is_best_of f n.bid.dummy n) (λ t.
+      let parts = and_parts (eqb (bidder_of n.bid.dummy) (bidder_of n.bid.dummy)) (ltb 0 n.bid.price && is_best f n.number) t in
+      let own = (and_parts (ltb 0 n.bid.price) (is_best f n.number) parts.1).1 in
+      differ (best-once f b.number n.number best.0.within here.0 best.0.best own best.0.alike))) h
+
+  -- the walk is behind it
+  pub at_next : (after : Walk) (b : NumberedBid) → best_then b → after.best ≡ Some b → HasPassed f bids n.bid.dummy (place + 1) after
+      → IsAt f bids (place + 1) after
+  at_next after b best held h =
+      let own = one_key (bid_at f b.number) (bid_at f n.number) best.0.alike in
+      let same : b.bid.dummy ≡ n.bid.dummy = same_bidder b.bid.dummy n.bid.dummy
+      (ap (λ (z : PlainBid). bidder_of z.dummy) best.1 ∙ own.bidder ∙ ap (λ (z : PlainBid). bidder_of z.dummy) (sym here.1)) in
+      record {
+        passed = subst (λ (o : Option ℕ). HasPassed f bids o (place + 1) after) (sym (ap dummy_of held ∙ same)) h;
+        best = subst (IsBestAt f bids (place + 1)) (sym held) (last_best b best);
+      }
+
+  pub own_price : (bid_at f n.number).price ≡ n.bid.price
+  own_price = ap (λ (z : PlainBid). z.price) (sym here.1)
