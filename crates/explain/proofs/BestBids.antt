@@ -13,7 +13,7 @@ use Rattle.std.proofs.lemmas.Cmp.{on_total, then_total, back_total, nat_cmp_tota
 use Rattle.std.proofs.lemmas.List.{get_or_default}
 use Rattle.std.proofs.lemmas.List.Folds.{list_any_none}
 use Rattle.std.proofs.lemmas.List.FromFn.{length-range_with_len, get_or-range_with_len}
-use Rattle.std.proofs.lemmas.List.Sorted.{sorted_far, ranks_by, searchable_from_sorted, Contains-permutation, IsPermutation-sym}
+use Rattle.std.proofs.lemmas.List.Sorted.{length_permutation, sorted_far, ranks_by, searchable_from_sorted, Contains-permutation, IsPermutation-sym}
 use Rattle.goods_set.specs.Orders.{bundle_cmp}
 use Rattle.goods_set.specs.Lemmas.Orders.{bundle_cmp_total, bundle_cmp_equal, bundle_cmp_refl, nat_cmp-lt, nat_cmp-refl}
 use Rattle.bid_file.specs.Files.{PlainBid, PlainFile}
@@ -40,12 +40,12 @@ numbered_cmp_total =
     (back_total (on_total (λ (n : NumberedBid). n.bid.price) nat_cmp_total)))
     (on_total (λ (n : NumberedBid). n.number) nat_cmp_total)
 
-key_first : (o p q : Ordering) → is_lt (ordering_then (ordering_then o p) q) ≡ false → is_lt o ≡ false
+pub key_first : (o p q : Ordering) → is_lt (ordering_then (ordering_then o p) q) ≡ false → is_lt o ≡ false
 key_first Less p q e = e
 key_first Equal p q e = refl
 key_first Greater p q e = refl
 
-equal_from : (o : Ordering) → is_eq o ≡ true → o ≡ Equal
+pub equal_from : (o : Ordering) → is_eq o ≡ true → o ≡ Equal
 equal_from Less e = absurd (cc)
 equal_from Equal e = refl
 equal_from Greater e = absurd (cc)
@@ -82,14 +82,14 @@ alike_from a b h =
     and_from (eqb (bidder_of a.dummy) (bidder_of b.dummy)) (is_eq (bundle_cmp a.goods b.goods)) (eq-eqb _ _ h.bidder)
     (ap is_eq (ap (λ (xs : List ℕ). bundle_cmp xs b.goods) h.goods ∙ bundle_cmp_refl b.goods))
 
-key_same : (a b c : PlainBid) → HaveOneKey a b → key_cmp a c ≡ key_cmp b c
+pub key_same : (a b c : PlainBid) → HaveOneKey a b → key_cmp a c ≡ key_cmp b c
 key_same a b c h = ap₂ (λ (m : ℕ) (xs : List ℕ). ordering_then (nat_cmp m (bidder_of c.dummy)) (bundle_cmp xs c.goods)) h.bidder h.goods
 
-key_equal : (a b : PlainBid) → HaveOneKey a b → key_cmp a b ≡ Equal
+pub key_equal : (a b : PlainBid) → HaveOneKey a b → key_cmp a b ≡ Equal
 key_equal a b h = key_same a b b h
     ∙ ap₂ ordering_then (nat_cmp-refl (bidder_of b.dummy)) (bundle_cmp_refl b.goods)
 
-from_equal : (a b : PlainBid) → key_cmp a b ≡ Equal → HaveOneKey a b
+pub from_equal : (a b : PlainBid) → key_cmp a b ≡ Equal → HaveOneKey a b
 from_equal a b e = record {
   bidder = number_same (bidder_of a.dummy) (bidder_of b.dummy) (first (nat_cmp (bidder_of a.dummy) (bidder_of b.dummy)) (bundle_cmp a.goods b.goods) e);
   goods = bundle_cmp_equal a.goods b.goods (second (nat_cmp (bidder_of a.dummy) (bidder_of b.dummy)) (bundle_cmp a.goods b.goods) e);
@@ -246,3 +246,7 @@ module _ (f : PlainFile) (bids : List NumberedBid) (order : AreInOrder f bids) (
     first_is_best d k l at =
         let there = has_place k l at in
         is_the_best (get_or bids place d) (λ e. get_or_default bids place e d there) there k l at
+
+-- there are as many as in the file
+pub length_of : (f : PlainFile) (bids : List NumberedBid) → AreInOrder f bids → length bids ≡ length f.bids
+length_of f bids order = length_permutation order.numbered bids order.same ∙ order.are.long

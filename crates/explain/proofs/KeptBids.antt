@@ -133,10 +133,10 @@ record IsGreatest (f : PlainFile) (b : PlainBid) (j : ℕ) : Type 0 where
 auction : (f : PlainFile) → IsPlainFile f → IsAuction f.goods (auction_from f)
 auction f is = IsAuction-auction_from f.goods f is (omega arith)
 
-or_on : (f : PlainFile) → IsPlainFile f → All (IsOnBundle f.goods) (or_atoms_of f.bids)
+pub or_on : (f : PlainFile) → IsPlainFile f → All (IsOnBundle f.goods) (or_atoms_of f.bids)
 or_on f is = on_bundles f.goods (or_atoms_of f.bids) (auction f is).or_atoms
 
-xor_on : (f : PlainFile) → IsPlainFile f → (d : ℕ) → d < f.dummy → All (IsOnBundle f.goods) (xor_atoms_of f.bids d)
+pub xor_on : (f : PlainFile) → IsPlainFile f → (d : ℕ) → d < f.dummy → All (IsOnBundle f.goods) (xor_atoms_of f.bids d)
 xor_on f is d l =
     on_bundles f.goods (xor_atoms_of f.bids d) (All-contains (All (IsAtom f.goods)) (map (xor_atoms_of f.bids) (range_with_len 0 f.dummy))
     (xor_atoms_of f.bids d)
@@ -214,7 +214,7 @@ kept-is-best f is k l =
 
 -- ---- each bid of the file is reached by the points of its bidder
 
-bid_here : (f : PlainFile) → IsPlainFile f → (i : ℕ) → i < length f.bids → IsBid f.goods f.dummy (bid_at f i)
+pub bid_here : (f : PlainFile) → IsPlainFile f → (i : ℕ) → i < length f.bids → IsBid f.goods f.dummy (bid_at f i)
 bid_here f is i l = All-from_recursion (IsBid f.goods f.dummy) f.bids is.each i _ l
 
 pub bundle_here : (f : PlainFile) → IsPlainFile f → (i : ℕ) → i < length f.bids → IsBundle f.goods (bid_at f i).goods

@@ -143,21 +143,38 @@ some_is d (Some c) e = ap Some (eqb-true c d e)
 pub is_dummy-same : (d : ℕ) (o : Option ℕ) → o ≡ Some d → is_dummy d o ≡ true
 is_dummy-same d o e = ap (is_dummy d) e ∙ eq-eqb d d refl
 
--- ---- the price of a best OR bid is the greatest on its goods
+-- ---- the bids of a bidder
 
-pub greatest-is-best : (f : PlainFile) (i : ℕ) → i < length f.bids → is_best f i ≡ true → (bid_at f i).dummy ≡ None
-    → greatest_price (or_atoms_of f.bids) (bid_at f i).goods ≡ (bid_at f i).price
-greatest-is-best f i l best or =
+abbrev pub is_of : Option ℕ → PlainBid → Bool
+is_of None b = is_none b.dummy
+is_of (Some d) b = is_dummy d b.dummy
+
+abbrev pub atoms_of_bidder : PlainFile → Option ℕ → List (Atom (List ℕ))
+atoms_of_bidder f dummy = map atom_of (filter (is_of dummy) f.bids)
+
+pub of_it : (dummy : Option ℕ) (b : PlainBid) → is_of dummy b ≡ true → b.dummy ≡ dummy
+of_it None b t = none_is b.dummy t
+of_it (Some d) b t = some_is d b.dummy t
+
+pub its_own : (dummy : Option ℕ) (b : PlainBid) → b.dummy ≡ dummy → is_of dummy b ≡ true
+its_own None b e = ap is_none e
+its_own (Some d) b e = is_dummy-same d b.dummy e
+
+-- ---- the price of a best bid is the greatest on its goods
+
+pub greatest-is-best : (f : PlainFile) (i : ℕ) → i < length f.bids → is_best f i ≡ true
+    → greatest_price (atoms_of_bidder f (bid_at f i).dummy) (bid_at f i).goods ≡ (bid_at f i).price
+greatest-is-best f i l best =
+    let dummy = (bid_at f i).dummy in
     le_antisymm
-    (greatest_price-bound (or_atoms_of f.bids) (bid_at f i).goods (bid_at f i).price
-    (All-from_Contains (λ a. a.bundle ≡ (bid_at f i).goods → a.price ≤ (bid_at f i).price) (or_atoms_of f.bids) (λ a c e.
-    let r = atom_from (λ b. is_none b.dummy) f a c in
+    (greatest_price-bound (atoms_of_bidder f dummy) (bid_at f i).goods (bid_at f i).price
+    (All-from_Contains (λ a. a.bundle ≡ (bid_at f i).goods → a.price ≤ (bid_at f i).price) (atoms_of_bidder f dummy) (λ a c e.
+    let r = atom_from (is_of dummy) f a c in
     let price : a.price ≡ (bid_at f r.0).price = ap (λ (z : Atom (List ℕ)). z.price) r.1.is in
     let goods : a.bundle ≡ (bid_at f r.0).goods = ap (λ (z : Atom (List ℕ)). z.bundle) r.1.is in
     let low = best_is_greatest f i r.0 best r.1.within (record {
-      bidder = ap bidder_of (none_is (bid_at f r.0).dummy r.1.passes ∙ sym or);
-      goods = sym goods
-          ∙ e;
+      bidder = ap bidder_of (of_it dummy (bid_at f r.0) r.1.passes);
+      goods = sym goods ∙ e;
     }) in
     omega arith)))
-    (greatest_price-member (or_atoms_of f.bids) (atom_of (bid_at f i)) (atom_there (λ b. is_none b.dummy) f i l (ap is_none or)))
+    (greatest_price-member (atoms_of_bidder f dummy) (atom_of (bid_at f i)) (atom_there (is_of dummy) f i l (its_own dummy (bid_at f i) refl)))

@@ -33,7 +33,7 @@ all_numbers P n h = recursion_from_All P (range_with_len 0 n) (All-from_Contains
 
 -- ---- a test that one element passes
 
-filter_none : {X : Type 0} (p : X → Bool) (xs : List X) (d : X) → ((i : ℕ) → i < length xs → p (get_or xs i d) ≡ false) → filter p xs ≡ []
+pub filter_none : {X : Type 0} (p : X → Bool) (xs : List X) (d : X) → ((i : ℕ) → i < length xs → p (get_or xs i d) ≡ false) → filter p xs ≡ []
 filter_none p [] d h = refl
 filter_none p (x ∷ xs) d h = filter-lost p x xs (h 0 (omega arith)) ∙ filter_none p xs d (λ i l. h (suc i) (omega arith))
 

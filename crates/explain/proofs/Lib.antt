@@ -4,8 +4,14 @@ pub mod KeptBidsLists
 pub mod KeptBidsBest
 pub mod KeptBids
 pub mod Deciding
-pub mod Keeping
-pub mod PointLists
+pub mod PointFates
+pub mod BestNumbers
 pub mod Packings
-pub mod Dropped
+pub mod FoundPlaces
+pub mod KeptPoints
+pub mod TrueReasons
+pub mod Passed
+pub mod KeptStarts
+pub mod NextBest
+pub mod Turning
 pub mod Reasoned

@@ -1,6 +1,6 @@
 -- The numbers of the points of a packing, sorted. Different points of a packing are on different goods, so their numbers differ, and
 -- rise once they are sorted; what holds of each two of them does not depend on their order.
-use Rattle.std.proofs.Common.{◌≡◌, ℕ, ◌<◌, ◌≤◌, true, ⊎_elim, List, [], ◌∷◌, length, map, get_or, None, refl, sym, ap, ◌∙◌, subst, subst₂, arith, eqb, nat_cmp}
+use Rattle.std.proofs.Common.{◌≡◌, ℕ, ◌<◌, ◌≤◌, true, ⊎_elim, List, [], ◌∷◌, length, map, get_or, Option, None, refl, sym, ap, ◌∙◌, subst, subst₂, arith, eqb, nat_cmp}
 use Rattle.std.specs.Prelude.{All, AllPairs, Contains, IsPermutation, sum_by}
 use Rattle.std.specs.List.{AllByRecursion, list_all}
 use Rattle.std.specs.List.Sorted.{IsSorted}
@@ -19,13 +19,12 @@ use Rattle.goods_set.specs.Lemmas.Members.{apart_sym, apart_inside_none, inside_
 use Rattle.bid_file.specs.Files.{PlainBid, PlainFile}
 use Rattle.valuation.specs.declared.atom.Atom.{Atom}
 use Rattle.valuation.specs.Conflicts.{atom_at}
+use Rattle.canon.specs.Canonical.{bid_from}
 use Rattle.valuation.specs.Lemmas.Lists.{AllPairs-head, AllPairs-tail, AllPairs-map}
-use Rattle.valuation.specs.Packings.{IsPackingFor}
+use Rattle.valuation.specs.Packings.{atoms_at, price_sum}
 use Rattle.explain.specs.Bids.{bid_at}
 use Rattle.explain.specs.Reasons.{all_apart, goods_at}
-use Rattle.explain.specs.Internal.BidderPoints.{IsPointOf}
-use Rattle.explain.specs.Internal.Deciding.{IsPointInside}
-use Rattle.explain.specs.Internal.Known.{values_at}
+use Rattle.explain.specs.Internal.Deciding.{IsPointBid, IsPointInside}
 
 -- ---- lists
 
@@ -34,7 +33,7 @@ all_unmap P g xs h k d l =
     let long = length-map xs g in
     subst P (get_or-map g xs k d (g d) l) (h k (g d) (omega arith))
 
-pairs_unmap : {X Y : Type 0} (R : Y → Y → Type 0) (g : X → Y) (xs : List X) → AllPairs R (map g xs) → AllPairs (λ x y. R (g x) (g y)) xs
+pub pairs_unmap : {X Y : Type 0} (R : Y → Y → Type 0) (g : X → Y) (xs : List X) → AllPairs R (map g xs) → AllPairs (λ x y. R (g x) (g y)) xs
 pairs_unmap R g xs h i j d m l =
     let long = length-map xs g in
     let n : i < length xs = omega arith in
@@ -62,7 +61,7 @@ rising_from_pairs : (xs : List ℕ) → AllPairs (λ x y. x < y) xs → IsRising
 rising_from_pairs [] h = tt
 rising_from_pairs (x ∷ xs) h = (above_from_all x xs (AllPairs-head (λ y z. y < z) x xs h), rising_from_pairs xs (AllPairs-tail (λ y z. y < z) x xs h))
 
-eqb_flips : (x y : ℕ) → eqb x y ≡ eqb y x
+pub eqb_flips : (x y : ℕ) → eqb x y ≡ eqb y x
 eqb_flips x y = same_test (eqb x y) (eqb y x) (λ t. eq-eqb y x (sym (eqb-true x y t))) (λ t. eq-eqb x y (sym (eqb-true y x t)))
 
 -- ---- bids that share no good
@@ -85,19 +84,28 @@ apart_from_pairs f (j ∷ js) h =
 
 -- ---- the numbers of a packing
 
+-- the bid of this number is kept, and the point is what it offers
+pub record IsPointOf (f : PlainFile) (dummy : Option ℕ) (atom : Atom (List ℕ)) (number : ℕ) : Type 0 where
+  pub point : IsPointBid f number
+  pub is : bid_at f number ≡ bid_from dummy atom
+
+-- the points at the places are inside the goods, share no good, and their prices add up to as much
+pub record ArePacked (atoms : List (Atom (List ℕ))) (goods : List ℕ) (price : ℕ) (places : List ℕ) : Type 0 where
+  pub within : All (λ p. p < length atoms) places
+  pub inside : All (λ a. IsInside a.bundle goods) (atoms_at atoms places)
+  pub apart : AllPairs (λ a b. AreApart a.bundle b.bundle) (atoms_at atoms places)
+  pub enough : price ≤ price_sum (atoms_at atoms places)
+
 pub record AreOfPacking (f : PlainFile) (goods : List ℕ) (price : ℕ) (js : List ℕ) : Type 0 where
   pub rising : IsRising js
   pub each : AllByRecursion (IsPointInside f goods) js
   pub apart : all_apart (goods_at f js) ≡ true
   pub enough : price ≤ sum_by (λ j. (bid_at f j).price) js
 
-module _ (f : PlainFile) (goods : List ℕ) (price : ℕ) (atoms : List (Atom (List ℕ))) (numbers places js : List ℕ)
-    (point : (p : ℕ) → p < length atoms → IsPointOf f None (atom_at atoms p) (get_or numbers p 0))
+module _ (f : PlainFile) (goods : List ℕ) (price : ℕ) (atoms : List (Atom (List ℕ))) (number : ℕ → ℕ) (places js : List ℕ)
+    (point : (p : ℕ) → p < length atoms → IsPointOf f None (atom_at atoms p) (number p))
     (some : (p : ℕ) → p < length atoms → 0 < length (atom_at atoms p).bundle)
-    (packing : IsPackingFor atoms goods price places) (same : IsPermutation (values_at numbers places) js) (sorted : IsSorted nat_cmp js) where
-  abbrev number : ℕ → ℕ
-  number p = get_or numbers p 0
-
+    (packing : ArePacked atoms goods price places) (same : IsPermutation (map number places) js) (sorted : IsSorted nat_cmp js) where
   goods_is : (p : ℕ) → p < length atoms → (bid_at f (number p)).goods ≡ (atom_at atoms p).bundle
   goods_is p l = ap (λ (b : PlainBid). b.goods) (point p l).is
 
@@ -108,9 +116,9 @@ module _ (f : PlainFile) (goods : List ℕ) (price : ℕ) (atoms : List (Atom (L
 
   pairs : AllPairs IsPair places
   pairs = λ i j d m l. record {
-    one = packing.packing.within i d (omega arith);
-    other = packing.packing.within j d l;
-    apart = pairs_unmap (λ a b. AreApart a.bundle b.bundle) (atom_at atoms) places packing.packing.apart i j d m l;
+    one = packing.within i d (omega arith);
+    other = packing.within j d l;
+    apart = pairs_unmap (λ a b. AreApart a.bundle b.bundle) (atom_at atoms) places packing.apart i j d m l;
   }
 
   share_none : (p q : ℕ) → IsPair p q → ShareNone f (number p) (number q)
@@ -125,38 +133,38 @@ module _ (f : PlainFile) (goods : List ℕ) (price : ℕ) (atoms : List (Atom (L
       let more = some p h.one in
       omega arith
 
-  shared : AllPairs (ShareNone f) (values_at numbers places)
+  shared : AllPairs (ShareNone f) (map number places)
   shared = AllPairs-map IsPair (ShareNone f) number share_none places pairs
 
-  different : AllPairs (λ i j. i ≡ j → ⊥) (values_at numbers places)
+  different : AllPairs (λ i j. i ≡ j → ⊥) (map number places)
   different = AllPairs-map IsPair (λ i j. i ≡ j → ⊥) number differ places pairs
 
   increasing : AllPairs (λ i j. i < j) js
   increasing =
-      let distinct = IsDistinct-IsPermutation eqb eqb_flips (values_at numbers places) js same
-      (IsDistinct-from_AllPairs Decides-eqb (values_at numbers places) different) in
+      let distinct = IsDistinct-IsPermutation eqb eqb_flips (map number places) js same
+      (IsDistinct-from_AllPairs Decides-eqb (map number places) different) in
       AllPairs-from_increasing js (IsStrictlyIncreasing-from_distinct js (IsNonDecreasingBy-from_sort (λ n. n) js sorted) distinct)
 
-  back : (j : ℕ) → Contains js j → Contains (values_at numbers places) j
-  back j c = Contains-permutation js (values_at numbers places) j (IsPermutation-sym (values_at numbers places) js same) c
+  back : (j : ℕ) → Contains js j → Contains (map number places) j
+  back j c = Contains-permutation js (map number places) j (IsPermutation-sym (map number places) js same) c
 
   shared_sorted : AllPairs (ShareNone f) js
   shared_sorted i j d m l =
       let up = increasing i j d m l in
       let n : i < length js = omega arith in
-      pairs_at (ShareNone f) (λ x y h. apart_sym (bid_at f x).goods (bid_at f y).goods h) (values_at numbers places) shared (get_or js i d) (get_or js j d)
+      pairs_at (ShareNone f) (λ x y h. apart_sym (bid_at f x).goods (bid_at f y).goods h) (map number places) shared (get_or js i d) (get_or js j d)
       (back (get_or js i d) (Contains-get_or js i d n)) (back (get_or js j d) (Contains-get_or js j d l)) (λ e. omega arith)
 
-  inside_each : All (IsPointInside f goods) (values_at numbers places)
+  inside_each : All (IsPointInside f goods) (map number places)
   inside_each = All-map (IsPointInside f goods) number places (λ k d l.
       let p = get_or places k d in
-      let within = packing.packing.within k d l in
+      let within = packing.within k d l in
       let of = point p within in
       record {
         or = ap (λ (b : PlainBid). b.dummy) of.is;
         point = of.point;
         inside = subst (λ (xs : List ℕ). IsInside xs goods) (sym (goods_is p within))
-            (all_unmap (λ a. IsInside a.bundle goods) (atom_at atoms) places packing.packing.inside k d l);
+            (all_unmap (λ a. IsInside a.bundle goods) (atom_at atoms) places packing.inside k d l);
       })
 
   sums : (ps : List ℕ) → All (λ p. p < length atoms) ps → sum_by (λ a. a.price) (map (atom_at atoms) ps) ≡ sum_by (λ j. (bid_at f j).price) (map number ps)
@@ -171,12 +179,12 @@ module _ (f : PlainFile) (goods : List ℕ) (price : ℕ) (atoms : List (Atom (L
 
   pub of_packing : AreOfPacking f goods price js
   of_packing =
-      let total = sums places packing.packing.within in
-      let moved = sum_by-IsPermutation (λ j. (bid_at f j).price) (values_at numbers places) js same in
+      let total = sums places packing.within in
+      let moved = sum_by-IsPermutation (λ j. (bid_at f j).price) (map number places) js same in
       let least = packing.enough in
       record {
         rising = rising_from_pairs js increasing;
-        each = recursion_from_All (IsPointInside f goods) js (All-permutation (IsPointInside f goods) (values_at numbers places) js same inside_each);
+        each = recursion_from_All (IsPointInside f goods) js (All-permutation (IsPointInside f goods) (map number places) js same inside_each);
         apart = apart_from_pairs f js shared_sorted;
         enough = omega arith;
       }

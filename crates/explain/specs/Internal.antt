@@ -1,6 +1,5 @@
 -- What the contracts of private functions cite. No public contract rests on them.
 pub mod BidOrders
 pub mod Deciding
-pub mod Keeping
-pub mod BidderPoints
-pub mod Known
+pub mod Starts
+pub mod Walks

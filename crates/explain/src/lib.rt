@@ -2,13 +2,13 @@
 #![tactic(auto)]
 
 mod best;
-mod dropping;
 mod explanation;
-mod kept;
-mod points;
+pub mod laws;
 mod reason;
+mod starts;
 #[cfg(test)]
 mod tests;
+mod walk;
 pub mod worked;
 
 pub use best::{NumberedBid, bids_in_order, number_of};

@@ -1,7 +1,7 @@
 //! Worked examples of the definitions, computed by the prover.
 
-ghost use Rattle.std.specs.Prelude.{◌≡◌, [], ◌∷◌, true, false};
-ghost use Rattle.explain.specs.Bids.{bid_at, is_best, is_better, are_alike};
+ghost use Rattle.std.specs.Prelude.{◌≡◌, [], ◌∷◌, true, false, None, Some};
+ghost use Rattle.explain.specs.Bids.{bid_at, best_number, is_best, is_better, are_alike};
 ghost use Rattle.explain.specs.Examples.{file, or_bid, xor_bid};
 ghost use Rattle.explain.specs.Reasons.{
   Explains,
@@ -15,6 +15,8 @@ ghost use Rattle.explain.specs.Reasons.{
   Inside,
   Packing,
   all_apart,
+  reason_of,
+  reasons_of,
 };
 ghost use Rattle.canon.specs.Renaming.{kept_bids, kept_dummies};
 
@@ -70,6 +72,27 @@ pub fn xor_bids()
         (Keep 1 ∷ Keep 0 ∷ []) }
     ensures or_bids_first { Explains (file 1 1 (xor_bid 0 (0 ∷ []) 3 ∷ or_bid (0 ∷ []) 3 ∷ []))
         (Keep 1 ∷ Keep 0 ∷ []) }
+{}
+
+/// The reason of each bid. A packing is the one that the bounded search finds: it goes through the points from the last
+/// to the first.
+#[tactic(auto, unfolding(prune::specs::Points::points_where, prune::specs::Points::is_xor_point, prune::specs::Points::is_or_point, valuation::specs::Values::xor_value, valuation::specs::Values::or_value, valuation::specs::SearchSteps::found_indices, prune::specs::Fates::found_places, prune::specs::Fates::or_fate, prune::specs::Fates::xor_fate, crate::specs::Reasons::reason_of))]
+pub fn reasons()
+    ensures of_or_bids { reasons_of (file 2 0
+        (or_bid (0 ∷ 1 ∷ []) 7 ∷ or_bid (1 ∷ []) 4 ∷ or_bid (0 ∷ []) 3 ∷ or_bid (1 ∷ []) 4 ∷ or_bid (0 ∷ []) 0 ∷ []))
+        ≡ Packing (1 ∷ 2 ∷ []) ∷ Keep 1 ∷ Keep 0 ∷ Same 1 ∷ Zero ∷ [] }
+    ensures last_points_first { reasons_of (file 3 0
+        (or_bid (0 ∷ []) 3 ∷ or_bid (1 ∷ []) 3 ∷ or_bid (2 ∷ []) 3 ∷ or_bid (0 ∷ 1 ∷ 2 ∷ []) 3 ∷ []))
+        ≡ Keep 0 ∷ Keep 1 ∷ Keep 2 ∷ Packing (2 ∷ []) ∷ [] }
+    ensures first_point_inside { reasons_of (file 2 1
+        (xor_bid 0 (0 ∷ 1 ∷ []) 3 ∷ xor_bid 0 (1 ∷ []) 4 ∷ xor_bid 0 (0 ∷ []) 3 ∷ []))
+        ≡ Inside 2 ∷ Keep 1 ∷ Keep 0 ∷ [] }
+    ensures equal_bidders { reasons_of (file 1 2 (xor_bid 1 (0 ∷ []) 3 ∷ xor_bid 0 (0 ∷ []) 3 ∷ xor_bid 1 (0 ∷ []) 2 ∷ []))
+        ≡ Keep 1 ∷ Keep 0 ∷ Same 0 ∷ [] }
+    ensures later_bidder_first { reasons_of (file 2 2 (xor_bid 1 (0 ∷ []) 3 ∷ xor_bid 0 (1 ∷ []) 3 ∷ or_bid (1 ∷ []) 3 ∷ []))
+        ≡ Keep 1 ∷ Keep 2 ∷ Keep 0 ∷ [] }
+    ensures best { best_number (file 1 1 (or_bid (0 ∷ []) 3 ∷ xor_bid 0 (0 ∷ []) 2 ∷ or_bid (0 ∷ []) 4 ∷ [])) None (0 ∷ [])
+        ≡ Some 2 }
 {}
 
 /// What is no reason.

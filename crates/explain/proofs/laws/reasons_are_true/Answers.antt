@@ -1,0 +1,7 @@
+use Rattle.explain.proofs.TrueReasons.{reasons_explain}
+use Rattle.explain.proofs.NextBest.{packing_within}
+use Rattle.explain.proofs.Turning.{turned}
+use Rattle.explain.proofs.laws.reasons_are_true.Goals as goal
+
+pub returns : goal.returns
+returns c = reasons_explain

@@ -1,0 +1,12 @@
+-- The first bids in order have their reasons.
+use Rattle.std.proofs.Common.{◌≡◌, length}
+use Rattle.explain.specs.Internal.Walks.{IsAt}
+use Rattle.explain.proofs.Reasoned.{HaveReasons}
+use Rattle.explain.proofs.walk.all_reasons.Given as goal
+
+abbrev pub invariant-loop-place : goal.invariant-loop-place
+invariant-loop-place l = record {
+  long : length l.reasons.items ≡ length l.known.file.now.bids;
+  each : HaveReasons l.known.file.now l.known.bids.items l.reasons.items l.place;
+  at : IsAt l.known.file.now l.known.bids.items l.place l.walk;
+}
