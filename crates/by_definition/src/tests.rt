@@ -3,7 +3,7 @@
 mod auctions;
 mod bids;
 mod families;
-mod point_index;
+mod fates;
 mod pruning;
 mod random;
 mod values;

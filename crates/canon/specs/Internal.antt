@@ -2,6 +2,7 @@
 -- them.
 pub mod BidderBids
 pub mod BidderKeys
+pub mod Fates
 pub mod KeyedBidders
 pub mod OrBids
 pub mod TextPlaces

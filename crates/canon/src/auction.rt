@@ -1,20 +1,23 @@
 //! The canonical auction, and which bidder is which.
 
-ghost use Rattle.std.specs.Prelude.{◌≡◌, ◌≤◌, ℕ, None, Some, All, IfOk, IfErr, OnOk, length, map};
+ghost use Rattle.std.specs.Prelude.{◌≡◌, ◌≤◌, ℕ, true, None, Some, [], All, IfOk, IfErr, OnOk, length, map};
 ghost use Rattle.bid_file.specs.declared.limits.TheConstants.{MAX_GOODS, MAX_DUMMY};
 ghost use Rattle.valuation.specs.Auctions.{IsAtom};
 ghost use Rattle.valuation.specs.Bidders.{bidders_of};
 ghost use Rattle.valuation.specs.Sorting.{sort_by};
 ghost use Rattle.valuation.specs.Views.{plain_auction};
+ghost use Rattle.prune.specs.Fates.{xor_fates};
 ghost use Rattle.prune.specs.Faults.{IfStepLimit};
 ghost use Rattle.prune.specs.SearchSteps.{first_heavy, first_refused};
 ghost use Rattle.canon.specs.Canonical.{IsCanonical, canonical_auction};
 ghost use Rattle.canon.specs.Sameness.{IsSameAuction};
+ghost use Rattle.canon.specs.Internal.Fates.{AreFates};
 ghost use Rattle.canon.specs.Internal.KeyedBidders.{kept_numbers, keyed_bidders, numbered_cmp, numbered_points};
 
+use crate::explained::BidderFates;
 use crate::keyed_bidder::KeyedBidder;
 use goods_set::GoodsSet;
-use prune::{PruneFault, prune_or_by, prune_xor};
+use prune::{FateLog, PruneFault, prune_or_by, prune_xor_noting};
 use std::alloc::{AllocError, Global};
 use valuation::{Atom, Auction, SearchOptions};
 
@@ -25,6 +28,8 @@ pub(crate) struct NamedAuction<S: GoodsSet> {
     pub(crate) auction: Auction<S>,
     /// For each of its XOR bidders the number of the bidder that it is of, counted from 0.
     pub(crate) dummies: Vec<u32>,
+    /// What became of the best bids, if that is wanted.
+    pub(crate) fates: BidderFates,
 }
 
 /// The canonical auction of an auction: of each bidder the points, without the XOR bidders of value zero, and the
@@ -43,14 +48,16 @@ pub fn canonical<S: GoodsSet>(
         IfErr result (λ fault. IfStepLimit fault (λ bundle. first_heavy a.goods limit a.or_atoms
         ≡ Some (S.goods bundle))) }
 {
-    Ok(named_canonical(alloc, auction, SearchOptions::plain(limit))?.auction)
+    Ok(named_canonical(alloc, auction, SearchOptions::plain(limit), false)?.auction)
 }
 
-/// The canonical auction of an auction, as `canonical`, by searches of any kind, and which bidder is which.
+/// The canonical auction of an auction, as `canonical`, by searches of any kind, which bidder is which, and what became of
+/// the best bids, if that is wanted.
 pub(crate) fn named_canonical<S: GoodsSet>(
     alloc: Global,
     auction: Auction<S>,
     options: SearchOptions,
+    with_fates: bool,
 ) -> Result<NamedAuction<S>, PruneFault<S>>
     ensures canonical { IfOk result (λ c. plain_auction c.auction ≡ canonical_auction (plain_auction auction)) }
     ensures fixed { IfOk result (λ c. IsCanonical (plain_auction c.auction)) }
@@ -60,32 +67,50 @@ pub(crate) fn named_canonical<S: GoodsSet>(
     ensures refused { let a = plain_auction auction in
         IfErr result (λ fault. IfStepLimit fault (λ bundle. first_refused options a.goods a.or_atoms
         ≡ Some (S.goods bundle))) }
+    ensures fates { IfOk result (λ c. with_fates ≡ true → AreFates options.kind (plain_auction auction) c.fates) }
 {
     let (goods, or_atoms, xor_bidders) = auction.into_parts();
-    let or_points = prune_or_by(alloc, or_atoms, options)?;
-    let mut bidders = points_of_each(alloc, xor_bidders)?;
+    let mut or_log = FateLog::new(alloc, with_fates);
+    let or_points = prune_or_by(alloc, or_atoms, options, &mut or_log)?;
+    let mut xor_log = FateLog::new(alloc, with_fates);
+    let mut bidders = points_of_each(alloc, xor_bidders, &mut xor_log)?;
     sort_bidders(&mut bidders);
     let dummies = dummies_of(alloc, &bidders)?;
     let xor_points = without_keys(alloc, bidders)?;
     let auction = Auction::new(goods, or_points, xor_points);
-    Ok(NamedAuction { auction, dummies })
+    let fates = BidderFates {
+        or: or_log.into_fates(),
+        xor: xor_log.into_fates(),
+    };
+    Ok(NamedAuction {
+        auction,
+        dummies,
+        fates,
+    })
 }
 
-/// The points of each bidder that has any, with its number.
+/// The points of each bidder that has any, with its number. It notes in a new log what becomes of the best bids of each.
 fn points_of_each<S: GoodsSet>(
     alloc: Global,
     bidders: Vec<Vec<Atom<S>>>,
+    log: &mut FateLog<Vec<Option<usize>>>,
 ) -> Result<Vec<KeyedBidder<S>>, AllocError>
+    requires empty { log.old.fates.items ≡ [] }
     requires few { length bidders.items ≤ MAX_DUMMY }
     requires atoms { All (All (IsAtom MAX_GOODS)) (bidders_of S.goods bidders.items) }
     // For each number of goods that the atoms are within.
-    ensures { let atoms = bidders_of S.goods bidders.items in
+    ensures points { let atoms = bidders_of S.goods bidders.items in
         IfOk result (λ points. (goods : ℕ) → All (All (IsAtom goods)) atoms
         → keyed_bidders points.items ≡ numbered_points goods atoms) }
+    ensures fates { let atoms = bidders_of S.goods bidders.items in
+        OnOk result (log.old.wanted ≡ true → (goods : ℕ) → All (All (IsAtom goods)) atoms
+        → map (λ own. own.items) log.new.fates.items ≡ map (xor_fates goods) atoms) }
 {
     let mut points = Vec::with_capacity(alloc, bidders.len())?;
     for (dummy, bidder) in bidders.into_iter().enumerate() {
-        let own = prune_xor(alloc, bidder)?;
+        let mut own_log = FateLog::new(alloc, log.is_wanted());
+        let own = prune_xor_noting(alloc, bidder, &mut own_log)?;
+        log.note(own_log.into_fates())?;
         if !own.is_empty() {
             points.push(KeyedBidder::new(dummy as u32, own))?;
         }

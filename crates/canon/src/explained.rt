@@ -1,17 +1,20 @@
 //! The canonical file, and what became of the bids of the file.
 
-ghost use Rattle.std.specs.Prelude.{◌≡◌, IfOk, map};
+ghost use Rattle.std.specs.Prelude.{◌≡◌, ◌≤◌, true, IfOk, map};
 ghost use Rattle.std.specs.List.{range_with_len};
-ghost use Rattle.valuation.specs.Auctions.{or_atoms_of, xor_atoms_of};
+ghost use Rattle.valuation.specs.Auctions.{auction_from, or_atoms_of, xor_atoms_of};
 ghost use Rattle.prune.specs.Fates.{or_fates, plain_fate, xor_fates};
 ghost use Rattle.canon.specs.Answers.{NormalisesPlainAs, unexplained_answer};
+ghost use Rattle.canon.specs.Internal.Fates.{AreFates};
 ghost use Rattle.canon.specs.Renaming.{kept_dummies};
 
 use crate::canon_fault::CanonFault;
 use crate::named::NamedFile;
-use bid_file::PackedFile;
+use crate::normal::normal_auction_file;
+use bid_file::{MAX_GOODS, PackedFile};
+use goods_set::GoodsSet;
 use std::alloc::Global;
-use valuation::SearchOptions;
+use valuation::{Auction, SearchOptions, auction_of, on_set_for};
 
 /// What became of the best bids of each bidder of a file.
 #[derive(Drop)]
@@ -44,5 +47,36 @@ pub fn explained_normal_file(
         IfOk result (λ e. map (λ fates. fates.items) e.fates.xor.items
         ≡ map (λ d. xor_fates f.goods (xor_atoms_of f.bids d)) (range_with_len 0 f.dummy)) }
 {
-    Err(CanonFault::Memory)
+    explained_file(alloc, file, options, true)
+}
+
+/// The same, with what became of the best bids only if that is wanted.
+pub(crate) fn explained_file(
+    alloc: Global,
+    file: &PackedFile,
+    options: SearchOptions,
+    with_fates: bool,
+) -> Result<ExplainedFile, CanonFault>
+    ensures answer { NormalisesPlainAs options file.now (unexplained_answer result) }
+    ensures dummies { IfOk result (λ e. e.named.dummies.items ≡ kept_dummies file.now) }
+    ensures fates { IfOk result (λ e. with_fates ≡ true → AreFates options.kind (auction_from file.now) e.fates) }
+{
+    prove!(file.goods() <= MAX_GOODS);
+    on_set_for!(file, explained_file_on(alloc, file, options, with_fates))
+}
+
+/// The same by sets of one kind.
+fn explained_file_on<S: GoodsSet>(
+    alloc: Global,
+    file: &PackedFile,
+    options: SearchOptions,
+    with_fates: bool,
+) -> Result<ExplainedFile, CanonFault>
+    requires { file.now.goods ≤ S.CAP }
+    ensures answer { NormalisesPlainAs options file.now (unexplained_answer result) }
+    ensures dummies { IfOk result (λ e. e.named.dummies.items ≡ kept_dummies file.now) }
+    ensures fates { IfOk result (λ e. with_fates ≡ true → AreFates options.kind (auction_from file.now) e.fates) }
+{
+    let auction: Auction<S> = auction_of(alloc, file)?;
+    normal_auction_file(alloc, auction, options, with_fates)
 }

@@ -1,15 +1,14 @@
 //! The canonical file, and which source bidder each of its bidders is.
 
-ghost use Rattle.std.specs.Prelude.{◌≡◌, ◌≤◌, IfOk};
+ghost use Rattle.std.specs.Prelude.{◌≡◌, IfOk};
 ghost use Rattle.canon.specs.Answers.{NormalisesPlainAs, unnamed_answer};
 ghost use Rattle.canon.specs.Renaming.{kept_dummies};
 
 use crate::canon_fault::CanonFault;
-use crate::normal::normal_auction_file;
-use bid_file::{MAX_GOODS, PackedFile};
-use goods_set::GoodsSet;
+use crate::explained::explained_file;
+use bid_file::PackedFile;
 use std::alloc::Global;
-use valuation::{Auction, SearchOptions, auction_of, on_set_for};
+use valuation::SearchOptions;
 
 /// The canonical file of a file, with the dummy goods that its bidders have there.
 #[derive(Drop)]
@@ -30,20 +29,5 @@ pub fn named_normal_file(
     ensures answer { NormalisesPlainAs options file.now (unnamed_answer result) }
     ensures dummies { IfOk result (λ named. named.dummies.items ≡ kept_dummies file.now) }
 {
-    prove!(file.goods() <= MAX_GOODS);
-    on_set_for!(file, named_file_on(alloc, file, options))
-}
-
-/// The canonical file of a packed file, and which bidder is which, by sets of one kind.
-fn named_file_on<S: GoodsSet>(
-    alloc: Global,
-    file: &PackedFile,
-    options: SearchOptions,
-) -> Result<NamedFile, CanonFault>
-    requires { file.now.goods ≤ S.CAP }
-    ensures answer { NormalisesPlainAs options file.now (unnamed_answer result) }
-    ensures dummies { IfOk result (λ named. named.dummies.items ≡ kept_dummies file.now) }
-{
-    let auction: Auction<S> = auction_of(alloc, file)?;
-    normal_auction_file(alloc, auction, options)
+    Ok(explained_file(alloc, file, options, false)?.named)
 }

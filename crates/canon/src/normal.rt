@@ -1,19 +1,21 @@
 //! The canonical file of a file.
 
-ghost use Rattle.std.specs.Prelude.{◌≡◌, ◌≤◌, None, IfOk, IfErr, OnOk};
+ghost use Rattle.std.specs.Prelude.{◌≡◌, ◌≤◌, true, None, IfOk, IfErr, OnOk};
 ghost use Rattle.bid_file.specs.Views.{plain_file};
 ghost use Rattle.valuation.specs.SearchLimits.{plain_options};
 ghost use Rattle.valuation.specs.Views.{plain_auction};
 ghost use Rattle.prune.specs.SearchSteps.{first_refused};
 ghost use Rattle.canon.specs.Answers.{NormalisesAuctionAs, NormalisesFileAs, NormalisesPlainAs, RefusesAuction};
-ghost use Rattle.canon.specs.Answers.{unnamed_answer};
+ghost use Rattle.canon.specs.Answers.{unexplained_answer};
 ghost use Rattle.canon.specs.Canonical.{IsCanonical, IsCanonicalFile, canonical_auction};
+ghost use Rattle.canon.specs.Internal.Fates.{AreFates};
 ghost use Rattle.canon.specs.Internal.KeyedBidders.{kept_numbers};
 ghost use Rattle.canon.specs.Least.{IsLeastFor};
 ghost use Rattle.canon.specs.Sameness.{AreSameFiles};
 
 use crate::auction::{NamedAuction, named_canonical};
 use crate::canon_fault::CanonFault;
+use crate::explained::ExplainedFile;
 use crate::file::packed_file_of;
 use crate::named::NamedFile;
 use bid_file::{BidFile, PackedFile, pack};
@@ -61,22 +63,30 @@ fn normal_file_on<S: GoodsSet>(
 {
     let auction: Auction<S> = auction_of(alloc, &file)?;
     mem::drop(file);
-    Ok(normal_auction_file(alloc, auction, options)?.file)
+    let explained = normal_auction_file(alloc, auction, options, false)?;
+    Ok(explained.named.file)
 }
 
-/// The canonical file of an auction, and which bidder is which.
+/// The canonical file of an auction, which bidder is which, and what became of the best bids, if that is wanted.
 pub(crate) fn normal_auction_file<S: GoodsSet>(
     alloc: Global,
     auction: Auction<S>,
     options: SearchOptions,
-) -> Result<NamedFile, CanonFault>
-    ensures answer { NormalisesAuctionAs options (plain_auction auction) (unnamed_answer result) }
-    ensures dummies { IfOk result (λ named. named.dummies.items ≡ kept_numbers (plain_auction auction)) }
-    ensures canonical { IfOk result (λ named. IsCanonicalFile named.file) }
+    with_fates: bool,
+) -> Result<ExplainedFile, CanonFault>
+    ensures answer { NormalisesAuctionAs options (plain_auction auction) (unexplained_answer result) }
+    ensures dummies { IfOk result (λ e. e.named.dummies.items ≡ kept_numbers (plain_auction auction)) }
+    ensures canonical { IfOk result (λ e. IsCanonicalFile e.named.file) }
+    ensures fates { IfOk result (λ e. with_fates ≡ true → AreFates options.kind (plain_auction auction) e.fates) }
 {
-    let NamedAuction { auction, dummies } = canonical_within_limits(alloc, auction, options)?;
+    let NamedAuction {
+        auction,
+        dummies,
+        fates,
+    } = canonical_within_limits(alloc, auction, options, with_fates)?;
     let file = packed_file_of(alloc, &auction)?;
-    Ok(NamedFile { file, dummies })
+    let named = NamedFile { file, dummies };
+    Ok(ExplainedFile { named, fates })
 }
 
 /// The canonical auction, if no bundle is refused.
@@ -84,6 +94,7 @@ fn canonical_within_limits<S: GoodsSet>(
     alloc: Global,
     auction: Auction<S>,
     options: SearchOptions,
+    with_fates: bool,
 ) -> Result<NamedAuction<S>, CanonFault>
     ensures canonical { IfOk result (λ c. plain_auction c.auction ≡ canonical_auction (plain_auction auction)) }
     ensures fixed { IfOk result (λ c. IsCanonical (plain_auction c.auction)) }
@@ -91,8 +102,9 @@ fn canonical_within_limits<S: GoodsSet>(
     ensures within_limits { let a = plain_auction auction in
         OnOk result (first_refused options a.goods a.or_atoms ≡ None) }
     ensures refused { IfErr result (λ fault. RefusesAuction options (plain_auction auction) fault) }
+    ensures fates { IfOk result (λ c. with_fates ≡ true → AreFates options.kind (plain_auction auction) c.fates) }
 {
-    match named_canonical(alloc, auction, options) {
+    match named_canonical(alloc, auction, options, with_fates) {
         Ok(canonical) => Ok(canonical),
         Err(PruneFault::StepLimit { bundle }) => Err(CanonFault::StepLimit {
             goods: goods_of(alloc, &bundle)?,

@@ -18,7 +18,7 @@ use Rattle.goods_set.specs.Orders.{bundle_cmp}
 use Rattle.goods_set.specs.Lemmas.Orders.{bundle_cmp_total, bundle_cmp_refl, bundle_cmp_equal, nat_cmp-lt}
 use Rattle.valuation.specs.declared.atom.Atom.{Atom}
 use Rattle.valuation.specs.Lemmas.Lists.{Contains-cons_cases, AllPairs-nil, AllPairs-cons, AllPairs-head, AllPairs-tail, AllPairs-map}
-use Rattle.prune.specs.Lemmas.Lists.{Contains-nil, Contains-head, Contains-tail, Contains-filter, Contains-filter_parts, All-from_Contains}
+use Rattle.prune.specs.Lemmas.Lists.{map-filter, Contains-nil, Contains-head, Contains-tail, Contains-filter, Contains-filter_parts, All-from_Contains}
 use Rattle.prune.specs.InOrder.{IsBefore, IsInOrder}
 use Rattle.prune.specs.Internal.BestBids.{bid_cmp, AreBestBids}
 
@@ -182,15 +182,6 @@ best_from_sorted bids sorted p up =
 -- ---- bids of the code, seen by the goods of their sets
 
 module _ {X : Type 0} (seen : X → Atom (List ℕ)) where
-  pub map-filter : (p : Atom (List ℕ) → Bool) (xs : List X) → map seen (filter (λ x. p (seen x)) xs) ≡ filter p (map seen xs)
-  map-filter p [] = refl
-  map-filter p (x ∷ xs) =
-      elim (p (seen x)) as (λ b. map seen (cond b (x ∷ filter (λ x. p (seen x)) xs) (filter (λ x. p (seen x)) xs)) ≡ cond b (seen x ∷ filter p (map seen xs))
-      (filter p (map seen xs))) [
-        | true ↦ ap (λ (zs : List (Atom (List ℕ))). seen x ∷ zs) (map-filter p xs)
-        | false ↦ map-filter p xs
-      ]
-
   map-dedup_from : (same : Atom (List ℕ) → Atom (List ℕ) → Bool) (k : X) (xs : List X) → map seen (dedup_from (λ x y. same (seen x) (seen y)) k xs)
       ≡ dedup_from same (seen k) (map seen xs)
   map-dedup_from same k [] = refl
@@ -222,7 +213,7 @@ module _ {X : Type 0} (seen : X → Atom (List ℕ)) where
       → best ≡ dedup (λ x y. is_in_bundle (seen x) (seen y)) sorted → AreBestBids (map seen bids) (map seen best)
   best_from_steps bids priced sorted best ordered e p up d =
       let moved : IsPermutation (filter has_price (map seen bids)) (map seen sorted) =
-      subst (λ (zs : List (Atom (List ℕ))). IsPermutation zs (map seen sorted)) (ap (map seen) e ∙ map-filter has_price bids)
+      subst (λ (zs : List (Atom (List ℕ))). IsPermutation zs (map seen sorted)) (ap (map seen) e ∙ map-filter seen has_price bids)
       (IsPermutation-map seen priced sorted p) in
       let pairs : AllPairs (λ earlier later. is_bid_before (seen later) (seen earlier) ≡ false) sorted =
       λ i j z l m. sorted_far (λ x y. is_bid_before (seen x) (seen y)) (ranks_by bid_cmp_total seen) sorted up i j z (omega arith) m in

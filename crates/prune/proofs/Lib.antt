@@ -1,12 +1,13 @@
 -- Proofs that several functions of this crate cite.
 pub mod Pruning
 pub mod BestBids
+pub mod FirstDominating
 pub mod ListedAtoms
 pub mod WrittenPostings
 pub mod Results
 pub mod Refusals
 pub mod Prefixes
 pub mod PruningLoop
-pub mod PointPlaces
+pub mod Fates
 pub mod WorkedPostings
 pub mod SearchedPlaces

@@ -4,16 +4,15 @@ use Rattle.std.proofs.Common.{◌≡◌, ◌≢◌, ℕ, zero, suc, ◌+◌, ◌
 use Rattle.std.proofs.Common.{Bor, eqb, ◌⊎◌, inl, inr, ⊎_elim, List, [], ◌∷◌, ◌++◌, length, map, get_or, refl, sym, ap, ◌∙◌, subst, subst₂, arith, Some, None}
 use Rattle.std.proofs.Common.{nat_cmp, Less, Greater}
 use Rattle.std.specs.Prelude.{All, AllPairs, Contains, IsPermutation}
-use Rattle.std.specs.List.{filter, list_any, range_with_len, slice_get}
+use Rattle.std.specs.List.{filter, range_with_len, slice_get}
 use Rattle.std.specs.List.Sorted.{IsSorted}
-use Rattle.std.proofs.lemmas.Bool.{cases_lt, cases_eq, both_ways, and_parts, and_from, and_right, or_from, false_from_ne_true}
+use Rattle.std.proofs.lemmas.Bool.{cases_lt, cases_eq, both_ways, and_parts, and_from, and_right, false_from_ne_true}
 use Rattle.std.proofs.lemmas.Bool.{eqb-true, eq-eqb, le-leb, lt-leb}
 use Rattle.std.specs.Cmp.{both_ways as same_test}
 use Rattle.std.proofs.lemmas.Bool.Decides.{Decides-eqb}
-use Rattle.std.proofs.lemmas.List.{map_push, take_more, get_or-map, get_or_append_left, get_or_push, get_or_default, length-map, length_push}
+use Rattle.std.proofs.lemmas.List.{map_push, take_more, get_or-map, get_or_append_left, get_or_push, length-map, length_push}
 use Rattle.std.proofs.lemmas.List.Elements.{filter_more, Contains-get_or, All-append, All-contains, All-filter, All-weaker, Contains-append_left}
 use Rattle.std.proofs.lemmas.List.Elements.{Contains-append_right, Contains-push_cases, Contains-push}
-use Rattle.std.proofs.lemmas.List.Folds.{list_any_none, list_any_more}
 use Rattle.std.proofs.lemmas.Option.{slice_get-get_or, slice_get_past}
 use Rattle.std.proofs.lemmas.List.FromFn.{fill_by_all}
 use Rattle.std.proofs.lemmas.List.Kept.{AllPairs-from_increasing, AllPairs-filter}
@@ -34,13 +33,11 @@ use Rattle.valuation.specs.Lemmas.Atoms.{get_or-atoms_of}
 use Rattle.valuation.specs.Lemmas.Lists.{AllPairs-head, AllPairs-tail, AllPairs-append, Contains-map, Contains-unmap}
 use Rattle.prune.specs.declared.posting.Posting.{Posting}
 use Rattle.prune.specs.InOrder.{IsInOrder}
-use Rattle.prune.specs.Internal.Listings.{listed_at, indices_of, places_at, atom_at, is_inside_at, dominates, dominates_at, IsListed, IsPosting, AreListed}
+use Rattle.prune.specs.Internal.Listings.{listed_at, places_at, atom_at, is_inside_at, dominates_at, IsListed, IsPosting, AreListed}
 use Rattle.prune.specs.Internal.Listings.{AreGoodsOf, IsBehind, NoneInsideFrom}
 use Rattle.prune.specs.Lemmas.InOrder.{before_itself}
-use Rattle.prune.specs.Lemmas.Lists.{Contains-head, Contains-tail, Contains-filter, Contains-filter_parts, All-from_Contains, list_any_found, list_any_has}
-use Rattle.prune.specs.Lemmas.Lists.{list_any_fails}
+use Rattle.prune.specs.Lemmas.Lists.{map-filter, Contains-head, Contains-tail, Contains-filter, Contains-filter_parts, All-from_Contains}
 use Rattle.prune.specs.Lemmas.KeptBids.{has_from_Contains}
-use Rattle.prune.proofs.BestBids.{map-filter}
 
 -- ---- lists of places
 
@@ -81,6 +78,9 @@ has_range a (suc n) g h =
 
 -- ---- the search through the goods of a bundle
 
+rising_differ : (xs : List ℕ) → AllPairs (λ one other. one < other) xs → AllPairs (λ one other. one ≢ other) xs
+rising_differ xs rising i j d l m e = let less = rising i j d l m in omega (arith, e)
+
 -- what was found at the goods below `from`
 pub record IsFinding (lists : List (List Posting)) (atoms : List (Atom (List ℕ))) (bundle : List ℕ) (from : ℕ) (found : List ℕ) : Type 0 where
   pub sound : All (λ place. (is_inside_at atoms bundle place ≡ true) × (place < length atoms)) found
@@ -115,7 +115,7 @@ IsFinding-more lists listed atoms bundle from good found more a r next e f =
           × Contains (places_at lists other) place) (λ place h. let l : h.0 < from = h.1 in (h.0, omega arith, h.2)) found f.earlier)
           (All-from_Contains (λ place. (other : ℕ) × (other < good + 1) × Contains (places_at lists other) place) new
           (λ place c. (good, omega arith, (Contains-filter_parts p (places_at lists good) place c).0)));
-      once = AllPairs-append (λ one other. one ≢ other) found new f.once (AllPairs-filter (λ one other. one ≢ other) p (places_at lists good) (a.once good))
+      once = AllPairs-append (λ one other. one ≢ other) found new f.once (AllPairs-filter (λ one other. one ≢ other) p (places_at lists good) (rising_differ (places_at lists good) (a.rising good)))
           (All-from_Contains (λ one. All (λ other. one ≢ other) new) found (λ one c. All-from_Contains (λ other. one ≢ other) new (λ other d q.
           let h = All-contains (λ place. (other : ℕ) × (other < from) × Contains (places_at lists other) place) found one f.earlier c in
           let there : Contains (places_at lists good) one =
@@ -167,7 +167,7 @@ behind_next goods bundle i e =
     ap (λ (xs : List ℕ). get_or xs i 0 + 1) e ∙ ap (behind_first bundle) next
 
 -- an atom inside the bundle is listed
-is_listed : (listed : ℕ) (atoms : List (Atom (List ℕ))) (bundle : List ℕ) → NoneInsideFrom listed atoms bundle → (place : ℕ) → place < length atoms
+pub is_listed : (listed : ℕ) (atoms : List (Atom (List ℕ))) (bundle : List ℕ) → NoneInsideFrom listed atoms bundle → (place : ℕ) → place < length atoms
     → is_inside_at atoms bundle place ≡ true → place < listed
 is_listed listed atoms bundle unlisted place l t =
     ⊎_elim (λ (m : place < listed). m)
@@ -175,7 +175,7 @@ is_listed listed atoms bundle unlisted place l t =
     (cases_lt place listed)
 
 -- the good at which an atom inside the bundle is listed has been visited
-listed_before : (lists : List (List Posting)) (listed : ℕ) (atoms : List (Atom (List ℕ))) (bundle : List ℕ) (from place : ℕ) → AreListed lists listed atoms
+pub listed_before : (lists : List (List Posting)) (listed : ℕ) (atoms : List (Atom (List ℕ))) (bundle : List ℕ) (from place : ℕ) → AreListed lists listed atoms
     → good_from bundle from ≡ None → place < listed → is_inside_at atoms bundle place ≡ true → (good : ℕ) × (has_good bundle good ≡ true) × (good < from)
     × Contains (places_at lists good) place
 listed_before lists listed atoms bundle from place a none l t =
@@ -215,47 +215,6 @@ IsFinding-all lists listed atoms bundle from found sorted a unlisted none f p up
     let l = listed_before lists listed atoms bundle from g a none within t.0 in
     has_from_Contains sorted g (Contains-permutation found sorted g p (f.complete l.0 g l.1 l.2 l.3 t.0)))
 
--- ---- an atom inside the bundle of at least a price
-
--- none is listed at the goods below `from`
-abbrev pub NoneDominates : List (List Posting) → List (Atom (List ℕ)) → List ℕ → ℕ → ℕ → Type 0
-NoneDominates lists atoms bundle price from = (good place : ℕ) → has_good bundle good ≡ true → good < from → Contains (places_at lists good) place
-    → dominates_at atoms bundle price place ≡ false
-
-pub NoneDominates-more : (lists : List (List Posting)) (atoms : List (Atom (List ℕ))) (bundle : List ℕ) (price from good : ℕ) → IsRising bundle
-    → good_from bundle from ≡ Some good → list_any (dominates_at atoms bundle price) (places_at lists good) ≡ false
-    → NoneDominates lists atoms bundle price from
-    → NoneDominates lists atoms bundle price (good + 1)
-NoneDominates-more lists atoms bundle price from good r next e h g place has l c =
-    let n : IsNextGood bundle from good = good_from-Some bundle from good r next in
-    ⊎_elim (λ (q : g ≡ good). list_any_fails (dominates_at atoms bundle price) (places_at lists good) e place
-    (subst (λ m. Contains (places_at lists m) place) q c))
-    (λ (d : g ≡ good → ⊥). ⊎_elim (λ (m : g < from). h g place has m c)
-    (λ (m : from ≤ g). absurd (both_ways (has_good bundle g) (n.least g m (omega arith)) has)) (cases_lt g from))
-    (cases_eq g good)
-
--- all goods are done: none is there
-pub NoneDominates-all : (lists : List (List Posting)) (listed : ℕ) (atoms : List (Atom (List ℕ))) (bundle : List ℕ) (price from : ℕ)
-    → AreListed lists listed atoms
-    → NoneInsideFrom listed atoms bundle → good_from bundle from ≡ None → NoneDominates lists atoms bundle price from
-    → list_any (dominates bundle price) atoms ≡ false
-NoneDominates-all lists listed atoms bundle price from a unlisted none h =
-    list_any_none (dominates bundle price) atoms (λ place d l.
-    false_from_ne_true (dominates bundle price (get_or atoms place d)) (λ t.
-    let here : dominates_at atoms bundle price place ≡ true = ap (dominates bundle price) (get_or_default atoms place (record { bundle = []; price = 0 }) d l)
-    ∙ t in
-    let inside = (and_parts (leb price (atom_at atoms place).price) (is_inside_at atoms bundle place) here).1 in
-    let at = listed_before lists listed atoms bundle from place a none (is_listed listed atoms bundle unlisted place l inside) inside in
-    both_ways (dominates_at atoms bundle price place) (h at.0 place at.1 at.2 at.3) here))
-
--- one is listed at a good
-pub one_dominates : (lists : List (List Posting)) (listed : ℕ) (atoms : List (Atom (List ℕ))) (bundle : List ℕ) (price good : ℕ) → AreListed lists listed atoms
-    → list_any (dominates_at atoms bundle price) (places_at lists good) ≡ true → list_any (dominates bundle price) atoms ≡ true
-one_dominates lists listed atoms bundle price good a e =
-    let r = list_any_found (dominates_at atoms bundle price) (places_at lists good) e in
-    list_any_has (dominates bundle price) atoms (atom_at atoms r.0)
-    (Contains-get_or atoms r.0 (record { bundle = []; price = 0 }) (place_within lists listed atoms good r.0 a r.1)) r.2
-
 -- ---- the atoms at the places found
 
 pub places_in_list : (atoms : List (Atom (List ℕ))) (bundle places : List ℕ) → places ≡ filter (is_inside_at atoms bundle) (range_with_len 0 (length atoms))
@@ -286,7 +245,7 @@ AreListed-push lists listed atoms a h =
           subst (λ (b : Atom (List ℕ)). IsListed lists b.bundle place) (sym (get_or_append_left atoms (a ∷ []) d place (omega arith))) (h.each place l);
       right = λ g posting c. still_right (h.right g posting c);
       no_more = h.no_more;
-      once = h.once;
+      rising = h.rising;
       one_good = h.one_good;
     }
   where
@@ -385,14 +344,14 @@ module _ (lists more : List (List Posting)) (listed : ℕ) (atoms : List (Atom (
               ⊎_elim (λ (k : Contains (places_at lists g) spot). let l = h.no_more g spot k in omega (arith, l))
               (λ (k : (g ≡ good) × (spot ≡ listed)). let e : spot ≡ listed = k.1 in omega arith)
               (place_cases g spot c);
-          once = λ g.
+          rising = λ g.
               ⊎_elim
-              (λ (e : g ≡ good). subst (λ (zs : List ℕ). AllPairs (λ one other. one ≢ other) zs) (sym (ap (λ m. places_at more m) e ∙ ap (map place_of) there
+              (λ (e : g ≡ good). subst (λ (zs : List ℕ). AllPairs (λ one other. one < other) zs) (sym (ap (λ m. places_at more m) e ∙ ap (map place_of) there
               ∙ map_push place_of (listed_at lists good) new))
-              (all_pairs_push (λ one other. one ≢ other) (places_at lists good) new.index (h.once good) (λ k d l q.
+              (all_pairs_push (λ one other. one < other) (places_at lists good) new.index (h.rising good) (λ k d l.
               let w = h.no_more good (get_or (places_at lists good) k d) (Contains-get_or (places_at lists good) k d l) in
               omega (arith, w))))
-              (λ (n : g ≡ good → ⊥). subst (λ (zs : List Posting). AllPairs (λ one other. one ≢ other) (map place_of zs)) (sym (others g n)) (h.once g))
+              (λ (n : g ≡ good → ⊥). subst (λ (zs : List Posting). AllPairs (λ one other. one < other) (map place_of zs)) (sym (others g n)) (h.rising g))
               (cases_eq g good);
           one_good = λ g o spot c k. both g o spot (place_cases g spot c) (place_cases o spot k);
         }
@@ -462,15 +421,6 @@ postings_right lists count atoms good postings a e =
 pub not_inside : (atoms : List (Atom (List ℕ))) (bundle : List ℕ) (price : ℕ) (posting : Posting) → is_inside_at atoms bundle posting.index ≡ false
     → dominates_at atoms bundle price posting.index ≡ false
 not_inside atoms bundle price posting t = and_right (leb price (atom_at atoms posting.index).price) (is_inside_at atoms bundle posting.index) t
-
-pub one_listed : (listed : List Posting) (i : ℕ) (d : Posting) (p : ℕ → Bool) → i < length listed → p (get_or listed i d).index ≡ true
-    → list_any p (indices_of listed) ≡ true
-one_listed listed i d p l t =
-    list_any_has p (indices_of listed) (get_or listed i d).index (Contains-map place_of listed (get_or listed i d) (Contains-get_or listed i d l)) t
-
-pub none_more : (p : ℕ → Bool) (xs : List ℕ) (i place : ℕ) → i < length xs → get_or xs i 0 ≡ place → list_any p (take i xs) ≡ false → p place ≡ false
-    → list_any p (take (i + 1) xs) ≡ false
-none_more p xs i place l is h t = list_any_more p xs i 0 l ∙ or_from (list_any p (take i xs)) (p (get_or xs i 0)) h (ap p is ∙ t)
 
 -- ---- the atoms at the places found so far
 

@@ -5,7 +5,7 @@ use Rattle.std.proofs.Common.{◌≡◌, ℕ, ◌<◌, ◌≤◌, Bool, true, fa
 use Rattle.std.specs.Prelude.{All, Contains}
 use Rattle.std.specs.List.{filter}
 use Rattle.std.proofs.lemmas.Bool.{cases_lt, and_left, and_right, false_from_ne_true, not_from_true}
-use Rattle.std.proofs.lemmas.List.Elements.{All-nil, All-cons, All-head, All-tail, All-push, All-contains, All-weaker, filter-append, Contains-append_left}
+use Rattle.std.proofs.lemmas.List.Elements.{All-nil, All-cons, All-head, All-tail, All-push, All-contains, All-weaker, Contains-append_left}
 use Rattle.std.proofs.lemmas.List.Elements.{Contains-append_right, Contains-push}
 use Rattle.std.proofs.lemmas.List.Quantifiers.{all_pairs_push}
 use Rattle.goods_set.specs.Bundles.{IsRising, is_inside, IsInside}
@@ -13,7 +13,8 @@ use Rattle.goods_set.specs.Lemmas.Members.{inside_refl}
 use Rattle.valuation.specs.declared.atom.Atom.{Atom}
 use Rattle.valuation.specs.Lemmas.Lists.{AllPairs-nil, AllPairs-head, AllPairs-tail}
 use Rattle.prune.specs.SearchSteps.{is_below, atoms_below}
-use Rattle.prune.specs.Lemmas.Lists.{filter-lost, filter_same_on, All-from_Contains, Contains-head}
+use Rattle.prune.specs.Lemmas.Fates.{atoms_below-push}
+use Rattle.prune.specs.Lemmas.Lists.{All-from_Contains, Contains-head}
 use Rattle.prune.specs.InOrder.{IsBefore, IsInOrder}
 use Rattle.prune.specs.Lemmas.InOrder.{before_not_inside}
 
@@ -55,23 +56,14 @@ pub later_not_below : (earlier later : Atom (List ℕ)) → HasRisingBundle earl
 later_not_below earlier later r s l = and_left (is_inside later.bundle earlier.bundle) (not (is_inside earlier.bundle later.bundle))
     (false_from_ne_true (is_inside later.bundle earlier.bundle) (λ i. before_not_inside earlier.bundle later.bundle r s l i))
 
--- an atom that is not below the bundle does not matter there
-pub below_push : (kept : List (Atom (List ℕ))) (x : Atom (List ℕ)) (bundle : List ℕ) → is_below x.bundle bundle ≡ false
-    → atoms_below (kept ++ x ∷ []) bundle ≡ atoms_below kept bundle
-below_push kept x bundle n =
-    filter-append (λ a. is_below a.bundle bundle) kept (x ∷ [])
-    ∙ ap (λ (zs : List (Atom (List ℕ))). atoms_below kept bundle ++ zs) (filter-lost (λ (a : Atom (List ℕ)). is_below a.bundle bundle) x [] n)
-    ∙ append_nil (atoms_below kept bundle)
-
--- of earlier atoms those inside the bundle are those below it
-pub inside_is_below : (kept : List (Atom (List ℕ))) (x : Atom (List ℕ)) → All HasRisingBundle kept → HasRisingBundle x → All (λ a. IsBefore a x) kept
-    → filter (λ a. is_inside a.bundle x.bundle) kept ≡ atoms_below kept x.bundle
-inside_is_below kept x rising r before =
-    filter_same_on (λ a. is_inside a.bundle x.bundle) (λ a. is_below a.bundle x.bundle) kept
-    (All-from_Contains (λ a. is_inside a.bundle x.bundle ≡ is_below a.bundle x.bundle) kept (λ a c.
+-- earlier atoms are inside the bundle if they are below it
+pub inside_below : (kept : List (Atom (List ℕ))) (x : Atom (List ℕ)) → All HasRisingBundle kept → HasRisingBundle x → All (λ a. IsBefore a x) kept
+    → All (λ a. is_inside a.bundle x.bundle ≡ is_below a.bundle x.bundle) kept
+inside_below kept x rising r before =
+    All-from_Contains (λ a. is_inside a.bundle x.bundle ≡ is_below a.bundle x.bundle) kept (λ a c.
     same (is_inside a.bundle x.bundle) (is_inside x.bundle a.bundle)
     (false_from_ne_true (is_inside x.bundle a.bundle) (λ i. before_not_inside a.bundle x.bundle (All-contains HasRisingBundle kept a rising c) r
-    (All-contains (λ a. IsBefore a x) kept a before c) i))))
+    (All-contains (λ a. IsBefore a x) kept a before c) i)))
   where
     same : (b c : Bool) → c ≡ false → b ≡ (b && not c)
     same true c e = sym (simp e)
@@ -120,11 +112,11 @@ module _ (value : List (Atom (List ℕ)) → List ℕ → ℕ)
       short = All-push (λ b. value (atoms_below (kept ++ x ∷ []) b.bundle) b.bundle < b.price) kept x
           (All-from_Contains (λ b. value (atoms_below (kept ++ x ∷ []) b.bundle) b.bundle < b.price) kept (λ b c.
           let there = All-contains (Contains done) kept b k.among c in
-          let same = below_push kept x b.bundle (later_not_below b x (All-contains HasRisingBundle done b rising there) r
+          let same = atoms_below-push kept x b.bundle (later_not_below b x (All-contains HasRisingBundle done b rising there) r
           (All-contains (λ a. IsBefore a x) done b before there)) in
           subst (λ (zs : List (Atom (List ℕ))). value zs b.bundle < b.price) (sym same)
           (All-contains (λ b. value (atoms_below kept b.bundle) b.bundle < b.price) kept b k.short c)))
-          (subst (λ (zs : List (Atom (List ℕ))). value zs x.bundle < x.price) (sym (below_push kept x x.bundle (not_below_itself x.bundle))) l);
+          (subst (λ (zs : List (Atom (List ℕ))). value zs x.bundle < x.price) (sym (atoms_below-push kept x x.bundle (not_below_itself x.bundle))) l);
       dominated = All-push (λ a. a.price ≤ value (kept ++ x ∷ []) a.bundle) done x
           (All-weaker (λ a. a.price ≤ value kept a.bundle) (λ a. a.price ≤ value (kept ++ x ∷ []) a.bundle) (λ a h. le_trans h (more kept x a.bundle)) done
           k.dominated)
@@ -154,7 +146,7 @@ module _ (value : List (Atom (List ℕ)) → List ℕ → ℕ)
           record {
             kept = subst (λ (zs : List (Atom (List ℕ))). IsKept zs c.0) e c.1.kept;
             below = λ bundle h. c.1.below bundle (All-tail (λ a. is_below a.bundle bundle ≡ false) x rest h)
-                ∙ below_push kept x bundle (All-head (λ a. is_below a.bundle bundle ≡ false) x rest h);
+                ∙ atoms_below-push kept x bundle (All-head (λ a. is_below a.bundle bundle ≡ false) x rest h);
           },
         ))
         (λ (l : x.price ≤ value (atoms_below kept x.bundle) x.bundle).

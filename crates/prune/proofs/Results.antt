@@ -1,33 +1,29 @@
 -- What a pruning that is done has kept: the points, with the values of all bids. A turn on one more best bid keeps this of the bids
 -- so far, and in the end the best bids are done, which have the points and the values of all.
-use Rattle.std.proofs.Common.{◌≡◌, ℕ, ◌+◌, ◌<◌, ◌≤◌, Bool, true, false, leb, ltb, ◌&&◌, ⊎_elim, List, [], ◌∷◌, ◌++◌, length, refl, sym, ap, ◌∙◌, subst, arith}
-use Rattle.std.proofs.Common.{le_trans, le_antisymm, Some, None, Less}
+use Rattle.std.proofs.Common.{◌≡◌, ℕ, ◌<◌, ◌≤◌, Bool, true, false, leb, ⊎_elim, List, [], ◌∷◌, ◌++◌, length, sym, ap, ◌∙◌, subst, arith}
+use Rattle.std.proofs.Common.{le_trans, le_antisymm}
 use Rattle.std.specs.Prelude.{All, Contains}
 use Rattle.std.specs.List.{filter}
-use Rattle.std.proofs.lemmas.Bool.{and_left, and_right, and_from, leb-true, leb-false, lt-ltb, le-ltb}
-use Rattle.std.proofs.lemmas.List.Elements.{All-contains, All-weaker, All-push, Contains-append_left, Contains-append_right, Contains-append_cases}
-use Rattle.goods_set.specs.Bundles.{IsBundle, is_inside, IsInside, without, all_bundles}
+use Rattle.std.proofs.lemmas.Bool.{leb-true, leb-false}
+use Rattle.std.proofs.lemmas.List.Elements.{All-contains, All-weaker, Contains-append_left, Contains-append_right}
+use Rattle.goods_set.specs.Bundles.{IsBundle, is_inside, IsInside, without}
 use Rattle.goods_set.specs.Lemmas.Members.{inside_refl}
-use Rattle.goods_set.specs.Orders.{bundle_cmp}
-use Rattle.goods_set.specs.Lemmas.Orders.{bundle_cmp_total}
-use Rattle.goods_set.specs.Lemmas.AllBundles.{all_bundles_has, all_bundles_rise}
 use Rattle.valuation.specs.declared.atom.Atom.{Atom}
 use Rattle.valuation.specs.Values.{xor_value, or_value}
-use Rattle.valuation.specs.Lemmas.Lists.{Contains-cons_cases}
 use Rattle.valuation.specs.Lemmas.OrValues.{or_value-nil, or_value-rest, or_value-least, or_value-taken, or_value-price, or_value-filter_le}
 use Rattle.prune.specs.Points.{xor_points, or_points}
 use Rattle.prune.specs.Lemmas.OnBundles.{IsOnBundle}
-use Rattle.prune.specs.SearchSteps.{is_below, atoms_below, greatest_price, cut_steps, search_steps_by, is_heavy, first_heavy}
-use Rattle.prune.specs.Lemmas.Lists.{zero_or_more, Contains-head, Contains-tail, Contains-filter_parts, All-from_Contains, find_first, find_none}
+use Rattle.prune.specs.SearchSteps.{is_below, atoms_below, greatest_price}
+use Rattle.prune.specs.Lemmas.Lists.{zero_or_more, Contains-head, Contains-filter_parts, All-from_Contains, filter_same_on}
 use Rattle.prune.specs.Internal.Listings.{IsBehind}
 use Rattle.prune.specs.InOrder.{IsBefore, IsInOrder}
-use Rattle.prune.specs.Lemmas.InOrder.{before_both, before_itself, same_bundle_same_atom}
+use Rattle.prune.specs.Lemmas.InOrder.{same_bundle_same_atom}
 use Rattle.prune.specs.Lemmas.Values.{xor_value-member, xor_value-bound, xor_value-dominated, or_value-dominated}
-use Rattle.prune.specs.Lemmas.KeptBids.{all_nonempty, xor_kept_are_points, xor_points_same, or_kept_are_points, or_points_same}
+use Rattle.prune.specs.Lemmas.KeptBids.{xor_kept_are_points, xor_points_same, or_kept_are_points, or_points_same}
 use Rattle.prune.specs.Lemmas.SearchSteps.{greatest_price-member, greatest_price-reached}
 use Rattle.prune.specs.Internal.BestBids.{AreBestBids}
-use Rattle.prune.proofs.Pruning.{HasRisingBundle, IsKept, IsKept-reached, IsKept-missed, IsCompleted, completion, inside_is_below, below_push, later_not_below}
-use Rattle.prune.proofs.Pruning.{not_below_itself, before_next, behind_next, rising_prefix}
+use Rattle.prune.proofs.Pruning.{HasRisingBundle, IsKept, IsKept-reached, IsKept-missed, inside_below}
+use Rattle.prune.proofs.Pruning.{before_next, rising_prefix}
 
 -- ---- values grow with the list
 
@@ -62,7 +58,7 @@ pub record IsTurn (bids done : List (Atom (List ℕ))) (x : Atom (List ℕ)) (re
   pub best : AreBestBids bids (done ++ x ∷ rest)
   pub rising : All HasRisingBundle (done ++ x ∷ rest)
 
-turn_before : (bids done : List (Atom (List ℕ))) (x : Atom (List ℕ)) (rest : List (Atom (List ℕ))) → IsTurn bids done x rest → All (λ a. IsBefore a x) done
+pub turn_before : (bids done : List (Atom (List ℕ))) (x : Atom (List ℕ)) (rest : List (Atom (List ℕ))) → IsTurn bids done x rest → All (λ a. IsBefore a x) done
 turn_before bids done x rest t = before_next done x rest t.best.in_order
 
 -- the bid comes behind all kept ones
@@ -71,7 +67,7 @@ pub turn_behind : (bids done : List (Atom (List ℕ))) (x : Atom (List ℕ)) (re
 turn_behind bids done x rest kept t among =
     All-weaker (Contains done) (λ a. IsBefore a x) (λ a c. All-contains (λ a. IsBefore a x) done a (turn_before bids done x rest t) c) kept among
 
-turn_rising : (bids done : List (Atom (List ℕ))) (x : Atom (List ℕ)) (rest : List (Atom (List ℕ))) → IsTurn bids done x rest → HasRisingBundle x
+pub turn_rising : (bids done : List (Atom (List ℕ))) (x : Atom (List ℕ)) (rest : List (Atom (List ℕ))) → IsTurn bids done x rest → HasRisingBundle x
 turn_rising bids done x rest t = All-contains HasRisingBundle (done ++ x ∷ rest) x t.rising (Contains-append_right done (x ∷ rest) x (Contains-head x rest))
 
 pub turn_among : (bids done : List (Atom (List ℕ))) (x : Atom (List ℕ)) (rest : List (Atom (List ℕ))) → IsTurn bids done x rest → Contains bids x
@@ -82,14 +78,19 @@ turn_positive bids done x rest t =
     All-contains (λ b. 0 < b.price) (done ++ x ∷ rest) x t.best.positive (Contains-append_right done (x ∷ rest) x (Contains-head x rest))
 
 -- the kept atoms inside the bundle are those below it
-pub turn_below : (bids done : List (Atom (List ℕ))) (x : Atom (List ℕ)) (rest kept : List (Atom (List ℕ))) → IsTurn bids done x rest → All (Contains done) kept
-    → filter (λ a. is_inside a.bundle x.bundle) kept ≡ atoms_below kept x.bundle
-turn_below bids done x rest kept t among =
+pub turn_inside : (bids done : List (Atom (List ℕ))) (x : Atom (List ℕ)) (rest kept : List (Atom (List ℕ))) → IsTurn bids done x rest → All (Contains done) kept
+    → All (λ a. is_inside a.bundle x.bundle ≡ is_below a.bundle x.bundle) kept
+turn_inside bids done x rest kept t among =
     let first = rising_prefix done (x ∷ rest) t.rising in
-    inside_is_below kept x
+    inside_below kept x
     (All-weaker (Contains done) HasRisingBundle (λ a c. All-contains HasRisingBundle done a first c) kept among)
     (turn_rising bids done x rest t)
     (All-weaker (Contains done) (λ a. IsBefore a x) (λ a c. All-contains (λ a. IsBefore a x) done a (turn_before bids done x rest t) c) kept among)
+
+pub turn_below : (bids done : List (Atom (List ℕ))) (x : Atom (List ℕ)) (rest kept : List (Atom (List ℕ))) → IsTurn bids done x rest → All (Contains done) kept
+    → filter (λ a. is_inside a.bundle x.bundle) kept ≡ atoms_below kept x.bundle
+turn_below bids done x rest kept t among =
+    filter_same_on (λ a. is_inside a.bundle x.bundle) (λ a. is_below a.bundle x.bundle) kept (turn_inside bids done x rest kept t among)
 
 pub xor_reached : (bids done : List (Atom (List ℕ))) (x : Atom (List ℕ)) (rest kept : List (Atom (List ℕ))) → IsTurn bids done x rest → IsXorKept done kept
     → true ≡ leb x.price (xor_value (filter (λ a. is_inside a.bundle x.bundle) kept) x.bundle) → IsXorKept (done ++ x ∷ []) kept

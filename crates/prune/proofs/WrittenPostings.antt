@@ -1,5 +1,5 @@
 -- What is listed at a good, in vectors of postings that are read or written.
-use Rattle.std.proofs.Common.{◌≡◌, ℕ, zero, suc, ◌<◌, set, get_or-set_same, get_or-set_other, List, [], ◌∷◌, ◌++◌, length, map, get_or, refl, sym, ap, ◌∙◌}
+use Rattle.std.proofs.Common.{◌≡◌, ℕ, zero, suc, ◌<◌, set, get_or-set_same, get_or-set_other, List, [], ◌∷◌, ◌++◌, length, get_or, refl, sym, ap, ◌∙◌}
 use Rattle.std.proofs.Common.{arith}
 use Rattle.std.specs.Global.{Vec}
 use Rattle.std.proofs.lemmas.List.{map-set, get_or-map, length-map}

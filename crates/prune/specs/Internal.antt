@@ -2,5 +2,4 @@
 -- them.
 pub mod BestBids
 pub mod Listings
-pub mod PointIndexes
 pub mod Reaching

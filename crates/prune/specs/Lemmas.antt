@@ -1,9 +1,12 @@
 -- Lemmas on the definitions beside this folder, for proofs here and in the crates above. No contract cites them.
+pub mod Fates
 pub mod InOrder
 pub mod KeptBids
 pub mod Lists
 pub mod OnBundles
+pub mod PackingPlaces
 pub mod Points
+pub mod Ranges
 pub mod Reached
 pub mod Refusals
 pub mod SearchSteps

@@ -1,15 +1,17 @@
 //! Laws of the definitions, which the check proves.
-ghost use Rattle.std.specs.Prelude.{◌≡◌, ℕ, ◌<◌, ◌≤◌, ◌↔◌, true, false, Some, None, List, [], All, Contains, sum_by};
+ghost use Rattle.std.specs.Prelude.{◌≡◌, ℕ, ◌<◌, ◌≤◌, ◌↔◌, true, false, IfSome, Some, None, List, [], All, Contains, sum_by};
 ghost use Rattle.goods_set.specs.Bundles.{IsBundle};
 ghost use Rattle.valuation.specs.Auctions.{IsAtom};
 ghost use Rattle.valuation.specs.declared.atom.Atom.{Atom};
 ghost use Rattle.valuation.specs.declared.search_kind.SearchKind.{SearchKind};
 ghost use Rattle.valuation.specs.declared.search_options.SearchOptions.{SearchOptions};
 ghost use Rattle.valuation.specs.SearchLimits.{plain_options};
-ghost use Rattle.valuation.specs.Packings.{count_packings};
+ghost use Rattle.valuation.specs.Packings.{IsPackingFor, count_packings};
 ghost use Rattle.valuation.specs.Tables.{xor_table, or_table, is_nonzero};
 ghost use Rattle.valuation.specs.Values.{xor_value, or_value};
+ghost use Rattle.prune.specs.Fates.{or_fate, xor_fate};
 ghost use Rattle.prune.specs.Points.{IsXorPoint, IsOrPoint, xor_points, or_points};
+ghost use Rattle.prune.specs.Reached.{IsPointFor};
 ghost use Rattle.prune.specs.SearchSteps.{
   atoms_below,
   greatest_price,
@@ -100,6 +102,14 @@ pub fn same_tables_same_points()
         → (xor_table one goods ≡ xor_table other goods ↔ xor_points goods one ≡ xor_points goods other) }
     ensures or { (goods : ℕ) (one other : List (Atom (List ℕ))) → All (IsAtom goods) one → All (IsAtom goods) other
         → (or_table one goods ≡ or_table other goods ↔ or_points goods one ≡ or_points goods other) }
+{}
+
+/// What becomes of a dropped bid reaches its price: of an OR bid a packing of points, of an XOR bid a point.
+pub fn fates_reach()
+    ensures or { (kind : SearchKind) (points : List (Atom (List ℕ))) (bid : Atom (List ℕ))
+        → IfSome (or_fate kind points bid) (λ places. IsPackingFor points bid.bundle bid.price places) }
+    ensures xor { (points : List (Atom (List ℕ))) (bid : Atom (List ℕ))
+        → IfSome (xor_fate points bid) (λ place. IsPointFor points bid.bundle bid.price place) }
 {}
 
 /// If no bundle is heavy for the bids, or none is refused, that holds for their points.

@@ -1,8 +1,8 @@
 //! `SubsetIndex`: the kept atoms. Those inside a bundle are found by its goods.
-ghost use Rattle.std.specs.Prelude.{◌≡◌, ℕ, List, ◌+◌, ◌<◌, ◌≤◌, false, map, length, All, IfOk, IfSome, OnOk, is_some, []};
+ghost use Rattle.std.specs.Prelude.{◌≡◌, ℕ, List, ◌+◌, ◌<◌, ◌≤◌, false, true, map, length, All, AllPairs, IfOk, OnOk, []};
 ghost use Rattle.std.specs.Prelude.{◌∷◌, ◌++◌};
 ghost use Rattle.std.specs.Bool.{OnTrue};
-ghost use Rattle.std.specs.List.{filter, list_any, range_with_len};
+ghost use Rattle.std.specs.List.{filter, range_with_len};
 ghost use Rattle.goods_set.specs.Fingerprints.{AreMarks};
 ghost use Rattle.valuation.specs.Values.{atoms_of};
 ghost use Rattle.valuation.specs.declared.atom.Atom.{Atom};
@@ -13,16 +13,14 @@ ghost use Rattle.prune.specs.Internal.Listings.{
   indices_of,
   is_inside_at,
   dominates_at,
-  dominates,
+  first_dominating_place,
   postings_of,
   IsBehind,
   IsIndexOf,
   IsPosting,
-  IsPrefixIndex,
+  MayBePosting,
   IsReadyFor,
 };
-ghost use Rattle.prune.specs.Reached.{HaveGoods, IsPointFor};
-ghost use Rattle.prune.specs.SearchSteps.{atoms_inside};
 
 use crate::commonness::Commonness;
 use crate::posting::Posting;
@@ -104,26 +102,34 @@ fn find_inside_among<S: GoodsSet>(
     Ok(())
 }
 
-/// The place of one of the listed atoms that is inside the bundle and has at least the price.
-fn find_dominating_among<S: GoodsSet>(
+/// The place of the first of the listed atoms that is among these atoms, is inside the bundle and has at least the price, or
+/// the number of atoms if there is none.
+fn first_dominating_among<S: GoodsSet>(
     postings: &[Posting],
     kept: &[Atom<S>],
     bundle: &S,
     marks: u128,
     price: u64,
-) -> Option<usize>
-    requires listed { All (IsPosting (atoms_of S.goods kept.now)) postings.now }
+) -> usize
+    requires listed { All (MayBePosting (atoms_of S.goods kept.now)) postings.now }
+    requires rising { AllPairs (λ one other. one < other) (indices_of postings.now) }
     requires marks { AreMarks (S.goods bundle.now) marks }
-    ensures found { IfSome result (IsPointFor (atoms_of S.goods kept.now) (S.goods bundle.now) price) }
-    ensures answer { let dominating = dominates_at (atoms_of S.goods kept.now) (S.goods bundle.now) price in
-        is_some result ≡ list_any dominating (indices_of postings.now) }
+    ensures within { result ≤ length kept.now }
+    ensures found { result < length kept.now
+        → dominates_at (atoms_of S.goods kept.now) (S.goods bundle.now) price result ≡ true }
+    ensures none { let dominating = dominates_at (atoms_of S.goods kept.now) (S.goods bundle.now) price in
+        All (λ place. place < result → dominating place ≡ false) (indices_of postings.now) }
 {
     for posting in postings {
+        let place = posting.index as usize;
+        if place >= kept.len() {
+            break;
+        }
         if is_dominating(kept, posting, bundle, marks, price) {
-            return Some(posting.index as usize);
+            return place;
         }
     }
-    None
+    kept.len()
 }
 
 impl SubsetIndex {
@@ -210,22 +216,6 @@ impl SubsetIndex {
         Ok(())
     }
 
-    /// Adds and lists the atoms behind those that are listed, so that all of them are.
-    pub fn list_all<S: GoodsSet>(&mut self, atoms: &[Atom<S>]) -> Result<(), AllocError>
-        requires some { HaveGoods (atoms_of S.goods atoms.now) }
-        requires prefix { IsPrefixIndex (atoms_of S.goods atoms.now) self.old }
-        ensures prefix { OnOk result (IsPrefixIndex (atoms_of S.goods atoms.now) self.new) }
-        ensures all { OnOk result (count_listed self.new ≡ length atoms.now) }
-    {
-        let mut buffer = Vec::new(self.alloc);
-        while self.listed < atoms.len() {
-            let goods = rising_goods(&atoms[self.listed].bundle, &mut buffer)?;
-            self.keep(goods)?;
-            self.list_next(&atoms[..self.listed + 1])?;
-        }
-        Ok(())
-    }
-
     /// What is listed at the good.
     fn postings_at(&self, good: u16) -> &[Posting]
         ensures { result.now ≡ postings_of self.now good }
@@ -261,7 +251,7 @@ impl SubsetIndex {
         Ok(())
     }
 
-    /// The place of a kept atom inside the bundle, which has these goods, with at least the price.
+    /// The place of the first kept atom inside the bundle, which has these goods, with at least the price.
     pub fn find_dominating<S: GoodsSet>(
         &self,
         kept: &[Atom<S>],
@@ -272,17 +262,16 @@ impl SubsetIndex {
         requires goods { goods.now ≡ S.goods bundle.now }
         requires index { IsIndexOf (atoms_of S.goods kept.now) self.now }
         requires ready { IsReadyFor (S.goods bundle.now) (atoms_of S.goods kept.now) self.now }
-        ensures found { IfSome result (IsPointFor (atoms_of S.goods kept.now) (S.goods bundle.now) price) }
-        ensures answer { let kept = atoms_of S.goods kept.now in
-            is_some result ≡ list_any (dominates (S.goods bundle.now) price) kept }
+        ensures { result ≡ first_dominating_place (atoms_of S.goods kept.now) (S.goods bundle.now) price }
     {
         let marks = fingerprint(goods);
+        let mut first = kept.len();
         for good in goods {
             let postings = self.postings_at(*good);
-            let found = find_dominating_among(postings, kept, bundle, marks, price);
-            if found.is_some() {
-                return found;
-            }
+            first = first_dominating_among(postings, &kept[..first], bundle, marks, price);
+        }
+        if first < kept.len() {
+            return Some(first);
         }
         None
     }

@@ -4,6 +4,7 @@ ghost use Rattle.valuation.specs.declared.search_kind.SearchKind.TheVariants.{Pl
 ghost use Rattle.valuation.specs.Examples.{atom};
 ghost use Rattle.valuation.specs.SearchLimits.{plain_options};
 ghost use Rattle.prune.specs.declared.posting.Posting.{Posting};
+ghost use Rattle.prune.specs.Fates.{best_bids, or_fate, or_fates, places_below, xor_fate, xor_fates};
 ghost use Rattle.prune.specs.Internal.Listings.{IsListed, IsPosting, AreListed, NoneInsideFrom};
 ghost use Rattle.prune.specs.Points.{xor_points, or_points};
 ghost use Rattle.prune.specs.SearchSteps.{
@@ -78,6 +79,26 @@ pub fn steps_worked()
     ensures worthless { first_heavy 1 0 (atom (0 ∷ []) 0 ∷ []) ≡ None }
     ensures limit_one { is_heavy 3 1 (atom (0 ∷ []) 1 ∷ atom (1 ∷ []) 1 ∷ atom (2 ∷ []) 1
         ∷ atom (0 ∷ 1 ∷ 2 ∷ []) 4 ∷ []) (0 ∷ 1 ∷ 2 ∷ []) ≡ false }
+{}
+
+/// What becomes of best bids. A plain search finds the first points that reach the price, a bounded search the last.
+#[tactic(auto, unfolding(crate::specs::Points::points_where, crate::specs::Points::is_or_point, crate::specs::Points::is_xor_point, crate::specs::Fates::found_places, crate::specs::Fates::or_fate, crate::specs::Fates::xor_fate, valuation::specs::SearchSteps::found_indices, valuation::specs::Values::or_value, valuation::specs::Values::xor_value))]
+pub fn fates_worked()
+    ensures best { best_bids 2 (atom (1 ∷ []) 4 ∷ atom (0 ∷ []) 0 ∷ atom (1 ∷ []) 5 ∷ atom (0 ∷ 1 ∷ []) 2 ∷ [])
+        ≡ atom (1 ∷ []) 5 ∷ atom (0 ∷ 1 ∷ []) 2 ∷ [] }
+    ensures below { places_below (atom (0 ∷ []) 3 ∷ atom (2 ∷ []) 5 ∷ atom (0 ∷ 1 ∷ []) 8 ∷ atom (1 ∷ []) 4 ∷ []) (0 ∷ 1 ∷ [])
+        ≡ 0 ∷ 3 ∷ [] }
+    ensures plain { or_fate Plain (atom (0 ∷ []) 3 ∷ atom (1 ∷ []) 4 ∷ atom (2 ∷ []) 5 ∷ []) (atom (0 ∷ 1 ∷ 2 ∷ []) 7)
+        ≡ Some (0 ∷ 1 ∷ []) }
+    ensures bounded { or_fate Bounded (atom (0 ∷ []) 3 ∷ atom (1 ∷ []) 4 ∷ atom (2 ∷ []) 5 ∷ []) (atom (0 ∷ 1 ∷ 2 ∷ []) 7)
+        ≡ Some (1 ∷ 2 ∷ []) }
+    ensures kept { or_fate Plain (atom (0 ∷ []) 3 ∷ atom (1 ∷ []) 4 ∷ []) (atom (0 ∷ 1 ∷ []) 8) ≡ None }
+    ensures or_bids { or_fates Plain 2 (atom (0 ∷ 1 ∷ []) 7 ∷ atom (1 ∷ []) 4 ∷ atom (0 ∷ []) 3 ∷ atom (0 ∷ []) 2 ∷ [])
+        ≡ None ∷ None ∷ Some (0 ∷ 1 ∷ []) ∷ [] }
+    ensures first { xor_fate (atom (0 ∷ []) 5 ∷ atom (1 ∷ []) 6 ∷ []) (atom (0 ∷ 1 ∷ []) 4) ≡ Some 0 }
+    ensures enough { xor_fate (atom (0 ∷ []) 5 ∷ atom (1 ∷ []) 6 ∷ []) (atom (0 ∷ 1 ∷ []) 6) ≡ Some 1 }
+    ensures higher { xor_fate (atom (0 ∷ []) 5 ∷ atom (1 ∷ []) 6 ∷ []) (atom (0 ∷ 1 ∷ []) 7) ≡ None }
+    ensures xor_bids { xor_fates 2 (atom (0 ∷ 1 ∷ []) 6 ∷ atom (1 ∷ []) 6 ∷ atom (0 ∷ []) 5 ∷ []) ≡ None ∷ None ∷ Some 1 ∷ [] }
 {}
 
 /// The steps of the searches of each kind.

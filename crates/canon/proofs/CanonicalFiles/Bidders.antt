@@ -1,7 +1,7 @@
 -- The bidders as the code has them: what holds of each, one more, and putting them in order.
 use Rattle.std.proofs.Common.{◌≡◌, ℕ, ◌<◌, ◌≤◌, ⊎_elim, List, [], ◌∷◌, ◌++◌, length, map, None, sym, ap, ap₂, ◌∙◌, subst}
 use Rattle.std.proofs.Common.{arith, append_assoc, Global}
-use Rattle.std.specs.Prelude.{All, Vec, IsPermutation}
+use Rattle.std.specs.Prelude.{All, Option, Vec, IsPermutation}
 use Rattle.std.specs.List.Sorted.{IsSortedBy}
 use Rattle.std.specs.Ordering.{is_lt}
 use Rattle.std.proofs.lemmas.List.{map-append, map_push, append-nil, length-append, length-map, nil_from_length}
@@ -11,6 +11,7 @@ use Rattle.std.proofs.lemmas.List.Sorted.{IsPermutation-map}
 use Rattle.bid_file.specs.declared.limits.TheConstants.{MAX_GOODS, MAX_DUMMY}
 use Rattle.goods_set.specs.Lemmas.Members.{AreBelow-higher}
 use Rattle.valuation.specs.declared.atom.Atom.{Atom}
+use Rattle.valuation.specs.declared.search_kind.SearchKind.{SearchKind}
 use Rattle.valuation.specs.declared.search_options.SearchOptions.{SearchOptions}
 use Rattle.valuation.specs.Auctions.{PlainAuction, IsAtom, IsAuction}
 use Rattle.valuation.specs.Lemmas.Atoms.{length-atoms_of}
@@ -18,10 +19,13 @@ use Rattle.valuation.specs.Bidders.{bidders_of}
 use Rattle.valuation.specs.Sorting.{sort_by}
 use Rattle.valuation.specs.Lemmas.Sorting.{sorted_is_sort_by}
 use Rattle.valuation.specs.Values.{atoms_of}
+use Rattle.prune.specs.Fates.{or_fates, plain_fate, xor_fates}
 use Rattle.prune.specs.Lemmas.Lists.{Contains-head, zero_or_more}
 use Rattle.prune.specs.Points.{xor_points, or_points}
 use Rattle.prune.specs.SearchSteps.{first_refused}
 use Rattle.canon.specs.Canonical.{canonical_auction}
+use Rattle.canon.specs.declared.explained.BidderFates.{BidderFates}
+use Rattle.canon.specs.Internal.Fates.{AreFates}
 use Rattle.canon.specs.Internal.KeyedBidders.{NumberedBidder, numbered_points, numbered_cmp, kept_numbers}
 use Rattle.canon.specs.Lemmas.Renaming.{map-sorted}
 use Rattle.canon.proofs.CanonicalFiles.Numbering.{numbered_cmp_total, numbered_cmp_equal, points_push, points_skip, atoms_in_order}
@@ -77,15 +81,24 @@ module _ {S : Type 0} (goods : S → List ℕ) (all done more left rest : List (
       parts ∙ ap (λ (zs : List (Vec (Atom S) Global)). done ++ zs) next ∙ sym (append_assoc done (b ∷ []) rest)
       ∙ ap (λ (zs : List (Vec (Atom S) Global)). zs ++ rest) (sym grown)
 
+  one_more : bidders_of goods more ≡ bidders_of goods done ++ atoms_of goods b.items ∷ []
+  one_more = ap (bidders_of goods) grown ∙ map_push (λ (v : Vec (Atom S) Global). atoms_of goods v.items) done b
+
+  -- what was noted of the bidders so far
+  pub fates_pushed : (n : ℕ) → All (All (IsAtom n)) (bidders_of goods all) → (noted all_noted : List (Vec (Option ℕ) Global)) (own : Vec (Option ℕ) Global)
+      → all_noted ≡ noted ++ own ∷ [] → (All (IsAtom n) (atoms_of goods b.items) → own.items ≡ xor_fates n (atoms_of goods b.items))
+      → map (λ v. v.items) noted ≡ map (xor_fates n) (bidders_of goods done) → map (λ v. v.items) all_noted ≡ map (xor_fates n) (bidders_of goods more)
+  fates_pushed n atoms noted all_noted own e are so_far =
+      ap (map (λ (v : Vec (Option ℕ) Global). v.items)) e ∙ map_push (λ (v : Vec (Option ℕ) Global). v.items) noted own
+      ∙ ap₂ (λ (zs : List (List (Option ℕ))) (fates : List (Option ℕ)). zs ++ fates ∷ []) so_far (are (bidder_next (All (IsAtom n)) atoms))
+      ∙ sym (ap (map (xor_fates n)) one_more ∙ map_push (xor_fates n) (bidders_of goods done) (atoms_of goods b.items))
+
   -- the points so far, each bidder seen with its number
   module _ {X : Type 0} (seen : X → NumberedBidder) (n : ℕ) (atoms : All (All (IsAtom n)) (bidders_of goods all)) (points : List X)
       (own : Vec (Atom S) Global) (are : All (IsAtom n) (atoms_of goods b.items) → atoms_of goods own.items ≡ xor_points n (atoms_of goods b.items))
       (so_far : map seen points ≡ numbered_points n (bidders_of goods done)) where
     own_atoms : All (IsAtom n) (atoms_of goods b.items)
     own_atoms = bidder_next (All (IsAtom n)) atoms
-
-    one_more : bidders_of goods more ≡ bidders_of goods done ++ atoms_of goods b.items ∷ []
-    one_more = ap (bidders_of goods) grown ∙ map_push (λ (v : Vec (Atom S) Global). atoms_of goods v.items) done b
 
     pub points_pushed : (all_points : List X) (made : X) (number : ℕ) → all_points ≡ points ++ made ∷ [] → number ≡ length done
         → seen made ≡ record { number = number; atoms = atoms_of goods own.items } → 0 < length own.items
@@ -112,6 +125,12 @@ pub points_done : {S X : Type 0} (goods : S → List ℕ) (seen : X → Numbered
     → map seen points ≡ numbered_points n (bidders_of goods all)
 points_done {S} goods seen n all done left points parts none h =
     h ∙ ap (λ (zs : List (Vec (Atom S) Global)). numbered_points n (bidders_of goods zs))
+    (sym (parts ∙ ap (λ (zs : List (Vec (Atom S) Global)). done ++ zs) none ∙ append-nil done))
+
+pub fates_done : {S : Type 0} (goods : S → List ℕ) (n : ℕ) (all done left : List (Vec (Atom S) Global)) (noted : List (List (Option ℕ)))
+    → all ≡ done ++ left → left ≡ [] → noted ≡ map (xor_fates n) (bidders_of goods done) → noted ≡ map (xor_fates n) (bidders_of goods all)
+fates_done {S} goods n all done left noted parts none h =
+    h ∙ ap (λ (zs : List (Vec (Atom S) Global)). map (xor_fates n) (bidders_of goods zs))
     (sym (parts ∙ ap (λ (zs : List (Vec (Atom S) Global)). done ++ zs) none ∙ append-nil done))
 
 -- ---- bidders with more beside them, of which `bare` is the bidder: what is taken out of them one by one
@@ -166,6 +185,11 @@ module _ (cap : ℕ) (a : PlainAuction) (facts : IsAuction cap a) (n : ℕ) (ors
       → numbers ≡ map (λ b. b.number) (sort_by numbered_cmp unsorted) → numbers ≡ kept_numbers a
   number_parts unsorted numbers k e =
       e ∙ ap (λ (bs : List NumberedBidder). map (λ b. b.number) (sort_by numbered_cmp bs)) (k n made.xor_atoms) ∙ ap kept_numbers (sym parts)
+
+  pub fates_parts : (kind : SearchKind) (fates : BidderFates) → ((m : ℕ) → All (IsAtom m) ors → map plain_fate fates.or.items ≡ or_fates kind m ors)
+      → ((m : ℕ) → All (All (IsAtom m)) xors → map (λ v. v.items) fates.xor.items ≡ map (xor_fates m) xors) → AreFates kind a fates
+  fates_parts kind fates h k =
+      subst (λ (x : PlainAuction). AreFates kind x fates) (sym parts) (record { or = h n made.or_atoms; xor = k n made.xor_atoms })
 
   pub parts_within_limit : (options : SearchOptions) → ((m : ℕ) → All (IsAtom m) ors → first_refused options m ors ≡ None)
       → first_refused options a.goods a.or_atoms ≡ None

@@ -1,10 +1,10 @@
 -- Atoms listed by their goods. Those inside a bundle are found through the goods of the bundle.
-use Rattle.std.specs.Prelude.{◌≡◌, ◌≢◌, ℕ, ◌<◌, ◌≤◌, Bool, ◌&&◌, true, false, nat_le, map, slice_index_or, List, []}
+use Rattle.std.specs.Prelude.{◌≡◌, ℕ, ◌<◌, ◌≤◌, Bool, ◌&&◌, true, false, nat_le, map, slice_index_or, List, []}
 use Rattle.std.specs.Prelude.{length}
-use Rattle.std.specs.Prelude.{take, All, AllPairs, Contains}
+use Rattle.std.specs.Prelude.{Option, take, All, AllPairs, Contains}
 use Rattle.std.proofs.Common.{Less}
 use Rattle.std.specs.Global.{Vec}
-use Rattle.std.specs.List.{list_any}
+use Rattle.std.specs.List.{find, list_any, range_with_len}
 use Rattle.valuation.specs.declared.atom.Atom.{Atom}
 use Rattle.goods_set.specs.Bundles.{has_good, is_inside}
 use Rattle.goods_set.specs.Orders.{bundle_cmp}
@@ -49,6 +49,10 @@ AreUndominated atoms = (place : ℕ) → place < length atoms
 abbrev pub dominates_at : List (Atom (List ℕ)) → List ℕ → ℕ → ℕ → Bool
 dominates_at atoms bundle price place = dominates bundle price (atom_at atoms place)
 
+-- the place of the first atom that does
+abbrev pub first_dominating_place : List (Atom (List ℕ)) → List ℕ → ℕ → Option ℕ
+first_dominating_place atoms bundle price = find (dominates_at atoms bundle price) (range_with_len 0 (length atoms))
+
 -- the place is listed at a good of the bundle
 pub record IsListed (lists : List (List Posting)) (bundle : List ℕ) (place : ℕ) : Type 0 where
   pub good : ℕ
@@ -60,14 +64,18 @@ pub record IsPosting (atoms : List (Atom (List ℕ))) (posting : Posting) : Type
   pub within : posting.index < length atoms
   pub marks : AreMarks (atom_at atoms posting.index).bundle posting.fingerprint
 
--- each of so many atoms, from the first on, is listed at one of its goods, once and at no other good, and nothing else
+-- the same, if it is one of the atoms
+abbrev pub MayBePosting : List (Atom (List ℕ)) → Posting → Type 0
+MayBePosting atoms posting = posting.index < length atoms → AreMarks (atom_at atoms posting.index).bundle posting.fingerprint
+
+-- each of so many atoms, from the first on, is listed at one of its goods and at no other good, in order, and nothing else
 -- is listed
 pub record AreListed (lists : List (List Posting)) (listed : ℕ) (atoms : List (Atom (List ℕ))) : Type 0 where
   pub most : listed ≤ length atoms
   pub each : (place : ℕ) → place < listed → IsListed lists (atom_at atoms place).bundle place
   pub right : (good : ℕ) (posting : Posting) → Contains (listed_at lists good) posting → IsPosting atoms posting
   pub no_more : (good place : ℕ) → Contains (places_at lists good) place → place < listed
-  pub once : (good : ℕ) → AllPairs (λ one other. one ≢ other) (places_at lists good)
+  pub rising : (good : ℕ) → AllPairs (λ one other. one < other) (places_at lists good)
   pub one_good : (good other place : ℕ) → Contains (places_at lists good) place → Contains (places_at lists other) place
       → good ≡ other
 
@@ -89,11 +97,6 @@ count_listed index = index.listed
 pub record IsIndexOf (atoms : List (Atom (List ℕ))) (index : SubsetIndex) : Type 0 where
   pub listed : AreListed (lists_of index.lists.items) (count_listed index) atoms
   pub noted : AreGoodsOf index.goods.items atoms
-
--- of the atoms the index has taken in those that it lists, which are the first
-pub record IsPrefixIndex (atoms : List (Atom (List ℕ))) (index : SubsetIndex) : Type 0 where
-  pub most : count_listed index ≤ length atoms
-  pub first : IsIndexOf (take (count_listed index) atoms) index
 
 -- the bundle comes behind those of all atoms
 abbrev pub IsBehind : List ℕ → List (Atom (List ℕ)) → Type 0

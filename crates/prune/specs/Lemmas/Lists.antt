@@ -7,6 +7,9 @@ use Rattle.std.proofs.Math.Bool.{and-true, and-false}
 use Rattle.std.proofs.lemmas.Bool.{cases_Bool, both_ways, true_from_ne_false, or_parts, and_parts, and_from, and_cases}
 use Rattle.std.proofs.lemmas.List.Elements.{All-nil, All-cons, All-head, All-tail, All-contains, Contains-append_right}
 use Rattle.valuation.specs.Lemmas.Lists.{Contains-cons_cases, AllPairs-head, AllPairs-tail}
+use Rattle.std.proofs.Common.{Option}
+use Rattle.std.proofs.Common.{is_some}
+use Rattle.std.proofs.Common.{IfSome}
 
 pub zero_or_more : (n : ℕ) → (n ≡ 0) ⊎ (0 < n)
 zero_or_more zero = inl refl
@@ -155,3 +158,54 @@ list_any_filter p q (x ∷ xs) = elim (q x) as (λ b. ((p x && b) || list_any (�
   | true ↦ ap₂ (λ b c. b || c) (and-true (p x)) (list_any_filter p q xs)
   | false ↦ ap (λ b. b || list_any (λ x. p x && q x) xs) (and-false (p x)) ∙ list_any_filter p q xs
 ]
+
+-- what passes once it is seen
+pub map-filter : {X Y : Type 0} (seen : X → Y) (p : Y → Bool) (xs : List X) → map seen (filter (λ x. p (seen x)) xs) ≡ filter p (map seen xs)
+map-filter seen p [] = refl
+map-filter {X} {Y} seen p (x ∷ xs) =
+    elim (p (seen x)) as (λ b. map seen (cond b (x ∷ filter (λ x. p (seen x)) xs) (filter (λ x. p (seen x)) xs)) ≡ cond b (seen x ∷ filter p (map seen xs))
+    (filter p (map seen xs))) [
+      | true ↦ ap (λ (zs : List Y). seen x ∷ zs) (map-filter seen p xs)
+      | false ↦ map-filter seen p xs
+    ]
+
+pub found_some : {X : Type 0} (p : X → Bool) (xs : List X) → IfSome (find p xs) (λ x. Contains xs x × (p x ≡ true))
+found_some p [] = tt
+found_some {X} p (x ∷ xs) = go (p x) refl (found_some p xs)
+  where
+    later : (found : Option X) → IfSome found (λ y. Contains xs y × (p y ≡ true)) → IfSome found (λ y. Contains (x ∷ xs) y × (p y ≡ true))
+    later None h = tt
+    later (Some y) h = (Contains-tail x xs y h.0, h.1)
+
+    go : (b : Bool) → p x ≡ b → IfSome (find p xs) (λ y. Contains xs y × (p y ≡ true))
+        → IfSome (cond b (Some x) (find p xs)) (λ y. Contains (x ∷ xs) y × (p y ≡ true))
+    go true e h = (Contains-head x xs, e)
+    go false e h = later (find p xs) h
+
+pub find_same_on : {X : Type 0} (p q : X → Bool) (xs : List X) → All (λ x. p x ≡ q x) xs → find p xs ≡ find q xs
+find_same_on p q [] h = refl
+find_same_on {X} p q (x ∷ xs) h =
+    ap (λ b. cond b (Some x) (find p xs)) (All-head (λ x. p x ≡ q x) x xs h)
+    ∙ ap (λ (found : Option X). cond (q x) (Some x) found) (find_same_on p q xs (All-tail (λ x. p x ≡ q x) x xs h))
+
+pub find_filter : {X : Type 0} (p q : X → Bool) (xs : List X) → find p (filter q xs) ≡ find (λ x. p x && q x) xs
+find_filter p q [] = refl
+find_filter p q (x ∷ xs) =
+    elim (q x) as (λ b. find p (cond b (x ∷ filter q xs) (filter q xs)) ≡ cond (p x && b) (Some x) (find (λ x. p x && q x) xs)) [
+      | true ↦ elim (p x) as (λ b. cond b (Some x) (find p (filter q xs)) ≡ cond (b && true) (Some x) (find (λ x. p x && q x) xs)) [
+        | true ↦ refl
+        | false ↦ find_filter p q xs
+      ]
+      | false ↦ elim (p x) as (λ b. find p (filter q xs) ≡ cond (b && false) (Some x) (find (λ x. p x && q x) xs)) [
+        | true ↦ find_filter p q xs
+        | false ↦ find_filter p q xs
+      ]
+    ]
+
+pub is_some-find_map : {X Y : Type 0} (p : Y → Bool) (f : X → Y) (xs : List X) → is_some (find (λ x. p (f x)) xs) ≡ list_any p (map f xs)
+is_some-find_map p f [] = refl
+is_some-find_map {X} p f (x ∷ xs) =
+    elim (p (f x)) as (λ b. is_some (cond b (Some x) (find (λ x. p (f x)) xs)) ≡ (b || list_any p (map f xs))) [
+      | true ↦ refl
+      | false ↦ is_some-find_map p f xs
+    ]

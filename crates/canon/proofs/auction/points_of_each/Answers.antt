@@ -1,6 +1,6 @@
 -- The points so far are those of the bidders that are done: the next bidder adds its points, or nothing where it has none.
 use Rattle.std.proofs.Common.{arith, ◌≡◌, ℕ, ◌+◌, ◌<◌, [], length, map, refl, sym, ap, ap₂, ◌∙◌, Global}
-use Rattle.std.specs.Prelude.{All, Vec}
+use Rattle.std.specs.Prelude.{All, Option, Vec}
 use Rattle.std.specs.Iterator.Adapters.{enumerate_count, enumerate_source}
 use Rattle.std.specs.Vec.Iter.{into_iter_items}
 use Rattle.std.proofs.lemmas.Bool.{eqb-true, eqb-false}
@@ -10,7 +10,7 @@ use Rattle.valuation.specs.declared.atom.Atom.{Atom}
 use Rattle.valuation.specs.Auctions.{IsAtom}
 use Rattle.valuation.specs.Values.{atoms_of}
 use Rattle.canon.specs.Internal.KeyedBidders.{keyed_bidder}
-use Rattle.canon.proofs.CanonicalFiles.Bidders.{positive, fewer_done, bidder_next, bidder_taken, points_pushed, points_skipped, points_done}
+use Rattle.canon.proofs.CanonicalFiles.Bidders.{positive, fewer_done, bidder_next, bidder_taken, points_pushed, points_skipped, points_done, fates_pushed, fates_done}
 use Rattle.canon.proofs.auction.points_of_each.Goals as goal
 
 pub loop-dummy-init : goal.loop-dummy-init
@@ -20,10 +20,12 @@ loop-dummy-init g c =
       all = sym (ap (λ it. into_iter_items (enumerate_source it)) inner ∙ ap into_iter_items c.enumerate-dummy-items.ensures.source ∙ c.into_iter.ensures.rest);
       count = ap enumerate_count inner ∙ c.enumerate-dummy-items.ensures.count;
       points = λ n atoms. ap (map keyed_bidder) c.in_ok-points.ensures.items;
+      wanted = refl;
+      fates = λ w n atoms. ap (map (λ (v : Vec (Option ℕ) Global). v.items)) c.requires.empty;
     }
 
-pub prune_xor-requires : goal.prune_xor-requires
-prune_xor-requires g c =
+pub prune_xor_noting-requires-clause-atoms : goal.prune_xor_noting-requires-clause-atoms
+prune_xor_noting-requires-clause-atoms g c =
     bidder_next g.S.GoodsSet.goods c.args.bidders.items (map (λ p. p.1) c.loop-dummy.yielded) _ _ _ c.in-Some.bidder c.loop-dummy.invariant.all
     refl c.in-Some.ensures.steps.0.0 (All (IsAtom MAX_GOODS)) c.requires.atoms
 
@@ -49,18 +51,32 @@ loop-dummy-preserved g c =
           c.in_ok-own.own
           (c.in_ok-own.ensures.points n) (h.points n atoms)
           (omega (arith, eqb-true _ 0 (sym c.is_empty.ensures ∙ c.if-not-is_empty.false), c.in_ok-own.own.ok.0));
+      wanted = c.note.ensures.wanted ∙ h.wanted;
+      fates = λ w n atoms.
+          let on = c.new-own_log.ensures.wanted ∙ c.is_wanted.ensures ∙ h.wanted ∙ w in
+          fates_pushed g.S.GoodsSet.goods c.args.bidders.items (map (λ p. p.1) c.loop-dummy.yielded) _ _ _ c.in-Some.bidder h.all grown step.0.0
+          n atoms _ _ c.into_fates.result (c.in_ok-note.ensures.noted (h.wanted ∙ w))
+          (λ are. ap (λ (v : Vec (Option ℕ) Global). v.items) c.into_fates.ensures ∙ c.in_ok-own.ensures.fates on n are) (h.fates w n atoms);
     }
 
-pub returns : goal.returns
-returns g c =
+pub returns-clause-points : goal.returns-clause-points
+returns-clause-points g c = λ n atoms.
     let none : into_iter_items (enumerate_source c.loop-dummy.dummy-iterator) ≡ [] =
     nil_from_length (into_iter_items (enumerate_source c.loop-dummy.dummy-iterator))
     (omega (arith, c.in-None.ensures.steps.0.0, (enumerate_source c.loop-dummy.dummy-iterator).rest.ok.0)) in
-    λ n atoms. points_done g.S.GoodsSet.goods keyed_bidder n c.args.bidders.items (map (λ p. p.1) c.loop-dummy.yielded) _ c.loop-dummy.points.items
+    points_done g.S.GoodsSet.goods keyed_bidder n c.args.bidders.items (map (λ p. p.1) c.loop-dummy.yielded) _ c.loop-dummy.points.items
     c.loop-dummy.invariant.all none (c.loop-dummy.invariant.points n atoms)
 
-pub loop-dummy-preserved-in-Continue-branch-3 : goal.loop-dummy-preserved-in-Continue-branch-3
-loop-dummy-preserved-in-Continue-branch-3 g c =
+pub returns-clause-fates : goal.returns-clause-fates
+returns-clause-fates g c = λ w n atoms.
+    let none : into_iter_items (enumerate_source c.loop-dummy.dummy-iterator) ≡ [] =
+    nil_from_length (into_iter_items (enumerate_source c.loop-dummy.dummy-iterator))
+    (omega (arith, c.in-None.ensures.steps.0.0, (enumerate_source c.loop-dummy.dummy-iterator).rest.ok.0)) in
+    fates_done g.S.GoodsSet.goods n c.args.bidders.items (map (λ p. p.1) c.loop-dummy.yielded) _ _ c.loop-dummy.invariant.all none
+    (c.loop-dummy.invariant.fates w n atoms)
+
+pub loop-dummy-preserved-in-Continue-branch-4 : goal.loop-dummy-preserved-in-Continue-branch-4
+loop-dummy-preserved-in-Continue-branch-4 g c =
     let step = c.in-Some.ensures.steps in
     let h = c.loop-dummy.invariant in
     let some = eqb-false _ 0 (sym c.is_empty.ensures ∙ c.if-not-is_empty.true) in
@@ -81,4 +97,10 @@ loop-dummy-preserved-in-Continue-branch-3 g c =
                 atoms_of g.S.GoodsSet.goods v.items;
           }) c.new.ensures.dummy c.new.ensures.atoms)
           (positive (length c.in_ok-own.own.items) (λ e. some (omega (arith, e, c.in_ok-own.own.ok.0))));
+      wanted = c.note.ensures.wanted ∙ h.wanted;
+      fates = λ w n atoms.
+          let on = c.new-own_log.ensures.wanted ∙ c.is_wanted.ensures ∙ h.wanted ∙ w in
+          fates_pushed g.S.GoodsSet.goods c.args.bidders.items (map (λ p. p.1) c.loop-dummy.yielded) _ _ _ c.in-Some.bidder h.all grown step.0.0
+          n atoms _ _ c.into_fates.result (c.in_ok-note.ensures.noted (h.wanted ∙ w))
+          (λ are. ap (λ (v : Vec (Option ℕ) Global). v.items) c.into_fates.ensures ∙ c.in_ok-own.ensures.fates on n are) (h.fates w n atoms);
     }

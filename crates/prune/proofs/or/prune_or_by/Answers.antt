@@ -10,6 +10,9 @@ use Rattle.valuation.specs.declared.search_options.SearchOptions.{SearchOptions}
 use Rattle.valuation.specs.Listed.{AreListsOf}
 use Rattle.valuation.specs.SearchLimits.{next_steps}
 use Rattle.prune.specs.Lemmas.KeptBids.{on_bundles}
+use Rattle.prune.specs.Points.{or_points}
+use Rattle.prune.specs.Fates.{or_fate, plain_fate}
+use Rattle.prune.proofs.Fates.{noted_all, or_noted_dropped, or_noted_kept}
 use Rattle.prune.proofs.SearchedPlaces.{lists_more}
 use Rattle.prune.proofs.Prefixes.{next_left}
 use Rattle.prune.proofs.PruningLoop.{next_turn, one_done, one_kept, one_left, none_left, or_end, kept_nonempty, turn_nonempty, all_some}
@@ -20,6 +23,7 @@ use Rattle.prune.proofs.Pruning.{IsKept-none}
 use Rattle.prune.proofs.Results.{turn_behind, or_more, or_reached, or_missed}
 use Rattle.prune.specs.SearchSteps.{steps_for}
 use Rattle.prune.proofs.or.prune_or_by.Goals as goal
+use Rattle.std.proofs.Common.{map}
 
 pub list_below-requires-clause-in_order : goal.list_below-requires-clause-in_order
 list_below-requires-clause-in_order g c = rw c.deref-in-loop-place.ensures.value c.loop-place.invariant.kept.in_order
@@ -47,7 +51,7 @@ keep-requires g c =
     let there : c.loop-place.place < length now.items = omega (arith, c.loop-place-test.true, c.len-place-end.ensures, best.ok.0, h.left.long) in
     let turn = next_turn goods (λ s. (g.met.S.GoodsSet.is_bundle s).0) _ best.items now.items c.loop-place.place c.index-bid.result.now
     c.in_ok-keep_best_bids.ensures.best h.left there c.index-bid.ensures in
-    subst (λ (xs : List ℕ). 0 < length xs) (sym c.in_ok-goods.ensures) (turn_nonempty MAX_GOODS _ _ _ _ turn c.requires)
+    subst (λ (xs : List ℕ). 0 < length xs) (sym c.in_ok-goods.ensures) (turn_nonempty MAX_GOODS _ _ _ _ turn c.requires.atoms)
 
 pub find-requires-clause-some : goal.find-requires-clause-some
 find-requires-clause-some g c =
@@ -55,7 +59,7 @@ find-requires-clause-some g c =
     let h = c.loop-place.invariant in
     rw c.deref-in-loop-place.ensures.value
     (kept_nonempty goods MAX_GOODS (atoms_of goods c.args.atoms.items) c.keep_best_bids.new.bids.items _ c.loop-place.place c.in_ok-keep_best_bids.ensures.best
-    c.requires h.kept.among)
+    c.requires.atoms h.kept.among)
 
 pub returns-clause-points : goal.returns-clause-points
 returns-clause-points g c =
@@ -64,7 +68,7 @@ returns-clause-points g c =
     let h = c.loop-place.invariant in
     let best = c.keep_best_bids.new.bids in
     let all : length best.items ≤ c.loop-place.place = omega (arith, c.loop-place-test.false, c.len-place-end.ensures, best.ok.0) in
-    let done = or_end goods bids best.items _ _ c.loop-place.place (all_some MAX_GOODS bids c.requires) c.in_ok-keep_best_bids.ensures.best h.kept all
+    let done = or_end goods bids best.items _ _ c.loop-place.place (all_some MAX_GOODS bids c.requires.atoms) c.in_ok-keep_best_bids.ensures.best h.kept all
     c.truncate.ensures.items in
     λ n are. done.points n (on_bundles n bids are)
 
@@ -75,7 +79,7 @@ returns-clause-values g c =
     let h = c.loop-place.invariant in
     let best = c.keep_best_bids.new.bids in
     let all : length best.items ≤ c.loop-place.place = omega (arith, c.loop-place-test.false, c.len-place-end.ensures, best.ok.0) in
-    let done = or_end goods bids best.items _ _ c.loop-place.place (all_some MAX_GOODS bids c.requires) c.in_ok-keep_best_bids.ensures.best h.kept all
+    let done = or_end goods bids best.items _ _ c.loop-place.place (all_some MAX_GOODS bids c.requires.atoms) c.in_ok-keep_best_bids.ensures.best h.kept all
     c.truncate.ensures.items in
     done.values
 
@@ -86,7 +90,7 @@ returns-clause-bids g c =
     let h = c.loop-place.invariant in
     let best = c.keep_best_bids.new.bids in
     let all : length best.items ≤ c.loop-place.place = omega (arith, c.loop-place-test.false, c.len-place-end.ensures, best.ok.0) in
-    let done = or_end goods bids best.items _ _ c.loop-place.place (all_some MAX_GOODS bids c.requires) c.in_ok-keep_best_bids.ensures.best h.kept all
+    let done = or_end goods bids best.items _ _ c.loop-place.place (all_some MAX_GOODS bids c.requires.atoms) c.in_ok-keep_best_bids.ensures.best h.kept all
     c.truncate.ensures.items in
     done.among
 
@@ -97,9 +101,22 @@ returns-clause-in_order g c =
     let h = c.loop-place.invariant in
     let best = c.keep_best_bids.new.bids in
     let all : length best.items ≤ c.loop-place.place = omega (arith, c.loop-place-test.false, c.len-place-end.ensures, best.ok.0) in
-    let done = or_end goods bids best.items _ _ c.loop-place.place (all_some MAX_GOODS bids c.requires) c.in_ok-keep_best_bids.ensures.best h.kept all
+    let done = or_end goods bids best.items _ _ c.loop-place.place (all_some MAX_GOODS bids c.requires.atoms) c.in_ok-keep_best_bids.ensures.best h.kept all
     c.truncate.ensures.items in
     done.in_order
+
+pub returns-clause-fates : goal.returns-clause-fates
+returns-clause-fates g c = λ w n are.
+    let goods = g.S.GoodsSet.goods in
+    let bids = atoms_of goods c.args.atoms.items in
+    let h = c.loop-place.invariant in
+    let best = c.keep_best_bids.new.bids in
+    let all : length best.items ≤ c.loop-place.place = omega (arith, c.loop-place-test.false, c.len-place-end.ensures, best.ok.0) in
+    let done = or_end goods bids best.items _ _ c.loop-place.place (all_some MAX_GOODS bids c.requires.atoms) c.in_ok-keep_best_bids.ensures.best h.kept all
+    c.truncate.ensures.items in
+    let on = on_bundles n bids are in
+    noted_all goods (or_fate c.args.options.kind) n bids (or_points n bids) best.items _ _ c.loop-place.place _ on c.in_ok-keep_best_bids.ensures.best all
+    c.truncate.ensures.items (done.points n on) (h.noted w)
 
 pub loop-place-init : goal.loop-place-init
 loop-place-init g c =
@@ -113,10 +130,12 @@ loop-place-init g c =
       kept = IsKept-none or_value or_value-price or_more or_value-filter_le;
       within = IsWithin-start c.args.options bids (atoms_of g.S.GoodsSet.goods c.keep_best_bids.new.bids.items) best;
       fewer = omega arith;
+      wanted = refl;
+      noted = λ _. ap (map plain_fate) c.requires.empty;
     }
 
-pub loop-place-preserved-then-is_some : goal.loop-place-preserved-then-is_some
-loop-place-preserved-then-is_some g c =
+pub loop-place-preserved-then-is_dropped : goal.loop-place-preserved-then-is_dropped
+loop-place-preserved-then-is_dropped g c =
     let goods = g.S.GoodsSet.goods in
     let h = c.loop-place.invariant in
     let bids = atoms_of goods c.args.atoms.items in
@@ -151,9 +170,13 @@ loop-place-preserved-then-is_some g c =
       index = indexed;
       kind = kind;
       lists = lists;
-      kept = rw done (or_reached _ _ _ _ (atoms_of goods kept) turn h.kept (sym (sym c.is_some.ensures ∙ c.if-is_some.true) ∙ answer));
+      kept = rw done (or_reached _ _ _ _ (atoms_of goods kept) turn h.kept (sym (sym c.is_some-is_dropped.ensures ∙ c.if-is_dropped.true) ∙ answer));
       within = later;
       fewer = omega (arith, h.fewer);
+      wanted = c.note.ensures.wanted ∙ h.wanted;
+      noted = λ w.
+          rw done (or_noted_dropped _ _ _ _ (atoms_of goods kept) turn h.kept.among c.args.options.kind _ (h.kind ∙ h.within.kind) _ _ c.in-Ok.found
+          (c.in_ok-note.ensures.noted (h.wanted ∙ w)) answer (rw same at found.places) (h.noted w));
     }
 
 pub loop-place-preserved : goal.loop-place-preserved
@@ -196,9 +219,13 @@ loop-place-preserved g c =
       index = rw more (c.in_ok-keep.ensures.index (atoms_of goods kept) (plain_atom goods bid) (sym c.in_ok-goods.ensures) indexed);
       kind = kind;
       lists = rw more (lists_more (atoms_of goods kept) (plain_atom goods bid) c.find.new.self.lists lists);
-      kept = rw (done, more) (or_missed _ _ _ _ (atoms_of goods kept) turn h.kept (sym (sym c.is_some.ensures ∙ c.if-is_some.false) ∙ answer));
+      kept = rw (done, more) (or_missed _ _ _ _ (atoms_of goods kept) turn h.kept (sym (sym c.is_some-is_dropped.ensures ∙ c.if-is_dropped.false) ∙ answer));
       within = later;
       fewer = omega (arith, h.fewer);
+      wanted = c.note.ensures.wanted ∙ h.wanted;
+      noted = λ w.
+          rw (done, more) (or_noted_kept _ _ _ _ (atoms_of goods kept) turn h.kept.among c.args.options.kind _ (h.kind ∙ h.within.kind) _ _ c.in-Ok.found
+          (c.in_ok-note.ensures.noted (h.wanted ∙ w)) answer (rw same at found.places) (h.noted w));
     }
 
 pub returns-in-Err-StepLimit-clause-refused : goal.returns-in-Err-StepLimit-clause-refused

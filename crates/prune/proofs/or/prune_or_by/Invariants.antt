@@ -1,8 +1,9 @@
 -- From the place on the best bids are as they were; what is kept of those before it, the prefix, is as it should be;
--- and what is left of the limits decides on those from it on.
-use Rattle.std.proofs.Common.{◌≡◌, ◌≤◌, drop, take}
+-- what is left of the limits decides on those from it on; and what was noted is what becomes of those before it, by the prefix.
+use Rattle.std.proofs.Common.{◌≡◌, ◌≤◌, true, map, drop, take}
 use Rattle.valuation.specs.Listed.{AreListsOf}
 use Rattle.valuation.specs.Values.{atoms_of}
+use Rattle.prune.specs.Fates.{or_fate, plain_fate}
 use Rattle.prune.specs.Internal.Listings.{IsIndexOf}
 use Rattle.prune.proofs.Prefixes.{IsLeft}
 use Rattle.prune.proofs.Refusals.{IsWithin}
@@ -23,4 +24,6 @@ invariant-loop-place g l =
       kept : IsOrKept done prefix;
       within : IsWithin l.fn.options l.options (atoms_of goods l.fn.atoms.items) rest;
       fewer : l.kept ≤ l.place;
+      wanted : l.log.wanted ≡ l.fn.log.wanted;
+      noted : l.fn.log.wanted ≡ true → map plain_fate l.log.fates.items ≡ map (or_fate l.fn.options.kind prefix) done;
     }

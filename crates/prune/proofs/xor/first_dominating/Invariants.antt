@@ -1,11 +1,10 @@
 -- None of the atoms so far dominates the bid.
-use Rattle.std.proofs.Common.{◌≡◌, false, take}
-use Rattle.std.specs.List.{list_any}
+use Rattle.std.proofs.Common.{◌≡◌, ℕ, ◌<◌, false}
 use Rattle.valuation.specs.Values.{atoms_of}
-use Rattle.prune.specs.Internal.Listings.{dominates}
+use Rattle.prune.specs.Internal.Listings.{dominates_at}
 use Rattle.prune.proofs.xor.first_dominating.Given as goal
 
 abbrev pub invariant-loop-place : goal.invariant-loop-place
 invariant-loop-place g l =
     let goods = g.S.GoodsSet.goods in
-    list_any (dominates (goods l.bid.bundle) l.bid.price) (take l.place (atoms_of goods l.atoms)) ≡ false
+    (k : ℕ) → k < l.place → dominates_at (atoms_of goods l.atoms) (goods l.bid.bundle) l.bid.price k ≡ false

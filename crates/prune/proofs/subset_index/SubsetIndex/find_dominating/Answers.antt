@@ -1,43 +1,61 @@
-use Rattle.std.proofs.Common.{sym, ap, ◌∙◌, List}
-use Rattle.std.specs.List.{list_any}
-use Rattle.valuation.specs.Values.{atoms_of}
-use Rattle.prune.specs.Internal.Listings.{lists_of, indices_of, dominates_at}
-use Rattle.prune.proofs.ListedAtoms.{next_there, none_there, behind_next, postings_right, NoneDominates-more, NoneDominates-all, one_dominates}
-use Rattle.prune.proofs.subset_index.SubsetIndex.find_dominating.Goals as goal
+-- The first so far is that of the goods so far: see proofs/FirstDominating.
+use Rattle.std.proofs.Common.{◌≡◌, ◌<◌, ℕ, List, get_or, length, sym, subst, take, arith, true}
+use Rattle.std.specs.Prelude.{All}
+use Rattle.std.proofs.lemmas.List.{length-take-le, take-map}
+use Rattle.valuation.specs.declared.atom.Atom.{Atom}
+use Rattle.valuation.specs.Lemmas.Atoms.{length-atoms_of}
+use Rattle.valuation.specs.Values.{atoms_of, plain_atom}
 use Rattle.prune.specs.declared.posting.Posting.{Posting}
+use Rattle.prune.specs.Internal.Listings.{lists_of, indices_of, places_at, dominates_at}
+use Rattle.prune.proofs.ListedAtoms.{next_there, none_there, behind_next}
+use Rattle.prune.proofs.FirstDominating.{IsFirstSoFar-all, IsFirstSoFar-more, IsFirstSoFar-some, postings_before}
+use Rattle.prune.proofs.subset_index.SubsetIndex.find_dominating.Goals as goal
+use Rattle.std.proofs.Common.{false}
 
-pub find_dominating_among-found-requires-clause-listed : goal.find_dominating_among-found-requires-clause-listed
-find_dominating_among-found-requires-clause-listed g c = postings_right _ _ _ _ _ c.requires.index.listed c.postings_at-postings.ensures
+pub first_dominating_among-first-requires-clause-listed : goal.first_dominating_among-first-requires-clause-listed
+first_dominating_among-first-requires-clause-listed g c =
+    postings_before g.S.GoodsSet.goods (lists_of c.args.self.now.lists.items) c.args.self.now.listed c.args.kept.now _ c.loop-good.first _
+    c.requires.index.listed c.postings_at-postings.ensures
 
 pub loop-good-preserved : goal.loop-good-preserved
 loop-good-preserved g c =
-    let bundle = g.S.GoodsSet.goods c.args.bundle.now in
+    let seen = g.S.GoodsSet.goods in
+    let atoms = atoms_of seen c.args.kept.now in
+    let bundle = seen c.args.bundle.now in
     let goods = c.args.goods.now in
-    let i = c.loop-good.good-index in
+    let index = c.loop-good.good-index in
+    let first = c.loop-good.first in
     let rises = (g.met.S.GoodsSet.is_bundle c.args.bundle.now).0 in
-    let answer = c.find_dominating_among-found.ensures.answer
-    ∙ ap (λ (ps : List Posting). list_any (dominates_at (atoms_of g.S.GoodsSet.goods c.args.kept.now) bundle c.args.price) (indices_of ps))
-    c.postings_at-postings.ensures in
-    let next = NoneDominates-more (lists_of c.args.self.now.lists.items) (atoms_of g.S.GoodsSet.goods c.args.kept.now) bundle c.args.price
-    _ _ rises (next_there goods bundle i c.requires.goods rises c.loop-good-test.true) (sym answer ∙ sym c.is_some.ensures ∙ c.if-is_some.false)
-    c.loop-good.invariant in
-    rw (sym (behind_next goods bundle i c.requires.goods)) next
+    let h = c.loop-good.invariant in
+    let got = c.first_dominating_among-first.ensures in
+    let next = c.first_dominating_among-first.result in
+    let before : atoms_of seen (take first c.args.kept.now) ≡ take first atoms = sym (take-map (plain_atom seen) first c.args.kept.now) in
+    let long : length (take first c.args.kept.now) ≡ first =
+    length-take-le first c.args.kept.now (omega (arith, h.within, length-atoms_of seen c.args.kept.now)) in
+    rw (sym (behind_next goods bundle index c.requires.goods))
+    (IsFirstSoFar-more (lists_of c.args.self.now.lists.items) atoms bundle c.args.price _ _ first next rises
+    (next_there goods bundle index c.requires.goods rises c.loop-good-test.true) (omega (arith, got.within, long))
+    (λ l. subst (λ (zs : List (Atom (List ℕ))). dominates_at zs bundle c.args.price next ≡ true) before (got.found (omega (arith, l, long))))
+    (subst (λ (zs : List (Atom (List ℕ))). All (λ place. place < next → dominates_at zs bundle c.args.price place ≡ false)
+    (places_at (lists_of c.args.self.now.lists.items) (get_or goods index 0))) before
+    (subst (λ (ps : List Posting). All (λ place. place < next → dominates_at (atoms_of seen (take first c.args.kept.now)) bundle c.args.price place ≡ false)
+    (indices_of ps)) c.postings_at-postings.ensures got.none))
+    h)
 
-pub returns-then-is_some-clause-answer : goal.returns-then-is_some-clause-answer
-returns-then-is_some-clause-answer g c =
-    let goods = g.S.GoodsSet.goods in
-    let answer = c.find_dominating_among-found.ensures.answer
-    ∙ ap (λ (ps : List Posting). list_any (dominates_at (atoms_of goods c.args.kept.now) (goods c.args.bundle.now) c.args.price) (indices_of ps))
-    c.postings_at-postings.ensures in
-    let found = sym c.is_some.ensures ∙ c.if-is_some.true in
-    found ∙ sym (one_dominates (lists_of c.args.self.now.lists.items) c.args.self.now.listed (atoms_of goods c.args.kept.now) (goods c.args.bundle.now)
-    c.args.price _ c.requires.index.listed (sym answer ∙ found))
-
-pub returns-clause-answer : goal.returns-clause-answer
-returns-clause-answer g c =
+pub returns-then-first-kept : goal.returns-then-first-kept
+returns-then-first-kept g c =
     let goods = g.S.GoodsSet.goods in
     let bundle = goods c.args.bundle.now in
     let none = none_there c.args.goods.now bundle c.loop-good.good-index c.requires.goods (g.met.S.GoodsSet.is_bundle c.args.bundle.now).0
     c.loop-good.auto.good-index-end c.loop-good-test.false in
-    sym (NoneDominates-all (lists_of c.args.self.now.lists.items) c.args.self.now.listed (atoms_of goods c.args.kept.now) bundle
-    c.args.price _ c.requires.index.listed c.requires.ready none c.loop-good.invariant)
+    IsFirstSoFar-some (lists_of c.args.self.now.lists.items) c.args.self.now.listed (atoms_of goods c.args.kept.now) bundle c.args.price _ c.loop-good.first
+    c.requires.index.listed c.requires.ready none c.loop-good.invariant (omega (arith, c.if-first-kept.true, length-atoms_of goods c.args.kept.now))
+
+pub returns : goal.returns
+returns g c =
+    let goods = g.S.GoodsSet.goods in
+    let bundle = goods c.args.bundle.now in
+    let none = none_there c.args.goods.now bundle c.loop-good.good-index c.requires.goods (g.met.S.GoodsSet.is_bundle c.args.bundle.now).0
+    c.loop-good.auto.good-index-end c.loop-good-test.false in
+    IsFirstSoFar-all (lists_of c.args.self.now.lists.items) c.args.self.now.listed (atoms_of goods c.args.kept.now) bundle c.args.price _ c.loop-good.first
+    c.requires.index.listed c.requires.ready none c.loop-good.invariant (omega (arith, c.if-first-kept.false, length-atoms_of goods c.args.kept.now))

@@ -6,13 +6,19 @@ use Rattle.valuation.specs.Values.{atoms_of, plain_atom}
 use Rattle.prune.specs.Internal.Listings.{AreUndominated, IsIndexOf}
 use Rattle.prune.specs.Lemmas.KeptBids.{on_bundles, just_bundles}
 use Rattle.prune.proofs.Prefixes.{next_left}
+use Rattle.std.specs.Prelude.{is_some}
+use Rattle.prune.specs.Points.{xor_points}
+use Rattle.prune.specs.Fates.{xor_fate}
+use Rattle.prune.proofs.Fates.{noted_all, xor_noted_dropped, xor_noted_kept}
+use Rattle.prune.proofs.FirstDominating.{is_some-first_dominating}
 use Rattle.prune.proofs.PruningLoop.{next_turn, one_done, one_kept, xor_end, xor_undominated, turn_nonempty, dominates_is}
 use Rattle.prune.proofs.Results.{turn_positive, turn_behind, xor_reached, xor_missed}
-use Rattle.prune.proofs.xor.prune_xor.Goals as goal
-use Rattle.prune.proofs.xor.prune_xor.Goals.{then-not-branch, else-not-branch}
+use Rattle.prune.proofs.xor.prune_xor_noting.Goals as goal
+use Rattle.prune.proofs.xor.prune_xor_noting.Goals.{then-is_none, else-is_none}
+use Rattle.std.proofs.Common.{ap}
 
-pub is_dominated-requires-clause-some : goal.is_dominated-requires-clause-some
-is_dominated-requires-clause-some g c =
+pub first_kept_dominating-requires-clause-some : goal.first_kept_dominating-requires-clause-some
+first_kept_dominating-requires-clause-some g c =
     let goods = g.S.GoodsSet.goods in
     let h = c.loop-place.invariant in
     let best = c.keep_best_bids.new.bids in
@@ -20,16 +26,16 @@ is_dominated-requires-clause-some g c =
     let there : c.loop-place.place < length now.items = omega (arith, c.loop-place-test.true, c.len-place-end.ensures, best.ok.0, h.left.long) in
     let turn = next_turn goods (λ s. (g.met.S.GoodsSet.is_bundle s).0) _ best.items now.items c.loop-place.place c.index-bid.result.now
     c.in_ok-keep_best_bids.ensures.best h.left there c.index-bid.ensures in
-    turn_nonempty MAX_GOODS _ _ _ _ turn c.requires
+    turn_nonempty MAX_GOODS _ _ _ _ turn c.requires.atoms
 
-pub is_dominated-requires-clause-index : goal.is_dominated-requires-clause-index
-is_dominated-requires-clause-index g c = λ f. rw c.deref-in-loop-place.ensures.value (c.loop-place.invariant.index f)
+pub first_kept_dominating-requires-clause-index : goal.first_kept_dominating-requires-clause-index
+first_kept_dominating-requires-clause-index g c = λ f. rw c.deref-in-loop-place.ensures.value (c.loop-place.invariant.index f)
 
-pub is_dominated-requires-clause-in_order : goal.is_dominated-requires-clause-in_order
-is_dominated-requires-clause-in_order g c = rw c.deref-in-loop-place.ensures.value c.loop-place.invariant.kept.in_order
+pub first_kept_dominating-requires-clause-in_order : goal.first_kept_dominating-requires-clause-in_order
+first_kept_dominating-requires-clause-in_order g c = rw c.deref-in-loop-place.ensures.value c.loop-place.invariant.kept.in_order
 
-pub is_dominated-requires-clause-behind : goal.is_dominated-requires-clause-behind
-is_dominated-requires-clause-behind g c =
+pub first_kept_dominating-requires-clause-behind : goal.first_kept_dominating-requires-clause-behind
+first_kept_dominating-requires-clause-behind g c =
     let goods = g.S.GoodsSet.goods in
     let h = c.loop-place.invariant in
     let best = c.keep_best_bids.new.bids in
@@ -48,17 +54,19 @@ loop-place-preserved g c =
     let place = c.loop-place.place in
     let bid = c.index-bid.result.now in
     let kept = take c.loop-place.kept now.items in
-    let index = c.is_dominated.new.index in
+    let index = c.first_kept_dominating.new.index in
     let there : place < length now.items = omega (arith, c.loop-place-test.true, c.len-place-end.ensures, best.ok.0, h.left.long) in
     let turn = next_turn goods (λ s. (g.met.S.GoodsSet.is_bundle s).0) (atoms_of goods c.args.atoms.items) best.items now.items place bid
     c.in_ok-keep_best_bids.ensures.best h.left there c.index-bid.ensures in
     let done = one_done goods best.items now.items place bid h.left there c.index-bid.ensures in
     let same = c.deref-in-loop-place.ensures.value in
-    let answer = rw same at c.in_ok-is_dominated.ensures.answer in
-    let reaches = answer ∙ dominates_is bid.price (goods bid.bundle) (atoms_of goods kept) (turn_positive _ _ _ _ turn) in
-    let indexed = rw same at c.in_ok-is_dominated.ensures.index in
-    elim c.if-not-branch.branch [
-      | then-not-branch w ↦
+    let found = c.in_ok-found.found in
+    let answer = rw same at c.in_ok-found.ensures.answer in
+    let reaches = ap is_some answer ∙ is_some-first_dominating (atoms_of goods kept) (goods bid.bundle) bid.price
+    ∙ dominates_is bid.price (goods bid.bundle) (atoms_of goods kept) (turn_positive _ _ _ _ turn) in
+    let indexed = rw same at c.in_ok-found.ensures.index in
+    elim c.if-is_none.branch [
+      | then-is_none w ↦
           let after = w.move_to_prefix.new.elements in
           let moved = w.move_to_prefix.ensures in
           let more = one_kept goods now.items after.items c.loop-place.kept place bid c.index-bid.ensures moved.prefix in
@@ -67,20 +75,40 @@ loop-place-preserved g c =
                 moved.rest;
             index = λ f.
                 rw more
-                (subst (λ b. IsIndexOf (atoms_of goods kept ++ cond b [] (plain_atom goods bid ∷ [])) index) w.if-not-branch.true (indexed f));
-            kept = rw (done, more) (xor_missed _ _ _ _ (atoms_of goods kept) turn h.kept (sym w.if-not-branch.true ∙ reaches));
+                (subst (λ b. IsIndexOf (atoms_of goods kept ++ cond b [] (plain_atom goods bid ∷ [])) index) w.if-is_none.ensures (indexed f));
+            kept = rw (done, more) (xor_missed _ _ _ _ (atoms_of goods kept) turn h.kept (sym w.if-is_none.ensures ∙ reaches));
             fewer = omega (arith, h.fewer);
+            wanted = c.note.ensures.wanted ∙ h.wanted;
+            noted = λ w.
+                rw (done, more) (xor_noted_kept _ _ _ _ (atoms_of goods kept) turn h.kept.among _ _ found (c.in_ok-note.ensures.noted (h.wanted ∙ w)) answer
+                (h.noted w));
           })
-      | else-not-branch w ↦
+      | else-is_none w ↦
           rw (w.atoms-is, w.kept-is) (record {
             left = next_left best.items now.items place bid h.left there c.index-bid.ensures now.items refl refl;
             index = λ f.
                 subst (λ zs. IsIndexOf zs index) (append-nil (atoms_of goods kept))
-                (subst (λ b. IsIndexOf (atoms_of goods kept ++ cond b [] (plain_atom goods bid ∷ [])) index) w.if-not-branch.false (indexed f));
-            kept = rw done (xor_reached _ _ _ _ (atoms_of goods kept) turn h.kept (sym w.if-not-branch.false ∙ reaches));
+                (subst (λ b. IsIndexOf (atoms_of goods kept ++ cond b [] (plain_atom goods bid ∷ [])) index) w.if-is_none.ensures (indexed f));
+            kept = rw done (xor_reached _ _ _ _ (atoms_of goods kept) turn h.kept (sym w.if-is_none.ensures ∙ reaches));
             fewer = omega (arith, h.fewer);
+            wanted = c.note.ensures.wanted ∙ h.wanted;
+            noted = λ w.
+                rw done (xor_noted_dropped _ _ _ _ (atoms_of goods kept) turn h.kept.among _ _ found (c.in_ok-note.ensures.noted (h.wanted ∙ w)) answer
+                (h.noted w));
           })
     ]
+
+pub returns-clause-fates : goal.returns-clause-fates
+returns-clause-fates g c = λ w n are.
+    let goods = g.S.GoodsSet.goods in
+    let bids = atoms_of goods c.args.atoms.items in
+    let best = c.keep_best_bids.new.bids in
+    let all : length best.items ≤ c.loop-place.place = omega (arith, c.loop-place-test.false, c.len-place-end.ensures, best.ok.0) in
+    let done = xor_end goods bids best.items _ _ c.loop-place.place c.in_ok-keep_best_bids.ensures.best c.loop-place.invariant.kept all c.truncate.ensures.items
+    in
+    let on = on_bundles n bids are in
+    noted_all goods xor_fate n bids (xor_points n bids) best.items _ _ c.loop-place.place _ on c.in_ok-keep_best_bids.ensures.best all
+    c.truncate.ensures.items (done.points n (just_bundles n bids on)) (c.loop-place.invariant.noted w)
 
 pub returns-then-are_few_and_undominated-clause-points : goal.returns-then-are_few_and_undominated-clause-points
 returns-then-are_few_and_undominated-clause-points g c =

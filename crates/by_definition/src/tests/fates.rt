@@ -1,0 +1,133 @@
+//! What becomes of best bids, on both kinds of sets. Each call is made with ample memory, so that it has to succeed.
+
+use crate::auction::ListAtom;
+use crate::tests::bids::{AMPLE, PricedGoods, atoms_on, bids_of, push_bid, row_on, singles};
+use goods_set::{GoodsSet, ListSet, WordSet};
+use prune::{FateLog, prune_or_by, prune_xor_noting};
+use std::alloc::Global;
+use std::process::Abort;
+use std::test::Fail;
+use valuation::SearchOptions;
+
+// The best bids are on {0}, {1}, {2}, {0, 1}, {1, 2} and {0, 1, 2}. All but the last two are kept.
+const OR_BIDS: &[PricedGoods] = &[
+    (&[0, 1, 2], 12),
+    (&[2], 5),
+    (&[1], 4),
+    (&[0, 1], 8),
+    (&[0], 3),
+    (&[1, 2], 9),
+    (&[0], 2),
+    (&[1], 0),
+];
+
+// The places of the packings that reach the prices of the last two, by plain and by bounded searches.
+static PLAIN_PACKINGS: [&[usize]; 2] = [&[1, 2], &[0, 1, 2]];
+
+static BOUNDED_PACKINGS: [&[usize]; 2] = [&[1, 2], &[2, 3]];
+
+fn or_fates<S: GoodsSet>(
+    rt: &impl Abort,
+    alloc: Global,
+    options: SearchOptions,
+    packings: &[&[usize]],
+) -> Result<(), Fail> {
+    let mut log = FateLog::new(alloc, true);
+    let bids = row_on::<S>(rt, alloc, OR_BIDS)?;
+    assert!(rt; prune_or_by(alloc, bids, options, &mut log).is_ok());
+    let fates = log.into_fates();
+    assert_eq!(rt; fates.len(), 4 + packings.len());
+    for (place, fate) in fates.iter().enumerate() {
+        match fate {
+            Some(places) => assert_eq!(rt; places.as_slice(), packings[place - 4]),
+            None => assert!(rt; place < 4),
+        }
+    }
+    Ok(())
+}
+
+fn or_fates_of_both_kinds<S: GoodsSet>(rt: &impl Abort, alloc: Global) -> Result<(), Fail> {
+    or_fates::<S>(rt, alloc, SearchOptions::plain(AMPLE), &PLAIN_PACKINGS)?;
+    let bounded = SearchOptions::bounded(AMPLE, Some(AMPLE));
+    or_fates::<S>(rt, alloc, bounded, &BOUNDED_PACKINGS)
+}
+
+#[test]
+fn or_fates_on_both_sets(rt: HostRuntime) -> Result<(), Fail> {
+    or_fates_of_both_kinds::<ListSet>(&rt, rt.alloc())?;
+    or_fates_of_both_kinds::<WordSet<16>>(&rt, rt.alloc())
+}
+
+// Bids, and what becomes of the best ones: none, or the place of the first point inside the bundle with at least the price.
+static XOR_ROWS: [(&[PricedGoods], &[Option<usize>]); 3] = [
+    (&[(&[0], 0)], &[]),
+    (
+        &[
+            (&[0, 1, 2], 3),
+            (&[0, 2], 5),
+            (&[0, 1], 4),
+            (&[1], 4),
+            (&[0], 3),
+        ],
+        &[None, None, Some(1), None, Some(0)],
+    ),
+    (
+        &[
+            (&[0, 1, 2], 5),
+            (&[0, 2], 5),
+            (&[0, 1], 4),
+            (&[1], 4),
+            (&[0], 3),
+        ],
+        &[None, None, Some(1), None, Some(2)],
+    ),
+];
+
+fn xor_fates<S: GoodsSet>(
+    rt: &impl Abort,
+    alloc: Global,
+    bids: &[ListAtom],
+    wanted: bool,
+) -> Result<Vec<Option<usize>>, Fail> {
+    let mut log = FateLog::new(alloc, wanted);
+    prune_xor_noting(alloc, atoms_on::<S>(rt, alloc, bids)?, &mut log)?;
+    Ok(log.into_fates())
+}
+
+fn xor_rows<S: GoodsSet>(rt: &impl Abort, alloc: Global) -> Result<(), Fail> {
+    for (bids, fates) in &XOR_ROWS {
+        let bids = bids_of(alloc, bids)?;
+        let noted = xor_fates::<S>(rt, alloc, &bids, true)?;
+        assert_eq!(rt; noted.as_slice(), *fates);
+        assert!(rt; xor_fates::<S>(rt, alloc, &bids, false)?.is_empty());
+    }
+    Ok(())
+}
+
+// So many bids are found by their goods. The first point inside the last bundle, {2, 5}, has an earlier place than {3, 4}.
+fn fates_of_many<S: GoodsSet>(rt: &impl Abort, alloc: Global) -> Result<(), Fail> {
+    let mut bids = singles(alloc, 40, 1)?;
+    for (goods, price) in [
+        (&[3, 4], 50),
+        (&[2, 5], 50),
+        (&[3, 39], 1),
+        (&[2, 3, 4, 5], 50),
+    ] {
+        push_bid(alloc, &mut bids, goods, price)?;
+    }
+    let noted = xor_fates::<S>(rt, alloc, &bids, true)?;
+    let expected = [None, None, Some(3), Some(40)];
+    assert_eq!(rt; &noted[40..], &expected[..]);
+    Ok(())
+}
+
+fn xor_fates_of_both<S: GoodsSet>(rt: &impl Abort, alloc: Global) -> Result<(), Fail> {
+    xor_rows::<S>(rt, alloc)?;
+    fates_of_many::<S>(rt, alloc)
+}
+
+#[test]
+fn xor_fates_on_both_sets(rt: HostRuntime) -> Result<(), Fail> {
+    xor_fates_of_both::<ListSet>(&rt, rt.alloc())?;
+    xor_fates_of_both::<WordSet<64>>(&rt, rt.alloc())
+}

@@ -1,0 +1,23 @@
+-- From the place on the best bids are as they were; what is kept of those before it, the prefix, is as it should be;
+-- and what was noted is what becomes of them, by the prefix.
+use Rattle.std.proofs.Common.{◌≡◌, ◌≤◌, false, true, map, take}
+use Rattle.valuation.specs.Values.{atoms_of}
+use Rattle.prune.specs.Fates.{xor_fate}
+use Rattle.prune.specs.Internal.Listings.{IsIndexOf}
+use Rattle.prune.proofs.Prefixes.{IsLeft}
+use Rattle.prune.proofs.Results.{IsXorKept}
+use Rattle.prune.proofs.xor.prune_xor_noting.Given as goal
+
+abbrev pub invariant-loop-place : goal.invariant-loop-place
+invariant-loop-place g l =
+    let goods = g.S.GoodsSet.goods in
+    let done = atoms_of goods (take l.place l.initial.atoms.items) in
+    let prefix = atoms_of goods (take l.kept l.atoms.items) in
+    record {
+      left : IsLeft l.initial.atoms.items l.atoms.items l.place;
+      index : l.few ≡ false → IsIndexOf prefix l.index;
+      kept : IsXorKept done prefix;
+      fewer : l.kept ≤ l.place;
+      wanted : l.log.wanted ≡ l.fn.log.wanted;
+      noted : l.fn.log.wanted ≡ true → l.log.fates.items ≡ map (xor_fate prefix) done;
+    }
