@@ -57,8 +57,11 @@ module _ (f : PlainFile) (bids : List NumberedBid) (order : AreInOrder f bids) w
   first_numbers : AllPairs (λ i j. i ≢ j) (map number order.numbered)
   first_numbers i j d l m =
       let long = length-map order.numbered number in
-      let blank : NumberedBid = get_or order.numbered 0 (record { bid = record { price = 0; goods = record { ref_ptr = (0, 0); now = [] }; dummy = None }; number
-      = 0 }) in
+      let blank : NumberedBid = get_or order.numbered 0 (record {
+        bid = record { price = 0; goods = record { ref_ptr = (0, 0); now = [] }; dummy = None };
+        number
+            = 0;
+      }) in
       let one = get_or-map number order.numbered i blank d (omega arith) in
       let other = get_or-map number order.numbered j blank d (omega arith) in
       let one_is = (order.are.each i blank (omega arith)).0 in

@@ -75,9 +75,10 @@ module _ (f : PlainFile) (bids : List NumberedBid) (order : AreInOrder f bids) (
   itself less =
       let target : PlainBid = seen_bid n.bid in
       subst (λ (m : NumberedBid). IsBestFor f n.number m.number) (at n)
-      (first_is_best f bids order target place
-      ( λ i d lo hi. partitioned f bids order target i (place - 1) d (omega arith) (omega (arith, within)) (less d (omega arith)),
-        λ i d lo hi. ap (λ (m : NumberedBid). is_lt (key_cmp (seen_bid (get_or bids i d).bid) (seen_bid m.bid))) (sym (at d)) ∙ key_after place i d lo hi )
+      (first_is_best f bids order target place (
+        λ i d lo hi. partitioned f bids order target i (place - 1) d (omega arith) (omega (arith, within)) (less d (omega arith)),
+        λ i d lo hi. ap (λ (m : NumberedBid). is_lt (key_cmp (seen_bid (get_or bids i d).bid) (seen_bid m.bid))) (sym (at d)) ∙ key_after place i d lo hi,
+      )
       n n.number here.0 (sym here.1))
 
   module _ (last : NumberedBid) (best : IsLastBest f bids place last) where

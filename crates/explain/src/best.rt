@@ -70,10 +70,7 @@ fn numbered_bids(alloc: Global, file: &PackedFile) -> Result<Vec<NumberedBid<'_>
 }
 
 /// All bids of a file in order, so that the best of a bidder's bids on a bundle is the first.
-pub fn bids_in_order(
-    alloc: Global,
-    file: &PackedFile,
-) -> Result<Vec<NumberedBid<'_>>, AllocError>
+pub fn bids_in_order(alloc: Global, file: &PackedFile) -> Result<Vec<NumberedBid<'_>>, AllocError>
     requires { IsPlainFile file.now }
     ensures { IfOk result (λ bids. AreInOrder file.now bids.items) }
 {

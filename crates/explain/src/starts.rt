@@ -8,7 +8,11 @@ use canon::NamedFile;
 use std::alloc::{AllocError, Global};
 
 /// Of each dummy good of a file, where the bids of its bidder begin in the canonical file, and 0 if it has none there.
-pub(crate) fn starts_of(alloc: Global, file: &PackedFile, named: &NamedFile) -> Result<Vec<u32>, AllocError>
+pub(crate) fn starts_of(
+    alloc: Global,
+    file: &PackedFile,
+    named: &NamedFile,
+) -> Result<Vec<u32>, AllocError>
     requires { IsNamed file.now named.now }
     ensures { IfOk result (λ starts. AreStarts file.now 0 starts.items) }
 {

@@ -37,14 +37,14 @@ loop-behind-preserved c =
     let bid = seen_bid c.at.result in
     subst (λ (n : ℕ). AreStarts f n c.match-at.starts.items) before
     (elim c.match-at.branch as (λ _. AreStarts f k c.match-at.starts.items) [
-    | in-Some w ↦
-        subst (λ (v : Vec ℕ Global). AreStarts f k v.items) (sym w.starts-is)
-        (more_starts f k from c.loop-behind.starts.items w.index.result.now next c.loop-behind.invariant
-        (xor_bidder f c.args.named.now c.requires k bid c.at.ensures w.in-Some.dummy w.index.result.now w.in-Some.is w.index.ensures)
-        (in_file f c.args.named.now c.requires k bid c.at.ensures w.in-Some.dummy w.index.result.now w.in-Some.is w.index.ensures))
-    | in_default w ↦
-        subst (λ (v : Vec ℕ Global). AreStarts f k v.items) (sym w.starts-is)
-        (same_starts f k from c.loop-behind.starts.items next c.loop-behind.invariant (or_bidder f c.args.named.now c.requires k bid c.at.ensures w.in_default.is))
+      | in-Some w ↦
+          subst (λ (v : Vec ℕ Global). AreStarts f k v.items) (sym w.starts-is)
+          (more_starts f k from c.loop-behind.starts.items w.index.result.now next c.loop-behind.invariant
+          (xor_bidder f c.args.named.now c.requires k bid c.at.ensures w.in-Some.dummy w.index.result.now w.in-Some.is w.index.ensures)
+          (in_file f c.args.named.now c.requires k bid c.at.ensures w.in-Some.dummy w.index.result.now w.in-Some.is w.index.ensures))
+      | in_default w ↦
+          subst (λ (v : Vec ℕ Global). AreStarts f k v.items) (sym w.starts-is)
+          (same_starts f k from c.loop-behind.starts.items next c.loop-behind.invariant (or_bidder f c.args.named.now c.requires k bid c.at.ensures w.in_default.is))
     ])
 
 pub returns : goal.returns
