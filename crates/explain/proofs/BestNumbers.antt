@@ -1,5 +1,5 @@
 -- The number of a bidder's best bid on a bundle. One of the bids with the greatest price there is the best, and it alone.
-use Rattle.std.proofs.Common.{◌≡◌, ℕ, ◌+◌, ◌<◌, ◌≤◌, true, ◌&&◌, ⊎_elim, length, map, get_or, List, Option, Some, refl, sym, ap, ◌∙◌, arith}
+use Rattle.std.proofs.Common.{◌≡◌, ℕ, ◌<◌, ◌≤◌, true, ◌&&◌, ⊎_elim, length, map, List, Option, Some, refl, sym, ap, ◌∙◌, arith}
 use Rattle.std.specs.Prelude.{AllPairs}
 use Rattle.std.specs.List.{filter, range_with_len}
 use Rattle.std.proofs.lemmas.Bool.{and_from, and_parts, false_from_ne_true}
@@ -13,7 +13,7 @@ use Rattle.prune.specs.Lemmas.SearchSteps.{greatest_price-member, greatest_price
 use Rattle.explain.specs.Bids.{bid_at, numbers_of, are_alike, is_best, best_number, IsBestFor}
 use Rattle.explain.proofs.BestBids.{HaveOneKey, one_key, alike_from}
 use Rattle.explain.proofs.KeptBidsLists.{in_numbers}
-use Rattle.explain.proofs.KeptBidsBest.{best-once, best_of, atom_there, atom_from, one_key_same, one_key_sym}
+use Rattle.explain.proofs.KeptBidsBest.{best-once, best_of, atom_there, atom_from, one_key_same}
 
 pub numbers_rise : (n : ℕ) → AllPairs (λ i j. i < j) (range_with_len 0 n)
 numbers_rise n i j d l within =

@@ -11,7 +11,7 @@ use Rattle.std.proofs.lemmas.List.Elements.{Contains-get_or}
 use Rattle.std.proofs.lemmas.List.Folds.{list_any_none}
 use Rattle.bid_file.specs.Files.{PlainBid, PlainFile}
 use Rattle.valuation.specs.declared.atom.Atom.{Atom}
-use Rattle.valuation.specs.Auctions.{atom_of, is_dummy, or_atoms_of}
+use Rattle.valuation.specs.Auctions.{atom_of, is_dummy}
 use Rattle.valuation.specs.Lemmas.Lists.{Contains-map, Contains-unmap}
 use Rattle.prune.specs.SearchSteps.{greatest_price}
 use Rattle.prune.specs.Lemmas.Lists.{All-from_Contains, Contains-filter, Contains-filter_parts, list_any_fails}

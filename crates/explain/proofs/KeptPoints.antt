@@ -1,9 +1,9 @@
 -- A bidder's points are its bids in the canonical file. So a best bid is there exactly if it is kept.
-use Rattle.std.proofs.Common.{◌≡◌, ℕ, ◌<◌, ◌≤◌, true, ◌&&◌, ◌++◌, ⊎_elim, List, [], length, map, get_or, Option, Some, None, refl, sym, ap, ◌∙◌, subst, arith}
-use Rattle.std.specs.Prelude.{All, Contains, slice_get}
+use Rattle.std.proofs.Common.{◌≡◌, ℕ, ◌<◌, true, ⊎_elim, List, [], length, map, get_or, Option, Some, None, sym, ap, ◌∙◌, subst, arith}
+use Rattle.std.specs.Prelude.{Contains, slice_get}
 use Rattle.std.specs.List.{filter, flat_map, range_with_len}
 use Rattle.std.specs.Option.{unwrap_or}
-use Rattle.std.proofs.lemmas.Bool.{and_parts, false_from_ne_true}
+use Rattle.std.proofs.lemmas.Bool.{false_from_ne_true}
 use Rattle.std.proofs.lemmas.List.Elements.{Contains-append_cases, Contains-get_or}
 use Rattle.std.proofs.lemmas.Option.{slice_get_within, slice_get-get_or, get_or_from_slice_get}
 use Rattle.bid_file.specs.Files.{PlainBid, PlainFile, IsDummyBelow, IsPlainFile}
@@ -18,13 +18,13 @@ use Rattle.canon.specs.Renaming.{kept_bids, kept_dummies, points_of_dummy}
 use Rattle.explain.specs.Bids.{bid_at, are_alike, is_best, best_number}
 use Rattle.explain.specs.Reasons.{IsKeptAs, kept_bid, kept_number, points_of, point_number}
 use Rattle.explain.specs.Internal.Walks.{is_kept_atom}
-use Rattle.explain.proofs.BestBids.{HaveOneKey, alike_from, one_key}
+use Rattle.explain.proofs.BestBids.{alike_from}
 use Rattle.explain.proofs.BestNumbers.{best_number_is, numbers_rise}
 use Rattle.explain.proofs.Deciding.{priced_within}
 use Rattle.explain.proofs.KeptBids.{bids_of_dummy, kept_bids_are, kept-is-best, kept-once, or-points-are-kept, or_on, or_points_of, xor-points-are-kept, xor_on}
 use Rattle.explain.proofs.KeptBids.{bundle_here, dummy-is-kept}
 use Rattle.explain.proofs.KeptBidsBest.{atoms_of_bidder, best-once, greatest-is-best, one_key_same}
-use Rattle.explain.proofs.KeptBidsLists.{below_numbers, from_flat_map, in_numbers}
+use Rattle.explain.proofs.KeptBidsLists.{from_flat_map, in_numbers}
 use Rattle.explain.proofs.Packings.{IsPointOf}
 use Rattle.explain.proofs.PointFates.{best_bids-has, or_kept_are_points, xor_kept_are_points}
 

@@ -1,5 +1,5 @@
 -- Where the bids of a bidder begin in the canonical file: they stand there one after another, and none of them before.
-use Rattle.std.proofs.Common.{◌≡◌, ℕ, ◌+◌, ◌-◌, ◌<◌, ◌≤◌, ⊎_elim, List, [], ◌∷◌, ◌++◌, length, map, get_or, set, Option, Some, None, refl, sym, ap, ◌∙◌}
+use Rattle.std.proofs.Common.{◌≡◌, ℕ, ◌+◌, ◌<◌, ◌≤◌, ⊎_elim, List, [], ◌∷◌, ◌++◌, length, map, get_or, set, Option, Some, None, sym, ap, ◌∙◌}
 use Rattle.std.proofs.Common.{subst, arith}
 use Rattle.std.specs.Prelude.{All, Contains, slice_get}
 use Rattle.std.specs.List.{flat_map}
@@ -22,7 +22,7 @@ use Rattle.canon.specs.declared.named.NamedFile.{NamedFile}
 use Rattle.canon.specs.Lemmas.Renaming.{points_of_kept_dummies}
 use Rattle.canon.proofs.CanonicalFiles.Texts.{IsPlainFile-canonical}
 use Rattle.explain.specs.Reasons.{kept_bid, points_of}
-use Rattle.explain.specs.Internal.Starts.{AreStarts, IsNamed, IsStart}
+use Rattle.explain.specs.Internal.Starts.{AreStarts, IsNamed}
 use Rattle.explain.proofs.KeptBids.{bids_of_dummy, kept_bids_are, or_points_of}
 use Rattle.explain.proofs.KeptPoints.{IsKeptBidder, bid_of}
 

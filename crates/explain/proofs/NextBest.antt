@@ -1,11 +1,11 @@
 -- The reason of the next best bid of a bidder, from its fate and the points so far.
-use Rattle.std.proofs.Common.{◌≡◌, ℕ, ◌+◌, ◌<◌, ◌≤◌, Bool, true, false, cond, List, [], ◌∷◌, ◌++◌, length, map, reverse, get_or, take, Option, Some, None}
+use Rattle.std.proofs.Common.{◌≡◌, ℕ, ◌+◌, ◌<◌, ◌≤◌, Bool, true, false, List, [], ◌∷◌, ◌++◌, length, map, reverse, get_or, take, Option, Some, None}
 use Rattle.std.proofs.Common.{is_none, refl, sym, ap, ◌∙◌, subst, arith, nat_cmp}
 use Rattle.std.specs.Global.{Global}
 use Rattle.std.specs.Prelude.{All, Contains, Vec, slice_get}
-use Rattle.std.specs.List.{filter, range_with_len}
+use Rattle.std.specs.List.{filter}
 use Rattle.std.proofs.lemmas.List.{append-nil, get_or-map, get_or_at, length-append, length-map, length-take-le, map-append}
-use Rattle.std.proofs.lemmas.List.Elements.{All-from_recursion, filter-append}
+use Rattle.std.proofs.lemmas.List.Elements.{filter-append}
 use Rattle.std.proofs.lemmas.List.FromFn.{get_or-map-range_with_len, length-map-range_with_len}
 use Rattle.std.proofs.lemmas.List.Sorted.{All-permutation, IsPermutation-reverse}
 use Rattle.std.proofs.lemmas.List.Sums.{count_by-le-length, length-filter}
@@ -15,17 +15,14 @@ use Rattle.bid_file.specs.Views.{seen_bid}
 use Rattle.bid_file.specs.declared.limits.TheConstants.{MAX_BIDS}
 use Rattle.valuation.specs.declared.atom.Atom.{Atom}
 use Rattle.valuation.specs.declared.search_kind.SearchKind.TheVariants.{Bounded}
-use Rattle.valuation.specs.Auctions.{atom_of, or_atoms_of, xor_atoms_of}
-use Rattle.valuation.specs.Conflicts.{atom_at}
+use Rattle.valuation.specs.Auctions.{atom_of, xor_atoms_of}
 use Rattle.valuation.specs.Sorting.{sort_by}
-use Rattle.prune.specs.Fates.{best_bids, numbers_at, or_fate, or_fates, places_below, plain_fate, xor_fate, xor_fates}
-use Rattle.prune.specs.Lemmas.Lists.{All-from_Contains, filter-kept, filter-lost, map_same_on}
+use Rattle.prune.specs.Fates.{best_bids, numbers_at, or_fate, places_below, plain_fate, xor_fate, xor_fates}
+use Rattle.prune.specs.Lemmas.Lists.{filter-kept, filter-lost, map_same_on}
 use Rattle.canon.specs.Canonical.{bid_from}
 use Rattle.canon.specs.Renaming.{kept_bids}
-use Rattle.explain.specs.Bids.{bid_at, is_best, IsBestFor}
-use Rattle.explain.specs.Reasons.{PlainReason, Keep, Inside, Packing, IsKeptAs, best_reason, kept_number, or_reason, point_number, points_of, reason_of, xor_reason}
-use Rattle.explain.specs.Internal.BidOrders.{AreInOrder}
-use Rattle.explain.specs.Internal.Starts.{AreStarts}
+use Rattle.explain.specs.Bids.{bid_at}
+use Rattle.explain.specs.Reasons.{Keep, Inside, Packing, IsKeptAs, best_reason, kept_number, or_reason, point_number, points_of, reason_of, xor_reason}
 use Rattle.explain.specs.Internal.Walks.{HasPassed, IsKnown, IsNextBest, is_best_of, is_kept_atom, is_kept_bid, passed_bids}
 use Rattle.explain.specs.declared.best.NumberedBid.{NumberedBid}
 use Rattle.explain.specs.declared.walk.Known.{Known}

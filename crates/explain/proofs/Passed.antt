@@ -1,8 +1,8 @@
 -- The best bids that a walk over the bids in order passes are a bidder's best bids, in order: of each bundle one alone is the best.
 use Rattle.std.proofs.Common.{◌≡◌, ◌≢◌, ℕ, ◌+◌, ◌-◌, ◌<◌, ◌≤◌, Bool, true, false, ◌&&◌, eqb, ltb, cond, ⊎_elim, List, [], ◌∷◌, ◌++◌, length, map, get_or, take, drop}
-use Rattle.std.proofs.Common.{Option, Some, None, refl, sym, ap, ap₂, ◌∙◌, subst, arith, Ordering, Less, Equal, Greater, is_lt, nat_cmp}
-use Rattle.std.specs.Prelude.{All, AllPairs, Contains, slice_get}
-use Rattle.std.specs.List.{filter, range_with_len}
+use Rattle.std.proofs.Common.{Option, None, refl, sym, ap, ap₂, ◌∙◌, subst, arith, Ordering, Less, Equal, Greater, is_lt, nat_cmp}
+use Rattle.std.specs.Prelude.{AllPairs, Contains}
+use Rattle.std.specs.List.{filter}
 use Rattle.std.specs.Option.{unwrap_or}
 use Rattle.std.specs.Ordering.{ordering_reverse, ordering_then}
 use Rattle.std.proofs.lemmas.Bool.{and_from, and_parts, both_ways, cases_lt, eq-eqb, eqb-true, lt-ltb, ltb-true}
@@ -34,12 +34,12 @@ use Rattle.canon.specs.Lemmas.Renaming.{filter-map}
 use Rattle.explain.specs.declared.best.NumberedBid.{NumberedBid}
 use Rattle.explain.specs.Bids.{bid_at, bidder_of, is_best}
 use Rattle.explain.specs.Reasons.{point_number, points_of}
-use Rattle.explain.specs.Internal.BidOrders.{AreInOrder, key_cmp, numbered_cmp}
+use Rattle.explain.specs.Internal.BidOrders.{AreInOrder, numbered_cmp}
 use Rattle.explain.specs.Internal.Walks.{IsNextBest, is_best_of, is_kept_atom, is_kept_bid, passed_bids}
-use Rattle.explain.proofs.BestBids.{HaveOneKey, alike_from, at_number, numbered, numbered_cmp_total}
+use Rattle.explain.proofs.BestBids.{alike_from, at_number, numbered, numbered_cmp_total}
 use Rattle.explain.proofs.BestNumbers.{best_number_is}
 use Rattle.explain.proofs.FoundPlaces.{place_below}
-use Rattle.explain.proofs.KeptBids.{bid_here, bundle_here}
+use Rattle.explain.proofs.KeptBids.{bid_here}
 use Rattle.explain.proofs.KeptBidsBest.{atom_from, atom_there, atoms_of_bidder, best-once, best_of, is_of, its_own, of_it, same_bidder}
 use Rattle.explain.proofs.KeptPoints.{best_is_there, kept_points}
 use Rattle.explain.proofs.Packings.{eqb_flips, pairs_unmap}

@@ -1,9 +1,9 @@
 -- A bidder's points are its best bids that are kept. The idea: if the points below a bundle do not reach its greatest price, then some point
 -- is on the bundle, since all points do; and the points below a point do not reach its price.
-use Rattle.std.proofs.Common.{◌≡◌, ℕ, ◌+◌, ◌<◌, ◌≤◌, Bool, true, false, not, ◌&&◌, ltb, leb, cond, ⊎_elim, List, [], ◌∷◌, length, Option, Some, None, is_none}
+use Rattle.std.proofs.Common.{◌≡◌, ℕ, ◌<◌, ◌≤◌, true, false, not, ltb, leb, ⊎_elim, List, [], ◌∷◌, length, Option, Some, None, is_none}
 use Rattle.std.proofs.Common.{refl, sym, ap, ap₂, ◌∙◌, subst, arith}
 use Rattle.std.specs.Prelude.{All, Contains}
-use Rattle.std.specs.List.{filter, find, range_with_len}
+use Rattle.std.specs.List.{filter, range_with_len}
 use Rattle.std.proofs.lemmas.Bool.{cases_Bool, both_ways, and_from, and_parts, leb-true, le-leb, lt-leb, ltb-true, lt-ltb, cases_lt, not_from_false, not-true}
 use Rattle.std.proofs.lemmas.Bool.{false_from_ne_true}
 use Rattle.std.proofs.lemmas.List.{get_or_default}

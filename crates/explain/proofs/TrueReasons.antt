@@ -1,18 +1,13 @@
 -- The reason of each bid is true. A best bid is kept as a point, or what the points below its goods have reaches its price.
-use Rattle.std.proofs.Common.{◌≡◌, ℕ, ◌<◌, ◌≤◌, Bool, true, false, ⊎_elim, List, [], length, map, reverse, get_or, Option, Some, None, refl, sym, ap, ◌∙◌, subst}
+use Rattle.std.proofs.Common.{◌≡◌, ℕ, ◌<◌, Bool, true, false, ⊎_elim, List, length, map, Option, Some, None, refl, sym, ap, ◌∙◌, subst}
 use Rattle.std.proofs.Common.{arith, eqb, is_none, nat_cmp}
-use Rattle.std.specs.Prelude.{Contains, IsPermutation, is_some, slice_get}
-use Rattle.std.specs.List.{AllByRecursion}
+use Rattle.std.specs.Prelude.{Contains, IsPermutation, is_some}
 use Rattle.std.specs.Option.{unwrap_or}
 use Rattle.std.proofs.lemmas.Bool.{both_ways, cases_Bool, eq-eqb, eqb-true, ne_eqb}
 use Rattle.std.proofs.lemmas.Cmp.{nat_cmp_total}
-use Rattle.std.proofs.lemmas.List.{length-map}
-use Rattle.std.proofs.lemmas.List.Elements.{All-contains, All-from_recursion}
 use Rattle.std.proofs.lemmas.List.FromFn.{get_or-map-range_with_len, length-map-range_with_len}
 use Rattle.std.proofs.lemmas.List.Sorted.{IsPermutation-map, IsPermutation-reverse, IsPermutation-trans}
-use Rattle.goods_set.specs.Bundles.{IsInside}
-use Rattle.bid_file.specs.Files.{PlainBid, PlainFile, IsBid, IsDummyBelow, IsPlainFile}
-use Rattle.valuation.specs.declared.atom.Atom.{Atom}
+use Rattle.bid_file.specs.Files.{PlainBid, PlainFile, IsDummyBelow, IsPlainFile}
 use Rattle.valuation.specs.declared.search_kind.SearchKind.TheVariants.{Bounded}
 use Rattle.valuation.specs.Auctions.{atom_of}
 use Rattle.valuation.specs.Conflicts.{atom_at}
@@ -21,16 +16,15 @@ use Rattle.valuation.specs.Lemmas.Sorting.{permutation-sort_by, sorted-sort_by}
 use Rattle.prune.specs.Fates.{or_fate, xor_fate}
 use Rattle.prune.specs.Lemmas.Lists.{zero_or_more}
 use Rattle.prune.specs.SearchSteps.{is_below}
-use Rattle.canon.specs.Renaming.{kept_bids}
-use Rattle.explain.specs.Bids.{bid_at, best_number, is_best, numbers_of, IsBestFor}
-use Rattle.explain.specs.Reasons.{PlainReason, Keep, Zero, Same, Inside, Packing, Explains, IsBestBid, IsKeptAs, best_alike, best_reason, kept_number, or_reason}
-use Rattle.explain.specs.Reasons.{point_number, points_of, reason_at, reason_of, reasons_of, xor_reason}
-use Rattle.explain.specs.Internal.Deciding.{HasPointInside, HasPointPacking, IsDecided, IsNoPoint}
+use Rattle.explain.specs.Bids.{bid_at, IsBestFor}
+use Rattle.explain.specs.Reasons.{Zero, Same, Explains, IsBestBid, IsKeptAs, best_alike, best_reason, kept_number, or_reason}
+use Rattle.explain.specs.Reasons.{point_number, points_of, reason_of, reasons_of, xor_reason}
+use Rattle.explain.specs.Internal.Deciding.{IsDecided, IsNoPoint}
 use Rattle.explain.specs.Internal.Walks.{is_kept_atom}
 use Rattle.explain.proofs.BestNumbers.{best_number_for, best_there}
 use Rattle.explain.proofs.Deciding.{explained, priced_within}
 use Rattle.explain.proofs.FoundPlaces.{dropped_from, found_are_packed, inside_from, place_below, searched_places}
-use Rattle.explain.proofs.KeptBids.{bid_here, bundle_here}
+use Rattle.explain.proofs.KeptBids.{bid_here}
 use Rattle.explain.proofs.KeptPoints.{best_is_there, bidder_is_kept, kept_if_point, kept_is_point, kept_number_is, point_if_kept, point_is_kept, point_number_is}
 use Rattle.explain.proofs.Packings.{IsPointOf, of_packing}
 

@@ -1,11 +1,11 @@
 -- The walk takes the next bid in. It is the best of its bidder's on its goods if the bid before it is not on the same goods of that bidder;
 -- and at the first bid of a bidder the walk has passed none of it.
-use Rattle.std.proofs.Common.{◌≡◌, ◌≢◌, ℕ, ◌+◌, ◌-◌, ◌<◌, ◌≤◌, Bool, true, false, ◌&&◌, ◌⊎◌, inl, inr, eqb, ltb, cond, ⊎_elim, List, [], ◌∷◌, ◌++◌, length, map, get_or, take}
-use Rattle.std.proofs.Common.{Option, Some, None, refl, sym, ap, ap₂, ◌∙◌, subst, arith, Ordering, Less, Equal, Greater, is_lt, nat_cmp}
-use Rattle.std.specs.Prelude.{Contains, slice_get}
+use Rattle.std.proofs.Common.{◌≡◌, ℕ, ◌+◌, ◌-◌, ◌<◌, ◌≤◌, Bool, true, false, ◌&&◌, ◌⊎◌, inl, inr, eqb, ltb, cond, ⊎_elim, List, [], ◌∷◌, ◌++◌, length, map, get_or, take}
+use Rattle.std.proofs.Common.{Option, Some, None, refl, sym, ap, ◌∙◌, subst, arith, Ordering, Less, Equal, Greater, is_lt, nat_cmp}
+use Rattle.std.specs.Prelude.{slice_get}
 use Rattle.std.specs.List.{filter}
 use Rattle.std.specs.Ordering.{is_eq, ordering_reverse, ordering_then}
-use Rattle.std.proofs.lemmas.Bool.{and_parts, both_ways, cases_Bool, cases_eq, cases_lt, eqb-true, false_from_ne_true, ltb-true}
+use Rattle.std.proofs.lemmas.Bool.{and_parts, both_ways, cases_eq, cases_lt, eqb-true, false_from_ne_true, ltb-true}
 use Rattle.std.proofs.lemmas.List.{append-nil, get_or-take, get_or_default, length-take-le}
 use Rattle.std.proofs.lemmas.List.Elements.{Contains-get_or, filter_more}
 use Rattle.std.proofs.lemmas.List.Sorted.{ranks_by, sorted_far}
@@ -16,10 +16,10 @@ use Rattle.bid_file.specs.Files.{PlainBid, PlainFile}
 use Rattle.bid_file.specs.Views.{seen_bid}
 use Rattle.explain.specs.declared.best.NumberedBid.{NumberedBid}
 use Rattle.explain.specs.declared.walk.Walk.{Walk}
-use Rattle.explain.specs.Bids.{bid_at, bidder_of, are_alike, is_best, IsBestFor}
+use Rattle.explain.specs.Bids.{bid_at, bidder_of, is_best, IsBestFor}
 use Rattle.explain.specs.Internal.BidOrders.{AreInOrder, key_cmp, numbered_cmp}
 use Rattle.explain.specs.Internal.Walks.{HasPassed, IsAt, IsBestAt, IsLastBest, best_after, dummy_of, is_best_of, is_kept_bid, passed_bids}
-use Rattle.explain.proofs.BestBids.{HaveOneKey, alike_from, first_is_best, from_equal, key_cmp_total, key_equal, key_first, key_same, numbered, numbered_cmp_total, one_key}
+use Rattle.explain.proofs.BestBids.{HaveOneKey, alike_from, first_is_best, from_equal, key_cmp_total, key_first, key_same, numbered, numbered_cmp_total, one_key}
 use Rattle.explain.proofs.BestBids.{equal_from, partitioned}
 use Rattle.explain.proofs.KeptBidsBest.{best-once, same_bidder}
 use Rattle.explain.proofs.KeptBidsLists.{filter_none}

@@ -1,5 +1,5 @@
 -- Where the bids of each bidder begin in the canonical file.
-use Rattle.std.specs.Prelude.{◌≡◌, ℕ, ◌<◌, ◌≤◌, List, length, slice_index_or, Some}
+use Rattle.std.specs.Prelude.{◌≡◌, ℕ, ◌≤◌, List, length, slice_index_or, Some}
 use Rattle.bid_file.specs.Files.{PlainFile, IsPlainFile}
 use Rattle.canon.specs.Canonical.{canonical_file}
 use Rattle.canon.specs.Renaming.{kept_dummies}

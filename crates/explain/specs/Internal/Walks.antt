@@ -1,5 +1,5 @@
 -- The walk over a file's bids in order: which best bids it has passed, and which of them are kept.
-use Rattle.std.specs.Prelude.{◌≡◌, ℕ, ◌+◌, ◌-◌, ◌<◌, Bool, true, ◌==◌, ◌&&◌, nat_lt, if◌then◌else◌, List, length, map, take}
+use Rattle.std.specs.Prelude.{◌≡◌, ℕ, ◌-◌, ◌<◌, Bool, true, ◌==◌, ◌&&◌, nat_lt, if◌then◌else◌, List, length, map, take}
 use Rattle.std.specs.Prelude.{slice_get, slice_index_or, Option, Some, None, is_none}
 use Rattle.std.specs.List.{filter, range_with_len}
 use Rattle.std.specs.Ordering.{is_eq}

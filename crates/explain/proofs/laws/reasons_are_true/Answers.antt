@@ -1,6 +1,4 @@
 use Rattle.explain.proofs.TrueReasons.{reasons_explain}
-use Rattle.explain.proofs.NextBest.{packing_within}
-use Rattle.explain.proofs.Turning.{turned}
 use Rattle.explain.proofs.laws.reasons_are_true.Goals as goal
 
 pub returns : goal.returns

@@ -1,10 +1,11 @@
 -- The bidder of the bid in front of them begins there, or still further in front (proofs/KeptStarts).
-use Rattle.std.proofs.Common.{arith, ◌≡◌, ◌+◌, ◌-◌, ◌<◌, ◌≤◌, ℕ, List, length, get_or, Some, None, refl, sym, ap, ◌∙◌, subst}
-use Rattle.std.specs.List.{slice_get}
+use Rattle.std.proofs.Common.{arith, ◌≡◌, ◌+◌, ◌-◌, ℕ, sym, subst}
+use Rattle.std.specs.Global.{Global}
+use Rattle.std.specs.Prelude.{Vec}
 use Rattle.bid_file.specs.Files.{PlainFile}
 use Rattle.bid_file.specs.Views.{seen_bid}
 use Rattle.explain.specs.Internal.Starts.{AreStarts}
-use Rattle.explain.proofs.KeptStarts.{in_file, kept_count, more_starts, name_there, named_count, no_starts, or_bidder, same_starts, xor_bidder}
+use Rattle.explain.proofs.KeptStarts.{in_file, kept_count, more_starts, name_there, named_count, or_bidder, same_starts, xor_bidder}
 use Rattle.explain.proofs.starts.starts_of.Goals as goal
 use Rattle.explain.proofs.starts.starts_of.Goals.{in-Some, in_default}
 
@@ -27,7 +28,24 @@ index_mut-requires c =
     omega (arith, l, c.loop-behind.invariant.long, c.loop-behind.starts.ok.0)
 
 pub loop-behind-preserved : goal.loop-behind-preserved
-loop-behind-preserved c = elim c.match-at.branch [ in-Some w ↦ let h = w.index_mut in ? | in_default w ↦ let h = w.in_default in ? ]
+loop-behind-preserved c =
+    let f : PlainFile = c.args.file.now in
+    let k : ℕ = c.len-count.result - 1 - c.loop-behind.behind in
+    let from : ℕ = c.len-count.result - c.loop-behind.behind in
+    let next : k + 1 ≡ from = omega (arith, c.loop-behind-test.true) in
+    let before : k ≡ c.len-count.result - (c.loop-behind.behind + 1) = omega (arith, c.loop-behind-test.true) in
+    let bid = seen_bid c.at.result in
+    subst (λ (n : ℕ). AreStarts f n c.match-at.starts.items) before
+    (elim c.match-at.branch as (λ _. AreStarts f k c.match-at.starts.items) [
+      | in-Some w ↦
+          subst (λ (v : Vec ℕ Global). AreStarts f k v.items) (sym w.starts-is)
+          (more_starts f k from c.loop-behind.starts.items w.index.result.now next c.loop-behind.invariant
+          (xor_bidder f c.args.named.now c.requires k bid c.at.ensures w.in-Some.dummy w.index.result.now w.in-Some.is w.index.ensures)
+          (in_file f c.args.named.now c.requires k bid c.at.ensures w.in-Some.dummy w.index.result.now w.in-Some.is w.index.ensures))
+      | in_default w ↦
+          subst (λ (v : Vec ℕ Global). AreStarts f k v.items) (sym w.starts-is)
+          (same_starts f k from c.loop-behind.starts.items next c.loop-behind.invariant (or_bidder f c.args.named.now c.requires k bid c.at.ensures w.in_default.is))
+    ])
 
 pub returns : goal.returns
 returns c =

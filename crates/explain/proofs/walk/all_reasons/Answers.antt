@@ -1,5 +1,5 @@
 -- Each turn puts the reason of one bid at its number (proofs/Reasoned).
-use Rattle.std.proofs.Common.{arith, ◌<◌, ℕ, List, length, get_or, sym, ◌∙◌}
+use Rattle.std.proofs.Common.{arith, ◌<◌, ℕ, length, sym, ◌∙◌}
 use Rattle.std.proofs.lemmas.List.{length-set}
 use Rattle.bid_file.specs.Files.{PlainFile}
 use Rattle.explain.specs.Bids.{bid_at}

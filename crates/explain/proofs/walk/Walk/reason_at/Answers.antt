@@ -1,9 +1,8 @@
 -- The best bid of the next bid's bidder on its goods is known (proofs/Turning).
-use Rattle.std.proofs.Common.{arith, ◌≡◌, ℕ, false, true, eqb, Option, Some, refl, sym, ap, ◌∙◌, subst}
+use Rattle.std.proofs.Common.{arith, ◌≡◌, ℕ, true, sym, ◌∙◌, subst}
 use Rattle.std.proofs.lemmas.Bool.{ne_eqb}
 use Rattle.std.proofs.lemmas.Result.{on_ok_weaker}
-use Rattle.explain.specs.Bids.{bid_at, is_best}
-use Rattle.explain.specs.declared.best.NumberedBid.{NumberedBid}
+use Rattle.explain.specs.Bids.{is_best}
 use Rattle.explain.proofs.TrueReasons.{reason_same, reason_zero}
 use Rattle.explain.proofs.Turning.{at_next, best_is, best_then, own_price, passed_same, passed_zero, turned}
 use Rattle.explain.proofs.walk.Walk.reason_at.Goals as goal

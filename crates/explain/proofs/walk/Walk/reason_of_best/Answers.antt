@@ -1,5 +1,5 @@
 -- The fate of the best bid is next in its bidder's list (proofs/NextBest).
-use Rattle.std.proofs.Common.{arith, ◌≡◌, ◌+◌, ◌<◌, ℕ, List, length, get_or, Option, Some, None, refl, sym, ap, ◌∙◌, subst, nat_cmp}
+use Rattle.std.proofs.Common.{arith, ◌≡◌, ◌+◌, ◌<◌, ℕ, List, length, Some, refl, sym, ap, ◌∙◌, subst, nat_cmp}
 use Rattle.std.specs.Prelude.{All, Vec}
 use Rattle.std.specs.Global.{Global}
 use Rattle.std.proofs.lemmas.List.{get_or_default}
@@ -11,7 +11,7 @@ use Rattle.explain.specs.Reasons.{Keep, Inside, Packing, plain_reason, points_of
 use Rattle.explain.proofs.Passed.{offer}
 use Rattle.explain.proofs.KeptStarts.{start_of}
 use Rattle.explain.proofs.NextBest.{inside_reason, inside_within, keep_fits, keep_reason, or_dropped, or_here, or_kept, or_not_kept, packing_reason, packing_within}
-use Rattle.explain.proofs.NextBest.{passed_dropped, passed_fits, passed_kept, start_there, xor_fate_is, xor_kept, xor_list, xor_long, xor_not_kept, xor_within}
+use Rattle.explain.proofs.NextBest.{passed_dropped, passed_fits, passed_kept, start_there, xor_fate_is, xor_kept, xor_long, xor_not_kept, xor_within}
 use Rattle.explain.proofs.walk.Walk.reason_of_best.Goals as goal
 
 pub overflow_add-self : goal.overflow_add-self
