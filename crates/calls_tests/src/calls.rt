@@ -29,6 +29,10 @@ static FINE: &[u8] = b"goods 1\nbids 1\ndummy 0\n0 0.0123456 0 #\n";
 static CROSSING: &[u8] =
     b"goods 3\nbids 3\ndummy 0\n0\t4\t0\t1\t#\n1\t4\t1\t2\t#\n2\t7\t0\t1\t2\t#\n";
 
+/// What `diff` gives of the same auction.
+static NO_DIFFERENCES: &[u8] =
+    b"kind\tgoods\tleft\tright\tleft_dummy\tright_dummy\tleft_bid\tright_bid\n";
+
 /// Steps enough for these texts.
 const STEPS: u64 = 1_000;
 
@@ -88,7 +92,12 @@ fn limits_of_two(rt: HostRuntime) -> Result<(), Fail> {
         b"same\n",
     );
     expect(&rt, &compare(alloc, SINGLES, CROSSING, 1, Some(2)), 3, over);
-    expect(&rt, &diff(alloc, CROSSING, CROSSING, 1, Some(3)), 0, b"");
+    expect(
+        &rt,
+        &diff(alloc, CROSSING, CROSSING, 1, Some(3)),
+        0,
+        NO_DIFFERENCES,
+    );
     expect(&rt, &diff(alloc, SINGLES, CROSSING, 1, Some(2)), 3, over);
     Ok(())
 }
@@ -123,13 +132,15 @@ fn first_differences(rt: HostRuntime) -> Result<(), Fail> {
 fn all_differences(rt: HostRuntime) -> Result<(), Fail> {
     let alloc = rt.alloc();
     let refused = b"first: line 4: GoodRange\n";
-    expect(&rt, &diff(alloc, SINGLES, PAIR_AT_7, STEPS, None), 0, b"");
+    let table = b"kind\tgoods\tleft\tright\tleft_dummy\tright_dummy\tleft_bid\tright_bid\n\
+        or\t0,1\t\t8\t\t\t\t2\n";
     expect(
         &rt,
-        &diff(alloc, SINGLES, PAIR_AT_8, STEPS, None),
-        1,
-        b"or\t0,1\t-\t8\n",
+        &diff(alloc, SINGLES, PAIR_AT_7, STEPS, None),
+        0,
+        NO_DIFFERENCES,
     );
+    expect(&rt, &diff(alloc, SINGLES, PAIR_AT_8, STEPS, None), 1, table);
     expect(&rt, &diff(alloc, BEYOND, BEYOND, STEPS, None), 2, refused);
     Ok(())
 }

@@ -84,8 +84,16 @@ static RUNS: [(Run, &str, &str); 9] = [
     ),
     (Run::CompareFirst, "same\n", "first: "),
     (Run::CompareSecond, "same\n", "second: "),
-    (Run::DiffFirst, "", "first: "),
-    (Run::DiffSecond, "", "second: "),
+    (
+        Run::DiffFirst,
+        "kind\tgoods\tleft\tright\tleft_dummy\tright_dummy\tleft_bid\tright_bid\n",
+        "first: ",
+    ),
+    (
+        Run::DiffSecond,
+        "kind\tgoods\tleft\tright\tleft_dummy\tright_dummy\tleft_bid\tright_bid\n",
+        "second: ",
+    ),
 ];
 
 /// That a run on an input that gives these bytes and then fails has this status and this line.

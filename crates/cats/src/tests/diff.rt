@@ -1,4 +1,4 @@
-//! `cats diff`: all differences, as they are printed.
+//! `cats diff`: the table of all differences. What is expected is worked out by hand.
 
 use super::compare::{
     APART, EQUAL_BIDDERS, FIVE, FOUR, LARGER_BID, NOTHING, REFUSALS, SINGLES, TOGETHER,
@@ -29,25 +29,29 @@ fn differed(
     answer_of(alloc, answer, out)
 }
 
-/// That two texts have these differences.
+/// The names of the columns.
+const HEADER: &str = "kind\tgoods\tleft\tright\tleft_dummy\tright_dummy\tleft_bid\tright_bid\n";
+
+/// That two texts have these differences, as rows below the header.
 fn differ(
     rt: &(impl Abort + AllocGlobal),
     first: &str,
     second: &str,
-    lines: &str,
+    rows: &str,
 ) -> Result<(), Fail> {
     let answer = differed(rt.alloc(), first, second, STEPS, CAPACITY)?;
-    let status = if lines.is_empty() { 0 } else { 1 };
-    expect(rt, &answer, status, lines, "");
+    let status = if rows.is_empty() { 0 } else { 1 };
+    let table = format!(in rt.alloc(); "{HEADER}{rows}")?;
+    expect(rt, &answer, status, table.as_str(), "");
     Ok(())
 }
 
 /// Pairs of texts, and for each its differences, in this order and with the texts exchanged. Each text has none from itself.
 fn differ_both_ways(
     rt: &(impl Abort + AllocGlobal),
-    rows: &[(&str, &str, &str, &str)],
+    pairs: &[(&str, &str, &str, &str)],
 ) -> Result<(), Fail> {
-    for (first, second, there, back) in rows {
+    for (first, second, there, back) in pairs {
         differ(rt, first, second, there)?;
         differ(rt, second, first, back)?;
         differ(rt, first, first, "")?;
@@ -89,21 +93,21 @@ fn numbers_of_goods(rt: HostRuntime) -> Result<(), Fail> {
             (
                 "goods 1\nbids 0\ndummy 0\n",
                 "goods 2\nbids 0\ndummy 0\n",
-                "goods\t1\t2\n",
-                "goods\t2\t1\n",
+                "goods\t\t1\t2\t\t\t\t\n",
+                "goods\t\t2\t1\t\t\t\t\n",
             ),
             (
                 "goods 1024\nbids 0\ndummy 0\n",
                 "goods 4096\nbids 0\ndummy 0\n",
-                "goods\t1024\t4096\n",
-                "goods\t4096\t1024\n",
+                "goods\t\t1024\t4096\t\t\t\t\n",
+                "goods\t\t4096\t1024\t\t\t\t\n",
             ),
-            // nothing else is compared
+            // the bids are compared too
             (
                 FOUR,
                 "goods 4096\nbids 2\ndummy 1\n0\t5\t0\t#\n1\t3\t1\t4096\t#\n",
-                "goods\t1\t4096\n",
-                "goods\t4096\t1\n",
+                "goods\t\t1\t4096\t\t\t\t\nor\t0\t4\t5\t\t\t0\t0\nxor\t1\t\t3\t\t0\t\t1\n",
+                "goods\t\t4096\t1\t\t\t\t\nor\t0\t5\t4\t\t\t0\t0\nxor\t1\t3\t\t0\t\t1\t\n",
             ),
         ],
     )
@@ -114,40 +118,59 @@ fn bundles(rt: HostRuntime) -> Result<(), Fail> {
     differ_both_ways(
         &rt,
         &[
-            (FOUR, FIVE, "or\t0\t4\t5\n", "or\t0\t5\t4\n"),
+            (
+                FOUR,
+                FIVE,
+                "or\t0\t4\t5\t\t\t0\t0\n",
+                "or\t0\t5\t4\t\t\t0\t0\n",
+            ),
             (
                 "goods 1\nbids 1\ndummy 0\n0\t1.5\t0\t#\n",
                 "goods 1\nbids 1\ndummy 0\n0\t1.250001\t0\t#\n",
-                "or\t0\t1.5\t1.250001\n",
-                "or\t0\t1.250001\t1.5\n",
+                "or\t0\t1.5\t1.250001\t\t\t0\t0\n",
+                "or\t0\t1.250001\t1.5\t\t\t0\t0\n",
             ),
             // one more bid
             (
                 FOUR,
                 "goods 1\nbids 0\ndummy 0\n",
-                "or\t0\t4\t-\n",
-                "or\t0\t-\t4\n",
+                "or\t0\t4\t\t\t\t0\t\n",
+                "or\t0\t\t4\t\t\t\t0\n",
             ),
             // a bid above the sum of two others
             (
                 "goods 2\nbids 3\ndummy 0\n0\t3\t0\t#\n1\t4\t1\t#\n2\t8\t0\t1\t#\n",
                 SINGLES,
-                "or\t0,1\t8\t-\n",
-                "or\t0,1\t-\t8\n",
+                "or\t0,1\t8\t\t\t\t2\t\n",
+                "or\t0,1\t\t8\t\t\t\t2\n",
+            ),
+            // and one on the right that is at their sum, and so is not kept
+            (
+                "goods 2\nbids 3\ndummy 0\n0\t3\t0\t#\n1\t4\t1\t#\n2\t8\t0\t1\t#\n",
+                LARGER_BID,
+                "or\t0,1\t8\t\t\t\t2\t\n",
+                "or\t0,1\t\t8\t\t\t\t2\n",
             ),
             // one more good in a bid: bundles in order, by size first
             (
                 "goods 2\nbids 2\ndummy 0\n0\t1\t0\t#\n1\t1\t1\t#\n",
                 "goods 2\nbids 2\ndummy 0\n0\t1\t0\t#\n1\t9\t0\t1\t#\n",
-                "or\t1\t1\t-\nor\t0,1\t-\t9\n",
-                "or\t1\t-\t1\nor\t0,1\t9\t-\n",
+                "or\t1\t1\t\t\t\t1\t\nor\t0,1\t\t9\t\t\t\t1\n",
+                "or\t1\t\t1\t\t\t\t1\nor\t0,1\t9\t\t\t\t1\t\n",
             ),
             // all bundles differ, and the last is on one side alone
             (
                 "goods 12\nbids 3\ndummy 0\n0\t1\t2\t#\n1\t1\t10\t#\n2\t1\t11\t#\n",
                 "goods 12\nbids 2\ndummy 0\n0\t3\t2\t#\n1\t2\t10\t#\n",
-                "or\t2\t1\t3\nor\t10\t1\t2\nor\t11\t1\t-\n",
-                "or\t2\t3\t1\nor\t10\t2\t1\nor\t11\t-\t1\n",
+                "or\t2\t1\t3\t\t\t0\t0\nor\t10\t1\t2\t\t\t1\t1\nor\t11\t1\t\t\t\t2\t\n",
+                "or\t2\t3\t1\t\t\t0\t0\nor\t10\t2\t1\t\t\t1\t1\nor\t11\t\t1\t\t\t\t2\n",
+            ),
+            // bids in another order, lower ones and equal ones: the first of the highest on each side
+            (
+                "goods 2\nbids 4\ndummy 0\n0\t2\t0\t#\n1\t3\t0\t#\n2\t3\t0\t#\n3\t1\t1\t#\n",
+                "goods 2\nbids 4\ndummy 0\n0\t1\t1\t#\n1\t2\t0\t#\n2\t4\t0\t#\n3\t4\t0\t#\n",
+                "or\t0\t3\t4\t\t\t1\t2\n",
+                "or\t0\t4\t3\t\t\t2\t1\n",
             ),
         ],
     )
@@ -175,42 +198,42 @@ fn single_bidders(rt: HostRuntime) -> Result<(), Fail> {
             (
                 FOUR,
                 "goods 1\nbids 1\ndummy 1\n0\t4\t0\t1\t#\n",
-                "or\t0\t4\t-\nxor\t-\t1\nbid\t0\t-\t4\n",
-                "or\t0\t-\t4\nxor\t1\t-\nbid\t0\t4\t-\n",
+                "or\t0\t4\t\t\t\t0\t\nxor\t0\t\t4\t\t0\t\t0\n",
+                "or\t0\t\t4\t\t\t\t0\nxor\t0\t4\t\t0\t\t0\t\n",
             ),
-            // two copies and one; a dominated bid is not printed
+            // two copies and one; a dominated bid is not named
             (
                 EQUAL_BIDDERS,
                 "goods 2\nbids 2\ndummy 1\n0\t1\t0\t2\t#\n1\t2\t0\t1\t2\t#\n",
-                "xor\t2\t-\nbid\t0\t1\t-\nbid\t0,1\t2\t-\n",
-                "xor\t-\t2\nbid\t0\t-\t1\nbid\t0,1\t-\t2\n",
+                "xor\t0\t1\t\t0\t\t0\t\nxor\t0,1\t2\t\t0\t\t1\t\n",
+                "xor\t0\t\t1\t\t0\t\t0\nxor\t0,1\t\t2\t\t0\t\t1\n",
             ),
             // three copies and two, and three and none: the smallest dummy goods first
             (
                 THREE_COPIES,
                 TWO_COPIES,
-                "xor\t2\t-\nbid\t0\t3\t-\n",
-                "xor\t-\t2\nbid\t0\t-\t3\n",
+                "xor\t0\t3\t\t1\t\t1\t\n",
+                "xor\t0\t\t3\t\t1\t\t1\n",
             ),
             (
                 THREE_COPIES,
                 "goods 1\nbids 0\ndummy 0\n",
-                "xor\t2\t-\nbid\t0\t3\t-\nxor\t3\t-\nbid\t0\t3\t-\nxor\t4\t-\nbid\t0\t3\t-\n",
-                "xor\t-\t2\nbid\t0\t-\t3\nxor\t-\t3\nbid\t0\t-\t3\nxor\t-\t4\nbid\t0\t-\t3\n",
+                "xor\t0\t3\t\t1\t\t1\t\nxor\t0\t3\t\t2\t\t2\t\nxor\t0\t3\t\t3\t\t3\t\n",
+                "xor\t0\t\t3\t\t1\t\t1\nxor\t0\t\t3\t\t2\t\t2\nxor\t0\t\t3\t\t3\t\t3\n",
             ),
             // the bidder of the second dummy good is the first of the canonical file
             (
                 "goods 2\nbids 2\ndummy 2\n0\t2\t1\t2\t#\n1\t1\t0\t3\t#\n",
                 "goods 2\nbids 1\ndummy 1\n0\t2\t1\t2\t#\n",
-                "xor\t3\t-\nbid\t0\t1\t-\n",
-                "xor\t-\t3\nbid\t0\t-\t1\n",
+                "xor\t0\t1\t\t1\t\t1\t\n",
+                "xor\t0\t\t1\t\t1\t\t1\n",
             ),
             // no bundle in common
             (
                 "goods 2\nbids 1\ndummy 1\n0\t1\t0\t2\t#\n",
                 "goods 2\nbids 1\ndummy 1\n0\t2\t1\t2\t#\n",
-                "xor\t2\t-\nbid\t0\t1\t-\nxor\t-\t2\nbid\t1\t-\t2\n",
-                "xor\t2\t-\nbid\t1\t2\t-\nxor\t-\t2\nbid\t0\t-\t1\n",
+                "xor\t0\t1\t\t0\t\t0\t\nxor\t1\t\t2\t\t0\t\t0\n",
+                "xor\t1\t2\t\t0\t\t0\t\nxor\t0\t\t1\t\t0\t\t0\n",
             ),
         ],
     )
@@ -225,43 +248,43 @@ fn bidders_beside_each_other(rt: HostRuntime) -> Result<(), Fail> {
             (
                 "goods 1\nbids 1\ndummy 1\n0\t1\t0\t1\t#\n",
                 "goods 1\nbids 1\ndummy 1\n0\t2\t0\t1\t#\n",
-                "xor\t1\t1\nbid\t0\t1\t2\n",
-                "xor\t1\t1\nbid\t0\t2\t1\n",
+                "xor\t0\t1\t2\t0\t0\t0\t0\n",
+                "xor\t0\t2\t1\t0\t0\t0\t0\n",
             ),
             // another price of one bid, and the dummy goods of the two files
             (
                 "goods 2\nbids 2\ndummy 1\n0\t5\t0\t2\t#\n1\t8\t0\t1\t2\t#\n",
                 "goods 2\nbids 3\ndummy 2\n0\t5\t0\t3\t#\n1\t9\t0\t1\t3\t#\n2\t0\t0\t2\t#\n",
-                "xor\t2\t3\nbid\t0,1\t8\t9\n",
-                "xor\t3\t2\nbid\t0,1\t9\t8\n",
+                "xor\t0,1\t8\t9\t0\t1\t1\t1\n",
+                "xor\t0,1\t9\t8\t1\t0\t1\t1\n",
             ),
             // one more bid, and one more good in a bid
             (
                 "goods 3\nbids 2\ndummy 1\n0\t5\t0\t3\t#\n1\t7\t1\t3\t#\n",
                 "goods 3\nbids 3\ndummy 1\n0\t5\t0\t3\t#\n1\t7\t1\t2\t3\t#\n2\t6\t1\t3\t#\n",
-                "xor\t3\t3\nbid\t1\t7\t6\nbid\t1,2\t-\t7\n",
-                "xor\t3\t3\nbid\t1\t6\t7\nbid\t1,2\t7\t-\n",
+                "xor\t1\t7\t6\t0\t0\t1\t2\nxor\t1,2\t\t7\t0\t0\t\t1\n",
+                "xor\t1\t6\t7\t0\t0\t2\t1\nxor\t1,2\t7\t\t0\t0\t1\t\n",
             ),
             // two bidders of each file, bundles in common with either
             (
                 APART,
                 TOGETHER,
-                "xor\t2\t2\nbid\t1\t2\t1\nbid\t0,1\t-\t2\nxor\t3\t3\nbid\t1\t1\t2\n",
-                "xor\t2\t2\nbid\t1\t1\t2\nbid\t0,1\t2\t-\nxor\t3\t3\nbid\t1\t2\t1\n",
+                "xor\t1\t2\t1\t0\t0\t1\t1\nxor\t0,1\t\t2\t0\t0\t\t2\nxor\t1\t1\t2\t1\t1\t3\t4\n",
+                "xor\t1\t1\t2\t0\t0\t1\t1\nxor\t0,1\t2\t\t0\t0\t2\t\nxor\t1\t2\t1\t1\t1\t4\t3\n",
             ),
             // the one on the rarest bundle, and the first on that
             (
                 "goods 2\nbids 2\ndummy 1\n0\t5\t0\t2\t#\n1\t5\t1\t2\t#\n",
                 "goods 2\nbids 3\ndummy 2\n0\t1\t0\t2\t#\n1\t2\t0\t3\t#\n2\t7\t1\t3\t#\n",
-                "xor\t2\t3\nbid\t0\t5\t2\nbid\t1\t5\t7\nxor\t-\t2\nbid\t0\t-\t1\n",
-                "xor\t2\t2\nbid\t0\t1\t5\nbid\t1\t-\t5\nxor\t3\t-\nbid\t0\t2\t-\nbid\t1\t7\t-\n",
+                "xor\t0\t5\t2\t0\t1\t0\t1\nxor\t1\t5\t7\t0\t1\t1\t2\nxor\t0\t\t1\t\t0\t\t0\n",
+                "xor\t0\t1\t5\t0\t0\t0\t0\nxor\t1\t\t5\t0\t0\t\t1\nxor\t0\t2\t\t1\t\t1\t\nxor\t1\t7\t\t1\t\t2\t\n",
             ),
             // bundles that are as rare: the first bidder
             (
                 THREE_BIDS,
                 SHARE_ONE_AND_TWO,
-                "xor\t3\t4\nbid\t2\t3\t4\nxor\t-\t3\nbid\t0\t-\t1\nbid\t1\t-\t9\nbid\t2\t-\t9\n",
-                "xor\t4\t3\nbid\t2\t4\t3\nxor\t3\t-\nbid\t0\t1\t-\nbid\t1\t9\t-\nbid\t2\t9\t-\n",
+                "xor\t2\t3\t4\t0\t1\t2\t5\nxor\t0\t\t1\t\t0\t\t0\nxor\t1\t\t9\t\t0\t\t1\nxor\t2\t\t9\t\t0\t\t2\n",
+                "xor\t2\t4\t3\t1\t0\t5\t2\nxor\t0\t1\t\t0\t\t0\t\nxor\t1\t9\t\t0\t\t1\t\nxor\t2\t9\t\t0\t\t2\t\n",
             ),
         ],
     )
@@ -274,7 +297,7 @@ const BOTH_KINDS: &str =
 const BOTH_KINDS_DIFFER: &str =
     "goods 3\nbids 4\ndummy 1\n0\t1\t0\t#\n1\t2.5\t1\t#\n2\t4\t0\t3\t#\n3\t5\t2\t3\t#\n";
 
-const BOTH_LINES: &str = "or\t1\t2\t2.5\nxor\t3\t3\nbid\t0\t3\t4\n";
+const BOTH_ROWS: &str = "or\t1\t2\t2.5\t\t\t1\t1\nxor\t0\t3\t4\t0\t0\t2\t2\n";
 
 #[test]
 fn both_kinds_of_bidders(rt: HostRuntime) -> Result<(), Fail> {
@@ -284,14 +307,14 @@ fn both_kinds_of_bidders(rt: HostRuntime) -> Result<(), Fail> {
             (
                 BOTH_KINDS,
                 BOTH_KINDS_DIFFER,
-                BOTH_LINES,
-                "or\t1\t2.5\t2\nxor\t3\t3\nbid\t0\t4\t3\n",
+                BOTH_ROWS,
+                "or\t1\t2.5\t2\t\t\t1\t1\nxor\t0\t4\t3\t0\t0\t2\t2\n",
             ),
             (
                 "goods 1\nbids 2\ndummy 1\n0\t4\t0\t#\n1\t1\t0\t1\t#\n",
                 FIVE,
-                "or\t0\t4\t5\nxor\t1\t-\nbid\t0\t1\t-\n",
-                "or\t0\t5\t4\nxor\t-\t1\nbid\t0\t-\t1\n",
+                "or\t0\t4\t5\t\t\t0\t0\nxor\t0\t1\t\t0\t\t1\t\n",
+                "or\t0\t5\t4\t\t\t0\t0\nxor\t0\t\t1\t\t0\t\t1\n",
             ),
         ],
     )
@@ -304,15 +327,16 @@ fn diff_refuses_as_compare_does(rt: HostRuntime) -> Result<(), Fail> {
         expect(&rt, &answer, *status, "", line);
     }
     let answer = differed(rt.alloc(), LARGER_BID, SINGLES, 3, CAPACITY)?;
-    expect(&rt, &answer, 0, "", "");
+    expect(&rt, &answer, 0, HEADER, "");
     Ok(())
 }
 
 #[test]
 fn outputs_of_diff_fail(rt: HostRuntime) -> Result<(), Fail> {
-    for capacity in 0..BOTH_LINES.len() {
+    let table = format!(in rt.alloc(); "{HEADER}{BOTH_ROWS}")?;
+    for capacity in 0..table.len() {
         let cut_off = differed(rt.alloc(), BOTH_KINDS, BOTH_KINDS_DIFFER, STEPS, capacity)?;
-        expect_cut_off(&rt, &cut_off, BOTH_LINES, capacity)?;
+        expect_cut_off(&rt, &cut_off, table.as_str(), capacity)?;
     }
     Ok(())
 }

@@ -367,13 +367,21 @@ static LARGER_BID_ROWS: [Row<'static>; 16] = [
         "",
         "first: step limit at 0,1\n",
     ),
-    ("cats diff FILE FILE", CAPACITY, CAPACITY, 0, "", ""),
+    (
+        "cats diff FILE FILE",
+        CAPACITY,
+        CAPACITY,
+        0,
+        "kind\tgoods\tleft\tright\tleft_dummy\tright_dummy\tleft_bid\tright_bid\n",
+        "",
+    ),
     (
         "cats diff FILE OTHER",
         CAPACITY,
         CAPACITY,
         1,
-        "or\t0\t3\t-\nor\t1\t4\t-\n",
+        "kind\tgoods\tleft\tright\tleft_dummy\tright_dummy\tleft_bid\tright_bid\n\
+        or\t0\t3\t\t\t\t0\t\nor\t1\t4\t\t\t\t1\t\n",
         "",
     ),
     (
@@ -381,7 +389,8 @@ static LARGER_BID_ROWS: [Row<'static>; 16] = [
         CAPACITY,
         CAPACITY,
         1,
-        "or\t0\t-\t3\nor\t1\t-\t4\n",
+        "kind\tgoods\tleft\tright\tleft_dummy\tright_dummy\tleft_bid\tright_bid\n\
+        or\t0\t\t3\t\t\t\t0\nor\t1\t\t4\t\t\t\t1\n",
         "",
     ),
     (

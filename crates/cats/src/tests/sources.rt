@@ -158,8 +158,20 @@ static ROWS: [Row<'static>; 36] = [
         "",
         "second: cannot open\n",
     ),
-    (&["cats", "diff", "one", "other"], 1, "or\t0\t3\t4\n", ""),
-    (&["cats", "diff", "other", "one"], 1, "or\t0\t4\t3\n", ""),
+    (
+        &["cats", "diff", "one", "other"],
+        1,
+        "kind\tgoods\tleft\tright\tleft_dummy\tright_dummy\tleft_bid\tright_bid\n\
+        or\t0\t3\t4\t\t\t0\t0\n",
+        "",
+    ),
+    (
+        &["cats", "diff", "other", "one"],
+        1,
+        "kind\tgoods\tleft\tright\tleft_dummy\tright_dummy\tleft_bid\tright_bid\n\
+        or\t0\t4\t3\t\t\t0\t0\n",
+        "",
+    ),
     (
         &["cats", "diff", "one", "none"],
         5,
