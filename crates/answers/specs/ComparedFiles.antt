@@ -1,4 +1,5 @@
--- Files that are compared with their canonical files, and all their differences. The canonical files have the dummy goods
+-- Files that are compared with their canonical files, and all their differences. The canonical files have the dummy
+-- goods
 -- of the files.
 use Rattle.std.specs.Prelude.{◌≡◌, ℕ, List}
 use Rattle.bid_file.specs.Files.{PlainFile, IsPlainFile}

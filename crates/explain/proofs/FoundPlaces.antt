@@ -1,6 +1,7 @@
 -- The packing that the bounded search finds below a bundle: its places are those of points below the bundle, which share no good and
 -- together reach the price.
-use Rattle.std.proofs.Common.{◌≡◌, ℕ, ◌<◌, ◌≤◌, true, false, leb, ⊎_elim, List, [], ◌∷◌, ◌++◌, length, map, reverse, get_or, Option, Some, refl, sym, ap, ap₂, ◌∙◌}
+use Rattle.std.proofs.Common.{◌≡◌, ℕ, ◌<◌, ◌≤◌, true, false, leb, ⊎_elim, List, [], ◌∷◌, ◌++◌, length, map, reverse, get_or, Option, Some, refl, sym, ap}
+use Rattle.std.proofs.Common.{ap₂, ◌∙◌}
 use Rattle.std.proofs.Common.{subst, arith}
 use Rattle.std.specs.Prelude.{All, AllPairs, Contains}
 use Rattle.std.specs.List.{filter, range_with_len}
@@ -138,6 +139,7 @@ pub inside_from : (points : List (Atom (List ℕ))) (a : Atom (List ℕ)) (place
 unfolding xor_fate
 inside_from points a place e =
     let r = found_first (λ x y. x < y) (λ x y l m. omega arith) (λ place. leb a.price (atom_at points place).price) (places_below points a.bundle)
-    (AllPairs-filter (λ x y. x < y) (λ place. is_below (atom_at points place).bundle a.bundle) (range_with_len 0 (length points)) (numbers_rise (length points)))
+    (AllPairs-filter (λ x y. x < y) (λ place. is_below (atom_at points place).bundle a.bundle) (range_with_len 0 (length points)) (numbers_rise
+    (length points)))
     place e in
     record { there = r.there; enough = leb-true a.price (atom_at points place).price r.passes }

@@ -32,7 +32,8 @@ use Rattle.explain.proofs.FoundPlaces.{dropped_from, each_below, inside_from, se
 use Rattle.explain.proofs.KeptBidsBest.{atoms_of_bidder, one_key_same}
 use Rattle.explain.proofs.KeptPoints.{bidder_is_kept, kept_number_is}
 use Rattle.explain.proofs.KeptStarts.{kept_count, point_there, start_of}
-use Rattle.explain.proofs.Passed.{below_is_kept, best_split, done, kept, next_below, next_is, next_number, next_point, next_within, number_of_point, offer, passed_more}
+use Rattle.explain.proofs.Passed.{below_is_kept, best_split, done, kept, next_below, next_is, next_number, next_point, next_within, number_of_point, offer}
+use Rattle.explain.proofs.Passed.{passed_more}
 use Rattle.explain.proofs.TrueReasons.{reason_best}
 
 at_seam : {B C : Type 0} (xs : List B) (g : C → B) (before : List C) (c : C) (after : List C) (i : ℕ) → xs ≡ map g (before ++ c ∷ after) → length before ≡ i
@@ -230,7 +231,8 @@ module _ (known : Known) (place : ℕ) (n : NumberedBid) (walk : Walk) (is : IsK
       (subst (λ (q : Option ℕ). Contains (places_below (points_of f q) (offer n).bundle) p) (sym e) c) in
       let long = long_points in (
         omega arith,
-        ap (λ (xs : List ℕ). get_or xs p 0) has.points ∙ number_of_point f is.plain bids is.order place n next p l ∙ ap (λ (q : Option ℕ). point_number f q p) e,
+        ap (λ (xs : List ℕ). get_or xs p 0) has.points ∙ number_of_point f is.plain bids is.order place n next p l ∙ ap (λ
+            (q : Option ℕ). point_number f q p) e,
       )
 
   places_before : (places : List ℕ) → dummy ≡ None → or_fate Bounded (points_of f None) (offer n) ≡ Some places

@@ -1,6 +1,7 @@
 -- The numbers of the points of a packing, sorted. Different points of a packing are on different goods, so their numbers differ, and
 -- rise once they are sorted; what holds of each two of them does not depend on their order.
-use Rattle.std.proofs.Common.{◌≡◌, ℕ, ◌<◌, ◌≤◌, true, ⊎_elim, List, [], ◌∷◌, length, map, get_or, Option, None, refl, sym, ap, ◌∙◌, subst, subst₂, arith, eqb, nat_cmp}
+use Rattle.std.proofs.Common.{◌≡◌, ℕ, ◌<◌, ◌≤◌, true, ⊎_elim, List, [], ◌∷◌, length, map, get_or, Option, None, refl, sym, ap, ◌∙◌, subst, subst₂, arith}
+use Rattle.std.proofs.Common.{eqb, nat_cmp}
 use Rattle.std.specs.Prelude.{All, AllPairs, Contains, IsPermutation, sum_by}
 use Rattle.std.specs.List.{AllByRecursion, list_all}
 use Rattle.std.specs.List.Sorted.{IsSorted}

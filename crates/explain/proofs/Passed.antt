@@ -1,5 +1,6 @@
 -- The best bids that a walk over the bids in order passes are a bidder's best bids, in order: of each bundle one alone is the best.
-use Rattle.std.proofs.Common.{◌≡◌, ◌≢◌, ℕ, ◌+◌, ◌-◌, ◌<◌, ◌≤◌, Bool, true, false, ◌&&◌, eqb, ltb, cond, ⊎_elim, List, [], ◌∷◌, ◌++◌, length, map, get_or, take, drop}
+use Rattle.std.proofs.Common.{◌≡◌, ◌≢◌, ℕ, ◌+◌, ◌-◌, ◌<◌, ◌≤◌, Bool, true, false, ◌&&◌, eqb, ltb, cond, ⊎_elim, List, [], ◌∷◌, ◌++◌, length, map, get_or}
+use Rattle.std.proofs.Common.{take, drop}
 use Rattle.std.proofs.Common.{Option, None, refl, sym, ap, ap₂, ◌∙◌, subst, arith, Ordering, Less, Equal, Greater, is_lt, nat_cmp}
 use Rattle.std.specs.Prelude.{AllPairs, Contains}
 use Rattle.std.specs.List.{filter}
@@ -7,7 +8,8 @@ use Rattle.std.specs.Option.{unwrap_or}
 use Rattle.std.specs.Ordering.{ordering_reverse, ordering_then}
 use Rattle.std.proofs.lemmas.Bool.{and_from, and_parts, both_ways, cases_lt, eq-eqb, eqb-true, lt-ltb, ltb-true}
 use Rattle.std.proofs.lemmas.Bool.Decides.{Decides-eqb}
-use Rattle.std.proofs.lemmas.List.{drop_more, get_or-append_right, get_or-map, get_or_append_left, get_or_at, length-append, length-map, map-append, take-append-drop}
+use Rattle.std.proofs.lemmas.List.{drop_more, get_or-append_right, get_or-map, get_or_append_left, get_or_at, length-append, length-map, map-append}
+use Rattle.std.proofs.lemmas.List.{take-append-drop}
 use Rattle.std.proofs.lemmas.List.Elements.{All-contains, Contains-append_left, Contains-append_right, Contains-get_or, filter-append, filter_more}
 use Rattle.std.proofs.lemmas.List.Kept.{AllPairs-filter}
 use Rattle.std.proofs.lemmas.List.Sorted.{IsPermutation-map, ranks_by, sorted_far}
@@ -34,7 +36,7 @@ use Rattle.canon.specs.Lemmas.Renaming.{filter-map}
 use Rattle.explain.specs.declared.best.NumberedBid.{NumberedBid}
 use Rattle.explain.specs.Bids.{bid_at, bidder_of, is_best}
 use Rattle.explain.specs.Reasons.{point_number, points_of}
-use Rattle.explain.specs.Internal.BidOrders.{AreInOrder, numbered_cmp}
+use Rattle.explain.specs.BidOrders.{AreInOrder, numbered_cmp}
 use Rattle.explain.specs.Internal.Walks.{IsNextBest, is_best_of, is_kept_atom, is_kept_bid, passed_bids}
 use Rattle.explain.proofs.BestBids.{alike_from, at_number, numbered, numbered_cmp_total}
 use Rattle.explain.proofs.BestNumbers.{best_number_is}
@@ -77,9 +79,11 @@ module _ (f : PlainFile) (bids : List NumberedBid) (order : AreInOrder f bids) w
 
   none_after : AllPairs (λ m n. is_lt (numbered_cmp n m) ≡ false) bids
   none_after i j d l m =
-      sorted_far (λ (a b : NumberedBid). is_lt (numbered_cmp a b)) (ranks_by numbered_cmp_total (λ (n : NumberedBid). n)) bids order.sorted i j d (omega arith) m
+      sorted_far (λ (a b : NumberedBid). is_lt (numbered_cmp a b)) (ranks_by numbered_cmp_total (λ (n : NumberedBid). n)) bids order.sorted i j d
+      (omega arith) m
 
-module _ (f : PlainFile) (is : IsPlainFile f) (bids : List NumberedBid) (order : AreInOrder f bids) (dummy : Option ℕ) (below : IsDummyBelow f.dummy dummy) where
+module _ (f : PlainFile) (is : IsPlainFile f) (bids : List NumberedBid) (order : AreInOrder f bids) (dummy : Option ℕ)
+    (below : IsDummyBelow f.dummy dummy) where
   abbrev all : List NumberedBid
   all = filter (is_best_of f dummy) bids
 
@@ -110,7 +114,8 @@ module _ (f : PlainFile) (is : IsPlainFile f) (bids : List NumberedBid) (order :
   before m n a b differ after Equal e =
       let goods : (seen_bid m.bid).goods ≡ (seen_bid n.bid).goods = bundle_cmp_equal m.bid.goods.now n.bid.goods.now e in
       absurd (differ (best-once f m.number n.number a.within b.within a.best b.best (alike_from (bid_at f m.number) (bid_at f n.number) (record {
-        bidder = ap (λ (z : PlainBid). bidder_of z.dummy) (sym a.seen) ∙ ap bidder_of (a.bidder ∙ sym b.bidder) ∙ ap (λ (z : PlainBid). bidder_of z.dummy) b.seen;
+        bidder = ap (λ (z : PlainBid). bidder_of z.dummy) (sym a.seen) ∙ ap bidder_of (a.bidder ∙ sym b.bidder) ∙ ap (λ
+            (z : PlainBid). bidder_of z.dummy) b.seen;
         goods = ap (λ (z : PlainBid). z.goods) (sym a.seen) ∙ goods ∙ ap (λ (z : PlainBid). z.goods) b.seen;
       }))))
   before m n a b differ after Greater e =
@@ -119,7 +124,8 @@ module _ (f : PlainFile) (is : IsPlainFile f) (bids : List NumberedBid) (order :
       let same : nat_cmp (bidder_of n.bid.dummy) (bidder_of m.bid.dummy) ≡ Equal =
       ap (λ (k : ℕ). nat_cmp k (bidder_of m.bid.dummy)) (ap bidder_of (b.bidder ∙ sym a.bidder)) ∙ nat_cmp-refl (bidder_of m.bid.dummy) in
       let less : is_lt (numbered_cmp n m) ≡ true =
-      ap₂ (λ (o p : Ordering). is_lt (ordering_then (ordering_then (ordering_then o p) (nat_cmp m.bid.price n.bid.price)) (nat_cmp n.number m.number))) same back in
+      ap₂ (λ (o p : Ordering). is_lt (ordering_then (ordering_then (ordering_then o p) (nat_cmp m.bid.price n.bid.price))
+      (nat_cmp n.number m.number))) same back in
       absurd (both_ways (is_lt (numbered_cmp n m)) after less)
 
   all_in_order : IsInOrder (map offer all)

@@ -114,7 +114,8 @@ module _ (goods : ℕ) (atoms : List (Atom (List ℕ))) (on : All (IsOnBundle go
   or_short : (a : Atom (List ℕ)) → Contains or_all a → or_value (atoms_below or_all a.bundle) a.bundle < a.price
   or_short a c =
       ⊎_elim (λ (l : or_value (atoms_below or_all a.bundle) a.bundle < a.price). l)
-      (λ (l : a.price ≤ or_value (atoms_below or_all a.bundle) a.bundle). absurd (reached l)) (cases_lt (or_value (atoms_below or_all a.bundle) a.bundle) a.price)
+      (λ (l : a.price ≤ or_value (atoms_below or_all a.bundle) a.bundle). absurd (reached l)) (cases_lt (or_value
+      (atoms_below or_all a.bundle) a.bundle) a.price)
     where
       reached : a.price ≤ or_value (atoms_below or_all a.bundle) a.bundle → ⊥
       reached l =

@@ -6,7 +6,7 @@ use Rattle.std.proofs.lemmas.List.FromFn.{fill_by_all}
 use Rattle.bid_file.specs.Files.{PlainFile}
 use Rattle.explain.specs.Bids.{bid_at}
 use Rattle.explain.specs.Reasons.{PlainReason, Zero, plain_reason, reason_at, reason_of, reasons_of}
-use Rattle.explain.specs.Internal.BidOrders.{AreInOrder}
+use Rattle.explain.specs.BidOrders.{AreInOrder}
 use Rattle.explain.specs.declared.best.NumberedBid.{NumberedBid}
 use Rattle.explain.specs.declared.reason.Reason.{Reason}
 use Rattle.explain.proofs.BestBids.{at_number}

@@ -25,7 +25,8 @@ use Rattle.explain.proofs.BestNumbers.{best_number_for, best_there}
 use Rattle.explain.proofs.Deciding.{explained, priced_within}
 use Rattle.explain.proofs.FoundPlaces.{dropped_from, found_are_packed, inside_from, place_below, searched_places}
 use Rattle.explain.proofs.KeptBids.{bid_here}
-use Rattle.explain.proofs.KeptPoints.{best_is_there, bidder_is_kept, kept_if_point, kept_is_point, kept_number_is, point_if_kept, point_is_kept, point_number_is}
+use Rattle.explain.proofs.KeptPoints.{best_is_there, bidder_is_kept, kept_if_point, kept_is_point, kept_number_is, point_if_kept, point_is_kept}
+use Rattle.explain.proofs.KeptPoints.{point_number_is}
 use Rattle.explain.proofs.Packings.{IsPointOf, of_packing}
 
 -- ---- by cases

@@ -1,6 +1,7 @@
 -- The walk takes the next bid in. It is the best of its bidder's on its goods if the bid before it is not on the same goods of that bidder;
 -- and at the first bid of a bidder the walk has passed none of it.
-use Rattle.std.proofs.Common.{◌≡◌, ℕ, ◌+◌, ◌-◌, ◌<◌, ◌≤◌, Bool, true, false, ◌&&◌, ◌⊎◌, inl, inr, eqb, ltb, cond, ⊎_elim, List, [], ◌∷◌, ◌++◌, length, map, get_or, take}
+use Rattle.std.proofs.Common.{◌≡◌, ℕ, ◌+◌, ◌-◌, ◌<◌, ◌≤◌, Bool, true, false, ◌&&◌, ◌⊎◌, inl, inr, eqb, ltb, cond, ⊎_elim, List, [], ◌∷◌, ◌++◌, length, map}
+use Rattle.std.proofs.Common.{get_or, take}
 use Rattle.std.proofs.Common.{Option, Some, None, refl, sym, ap, ◌∙◌, subst, arith, Ordering, Less, Equal, Greater, is_lt, nat_cmp}
 use Rattle.std.specs.Prelude.{slice_get}
 use Rattle.std.specs.List.{filter}
@@ -17,9 +18,10 @@ use Rattle.bid_file.specs.Views.{seen_bid}
 use Rattle.explain.specs.declared.best.NumberedBid.{NumberedBid}
 use Rattle.explain.specs.declared.walk.Walk.{Walk}
 use Rattle.explain.specs.Bids.{bid_at, bidder_of, is_best, IsBestFor}
-use Rattle.explain.specs.Internal.BidOrders.{AreInOrder, key_cmp, numbered_cmp}
+use Rattle.explain.specs.BidOrders.{AreInOrder, key_cmp, numbered_cmp}
 use Rattle.explain.specs.Internal.Walks.{HasPassed, IsAt, IsBestAt, IsLastBest, best_after, dummy_of, is_best_of, is_kept_bid, passed_bids}
-use Rattle.explain.proofs.BestBids.{HaveOneKey, alike_from, first_is_best, from_equal, key_cmp_total, key_first, key_same, numbered, numbered_cmp_total, one_key}
+use Rattle.explain.proofs.BestBids.{HaveOneKey, alike_from, first_is_best, from_equal, key_cmp_total, key_first, key_same, numbered, numbered_cmp_total}
+use Rattle.explain.proofs.BestBids.{one_key}
 use Rattle.explain.proofs.BestBids.{equal_from, partitioned}
 use Rattle.explain.proofs.KeptBidsBest.{best-once, same_bidder}
 use Rattle.explain.proofs.KeptBidsLists.{filter_none}
@@ -131,7 +133,8 @@ module _ (f : PlainFile) (bids : List NumberedBid) (order : AreInOrder f bids) (
         let m : NumberedBid = get_or bids i last in
         ap (is_best_of f n.bid.dummy) there
         ∙ false_from_ne_true (is_best_of f n.bid.dummy m) (λ t.
-        let same = eqb-true (bidder_of m.bid.dummy) (bidder_of n.bid.dummy) (and_parts (eqb (bidder_of m.bid.dummy) (bidder_of n.bid.dummy)) (ltb 0 m.bid.price && is_best f m.number) t).0 in
+        let same = eqb-true (bidder_of m.bid.dummy) (bidder_of n.bid.dummy) (and_parts (eqb (bidder_of m.bid.dummy) (bidder_of n.bid.dummy))
+        (ltb 0 m.bid.price && is_best f m.number) t).0 in
         let some = best.some in
         let low = bidders_rise i (place - 1) last (omega arith) (omega (arith, within)) in
         let high = bidders_rise (place - 1) place last (omega arith) within in

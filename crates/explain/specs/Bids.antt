@@ -36,7 +36,8 @@ is_best f i = not (list_any (λ j. is_better f j i) (numbers_of f))
 -- the number of the best of a bidder's bids on these goods, if it has one there
 abbrev pub best_number : PlainFile → Option ℕ → List ℕ → Option ℕ
 best_number f dummy goods =
-    find (λ i. are_alike (bid_at f i) (record { price = 0; goods = goods; dummy = dummy }) && is_best f i) (numbers_of f)
+    find (λ i. are_alike (bid_at f i) (record { price = 0; goods = goods; dummy = dummy }) && is_best f i)
+    (numbers_of f)
 
 -- bid j is the best of the bids of bid i's bidder on its goods
 pub record IsBestFor (f : PlainFile) (i j : ℕ) : Type 0 where

@@ -125,7 +125,8 @@ point_number f dummy place = unwrap_or (best_number f dummy (atom_at (points_of 
 
 -- which bid of the canonical file is of bid i's bidder on its goods
 abbrev pub kept_number : PlainFile → ℕ → ℕ
-kept_number f i = unwrap_or (find (λ k. are_alike (kept_bid f k) (bid_at f i)) (range_with_len 0 (length (kept_bids f)))) 0
+kept_number f i =
+    unwrap_or (find (λ k. are_alike (kept_bid f k) (bid_at f i)) (range_with_len 0 (length (kept_bids f)))) 0
 
 -- the reason of a best bid, by what becomes of it. A packing is the one that the bounded search finds among the points
 abbrev pub or_reason : PlainFile → ℕ → Option (List ℕ) → PlainReason

@@ -11,7 +11,7 @@ use Rattle.valuation.specs.Auctions.{atom_of, or_atoms_of, xor_atoms_of}
 use Rattle.prune.specs.Fates.{or_fate, or_fates, plain_fate, xor_fate, xor_fates}
 use Rattle.explain.specs.Bids.{bid_at, bidder_of, is_best, IsBestFor}
 use Rattle.explain.specs.Reasons.{points_of}
-use Rattle.explain.specs.Internal.BidOrders.{AreInOrder, key_cmp}
+use Rattle.explain.specs.BidOrders.{AreInOrder, key_cmp}
 use Rattle.explain.specs.Internal.Starts.{AreStarts}
 use Rattle.explain.specs.declared.best.NumberedBid.{NumberedBid}
 use Rattle.explain.specs.declared.walk.Known.{Known}
@@ -23,7 +23,8 @@ pub record IsKnown (known : Known) : Type 0 where
   pub or : map plain_fate known.fates.or.items
       ≡ or_fates Bounded known.file.now.goods (or_atoms_of known.file.now.bids)
   pub xor : map (λ fates. fates.items) known.fates.xor.items
-      ≡ map (λ d. xor_fates known.file.now.goods (xor_atoms_of known.file.now.bids d)) (range_with_len 0 known.file.now.dummy)
+      ≡ map (λ d. xor_fates known.file.now.goods (xor_atoms_of known.file.now.bids d))
+      (range_with_len 0 known.file.now.dummy)
   pub starts : AreStarts known.file.now 0 known.starts.items
 
 -- ---- the best bids
@@ -56,7 +57,8 @@ is_kept_bid f dummy n = is_kept_atom f dummy (atom_of (seen_bid n.bid))
 -- ---- the walk
 
 -- the walk has passed these first bids, the last of them of this bidder
-pub record HasPassed (f : PlainFile) (bids : List NumberedBid) (dummy : Option ℕ) (count : ℕ) (walk : Walk) : Type 0 where
+pub record HasPassed (f : PlainFile) (bids : List NumberedBid) (dummy : Option ℕ) (count : ℕ)
+    (walk : Walk) : Type 0 where
   pub passed : walk.passed ≡ length (passed_bids f bids dummy count)
   pub points : walk.points.items ≡ map (λ n. n.number) (filter (is_kept_bid f dummy) (passed_bids f bids dummy count))
 

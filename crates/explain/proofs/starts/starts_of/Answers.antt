@@ -44,7 +44,8 @@ loop-behind-preserved c =
           (in_file f c.args.named.now c.requires k bid c.at.ensures w.in-Some.dummy w.index.result.now w.in-Some.is w.index.ensures))
       | in_default w ↦
           subst (λ (v : Vec ℕ Global). AreStarts f k v.items) (sym w.starts-is)
-          (same_starts f k from c.loop-behind.starts.items next c.loop-behind.invariant (or_bidder f c.args.named.now c.requires k bid c.at.ensures w.in_default.is))
+          (same_starts f k from c.loop-behind.starts.items next c.loop-behind.invariant
+          (or_bidder f c.args.named.now c.requires k bid c.at.ensures w.in_default.is))
     ])
 
 pub returns : goal.returns

@@ -10,7 +10,8 @@ use Rattle.prune.specs.Fates.{xor_fate}
 use Rattle.explain.specs.Reasons.{Keep, Inside, Packing, plain_reason, points_of, reason_of}
 use Rattle.explain.proofs.Passed.{offer}
 use Rattle.explain.proofs.KeptStarts.{start_of}
-use Rattle.explain.proofs.NextBest.{inside_reason, inside_within, keep_fits, keep_reason, or_dropped, or_here, or_kept, or_not_kept, packing_reason, packing_within}
+use Rattle.explain.proofs.NextBest.{inside_reason, inside_within, keep_fits, keep_reason, or_dropped, or_here, or_kept, or_not_kept, packing_reason}
+use Rattle.explain.proofs.NextBest.{packing_within}
 use Rattle.explain.proofs.NextBest.{passed_dropped, passed_fits, passed_kept, start_there, xor_fate_is, xor_kept, xor_long, xor_not_kept, xor_within}
 use Rattle.explain.proofs.walk.Walk.reason_of_best.Goals as goal
 
@@ -20,7 +21,8 @@ overflow_add-self c =
 
 pub index-requires : goal.index-requires
 index-requires c =
-    let l = (or_here c.args.known.now c.args.place c.args.bid.now c.args.self.now c.requires.known c.requires.best c.requires.passed c.in-None.is).0 in omega (arith, l, c.args.known.now.fates.or.ok.0)
+    let l = (or_here c.args.known.now c.args.place c.args.bid.now c.args.self.now c.requires.known c.requires.best c.requires.passed c.in-None.is).0 in
+    omega (arith, l, c.args.known.now.fates.or.ok.0)
 
 pub keep-requires : goal.keep-requires
 keep-requires c =
@@ -43,7 +45,8 @@ pub returns-in-None-index-clause-passed : goal.returns-in-None-index-clause-pass
 returns-in-None-index-clause-passed c =
     let t = or_kept c.args.known.now c.args.place c.args.bid.now c.args.self.now c.requires.known c.requires.best c.requires.passed
     c.in-None.is c.index.result.now c.index.ensures c.in-None-index.is in
-    on_ok_weaker c.keep.result (λ points. passed_kept c.args.known.now c.args.place c.args.bid.now c.args.self.now c.requires.known c.requires.best c.requires.passed
+    on_ok_weaker c.keep.result (λ points. passed_kept c.args.known.now c.args.place c.args.bid.now c.args.self.now c.requires.known c.requires.best
+    c.requires.passed
     c.keep.new.self t c.keep.ensures.passed points) c.keep.ensures.points
 
 pub numbers_at-requires : goal.numbers_at-requires
@@ -72,13 +75,15 @@ returns-in_ok-numbers_at-in-Some-index-clause-passed c =
     let t = or_dropped c.args.known.now c.args.place c.args.bid.now c.args.self.now c.requires.known c.requires.best c.requires.passed
     c.in-None.is c.index.result.now c.index.ensures places c.in-Some-index.is in
     passed_dropped c.args.known.now c.args.place c.args.bid.now c.args.self.now c.requires.known c.requires.best c.requires.passed _
-    (or_not_kept c.args.known.now c.args.place c.args.bid.now c.args.self.now c.requires.known c.requires.best c.requires.passed places.items c.in-None.is t) refl refl
+    (or_not_kept c.args.known.now c.args.place c.args.bid.now c.args.self.now c.requires.known c.requires.best c.requires.passed places.items c.in-None.is t)
+    refl refl
 
 -- ---- a bid of an XOR bidder
 
 pub index-requires-in-Some : goal.index-requires-in-Some
 index-requires-in-Some c =
-    let l = xor_long c.args.known.now c.args.place c.args.bid.now c.args.self.now c.requires.known c.requires.best c.requires.passed c.in-Some.dummy c.in-Some.is in omega (arith, l, c.args.known.now.fates.xor.ok.0)
+    let l = xor_long c.args.known.now c.args.place c.args.bid.now c.args.self.now c.requires.known c.requires.best c.requires.passed c.in-Some.dummy
+    c.in-Some.is in omega (arith, l, c.args.known.now.fates.xor.ok.0)
 
 pub index-requires-in-Some-2 : goal.index-requires-in-Some-2
 index-requires-in-Some-2 c =
@@ -87,13 +92,15 @@ index-requires-in-Some-2 c =
 
 pub index-requires-in-None-index-2 : goal.index-requires-in-None-index-2
 index-requires-in-None-index-2 c =
-    let l = start_there c.args.known.now c.args.place c.args.bid.now c.args.self.now c.requires.known c.requires.best c.requires.passed c.in-Some.dummy c.in-Some.is in omega (arith, l, c.args.known.now.starts.ok.0)
+    let l = start_there c.args.known.now c.args.place c.args.bid.now c.args.self.now c.requires.known c.requires.best c.requires.passed c.in-Some.dummy
+    c.in-Some.is in omega (arith, l, c.args.known.now.starts.ok.0)
 
 pub keep-requires-in-None-index-2 : goal.keep-requires-in-None-index-2
 keep-requires-in-None-index-2 c =
     let fate = xor_fate_is c.args.known.now c.args.place c.args.bid.now c.args.self.now c.requires.known c.requires.best c.requires.passed
     c.in-Some.dummy c.in-Some.is c.index-in-Some.result.now c.index-in-Some.ensures c.index-in-Some-2.result.now c.index-in-Some-2.ensures in
-    let t = xor_kept c.args.known.now c.args.place c.args.bid.now c.args.self.now c.requires.known c.requires.best c.requires.passed c.in-Some.dummy c.in-Some.is
+    let t = xor_kept c.args.known.now c.args.place c.args.bid.now c.args.self.now c.requires.known c.requires.best c.requires.passed c.in-Some.dummy
+    c.in-Some.is
     (sym fate ∙ c.in-None-index-2.is) in
     let start : start_of c.args.known.now.starts.items c.args.bid.now.bid.dummy ≡ c.index-in-None-index-2.result.now =
     ap (start_of c.args.known.now.starts.items) c.in-Some.is
@@ -106,7 +113,8 @@ pub returns-in-None-index-2-clause-reason : goal.returns-in-None-index-2-clause-
 returns-in-None-index-2-clause-reason c =
     let fate = xor_fate_is c.args.known.now c.args.place c.args.bid.now c.args.self.now c.requires.known c.requires.best c.requires.passed
     c.in-Some.dummy c.in-Some.is c.index-in-Some.result.now c.index-in-Some.ensures c.index-in-Some-2.result.now c.index-in-Some-2.ensures in
-    let t = xor_kept c.args.known.now c.args.place c.args.bid.now c.args.self.now c.requires.known c.requires.best c.requires.passed c.in-Some.dummy c.in-Some.is
+    let t = xor_kept c.args.known.now c.args.place c.args.bid.now c.args.self.now c.requires.known c.requires.best c.requires.passed c.in-Some.dummy
+    c.in-Some.is
     (sym fate ∙ c.in-None-index-2.is) in
     let start : start_of c.args.known.now.starts.items c.args.bid.now.bid.dummy ≡ c.index-in-None-index-2.result.now =
     ap (start_of c.args.known.now.starts.items) c.in-Some.is
@@ -117,15 +125,18 @@ returns-in-None-index-2-clause-reason c =
     (λ reason. plain_reason reason ≡ Keep (c.index-in-None-index-2.result.now + length c.args.self.now.points.items))
     (λ reason. plain_reason reason ≡ reason_of c.args.known.now.file.now c.args.bid.now.number)
     (λ reason e. e ∙ ap (λ (k : ℕ). Keep (k + length c.args.self.now.points.items)) (sym start)
-    ∙ keep_reason c.args.known.now c.args.place c.args.bid.now c.args.self.now c.requires.known c.requires.best c.requires.passed t) c.keep-in-None-index-2.ensures.reason
+    ∙ keep_reason c.args.known.now c.args.place c.args.bid.now c.args.self.now c.requires.known c.requires.best c.requires.passed t)
+    c.keep-in-None-index-2.ensures.reason
 
 pub returns-in-None-index-2-clause-passed : goal.returns-in-None-index-2-clause-passed
 returns-in-None-index-2-clause-passed c =
     let fate = xor_fate_is c.args.known.now c.args.place c.args.bid.now c.args.self.now c.requires.known c.requires.best c.requires.passed
     c.in-Some.dummy c.in-Some.is c.index-in-Some.result.now c.index-in-Some.ensures c.index-in-Some-2.result.now c.index-in-Some-2.ensures in
-    let t = xor_kept c.args.known.now c.args.place c.args.bid.now c.args.self.now c.requires.known c.requires.best c.requires.passed c.in-Some.dummy c.in-Some.is
+    let t = xor_kept c.args.known.now c.args.place c.args.bid.now c.args.self.now c.requires.known c.requires.best c.requires.passed c.in-Some.dummy
+    c.in-Some.is
     (sym fate ∙ c.in-None-index-2.is) in
-    on_ok_weaker c.keep-in-None-index-2.result (λ points. passed_kept c.args.known.now c.args.place c.args.bid.now c.args.self.now c.requires.known c.requires.best c.requires.passed
+    on_ok_weaker c.keep-in-None-index-2.result (λ points. passed_kept c.args.known.now c.args.place c.args.bid.now c.args.self.now c.requires.known
+    c.requires.best c.requires.passed
     c.keep-in-None-index-2.new.self t c.keep-in-None-index-2.ensures.passed points) c.keep-in-None-index-2.ensures.points
 
 pub index-requires-in-Some-index-2 : goal.index-requires-in-Some-index-2
@@ -134,7 +145,8 @@ index-requires-in-Some-index-2 c =
     c.in-Some.dummy c.in-Some.is c.index-in-Some.result.now c.index-in-Some.ensures c.index-in-Some-2.result.now c.index-in-Some-2.ensures in
     let t : xor_fate (points_of c.args.known.now.file.now (Some c.in-Some.dummy)) (offer c.args.bid.now) ≡ Some c.in-Some-index-2.place =
     sym fate ∙ c.in-Some-index-2.is in
-    let l = inside_within c.args.known.now c.args.place c.args.bid.now c.args.self.now c.requires.known c.requires.best c.requires.passed c.in-Some.dummy c.in-Some-index-2.place
+    let l = inside_within c.args.known.now c.args.place c.args.bid.now c.args.self.now c.requires.known c.requires.best c.requires.passed c.in-Some.dummy
+    c.in-Some-index-2.place
     c.in-Some.is t in omega (arith, l, c.args.self.now.points.ok.0)
 
 pub returns-in-Some-index-2-clause-reason : goal.returns-in-Some-index-2-clause-reason
@@ -157,5 +169,6 @@ returns-in-Some-index-2-clause-passed c =
     let t : xor_fate (points_of c.args.known.now.file.now (Some c.in-Some.dummy)) (offer c.args.bid.now) ≡ Some c.in-Some-index-2.place =
     sym fate ∙ c.in-Some-index-2.is in
     passed_dropped c.args.known.now c.args.place c.args.bid.now c.args.self.now c.requires.known c.requires.best c.requires.passed _
-    (xor_not_kept c.args.known.now c.args.place c.args.bid.now c.args.self.now c.requires.known c.requires.best c.requires.passed c.in-Some.dummy c.in-Some-index-2.place c.in-Some.is t)
+    (xor_not_kept c.args.known.now c.args.place c.args.bid.now c.args.self.now c.requires.known c.requires.best c.requires.passed c.in-Some.dummy
+    c.in-Some-index-2.place c.in-Some.is t)
     refl refl
