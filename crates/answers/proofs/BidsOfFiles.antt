@@ -106,7 +106,10 @@ module _ (f g : PlainFile) (plain : IsPlainFile f) (also : IsPlainFile g) where
         bids = All-weaker (IsPriceChange (bids_at (auction_from (canonical_file f)).xor_bidders c.left)
             (bids_at (auction_from (canonical_file g)).xor_bidders c.right))
             (IsOfBids f g (named_dummy (kept_dummies f) c.left) (named_dummy (kept_dummies g) c.right))
-            (λ p is. record { left = xor_bid_of f plain c.left lefts p.bundle p.left is.on_left; right = xor_bid_of g also c.right rights p.bundle p.right is.on_right })
+            (λ p is. record {
+              left = xor_bid_of f plain c.left lefts p.bundle p.left is.on_left;
+              right = xor_bid_of g also c.right rights p.bundle p.right is.on_right;
+            })
             c.bids (are.each k d l).bids.each;
       }
 

@@ -104,8 +104,8 @@ pub fn differences()
         ∷ InXor [] 0 1 ∷ []) ≡ 0 ∷ 1 ∷ 1 ∷ 1 ∷ [] }
 {}
 
-/// What `cats diff` prints: nothing below the header; numbers of goods; bundles with a price on each side, on the left, and on
-/// the right; the best bid of two, and the first of two equal ones; and no number of a bid that is not kept.
+/// What `cats diff` prints: nothing below the header; numbers of goods; bundles with a price on each side, on the left, and
+/// on the right; the best bid of two, and the first of two equal ones; and no number of a bid that is not kept.
 pub fn all_differences()
     ensures none { diff_text (file 60 0 []) (file 60 0 []) (differences None [] [])
         ≡ codes "kind\tgoods\tleft\tright\tleft_dummy\tright_dummy\tleft_bid\tright_bid\n" }

@@ -67,8 +67,8 @@ fn push_bidder(
     push_changes(alloc, bids, lines)
 }
 
-/// A line for the numbers of goods, if they differ, a line for each bundle of the OR bidders, and a line for each change of an
-/// XOR bidder, with those of its bids below it.
+/// A line for the numbers of goods, if they differ, a line for each bundle of the OR bidders, and a line for each change of
+/// an XOR bidder, with those of its bids below it.
 fn lines_of(alloc: Global, differences: &Differences<'_>) -> Result<String, AllocError> {
     let mut lines = String::new(alloc);
     if let Some((left, right)) = differences.goods {
