@@ -108,8 +108,7 @@ module _ (f g : PlainFile) (plain : IsPlainFile f) (also : IsPlainFile g) where
             (IsOfBids f g (named_dummy (kept_dummies f) c.left) (named_dummy (kept_dummies g) c.right))
             (λ p is. record {
               left = xor_bid_of f plain c.left lefts p.bundle p.left is.on_left;
-              right = xor_bid_of g also c.right rights p.bundle p.right
-                  is.on_right;
+              right = xor_bid_of g also c.right rights p.bundle p.right is.on_right;
             })
             c.bids (are.each k d l).bids.each;
       }

@@ -1,6 +1,5 @@
--- Files that are compared with their canonical files, and all their differences. The canonical files have the dummy
--- goods
--- of the files.
+-- Files that are compared, with their canonical files, and all their differences. The canonical files come with the
+-- dummy goods of the files.
 use Rattle.std.specs.Prelude.{◌≡◌, ℕ, List}
 use Rattle.bid_file.specs.Files.{PlainFile, IsPlainFile}
 use Rattle.valuation.specs.Auctions.{auction_from}

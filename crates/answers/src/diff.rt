@@ -132,9 +132,9 @@ fn push_changes(
     requires sides { AreSides sides.now }
     requires changes { All (IsOfBids (file_of sides.now.left) (file_of sides.now.right) bidder.now.left bidder.now.right)
         (map plain_change changes.now) }
-    ensures { OnOk result (text.new.items ≡ text.old.items ++ flat_map (change_row bidder.now.kind.now
-        (file_of sides.now.left) (file_of sides.now.right) bidder.now.left bidder.now.right)
-        (map plain_change changes.now)) }
+    ensures { OnOk result (text.new.items ≡ text.old.items
+        ++ flat_map (change_row bidder.now.kind.now (file_of sides.now.left) (file_of sides.now.right) bidder.now.left
+        bidder.now.right) (map plain_change changes.now)) }
 {
     for change in changes {
         push_change(text, sides, bidder, change)?;

@@ -1,6 +1,6 @@
 -- What calls answer of a small text, by the file that its lines say.
-use Rattle.std.proofs.Common.{◌≡◌, ◌≢◌, ℕ, zero, suc, nat_le, nat_lt, Bool, true, false, eqb, List, [], ◌++◌, codes, length, drop, Option, Some, None}
-use Rattle.std.proofs.Common.{slice_index_or}
+use Rattle.std.proofs.Common.{◌≡◌, ◌≢◌, ℕ, zero, suc, nat_le, nat_lt, Bool, true, false, eqb, List, [], ◌++◌, codes, length, drop, slice_index_or}
+use Rattle.std.proofs.Common.{Option, Some, None}
 use Rattle.std.proofs.Common.{refl, sym, ap, ap₂, ◌∙◌, append_assoc, subst, arith}
 use Rattle.std.specs.List.{flat_map, range_with_len}
 use Rattle.std.proofs.lemmas.Bool.{cond-false, eqb-false, leb-true, ltb-true, ne_eqb}

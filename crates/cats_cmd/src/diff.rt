@@ -14,8 +14,8 @@ use std::alloc::{AllocError, Global};
 use std::io::{Read, Write};
 use valuation::SearchOptions;
 
-/// Reads and normalises the first file, and then the second, and sends a table with a row for each difference. `limit`
-/// bounds the steps of each search that decides on a bundle of an OR bidder.
+/// Reads and normalises the first file, and then the second, and sends a table with a row for each difference. `options`
+/// bounds the steps of the searches that decide on the bundles of an OR bidder.
 ///
 /// The status is 0 for the same auction, and 1 for a difference. A fault of a file says which of the two it belongs to;
 /// a refusal of memory after both files are normalised belongs to both.

@@ -1,5 +1,5 @@
 -- All differences of two canonical auctions.
-use Rattle.std.specs.Prelude.{◌≡◌, ◌==◌, ℕ, Bool, true, false, ◌&&◌, if◌then◌else◌, Option, Some, None, is_none}
+use Rattle.std.specs.Prelude.{◌≡◌, ◌==◌, ℕ, Bool, ◌&&◌, if◌then◌else◌, Option, Some, None, is_none}
 use Rattle.std.specs.Prelude.{List, [], ◌∷◌, length}
 use Rattle.valuation.specs.Auctions.{PlainAuction}
 use Rattle.canon.specs.Difference as canon
