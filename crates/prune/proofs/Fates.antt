@@ -14,12 +14,12 @@ use Rattle.valuation.specs.Values.{or_value, atoms_of}
 use Rattle.prune.specs.Fates.{best_bids, found_places, or_fate, places_below, plain_fate, xor_fate}
 use Rattle.prune.specs.Internal.BestBids.{AreBestBids}
 use Rattle.prune.specs.Internal.Listings.{atom_at, is_inside_at, first_dominating_place}
-use Rattle.prune.specs.Internal.Reaching.{found_inside, places_inside}
+use Rattle.prune.specs.Internal.Reaching.{atoms_inside, found_inside, places_inside}
 use Rattle.prune.specs.Lemmas.Fates.{or_fate-push, xor_fate-push}
 use Rattle.prune.specs.Lemmas.Lists.{All-from_Contains, filter_same_on, find_filter, map_same_on, Contains-head}
 use Rattle.prune.specs.Lemmas.OnBundles.{IsOnBundle}
 use Rattle.prune.specs.Lemmas.Ranges.{in_range}
-use Rattle.prune.specs.SearchSteps.{atoms_below, atoms_inside, greatest_price, is_below}
+use Rattle.prune.specs.SearchSteps.{atoms_below, greatest_price, is_below}
 use Rattle.prune.specs.InOrder.{IsBefore}
 use Rattle.prune.proofs.Pruning.{HasRisingBundle, later_not_below, not_below_itself, rising_prefix}
 use Rattle.prune.proofs.Refusals.{best_searched}
@@ -73,7 +73,8 @@ module _ (bids done : List (Atom (List ℕ))) (x : Atom (List ℕ)) (rest kept :
         rw (some, sym inside_places, sym (turn_below bids done x rest kept turn among)) (ap Some places)
 
     -- what was noted of the OR bidder
-    module _ (kind searched : SearchKind) (same : searched ≡ kind) (noted more : List (Option (Vec ℕ))) (found : Option (Vec ℕ)) (one : more ≡ noted ++ found ∷ [])
+    module _ (kind searched : SearchKind) (same : searched ≡ kind) (noted more : List (Option (Vec ℕ))) (found : Option (Vec ℕ))
+        (one : more ≡ noted ++ found ∷ [])
         (answer : is_some found ≡ leb x.price (or_value (atoms_inside kept x.bundle) x.bundle))
         (places : IfSome found (λ places. places.items ≡ found_inside searched kept x.bundle x.price))
         (so_far : map plain_fate noted ≡ map (or_fate kind kept) done)
@@ -85,7 +86,8 @@ module _ (bids done : List (Atom (List ℕ))) (x : Atom (List ℕ)) (rest kept :
         pushed = ap (map plain_fate) one ∙ map_push plain_fate noted found
 
         pub or_noted_dropped : map plain_fate more ≡ map (or_fate kind kept) (done ++ x ∷ [])
-        or_noted_dropped = pushed ∙ noted_dropped (or_fate kind) (or_fate-push kind) bids done x rest kept turn (map plain_fate noted) (plain_fate found) this so_far
+        or_noted_dropped =
+            pushed ∙ noted_dropped (or_fate kind) (or_fate-push kind) bids done x rest kept turn (map plain_fate noted) (plain_fate found) this so_far
 
         pub or_noted_kept : map plain_fate more ≡ map (or_fate kind (kept ++ x ∷ [])) (done ++ x ∷ [])
         or_noted_kept = pushed ∙ noted_kept (or_fate kind) (or_fate-push kind) bids done x rest kept turn (map plain_fate noted) (plain_fate found) this so_far
@@ -97,8 +99,8 @@ module _ (bids done : List (Atom (List ℕ))) (x : Atom (List ℕ)) (rest kept :
         ∙ ap (find (λ place. leb x.price (atom_at kept place).price)) inside_places
 
     -- what was noted of an XOR bidder
-    module _ (noted more : List (Option ℕ)) (found : Option ℕ) (one : more ≡ noted ++ found ∷ []) (answer : found ≡ first_dominating_place kept x.bundle x.price)
-        (so_far : noted ≡ map (xor_fate kept) done)
+    module _ (noted more : List (Option ℕ)) (found : Option ℕ) (one : more ≡ noted ++ found ∷ [])
+        (answer : found ≡ first_dominating_place kept x.bundle x.price) (so_far : noted ≡ map (xor_fate kept) done)
       where
         pub xor_noted_dropped : more ≡ map (xor_fate kept) (done ++ x ∷ [])
         xor_noted_dropped = one ∙ noted_dropped xor_fate xor_fate-push bids done x rest kept turn noted found (answer ∙ dominating_is_fate) so_far

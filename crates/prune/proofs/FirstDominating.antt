@@ -13,7 +13,8 @@ use Rattle.goods_set.specs.Fingerprints.{AreMarks}
 use Rattle.valuation.specs.declared.atom.Atom.{Atom}
 use Rattle.valuation.specs.Values.{atoms_of, plain_atom}
 use Rattle.prune.specs.declared.posting.Posting.{Posting}
-use Rattle.prune.specs.Internal.Listings.{places_at, atom_at, is_inside_at, dominates, dominates_at, first_dominating_place, listed_at, AreListed, NoneInsideFrom}
+use Rattle.prune.specs.Internal.Listings.{places_at, atom_at, is_inside_at, dominates, dominates_at, first_dominating_place, listed_at, AreListed}
+use Rattle.prune.specs.Internal.Listings.{NoneInsideFrom}
 use Rattle.prune.specs.Internal.Listings.{MayBePosting}
 use Rattle.prune.specs.Lemmas.Lists.{is_some-find_map}
 use Rattle.prune.specs.Lemmas.Ranges.{first_in_range, none_in_range}
@@ -107,7 +108,8 @@ module _ (lists : List (List Posting)) (listed : ℕ) (atoms : List (Atom (List 
         let fits = h.within in
         false_from_ne_true (dominates_at atoms bundle price place) (λ t.
         let inside = (and_parts (leb price (atom_at atoms place).price) (is_inside_at atoms bundle place) t).1 in
-        let at = listed_before lists listed atoms bundle from place a done (is_listed listed atoms bundle unlisted place (omega (arith, fits, l)) inside) inside in
+        let at = listed_before lists listed atoms bundle from place a done
+        (is_listed listed atoms bundle unlisted place (omega (arith, fits, l)) inside) inside in
         both_ways (dominates_at atoms bundle price place) (h.none at.0 place at.1 at.2 at.3 l) t)
 
     pub IsFirstSoFar-some : first < length atoms → Some first ≡ first_dominating_place atoms bundle price

@@ -115,7 +115,8 @@ IsFinding-more lists listed atoms bundle from good found more a r next e f =
           × Contains (places_at lists other) place) (λ place h. let l : h.0 < from = h.1 in (h.0, omega arith, h.2)) found f.earlier)
           (All-from_Contains (λ place. (other : ℕ) × (other < good + 1) × Contains (places_at lists other) place) new
           (λ place c. (good, omega arith, (Contains-filter_parts p (places_at lists good) place c).0)));
-      once = AllPairs-append (λ one other. one ≢ other) found new f.once (AllPairs-filter (λ one other. one ≢ other) p (places_at lists good) (rising_differ (places_at lists good) (a.rising good)))
+      once = AllPairs-append (λ one other. one ≢ other) found new f.once
+          (AllPairs-filter (λ one other. one ≢ other) p (places_at lists good) (rising_differ (places_at lists good) (a.rising good)))
           (All-from_Contains (λ one. All (λ other. one ≢ other) new) found (λ one c. All-from_Contains (λ other. one ≢ other) new (λ other d q.
           let h = All-contains (λ place. (other : ℕ) × (other < from) × Contains (places_at lists other) place) found one f.earlier c in
           let there : Contains (places_at lists good) one =

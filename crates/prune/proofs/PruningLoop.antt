@@ -14,7 +14,6 @@ use Rattle.valuation.specs.Auctions.{IsAtom}
 use Rattle.valuation.specs.Values.{atoms_of, xor_value, plain_atom}
 use Rattle.valuation.specs.Packings.{price_sum}
 use Rattle.valuation.specs.Lemmas.XorValues.{xor_value-nil, xor_value-inside}
-use Rattle.prune.specs.SearchSteps.{atoms_inside}
 use Rattle.prune.specs.Lemmas.Values.{xor_value-member}
 use Rattle.prune.specs.Lemmas.Lists.{list_any_filter}
 use Rattle.prune.specs.Internal.Listings.{dominates, atom_at, AreUndominated}
@@ -23,6 +22,7 @@ use Rattle.prune.proofs.Pruning.{HasRisingBundle, IsKept-none}
 use Rattle.prune.proofs.Results.{IsTurn, IsXorKept, IsOrKept, AreXorPoints, AreOrPoints, turn_among, turn_positive, xor_done, xor_missed, xor_more, xor_fewer}
 use Rattle.prune.proofs.Results.{or_done}
 use Rattle.prune.proofs.Prefixes.{IsLeft, next_parts, next_taken, next_drop}
+use Rattle.prune.specs.Internal.Reaching.{atoms_inside}
 
 -- ---- atoms of the code
 

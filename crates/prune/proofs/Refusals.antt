@@ -23,7 +23,7 @@ use Rattle.valuation.specs.SearchSteps.{cut_steps as steps_with}
 use Rattle.valuation.specs.Lemmas.Lists.{Contains-cons_cases, Contains-map, Contains-unmap, AllPairs-head, AllPairs-tail}
 use Rattle.valuation.specs.Lemmas.OrValues.{or_value-price, or_value-filter_le}
 use Rattle.prune.specs.Points.{or_points}
-use Rattle.prune.specs.SearchSteps.{is_below, atoms_below, atoms_inside, greatest_price, in_search_order, search_steps_by}
+use Rattle.prune.specs.SearchSteps.{is_below, atoms_below, greatest_price, in_search_order, search_steps_by}
 use Rattle.prune.specs.SearchSteps.{searched_bundles, first_over, first_refused}
 use Rattle.prune.specs.InOrder.{IsBefore, IsInOrder}
 use Rattle.prune.specs.Internal.BestBids.{AreBestBids}
@@ -33,6 +33,7 @@ use Rattle.prune.specs.Lemmas.KeptBids.{all_nonempty, on_bundles}
 use Rattle.prune.specs.Lemmas.Refusals.{first_over-refused, first_over-within}
 use Rattle.prune.proofs.Pruning.{HasRisingBundle, completion, later_not_below, not_below_itself, behind_next}
 use Rattle.prune.proofs.Results.{IsTurn, IsOrKept, turn_below, or_more, or_done, best_on, best_price}
+use Rattle.prune.specs.Internal.Reaching.{atoms_inside}
 
 -- ---- the best bids are on the searched bundles
 

@@ -7,7 +7,6 @@ pub mod OnBundles
 pub mod PackingPlaces
 pub mod Points
 pub mod Ranges
-pub mod Reached
 pub mod Refusals
 pub mod SearchSteps
 pub mod Tables

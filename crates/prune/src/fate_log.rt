@@ -3,7 +3,8 @@ ghost use Rattle.std.specs.Prelude.{◌≡◌, true, false, [], ◌∷◌, ◌++
 
 use std::alloc::{AllocError, Global};
 
-/// A list of what became of a bidder's best bids, in order, if it is wanted. If not, nothing is stored, and no memory is taken.
+/// A list of what became of a bidder's best bids, in order, if it is wanted. If not, nothing is stored, and no memory is
+/// taken.
 #[derive(Drop)]
 pub struct FateLog<F> {
     wanted: bool,

@@ -86,8 +86,8 @@ pub fn steps_worked()
 pub fn fates_worked()
     ensures best { best_bids 2 (atom (1 ∷ []) 4 ∷ atom (0 ∷ []) 0 ∷ atom (1 ∷ []) 5 ∷ atom (0 ∷ 1 ∷ []) 2 ∷ [])
         ≡ atom (1 ∷ []) 5 ∷ atom (0 ∷ 1 ∷ []) 2 ∷ [] }
-    ensures below { places_below (atom (0 ∷ []) 3 ∷ atom (2 ∷ []) 5 ∷ atom (0 ∷ 1 ∷ []) 8 ∷ atom (1 ∷ []) 4 ∷ []) (0 ∷ 1 ∷ [])
-        ≡ 0 ∷ 3 ∷ [] }
+    ensures below { places_below (atom (0 ∷ []) 3 ∷ atom (2 ∷ []) 5 ∷ atom (0 ∷ 1 ∷ []) 8 ∷ atom (1 ∷ []) 4 ∷ [])
+        (0 ∷ 1 ∷ []) ≡ 0 ∷ 3 ∷ [] }
     ensures plain { or_fate Plain (atom (0 ∷ []) 3 ∷ atom (1 ∷ []) 4 ∷ atom (2 ∷ []) 5 ∷ []) (atom (0 ∷ 1 ∷ 2 ∷ []) 7)
         ≡ Some (0 ∷ 1 ∷ []) }
     ensures bounded { or_fate Bounded (atom (0 ∷ []) 3 ∷ atom (1 ∷ []) 4 ∷ atom (2 ∷ []) 5 ∷ []) (atom (0 ∷ 1 ∷ 2 ∷ []) 7)
@@ -98,7 +98,8 @@ pub fn fates_worked()
     ensures first { xor_fate (atom (0 ∷ []) 5 ∷ atom (1 ∷ []) 6 ∷ []) (atom (0 ∷ 1 ∷ []) 4) ≡ Some 0 }
     ensures enough { xor_fate (atom (0 ∷ []) 5 ∷ atom (1 ∷ []) 6 ∷ []) (atom (0 ∷ 1 ∷ []) 6) ≡ Some 1 }
     ensures higher { xor_fate (atom (0 ∷ []) 5 ∷ atom (1 ∷ []) 6 ∷ []) (atom (0 ∷ 1 ∷ []) 7) ≡ None }
-    ensures xor_bids { xor_fates 2 (atom (0 ∷ 1 ∷ []) 6 ∷ atom (1 ∷ []) 6 ∷ atom (0 ∷ []) 5 ∷ []) ≡ None ∷ None ∷ Some 1 ∷ [] }
+    ensures xor_bids { xor_fates 2 (atom (0 ∷ 1 ∷ []) 6 ∷ atom (1 ∷ []) 6 ∷ atom (0 ∷ []) 5 ∷ [])
+        ≡ None ∷ None ∷ Some 1 ∷ [] }
 {}
 
 /// The steps of the searches of each kind.

@@ -72,8 +72,8 @@ fn are_few_and_undominated<S: GoodsSet>(bids: &[Atom<S>]) -> bool
     true
 }
 
-/// The place of the first kept atom inside the bid's bundle with at least its price. If there is none, the bid is added to the
-/// index. Few atoms need no index. `buffer` is for goods.
+/// The place of the first kept atom inside the bid's bundle with at least its price. If there is none, the bid is added
+/// to the index. Few atoms need no index. `buffer` is for goods.
 fn first_kept_dominating<S: GoodsSet>(
     index: &mut SubsetIndex,
     kept: &[Atom<S>],

@@ -66,10 +66,11 @@ pub record IsPosting (atoms : List (Atom (List ℕ))) (posting : Posting) : Type
 
 -- the same, if it is one of the atoms
 abbrev pub MayBePosting : List (Atom (List ℕ)) → Posting → Type 0
-MayBePosting atoms posting = posting.index < length atoms → AreMarks (atom_at atoms posting.index).bundle posting.fingerprint
+MayBePosting atoms posting =
+    posting.index < length atoms → AreMarks (atom_at atoms posting.index).bundle posting.fingerprint
 
--- each of so many atoms, from the first on, is listed at one of its goods and at no other good, in order, and nothing else
--- is listed
+-- each of so many atoms, from the first on, is listed at one of its goods and at no other good, in order, and nothing
+-- else is listed
 pub record AreListed (lists : List (List Posting)) (listed : ℕ) (atoms : List (Atom (List ℕ))) : Type 0 where
   pub most : listed ≤ length atoms
   pub each : (place : ℕ) → place < listed → IsListed lists (atom_at atoms place).bundle place

@@ -10,7 +10,8 @@ use Rattle.valuation.specs.declared.atom.Atom.{Atom}
 use Rattle.valuation.specs.Auctions.{IsAtom}
 use Rattle.valuation.specs.Values.{atoms_of}
 use Rattle.canon.specs.Internal.KeyedBidders.{keyed_bidder}
-use Rattle.canon.proofs.CanonicalFiles.Bidders.{positive, fewer_done, bidder_next, bidder_taken, points_pushed, points_skipped, points_done, fates_pushed, fates_done}
+use Rattle.canon.proofs.CanonicalFiles.Bidders.{positive, fewer_done, bidder_next, bidder_taken, points_pushed, points_skipped}
+use Rattle.canon.proofs.CanonicalFiles.Bidders.{points_done, fates_pushed, fates_done}
 use Rattle.canon.proofs.auction.points_of_each.Goals as goal
 
 pub loop-dummy-init : goal.loop-dummy-init

@@ -21,9 +21,9 @@ use Rattle.valuation.specs.Values.{or_value}
 use Rattle.valuation.specs.Lemmas.OrValues.{or_value-price, or_value-filter_le}
 use Rattle.prune.proofs.Pruning.{IsKept-none}
 use Rattle.prune.proofs.Results.{turn_behind, or_more, or_reached, or_missed}
-use Rattle.prune.specs.SearchSteps.{steps_for}
 use Rattle.prune.proofs.or.prune_or_by.Goals as goal
 use Rattle.std.proofs.Common.{map}
+use Rattle.prune.specs.Internal.Reaching.{steps_for}
 
 pub list_below-requires-clause-in_order : goal.list_below-requires-clause-in_order
 list_below-requires-clause-in_order g c = rw c.deref-in-loop-place.ensures.value c.loop-place.invariant.kept.in_order

@@ -12,7 +12,8 @@ pub loop-place-preserved : goal.loop-place-preserved
 loop-place-preserved g c =
     one_more_undominated g.S.GoodsSet.goods c.args.bids.now _ c.loop-place.place c.index-bids-place.result c.loop-place-test.true c.index-bids-place.is refl
     (sym (is_some-first_dominating (atoms_of g.S.GoodsSet.goods (take c.loop-place.place c.args.bids.now))
-    (g.S.GoodsSet.goods c.index-bids-place.result.bundle) c.index-bids-place.result.price) ∙ ap is_some (sym c.first_dominating.ensures) ∙ sym c.is_some.ensures ∙ c.if-is_some.false) c.loop-place.invariant
+    (g.S.GoodsSet.goods c.index-bids-place.result.bundle) c.index-bids-place.result.price)
+    ∙ ap is_some (sym c.first_dominating.ensures) ∙ sym c.is_some.ensures ∙ c.if-is_some.false) c.loop-place.invariant
 
 pub returns : goal.returns
 returns g c = λ _ k l. c.loop-place.invariant k (omega (arith, c.loop-place-test.false, length-atoms_of g.S.GoodsSet.goods c.args.bids.now))
