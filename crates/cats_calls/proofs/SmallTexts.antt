@@ -20,7 +20,7 @@ use Rattle.canon.proofs.CanonicalFiles.Texts.{HasAtoms-file}
 use Rattle.canon.proofs.Comparing.Differences.{same_from_no_difference, no_difference_from_same}
 use Rattle.differences.specs.Differences.{AreAllDifferences, PlainDifferences}
 use Rattle.explain.specs.Bids.{bid_at}
-use Rattle.explain.specs.Reasons.{PlainReason, reason_at}
+use Rattle.explain.specs.Reasons.{PlainReason, reason_at, reasons_of}
 use Rattle.answers.specs.DiffTexts.{bidder_rows, change_row, diff_header, diff_text, goods_row, goods_rows}
 use Rattle.answers.specs.DifferenceTexts.{difference_text}
 use Rattle.answers.specs.ExplanationTexts.{explanation_header, explanation_row}
@@ -80,7 +80,7 @@ pub explained_first : (options : SearchOptions) (text : List ℕ) (status : ℕ)
     → ExplainsText options text status out → slice_index_or out HEADER_BYTES 0 ≡ 48
 explained_first options text status out some c =
     ap (λ (x : List ℕ). slice_index_or x HEADER_BYTES 0) c.is_text
-    ∙ first_row c.given.file c.reasons (length c.given.file.bids)
+    ∙ first_row c.given.file (reasons_of c.given.file) (length c.given.file.bids)
     (ap (λ (f : PlainFile). eqb (length f.bids) 0) (says_spelled text c.given.file c.given.spelled) ∙ some)
 
 -- ---- two texts

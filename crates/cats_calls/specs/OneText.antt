@@ -5,7 +5,7 @@ use Rattle.cats_text.specs.Grammar.{Spells}
 use Rattle.valuation.specs.declared.search_options.SearchOptions.{SearchOptions}
 use Rattle.canon.specs.Comparing.{SpellsWithinLimit}
 use Rattle.canon.specs.Normalising.{IsText, Normalises}
-use Rattle.explain.specs.Reasons.{Explains, PlainReason}
+use Rattle.explain.specs.Reasons.{reasons_of}
 use Rattle.answers.specs.ExplanationTexts.{explanation_text}
 use Rattle.answers.specs.Outputs.{check_text}
 
@@ -21,10 +21,8 @@ pub record NormalisesText (options : SearchOptions) (text : List ℕ) (status : 
   pub is_status : status ≡ 0
   pub is_text : Normalises options text (IsText out)
 
--- the table of the bids of the file, for reasons that are true
+-- the table of the bids of the file, with their reasons
 pub record ExplainsText (options : SearchOptions) (text : List ℕ) (status : ℕ) (out : List ℕ) : Type 0 where
   pub given : SpellsWithinLimit options text
-  pub reasons : List PlainReason
-  pub explains : Explains given.file reasons
   pub is_status : status ≡ 0
-  pub is_text : out ≡ explanation_text given.file reasons
+  pub is_text : out ≡ explanation_text given.file (reasons_of given.file)

@@ -11,10 +11,10 @@ use Rattle.canon.specs.Answers.{RefusesAuction}
 use Rattle.canon.specs.declared.canon_fault.CanonFault.{CanonFault}
 use Rattle.canon.specs.declared.canon_fault.CanonFault.TheVariants.{Memory}
 use Rattle.canon.specs.declared.which.Which.TheVariants.{Only}
-use Rattle.explain.specs.Reasons.{Explains, PlainReason}
-use Rattle.cats_cmd.specs.Explanations.{ExplainsFile, ReadsExplained, explain_outcome}
+use Rattle.explain.specs.Reasons.{reasons_of}
+use Rattle.cats_cmd.specs.Explanations.{ExplainsFile, explain_outcome}
 use Rattle.answers.specs.ExplanationTexts.{explanation_text}
-use Rattle.cats_cmd.specs.Inputs.{ReadsInput, IsRefusedFile}
+use Rattle.cats_cmd.specs.Inputs.{ReadsInput, ReadsWithinLimit, IsRefusedFile}
 use Rattle.cats_cmd.specs.Outcomes.{Prints, normalise_outcome}
 use Rattle.cats_cmd.specs.Runs.{SendsAs}
 use Rattle.answers.specs.declared.report.RunFault.{RunFault}
@@ -57,16 +57,16 @@ module _ {R W : Type 0} (remaining : R → Option (List ℕ)) (contents : W → 
 
     -- the lines of the reasons were sent
     pub explained : (out out_after : Watched W) → first_refused options file.goods (or_atoms_of file.bids) ≡ None
-        → (reasons : List PlainReason) → Explains file reasons → (text : List ℕ) → text ≡ explanation_text file reasons
+        → (text : List ℕ) → text ≡ explanation_text file (reasons_of file)
         → (answer : Result ℕ RunFault) → SendsAs contents 0 text out out_after answer → ExplainsFile remaining contents options old new out out_after answer
-    explained out out_after within reasons explains text is (Ok reported) sends =
-        wrote contents (ReadsExplained remaining options old new) explain_outcome out out_after (file, reasons)
-        (record { reads = record { reads = reads; within = within }; explains = explains }) 0 text (ap (λ (xs : List ℕ). Prints 0 xs) (sym is)) reported sends
-    explained out out_after within reasons explains text is (Err (Refused which fault)) sends = absurd sends
-    explained out out_after within reasons explains text is (Err (GoodRange good)) sends = absurd sends
-    explained out out_after within reasons explains text is (Err (Sent fault)) sends = record {
-      given = (file, reasons);
-      reads = record { reads = record { reads = reads; within = within }; explains = explains };
+    explained out out_after within text is (Ok reported) sends =
+        wrote contents (ReadsWithinLimit remaining options old new) explain_outcome out out_after file
+        (record { reads = reads; within = within }) 0 text (ap (λ (xs : List ℕ). Prints 0 xs) (sym is)) reported sends
+    explained out out_after within text is (Err (Refused which fault)) sends = absurd sends
+    explained out out_after within text is (Err (GoodRange good)) sends = absurd sends
+    explained out out_after within text is (Err (Sent fault)) sends = record {
+      given = file;
+      reads = record { reads = reads; within = within };
       status = 0;
       text = text;
       made = ap (λ (xs : List ℕ). Prints 0 xs) (sym is);

@@ -6,13 +6,15 @@ ghost use Rattle.answers.specs.DiffTexts.{diff_text};
 ghost use Rattle.answers.specs.DifferenceTexts.{difference_text};
 ghost use Rattle.answers.specs.ExplanationTexts.{explanation_text};
 ghost use Rattle.answers.specs.Outputs.{check_text};
-ghost use Rattle.bid_file.specs.Files.{PlainFile};
+ghost use Rattle.bid_file.specs.Files.{IsPlainFile, PlainFile};
 ghost use Rattle.canon.specs.Difference.{Difference};
 ghost use Rattle.differences.specs.Differences.{PlainDifferences};
-ghost use Rattle.explain.specs.Reasons.{PlainReason};
+ghost use Rattle.explain.specs.Reasons.{Explains, PlainReason};
 ghost use Rattle.cats_cmd.specs.ValueTexts.{value_text};
 ghost use Rattle.cats_cmd.specs.Escaping.{AreBytes, IsTextOf, escaped, is_control_byte, is_printable, is_shown, unescaped};
 ghost use Rattle.cats_cmd.specs.DuplicateTexts.{duplicates_text, groups_of, is_repeated};
+ghost use Rattle.cats_cmd.specs.Explanations.{explain_outcome};
+ghost use Rattle.cats_cmd.specs.Outcomes.{Prints};
 ghost use Rattle.cats_cmd.specs.OutputPaths.{IsPath, groups_in, paths_in_table, read_paths};
 ghost use Rattle.cats_cmd.specs.PathLists.{listed, paths_in};
 ghost use Rattle.cats_cmd.specs.Paths.{Judgement, progress_line, refusal_line};
@@ -58,6 +60,12 @@ pub fn printed_answers_are_shown()
     ensures explain { (file : PlainFile) (reasons : List PlainReason) → IsTextOf is_shown (explanation_text file reasons) }
     ensures diff { (left right : PlainFile) (differences : PlainDifferences)
         → IsTextOf is_shown (diff_text left right differences) }
+{}
+
+/// The reasons that `cats explain` prints are true.
+pub fn printed_reasons_are_true()
+    ensures { (file : PlainFile) (text : List ℕ) → IsPlainFile file → explain_outcome file ≡ Prints 0 text
+        → (reasons : List PlainReason) × Explains file reasons × (text ≡ explanation_text file reasons) }
 {}
 
 /// The text of `cats duplicates` has the paths of each group: its lines between each two that are empty, with NUL at the

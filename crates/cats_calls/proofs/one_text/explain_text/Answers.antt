@@ -7,9 +7,8 @@ use Rattle.cats_calls.proofs.one_text.explain_text.Goals as goal
 pub returns : goal.returns
 returns c = record {
   given = record { file = c.in_ok-file.file; spelled = c.in_ok-file.ensures; within_limit = c.in_ok-reasons.ensures.within };
-  reasons = map plain_reason c.in_ok-reasons.reasons.items;
-  explains = c.in_ok-reasons.ensures.reasons;
   is_status = refl;
   is_text = c.in_ok-explanation_text.ensures
-      ∙ ap (λ (reasons : List Reason). explanation_text c.in_ok-file.file (map plain_reason reasons)) c.as_slice.ensures.value;
+      ∙ ap (λ (reasons : List Reason). explanation_text c.in_ok-file.file (map plain_reason reasons)) c.as_slice.ensures.value
+      ∙ ap (explanation_text c.in_ok-file.file) c.in_ok-reasons.ensures.exact;
 }

@@ -6,24 +6,16 @@ use Rattle.valuation.specs.Values.{or_value, xor_value}
 use Rattle.prune.specs.Points.{points_where, is_or_point, is_xor_point}
 use Rattle.prune.specs.SearchSteps.{search_steps_by, first_over, first_refused}
 use Rattle.valuation.specs.SearchSteps.{cut_steps}
-use Rattle.explain.specs.Reasons.{Same, Keep}
+use Rattle.prune.specs.Fates.{or_fate}
+use Rattle.explain.specs.Reasons.{reason_of}
 use Rattle.cats_calls.proofs.SmallTexts.{explained_first, within}
 use Rattle.cats_calls.proofs.worked.texts_explained.Goals as goal
 
 pub returns-clause-reasons : goal.returns-clause-reasons
-unfolding digits first_refused first_over search_steps_by cut_steps points_where is_or_point is_xor_point or_value xor_value
+unfolding digits first_refused first_over search_steps_by cut_steps points_where is_or_point is_xor_point or_value xor_value reason_of or_fate
 returns-clause-reasons c =
     record {
       given = within (bounded_options 1 None) (codes "goods 1\nbids 2\ndummy 0\n0 2 0 #\n1 3 0 #\n") refl refl;
-      reasons = Same 1 ∷ Keep 0 ∷ [];
-      explains = record {
-        long = refl;
-        each = (
-          record { positive = ltb-true 0 2000000 refl; another = refl; best = record { within = ltb-true 1 2 refl; alike = refl; best = refl } },
-          (record { bid = record { positive = ltb-true 0 3000000 refl; best = refl }; is = refl }, tt),
-        );
-        once = (refl, tt);
-      };
       is_status = refl;
       is_text = refl;
     }

@@ -19,8 +19,8 @@ returns-in_err-text g c = unexplained_memory _ _ _ _ _ c.in_ok-file.file c.in_ok
 
 pub returns : goal.returns
 returns g c =
-    explained _ _ _ _ _ c.in_ok-file.file c.in_ok-file.ensures _ _ c.in_ok-reasons.ensures.within (map plain_reason c.in_ok-reasons.reasons.items)
-    c.in_ok-reasons.ensures.reasons _
+    explained _ _ _ _ _ c.in_ok-file.file c.in_ok-file.ensures _ _ c.in_ok-reasons.ensures.within _
     (c.as_slice-2.ensures.value ∙ c.in_ok-text.ensures
-    ∙ ap (λ (rs : List Reason). explanation_text c.in_ok-file.file (map plain_reason rs)) c.as_slice.ensures.value) _
+    ∙ ap (λ (rs : List Reason). explanation_text c.in_ok-file.file (map plain_reason rs)) c.as_slice.ensures.value
+    ∙ ap (explanation_text c.in_ok-file.file) c.in_ok-reasons.ensures.exact) _
     c.send_text.ensures
