@@ -104,16 +104,19 @@ fn xor_rows<S: GoodsSet>(rt: &impl Abort, alloc: Global) -> Result<(), Fail> {
     Ok(())
 }
 
-// So many bids are found by their goods. The first point inside the last bundle, {2, 5}, has an earlier place than {3, 4}.
+// Bids beside 40 on single goods at a price of 1, so many that they are found by their goods. The first point inside the last
+// bundle, {2, 5}, has an earlier place than {3, 4}.
+const BESIDE_SINGLES: &[PricedGoods] = &[
+    (&[3, 4], 50),
+    (&[2, 5], 50),
+    (&[3, 39], 1),
+    (&[2, 3, 4, 5], 50),
+];
+
 fn fates_of_many<S: GoodsSet>(rt: &impl Abort, alloc: Global) -> Result<(), Fail> {
     let mut bids = singles(alloc, 40, 1)?;
-    for (goods, price) in [
-        (&[3, 4], 50),
-        (&[2, 5], 50),
-        (&[3, 39], 1),
-        (&[2, 3, 4, 5], 50),
-    ] {
-        push_bid(alloc, &mut bids, goods, price)?;
+    for (goods, price) in BESIDE_SINGLES {
+        push_bid(alloc, &mut bids, goods, *price)?;
     }
     let noted = xor_fates::<S>(rt, alloc, &bids, true)?;
     let expected = [None, None, Some(3), Some(40)];
