@@ -212,22 +212,13 @@ kept-is-best f is k l =
     let kept = slice_get-get_or (kept_bids f) k b.0 l ∙ ap Some (b.1 b.0 ∙ sym r.1.is) in
     (r.0, r.1.within, record { bid = record { positive = omega arith; best = r.1.best }; is = kept })
 
--- ---- each bid of the file is reached by the points of its bidder
+-- ---- a bid of the file with a price above 0
 
 pub bid_here : (f : PlainFile) → IsPlainFile f → (i : ℕ) → i < length f.bids → IsBid f.goods f.dummy (bid_at f i)
 bid_here f is i l = All-from_recursion (IsBid f.goods f.dummy) f.bids is.each i _ l
 
 pub bundle_here : (f : PlainFile) → IsPlainFile f → (i : ℕ) → i < length f.bids → IsBundle f.goods (bid_at f i).goods
 bundle_here f is i l = let b = bid_here f is i l in (rising-from (bid_at f i).goods b.rising, below-from f.goods (bid_at f i).goods b.below)
-
-pub or-bid-is-reached : (f : PlainFile) → IsPlainFile f → (i : ℕ) → i < length f.bids → (bid_at f i).dummy ≡ None
-    → (bid_at f i).price ≤ or_value (or_points_of f) (bid_at f i).goods
-or-bid-is-reached f is i l none =
-    let atoms = or_atoms_of f.bids in
-    let goods = (bid_at f i).goods in
-    let same = or_points_keep_values f.goods atoms (or_on f is) goods (bundle_here f is i l) in
-    let low = or_value-price atoms (atom_of (bid_at f i)) (atom_there (λ b. is_none b.dummy) f i l (ap is_none none)) goods (inside_refl goods) in
-    omega arith
 
 below_here : (f : PlainFile) → IsPlainFile f → (i : ℕ) → i < length f.bids → (d : ℕ) → (bid_at f i).dummy ≡ Some d → d < f.dummy
 below_here f is i l d some = subst (λ (o : Option ℕ). IsDummyBelow f.dummy o) some (bid_here f is i l).dummy
@@ -238,16 +229,7 @@ within_value f i l d some =
     xor_value-member (xor_atoms_of f.bids d) (atom_of (bid_at f i)) (atom_there (λ b. is_dummy d b.dummy) f i l (is_dummy-same d (bid_at f i).dummy some))
     (bid_at f i).goods (inside_refl (bid_at f i).goods)
 
-pub xor-bid-is-reached : (f : PlainFile) → IsPlainFile f → (i : ℕ) → i < length f.bids → (d : ℕ) → (bid_at f i).dummy ≡ Some d
-    → (bid_at f i).price ≤ xor_value (points_of_dummy f d) (bid_at f i).goods
-xor-bid-is-reached f is i l d some =
-    let atoms = xor_atoms_of f.bids d in
-    let on = just_bundles f.goods atoms (xor_on f is d (below_here f is i l d some)) in
-    let same = xor_points_keep_values f.goods atoms on (bid_at f i).goods (bundle_here f is i l) in
-    let low = within_value f i l d some in
-    omega arith
-
--- and its bidder is in the canonical file
+-- its bidder is in the canonical file
 pub dummy-is-kept : (f : PlainFile) → IsPlainFile f → (i : ℕ) → i < length f.bids → (d : ℕ) → (bid_at f i).dummy ≡ Some d → 0 < (bid_at f i).price
     → Contains (kept_dummies f) d
 dummy-is-kept f is i l d some positive =

@@ -174,16 +174,6 @@ kept_count f is =
 
 -- ---- the starts, found from the last bid to the first
 
-pub no_starts : (f : PlainFile) (from : ℕ) (starts : List ℕ) → length (kept_bids f) ≤ from → length starts ≡ f.dummy → AreStarts f from starts
-no_starts f from starts l long = record {
-  long = long;
-  each = λ d j m e.
-      let past : kept_bid f j ≡ record { price = 0; goods = []; dummy = None } =
-      get_or_past (kept_bids f) j (record { price = 0; goods = []; dummy = None }) (omega arith) in
-      let clash : None ≡ Some d = ap (λ (b : PlainBid). b.dummy) (sym past) ∙ e in
-      absurd (cc);
-}
-
 -- a bid of the OR bidder
 pub same_starts : (f : PlainFile) (k from : ℕ) (starts : List ℕ) → k + 1 ≡ from → AreStarts f from starts → (kept_bid f k).dummy ≡ None → AreStarts f k starts
 same_starts f k from starts next h none = record {

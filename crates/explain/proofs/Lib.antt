@@ -7,7 +7,6 @@ pub mod Deciding
 pub mod PointFates
 pub mod BestNumbers
 pub mod Packings
-pub mod FoundPlaces
 pub mod KeptPoints
 pub mod TrueReasons
 pub mod Passed

@@ -10,12 +10,15 @@ use Rattle.std.proofs.lemmas.List.FromFn.{get_or-map-range_with_len, length-map-
 use Rattle.std.proofs.lemmas.List.Sorted.{All-permutation, IsPermutation-reverse}
 use Rattle.std.proofs.lemmas.List.Sums.{count_by-le-length, length-filter}
 use Rattle.std.proofs.lemmas.Option.{slice_get_within}
+use Rattle.std.proofs.lemmas.Bool.{and_parts}
+use Rattle.goods_set.specs.Bundles.{IsInside, is_inside}
 use Rattle.bid_file.specs.Files.{PlainBid, PlainFile, IsDummyBelow}
 use Rattle.bid_file.specs.Views.{seen_bid}
 use Rattle.bid_file.specs.declared.limits.TheConstants.{MAX_BIDS}
 use Rattle.valuation.specs.declared.atom.Atom.{Atom}
 use Rattle.valuation.specs.declared.search_kind.SearchKind.TheVariants.{Bounded}
 use Rattle.valuation.specs.Auctions.{atom_of, xor_atoms_of}
+use Rattle.valuation.specs.Conflicts.{atom_at}
 use Rattle.valuation.specs.Sorting.{sort_by}
 use Rattle.prune.specs.Fates.{best_bids, numbers_at, or_fate, places_below, plain_fate, xor_fate, xor_fates}
 use Rattle.prune.specs.Lemmas.Lists.{filter-kept, filter-lost, map_same_on}
@@ -28,13 +31,13 @@ use Rattle.explain.specs.declared.best.NumberedBid.{NumberedBid}
 use Rattle.explain.specs.declared.walk.Known.{Known}
 use Rattle.explain.specs.declared.walk.Walk.{Walk}
 use Rattle.explain.proofs.BestBids.{alike_from, length_of}
-use Rattle.explain.proofs.FoundPlaces.{dropped_from, each_below, inside_from, searched_places}
 use Rattle.explain.proofs.KeptBidsBest.{atoms_of_bidder, one_key_same}
 use Rattle.explain.proofs.KeptPoints.{bidder_is_kept, kept_number_is}
 use Rattle.explain.proofs.KeptStarts.{kept_count, point_there, start_of}
-use Rattle.explain.proofs.Passed.{below_is_kept, best_split, done, kept, next_below, next_is, next_number, next_point, next_within, number_of_point, offer}
+use Rattle.explain.proofs.Passed.{inside_is_kept, best_split, done, kept, next_below, next_is, next_number, next_point, next_within, number_of_point, offer}
 use Rattle.explain.proofs.Passed.{passed_more}
-use Rattle.explain.proofs.TrueReasons.{reason_best}
+use Rattle.explain.proofs.TrueReasons.{inside_from, packing_from, reason_best}
+use Rattle.explain.proofs.Packings.{all_unmap}
 
 at_seam : {B C : Type 0} (xs : List B) (g : C → B) (before : List C) (c : C) (after : List C) (i : ℕ) → xs ≡ map g (before ++ c ∷ after) → length before ≡ i
     → (i < length xs) × ((d : B) → get_or xs i d ≡ g c)
@@ -223,49 +226,49 @@ module _ (known : Known) (place : ℕ) (n : NumberedBid) (walk : Walk) (is : IsK
       sym (reason dummy refl ∙ kept_reason f n.number dummy (ap (is_kept_atom f dummy) (sym offered) ∙ t)
       ∙ ap Keep (kept_number_is f is.plain n.number (start_of starts dummy + length walk.points.items) (kept_as t)))
 
-  -- the number of a point below its goods
-  point_before : (o : Option ℕ) → dummy ≡ o → (p : ℕ) → Contains (places_below (points_of f o) (offer n).bundle) p
-      → (p < length walk.points.items) × (get_or walk.points.items p 0 ≡ point_number f o p)
-  point_before o e p c =
-      let l = below_is_kept f is.plain bids is.order place n next p
-      (subst (λ (q : Option ℕ). Contains (places_below (points_of f q) (offer n).bundle) p) (sym e) c) in
+  -- the number of a point inside its goods
+  point_before : (o : Option ℕ) → dummy ≡ o → is_kept_bid f dummy n ≡ false → (p : ℕ) → p < length (points_of f o)
+      → IsInside (atom_at (points_of f o) p).bundle (offer n).bundle → (p < length walk.points.items) × (get_or walk.points.items p 0 ≡ point_number f o p)
+  point_before o e dropped p l i =
+      let m = inside_is_kept f is.plain bids is.order place n next dropped p (subst (λ (q : Option ℕ). p < length (points_of f q)) (sym e) l)
+      (subst (λ (q : Option ℕ). IsInside (atom_at (points_of f q) p).bundle (offer n).bundle) (sym e) i) in
       let long = long_points in (
         omega arith,
-        ap (λ (xs : List ℕ). get_or xs p 0) has.points ∙ number_of_point f is.plain bids is.order place n next p l ∙ ap (λ
-            (q : Option ℕ). point_number f q p) e,
+        ap (λ (xs : List ℕ). get_or xs p 0) has.points ∙ number_of_point f is.plain bids is.order place n next p m
+            ∙ ap (λ (q : Option ℕ). point_number f q p) e,
       )
 
-  places_before : (places : List ℕ) → dummy ≡ None → or_fate Bounded (points_of f None) (offer n) ≡ Some places
-      → All (Contains (places_below (points_of f None) (offer n).bundle)) places
-  places_before places e t =
-      let points = points_of f None in
-      let drop = dropped_from points (offer n) places t in
-      let searched = searched_places points (offer n).bundle (offer n).price in
-      subst (λ (ps : List ℕ). All (Contains (places_below points (offer n).bundle)) ps) (sym drop.found)
-      (All-permutation (Contains (places_below points (offer n).bundle)) searched (reverse searched) (IsPermutation-reverse searched)
-      (each_below points (offer n).bundle (offer n).price drop.reached))
+  module _ (places : List ℕ) (or : dummy ≡ None) (fate : or_fate Bounded (points_of f None) (offer n) ≡ Some places) where
+    each_before : All (λ p. (p < length walk.points.items) × (get_or walk.points.items p 0 ≡ point_number f None p)) places
+    each_before k d l =
+        let packing = (packing_from (points_of f None) (offer n) places fate).packing in
+        point_before None or (or_not_kept places or fate) (get_or places k d) (packing.within k d l)
+        (all_unmap (λ a. IsInside a.bundle (offer n).bundle) (atom_at (points_of f None)) places packing.inside k d l)
 
-  pub packing_within : (places : List ℕ) → dummy ≡ None → or_fate Bounded (points_of f None) (offer n) ≡ Some places
-      → All (λ p. p < length walk.points.items) places
-  packing_within places e t k d l = (point_before None e (get_or places k d) (places_before places e t k d l)).0
+    pub packing_within : All (λ p. p < length walk.points.items) places
+    packing_within k d l = (each_before k d l).0
 
-  pub packing_reason : (places : List ℕ) → dummy ≡ None → or_fate Bounded (points_of f None) (offer n) ≡ Some places
-      → Packing (sort_by nat_cmp (numbers_at walk.points.items places)) ≡ reason_of f n.number
-  packing_reason places e t =
-      let numbers : numbers_at walk.points.items places ≡ map (point_number f None) places =
-      map_same_on (λ p. get_or walk.points.items p 0) (point_number f None) places
-      (λ k d l. (point_before None e (get_or places k d) (places_before places e t k d l)).1) in
-      ap (λ (ns : List ℕ). Packing (sort_by nat_cmp ns)) numbers
-      ∙ sym (reason None e ∙ ap (or_reason f n.number) (ap (or_fate Bounded (points_of f None)) (sym offered) ∙ t))
+    pub packing_reason : Packing (sort_by nat_cmp (numbers_at walk.points.items places)) ≡ reason_of f n.number
+    packing_reason =
+        let numbers : numbers_at walk.points.items places ≡ map (point_number f None) places =
+        map_same_on (λ p. get_or walk.points.items p 0) (point_number f None) places (λ k d l. (each_before k d l).1) in
+        ap (λ (ns : List ℕ). Packing (sort_by nat_cmp ns)) numbers
+        ∙ sym (reason None or ∙ ap (or_reason f n.number) (ap (or_fate Bounded (points_of f None)) (sym offered) ∙ fate))
 
-  pub inside_within : (d p : ℕ) → dummy ≡ Some d → xor_fate (points_of f (Some d)) (offer n) ≡ Some p → p < length walk.points.items
-  inside_within d p e t = (point_before (Some d) e p (inside_from (points_of f (Some d)) (offer n) p t).there).0
+  module _ (d p : ℕ) (xor : dummy ≡ Some d) (fate : xor_fate (points_of f (Some d)) (offer n) ≡ Some p) where
+    own_point : (p < length walk.points.items) × (get_or walk.points.items p 0 ≡ point_number f (Some d) p)
+    own_point =
+        let point = inside_from (points_of f (Some d)) (offer n) p fate in
+        point_before (Some d) xor (xor_not_kept d p xor fate) p point.within
+        (and_parts (is_inside (atom_at (points_of f (Some d)) p).bundle (offer n).bundle) _ point.below).0
 
-  pub inside_reason : (d p : ℕ) → dummy ≡ Some d → xor_fate (points_of f (Some d)) (offer n) ≡ Some p
-      → Inside (get_or walk.points.items p 0) ≡ reason_of f n.number
-  inside_reason d p e t =
-      ap Inside (point_before (Some d) e p (inside_from (points_of f (Some d)) (offer n) p t).there).1
-      ∙ sym (reason (Some d) e ∙ ap (xor_reason f d n.number) (ap (xor_fate (points_of f (Some d))) (sym offered) ∙ t))
+    pub inside_within : p < length walk.points.items
+    inside_within = own_point.0
+
+    pub inside_reason : Inside (get_or walk.points.items p 0) ≡ reason_of f n.number
+    inside_reason =
+        ap Inside own_point.1
+        ∙ sym (reason (Some d) xor ∙ ap (xor_reason f d n.number) (ap (xor_fate (points_of f (Some d))) (sym offered) ∙ fate))
 
   -- ---- the walk has passed it
 

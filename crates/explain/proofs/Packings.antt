@@ -22,7 +22,7 @@ use Rattle.valuation.specs.declared.atom.Atom.{Atom}
 use Rattle.valuation.specs.Conflicts.{atom_at}
 use Rattle.canon.specs.Canonical.{bid_from}
 use Rattle.valuation.specs.Lemmas.Lists.{AllPairs-head, AllPairs-tail, AllPairs-map}
-use Rattle.valuation.specs.Packings.{atoms_at, price_sum}
+use Rattle.valuation.specs.Packings.{IsPackingFor}
 use Rattle.explain.specs.Bids.{bid_at}
 use Rattle.explain.specs.Reasons.{all_apart, goods_at}
 use Rattle.explain.specs.Internal.Deciding.{IsPointBid, IsPointInside}
@@ -90,13 +90,6 @@ pub record IsPointOf (f : PlainFile) (dummy : Option ℕ) (atom : Atom (List ℕ
   pub point : IsPointBid f number
   pub is : bid_at f number ≡ bid_from dummy atom
 
--- the points at the places are inside the goods, share no good, and their prices add up to as much
-pub record ArePacked (atoms : List (Atom (List ℕ))) (goods : List ℕ) (price : ℕ) (places : List ℕ) : Type 0 where
-  pub within : All (λ p. p < length atoms) places
-  pub inside : All (λ a. IsInside a.bundle goods) (atoms_at atoms places)
-  pub apart : AllPairs (λ a b. AreApart a.bundle b.bundle) (atoms_at atoms places)
-  pub enough : price ≤ price_sum (atoms_at atoms places)
-
 pub record AreOfPacking (f : PlainFile) (goods : List ℕ) (price : ℕ) (js : List ℕ) : Type 0 where
   pub rising : IsRising js
   pub each : AllByRecursion (IsPointInside f goods) js
@@ -106,7 +99,7 @@ pub record AreOfPacking (f : PlainFile) (goods : List ℕ) (price : ℕ) (js : L
 module _ (f : PlainFile) (goods : List ℕ) (price : ℕ) (atoms : List (Atom (List ℕ))) (number : ℕ → ℕ) (places js : List ℕ)
     (point : (p : ℕ) → p < length atoms → IsPointOf f None (atom_at atoms p) (number p))
     (some : (p : ℕ) → p < length atoms → 0 < length (atom_at atoms p).bundle)
-    (packing : ArePacked atoms goods price places) (same : IsPermutation (map number places) js) (sorted : IsSorted nat_cmp js) where
+    (packing : IsPackingFor atoms goods price places) (same : IsPermutation (map number places) js) (sorted : IsSorted nat_cmp js) where
   goods_is : (p : ℕ) → p < length atoms → (bid_at f (number p)).goods ≡ (atom_at atoms p).bundle
   goods_is p l = ap (λ (b : PlainBid). b.goods) (point p l).is
 
@@ -117,9 +110,9 @@ module _ (f : PlainFile) (goods : List ℕ) (price : ℕ) (atoms : List (Atom (L
 
   pairs : AllPairs IsPair places
   pairs = λ i j d m l. record {
-    one = packing.within i d (omega arith);
-    other = packing.within j d l;
-    apart = pairs_unmap (λ a b. AreApart a.bundle b.bundle) (atom_at atoms) places packing.apart i j d m l;
+    one = packing.packing.within i d (omega arith);
+    other = packing.packing.within j d l;
+    apart = pairs_unmap (λ a b. AreApart a.bundle b.bundle) (atom_at atoms) places packing.packing.apart i j d m l;
   }
 
   share_none : (p q : ℕ) → IsPair p q → ShareNone f (number p) (number q)
@@ -159,13 +152,13 @@ module _ (f : PlainFile) (goods : List ℕ) (price : ℕ) (atoms : List (Atom (L
   inside_each : All (IsPointInside f goods) (map number places)
   inside_each = All-map (IsPointInside f goods) number places (λ k d l.
       let p = get_or places k d in
-      let within = packing.within k d l in
+      let within = packing.packing.within k d l in
       let of = point p within in
       record {
         or = ap (λ (b : PlainBid). b.dummy) of.is;
         point = of.point;
         inside = subst (λ (xs : List ℕ). IsInside xs goods) (sym (goods_is p within))
-            (all_unmap (λ a. IsInside a.bundle goods) (atom_at atoms) places packing.inside k d l);
+            (all_unmap (λ a. IsInside a.bundle goods) (atom_at atoms) places packing.packing.inside k d l);
       })
 
   sums : (ps : List ℕ) → All (λ p. p < length atoms) ps → sum_by (λ a. a.price) (map (atom_at atoms) ps) ≡ sum_by (λ j. (bid_at f j).price) (map number ps)
@@ -180,7 +173,7 @@ module _ (f : PlainFile) (goods : List ℕ) (price : ℕ) (atoms : List (Atom (L
 
   pub of_packing : AreOfPacking f goods price js
   of_packing =
-      let total = sums places packing.within in
+      let total = sums places packing.packing.within in
       let moved = sum_by-IsPermutation (λ j. (bid_at f j).price) (map number places) js same in
       let least = packing.enough in
       record {

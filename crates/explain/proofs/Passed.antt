@@ -16,7 +16,7 @@ use Rattle.std.proofs.lemmas.List.Sorted.{IsPermutation-map, ranks_by, sorted_fa
 use Rattle.std.proofs.lemmas.Map.Keys.{IsDistinct-IsPermutation}
 use Rattle.std.proofs.lemmas.Map.Made.{AllPairs-from_IsDistinct, IsDistinct-from_AllPairs}
 use Rattle.std.proofs.lemmas.Option.{get_or_from_slice_get, slice_get_within}
-use Rattle.goods_set.specs.Bundles.{IsRising}
+use Rattle.goods_set.specs.Bundles.{IsInside, IsRising}
 use Rattle.goods_set.specs.Orders.{bundle_cmp}
 use Rattle.goods_set.specs.Lemmas.Orders.{bundle_cmp_equal, bundle_cmp_total, nat_cmp-refl}
 use Rattle.bid_file.specs.Files.{PlainBid, PlainFile, IsDummyBelow, IsPlainFile}
@@ -25,13 +25,13 @@ use Rattle.valuation.specs.declared.atom.Atom.{Atom}
 use Rattle.valuation.specs.Auctions.{atom_of}
 use Rattle.valuation.specs.Conflicts.{atom_at}
 use Rattle.valuation.specs.Lemmas.Lists.{AllPairs-map, Contains-cons_cases, Contains-map, Contains-unmap}
-use Rattle.prune.specs.Fates.{best_bids, places_below}
+use Rattle.prune.specs.Fates.{best_bids}
 use Rattle.prune.specs.InOrder.{IsBefore, IsInOrder}
-use Rattle.prune.specs.SearchSteps.{greatest_price, is_below}
-use Rattle.prune.specs.Lemmas.InOrder.{same_in_order}
+use Rattle.prune.specs.SearchSteps.{greatest_price}
+use Rattle.prune.specs.Lemmas.InOrder.{before_not_inside, same_in_order}
 use Rattle.prune.specs.Lemmas.Lists.{Contains-filter, Contains-filter_parts, Contains-head, filter-kept}
 use Rattle.prune.specs.Lemmas.SearchSteps.{greatest_price-member, greatest_price-reached}
-use Rattle.prune.proofs.Pruning.{behind_next, later_not_below, not_below_itself}
+use Rattle.prune.proofs.Pruning.{behind_next}
 use Rattle.canon.specs.Lemmas.Renaming.{filter-map}
 use Rattle.explain.specs.declared.best.NumberedBid.{NumberedBid}
 use Rattle.explain.specs.Bids.{bid_at, bidder_of, is_best}
@@ -40,7 +40,6 @@ use Rattle.explain.specs.BidOrders.{AreInOrder, numbered_cmp}
 use Rattle.explain.specs.Internal.Walks.{IsNextBest, is_best_of, is_kept_atom, is_kept_bid, passed_bids}
 use Rattle.explain.proofs.BestBids.{alike_from, at_number, numbered, numbered_cmp_total}
 use Rattle.explain.proofs.BestNumbers.{best_number_is}
-use Rattle.explain.proofs.FoundPlaces.{place_below}
 use Rattle.explain.proofs.KeptBids.{bid_here}
 use Rattle.explain.proofs.KeptBidsBest.{atom_from, atom_there, atoms_of_bidder, best-once, best_of, is_of, its_own, of_it, same_bidder}
 use Rattle.explain.proofs.KeptPoints.{best_is_there, kept_points}
@@ -272,34 +271,29 @@ module _ (f : PlainFile) (is : IsPlainFile f) (bids : List NumberedBid) (order :
       (record { bidder = ap (λ (z : PlainBid). bidder_of z.dummy) (sym one.seen) ∙ ap bidder_of one.bidder; goods = goods }) in
       get_or-map (λ (m : NumberedBid). m.number) kept p n 0 l ∙ sym (ap (λ (o : Option ℕ). unwrap_or o 0) found)
 
-  -- the points below its goods are among them
-  pub below_is_kept : (q : ℕ) → Contains (places_below (points_of f dummy) (offer n).bundle) q → q < length kept
-  below_is_kept q c =
-      let r = place_below (points_of f dummy) (offer n).bundle q c in
-      ⊎_elim (λ (l : q < length kept). l) (λ (l : length kept ≤ q). absurd (not_there r.0 r.1 l)) (cases_lt q (length kept))
+  -- if it is dropped, the points inside its goods are among them
+  pub inside_is_kept : is_kept_bid f dummy n ≡ false → (q : ℕ) → q < length (points_of f dummy)
+      → IsInside (atom_at (points_of f dummy) q).bundle (offer n).bundle → q < length kept
+  inside_is_kept dropped q within inside =
+      ⊎_elim (λ (l : q < length kept). l) (λ (l : length kept ≤ q). absurd (not_there l)) (cases_lt q (length kept))
     where
-      rising : (a : Atom (List ℕ)) → Contains (best_bids f.goods (atoms_of_bidder f dummy)) a → IsRising a.bundle
-      rising a c = (best_bids-are f.goods (atoms_of_bidder f dummy) a c).bundle.0
+      rising : (a : Atom (List ℕ)) → Contains rest a → IsRising a.bundle
+      rising a c =
+          (best_bids-are f.goods (atoms_of_bidder f dummy) a (subst (λ (xs : List (Atom (List ℕ))). Contains xs a) (sym best_split)
+          (Contains-append_right (map offer done) rest a c))).bundle.0
 
-      in_best : (a : Atom (List ℕ)) → Contains rest a → Contains (best_bids f.goods (atoms_of_bidder f dummy)) a
-      in_best a c = subst (λ (xs : List (Atom (List ℕ))). Contains xs a) (sym best_split)
-          (Contains-append_right (map offer done) rest a c)
-
-      not_below : (a : Atom (List ℕ)) → Contains rest a → is_below a.bundle (offer n).bundle ≡ true → ⊥
-      not_below a c t =
+      not_inside : (a : Atom (List ℕ)) → Contains rest a → is_kept_atom f dummy a ≡ true → IsInside a.bundle (offer n).bundle → ⊥
+      not_inside a c t i =
           ⊎_elim
-          (λ (e : offer n ≡ a). both_ways (is_below (offer n).bundle (offer n).bundle) (not_below_itself (offer n).bundle)
-          (ap (λ (z : Atom (List ℕ)). is_below z.bundle (offer n).bundle) e ∙ t))
+          (λ (e : offer n ≡ a). both_ways (is_kept_bid f dummy n) dropped (ap (is_kept_atom f dummy) e ∙ t))
           (λ (m : Contains (map offer more) a).
-          let later = All-contains (IsBefore (offer n)) (map offer more) a (behind_next (map offer done) (offer n) (map offer more)
-          (subst (λ (xs : List (Atom (List ℕ))). IsInOrder xs) best_split (best_bids-in_order f.goods (atoms_of_bidder f dummy)))) m in
-          both_ways (is_below a.bundle (offer n).bundle)
-          (later_not_below (offer n) a (rising (offer n) (in_best (offer n) (Contains-head (offer n) (map offer more))))
-          (rising a (in_best a c)) later) t)
+          before_not_inside (offer n).bundle a.bundle (rising (offer n) (Contains-head (offer n) (map offer more))) (rising a c)
+          (All-contains (IsBefore (offer n)) (map offer more) a (behind_next (map offer done) (offer n) (map offer more)
+          (subst (λ (xs : List (Atom (List ℕ))). IsInOrder xs) best_split (best_bids-in_order f.goods (atoms_of_bidder f dummy)))) m) i)
           (Contains-cons_cases (offer n) (map offer more) a c)
 
-      not_there : q < length (points_of f dummy) → is_below (atom_at (points_of f dummy) q).bundle (offer n).bundle ≡ true → length kept ≤ q → ⊥
-      not_there within t l =
+      not_there : length kept ≤ q → ⊥
+      not_there l =
           let tail = filter (is_kept_atom f dummy) rest in
           let long = length-map kept offer in
           let same_long = ap (length {A = Atom (List ℕ)}) points_split in
@@ -309,8 +303,8 @@ module _ (f : PlainFile) (is : IsPlainFile f) (bids : List NumberedBid) (order :
           ap (λ (xs : List (Atom (List ℕ))). get_or xs q (record { bundle = []; price = 0 })) points_split
           ∙ get_or-append_right (map offer kept) tail (length kept) q (record { bundle = []; price = 0 }) long l in
           let a : Atom (List ℕ) = get_or tail (q - length kept) (record { bundle = []; price = 0 }) in
-          not_below a (Contains-filter_parts (is_kept_atom f dummy) rest a (Contains-get_or tail (q - length kept) (record { bundle = []; price = 0 }) k)).0
-          (ap (λ (z : Atom (List ℕ)). is_below z.bundle (offer n).bundle) (sym is_it) ∙ t)
+          let there = Contains-filter_parts (is_kept_atom f dummy) rest a (Contains-get_or tail (q - length kept) (record { bundle = []; price = 0 }) k) in
+          not_inside a there.0 there.1 (subst (λ (z : Atom (List ℕ)). IsInside z.bundle (offer n).bundle) is_it inside)
 
   -- if it is kept itself, it is the next point
   pub next_point : is_kept_bid f dummy n ≡ true → (length kept < length (points_of f dummy)) × (atom_at (points_of f dummy) (length kept) ≡ offer n)

@@ -1,20 +1,23 @@
 -- The reason of each bid is true. A best bid is kept as a point, or what the points below its goods have reaches its price.
 use Rattle.std.proofs.Common.{◌≡◌, ℕ, ◌<◌, Bool, true, false, ⊎_elim, List, length, map, Option, Some, None, refl, sym, ap, ◌∙◌, subst}
-use Rattle.std.proofs.Common.{arith, eqb, is_none, nat_cmp}
-use Rattle.std.specs.Prelude.{Contains, IsPermutation, is_some}
+use Rattle.std.proofs.Common.{arith, ◌≤◌, eqb, is_none, leb, nat_cmp}
+use Rattle.std.specs.Prelude.{Contains, IfSome, IsPermutation, is_some}
 use Rattle.std.specs.Option.{unwrap_or}
-use Rattle.std.proofs.lemmas.Bool.{both_ways, cases_Bool, eq-eqb, eqb-true, ne_eqb}
+use Rattle.std.proofs.lemmas.Bool.{both_ways, cases_Bool, eq-eqb, eqb-true, leb-true, ne_eqb}
 use Rattle.std.proofs.lemmas.Cmp.{nat_cmp_total}
 use Rattle.std.proofs.lemmas.List.FromFn.{get_or-map-range_with_len, length-map-range_with_len}
 use Rattle.std.proofs.lemmas.List.Sorted.{IsPermutation-map, IsPermutation-reverse, IsPermutation-trans}
 use Rattle.bid_file.specs.Files.{PlainBid, PlainFile, IsDummyBelow, IsPlainFile}
+use Rattle.valuation.specs.declared.atom.Atom.{Atom}
 use Rattle.valuation.specs.declared.search_kind.SearchKind.TheVariants.{Bounded}
 use Rattle.valuation.specs.Auctions.{atom_of}
 use Rattle.valuation.specs.Conflicts.{atom_at}
 use Rattle.valuation.specs.Sorting.{sort_by}
 use Rattle.valuation.specs.Lemmas.Sorting.{permutation-sort_by, sorted-sort_by}
-use Rattle.prune.specs.Fates.{or_fate, xor_fate}
-use Rattle.prune.specs.Lemmas.Lists.{zero_or_more}
+use Rattle.valuation.specs.Packings.{IsPackingFor}
+use Rattle.prune.specs.Fates.{or_fate, places_below, xor_fate}
+use Rattle.prune.specs.Lemmas.Fates.{or_fate-reaches, places_below-within}
+use Rattle.prune.specs.Lemmas.Lists.{found_some, zero_or_more}
 use Rattle.prune.specs.SearchSteps.{is_below}
 use Rattle.explain.specs.Bids.{bid_at, IsBestFor}
 use Rattle.explain.specs.Reasons.{Zero, Same, Explains, IsBestBid, IsKeptAs, best_alike, best_reason, kept_number, or_reason}
@@ -23,7 +26,6 @@ use Rattle.explain.specs.Internal.Deciding.{IsDecided, IsNoPoint}
 use Rattle.explain.specs.Internal.Walks.{is_kept_atom}
 use Rattle.explain.proofs.BestNumbers.{best_number_for, best_there}
 use Rattle.explain.proofs.Deciding.{explained, priced_within}
-use Rattle.explain.proofs.FoundPlaces.{dropped_from, found_are_packed, inside_from, place_below, searched_places}
 use Rattle.explain.proofs.KeptBids.{bid_here}
 use Rattle.explain.proofs.KeptPoints.{best_is_there, bidder_is_kept, kept_if_point, kept_is_point, kept_number_is, point_if_kept, point_is_kept}
 use Rattle.explain.proofs.KeptPoints.{point_number_is}
@@ -52,6 +54,28 @@ reason_best f i positive h =
     let t : eqb (bid_at f i).price 0 ≡ false = ne_eqb (bid_at f i).price 0 (λ e. omega arith) in
     let u : eqb (best_alike f i) i ≡ true = eq-eqb (best_alike f i) i (best_alike_is f i i h) in
     simp (t, u)
+
+-- ---- what makes a best bid superfluous
+
+pub packing_from : (points : List (Atom (List ℕ))) (a : Atom (List ℕ)) (places : List ℕ) → or_fate Bounded points a ≡ Some places
+    → IsPackingFor points a.bundle a.price places
+packing_from points a places e =
+    subst (λ (fate : Option (List ℕ)). IfSome fate (λ ps. IsPackingFor points a.bundle a.price ps)) e (or_fate-reaches Bounded points a)
+
+-- a point below the bundle, whose price is as high
+pub record IsPointBelow (points : List (Atom (List ℕ))) (a : Atom (List ℕ)) (place : ℕ) : Type 0 where
+  pub within : place < length points
+  pub below : is_below (atom_at points place).bundle a.bundle ≡ true
+  pub enough : a.price ≤ (atom_at points place).price
+
+pub inside_from : (points : List (Atom (List ℕ))) (a : Atom (List ℕ)) (place : ℕ) → xor_fate points a ≡ Some place → IsPointBelow points a place
+unfolding xor_fate
+inside_from points a place e =
+    let test : ℕ → Bool = λ p. leb a.price (atom_at points p).price in
+    let found = subst (λ (fate : Option ℕ). IfSome fate (λ p. Contains (places_below points a.bundle) p × (test p ≡ true))) e
+    (found_some test (places_below points a.bundle)) in
+    let there = places_below-within points a.bundle place found.0 in
+    record { within = there.0; below = there.1; enough = leb-true a.price (atom_at points place).price found.1 }
 
 -- ---- a best bid
 
@@ -93,15 +117,11 @@ module _ (f : PlainFile) (is : IsPlainFile f) (i : ℕ) (within : i < length f.b
   or_decided none None e = keep (fate_at None none true (ap is_none e))
   or_decided none (Some places) e =
       let points = points_of f None in
-      let drop = dropped_from points (atom_of own) places e in
-      let searched = searched_places points own.goods own.price in
+      let packing = packing_from points (atom_of own) places e in
       let number : ℕ → ℕ = point_number f None in
       let js = sort_by nat_cmp (map number places) in
-      let same = IsPermutation-trans (map number searched) (map number places) js
-      (IsPermutation-map number searched places (subst (IsPermutation searched) (sym drop.found) (IsPermutation-reverse searched)))
-      (permutation-sort_by nat_cmp (map number places)) in
-      let r = of_packing f own.goods own.price points number searched js (point_at None none) (some_good None none)
-      (found_are_packed points own.goods own.price drop.reached) same (sorted-sort_by nat_cmp nat_cmp_total (map number places)) in
+      let r = of_packing f own.goods own.price points number places js (point_at None none) (some_good None none) packing
+      (permutation-sort_by nat_cmp (map number places)) (sorted-sort_by nat_cmp nat_cmp_total (map number places)) in
       record {
         bid = bid;
         no_point = no_point (fate_at None none false (ap is_none e));
@@ -117,8 +137,7 @@ module _ (f : PlainFile) (is : IsPlainFile f) (i : ℕ) (within : i < length f.b
   xor_decided d some (Some place) e =
       let points = points_of f (Some d) in
       let found = inside_from points (atom_of own) place e in
-      let here = place_below points own.goods place found.there in
-      let at = point_at (Some d) some place here.0 in
+      let at = point_at (Some d) some place found.within in
       let j = point_number f (Some d) place in
       let price : (bid_at f j).price ≡ (atom_at points place).price = ap (λ (b : PlainBid). b.price) at.is in
       let enough = found.enough in
@@ -128,7 +147,7 @@ module _ (f : PlainFile) (is : IsPlainFile f) (i : ℕ) (within : i < length f.b
         xor = ap is_some some;
         bidder = ap (λ (b : PlainBid). b.dummy) at.is ∙ sym some;
         point = at.point;
-        below = ap (λ (b : PlainBid). is_below b.goods own.goods) at.is ∙ here.1;
+        below = ap (λ (b : PlainBid). is_below b.goods own.goods) at.is ∙ found.below;
         enough = omega arith;
       }
 
