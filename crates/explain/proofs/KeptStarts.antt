@@ -5,7 +5,6 @@ use Rattle.std.specs.Prelude.{All, Contains, slice_get}
 use Rattle.std.specs.List.{flat_map}
 use Rattle.std.proofs.lemmas.Bool.{cases_lt, cases_eq}
 use Rattle.std.proofs.lemmas.List.{append_assoc, get_or-append-add, get_or-map, get_or-set_other, get_or-set_same, get_or_append_left, get_or_default}
-use Rattle.std.proofs.lemmas.List.{get_or_past}
 use Rattle.std.proofs.lemmas.List.{length-append, length-map, length-set}
 use Rattle.std.proofs.lemmas.List.Concat.{flat_map-cons}
 use Rattle.std.proofs.lemmas.List.Elements.{All-append, All-from_recursion, All-map, All-nil, Contains-append_cases, Contains-get_or}
@@ -73,8 +72,7 @@ xor_start : (f : PlainFile) (starts : List ℕ) → AreStarts f 0 starts → (d 
     → slice_get (kept_bids f) (get_or starts d 0 + p) ≡ Some (bid_from (Some d) (atom_at (points_of_dummy f d) p))
 xor_start f starts h d c p l =
     let g = bids_of_dummy f in
-    let own = λ (d : ℕ) (b : PlainBid) (c : Contains (g d) b). ap (λ (z : PlainBid). z.dummy) (Contains-unmap (bid_from (Some d))
-    (points_of_dummy f d) b c).2 in
+    let own = λ (d : ℕ) (b : PlainBid) (c : Contains (g d) b). ap (λ (z : PlainBid). z.dummy) (Contains-unmap (bid_from (Some d)) (points_of_dummy f d) b c).2 in
     let r = splits g own (kept_dummies f) d c in
     let before : List PlainBid = map (bid_from None) (or_points_of f) ++ r.before in
     let are : kept_bids f ≡ before ++ (g d ++ r.behind) =
