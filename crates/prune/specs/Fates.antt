@@ -2,7 +2,7 @@
 -- A best bid is kept as a point, or the points below its bundle reach its price. Points are named by their places among
 -- the bidder's points, which are in order.
 use Rattle.std.specs.Prelude.{ℕ, nat_le, if◌then◌else◌, Option, Some, None, List, map, length, reverse, slice_index_or}
-use Rattle.std.specs.Global.{Global, Vec}
+use Rattle.std.specs.Global.{Vec}
 use Rattle.std.specs.List.{filter, find, range_with_len}
 use Rattle.valuation.specs.declared.atom.Atom.{Atom}
 use Rattle.valuation.specs.declared.search_kind.SearchKind.{SearchKind}
@@ -51,7 +51,7 @@ abbrev pub or_fates : SearchKind → ℕ → List (Atom (List ℕ)) → List (Op
 or_fates kind goods atoms = map (or_fate kind (or_points goods atoms)) (best_bids goods atoms)
 
 -- a fate, as a caller sees it
-abbrev pub plain_fate : Option (Vec ℕ Global) → Option (List ℕ)
+abbrev pub plain_fate : Option (Vec ℕ) → Option (List ℕ)
 plain_fate None = None
 plain_fate (Some places) = Some places.items
 
