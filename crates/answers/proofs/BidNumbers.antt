@@ -8,7 +8,7 @@ use Rattle.bid_file.specs.Files.{PlainBid, PlainFile}
 use Rattle.valuation.specs.Lemmas.Lists.{Contains-cons_cases}
 use Rattle.prune.specs.Lemmas.Lists.{Contains-head, Contains-nil, Contains-tail}
 use Rattle.explain.specs.Bids.{bid_at, are_alike, is_best, numbers_of, best_number, IsBestFor}
-use Rattle.explain.specs.Internal.BidOrders.{AreInOrder, HasBid}
+use Rattle.explain.specs.BidOrders.{AreInOrder, HasBid}
 use Rattle.explain.specs.declared.best.NumberedBid.{NumberedBid}
 use Rattle.answers.specs.DiffTexts.{bid_number}
 use Rattle.answers.specs.Internal.Sides.{IsBidOf}

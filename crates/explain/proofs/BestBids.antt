@@ -20,7 +20,7 @@ use Rattle.bid_file.specs.Files.{PlainBid, PlainFile}
 use Rattle.bid_file.specs.Views.{seen_bid}
 use Rattle.explain.specs.declared.best.NumberedBid.{NumberedBid}
 use Rattle.explain.specs.Bids.{bid_at, bidder_of, are_alike, is_better, numbers_of, IsBestFor}
-use Rattle.explain.specs.Internal.BidOrders.{key_cmp, numbered_cmp, AreInOrder}
+use Rattle.explain.specs.BidOrders.{key_cmp, numbered_cmp, AreInOrder}
 
 -- ---- lists
 

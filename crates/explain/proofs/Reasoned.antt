@@ -6,7 +6,7 @@ use Rattle.std.proofs.lemmas.List.Elements.{Contains-get_or}
 use Rattle.bid_file.specs.Files.{PlainFile}
 use Rattle.explain.specs.Bids.{bid_at}
 use Rattle.explain.specs.Reasons.{PlainReason, Zero, plain_reason, reason_at}
-use Rattle.explain.specs.Internal.BidOrders.{AreInOrder}
+use Rattle.explain.specs.BidOrders.{AreInOrder}
 use Rattle.explain.specs.Internal.Deciding.{IsDecided}
 use Rattle.explain.specs.Internal.Known.{AreDecided, IsNumberedBid}
 use Rattle.explain.specs.declared.best.NumberedBid.{NumberedBid}

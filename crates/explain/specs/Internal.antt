@@ -1,5 +1,4 @@
 -- What the contracts of private functions cite. No public contract rests on them.
-pub mod BidOrders
 pub mod Deciding
 pub mod Keeping
 pub mod BidderPoints

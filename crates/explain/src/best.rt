@@ -5,7 +5,7 @@ ghost use Rattle.goods_set.specs.Orders.{bundle_cmp};
 ghost use Rattle.bid_file.specs.Files.{IsPlainFile, PlainFile};
 ghost use Rattle.bid_file.specs.Views.{seen_bid};
 ghost use Rattle.explain.specs.Bids.{IsBestFor, bid_at, bidder_of};
-ghost use Rattle.explain.specs.Internal.BidOrders.{AreInOrder, AreNumbered, HasBid, key_cmp, numbered_cmp};
+ghost use Rattle.explain.specs.BidOrders.{AreInOrder, AreNumbered, HasBid, key_cmp, numbered_cmp};
 
 use bid_file::{BidRef, Bids, PackedFile};
 use std::alloc::{AllocError, Global};

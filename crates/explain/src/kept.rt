@@ -3,7 +3,7 @@
 ghost use Rattle.std.specs.Prelude.{◌≡◌, ◌<◌, IfOk, length};
 ghost use Rattle.bid_file.specs.Files.{IsDummyBelow, IsPlainFile};
 ghost use Rattle.canon.specs.Renaming.{named_dummy};
-ghost use Rattle.explain.specs.Internal.BidOrders.{AreInOrder};
+ghost use Rattle.explain.specs.BidOrders.{AreInOrder};
 ghost use Rattle.explain.specs.Internal.Keeping.{AreKept, IsNamed};
 
 use crate::best::{NumberedBid, number_of};

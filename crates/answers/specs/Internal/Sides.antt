@@ -4,7 +4,7 @@ use Rattle.bid_file.specs.Files.{PlainFile, IsDummyBelow}
 use Rattle.canon.specs.Renaming.{kept_dummies, named_dummy}
 use Rattle.differences.specs.BidderChanges.{PlainBidderChange}
 use Rattle.differences.specs.PriceChanges.{PlainChange}
-use Rattle.explain.specs.Internal.BidOrders.{AreInOrder}
+use Rattle.explain.specs.BidOrders.{AreInOrder}
 use Rattle.answers.specs.ComparedFiles.{IsComparedFile}
 use Rattle.answers.specs.declared.sides.Side.{Side}
 use Rattle.answers.specs.declared.sides.Sides.{Sides}

@@ -9,7 +9,7 @@ use Rattle.valuation.specs.declared.search_kind.SearchKind.TheVariants.{Bounded}
 use Rattle.canon.specs.Renaming.{kept_bids}
 use Rattle.explain.specs.Bids.{bid_at}
 use Rattle.explain.specs.Reasons.{PlainReason, IsBestBid, reason_at}
-use Rattle.explain.specs.Internal.BidOrders.{AreInOrder}
+use Rattle.explain.specs.BidOrders.{AreInOrder}
 use Rattle.explain.specs.Internal.Keeping.{AreKept}
 use Rattle.explain.specs.Internal.BidderPoints.{AreFilePoints, points_at}
 use Rattle.explain.specs.Internal.Deciding.{IsDecided, IsNoPoint}

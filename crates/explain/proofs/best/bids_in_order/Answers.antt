@@ -2,7 +2,7 @@ use Rattle.std.proofs.Common.{rules, is_lt}
 use Rattle.std.proofs.lemmas.Fn.{always_returns_same}
 use Rattle.std.proofs.lemmas.List.Sorted.{ranks_by}
 use Rattle.explain.specs.declared.best.NumberedBid.{NumberedBid}
-use Rattle.explain.specs.Internal.BidOrders.{numbered_cmp}
+use Rattle.explain.specs.BidOrders.{numbered_cmp}
 use Rattle.explain.proofs.BestBids.{numbered_cmp_total}
 use Rattle.explain.proofs.best.bids_in_order.Goals as goal
 

@@ -3,7 +3,7 @@ use Rattle.std.proofs.Common.{rules, is_lt}
 use Rattle.std.proofs.lemmas.List.Sorted.{IsPartitionPoint-from_clause}
 use Rattle.bid_file.specs.Views.{seen_bid}
 use Rattle.explain.specs.declared.best.NumberedBid.{NumberedBid}
-use Rattle.explain.specs.Internal.BidOrders.{key_cmp}
+use Rattle.explain.specs.BidOrders.{key_cmp}
 use Rattle.explain.proofs.BestBids.{partitioned, first_is_best, has_place}
 use Rattle.explain.proofs.best.number_of.Goals as goal
 

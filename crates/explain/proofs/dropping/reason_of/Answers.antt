@@ -2,7 +2,7 @@
 use Rattle.std.proofs.Common.{arith, ◌≡◌, ℕ, true, List, get_or, Option, None, sym, ap, ◌∙◌, subst}
 use Rattle.bid_file.specs.Files.{PlainBid, PlainFile}
 use Rattle.explain.specs.Bids.{bid_at, is_best}
-use Rattle.explain.specs.Internal.BidOrders.{AreInOrder}
+use Rattle.explain.specs.BidOrders.{AreInOrder}
 use Rattle.explain.specs.Internal.Keeping.{IsPlace}
 use Rattle.explain.specs.declared.best.NumberedBid.{NumberedBid}
 use Rattle.explain.proofs.Keeping.{no_point_at}
