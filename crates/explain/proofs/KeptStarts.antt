@@ -72,7 +72,8 @@ xor_start : (f : PlainFile) (starts : List ℕ) → AreStarts f 0 starts → (d 
     → slice_get (kept_bids f) (get_or starts d 0 + p) ≡ Some (bid_from (Some d) (atom_at (points_of_dummy f d) p))
 xor_start f starts h d c p l =
     let g = bids_of_dummy f in
-    let own = λ (d : ℕ) (b : PlainBid) (c : Contains (g d) b). ap (λ (z : PlainBid). z.dummy) (Contains-unmap (bid_from (Some d)) (points_of_dummy f d) b c).2 in
+    let own = λ (d : ℕ) (b : PlainBid) (c : Contains (g d) b). ap (λ (z : PlainBid). z.dummy) (Contains-unmap (bid_from (Some d))
+    (points_of_dummy f d) b c).2 in
     let r = splits g own (kept_dummies f) d c in
     let before : List PlainBid = map (bid_from None) (or_points_of f) ++ r.before in
     let are : kept_bids f ≡ before ++ (g d ++ r.behind) =
