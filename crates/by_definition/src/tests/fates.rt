@@ -104,8 +104,8 @@ fn xor_rows<S: GoodsSet>(rt: &impl Abort, alloc: Global) -> Result<(), Fail> {
     Ok(())
 }
 
-// Bids beside 40 on single goods at a price of 1, so many that they are found by their goods. The first point inside the last
-// bundle, {2, 5}, has an earlier place than {3, 4}.
+// Bids beside 40 on single goods at a price of 1, so many that they are found by their goods. The first point inside the
+// last bundle, {2, 5}, has an earlier place than {3, 4}.
 const BESIDE_SINGLES: &[PricedGoods] = &[
     (&[3, 4], 50),
     (&[2, 5], 50),
