@@ -21,35 +21,38 @@ const OR_BIDS: &[PricedGoods] = &[
     (&[1], 0),
 ];
 
-// The places of the packings that reach the prices of the last two, by plain and by bounded searches.
-static PLAIN_PACKINGS: [&[usize]; 2] = [&[1, 2], &[0, 1, 2]];
+// What becomes of them by plain and by bounded searches: the places of the packings that reach the prices of the last two.
+type OrFates = [Option<&'static [usize]>; 6];
 
-static BOUNDED_PACKINGS: [&[usize]; 2] = [&[1, 2], &[2, 3]];
+static PLAIN_FATES: OrFates = [None, None, None, None, Some(&[1, 2]), Some(&[0, 1, 2])];
+
+static BOUNDED_FATES: OrFates = [None, None, None, None, Some(&[1, 2]), Some(&[2, 3])];
 
 fn or_fates<S: GoodsSet>(
     rt: &impl Abort,
     alloc: Global,
     options: SearchOptions,
-    packings: &[&[usize]],
+    expected: &OrFates,
 ) -> Result<(), Fail> {
     let mut log = FateLog::new(alloc, true);
     let bids = row_on::<S>(rt, alloc, OR_BIDS)?;
     assert!(rt; prune_or_by(alloc, bids, options, &mut log).is_ok());
     let fates = log.into_fates();
-    assert_eq!(rt; fates.len(), 4 + packings.len());
-    for (place, fate) in fates.iter().enumerate() {
-        match fate {
-            Some(places) => assert_eq!(rt; places.as_slice(), packings[place - 4]),
-            None => assert!(rt; place < 4),
+    assert_eq!(rt; fates.len(), expected.len());
+    for (fate, places) in fates.iter().zip(expected.iter()) {
+        match (fate, places) {
+            (Some(found), Some(places)) => assert_eq!(rt; found.as_slice(), *places),
+            (None, None) => (),
+            _ => panic!(rt; "the bid is kept or dropped as it has to be"),
         }
     }
     Ok(())
 }
 
 fn or_fates_of_both_kinds<S: GoodsSet>(rt: &impl Abort, alloc: Global) -> Result<(), Fail> {
-    or_fates::<S>(rt, alloc, SearchOptions::plain(AMPLE), &PLAIN_PACKINGS)?;
+    or_fates::<S>(rt, alloc, SearchOptions::plain(AMPLE), &PLAIN_FATES)?;
     let bounded = SearchOptions::bounded(AMPLE, Some(AMPLE));
-    or_fates::<S>(rt, alloc, bounded, &BOUNDED_PACKINGS)
+    or_fates::<S>(rt, alloc, bounded, &BOUNDED_FATES)
 }
 
 #[test]
@@ -120,6 +123,7 @@ fn fates_of_many<S: GoodsSet>(rt: &impl Abort, alloc: Global) -> Result<(), Fail
     }
     let noted = xor_fates::<S>(rt, alloc, &bids, true)?;
     let expected = [None, None, Some(3), Some(40)];
+    assert_eq!(rt; noted.len(), 44);
     assert_eq!(rt; &noted[40..], &expected[..]);
     Ok(())
 }

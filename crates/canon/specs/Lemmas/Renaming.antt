@@ -25,6 +25,7 @@ use Rattle.valuation.specs.Orders.{bidder_cmp}
 use Rattle.valuation.specs.Sorting.{sort_by}
 use Rattle.valuation.specs.Tables.{xor_table, is_nonzero}
 use Rattle.prune.specs.Lemmas.Lists.{Contains-filter, Contains-filter_parts}
+use Rattle.prune.specs.Lemmas.Ranges.{in_range, range_contains}
 use Rattle.prune.specs.Points.{xor_points}
 use Rattle.canon.specs.Canonical.{canonical_auction, points_of_bidders}
 use Rattle.canon.specs.Renaming.{points_of_dummy, dummy_cmp, kept_dummies}
@@ -95,19 +96,6 @@ points_of_kept_dummies f =
     ∙ ap (sort_by bidder_cmp) (sym (points_of_nonzero f))
 
 -- ---- which they are
-
-in_range : (n d : ℕ) → Contains (range_with_len 0 n) d → d < n
-in_range n d c =
-    let within : c.0 < n = subst (λ m. c.0 < m) (length-range_with_len 0 n) c.1 in
-    let at : get_or (range_with_len 0 n) c.0 d ≡ 0 + c.0 = get_or-range_with_len 0 n c.0 d within in
-    let is : get_or (range_with_len 0 n) c.0 d ≡ d = c.2 in
-    omega arith
-
-range_contains : (n d : ℕ) → d < n → Contains (range_with_len 0 n) d
-range_contains n d l =
-    let at : get_or (range_with_len 0 n) d d ≡ 0 + d = get_or-range_with_len 0 n d d l in
-    let is : 0 + d ≡ d = omega arith in
-    (d, subst (λ m. d < m) (sym (length-range_with_len 0 n)) l, at ∙ is)
 
 pub kept_dummies-below : (f : PlainFile) (d : ℕ) → Contains (kept_dummies f) d → (d < f.dummy) × (has_value f d ≡ true)
 kept_dummies-below f d c =

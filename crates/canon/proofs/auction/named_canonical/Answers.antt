@@ -1,5 +1,5 @@
 -- What is made of the pruned parts is the canonical auction (proofs/Bidders), so the laws of that auction are those of the result.
-use Rattle.std.proofs.Common.{◌≡◌, List, sym, ap, ◌∙◌, map, subst, arith, Global}
+use Rattle.std.proofs.Common.{List, sym, ap, ◌∙◌, map, subst, arith, Global}
 use Rattle.std.specs.Prelude.{Option, Vec}
 use Rattle.std.proofs.Common.{ℕ}
 use Rattle.std.proofs.lemmas.List.{length-map}
@@ -8,7 +8,7 @@ use Rattle.valuation.specs.Auctions.{PlainAuction, IsAuction}
 use Rattle.valuation.specs.Bidders.{bidders_of}
 use Rattle.valuation.specs.Values.{atoms_of}
 use Rattle.valuation.specs.Views.{plain_auction}
-use Rattle.canon.specs.Canonical.{IsCanonical, canonical_auction}
+use Rattle.canon.specs.Canonical.{IsCanonical}
 use Rattle.canon.specs.declared.keyed_bidder.KeyedBidder.{KeyedBidder}
 use Rattle.canon.specs.Internal.KeyedBidders.{NumberedBidder, keyed_bidders}
 use Rattle.canon.proofs.CanonicalFiles.Bidders.{or_part, xor_part, few_bidders, canonical_parts, fates_parts, number_parts, parts_within_limit}
