@@ -42,12 +42,12 @@ pub fn greatest_revenues()
 pub fn kept_winners()
     ensures packing { in_place_of (file 2 0 (or_bid (0 ∷ 1 ∷ []) 7 ∷ or_bid (1 ∷ []) 4 ∷ or_bid (0 ∷ []) 3 ∷ [])) 0
         ≡ 1 ∷ 2 ∷ [] }
-    ensures best_is_dropped { in_place_of (file 2 0 (or_bid (0 ∷ 1 ∷ []) 7 ∷ or_bid (1 ∷ []) 7 ∷ or_bid (0 ∷ 1 ∷ []) 6 ∷ [])) 2
-        ≡ 1 ∷ [] }
+    ensures best_is_dropped { in_place_of
+        (file 2 0 (or_bid (0 ∷ 1 ∷ []) 7 ∷ or_bid (1 ∷ []) 7 ∷ or_bid (0 ∷ 1 ∷ []) 6 ∷ [])) 2 ≡ 1 ∷ [] }
     ensures zero { in_place_of (file 1 0 (or_bid (0 ∷ []) 0 ∷ [])) 0 ≡ [] }
     ensures inside { with_kept_bids
-        (file 3 1 (or_bid (2 ∷ []) 1 ∷ xor_bid 0 (0 ∷ 1 ∷ []) 3 ∷ or_bid (2 ∷ []) 2 ∷ xor_bid 0 (1 ∷ []) 3 ∷ [])) (0 ∷ 1 ∷ [])
-        ≡ 2 ∷ 3 ∷ [] }
-    ensures canonical { kept_as (file 2 0 (or_bid (0 ∷ 1 ∷ []) 7 ∷ or_bid (1 ∷ []) 4 ∷ or_bid (0 ∷ []) 3 ∷ [])) (0 ∷ 1 ∷ [])
-        ≡ 1 ∷ 2 ∷ [] }
+        (file 3 1 (or_bid (2 ∷ []) 1 ∷ xor_bid 0 (0 ∷ 1 ∷ []) 3 ∷ or_bid (2 ∷ []) 2 ∷ xor_bid 0 (1 ∷ []) 3 ∷ []))
+        (0 ∷ 1 ∷ []) ≡ 2 ∷ 3 ∷ [] }
+    ensures canonical { kept_as (file 2 0 (or_bid (0 ∷ 1 ∷ []) 7 ∷ or_bid (1 ∷ []) 4 ∷ or_bid (0 ∷ []) 3 ∷ []))
+        (0 ∷ 1 ∷ []) ≡ 1 ∷ 2 ∷ [] }
 {}
