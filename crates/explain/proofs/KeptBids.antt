@@ -25,7 +25,7 @@ use Rattle.valuation.specs.Lemmas.OrValues.{or_value-price}
 use Rattle.prune.specs.InOrder.{IsBefore, IsInOrder}
 use Rattle.prune.specs.Points.{or_points, is_or_point, is_xor_point}
 use Rattle.prune.specs.Lemmas.InOrder.{before_itself}
-use Rattle.prune.specs.Lemmas.KeptBids.{on_bundles, just_bundles, or_points_are_atoms, xor_points_are_atoms, or_points_keep_values, xor_points_keep_values}
+use Rattle.prune.specs.Lemmas.KeptBids.{on_bundles, just_bundles, or_points_are_atoms, xor_points_are_atoms}
 use Rattle.prune.specs.Lemmas.Lists.{list_any_has}
 use Rattle.prune.specs.Lemmas.OnBundles.{IsOnBundle}
 use Rattle.prune.specs.Lemmas.Points.{or_points_are, xor_points_are, points_where-in_order}

@@ -1,13 +1,12 @@
 -- The reason of the next best bid of a bidder, from its fate and the points so far.
-use Rattle.std.proofs.Common.{◌≡◌, ℕ, ◌+◌, ◌<◌, ◌≤◌, Bool, true, false, List, [], ◌∷◌, ◌++◌, length, map, reverse, get_or, take, Option, Some, None}
+use Rattle.std.proofs.Common.{◌≡◌, ℕ, ◌+◌, ◌<◌, ◌≤◌, Bool, true, false, List, [], ◌∷◌, ◌++◌, length, map, get_or, take, Option, Some, None}
 use Rattle.std.proofs.Common.{is_none, refl, sym, ap, ◌∙◌, subst, arith, nat_cmp}
 use Rattle.std.specs.Global.{Global}
-use Rattle.std.specs.Prelude.{All, Contains, Vec, slice_get}
+use Rattle.std.specs.Prelude.{All, Vec, slice_get}
 use Rattle.std.specs.List.{filter}
 use Rattle.std.proofs.lemmas.List.{append-nil, get_or-map, get_or_at, length-append, length-map, length-take-le, map-append}
 use Rattle.std.proofs.lemmas.List.Elements.{filter-append}
 use Rattle.std.proofs.lemmas.List.FromFn.{get_or-map-range_with_len, length-map-range_with_len}
-use Rattle.std.proofs.lemmas.List.Sorted.{All-permutation, IsPermutation-reverse}
 use Rattle.std.proofs.lemmas.List.Sums.{count_by-le-length, length-filter}
 use Rattle.std.proofs.lemmas.Option.{slice_get_within}
 use Rattle.std.proofs.lemmas.Bool.{and_parts}
@@ -20,7 +19,7 @@ use Rattle.valuation.specs.declared.search_kind.SearchKind.TheVariants.{Bounded}
 use Rattle.valuation.specs.Auctions.{atom_of, xor_atoms_of}
 use Rattle.valuation.specs.Conflicts.{atom_at}
 use Rattle.valuation.specs.Sorting.{sort_by}
-use Rattle.prune.specs.Fates.{best_bids, numbers_at, or_fate, places_below, plain_fate, xor_fate, xor_fates}
+use Rattle.prune.specs.Fates.{best_bids, numbers_at, or_fate, plain_fate, xor_fate, xor_fates}
 use Rattle.prune.specs.Lemmas.Lists.{filter-kept, filter-lost, map_same_on}
 use Rattle.canon.specs.Canonical.{bid_from}
 use Rattle.canon.specs.Renaming.{kept_bids}
