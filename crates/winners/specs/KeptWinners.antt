@@ -1,13 +1,18 @@
--- Winners of a file by those of its canonical file, and kept bids in the place of dropped ones. The reasons of the bids
--- say which bids these are.
-use Rattle.std.specs.Prelude.{ℕ, List, [], ◌∷◌, map}
+-- Winners of a file and of its canonical file, and kept bids in the place of dropped ones. The reasons of the bids say
+-- which bids these are.
+use Rattle.std.specs.Prelude.{◌≡◌, ℕ, true, List, [], ◌∷◌, map, All}
 use Rattle.std.specs.List.{find, flat_map}
 use Rattle.std.specs.Option.{unwrap_or}
 use Rattle.std.specs.Ordering.{nat_cmp}
 use Rattle.bid_file.specs.Files.{PlainFile}
 use Rattle.valuation.specs.Sorting.{sort_by}
 use Rattle.explain.specs.Bids.{numbers_of}
-use Rattle.explain.specs.Reasons.{PlainReason, Keep, Zero, Same, Inside, Packing, is_kept_as, reason_of}
+use Rattle.explain.specs.Reasons.{PlainReason, Keep, Zero, Same, Inside, Packing, is_kept, is_kept_as}
+use Rattle.explain.specs.Reasons.{kept_number, reason_of}
+
+-- each of the bids is kept
+abbrev pub AreKept : PlainFile → List ℕ → Type 0
+AreKept f winners = All (λ i. is_kept (reason_of f i) ≡ true) winners
 
 -- the number of the bid whose reason is `Keep k`
 abbrev pub number_kept_as : PlainFile → ℕ → ℕ
@@ -16,6 +21,10 @@ number_kept_as f k = unwrap_or (find (λ i. is_kept_as k (reason_of f i)) (numbe
 -- the bids of the file that these bids of its canonical file are, by rising numbers
 abbrev pub kept_as : PlainFile → List ℕ → List ℕ
 kept_as f winners = sort_by nat_cmp (map (number_kept_as f) winners)
+
+-- the bids of the canonical file that these kept bids are, by rising numbers
+abbrev pub in_canonical_file : PlainFile → List ℕ → List ℕ
+in_canonical_file f winners = sort_by nat_cmp (map (kept_number f) winners)
 
 -- the kept bids that the reason of a best bid names: the bid itself, or those that reach its price
 abbrev pub named_by : ℕ → PlainReason → List ℕ

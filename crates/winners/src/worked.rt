@@ -3,7 +3,7 @@
 ghost use Rattle.std.specs.Prelude.{◌≡◌, [], ◌∷◌, true, false};
 ghost use Rattle.explain.specs.Examples.{file, or_bid, xor_bid};
 ghost use Rattle.winners.specs.Allocations.{allocations, can_both_win, greatest_revenue};
-ghost use Rattle.winners.specs.KeptWinners.{in_place_of, kept_as, with_kept_bids};
+ghost use Rattle.winners.specs.KeptWinners.{in_canonical_file, in_place_of, kept_as, with_kept_bids};
 
 /// Which two bids can both win.
 pub fn pairs()
@@ -37,7 +37,7 @@ pub fn greatest_revenues()
         (file 2 1 (xor_bid 0 (0 ∷ 1 ∷ []) 3 ∷ xor_bid 0 (1 ∷ []) 3 ∷ or_bid (0 ∷ []) 2 ∷ [])) ≡ 5 }
 {}
 
-/// Kept bids in the place of others, and the bids of the canonical file in the file.
+/// Kept bids in the place of others, and by their numbers in the other file.
 #[tactic(auto, unfolding(prune::specs::Points::points_where, prune::specs::Points::is_xor_point, prune::specs::Points::is_or_point, valuation::specs::Values::xor_value, valuation::specs::Values::or_value, valuation::specs::SearchSteps::found_indices, prune::specs::Fates::found_places, prune::specs::Fates::or_fate, prune::specs::Fates::xor_fate, explain::specs::Reasons::reason_of))]
 pub fn kept_winners()
     ensures packing { in_place_of (file 2 0 (or_bid (0 ∷ 1 ∷ []) 7 ∷ or_bid (1 ∷ []) 4 ∷ or_bid (0 ∷ []) 3 ∷ [])) 0
@@ -48,6 +48,10 @@ pub fn kept_winners()
     ensures inside { with_kept_bids
         (file 3 1 (or_bid (2 ∷ []) 1 ∷ xor_bid 0 (0 ∷ 1 ∷ []) 3 ∷ or_bid (2 ∷ []) 2 ∷ xor_bid 0 (1 ∷ []) 3 ∷ []))
         (0 ∷ 1 ∷ []) ≡ 2 ∷ 3 ∷ [] }
-    ensures canonical { kept_as (file 2 0 (or_bid (0 ∷ 1 ∷ []) 7 ∷ or_bid (1 ∷ []) 4 ∷ or_bid (0 ∷ []) 3 ∷ []))
-        (0 ∷ 1 ∷ []) ≡ 1 ∷ 2 ∷ [] }
+    ensures of_canonical_file { kept_as (file 2 0 (or_bid (0 ∷ 1 ∷ []) 7 ∷ or_bid (1 ∷ []) 4 ∷ or_bid (0 ∷ []) 3 ∷ []))
+        (0 ∷ []) ≡ 2 ∷ [] }
+    ensures of_two_bidders { kept_as (file 2 2 (xor_bid 1 (0 ∷ []) 3 ∷ xor_bid 0 (1 ∷ []) 3 ∷ or_bid (1 ∷ []) 3 ∷ []))
+        (0 ∷ 1 ∷ []) ≡ 0 ∷ 2 ∷ [] }
+    ensures in_canonical { in_canonical_file
+        (file 2 2 (xor_bid 1 (0 ∷ []) 3 ∷ xor_bid 0 (1 ∷ []) 3 ∷ or_bid (1 ∷ []) 3 ∷ [])) (0 ∷ 2 ∷ []) ≡ 0 ∷ 1 ∷ [] }
 {}

@@ -1,4 +1,5 @@
-use Rattle.winners.proofs.Winning.{moved_here, reason_there, winners_here}
+use Rattle.winners.proofs.CanonicalNumbers.{moved_here, reason_there}
+use Rattle.winners.proofs.Winning.{winners_here}
 use Rattle.winners.proofs.laws.canonical_winners_are_winners.Goals as goal
 
 pub returns : goal.returns
