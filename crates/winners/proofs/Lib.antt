@@ -1,0 +1,7 @@
+-- Proofs that several functions of this crate cite.
+pub mod Allocations
+pub mod CanonicalNumbers
+pub mod Reasons
+pub mod Renumbering
+pub mod Replacing
+pub mod Winning

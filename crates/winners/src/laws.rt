@@ -1,0 +1,70 @@
+//! What is promised of winners, over the definitions alone.
+
+ghost use Rattle.std.specs.Prelude.{◌≡◌, ℕ, ◌<◌, ◌≤◌, List, length, All};
+ghost use Rattle.goods_set.specs.Bundles.{IsInside};
+ghost use Rattle.bid_file.specs.Files.{IsPlainFile, PlainFile};
+ghost use Rattle.canon.specs.Canonical.{canonical_file};
+ghost use Rattle.canon.specs.Sameness.{AreSameFiles};
+ghost use Rattle.explain.specs.Bids.{bid_at};
+ghost use Rattle.explain.specs.Reasons.{Keep, reason_of};
+ghost use Rattle.winners.specs.Allocations.{AreWinners, IsAllocation, greatest_revenue, revenue};
+ghost use Rattle.winners.specs.KeptWinners.{AreKept, in_canonical_file, in_place_of, kept_as, number_kept_as};
+ghost use Rattle.winners.specs.KeptWinners.{with_kept_bids};
+
+/// The greatest revenue is that of an allocation, and none has more.
+pub fn greatest_revenue_is_reached()
+    ensures most { (f : PlainFile) (winners : List ℕ) → IsAllocation f winners → revenue f winners ≤ greatest_revenue f }
+    ensures reached { (f : PlainFile) → ((winners : List ℕ) × AreWinners f winners) }
+{}
+
+/// The canonical file has the greatest revenue of its file. So all files of one auction have the same.
+pub fn canonical_file_has_the_greatest_revenue()
+    ensures canonical { (f : PlainFile) → IsPlainFile f → greatest_revenue (canonical_file f) ≡ greatest_revenue f }
+    ensures same { (f g : PlainFile) → IsPlainFile f → IsPlainFile g → AreSameFiles f g
+        → greatest_revenue f ≡ greatest_revenue g }
+{}
+
+/// An allocation of the canonical file is one of the file, by the numbers of the kept bids, and has the same revenue. So
+/// winners of the canonical file are winners of the file.
+pub fn canonical_winners_are_winners()
+    ensures number { (f : PlainFile) → IsPlainFile f → (k : ℕ) → k < length (canonical_file f).bids
+        → reason_of f (number_kept_as f k) ≡ Keep k }
+    ensures allocation { (f : PlainFile) → IsPlainFile f → (winners : List ℕ) → IsAllocation (canonical_file f) winners
+        → IsAllocation f (kept_as f winners) }
+    ensures revenue { (f : PlainFile) → IsPlainFile f → (winners : List ℕ) → IsAllocation (canonical_file f) winners
+        → revenue f (kept_as f winners) ≡ revenue (canonical_file f) winners }
+    ensures winners { (f : PlainFile) → IsPlainFile f → (winners : List ℕ) → AreWinners (canonical_file f) winners
+        → AreWinners f (kept_as f winners) }
+{}
+
+/// The allocations of the canonical file are those of kept bids, one to one: an allocation of kept bids is one of the
+/// canonical file, of the same revenue, and the numbers of either file give back those of the other.
+pub fn kept_allocations_are_canonical()
+    ensures kept { (f : PlainFile) → IsPlainFile f → (winners : List ℕ) → IsAllocation (canonical_file f) winners
+        → AreKept f (kept_as f winners) }
+    ensures allocation { (f : PlainFile) → IsPlainFile f → (winners : List ℕ) → IsAllocation f winners → AreKept f winners
+        → IsAllocation (canonical_file f) (in_canonical_file f winners) }
+    ensures revenue { (f : PlainFile) → IsPlainFile f → (winners : List ℕ) → IsAllocation f winners → AreKept f winners
+        → revenue (canonical_file f) (in_canonical_file f winners) ≡ revenue f winners }
+    ensures back { (f : PlainFile) → IsPlainFile f → (winners : List ℕ) → IsAllocation f winners → AreKept f winners
+        → kept_as f (in_canonical_file f winners) ≡ winners }
+    ensures forth { (f : PlainFile) → IsPlainFile f → (winners : List ℕ) → IsAllocation (canonical_file f) winners
+        → in_canonical_file f (kept_as f winners) ≡ winners }
+{}
+
+/// With kept bids in the place of its winners, an allocation is still one, and has at least its revenue. The bids in the
+/// place of a bid are of its bidder and inside its goods.
+pub fn kept_bids_suffice()
+    ensures allocation { (f : PlainFile) → IsPlainFile f → (winners : List ℕ) → IsAllocation f winners
+        → IsAllocation f (with_kept_bids f winners) }
+    ensures revenue { (f : PlainFile) → IsPlainFile f → (winners : List ℕ) → IsAllocation f winners
+        → revenue f winners ≤ revenue f (with_kept_bids f winners) }
+    ensures winners { (f : PlainFile) → IsPlainFile f → (winners : List ℕ) → AreWinners f winners
+        → AreWinners f (with_kept_bids f winners) }
+    ensures kept { (f : PlainFile) → IsPlainFile f → (winners : List ℕ) → IsAllocation f winners
+        → AreKept f (with_kept_bids f winners) }
+    ensures bidder { (f : PlainFile) → IsPlainFile f → (i : ℕ) → i < length f.bids
+        → All (λ j. (bid_at f j).dummy ≡ (bid_at f i).dummy) (in_place_of f i) }
+    ensures inside { (f : PlainFile) → IsPlainFile f → (i : ℕ) → i < length f.bids
+        → All (λ j. IsInside (bid_at f j).goods (bid_at f i).goods) (in_place_of f i) }
+{}

@@ -1,0 +1,57 @@
+//! Worked examples of the definitions, computed by the prover.
+
+ghost use Rattle.std.specs.Prelude.{◌≡◌, [], ◌∷◌, true, false};
+ghost use Rattle.explain.specs.Examples.{file, or_bid, xor_bid};
+ghost use Rattle.winners.specs.Allocations.{allocations, can_both_win, greatest_revenue};
+ghost use Rattle.winners.specs.KeptWinners.{in_canonical_file, in_place_of, kept_as, with_kept_bids};
+
+/// Which two bids can both win.
+pub fn pairs()
+    ensures disjoint { can_both_win (or_bid (0 ∷ 2 ∷ []) 3) (or_bid (1 ∷ []) 4) ≡ true }
+    ensures sharing_a_good { can_both_win (or_bid (0 ∷ 2 ∷ []) 3) (or_bid (2 ∷ []) 4) ≡ false }
+    ensures of_one_xor_bidder { can_both_win (xor_bid 0 (0 ∷ []) 3) (xor_bid 0 (1 ∷ []) 4) ≡ false }
+    ensures of_two_xor_bidders { can_both_win (xor_bid 0 (0 ∷ []) 3) (xor_bid 1 (1 ∷ []) 4) ≡ true }
+    ensures of_or_and_xor_bidder { can_both_win (or_bid (0 ∷ []) 3) (xor_bid 0 (1 ∷ []) 4) ≡ true }
+{}
+
+/// The allocations of a file, by the number of winners. That nobody wins is one.
+pub fn all_allocations()
+    ensures no_bids { allocations (file 1 1 []) ≡ [] ∷ [] }
+    ensures equal_bids { allocations (file 1 0 (or_bid (0 ∷ []) 3 ∷ or_bid (0 ∷ []) 3 ∷ []))
+        ≡ [] ∷ (0 ∷ []) ∷ (1 ∷ []) ∷ [] }
+    ensures xor_and_or_bids { allocations
+        (file 3 1 (xor_bid 0 (0 ∷ []) 3 ∷ xor_bid 0 (1 ∷ []) 4 ∷ or_bid (2 ∷ []) 1 ∷ []))
+        ≡ [] ∷ (0 ∷ []) ∷ (1 ∷ []) ∷ (2 ∷ []) ∷ (0 ∷ 2 ∷ []) ∷ (1 ∷ 2 ∷ []) ∷ [] }
+{}
+
+/// The greatest revenue.
+pub fn greatest_revenues()
+    ensures no_bids { greatest_revenue (file 2 1 []) ≡ 0 }
+    ensures zero { greatest_revenue (file 1 0 (or_bid (0 ∷ []) 0 ∷ [])) ≡ 0 }
+    ensures or_bids { greatest_revenue
+        (file 3 0 (or_bid (0 ∷ 1 ∷ []) 7 ∷ or_bid (1 ∷ 2 ∷ []) 8 ∷ or_bid (0 ∷ []) 3 ∷ or_bid (2 ∷ []) 2 ∷ [])) ≡ 11 }
+    ensures one_xor_bidder { greatest_revenue (file 2 1 (xor_bid 0 (0 ∷ []) 3 ∷ xor_bid 0 (1 ∷ []) 4 ∷ [])) ≡ 4 }
+    ensures two_xor_bidders { greatest_revenue (file 2 2 (xor_bid 0 (0 ∷ []) 3 ∷ xor_bid 1 (1 ∷ []) 4 ∷ [])) ≡ 7 }
+    ensures equal_bids { greatest_revenue (file 1 0 (or_bid (0 ∷ []) 3 ∷ or_bid (0 ∷ []) 3 ∷ [])) ≡ 3 }
+    ensures dominated_bid { greatest_revenue
+        (file 2 1 (xor_bid 0 (0 ∷ 1 ∷ []) 3 ∷ xor_bid 0 (1 ∷ []) 3 ∷ or_bid (0 ∷ []) 2 ∷ [])) ≡ 5 }
+{}
+
+/// Kept bids in the place of others, and by their numbers in the other file.
+#[tactic(auto, unfolding(prune::specs::Points::points_where, prune::specs::Points::is_xor_point, prune::specs::Points::is_or_point, valuation::specs::Values::xor_value, valuation::specs::Values::or_value, valuation::specs::SearchSteps::found_indices, prune::specs::Fates::found_places, prune::specs::Fates::or_fate, prune::specs::Fates::xor_fate, explain::specs::Reasons::reason_of))]
+pub fn kept_winners()
+    ensures packing { in_place_of (file 2 0 (or_bid (0 ∷ 1 ∷ []) 7 ∷ or_bid (1 ∷ []) 4 ∷ or_bid (0 ∷ []) 3 ∷ [])) 0
+        ≡ 1 ∷ 2 ∷ [] }
+    ensures best_is_dropped { in_place_of
+        (file 2 0 (or_bid (0 ∷ 1 ∷ []) 7 ∷ or_bid (1 ∷ []) 7 ∷ or_bid (0 ∷ 1 ∷ []) 6 ∷ [])) 2 ≡ 1 ∷ [] }
+    ensures zero { in_place_of (file 1 0 (or_bid (0 ∷ []) 0 ∷ [])) 0 ≡ [] }
+    ensures inside { with_kept_bids
+        (file 3 1 (or_bid (2 ∷ []) 1 ∷ xor_bid 0 (0 ∷ 1 ∷ []) 3 ∷ or_bid (2 ∷ []) 2 ∷ xor_bid 0 (1 ∷ []) 3 ∷ []))
+        (0 ∷ 1 ∷ []) ≡ 2 ∷ 3 ∷ [] }
+    ensures of_canonical_file { kept_as (file 2 0 (or_bid (0 ∷ 1 ∷ []) 7 ∷ or_bid (1 ∷ []) 4 ∷ or_bid (0 ∷ []) 3 ∷ []))
+        (0 ∷ []) ≡ 2 ∷ [] }
+    ensures of_two_bidders { kept_as (file 2 2 (xor_bid 1 (0 ∷ []) 3 ∷ xor_bid 0 (1 ∷ []) 3 ∷ or_bid (1 ∷ []) 3 ∷ []))
+        (0 ∷ 1 ∷ []) ≡ 0 ∷ 2 ∷ [] }
+    ensures in_canonical { in_canonical_file
+        (file 2 2 (xor_bid 1 (0 ∷ []) 3 ∷ xor_bid 0 (1 ∷ []) 3 ∷ or_bid (1 ∷ []) 3 ∷ [])) (0 ∷ 2 ∷ []) ≡ 0 ∷ 1 ∷ [] }
+{}
