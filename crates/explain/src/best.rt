@@ -36,7 +36,7 @@ fn order_of_goods(one: &[u16], other: &[u16]) -> Ordering
 }
 
 /// By bidder, and of one bidder by goods.
-fn order_of_keys(one: &BidRef<'_>, other: &BidRef<'_>) -> Ordering
+pub(crate) fn order_of_keys(one: &BidRef<'_>, other: &BidRef<'_>) -> Ordering
     ensures { result ≡ key_cmp (seen_bid one.now) (seen_bid other.now) }
 {
     bidder_of(one.dummy)
