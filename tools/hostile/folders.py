@@ -113,9 +113,10 @@ def other_inputs(one):
         for at in range(len(one.files) + 1):
             files = [*one.files[:at], path, *one.files[at:]]
             answer = run([*one.command, *files])
-            header, *rows = one.own.out.splitlines(True)
-            table = b"".join((header, *rows[:at], refused_row(path, line), *rows[at:]))
-            told = (table, b"") if makes_table(one) else (one.own.out, os.fsencode(path) + b": " + line)
+            told = (one.own.out, os.fsencode(path) + b": " + line)
+            if makes_table(one):
+                header, *rows = one.own.out.splitlines(True)
+                told = (b"".join((header, *rows[:at], refused_row(path, line), *rows[at:])), b"")
             wanted = Answer(max(status, one.own.status), *told)
             TALLY.judge(answer == wanted, f"{one}: {path} as file {at + 1}", answer)
 
