@@ -201,7 +201,8 @@ file_unopened Has may_open may_refuse remaining options path kept more why adds 
 
 -- the file was judged, and reported
 pub path_judged : {C F E : Type 0} (Has : C → List (List ℕ × Judgement) → Type 0) (may_open : List ℕ → F → Type 0)
-    (may_refuse : List ℕ → Unopened → Type 0) (remaining : F → Option (List ℕ)) (options : SearchOptions) (messages : E → Option (List ℕ)) (reporting : Reporting)
+    (may_refuse : List ℕ → Unopened → Type 0) (remaining : F → Option (List ℕ)) (options : SearchOptions) (messages : E → Option (List ℕ))
+    (reporting : Reporting)
     (count number : ℕ) (path : List ℕ) (kept more : C) (err err_after : Watched E) (error : Option RequestError) (status : ℕ)
     → AddsFile Has may_open may_refuse remaining options path kept more error → ReportsAll messages (lines_on reporting count number path error) err err_after
     → status ≡ status_if error → AddsPath Has may_open may_refuse remaining options messages reporting count number path kept more err err_after status

@@ -1,5 +1,6 @@
 -- The rows of `cats sizes`, and the numbers in them: how many bids have no dummy good, and which dummy goods the bids so far have.
-use Rattle.std.proofs.Common.{◌≡◌, ℕ, suc, zero, ◌+◌, ◌-◌, ◌<◌, Bool, true, false, cond, List, [], ◌∷◌, ◌++◌, length, map, get_or, set, take, refl, sym, append-nil}
+use Rattle.std.proofs.Common.{◌≡◌, ℕ, suc, zero, ◌+◌, ◌-◌, ◌<◌, Bool, true, false, cond, List, [], ◌∷◌, ◌++◌, length, map, get_or, set, take, refl, sym}
+use Rattle.std.proofs.Common.{append-nil}
 use Rattle.std.proofs.Common.{ap, ◌∙◌, arith, Option, Some, None, Result, Ok, Err, ⊎_elim, zero-add, replicate}
 use Rattle.std.proofs.Common.{inl, inr, Global}
 use Rattle.std.specs.Prelude.{codes, decimal, filter, is_none, is_some, ◌||◌, Vec}

@@ -1,6 +1,7 @@
--- What `cats sizes` prints. It is a header, and a row for each path, with the numbers of its file, those of the canonical
--- file, and why the file was not judged.
-use Rattle.std.specs.Prelude.{◌≡◌, ◌-◌, ℕ, Bool, List, [], ◌∷◌, ◌++◌, length, map, filter, is_none, take, codes, decimal}
+-- What `cats sizes` prints. It is a header, and a row for each path, with the numbers of its file, those of the
+-- canonical file, and why the file was not judged.
+use Rattle.std.specs.Prelude.{◌≡◌, ◌-◌, ℕ, Bool, List, [], ◌∷◌, ◌++◌, length, map, filter, is_none, take, codes}
+use Rattle.std.specs.Prelude.{decimal}
 use Rattle.std.specs.Prelude.{Option, Some, None}
 use Rattle.std.specs.List.{flat_map, list_any, range_with_len}
 use Rattle.std.specs.Option.{option_map}

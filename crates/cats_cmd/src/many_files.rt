@@ -68,7 +68,8 @@ pub(crate) fn run_sizes_of<S: Source + AllocGlobal, W: Write, E: Write>(
     ensures runs { RunsOnFiles (S.may_open (S.content_of source.old)) (S.may_refuse (S.content_of source.old))
         S.Stream.remaining E.contents
         (λ paths. RunsOnPaths (S.may_open (S.content_of source.old)) (S.may_refuse (S.content_of source.old))
-        S.Stream.remaining W.contents E.contents many.options (MakesTable many.ending) paths (without_refusals many.progress))
+        S.Stream.remaining W.contents E.contents many.options (MakesTable many.ending) paths
+        (without_refusals many.progress))
         (plain_paths files.now) out.old out.new err.old err.new result }
     ensures opens { OpensFiles S.content_of S.opened S.may_open S.may_refuse S.Stream.remaining (plain_paths files.now)
         source.old source.new (status_of_run result) }

@@ -1,6 +1,7 @@
 //! The loop over many files. They are judged one after the other, and a text is made of all.
 
-ghost use Rattle.std.specs.Prelude.{◌≡◌, ◌++◌, ℕ, List, Option, [], ◌∷◌, map, IfErr, IfOk, OnOk, codes, decimal, false, true};
+ghost use Rattle.std.specs.Prelude.{◌≡◌, ◌++◌, ℕ, List, Option, [], ◌∷◌, map, IfErr, IfOk, OnOk, codes, decimal, false};
+ghost use Rattle.std.specs.Prelude.{true};
 ghost use Rattle.cats_text.specs.Streams.{has_ended, has_failed};
 ghost use Rattle.cats_cmd.specs.Inputs.{IsOpened};
 ghost use Rattle.cats_cmd.specs.Opening.{Opens, OpensEach, openable};

@@ -71,7 +71,8 @@ module _ {C : Type 0} (Has : C → List (List ℕ × Judgement) → Type 0) wher
       pub is_greatest : greatest ≡ greatest_status judgements
 
     -- the files at all paths, or, when memory is refused, those at the first of them
-    abbrev pub JudgesAllAs : {E : Type 0} → (E → Option (List ℕ)) → List (List ℕ) → Reporting → C → Watched E → Watched E
+    abbrev pub JudgesAllAs : {E : Type 0} → (E → Option (List ℕ)) → List
+        (List ℕ) → Reporting → C → Watched E → Watched E
         → Result ℕ AllocError → Type 0
     JudgesAllAs messages paths reporting kept err err_after (Ok greatest) =
         HasJudged messages reporting (length paths) paths kept err err_after greatest

@@ -13,7 +13,8 @@ returns c =
     (elim c.match-error.branch [
       | in-Some+in_ok-line+in_ok-extend_from_slice w ↦
           ap (λ v. v.items) w.text-is
-          ∙ fault_put text _ w.in_ok-line.line.items c.args.error.now w.in-Some.error _ _ w.in-Some.is w.in_ok-line.ensures (omega (arith, w.len.ensures, w.in_ok-line.line.ok.0))
+          ∙ fault_put text _ w.in_ok-line.line.items c.args.error.now w.in-Some.error _ _ w.in-Some.is w.in_ok-line.ensures (omega
+          (arith, w.len.ensures, w.in_ok-line.line.ok.0))
           w.saturating_sub-end.ensures
           (w.in_ok-extend_from_slice.ensures.items ∙ ap (λ line. text ++ take w.saturating_sub-end.result line) w.as_slice.ensures.value)
       | in_default w ↦ ap (λ v. v.items) w.text-is ∙ no_fault_put text c.args.error.now w.in_default.is
