@@ -1,0 +1,58 @@
+-- The winner determination problem as a text in CPLEX's LP format. There is a variable for each bid, which is 1 if the
+-- bid wins, and a row for each good and each dummy good that two bids or more have: at most one of them wins.
+use Rattle.std.specs.Prelude.{ℕ, ◌+◌, ◌-◌, nat_lt, if◌then◌else◌, List, [], ◌∷◌, ◌++◌, length, map, codes, decimal}
+use Rattle.std.specs.List.{filter, flat_map, range_with_len}
+use Rattle.goods_set.specs.Bundles.{has_good}
+use Rattle.bid_file.specs.Files.{PlainFile, goods_of}
+use Rattle.cats_text.specs.Layout.{price_text}
+use Rattle.explain.specs.Bids.{bid_at, numbers_of}
+
+-- a name, and the numbers of bids of which at most one wins
+pub record PlainRow : Type 0 where
+  pub name : List ℕ
+  pub bids : List ℕ
+
+-- the numbers of the bids that have a good, numbered as the file writes it: dummy goods are behind the real ones
+abbrev pub bids_with : PlainFile → ℕ → List ℕ
+bids_with f good = filter (λ i. has_good (goods_of f.goods (bid_at f i)) good) (numbers_of f)
+
+-- `g` and the number of a real good, or `d` and that of a dummy good among the dummy goods
+abbrev pub row_name : PlainFile → ℕ → List ℕ
+row_name f good = if nat_lt good f.goods then codes "g" ++ decimal good else codes "d" ++ decimal (good - f.goods)
+
+abbrev pub row_of : PlainFile → ℕ → PlainRow
+row_of f good = record { name = row_name f good; bids = bids_with f good }
+
+-- the rows of all goods, and behind them of all dummy goods, that two bids or more have
+abbrev pub lp_rows : PlainFile → List PlainRow
+lp_rows f = filter (λ row. nat_lt 1 (length row.bids)) (map (row_of f) (range_with_len 0 (f.goods + f.dummy)))
+
+-- ---- the text, with one term in each line
+
+abbrev pub price_term : ℕ → ℕ → List ℕ
+price_term price i = codes " + " ++ price_text price ++ codes " x" ++ decimal i ++ codes "\n"
+
+abbrev pub row_term : ℕ → List ℕ
+row_term i = codes " + x" ++ decimal i ++ codes "\n"
+
+abbrev pub row_text : PlainRow → List ℕ
+row_text row = codes " " ++ row.name ++ codes ":\n" ++ flat_map row_term row.bids ++ codes " <= 1\n"
+
+abbrev pub binary_line : ℕ → List ℕ
+binary_line i = codes " x" ++ decimal i ++ codes "\n"
+
+-- a text if there is no row
+abbrev pub if_none : List PlainRow → List ℕ → List ℕ
+if_none [] text = text
+if_none (row ∷ rows) text = []
+
+-- Solvers, like glpsol, refuse an objective without a term and a text without a row. If there is no row, which is so if
+-- there is no bid, a variable `none` of the price 0 has one: it is no bid, and changes nothing.
+abbrev pub lp_text : PlainFile → List ℕ
+lp_text f =
+    codes "Maximize\n revenue:\n" ++ flat_map (λ i. price_term (bid_at f i).price i) (numbers_of f)
+    ++ if_none (lp_rows f) (codes " + 0 none\n")
+    ++ codes "Subject To\n" ++ flat_map row_text (lp_rows f)
+    ++ if_none (lp_rows f) (codes " none:\n + none\n <= 1\n")
+    ++ codes "Binary\n" ++ flat_map binary_line (numbers_of f)
+    ++ if_none (lp_rows f) (codes " none\n") ++ codes "End\n"
