@@ -1,6 +1,6 @@
 -- The winner determination problem as a text in CPLEX's LP format. There is a variable for each bid, which is 1 if the
 -- bid wins, and a row for each good and each dummy good that two bids or more have: at most one of them wins.
-use Rattle.std.specs.Prelude.{ℕ, ◌+◌, ◌-◌, nat_lt, if◌then◌else◌, List, [], ◌∷◌, ◌++◌, length, map, codes, decimal}
+use Rattle.std.specs.Prelude.{ℕ, Bool, ◌+◌, ◌-◌, nat_lt, if◌then◌else◌, List, [], ◌∷◌, ◌++◌, length, map, codes, decimal}
 use Rattle.std.specs.List.{filter, flat_map, range_with_len}
 use Rattle.goods_set.specs.Bundles.{has_good}
 use Rattle.bid_file.specs.Files.{PlainFile, goods_of}
@@ -17,15 +17,19 @@ abbrev pub bids_with : PlainFile → ℕ → List ℕ
 bids_with f good = filter (λ i. has_good (goods_of f.goods (bid_at f i)) good) (numbers_of f)
 
 -- `g` and the number of a real good, or `d` and that of a dummy good among the dummy goods
-abbrev pub row_name : PlainFile → ℕ → List ℕ
-row_name f good = if nat_lt good f.goods then codes "g" ++ decimal good else codes "d" ++ decimal (good - f.goods)
+abbrev pub row_name : ℕ → ℕ → List ℕ
+row_name goods good = if nat_lt good goods then codes "g" ++ decimal good else codes "d" ++ decimal (good - goods)
 
 abbrev pub row_of : PlainFile → ℕ → PlainRow
-row_of f good = record { name = row_name f good; bids = bids_with f good }
+row_of f good = record { name = row_name f.goods good; bids = bids_with f good }
+
+-- whether two bids or more are in the row
+abbrev pub is_shared : PlainRow → Bool
+is_shared row = nat_lt 1 (length row.bids)
 
 -- the rows of all goods, and behind them of all dummy goods, that two bids or more have
 abbrev pub lp_rows : PlainFile → List PlainRow
-lp_rows f = filter (λ row. nat_lt 1 (length row.bids)) (map (row_of f) (range_with_len 0 (f.goods + f.dummy)))
+lp_rows f = filter is_shared (map (row_of f) (range_with_len 0 (f.goods + f.dummy)))
 
 -- ---- the text, with one term in each line
 
