@@ -2,6 +2,7 @@
 pub mod Allocations
 pub mod ByGood
 pub mod CanonicalNumbers
+pub mod LpRows
 pub mod Reasons
 pub mod Renumbering
 pub mod Replacing
