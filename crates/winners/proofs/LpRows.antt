@@ -1,10 +1,11 @@
 -- The rows are met exactly by allocations: two winners that share a good, or a dummy good, are both in its row, and other winners are not.
 -- A row's bids are those of all numbers that pass a test, so they rise; and so are the winners, whose prices the objective adds up.
-use Rattle.std.proofs.Common.{◌≡◌, ℕ, ◌+◌, ◌*◌, ◌<◌, ◌≤◌, Bool, true, false, ◌&&◌, not, eqb, ⊎_elim, ◌⊎◌, inl, inr, List, [], ◌∷◌, ◌++◌, length, map, refl, sym, ap, ◌∙◌, subst}
+use Rattle.std.proofs.Common.{◌≡◌, ℕ, ◌+◌, ◌*◌, ◌<◌, ◌≤◌, Bool, true, false, not, eqb, ⊎_elim, ◌⊎◌, inl, inr, List, [], ◌∷◌, ◌++◌, length, map}
+use Rattle.std.proofs.Common.{refl, sym, ap, ◌∙◌, subst}
 use Rattle.std.proofs.Common.{Option, Some, None, arith}
-use Rattle.std.specs.Prelude.{All, Contains, IsTrue, if◌then◌else◌, sum_by}
-use Rattle.std.specs.List.{filter, list_all, list_any, range_with_len}
-use Rattle.std.proofs.lemmas.Bool.{and_from, and_parts, both_ways, cases_Bool, cases_eq, eq-eqb, eqb-true, lt-ltb, not_from_false, or_cases, or_left, or_right}
+use Rattle.std.specs.Prelude.{Contains, IsTrue, if◌then◌else◌, sum_by}
+use Rattle.std.specs.List.{filter, list_all, range_with_len}
+use Rattle.std.proofs.lemmas.Bool.{and_from, and_parts, both_ways, cases_Bool, eq-eqb, eqb-true, lt-ltb, not_from_false}
 use Rattle.std.proofs.lemmas.Bool.{false_from_ne_true, not-true}
 use Rattle.std.proofs.lemmas.List.Elements.{All-contains, Contains-append_cases, Contains-append_left, Contains-append_right}
 use Rattle.std.proofs.lemmas.List.Kept.{AllPairs-filter}
@@ -15,11 +16,12 @@ use Rattle.bid_file.specs.Files.{IsBid, IsDummyBelow, IsPlainFile, PlainBid, Pla
 use Rattle.valuation.specs.Lemmas.Bounds.{sum-zero}
 use Rattle.valuation.specs.Lemmas.AuctionsOfFiles.{below-from}
 use Rattle.valuation.specs.Lemmas.Lists.{Contains-map, Contains-unmap}
-use Rattle.prune.specs.Lemmas.Lists.{All-from_Contains, Contains-filter, Contains-filter_parts, filter-kept, filter-lost, list_all_from, list_any_found, list_any_has}
-use Rattle.prune.specs.Lemmas.Ranges.{in_range, range_contains, range_rising}
+use Rattle.prune.specs.Lemmas.Lists.{All-from_Contains, Contains-filter, Contains-filter_parts, filter-kept, filter-lost}
+use Rattle.prune.specs.Lemmas.Lists.{list_all_from, list_any_found, list_any_has}
+use Rattle.prune.specs.Lemmas.Ranges.{range_contains, range_rising}
 use Rattle.explain.specs.Bids.{bid_at, numbers_of}
 use Rattle.explain.proofs.KeptBids.{bid_here}
-use Rattle.winners.specs.Allocations.{IsAllocation, can_all_win, can_both_win, revenue, share_dummy}
+use Rattle.winners.specs.Allocations.{can_all_win, can_both_win, revenue, share_dummy}
 use Rattle.winners.specs.LpTexts.{AreRowsMet, PlainRow, bids_with, is_shared, lp_rows, objective, row_of, value_of}
 use Rattle.winners.proofs.Allocations.{CanWin, both_flip, pairs_at, pairs_from_test, rising_from_pairs}
 
