@@ -43,7 +43,8 @@ fn rows_text(alloc: Global, file: &PackedFile) -> Result<Vec<u8>, AllocError>
     let mut text = Vec::new(alloc);
     for good in 0..lists.len() {
         let bids = lists[good].as_slice();
-        if bids.len() > 1 {
+        let shared = bids.len() > 1;
+        if shared {
             push_row(&mut text, goods, good, bids)?;
         }
     }

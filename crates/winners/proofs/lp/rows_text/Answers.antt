@@ -5,7 +5,7 @@ use Rattle.winners.specs.LpTexts.{bids_with, is_shared, row_name, row_of, row_te
 use Rattle.winners.proofs.ByGood.{bids_found}
 use Rattle.winners.proofs.RowTexts.{row_kept, row_left_out}
 use Rattle.winners.proofs.lp.rows_text.Goals as goal
-use Rattle.winners.proofs.lp.rows_text.Goals.{then-bids-gt1+in_ok-push_row, else-bids-gt1}
+use Rattle.winners.proofs.lp.rows_text.Goals.{then-shared+in_ok-push_row, else-shared}
 
 pub loop-good-preserved : goal.loop-good-preserved
 loop-good-preserved c =
@@ -18,16 +18,16 @@ loop-good-preserved c =
     ∙ bids_found f c.in_ok-lists.lists.items good c.index.result.now c.in_ok-lists.ensures within c.index.ensures in
     let long : length bids ≡ length (bids_with f good) = ap (length {A = ℕ}) found in
     let goods : c.from-goods.result ≡ f.goods = c.from-goods.ensures ∙ c.goods.ensures.value in
-    elim c.if-bids-gt1.branch [
-      | then-bids-gt1+in_ok-push_row w ↦
+    elim c.if-shared.branch [
+      | then-shared+in_ok-push_row w ↦
           let shared : is_shared (row_of f good) ≡ true =
-          lt-ltb 1 (length (bids_with f good)) (omega (arith, w.if-bids-gt1.true, long)) in
+          lt-ltb 1 (length (bids_with f good)) (omega (arith, w.if-shared.true, long)) in
           rw w.text-is (w.in_ok-push_row.ensures
           ∙ ap₂ (λ (before : List ℕ) (after : List ℕ). before ++ after) c.loop-good.invariant
           (ap₂ (λ (n : ℕ) (xs : List ℕ). row_text (record { name = row_name n good; bids = xs })) goods found)
           ∙ sym (row_kept f good shared))
-      | else-bids-gt1 w ↦
+      | else-shared w ↦
           let alone : is_shared (row_of f good) ≡ false =
-          le-ltb 1 (length (bids_with f good)) (omega (arith, w.if-bids-gt1.false, long)) in
+          le-ltb 1 (length (bids_with f good)) (omega (arith, w.if-shared.false, long)) in
           rw w.text-is (c.loop-good.invariant ∙ sym (row_left_out f good alone))
     ]
