@@ -25,9 +25,23 @@ def beside(one, left_out):
     return run([*one.command, *(path for path in one.files if path != left_out)])
 
 
+def makes_table(one):
+    """Whether a refused file is a row of the table, and no line on standard error."""
+    return one.command == ("sizes",)
+
+
+def refused_row(path, line):
+    """The row of a file that was not read."""
+    return 8 * b"\t" + line.removesuffix(b"\n") + b"\t" + os.fsencode(path) + b"\n"
+
+
 def reported(one, path, status, line):
-    """What a run answers that cannot judge one of its files: the line on it is among those on the others, in the order of the files."""
+    """What a run answers that cannot judge one of its files: the line on it is among those on the others, or its row is, in the order of the files."""
     others = beside(one, path)
+    if makes_table(one):
+        header, *rows = one.own.out.splitlines(True)
+        rows[one.files.index(path)] = refused_row(path, line)
+        return (max(status, others.status), b"".join((header, *rows)), b"")
     lines = {its.split(b": ")[0]: its for its in others.err.splitlines(True)}
     lines[os.fsencode(path)] = os.fsencode(path) + b": " + line
     err = b"".join(lines[name] for name in map(os.fsencode, one.files) if name in lines)
@@ -62,10 +76,10 @@ def is_whole_run_refused(answer):
 
 def memory(one, rest):
     """Each allocation is refused, alone or with all that come after it: a file is reported and the others are judged, or the run ends. No line
-    needs memory: if all is refused, each file is reported."""
+    needs memory: if all is refused, each file is reported. A row needs memory: without it the run ends."""
     refused = {reported(one, path, NO_MEMORY, WANT) for path in one.files}
     if rest:
-        refused = {(NO_MEMORY, b"", b"".join(os.fsencode(path) + b": " + WANT for path in one.files))}
+        refused = set() if makes_table(one) else {(NO_MEMORY, b"", b"".join(os.fsencode(path) + b": " + WANT for path in one.files))}
     whats, what = set(), f"{one}: allocation{' and all later' if rest else ''}"
     for number in count(1):
         answer = run(one.words(), call="allocation", number=number, rest=rest)
@@ -99,7 +113,11 @@ def other_inputs(one):
         for at in range(len(one.files) + 1):
             files = [*one.files[:at], path, *one.files[at:]]
             answer = run([*one.command, *files])
-            wanted = Answer(max(status, one.own.status), one.own.out, os.fsencode(path) + b": " + line)
+            told = (one.own.out, os.fsencode(path) + b": " + line)
+            if makes_table(one):
+                header, *rows = one.own.out.splitlines(True)
+                told = (b"".join((header, *rows[:at], refused_row(path, line), *rows[at:])), b"")
+            wanted = Answer(max(status, one.own.status), *told)
             TALLY.judge(answer == wanted, f"{one}: {path} as file {at + 1}", answer)
 
 
@@ -143,7 +161,7 @@ def lists(folder):
     for option in ("-0", "--null"):
         answer = run(["duplicates", option, "--files0-from", path])
         TALLY.judge(is_told(answer, 0, listed, []), f"the list with {option}", answer)
-    header = b"goods\tbids\tor\txor\tdummy\tkept\tkept_or\tkept_xor\tfile\n"
+    header = b"goods\tbids\tor\txor\tdummy\tkept\tkept_or\tkept_xor\tfault\tfile\n"
     answer = run(["sizes", "--files0-from", "/dev/null"])
     TALLY.judge(is_told(answer, 0, header, []), "no path", answer)
     # lists that are not read, and words that are not UTF-8
@@ -192,10 +210,10 @@ def names(folder):
         answer = run(["duplicates", "-0", *words])
         TALLY.judge(is_told(answer, 0, listed, []), "names with NUL", answer)
         answer = run(["sizes", *words])
-        printed = [line.split(b"\t", 8)[-1] for line in answer.out.splitlines()[1:]]
+        printed = [line.split(b"\t", 9)[-1] for line in answer.out.splitlines()[1:]]
         TALLY.judge(answer.printed()[::2] == (0, b"") and printed == lines, "escaped names in a table", answer)
         answer = run(["sizes", "-0", *words])
-        printed = [line.split(b"\t", 8)[-1] for line in answer.out.split(b"\0")[1:-1]]
+        printed = [line.split(b"\t", 9)[-1] for line in answer.out.split(b"\0")[1:-1]]
         TALLY.judge(answer.printed()[::2] == (0, b"") and printed == paths, "names with NUL in a table", answer)
     # such names of files that are not there
     absent = [path + b"/" + name for name in NAMES]
@@ -211,7 +229,7 @@ def terminal(path):
     removal = b"\x1b[A\x1b[K"
     rows = (
         (["duplicates", "--progress", path, "/nothing", path], b"1 of 3\n" + removal + b"/nothing: cannot open: no such file\n2 of 3\n" + removal + b"3 of 3\n"),
-        (["sizes", "--progress", "/nothing"], b"/nothing: cannot open: no such file\n1 of 1\n"),
+        (["sizes", "--progress", "/nothing"], b"1 of 1\n"),
         (["duplicates", "/nothing", path], b"/nothing: cannot open: no such file\n"),
     )
     for words, wanted in rows:

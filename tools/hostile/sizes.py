@@ -22,7 +22,7 @@ GOODS, BIDS, GREATEST_PRICE = 4096, 65_536, 1_000_000_000_000
 
 EXPLANATION_HEADER = "bid\tdummy\tprice\tgoods\treason\tkept\tby\n"
 DIFF_HEADER = "kind\tgoods\tleft\tright\tleft_dummy\tright_dummy\tleft_bid\tright_bid\n"
-SIZES_HEADER = "goods\tbids\tor\txor\tdummy\tkept\tkept_or\tkept_xor\tfile\n"
+SIZES_HEADER = "goods\tbids\tor\txor\tdummy\tkept\tkept_or\tkept_xor\tfault\tfile\n"
 
 # Whose the bids of a file are: the OR bidder's, one XOR bidder's, or each an XOR bidder's of its own.
 OR, ONE_XOR, MANY_XOR = "OR bids", "bids of one XOR bidder", "XOR bidders of one bid"
@@ -97,7 +97,7 @@ def differences(bids, last, whose):
 def sizes(bids, whose):
     """What `cats sizes` prints of the file `one` with these bids, which are all points."""
     numbers = f"{len(bids) if whose == OR else 0}\t{dummies(bids, whose)}\t"
-    return f"{SIZES_HEADER}{GOODS}\t{len(bids)}\t{numbers}{dummies(bids, whose)}\t{len(bids)}\t{numbers}one\n"
+    return f"{SIZES_HEADER}{GOODS}\t{len(bids)}\t{numbers}{dummies(bids, whose)}\t{len(bids)}\t{numbers}\tone\n"
 
 
 def value(goods, bids, whose):

@@ -369,21 +369,22 @@ were not: 2 for a file that is not a bid file, 3 for the step limit (use a great
 'cats --help' lists them";
 
 const SIZES: &str = "\
-Prints a header and a line for each file, in the order given, with tabs between the words. For example:
+Prints a header and a row for each file, in the order given, with tabs between the cells. For example:
   $ cats sizes examples/ladder.cats examples/two_bids.cats
-  goods\tbids\tor\txor\tdummy\tkept\tkept_or\tkept_xor\tfile
-  2\t5\t3\t1\t1\t3\t2\t1\texamples/ladder.cats
-  3\t2\t1\t1\t1\t2\t1\t1\texamples/two_bids.cats
+  goods\tbids\tor\txor\tdummy\tkept\tkept_or\tkept_xor\tfault\tfile
+  2\t5\t3\t1\t1\t3\t2\t1\t\texamples/ladder.cats
+  3\t2\t1\t1\t1\t2\t1\t1\t\texamples/two_bids.cats
 
   goods, bids, dummy       as in the file
   or                       bids without a dummy good
   xor                      dummy goods that some bid has
   kept, kept_or, kept_xor  bids, OR bids and XOR bidders of the canonical file
+  fault                    why the file is refused; empty if it is not
 
-The table is printed once all files were read. A file that is refused is reported at once, with its path before the
-fault, and the others go on. If only the step limit stops a file, its line has '-' for the numbers of its canonical
-file. This command always uses the bounded search. A step is that of 'cats normalise --bound'. 'cats help duplicates'
-says how paths are printed, and what --progress reports.
+The table is printed once all files were read. A file that is refused has a row too, and the others go on. Its numbers
+are empty; if only the step limit stops it, just those of its canonical file. On standard error is nothing but what
+--progress reports, and why a list of paths cannot be read. This command always uses the bounded search. A step is
+that of 'cats normalise --bound'. 'cats help duplicates' says how paths are printed, and what --progress reports.
 
 All files below a folder, however many there are:
   $ find folder -type f -name '*.cats' -print0 | cats sizes --files0-from /dev/stdin

@@ -23,13 +23,12 @@ use Rattle.canon.specs.declared.canon_fault.CanonFault.TheVariants.{Read, StepLi
 use Rattle.canon.specs.declared.which.Which.TheVariants.{Only}
 use Rattle.cats_cmd.specs.DuplicateTexts.{found_paths}
 use Rattle.cats_cmd.specs.Inputs.{IsOpened, IsRefusedByReading, IsRefusedFile}
-use Rattle.cats_cmd.specs.Internal.Judging.{AddsFile, AddsOpened, AddsPath, KeepsGroups}
-use Rattle.cats_cmd.specs.Paths.{IsUnopened, Judgement, IsHeavy, IsJudged, IsUnjudged, Judges, JudgesStream, lines_on, status_if, request_error_of}
+use Rattle.cats_cmd.specs.Internal.Judging.{AddsFile, AddsJudgement, AddsOpened, AddsPath, KeepsGroups}
+use Rattle.cats_cmd.specs.Paths.{IsUnopened, Judgement, IsHeavy, IsJudged, IsUnjudged, Judges, JudgesStream, Reporting, lines_on, status_if, request_error_of}
 use Rattle.cats_cmd.proofs.Skipping.{nothing_more}
 use Rattle.cats_cmd.specs.Outcomes.{ExceedsSteps, normalise_outcome, text_unless_refused}
 use Rattle.cats_cmd.specs.Runs.{MakesAs}
 use Rattle.cats_cmd.specs.RequestErrors.{ReportsAll}
-use Rattle.cats_cmd.specs.declared.paths.Progress.{Progress}
 use Rattle.cats_cmd.specs.declared.program.RequestError.{RequestError}
 use Rattle.cats_cmd.specs.declared.program.RequestError.TheVariants.{CannotOpen, NotOpened, Run}
 use Rattle.answers.specs.declared.report.RunFault.TheVariants.{Refused}
@@ -190,26 +189,27 @@ module _ {C F : Type 0} (Has : C → List (List ℕ × Judgement) → Type 0) (m
 
 -- no stream was opened at the path
 pub file_unopened : {C F : Type 0} (Has : C → List (List ℕ × Judgement) → Type 0) (may_open : List ℕ → F → Type 0) (may_refuse : List ℕ → Unopened → Type 0)
-    (remaining : F → Option (List ℕ)) (options : SearchOptions) (path : List ℕ) (kept : C)
-    → ((js : List (List ℕ × Judgement)) (p : List ℕ) (error : RequestError) → Has kept js → Has kept (js ++ (p, IsUnjudged error) ∷ []))
-    → (why : Unopened) → IsUnopened may_refuse path why → AddsFile Has may_open may_refuse remaining options path kept kept (Some (NotOpened why))
-file_unopened Has may_open may_refuse remaining options path kept skips why refuses = record {
+    (remaining : F → Option (List ℕ)) (options : SearchOptions) (path : List ℕ) (kept more : C) (why : Unopened)
+    → AddsJudgement Has path (IsUnjudged (NotOpened why)) kept more → IsUnopened may_refuse path why
+    → AddsFile Has may_open may_refuse remaining options path kept more (Some (NotOpened why))
+file_unopened Has may_open may_refuse remaining options path kept more why adds refuses = record {
   judgement = IsUnjudged (NotOpened why);
   judges = refuses;
-  adds = λ js h. skips js path (NotOpened why) h;
+  adds = adds;
   is_error = refl;
 }
 
 -- the file was judged, and reported
 pub path_judged : {C F E : Type 0} (Has : C → List (List ℕ × Judgement) → Type 0) (may_open : List ℕ → F → Type 0)
-    (may_refuse : List ℕ → Unopened → Type 0) (remaining : F → Option (List ℕ)) (options : SearchOptions) (messages : E → Option (List ℕ)) (progress : Progress)
+    (may_refuse : List ℕ → Unopened → Type 0) (remaining : F → Option (List ℕ)) (options : SearchOptions) (messages : E → Option (List ℕ))
+    (reporting : Reporting)
     (count number : ℕ) (path : List ℕ) (kept more : C) (err err_after : Watched E) (error : Option RequestError) (status : ℕ)
-    → AddsFile Has may_open may_refuse remaining options path kept more error → ReportsAll messages (lines_on progress count number path error) err err_after
-    → status ≡ status_if error → AddsPath Has may_open may_refuse remaining options messages progress count number path kept more err err_after status
-path_judged Has may_open may_refuse remaining options messages progress count number path kept more err err_after error status a reports is = record {
+    → AddsFile Has may_open may_refuse remaining options path kept more error → ReportsAll messages (lines_on reporting count number path error) err err_after
+    → status ≡ status_if error → AddsPath Has may_open may_refuse remaining options messages reporting count number path kept more err err_after status
+path_judged Has may_open may_refuse remaining options messages reporting count number path kept more err err_after error status a reports is = record {
   judgement = a.judgement;
   judges = a.judges;
   adds = a.adds;
-  reports = subst (λ (s : Option RequestError). ReportsAll messages (lines_on progress count number path s) err err_after) a.is_error reports;
+  reports = subst (λ (s : Option RequestError). ReportsAll messages (lines_on reporting count number path s) err err_after) a.is_error reports;
   is_status = is ∙ ap status_if a.is_error;
 }

@@ -9,6 +9,7 @@ mod AnswersOfRequests
 mod Comparing
 mod Diffing
 mod Explaining
+mod FaultTexts
 mod ReadingBack
 mod PrintableTexts
 mod ShownTexts

@@ -1,8 +1,9 @@
 -- The paths are read back from the whole output. A text is its lines with a byte behind each, which no line has: a printed path has no
--- control byte, or, with NUL at its end, no NUL. The lines of groups are cut at the empty ones, and those of a table behind eight tabs.
+-- control byte, or, with NUL at its end, no NUL. The lines of groups are cut at the empty ones, and the rows of a table behind nine tabs.
 use Rattle.std.proofs.Common.{◌≡◌, ℕ, suc, ◌+◌, ◌<◌, ◌==◌, true, false, List, [], ◌∷◌, ◌++◌, length, map, refl, sym, ap, ap₂, ◌∙◌, subst}
 use Rattle.std.proofs.Common.{arith, append-nil, zero}
-use Rattle.std.specs.Prelude.{codes, decimal, filter, drop}
+use Rattle.std.specs.Prelude.{codes, filter, drop, Option}
+use Rattle.std.specs.Option.{option_map}
 use Rattle.std.specs.List.{All, flat_map, list_any, range_with_len, slice_split}
 use Rattle.std.proofs.lemmas.Bool.{ltb-true, lt-ltb, ne_eqb, or_parts}
 use Rattle.std.proofs.lemmas.Grind.{flat_map-append}
@@ -10,18 +11,19 @@ use Rattle.std.proofs.lemmas.List.{append_assoc, length-map, map-append}
 use Rattle.std.proofs.lemmas.List.Elements.{All-append, All-cons, All-filter, All-from_recursion, All-head, All-map, All-nil, All-tail, All-weaker}
 use Rattle.std.proofs.lemmas.List.Elements.{filter_passes}
 use Rattle.std.proofs.lemmas.List.Splits.{slice_split_at, slice_split_none}
-use Rattle.canon.specs.Canonical.{canonical_file}
+use Rattle.answers.specs.Outputs.{number_cell}
+use Rattle.bid_file.specs.Files.{PlainFile}
 use Rattle.cats_cmd.specs.DuplicateTexts.{after_empty_lines, duplicates_text, groups_of, groups_text, is_repeated, lines_of, paths_at}
 use Rattle.cats_cmd.specs.Escaping.{end_of, escaped, is_control_byte, path_text}
-use Rattle.cats_cmd.specs.OutputPaths.{IsPath, behind_tabs, end_byte, groups_in, has_lines, is_empty, paths_if_read, paths_in_table, read_path, read_paths}
+use Rattle.cats_cmd.specs.OutputPaths.{IsPath, behind_tabs, end_byte, groups_in, has_lines, is_empty, paths_in_table, read_path}
 use Rattle.cats_cmd.specs.PathLists.{ended, parts_in}
-use Rattle.cats_cmd.specs.Paths.{Judgement, IsHeavy, IsJudged, IsUnjudged}
-use Rattle.cats_cmd.specs.SizesTables.{MakesTable, canonical_columns, cells, columns, counts_of, line_if_read, lines_of_table, sizes_header}
-use Rattle.cats_cmd.specs.SizesTables.{sizes_of, unknown_counts, with_tabs}
+use Rattle.cats_cmd.specs.Paths.{Judgement, request_error_of}
+use Rattle.cats_cmd.specs.SizesTables.{MakesTable, Number, canonical_known, canonical_numbers, cells, columns, fault_cell, file_numbers, file_read}
+use Rattle.cats_cmd.specs.SizesTables.{number_columns, row, rows_of_table, sizes_header}
 use Rattle.cats_cmd.specs.declared.paths.Ending.{Ending}
 use Rattle.cats_cmd.specs.declared.paths.Ending.TheVariants.{Line, Null}
+use Rattle.cats_cmd.proofs.FaultTexts.{Plain, fault_plain, number_plain, plain_lacks}
 use Rattle.cats_cmd.proofs.ListingPaths.{parts_back}
-use Rattle.cats_cmd.proofs.PrintableTexts.{decimal_all}
 use Rattle.cats_cmd.proofs.ReadingBack.{harmless, read_back}
 
 -- ---- a printed path
@@ -165,123 +167,83 @@ module _ (ending : Ending) where
       (All-filter is_repeated IsGroup (groups_of found) (paths_all IsPath found are (range_with_len 0 (length found))))
       (filter_passes is_repeated (groups_of found))
 
--- ---- the numbers of a line
+-- ---- the cells of a row
 
-decimal_high : (n : ℕ) → All (λ b. 47 < b) (decimal n)
-decimal_high n = All-from_recursion (λ b. 47 < b) (decimal n) (decimal_all (λ b. 47 < b) (λ d l. omega arith) n)
+numbers_plain : (file : Option PlainFile) (numbers : List Number) → All Plain (map (λ n. number_cell (option_map n.1 file)) numbers)
+numbers_plain file [] = All-nil Plain
+numbers_plain file (n ∷ numbers) =
+    All-cons Plain (number_cell (option_map n.1 file)) (map (λ n. number_cell (option_map n.1 file)) numbers) (number_plain (option_map n.1 file))
+    (numbers_plain file numbers)
 
-decimal_lacks : (end : ℕ) → end < 48 → (n : ℕ) → Lacks end (decimal n)
-decimal_lacks end low n = All-weaker (λ b. 47 < b) (λ b. (b == end) ≡ false) (λ b high. ne_eqb b end (λ is. absurd (omega (arith, high, is, low)))) (decimal n)
-    (decimal_high n)
+abbrev words_of : Judgement → List (List ℕ)
+words_of j = map (λ c. c.1 j) columns
 
-numbers_lack : (ending : Ending) (numbers : List ℕ) → Lacks (end_byte ending) (with_tabs numbers)
-numbers_lack ending [] = All-nil (λ b. (b == end_byte ending) ≡ false)
-numbers_lack Line (n ∷ numbers) =
-    All-append (λ b. (b == 10) ≡ false) (decimal n ++ 9 ∷ []) (with_tabs numbers)
-    (All-append (λ b. (b == 10) ≡ false) (decimal n) (9 ∷ []) (decimal_lacks 10 (omega arith) n)
-    (All-from_recursion (λ b. (b == 10) ≡ false) (9 ∷ []) (refl, tt)))
-    (numbers_lack Line numbers)
-numbers_lack Null (n ∷ numbers) =
-    All-append (λ b. (b == 0) ≡ false) (decimal n ++ 9 ∷ []) (with_tabs numbers)
-    (All-append (λ b. (b == 0) ≡ false) (decimal n) (9 ∷ []) (decimal_lacks 0 (omega arith) n) (All-from_recursion (λ b. (b == 0) ≡ false) (9 ∷ []) (refl, tt)))
-    (numbers_lack Null numbers)
+pub words_plain : (j : Judgement) → All Plain (words_of j)
+words_plain j =
+    All-append Plain (map (λ c. c.1 j) number_columns) (fault_cell (request_error_of j) ∷ [])
+    (All-append Plain (map (λ n. number_cell (option_map n.1 (file_read j))) file_numbers)
+    (map (λ n. number_cell (option_map n.1 (canonical_known j))) canonical_numbers)
+    (numbers_plain (file_read j) file_numbers) (numbers_plain (canonical_known j) canonical_numbers))
+    (All-cons Plain (fault_cell (request_error_of j)) [] (fault_plain (request_error_of j)) (All-nil Plain))
+
+cells_lack : (end : ℕ) → end < 32 → (9 == end) ≡ false → (words : List (List ℕ)) → All Plain words → Lacks end (cells words)
+cells_lack end low tab [] are = All-nil (λ b. (b == end) ≡ false)
+cells_lack end low tab (word ∷ words) are =
+    All-append (λ b. (b == end) ≡ false) (word ++ 9 ∷ []) (cells words)
+    (All-append (λ b. (b == end) ≡ false) word (9 ∷ []) (plain_lacks end low word (All-head Plain word words are))
+    (All-cons (λ b. (b == end) ≡ false) 9 [] tab (All-nil (λ b. (b == end) ≡ false))))
+    (cells_lack end low tab words (All-tail Plain word words are))
+
+words_lack : (ending : Ending) (j : Judgement) → Lacks (end_byte ending) (cells (words_of j))
+words_lack Line j = cells_lack 10 (omega arith) refl (words_of j) (words_plain j)
+words_lack Null j = cells_lack 0 (omega arith) refl (words_of j) (words_plain j)
 
 behind_word : (word rest : List ℕ) (count : ℕ) → Lacks 9 word → behind_tabs (word ++ 9 ∷ rest) (suc count) ≡ behind_tabs rest count
 behind_word [] rest count plain = refl
 behind_word (b ∷ word) rest count plain =
     rw (All-head (λ c. (c == 9) ≡ false) b word plain) (behind_word word rest count (All-tail (λ c. (c == 9) ≡ false) b word plain))
 
-behind_numbers : (numbers rest : List ℕ) (count total : ℕ) → total ≡ length numbers + count
-    → behind_tabs (with_tabs numbers ++ rest) total ≡ behind_tabs rest count
-behind_numbers [] rest count total is = let same : total ≡ count = omega (arith, is) in ap (behind_tabs rest) same
-behind_numbers (n ∷ numbers) rest count zero is = absurd (omega (arith, is))
-behind_numbers (n ∷ numbers) rest count (suc total) is =
-    let less : total ≡ length numbers + count = omega (arith, is) in
-    ap (λ (text : List ℕ). behind_tabs text (suc total))
-    (append_assoc (decimal n ++ 9 ∷ []) (with_tabs numbers) rest ∙ append_assoc (decimal n) (9 ∷ []) (with_tabs numbers ++ rest))
-    ∙ behind_word (decimal n) (with_tabs numbers ++ rest) total (decimal_lacks 9 (omega arith) n)
-    ∙ behind_numbers numbers rest count total less
+behind_words : (words : List (List ℕ)) (rest : List ℕ) → All Plain words → behind_tabs (cells words ++ rest) (length words) ≡ rest
+behind_words [] rest are = refl
+behind_words (word ∷ words) rest are =
+    ap (λ (text : List ℕ). behind_tabs text (suc (length words)))
+    (append_assoc (word ++ 9 ∷ []) (cells words) rest ∙ append_assoc word (9 ∷ []) (cells words ++ rest))
+    ∙ behind_word word (cells words ++ rest) (length words) (plain_lacks 9 (omega arith) word (All-head Plain word words are))
+    ∙ behind_words words rest (All-tail Plain word words are)
 
 -- ---- a table
 
 module _ (ending : Ending) where
-  -- the line of a file, without its end
-  abbrev lines_if_read : List ℕ → Judgement → List (List ℕ)
-  lines_if_read path (IsJudged file) = ((with_tabs (sizes_of file) ++ with_tabs (counts_of (canonical_file file))) ++ printed ending path) ∷ []
-  lines_if_read path (IsHeavy file goods) = ((with_tabs (sizes_of file) ++ unknown_counts) ++ printed ending path) ∷ []
-  lines_if_read path (IsUnjudged error) = []
+  -- the rows, without their ends
+  abbrev row_lines : List (List ℕ × Judgement) → List (List ℕ)
+  row_lines judgements = map (λ j. cells (words_of j.1) ++ printed ending j.0) judgements
 
-  abbrev table_lines : List (List ℕ × Judgement) → List (List ℕ)
-  table_lines judgements = flat_map (λ j. lines_if_read j.0 j.1) judgements
+  row_ended : (path : List ℕ) (j : Judgement) → row ending path j ≡ (cells (words_of j) ++ printed ending path) ++ end_byte ending ∷ []
+  row_ended path j =
+      ap (λ (text : List ℕ). cells (words_of j) ++ text) (text_printed ending path)
+      ∙ sym (append_assoc (cells (words_of j)) (printed ending path) (end_byte ending ∷ []))
 
-  one_ended : (numbers path : List ℕ) → numbers ++ path_text ending path ≡ ended (end_byte ending) ((numbers ++ printed ending path) ∷ [])
-  one_ended numbers path =
-      ap (λ (text : List ℕ). numbers ++ text) (text_printed ending path)
-      ∙ sym (append_assoc numbers (printed ending path) (end_byte ending ∷ []))
-      ∙ sym (append-nil ((numbers ++ printed ending path) ++ end_byte ending ∷ []))
-
-  line_ended : (path : List ℕ) (j : Judgement) → line_if_read ending path j ≡ ended (end_byte ending) (lines_if_read path j)
-  line_ended path (IsJudged file) = one_ended (with_tabs (sizes_of file) ++ with_tabs (counts_of (canonical_file file))) path
-  line_ended path (IsHeavy file goods) = one_ended (with_tabs (sizes_of file) ++ unknown_counts) path
-  line_ended path (IsUnjudged error) = refl
-
-  table_ended : (js : List (List ℕ × Judgement)) → lines_of_table ending js ≡ ended (end_byte ending) (table_lines js)
+  table_ended : (js : List (List ℕ × Judgement)) → rows_of_table ending js ≡ ended (end_byte ending) (row_lines js)
   table_ended [] = refl
-  table_ended (j ∷ js) =
-      ap₂ (λ (xs ys : List ℕ). xs ++ ys) (line_ended j.0 j.1) (table_ended js)
-      ∙ sym (flat_map-append (λ (part : List ℕ). part ++ end_byte ending ∷ []) (lines_if_read j.0 j.1) (table_lines js))
+  table_ended (j ∷ js) = ap₂ (λ (xs ys : List ℕ). xs ++ ys) (row_ended j.0 j.1) (table_ended js)
 
-  abbrev P : ℕ → Type 0
-  P b = (b == end_byte ending) ≡ false
-
-  one_lacks : (first then path : List ℕ) → Lacks (end_byte ending) first → Lacks (end_byte ending) then → Lacks 0 path
-      → All (Lacks (end_byte ending)) (((first ++ then) ++ printed ending path) ∷ [])
-  one_lacks first then path one two plain =
-      All-cons (Lacks (end_byte ending)) ((first ++ then) ++ printed ending path) []
-      (All-append P (first ++ then) (printed ending path) (All-append P first then one two) (printed_lacks ending path plain))
-      (All-nil (Lacks (end_byte ending)))
-
-  line_lacks : Lacks (end_byte ending) unknown_counts → (path : List ℕ) (j : Judgement) → Lacks 0 path → All (Lacks (end_byte ending)) (lines_if_read path j)
-  line_lacks dashes path (IsJudged file) plain =
-      one_lacks (with_tabs (sizes_of file)) (with_tabs (counts_of (canonical_file file))) path (numbers_lack ending (sizes_of file))
-      (numbers_lack ending (counts_of (canonical_file file))) plain
-  line_lacks dashes path (IsHeavy file goods) plain =
-      one_lacks (with_tabs (sizes_of file)) unknown_counts path (numbers_lack ending (sizes_of file)) dashes plain
-  line_lacks dashes path (IsUnjudged error) plain = All-nil (Lacks (end_byte ending))
-
-  table_lacks : Lacks (end_byte ending) unknown_counts → (js : List (List ℕ × Judgement)) → All (λ j. Lacks 0 j.0) js
-      → All (Lacks (end_byte ending)) (table_lines js)
-  table_lacks dashes [] plain = All-nil (Lacks (end_byte ending))
-  table_lacks dashes (j ∷ js) plain =
-      All-append (Lacks (end_byte ending)) (lines_if_read j.0 j.1) (table_lines js)
-      (line_lacks dashes j.0 j.1 (All-head (λ (i : List ℕ × Judgement). Lacks 0 i.0) j js plain))
-      (table_lacks dashes js (All-tail (λ (i : List ℕ × Judgement). Lacks 0 i.0) j js plain))
+  table_lacks : (js : List (List ℕ × Judgement)) → All (λ j. Lacks 0 j.0) js → All (Lacks (end_byte ending)) (row_lines js)
+  table_lacks [] plain = All-nil (Lacks (end_byte ending))
+  table_lacks (j ∷ js) plain =
+      All-cons (Lacks (end_byte ending)) (cells (words_of j.1) ++ printed ending j.0) (row_lines js)
+      (All-append (λ b. (b == end_byte ending) ≡ false) (cells (words_of j.1)) (printed ending j.0) (words_lack ending j.1)
+      (printed_lacks ending j.0 (All-head (λ (i : List ℕ × Judgement). Lacks 0 i.0) j js plain)))
+      (table_lacks js (All-tail (λ (i : List ℕ × Judgement). Lacks 0 i.0) j js plain))
 
   abbrev path_of : List ℕ → List ℕ
   path_of line = read_path ending (behind_tabs line (length columns))
 
-  -- the path is behind the numbers of the columns
-  line_back : (path : List ℕ) (j : Judgement) → map path_of (lines_if_read path j) ≡ paths_if_read path j
-  line_back path (IsJudged file) =
-      let first = with_tabs (sizes_of file) in
-      let then = with_tabs (counts_of (canonical_file file)) in
-      ap (λ (text : List ℕ). read_path ending text ∷ [])
-      (ap (λ (text : List ℕ). behind_tabs text (length columns)) (append_assoc first then (printed ending path))
-      ∙ behind_numbers (sizes_of file) (then ++ printed ending path) (length canonical_columns) (length columns) refl
-      ∙ behind_numbers (counts_of (canonical_file file)) (printed ending path) 0 (length canonical_columns) refl)
-      ∙ ap (λ (text : List ℕ). text ∷ []) (printed_back ending path)
-  line_back path (IsHeavy file goods) =
-      ap (λ (text : List ℕ). read_path ending text ∷ [])
-      (ap (λ (text : List ℕ). behind_tabs text (length columns)) (append_assoc (with_tabs (sizes_of file)) unknown_counts (printed ending path))
-      ∙ behind_numbers (sizes_of file) (unknown_counts ++ printed ending path) (length canonical_columns) (length columns) refl)
-      ∙ ap (λ (text : List ℕ). text ∷ []) (printed_back ending path)
-  line_back path (IsUnjudged error) = refl
-
-  lines_back : (js : List (List ℕ × Judgement)) → map path_of (table_lines js) ≡ read_paths js
-  lines_back [] = refl
-  lines_back (j ∷ js) =
-      map-append path_of (lines_if_read j.0 j.1) (table_lines js)
-      ∙ ap₂ (λ (xs ys : List (List ℕ)). xs ++ ys) (line_back j.0 j.1) (lines_back js)
+  -- the path is behind the cells of the columns
+  rows_back : (js : List (List ℕ × Judgement)) → map path_of (row_lines js) ≡ map (λ j. j.0) js
+  rows_back [] = refl
+  rows_back (j ∷ js) =
+      ap₂ (λ (path : List ℕ) (paths : List (List ℕ)). path ∷ paths)
+      (ap (read_path ending) (behind_words (words_of j.1) (printed ending j.0) (words_plain j.1)) ∙ printed_back ending j.0) (rows_back js)
 
 -- the header of a table, without its end
 abbrev titles : List ℕ
@@ -293,20 +255,19 @@ tested_lacks end (b ∷ text) e =
     let parts = or_parts (b == end) (list_any (λ c. c == end) text) e in
     All-cons (λ c. (c == end) ≡ false) b text parts.0 (tested_lacks end text parts.1)
 
-codes_lack : (ending : Ending) → Lacks (end_byte ending) titles × Lacks (end_byte ending) unknown_counts
-codes_lack Line = (tested_lacks 10 titles refl, tested_lacks 10 unknown_counts refl)
-codes_lack Null = (tested_lacks 0 titles refl, tested_lacks 0 unknown_counts refl)
+titles_lack : (ending : Ending) → Lacks (end_byte ending) titles
+titles_lack Line = tested_lacks 10 titles refl
+titles_lack Null = tested_lacks 0 titles refl
 
 header_ended : (ending : Ending) → sizes_header ending ≡ titles ++ end_byte ending ∷ []
 header_ended Line = refl
 header_ended Null = refl
 
 pub table_back : (ending : Ending) (js : List (List ℕ × Judgement)) (text : List ℕ) → All (λ j. Lacks 0 j.0) js → MakesTable ending js text
-    → paths_in_table ending text ≡ read_paths js
+    → paths_in_table ending text ≡ map (λ j. j.0) js
 table_back ending js text plain makes =
-    let lacks = codes_lack ending in
     ap (λ (ls : List (List ℕ)). map (path_of ending) (drop 1 ls))
     (ap (parts_in (end_byte ending)) (makes ∙ ap₂ (λ (xs ys : List ℕ). xs ++ ys) (header_ended ending) (table_ended ending js))
-    ∙ parts_back (end_byte ending) (titles ∷ table_lines ending js)
-    (All-cons (Lacks (end_byte ending)) titles (table_lines ending js) lacks.0 (table_lacks ending lacks.1 js plain)))
-    ∙ lines_back ending js
+    ∙ parts_back (end_byte ending) (titles ∷ row_lines ending js)
+    (All-cons (Lacks (end_byte ending)) titles (row_lines ending js) (titles_lack ending) (table_lacks ending js plain)))
+    ∙ rows_back ending js

@@ -9,9 +9,8 @@ use Rattle.canon.specs.declared.canon_fault.CanonFault.TheVariants.{Memory}
 use Rattle.canon.specs.declared.which.Which.TheVariants.{Only}
 use Rattle.cats_cmd.specs.Internal.Judging.{HasJudged}
 use Rattle.cats_cmd.specs.Outcomes.{Prints}
-use Rattle.cats_cmd.specs.Paths.{BeginsPaths, Judgement, JudgesPaths, MakesOfPaths, RunsOnPaths, outcome_of_paths}
+use Rattle.cats_cmd.specs.Paths.{BeginsPaths, Judgement, JudgesPaths, MakesOfPaths, Reporting, RunsOnPaths, outcome_of_paths}
 use Rattle.cats_cmd.specs.Runs.{SendsAs}
-use Rattle.cats_cmd.specs.declared.paths.Progress.{Progress}
 use Rattle.answers.specs.declared.report.RunFault.{RunFault}
 use Rattle.answers.specs.declared.report.RunFault.TheVariants.{Refused, GoodRange, Sent}
 use Rattle.cats_cmd.proofs.RunsOfOneFile.{wrote}
@@ -19,38 +18,38 @@ use Rattle.cats_cmd.specs.declared.source.Unopened.{Unopened}
 
 module _ {F W E : Type 0} (may_open : List ℕ → F → Type 0) (may_refuse : List ℕ → Unopened → Type 0) (remaining : F → Option (List ℕ))
     (contents : W → Option (List ℕ)) (messages : E → Option (List ℕ)) (options : SearchOptions) (Makes : List (List ℕ × Judgement) → List ℕ → Type 0)
-    (paths : List (List ℕ)) (progress : Progress) (err err_after : Watched E) where
+    (paths : List (List ℕ)) (reporting : Reporting) (err err_after : Watched E) where
   -- memory was refused after the first of the paths
-  pub paths_refused : (out : Watched W) → BeginsPaths may_open may_refuse remaining messages options progress paths err err_after
+  pub paths_refused : (out : Watched W) → BeginsPaths may_open may_refuse remaining messages options reporting paths err err_after
       → (answer : Result ℕ RunFault) → IsErrAnd answer (λ reported. reported ≡ Refused Only Memory)
-      → RunsOnPaths may_open may_refuse remaining contents messages options Makes paths progress out out err err_after answer
+      → RunsOnPaths may_open may_refuse remaining contents messages options Makes paths reporting out out err err_after answer
   paths_refused out begins answer is =
       let reported = err_from_is_err_and answer is in
       let only : answer ≡ Err (Refused Only Memory) = reported.1 ∙ ap (λ (f : RunFault). Err f) reported.2 in
-      subst (λ (r : Result ℕ RunFault). RunsOnPaths may_open may_refuse remaining contents messages options Makes paths progress out out err err_after r)
+      subst (λ (r : Result ℕ RunFault). RunsOnPaths may_open may_refuse remaining contents messages options Makes paths reporting out out err err_after r)
       (sym only) (record { only = refl; memory = refl; silent = refl; begins = begins })
 
   module _ {C : Type 0} (Has : C → List (List ℕ × Judgement) → Type 0) (kept : C) (greatest : ℕ)
-      (h : HasJudged Has may_open may_refuse remaining options messages progress (length paths) paths kept err err_after greatest) where
+      (h : HasJudged Has may_open may_refuse remaining options messages reporting (length paths) paths kept err err_after greatest) where
     -- memory was refused after all of them
     pub text_refused : (out : Watched W) (answer : Result ℕ RunFault) → IsErrAnd answer (λ reported. reported ≡ Refused Only Memory)
-        → RunsOnPaths may_open may_refuse remaining contents messages options Makes paths progress out out err err_after answer
+        → RunsOnPaths may_open may_refuse remaining contents messages options Makes paths reporting out out err err_after answer
     text_refused out answer is =
         paths_refused out (record {
           count = length paths;
           judgements = h.judgements;
           judges = subst
               (λ (ps : List (List ℕ)).
-              JudgesPaths may_open may_refuse remaining messages options progress (length paths) ps err err_after h.judgements)
+              JudgesPaths may_open may_refuse remaining messages options reporting (length paths) ps err err_after h.judgements)
               (sym (take_all (length paths) paths (omega arith))) h.judges;
         }) answer is
 
     -- the text is sent
     pub paths_printed : (out out_after : Watched W) (text : List ℕ) → Makes h.judgements text
         → (answer : Result ℕ RunFault) → SendsAs contents greatest text out out_after answer
-        → RunsOnPaths may_open may_refuse remaining contents messages options Makes paths progress out out_after err err_after answer
+        → RunsOnPaths may_open may_refuse remaining contents messages options Makes paths reporting out out_after err err_after answer
     paths_printed out out_after text made (Ok reported) sends =
-        wrote contents (MakesOfPaths may_open may_refuse remaining contents messages options Makes paths progress err err_after) outcome_of_paths out out_after
+        wrote contents (MakesOfPaths may_open may_refuse remaining contents messages options Makes paths reporting err err_after) outcome_of_paths out out_after
         (record { judgements = h.judgements; text = text }) (record { judges = h.judges; makes = made }) greatest text
         (ap (λ (s : ℕ). Prints s text) (sym h.is_greatest)) reported sends
     paths_printed out out_after text made (Err (Refused which fault)) sends = absurd sends

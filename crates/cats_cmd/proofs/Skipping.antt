@@ -1,4 +1,4 @@
--- A file that was not judged adds nothing to what a run on many files makes.
+-- A file that was not judged adds nothing to the groups of `cats duplicates`.
 use Rattle.std.proofs.Common.{◌≡◌, ℕ, List, [], ◌∷◌, ◌++◌, refl, sym, ap, ◌∙◌, subst, append-nil}
 use Rattle.std.specs.List.{AllZip}
 use Rattle.std.proofs.lemmas.Grind.{flat_map-append}
@@ -7,8 +7,6 @@ use Rattle.canon.specs.FirstPlaces.{IsFirstPlace, IsIndexOf, TextIndex}
 use Rattle.cats_cmd.specs.Duplicates.{files_if_judged, judged_files, judged_paths, paths_if_judged}
 use Rattle.cats_cmd.specs.Internal.Judging.{KeepsGroups}
 use Rattle.cats_cmd.specs.Paths.{Judgement, IsUnjudged}
-use Rattle.cats_cmd.specs.SizesTables.{line_if_read, lines_of_table}
-use Rattle.cats_cmd.specs.declared.paths.Ending.{Ending}
 use Rattle.cats_cmd.specs.declared.program.RequestError.{RequestError}
 
 -- a judgement of which no file was judged
@@ -32,14 +30,3 @@ nothing_more index found js path j no_file no_path h =
 pub groups_skip : (index : TextIndex) (found : List (List ℕ × ℕ)) (js : List (List ℕ × Judgement)) (path : List ℕ) (error : RequestError)
     → KeepsGroups index found js → KeepsGroups index found (js ++ (path, IsUnjudged error) ∷ [])
 groups_skip index found js path error h = nothing_more index found js path (IsUnjudged error) refl refl h
-
--- ---- a table
-
-pub line_more : (ending : Ending) (js : List (List ℕ × Judgement)) (path : List ℕ) (j : Judgement)
-    → lines_of_table ending (js ++ (path, j) ∷ []) ≡ lines_of_table ending js ++ line_if_read ending path j
-line_more ending js path j = flat_map-append (λ (x : List ℕ × Judgement). line_if_read ending x.0 x.1) js ((path, j) ∷ [])
-    ∙ ap (λ (line : List ℕ). lines_of_table ending js ++ line) (append-nil (line_if_read ending path j))
-
-pub table_skips : (ending : Ending) (lines : List ℕ) (js : List (List ℕ × Judgement)) (path : List ℕ) (error : RequestError) → lines ≡ lines_of_table ending js
-    → lines ≡ lines_of_table ending (js ++ (path, IsUnjudged error) ∷ [])
-table_skips ending lines js path error h = h ∙ sym (line_more ending js path (IsUnjudged error) ∙ append-nil (lines_of_table ending js))

@@ -1,12 +1,16 @@
--- The lines of `cats sizes`, and the numbers in them: how many bids have no dummy good, and which dummy goods the bids so far have.
-use Rattle.std.proofs.Common.{◌≡◌, ℕ, suc, zero, ◌+◌, ◌<◌, Bool, true, false, cond, List, [], ◌∷◌, ◌++◌, length, map, get_or, set, take, refl, sym}
-use Rattle.std.proofs.Common.{ap, ◌∙◌, arith, Option, Some, None, Ok, Err, ⊎_elim, zero-add, replicate}
+-- The rows of `cats sizes`, and the numbers in them: how many bids have no dummy good, and which dummy goods the bids so far have.
+use Rattle.std.proofs.Common.{◌≡◌, ℕ, suc, zero, ◌+◌, ◌-◌, ◌<◌, Bool, true, false, cond, List, [], ◌∷◌, ◌++◌, length, map, get_or, set, take, refl, sym}
+use Rattle.std.proofs.Common.{append-nil}
+use Rattle.std.proofs.Common.{ap, ◌∙◌, arith, Option, Some, None, Result, Ok, Err, ⊎_elim, zero-add, replicate}
 use Rattle.std.proofs.Common.{inl, inr, Global}
-use Rattle.std.specs.Prelude.{filter, is_none, is_some, ◌||◌, Vec}
+use Rattle.std.specs.Prelude.{codes, decimal, filter, is_none, is_some, ◌||◌, Vec}
 use Rattle.std.specs.List.{range_with_len, slice_get}
+use Rattle.std.specs.Result.{OnOk}
+use Rattle.std.specs.declared.alloc.AllocError.{AllocError}
+use Rattle.std.proofs.lemmas.Grind.{flat_map-append}
 use Rattle.std.proofs.Math.Bool.{or-false, or-true}
 use Rattle.std.proofs.lemmas.Bool.{cases_Bool, cases_eq, ne_eqb, eq-eqb}
-use Rattle.std.proofs.lemmas.List.{length-set, get_or-set_same, get_or-set_other, take_more}
+use Rattle.std.proofs.lemmas.List.{append_assoc, length-set, get_or-set_same, get_or-set_other, take_more}
 use Rattle.std.proofs.lemmas.List.Filters.{length-filter_more}
 use Rattle.std.proofs.lemmas.List.Folds.{list_any-append}
 use Rattle.std.proofs.lemmas.List.FromFn.{fill_by_all, length-map-range_with_len, get_or-map-range_with_len}
@@ -16,14 +20,15 @@ use Rattle.valuation.specs.declared.search_options.SearchOptions.{SearchOptions}
 use Rattle.cats_text.specs.declared.stream.Watched.{Watched}
 use Rattle.valuation.specs.Auctions.{is_dummy, or_atoms_of}
 use Rattle.prune.specs.SearchSteps.{first_refused}
+use Rattle.canon.specs.Canonical.{canonical_file}
 use Rattle.canon.specs.declared.canon_fault.CanonFault.{CanonFault}
 use Rattle.canon.specs.declared.canon_fault.CanonFault.TheVariants.{Read, StepLimit, Memory}
 use Rattle.canon.specs.declared.which.Which.TheVariants.{Only}
 use Rattle.cats_cmd.specs.Inputs.{ReadsInput}
-use Rattle.cats_cmd.specs.Internal.Judging.{AddsOpened}
-use Rattle.cats_cmd.proofs.Skipping.{line_more, table_skips}
-use Rattle.cats_cmd.specs.Paths.{Judgement, IsHeavy, IsJudged, IsUnjudged, JudgesStream}
-use Rattle.cats_cmd.specs.SizesTables.{has_dummy, line_if_read, lines_of_table}
+use Rattle.cats_cmd.specs.Internal.Tables.{PutsNumbers}
+use Rattle.cats_cmd.specs.Paths.{Judgement, IsHeavy, IsJudged, IsUnjudged, JudgesStream, request_error_of}
+use Rattle.cats_cmd.specs.RequestErrors.{line_of_request_error}
+use Rattle.cats_cmd.specs.SizesTables.{cells, columns, counts_of, fault_cell, has_dummy, number_columns, row, rows_of_table, sizes_of, with_tabs, without_end}
 use Rattle.cats_cmd.specs.Escaping.{path_text}
 use Rattle.cats_cmd.specs.declared.paths.Ending.{Ending}
 use Rattle.cats_cmd.specs.declared.program.RequestError.{RequestError}
@@ -31,66 +36,108 @@ use Rattle.cats_cmd.specs.declared.program.RequestError.TheVariants.{Run}
 use Rattle.answers.specs.declared.report.RunFault.{RunFault}
 use Rattle.answers.specs.declared.report.RunFault.TheVariants.{Refused}
 
--- ---- lines
+-- ---- rows
 
-pub table_more : (ending : Ending) (lines more : List ℕ) (path : List ℕ) (j : Judgement) → more ≡ lines ++ line_if_read ending path j
-    → (js : List (List ℕ × Judgement))
-    → lines ≡ lines_of_table ending js → more ≡ lines_of_table ending (js ++ (path, j) ∷ [])
-table_more ending lines more path j put js h = put ∙ ap (λ (ls : List ℕ). ls ++ line_if_read ending path j) h ∙ sym (line_more ending js path j)
+abbrev tabbed : List ℕ → List ℕ
+tabbed word = word ++ codes "\t"
 
--- the numbers of a line, as they are put behind one another
-pub numbers_made : (empty sizes numbers given first then : List ℕ) → empty ≡ [] → sizes ≡ empty ++ first → numbers ≡ sizes ++ then → given ≡ numbers
-    → given ≡ first ++ then
-numbers_made empty sizes numbers given first then none one two is =
-    is ∙ two ∙ ap (λ (ns : List ℕ). ns ++ then) (one ∙ ap (λ (ns : List ℕ). ns ++ first) none)
+-- the cells of the numbers of a file
+pub judged_numbers : (file : PlainFile)
+    → with_tabs (sizes_of file) ++ with_tabs (counts_of (canonical_file file)) ≡ cells (map (λ c. c.1 (IsJudged file)) number_columns)
+judged_numbers file = sym (flat_map-append tabbed (map decimal (sizes_of file)) (map decimal (counts_of (canonical_file file))))
 
-pub line_made : (ending : Ending) (lines longer path given numbers : List ℕ) → given ≡ numbers → longer ≡ lines ++ (given ++ path_text ending path)
-    → longer ≡ lines ++ (numbers ++ path_text ending path)
-line_made ending lines longer path given numbers is put = put ∙ ap (λ (ns : List ℕ). lines ++ (ns ++ path_text ending path)) is
+pub heavy_numbers : (file : PlainFile) (goods : Vec ℕ Global)
+    → with_tabs (sizes_of file) ++ codes "\t\t\t" ≡ cells (map (λ c. c.1 (IsHeavy file goods)) number_columns)
+heavy_numbers file goods = sym (flat_map-append tabbed (map decimal (sizes_of file)) ([] ∷ [] ∷ [] ∷ []))
 
--- ---- the file at a path
+row_cells : (j : Judgement) → cells (map (λ c. c.1 j) columns)
+    ≡ cells (map (λ c. c.1 j) number_columns) ++ (fault_cell (request_error_of j) ++ codes "\t")
+row_cells j =
+    flat_map-append tabbed (map (λ c. c.1 j) number_columns) (fault_cell (request_error_of j) ∷ [])
+    ∙ ap (λ (text : List ℕ). cells (map (λ c. c.1 j) number_columns) ++ text) (append-nil (fault_cell (request_error_of j) ++ codes "\t"))
 
-module _ {R : Type 0} (ending : Ending) (remaining : R → Option (List ℕ)) (options : SearchOptions) (old new : Watched R) {C : Type 0}
-    (Has : C → List (List ℕ × Judgement) → Type 0) (kept more : C) (lines longer path : List ℕ)
-    (has : (js : List (List ℕ × Judgement)) → Has kept js → lines ≡ lines_of_table ending js)
-    (has_more : (js : List (List ℕ × Judgement)) → longer ≡ lines_of_table ending js → Has more js) where
-  unjudged : longer ≡ lines → (error : RequestError) → JudgesStream remaining options old new (IsUnjudged error)
-      → AddsOpened Has remaining options path kept more old new (Some error)
-  unjudged same error judges = record {
-    judgement = IsUnjudged error;
-    judges = judges;
-    adds = λ js h. has_more (js ++ (path, IsUnjudged error) ∷ []) (same ∙ table_skips ending lines js path error (has js h));
-    is_error = refl;
-  }
+row_more : (ending : Ending) (js : List (List ℕ × Judgement)) (path : List ℕ) (j : Judgement)
+    → rows_of_table ending (js ++ (path, j) ∷ []) ≡ rows_of_table ending js ++ row ending path j
+row_more ending js path j = flat_map-append (λ (x : List ℕ × Judgement). row ending x.0 x.1) js ((path, j) ∷ [])
+    ∙ ap (λ (text : List ℕ). rows_of_table ending js ++ text) (append-nil (row ending path j))
 
-  pub table_unread : longer ≡ lines → (fault : CanonFault) → ReadsInput remaining old new (Err fault)
-      → AddsOpened Has remaining options path kept more old new (Some (Run (Refused Only fault)))
-  table_unread same (Read why) reads = unjudged same (Run (Refused Only (Read why))) (refl, reads)
-  table_unread same (StepLimit goods) reads = absurd reads.reads
-  table_unread same Memory reads = unjudged same (Run (Refused Only Memory)) (refl, inl reads)
+-- the row of one more path: the cells of its numbers, that of the fault, and the path
+pub row_put : (ending : Ending) (rows longer path numbers all given : List ℕ) (j : Judgement) (error : Option RequestError)
+    → numbers ≡ cells (map (λ c. c.1 j) number_columns) → all ≡ numbers ++ (fault_cell error ++ codes "\t") → error ≡ request_error_of j
+    → given ≡ all → longer ≡ rows ++ (given ++ path_text ending path)
+    → (js : List (List ℕ × Judgement)) → rows ≡ rows_of_table ending js → longer ≡ rows_of_table ending (js ++ (path, j) ∷ [])
+row_put ending rows longer path numbers all given j error is whole why same put js h =
+    put
+    ∙ ap (λ (text : List ℕ). rows ++ (text ++ path_text ending path))
+    (same ∙ whole ∙ ap (λ (e : Option RequestError). numbers ++ (fault_cell e ++ codes "\t")) why
+    ∙ ap (λ (text : List ℕ). text ++ (fault_cell (request_error_of j) ++ codes "\t")) is ∙ sym (row_cells j))
+    ∙ ap (λ (text : List ℕ). text ++ row ending path j) h
+    ∙ sym (row_more ending js path j)
+
+pub row_if_put : (answer : Result (Unit {0}) AllocError) (ending : Ending) (rows longer path numbers all given : List ℕ) (j : Judgement)
+    (error : Option RequestError)
+    → numbers ≡ cells (map (λ c. c.1 j) number_columns) → all ≡ numbers ++ (fault_cell error ++ codes "\t") → error ≡ request_error_of j
+    → given ≡ all → OnOk answer (longer ≡ rows ++ (given ++ path_text ending path))
+    → OnOk answer ((js : List (List ℕ × Judgement)) → rows ≡ rows_of_table ending js → longer ≡ rows_of_table ending (js ++ (path, j) ∷ []))
+row_if_put (Ok u) ending rows longer path numbers all given j error is whole why same put =
+    row_put ending rows longer path numbers all given j error is whole why same put
+row_if_put (Err e) ending rows longer path numbers all given j error is whole why same put = tt
+
+-- the numbers of a bid file, put behind a text
+pub sizes_put : (none sizes given text longer numbers : List ℕ) → none ≡ [] → sizes ≡ none ++ numbers → given ≡ sizes → longer ≡ text ++ given
+    → longer ≡ text ++ numbers
+sizes_put none sizes given text longer numbers empty is same put =
+    put ∙ ap (λ (ns : List ℕ). text ++ ns) (same ∙ is ∙ ap (λ (ns : List ℕ). ns ++ numbers) empty)
+
+-- the cell of the fault
+pub fault_put : (text longer line : List ℕ) (error : Option RequestError) (why : RequestError) (size end : ℕ) → error ≡ Some why
+    → line ≡ line_of_request_error why → size ≡ length line → end ≡ size - 1 → longer ≡ text ++ take end line → longer ≡ text ++ fault_cell error
+fault_put text longer line error why size end some is long before put =
+    put
+    ∙ ap (λ (n : ℕ). text ++ take n line) (before ∙ ap (λ (n : ℕ). n - 1) long)
+    ∙ ap (λ (l : List ℕ). text ++ without_end l) is
+    ∙ ap (λ (e : Option RequestError). text ++ fault_cell e) (sym some)
+
+pub no_fault_put : (text : List ℕ) (error : Option RequestError) → error ≡ None → text ≡ text ++ fault_cell error
+no_fault_put text error none = sym (ap (λ (e : Option RequestError). text ++ fault_cell e) none ∙ append-nil text)
+
+-- ---- the numbers of the file of a stream
+
+module _ {R : Type 0} (remaining : R → Option (List ℕ)) (options : SearchOptions) (old new : Watched R) (text longer : List ℕ) where
+  unjudged : longer ≡ text ++ codes "\t\t\t\t\t\t\t\t" → (error : RequestError) → JudgesStream remaining options old new (IsUnjudged error)
+      → PutsNumbers remaining options text longer old new (Some error)
+  unjudged put error judges = record { judgement = IsUnjudged error; judges = judges; puts = put; is_error = refl }
+
+  pub numbers_unread : longer ≡ text ++ codes "\t\t\t\t\t\t\t\t" → (fault : CanonFault) → ReadsInput remaining old new (Err fault)
+      → PutsNumbers remaining options text longer old new (Some (Run (Refused Only fault)))
+  numbers_unread put (Read why) reads = unjudged put (Run (Refused Only (Read why))) (refl, reads)
+  numbers_unread put (StepLimit goods) reads = absurd reads.reads
+  numbers_unread put Memory reads = unjudged put (Run (Refused Only Memory)) (refl, inl reads)
 
   module _ (file : PlainFile) (reads : ReadsInput remaining old new (Ok file)) where
-    pub table_judged : first_refused options file.goods (or_atoms_of file.bids) ≡ None → longer ≡ lines ++ line_if_read ending path (IsJudged file)
-        → AddsOpened Has remaining options path kept more old new None
-    table_judged within put = record {
+    pub numbers_judged : first_refused options file.goods (or_atoms_of file.bids) ≡ None
+        → longer ≡ text ++ with_tabs (sizes_of file) ++ with_tabs (counts_of (canonical_file file))
+        → PutsNumbers remaining options text longer old new None
+    numbers_judged within put = record {
       judgement = IsJudged file;
       judges = record { reads = reads; within = within };
-      adds = λ js h. has_more (js ++ (path, IsJudged file) ∷ []) (table_more ending lines longer path (IsJudged file) put js (has js h));
+      puts = put ∙ append_assoc text (with_tabs (sizes_of file)) (with_tabs (counts_of (canonical_file file)))
+          ∙ ap (λ (more : List ℕ). text ++ more) (judged_numbers file);
       is_error = refl;
     }
 
-    pub table_heavy : (goods : Vec ℕ Global) → first_refused options file.goods (or_atoms_of file.bids) ≡ Some goods.items
-        → longer ≡ lines ++ line_if_read ending path (IsHeavy file goods) → (why : RunFault) → why ≡ Refused Only (StepLimit goods)
-        → AddsOpened Has remaining options path kept more old new (Some (Run why))
-    table_heavy goods heavy put why is = record {
+    pub numbers_heavy : (goods : Vec ℕ Global) → first_refused options file.goods (or_atoms_of file.bids) ≡ Some goods.items
+        → longer ≡ text ++ with_tabs (sizes_of file) ++ codes "\t\t\t" → (why : RunFault) → why ≡ Refused Only (StepLimit goods)
+        → PutsNumbers remaining options text longer old new (Some (Run why))
+    numbers_heavy goods heavy put why is = record {
       judgement = IsHeavy file goods;
       judges = record { reads = reads; refused = heavy };
-      adds = λ js h. has_more (js ++ (path, IsHeavy file goods) ∷ []) (table_more ending lines longer path (IsHeavy file goods) put js (has js h));
+      puts = put ∙ append_assoc text (with_tabs (sizes_of file)) (codes "\t\t\t") ∙ ap (λ (more : List ℕ). text ++ more) (heavy_numbers file goods);
       is_error = ap (λ (f : RunFault). Some (Run f)) is;
     }
 
-    pub table_unmade : longer ≡ lines → AddsOpened Has remaining options path kept more old new (Some (Run (Refused Only Memory)))
-    table_unmade same = unjudged same (Run (Refused Only Memory)) (refl, inr (record { file = file; reads = reads }))
+    pub numbers_unmade : longer ≡ text ++ codes "\t\t\t\t\t\t\t\t" → PutsNumbers remaining options text longer old new (Some (Run (Refused Only Memory)))
+    numbers_unmade put = unjudged put (Run (Refused Only Memory)) (refl, inr (record { file = file; reads = reads }))
 
 -- ---- marks
 

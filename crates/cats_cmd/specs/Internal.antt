@@ -6,3 +6,4 @@ pub mod Diffs
 pub mod Judging
 pub mod Roundings
 pub mod Searches
+pub mod Tables

@@ -2,10 +2,9 @@
 use Rattle.std.specs.Prelude.{◌==◌, ◌<◌, nat_lt, if◌then◌else◌, ℕ, zero, suc, Bool, false, List, [], ◌∷◌, length}
 use Rattle.std.specs.Prelude.{filter, map, drop}
 use Rattle.std.specs.Prelude.{◌≡◌}
-use Rattle.std.specs.List.{All, flat_map, slice_split}
+use Rattle.std.specs.List.{All, slice_split}
 use Rattle.cats_cmd.specs.Escaping.{unescaped}
 use Rattle.cats_cmd.specs.PathLists.{parts_in}
-use Rattle.cats_cmd.specs.Paths.{Judgement, IsJudged, IsHeavy, IsUnjudged}
 use Rattle.cats_cmd.specs.SizesTables.{columns}
 use Rattle.cats_cmd.specs.declared.paths.Ending.{Ending}
 use Rattle.cats_cmd.specs.declared.paths.Ending.TheVariants.{Line, Null}
@@ -49,16 +48,7 @@ behind_tabs line zero = line
 behind_tabs [] (suc count) = []
 behind_tabs (b ∷ line) (suc count) = if b == 9 then behind_tabs line count else behind_tabs line (suc count)
 
--- the path of each line below the header, behind its numbers
+-- the path of each row below the header, behind its cells
 abbrev pub paths_in_table : Ending → List ℕ → List (List ℕ)
 paths_in_table ending text = map (λ line. read_path ending (behind_tabs line (length columns)))
     (drop 1 (lines_in ending text))
-
-abbrev pub paths_if_read : List ℕ → Judgement → List (List ℕ)
-paths_if_read path (IsJudged file) = path ∷ []
-paths_if_read path (IsHeavy file goods) = path ∷ []
-paths_if_read path (IsUnjudged error) = []
-
--- the paths of the files that were read
-abbrev pub read_paths : List (List ℕ × Judgement) → List (List ℕ)
-read_paths judgements = flat_map (λ j. paths_if_read j.0 j.1) judgements

@@ -89,23 +89,36 @@ removal_lines Silent number = []
 removal_lines Lines number = []
 removal_lines Terminal number = if nat_lt 1 number then line_removal ∷ [] else []
 
--- of the path with this number, among so many, and why its file was not judged
-abbrev pub lines_on : Progress → ℕ → ℕ → List ℕ → Option RequestError → List (List ℕ)
-lines_on progress count number path error =
-    removal_lines progress number ++ refusal_lines path error ++ progress_lines progress number count path
+-- what a run reports: of a path, why its file was not judged, and how many files were read
+pub record Reporting : Type 0 where
+  pub refusals : List ℕ → Option RequestError → List (List ℕ)
+  pub progress : Progress
 
-abbrev pub lines_of_path : Progress → ℕ → ℕ → List ℕ × Judgement → List (List ℕ)
-lines_of_path progress count number j = lines_on progress count number j.0 (request_error_of j.1)
+-- a line for each file that was not judged
+abbrev pub with_refusals : Progress → Reporting
+with_refusals progress = record { refusals = refusal_lines; progress = progress }
+
+-- no line for it, as the text of the run has one
+abbrev pub without_refusals : Progress → Reporting
+without_refusals progress = record { refusals = λ path error. []; progress = progress }
+
+-- of the path with this number, among so many, and why its file was not judged
+abbrev pub lines_on : Reporting → ℕ → ℕ → List ℕ → Option RequestError → List (List ℕ)
+lines_on reporting count number path error = removal_lines reporting.progress number ++ reporting.refusals path error
+    ++ progress_lines reporting.progress number count path
+
+abbrev pub lines_of_path : Reporting → ℕ → ℕ → List ℕ × Judgement → List (List ℕ)
+lines_of_path reporting count number j = lines_on reporting count number j.0 (request_error_of j.1)
 
 -- of paths of which the first has this number
-abbrev pub lines_from : Progress → ℕ → ℕ → List (List ℕ × Judgement) → List (List ℕ)
-lines_from progress count number [] = []
-lines_from progress count number (j ∷ judgements) =
-    lines_of_path progress count number j ++ lines_from progress count (suc number) judgements
+abbrev pub lines_from : Reporting → ℕ → ℕ → List (List ℕ × Judgement) → List (List ℕ)
+lines_from reporting count number [] = []
+lines_from reporting count number (j ∷ judgements) =
+    lines_of_path reporting count number j ++ lines_from reporting count (suc number) judgements
 
 -- of all paths
-abbrev pub report_lines : Progress → ℕ → List (List ℕ × Judgement) → List (List ℕ)
-report_lines progress count judgements = lines_from progress count 1 judgements
+abbrev pub report_lines : Reporting → ℕ → List (List ℕ × Judgement) → List (List ℕ)
+report_lines reporting count judgements = lines_from reporting count 1 judgements
 
 -- ---- the file at a path
 
@@ -154,13 +167,13 @@ pub record Made : Type 0 where
 
 module _ {F E : Type 0} (may_open : List ℕ → F → Type 0) (may_refuse : List ℕ → Unopened → Type 0)
     (remaining : F → Option (List ℕ)) (messages : E → Option (List ℕ)) (options : SearchOptions)
-    (progress : Progress) where
+    (reporting : Reporting) where
   -- this became of the files at these paths, which are the first of so many, and it was reported
   pub record JudgesPaths (count : ℕ) (paths : List (List ℕ)) (err err_after : Watched E)
       (judgements : List (List ℕ × Judgement)) : Type 0 where
     pub of_paths : map (λ j. j.0) judgements ≡ paths
     pub each : AllByRecursion (Judges may_open may_refuse remaining options) judgements
-    pub reports : ReportsAll messages (report_lines progress count judgements) err err_after
+    pub reports : ReportsAll messages (report_lines reporting count judgements) err err_after
 
   -- this became of the files at the first so many of the paths
   pub record BeginsPaths (paths : List (List ℕ)) (err err_after : Watched E) : Type 0 where
@@ -177,9 +190,9 @@ outcome_of_paths made = Prints (greatest_status made.judgements) made.text
 module _ {F W E : Type 0} (may_open : List ℕ → F → Type 0) (may_refuse : List ℕ → Unopened → Type 0)
     (remaining : F → Option (List ℕ)) (contents : W → Option (List ℕ)) (messages : E → Option (List ℕ))
     (options : SearchOptions)
-    (Makes : List (List ℕ × Judgement) → List ℕ → Type 0) (paths : List (List ℕ)) (progress : Progress) where
+    (Makes : List (List ℕ × Judgement) → List ℕ → Type 0) (paths : List (List ℕ)) (reporting : Reporting) where
   pub record MakesOfPaths (err err_after : Watched E) (made : Made) : Type 0 where
-    pub judges : JudgesPaths may_open may_refuse remaining messages options progress (length paths) paths err err_after
+    pub judges : JudgesPaths may_open may_refuse remaining messages options reporting (length paths) paths err err_after
         made.judgements
     pub makes : Makes made.judgements made.text
 
@@ -189,7 +202,7 @@ module _ {F W E : Type 0} (may_open : List ℕ → F → Type 0) (may_refuse : L
     pub only : which ≡ Only
     pub memory : fault ≡ Memory
     pub silent : out_after ≡ out
-    pub begins : BeginsPaths may_open may_refuse remaining messages options progress paths err err_after
+    pub begins : BeginsPaths may_open may_refuse remaining messages options reporting paths err err_after
 
   -- the contract of the run, from its output and standard error before to those after it
   abbrev pub RunsOnPaths : Watched W → Watched W → Watched E → Watched E → Result ℕ RunFault → Type 0

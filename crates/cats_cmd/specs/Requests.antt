@@ -16,7 +16,7 @@ use Rattle.cats_cmd.specs.Explanations.{ExplainsFile}
 use Rattle.cats_cmd.specs.FileLists.{RunsOnFiles}
 use Rattle.cats_cmd.specs.Inputs.{IsOpened, MayRefuse}
 use Rattle.cats_cmd.specs.Outcomes.{Outcome, check_outcome, show_outcome, normalise_outcome, value_outcome_by}
-use Rattle.cats_cmd.specs.Paths.{RunsOnPaths}
+use Rattle.cats_cmd.specs.Paths.{RunsOnPaths, with_refusals, without_refusals}
 use Rattle.cats_cmd.specs.Rounding.{Rounds}
 use Rattle.cats_cmd.specs.Runs.{RunsOnFile}
 use Rattle.cats_cmd.specs.SizesTables.{MakesTable}
@@ -184,19 +184,19 @@ module _ {F W E : Type 0} (may_open : List ℕ → F → Type 0) (may_refuse : L
       RunsOnFiles may_open may_refuse remaining messages
       (λ paths. RunsOnPaths may_open may_refuse remaining contents messages (bounded_by files.limits)
       (MakesGroups (ending_of files.null)) paths
-      (progress_of terminal files.progress)) files.paths out out_after err err_after answer
+      (with_refusals (progress_of terminal files.progress))) files.paths out out_after err err_after answer
   RunsFor (Sizes files) out out_after err err_after answer =
       RunsOnFiles may_open may_refuse remaining messages
       (λ paths. RunsOnPaths may_open may_refuse remaining contents messages (bounded_by files.limits)
       (MakesTable (ending_of files.null)) paths
-      (progress_of terminal files.progress)) files.paths out out_after err err_after answer
+      (without_refusals (progress_of terminal files.progress))) files.paths out out_after err err_after answer
 
   -- the one of two files that cannot be opened
   abbrev pub CannotOpenPair : List ℕ → List ℕ → Which → Type 0
   CannotOpenPair first second which =
       ((which ≡ First) × MayRefuse may_refuse first) ⊎ ((which ≡ Second) × MayRefuse may_refuse second)
 
-  -- the file of a request that cannot be opened. Each file of `duplicates` and `sizes` is reported by itself
+  -- the file of a request that cannot be opened; of `duplicates` and `sizes` none, as they go on with the others
   abbrev pub CannotOpenOf : PlainRequest → Which → Type 0
   CannotOpenOf (Check file) which = (which ≡ Only) × MayRefuse may_refuse file
   CannotOpenOf (Show file) which = (which ≡ Only) × MayRefuse may_refuse file

@@ -7,11 +7,12 @@ ghost use Rattle.cats_text.specs.Streams.{has_failed};
 ghost use Rattle.cats_cmd.specs.Duplicates.{MakesGroups};
 ghost use Rattle.cats_cmd.specs.Opening.{OpensEach};
 ghost use Rattle.cats_cmd.specs.Openings.{status_of_run};
-ghost use Rattle.cats_cmd.specs.Paths.{RunsOnPaths};
+ghost use Rattle.cats_cmd.specs.Paths.{RunsOnPaths, refusal_lines, with_refusals};
+ghost use Rattle.cats_cmd.specs.RequestErrors.{ReportsAll};
 
-use crate::paths::{Collection, Ending, ManyFiles, run_on_paths};
+use crate::paths::{Collection, Ending, ManyFiles, report_if_refused, run_on_paths};
 use crate::program::RequestError;
-use crate::source::Source;
+use crate::source::{Source, Unopened};
 use answers::RunFault;
 use canon::AuctionIndex;
 use cats_text::Watched;
@@ -31,10 +32,13 @@ impl<'a> Collection<'a> for Groups<'a> {
     ghost use Rattle.cats_cmd.specs.DuplicateTexts.{found_paths};
     ghost use Rattle.cats_cmd.specs.Duplicates.{MakesGroups};
     ghost use Rattle.cats_cmd.specs.Internal.Judging.{KeepsGroups};
+    ghost use Rattle.cats_cmd.specs.Paths.{refusal_lines};
 
     ghost has = { λ ending groups judgements. KeepsGroups groups.index (found_paths groups.found.items) judgements };
 
     ghost Makes = { MakesGroups };
+
+    ghost refusals = { refusal_lines };
 
     fn none(alloc: Global) -> Groups<'a> {
         Groups {
@@ -59,7 +63,22 @@ impl<'a> Collection<'a> for Groups<'a> {
         }
     }
 
-    fn skip(&self) {}
+    /// No group has it.
+    fn add_unopened(
+        &mut self,
+        _alloc: Global,
+        _path: &'a [u8],
+        _why: Unopened,
+        _ending: Ending,
+    ) -> Result<(), AllocError> {
+        Ok(())
+    }
+
+    fn report_refusal<E: Write>(path: &[u8], error: &Option<RequestError>, err: &mut Watched<E>)
+        ensures { ReportsAll E.contents (refusal_lines path.now error.now) err.old err.new }
+    {
+        report_if_refused(path, error, err);
+    }
 
     fn text(&self, alloc: Global, ending: Ending) -> Result<Vec<u8>, AllocError> {
         duplicates_text(alloc, self.found.as_slice(), ending)
@@ -81,7 +100,8 @@ pub fn run_duplicates<S: Source + AllocGlobal, W: Write, E: Write>(
     requires { has_failed out.old ≡ false }
     ensures runs { RunsOnPaths (S.may_open (S.content_of source.old))
         (S.may_refuse (S.content_of source.old)) S.Stream.remaining W.contents E.contents many.options
-        (MakesGroups many.ending) (map (λ path. path.now) paths.now) many.progress out.old out.new err.old err.new result }
+        (MakesGroups many.ending) (map (λ path. path.now) paths.now) (with_refusals many.progress) out.old out.new err.old
+        err.new result }
     ensures opens { OpensEach S.content_of S.opened (map (λ path. path.now) paths.now) source.old source.new
         (status_of_run result) }
 {

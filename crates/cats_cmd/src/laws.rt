@@ -1,7 +1,7 @@
 //! Laws of what the runs read and print.
 
 ghost use Rattle.std.specs.List.{All};
-ghost use Rattle.std.specs.Prelude.{◌≡◌, ◌==◌, ℕ, List, filter, false};
+ghost use Rattle.std.specs.Prelude.{◌≡◌, ◌==◌, ℕ, List, [], filter, map, false};
 ghost use Rattle.answers.specs.DiffTexts.{diff_text};
 ghost use Rattle.answers.specs.DifferenceTexts.{difference_text};
 ghost use Rattle.answers.specs.ExplanationTexts.{explanation_text};
@@ -15,13 +15,14 @@ ghost use Rattle.cats_cmd.specs.Escaping.{AreBytes, IsTextOf, escaped, is_contro
 ghost use Rattle.cats_cmd.specs.DuplicateTexts.{duplicates_text, groups_of, is_repeated};
 ghost use Rattle.cats_cmd.specs.Explanations.{explain_outcome};
 ghost use Rattle.cats_cmd.specs.Outcomes.{Prints};
-ghost use Rattle.cats_cmd.specs.OutputPaths.{IsPath, groups_in, paths_in_table, read_paths};
+ghost use Rattle.cats_cmd.specs.OutputPaths.{IsPath, groups_in, paths_in_table};
 ghost use Rattle.cats_cmd.specs.PathLists.{listed, paths_in};
-ghost use Rattle.cats_cmd.specs.Paths.{Judgement, progress_line, refusal_line};
+ghost use Rattle.cats_cmd.specs.Paths.{Judgement, progress_line, refusal_line, report_lines, without_refusals};
 ghost use Rattle.cats_cmd.specs.RequestErrors.{line_of_request_error};
 ghost use Rattle.cats_cmd.specs.SizesTables.{MakesTable};
 ghost use Rattle.cats_cmd.specs.declared.paths.Ending.{Ending};
 ghost use Rattle.cats_cmd.specs.declared.paths.Ending.TheVariants.{Line};
+ghost use Rattle.cats_cmd.specs.declared.paths.Progress.TheVariants.{Silent};
 ghost use Rattle.cats_cmd.specs.declared.program.RequestError.{RequestError};
 
 /// The paths in a text that lists some paths are these: any paths without NUL can be listed.
@@ -75,10 +76,16 @@ pub fn groups_are_read_back()
         → groups_in ending (duplicates_text ending found) ≡ filter is_repeated (groups_of found) }
 {}
 
-/// The table of `cats sizes` has the paths of the files that were read: what is behind the numbers of each line
-/// below the header.
+/// The table of `cats sizes` has all paths, also of the files that were refused: what is behind the cells of each row below
+/// the header.
 pub fn table_paths_are_read_back()
     ensures { (ending : Ending) (judgements : List (List ℕ × Judgement)) (text : List ℕ)
         → All (λ j. All (λ b. (b == 0) ≡ false) j.0) judgements → MakesTable ending judgements text
-        → paths_in_table ending text ≡ read_paths judgements }
+        → paths_in_table ending text ≡ map (λ j. j.0) judgements }
+{}
+
+/// `cats sizes` reports nothing of files without `--progress`: its table says why a file was not judged.
+pub fn tables_report_nothing()
+    ensures { (count : ℕ) (judgements : List (List ℕ × Judgement)) → report_lines (without_refusals Silent) count judgements
+        ≡ [] }
 {}

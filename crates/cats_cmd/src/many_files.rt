@@ -7,7 +7,7 @@ ghost use Rattle.cats_cmd.specs.Duplicates.{MakesGroups};
 ghost use Rattle.cats_cmd.specs.FileLists.{IsUnread, ReadsList, RunsOnFiles};
 ghost use Rattle.cats_cmd.specs.Opening.{Opens};
 ghost use Rattle.cats_cmd.specs.Openings.{OpensFiles, status_of_run};
-ghost use Rattle.cats_cmd.specs.Paths.{RunsOnPaths, refusal_line};
+ghost use Rattle.cats_cmd.specs.Paths.{RunsOnPaths, refusal_line, with_refusals, without_refusals};
 ghost use Rattle.cats_cmd.specs.SizesTables.{MakesTable};
 ghost use Rattle.cats_cmd.specs.RequestErrors.{Reports, status_of_request_error};
 
@@ -36,7 +36,7 @@ pub(crate) fn run_duplicates_of<S: Source + AllocGlobal, W: Write, E: Write>(
     ensures runs { RunsOnFiles (S.may_open (S.content_of source.old)) (S.may_refuse (S.content_of source.old))
         S.Stream.remaining E.contents
         (λ paths. RunsOnPaths (S.may_open (S.content_of source.old)) (S.may_refuse (S.content_of source.old))
-        S.Stream.remaining W.contents E.contents many.options (MakesGroups many.ending) paths many.progress)
+        S.Stream.remaining W.contents E.contents many.options (MakesGroups many.ending) paths (with_refusals many.progress))
         (plain_paths files.now) out.old out.new err.old err.new result }
     ensures opens { OpensFiles S.content_of S.opened S.may_open S.may_refuse S.Stream.remaining (plain_paths files.now)
         source.old source.new (status_of_run result) }
@@ -56,7 +56,7 @@ pub(crate) fn run_duplicates_of<S: Source + AllocGlobal, W: Write, E: Write>(
     }
 }
 
-/// `run_sizes` on the files of a request. A list that is not read is reported as a file that is not judged.
+/// `run_sizes` on the files of a request. A list that is not read is reported on `err`.
 pub(crate) fn run_sizes_of<S: Source + AllocGlobal, W: Write, E: Write>(
     source: &mut S,
     files: &FilePaths<'_>,
@@ -68,7 +68,8 @@ pub(crate) fn run_sizes_of<S: Source + AllocGlobal, W: Write, E: Write>(
     ensures runs { RunsOnFiles (S.may_open (S.content_of source.old)) (S.may_refuse (S.content_of source.old))
         S.Stream.remaining E.contents
         (λ paths. RunsOnPaths (S.may_open (S.content_of source.old)) (S.may_refuse (S.content_of source.old))
-        S.Stream.remaining W.contents E.contents many.options (MakesTable many.ending) paths many.progress)
+        S.Stream.remaining W.contents E.contents many.options (MakesTable many.ending) paths
+        (without_refusals many.progress))
         (plain_paths files.now) out.old out.new err.old err.new result }
     ensures opens { OpensFiles S.content_of S.opened S.may_open S.may_refuse S.Stream.remaining (plain_paths files.now)
         source.old source.new (status_of_run result) }

@@ -1,6 +1,7 @@
 //! The loop over many files. They are judged one after the other, and a text is made of all.
 
-ghost use Rattle.std.specs.Prelude.{◌≡◌, ◌++◌, ℕ, List, [], ◌∷◌, map, IfErr, IfOk, codes, decimal, false, true};
+ghost use Rattle.std.specs.Prelude.{◌≡◌, ◌++◌, ℕ, List, Option, [], ◌∷◌, map, IfErr, IfOk, OnOk, codes, decimal, false};
+ghost use Rattle.std.specs.Prelude.{true};
 ghost use Rattle.cats_text.specs.Streams.{has_ended, has_failed};
 ghost use Rattle.cats_cmd.specs.Inputs.{IsOpened};
 ghost use Rattle.cats_cmd.specs.Opening.{Opens, OpensEach, openable};
@@ -9,10 +10,11 @@ ghost use Rattle.cats_cmd.specs.Internal.Judging.{OpensAllAs};
 ghost use Rattle.cats_cmd.specs.Paths.{Judgement, IsUnjudged, IsUnopened, RunsOnPaths, count_line, lines_on, progress_line};
 ghost use Rattle.cats_cmd.specs.Paths.{progress_lines, refusal_line, refusal_lines, removal_lines, status_if};
 ghost use Rattle.cats_cmd.specs.RequestErrors.{Reports, ReportsAll};
-ghost use Rattle.cats_cmd.specs.Internal.Judging.{AddsFile, AddsPathAs, AddsOpened, HasSome, JudgesAllAs};
+ghost use Rattle.cats_cmd.specs.Internal.Judging.{AddsFile, AddsJudgement, AddsPathAs, AddsOpened, HasSome, JudgesAllAs};
 ghost use Rattle.cats_cmd.specs.declared.paths.Ending.{Ending};
 ghost use Rattle.cats_cmd.specs.declared.paths.Progress.TheVariants.{Lines};
 ghost use Rattle.cats_cmd.specs.declared.program.RequestError.{RequestError};
+ghost use Rattle.cats_cmd.specs.declared.program.RequestError.TheVariants.{NotOpened};
 
 use crate::lines::{report, report_escaped, report_number};
 use crate::program::{RequestError, report_error, status_of};
@@ -70,6 +72,8 @@ pub(crate) trait Collection<'a>: Sized + Drop {
 
     ghost Makes: { Ending → List (List ℕ × Judgement) → List ℕ → Type 0 };
 
+    ghost refusals: { List ℕ → Option RequestError → List (List ℕ) };
+
     /// What is made of no files.
     fn none(alloc: Global) -> Self
         ensures { (ending : Ending) → has ending result [] };
@@ -88,24 +92,32 @@ pub(crate) trait Collection<'a>: Sized + Drop {
             (has many.ending) R.remaining many.options path.now self.old self.new input.old input.new
             error) };
 
+    /// Adds a path at which no file was opened, for this reason.
+    fn add_unopened(
+        &mut self,
+        alloc: Global,
+        path: &'a [u8],
+        why: Unopened,
+        ending: Ending,
+    ) -> Result<(), AllocError>
+        ensures { OnOk result (AddsJudgement (has ending) path.now (IsUnjudged (NotOpened why)) self.old self.new) };
+
+    /// Reports why the file at a path was not judged, unless the text of all says it.
+    fn report_refusal<E: Write>(path: &[u8], error: &Option<RequestError>, err: &mut Watched<E>)
+        ensures { ReportsAll E.contents (refusals path.now error.now) err.old err.new };
+
     /// The text of all.
     fn text(&self, alloc: Global, ending: Ending) -> Result<Vec<u8>, AllocError>
         requires { HasSome (has ending) self.now }
         ensures { (judgements : List (List ℕ × Judgement)) → has ending self.now judgements
             → IfOk result (λ text. Makes ending judgements text.items) };
-
-    /// A path at which no file was opened adds nothing.
-    fn skip(&self)
-        ensures { (ending : Ending) (judgements : List (List ℕ × Judgement)) (path : List ℕ) (error : RequestError)
-            → has ending self.now judgements → has ending self.now (judgements ++ (path, IsUnjudged error) ∷ []) };
 }
 
 /// Judges the files at these paths, one after the other, and sends the text that is made of them.
 ///
-/// A file that cannot be judged is reported on `err` at once, and the others go on; with `progress`, it is
-/// reported there after each hundredth file, and after the last, how many were read. The status is 0 if every file was
-/// judged, and else the greatest of the statuses of
-/// those that were not.
+/// A file that cannot be judged is reported on `err` at once, unless the text says it, and the others go on; with
+/// `progress`, it is reported there after each hundredth file, and after the last, how many were read. The status is 0 if
+/// every file was judged, and else the greatest of the statuses of those that were not.
 pub(crate) fn run_on_paths<'a, C: Collection<'a>, S: Source + AllocGlobal, W: Write, E: Write>(
     source: &mut S,
     paths: &[&'a [u8]],
@@ -116,7 +128,8 @@ pub(crate) fn run_on_paths<'a, C: Collection<'a>, S: Source + AllocGlobal, W: Wr
     requires { has_failed out.old ≡ false }
     ensures runs { RunsOnPaths (S.may_open (S.content_of source.old))
         (S.may_refuse (S.content_of source.old)) S.Stream.remaining W.contents E.contents many.options
-        (C.Makes many.ending) (map (λ path. path.now) paths.now) many.progress out.old out.new err.old err.new result }
+        (C.Makes many.ending) (map (λ path. path.now) paths.now)
+        (record { refusals = C.refusals; progress = many.progress }) out.old out.new err.old err.new result }
     ensures opens { OpensEach S.content_of S.opened (map (λ path. path.now) paths.now) source.old source.new
         (status_of_run result) }
 {
@@ -137,7 +150,8 @@ fn judge_all<'a, C: Collection<'a>, S: Source + AllocGlobal, E: Write>(
     requires { C.has many.ending collection.old [] }
     ensures judges { JudgesAllAs (C.has many.ending) (S.may_open (S.content_of source.old))
         (S.may_refuse (S.content_of source.old)) S.Stream.remaining many.options E.contents
-        (map (λ path. path.now) paths.now) many.progress collection.new err.old err.new result }
+        (map (λ path. path.now) paths.now) (record { refusals = C.refusals; progress = many.progress }) collection.new
+        err.old err.new result }
     ensures opens { OpensAllAs S.content_of S.opened (map (λ path. path.now) paths.now) source.old source.new result }
 {
     let mut greatest = DONE;
@@ -165,11 +179,12 @@ fn judge_path<'a, C: Collection<'a>, S: Source + AllocGlobal, E: Write>(
 ) -> Result<u8, AllocError>
     ensures adds { AddsPathAs (C.has many.ending) (S.may_open (S.content_of source.old))
         (S.may_refuse (S.content_of source.old)) S.Stream.remaining many.options E.contents
-        many.progress turn.now.count turn.now.number turn.now.path.now collection.old collection.new err.old err.new result }
+        (record { refusals = C.refusals; progress = many.progress }) turn.now.count turn.now.number turn.now.path.now
+        collection.old collection.new err.old err.new result }
     ensures opens { Opens S.content_of S.opened source.old source.new (openable (turn.now.path.now ∷ [])) }
 {
     let error = judge(source, collection, turn.path, many)?;
-    report_path(many.progress, turn, &error, err);
+    report_path::<C, E>(many.progress, turn, &error, err);
     Ok(status_if(&error))
 }
 
@@ -198,7 +213,7 @@ fn judge<'a, C: Collection<'a>, S: Source + AllocGlobal>(
     match open_path(source, path) {
         Ok(mut input) => collection.add(source.alloc(), path, &mut input, many),
         Err(why) => {
-            collection.skip();
+            collection.add_unopened(source.alloc(), path, why, many.ending)?;
             Ok(Some(RequestError::NotOpened(why)))
         }
     }
@@ -243,18 +258,18 @@ pub(crate) fn report_refusal<E: Write>(err: &mut Watched<E>, path: &[u8], error:
     report_error(err, error);
 }
 
-/// Reports why the file at a path was not judged, and how many files were read.
-fn report_path<E: Write>(
+/// Reports why the file at a path was not judged, unless the text of all says it, and how many files were read.
+fn report_path<'a, C: Collection<'a>, E: Write>(
     progress: Progress,
-    turn: &Turn<'_>,
+    turn: &Turn<'a>,
     error: &Option<RequestError>,
     err: &mut Watched<E>,
 )
-    ensures { ReportsAll E.contents
-        (lines_on progress turn.now.count turn.now.number turn.now.path.now error.now) err.old err.new }
+    ensures { ReportsAll E.contents (lines_on (record { refusals = C.refusals; progress = progress })
+        turn.now.count turn.now.number turn.now.path.now error.now) err.old err.new }
 {
     remove_progress(progress, turn.number, err);
-    report_if_refused(turn.path, error, err);
+    C::report_refusal(turn.path, error, err);
     report_progress(progress, turn, err);
 }
 
@@ -270,7 +285,11 @@ fn remove_progress<E: Write>(progress: Progress, number: usize, err: &mut Watche
 }
 
 /// Reports why the file at a path was not judged, if it was not.
-fn report_if_refused<E: Write>(path: &[u8], error: &Option<RequestError>, err: &mut Watched<E>)
+pub(crate) fn report_if_refused<E: Write>(
+    path: &[u8],
+    error: &Option<RequestError>,
+    err: &mut Watched<E>,
+)
     ensures { ReportsAll E.contents (refusal_lines path.now error.now) err.old err.new }
 {
     if let Some(error) = error {

@@ -28,12 +28,14 @@ use crate::show::run_show;
 use crate::source::{Source, SystemFiles, Unopened};
 use crate::usage::{misuse_text, with_escaped_words};
 use crate::value::run_value_by;
-use answers::{DEVICE_FAILED, DONE, NO_MEMORY, RunFault, WRONG_USAGE, fault_pieces, status};
+use answers::{
+    DEVICE_FAILED, DONE, NO_MEMORY, RunFault, WRONG_USAGE, fault_line, fault_pieces, status,
+};
 use canon::Which;
 use cats_text::{Watched, send};
 use command_line::{CommandHelp, FilesRequest, NoRequest, Request, VERSION, parse};
 use rounding::FinePrices;
-use std::alloc::AllocGlobal;
+use std::alloc::{AllocError, AllocGlobal, Global};
 use std::io::Write;
 use std::rt::Files;
 
@@ -341,6 +343,17 @@ pub(crate) fn report_error<E: Write>(err: &mut Watched<E>, error: &RequestError)
         RequestError::CannotOpen(which) => report(err, unopened(*which).as_bytes()),
         RequestError::NotOpened(why) => report(err, not_opened(*why).as_bytes()),
         RequestError::Run(fault) => report_pieces(err, &fault_pieces(fault)),
+    }
+}
+
+/// The line that says why a request has no answer.
+pub(crate) fn error_line(alloc: Global, error: &RequestError) -> Result<Vec<u8>, AllocError>
+    ensures { IfOk result (λ line. line.items ≡ line_of_request_error error.now) }
+{
+    match error {
+        RequestError::CannotOpen(which) => Vec::from_slice(alloc, unopened(*which).as_bytes()),
+        RequestError::NotOpened(why) => Vec::from_slice(alloc, not_opened(*why).as_bytes()),
+        RequestError::Run(fault) => fault_line(alloc, fault),
     }
 }
 

@@ -1,50 +1,58 @@
-//! `cats sizes`: a table of the numbers of files. Each line has those of a bid file and of its canonical file.
+//! `cats sizes`: a table of the numbers of files. Each row has those of a bid file and of its canonical file, and why the
+//! file was not judged.
 
 mod count;
 
-ghost use Rattle.std.specs.Prelude.{◌≡◌, ◌++◌, List, ℕ, map, OnOk, false};
-ghost use Rattle.cats_text.specs.Streams.{has_failed};
+ghost use Rattle.std.specs.Prelude.{◌≡◌, ◌++◌, List, ℕ, codes, map, IfOk, OnOk, false};
+ghost use Rattle.cats_text.specs.Streams.{has_ended, has_failed};
 ghost use Rattle.cats_cmd.specs.Escaping.{path_text};
+ghost use Rattle.cats_cmd.specs.Internal.Tables.{PutsNumbers};
 ghost use Rattle.cats_cmd.specs.Opening.{OpensEach};
 ghost use Rattle.cats_cmd.specs.Openings.{status_of_run};
-ghost use Rattle.cats_cmd.specs.Paths.{RunsOnPaths};
-ghost use Rattle.cats_cmd.specs.SizesTables.{MakesTable};
+ghost use Rattle.cats_cmd.specs.Paths.{RunsOnPaths, without_refusals};
+ghost use Rattle.cats_cmd.specs.SizesTables.{MakesTable, fault_cell};
 
 use crate::escaping::{push_end, push_path};
 use crate::paths::{Collection, Ending, ManyFiles, run_on_paths};
-use crate::program::RequestError;
+use crate::program::{RequestError, error_line};
 use crate::run::read_packed_file;
-use crate::source::Source;
+use crate::source::{Source, Unopened};
 use answers::RunFault;
 use canon::{CanonFault, normal_packed_file};
 use cats_text::Watched;
 use count::{push_counts, push_sizes};
 use std::alloc::{AllocError, AllocGlobal, Global};
 use std::io::{Read, Write};
+use valuation::SearchOptions;
 
-/// The line above the others.
-const HEADER: &str = "goods\tbids\tor\txor\tdummy\tkept\tkept_or\tkept_xor\tfile";
+/// The line above the rows.
+const HEADER: &str = "goods\tbids\tor\txor\tdummy\tkept\tkept_or\tkept_xor\tfault\tfile";
 
-/// What a table has instead of the numbers of a canonical file that is not known.
-const UNKNOWN: &str = "-\t-\t-\t";
+/// The empty cells of the numbers of a file that was not read.
+const NO_NUMBERS: &str = "\t\t\t\t\t\t\t\t";
 
-/// The lines of the files that were read.
+/// The empty cells of the numbers of a canonical file that is not known.
+const NO_COUNTS: &str = "\t\t\t";
+
+/// The rows of the paths so far.
 #[derive(Drop)]
 struct Table {
-    lines: Vec<u8>,
+    rows: Vec<u8>,
 }
 
 impl<'a> Collection<'a> for Table {
-    ghost use Rattle.std.specs.Prelude.{◌≡◌};
-    ghost use Rattle.cats_cmd.specs.SizesTables.{MakesTable, lines_of_table};
+    ghost use Rattle.std.specs.Prelude.{◌≡◌, []};
+    ghost use Rattle.cats_cmd.specs.SizesTables.{MakesTable, rows_of_table};
 
-    ghost has = { λ ending table judgements. table.lines.items ≡ lines_of_table ending judgements };
+    ghost has = { λ ending table judgements. table.rows.items ≡ rows_of_table ending judgements };
 
     ghost Makes = { MakesTable };
 
+    ghost refusals = { λ path error. [] };
+
     fn none(alloc: Global) -> Table {
         Table {
-            lines: Vec::new(alloc),
+            rows: Vec::new(alloc),
         }
     }
 
@@ -55,59 +63,114 @@ impl<'a> Collection<'a> for Table {
         input: &mut Watched<R>,
         many: ManyFiles,
     ) -> Result<Option<RequestError>, AllocError> {
-        let file = match read_packed_file(alloc, input) {
-            Ok(file) => file,
-            Err(fault) => return Ok(Some(RequestError::Run(RunFault::from(fault)))),
-        };
-        let mut line = Vec::new(alloc);
-        push_sizes(alloc, &mut line, &file)?;
-        match normal_packed_file(alloc, file, many.options) {
-            Ok(normal) => {
-                push_counts(alloc, &mut line, &normal)?;
-                push_line(&mut self.lines, line.as_slice(), path, many.ending)?;
-                Ok(None)
-            }
-            Err(CanonFault::StepLimit { goods }) => {
-                line.extend_from_slice(UNKNOWN.as_bytes())?;
-                push_line(&mut self.lines, line.as_slice(), path, many.ending)?;
-                Ok(Some(RequestError::Run(RunFault::from(CanonFault::StepLimit { goods }))))
-            }
-            // a file that was read is refused for nothing else
-            Err(_) => Ok(Some(RequestError::Run(RunFault::from(CanonFault::Memory)))),
-        }
+        let mut cells = Vec::new(alloc);
+        let error = push_numbers(alloc, &mut cells, input, many.options)?;
+        push_fault(alloc, &mut cells, &error)?;
+        push_row(&mut self.rows, cells.as_slice(), path, many.ending)?;
+        Ok(error)
     }
 
-    fn skip(&self) {}
+    fn add_unopened(
+        &mut self,
+        alloc: Global,
+        path: &'a [u8],
+        why: Unopened,
+        ending: Ending,
+    ) -> Result<(), AllocError> {
+        let mut cells = Vec::from_slice(alloc, NO_NUMBERS.as_bytes())?;
+        push_fault(alloc, &mut cells, &Some(RequestError::NotOpened(why)))?;
+        push_row(&mut self.rows, cells.as_slice(), path, ending)
+    }
+
+    /// The row says it.
+    fn report_refusal<E: Write>(
+        _path: &[u8],
+        _error: &Option<RequestError>,
+        _err: &mut Watched<E>,
+    ) {}
 
     fn text(&self, alloc: Global, ending: Ending) -> Result<Vec<u8>, AllocError> {
         let mut text = Vec::from_slice(alloc, HEADER.as_bytes())?;
         push_end(&mut text, ending)?;
-        text.extend_from_slice(self.lines.as_slice())?;
+        text.extend_from_slice(self.rows.as_slice())?;
         Ok(text)
     }
 }
 
-/// Puts a line behind the others: numbers with a tab after each, and then the path.
-fn push_line(
-    lines: &mut Vec<u8>,
-    numbers: &[u8],
-    path: &[u8],
-    ending: Ending,
-) -> Result<(), AllocError>
-    ensures { let more : List ℕ = numbers.now ++ path_text ending path.now in
-        OnOk result (lines.new.items ≡ lines.old.items ++ more) }
+/// Puts the numbers of a file and of its canonical file behind the text, each with a tab after it, and answers why the
+/// file was not judged. A number that is not known is an empty cell.
+fn push_numbers<R: Read>(
+    alloc: Global,
+    text: &mut Vec<u8>,
+    input: &mut Watched<R>,
+    options: SearchOptions,
+) -> Result<Option<RequestError>, AllocError>
+    requires works { has_failed input.old ≡ false }
+    requires fresh { has_ended input.old ≡ false }
+    ensures { IfOk result (PutsNumbers R.remaining options text.old.items text.new.items input.old input.new) }
 {
-    lines.extend_from_slice(numbers)?;
-    push_path(lines, path, ending)
+    let file = match read_packed_file(alloc, input) {
+        Ok(file) => file,
+        Err(fault) => {
+            text.extend_from_slice(NO_NUMBERS.as_bytes())?;
+            return Ok(Some(RequestError::Run(RunFault::from(fault))));
+        }
+    };
+    let mut sizes = Vec::new(alloc);
+    push_sizes(alloc, &mut sizes, &file)?;
+    match normal_packed_file(alloc, file, options) {
+        Ok(normal) => {
+            text.extend_from_slice(sizes.as_slice())?;
+            push_counts(alloc, text, &normal)?;
+            Ok(None)
+        }
+        Err(CanonFault::StepLimit { goods }) => {
+            text.extend_from_slice(sizes.as_slice())?;
+            text.extend_from_slice(NO_COUNTS.as_bytes())?;
+            Ok(Some(RequestError::Run(RunFault::from(CanonFault::StepLimit { goods }))))
+        }
+        // a file that was read is refused for nothing else
+        Err(_) => {
+            text.extend_from_slice(NO_NUMBERS.as_bytes())?;
+            Ok(Some(RequestError::Run(RunFault::from(CanonFault::Memory))))
+        }
+    }
+}
+
+/// Puts why a file was not judged behind the text, with a tab after it.
+fn push_fault(
+    alloc: Global,
+    text: &mut Vec<u8>,
+    error: &Option<RequestError>,
+) -> Result<(), AllocError>
+    ensures { let more : List ℕ = fault_cell error.now ++ codes "\t" in
+        OnOk result (text.new.items ≡ text.old.items ++ more) }
+{
+    if let Some(error) = error {
+        let line = error_line(alloc, error)?;
+        let end = line.len().saturating_sub(1);
+        text.extend_from_slice(&line.as_slice()[..end])?;
+    }
+    text.push(b'\t')?;
+    Ok(())
+}
+
+/// Puts a row behind the others: cells with a tab after each, and then the path.
+fn push_row(rows: &mut Vec<u8>, cells: &[u8], path: &[u8], ending: Ending) -> Result<(), AllocError>
+    ensures { let more : List ℕ = cells.now ++ path_text ending path.now in
+        OnOk result (rows.new.items ≡ rows.old.items ++ more) }
+{
+    rows.extend_from_slice(cells)?;
+    push_path(rows, path, ending)
 }
 
 /// Reads the files at these paths, one after the other, and sends a table of their numbers: how many goods and bids
 /// each has, and how many bids are left in its canonical file.
 ///
-/// A file that cannot be judged is reported on `err` at once, and the others go on; if only the step limit stops it, its
-/// line has no numbers of the canonical file. With `progress`, it is reported on `err` after each hundredth file,
-/// and after the last, how many were read. The status is 0 if every file was judged, and else the greatest of the
-/// statuses of those that were not.
+/// The row of a file that cannot be judged says why, and the others go on; it has the numbers of the file if only the step
+/// limit stops it, and else none. On `err` nothing is reported but, with `progress`, how many files were read: after each
+/// hundredth file, and after the last. The status is 0 if every file was judged, and else the greatest of the statuses of
+/// those that were not.
 pub fn run_sizes<S: Source + AllocGlobal, W: Write, E: Write>(
     source: &mut S,
     paths: &[&[u8]],
@@ -118,7 +181,8 @@ pub fn run_sizes<S: Source + AllocGlobal, W: Write, E: Write>(
     requires { has_failed out.old ≡ false }
     ensures runs { RunsOnPaths (S.may_open (S.content_of source.old))
         (S.may_refuse (S.content_of source.old)) S.Stream.remaining W.contents E.contents many.options
-        (MakesTable many.ending) (map (λ path. path.now) paths.now) many.progress out.old out.new err.old err.new result }
+        (MakesTable many.ending) (map (λ path. path.now) paths.now) (without_refusals many.progress) out.old out.new err.old
+        err.new result }
     ensures opens { OpensEach S.content_of S.opened (map (λ path. path.now) paths.now) source.old source.new
         (status_of_run result) }
 {

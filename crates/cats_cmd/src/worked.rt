@@ -28,7 +28,8 @@ ghost use Rattle.cats_cmd.specs.PathLists.{paths_in};
 ghost use Rattle.cats_cmd.specs.declared.paths.Ending.TheVariants.{Line, Null};
 ghost use Rattle.cats_cmd.specs.declared.paths.Progress.TheVariants.{Silent, Lines, Terminal};
 ghost use Rattle.cats_cmd.specs.Paths.{IsHeavy, IsJudged, IsUnjudged, greatest_status, progress_lines, report_lines};
-ghost use Rattle.cats_cmd.specs.SizesTables.{MakesTable, counts_of, line_if_read, sizes_of};
+ghost use Rattle.cats_cmd.specs.Paths.{with_refusals, without_refusals};
+ghost use Rattle.cats_cmd.specs.SizesTables.{MakesTable, counts_of, row, sizes_of};
 ghost use Rattle.answers.specs.RoundedLines.{rounded_line};
 ghost use Rattle.cats_cmd.specs.Rounding.{round_outcome};
 ghost use Rattle.rounding.specs.declared.replacement.FinePrices.TheVariants.{Round};
@@ -75,16 +76,16 @@ pub fn unopened_lines()
 /// were read. On a terminal the line of progress is taken away before anything else is printed. Of 250 files that is
 /// reported after the hundredth, the two hundredth and the last.
 pub fn paths_reported()
-    ensures reason { report_lines Silent 2 ((codes "a", IsUnjudged (NotOpened NoSuchFile)) ∷
+    ensures reason { report_lines (with_refusals Silent) 2 ((codes "a", IsUnjudged (NotOpened NoSuchFile)) ∷
         (codes "b", IsJudged larger_bid) ∷ [])
         ≡ codes "a: cannot open: no such file\n" ∷ [] }
-    ensures progress { report_lines Lines 2 ((codes "a", IsUnjudged (NotOpened NoSuchFile)) ∷
+    ensures progress { report_lines (with_refusals Lines) 2 ((codes "a", IsUnjudged (NotOpened NoSuchFile)) ∷
         (codes "b", IsJudged larger_bid) ∷ [])
         ≡ codes "a: cannot open: no such file\n" ∷ codes "2 of 2 b\n" ∷ [] }
     ensures counted { map (λ number. progress_lines Lines number 250 (codes "a")) (1 ∷ 99 ∷ 100 ∷ 200 ∷ 249 ∷ 250 ∷ [])
         ≡ [] ∷ [] ∷ (codes "100 of 250 a\n" ∷ []) ∷ (codes "200 of 250 a\n" ∷ []) ∷ []
         ∷ (codes "250 of 250 a\n" ∷ []) ∷ [] }
-    ensures terminal { report_lines Terminal 2
+    ensures terminal { report_lines (with_refusals Terminal) 2
         ((codes "a", IsJudged larger_bid) ∷ (codes "b", IsUnjudged (NotOpened NoSuchFile)) ∷ [])
         ≡ codes "1 of 2\n" ∷ (27 ∷ 91 ∷ 65 ∷ 27 ∷ 91 ∷ 75 ∷ []) ∷ codes "b: cannot open: no such file\n" ∷ codes "2 of 2\n" ∷ [] }
     ensures status { greatest_status ((codes "a", IsUnjudged (NotOpened NoSuchFile)) ∷ (codes "b", IsJudged larger_bid) ∷ [])
@@ -125,15 +126,23 @@ pub fn paths_escaped()
         ∷ codes "\\xf4\\x90\\x80\\x80" ∷ [] }
 {}
 
-/// The numbers of a file, and the lines of `cats sizes`: of no files, of a file with a heavy bundle, and of one that was
-/// not judged.
-pub fn table_lines()
+/// The numbers of a file, and the rows of `cats sizes`: of no files, of a file that was judged, of one with a heavy bundle,
+/// and of files that were refused. Its faults are not reported again.
+pub fn table_rows()
     ensures numbers { sizes_of xor_ladder ≡ 2 ∷ 3 ∷ 1 ∷ 1 ∷ 1 ∷ [] }
     ensures no_bidders { counts_of larger_bid ≡ 3 ∷ 3 ∷ 0 ∷ [] }
-    ensures header { MakesTable Line [] (codes "goods\tbids\tor\txor\tdummy\tkept\tkept_or\tkept_xor\tfile\n") }
-    ensures heavy { (goods : Vec ℕ Global) → line_if_read Line (codes "a b") (IsHeavy larger_bid goods)
-        ≡ codes "2\t3\t3\t0\t0\t-\t-\t-\ta b\n" }
-    ensures refused { line_if_read Line (codes "a") (IsUnjudged (NotOpened NoSuchFile)) ≡ [] }
+    ensures header { MakesTable Line [] (codes "goods\tbids\tor\txor\tdummy\tkept\tkept_or\tkept_xor\tfault\tfile\n") }
+    ensures heavy { (goods : Vec ℕ Global) → goods.items ≡ 0 ∷ 1 ∷ 2 ∷ []
+        → row Line (codes "a b") (IsHeavy larger_bid goods)
+        ≡ codes "2\t3\t3\t0\t0\t\t\t\tstep limit at 0,1,2\ta b\n" }
+    ensures refused { map (λ error. row Line (codes "a") (IsUnjudged error))
+        (NotOpened NoSuchFile ∷ NotOpened Other ∷ Run (Refused Only (Read (record { kind = TwoDummies; line = 7 })))
+        ∷ Run (Refused Only Memory) ∷ []) ≡
+        codes "\t\t\t\t\t\t\t\tcannot open: no such file\ta\n" ∷ codes "\t\t\t\t\t\t\t\tcannot open\ta\n"
+        ∷ codes "\t\t\t\t\t\t\t\tline 7: TwoDummies\ta\n" ∷ codes "\t\t\t\t\t\t\t\twant of memory\ta\n" ∷ [] }
+    ensures reported { report_lines (without_refusals Lines) 2
+        ((codes "a", IsUnjudged (NotOpened NoSuchFile)) ∷ (codes "b", IsJudged larger_bid) ∷ [])
+        ≡ codes "2 of 2 b\n" ∷ [] }
 {}
 
 /// What `cats round` makes of bytes.

@@ -114,7 +114,7 @@ static REFUSED: [(&str, Unopened); 4] = [
 /// A command line's words, and what it answers: its status, its output and its faults' lines.
 type Row<'a> = (&'a [&'a str], u8, &'a str, &'a str);
 
-static ROWS: [Row<'static>; 36] = [
+static ROWS: [Row<'static>; 37] = [
     (
         &["cats", "--version"],
         0,
@@ -195,22 +195,24 @@ static ROWS: [Row<'static>; 36] = [
     (
         &["cats", "sizes", "same", "bidders", "same"],
         0,
-        "goods\tbids\tor\txor\tdummy\tkept\tkept_or\tkept_xor\tfile\n1\t2\t2\t0\t0\t1\t1\t0\tsame\n\
-2\t4\t1\t2\t3\t4\t1\t2\tbidders\n1\t2\t2\t0\t0\t1\t1\t0\tsame\n",
+        "goods\tbids\tor\txor\tdummy\tkept\tkept_or\tkept_xor\tfault\tfile\n1\t2\t2\t0\t0\t1\t1\t0\t\tsame\n\
+2\t4\t1\t2\t3\t4\t1\t2\t\tbidders\n1\t2\t2\t0\t0\t1\t1\t0\t\tsame\n",
         "",
     ),
     (
         &["cats", "sizes", "--steps", "2", "bad", "sum", "one"],
         3,
-        "goods\tbids\tor\txor\tdummy\tkept\tkept_or\tkept_xor\tfile\n2\t3\t3\t0\t0\t-\t-\t-\tsum\n\
-1\t1\t1\t0\t0\t1\t1\t0\tone\n",
-        "bad: line 2: Missing\nsum: step limit at 0,1\n",
+        "goods\tbids\tor\txor\tdummy\tkept\tkept_or\tkept_xor\tfault\tfile\n\
+\t\t\t\t\t\t\t\tline 2: Missing\tbad\n2\t3\t3\t0\t0\t\t\t\tstep limit at 0,1\tsum\n\
+1\t1\t1\t0\t0\t1\t1\t0\t\tone\n",
+        "",
     ),
     (
         &["cats", "sizes", "none", "--progress"],
         5,
-        "goods\tbids\tor\txor\tdummy\tkept\tkept_or\tkept_xor\tfile\n",
-        "none: cannot open: no such file\n1 of 1 none\n",
+        "goods\tbids\tor\txor\tdummy\tkept\tkept_or\tkept_xor\tfault\tfile\n\
+\t\t\t\t\t\t\t\tcannot open: no such file\tnone\n",
+        "1 of 1 none\n",
     ),
     // NUL at the end of each line
     (
@@ -222,11 +224,22 @@ static ROWS: [Row<'static>; 36] = [
     (
         &["cats", "sizes", "--null", "same", "none", "one"],
         5,
-        "goods\tbids\tor\txor\tdummy\tkept\tkept_or\tkept_xor\tfile\0\
-1\t2\t2\t0\t0\t1\t1\t0\tsame\01\t1\t1\t0\t0\t1\t1\t0\tone\0",
-        "none: cannot open: no such file\n",
+        "goods\tbids\tor\txor\tdummy\tkept\tkept_or\tkept_xor\tfault\tfile\0\
+1\t2\t2\t0\t0\t1\t1\t0\t\tsame\0\t\t\t\t\t\t\t\tcannot open: no such file\tnone\0\
+1\t1\t1\t0\t0\t1\t1\t0\t\tone\0",
+        "",
     ),
     (&["cats", "duplicates", "-0", "one", "other"], 0, "", ""),
+    // a row for each path, also of those that are refused
+    (
+        &["cats", "sizes", "folder", "fifo", "one", "secret", "broken"],
+        5,
+        "goods\tbids\tor\txor\tdummy\tkept\tkept_or\tkept_xor\tfault\tfile\n\
+\t\t\t\t\t\t\t\tcannot open: is a folder\tfolder\n\t\t\t\t\t\t\t\tcannot open: not a file\tfifo\n\
+1\t1\t1\t0\t0\t1\t1\t0\t\tone\n\
+\t\t\t\t\t\t\t\tcannot open: permission denied\tsecret\n\t\t\t\t\t\t\t\tcannot open\tbroken\n",
+        "",
+    ),
     // a reason for each path that is refused
     (
         &[
@@ -303,14 +316,14 @@ none: cannot open: no such file\nbroken: cannot open\n",
     (
         &["cats", "sizes", "--files0-from", "empty list"],
         0,
-        "goods\tbids\tor\txor\tdummy\tkept\tkept_or\tkept_xor\tfile\n",
+        "goods\tbids\tor\txor\tdummy\tkept\tkept_or\tkept_xor\tfault\tfile\n",
         "",
     ),
     (
         &["cats", "sizes", "--files0-from", "list with a path twice"],
         0,
-        "goods\tbids\tor\txor\tdummy\tkept\tkept_or\tkept_xor\tfile\n1\t2\t2\t0\t0\t1\t1\t0\tsame\n\
-1\t1\t1\t0\t0\t1\t1\t0\tother\n1\t2\t2\t0\t0\t1\t1\t0\tsame\n",
+        "goods\tbids\tor\txor\tdummy\tkept\tkept_or\tkept_xor\tfault\tfile\n1\t2\t2\t0\t0\t1\t1\t0\t\tsame\n\
+1\t1\t1\t0\t0\t1\t1\t0\t\tother\n1\t2\t2\t0\t0\t1\t1\t0\t\tsame\n",
         "",
     ),
     (
@@ -370,8 +383,9 @@ static TERMINAL_ROWS: [Row<'static>; 4] = [
     (
         &["cats", "sizes", "--progress", "bad"],
         2,
-        "goods\tbids\tor\txor\tdummy\tkept\tkept_or\tkept_xor\tfile\n",
-        "bad: line 2: Missing\n1 of 1\n",
+        "goods\tbids\tor\txor\tdummy\tkept\tkept_or\tkept_xor\tfault\tfile\n\
+\t\t\t\t\t\t\t\tline 2: Missing\tbad\n",
+        "1 of 1\n",
     ),
     (
         &["cats", "duplicates", "one", "bad"],

@@ -7,10 +7,8 @@ use Rattle.canon.specs.FirstPlaces.{IsIndexOf, TextIndex}
 use Rattle.cats_cmd.specs.Duplicates.{FindsPlaces, judged_files}
 use Rattle.cats_cmd.specs.Opening.{Opens, OpensFirst, openable}
 use Rattle.cats_cmd.specs.Paths.{BeginsPaths, Judgement, Judges, JudgesPaths, JudgesStream, greatest_status}
-use Rattle.cats_cmd.specs.Paths.{lines_of_path}
-use Rattle.cats_cmd.specs.Paths.{status_of_judgement, request_error_of}
+use Rattle.cats_cmd.specs.Paths.{Reporting, lines_of_path, request_error_of, status_of_judgement}
 use Rattle.cats_cmd.specs.RequestErrors.{ReportsAll}
-use Rattle.cats_cmd.specs.declared.paths.Progress.{Progress}
 use Rattle.cats_cmd.specs.declared.program.RequestError.{RequestError}
 use Rattle.cats_cmd.specs.declared.source.Unopened.{Unopened}
 
@@ -49,36 +47,37 @@ module _ {C : Type 0} (Has : C → List (List ℕ × Judgement) → Type 0) wher
       pub is_error : error ≡ request_error_of judgement
 
     -- the file at the path with this number, among so many, was judged and reported
-    pub record AddsPath {E : Type 0} (messages : E → Option (List ℕ)) (progress : Progress) (count number : ℕ)
+    pub record AddsPath {E : Type 0} (messages : E → Option (List ℕ)) (reporting : Reporting) (count number : ℕ)
         (path : List ℕ) (old new : C) (err err_after : Watched E) (status : ℕ) : Type 0 where
       pub judgement : Judgement
       pub judges : Judges may_open may_refuse remaining options (path, judgement)
       pub adds : AddsJudgement path judgement old new
-      pub reports : ReportsAll messages (lines_of_path progress count number (path, judgement)) err err_after
+      pub reports : ReportsAll messages (lines_of_path reporting count number (path, judgement)) err err_after
       pub is_status : status ≡ status_of_judgement judgement
 
-    abbrev pub AddsPathAs : {E : Type 0} → (E → Option (List ℕ)) → Progress → ℕ → ℕ → List ℕ → C → C → Watched E
+    abbrev pub AddsPathAs : {E : Type 0} → (E → Option (List ℕ)) → Reporting → ℕ → ℕ → List ℕ → C → C → Watched E
         → Watched E → Result ℕ AllocError → Type 0
-    AddsPathAs messages progress count number path old new err err_after (Ok status) =
-        AddsPath messages progress count number path old new err err_after status
-    AddsPathAs messages progress count number path old new err err_after (Err e) = err_after ≡ err
+    AddsPathAs messages reporting count number path old new err err_after (Ok status) =
+        AddsPath messages reporting count number path old new err err_after status
+    AddsPathAs messages reporting count number path old new err err_after (Err e) = err_after ≡ err
 
     -- so far
-    pub record HasJudged {E : Type 0} (messages : E → Option (List ℕ)) (progress : Progress) (count : ℕ)
+    pub record HasJudged {E : Type 0} (messages : E → Option (List ℕ)) (reporting : Reporting) (count : ℕ)
         (paths : List (List ℕ)) (kept : C) (err err_after : Watched E) (greatest : ℕ) : Type 0 where
       pub judgements : List (List ℕ × Judgement)
-      pub judges : JudgesPaths may_open may_refuse remaining messages options progress count paths err err_after
+      pub judges : JudgesPaths may_open may_refuse remaining messages options reporting count paths err err_after
           judgements
       pub has : Has kept judgements
       pub is_greatest : greatest ≡ greatest_status judgements
 
     -- the files at all paths, or, when memory is refused, those at the first of them
-    abbrev pub JudgesAllAs : {E : Type 0} → (E → Option (List ℕ)) → List (List ℕ) → Progress → C → Watched E → Watched E
+    abbrev pub JudgesAllAs : {E : Type 0} → (E → Option (List ℕ)) → List
+        (List ℕ) → Reporting → C → Watched E → Watched E
         → Result ℕ AllocError → Type 0
-    JudgesAllAs messages paths progress kept err err_after (Ok greatest) =
-        HasJudged messages progress (length paths) paths kept err err_after greatest
-    JudgesAllAs messages paths progress kept err err_after (Err e) =
-        BeginsPaths may_open may_refuse remaining messages options progress paths err err_after
+    JudgesAllAs messages paths reporting kept err err_after (Ok greatest) =
+        HasJudged messages reporting (length paths) paths kept err err_after greatest
+    JudgesAllAs messages paths reporting kept err err_after (Err e) =
+        BeginsPaths may_open may_refuse remaining messages options reporting paths err err_after
 
 -- all paths were opened, or, when memory is refused, the first of them
 abbrev pub OpensAllAs : {S H : Type 0} → (S → H) → (S → Option (List (List ℕ))) → List (List ℕ) → S → S

@@ -1,8 +1,0 @@
-use Rattle.std.proofs.Common.{refl}
-use Rattle.std.specs.Fmt.{digits}
-use Rattle.std.specs.Char.{encode_utf8}
-use Rattle.cats_cmd.proofs.worked.table_lines.Goals as goal
-
-pub returns-clause-heavy : goal.returns-clause-heavy
-unfolding digits encode_utf8
-returns-clause-heavy c = λ goods. refl
