@@ -71,7 +71,7 @@ above_from_all : (x : ℕ) (xs : List ℕ) → All (λ y. x < y) xs → AreAbove
 above_from_all x [] h = tt
 above_from_all x (y ∷ ys) h = (All-head (λ z. x < z) y ys h, above_from_all x ys (All-tail (λ z. x < z) y ys h))
 
-rising_from_pairs : (xs : List ℕ) → AllPairs (λ x y. x < y) xs → IsRising xs
+pub rising_from_pairs : (xs : List ℕ) → AllPairs (λ x y. x < y) xs → IsRising xs
 rising_from_pairs [] h = tt
 rising_from_pairs (x ∷ xs) h = (above_from_all x xs (AllPairs-head (λ y z. y < z) x xs h), rising_from_pairs xs (AllPairs-tail (λ y z. y < z) x xs h))
 
@@ -84,7 +84,8 @@ all_below n [] h x c = absurd (Contains-nil x c)
 all_below n (y ∷ ys) h x c = ⊎_elim (λ (e : y ≡ x). subst (λ z. z < n) e h.0) (all_below n ys h.1 x) (Contains-cons_cases y ys x c)
 
 -- what holds of each two elements, in either order, holds of any two that differ
-pairs_at : (R : ℕ → ℕ → Type 0) → ((x y : ℕ) → R x y → R y x) → (xs : List ℕ) → AllPairs R xs → (x y : ℕ) → Contains xs x → Contains xs y → (x ≡ y → ⊥) → R x y
+pub pairs_at : (R : ℕ → ℕ → Type 0) → ((x y : ℕ) → R x y → R y x) → (xs : List ℕ) → AllPairs R xs → (x y : ℕ) → Contains xs x → Contains xs y
+    → (x ≡ y → ⊥) → R x y
 pairs_at R flip [] h x y c d differ = absurd (Contains-nil x c)
 pairs_at R flip (z ∷ zs) h x y c d differ =
     let later = λ (w : ℕ) (e : Contains zs w). All-contains (R z) zs w (AllPairs-head R z zs h) e in

@@ -2,3 +2,4 @@
 pub mod Allocations
 pub mod KeptWinners
 pub mod LpTexts
+pub mod Internal

@@ -1,7 +1,7 @@
 //! What is promised of winners, over the definitions alone.
 
 ghost use Rattle.std.specs.Prelude.{◌≡◌, ℕ, ◌<◌, ◌≤◌, List, length, All};
-ghost use Rattle.goods_set.specs.Bundles.{IsInside};
+ghost use Rattle.goods_set.specs.Bundles.{IsBundle, IsInside};
 ghost use Rattle.bid_file.specs.Files.{IsPlainFile, PlainFile};
 ghost use Rattle.canon.specs.Canonical.{canonical_file};
 ghost use Rattle.canon.specs.Sameness.{AreSameFiles};
@@ -10,6 +10,7 @@ ghost use Rattle.explain.specs.Reasons.{Keep, reason_of};
 ghost use Rattle.winners.specs.Allocations.{AreWinners, IsAllocation, greatest_revenue, revenue};
 ghost use Rattle.winners.specs.KeptWinners.{AreKept, in_canonical_file, in_place_of, kept_as, number_kept_as};
 ghost use Rattle.winners.specs.KeptWinners.{with_kept_bids};
+ghost use Rattle.winners.specs.LpTexts.{AreRowsMet, objective};
 
 /// The greatest revenue is that of an allocation, and none has more.
 pub fn greatest_revenue_is_reached()
@@ -67,4 +68,18 @@ pub fn kept_bids_suffice()
         → All (λ j. (bid_at f j).dummy ≡ (bid_at f i).dummy) (in_place_of f i) }
     ensures inside { (f : PlainFile) → IsPlainFile f → (i : ℕ) → i < length f.bids
         → All (λ j. IsInside (bid_at f j).goods (bid_at f i).goods) (in_place_of f i) }
+{}
+
+/// The optimum of the problem that `lp_text` prints is the greatest revenue. The choices of winners that meet all of its
+/// rows are the allocations, and the objective is their revenue.
+pub fn lp_is_winner_determination()
+    ensures rows { (f : PlainFile) → IsPlainFile f → (winners : List ℕ) → IsAllocation f winners → AreRowsMet f winners }
+    ensures allocation { (f : PlainFile) → IsPlainFile f → (winners : List ℕ) → IsBundle (length f.bids) winners
+        → AreRowsMet f winners → IsAllocation f winners }
+    ensures objective { (f : PlainFile) → (winners : List ℕ) → IsBundle (length f.bids) winners
+        → objective f winners ≡ revenue f winners }
+    ensures most { (f : PlainFile) → IsPlainFile f → (winners : List ℕ) → IsBundle (length f.bids) winners
+        → AreRowsMet f winners → objective f winners ≤ greatest_revenue f }
+    ensures reached { (f : PlainFile) → IsPlainFile f → ((winners : List ℕ) × IsBundle (length f.bids) winners
+        × AreRowsMet f winners × (objective f winners ≡ greatest_revenue f)) }
 {}

@@ -1,9 +1,10 @@
 //! Worked examples of the definitions, computed by the prover.
 
-ghost use Rattle.std.specs.Prelude.{◌≡◌, [], ◌∷◌, true, false};
+ghost use Rattle.std.specs.Prelude.{◌≡◌, [], ◌∷◌, codes, true, false};
 ghost use Rattle.explain.specs.Examples.{file, or_bid, xor_bid};
 ghost use Rattle.winners.specs.Allocations.{allocations, can_both_win, greatest_revenue};
 ghost use Rattle.winners.specs.KeptWinners.{in_canonical_file, in_place_of, kept_as, with_kept_bids};
+ghost use Rattle.winners.specs.LpTexts.{lp_rows, lp_text};
 
 /// Which two bids can both win.
 pub fn pairs()
@@ -54,4 +55,28 @@ pub fn kept_winners()
         (0 ∷ 1 ∷ []) ≡ 0 ∷ 2 ∷ [] }
     ensures in_canonical { in_canonical_file
         (file 2 2 (xor_bid 1 (0 ∷ []) 3 ∷ xor_bid 0 (1 ∷ []) 3 ∷ or_bid (1 ∷ []) 3 ∷ [])) (0 ∷ 2 ∷ []) ≡ 0 ∷ 1 ∷ [] }
+{}
+
+/// The rows of the problem that `lp_text` prints. Dummy goods are numbered among themselves.
+pub fn rows()
+    ensures no_bids { lp_rows (file 2 1 []) ≡ [] }
+    ensures no_shared_good { lp_rows (file 2 1 (or_bid (0 ∷ []) 3 ∷ xor_bid 0 (1 ∷ []) 3 ∷ [])) ≡ [] }
+    ensures or_bids { lp_rows (file 3 0 (or_bid (0 ∷ 1 ∷ []) 7 ∷ or_bid (1 ∷ 2 ∷ []) 8 ∷ or_bid (2 ∷ []) 2 ∷ []))
+        ≡ record { name = codes "g1"; bids = 0 ∷ 1 ∷ [] } ∷ record { name = codes "g2"; bids = 1 ∷ 2 ∷ [] } ∷ [] }
+    ensures xor_bids { lp_rows
+        (file 2 2 (xor_bid 1 (0 ∷ []) 3 ∷ xor_bid 0 (0 ∷ []) 3 ∷ or_bid (1 ∷ []) 1 ∷ xor_bid 1 (0 ∷ 1 ∷ []) 4 ∷ []))
+        ≡ record { name = codes "g0"; bids = 0 ∷ 1 ∷ 3 ∷ [] } ∷ record { name = codes "g1"; bids = 2 ∷ 3 ∷ [] }
+        ∷ record { name = codes "d1"; bids = 0 ∷ 3 ∷ [] } ∷ [] }
+{}
+
+/// Texts of problems.
+pub fn lp_texts()
+    ensures no_bids { lp_text (file 2 1 []) ≡ codes
+        "Maximize\n revenue:\n + 0 none\nSubject To\n none:\n + none\n <= 1\nBinary\n none\nEnd\n" }
+    ensures no_row { lp_text (file 1 0 (or_bid (0 ∷ []) 3000000 ∷ [])) ≡ codes
+        "Maximize\n revenue:\n + 3 x0\n + 0 none\nSubject To\n none:\n + none\n <= 1\nBinary\n x0\n none\nEnd\n" }
+    ensures decimals { lp_text (file 1 0 (or_bid (0 ∷ []) 3250000 ∷ or_bid (0 ∷ []) 1 ∷ [])) ≡ codes
+        "Maximize\n revenue:\n + 3.25 x0\n + 0.000001 x1\nSubject To\n g0:\n + x0\n + x1\n <= 1\nBinary\n x0\n x1\nEnd\n" }
+    ensures xor_bids { lp_text (file 2 1 (xor_bid 0 (0 ∷ []) 3000000 ∷ xor_bid 0 (1 ∷ []) 0 ∷ [])) ≡ codes
+        "Maximize\n revenue:\n + 3 x0\n + 0 x1\nSubject To\n d0:\n + x0\n + x1\n <= 1\nBinary\n x0\n x1\nEnd\n" }
 {}

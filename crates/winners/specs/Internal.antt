@@ -1,0 +1,3 @@
+-- What the code of this crate finds out. No public contract rests on it.
+pub mod BidsByGood
+pub mod RowTexts
