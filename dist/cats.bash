@@ -5,9 +5,9 @@ _cats() {
     COMPREPLY=()
     if ((COMP_CWORD > 1)); then command=${COMP_WORDS[1]}; fi
     case $command in
-        '') _cats_words "check show value normalise explain round compare diff duplicates sizes help -h --help -V --version" ;;
-        help) if ((COMP_CWORD == 2)); then _cats_words "check show value normalise explain round compare diff duplicates sizes help"; fi ;;
-        check | show) _cats_operands 1 "-h --help" ;;
+        '') _cats_words "check show value normalise explain round lp compare diff duplicates sizes help -h --help -V --version" ;;
+        help) if ((COMP_CWORD == 2)); then _cats_words "check show value normalise explain round lp compare diff duplicates sizes help"; fi ;;
+        check | show | lp) _cats_operands 1 "-h --help" ;;
         value | normalise) _cats_operands 1 "--bound --steps --total-steps -h --help" ;;
         explain) _cats_operands 1 "--steps --total-steps -h --help" ;;
         round) _cats_operands 1 "--exact -h --help" ;;

@@ -8,7 +8,7 @@ function __cats_takes_path
     set -l numbers (string match -r -- '^--(?:total-)?steps$' $words)
     set -l many (math (count $operands) - (count $numbers))
     switch "$words[2]"
-        case check show value normalise explain round
+        case check show value normalise explain round lp
             test $many -lt 1
         case compare diff
             test $many -lt 2
@@ -28,12 +28,13 @@ complete -c cats -n __fish_use_subcommand -a value -d 'Print what the bidders of
 complete -c cats -n __fish_use_subcommand -a normalise -d 'Print the canonical text of an auction'
 complete -c cats -n __fish_use_subcommand -a explain -d 'Print why each bid is in the canonical text or is dropped'
 complete -c cats -n __fish_use_subcommand -a round -d 'Print a bid file with its prices rounded to millionths'
+complete -c cats -n __fish_use_subcommand -a lp -d 'Print the winner determination problem in the LP format'
 complete -c cats -n __fish_use_subcommand -a compare -d 'Print whether two bid files are the same auction'
 complete -c cats -n __fish_use_subcommand -a diff -d 'Print all differences of two bid files'
 complete -c cats -n __fish_use_subcommand -a duplicates -d 'Print which of many bid files are the same auction'
 complete -c cats -n __fish_use_subcommand -a sizes -d 'Print a table of the numbers of bid files and of their canonical files'
 complete -c cats -n __fish_use_subcommand -a help -d 'Print help'
-complete -c cats -n '__fish_seen_subcommand_from help' -a 'check show value normalise explain round compare diff duplicates sizes'
+complete -c cats -n '__fish_seen_subcommand_from help' -a 'check show value normalise explain round lp compare diff duplicates sizes'
 complete -c cats -n __cats_takes_path -F
 complete -c cats -n '__fish_seen_subcommand_from value normalise explain compare diff duplicates sizes' -x -l steps -d 'The most steps of a search'
 complete -c cats -n '__fish_seen_subcommand_from value normalise explain compare diff duplicates sizes' -x -l total-steps -d 'The most steps of all searches of a file'

@@ -171,6 +171,7 @@ def cases_of(path, other, goods):
         case(("normalise",), (path,)),
         case(("explain",), (path,)),
         case(("round",), (path,)),
+        case(("lp",), (path,)),
         case(("compare",), (path, other)),
         case(("diff",), (path, other)),
     ]
@@ -372,7 +373,7 @@ def refused_cases(folder):
     nothing = write_file(folder, "nothing", header(0, 0, 0))
     fine = write_file(folder, "fine", SIX_DIGITS)
     ended = os.path.getsize(nothing) + 1
-    one_file = [case((command,), (faulty,)) for command in ("check", "show", "value", "normalise", "explain")]
+    one_file = [case((command,), (faulty,)) for command in ("check", "show", "value", "normalise", "explain", "lp")]
     pairs = {(faulty, nothing): (FAULT_AT, 0), (nothing, faulty): (ended, FAULT_AT)}
     compared = {case((command,), pair): counts for command in ("compare", "diff") for pair, counts in pairs.items()}
     # `round` reads the whole file
@@ -383,7 +384,7 @@ def refused_cases(folder):
 def large_cases(folder):
     """Runs whose text does not fit into a pipe."""
     bidders = write_file(folder, "many_bidders", header(1, 0, 65_536))
-    return [*(case((command,), (LARGE,)) for command in ("show", "normalise", "explain", "round")), case(("value",), (bidders,))]
+    return [*(case((command,), (LARGE,)) for command in ("show", "normalise", "explain", "round", "lp")), case(("value",), (bidders,))]
 
 
 def side_by_side(one, piece):

@@ -109,6 +109,19 @@ def value(goods, bids, whose):
     return own if whose == ONE_XOR else own + "".join(f"xor {goods + number} 0\n" for number in range(1, len(bids)))
 
 
+def lp_text(goods, bids, whose):
+    """What `cats lp` prints of a file in which two bids or more have a good."""
+    rows = [(f"g{good}", []) for good in range(goods)] + ([("d0", range(len(bids)))] if whose == ONE_XOR else [])
+    for number, bid in enumerate(bids):
+        for good in bid.goods:
+            rows[good][1].append(number)
+    prices = "".join(f" + {bid.price} x{number}\n" for number, bid in enumerate(bids))
+    shared = ((name, "".join(f" + x{number}\n" for number in numbers)) for name, numbers in rows if len(numbers) > 1)
+    variables = "".join(f" x{number}\n" for number in range(len(bids)))
+    constraints = "".join(f" {name}:\n{terms} <= 1\n" for name, terms in shared)
+    return f"Maximize\n revenue:\n{prices}Subject To\n{constraints}Binary\n{variables}End\n"
+
+
 def run(words, wanted, folder):
     """Runs the program in the folder, and compares its status, its output and its standard error with what is wanted."""
     ran = subprocess.run([PROGRAM, *words], cwd=folder, stdin=subprocess.DEVNULL, capture_output=True, timeout=SECONDS)
@@ -145,6 +158,7 @@ def judge_file(folder, bids, whose):
     run(["diff", "one", "lacking"], (1, differences(bids, in_order[-1], whose), ""), folder)
     run(["sizes", "one"], (0, sizes(bids, whose), ""), folder)
     run(["round", "one"], (0, text_of(GOODS, bids, whose), ""), folder)
+    run(["lp", "one"], (0, lp_text(GOODS, bids, whose), ""), folder)
     run(["duplicates", "one", "lacking", "other"], (0, "one\nother\n", ""), folder)
 
 

@@ -39,7 +39,7 @@ const MANY: &[(&str, &str)] = &[
 ];
 
 /// The help of the program and of each subcommand.
-pub fn all_help<'a>() -> [CommandHelp<'a>; 11] {
+pub fn all_help<'a>() -> [CommandHelp<'a>; 12] {
     [
         program_help(),
         check_help(),
@@ -48,6 +48,7 @@ pub fn all_help<'a>() -> [CommandHelp<'a>; 11] {
         normalise_help(),
         explain_help(),
         round_help(),
+        lp_help(),
         compare_help(),
         diff_help(),
         duplicates_help(),
@@ -136,6 +137,15 @@ fn round_help<'a>() -> CommandHelp<'a> {
             ("FILE", FILE),
         ],
         after: ROUND,
+    }
+}
+
+fn lp_help<'a>() -> CommandHelp<'a> {
+    CommandHelp {
+        name: "lp",
+        about: "Prints the winner determination problem of a bid file in the LP format",
+        arguments: &[("FILE", FILE)],
+        after: LP,
     }
 }
 
@@ -304,6 +314,19 @@ by 'cats check', and nothing is printed. Another command takes the output from s
 
 Statuses: 0, whether or not a price was rounded; 2 if the text with its prices rounded is not a bid file; 4, 5 and
 64 as 'cats --help' lists them";
+
+const LP: &str = "\
+Prints the winner determination problem in CPLEX's LP format, which glpsol, cbc, HiGHS, SCIP, Gurobi and CPLEX read.
+Bid N is the binary variable xN, which is 1 if the bid wins, and the sum of the winners' prices is maximised. A row gN
+for each good, and a row dN for each dummy good, as its number among dummy goods, from 0, that two bids or more have
+says that one of them at most wins. For example:
+  $ cats lp auction.txt > auction.lp
+  $ glpsol --lp auction.lp -o winners
+
+The greatest sum is that of the canonical text too, which may have fewer bids:
+  $ cats normalise --bound auction.txt | cats lp /dev/stdin
+
+Statuses: 0; 2 if the file is not a bid file, 4, 5 and 64 as 'cats --help' lists them";
 
 const COMPARE: &str = "\
 Prints 'same', or 'different' and where the two first differ: in their goods, in the OR value of a bundle, or in how

@@ -8,6 +8,7 @@ mod diff;
 mod duplicates;
 mod explanations;
 mod files;
+mod lp;
 mod normalise;
 mod program;
 mod round;

@@ -18,7 +18,8 @@ use Rattle.canon.specs.declared.which.Which.TheVariants.{Only, First, Second, Bo
 use Rattle.cats_cmd.specs.Comparisons.{Compares, ReadsBoth, RunsOnBoth}
 use Rattle.cats_cmd.specs.Diffs.{DiffsFiles, ReadsDifferences, diff_outcome}
 use Rattle.differences.specs.Differences.{is_none_at_all}
-use Rattle.cats_cmd.specs.Outcomes.{Outcome, Prints, ExceedsSteps, check_outcome, show_outcome, normalise_outcome, exceeds_limits, value_outcome_by}
+use Rattle.cats_cmd.specs.Outcomes.{Outcome, Prints, ExceedsSteps, check_outcome, show_outcome, lp_outcome, normalise_outcome, exceeds_limits}
+use Rattle.cats_cmd.specs.Outcomes.{value_outcome_by}
 use Rattle.cats_cmd.specs.Outcomes.{value_outcome_if, values_unless}
 use Rattle.cats_cmd.specs.Outcomes.{missing_good}
 use Rattle.cats_cmd.specs.Outcomes.{compare_outcome, outcome_unless, text_unless_refused, outcome_of_difference}
@@ -37,7 +38,7 @@ use Rattle.cats_cmd.specs.declared.program.RequestError.{RequestError}
 use Rattle.cats_cmd.specs.declared.program.RequestError.TheVariants.{CannotOpen, NotOpened, Run}
 use Rattle.answers.specs.declared.report.RunFault.{RunFault}
 use Rattle.answers.specs.declared.report.RunFault.TheVariants.{Refused, GoodRange, Sent}
-use Rattle.command_line.specs.PlainRequests.{PlainRequest, Check, Show, Value, Normalise, Explain, Round, Compare, Diff, Duplicates, Sizes}
+use Rattle.command_line.specs.PlainRequests.{PlainRequest, Check, Show, Value, Normalise, Explain, Round, Lp, Compare, Diff, Duplicates, Sizes}
 use Rattle.command_line.specs.Requests.{request_of}
 use Rattle.cats_cmd.specs.declared.source.Unopened.{Unopened}
 
@@ -208,6 +209,8 @@ module _ {F W E : Type 0} (may_open : List ℕ → F → Type 0) (may_refuse : L
   answered (Explain file limits) err_after status ran few =
       printed_explanation remaining contents (bounded_by limits) ran.0.before ran.0.after out out_after status ran.0.runs
   answered (Round file exact) err_after status ran few = let made = ran.runs.made in let none : 0 ≡ status = cc in omega (arith, none)
+  answered (Lp file) err_after status ran few =
+      printed_status remaining contents lp_outcome ran.0.before ran.0.after out out_after (λ file s text is. cc) status ran.0.runs
   answered (Compare left right limits) err_after status ran few =
       printed_comparison remaining remaining contents (options_of limits) ran.0.left ran.0.left_after ran.0.right ran.0.right_after out out_after status
       ran.0.runs
@@ -227,6 +230,7 @@ module _ {F W E : Type 0} (may_open : List ℕ → F → Type 0) (may_refuse : L
   quiet (Normalise file limits) err_after answer ran silent = ran.1
   quiet (Explain file limits) err_after answer ran silent = ran.1
   quiet (Round file exact) err_after answer ran silent = absurd (cc)
+  quiet (Lp file) err_after answer ran silent = ran.1
   quiet (Compare left right limits) err_after answer ran silent = ran.1
   quiet (Diff left right limits) err_after answer ran silent = ran.1
   quiet (Duplicates files) err_after answer ran silent = absurd (cc)
@@ -248,6 +252,8 @@ module _ {F W E : Type 0} (may_open : List ℕ → F → Type 0) (may_refuse : L
       silent_explanation remaining contents (bounded_by limits) ran.0.before ran.0.after out out_after fault ran.0.runs
   silent_fault (Round file exact) err_after fault ran few =
       silent_rounding remaining contents messages (fine_of exact) ran.before ran.after out out_after err err_after fault ran.runs
+  silent_fault (Lp file) err_after fault ran few =
+      silent_run remaining contents lp_outcome ran.0.before ran.0.after out out_after fault ran.0.runs
   silent_fault (Compare left right limits) err_after fault ran few =
       silent_of_both remaining remaining contents (options_of limits) ran.0.left ran.0.left_after ran.0.right ran.0.right_after out out_after
       (ReadsBoth remaining remaining contents (options_of limits) ran.0.left ran.0.left_after ran.0.right ran.0.right_after)

@@ -1,6 +1,6 @@
 -- What the commands on one or two files print beside bid files: numbers, prices, and words of ours.
-use Rattle.std.proofs.Common.{◌≡◌, ℕ, ◌+◌, ◌/◌, ◌%◌, ◌<◌, ◌==◌, true, List, [], ◌∷◌, length, refl, arith}
-use Rattle.std.specs.Prelude.{codes, decimal, slice_index, Option, Some, None}
+use Rattle.std.proofs.Common.{◌≡◌, ℕ, ◌+◌, ◌-◌, ◌/◌, ◌%◌, ◌<◌, ◌==◌, ◌++◌, Bool, true, false, List, [], ◌∷◌, cond, filter, length, map, refl, arith}
+use Rattle.std.specs.Prelude.{codes, decimal, nat_lt, slice_index, Option, Some, None}
 use Rattle.std.specs.List.{AllByRecursion, flat_map, range_with_len}
 use Rattle.std.proofs.lemmas.Bool.{cond_both}
 use Rattle.answers.specs.DiffTexts.{bidder_rows, change_row, diff_header, diff_text, goods_rows, number_cells}
@@ -19,6 +19,7 @@ use Rattle.differences.specs.PriceChanges.{PlainChange}
 use Rattle.explain.specs.Bids.{bid_at, numbers_of}
 use Rattle.explain.specs.Reasons.{PlainReason, Keep, Zero, Same, Inside, Packing, reason_at}
 use Rattle.valuation.specs.declared.atom.Atom.{Atom}
+use Rattle.winners.specs.LpTexts.{PlainRow, binary_line, bids_with, if_none, lp_rows, lp_text, row_of, row_term, row_text}
 use Rattle.cats_cmd.specs.Escaping.{is_shown}
 use Rattle.cats_cmd.specs.ValueTexts.{numbers_text, value_text}
 use Rattle.cats_cmd.proofs.PrintableTexts.{ascii_text, no_text}
@@ -93,6 +94,47 @@ difference_shown NoDifference = ours (codes "same\n") refl
 difference_shown (InGoods left right) = differing (ours (codes "goods") refl) (number left) (number right)
 difference_shown (InOr b left right) = differing (then (ours (codes "or ") refl) (bundle b)) (side left) (side right)
 difference_shown (InXor atoms left right) = differing (then (ours (codes "xor") refl) (bidder atoms)) (number left) (number right)
+
+-- ---- `cats lp`
+
+name : (goods good : ℕ) → Shown (cond (nat_lt good goods) (codes "g" ++ decimal good) (codes "d" ++ decimal (good - goods)))
+name goods good =
+    cond_both (nat_lt good goods) (codes "g" ++ decimal good) (codes "d" ++ decimal (good - goods)) Shown
+    (λ e. then (ours (codes "g") refl) (number good)) (λ e. then (ours (codes "d") refl) (number (good - goods)))
+
+term : (i : ℕ) → Shown (row_term i)
+term i = then (then (ours (codes " + x") refl) (number i)) (ours (codes "\n") refl)
+
+lp_row : (f : PlainFile) (good : ℕ) → Shown (row_text (row_of f good))
+lp_row f good =
+    then (then (then (then (ours (codes " ") refl) (name f.goods good)) (ours (codes ":\n") refl)) (flat row_term term (bids_with f good)))
+    (ours (codes " <= 1\n") refl)
+
+kept_row : (b : Bool) (row : PlainRow) (rows : List PlainRow) → Shown (row_text row) → Shown (flat_map row_text rows)
+    → Shown (flat_map row_text (cond b (row ∷ rows) rows))
+kept_row true row rows one others = then one others
+kept_row false row rows one others = others
+
+kept_rows : (f : PlainFile) (goods : List ℕ) → Shown (flat_map row_text (filter (λ row. nat_lt 1 (length row.bids)) (map (row_of f) goods)))
+kept_rows f [] = no_text is_shown
+kept_rows f (g ∷ goods) = kept_row (nat_lt 1 (length (bids_with f g))) (row_of f g) _ (lp_row f g) (kept_rows f goods)
+
+text_if_none : (rows : List PlainRow) (text : List ℕ) → Shown text → Shown (if_none rows text)
+text_if_none [] text is = is
+text_if_none (row ∷ rows) text is = no_text is_shown
+
+pub lp_shown : (f : PlainFile) → Shown (lp_text f)
+lp_shown f =
+    then (then (then (then (then (then (then (then (then
+    (ours (codes "Maximize\n revenue:\n") refl)
+    (flat _ (λ i. then (then (then (then (ours (codes " + ") refl) (price _)) (ours (codes " x") refl)) (number i)) (ours (codes "\n") refl)) (numbers_of f)))
+    (text_if_none (lp_rows f) _ (ours (codes " + 0 none\n") refl)))
+    (ours (codes "Subject To\n") refl)) (kept_rows f (range_with_len 0 (f.goods + f.dummy))))
+    (text_if_none (lp_rows f) _ (ours (codes " none:\n + none\n <= 1\n") refl)))
+    (ours (codes "Binary\n") refl))
+    (flat binary_line (λ i. then (then (ours (codes " x") refl) (number i)) (ours (codes "\n") refl)) (numbers_of f)))
+    (text_if_none (lp_rows f) _ (ours (codes " none\n") refl)))
+    (ours (codes "End\n") refl)
 
 -- ---- cells
 

@@ -2,8 +2,8 @@
 use Rattle.std.specs.Prelude.{◌≡◌, ◌⊎◌, ℕ, List, [], ◌∷◌, Option, Some, Result, Ok, Err}
 use Rattle.answers.specs.Statuses.{status_of_fault}
 use Rattle.answers.specs.declared.report.RunFault.{RunFault}
-use Rattle.command_line.specs.PlainRequests.{PlainRequest, Check, Show, Value, Normalise, Explain, Round, Compare, Diff}
-use Rattle.command_line.specs.PlainRequests.{Duplicates, Sizes, PlainPaths, Given, ListedIn}
+use Rattle.command_line.specs.PlainRequests.{PlainRequest, Check, Show, Value, Normalise, Explain, Round, Lp, Compare}
+use Rattle.command_line.specs.PlainRequests.{Diff, Duplicates, Sizes, PlainPaths, Given, ListedIn}
 use Rattle.command_line.specs.Requests.{IsNoRequestOf, request_of}
 use Rattle.command_line.specs.declared.request.NoRequest.{NoRequest}
 use Rattle.cats_cmd.specs.FileLists.{ReadsList}
@@ -55,6 +55,7 @@ module _ {S H F : Type 0} (content_of : S → H) (opened : S → Option (List (L
   OpensFor (Normalise file limits) old new status = Opens content_of opened old new (file ∷ [])
   OpensFor (Explain file limits) old new status = Opens content_of opened old new (file ∷ [])
   OpensFor (Round file exact) old new status = Opens content_of opened old new (file ∷ [])
+  OpensFor (Lp file) old new status = Opens content_of opened old new (file ∷ [])
   OpensFor (Compare first second limits) old new status = OpensPair first second old new status
   OpensFor (Diff first second limits) old new status = OpensPair first second old new status
   OpensFor (Duplicates files) old new status = OpensFiles files.paths old new status

@@ -13,6 +13,7 @@ use Rattle.canon.specs.Difference.{Difference, first_difference}
 use Rattle.answers.specs.DifferenceTexts.{difference_text}
 use Rattle.answers.specs.Outputs.{check_text}
 use Rattle.answers.specs.Statuses.{status_of_difference}
+use Rattle.winners.specs.LpTexts.{lp_text}
 use Rattle.cats_cmd.specs.ValueTexts.{bundle_from, value_text}
 
 pub data Outcome : Type 0 where
@@ -30,6 +31,10 @@ check_outcome file = Prints 0 (check_text file)
 -- of `cats show`
 abbrev pub show_outcome : PlainFile → Outcome
 show_outcome file = Prints 0 (layout file)
+
+-- of `cats lp`
+abbrev pub lp_outcome : PlainFile → Outcome
+lp_outcome file = Prints 0 (lp_text file)
 
 -- the first of the goods that a file with so many does not have
 abbrev pub missing_good : ℕ → List ℕ → Option ℕ

@@ -15,7 +15,8 @@ use Rattle.cats_cmd.specs.Duplicates.{MakesGroups}
 use Rattle.cats_cmd.specs.Explanations.{ExplainsFile}
 use Rattle.cats_cmd.specs.FileLists.{RunsOnFiles}
 use Rattle.cats_cmd.specs.Inputs.{IsOpened, MayRefuse}
-use Rattle.cats_cmd.specs.Outcomes.{Outcome, check_outcome, show_outcome, normalise_outcome, value_outcome_by}
+use Rattle.cats_cmd.specs.Outcomes.{Outcome, check_outcome, show_outcome, lp_outcome, normalise_outcome}
+use Rattle.cats_cmd.specs.Outcomes.{value_outcome_by}
 use Rattle.cats_cmd.specs.Paths.{RunsOnPaths, with_refusals, without_refusals}
 use Rattle.cats_cmd.specs.Rounding.{Rounds}
 use Rattle.cats_cmd.specs.Runs.{RunsOnFile}
@@ -23,8 +24,8 @@ use Rattle.cats_cmd.specs.SizesTables.{MakesTable}
 use Rattle.rounding.specs.declared.replacement.FinePrices.{FinePrices}
 use Rattle.rounding.specs.declared.replacement.FinePrices.TheVariants.{Round as RoundFine, Refuse}
 use Rattle.cats_cmd.specs.RequestErrors.{Reports, SendsText, line_of_request_error, status_of_request_error}
-use Rattle.command_line.specs.PlainRequests.{PlainRequest, Check, Show, Value, Normalise, Explain, Round, Compare, Diff}
-use Rattle.command_line.specs.PlainRequests.{Duplicates, Sizes}
+use Rattle.command_line.specs.PlainRequests.{PlainRequest, Check, Show, Value, Normalise, Explain, Round, Lp, Compare}
+use Rattle.command_line.specs.PlainRequests.{Diff, Duplicates, Sizes}
 use Rattle.command_line.specs.Requests.{IsNoRequestOf, request_of}
 use Rattle.command_line.specs.declared.request.NoRequest.{NoRequest}
 use Rattle.command_line.specs.declared.request.NoRequest.TheVariants.{Help, WrongUsage, Misused, NoMemory}
@@ -174,6 +175,8 @@ module _ {F W E : Type 0} (may_open : List ℕ → F → Type 0) (may_refuse : L
       ExplainsAt may_open remaining contents file (bounded_by limits) out out_after answer × (err_after ≡ err)
   RunsFor (Round file exact) out out_after err err_after answer =
       RoundsAt may_open may_refuse remaining contents messages file (fine_of exact) out out_after err err_after answer
+  RunsFor (Lp file) out out_after err err_after answer =
+      RunsAt may_open remaining contents file lp_outcome out out_after answer × (err_after ≡ err)
   RunsFor (Compare first second limits) out out_after err err_after answer =
       ComparesAt may_open remaining contents first second (options_of limits) out out_after answer
       × (err_after ≡ err)
@@ -204,6 +207,7 @@ module _ {F W E : Type 0} (may_open : List ℕ → F → Type 0) (may_refuse : L
   CannotOpenOf (Normalise file limits) which = (which ≡ Only) × MayRefuse may_refuse file
   CannotOpenOf (Explain file limits) which = (which ≡ Only) × MayRefuse may_refuse file
   CannotOpenOf (Round file exact) which = (which ≡ Only) × MayRefuse may_refuse file
+  CannotOpenOf (Lp file) which = (which ≡ Only) × MayRefuse may_refuse file
   CannotOpenOf (Compare first second limits) which = CannotOpenPair first second which
   CannotOpenOf (Diff first second limits) which = CannotOpenPair first second which
   CannotOpenOf (Duplicates files) which = ⊥

@@ -10,6 +10,7 @@ ghost use Rattle.bid_file.specs.Files.{IsPlainFile, PlainFile};
 ghost use Rattle.canon.specs.Difference.{Difference};
 ghost use Rattle.differences.specs.Differences.{PlainDifferences};
 ghost use Rattle.explain.specs.Reasons.{Explains, PlainReason};
+ghost use Rattle.winners.specs.LpTexts.{lp_text};
 ghost use Rattle.cats_cmd.specs.ValueTexts.{value_text};
 ghost use Rattle.cats_cmd.specs.Escaping.{AreBytes, IsTextOf, escaped, is_control_byte, is_printable, is_shown, unescaped};
 ghost use Rattle.cats_cmd.specs.DuplicateTexts.{duplicates_text, groups_of, is_repeated};
@@ -57,6 +58,7 @@ pub fn printed_lines_are_shown()
 pub fn printed_answers_are_shown()
     ensures check { (file : PlainFile) → IsTextOf is_shown (check_text file) }
     ensures value { (file : PlainFile) (goods : List ℕ) → IsTextOf is_shown (value_text file goods) }
+    ensures lp { (file : PlainFile) → IsTextOf is_shown (lp_text file) }
     ensures compare { (difference : Difference) → IsTextOf is_shown (difference_text difference) }
     ensures explain { (file : PlainFile) (reasons : List PlainReason) → IsTextOf is_shown (explanation_text file reasons) }
     ensures diff { (left right : PlainFile) (differences : PlainDifferences)

@@ -19,6 +19,7 @@ use crate::compare::run_compare_by;
 use crate::diff::run_diff;
 use crate::explanation::run_explain;
 use crate::lines::{report, report_pieces};
+use crate::lp::run_lp;
 use crate::many_files::{run_duplicates_of, run_sizes_of};
 use crate::normalise::run_normalise_by;
 use crate::paths::{Ending, ManyFiles, Progress};
@@ -193,6 +194,7 @@ fn carry_out<S: Source + AllocGlobal, W: Write, E: Write>(
             let mut input = open_only(source, file)?;
             Ok(run_round(alloc, &mut input, fine_prices(*exact), out, err)?)
         }
+        Request::Lp { file } => Ok(run_lp(alloc, &mut open_only(source, file)?, out)?),
         Request::Compare(files) => {
             let mut left = open(source, files.first, Which::First)?;
             let mut right = open(source, files.second, Which::Second)?;

@@ -1,6 +1,6 @@
 //! Worked examples of what the runs print. The prover computes them.
 
-ghost use Rattle.std.specs.Prelude.{◌≡◌, ℕ, [], ◌∷◌, map, codes, Vec, Ok, Err, Some, None, true, false};
+ghost use Rattle.std.specs.Prelude.{◌≡◌, ◌++◌, ℕ, [], ◌∷◌, map, codes, Vec, Ok, Err, Some, None, true, false};
 ghost use Rattle.std.specs.Global.{Global};
 ghost use Rattle.cats_text.specs.declared.read_fault.Kind.TheVariants.{
   TwoDummies,
@@ -15,7 +15,8 @@ ghost use Rattle.valuation.specs.Examples.{atom};
 ghost use Rattle.explain.specs.Reasons.{Keep, Zero, Same, Inside, Packing};
 ghost use Rattle.answers.specs.DifferenceTexts.{difference_text};
 ghost use Rattle.cats_cmd.specs.Examples.{larger_bid, xor_ladder};
-ghost use Rattle.cats_cmd.specs.Outcomes.{LacksGood, ExceedsSteps, Prints, check_outcome, show_outcome, value_outcome};
+ghost use Rattle.cats_cmd.specs.Outcomes.{LacksGood, ExceedsSteps, Prints, check_outcome, lp_outcome, show_outcome};
+ghost use Rattle.cats_cmd.specs.Outcomes.{value_outcome};
 ghost use Rattle.answers.specs.Outputs.{bundle_text, sizes_text};
 ghost use Rattle.cats_cmd.specs.ValueTexts.{bundle_from};
 ghost use Rattle.answers.specs.FaultLines.{line_of_fault};
@@ -48,6 +49,16 @@ pub fn sizes_and_layouts()
     ensures check { check_outcome xor_ladder ≡ Prints 0 (codes "goods 2 bids 3 dummy 1\n") }
     ensures show { show_outcome xor_ladder
         ≡ Prints 0 (codes "goods 2\nbids 3\ndummy 1\n0\t5\t0\t2\t#\n1\t1.5\t1\t#\n2\t6\t0\t1\t2\t#\n") }
+{}
+
+/// What `cats lp` makes of two files, of which the second has no bids.
+pub fn lp_texts()
+    ensures shared { lp_outcome xor_ladder
+        ≡ Prints 0 (codes "Maximize\n revenue:\n + 5 x0\n + 1.5 x1\n + 6 x2\nSubject To\n"
+        ++ codes " g0:\n + x0\n + x2\n <= 1\n g1:\n + x1\n + x2\n <= 1\n d0:\n + x0\n + x2\n <= 1\n"
+        ++ codes "Binary\n x0\n x1\n x2\nEnd\n") }
+    ensures empty { lp_outcome (record { goods = 2; dummy = 1; bids = [] })
+        ≡ Prints 0 (codes "Maximize\n revenue:\n + 0 none\nSubject To\n none:\n + none\n <= 1\nBinary\n none\nEnd\n") }
 {}
 
 /// What `cats value` makes of two files.

@@ -10,7 +10,7 @@ use Rattle.clap.specs.Simple.{Shape, built, entered, label_of, new_shape, rows_a
 use Rattle.clap.specs.ValueTests.{is_unsigned_in}
 use Rattle.clap.specs.Walk.{Row, Text, answers_to, idle, nothing_held, walk_from, walked}
 use Rattle.clap.specs.declared.error.kind.ErrorKind.TheVariants.{ValueValidation}
-use Rattle.command_line.specs.PlainRequests.{Check, Compare, Diff, Explain, Normalise, PlainRequest, Round, Show, Value}
+use Rattle.command_line.specs.PlainRequests.{Check, Compare, Diff, Explain, Lp, Normalise, PlainRequest, Round, Show, Value}
 use Rattle.command_line.specs.Subcommands.{begins_with_sign, cats, number_up_to, usual_limits}
 use Rattle.command_line.specs.Requests.{begins_with_hyphen, if_taken, request_from, request_of}
 use Rattle.command_line.proofs.PlainWords.{ArePlain, at, hyphens, level_after, rows_after_option, same_fault, same_rows}
@@ -53,6 +53,10 @@ value_path program path plain = plain_line (codes "value") (path ∷ []) (plain,
 pub round_path : (program path : List ℕ) → begins_with_hyphen path ≡ false → request_of (program ∷ codes "round" ∷ path ∷ []) ≡ Some (Round path false)
 unfolding clap_on_literals
 round_path program path plain = plain_line (codes "round") (path ∷ []) (plain, tt)
+
+pub lp_path : (program path : List ℕ) → begins_with_hyphen path ≡ false → request_of (program ∷ codes "lp" ∷ path ∷ []) ≡ Some (Lp path)
+unfolding clap_on_literals
+lp_path program path plain = plain_line (codes "lp") (path ∷ []) (plain, tt)
 
 pub any_path : (program path : List ℕ) → request_of (program ∷ codes "check" ∷ codes "--" ∷ path ∷ []) ≡ Some (Check path)
 unfolding clap_on_literals

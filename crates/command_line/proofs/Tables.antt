@@ -41,9 +41,10 @@ differs a b ne = go (bytes_eq a b) refl
 
 -- a name of no subcommand requests nothing
 pub no_subcommand : (name : List ℕ) (rows : List Row) → name ≢ codes "check" → name ≢ codes "show" → name ≢ codes "value" → name ≢ codes "normalise"
-    → name ≢ codes "explain" → name ≢ codes "round" → name ≢ codes "compare" → name ≢ codes "diff" → name ≢ codes "duplicates" → name ≢ codes "sizes"
+    → name ≢ codes "explain" → name ≢ codes "round" → name ≢ codes "lp" → name ≢ codes "compare" → name ≢ codes "diff" → name ≢ codes "duplicates"
+    → name ≢ codes "sizes"
     → request_from name rows ≡ None
-no_subcommand name rows check show value normalise explain round compare diff duplicates sizes =
+no_subcommand name rows check show value normalise explain round lp compare diff duplicates sizes =
     rw (
       differs _ _ check,
       differs _ _ show,
@@ -51,6 +52,7 @@ no_subcommand name rows check show value normalise explain round compare diff du
       differs _ _ normalise,
       differs _ _ explain,
       differs _ _ round,
+      differs _ _ lp,
       differs _ _ compare,
       differs _ _ diff,
       differs _ _ duplicates,

@@ -27,6 +27,7 @@ pub data PlainRequest : Type 0 where
   Normalise : List ℕ → Limits → PlainRequest
   Explain : List ℕ → Limits → PlainRequest
   Round : List ℕ → Bool → PlainRequest
+  Lp : List ℕ → PlainRequest
   Compare : List ℕ → List ℕ → Limits → PlainRequest
   Diff : List ℕ → List ℕ → Limits → PlainRequest
   Duplicates : PlainFiles → PlainRequest
@@ -51,6 +52,7 @@ plain_request (request.Value file goods limits) = Value file.now goods.items lim
 plain_request (request.Normalise file limits) = Normalise file.now limits
 plain_request (request.Explain file limits) = Explain file.now limits
 plain_request (request.Round file exact) = Round file.now exact
+plain_request (request.Lp file) = Lp file.now
 plain_request (request.Compare files) = Compare files.first.now files.second.now files.limits
 plain_request (request.Diff files) = Diff files.first.now files.second.now files.limits
 plain_request (request.Duplicates files) = Duplicates (plain_files files)

@@ -14,7 +14,7 @@ use Rattle.clap.specs.declared.builder.action.ArgAction.TheVariants.{SetTrue}
 use Rattle.clap.specs.declared.builder.value_parser.ValueParser.TheVariants.{Signed, Unsigned}
 use Rattle.command_line.specs.declared.request.Limits.{Limits}
 use Rattle.command_line.specs.PlainRequests.{PlainPaths, PlainFiles, PlainRequest, Given, ListedIn, Check, Show, Value}
-use Rattle.command_line.specs.PlainRequests.{Normalise, Explain, Round}
+use Rattle.command_line.specs.PlainRequests.{Normalise, Explain, Round, Lp}
 use Rattle.command_line.specs.PlainRequests.{Compare, Diff, Duplicates, Sizes}
 
 -- ---- files and goods
@@ -195,6 +195,7 @@ subcommands =
       rules = flag (codes "exact") ∷ file ∷ more_files ∷ [];
       request = λ rows. option_map (λ path. Round path (is_set (codes "exact") rows)) (file_in rows);
     }
+    ∷ record { name = codes "lp"; rules = file ∷ more_files ∷ []; request = λ rows. option_map Lp (file_in rows) }
     ∷ record {
       name = codes "compare";
       rules = bound ∷ steps ∷ total_steps ∷ file ∷ second_file ∷ more_files ∷ [];

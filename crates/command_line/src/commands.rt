@@ -76,7 +76,7 @@ struct Subcommand {
 }
 
 /// The subcommands, as the help lists them.
-static SUBCOMMANDS: [Subcommand; 10] = [
+static SUBCOMMANDS: [Subcommand; 11] = [
     Subcommand {
         name: "check",
         arguments: &[Argument::File, Argument::MoreFiles],
@@ -117,6 +117,10 @@ static SUBCOMMANDS: [Subcommand; 10] = [
     Subcommand {
         name: "round",
         arguments: &[Argument::Exact, Argument::File, Argument::MoreFiles],
+    },
+    Subcommand {
+        name: "lp",
+        arguments: &[Argument::File, Argument::MoreFiles],
     },
     Subcommand {
         name: "compare",

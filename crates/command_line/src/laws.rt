@@ -3,8 +3,8 @@
 
 ghost use Rattle.std.specs.Prelude.{◌≡◌, ◌++◌, ℕ, List, [], ◌∷◌, None, Some, codes, false, if◌then◌else◌, option_map};
 ghost use Rattle.std.specs.Prelude.{true};
-ghost use Rattle.command_line.specs.PlainRequests.{Check, Compare, Diff, Explain, Normalise, PlainRequest, Round, Show};
-ghost use Rattle.command_line.specs.PlainRequests.{Value};
+ghost use Rattle.command_line.specs.PlainRequests.{Check, Compare, Diff, Explain, Lp, Normalise, PlainRequest, Round};
+ghost use Rattle.command_line.specs.PlainRequests.{Show, Value};
 ghost use Rattle.clap.specs.ValueTests.{is_unsigned_in};
 ghost use Rattle.command_line.specs.Subcommands.{begins_with_sign, number_up_to, usual_limits};
 ghost use Rattle.command_line.specs.Requests.{IsNoRequestOf, begins_with_hyphen, is_no_memory, request_of};
@@ -26,6 +26,8 @@ pub fn one_path()
         → request_of (program ∷ codes "round" ∷ path ∷ []) ≡ Some (Round path false) }
     ensures exact { (program path : List ℕ) → begins_with_hyphen path ≡ false
         → request_of (program ∷ codes "round" ∷ codes "--exact" ∷ path ∷ []) ≡ Some (Round path true) }
+    ensures lp { (program path : List ℕ) → begins_with_hyphen path ≡ false
+        → request_of (program ∷ codes "lp" ∷ path ∷ []) ≡ Some (Lp path) }
 {}
 
 /// Any path, after `--`.

@@ -6,8 +6,8 @@ ghost use Rattle.std.specs.Result.{result_ok};
 ghost use Rattle.clap.specs.Faults.{fault_of};
 ghost use Rattle.clap.specs.Words.{HasKind, all_of, first_of, kind_of};
 ghost use Rattle.command_line.specs.Internal.Matches.{IsAnswerTo, rows_in};
-ghost use Rattle.command_line.specs.PlainRequests.{Check, Explain, Normalise, PlainRequest, Round, Show, plain_files};
-ghost use Rattle.command_line.specs.PlainRequests.{plain_paths, plain_request};
+ghost use Rattle.command_line.specs.PlainRequests.{Check, Explain, Lp, Normalise, PlainRequest, Round, Show};
+ghost use Rattle.command_line.specs.PlainRequests.{plain_files, plain_paths, plain_request};
 ghost use Rattle.command_line.specs.Requests.{IsNoRequestOf, file_misuse_in, misuse_in, misuse_of, request_from};
 ghost use Rattle.command_line.specs.Requests.{request_of, texts_of};
 ghost use Rattle.command_line.specs.Subcommands.{begins_with_sign, cats, file_in, files_in, goods_in, has_more_files};
@@ -141,6 +141,7 @@ fn find_named_request<'a>(
         "normalise" => Ok(find_normalise_request(given)),
         "explain" => Ok(find_explain_request(given)),
         "round" => Ok(find_round_request(given)),
+        "lp" => Ok(find_lp_request(given)),
         "compare" => Ok(find_pair_request(given).map(Request::Compare)),
         "diff" => Ok(find_pair_request(given).map(Request::Diff)),
         "duplicates" => Ok(find_files_request(alloc, given)?.map(Request::Duplicates)),
@@ -219,6 +220,13 @@ fn find_round_request<'a>(given: &ArgMatches<'a>) -> Option<Request<'a>>
     let file = find_text(given, FILE)?;
     let exact = is_set(given, EXACT);
     Some(Request::Round { file, exact })
+}
+
+fn find_lp_request<'a>(given: &ArgMatches<'a>) -> Option<Request<'a>>
+    ensures { option_map plain_request result ≡ option_map Lp (file_in (rows_in given.now)) }
+{
+    let file = find_text(given, FILE)?;
+    Some(Request::Lp { file })
 }
 
 fn find_pair_request<'a>(given: &ArgMatches<'a>) -> Option<PairRequest<'a>>

@@ -26,6 +26,9 @@ pub enum Request<'a> {
         file: &'a str,
         exact: bool,
     },
+    Lp {
+        file: &'a str,
+    },
     Compare(PairRequest<'a>),
     Diff(PairRequest<'a>),
     Duplicates(FilesRequest<'a>),

@@ -7,7 +7,7 @@ use std::process::Abort;
 use std::test::Fail;
 
 /// Command lines, and their requests.
-static REQUESTS: [(&[&str], &str); 25] = [
+static REQUESTS: [(&[&str], &str); 26] = [
     (&["cats", "check", "a"], "Check { file: \"a\" }"),
     (&["cats", "show", "a"], "Show { file: \"a\" }"),
     (
@@ -34,6 +34,7 @@ static REQUESTS: [(&[&str], &str); 25] = [
         &["cats", "explain", "a", "--steps", "8"],
         "Explain { file: \"a\", limits: Limits { bound: true, steps: 8, total: None } }",
     ),
+    (&["cats", "lp", "a"], "Lp { file: \"a\" }"),
     (
         &["cats", "compare", "a", "b"],
         "Compare(PairRequest { first: \"a\", second: \"b\", limits: Limits { bound: false, steps: 1000000, total: None } })",

@@ -8,7 +8,7 @@ use super::streams::{
     stalling_writer, writer,
 };
 use cats_cmd::{
-    SearchOptions, run_check, run_compare, run_diff, run_explain, run_normalise, run_show,
+    SearchOptions, run_check, run_compare, run_diff, run_explain, run_lp, run_normalise, run_show,
     run_value,
 };
 use cats_text::Watched;
@@ -25,6 +25,7 @@ enum Run {
     Value,
     Normalise,
     Explain,
+    Lp,
     CompareFirst,
     CompareSecond,
     DiffFirst,
@@ -50,6 +51,7 @@ fn answer(
         Run::Value => run_value(alloc, input, &[0, 1], STEPS, &mut out),
         Run::Normalise => run_normalise(alloc, input, STEPS, &mut out),
         Run::Explain => run_explain(alloc, input, STEPS, None, &mut out),
+        Run::Lp => run_lp(alloc, input, &mut out),
         Run::CompareFirst => run_compare(alloc, input, &mut other, STEPS, &mut out),
         Run::CompareSecond => run_compare(alloc, &mut other, input, STEPS, &mut out),
         Run::DiffFirst => run_diff(alloc, input, &mut other, bounded, &mut out),
@@ -67,11 +69,16 @@ const TEXT: &str = "goods 2\nbids 3\ndummy 0\n0\t3\t0\t#\n1\t4\t1\t#\n2\t7\t0\t1
 /// The canonical text of `TEXT`.
 const CANONICAL: &str = "goods 2\nbids 2\ndummy 0\n0\t3\t0\t#\n1\t4\t1\t#\n";
 
+/// The winner determination problem of `TEXT`.
+const LP_TEXT: &str =
+    "Maximize\n revenue:\n + 3 x0\n + 4 x1\n + 7 x2\nSubject To\n g0:\n + x0\n + x2\n <= 1\n g1:\n + x1\n + x2\n <= 1\n\
+    Binary\n x0\n x1\n x2\nEnd\n";
+
 /// A text with a fault, which is complete in its first 43 bytes.
 const FAULTY: &str = "goods 2\nbids 2\ndummy 2\n0\t1\t0\t2\t#\n1\t1\t1\t2\t3\t#\n";
 
 /// Each run with what it sends of `TEXT`, and how its lines on its input begin.
-static RUNS: [(Run, &str, &str); 9] = [
+static RUNS: [(Run, &str, &str); 10] = [
     (Run::Check, "goods 2 bids 3 dummy 0\n", ""),
     (Run::Show, TEXT, ""),
     (Run::Value, "or 7 2\n", ""),
@@ -82,6 +89,7 @@ static RUNS: [(Run, &str, &str); 9] = [
         0\t\t3\t0\tkeep\t0\t\n1\t\t4\t1\tkeep\t1\t\n2\t\t7\t0,1\tpacking\t\t0,1\n",
         "",
     ),
+    (Run::Lp, LP_TEXT, ""),
     (Run::CompareFirst, "same\n", "first: "),
     (Run::CompareSecond, "same\n", "second: "),
     (

@@ -84,7 +84,7 @@ static SHOWN_ROWS: [Row<'static>; 2] = [
 
 const MISSING: &str = "goods 2\nbids 0\n";
 
-static MISSING_ROWS: [Row<'static>; 14] = [
+static MISSING_ROWS: [Row<'static>; 15] = [
     (
         "cats check FILE",
         CAPACITY,
@@ -123,6 +123,14 @@ static MISSING_ROWS: [Row<'static>; 14] = [
     ("cats normalise FILE", CAPACITY, 0, 2, "", ""),
     (
         "cats explain FILE",
+        CAPACITY,
+        CAPACITY,
+        2,
+        "",
+        "line 3: Missing\n",
+    ),
+    (
+        "cats lp FILE",
         CAPACITY,
         CAPACITY,
         2,
@@ -293,7 +301,7 @@ const LARGER_BID: &str = "goods 2\nbids 3\ndummy 0\n0 3 0 #\n1 4 1 #\n2 7 0 1 #\
 
 const LARGER_BID_TEXT: &str = "goods 2\nbids 2\ndummy 0\n0\t3\t0\t#\n1\t4\t1\t#\n";
 
-static LARGER_BID_ROWS: [Row<'static>; 16] = [
+static LARGER_BID_ROWS: [Row<'static>; 18] = [
     (
         "cats normalise FILE",
         CAPACITY,
@@ -326,6 +334,23 @@ static LARGER_BID_ROWS: [Row<'static>; 16] = [
         5,
         "bid\tdumm",
         "output failed after 8 bytes\n",
+    ),
+    (
+        "cats lp FILE",
+        CAPACITY,
+        CAPACITY,
+        0,
+        "Maximize\n revenue:\n + 3 x0\n + 4 x1\n + 7 x2\nSubject To\n g0:\n + x0\n + x2\n <= 1\n\
+        \x20g1:\n + x1\n + x2\n <= 1\nBinary\n x0\n x1\n x2\nEnd\n",
+        "",
+    ),
+    (
+        "cats lp FILE",
+        9,
+        CAPACITY,
+        5,
+        "Maximize\n",
+        "output failed after 9 bytes\n",
     ),
     (
         "cats compare FILE FILE",

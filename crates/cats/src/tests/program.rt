@@ -47,7 +47,7 @@ pub(super) fn run(
 pub(super) const CAPACITY: usize = 65_536;
 
 /// Command lines that are no request.
-static WRONG_LINES: [&str; 38] = [
+static WRONG_LINES: [&str; 41] = [
     "cats",
     "cats check",
     "cats show",
@@ -74,6 +74,9 @@ static WRONG_LINES: [&str; 38] = [
     "cats explain",
     "cats explain --steps 0 a",
     "cats explain a b",
+    "cats lp",
+    "cats lp --steps 5 a",
+    "cats lp a b",
     "cats compare",
     "cats compare a",
     "cats compare a b c",
@@ -110,7 +113,7 @@ fn usage_faults(rt: HostRuntime) -> Result<(), Fail> {
 }
 
 /// Command lines that name help.
-static HELP_LINES: [&str; 12] = [
+static HELP_LINES: [&str; 13] = [
     "cats --help",
     "cats -h",
     "cats help",
@@ -120,6 +123,7 @@ static HELP_LINES: [&str; 12] = [
     "cats value --help",
     "cats normalise --help",
     "cats explain --help",
+    "cats lp --help",
     "cats compare --help",
     "cats diff --help",
     "cats duplicates --help",

@@ -5,7 +5,7 @@ use Rattle.command_line.specs.PlainRequests.{plain_request}
 use Rattle.cats_cmd.proofs.AnswersOfRequests.{ran_at, ran_by, valued_at, explained_at, compared_at, differed_at, rounded_at, failed_run}
 use Rattle.cats_cmd.proofs.Opening.{opens_then}
 use Rattle.cats_cmd.specs.Inputs.{IsOpened}
-use Rattle.cats_cmd.specs.Outcomes.{check_outcome, show_outcome, normalise_outcome}
+use Rattle.cats_cmd.specs.Outcomes.{check_outcome, show_outcome, lp_outcome, normalise_outcome}
 use Rattle.cats_cmd.proofs.program.carry_out.Goals as goal
 
 pub returns-in_ok-run_check-in-Check-clause-carries : goal.returns-in_ok-run_check-in-Check-clause-carries
@@ -139,6 +139,18 @@ returns-in_err-run_round-in-Round-clause-carries g c =
     failed_run _ _ _ _ _ _ _ _ _ (plain_request c.args.request.now) _ _ _ c.from_residual-in_err-run_round-in-Round.ensures.1
     (rw c.in-Round.is (rounded_at _ _ _ _ _ c.in-Round.file.now c.in-Round.exact _ c.fine_prices.ensures _ _ _ _ _ _ _
     c.in_ok-input-in-Round.ensures.opened c.in_err-run_round-in-Round.ensures))
+
+pub returns-in_ok-run_lp-in-Lp-clause-carries : goal.returns-in_ok-run_lp-in-Lp-clause-carries
+returns-in_ok-run_lp-in-Lp-clause-carries g c =
+    rw c.in-Lp.is (ran_at _ _ _ c.in-Lp.file.now lp_outcome _ _ _ _ _ c.in_ok-open_only-in-Lp.ensures.opened c.in_ok-run_lp-in-Lp.ensures, refl)
+
+pub returns-in_err-run_lp-in-Lp-clause-carries : goal.returns-in_err-run_lp-in-Lp-clause-carries
+returns-in_err-run_lp-in-Lp-clause-carries g c =
+    failed_run _ _ _ _ _ _ _ _ _ (plain_request c.args.request.now) _ _ _ c.from_residual-in_err-run_lp-in-Lp.ensures.1
+    (rw c.in-Lp.is (ran_at _ _ _ c.in-Lp.file.now lp_outcome _ _ _ _ _ c.in_ok-open_only-in-Lp.ensures.opened c.in_err-run_lp-in-Lp.ensures, refl))
+
+pub returns-in_ok-run_explain-in-Explain-clause-opens : goal.returns-in_ok-run_explain-in-Explain-clause-opens
+returns-in_ok-run_explain-in-Explain-clause-opens g c = rw c.in-Explain.is c.in_ok-input-in-Explain.ensures.opens
 
 pub returns-in_ok-run_compare_by-in-Compare-clause-opens : goal.returns-in_ok-run_compare_by-in-Compare-clause-opens
 returns-in_ok-run_compare_by-in-Compare-clause-opens g c =

@@ -1,4 +1,4 @@
-use Rattle.command_line.proofs.Lines.{check_path, show_path, normalise_path, explain_path, value_path, round_path, exact_path}
+use Rattle.command_line.proofs.Lines.{check_path, show_path, normalise_path, explain_path, value_path, round_path, exact_path, lp_path}
 use Rattle.command_line.proofs.laws.one_path.Goals as goal
 
 pub returns-clause-check : goal.returns-clause-check
@@ -21,3 +21,6 @@ returns-clause-round c = round_path
 
 pub returns-clause-exact : goal.returns-clause-exact
 returns-clause-exact c = exact_path
+
+pub returns-clause-lp : goal.returns-clause-lp
+returns-clause-lp c = lp_path
