@@ -4,7 +4,7 @@ ghost use Rattle.std.specs.Prelude.{IfOk};
 ghost use Rattle.bid_file.specs.Views.{plain_file};
 ghost use Rattle.canon.specs.Canonical.{IsCanonicalFile};
 
-use crate::refusals::{expect_line, refusal_text};
+use super::refusals::{expect_line, refusal_text};
 use bid_file::BidFile;
 use canon::laws::canonical_auctions_have_canonical_files;
 use canon::{

@@ -1,7 +1,7 @@
 use Rattle.std.proofs.Common.{sym, subst}
 use Rattle.valuation.specs.Views.{plain_auction}
 use Rattle.canon.specs.Canonical.{IsCanonicalFile}
-use Rattle.canon_tests.proofs.comparisons.file_of_canonical.Goals as goal
+use Rattle.tests.proofs.canonical.comparisons.file_of_canonical.Goals as goal
 
 pub returns : goal.returns
 returns c =

@@ -1,6 +1,6 @@
 //! Files that are added one by one.
 
-use crate::refusals::refusal_text;
+use super::refusals::refusal_text;
 use canon::{AuctionIndex, CanonFault};
 use cats_text::{Watched, read_packed};
 use std::alloc::{AllocError, Global};

@@ -1,10 +1,13 @@
-//! Texts whose files and faults are known, read and written.
+//! Tests of `bid_file` and `cats_text`, on known files and faults.
 
 mod bid_lines;
 mod faults;
+mod layout;
 mod limits;
 mod long_words;
 mod pieces;
+mod places;
+mod streams;
 mod whole_files;
 
 use bid_file::BidFile;
@@ -59,7 +62,7 @@ fn many(alloc: Global, byte: u8, count: usize) -> Result<Vec<u8>, AllocError> {
 }
 
 /// Asserts that these are the bytes.
-pub fn assert_bytes(rt: &impl Abort, bytes: &[u8], want: &[u8]) {
+fn assert_bytes(rt: &impl Abort, bytes: &[u8], want: &[u8]) {
     assert_eq!(rt; bytes, want);
 }
 

@@ -1,6 +1,6 @@
 //! Each public call once, on worked rows. Each has ample memory.
 
-use crate::refusals::{expect_line, refusal_text};
+use super::refusals::{expect_line, refusal_text};
 use bid_file::{BidFile, Bids, PackedFile};
 use canon::{
     CanonFault, NamedFile, canonical, file_of, named_normal_file, normal_file, normal_packed_file,

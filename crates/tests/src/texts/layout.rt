@@ -3,7 +3,7 @@
 ghost use Rattle.std.specs.Prelude.{◌≡◌, IfOk};
 ghost use Rattle.bid_file.specs.Files.{plain_bid};
 
-use crate::texts::assert_bytes;
+use super::assert_bytes;
 use bid_file::{Bid, BidFile};
 use cats_text::{push_price, read_packed, write};
 use std::alloc::{AllocError, Global};

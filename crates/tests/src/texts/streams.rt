@@ -5,7 +5,7 @@ ghost use Rattle.cats_text.specs.Streams.{has_ended, has_failed};
 mod reading;
 mod sending;
 
-use crate::texts::assert_bytes;
+use super::assert_bytes;
 use cats_text::Watched;
 use std::alloc::Global;
 use std::io;

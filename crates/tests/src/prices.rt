@@ -1,0 +1,4 @@
+//! Tests of `rounding`, on known rounded prices.
+
+mod texts;
+mod words;

@@ -1,0 +1,4 @@
+//! Tests of `goods_set`, on worked rows.
+
+mod bundles;
+mod masks;
