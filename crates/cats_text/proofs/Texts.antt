@@ -2,3 +2,5 @@
 pub mod FirstFaults
 pub mod FaultKinds
 pub mod MachineAnswers
+pub mod FirstWords
+pub mod FirstPlaces

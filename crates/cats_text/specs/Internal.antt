@@ -6,6 +6,7 @@ pub mod Keywords
 pub mod Machine
 pub mod Marks
 pub mod Parsing
+pub mod Places
 pub mod Progress
 pub mod Reading
 pub mod Returns

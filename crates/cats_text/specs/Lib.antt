@@ -4,6 +4,7 @@ pub mod Numbers
 pub mod Views
 pub mod Grammar
 pub mod Faults
+pub mod FaultPlaces
 pub mod Layout
 pub mod Streams
 pub mod Examples

@@ -1,10 +1,11 @@
 //! Laws of the definitions. The grammar of texts and their faults leave nothing open, and what is written spells what
 //! it was written from.
 
-ghost use Rattle.std.specs.Prelude.{◌≡◌, ◌≢◌, ◌⊎◌, ◌++◌, ℕ, List, Some, None};
+ghost use Rattle.std.specs.Prelude.{◌≡◌, ◌≢◌, ◌⊎◌, ◌++◌, ℕ, List, Some, None, option_map};
 ghost use Rattle.bid_file.specs.Files.{PlainFile, IsPlainFile};
 ghost use Rattle.cats_text.specs.Grammar.{Spells};
 ghost use Rattle.cats_text.specs.Faults.{first_fault, complete_fault, IsOfText};
+ghost use Rattle.cats_text.specs.FaultPlaces.{first_place, fault_of};
 ghost use Rattle.cats_text.specs.FileLines.{spelled_file};
 ghost use Rattle.cats_text.specs.Layout.{layout};
 ghost use Rattle.cats_text.specs.declared.read_fault.ReadFault.{ReadFault};
@@ -43,4 +44,9 @@ pub fn faults_of_texts()
 pub fn complete_fault_stays()
     ensures { (bytes rest : List ℕ) (e : ReadFault) → complete_fault bytes ≡ Some e
         → first_fault (bytes ++ rest) ≡ Some e }
+{}
+
+/// The first fault of a text is the one at the first place, and there is none exactly if there is no such place.
+pub fn place_has_the_first_fault()
+    ensures { (text : List ℕ) → option_map fault_of (first_place text) ≡ first_fault text }
 {}

@@ -4,6 +4,7 @@
 mod bid_lines;
 mod bids_by_number;
 mod eight;
+mod fault_place;
 mod good_list;
 mod history;
 mod keep;
@@ -25,6 +26,7 @@ pub mod worked;
 pub use bid_file::{
     Bid, BidFile, MAX_BIDS, MAX_DUMMY, MAX_GOODS, MAX_PRICE, PackedBids, PackedFile,
 };
+pub use fault_place::{FaultPlace, place_of_fault};
 pub use layout::write;
 pub use limits::MAX_STREAM;
 pub use parser::Header;

@@ -89,7 +89,7 @@ fn carriage_return(next: u8) -> u8
 }
 
 /// The place of the first LF.
-fn line_feed(bytes: &[u8]) -> Option<usize>
+pub fn line_feed(bytes: &[u8]) -> Option<usize>
     ensures { result ≡ position (λ b. b == 10) bytes.now }
 {
     bytes.iter().position(|byte| *byte == b'\n')

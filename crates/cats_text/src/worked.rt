@@ -5,8 +5,9 @@ ghost use Rattle.cats_text.specs.Lines.{line_words, blank_returns, significant_l
 ghost use Rattle.cats_text.specs.Numbers.{number_of, is_number, is_price, is_too_large, is_too_fine, price_of};
 ghost use Rattle.cats_text.specs.Grammar.{Spells};
 ghost use Rattle.cats_text.specs.Faults.{first_fault, complete_fault, fault_at};
+ghost use Rattle.cats_text.specs.FaultPlaces.{first_place};
 ghost use Rattle.cats_text.specs.FileLines.{spelled_file};
-ghost use Rattle.cats_text.specs.Examples.{known, watched};
+ghost use Rattle.cats_text.specs.Examples.{known, watched, place};
 ghost use Rattle.cats_text.specs.Reading.{PackedAnswer};
 ghost use Rattle.cats_text.specs.Streams.{ReadsPlainAs, ChecksAs, Sends, moved_nothing, failed_to_write};
 ghost use Rattle.cats_text.specs.Layout.{layout, price_text, six_digits};
@@ -115,6 +116,22 @@ pub fn bid_line_faults()
         (codes "0.1234567" ∷ codes "1000000000000.0000001" ∷ codes "1.2.3" ∷ codes "1000000000001" ∷ []) ≡
         (Some (fault_at 4 TooFine) ∷ Some (fault_at 4 TooLarge) ∷ Some (fault_at 4 NotANumber)
         ∷ Some (fault_at 4 TooLarge) ∷ []) }
+{}
+
+/// The place of the first fault: a word of a header line, a price, a good, the end of a line, and the end of the input.
+/// Comments and empty lines are lines too, and a CR at a line's end is of no word.
+pub fn places_of_faults()
+    ensures words { map first_place
+        (codes "Goods 2\n" ∷ codes "% x\r\n\ngoods 2\r\nbids\tx\r\r\n"
+        ∷ codes "goods 2\nbids 1\ndummy 0\n 0 0.0123456 0 #\n" ∷ codes "goods 2\nbids 1\ndummy 0\n0 1 0 2 #\n" ∷ []) ≡
+        (Some (place 1 1 (codes "Goods") Header) ∷ Some (place 4 2 (codes "x\r") NotANumber)
+        ∷ Some (place 4 2 (codes "0.0123456") TooFine) ∷ Some (place 4 4 (codes "2") GoodRange) ∷ []) }
+    ensures ends { map first_place
+        (codes "goods 2\nbids 1\ndummy 0\n0 1 0\n" ∷ codes "goods \n" ∷ codes "goods 2\nbids 1\ndummy 0\n% x\n"
+        ∷ [] ∷ []) ≡
+        (Some (place 4 4 [] NoEnd) ∷ Some (place 1 2 [] Header) ∷ Some (place 5 1 [] Missing)
+        ∷ Some (place 1 1 [] Missing) ∷ []) }
+    ensures none { first_place (codes "goods 0\nbids 0\ndummy 0\n") ≡ None }
 {}
 
 /// Texts without a fault.

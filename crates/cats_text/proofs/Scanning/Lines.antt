@@ -49,12 +49,12 @@ pub words_blank : (b : ℕ) (bs : List ℕ) → is_blank b ≡ true → line_wor
 words_blank b bs e = rw e refl
 
 -- a word that ends with the line
-words_last : (a : ℕ) (w : List ℕ) → AllByRecursion (λ b. is_blank b ≡ false) (a ∷ w) → line_words (a ∷ w) ≡ (a ∷ w) ∷ []
+pub words_last : (a : ℕ) (w : List ℕ) → AllByRecursion (λ b. is_blank b ≡ false) (a ∷ w) → line_words (a ∷ w) ≡ (a ∷ w) ∷ []
 words_last a [] h = rw h.0 refl
 words_last a (b ∷ w) h = words_join a b w (line_words (b ∷ w)) h.0 h.1.0 ∙ ap (with_letter a) (words_last b w h.1)
 
 -- a word that a blank ends
-words_next : (a : ℕ) (w : List ℕ) (b : ℕ) (bs : List ℕ) → AllByRecursion (λ c. is_blank c ≡ false) (a ∷ w) → is_blank b ≡ true
+pub words_next : (a : ℕ) (w : List ℕ) (b : ℕ) (bs : List ℕ) → AllByRecursion (λ c. is_blank c ≡ false) (a ∷ w) → is_blank b ≡ true
     → line_words ((a ∷ w) ++ b ∷ bs) ≡ (a ∷ w) ∷ line_words bs
 words_next a [] b bs h e = words_split a b bs (line_words (b ∷ bs)) h.0 e ∙ ap (λ ws. (a ∷ []) ∷ ws) (words_blank b bs e)
 words_next a (c ∷ w) b bs h e = words_join a c (w ++ b ∷ bs) (line_words ((c ∷ w) ++ b ∷ bs)) h.0 h.1.0 ∙ ap (with_letter a) (words_next c w b bs h.1 e)

@@ -75,7 +75,7 @@ raw_scan-lines whole n (l ∷ ls) p count r c =
 
 -- ---- they are lines
 
-words_are : (bytes : List ℕ) → AllByRecursion IsWord (line_words bytes)
+pub words_are : (bytes : List ℕ) → AllByRecursion IsWord (line_words bytes)
 words_are [] = tt
 words_are (b ∷ bs) = joined (line_words bs) (words_are bs)
   where
@@ -92,7 +92,7 @@ words_are (b ∷ bs) = joined (line_words bs) (words_are bs)
       ]
     ]
 
-significant_pos : (ws : List Word) → is_significant ws ≡ true → 0 < length ws
+pub significant_pos : (ws : List Word) → is_significant ws ≡ true → 0 < length ws
 significant_pos [] e = absurd (both_ways false refl e)
 significant_pos (w ∷ ws) e = omega arith
 
@@ -215,7 +215,7 @@ EndsBlank-lines (b ∷ c ∷ cs) f =
       | false ↦ blank_with b some.0 some.1 later
     ])
 
-words_trailing : (bs : List ℕ) (b : ℕ) → is_blank b ≡ true → line_words (bs ++ b ∷ []) ≡ line_words bs
+pub words_trailing : (bs : List ℕ) (b : ℕ) → is_blank b ≡ true → line_words (bs ++ b ∷ []) ≡ line_words bs
 words_trailing [] b e = words_blank b [] e
 words_trailing (c ∷ []) b e =
     elim (is_blank c) as (λ t. cond t (line_words (b ∷ [])) (cond (begins_word (b ∷ [])) (with_letter c (line_words (b ∷ []))) ((c ∷ []) ∷ line_words (b ∷ [])))

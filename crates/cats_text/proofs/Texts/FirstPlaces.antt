@@ -1,0 +1,212 @@
+-- The place of the first fault: the parser's answers over the lines give it, and it has the first fault. The idea: each
+-- step of the search is a step of the definition, at what the parser keeps of the lines and words before.
+use Rattle.std.proofs.Common.{◌≡◌, ℕ, suc, ◌+◌, ◌<◌, ◌≤◌, Bool, true, false, ◌||◌, cond, List, [], ◌∷◌, ◌++◌, length, filter, refl, sym, ap, ap₂, ◌∙◌}
+use Rattle.std.proofs.Common.{subst, arith, Option, Some, None, Ok, Err, option_map, append-nil, append_assoc, length-append}
+use Rattle.std.proofs.lemmas.Bool.{lt-ltb}
+use Rattle.std.specs.Bool.{then_some}
+use Rattle.std.specs.Option.{option_or}
+use Rattle.std.specs.List.{AllByRecursion}
+use Rattle.cats_text.specs.Lines.{Word, RawLine, Line, raw_lines, blank_returns, line_words, is_significant, numbered, significant_lines, line_count}
+use Rattle.cats_text.specs.Faults.{word_fault, end_fault, words_fault, line_fault, lines_fault, first_fault, fault_at, is_line_due, has_bid_line}
+use Rattle.cats_text.specs.FaultPlaces.{PlainPlace, place_behind, words_place, lines_place, first_place, fault_of}
+use Rattle.cats_text.specs.Views.{plain_place}
+use Rattle.cats_text.specs.declared.fault_place.FaultPlace.{FaultPlace}
+use Rattle.cats_text.specs.Internal.Kept.{number_alone}
+use Rattle.cats_text.specs.Internal.Machine.{summary}
+use Rattle.cats_text.specs.Internal.Parsing.{Reading, start, word_read, line_read, is_due}
+use Rattle.cats_text.specs.Internal.Places.{Judged, judged_at, judged_then, words_judged, line_judged}
+use Rattle.cats_text.specs.Internal.Progress.{Progress}
+use Rattle.cats_text.specs.declared.parser.Stage.TheVariants.{Bid}
+use Rattle.cats_text.specs.declared.read_fault.Kind.{Kind}
+use Rattle.cats_text.specs.declared.read_fault.Kind.TheVariants.{Missing}
+use Rattle.cats_text.specs.declared.read_fault.ReadFault.{ReadFault}
+use Rattle.cats_text.proofs.Parsing.Lines.{word_step, line_step, due_step}
+use Rattle.cats_text.proofs.Parsing.States.{IsAt, stage_of, WordFollows, LineFollows}
+use Rattle.cats_text.proofs.Parsing.WholeLines.{IsWord}
+use Rattle.cats_text.proofs.Texts.FirstFaults.{at_start, words_are, significant_pos}
+
+-- ---- the words of a line
+
+abbrev pub WordsPlaced : ℕ → List (List Word) → List Word → List Word → Judged → Type 0
+WordsPlaced n lines before ws (Ok q) = (words_place n lines before ws ≡ None) × IsAt (lines ++ (before ++ ws) ∷ []) [] q
+WordsPlaced n lines before ws (Err place) = words_place n lines before ws ≡ Some place
+
+end_placed : (n : ℕ) (lines : List (List Word)) (before : List Word) (p : Progress) → 0 < length before → IsAt lines before p
+    → WordsPlaced n lines before [] (judged_at n (suc (length before)) [] (line_read p))
+end_placed n lines before p some at = by_end (line_read p) (line_step lines before p some at)
+  where
+    by_end : (r : Reading) → LineFollows lines before r → WordsPlaced n lines before [] (judged_at n (suc (length before)) [] r)
+    by_end (Ok q) f = (ap (option_map (place_behind n before [])) f.0, subst (λ ds. IsAt (lines ++ ds ∷ []) [] q) (sym (append-nil before)) f.1)
+    by_end (Err kind) f = ap (option_map (place_behind n before [])) f
+
+pub words_placed : (n : ℕ) (lines : List (List Word)) (before ws : List Word) (p : Progress) → AllByRecursion IsWord ws → 0 < length before + length ws
+    → IsAt lines before p → WordsPlaced n lines before ws (words_judged n (suc (length before)) ws p)
+words_placed n lines before [] p words some at = end_placed n lines before p (omega arith) at
+words_placed n lines before ([] ∷ ws) p words some at = absurd (let no : 0 < 0 = words.0 in omega arith)
+words_placed n lines before ((a ∷ w) ∷ ws) p words some at =
+    by_word (word_read p (summary (a ∷ w))) (word_step lines before a w p at)
+    (λ q at'. words_placed n lines (before ++ (a ∷ w) ∷ []) ws q words.1 (omega (arith, length-append before ((a ∷ w) ∷ []))) at')
+  where
+    later : Option PlainPlace
+    later = words_place n lines (before ++ (a ∷ w) ∷ []) ws
+
+    more : length (before ++ (a ∷ w) ∷ []) ≡ suc (length before)
+    more = omega (arith, length-append before ((a ∷ w) ∷ []))
+
+    behind : (r : Judged) → word_fault lines before (a ∷ w) ≡ None → WordsPlaced n lines (before ++ (a ∷ w) ∷ []) ws r
+        → WordsPlaced n lines before ((a ∷ w) ∷ ws) r
+    behind (Ok q) none f = (
+      ap (λ o. option_or (option_map (place_behind n before (a ∷ w)) o) later) none ∙ f.0,
+      subst (λ ds. IsAt (lines ++ ds ∷ []) [] q) (append_assoc before ((a ∷ w) ∷ []) ws) f.1,
+    )
+    behind (Err place) none f = ap (λ o. option_or (option_map (place_behind n before (a ∷ w)) o) later) none ∙ f
+
+    by_word : (r : Reading) → WordFollows lines before (a ∷ w) r
+        → ((q : Progress) → IsAt lines (before ++ (a ∷ w) ∷ []) q
+        → WordsPlaced n lines (before ++ (a ∷ w) ∷ []) ws (words_judged n (suc (length (before ++ (a ∷ w) ∷ []))) ws q))
+        → WordsPlaced n lines before ((a ∷ w) ∷ ws) (judged_then (judged_at n (suc (length before)) (a ∷ w) r) (words_judged n (suc (suc (length before))) ws))
+    by_word (Err kind) f next = ap (λ o. option_or (option_map (place_behind n before (a ∷ w)) o) later) f
+    by_word (Ok q) f next = behind (words_judged n (suc (suc (length before))) ws q) f.0
+        (subst (λ k. WordsPlaced n lines (before ++ (a ∷ w) ∷ []) ws (words_judged n (suc k) ws q)) more (next q f.1))
+
+-- ---- the lines so far
+
+abbrev pub kept : List Line → List Line
+kept ls = filter (λ l. is_significant l.words) ls
+
+-- the search is behind significant lines, and what it finds from the next line on, which has this number, is the place
+pub record IsBehind (text : List ℕ) (n : ℕ) (raws : List RawLine) (p : Progress) : Type 0 where
+  pub lines : List (List Word)
+  pub at : IsAt lines [] p
+  pub place : lines_place (line_count text) lines (kept (numbered n raws)) ≡ first_place text
+  pub number : n + length raws ≡ suc (line_count text)
+  pub count : length lines + length (kept (numbered n raws)) ≡ length (significant_lines text)
+
+pub at_first_line : (text : List ℕ) → IsBehind text 1 (raw_lines (blank_returns text)) (start (λ _. number_alone))
+at_first_line text = record { lines = []; at = at_start (λ _. number_alone); place = refl; number = omega arith; count = omega arith }
+
+kept_first : (n : ℕ) (raw : RawLine) (raws : List RawLine) → is_significant (line_words raw.bytes) ≡ true
+    → kept (numbered n (raw ∷ raws)) ≡ record { number = n; words = line_words raw.bytes; ended = raw.ended } ∷ kept (numbered (suc n) raws)
+kept_first n raw raws s = rw s refl
+
+kept_behind : (n : ℕ) (raw : RawLine) (raws : List RawLine) → is_significant (line_words raw.bytes) ≡ false
+    → kept (numbered n (raw ∷ raws)) ≡ kept (numbered (suc n) raws)
+kept_behind n raw raws s = rw s refl
+
+-- what the words of the next line give
+line_placed : (text : List ℕ) (n : ℕ) (raw : RawLine) (raws : List RawLine) (p : Progress) (b : IsBehind text n (raw ∷ raws) p)
+    → is_significant (line_words raw.bytes) ≡ true → WordsPlaced n b.lines [] (line_words raw.bytes) (words_judged n 1 (line_words raw.bytes) p)
+line_placed text n raw raws p b s =
+    words_placed n b.lines [] (line_words raw.bytes) p (words_are raw.bytes) (omega (arith, significant_pos (line_words raw.bytes) s)) b.at
+
+-- the place is in the next line
+pub line_stopped : (text : List ℕ) (n : ℕ) (raw : RawLine) (raws : List RawLine) (p : Progress) (place : PlainPlace) → IsBehind text n (raw ∷ raws) p
+    → line_judged n (line_words raw.bytes) p ≡ Err place → first_place text ≡ Some place
+line_stopped text n raw raws p place b judged = elim (is_significant (line_words raw.bytes)) as
+    (λ t. is_significant (line_words raw.bytes) ≡ t → cond t (words_judged n 1 (line_words raw.bytes) p) (Ok p) ≡ Err place → first_place text ≡ Some place) [
+      | true ↦ λ (s : is_significant (line_words raw.bytes) ≡ true) (j : words_judged n 1 (line_words raw.bytes) p ≡ Err place).
+          sym b.place ∙ ap (lines_place (line_count text) b.lines) (kept_first n raw raws s)
+          ∙ ap (λ o. option_or o (lines_place (line_count text) (b.lines ++ line_words raw.bytes ∷ []) (kept (numbered (suc n) raws))))
+          (subst (WordsPlaced n b.lines [] (line_words raw.bytes)) j (line_placed text n raw raws p b s))
+      | false ↦ λ (s : is_significant (line_words raw.bytes) ≡ false) (j : Ok p ≡ Err place). absurd cc
+    ] refl judged
+
+-- it is not, so the search goes on behind the line
+pub line_passed : (text : List ℕ) (n : ℕ) (raw : RawLine) (raws : List RawLine) (p q : Progress) → IsBehind text n (raw ∷ raws) p
+    → line_judged n (line_words raw.bytes) p ≡ Ok q → IsBehind text (suc n) raws q
+line_passed text n raw raws p q b judged = elim (is_significant (line_words raw.bytes)) as
+    (λ t. is_significant (line_words raw.bytes) ≡ t → cond t (words_judged n 1 (line_words raw.bytes) p) (Ok p) ≡ Ok q → IsBehind text (suc n) raws q) [
+      | true ↦ λ (s : is_significant (line_words raw.bytes) ≡ true) (j : words_judged n 1 (line_words raw.bytes) p ≡ Ok q).
+          let placed : WordsPlaced n b.lines [] (line_words raw.bytes) (Ok q) =
+          subst (WordsPlaced n b.lines [] (line_words raw.bytes)) j (line_placed text n raw raws p b s) in
+          record {
+            lines = b.lines ++ line_words raw.bytes ∷ [];
+            at = placed.1;
+            place = sym (ap (λ o. option_or o (lines_place (line_count text) (b.lines ++ line_words raw.bytes ∷ []) (kept (numbered (suc n) raws)))) placed.0)
+                ∙ sym (ap (lines_place (line_count text) b.lines) (kept_first n raw raws s)) ∙ b.place;
+            number = omega (arith, b.number);
+            count = omega (arith, b.count, ap (λ (ls : List Line). length ls) (kept_first n raw raws s), length-append b.lines (line_words raw.bytes ∷ []));
+          }
+      | false ↦ λ (s : is_significant (line_words raw.bytes) ≡ false) (j : Ok p ≡ Ok q).
+          let same : p ≡ q = cc in
+          record {
+            lines = b.lines;
+            at = subst (IsAt b.lines []) same b.at;
+            place = sym (ap (lines_place (line_count text) b.lines) (kept_behind n raw raws s)) ∙ b.place;
+            number = omega (arith, b.number);
+            count = omega (arith, b.count, ap (λ (ls : List Line). length ls) (kept_behind n raw raws s));
+          }
+    ] refl judged
+
+-- behind the last line
+pub lines_ended : (text : List ℕ) (n : ℕ) (p : Progress) → IsBehind text n [] p
+    → first_place text ≡ cond (is_due p) (Some (place_behind n [] [] Missing)) None
+lines_ended text n p b =
+    let behind : suc (line_count text) ≡ n = omega (arith, b.number) in
+    sym b.place ∙ ap₂ (λ (t : Bool) (k : ℕ). cond t (Some (place_behind k [] [] Missing)) None) (sym (due_step b.lines p b.at)) behind
+
+-- a bid line comes
+at_bids : (lines : List (List Word)) → stage_of lines ≡ Bid → 3 ≤ length lines
+at_bids [] s = absurd cc
+at_bids (_ ∷ []) s = absurd cc
+at_bids (_ ∷ _ ∷ []) s = absurd cc
+at_bids (_ ∷ _ ∷ _ ∷ ls) s = omega arith
+
+pub bid_line_comes : (text : List ℕ) (n : ℕ) (raw : RawLine) (raws : List RawLine) (p : Progress) → IsBehind text n (raw ∷ raws) p
+    → p.stage ≡ Bid → is_significant (line_words raw.bytes) ≡ true → has_bid_line text ≡ true
+bid_line_comes text n raw raws p b stage s =
+    let three : 3 ≤ length b.lines = at_bids b.lines (sym b.at.stage ∙ stage) in
+    lt-ltb 3 (length (significant_lines text)) (omega (arith, three, b.count, ap (λ (ls : List Line). length ls) (kept_first n raw raws s)))
+
+pub none_left : (text : List ℕ) → length text ≡ 0 → text ≡ []
+none_left [] e = refl
+none_left (b ∷ bs) e = absurd (omega arith)
+
+pub place_if : (b : Bool) (place : FaultPlace) → option_map plain_place (then_some b place) ≡ cond b (Some (plain_place place)) None
+place_if true place = refl
+place_if false place = refl
+
+-- ---- the fault at the place
+
+at_fault : (n : ℕ) (before : List Word) (text : Word) (o : Option Kind)
+    → option_map fault_of (option_map (place_behind n before text) o) ≡ option_map (fault_at n) o
+at_fault n before text None = refl
+at_fault n before text (Some kind) = refl
+
+or_fault : (n : ℕ) (before : List Word) (w : Word) (o later end : Option Kind) (place : Option PlainPlace)
+    → option_map fault_of place ≡ option_map (fault_at n) (option_or later end)
+    → option_map fault_of (option_or (option_map (place_behind n before w) o) place) ≡ option_map (fault_at n) (option_or (option_or o later) end)
+or_fault n before w None later end place e = e
+or_fault n before w (Some kind) later end place e = refl
+
+words_same : (n : ℕ) (lines : List (List Word)) (before ws : List Word)
+    → option_map fault_of (words_place n lines before ws) ≡ option_map (fault_at n) (option_or (words_fault lines before ws) (end_fault lines (before ++ ws)))
+words_same n lines before [] = at_fault n before [] (end_fault lines before)
+    ∙ ap (λ ds. option_map (fault_at n) (end_fault lines ds)) (sym (append-nil before))
+words_same n lines before (w ∷ ws) =
+    or_fault n before w (word_fault lines before w) (words_fault lines (before ++ w ∷ []) ws) (end_fault lines (before ++ w ∷ ws))
+    (words_place n lines (before ++ w ∷ []) ws)
+    (words_same n lines (before ++ w ∷ []) ws
+    ∙ ap (λ ds. option_map (fault_at n) (option_or (words_fault lines (before ++ w ∷ []) ws) (end_fault lines ds))) (append_assoc before (w ∷ []) ws))
+
+line_same : (lines : List (List Word)) (l : Line) → option_map fault_of (words_place l.number lines [] l.words) ≡ line_fault true lines l
+line_same lines l = words_same l.number lines [] l.words
+    ∙ elim l.ended as (λ t. option_map (fault_at l.number) (option_or (words_fault lines [] l.words) (end_fault lines l.words))
+    ≡ option_map (fault_at l.number) (option_or (words_fault lines [] l.words) (cond (t || true) (end_fault lines l.words) None)))
+    [ true ↦ refl | false ↦ refl ]
+
+lines_same : (count : ℕ) (lines : List (List Word)) (ls : List Line) → option_map fault_of (lines_place count lines ls) ≡ lines_fault true count lines ls
+lines_same count lines [] = elim (is_line_due lines) as
+    (λ t. option_map fault_of (cond t (Some (place_behind (suc count) [] [] Missing)) None) ≡ cond t (Some (fault_at (suc count) Missing)) None)
+    [ true ↦ refl | false ↦ refl ]
+lines_same count lines (l ∷ ls) =
+    joined (words_place l.number lines [] l.words) (line_fault true lines l) (line_same lines l) (lines_same count (lines ++ l.words ∷ []) ls)
+  where
+    joined : (o : Option PlainPlace) (f : Option ReadFault) → option_map fault_of o ≡ f
+        → option_map fault_of (lines_place count (lines ++ l.words ∷ []) ls) ≡ lines_fault true count (lines ++ l.words ∷ []) ls
+        → option_map fault_of (option_or o (lines_place count (lines ++ l.words ∷ []) ls)) ≡ option_or f (lines_fault true count (lines ++ l.words ∷ []) ls)
+    joined None f e rest = rest ∙ ap (λ o. option_or o (lines_fault true count (lines ++ l.words ∷ []) ls)) e
+    joined (Some place) f e rest = ap (λ o. option_or o (lines_fault true count (lines ++ l.words ∷ []) ls)) e
+
+pub place_has_fault : (text : List ℕ) → option_map fault_of (first_place text) ≡ first_fault text
+place_has_fault text = lines_same (line_count text) [] (significant_lines text)

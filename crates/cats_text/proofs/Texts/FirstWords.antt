@@ -1,0 +1,191 @@
+-- The first word of a line and the first line of a text, each cut where a search for a byte says. The idea: the bytes before
+-- the first one that passes a test are all of one sort, and the definitions go over such bytes at one go.
+use Rattle.std.proofs.Common.{◌≡◌, ℕ, zero, suc, ◌+◌, ◌<◌, ◌≤◌, min, Bool, true, false, not, ◌&&◌, cond, eqb, ltb, List, [], ◌∷◌, ◌++◌, length, take, drop}
+use Rattle.std.proofs.Common.{get_or, refl, sym, ap, ap₂, ◌∙◌, subst, arith, Some, None, ◌⊎◌, ⊎_elim, inl, inr, drop-cons, append-nil, length-append}
+use Rattle.std.proofs.lemmas.Bool.{both_ways, eqb-true, ltb-true, ltb-false, cases_lt}
+use Rattle.std.proofs.lemmas.List.{take-append-drop, drop_all, take_all, length-drop, length-take}
+use Rattle.std.proofs.lemmas.List.Sums.{fails_before_first, passes_at_first}
+use Rattle.std.specs.List.{AllByRecursion, position, position_or_len}
+use Rattle.std.specs.Option.{unwrap_or}
+use Rattle.cats_text.specs.Lines.{is_blank, raw_lines, with_byte, line_ends, blank_returns, line_byte, line_words}
+use Rattle.cats_text.specs.Internal.Places.{IsFirstWord, IsFirstLine, without_return}
+use Rattle.cats_text.proofs.Scanning.Lines.{IsNoEnd, words_blank, words_last, words_next}
+use Rattle.cats_text.proofs.Texts.FirstFaults.{words_trailing}
+
+-- ---- where a byte is found
+
+-- the first that passes, or the end
+pub record IsFound (test : ℕ → Bool) (xs : List ℕ) (n : ℕ) : Type 0 where
+  pub within : n ≤ length xs
+  pub before : AllByRecursion (λ b. test b ≡ false) (take n xs)
+  pub passes : n < length xs → test (get_or xs n 0) ≡ true
+
+all_taken : (test : ℕ → Bool) (n : ℕ) (xs : List ℕ) → n ≤ length xs → ((k : ℕ) → k < n → test (get_or xs k 0) ≡ false)
+    → AllByRecursion (λ b. test b ≡ false) (take n xs)
+all_taken test zero xs l h = tt
+all_taken test (suc n) [] l h = absurd (omega arith)
+all_taken test (suc n) (x ∷ xs) l h = (h 0 (omega arith), all_taken test n xs (omega arith) (λ k m. h (suc k) (omega arith)))
+
+pub found_at : (test : ℕ → Bool) (xs : List ℕ) (n : ℕ) → n ≡ unwrap_or (position test xs) (length xs) → IsFound test xs n
+found_at test xs n e = elim (ltb (position_or_len test xs) (length xs)) as
+    (λ t. ltb (position_or_len test xs) (length xs) ≡ t → n ≡ unwrap_or (cond t (Some (position_or_len test xs)) None) (length xs) → IsFound test xs n) [
+      | true ↦ λ (l : ltb (position_or_len test xs) (length xs) ≡ true) (is : n ≡ position_or_len test xs).
+          let within : position_or_len test xs < length xs = ltb-true (position_or_len test xs) (length xs) l in
+          record {
+            within = omega arith;
+            before = all_taken test n xs (omega arith) (λ k m. fails_before_first test xs k 0 (omega arith));
+            passes = λ m. ap (λ i. test (get_or xs i 0)) is ∙ passes_at_first test xs 0 within;
+          }
+      | false ↦ λ (l : ltb (position_or_len test xs) (length xs) ≡ false) (is : n ≡ length xs).
+          let beyond : length xs ≤ position_or_len test xs = ltb-false (position_or_len test xs) (length xs) l in
+          record {
+            within = omega arith;
+            before = all_taken test n xs (omega arith) (λ k m. fails_before_first test xs k 0 (omega arith));
+            passes = λ m. absurd (omega arith);
+          }
+    ] refl e
+
+-- ---- the first word
+
+not_true : (b : Bool) → not b ≡ true → b ≡ false
+not_true true h = absurd (both_ways false refl h)
+not_true false h = refl
+
+not_false : (b : Bool) → not b ≡ false → b ≡ true
+not_false true h = refl
+not_false false h = absurd (both_ways true h refl)
+
+-- blanks at the start are no words
+behind_blanks : (n : ℕ) (xs : List ℕ) → AllByRecursion (λ b. not (is_blank b) ≡ false) (take n xs) → line_words xs ≡ line_words (drop n xs)
+behind_blanks zero xs h = refl
+behind_blanks (suc n) [] h = refl
+behind_blanks (suc n) (x ∷ xs) h = words_blank x xs (not_false (is_blank x) h.0) ∙ behind_blanks n xs h.1
+
+pub no_word : (xs : List ℕ) (n : ℕ) → IsFound (λ b. not (is_blank b)) xs n → n ≡ length xs → line_words xs ≡ []
+no_word xs n found e = behind_blanks n xs found.before ∙ ap line_words (drop_all n xs (omega arith))
+
+-- letters at the start, up to a blank or the end, are the first word
+leading : (w rest : List ℕ) → 0 < length w → AllByRecursion (λ b. is_blank b ≡ false) w → (0 < length rest → is_blank (get_or rest 0 0) ≡ true)
+    → line_words (w ++ rest) ≡ w ∷ line_words rest
+leading [] rest some letters ends = absurd (omega arith)
+leading (a ∷ w) [] some letters ends = ap line_words (append-nil (a ∷ w)) ∙ words_last a w letters
+leading (a ∷ w) (b ∷ bs) some letters ends =
+    let blank : is_blank b ≡ true = ends (omega arith) in
+    words_next a w b bs letters blank ∙ ap (λ ws. (a ∷ w) ∷ ws) (sym (words_blank b bs blank))
+
+first_kept : (x : ℕ) (xs : List ℕ) (n : ℕ) → is_blank x ≡ false → IsFound is_blank (x ∷ xs) n → 0 < n
+first_kept x xs zero letter found = absurd (both_ways (is_blank x) letter (found.passes (omega arith)))
+first_kept x xs (suc n) letter found = omega arith
+
+word_of_letters : (ahead : List ℕ) (n : ℕ) → 0 < length ahead → is_blank (get_or ahead 0 0) ≡ false → IsFound is_blank ahead n
+    → line_words ahead ≡ take n ahead ∷ line_words (drop n ahead)
+word_of_letters [] n some letter found = absurd (omega arith)
+word_of_letters (x ∷ xs) n some letter found =
+    let kept : 0 < n = first_kept x xs n letter found in
+    let within = found.within in
+    sym (ap line_words (take-append-drop n (x ∷ xs)))
+    ∙ leading (take n (x ∷ xs)) (drop n (x ∷ xs)) (omega (arith, length-take n (x ∷ xs))) found.before
+    (λ some. ap is_blank (get-drop (x ∷ xs) n) ∙ found.passes (omega (arith, length-drop n (x ∷ xs))))
+  where
+    get-drop : (ys : List ℕ) (k : ℕ) → get_or (drop k ys) 0 0 ≡ get_or ys k 0
+    get-drop ys zero = refl
+    get-drop [] (suc k) = refl
+    get-drop (y ∷ ys) (suc k) = get-drop ys k
+
+pub first_word : (line : List ℕ) (start end : ℕ) → IsFound (λ b. not (is_blank b)) line start → start < length line → IsFound is_blank (drop start line) end
+    → IsFirstWord line (take end (drop start line)) (drop end (drop start line))
+first_word line start end blanks some letters =
+    let ahead : drop start line ≡ get_or line start 0 ∷ drop (suc start) line = drop-cons line start 0 some in
+    let letter : is_blank (get_or line start 0) ≡ false = not_true (is_blank (get_or line start 0)) (blanks.passes some) in
+    let more : 0 < length (drop start line) = omega (arith, length-drop start line) in
+    let kept : 0 < end = first_kept (get_or line start 0) (drop (suc start) line) end letter (subst (λ xs. IsFound is_blank xs end) ahead letters) in
+    record {
+      words = behind_blanks start line blanks.before
+          ∙ word_of_letters (drop start line) end more (ap (λ xs. is_blank (get_or xs 0 0)) ahead ∙ letter) letters;
+      within = omega (arith, length-drop start line, length-drop end (drop start line));
+    }
+
+-- ---- the first line
+
+returns_cut : (xs bs : List ℕ) → blank_returns (xs ++ 10 ∷ bs) ≡ blank_returns xs ++ 10 ∷ blank_returns bs
+returns_cut [] bs = refl
+returns_cut (a ∷ []) bs = refl
+returns_cut (a ∷ b ∷ xs) bs = ap (λ ds. line_byte a (b ∷ xs) ∷ ds) (returns_cut (b ∷ xs) bs)
+
+byte_no_end : (b : ℕ) (bs : List ℕ) → eqb b 10 ≡ false → eqb (line_byte b bs) 10 ≡ false
+byte_no_end b bs h = elim (eqb b 13 && line_ends bs) as (λ t. eqb (cond t 32 b) 10 ≡ false) [ true ↦ refl | false ↦ h ]
+
+returns_no_end : (xs : List ℕ) → AllByRecursion IsNoEnd xs → AllByRecursion IsNoEnd (blank_returns xs)
+returns_no_end [] h = tt
+returns_no_end (b ∷ bs) h = (byte_no_end b bs h.0, returns_no_end bs h.1)
+
+lines_cut : (xs bs : List ℕ) → AllByRecursion IsNoEnd xs → raw_lines (xs ++ 10 ∷ bs) ≡ record { bytes = xs; ended = true } ∷ raw_lines bs
+lines_cut [] bs h = refl
+lines_cut (x ∷ xs) bs h = rw h.0 (ap (with_byte x) (lines_cut xs bs h.1))
+
+lines_last : (x : ℕ) (xs : List ℕ) → AllByRecursion IsNoEnd (x ∷ xs) → raw_lines (x ∷ xs) ≡ record { bytes = x ∷ xs; ended = false } ∷ []
+lines_last x [] h = rw h.0 refl
+lines_last x (y ∷ ys) h = rw h.0 (ap (with_byte x) (lines_last y ys h.1))
+
+-- a CR at the end of a line is a blank, and no other is
+returns_of_line : (xs : List ℕ) → AllByRecursion IsNoEnd xs → (blank_returns xs ≡ without_return xs) ⊎ (blank_returns xs ≡ without_return xs ++ 32 ∷ [])
+returns_of_line [] h = inl refl
+returns_of_line (b ∷ []) h = elim (eqb b 13) as
+    (λ t. (cond (t && true) 32 b ∷ [] ≡ cond t [] (b ∷ [])) ⊎ (cond (t && true) 32 b ∷ [] ≡ cond t [] (b ∷ []) ++ 32 ∷ []))
+    [ true ↦ inr refl | false ↦ inl refl ]
+returns_of_line (b ∷ c ∷ cs) h = ⊎_elim
+    (λ (e : blank_returns (c ∷ cs) ≡ without_return (c ∷ cs)). inl (ap₂ (λ (k : ℕ) (ds : List ℕ). k ∷ ds) stays e))
+    (λ (e : blank_returns (c ∷ cs) ≡ without_return (c ∷ cs) ++ 32 ∷ []). inr (ap₂ (λ (k : ℕ) (ds : List ℕ). k ∷ ds) stays e))
+    (returns_of_line (c ∷ cs) h.1)
+  where
+    stays : line_byte b (c ∷ cs) ≡ b
+    stays = ap (λ t. cond (eqb b 13 && t) 32 b) h.1.0 ∙ elim (eqb b 13) as (λ t. cond (t && false) 32 b ≡ b) [ true ↦ refl | false ↦ refl ]
+
+words_of_line : (xs : List ℕ) → AllByRecursion IsNoEnd xs → line_words (blank_returns xs) ≡ line_words (without_return xs)
+words_of_line xs h = ⊎_elim
+    (λ (e : blank_returns xs ≡ without_return xs). ap line_words e)
+    (λ (e : blank_returns xs ≡ without_return xs ++ 32 ∷ []). ap line_words e ∙ words_trailing (without_return xs) 32 refl)
+    (returns_of_line xs h)
+
+pub without_last : (xs : List ℕ) → without_return (xs ++ 13 ∷ []) ≡ xs
+without_last [] = refl
+without_last (x ∷ []) = refl
+without_last (x ∷ y ∷ ys) = ap (λ ds. x ∷ ds) (without_last (y ∷ ys))
+
+pub with_last : (xs : List ℕ) (b : ℕ) → eqb b 13 ≡ false → without_return (xs ++ b ∷ []) ≡ xs ++ b ∷ []
+with_last [] b e = ap (λ t. cond t [] (b ∷ [])) e
+with_last (x ∷ []) b e = ap (λ ds. x ∷ ds) (with_last [] b e)
+with_last (x ∷ y ∷ ys) b e = ap (λ ds. x ∷ ds) (with_last (y ∷ ys) b e)
+
+line_to_end : (xs : List ℕ) → 0 < length xs → AllByRecursion IsNoEnd xs → IsFirstLine xs (without_return xs) []
+line_to_end [] some h = absurd (omega arith)
+line_to_end (x ∷ xs) some h = record {
+  raw = record { bytes = blank_returns (x ∷ xs); ended = false };
+  lines = lines_last (line_byte x xs) (blank_returns xs) (returns_no_end (x ∷ xs) h);
+  words = words_of_line (x ∷ xs) h;
+  within = some;
+}
+
+line_to_feed : (xs bs : List ℕ) → AllByRecursion IsNoEnd xs → IsFirstLine (xs ++ 10 ∷ bs) (without_return xs) bs
+line_to_feed xs bs h = record {
+  raw = record { bytes = blank_returns xs; ended = true };
+  lines = ap raw_lines (returns_cut xs bs) ∙ lines_cut (blank_returns xs) (blank_returns bs) (returns_no_end xs h);
+  words = words_of_line xs h;
+  within = omega (arith, length-append xs (10 ∷ bs));
+}
+
+pub first_line : (text : List ℕ) (end next : ℕ) → 0 < length text → IsFound (λ b. eqb b 10) text end → next ≡ min (length text) (end + 1)
+    → IsFirstLine text (without_return (take end text)) (drop next text)
+first_line text end next some found is = ⊎_elim
+    (λ (l : end < length text).
+    let behind : suc end ≡ next = omega (arith, is) in
+    let cut : text ≡ take end text ++ 10 ∷ drop next text =
+    sym (take-append-drop end text) ∙ ap (λ ds. take end text ++ ds) (drop-cons text end 0 l
+    ∙ ap₂ (λ (b : ℕ) (k : ℕ). b ∷ drop k text) (eqb-true (get_or text end 0) 10 (found.passes l)) behind) in
+    subst (λ t. IsFirstLine t (without_return (take end text)) (drop next text)) (sym cut) (line_to_feed (take end text) (drop next text) found.before))
+    (λ (l : length text ≤ end).
+    let all : take end text ≡ text = take_all end text l in
+    let none : drop next text ≡ [] = drop_all next text (omega (arith, is)) in
+    subst (λ t. IsFirstLine text (without_return (take end text)) t) (sym none)
+    (subst (λ t. IsFirstLine text (without_return t) []) (sym all) (line_to_end text some (subst (AllByRecursion IsNoEnd) all found.before))))
+    (cases_lt end (length text))

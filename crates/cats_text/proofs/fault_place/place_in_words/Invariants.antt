@@ -1,0 +1,14 @@
+use Rattle.std.proofs.Common.{◌≡◌, ◌+◌, ◌≤◌, length}
+use Rattle.cats_text.specs.Lines.{line_words}
+use Rattle.cats_text.specs.Internal.Places.{seen, words_judged}
+use Rattle.cats_text.proofs.fault_place.place_in_words.Given as goal
+
+abbrev pub invariant-loop-text : goal.invariant-loop-text
+invariant-loop-text l = record {
+  judged : words_judged l.number l.word (line_words l.rest) (seen l.parser) ≡ words_judged l.number 1 (line_words l.line) (seen l.fn.parser);
+  stage : l.parser.stage ≡ l.fn.parser.stage;
+  count : l.word + length l.rest ≤ 1 + length l.line;
+}
+
+abbrev pub decreases-loop-text : goal.decreases-loop-text
+decreases-loop-text l = length l.rest

@@ -1,0 +1,51 @@
+use Rattle.std.proofs.Common.{◌≡◌, ℕ, List, [], length, ap, ◌∙◌, sym, subst, arith, Some, None, option_map, cond, Ok, Err, add-one}
+use Rattle.std.proofs.lemmas.Bool.{eqb-true}
+use Rattle.cats_text.specs.Lines.{line_words, raw_lines, blank_returns}
+use Rattle.cats_text.specs.FaultPlaces.{place_behind}
+use Rattle.cats_text.specs.Internal.Places.{seen, line_judged, GivesPlace}
+use Rattle.cats_text.specs.Views.{plain_place}
+use Rattle.cats_text.specs.declared.read_fault.Kind.TheVariants.{Missing}
+use Rattle.cats_text.proofs.Texts.FirstPlaces.{IsBehind, at_first_line, line_stopped, line_passed, lines_ended, none_left, place_if}
+use Rattle.cats_text.proofs.fault_place.place_of_fault.Goals as goal
+
+pub loop-rest-init : goal.loop-rest-init
+loop-rest-init c = record {
+  behind = subst (IsBehind c.args.text.now 1 (raw_lines (blank_returns c.args.text.now))) (sym c.new-parser.ensures) (at_first_line c.args.text.now);
+  count = omega arith;
+}
+
+pub loop-rest-preserved : goal.loop-rest-preserved
+loop-rest-preserved c =
+    let f = c.split_line.ensures in
+    let p = seen c.loop-rest.parser in
+    let judged = line_judged c.loop-rest.number (line_words c.split_line.result.0.now) p in
+    let gives : judged ≡ Ok (seen c.place_in_line.new.parser) =
+    subst (λ o. GivesPlace (seen c.place_in_line.new.parser) o judged) c.in_default.is c.in_ok-place.ensures.place in
+    let next = line_passed c.args.text.now c.loop-rest.number f.raw (raw_lines (blank_returns c.split_line.result.1.now)) p (seen c.place_in_line.new.parser)
+    (subst (λ raws. IsBehind c.args.text.now c.loop-rest.number raws p) f.lines c.loop-rest.invariant.behind)
+    (ap (λ ws. line_judged c.loop-rest.number ws p) f.words ∙ gives) in
+    record {
+      behind = rw add-one next;
+      count = let within = f.within in let count = c.loop-rest.invariant.count in omega arith;
+    }
+
+pub returns-in-Some-clause-place : goal.returns-in-Some-clause-place
+returns-in-Some-clause-place c =
+    let f = c.split_line.ensures in
+    let p = seen c.loop-rest.parser in
+    let judged = line_judged c.loop-rest.number (line_words c.split_line.result.0.now) p in
+    let gives : judged ≡ Err (plain_place c.in-Some.place) =
+    subst (λ o. GivesPlace (seen c.place_in_line.new.parser) o judged) c.in-Some.is c.in_ok-place.ensures.place in
+    sym (line_stopped c.args.text.now c.loop-rest.number f.raw (raw_lines (blank_returns c.split_line.result.1.now)) p (plain_place c.in-Some.place)
+    (subst (λ raws. IsBehind c.args.text.now c.loop-rest.number raws p) f.lines c.loop-rest.invariant.behind)
+    (ap (λ ws. line_judged c.loop-rest.number ws p) f.words ∙ gives))
+
+pub returns-clause-place : goal.returns-clause-place
+returns-clause-place c =
+    let rest : List ℕ = c.loop-rest.rest.now in
+    let p = seen c.loop-rest.parser in
+    let none : rest ≡ [] = none_left rest (eqb-true (length rest) 0 (sym c.is_empty.ensures ∙ c.loop-rest-test.false)) in
+    ap (option_map plain_place) c.then_some.ensures ∙ place_if c.is_due.result _
+    ∙ ap (λ b. cond b (Some (place_behind c.loop-rest.number [] [] Missing)) None) c.is_due.ensures
+    ∙ sym (lines_ended c.args.text.now c.loop-rest.number p
+    (subst (λ (t : List ℕ). IsBehind c.args.text.now c.loop-rest.number (raw_lines (blank_returns t)) p) none c.loop-rest.invariant.behind))

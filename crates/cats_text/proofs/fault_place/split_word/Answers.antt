@@ -1,0 +1,30 @@
+use Rattle.std.proofs.Common.{◌≡◌, ℕ, List, not, Some, ap, ◌∙◌, sym, length, take, drop, refl, subst, ◌-◌}
+use Rattle.std.specs.List.{position}
+use Rattle.std.specs.Option.{unwrap_or}
+use Rattle.std.proofs.lemmas.List.{take_rest}
+use Rattle.std.proofs.lemmas.List.Quantifiers.{position-Some}
+use Rattle.cats_text.specs.Lines.{is_blank}
+use Rattle.cats_text.specs.Internal.Places.{IsFirstWord}
+use Rattle.cats_text.proofs.Texts.FirstWords.{IsFound, found_at, first_word, no_word}
+use Rattle.cats_text.proofs.fault_place.split_word.Goals as goal
+
+pub returns-in_default : goal.returns-in_default
+returns-in_default c = no_word c.args.line.now (length c.args.line.now)
+    (found_at (λ b. not (is_blank b)) c.args.line.now (length c.args.line.now)
+    (ap (λ o. unwrap_or o (length c.args.line.now)) (sym c.in_default.is ∙ c.first_letter.ensures)))
+    refl
+
+pub returns : goal.returns
+returns c =
+    let line : List ℕ = c.args.line.now in
+    let start : ℕ = c.in-Some.start in
+    let end : ℕ = c.unwrap_or-end.result in
+    let is : position (λ b. not (is_blank b)) line ≡ Some start = sym c.first_letter.ensures ∙ c.in-Some.is in
+    let rest : take (length line - start) (drop start line) ≡ drop start line = take_rest line start in
+    let letters : IsFound is_blank (drop start line) end = subst (λ xs. IsFound is_blank xs end) rest
+    (found_at is_blank (take (length line - start) (drop start line)) end (c.unwrap_or-end.ensures
+    ∙ ap (λ o. unwrap_or o (length (take (length line - start) (drop start line)))) c.first_blank.ensures)) in
+    let blanks : IsFound (λ b. not (is_blank b)) line start = found_at (λ b. not (is_blank b)) line start (ap (λ o. unwrap_or o (length line)) (sym is)) in
+    let some = position-Some (λ b. not (is_blank b)) line start 0 is in
+    subst (λ xs. IsFirstWord line (take end xs) (take (length xs - end) (drop end xs))) (sym rest)
+    (subst (λ xs. IsFirstWord line (take end (drop start line)) xs) (sym (take_rest (drop start line) end)) (first_word line start end blanks some.0 letters))
