@@ -111,10 +111,10 @@ module _ (p : ℕ → Bool) where
 -- ---- the numbers of a file's bids that pass a test
 
 module _ (f : PlainFile) where
-  in_numbers : (i : ℕ) → i < length f.bids → has_good (numbers_of f) i ≡ true
+  pub in_numbers : (i : ℕ) → i < length f.bids → has_good (numbers_of f) i ≡ true
   in_numbers i l = has_from (numbers_of f) i (range_contains (length f.bids) i l)
 
-  passing_rise : (p : ℕ → Bool) → IsRising (filter p (numbers_of f))
+  pub passing_rise : (p : ℕ → Bool) → IsRising (filter p (numbers_of f))
   passing_rise p = rising_from_pairs (filter p (numbers_of f)) (AllPairs-filter (λ i j. i < j) p (numbers_of f) (range_rising 0 (length f.bids)))
 
   pub objective_is_revenue : (winners : List ℕ) → IsBundle (length f.bids) winners → objective f winners ≡ revenue f winners
@@ -143,7 +143,7 @@ in_dummy : (G : ℕ) (o : Option ℕ) (g : ℕ) → has_good (dummy_good G o) g 
 in_dummy G None g h = absurd (both_ways false refl h)
 in_dummy G (Some d) g h = ⊎_elim (λ (e : G + d ≡ g). (d, refl, e)) (λ (k : false ≡ true). absurd (both_ways false refl k)) (has_cases (G + d) [] g h)
 
-same_dummy : (o p : Option ℕ) → share_dummy o p ≡ true → (d : ℕ) × (o ≡ Some d) × (p ≡ Some d)
+pub same_dummy : (o p : Option ℕ) → share_dummy o p ≡ true → (d : ℕ) × (o ≡ Some d) × (p ≡ Some d)
 same_dummy None p s = absurd (both_ways false refl s)
 same_dummy (Some d) None s = absurd (both_ways false refl s)
 same_dummy (Some d) (Some e) s = (d, refl, ap Some (eqb-true e d s))
@@ -155,7 +155,7 @@ module _ (G D : ℕ) (a b : PlainBid) (is_a : IsBid G D a) (is_b : IsBid G D b) 
   below_b : (g : ℕ) → has_good b.goods g ≡ true → g < G
   below_b g h = has_below G b.goods g (below-from G b.goods is_b.below) h
 
-  share_none : IsTrue (can_both_win a b) → (g : ℕ) → has_good (goods_of G a) g ≡ true → has_good (goods_of G b) g ≡ true → ⊥
+  pub share_none : IsTrue (can_both_win a b) → (g : ℕ) → has_good (goods_of G a) g ≡ true → has_good (goods_of G b) g ≡ true → ⊥
   share_none win g h k =
       let parts = and_parts (are_apart a.goods b.goods) (not (share_dummy a.dummy b.dummy)) win in
       ⊎_elim
@@ -176,7 +176,7 @@ module _ (G D : ℕ) (a b : PlainBid) (is_a : IsBid G D a) (is_b : IsBid G D b) 
       (has_either b.goods (dummy_good G b.dummy) g k))
       (has_either a.goods (dummy_good G a.dummy) g h)
 
-  both_win : ((g : ℕ) → g < G + D → has_good (goods_of G a) g ≡ true → has_good (goods_of G b) g ≡ true → ⊥) → IsTrue (can_both_win a b)
+  pub both_win : ((g : ℕ) → g < G + D → has_good (goods_of G a) g ≡ true → has_good (goods_of G b) g ≡ true → ⊥) → IsTrue (can_both_win a b)
   both_win clash =
       and_from (are_apart a.goods b.goods) (not (share_dummy a.dummy b.dummy))
       (apart_from a.goods b.goods (λ g h. false_from_ne_true (has_good b.goods g) (λ k.

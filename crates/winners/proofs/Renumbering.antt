@@ -1,6 +1,6 @@
 -- Kept bids and those of the canonical file. A kept bid and the bid that it is there have one price and the same goods, and two kept bids
--- have one dummy good exactly if the two have one there, since the dummy goods of a canonical file stand for different ones. So bids that
--- can win on one side can win on the other.
+-- have one dummy good exactly if the two have one there, since the dummy goods of a canonical file are different ones. So bids that can win
+-- together in one of the files can win together in the other.
 use Rattle.std.proofs.Common.{◌≡◌, ◌≢◌, ℕ, ◌<◌, ◌≤◌, Bool, true, not, ⊎_elim, List, [], ◌∷◌, length, map, get_or, refl, sym, ap, ◌∙◌, subst, subst₂}
 use Rattle.std.proofs.Common.{Option, Some, None, arith, nat_cmp}
 use Rattle.std.specs.Prelude.{All, AllPairs}

@@ -1,12 +1,15 @@
 //! What is promised of winners, over the definitions alone.
 
-ghost use Rattle.std.specs.Prelude.{◌≡◌, ℕ, ◌<◌, ◌≤◌, List, length, All};
+ghost use Rattle.std.specs.Prelude.{◌≡◌, ◌↔◌, ℕ, ◌<◌, ◌≤◌, List, length, All, Contains, Ok, Err};
 ghost use Rattle.goods_set.specs.Bundles.{IsBundle, IsInside};
 ghost use Rattle.bid_file.specs.Files.{IsPlainFile, PlainFile};
 ghost use Rattle.canon.specs.Canonical.{canonical_file};
 ghost use Rattle.canon.specs.Sameness.{AreSameFiles};
 ghost use Rattle.explain.specs.Bids.{bid_at};
 ghost use Rattle.explain.specs.Reasons.{Keep, reason_of};
+ghost use Rattle.winners.specs.AllocationVerdicts.{AreOneBidders, IsFirstClash, IsLeastShared, allocation_verdict};
+ghost use Rattle.winners.specs.AllocationVerdicts.{named_bids};
+ghost use Rattle.winners.specs.declared.allocation_verdict.AllocationVerdict.TheVariants.{Revenue, SharedBidder, SharedGood};
 ghost use Rattle.winners.specs.Allocations.{AreWinners, IsAllocation, greatest_revenue, revenue};
 ghost use Rattle.winners.specs.KeptWinners.{AreKept, in_canonical_file, in_place_of, kept_as, number_kept_as};
 ghost use Rattle.winners.specs.KeptWinners.{with_kept_bids};
@@ -82,4 +85,39 @@ pub fn lp_is_winner_determination()
         → AreRowsMet f winners → objective f winners ≤ greatest_revenue f }
     ensures reached { (f : PlainFile) → IsPlainFile f → ((winners : List ℕ) × IsBundle (length f.bids) winners
         × AreRowsMet f winners × (objective f winners ≡ greatest_revenue f)) }
+{}
+
+/// The named bids are a rising list of the named numbers, if the file has them all.
+pub fn named_bids_are_the_named()
+    ensures numbers { (f : PlainFile) (named : List ℕ) → IsBundle (length f.bids) (named_bids f named) }
+    ensures members { (f : PlainFile) (named : List ℕ) → All (λ i. i < length f.bids) named → (i : ℕ)
+        → Contains (named_bids f named) i ↔ Contains named i }
+{}
+
+/// The verdict is a revenue exactly if the file has all named bids, and they are an allocation. Then it is their revenue.
+pub fn allocations_have_their_revenue()
+    ensures allocation { (f : PlainFile) (named : List ℕ) → All (λ i. i < length f.bids) named
+        → IsAllocation f (named_bids f named) → allocation_verdict f named ≡ Ok (Revenue (revenue f (named_bids f named))) }
+    ensures within { (f : PlainFile) (named : List ℕ) (n : ℕ) → allocation_verdict f named ≡ Ok (Revenue n)
+        → All (λ i. i < length f.bids) named }
+    ensures back { (f : PlainFile) (named : List ℕ) (n : ℕ) → allocation_verdict f named ≡ Ok (Revenue n)
+        → IsAllocation f (named_bids f named) }
+    ensures revenue { (f : PlainFile) (named : List ℕ) (n : ℕ) → allocation_verdict f named ≡ Ok (Revenue n)
+        → n ≡ revenue f (named_bids f named) }
+{}
+
+/// Any other verdict names the first two named bids that cannot both win, and what they share, or a named number that
+/// the file does not have.
+pub fn other_verdicts_are_true()
+    ensures good { (f : PlainFile) → IsPlainFile f → (named : List ℕ) (i j good : ℕ)
+        → allocation_verdict f named ≡ Ok (SharedGood i j good) → IsLeastShared (bid_at f i).goods (bid_at f j).goods good }
+    ensures bidder { (f : PlainFile) (named : List ℕ) (i j dummy : ℕ)
+        → allocation_verdict f named ≡ Ok (SharedBidder i j dummy)
+        → AreOneBidders (bid_at f i) (bid_at f j) dummy }
+    ensures first_of_good { (f : PlainFile) (named : List ℕ) (i j good : ℕ)
+        → allocation_verdict f named ≡ Ok (SharedGood i j good) → IsFirstClash f named i j }
+    ensures first_of_bidder { (f : PlainFile) (named : List ℕ) (i j dummy : ℕ)
+        → allocation_verdict f named ≡ Ok (SharedBidder i j dummy) → IsFirstClash f named i j }
+    ensures missing { (f : PlainFile) (named : List ℕ) (i : ℕ) → allocation_verdict f named ≡ Err i
+        → Contains named i × (length f.bids ≤ i) }
 {}

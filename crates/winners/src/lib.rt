@@ -1,9 +1,19 @@
-//! The greatest revenue of a file, which its canonical file has too, and its winner determination problem as a text.
+//! The greatest revenue of a file, which its canonical file has too, its winner determination problem as a text, and whether
+//! named bids are an allocation.
 #![tactic(auto)]
 
+mod allocation_verdict;
+mod bid_numbers;
 mod bids_by_good;
+mod clashes;
+mod judging;
 pub mod laws;
 mod lp;
+#[cfg(test)]
+mod tests;
 pub mod worked;
 
+pub use allocation_verdict::{AllocationVerdict, allocation_status, allocation_text};
+pub use bid_numbers::{BidNumbersFault, read_bid_numbers};
+pub use judging::judge_allocation;
 pub use lp::lp_text;

@@ -97,7 +97,7 @@ fn push_variables(text: &mut Vec<u8>, file: &PackedFile) -> Result<(), AllocErro
 }
 
 /// Appends a number between two texts.
-fn push_numbered(
+pub(crate) fn push_numbered(
     text: &mut Vec<u8>,
     before: &[u8],
     number: usize,

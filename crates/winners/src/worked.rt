@@ -1,10 +1,13 @@
 //! Worked examples of the definitions, computed by the prover.
 
-ghost use Rattle.std.specs.Prelude.{◌≡◌, [], ◌∷◌, codes, true, false};
+ghost use Rattle.std.specs.Prelude.{◌≡◌, [], ◌∷◌, codes, true, false, None, Some, Ok, Err};
 ghost use Rattle.explain.specs.Examples.{file, or_bid, xor_bid};
+ghost use Rattle.winners.specs.AllocationVerdicts.{allocation_text, allocation_verdict};
 ghost use Rattle.winners.specs.Allocations.{allocations, can_both_win, greatest_revenue};
+ghost use Rattle.winners.specs.BidNumbers.{bid_numbers, faulty_line, lines_in};
 ghost use Rattle.winners.specs.KeptWinners.{in_canonical_file, in_place_of, kept_as, with_kept_bids};
 ghost use Rattle.winners.specs.LpTexts.{lp_rows, lp_text};
+ghost use Rattle.winners.specs.declared.allocation_verdict.AllocationVerdict.TheVariants.{Revenue, SharedBidder, SharedGood};
 
 /// Which two bids can both win.
 pub fn pairs()
@@ -79,4 +82,71 @@ pub fn lp_texts()
         "Maximize\n revenue:\n + 3.25 x0\n + 0.000001 x1\nSubject To\n g0:\n + x0\n + x1\n <= 1\nBinary\n x0\n x1\nEnd\n" }
     ensures xor_bids { lp_text (file 2 1 (xor_bid 0 (0 ∷ []) 3000000 ∷ xor_bid 0 (1 ∷ []) 0 ∷ [])) ≡ codes
         "Maximize\n revenue:\n + 3 x0\n + 0 x1\nSubject To\n d0:\n + x0\n + x1\n <= 1\nBinary\n x0\n x1\nEnd\n" }
+{}
+
+/// Named bids that are an allocation, in any order and repeated.
+pub fn revenues()
+    ensures no_bids { allocation_verdict (file 1 0 (or_bid (0 ∷ []) 3 ∷ [])) [] ≡ Ok (Revenue 0) }
+    ensures in_any_order { allocation_verdict
+        (file 3 1 (or_bid (0 ∷ 2 ∷ []) 3 ∷ or_bid (1 ∷ []) 5 ∷ xor_bid 0 (1 ∷ []) 4 ∷ [])) (2 ∷ 0 ∷ []) ≡ Ok (Revenue 7) }
+    ensures named_twice { allocation_verdict (file 2 0 (or_bid (0 ∷ []) 3 ∷ or_bid (1 ∷ []) 5 ∷ [])) (1 ∷ 0 ∷ 1 ∷ [])
+        ≡ Ok (Revenue 8) }
+    ensures of_two_bidders { allocation_verdict (file 2 2 (xor_bid 0 (0 ∷ []) 3 ∷ xor_bid 1 (1 ∷ []) 5 ∷ []))
+        (0 ∷ 1 ∷ []) ≡ Ok (Revenue 8) }
+{}
+
+/// Named bids of which two cannot both win. The first two are named, by their numbers and not by what they share.
+pub fn clashes()
+    ensures least_good { allocation_verdict (file 3 0 (or_bid (1 ∷ 2 ∷ []) 3 ∷ or_bid (0 ∷ 1 ∷ 2 ∷ []) 5 ∷ []))
+        (1 ∷ 0 ∷ []) ≡ Ok (SharedGood 0 1 1) }
+    ensures good_and_dummy { allocation_verdict (file 2 1 (xor_bid 0 (1 ∷ []) 3 ∷ xor_bid 0 (0 ∷ 1 ∷ []) 5 ∷ []))
+        (0 ∷ 1 ∷ []) ≡ Ok (SharedGood 0 1 1) }
+    ensures dummy_alone { allocation_verdict
+        (file 3 2 (or_bid (2 ∷ []) 1 ∷ xor_bid 1 (0 ∷ []) 3 ∷ xor_bid 1 (1 ∷ []) 5 ∷ [])) (0 ∷ 1 ∷ 2 ∷ [])
+        ≡ Ok (SharedBidder 1 2 1) }
+    ensures least_first { allocation_verdict
+        (file 2 0 (or_bid (1 ∷ []) 3 ∷ or_bid (0 ∷ []) 5 ∷ or_bid (0 ∷ 1 ∷ []) 4 ∷ [])) (2 ∷ 1 ∷ 0 ∷ [])
+        ≡ Ok (SharedGood 0 2 1) }
+    ensures least_second { allocation_verdict
+        (file 2 0 (or_bid (0 ∷ 1 ∷ []) 3 ∷ or_bid (1 ∷ []) 5 ∷ or_bid (0 ∷ []) 4 ∷ [])) (2 ∷ 1 ∷ 0 ∷ [])
+        ≡ Ok (SharedGood 0 1 1) }
+    ensures dummy_first { allocation_verdict
+        (file 2 1 (xor_bid 0 (0 ∷ []) 3 ∷ xor_bid 0 (1 ∷ []) 5 ∷ or_bid (0 ∷ []) 4 ∷ [])) (0 ∷ 1 ∷ 2 ∷ [])
+        ≡ Ok (SharedBidder 0 1 0) }
+    ensures not_named { allocation_verdict
+        (file 2 0 (or_bid (0 ∷ []) 3 ∷ or_bid (0 ∷ []) 5 ∷ or_bid (1 ∷ []) 4 ∷ [])) (0 ∷ 2 ∷ []) ≡ Ok (Revenue 7) }
+{}
+
+/// Numbers that a file does not have, in the order in which they are named.
+pub fn missing_bids()
+    ensures first { allocation_verdict (file 1 0 (or_bid (0 ∷ []) 3 ∷ [])) (0 ∷ 7 ∷ 5 ∷ []) ≡ Err 7 }
+    ensures next { allocation_verdict (file 1 0 (or_bid (0 ∷ []) 3 ∷ [])) (1 ∷ []) ≡ Err 1 }
+    ensures before_clash { allocation_verdict (file 1 0 (or_bid (0 ∷ []) 3 ∷ or_bid (0 ∷ []) 3 ∷ [])) (0 ∷ 1 ∷ 2 ∷ [])
+        ≡ Err 2 }
+{}
+
+/// What is printed.
+pub fn allocation_texts()
+    ensures revenue { allocation_text (Revenue 13750000) ≡ codes "revenue 13.75\n" }
+    ensures good { allocation_text (SharedGood 3 17 5) ≡ codes "bids 3 and 17 share good 5\n" }
+    ensures bidder { allocation_text (SharedBidder 3 17 2)
+        ≡ codes "bids 3 and 17 are of one XOR bidder (dummy good 2)\n" }
+{}
+
+/// The numbers in a text.
+pub fn lists_of_numbers()
+    ensures empty { bid_numbers (codes "") ≡ [] }
+    ensures blanks { bid_numbers (codes " 0\t17\r\n\n3  \n") ≡ 0 ∷ 17 ∷ 3 ∷ [] }
+    ensures zeros { bid_numbers (codes "007") ≡ 7 ∷ [] }
+    ensures greatest { bid_numbers (codes "4294967295") ≡ 4294967295 ∷ [] }
+    ensures faultless { faulty_line 1 (lines_in (codes " 0\t17\r\n\n3  \n4294967295")) ≡ None }
+{}
+
+/// The line of the first word that is not a number.
+pub fn faulty_lines()
+    ensures word { faulty_line 1 (lines_in (codes "1\n\n2 x 3\ny")) ≡ Some 3 }
+    ensures digits_and_letters { faulty_line 1 (lines_in (codes "17a")) ≡ Some 1 }
+    ensures sign { faulty_line 1 (lines_in (codes "1\n+2")) ≡ Some 2 }
+    ensures comma { faulty_line 1 (lines_in (codes "1,2")) ≡ Some 1 }
+    ensures too_large { faulty_line 1 (lines_in (codes "4294967295\n4294967296")) ≡ Some 2 }
 {}
