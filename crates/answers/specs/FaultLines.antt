@@ -8,7 +8,7 @@ use Rattle.canon.specs.declared.canon_fault.CanonFault.TheVariants.{Read, StepLi
 use Rattle.canon.specs.declared.which.Which.{Which}
 use Rattle.canon.specs.declared.which.Which.TheVariants.{Only, First, Second, Both}
 use Rattle.answers.specs.declared.report.RunFault.{RunFault}
-use Rattle.answers.specs.declared.report.RunFault.TheVariants.{Refused, GoodRange, Sent}
+use Rattle.answers.specs.declared.report.RunFault.TheVariants.{Refused, GoodRange, BidRange, Sent}
 use Rattle.answers.specs.KindNames.{name_of_kind}
 use Rattle.answers.specs.Outputs.{bundle_text}
 
@@ -37,4 +37,5 @@ text_of_canon_fault Memory = codes "want of memory"
 abbrev pub line_of_fault : RunFault → List ℕ
 line_of_fault (Refused which fault) = prefix_of which ++ text_of_canon_fault fault ++ codes "\n"
 line_of_fault (GoodRange good) = codes "good " ++ decimal good ++ codes " out of range\n"
+line_of_fault (BidRange bid) = codes "bid " ++ decimal bid ++ codes " out of range\n"
 line_of_fault (Sent fault) = codes "output failed after " ++ decimal fault.written ++ codes " bytes\n"

@@ -2,6 +2,8 @@
 pub mod Outputs
 pub mod KindNames
 pub mod FaultLines
+pub mod FaultHints
+pub mod FaultPlaceTexts
 pub mod Statuses
 pub mod DifferenceTexts
 pub mod DiffTexts

@@ -5,6 +5,7 @@ mod cells;
 mod comparison;
 mod diff;
 mod explanation;
+mod fault_hint;
 mod pieces;
 mod report;
 mod rounded;
@@ -15,6 +16,7 @@ pub mod worked;
 pub use comparison::{verdict_status, verdict_text};
 pub use diff::differences_text;
 pub use explanation::explanation_text;
+pub use fault_hint::{fault_place_text, hint, shown_word};
 pub use pieces::Piece;
 pub use report::{
     DEVICE_FAILED, DIFFERENT, DONE, FILE_REFUSED, NO_MEMORY, RunFault, STEPS_EXCEEDED, WRONG_USAGE,

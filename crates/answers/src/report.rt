@@ -40,6 +40,8 @@ pub enum RunFault {
     Refused(Which, CanonFault),
     /// The bundle names a good that the file does not have.
     GoodRange(u16),
+    /// A bid was named that the file does not have.
+    BidRange(u32),
     /// The output failed.
     Sent(SendFault),
 }
@@ -77,7 +79,7 @@ pub fn status(fault: &RunFault) -> u8
 {
     match fault {
         RunFault::Refused(_, fault) => canon_status(fault),
-        RunFault::GoodRange(_) => WRONG_USAGE,
+        RunFault::GoodRange(_) | RunFault::BidRange(_) => WRONG_USAGE,
         RunFault::Sent(_) => DEVICE_FAILED,
     }
 }
@@ -118,6 +120,10 @@ pub fn fault_pieces(fault: &RunFault) -> [Piece<'_>; 6]
         RunFault::GoodRange(good) => {
             let good = Piece::Number(u64::from(*good));
             line_pieces("", "good ", good, " out of range", "")
+        }
+        RunFault::BidRange(bid) => {
+            let bid = Piece::Number(u64::from(*bid));
+            line_pieces("", "bid ", bid, " out of range", "")
         }
         RunFault::Sent(fault) => {
             let written = Piece::Number(fault.written);
@@ -167,7 +173,7 @@ fn text_pieces<'a>(prefix: &'static str, text: &'static str) -> [Piece<'a>; 6]
     line_pieces(prefix, text, Piece::Text(b""), "", "")
 }
 
-fn kind_name(kind: Kind) -> &'static str
+pub(crate) fn kind_name(kind: Kind) -> &'static str
     ensures { result.now ≡ name_of_kind kind }
 {
     match kind {

@@ -1,10 +1,24 @@
 //! Worked examples of what is printed. The prover computes them.
 
-ghost use Rattle.std.specs.Prelude.{◌≡◌, ℕ, [], ◌∷◌, ◌++◌, map, codes, Vec, Some, None};
+ghost use Rattle.std.specs.Prelude.{◌≡◌, ℕ, [], ◌∷◌, ◌++◌, map, length, replicate, nat_le, true, codes, Vec, Some, None};
+ghost use Rattle.std.specs.List.{list_all};
+ghost use Rattle.cats_text.specs.Examples.{place};
 ghost use Rattle.std.specs.Global.{Global};
 ghost use Rattle.cats_text.specs.declared.read_fault.Kind.TheVariants.{
+  Header,
+  NotANumber,
+  TooLarge,
+  ExtraBid,
+  BidNumber,
+  RepeatedNumber,
+  TooFine,
+  GoodRange as NoSuchGood,
+  RepeatedGood,
   TwoDummies,
+  EmptyBundle,
   NoEnd,
+  AfterEnd,
+  Missing,
   TooLong,
   Device,
   Memory as NoMemory,
@@ -20,11 +34,30 @@ ghost use Rattle.differences.specs.Examples.{bidder_change, change, differences}
 ghost use Rattle.answers.specs.DiffTexts.{diff_header, diff_text};
 ghost use Rattle.answers.specs.DifferenceTexts.{difference_text};
 ghost use Rattle.answers.specs.ExplanationTexts.{explanation_row, explanation_text};
+ghost use Rattle.answers.specs.FaultHints.{hint_of_kind};
 ghost use Rattle.answers.specs.FaultLines.{line_of_fault};
+ghost use Rattle.answers.specs.FaultPlaceTexts.{place_text, shown_bytes};
 ghost use Rattle.answers.specs.Outputs.{bundle_text, sizes_text};
 ghost use Rattle.answers.specs.RoundedLines.{rounded_line};
 ghost use Rattle.answers.specs.Statuses.{status_of_difference, status_of_differences, status_of_fault};
-ghost use Rattle.answers.specs.declared.report.RunFault.TheVariants.{Refused, GoodRange, Sent};
+ghost use Rattle.answers.specs.declared.report.RunFault.TheVariants.{Refused, GoodRange, BidRange, Sent};
+
+/// The place of a fault and what helps: of a word, of a word that is printed in part, and of a line's end.
+pub fn places_of_faults()
+    ensures word { place_text (codes "in") (codes "0.0123456") (place 8 2 (codes "0.0123456") TooFine) ≡
+        codes "in:8:2: TooFine: 0.0123456\n"
+        ++ codes "a price has at most six places after the point; `cats round` rounds it\n" }
+    ensures long_word { place_text (codes "in") (replicate 60 120) (place 4 1 (replicate 61 120) RepeatedNumber) ≡
+        codes "in:4:1: RepeatedNumber: " ++ replicate 60 120
+        ++ codes "..\neach bid line has a number of its own; number the bids anew\n" }
+    ensures shown { map shown_bytes (replicate 61 120 ∷ replicate 60 120 ∷ codes "x" ∷ []) ≡
+        replicate 60 120 ∷ replicate 60 120 ∷ codes "x" ∷ [] }
+    ensures end { place_text (codes "in") [] (place 5 4 [] NoEnd) ≡
+        codes "in:5:4: NoEnd\na bid line ends with the word `#`; write a space and `#` behind its last good\n" }
+    ensures short { list_all (λ kind. nat_le (length (hint_of_kind kind)) 100)
+        (Header ∷ NotANumber ∷ TooLarge ∷ ExtraBid ∷ BidNumber ∷ RepeatedNumber ∷ TooFine ∷ NoSuchGood ∷ RepeatedGood
+        ∷ TwoDummies ∷ EmptyBundle ∷ NoEnd ∷ AfterEnd ∷ Missing ∷ TooLong ∷ Device ∷ NoMemory ∷ []) ≡ true }
+{}
 
 /// How faults are reported.
 pub fn fault_lines()
@@ -35,11 +68,13 @@ pub fn fault_lines()
         ∷ Refused Only (Read (record { line = 0; kind = TooLong }))
         ∷ Refused Second (Read (record { line = 0; kind = Device }))
         ∷ Refused First (Read (record { line = 0; kind = NoMemory }))
-        ∷ Refused Both Memory ∷ Refused Only Memory ∷ GoodRange 2 ∷ Sent (record { written = 5 }) ∷ []) ≡
+        ∷ Refused Both Memory ∷ Refused Only Memory ∷ GoodRange 2 ∷ BidRange 17
+        ∷ Sent (record { written = 5 }) ∷ []) ≡
         codes "line 5: TwoDummies\n" ∷ codes "first: line 5: TwoDummies\n"
         ∷ codes "second: line 12: NoEnd\n" ∷ codes "TooLong\n"
         ∷ codes "second: Device\n" ∷ codes "first: want of memory\n"
         ∷ codes "want of memory\n" ∷ codes "want of memory\n" ∷ codes "good 2 out of range\n"
+        ∷ codes "bid 17 out of range\n"
         ∷ codes "output failed after 5 bytes\n" ∷ [] }
 {}
 
@@ -50,8 +85,9 @@ pub fn fault_statuses()
         ∷ Refused Only (Read (record { line = 0; kind = TooLong }))
         ∷ Refused Second (Read (record { line = 0; kind = Device }))
         ∷ Refused First (Read (record { line = 0; kind = NoMemory }))
-        ∷ Refused Both Memory ∷ Refused Only Memory ∷ GoodRange 2 ∷ Sent (record { written = 5 }) ∷ []) ≡
-        2 ∷ 2 ∷ 5 ∷ 4 ∷ 4 ∷ 4 ∷ 64 ∷ 5 ∷ [] }
+        ∷ Refused Both Memory ∷ Refused Only Memory ∷ GoodRange 2 ∷ BidRange 17
+        ∷ Sent (record { written = 5 }) ∷ []) ≡
+        2 ∷ 2 ∷ 5 ∷ 4 ∷ 4 ∷ 4 ∷ 64 ∷ 64 ∷ 5 ∷ [] }
 {}
 
 /// How a step limit is reported, whatever vector holds the goods, and its status.
